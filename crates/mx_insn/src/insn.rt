@@ -1,0 +1,302 @@
+//! Instructions as values: operation, size and operands, and not the form that spelled them.
+
+use mx_word::{Arithmetic, Condition, Register, Shift, Size, Unary};
+
+/// What an index register is multiplied by.
+#[derive(Clone, Copy, Debug, PartialEq, Eq)]
+pub enum Scale {
+    One,
+    Two,
+    Four,
+    Eight,
+}
+
+/// An index register and its scale. ESP is no index: no bytes spell it.
+#[derive(Clone, Copy, Debug, PartialEq, Eq)]
+pub struct Index {
+    pub register: Register,
+    pub scale: Scale,
+}
+
+/// A place in memory: base + index * scale + displacement, modulo 2^32.
+#[derive(Clone, Copy, Debug, PartialEq, Eq)]
+pub struct Memory {
+    pub base: Option<Register>,
+    pub index: Option<Index>,
+    pub displacement: u32,
+}
+
+/// What mod and rm name: a register or a place in memory.
+#[derive(Clone, Copy, Debug, PartialEq, Eq)]
+pub enum Operand {
+    Register(Register),
+    Memory(Memory),
+}
+
+/// The operand size of a row that has no byte form.
+#[derive(Clone, Copy, Debug, PartialEq, Eq)]
+pub enum OperandSize {
+    Word,
+    Dword,
+}
+
+/// A number in the instruction, with its size.
+#[derive(Clone, Copy, Debug, PartialEq, Eq)]
+pub enum Immediate {
+    Byte(u8),
+    Word(u16),
+    Dword(u32),
+}
+
+/// A number in an instruction that has no byte form.
+#[derive(Clone, Copy, Debug, PartialEq, Eq)]
+pub enum WideImmediate {
+    Word(u16),
+    Dword(u32),
+}
+
+/// Two operands of one size, of which at most one is memory.
+#[derive(Clone, Copy, Debug, PartialEq, Eq)]
+pub enum Operands {
+    ToRegister {
+        size: Size,
+        to: Register,
+        from: Operand,
+    },
+    ToMemory {
+        size: Size,
+        to: Memory,
+        from: Register,
+    },
+    Immediate {
+        to: Operand,
+        value: Immediate,
+    },
+}
+
+/// A multiplication or division of the accumulator.
+#[derive(Clone, Copy, Debug, PartialEq, Eq)]
+pub enum Product {
+    Mul,
+    Imul,
+    Div,
+    Idiv,
+}
+
+/// How far a shift or a rotate goes.
+#[derive(Clone, Copy, Debug, PartialEq, Eq)]
+pub enum Count {
+    Cl,
+    Immediate(u8),
+}
+
+/// What MOVZX and MOVSX extend, and to which size.
+#[derive(Clone, Copy, Debug, PartialEq, Eq)]
+pub enum Extension {
+    ByteToWord,
+    ByteToDword,
+    WordToDword,
+}
+
+/// A jump that ECX decides.
+#[derive(Clone, Copy, Debug, PartialEq, Eq)]
+pub enum Loop {
+    Loopne,
+    Loope,
+    Loop,
+    Jecxz,
+}
+
+/// A string instruction that moves a value.
+#[derive(Clone, Copy, Debug, PartialEq, Eq)]
+pub enum Transfer {
+    Movs,
+    Stos,
+    Lods,
+}
+
+/// A string instruction that compares.
+#[derive(Clone, Copy, Debug, PartialEq, Eq)]
+pub enum Comparison {
+    Cmps,
+    Scas,
+}
+
+/// F3 or F2 before a comparison of strings: on while equal, or while not equal.
+#[derive(Clone, Copy, Debug, PartialEq, Eq)]
+pub enum Repeat {
+    Repe,
+    Repne,
+}
+
+/// Where IN and OUT find the port's number.
+#[derive(Clone, Copy, Debug, PartialEq, Eq)]
+pub enum Port {
+    Dx,
+    Immediate(u8),
+}
+
+/// What IN and OUT move: AL or EAX.
+#[derive(Clone, Copy, Debug, PartialEq, Eq)]
+pub enum PortSize {
+    Byte,
+    Dword,
+}
+
+/// An instruction without operands.
+#[derive(Clone, Copy, Debug, PartialEq, Eq)]
+pub enum Plain {
+    Pushad,
+    Popad,
+    Pushfd,
+    Popfd,
+    Sahf,
+    Lahf,
+    Nop,
+    Leave,
+    Int3,
+    Into,
+    Hlt,
+    Cli,
+    Sti,
+    Cmc,
+    Clc,
+    Stc,
+    Cld,
+    Std,
+}
+
+/// An instruction. Displacements of jumps are relative to the next instruction, modulo 2^32.
+/// No bytes spell a LOOP or JECXZ whose displacement isn't a signed byte, nor ESP as an index;
+/// every other value has a spelling.
+#[derive(Clone, Copy, Debug, PartialEq, Eq)]
+pub enum Insn {
+    /// ADD, OR, ADC, SBB, AND, SUB, XOR, CMP.
+    Arithmetic {
+        operation: Arithmetic,
+        operands: Operands,
+    },
+    /// MOV.
+    Move(Operands),
+    /// TEST with a register.
+    Test {
+        size: Size,
+        operand: Operand,
+        register: Register,
+    },
+    /// TEST with an immediate.
+    TestImmediate {
+        operand: Operand,
+        value: Immediate,
+    },
+    /// XCHG.
+    Exchange {
+        size: Size,
+        operand: Operand,
+        register: Register,
+    },
+    /// LEA.
+    LoadAddress {
+        size: OperandSize,
+        to: Register,
+        memory: Memory,
+    },
+    /// INC, DEC, NOT, NEG.
+    Unary {
+        operation: Unary,
+        size: Size,
+        operand: Operand,
+    },
+    /// MUL, IMUL, DIV, IDIV of the accumulator.
+    Product {
+        operation: Product,
+        size: Size,
+        operand: Operand,
+    },
+    /// IMUL with two operands.
+    Multiply {
+        size: OperandSize,
+        to: Register,
+        from: Operand,
+    },
+    /// IMUL with three operands.
+    MultiplyImmediate {
+        to: Register,
+        from: Operand,
+        by: WideImmediate,
+    },
+    /// ROL, ROR, SHL, SHR, SAR.
+    Shift {
+        operation: Shift,
+        size: Size,
+        operand: Operand,
+        count: Count,
+    },
+    /// MOVZX.
+    ZeroExtend {
+        extension: Extension,
+        to: Register,
+        from: Operand,
+    },
+    /// MOVSX.
+    SignExtend {
+        extension: Extension,
+        to: Register,
+        from: Operand,
+    },
+    /// SETcc.
+    SetCondition {
+        condition: Condition,
+        operand: Operand,
+    },
+    /// PUSH of a dword.
+    Push(Operand),
+    PushImmediate(u32),
+    /// POP into a register.
+    Pop(Register),
+    /// Jcc.
+    JumpIf {
+        condition: Condition,
+        displacement: u32,
+    },
+    Jump(u32),
+    Call(u32),
+    /// JMP to the address that the operand holds.
+    JumpTo(Operand),
+    /// CALL of the address that the operand holds.
+    CallTo(Operand),
+    /// LOOPNE, LOOPE, LOOP, JECXZ.
+    Loop {
+        operation: Loop,
+        displacement: u32,
+    },
+    /// RET, and how many bytes more it takes off the stack.
+    Return(u16),
+    /// INT.
+    Interrupt(u8),
+    /// CBW or CWDE: the accumulator's lower half, its sign extended over the whole.
+    ExtendAccumulator(OperandSize),
+    /// CWD or CDQ: the accumulator's sign, extended over DX or EDX.
+    SpreadSign(OperandSize),
+    /// MOVS, STOS, LODS, alone or behind REP.
+    Transfer {
+        operation: Transfer,
+        size: Size,
+        repeated: bool,
+    },
+    /// CMPS, SCAS, alone or behind REPE or REPNE.
+    Compare {
+        operation: Comparison,
+        size: Size,
+        repeat: Option<Repeat>,
+    },
+    In {
+        size: PortSize,
+        port: Port,
+    },
+    Out {
+        size: PortSize,
+        port: Port,
+    },
+    Plain(Plain),
+}

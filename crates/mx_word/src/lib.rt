@@ -1,0 +1,10 @@
+//! Words of 8, 16 and 32 bits, bytes, and the names that instructions share.
+#![tactic(auto)]
+
+mod bytes;
+mod names;
+mod size;
+
+pub use bytes::{Bytes, NoMemory, read_dword, read_word, write_dword, write_word};
+pub use names::{Arithmetic, Condition, Register, Shift, Unary};
+pub use size::{Size, add_w, difference, has_even_ones, signed, sub_w, sum};
