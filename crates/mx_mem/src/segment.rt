@@ -1,0 +1,156 @@
+//! A segment: bytes from 0 up to a limit.
+
+ghost use Rattle.std.specs.Prelude.{◌≡◌, ◌+◌, ◌^◌, ◌<◌, ◌≤◌, Ok, Err, OnOk, OnErr, IfOk, IfSome, length, slice_index, slice_set, replicate, take, drop};
+ghost use Rattle.mx_word.specs.Word.{width, bytes_in};
+ghost use Rattle.mx_mem.specs.Segment.{inside, read_at, written, copied};
+
+use mx_insn::ArrayVec;
+use mx_word::{NoMemory, Size};
+use std::alloc::Global;
+use std::marker::Model;
+
+/// An access past the limit.
+#[derive(Clone, Copy, Debug, PartialEq, Eq)]
+pub struct OutOfLimit;
+
+/// A segment of memory. Its limit never changes.
+#[derive(Drop)]
+pub struct Segment {
+    bytes: Vec<u8>,
+}
+
+impl Model for Segment {
+    ghost use Rattle.std.specs.Prelude.{List, ℕ};
+
+    ghost Value = { List ℕ };
+
+    ghost view = { λ s. s.bytes.items };
+}
+
+impl Segment {
+    /// Zeros up to the limit, in bytes.
+    pub fn new(alloc: Global, limit: u32) -> Result<Segment, NoMemory>
+        ensures { IfOk result (λ s. s ≡ replicate limit 0) }
+    {
+        let bytes = vec![in alloc; 0; limit as usize]?;
+        Ok(Segment { bytes })
+    }
+
+    /// The number of bytes.
+    pub fn limit(&self) -> usize
+        ensures { result ≡ length self.now }
+    {
+        self.bytes.len()
+    }
+
+    /// The byte at a place.
+    fn byte(&self, at: usize) -> u8
+        requires { at < length self.now }
+        ensures { result ≡ slice_index self.now at }
+    {
+        self.bytes[at]
+    }
+
+    fn set_byte(&mut self, at: usize, byte: u8)
+        requires { at < length self.old }
+        ensures { self.new ≡ slice_set self.old at byte }
+    {
+        self.bytes[at] = byte;
+    }
+
+    /// Whether an access of a size at a place lies inside.
+    pub fn holds(&self, at: u32, size: Size) -> bool
+        ensures { result ≡ inside self.now at (bytes_in size) }
+    {
+        at as usize + size.bytes() as usize <= self.limit()
+    }
+
+    /// The number at a place, lowest byte first.
+    pub fn read(&self, at: u32, size: Size) -> Result<u32, OutOfLimit>
+        ensures value { result ≡ read_at self.now at size }
+        ensures below { IfOk result (λ v. v < 2 ^ width size) }
+    {
+        if !self.holds(at, size) {
+            return Err(OutOfLimit);
+        }
+        let at = at as usize;
+        Ok(match size {
+            Size::Byte => u32::from(self.byte(at)),
+            Size::Word => u32::from(self.byte(at)) + 0x100 * u32::from(self.byte(at + 1)),
+            Size::Dword => {
+                u32::from(self.byte(at))
+                    + 0x100
+                        * (u32::from(self.byte(at + 1))
+                            + 0x100
+                                * (u32::from(self.byte(at + 2))
+                                    + 0x100 * u32::from(self.byte(at + 3))))
+            }
+        })
+    }
+
+    /// Writes a number at a place, lowest byte first. A refusal changes nothing.
+    pub fn write(&mut self, at: u32, size: Size, value: u32) -> Result<(), OutOfLimit>
+        requires { value < 2 ^ width size }
+        ensures ok { OnOk result (written self.old at size value ≡ Ok self.new) }
+        ensures err { OnErr result ((written self.old at size value ≡ Err (record {})) × (self.new ≡ self.old)) }
+    {
+        if !self.holds(at, size) {
+            return Err(OutOfLimit);
+        }
+        let at = at as usize;
+        self.set_byte(at, (value % 0x100) as u8);
+        match size {
+            Size::Byte => {}
+            Size::Word => self.set_byte(at + 1, (value / 0x100) as u8),
+            Size::Dword => {
+                self.set_byte(at + 1, (value / 0x100 % 0x100) as u8);
+                self.set_byte(at + 2, (value / 0x100 / 0x100 % 0x100) as u8);
+                self.set_byte(at + 3, (value / 0x100 / 0x100 / 0x100) as u8);
+            }
+        }
+        Ok(())
+    }
+
+    /// Copies bytes to a place. A refusal changes nothing.
+    pub fn fill_from(&mut self, at: u32, bytes: &[u8]) -> Result<(), OutOfLimit>
+        ensures ok { OnOk result (copied self.old at bytes.now ≡ Ok self.new) }
+        ensures err { OnErr result ((copied self.old at bytes.now ≡ Err (record {})) × (self.new ≡ self.old)) }
+    {
+        let at = at as usize;
+        if at > self.limit() || bytes.len() > self.limit() - at {
+            return Err(OutOfLimit);
+        }
+        self.bytes[at..at + bytes.len()].copy_from_slice(bytes);
+        Ok(())
+    }
+
+    /// The bytes from a place on, at most 15 of them, where they lie together.
+    pub fn front(&self, at: u32) -> Option<&[u8]>
+        ensures { IfSome result (λ front. front.now ≡ take 15 (drop at self.now)) }
+    {
+        let bytes = self.bytes.as_slice();
+        let at = at as usize;
+        if at >= bytes.len() {
+            return Some(&[]);
+        }
+        if bytes.len() - at < 15 {
+            return Some(&bytes[at..]);
+        }
+        Some(&bytes[at..at + 15])
+    }
+
+    /// A copy of the bytes from a place on, at most 15 of them.
+    pub fn copy_of_front(&self, at: u32) -> ArrayVec<u8, 15>
+        ensures { result.items ≡ take 15 (drop at self.now) }
+    {
+        let mut front = ArrayVec::new();
+        for k in 0..15usize {
+            let place = at as usize + k;
+            if place >= self.limit() {
+                break;
+            }
+            front.push(self.byte(place));
+        }
+        front
+    }
+}

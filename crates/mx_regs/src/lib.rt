@@ -1,0 +1,112 @@
+//! The eight registers and their parts.
+#![tactic(auto)]
+
+ghost use Rattle.std.specs.Prelude.{◌≡◌, ◌<◌, ◌^◌};
+ghost use Rattle.mx_word.specs.Word.{width};
+ghost use Rattle.mx_regs.specs.Regs.{register_word, with_word, register_at, with_register, byte_home, is_second_byte, no_words};
+
+use mx_word::{Register, Size};
+use std::marker::Model;
+
+/// The eight general registers of 32 bits, with their words and bytes (80386 Programmer's
+/// Reference Manual, 2.3.1).
+#[derive(Drop)]
+pub struct Regs {
+    words: [u32; 8],
+}
+
+impl Model for Regs {
+    ghost use Rattle.mx_regs.specs.Words.{Words, words_of};
+
+    ghost Value = { Words };
+
+    ghost view = { λ r. words_of r.words };
+}
+
+impl Regs {
+    /// Eight zeros.
+    pub fn new() -> Regs
+        ensures { result ≡ no_words }
+    {
+        Regs { words: [0; 8] }
+    }
+
+    fn word(&self, register: Register) -> u32
+        ensures { result ≡ register_word self.now register }
+    {
+        self.words[register.number() as usize]
+    }
+
+    fn set_word(&mut self, register: Register, word: u32)
+        ensures { self.new ≡ with_word self.old register word }
+    {
+        self.words[register.number() as usize] = word;
+    }
+
+    /// The register of a size.
+    pub fn get(&self, size: Size, register: Register) -> u32
+        ensures value { result ≡ register_at self.now size register }
+        ensures below { result < 2 ^ width size }
+    {
+        match size {
+            Size::Byte => {
+                let word = self.word(byte_home(register));
+                if is_second_byte(register) {
+                    word / 0x100 % 0x100
+                } else {
+                    word % 0x100
+                }
+            }
+            Size::Word => self.word(register) % 0x1_0000,
+            Size::Dword => self.word(register),
+        }
+    }
+
+    /// Sets the register of a size; the other bits stay.
+    pub fn set(&mut self, size: Size, register: Register, value: u32)
+        requires { value < 2 ^ width size }
+        ensures { self.new ≡ with_register self.old size register value }
+    {
+        match size {
+            Size::Byte => {
+                let home = byte_home(register);
+                let word = self.word(home);
+                if is_second_byte(register) {
+                    self.set_word(
+                        home,
+                        word / 0x1_0000 * 0x1_0000 + value * 0x100 + word % 0x100,
+                    );
+                } else {
+                    self.set_word(home, word / 0x100 * 0x100 + value);
+                }
+            }
+            Size::Word => self.set_word(
+                register,
+                self.word(register) / 0x1_0000 * 0x1_0000 + value,
+            ),
+            Size::Dword => self.set_word(register, value),
+        }
+    }
+}
+
+/// The register that has the byte.
+fn byte_home(register: Register) -> Register
+    ensures { result ≡ byte_home register }
+{
+    match register {
+        Register::Eax | Register::Esp => Register::Eax,
+        Register::Ecx | Register::Ebp => Register::Ecx,
+        Register::Edx | Register::Esi => Register::Edx,
+        Register::Ebx | Register::Edi => Register::Ebx,
+    }
+}
+
+/// Whether the byte is the second of its register: AH, CH, DH or BH.
+fn is_second_byte(register: Register) -> bool
+    ensures { result ≡ is_second_byte register }
+{
+    match register {
+        Register::Eax | Register::Ecx | Register::Edx | Register::Ebx => false,
+        Register::Esp | Register::Ebp | Register::Esi | Register::Edi => true,
+    }
+}
