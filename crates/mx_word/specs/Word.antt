@@ -1,5 +1,5 @@
 -- Words as whole numbers, as signed numbers and as bytes.
-use Rattle.std.specs.Prelude.{ℕ, zero, suc, ◌+◌, ◌-◌, ◌*◌, ◌/◌, ◌^◌, ◌%◌, ℤ, pos, negsuc, ◌+ℤ◌, ◌-ℤ◌, ◌≤ℤ◌, neg_ℤ, Bool, nat_lt, nat_le, int_lt, int_le, ◌||◌, if◌then◌else◌, count_ones, ◌==◌, List, [], ◌∷◌, slice_index}
+use Rattle.std.specs.Prelude.{ℕ, zero, suc, ◌+◌, ◌-◌, ◌*◌, ◌/◌, ◌^◌, ◌%◌, ℤ, pos, negsuc, ◌+ℤ◌, ◌-ℤ◌, ◌≤ℤ◌, neg_ℤ, Bool, true, false, nat_lt, nat_le, int_lt, int_le, ◌||◌, if◌then◌else◌, count_ones, ◌==◌, List, [], ◌∷◌, slice_index}
 use Rattle.mx_word.specs.declared.size.Size.{Size}
 use Rattle.mx_word.specs.declared.size.Size.TheVariants.{Byte, Word, Dword}
 
@@ -69,3 +69,10 @@ has_even_ones x = count_ones (x % 256) % 2 == 0
 -- so small that sums and differences of three such numbers fit 64 bits
 abbrev pub IsSmall : ℤ → Type 0
 IsSmall z = (neg_ℤ (pos (2 ^ 40)) ≤ℤ z) × (z ≤ℤ pos (2 ^ 40))
+
+-- one of the two is true
+abbrev pub differ : Bool → Bool → Bool
+differ true true = false
+differ true false = true
+differ false true = true
+differ false false = false

@@ -2,7 +2,7 @@
 
 ghost use Rattle.std.specs.Prelude.{◌≡◌, ◌+◌, ◌-◌, ◌^◌, ◌<◌, ◌≤◌, ◌%◌, ◌/◌, pos, ◌+ℤ◌, ◌-ℤ◌, ◌≤ℤ◌, nat_le, unsigned_abs};
 ghost use Rattle.std.specs.Int.{from_bool};
-ghost use Rattle.mx_word.specs.Word.{width, bytes_in, signed, modulo, leaves_unsigned, leaves_signed, has_even_ones, is_negative, IsSmall, sum_of, difference_of};
+ghost use Rattle.mx_word.specs.Word.{width, bytes_in, signed, modulo, leaves_unsigned, leaves_signed, has_even_ones, is_negative, IsSmall, sum_of, difference_of, differ};
 
 /// How wide an operand is: 8, 16 or 32 bits.
 #[derive(Clone, Copy, Debug, PartialEq, Eq)]
@@ -163,4 +163,11 @@ pub fn has_even_ones(word: u32) -> bool
     ensures { result ≡ has_even_ones word }
 {
     (word % 256).count_ones() % 2 == 0
+}
+
+/// Whether just one of two truth values holds.
+pub fn differ(left: bool, right: bool) -> bool
+    ensures { result ≡ differ left right }
+{
+    left != right
 }

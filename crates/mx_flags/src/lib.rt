@@ -1,0 +1,353 @@
+//! The processor's seven flags, and what operations make of them.
+#![tactic(auto)]
+
+ghost use Rattle.std.specs.Prelude.{◌≡◌, ◌+◌, ◌-◌, ◌^◌, ◌<◌, ◌%◌, ◌/◌};
+ghost use Rattle.std.specs.Int.{from_bool};
+ghost use Rattle.mx_word.specs.Word.{width, leaves_unsigned};
+ghost use Rattle.mx_flags.specs.Flags.{bits_of, values_of, low_byte_flags, result_flags, arithmetic_flags, add_flags, sub_flags, increment_flags, decrement_flags, logic_flags, is_less, holds};
+
+use mx_word::{Condition, Size, differ, difference, has_even_ones, signed, sum};
+use std::marker::Model;
+
+/// The values of the seven flags (80386 Programmer's Reference Manual, 2.3.4).
+#[derive(Clone, Copy, Debug, PartialEq, Eq)]
+pub struct FlagValues {
+    pub carry: bool,
+    pub parity: bool,
+    pub auxiliary: bool,
+    pub zero: bool,
+    pub sign: bool,
+    pub direction: bool,
+    pub overflow: bool,
+}
+
+/// The seven flags, kept as the bits that PUSHFD stores. Callers see their values.
+#[derive(Drop)]
+pub struct Flags {
+    bits: u32,
+}
+
+impl Model for Flags {
+    ghost use Rattle.std.specs.Prelude.{◌≡◌};
+    ghost use Rattle.mx_flags.specs.declared.FlagValues.{FlagValues};
+    ghost use Rattle.mx_flags.specs.Flags.{bits_of, values_of};
+
+    ghost Value = { FlagValues };
+
+    ghost view = { λ flags. values_of flags.bits };
+
+    ghost invariant = { λ flags. flags.bits ≡ bits_of (values_of flags.bits) };
+}
+
+impl Flags {
+    /// The flags with these values.
+    #[tactic(auto, using(crate::proofs::Bits::values_of_bits_of))]
+    pub fn from_values(values: FlagValues) -> Flags
+        ensures { result ≡ values }
+    {
+        Flags {
+            bits: 514
+                + u32::from(values.carry)
+                + 4 * u32::from(values.parity)
+                + 16 * u32::from(values.auxiliary)
+                + 64 * u32::from(values.zero)
+                + 128 * u32::from(values.sign)
+                + 1024 * u32::from(values.direction)
+                + 2048 * u32::from(values.overflow),
+        }
+    }
+
+    /// The values of the flags.
+    pub fn values(&self) -> FlagValues
+        ensures { result ≡ self.now }
+    {
+        values_of(self.bits)
+    }
+
+    /// The flags that a word's bits name, as POPFD takes them. Other bits don't count.
+    pub fn from_bits(bits: u32) -> Flags
+        ensures { result ≡ values_of bits }
+    {
+        Flags::from_values(values_of(bits))
+    }
+
+    /// The word that PUSHFD stores.
+    pub fn to_bits(&self) -> u32
+        ensures value { result ≡ bits_of self.now }
+        ensures back { values_of result ≡ self.now }
+    {
+        self.bits
+    }
+
+    /// The flags with the byte that SAHF takes from AH for their low one.
+    pub fn with_low_byte(&self, byte: u8) -> Flags
+        ensures { result ≡ low_byte_flags byte self.now }
+    {
+        Flags::from_values(FlagValues {
+            direction: self.direction(),
+            overflow: self.overflow(),
+            ..values_of(u32::from(byte))
+        })
+    }
+
+    /// The byte that LAHF loads into AH.
+    pub fn low_byte(&self) -> u8
+        ensures { result ≡ bits_of self.now % 256 }
+    {
+        (self.bits % 256) as u8
+    }
+
+    /// The same flags again.
+    pub fn copied(&self) -> Flags
+        ensures { result ≡ self.now }
+    {
+        Flags { bits: self.bits }
+    }
+
+    /// CF.
+    pub fn carry(&self) -> bool
+        ensures { result ≡ self.now.carry }
+    {
+        self.bits % 2 == 1
+    }
+
+    /// PF.
+    pub fn parity(&self) -> bool
+        ensures { result ≡ self.now.parity }
+    {
+        self.bits / 4 % 2 == 1
+    }
+
+    /// AF.
+    pub fn auxiliary(&self) -> bool
+        ensures { result ≡ self.now.auxiliary }
+    {
+        self.bits / 16 % 2 == 1
+    }
+
+    /// ZF.
+    pub fn zero(&self) -> bool
+        ensures { result ≡ self.now.zero }
+    {
+        self.bits / 64 % 2 == 1
+    }
+
+    /// SF.
+    pub fn sign(&self) -> bool
+        ensures { result ≡ self.now.sign }
+    {
+        self.bits / 128 % 2 == 1
+    }
+
+    /// DF.
+    pub fn direction(&self) -> bool
+        ensures { result ≡ self.now.direction }
+    {
+        self.bits / 1024 % 2 == 1
+    }
+
+    /// OF.
+    pub fn overflow(&self) -> bool
+        ensures { result ≡ self.now.overflow }
+    {
+        self.bits / 2048 % 2 == 1
+    }
+
+    /// Whether a condition holds.
+    pub fn cond(&self, condition: Condition) -> bool
+        ensures { result ≡ holds condition self.now }
+    {
+        match condition {
+            Condition::Overflow => self.overflow(),
+            Condition::NotOverflow => !self.overflow(),
+            Condition::Below => self.carry(),
+            Condition::NotBelow => !self.carry(),
+            Condition::Zero => self.zero(),
+            Condition::NotZero => !self.zero(),
+            Condition::BelowOrEqual => self.is_below_or_equal(),
+            Condition::NotBelowOrEqual => !self.is_below_or_equal(),
+            Condition::Sign => self.sign(),
+            Condition::NotSign => !self.sign(),
+            Condition::Parity => self.parity(),
+            Condition::NotParity => !self.parity(),
+            Condition::Less => self.is_less(),
+            Condition::NotLess => !self.is_less(),
+            Condition::LessOrEqual => self.is_less_or_equal(),
+            Condition::NotLessOrEqual => !self.is_less_or_equal(),
+        }
+    }
+
+    fn is_below_or_equal(&self) -> bool
+        ensures { result ≡ holds Condition.BelowOrEqual self.now }
+    {
+        self.carry() || self.zero()
+    }
+
+    fn is_less(&self) -> bool
+        ensures { result ≡ is_less self.now }
+    {
+        differ(self.sign(), self.overflow())
+    }
+
+    fn is_less_or_equal(&self) -> bool
+        ensures { result ≡ holds Condition.LessOrEqual self.now }
+    {
+        self.zero() || self.is_less()
+    }
+
+    /// With this carry, as after CLC, STC and CMC.
+    pub fn with_carry(&self, carry: bool) -> Flags
+        ensures { result ≡ record self.now { carry = carry } }
+    {
+        Flags::from_values(FlagValues {
+            carry,
+            ..self.values()
+        })
+    }
+
+    /// With this direction, as after CLD and STD.
+    pub fn with_direction(&self, direction: bool) -> Flags
+        ensures { result ≡ record self.now { direction = direction } }
+    {
+        Flags::from_values(FlagValues {
+            direction,
+            ..self.values()
+        })
+    }
+
+    /// With this carry and overflow, as after shifts and multiplications.
+    pub fn with_carry_and_overflow(&self, carry: bool, overflow: bool) -> Flags
+        ensures { result ≡ record self.now { carry = carry; overflow = overflow } }
+    {
+        Flags::from_values(FlagValues {
+            carry,
+            overflow,
+            ..self.values()
+        })
+    }
+
+    /// With zero, sign and parity of a result.
+    pub fn after_result(&self, size: Size, word: u32) -> Flags
+        requires { word < 2 ^ width size }
+        ensures { result ≡ result_flags (width size) word self.now }
+    {
+        Flags::from_values(self.result_values(size, word))
+    }
+
+    /// After AND, OR, XOR or TEST with this result.
+    pub fn after_logic(&self, size: Size, word: u32) -> Flags
+        requires { word < 2 ^ width size }
+        ensures { result ≡ logic_flags (width size) word self.now }
+    {
+        Flags::from_values(FlagValues {
+            carry: false,
+            overflow: false,
+            ..self.result_values(size, word)
+        })
+    }
+
+    /// After the sum of two words and a carry.
+    pub fn after_add(&self, size: Size, x: u32, y: u32, carry: bool) -> Flags
+        requires left { x < 2 ^ width size }
+        requires right { y < 2 ^ width size }
+        ensures { result ≡ add_flags (width size) x y (from_bool carry) self.now }
+    {
+        Flags::from_values(self.sum_values(size, x, y, carry))
+    }
+
+    /// After the difference of two words and a borrow.
+    pub fn after_sub(&self, size: Size, x: u32, y: u32, borrow: bool) -> Flags
+        requires left { x < 2 ^ width size }
+        requires right { y < 2 ^ width size }
+        ensures { result ≡ sub_flags (width size) x y (from_bool borrow) self.now }
+    {
+        Flags::from_values(self.difference_values(size, x, y, borrow))
+    }
+
+    /// After INC of a word, which keeps the carry.
+    pub fn after_increment(&self, size: Size, x: u32) -> Flags
+        requires { x < 2 ^ width size }
+        ensures { result ≡ increment_flags (width size) x self.now }
+    {
+        Flags::from_values(FlagValues {
+            carry: self.carry(),
+            ..self.sum_values(size, x, 1, false)
+        })
+    }
+
+    /// After DEC of a word, which keeps the carry.
+    pub fn after_decrement(&self, size: Size, x: u32) -> Flags
+        requires { x < 2 ^ width size }
+        ensures { result ≡ decrement_flags (width size) x self.now }
+    {
+        Flags::from_values(FlagValues {
+            carry: self.carry(),
+            ..self.difference_values(size, x, 1, false)
+        })
+    }
+
+    fn sum_values(&self, size: Size, x: u32, y: u32, carry: bool) -> FlagValues
+        requires left { x < 2 ^ width size }
+        requires right { y < 2 ^ width size }
+        ensures { result ≡ add_flags (width size) x y (from_bool carry) self.now }
+    {
+        let whole = sum(i64::from(x), i64::from(y), carry);
+        let signs = sum(signed(size, x), signed(size, y), carry);
+        let low = sum(i64::from(x % 16), i64::from(y % 16), carry);
+        self.arithmetic_values(size, whole, signs, low)
+    }
+
+    fn difference_values(&self, size: Size, x: u32, y: u32, borrow: bool) -> FlagValues
+        requires left { x < 2 ^ width size }
+        requires right { y < 2 ^ width size }
+        ensures { result ≡ sub_flags (width size) x y (from_bool borrow) self.now }
+    {
+        let whole = difference(i64::from(x), i64::from(y), borrow);
+        let signs = difference(signed(size, x), signed(size, y), borrow);
+        let low = difference(i64::from(x % 16), i64::from(y % 16), borrow);
+        self.arithmetic_values(size, whole, signs, low)
+    }
+
+    fn arithmetic_values(&self, size: Size, whole: i64, signs: i64, low: i64) -> FlagValues
+        ensures { result ≡ arithmetic_flags (width size) whole signs low self.now }
+    {
+        FlagValues {
+            carry: size.leaves_unsigned(whole),
+            overflow: size.leaves_signed(signs),
+            auxiliary: leaves_low_digit(low),
+            ..self.result_values(size, size.modulo(whole))
+        }
+    }
+
+    fn result_values(&self, size: Size, word: u32) -> FlagValues
+        ensures { result ≡ result_flags (width size) word self.now }
+    {
+        FlagValues {
+            zero: word == 0,
+            sign: size.is_negative(word),
+            parity: has_even_ones(word),
+            ..self.values()
+        }
+    }
+}
+
+fn values_of(bits: u32) -> FlagValues
+    ensures { result ≡ values_of bits }
+{
+    FlagValues {
+        carry: bits % 2 == 1,
+        parity: bits / 4 % 2 == 1,
+        auxiliary: bits / 16 % 2 == 1,
+        zero: bits / 64 % 2 == 1,
+        sign: bits / 128 % 2 == 1,
+        direction: bits / 1024 % 2 == 1,
+        overflow: bits / 2048 % 2 == 1,
+    }
+}
+
+/// Whether a number is outside 0 to 15.
+fn leaves_low_digit(whole: i64) -> bool
+    ensures { result ≡ leaves_unsigned 4 whole }
+{
+    whole < 0 || whole >= 16
+}
