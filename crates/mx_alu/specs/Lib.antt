@@ -1,0 +1,4 @@
+pub mod Alu
+pub mod Shifts
+pub mod Products
+pub mod Extension
