@@ -1,0 +1,6 @@
+pub mod Image
+pub mod Operands
+pub mod Stack
+pub mod Accumulator
+pub mod Strings
+pub mod Step

@@ -1,0 +1,263 @@
+//! Arithmetic, logic, shifts, multiplication and division.
+
+ghost use Rattle.std.specs.Prelude.{◌≡◌, ◌^◌, ◌<◌, Ok, Err};
+ghost use Rattle.mx_word.specs.Word.{width};
+ghost use Rattle.mx_exec.specs.Image.{Performs};
+ghost use Rattle.mx_exec.specs.Accumulator.{upper_register, with_halves, multiplied, quotient_taken, product_taken};
+ghost use Rattle.mx_exec.specs.Step.{after, kept, tested, factored, count_of};
+
+use crate::Image;
+use crate::operands::{
+    common_size, destination, immediate_size, immediate_value, size_of, wide_size, wide_value,
+};
+use mx_alu::{Signedness, alu, divide, multiply, multiply_low, shift, unary};
+use mx_insn::{Count, Immediate, Insn, Operand, OperandSize, Operands, Product, WideImmediate};
+use mx_word::{Arithmetic, Register, Shift, Size, Unary};
+
+/// Writes a result to its operand; that of CMP is kept nowhere.
+fn keep(
+    image: &mut Image,
+    operation: Arithmetic,
+    operand: &Operand,
+    size: Size,
+    value: u32,
+) -> Result<(), u8>
+    requires { value < 2 ^ width size }
+    ensures { Performs image.old (kept operation operand.now size value image.old) result image.new }
+{
+    match operation {
+        Arithmetic::Cmp => Ok(()),
+        Arithmetic::Add
+        | Arithmetic::Or
+        | Arithmetic::Adc
+        | Arithmetic::Sbb
+        | Arithmetic::And
+        | Arithmetic::Sub
+        | Arithmetic::Xor => image.store(operand, size, value),
+    }
+}
+
+pub fn operate(
+    image: &mut Image,
+    operation: Arithmetic,
+    operands: &Operands,
+    next: u32,
+) -> Result<(), u8>
+    ensures { Performs image.old (after (Insn.Arithmetic operation operands.now) next image.old) result image.new }
+{
+    let size = common_size(operands);
+    let operand = destination(operands);
+    let x = image.value(&operand, size)?;
+    let y = image.source(operands)?;
+    let (value, flags) = alu(operation, size, x, y, &image.flags);
+    keep(image, operation, &operand, size, value)?;
+    image.flags = flags;
+    image.eip = next;
+    Ok(())
+}
+
+/// Sets the flags of AND.
+fn test_words(image: &mut Image, size: Size, x: u32, y: u32, next: u32)
+    requires left { x < 2 ^ width size }
+    requires right { y < 2 ^ width size }
+    ensures { tested size x y next image.old ≡ Ok image.new }
+{
+    let (_, flags) = alu(Arithmetic::And, size, x, y, &image.flags);
+    image.flags = flags;
+    image.eip = next;
+}
+
+pub fn test(
+    image: &mut Image,
+    size: Size,
+    operand: &Operand,
+    register: Register,
+    next: u32,
+) -> Result<(), u8>
+    ensures { Performs image.old (after (Insn.Test size operand.now register) next image.old) result image.new }
+{
+    let x = image.value(operand, size)?;
+    let y = image.regs.get(size, register);
+    test_words(image, size, x, y, next);
+    Ok(())
+}
+
+pub fn test_immediate(
+    image: &mut Image,
+    operand: &Operand,
+    value: Immediate,
+    next: u32,
+) -> Result<(), u8>
+    ensures { Performs image.old (after (Insn.TestImmediate operand.now value) next image.old) result image.new }
+{
+    let size = immediate_size(value);
+    let x = image.value(operand, size)?;
+    test_words(image, size, x, immediate_value(value), next);
+    Ok(())
+}
+
+pub fn unary_operation(
+    image: &mut Image,
+    operation: Unary,
+    size: Size,
+    operand: &Operand,
+    next: u32,
+) -> Result<(), u8>
+    ensures { Performs image.old (after (Insn.Unary operation size operand.now) next image.old) result image.new }
+{
+    let x = image.value(operand, size)?;
+    let (value, flags) = unary(operation, size, x, &image.flags);
+    image.store(operand, size, value)?;
+    image.flags = flags;
+    image.eip = next;
+    Ok(())
+}
+
+/// How far a shift goes.
+fn count_of(image: &Image, count: Count) -> u32
+    ensures { result ≡ count_of count image.now }
+{
+    match count {
+        Count::Cl => image.regs.get(Size::Byte, Register::Ecx),
+        Count::Immediate(number) => u32::from(number),
+    }
+}
+
+pub fn shift_operand(
+    image: &mut Image,
+    operation: Shift,
+    size: Size,
+    operand: &Operand,
+    count: Count,
+    next: u32,
+) -> Result<(), u8>
+    ensures { Performs image.old (after (Insn.Shift operation size operand.now count) next image.old) result image.new }
+{
+    let x = image.value(operand, size)?;
+    let count = count_of(image, count);
+    let (value, flags) = shift(operation, size, x, count, &image.flags);
+    image.store(operand, size, value)?;
+    image.flags = flags;
+    image.eip = next;
+    Ok(())
+}
+
+// ---- the accumulator
+
+/// What stands above the accumulator: AH, DX or EDX.
+fn upper_register(size: Size) -> Register
+    ensures { result ≡ upper_register size }
+{
+    match size {
+        Size::Byte => Register::Esp,
+        Size::Word | Size::Dword => Register::Edx,
+    }
+}
+
+fn set_halves(image: &mut Image, size: Size, low: u32, high: u32)
+    requires low { low < 2 ^ width size }
+    requires high { high < 2 ^ width size }
+    ensures { image.new ≡ with_halves image.old size low high }
+{
+    image.regs.set(size, Register::Eax, low);
+    image.regs.set(size, upper_register(size), high);
+}
+
+fn multiply_accumulator(image: &mut Image, kind: Signedness, size: Size, y: u32)
+    requires { y < 2 ^ width size }
+    ensures { image.new ≡ multiplied kind size y image.old }
+{
+    let x = image.regs.get(size, Register::Eax);
+    let (product, flags) = multiply(kind, size, x, y, &image.flags);
+    set_halves(image, size, product.low, product.high);
+    image.flags = flags;
+}
+
+fn divide_accumulator(image: &mut Image, kind: Signedness, size: Size, y: u32) -> Result<(), u8>
+    requires { y < 2 ^ width size }
+    ensures { Performs image.old (quotient_taken kind size y image.old) result image.new }
+{
+    let high = image.regs.get(size, upper_register(size));
+    let low = image.regs.get(size, Register::Eax);
+    let Ok(division) = divide(kind, size, high, low, y) else {
+        return Err(0);
+    };
+    set_halves(image, size, division.quotient, division.remainder);
+    Ok(())
+}
+
+fn take_product(image: &mut Image, operation: Product, size: Size, y: u32) -> Result<(), u8>
+    requires { y < 2 ^ width size }
+    ensures { Performs image.old (product_taken operation size y image.old) result image.new }
+{
+    match operation {
+        Product::Mul => {
+            multiply_accumulator(image, Signedness::Unsigned, size, y);
+            Ok(())
+        }
+        Product::Imul => {
+            multiply_accumulator(image, Signedness::Signed, size, y);
+            Ok(())
+        }
+        Product::Div => divide_accumulator(image, Signedness::Unsigned, size, y),
+        Product::Idiv => divide_accumulator(image, Signedness::Signed, size, y),
+    }
+}
+
+pub fn product(
+    image: &mut Image,
+    operation: Product,
+    size: Size,
+    operand: &Operand,
+    next: u32,
+) -> Result<(), u8>
+    ensures { Performs image.old (after (Insn.Product operation size operand.now) next image.old) result image.new }
+{
+    let y = image.value(operand, size)?;
+    take_product(image, operation, size, y)?;
+    image.eip = next;
+    Ok(())
+}
+
+/// IMUL into a register.
+fn set_product(image: &mut Image, size: Size, to: Register, x: u32, y: u32, next: u32)
+    requires left { x < 2 ^ width size }
+    requires right { y < 2 ^ width size }
+    ensures { factored size to x y next image.old ≡ Ok image.new }
+{
+    let (product, flags) = multiply_low(size, x, y, &image.flags);
+    image.regs.set(size, to, product);
+    image.flags = flags;
+    image.eip = next;
+}
+
+pub fn multiply_register(
+    image: &mut Image,
+    size: OperandSize,
+    to: Register,
+    from: &Operand,
+    next: u32,
+) -> Result<(), u8>
+    ensures { Performs image.old (after (Insn.Multiply size to from.now) next image.old) result image.new }
+{
+    let size = size_of(size);
+    let y = image.value(from, size)?;
+    let x = image.regs.get(size, to);
+    set_product(image, size, to, x, y, next);
+    Ok(())
+}
+
+pub fn multiply_immediate(
+    image: &mut Image,
+    to: Register,
+    from: &Operand,
+    by: WideImmediate,
+    next: u32,
+) -> Result<(), u8>
+    ensures { Performs image.old (after (Insn.MultiplyImmediate to from.now by) next image.old) result image.new }
+{
+    let size = wide_size(by);
+    let x = image.value(from, size)?;
+    set_product(image, size, to, x, wide_value(by), next);
+    Ok(())
+}

@@ -1,0 +1,89 @@
+//! A process as its processor sees it.
+
+ghost use Rattle.std.specs.Prelude.{◌≡◌, ◌<◌, ◌^◌, length, Ok, Err};
+ghost use Rattle.mx_exec.specs.Image.{code_of, less, more, register_of, with_dword, jumped, Performs};
+
+use mx_flags::Flags;
+use mx_mem::Segment;
+use mx_regs::Regs;
+use mx_word::{Register, Size};
+
+/// Where the code stands.
+#[derive(Drop)]
+pub enum Code {
+    /// In a segment of its own, which nothing writes.
+    Separate(Segment),
+    /// In the data segment.
+    Shared,
+}
+
+/// A process's registers, memory and code.
+#[derive(Drop)]
+pub struct Image {
+    pub regs: Regs,
+    pub eip: u32,
+    pub flags: Flags,
+    pub memory: Segment,
+    pub code: Code,
+}
+
+/// How a step ends.
+#[derive(Clone, Copy, Debug, PartialEq, Eq)]
+pub enum Outcome {
+    /// On to the next step.
+    Go,
+    /// INT 33: the process calls the kernel.
+    Trap,
+    /// A fault with its vector, which changed nothing.
+    Fault(u8),
+}
+
+impl Image {
+    /// The 32 bits of a register.
+    pub fn register(&self, register: Register) -> u32
+        ensures { result ≡ register_of self.now register }
+    {
+        self.regs.get(Size::Dword, register)
+    }
+
+    pub fn set_register(&mut self, register: Register, value: u32)
+        ensures { self.new ≡ with_dword self.old register value }
+    {
+        self.regs.set(Size::Dword, register, value);
+    }
+
+    /// The limit of the code, in bytes.
+    pub fn code_limit(&self) -> usize
+        ensures { result ≡ length (code_of self.now) }
+    {
+        match &self.code {
+            Code::Separate(text) => text.limit(),
+            Code::Shared => self.memory.limit(),
+        }
+    }
+
+    /// Jumps, or answers the vector of a target that isn't below the code's limit.
+    pub fn jump(&mut self, target: u32) -> Result<(), u8>
+        ensures { Performs self.old (jumped target self.old) result self.new }
+    {
+        if target as usize >= self.code_limit() {
+            return Err(13);
+        }
+        self.eip = target;
+        Ok(())
+    }
+}
+
+/// A number less another, modulo 2^32.
+pub fn less(number: u32, by: u32) -> u32
+    ensures { result ≡ less number by }
+{
+    number.wrapping_sub(by)
+}
+
+/// A number and another more, modulo 2^32.
+pub fn more(number: u32, by: u32) -> u32
+    ensures { result ≡ more number by }
+{
+    number.wrapping_add(by)
+}

@@ -1,0 +1,15 @@
+//! One instruction of a process.
+#![tactic(auto)]
+
+mod arithmetic;
+mod image;
+mod jumps;
+mod moves;
+mod operands;
+mod plain;
+mod stack;
+mod steps;
+mod strings;
+
+pub use image::{Code, Image, Outcome};
+pub use steps::step;

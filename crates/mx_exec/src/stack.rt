@@ -1,0 +1,184 @@
+//! The stack.
+
+ghost use Rattle.std.specs.Prelude.{◌≡◌, ◌^◌, ◌<◌, length, Ok, Err, true, IfOk};
+ghost use Rattle.mx_word.specs.Word.{value_at};
+ghost use Rattle.mx_mem.specs.Segment.{inside, with_value};
+ghost use Rattle.mx_exec.specs.Image.{Performs, less, more};
+ghost use Rattle.mx_exec.specs.Stack.{pushed, top_of, dropped, has_room, has_dwords, with_pushed, pushad_words, pushad, popad, popad_words};
+
+use crate::Image;
+use crate::image::{less, more};
+use mx_mem::{OutOfLimit, Segment};
+use mx_regs::Regs;
+use mx_word::{Register, Size};
+
+/// Pushes a dword.
+pub fn push(image: &mut Image, value: u32) -> Result<(), u8>
+    ensures { Performs image.old (pushed value image.old) result image.new }
+{
+    let top = less(image.register(Register::Esp), 4);
+    match image.memory.write(top, Size::Dword, value) {
+        Ok(()) => {
+            image.set_register(Register::Esp, top);
+            Ok(())
+        }
+        Err(OutOfLimit) => Err(12),
+    }
+}
+
+/// The dword on top.
+pub fn top(image: &Image) -> Result<u32, u8>
+    ensures { result ≡ top_of image.now }
+{
+    match image
+        .memory
+        .read(image.register(Register::Esp), Size::Dword)
+    {
+        Ok(value) => Ok(value),
+        Err(OutOfLimit) => Err(12),
+    }
+}
+
+/// Takes bytes off.
+pub fn drop_bytes(image: &mut Image, count: u32)
+    ensures { image.new ≡ dropped count image.old }
+{
+    let top = more(image.register(Register::Esp), count);
+    image.set_register(Register::Esp, top);
+}
+
+/// Whether eight dwords fit below a place.
+fn has_room(memory: &Segment, top: u32) -> bool
+    ensures { result ≡ has_room memory.now top 8 }
+{
+    let a = less(top, 4);
+    let b = less(a, 4);
+    let c = less(b, 4);
+    let d = less(c, 4);
+    let e = less(d, 4);
+    let f = less(e, 4);
+    let g = less(f, 4);
+    let h = less(g, 4);
+    memory.holds(a, Size::Dword)
+        && memory.holds(b, Size::Dword)
+        && memory.holds(c, Size::Dword)
+        && memory.holds(d, Size::Dword)
+        && memory.holds(e, Size::Dword)
+        && memory.holds(f, Size::Dword)
+        && memory.holds(g, Size::Dword)
+        && memory.holds(h, Size::Dword)
+}
+
+/// Writes a dword that lies inside.
+fn store(memory: &mut Segment, at: u32, value: u32)
+    requires { inside memory.old at 4 ≡ true }
+    ensures value { memory.new ≡ with_value memory.old at 4 value }
+    ensures length { length memory.new ≡ length memory.old }
+{
+    match memory.write(at, Size::Dword, value) {
+        Ok(()) => {}
+        Err(OutOfLimit) => unreachable!(),
+    }
+}
+
+/// Writes the eight registers below a place.
+fn store_all(memory: &mut Segment, regs: &Regs, top: u32)
+    requires { has_room memory.old top 8 ≡ true }
+    ensures { memory.new ≡ with_pushed memory.old top (pushad_words regs.now) }
+{
+    let a = less(top, 4);
+    let b = less(a, 4);
+    let c = less(b, 4);
+    let d = less(c, 4);
+    let e = less(d, 4);
+    let f = less(e, 4);
+    let g = less(f, 4);
+    let h = less(g, 4);
+    store(memory, a, regs.get(Size::Dword, Register::Eax));
+    store(memory, b, regs.get(Size::Dword, Register::Ecx));
+    store(memory, c, regs.get(Size::Dword, Register::Edx));
+    store(memory, d, regs.get(Size::Dword, Register::Ebx));
+    store(memory, e, regs.get(Size::Dword, Register::Esp));
+    store(memory, f, regs.get(Size::Dword, Register::Ebp));
+    store(memory, g, regs.get(Size::Dword, Register::Esi));
+    store(memory, h, regs.get(Size::Dword, Register::Edi));
+}
+
+/// PUSHAD: all eight registers or nothing.
+pub fn push_all(image: &mut Image) -> Result<(), u8>
+    ensures { Performs image.old (pushad image.old) result image.new }
+{
+    let top = image.register(Register::Esp);
+    if !has_room(&image.memory, top) {
+        return Err(12);
+    }
+    store_all(&mut image.memory, &image.regs, top);
+    image.set_register(Register::Esp, less(top, 32));
+    Ok(())
+}
+
+/// Whether eight dwords lie inside from a place up.
+fn has_dwords(memory: &Segment, top: u32) -> bool
+    ensures { result ≡ has_dwords memory.now top 8 }
+{
+    let b = more(top, 4);
+    let c = more(b, 4);
+    let d = more(c, 4);
+    let e = more(d, 4);
+    let f = more(e, 4);
+    let g = more(f, 4);
+    let h = more(g, 4);
+    memory.holds(top, Size::Dword)
+        && memory.holds(b, Size::Dword)
+        && memory.holds(c, Size::Dword)
+        && memory.holds(d, Size::Dword)
+        && memory.holds(e, Size::Dword)
+        && memory.holds(f, Size::Dword)
+        && memory.holds(g, Size::Dword)
+        && memory.holds(h, Size::Dword)
+}
+
+/// Reads a dword that lies inside.
+fn load(memory: &Segment, at: u32) -> u32
+    requires { inside memory.now at 4 ≡ true }
+    ensures { result ≡ value_at memory.now at 4 }
+{
+    match memory.read(at, Size::Dword) {
+        Ok(value) => value,
+        Err(OutOfLimit) => unreachable!(),
+    }
+}
+
+/// Takes back seven registers from a place up; the stored ESP is read past.
+fn load_all(regs: &mut Regs, memory: &Segment, top: u32)
+    requires { has_dwords memory.now top 8 ≡ true }
+    ensures { regs.new ≡ popad_words memory.now top }
+{
+    let b = more(top, 4);
+    let c = more(b, 4);
+    let d = more(c, 4);
+    let e = more(d, 4);
+    let f = more(e, 4);
+    let g = more(f, 4);
+    let h = more(g, 4);
+    regs.set(Size::Dword, Register::Edi, load(memory, top));
+    regs.set(Size::Dword, Register::Esi, load(memory, b));
+    regs.set(Size::Dword, Register::Ebp, load(memory, c));
+    regs.set(Size::Dword, Register::Esp, more(top, 32));
+    regs.set(Size::Dword, Register::Ebx, load(memory, e));
+    regs.set(Size::Dword, Register::Edx, load(memory, f));
+    regs.set(Size::Dword, Register::Ecx, load(memory, g));
+    regs.set(Size::Dword, Register::Eax, load(memory, h));
+}
+
+/// POPAD: all registers but ESP, or nothing.
+pub fn pop_all(image: &mut Image) -> Result<(), u8>
+    ensures { Performs image.old (popad image.old) result image.new }
+{
+    let top = image.register(Register::Esp);
+    if !has_dwords(&image.memory, top) {
+        return Err(12);
+    }
+    load_all(&mut image.regs, &image.memory, top);
+    Ok(())
+}

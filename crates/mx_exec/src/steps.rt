@@ -1,0 +1,158 @@
+//! One step.
+
+ghost use Rattle.std.specs.Prelude.{◌≡◌, drop, Ok, Err};
+ghost use Rattle.mx_decode.specs.Decode.{front};
+ghost use Rattle.mx_exec.specs.Image.{code_of, Performs};
+ghost use Rattle.mx_exec.specs.Step.{after, outcome_of, one};
+
+use crate::image::more;
+use crate::{Code, Image, Outcome, arithmetic, jumps, moves, plain, strings};
+use mx_decode::{DecodeFault, decode, fifteen_suffice};
+use mx_insn::Insn;
+
+/// The instruction at EIP, and its length. Fifteen bytes decide what it is.
+fn fetch(image: &Image) -> Result<(Insn, u8), DecodeFault>
+    ensures { result ≡ front (drop image.now.eip (code_of image.now)) }
+{
+    let code = match &image.code {
+        Code::Separate(text) => text,
+        Code::Shared => &image.memory,
+    };
+    fifteen_suffice();
+    match code.front(image.eip) {
+        Some(bytes) => decode(bytes),
+        None => decode(&code.copy_of_front(image.eip)),
+    }
+}
+
+fn outcome(insn: &Insn) -> Outcome
+    ensures { result ≡ outcome_of insn.now }
+{
+    match insn {
+        Insn::Interrupt(_) => Outcome::Trap,
+        _ => Outcome::Go,
+    }
+}
+
+/// Performs an instruction, or answers its vector and changes nothing.
+fn perform(image: &mut Image, insn: &Insn, next: u32) -> Result<(), u8>
+    ensures { Performs image.old (after insn.now next image.old) result image.new }
+{
+    match insn {
+        Insn::Arithmetic {
+            operation,
+            operands,
+        } => { arithmetic::operate(image, *operation, operands, next) }
+        Insn::Move(operands) => moves::move_operand(image, operands, next),
+        Insn::Test {
+            size,
+            operand,
+            register,
+        } => { arithmetic::test(image, *size, operand, *register, next) }
+        Insn::TestImmediate { operand, value } => {
+            arithmetic::test_immediate(image, operand, *value, next)
+        }
+        Insn::Exchange {
+            size,
+            operand,
+            register,
+        } => { moves::exchange(image, *size, operand, *register, next) }
+        Insn::LoadAddress { size, to, memory } => {
+            moves::load_address(image, *size, *to, memory, next);
+            Ok(())
+        }
+        Insn::Unary {
+            operation,
+            size,
+            operand,
+        } => { arithmetic::unary_operation(image, *operation, *size, operand, next) }
+        Insn::Product {
+            operation,
+            size,
+            operand,
+        } => { arithmetic::product(image, *operation, *size, operand, next) }
+        Insn::Multiply { size, to, from } => {
+            arithmetic::multiply_register(image, *size, *to, from, next)
+        }
+        Insn::MultiplyImmediate { to, from, by } => {
+            arithmetic::multiply_immediate(image, *to, from, *by, next)
+        }
+        Insn::Shift {
+            operation,
+            size,
+            operand,
+            count,
+        } => { arithmetic::shift_operand(image, *operation, *size, operand, *count, next) }
+        Insn::ZeroExtend {
+            extension,
+            to,
+            from,
+        } => { moves::zero_extend(image, *extension, *to, from, next) }
+        Insn::SignExtend {
+            extension,
+            to,
+            from,
+        } => { moves::sign_extend(image, *extension, *to, from, next) }
+        Insn::SetCondition { condition, operand } => {
+            moves::set_condition(image, *condition, operand, next)
+        }
+        Insn::Push(operand) => moves::push_operand(image, operand, next),
+        Insn::PushImmediate(value) => moves::push_immediate(image, *value, next),
+        Insn::Pop(register) => moves::pop(image, *register, next),
+        Insn::JumpIf {
+            condition,
+            displacement,
+        } => { jumps::jump_if(image, *condition, *displacement, next) }
+        Insn::Jump(displacement) => image.jump(more(next, *displacement)),
+        Insn::Call(displacement) => jumps::call(image, more(next, *displacement), next),
+        Insn::JumpTo(operand) => jumps::jump_to(image, operand),
+        Insn::CallTo(operand) => jumps::call_to(image, operand, next),
+        Insn::Loop {
+            operation,
+            displacement,
+        } => { jumps::loop_to(image, *operation, *displacement, next) }
+        Insn::Return(count) => jumps::return_from(image, *count),
+        Insn::Interrupt(number) => jumps::interrupt(image, *number, next),
+        Insn::ExtendAccumulator(size) => {
+            moves::extend_accumulator(image, *size);
+            image.eip = next;
+            Ok(())
+        }
+        Insn::SpreadSign(size) => {
+            moves::spread_accumulator(image, *size);
+            image.eip = next;
+            Ok(())
+        }
+        Insn::Transfer {
+            operation,
+            size,
+            repeated,
+        } => { strings::transfer(image, *operation, *size, *repeated, next) }
+        Insn::Compare {
+            operation,
+            size,
+            repeat,
+        } => { strings::compare(image, *operation, *size, *repeat, next) }
+        Insn::In { .. } | Insn::Out { .. } => Err(13),
+        Insn::Plain(operation) => plain::perform_plain(image, *operation, next),
+    }
+}
+
+/// One step of a process: the instruction at EIP, or one iteration of a repeated string
+/// instruction. A fault changes nothing.
+pub fn step(image: &mut Image) -> Outcome
+    ensures outcome { result ≡ (one image.old).0 }
+    ensures image { image.new ≡ (one image.old).1 }
+{
+    match fetch(image) {
+        Ok((insn, length)) => {
+            let next = more(image.eip, u32::from(length));
+            match perform(image, &insn, next) {
+                Ok(()) => outcome(&insn),
+                Err(vector) => Outcome::Fault(vector),
+            }
+        }
+        Err(DecodeFault::Short) => Outcome::Fault(13),
+        Err(DecodeFault::NotInTable) => Outcome::Fault(6),
+    }
+}

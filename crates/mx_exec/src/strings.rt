@@ -1,0 +1,167 @@
+//! String instructions: one value, or one iteration of a repeat.
+
+ghost use Rattle.std.specs.Prelude.{◌≡◌, ◌^◌, ◌<◌, Ok, Err, IfOk};
+ghost use Rattle.mx_word.specs.Word.{width};
+ghost use Rattle.mx_exec.specs.Image.{Performs};
+ghost use Rattle.mx_exec.specs.Strings.{read_by, written_by, advanced, transferred, compared, counted_down, ends_repeat, transfer, compare};
+
+use crate::Image;
+use crate::image::{less, more};
+use mx_insn::{Comparison, Repeat, Transfer};
+use mx_mem::OutOfLimit;
+use mx_word::{Register, Size};
+
+/// The number that a pointer names.
+fn read_by(image: &Image, pointer: Register, size: Size) -> Result<u32, u8>
+    ensures value { result ≡ read_by pointer size image.now }
+    ensures below { IfOk result (λ v. v < 2 ^ width size) }
+{
+    match image.memory.read(image.register(pointer), size) {
+        Ok(value) => Ok(value),
+        Err(OutOfLimit) => Err(13),
+    }
+}
+
+fn write_by(image: &mut Image, pointer: Register, size: Size, value: u32) -> Result<(), u8>
+    requires { value < 2 ^ width size }
+    ensures { Performs image.old (written_by pointer size value image.old) result image.new }
+{
+    let at = image.register(pointer);
+    match image.memory.write(at, size, value) {
+        Ok(()) => Ok(()),
+        Err(OutOfLimit) => Err(13),
+    }
+}
+
+/// Moves a pointer by a size, down where the direction flag is set.
+fn advance(image: &mut Image, pointer: Register, size: Size)
+    ensures { image.new ≡ advanced pointer size image.old }
+{
+    let from = image.register(pointer);
+    let to = if image.flags.direction() {
+        less(from, size.bytes())
+    } else {
+        more(from, size.bytes())
+    };
+    image.set_register(pointer, to);
+}
+
+/// One MOVS, STOS or LODS.
+fn transfer_once(image: &mut Image, operation: Transfer, size: Size) -> Result<(), u8>
+    ensures { Performs image.old (transferred operation size image.old) result image.new }
+{
+    match operation {
+        Transfer::Movs => {
+            let value = read_by(image, Register::Esi, size)?;
+            write_by(image, Register::Edi, size, value)?;
+            advance(image, Register::Esi, size);
+            advance(image, Register::Edi, size);
+            Ok(())
+        }
+        Transfer::Stos => {
+            let value = image.regs.get(size, Register::Eax);
+            write_by(image, Register::Edi, size, value)?;
+            advance(image, Register::Edi, size);
+            Ok(())
+        }
+        Transfer::Lods => {
+            let value = read_by(image, Register::Esi, size)?;
+            image.regs.set(size, Register::Eax, value);
+            advance(image, Register::Esi, size);
+            Ok(())
+        }
+    }
+}
+
+/// One CMPS or SCAS.
+fn compare_once(image: &mut Image, operation: Comparison, size: Size) -> Result<(), u8>
+    ensures { Performs image.old (compared operation size image.old) result image.new }
+{
+    match operation {
+        Comparison::Cmps => {
+            let x = read_by(image, Register::Esi, size)?;
+            let y = read_by(image, Register::Edi, size)?;
+            image.flags = image.flags.after_sub(size, x, y, false);
+            advance(image, Register::Esi, size);
+            advance(image, Register::Edi, size);
+            Ok(())
+        }
+        Comparison::Scas => {
+            let x = image.regs.get(size, Register::Eax);
+            let y = read_by(image, Register::Edi, size)?;
+            image.flags = image.flags.after_sub(size, x, y, false);
+            advance(image, Register::Edi, size);
+            Ok(())
+        }
+    }
+}
+
+/// Takes one from ECX.
+fn count_down(image: &mut Image)
+    ensures { image.new ≡ counted_down image.old }
+{
+    let count = less(image.register(Register::Ecx), 1);
+    image.set_register(Register::Ecx, count);
+}
+
+pub fn transfer(
+    image: &mut Image,
+    operation: Transfer,
+    size: Size,
+    repeated: bool,
+    next: u32,
+) -> Result<(), u8>
+    ensures { Performs image.old (transfer operation size repeated next image.old) result image.new }
+{
+    if !repeated {
+        transfer_once(image, operation, size)?;
+        image.eip = next;
+        return Ok(());
+    }
+    if image.register(Register::Ecx) == 0 {
+        image.eip = next;
+        return Ok(());
+    }
+    transfer_once(image, operation, size)?;
+    count_down(image);
+    if image.register(Register::Ecx) == 0 {
+        image.eip = next;
+    }
+    Ok(())
+}
+
+/// Whether a comparison ends its repeat.
+fn ends_repeat(image: &Image, repeat: Repeat) -> bool
+    ensures { result ≡ ends_repeat repeat image.now }
+{
+    match repeat {
+        Repeat::Repe => !image.flags.zero(),
+        Repeat::Repne => image.flags.zero(),
+    }
+}
+
+pub fn compare(
+    image: &mut Image,
+    operation: Comparison,
+    size: Size,
+    repeat: Option<Repeat>,
+    next: u32,
+) -> Result<(), u8>
+    ensures { Performs image.old (compare operation size repeat next image.old) result image.new }
+{
+    let Some(repeat) = repeat else {
+        compare_once(image, operation, size)?;
+        image.eip = next;
+        return Ok(());
+    };
+    if image.register(Register::Ecx) == 0 {
+        image.eip = next;
+        return Ok(());
+    }
+    compare_once(image, operation, size)?;
+    count_down(image);
+    if image.register(Register::Ecx) == 0 || ends_repeat(image, repeat) {
+        image.eip = next;
+    }
+    Ok(())
+}
