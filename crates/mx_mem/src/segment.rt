@@ -1,6 +1,6 @@
 //! A segment: bytes from 0 up to a limit.
 
-ghost use Rattle.std.specs.Prelude.{◌≡◌, ◌+◌, ◌^◌, ◌<◌, ◌≤◌, Ok, Err, OnOk, OnErr, IfOk, IfSome, length, slice_index, slice_set, replicate, take, drop};
+ghost use Rattle.std.specs.Prelude.{◌≡◌, ◌+◌, ◌^◌, ◌<◌, ◌≤◌, Ok, Err, OnOk, OnErr, IfOk, IfSome, length, slice_get, slice_index, slice_set, replicate, take, drop};
 ghost use Rattle.mx_word.specs.Word.{width, bytes_in};
 ghost use Rattle.mx_mem.specs.Segment.{inside, read_at, written, copied};
 
@@ -43,7 +43,14 @@ impl Segment {
         self.bytes.len()
     }
 
-    /// The byte at a place.
+    /// The byte at a place, where it lies inside.
+    pub fn get(&self, at: u32) -> Option<u8>
+        ensures { result ≡ slice_get self.now at }
+    {
+        self.bytes.get(at as usize).copied()
+    }
+
+    /// The byte at a place inside.
     fn byte(&self, at: usize) -> u8
         requires { at < length self.now }
         ensures { result ≡ slice_index self.now at }

@@ -1,0 +1,8 @@
+//! Many steps of a process.
+#![tactic(auto)]
+
+mod joining;
+mod runs;
+
+pub use joining::runs_join;
+pub use runs::{Runs, Stop};
