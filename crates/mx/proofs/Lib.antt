@@ -1,0 +1,2 @@
+pub mod SymbolLists
+pub mod Answering

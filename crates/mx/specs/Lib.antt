@@ -1,0 +1,4 @@
+pub mod Limits
+pub mod File
+pub mod Load
+pub mod One
