@@ -351,3 +351,6 @@ fn leaves_low_digit(whole: i64) -> bool
 {
     whole < 0 || whole >= 16
 }
+
+#[cfg(test)]
+mod tests;
