@@ -2,3 +2,4 @@ pub mod Limits
 pub mod File
 pub mod Load
 pub mod One
+pub mod Failure

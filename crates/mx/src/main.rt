@@ -1,11 +1,69 @@
-//! The machine for the process layer.
+//! The machine for the process layer of MINIX 3.1.
 #![tactic(auto)]
 
+mod failure;
 mod file;
 mod load;
 mod program;
+mod report;
 mod running;
+mod words;
 
+use clap::error::ErrorKind;
+pub use failure::Failure;
+pub use report::print_one;
 pub use running::one;
+use std::process::ExitCode;
+use std::rt::{Env, Files};
+use std::{env, fs, io};
+pub use words::{Request, command};
 
-fn main() {}
+/// Reads a file and prints its first steps.
+fn run_one(rt: &(impl Files + Print + AllocGlobal), file: &str, steps: u32) -> Result<(), Failure> {
+    let bytes = fs::read(rt, file)?;
+    print_one(rt.alloc(), bytes.as_slice(), steps, &mut io::writer(rt))
+}
+
+/// The program's words, its own name first.
+fn arguments(rt: &(impl Env + AllocGlobal)) -> Result<Vec<String>, Failure> {
+    match env::args(rt) {
+        Ok(words) => Ok(words.collect(rt.alloc())?),
+        Err(error) if error.kind() == io::ErrorKind::OutOfMemory => Err(Failure::NoMemory),
+        Err(_) => Err(Failure::NotText),
+    }
+}
+
+/// Prints help where it was asked for, or what is wrong with the words.
+fn explain(rt: &(impl Print + Eprint), error: &clap::Error) -> Result<u8, Failure> {
+    if error.kind() == ErrorKind::OutOfMemory {
+        return Err(Failure::NoMemory);
+    }
+    error.print(rt)?;
+    Ok(if error.use_stderr() { 2 } else { 0 })
+}
+
+/// Does what the words ask for, and answers the status to end with.
+fn perform(rt: &(impl Env + Files + Print + Eprint + AllocGlobal)) -> Result<u8, Failure> {
+    let arguments = arguments(rt)?;
+    let mut words = Vec::new(rt.alloc());
+    for argument in &arguments {
+        words.push(argument.as_str())?;
+    }
+    match command(rt.alloc(), words.as_slice()) {
+        Ok(Request::One { file, steps }) => {
+            run_one(rt, file, steps)?;
+            Ok(0)
+        }
+        Err(error) => explain(rt, &error),
+    }
+}
+
+fn main(rt: HostRuntime) -> ExitCode {
+    match perform(&rt) {
+        Ok(status) => ExitCode::from(status),
+        Err(failure) => {
+            let _ = eprintln!(rt; "{failure}");
+            ExitCode::from(failure.status())
+        }
+    }
+}
