@@ -1,6 +1,6 @@
 -- Turning a word leaves a word.
 use Rattle.std.proofs.Common.{◌≡◌, ℕ, ◌+◌, ◌-◌, ◌*◌, ◌/◌, ◌%◌, ◌^◌, ◌<◌, ◌≤◌, arith, ap, sym, subst}
-use Rattle.std.proofs.lemmas.Nat.{pow-add, shr_split, shr_high, mod_low, mul-add-lt, shr_below, mod_below, pow_pos, mul-lt}
+use Rattle.std.proofs.lemmas.Nat.{pow-add, shr_split, shr_high, mod_low, mul-add-lt, shr_below, mod_below, pow_pos}
 use Rattle.mx_word.specs.Word.{width}
 use Rattle.mx_word.specs.declared.size.Size.{Size}
 use Rattle.mx_word.specs.declared.size.Size.TheVariants.{Byte, Word, Dword}

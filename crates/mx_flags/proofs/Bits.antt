@@ -1,5 +1,5 @@
 -- Values of flags and their bits.
-use Rattle.std.proofs.Common.{ℕ, ◌≡◌, ◌+◌, ◌*◌, ◌/◌, ◌%◌, ◌≤◌, Bool, true, false, ◌==◌, refl, arith}
+use Rattle.std.proofs.Common.{ℕ, ◌≡◌, ◌/◌, ◌%◌, ◌≤◌, Bool, true, false, ◌==◌, refl, arith}
 use Rattle.std.specs.Int.{from_bool}
 use Rattle.mx_flags.specs.Flags.{bits_of, values_of}
 use Rattle.mx_flags.specs.declared.FlagValues.{FlagValues}

@@ -82,9 +82,9 @@ impl Size {
         ensures below { result < 2 ^ width self }
     {
         match self {
-            Size::Byte => whole.rem_euclid(0x100) as u32,
-            Size::Word => whole.rem_euclid(0x1_0000) as u32,
-            Size::Dword => whole.rem_euclid(0x1_0000_0000) as u32,
+            Size::Byte => (whole.cast_unsigned() % 0x100) as u32,
+            Size::Word => (whole.cast_unsigned() % 0x1_0000) as u32,
+            Size::Dword => (whole.cast_unsigned() % 0x1_0000_0000) as u32,
         }
     }
 
@@ -117,10 +117,10 @@ pub fn signed(size: Size, word: u32) -> i64
     ensures small { IsSmall result }
     ensures half { unsigned_abs result ≤ 2 ^ 31 }
 {
-    if i64::from(word) < size.half() {
-        i64::from(word)
-    } else {
-        i64::from(word) - size.modulus()
+    match size {
+        Size::Byte => i64::from((word as u8).cast_signed()),
+        Size::Word => i64::from((word as u16).cast_signed()),
+        Size::Dword => i64::from(word.cast_signed()),
     }
 }
 
