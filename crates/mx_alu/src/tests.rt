@@ -1,4 +1,4 @@
-//! Results and flags, checked against a processor's.
+//! Worked examples of results and flags.
 
 use super::*;
 use mx_word::Shift;
