@@ -64,8 +64,8 @@ impl From<AllocError> for Failure {
     }
 }
 
-impl From<AllocFailed<&str>> for Failure {
-    fn from(_: AllocFailed<&str>) -> Failure {
+impl<T: Drop> From<AllocFailed<T>> for Failure {
+    fn from(_: AllocFailed<T>) -> Failure {
         Failure::NoMemory
     }
 }

@@ -26,11 +26,16 @@ fn run_one(rt: &(impl Files + Print + AllocGlobal), file: &str, steps: u32) -> R
 
 /// The program's words, its own name first.
 fn arguments(rt: &(impl Env + AllocGlobal)) -> Result<Vec<String>, Failure> {
-    match env::args(rt) {
-        Ok(words) => Ok(words.collect(rt.alloc())?),
-        Err(error) if error.kind() == io::ErrorKind::OutOfMemory => Err(Failure::NoMemory),
-        Err(_) => Err(Failure::NotText),
+    let words = match env::args(rt) {
+        Ok(words) => words,
+        Err(error) if error.kind() == io::ErrorKind::OutOfMemory => return Err(Failure::NoMemory),
+        Err(_) => return Err(Failure::NotText),
+    };
+    let mut arguments = Vec::new(rt.alloc());
+    for word in words {
+        arguments.push(word)?;
     }
+    Ok(arguments)
 }
 
 /// Prints help where it was asked for, or what is wrong with the words.
