@@ -6,3 +6,6 @@ pub mod Heads
 pub mod Choice
 pub mod Laws
 pub mod Answer
+pub mod Spans
+pub mod Agrees
+pub mod Front
