@@ -1,0 +1,11 @@
+pub mod Rows
+pub mod Checked
+pub mod Stages
+pub mod Places
+pub mod Heads
+pub mod Choice
+pub mod Laws
+pub mod Answer
+pub mod Spans
+pub mod Agrees
+pub mod Front

@@ -1,0 +1,219 @@
+//! ModRM, SIB, displacement and immediate.
+
+ghost use Rattle.std.specs.Prelude.{◌≡◌, ◌<◌, ◌^◌, IfOk};
+ghost use Rattle.mx_word.specs.Word.{width};
+ghost use Rattle.mx_insn.specs.Spelling.{register, scale, base_of, extended, size_of};
+ghost use Rattle.mx_decode.specs.Given.{Gives, number_at, displacement_at, immediate_at, sib_parts, base_parts, memory_at, operand_at, modrm_at, place_code, immediate_bound};
+
+use crate::DecodeFault;
+use mx_insn::{ImmediateColumn, Index, Memory, ModRm, Operand, Register, Scale, Size, Sizes};
+use mx_word::signed;
+
+pub fn register(field: u8) -> Register
+    ensures { result ≡ register field }
+{
+    match field {
+        0 => Register::Eax,
+        1 => Register::Ecx,
+        2 => Register::Edx,
+        3 => Register::Ebx,
+        4 => Register::Esp,
+        5 => Register::Ebp,
+        6 => Register::Esi,
+        _ => Register::Edi,
+    }
+}
+
+fn scale(field: u8) -> Scale
+    ensures { result ≡ scale field }
+{
+    match field {
+        0 => Scale::One,
+        1 => Scale::Two,
+        2 => Scale::Four,
+        _ => Scale::Eight,
+    }
+}
+
+#[tactic(auto, unfolding(crate::specs::Given::number_at, crate::specs::Reading::take_exact))]
+fn byte(bytes: &[u8]) -> Result<(u32, &[u8]), DecodeFault>
+    ensures value { Gives (λ x. (x.0, x.1.now)) result (number_at 1 bytes.now) }
+    ensures small { IfOk result (λ x. x.0 < 256) }
+{
+    match bytes {
+        [a, rest @ ..] => Ok((u32::from(*a), rest)),
+        _ => Err(DecodeFault::Short),
+    }
+}
+
+#[tactic(auto, unfolding(crate::specs::Given::number_at, crate::specs::Reading::take_exact))]
+fn word(bytes: &[u8]) -> Result<(u32, &[u8]), DecodeFault>
+    ensures value { Gives (λ x. (x.0, x.1.now)) result (number_at 2 bytes.now) }
+    ensures small { IfOk result (λ x. x.0 < 65536) }
+{
+    match bytes {
+        [a, b, rest @ ..] => Ok((u32::from(u16::from_le_bytes([*a, *b])), rest)),
+        _ => Err(DecodeFault::Short),
+    }
+}
+
+#[tactic(auto, unfolding(crate::specs::Given::number_at, crate::specs::Reading::take_exact))]
+fn dword(bytes: &[u8]) -> Result<(u32, &[u8]), DecodeFault>
+    ensures { Gives (λ x. (x.0, x.1.now)) result (number_at 4 bytes.now) }
+{
+    match bytes {
+        [a, b, c, d, rest @ ..] => Ok((u32::from_le_bytes([*a, *b, *c, *d]), rest)),
+        _ => Err(DecodeFault::Short),
+    }
+}
+
+/// A byte with its sign extended.
+fn extended(byte: u32, size: Size) -> u32
+    requires { byte < 256 }
+    ensures value { result ≡ extended (width size) byte }
+    ensures below { result < 2 ^ width size }
+{
+    size.modulo(signed(Size::Byte, byte))
+}
+
+#[tactic(auto, unfolding(crate::specs::Given::displacement_at, crate::specs::Given::number_at, crate::specs::Reading::take_exact))]
+fn displacement(mode: u8, base: u8, bytes: &[u8]) -> Result<(u32, &[u8]), DecodeFault>
+    requires { mode < 3 }
+    ensures { Gives (λ x. (x.0, x.1.now)) result (displacement_at mode base bytes.now) }
+{
+    match mode {
+        0 if base == 5 => dword(bytes),
+        0 => Ok((0, bytes)),
+        1 => {
+            let (low, rest) = byte(bytes)?;
+            Ok((extended(low, Size::Dword), rest))
+        }
+        _ => dword(bytes),
+    }
+}
+
+#[tactic(auto, unfolding(crate::specs::Given::sib_parts))]
+fn sib(bytes: &[u8]) -> Result<(u8, Option<Index>, &[u8]), DecodeFault>
+    ensures { Gives (λ x. ((x.0, x.1), x.2.now)) result (sib_parts bytes.now) }
+{
+    match bytes {
+        [] => Err(DecodeFault::Short),
+        [sib, rest @ ..] => {
+            let index = match *sib / 8 % 8 {
+                4 => None,
+                field => Some(Index {
+                    register: register(field),
+                    scale: scale(*sib / 64),
+                }),
+            };
+            Ok((*sib % 8, index, rest))
+        }
+    }
+}
+
+/// The field that names the base, and the index.
+#[tactic(auto, unfolding(crate::specs::Given::base_parts))]
+fn base(rm: u8, bytes: &[u8]) -> Result<(u8, Option<Index>, &[u8]), DecodeFault>
+    ensures { Gives (λ x. ((x.0, x.1), x.2.now)) result (base_parts rm bytes.now) }
+{
+    if rm == 4 {
+        return sib(bytes);
+    }
+    Ok((rm, None, bytes))
+}
+
+fn base_of(mode: u8, field: u8) -> Option<Register>
+    ensures { result ≡ base_of mode field }
+{
+    if mode == 0 && field == 5 {
+        return None;
+    }
+    Some(register(field))
+}
+
+#[tactic(auto, unfolding(crate::specs::Given::memory_at))]
+fn memory(mode: u8, rm: u8, bytes: &[u8]) -> Result<(Memory, &[u8]), DecodeFault>
+    requires { mode < 3 }
+    ensures { Gives (λ x. (x.0, x.1.now)) result (memory_at mode rm bytes.now) }
+{
+    let (field, index, rest) = base(rm, bytes)?;
+    let (displacement, rest) = displacement(mode, field, rest)?;
+    Ok((
+        Memory {
+            base: base_of(mode, field),
+            index,
+            displacement,
+        },
+        rest,
+    ))
+}
+
+#[tactic(auto, unfolding(crate::specs::Given::operand_at))]
+fn operand(mode: u8, rm: u8, bytes: &[u8]) -> Result<(Operand, &[u8]), DecodeFault>
+    requires { mode < 4 }
+    ensures { Gives (λ x. (x.0, x.1.now)) result (operand_at mode rm bytes.now) }
+{
+    if mode == 3 {
+        return Ok((Operand::Register(register(rm)), bytes));
+    }
+    let (memory, rest) = memory(mode, rm, bytes)?;
+    Ok((Operand::Memory(memory), rest))
+}
+
+/// The reg field of a ModRM byte, and what mod and rm name.
+#[tactic(auto, unfolding(crate::specs::Given::modrm_at))]
+pub fn modrm(bytes: &[u8]) -> Result<(u8, Operand, &[u8]), DecodeFault>
+    ensures { Gives (λ x. ((x.0, x.1), x.2.now)) result (modrm_at bytes.now) }
+{
+    match bytes {
+        [] => Err(DecodeFault::Short),
+        [modrm, rest @ ..] => {
+            let (operand, rest) = operand(*modrm / 64, *modrm % 8, rest)?;
+            Ok((*modrm / 8 % 8, operand, rest))
+        }
+    }
+}
+
+/// The reg field and what mod and rm name, where the row has a ModRM byte.
+#[tactic(auto, unfolding(crate::specs::Given::place_code))]
+pub fn place(column: ModRm, bytes: &[u8]) -> Result<(u8, Operand, &[u8]), DecodeFault>
+    ensures { Gives (λ x. ((x.0, x.1), x.2.now)) result (place_code column bytes.now) }
+{
+    match column {
+        ModRm::Absent => Ok((0, Operand::Register(Register::Eax), bytes)),
+        ModRm::Any | ModRm::AnyMemory | ModRm::Only(_) => modrm(bytes),
+    }
+}
+
+pub fn size_of(sizes: Sizes, wide: bool) -> Size
+    ensures { result ≡ size_of sizes wide }
+{
+    match sizes {
+        Sizes::Byte => Size::Byte,
+        Sizes::Variable if wide => Size::Word,
+        Sizes::Variable | Sizes::Dword => Size::Dword,
+    }
+}
+
+#[tactic(auto, unfolding(crate::specs::Given::immediate_at, crate::specs::Given::number_at, crate::specs::Reading::take_exact))]
+pub fn immediate(
+    column: ImmediateColumn,
+    size: Size,
+    wide: bool,
+    bytes: &[u8],
+) -> Result<(u32, &[u8]), DecodeFault>
+    ensures value { Gives (λ x. (x.0, x.1.now)) result (immediate_at column size wide bytes.now) }
+    ensures bound { IfOk result (λ x. x.0 < immediate_bound column size wide) }
+{
+    match column {
+        ImmediateColumn::Nothing => Ok((0, bytes)),
+        ImmediateColumn::Byte => byte(bytes),
+        ImmediateColumn::SignedByte => {
+            let (low, rest) = byte(bytes)?;
+            Ok((extended(low, size), rest))
+        }
+        ImmediateColumn::Word => word(bytes),
+        ImmediateColumn::Dword => dword(bytes),
+        ImmediateColumn::Variable => { if wide { word(bytes) } else { dword(bytes) } }
+    }
+}

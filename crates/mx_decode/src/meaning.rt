@@ -1,0 +1,353 @@
+//! What a row says of the fields.
+
+ghost use Rattle.std.specs.Prelude.{◌≡◌, ◌<◌, ◌^◌, if◌then◌else◌};
+ghost use Rattle.mx_word.specs.Word.{width};
+ghost use Rattle.mx_insn.specs.Spelling.{arithmetic, condition, immediate_of, wide_immediate, port_size, operand_size, byte_extension, to_rm, memory_of, at, shift_count, made};
+ghost use Rattle.mx_decode.specs.Given.{narrow_bound, shift_bound, parts_in};
+
+use crate::fields::register;
+use mx_insn::{
+    Arithmetic, Condition, Count, CountColumn, Extension, Immediate, Insn, Memory, Operand,
+    OperandSize, Operands, Pattern, Port, PortSize, Register, Repeat, Size, WideImmediate,
+};
+
+/// What stands in an instruction's bytes beside the row.
+#[derive(Clone, Copy, Debug, PartialEq, Eq)]
+pub struct Values {
+    pub wide: bool,
+    pub repeat: Option<Repeat>,
+    pub number: u8,
+    pub reg: u8,
+    pub rm: Operand,
+    pub immediate: u32,
+}
+
+fn arithmetic(number: u8) -> Arithmetic
+    ensures { result ≡ arithmetic number }
+{
+    match number {
+        0 => Arithmetic::Add,
+        1 => Arithmetic::Or,
+        2 => Arithmetic::Adc,
+        3 => Arithmetic::Sbb,
+        4 => Arithmetic::And,
+        5 => Arithmetic::Sub,
+        6 => Arithmetic::Xor,
+        _ => Arithmetic::Cmp,
+    }
+}
+
+fn condition(number: u8) -> Condition
+    ensures { result ≡ condition number }
+{
+    match number {
+        0 => Condition::Overflow,
+        1 => Condition::NotOverflow,
+        2 => Condition::Below,
+        3 => Condition::NotBelow,
+        4 => Condition::Zero,
+        5 => Condition::NotZero,
+        6 => Condition::BelowOrEqual,
+        7 => Condition::NotBelowOrEqual,
+        8 => Condition::Sign,
+        9 => Condition::NotSign,
+        10 => Condition::Parity,
+        11 => Condition::NotParity,
+        12 => Condition::Less,
+        13 => Condition::NotLess,
+        14 => Condition::LessOrEqual,
+        _ => Condition::NotLessOrEqual,
+    }
+}
+
+fn immediate_of(size: Size, number: u32) -> Immediate
+    requires { number < 2 ^ width size }
+    ensures { result ≡ immediate_of size number }
+{
+    match size {
+        Size::Byte => Immediate::Byte(number as u8),
+        Size::Word => Immediate::Word(number as u16),
+        Size::Dword => Immediate::Dword(number),
+    }
+}
+
+fn wide_immediate(wide: bool, number: u32) -> WideImmediate
+    requires { number < (if wide then 65536 else 2 ^ 32) }
+    ensures { result ≡ wide_immediate wide number }
+{
+    if wide {
+        return WideImmediate::Word(number as u16);
+    }
+    WideImmediate::Dword(number)
+}
+
+fn operand_size(wide: bool) -> OperandSize
+    ensures { result ≡ operand_size wide }
+{
+    if wide {
+        OperandSize::Word
+    } else {
+        OperandSize::Dword
+    }
+}
+
+fn byte_extension(wide: bool) -> Extension
+    ensures { result ≡ byte_extension wide }
+{
+    if wide {
+        Extension::ByteToWord
+    } else {
+        Extension::ByteToDword
+    }
+}
+
+fn port_size(size: Size) -> PortSize
+    ensures { result ≡ port_size size }
+{
+    match size {
+        Size::Byte => PortSize::Byte,
+        Size::Word | Size::Dword => PortSize::Dword,
+    }
+}
+
+fn to_rm(size: Size, to: Operand, from: Register) -> Operands
+    ensures { result ≡ to_rm size to from }
+{
+    match to {
+        Operand::Register(to) => Operands::ToRegister {
+            size,
+            to,
+            from: Operand::Register(from),
+        },
+        Operand::Memory(to) => Operands::ToMemory { size, to, from },
+    }
+}
+
+fn memory_of(operand: Operand) -> Memory
+    ensures { result ≡ memory_of operand }
+{
+    match operand {
+        Operand::Register(_) => at(0),
+        Operand::Memory(memory) => memory,
+    }
+}
+
+fn at(displacement: u32) -> Memory
+    ensures { result ≡ at displacement }
+{
+    Memory {
+        base: None,
+        index: None,
+        displacement,
+    }
+}
+
+fn shift_count(column: CountColumn, immediate: u32) -> Count
+    requires { immediate < shift_bound column }
+    ensures { result ≡ shift_count column immediate }
+{
+    match column {
+        CountColumn::Immediate => Count::Immediate(immediate as u8),
+        CountColumn::One => Count::Immediate(1),
+        CountColumn::Cl => Count::Cl,
+    }
+}
+
+const ACCUMULATOR: Operand = Operand::Register(Register::Eax);
+
+/// The instruction that a row's instruction column makes.
+pub fn insn_of(pattern: Pattern, size: Size, values: Values) -> Insn
+    requires narrow { values.immediate < narrow_bound pattern size values.wide }
+    requires number { values.number < 255 }
+    ensures { result ≡ made pattern size (parts_in values) }
+{
+    let Values {
+        wide,
+        rm,
+        immediate,
+        ..
+    } = values;
+    let reg = register(values.reg);
+    match pattern {
+        Pattern::ArithmeticRmReg => Insn::Arithmetic {
+            operation: arithmetic(values.number),
+            operands: to_rm(size, rm, reg),
+        },
+        Pattern::ArithmeticRegRm => Insn::Arithmetic {
+            operation: arithmetic(values.number),
+            operands: Operands::ToRegister {
+                size,
+                to: reg,
+                from: rm,
+            },
+        },
+        Pattern::ArithmeticAccImmediate => Insn::Arithmetic {
+            operation: arithmetic(values.number),
+            operands: Operands::Immediate {
+                to: ACCUMULATOR,
+                value: immediate_of(size, immediate),
+            },
+        },
+        Pattern::ArithmeticRmImmediate => Insn::Arithmetic {
+            operation: arithmetic(values.reg),
+            operands: Operands::Immediate {
+                to: rm,
+                value: immediate_of(size, immediate),
+            },
+        },
+        Pattern::MoveRmReg => Insn::Move(to_rm(size, rm, reg)),
+        Pattern::MoveRegRm => Insn::Move(Operands::ToRegister {
+            size,
+            to: reg,
+            from: rm,
+        }),
+        Pattern::MoveAccAt => Insn::Move(Operands::ToRegister {
+            size,
+            to: Register::Eax,
+            from: Operand::Memory(at(immediate)),
+        }),
+        Pattern::MoveAtAcc => Insn::Move(Operands::ToMemory {
+            size,
+            to: at(immediate),
+            from: Register::Eax,
+        }),
+        Pattern::MoveRegImmediate => Insn::Move(Operands::Immediate {
+            to: Operand::Register(register(values.number)),
+            value: immediate_of(size, immediate),
+        }),
+        Pattern::MoveRmImmediate => Insn::Move(Operands::Immediate {
+            to: rm,
+            value: immediate_of(size, immediate),
+        }),
+        Pattern::TestRmReg => Insn::Test {
+            size,
+            operand: rm,
+            register: reg,
+        },
+        Pattern::TestAccImmediate => Insn::TestImmediate {
+            operand: ACCUMULATOR,
+            value: immediate_of(size, immediate),
+        },
+        Pattern::TestRmImmediate => Insn::TestImmediate {
+            operand: rm,
+            value: immediate_of(size, immediate),
+        },
+        Pattern::ExchangeRmReg => Insn::Exchange {
+            size,
+            operand: rm,
+            register: reg,
+        },
+        Pattern::ExchangeRegAcc => Insn::Exchange {
+            size,
+            operand: Operand::Register(register(values.number + 1)),
+            register: Register::Eax,
+        },
+        Pattern::LoadAddress => Insn::LoadAddress {
+            size: operand_size(wide),
+            to: reg,
+            memory: memory_of(rm),
+        },
+        Pattern::UnaryReg(operation) => Insn::Unary {
+            operation,
+            size,
+            operand: Operand::Register(register(values.number)),
+        },
+        Pattern::UnaryRm(operation) => Insn::Unary {
+            operation,
+            size,
+            operand: rm,
+        },
+        Pattern::ProductRm(operation) => Insn::Product {
+            operation,
+            size,
+            operand: rm,
+        },
+        Pattern::MultiplyRegRm => Insn::Multiply {
+            size: operand_size(wide),
+            to: reg,
+            from: rm,
+        },
+        Pattern::MultiplyRegRmImmediate => Insn::MultiplyImmediate {
+            to: reg,
+            from: rm,
+            by: wide_immediate(wide, immediate),
+        },
+        Pattern::ShiftRm(operation, column) => Insn::Shift {
+            operation,
+            size,
+            operand: rm,
+            count: shift_count(column, immediate),
+        },
+        Pattern::ZeroExtendByte => Insn::ZeroExtend {
+            extension: byte_extension(wide),
+            to: reg,
+            from: rm,
+        },
+        Pattern::ZeroExtendWord => Insn::ZeroExtend {
+            extension: Extension::WordToDword,
+            to: reg,
+            from: rm,
+        },
+        Pattern::SignExtendByte => Insn::SignExtend {
+            extension: byte_extension(wide),
+            to: reg,
+            from: rm,
+        },
+        Pattern::SignExtendWord => Insn::SignExtend {
+            extension: Extension::WordToDword,
+            to: reg,
+            from: rm,
+        },
+        Pattern::SetCondition => Insn::SetCondition {
+            condition: condition(values.number),
+            operand: rm,
+        },
+        Pattern::PushReg => Insn::Push(Operand::Register(register(values.number))),
+        Pattern::PushRm => Insn::Push(rm),
+        Pattern::PushImmediate => Insn::PushImmediate(immediate),
+        Pattern::PopReg => Insn::Pop(register(values.number)),
+        Pattern::JumpIf => Insn::JumpIf {
+            condition: condition(values.number),
+            displacement: immediate,
+        },
+        Pattern::Jump => Insn::Jump(immediate),
+        Pattern::JumpRm => Insn::JumpTo(rm),
+        Pattern::Call => Insn::Call(immediate),
+        Pattern::CallRm => Insn::CallTo(rm),
+        Pattern::Loop(operation) => Insn::Loop {
+            operation,
+            displacement: immediate,
+        },
+        Pattern::Return => Insn::Return(immediate as u16),
+        Pattern::Interrupt => Insn::Interrupt(immediate as u8),
+        Pattern::ExtendAccumulator => Insn::ExtendAccumulator(operand_size(wide)),
+        Pattern::SpreadSign => Insn::SpreadSign(operand_size(wide)),
+        Pattern::Transfer(operation) => Insn::Transfer {
+            operation,
+            size,
+            repeated: values.repeat.is_some(),
+        },
+        Pattern::Compare(operation) => Insn::Compare {
+            operation,
+            size,
+            repeat: values.repeat,
+        },
+        Pattern::InImmediate => Insn::In {
+            size: port_size(size),
+            port: Port::Immediate(immediate as u8),
+        },
+        Pattern::InDx => Insn::In {
+            size: port_size(size),
+            port: Port::Dx,
+        },
+        Pattern::OutImmediate => Insn::Out {
+            size: port_size(size),
+            port: Port::Immediate(immediate as u8),
+        },
+        Pattern::OutDx => Insn::Out {
+            size: port_size(size),
+            port: Port::Dx,
+        },
+        Pattern::Plain(operation) => Insn::Plain(operation),
+    }
+}

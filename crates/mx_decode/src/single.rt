@@ -1,0 +1,65 @@
+//! One instruction.
+
+ghost use Rattle.std.specs.Prelude.{◌≡◌, ◌<◌, ◌≤◌, ◌+◌, ◌++◌, ◌↔◌, ℕ, List, length, IfOk};
+ghost use Rattle.mx_insn.specs.declared.insn.Insn.{Insn};
+ghost use Rattle.mx_insn.specs.Spelling.{Spells, IsOpen, size_of};
+ghost use Rattle.mx_decode.specs.Decode.{SpellsFirst, NoneFirst, front};
+ghost use Rattle.mx_decode.specs.Reading.{number_of, reading, counted};
+ghost use Rattle.mx_decode.specs.Given.{Gives, immediate_bound, narrow_bound, operands_code};
+
+use crate::DecodeFault;
+use crate::fields::{immediate, place, size_of};
+use crate::head::{Head, read_head};
+use crate::meaning::{Values, insn_of};
+use crate::select::row_of;
+use mx_insn::{Insn, Row};
+
+#[tactic(auto, unfolding(crate::specs::Given::operands_code))]
+fn operands(head: Head, row: Row, bytes: &[u8]) -> Result<(Insn, &[u8]), DecodeFault>
+    requires first { row.first ≤ head.opcode }
+    requires step { 0 < row.step }
+    requires number { number_of row head.opcode < row.count }
+    requires narrow { immediate_bound row.immediate (size_of row.sizes head.wide) head.wide ≤ narrow_bound row.pattern (size_of row.sizes head.wide) head.wide }
+    ensures { Gives (λ x. (x.0, x.1.now)) result (operands_code head row bytes.now) }
+{
+    let size = size_of(row.sizes, head.wide);
+    let (reg, rm, rest) = place(row.modrm, bytes)?;
+    let (immediate, rest) = immediate(row.immediate, size, head.wide, rest)?;
+    let values = Values {
+        wide: head.wide,
+        repeat: head.repeat,
+        number: (head.opcode - row.first) / row.step,
+        reg,
+        rm,
+        immediate,
+    };
+    Ok((insn_of(row.pattern, size, values), rest))
+}
+
+#[tactic(auto, unfolding(crate::specs::Reading::reading))]
+fn read(bytes: &[u8]) -> Result<(Insn, &[u8]), DecodeFault>
+    ensures { Gives (λ x. (x.0, x.1.now)) result (reading bytes.now) }
+{
+    let (head, rest) = read_head(bytes)?;
+    let row = row_of(head, rest)?;
+    operands(head, row, rest)
+}
+
+fn read_counted(bytes: &[u8]) -> Result<(Insn, u8), DecodeFault>
+    ensures { result ≡ counted bytes.now (reading bytes.now) }
+{
+    match read(bytes) {
+        Err(fault) => Err(fault),
+        Ok((insn, rest)) => Ok((insn, (bytes.len() - rest.len()) as u8)),
+    }
+}
+
+/// The instruction at the front, and how many bytes it takes. Takes no memory.
+pub fn decode(bytes: &[u8]) -> Result<(Insn, u8), DecodeFault>
+    ensures value { result ≡ front bytes.now }
+    ensures ok { (i : Insn) (k : ℕ) → (result ≡ Ok (i, k)) ↔ SpellsFirst bytes.now k i }
+    ensures not_in_table { (result ≡ Err DecodeFault.NotInTable) ↔ (NoneFirst bytes.now × ¬ IsOpen bytes.now) }
+    ensures short { (result ≡ Err DecodeFault.Short) ↔ (NoneFirst bytes.now × IsOpen bytes.now) }
+{
+    read_counted(bytes)
+}

@@ -1,0 +1,125 @@
+//! The columns of the instruction table.
+
+use crate::insn::{Comparison, Loop, Plain, Product, Transfer};
+use mx_word::{Shift, Unary};
+
+/// The operand size of a row: b, v (word behind 66, else dword), or d (also where it has no mark).
+#[derive(Clone, Copy, Debug, PartialEq, Eq)]
+pub enum Sizes {
+    Byte,
+    Variable,
+    Dword,
+}
+
+/// Which of F3 and F2 may stand before a row.
+#[derive(Clone, Copy, Debug, PartialEq, Eq)]
+pub enum Repeats {
+    Neither,
+    /// F3, as REP.
+    Rep,
+    /// F3 as REPE, F2 as REPNE.
+    Both,
+}
+
+/// A row's ModRM byte.
+#[derive(Clone, Copy, Debug, PartialEq, Eq)]
+pub enum ModRm {
+    /// There is none.
+    Absent,
+    /// Any reg field and any rm.
+    Any,
+    /// Any reg field, and rm is memory.
+    AnyMemory,
+    /// /n: the reg field is this, and rm is any.
+    Only(u8),
+}
+
+/// What stands last in a row: nothing, ib, is, iw, id, iv.
+#[derive(Clone, Copy, Debug, PartialEq, Eq)]
+pub enum ImmediateColumn {
+    Nothing,
+    Byte,
+    /// A byte with its sign extended.
+    SignedByte,
+    Word,
+    Dword,
+    /// As wide as the operands: a word behind 66, else a dword.
+    Variable,
+}
+
+/// Where a shift's count stands.
+#[derive(Clone, Copy, Debug, PartialEq, Eq)]
+pub enum CountColumn {
+    Immediate,
+    One,
+    Cl,
+}
+
+/// A row's instruction, with its operands in the order in which the manual names them.
+#[derive(Clone, Copy, Debug, PartialEq, Eq)]
+pub enum Pattern {
+    ArithmeticRmReg,
+    ArithmeticRegRm,
+    ArithmeticAccImmediate,
+    /// The operation is the reg field's.
+    ArithmeticRmImmediate,
+    MoveRmReg,
+    MoveRegRm,
+    MoveAccAt,
+    MoveAtAcc,
+    MoveRegImmediate,
+    MoveRmImmediate,
+    TestRmReg,
+    TestAccImmediate,
+    TestRmImmediate,
+    ExchangeRmReg,
+    ExchangeRegAcc,
+    LoadAddress,
+    UnaryReg(Unary),
+    UnaryRm(Unary),
+    ProductRm(Product),
+    MultiplyRegRm,
+    MultiplyRegRmImmediate,
+    ShiftRm(Shift, CountColumn),
+    ZeroExtendByte,
+    ZeroExtendWord,
+    SignExtendByte,
+    SignExtendWord,
+    SetCondition,
+    PushReg,
+    PushRm,
+    PushImmediate,
+    PopReg,
+    JumpIf,
+    Jump,
+    JumpRm,
+    Call,
+    CallRm,
+    Loop(Loop),
+    Return,
+    Interrupt,
+    ExtendAccumulator,
+    SpreadSign,
+    Transfer(Transfer),
+    Compare(Comparison),
+    InImmediate,
+    InDx,
+    OutImmediate,
+    OutDx,
+    Plain(Plain),
+}
+
+/// A row of the table: opcodes first, first + step, .. of which there are count, and its columns.
+#[derive(Clone, Copy, Debug, PartialEq, Eq)]
+pub struct Row {
+    /// Behind 0F.
+    pub escaped: bool,
+    pub first: u8,
+    pub step: u8,
+    pub count: u8,
+    pub sizes: Sizes,
+    pub repeats: Repeats,
+    pub modrm: ModRm,
+    pub immediate: ImmediateColumn,
+    pub pattern: Pattern,
+}
