@@ -20,3 +20,6 @@ pub enum DecodeFault {
 
 pub use single::decode;
 pub use spellings::{few_bytes, front_is, front_of_fifteen, one_spelling};
+
+#[cfg(test)]
+mod tests;
