@@ -58,7 +58,7 @@ fn word(bytes: &[u8]) -> Result<(u32, &[u8]), DecodeFault>
 }
 
 #[tactic(auto, unfolding(crate::specs::Given::number_at, crate::specs::Reading::take_exact))]
-fn dword(bytes: &[u8]) -> Result<(u32, &[u8]), DecodeFault>
+pub fn dword(bytes: &[u8]) -> Result<(u32, &[u8]), DecodeFault>
     ensures { Gives (λ x. (x.0, x.1.now)) result (number_at 4 bytes.now) }
 {
     match bytes {

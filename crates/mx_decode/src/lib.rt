@@ -4,6 +4,7 @@
 mod fields;
 mod head;
 mod meaning;
+mod quick;
 mod select;
 mod single;
 mod spellings;

@@ -4,13 +4,14 @@ ghost use Rattle.std.specs.Prelude.{◌≡◌, ◌<◌, ◌≤◌, ◌+◌, ◌+
 ghost use Rattle.mx_insn.specs.declared.insn.Insn.{Insn};
 ghost use Rattle.mx_insn.specs.Spelling.{Spells, IsOpen, size_of};
 ghost use Rattle.mx_decode.specs.Decode.{SpellsFirst, NoneFirst, front};
-ghost use Rattle.mx_decode.specs.Reading.{number_of, reading, counted};
+ghost use Rattle.mx_decode.specs.Reading.{number_of, reading};
 ghost use Rattle.mx_decode.specs.Given.{Gives, immediate_bound, narrow_bound, operands_code};
 
 use crate::DecodeFault;
 use crate::fields::{immediate, place, size_of};
 use crate::head::{Head, read_head};
 use crate::meaning::{Values, insn_of};
+use crate::quick::{decrease, increase, jump_if, move_dword, pop, push};
 use crate::select::row_of;
 use mx_insn::{Insn, Row};
 
@@ -46,11 +47,29 @@ fn read(bytes: &[u8]) -> Result<(Insn, &[u8]), DecodeFault>
 }
 
 fn read_counted(bytes: &[u8]) -> Result<(Insn, u8), DecodeFault>
-    ensures { result ≡ counted bytes.now (reading bytes.now) }
+    ensures { result ≡ front bytes.now }
 {
     match read(bytes) {
         Err(fault) => Err(fault),
         Ok((insn, rest)) => Ok((insn, (bytes.len() - rest.len()) as u8)),
+    }
+}
+
+/// By the commonest rows first.
+fn at_front(bytes: &[u8]) -> Result<(Insn, u8), DecodeFault>
+    ensures { result ≡ front bytes.now }
+{
+    match bytes {
+        [] => Err(DecodeFault::Short),
+        [opcode, rest @ ..] => match *opcode {
+            0x40..=0x47 => increase(*opcode, rest),
+            0x48..=0x4F => decrease(*opcode, rest),
+            0x50..=0x57 => push(*opcode, rest),
+            0x58..=0x5F => pop(*opcode, rest),
+            0x70..=0x7F => jump_if(*opcode, rest),
+            0xB8..=0xBF => move_dword(*opcode, rest),
+            _ => read_counted(bytes),
+        },
     }
 }
 
@@ -61,5 +80,5 @@ pub fn decode(bytes: &[u8]) -> Result<(Insn, u8), DecodeFault>
     ensures not_in_table { (result ≡ Err DecodeFault.NotInTable) ↔ (NoneFirst bytes.now × ¬ IsOpen bytes.now) }
     ensures short { (result ≡ Err DecodeFault.Short) ↔ (NoneFirst bytes.now × IsOpen bytes.now) }
 {
-    read_counted(bytes)
+    at_front(bytes)
 }
