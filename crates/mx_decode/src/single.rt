@@ -11,7 +11,7 @@ use crate::DecodeFault;
 use crate::fields::{immediate, place, size_of};
 use crate::head::{Head, read_head};
 use crate::meaning::{Values, insn_of};
-use crate::quick::{decrease, increase, jump_if, move_dword, pop, push};
+use crate::quick::{arithmetic_to_rm, decrease, increase, jump_if, move_dword, pop, push};
 use crate::select::row_of;
 use mx_insn::{Insn, Row};
 
@@ -62,6 +62,9 @@ fn at_front(bytes: &[u8]) -> Result<(Insn, u8), DecodeFault>
     match bytes {
         [] => Err(DecodeFault::Short),
         [opcode, rest @ ..] => match *opcode {
+            0x01 | 0x09 | 0x11 | 0x19 | 0x21 | 0x29 | 0x31 | 0x39 => arithmetic_to_rm(
+                *opcode, rest,
+            ),
             0x40..=0x47 => increase(*opcode, rest),
             0x48..=0x4F => decrease(*opcode, rest),
             0x50..=0x57 => push(*opcode, rest),
