@@ -36,9 +36,10 @@ fn scale(field: u8) -> Scale
 }
 
 #[tactic(auto, unfolding(crate::specs::Given::number_at, crate::specs::Reading::take_exact))]
-fn byte(bytes: &[u8]) -> Result<(u32, &[u8]), DecodeFault>
+pub fn byte(bytes: &[u8]) -> Result<(u32, &[u8]), DecodeFault>
     ensures value { Gives (λ x. (x.0, x.1.now)) result (number_at 1 bytes.now) }
     ensures small { IfOk result (λ x. x.0 < 256) }
+    ensures one { IfOk result (λ x. length bytes.now ≡ 1 + length x.1.now) }
 {
     match bytes {
         [a, rest @ ..] => Ok((u32::from(*a), rest)),

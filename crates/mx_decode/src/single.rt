@@ -11,7 +11,10 @@ use crate::DecodeFault;
 use crate::fields::{immediate, place, size_of};
 use crate::head::{Head, read_head};
 use crate::meaning::{Values, insn_of};
-use crate::quick::{arithmetic_to_rm, decrease, increase, jump_if, move_dword, pop, push};
+use crate::quick::{
+    arithmetic_from_rm, arithmetic_signed, arithmetic_to_rm, decrease, increase, jump_if,
+    move_dword, move_from_rm, move_to_rm, pop, push,
+};
 use crate::select::row_of;
 use mx_insn::{Insn, Row};
 
@@ -65,6 +68,12 @@ fn at_front(bytes: &[u8]) -> Result<(Insn, u8), DecodeFault>
             0x01 | 0x09 | 0x11 | 0x19 | 0x21 | 0x29 | 0x31 | 0x39 => arithmetic_to_rm(
                 *opcode, rest,
             ),
+            0x03 | 0x0B | 0x13 | 0x1B | 0x23 | 0x2B | 0x33 | 0x3B => arithmetic_from_rm(
+                *opcode, rest,
+            ),
+            0x83 => arithmetic_signed(rest),
+            0x89 => move_to_rm(rest),
+            0x8B => move_from_rm(rest),
             0x40..=0x47 => increase(*opcode, rest),
             0x48..=0x4F => decrease(*opcode, rest),
             0x50..=0x57 => push(*opcode, rest),
