@@ -49,6 +49,7 @@ fn read(bytes: &[u8]) -> Result<(Insn, &[u8]), DecodeFault>
     operands(head, row, rest)
 }
 
+#[inline(never)]
 fn read_counted(bytes: &[u8]) -> Result<(Insn, u8), DecodeFault>
     ensures { result ≡ front bytes.now }
 {
@@ -58,12 +59,22 @@ fn read_counted(bytes: &[u8]) -> Result<(Insn, u8), DecodeFault>
     }
 }
 
-/// By the commonest rows first.
+/// No bytes.
+#[inline(never)]
+fn nothing(bytes: &[u8]) -> Result<(Insn, u8), DecodeFault>
+    requires { length bytes.now < 1 }
+    ensures { result ≡ front bytes.now }
+{
+    Err(DecodeFault::Short)
+}
+
+/// By the commonest rows first. Each arm is a call, so that no answer is copied from arm to arm.
+#[inline(always)]
 fn at_front(bytes: &[u8]) -> Result<(Insn, u8), DecodeFault>
     ensures { result ≡ front bytes.now }
 {
     match bytes {
-        [] => Err(DecodeFault::Short),
+        [] => nothing(bytes),
         [opcode, rest @ ..] => match *opcode {
             0x01 | 0x09 | 0x11 | 0x19 | 0x21 | 0x29 | 0x31 | 0x39 => arithmetic_to_rm(
                 *opcode, rest,
@@ -86,6 +97,7 @@ fn at_front(bytes: &[u8]) -> Result<(Insn, u8), DecodeFault>
 }
 
 /// The instruction at the front, and how many bytes it takes. Takes no memory.
+#[inline(always)]
 pub fn decode(bytes: &[u8]) -> Result<(Insn, u8), DecodeFault>
     ensures value { result ≡ front bytes.now }
     ensures ok { (i : Insn) (k : ℕ) → (result ≡ Ok (i, k)) ↔ SpellsFirst bytes.now k i }
