@@ -1,4 +1,4 @@
-use Rattle.std.proofs.Common.{◌≡◌, List, ℕ, Ok, refl}
+use Rattle.std.proofs.Common.{◌≡◌, Ok, refl}
 use Rattle.mx_insn.specs.Spelling.{base_of}
 use Rattle.mx_decode.specs.Given.{memory_at}
 use Rattle.mx_decode.proofs.FirstByte.{memory_takes}

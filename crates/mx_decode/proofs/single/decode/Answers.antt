@@ -4,7 +4,7 @@ use Rattle.mx_insn.specs.declared.insn.Insn.{Insn}
 use Rattle.mx_insn.specs.Spelling.{IsOpen}
 use Rattle.mx_decode.specs.declared.DecodeFault.{DecodeFault}
 use Rattle.mx_decode.specs.declared.DecodeFault.TheVariants.{NotInTable, Short}
-use Rattle.mx_decode.specs.Decode.{SpellsFirst, NoneFirst, front}
+use Rattle.mx_decode.specs.Decode.{SpellsFirst, NoneFirst}
 use Rattle.mx_decode.proofs.Stages.{are_bytes}
 use Rattle.mx_decode.proofs.Front.{front_ok, front_not_in_table, front_short}
 use Rattle.mx_decode.proofs.single.decode.Goals as goal
