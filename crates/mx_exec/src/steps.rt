@@ -151,11 +151,12 @@ pub fn step(image: &mut Image) -> Outcome
     ensures outcome { result ≡ (one image.old).0 }
     ensures image { image.new ≡ (one image.old).1 }
 {
-    match fetch(image) {
+    let fetched = fetch(image);
+    match &fetched {
         Ok((insn, length)) => {
-            let next = more(image.eip, u32::from(length));
-            match perform(image, &insn, next) {
-                Ok(()) => outcome(&insn),
+            let next = more(image.eip, u32::from(*length));
+            match perform(image, insn, next) {
+                Ok(()) => outcome(insn),
                 Err(vector) => Outcome::Fault(vector),
             }
         }
