@@ -46,14 +46,14 @@ impl Image {
         self.regs.get(Size::Dword, register)
     }
 
-    pub fn set_register(&mut self, register: Register, value: u32)
+    pub(crate) fn set_register(&mut self, register: Register, value: u32)
         ensures { self.new ≡ with_dword self.old register value }
     {
         self.regs.set(Size::Dword, register, value);
     }
 
     /// The limit of the code, in bytes.
-    pub fn code_limit(&self) -> usize
+    pub(crate) fn code_limit(&self) -> usize
         ensures { result ≡ length (code_of self.now) }
     {
         match &self.code {
@@ -63,7 +63,7 @@ impl Image {
     }
 
     /// Jumps, or answers the vector of a target that isn't below the code's limit.
-    pub fn jump(&mut self, target: u32) -> Result<(), u8>
+    pub(crate) fn jump(&mut self, target: u32) -> Result<(), u8>
         ensures { Performs self.old (jumped target self.old) result self.new }
     {
         if target as usize >= self.code_limit() {
