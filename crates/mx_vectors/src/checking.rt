@@ -152,6 +152,28 @@ fn is_memory_same<W: Write>(case: &Case<'_>, image: &Image, out: &mut W) -> io::
     Ok(same)
 }
 
+/// The seven flags, as bits.
+const FLAGS: u32 = 0xCD5;
+
+const CARRY: u32 = 0x001;
+
+const DIRECTION: u32 = 0x400;
+
+/// Which flags to compare: all, but carry where a byte or word was shifted beyond its width, for
+/// which the manual gives none; and direction alone in an iteration of a repeated comparison, of
+/// which the processor showed no other flag.
+fn compared_flags(mask: u32) -> u32 {
+    if mask == DIRECTION {
+        return mask;
+    }
+    FLAGS & !CARRY | mask & CARRY
+}
+
+/// The flags after the step: those that the manual leaves undefined are as before it.
+fn wanted_flags(case: &Case<'_>) -> u32 {
+    case.after.flags & case.mask | case.before.flags & !case.mask
+}
+
 /// Takes the step of a case. Prints a line for each field that isn't as wanted, and answers
 /// whether there is none.
 pub fn check_case<W: Write>(alloc: Global, case: &Case<'_>, out: &mut W) -> Result<bool, Failure> {
@@ -167,8 +189,9 @@ pub fn check_case<W: Write>(alloc: Global, case: &Case<'_>, out: &mut W) -> Resu
     )?;
     same &= are_registers_same(case, &case.after, &image, out)?;
     same &= is_same(case, "EIP", case.after.eip, image.eip, out)?;
-    let flags = image.flags.to_bits() & case.mask;
-    same &= is_same(case, "flags", case.after.flags & case.mask, flags, out)?;
+    let compared = compared_flags(case.mask);
+    let found = image.flags.to_bits() & compared;
+    same &= is_same(case, "flags", wanted_flags(case) & compared, found, out)?;
     same &= is_memory_same(case, &image, out)?;
     Ok(same)
 }
