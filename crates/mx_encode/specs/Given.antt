@@ -1,0 +1,100 @@
+-- What the code's functions give.
+use Rattle.std.specs.Prelude.{◌≡◌, ℕ, ◌<◌, ◌^◌, Bool, false, List, ◌∷◌, ◌++◌, Option, Some, None, Result, Ok, Err}
+use Rattle.mx_insn.specs.declared.insn.Memory.{Memory}
+use Rattle.mx_insn.specs.declared.insn.Operand.{Operand}
+use Rattle.mx_insn.specs.declared.insn.Operand.TheVariants as operand
+use Rattle.mx_insn.specs.declared.insn.Operands.{Operands}
+use Rattle.mx_insn.specs.declared.insn.Operands.TheVariants as operands
+use Rattle.mx_insn.specs.declared.insn.Immediate.{Immediate}
+use Rattle.mx_insn.specs.declared.insn.Immediate.TheVariants as immediate
+use Rattle.mx_insn.specs.declared.insn.WideImmediate.{WideImmediate}
+use Rattle.mx_insn.specs.declared.insn.WideImmediate.TheVariants as wide_immediates
+use Rattle.mx_insn.specs.declared.insn.Count.{Count}
+use Rattle.mx_insn.specs.declared.insn.Count.TheVariants as counts
+use Rattle.mx_insn.specs.declared.insn.Port.{Port}
+use Rattle.mx_insn.specs.declared.insn.Port.TheVariants as ports
+use Rattle.mx_insn.specs.declared.insn.Insn.{Insn}
+use Rattle.mx_insn.specs.declared.insn.Insn.TheVariants as insns
+use Rattle.mx_insn.specs.Spelling.{Sib, opcode, Place, prefix_bytes, escape_bytes, modrm_bytes}
+use Rattle.mx_encode.specs.declared.NoForm.{NoForm}
+use Rattle.mx_encode.specs.declared.forms.Form.{Form}
+use Rattle.mx_encode.specs.Numbers.{number_bytes}
+use Rattle.mx_encode.specs.Places.{place_for}
+use Rattle.mx_encode.specs.Choice.{Choice}
+
+-- a choice, without its row
+abbrev pub laid : Choice → Form
+laid c = record { wide = c.wide; repeat = c.repeat; escaped = c.row.escaped; opcode = opcode c.row c.number; rm = c.rm; immediate = c.immediate }
+
+-- what a function returned is what was chosen
+abbrev pub Gives : Result Form NoForm → Option Choice → Type 0
+Gives (Ok f) (Some c) = f ≡ laid c
+Gives (Ok f) None = ⊥
+Gives (Err e) (Some c) = ⊥
+Gives (Err e) None = Unit {0}
+
+abbrev pub form_bytes : Form → Option Place → List ℕ
+form_bytes f place = prefix_bytes f.wide f.repeat false ++ (escape_bytes f.escaped ++ (f.opcode ∷ (modrm_bytes place ++ number_bytes f.immediate)))
+
+-- ---- the numbers of an instruction are as wide as their types
+
+abbrev pub OperandFits : Operand → Type 0
+OperandFits (operand.Register r) = Unit {0}
+OperandFits (operand.Memory m) = m.displacement < 2 ^ 32
+
+abbrev pub ImmediateFits : Immediate → Type 0
+ImmediateFits (immediate.Byte n) = n < 2 ^ 8
+ImmediateFits (immediate.Word n) = n < 2 ^ 16
+ImmediateFits (immediate.Dword n) = n < 2 ^ 32
+
+abbrev pub WideImmediateFits : WideImmediate → Type 0
+WideImmediateFits (wide_immediates.Word n) = n < 2 ^ 16
+WideImmediateFits (wide_immediates.Dword n) = n < 2 ^ 32
+
+abbrev pub OperandsFit : Operands → Type 0
+OperandsFit (operands.ToRegister size to from) = OperandFits from
+OperandsFit (operands.ToMemory size to from) = to.displacement < 2 ^ 32
+OperandsFit (operands.Immediate to value) = OperandFits to × ImmediateFits value
+
+abbrev pub CountFits : Count → Type 0
+CountFits counts.Cl = Unit {0}
+CountFits (counts.Immediate n) = n < 2 ^ 8
+
+abbrev pub PortFits : Port → Type 0
+PortFits ports.Dx = Unit {0}
+PortFits (ports.Immediate n) = n < 2 ^ 8
+
+abbrev pub Fits : Insn → Type 0
+Fits (insns.Arithmetic o x) = OperandsFit x
+Fits (insns.Move x) = OperandsFit x
+Fits (insns.Test size o r) = OperandFits o
+Fits (insns.TestImmediate o value) = OperandFits o × ImmediateFits value
+Fits (insns.Exchange size o r) = OperandFits o
+Fits (insns.LoadAddress size to m) = m.displacement < 2 ^ 32
+Fits (insns.Unary o size x) = OperandFits x
+Fits (insns.Product o size x) = OperandFits x
+Fits (insns.Multiply size to from) = OperandFits from
+Fits (insns.MultiplyImmediate to from value) = OperandFits from × WideImmediateFits value
+Fits (insns.Shift o size x count) = OperandFits x × CountFits count
+Fits (insns.ZeroExtend e to from) = OperandFits from
+Fits (insns.SignExtend e to from) = OperandFits from
+Fits (insns.SetCondition c o) = OperandFits o
+Fits (insns.Push o) = OperandFits o
+Fits (insns.PushImmediate n) = n < 2 ^ 32
+Fits (insns.Pop r) = Unit {0}
+Fits (insns.JumpIf c n) = n < 2 ^ 32
+Fits (insns.Jump n) = n < 2 ^ 32
+Fits (insns.Call n) = n < 2 ^ 32
+Fits (insns.JumpTo o) = OperandFits o
+Fits (insns.CallTo o) = OperandFits o
+Fits (insns.Loop o n) = n < 2 ^ 32
+Fits (insns.Return n) = n < 2 ^ 16
+Fits (insns.Interrupt n) = n < 2 ^ 8
+Fits (insns.ExtendAccumulator size) = Unit {0}
+Fits (insns.SpreadSign size) = Unit {0}
+Fits (insns.Transfer o size repeated) = Unit {0}
+Fits (insns.Compare o size repeat) = Unit {0}
+Fits (insns.In size port) = PortFits port
+Fits (insns.Out size port) = PortFits port
+Fits (insns.Plain o) = Unit {0}
+
