@@ -9,6 +9,7 @@ use Rattle.mx_word.specs.declared.names.Arithmetic.{Arithmetic}
 use Rattle.mx_word.specs.declared.names.Shift.{Shift}
 use Rattle.mx_word.specs.declared.names.Unary.{Unary}
 use Rattle.mx_word.specs.declared.names.Unary.TheVariants.{Inc, Dec, Not, Neg}
+use Rattle.mx_insn.specs.declared.insn.Memory.{Memory}
 use Rattle.mx_insn.specs.declared.insn.Operand.{Operand}
 use Rattle.mx_insn.specs.declared.insn.Operand.TheVariants as operand
 use Rattle.mx_insn.specs.declared.insn.Operands.{Operands}
@@ -172,6 +173,9 @@ shift_choice o size operand (counts.Immediate n) =
 
 -- ---- into a register
 
+abbrev pub load_address : OperandSize → Register → Memory → Choice
+load_address size to m = with_rm (one 0x8D 1 1 v Neither AnyMemory no patterns.LoadAddress) (is_wide size) 0 (register_number to) (operand.Memory m) numbers.Nothing
+
 abbrev pub multiply_choice : OperandSize → Register → Operand → Choice
 multiply_choice size to from = with_rm (two 0xAF 1 1 v Neither Any no patterns.MultiplyRegRm) (is_wide size) 0 (register_number to) from numbers.Nothing
 
@@ -194,6 +198,10 @@ sign_extension ByteToWord to from = with_rm (two 0xBE 1 1 v Neither Any no patte
 sign_extension ByteToDword to from = with_rm (two 0xBE 1 1 v Neither Any no patterns.SignExtendByte) false 0 (register_number to) from numbers.Nothing
 sign_extension WordToDword to from = with_rm (two 0xBF 1 1 d Neither Any no patterns.SignExtendWord) false 0 (register_number to) from numbers.Nothing
 
+-- SETcc's reg field may be any, and is 0
+abbrev pub set_condition : Condition → Operand → Choice
+set_condition c o = with_rm (two 0x90 1 16 b Neither Any no patterns.SetCondition) false (condition_code c) 0 o numbers.Nothing
+
 -- ---- the stack
 
 -- a register by 50 + r, memory by FF /6
@@ -206,6 +214,9 @@ push_immediate n long =
     if shortens 32 n long then bare (one 0x6A 1 1 d Neither Absent is patterns.PushImmediate) false 0 (short n)
     else bare (one 0x68 1 1 d Neither Absent id patterns.PushImmediate) false 0 (numbers.Dword n)
 
+abbrev pub pop_choice : Register → Choice
+pop_choice r = bare (one 0x58 1 8 d Neither Absent no patterns.PopReg) false (register_number r) numbers.Nothing
+
 -- ---- jumps
 
 abbrev pub jump_if : Condition → ℕ → Bool → Choice
@@ -217,6 +228,15 @@ abbrev pub jump_choice : ℕ → Bool → Choice
 jump_choice n long =
     if shortens 32 n long then bare (one 0xEB 1 1 d Neither Absent is patterns.Jump) false 0 (short n)
     else bare (one 0xE9 1 1 d Neither Absent id patterns.Jump) false 0 (numbers.Dword n)
+
+abbrev pub call_choice : ℕ → Choice
+call_choice n = bare (one 0xE8 1 1 d Neither Absent id patterns.Call) false 0 (numbers.Dword n)
+
+abbrev pub jump_to : Operand → Choice
+jump_to o = with_rm (one 0xFF 1 1 d Neither (Only 4) no patterns.JumpRm) false 0 4 o numbers.Nothing
+
+abbrev pub call_to : Operand → Choice
+call_to o = with_rm (one 0xFF 1 1 d Neither (Only 2) no patterns.CallRm) false 0 2 o numbers.Nothing
 
 abbrev pub loop_opcode : Loop → ℕ
 loop_opcode loops.Loopne = 0xE0
@@ -234,7 +254,16 @@ return_choice n =
     if n == 0 then bare (one 0xC3 1 1 d Neither Absent no patterns.Return) false 0 numbers.Nothing
     else bare (one 0xC2 1 1 d Neither Absent iw patterns.Return) false 0 (numbers.Word n)
 
--- ---- strings and ports
+abbrev pub interrupt_choice : ℕ → Choice
+interrupt_choice n = bare (one 0xCD 1 1 d Neither Absent ib patterns.Interrupt) false 0 (numbers.Byte n)
+
+-- ---- the accumulator, strings and ports
+
+abbrev pub extend_accumulator : OperandSize → Choice
+extend_accumulator size = bare (one 0x98 1 1 v Neither Absent no patterns.ExtendAccumulator) (is_wide size) 0 numbers.Nothing
+
+abbrev pub spread_sign : OperandSize → Choice
+spread_sign size = bare (one 0x99 1 1 v Neither Absent no patterns.SpreadSign) (is_wide size) 0 numbers.Nothing
 
 abbrev pub transfer_opcode : Transfer → ℕ
 transfer_opcode Movs = 0xA4
@@ -309,7 +338,7 @@ choice (insns.Move x) wide = Some (move_choice x)
 choice (insns.Test size o r) wide = Some (test_choice size o r)
 choice (insns.TestImmediate o value) wide = Some (test_immediate o value)
 choice (insns.Exchange size o r) wide = Some (exchange_choice size o r)
-choice (insns.LoadAddress size to m) wide = Some (with_rm (one 0x8D 1 1 v Neither AnyMemory no patterns.LoadAddress) (is_wide size) 0 (register_number to) (operand.Memory m) numbers.Nothing)
+choice (insns.LoadAddress size to m) wide = Some (load_address size to m)
 choice (insns.Unary o size x) wide = Some (unary_choice o size x)
 choice (insns.Product o size x) wide = Some (product_choice o size x)
 choice (insns.Multiply size to from) wide = Some (multiply_choice size to from)
@@ -317,21 +346,20 @@ choice (insns.MultiplyImmediate to from value) wide = Some (multiply_immediate t
 choice (insns.Shift o size x count) wide = Some (shift_choice o size x count)
 choice (insns.ZeroExtend e to from) wide = Some (zero_extension e to from)
 choice (insns.SignExtend e to from) wide = Some (sign_extension e to from)
--- SETcc's reg field may be any, and is 0
-choice (insns.SetCondition c o) wide = Some (with_rm (two 0x90 1 16 b Neither Any no patterns.SetCondition) false (condition_code c) 0 o numbers.Nothing)
+choice (insns.SetCondition c o) wide = Some (set_condition c o)
 choice (insns.Push o) wide = Some (push_choice o)
 choice (insns.PushImmediate n) wide = Some (push_immediate n wide.immediate)
-choice (insns.Pop r) wide = Some (bare (one 0x58 1 8 d Neither Absent no patterns.PopReg) false (register_number r) numbers.Nothing)
+choice (insns.Pop r) wide = Some (pop_choice r)
 choice (insns.JumpIf c n) wide = Some (jump_if c n wide.displacement)
 choice (insns.Jump n) wide = Some (jump_choice n wide.displacement)
-choice (insns.Call n) wide = Some (bare (one 0xE8 1 1 d Neither Absent id patterns.Call) false 0 (numbers.Dword n))
-choice (insns.JumpTo o) wide = Some (with_rm (one 0xFF 1 1 d Neither (Only 4) no patterns.JumpRm) false 0 4 o numbers.Nothing)
-choice (insns.CallTo o) wide = Some (with_rm (one 0xFF 1 1 d Neither (Only 2) no patterns.CallRm) false 0 2 o numbers.Nothing)
+choice (insns.Call n) wide = Some (call_choice n)
+choice (insns.JumpTo o) wide = Some (jump_to o)
+choice (insns.CallTo o) wide = Some (call_to o)
 choice (insns.Loop o n) wide = loop_choice o n
 choice (insns.Return n) wide = Some (return_choice n)
-choice (insns.Interrupt n) wide = Some (bare (one 0xCD 1 1 d Neither Absent ib patterns.Interrupt) false 0 (numbers.Byte n))
-choice (insns.ExtendAccumulator size) wide = Some (bare (one 0x98 1 1 v Neither Absent no patterns.ExtendAccumulator) (is_wide size) 0 numbers.Nothing)
-choice (insns.SpreadSign size) wide = Some (bare (one 0x99 1 1 v Neither Absent no patterns.SpreadSign) (is_wide size) 0 numbers.Nothing)
+choice (insns.Interrupt n) wide = Some (interrupt_choice n)
+choice (insns.ExtendAccumulator size) wide = Some (extend_accumulator size)
+choice (insns.SpreadSign size) wide = Some (spread_sign size)
 choice (insns.Transfer o size repeated) wide = Some (transfer_choice o size repeated)
 choice (insns.Compare o size repeat) wide = Some (compare_choice o size repeat)
 choice (insns.In size port) wide = Some (in_choice size port)

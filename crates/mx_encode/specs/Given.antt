@@ -1,5 +1,8 @@
 -- What the code's functions give.
-use Rattle.std.specs.Prelude.{◌≡◌, ℕ, ◌<◌, ◌^◌, Bool, false, List, ◌∷◌, ◌++◌, Option, Some, None, Result, Ok, Err}
+use Rattle.std.specs.Prelude.{◌≡◌, ℕ, ◌+◌, ◌<◌, ◌^◌, Bool, true, false, List, ◌∷◌, ◌++◌, Option, Some, None, Result, Ok, Err}
+use Rattle.mx_word.specs.Names.{register_number}
+use Rattle.mx_word.specs.declared.size.Size.{Size}
+use Rattle.mx_word.specs.declared.size.Size.TheVariants.{Byte, Word, Dword}
 use Rattle.mx_insn.specs.declared.insn.Memory.{Memory}
 use Rattle.mx_insn.specs.declared.insn.Operand.{Operand}
 use Rattle.mx_insn.specs.declared.insn.Operand.TheVariants as operand
@@ -18,6 +21,7 @@ use Rattle.mx_insn.specs.declared.insn.Insn.TheVariants as insns
 use Rattle.mx_insn.specs.Spelling.{Sib, opcode, Place, prefix_bytes, escape_bytes, modrm_bytes}
 use Rattle.mx_encode.specs.declared.NoForm.{NoForm}
 use Rattle.mx_encode.specs.declared.forms.Form.{Form}
+use Rattle.mx_encode.specs.declared.forms.Number.TheVariants as numbers
 use Rattle.mx_encode.specs.Numbers.{number_bytes}
 use Rattle.mx_encode.specs.Places.{place_for}
 use Rattle.mx_encode.specs.Choice.{Choice}
@@ -35,6 +39,20 @@ Gives (Err e) None = Unit {0}
 
 abbrev pub form_bytes : Form → Option Place → List ℕ
 form_bytes f place = prefix_bytes f.wide f.repeat false ++ (escape_bytes f.escaped ++ (f.opcode ∷ (modrm_bytes place ++ number_bytes f.immediate)))
+
+-- a value by an opcode for bytes and the next, for words and dwords, under /0
+abbrev pub value_into : ℕ → Operand → Immediate → Form
+value_into first to (immediate.Byte n) = record { wide = false; repeat = None; escaped = false; opcode = first; rm = Some (record { reg = 0; operand = to }); immediate = numbers.Byte n }
+value_into first to (immediate.Word n) = record { wide = true; repeat = None; escaped = false; opcode = first + 1; rm = Some (record { reg = 0; operand = to }); immediate = numbers.Word n }
+value_into first to (immediate.Dword n) = record { wide = false; repeat = None; escaped = false; opcode = first + 1; rm = Some (record { reg = 0; operand = to }); immediate = numbers.Dword n }
+
+-- INC or DEC, by the opcode for words and dwords in a register or else under /n of FE and FF
+abbrev pub step_form : ℕ → ℕ → Size → Operand → Form
+step_form first n Byte o = record { wide = false; repeat = None; escaped = false; opcode = 0xFE; rm = Some (record { reg = n; operand = o }); immediate = numbers.Nothing }
+step_form first n Word (operand.Register r) = record { wide = true; repeat = None; escaped = false; opcode = first + register_number r; rm = None; immediate = numbers.Nothing }
+step_form first n Dword (operand.Register r) = record { wide = false; repeat = None; escaped = false; opcode = first + register_number r; rm = None; immediate = numbers.Nothing }
+step_form first n Word (operand.Memory m) = record { wide = true; repeat = None; escaped = false; opcode = 0xFF; rm = Some (record { reg = n; operand = operand.Memory m }); immediate = numbers.Nothing }
+step_form first n Dword (operand.Memory m) = record { wide = false; repeat = None; escaped = false; opcode = 0xFF; rm = Some (record { reg = n; operand = operand.Memory m }); immediate = numbers.Nothing }
 
 -- ---- the numbers of an instruction are as wide as their types
 

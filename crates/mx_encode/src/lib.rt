@@ -1,9 +1,12 @@
 //! Instructions to bytes: of the spellings of an instruction, the one that is chosen.
 #![tactic(auto)]
 
+mod accumulator;
 mod forms;
+mod jumps;
 mod numbers;
 mod operands;
+mod single;
 
 /// What is asked for where a shorter form would do. A mark asks for nothing where an instruction
 /// has nothing to widen.
