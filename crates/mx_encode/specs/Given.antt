@@ -20,6 +20,8 @@ use Rattle.mx_insn.specs.declared.insn.Insn.{Insn}
 use Rattle.mx_insn.specs.declared.insn.Insn.TheVariants as insns
 use Rattle.mx_insn.specs.Spelling.{Sib, opcode, Place, prefix_bytes, escape_bytes, modrm_bytes}
 use Rattle.mx_encode.specs.declared.NoForm.{NoForm}
+use Rattle.mx_encode.specs.declared.places.Sib as code_sib
+use Rattle.mx_encode.specs.declared.places.Place as code_place
 use Rattle.mx_encode.specs.declared.forms.Form.{Form}
 use Rattle.mx_encode.specs.declared.forms.Number.TheVariants as numbers
 use Rattle.mx_encode.specs.Numbers.{number_bytes}
@@ -116,3 +118,12 @@ Fits (insns.In size port) = PortFits port
 Fits (insns.Out size port) = PortFits port
 Fits (insns.Plain o) = Unit {0}
 
+
+-- ---- ModRM and SIB as the code holds them
+
+abbrev pub sib_seen : Option code_sib.Sib → Option Sib
+sib_seen None = None
+sib_seen (Some s) = Some (record { scale = s.scale; index = s.index; base = s.base })
+
+abbrev pub place_seen : code_place.Place → Place
+place_seen p = record { mode = p.mode; reg = p.reg; rm = p.rm; sib = sib_seen p.sib; displacement = number_bytes p.displacement }

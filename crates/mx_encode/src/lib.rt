@@ -2,10 +2,12 @@
 #![tactic(auto)]
 
 mod accumulator;
+mod choice;
 mod forms;
 mod jumps;
 mod numbers;
 mod operands;
+mod places;
 mod single;
 
 /// What is asked for where a shorter form would do. A mark asks for nothing where an instruction
