@@ -53,9 +53,9 @@ use Rattle.mx_insn.specs.declared.row.Pattern.{Pattern}
 use Rattle.mx_insn.specs.declared.row.Pattern.TheVariants as patterns
 use Rattle.mx_insn.specs.Table.{b, v, d, no, ib, is, iw, id, iv, one, two}
 use Rattle.mx_encode.specs.declared.Wide.{Wide}
-use Rattle.mx_encode.specs.declared.forms.Number.{Number}
-use Rattle.mx_encode.specs.declared.forms.Number.TheVariants as numbers
-use Rattle.mx_encode.specs.declared.forms.Rm.{Rm}
+use Rattle.mx_encode.specs.declared.fields.Number.{Number}
+use Rattle.mx_encode.specs.declared.fields.Number.TheVariants as numbers
+use Rattle.mx_encode.specs.declared.fields.Rm.{Rm}
 use Rattle.mx_encode.specs.Numbers.{arithmetic_number, shift_number, is_word, is_wide, is_short, shortens, short}
 
 -- a row, and what stands in its fields

@@ -20,10 +20,11 @@ use Rattle.mx_insn.specs.declared.insn.Insn.{Insn}
 use Rattle.mx_insn.specs.declared.insn.Insn.TheVariants as insns
 use Rattle.mx_insn.specs.Spelling.{Sib, opcode, Place, prefix_bytes, escape_bytes, modrm_bytes}
 use Rattle.mx_encode.specs.declared.NoForm.{NoForm}
-use Rattle.mx_encode.specs.declared.places.Sib as code_sib
-use Rattle.mx_encode.specs.declared.places.Place as code_place
+use Rattle.mx_encode.specs.declared.fields.Sib as code_sib
+use Rattle.mx_encode.specs.declared.fields.Place as code_place
 use Rattle.mx_encode.specs.declared.forms.Form.{Form}
-use Rattle.mx_encode.specs.declared.forms.Number.TheVariants as numbers
+use Rattle.mx_encode.specs.declared.fields.Rm.{Rm}
+use Rattle.mx_encode.specs.declared.fields.Number.TheVariants as numbers
 use Rattle.mx_encode.specs.Numbers.{number_bytes}
 use Rattle.mx_encode.specs.Places.{place_for}
 use Rattle.mx_encode.specs.Choice.{Choice}
@@ -38,6 +39,11 @@ Gives (Ok f) (Some c) = f ≡ laid c
 Gives (Ok f) None = ⊥
 Gives (Err e) (Some c) = ⊥
 Gives (Err e) None = Unit {0}
+
+-- a reg field has three bits
+abbrev pub RegFits : Option Rm → Type 0
+RegFits None = Unit {0}
+RegFits (Some rm) = rm.reg < 8
 
 abbrev pub form_bytes : Form → Option Place → List ℕ
 form_bytes f place = prefix_bytes f.wide f.repeat false ++ (escape_bytes f.escaped ++ (f.opcode ∷ (modrm_bytes place ++ number_bytes f.immediate)))

@@ -12,8 +12,8 @@ use Rattle.mx_insn.specs.declared.insn.Scale.TheVariants.{One, Two, Four, Eight}
 use Rattle.mx_insn.specs.declared.insn.OperandSize.{OperandSize}
 use Rattle.mx_insn.specs.declared.insn.OperandSize.TheVariants as operand_sizes
 use Rattle.mx_insn.specs.Spelling.{extended}
-use Rattle.mx_encode.specs.declared.forms.Number.{Number}
-use Rattle.mx_encode.specs.declared.forms.Number.TheVariants as numbers
+use Rattle.mx_encode.specs.declared.fields.Number.{Number}
+use Rattle.mx_encode.specs.declared.fields.Number.TheVariants as numbers
 
 -- ---- fields (manual, 17.2.1 and appendix A)
 

@@ -9,7 +9,7 @@ use Rattle.mx_insn.specs.declared.insn.Operand.{Operand}
 use Rattle.mx_insn.specs.declared.insn.Operand.TheVariants as operand
 use Rattle.mx_insn.specs.Spelling.{Sib, Place, displacement_length}
 use Rattle.mx_encode.specs.Numbers.{scale_number, is_short}
-use Rattle.mx_encode.specs.declared.forms.Rm.{Rm}
+use Rattle.mx_encode.specs.declared.fields.Rm.{Rm}
 
 -- without a base the base field is 101
 abbrev pub base_number : Option Register → ℕ

@@ -4,7 +4,8 @@ ghost use Rattle.std.specs.Prelude.{◌≡◌, ◌<◌};
 ghost use Rattle.mx_encode.specs.Choice.{rep, transfer_opcode, transfer_choice, compare_opcode, compare_choice, extend_accumulator, spread_sign, in_choice, out_choice, plain_opcode, plain_choice};
 ghost use Rattle.mx_encode.specs.Given.{laid, PortFits};
 
-use crate::forms::{Form, Number, is_word, sized_opcode};
+use crate::fields::Number;
+use crate::forms::{Form, is_word, sized_opcode};
 use crate::numbers::is_wide;
 use mx_insn::{Comparison, OperandSize, Plain, Port, PortSize, Repeat, Size, Transfer};
 

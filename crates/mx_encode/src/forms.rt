@@ -4,23 +4,8 @@ ghost use Rattle.std.specs.Prelude.{◌≡◌, ◌<◌, true, false, None, Some}
 ghost use Rattle.mx_encode.specs.Numbers.{is_word};
 ghost use Rattle.mx_encode.specs.Choice.{sized_opcode};
 
+use crate::fields::{Number, Rm};
 use mx_insn::{Operand, Repeat, Size};
-
-/// A number in an instruction's bytes.
-#[derive(Clone, Copy)]
-pub enum Number {
-    Nothing,
-    Byte(u8),
-    Word(u16),
-    Dword(u32),
-}
-
-/// A reg field, and what mod and rm name.
-#[derive(Clone, Copy)]
-pub struct Rm {
-    pub reg: u8,
-    pub operand: Operand,
-}
 
 /// An opcode and its prefixes, the operand that mod and rm name, and the immediate.
 #[derive(Clone, Copy)]

@@ -5,7 +5,8 @@ ghost use Rattle.mx_encode.specs.Choice.{jump_if, jump_choice, call_choice, jump
 ghost use Rattle.mx_encode.specs.Given.{laid, Gives, OperandFits};
 
 use crate::NoForm;
-use crate::forms::{Form, Number};
+use crate::fields::Number;
+use crate::forms::Form;
 use crate::numbers::{is_short, short, shortens};
 use mx_insn::{Condition, Loop, Operand, Size};
 

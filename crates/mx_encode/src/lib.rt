@@ -3,12 +3,14 @@
 
 mod accumulator;
 mod choice;
+mod fields;
 mod forms;
 mod jumps;
 mod numbers;
 mod operands;
 mod places;
 mod single;
+mod writing;
 
 /// What is asked for where a shorter form would do. A mark asks for nothing where an instruction
 /// has nothing to widen.

@@ -4,7 +4,7 @@ ghost use Rattle.std.specs.Prelude.{◌≡◌, ◌<◌, ◌^◌};
 ghost use Rattle.mx_word.specs.Word.{width};
 ghost use Rattle.mx_encode.specs.Numbers.{scale_number, arithmetic_number, shift_number, is_wide, is_short, shortens, short};
 
-use crate::forms::Number;
+use crate::fields::Number;
 use mx_insn::{Arithmetic, OperandSize, Scale, Shift, Size};
 use mx_word::signed;
 
@@ -37,7 +37,8 @@ pub fn arithmetic_number(operation: Arithmetic) -> u8
 }
 
 pub fn shift_number(operation: Shift) -> u8
-    ensures { result ≡ shift_number operation }
+    ensures value { result ≡ shift_number operation }
+    ensures below { result < 8 }
 {
     match operation {
         Shift::Rol => 0,

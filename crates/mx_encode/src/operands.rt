@@ -4,7 +4,8 @@ ghost use Rattle.std.specs.Prelude.{◌≡◌, ◌<◌, ◌^◌};
 ghost use Rattle.mx_encode.specs.Choice.{arithmetic_immediate, arithmetic_choice, move_immediate, move_choice, test_choice, test_immediate, exchange_choice, load_address, multiply_choice, multiply_immediate, zero_extension, sign_extension};
 ghost use Rattle.mx_encode.specs.Given.{laid, value_into, OperandFits, OperandsFit, ImmediateFits, WideImmediateFits};
 
-use crate::forms::{Form, Number};
+use crate::fields::Number;
+use crate::forms::Form;
 use crate::numbers::{arithmetic_number, is_wide, short, shortens};
 use mx_insn::{
     Arithmetic, Extension, Immediate, Memory, Operand, OperandSize, Operands, Register, Size, WideImmediate,

@@ -8,27 +8,9 @@ ghost use Rattle.mx_encode.specs.Numbers.{number_bytes};
 ghost use Rattle.mx_encode.specs.Places.{base_number, sib_of, rm_number, mode_behind, mode_of, memory_place, place_of, can_index, can_stand, has_place};
 ghost use Rattle.mx_encode.specs.Given.{sib_seen, place_seen};
 
-use crate::forms::{Number, Rm};
+use crate::fields::{Number, Place, Rm, Sib};
 use crate::numbers::{is_short, scale_number};
 use mx_insn::{Index, Memory, Operand, Register, Size};
-
-/// The fields of a SIB byte.
-#[derive(Clone, Copy)]
-pub struct Sib {
-    pub scale: u8,
-    pub index: u8,
-    pub base: u8,
-}
-
-/// The fields of a ModRM byte, the SIB byte where there is one, and the displacement.
-#[derive(Clone, Copy)]
-pub struct Place {
-    pub mode: u8,
-    pub reg: u8,
-    pub rm: u8,
-    pub sib: Option<Sib>,
-    pub displacement: Number,
-}
 
 /// Without a base the base field is 101.
 fn base_number(base: Option<Register>) -> u8
@@ -98,6 +80,7 @@ fn displacement_of(mode: u8, base: u8, displacement: u32) -> Number
 }
 
 fn memory_place(reg: u8, memory: Memory, long: bool) -> Place
+    requires { reg < 8 }
     ensures { place_seen result ≡ memory_place reg memory long }
 {
     let mode = mode_of(memory.base, memory.displacement, long);
@@ -114,6 +97,7 @@ fn memory_place(reg: u8, memory: Memory, long: bool) -> Place
 
 /// Where the operand stands.
 pub fn place_of(rm: Rm, long: bool) -> Place
+    requires { rm.reg < 8 }
     ensures { place_seen result ≡ place_of rm.reg rm.operand long }
 {
     match rm.operand {

@@ -4,7 +4,8 @@ ghost use Rattle.std.specs.Prelude.{◌≡◌, ◌<◌, ◌^◌, true, false, No
 ghost use Rattle.mx_encode.specs.Choice.{step_choice, unary_choice, product_number, product_choice, shift_choice, set_condition, push_choice, push_immediate, pop_choice};
 ghost use Rattle.mx_encode.specs.Given.{laid, step_form, OperandFits, CountFits};
 
-use crate::forms::{Form, Number, is_word};
+use crate::fields::Number;
+use crate::forms::{Form, is_word};
 use crate::numbers::{shift_number, short, shortens};
 use mx_insn::{Condition, Count, Operand, Product, Register, Shift, Size, Unary};
 
@@ -38,7 +39,8 @@ pub fn unary(operation: Unary, size: Size, operand: Operand) -> Form
 }
 
 fn product_number(operation: Product) -> u8
-    ensures { result ≡ product_number operation }
+    ensures value { result ≡ product_number operation }
+    ensures below { result < 8 }
 {
     match operation {
         Product::Mul => 4,
