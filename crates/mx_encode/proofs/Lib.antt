@@ -1,3 +1,4 @@
 pub mod Digits
 pub mod Standing
 pub mod Listed
+pub mod Suits
