@@ -2,3 +2,4 @@ pub mod Digits
 pub mod Standing
 pub mod Listed
 pub mod Suits
+pub mod Families
