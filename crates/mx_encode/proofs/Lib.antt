@@ -3,3 +3,4 @@ pub mod Standing
 pub mod Listed
 pub mod Suits
 pub mod Families
+pub mod Answer

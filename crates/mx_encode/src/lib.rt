@@ -3,6 +3,7 @@
 
 mod accumulator;
 mod choice;
+mod encoding;
 mod fields;
 mod forms;
 mod jumps;
@@ -11,6 +12,8 @@ mod operands;
 mod places;
 mod single;
 mod writing;
+
+pub use encoding::encode;
 
 /// What is asked for where a shorter form would do. A mark asks for nothing where an instruction
 /// has nothing to widen.

@@ -1,0 +1,9 @@
+use Rattle.std.proofs.Common.{◌∙◌, sym}
+use Rattle.mx_encode.proofs.Answer.{reg_fits, chosen_given}
+use Rattle.mx_encode.proofs.encoding.encode.Goals as goal
+
+pub bytes_of_form-requires : goal.bytes_of_form-requires
+bytes_of_form-requires c = reg_fits c.in_ok-form.form c.args.insn.now c.args.wide c.in_ok-form.ensures.form c.in_ok-form.ensures.fits
+
+pub returns-clause-chosen : goal.returns-clause-chosen
+returns-clause-chosen c = chosen_given c.in_ok-form.form c.args.insn.now c.args.wide c.bytes_of_form.result.items c.in_ok-form.ensures.form c.in_ok-form.ensures.fits (sym c.has_place.ensures ∙ c.if-not-has_place.false) c.bytes_of_form.ensures
