@@ -205,7 +205,7 @@ unfolding rows
 push_suits (operand.Register r) fits = record { listed = (11, lit< tt, refl); wide = refl; repeat = refl; number = register_below r; rm = tt; value = 0; reads = reads_nothing false Dword; means = rw (register_again r) refl }
 push_suits (operand.Memory m) fits = record { listed = (137, lit< tt, refl); wide = refl; repeat = refl; number = lit< tt; rm = (lit< tt, fits, refl); value = 0; reads = reads_nothing false Dword; means = refl }
 
-push_immediate_suits :  (n : ℕ) (long : Bool) → n < 2 ^ 32 → Suits (push_immediate n long) (insns.PushImmediate n)
+push_immediate_suits : (n : ℕ) (long : Bool) → n < 2 ^ 32 → Suits (push_immediate n long) (insns.PushImmediate n)
 unfolding rows
 push_immediate_suits n long small = by_mark 32 n long (bare (one 0x6A 1 1 d Neither Absent is patterns.PushImmediate) false 0 (short n)) (bare (one 0x68 1 1 d Neither Absent id patterns.PushImmediate) false 0 (numbers.Dword n)) (insns.PushImmediate n)
     (λ h. record { listed = (16, lit< tt, refl); wide = refl; repeat = refl; number = lit< tt; rm = tt; value = n; reads = reads_short false Dword n h; means = refl })
@@ -223,7 +223,7 @@ jump_if_suits c n long small = by_mark 32 n long (bare (one 0x70 1 16 d Neither 
     (λ h. record { listed = (19, lit< tt, refl); wide = refl; repeat = refl; number = condition_below c; rm = tt; value = n; reads = reads_short false Dword n h; means = rw (condition_again c) refl })
     (record { listed = (20, lit< tt, refl); wide = refl; repeat = refl; number = condition_below c; rm = tt; value = n; reads = reads_dword false Dword n small; means = rw (condition_again c) refl })
 
-jump_suits :  (n : ℕ) (long : Bool) → n < 2 ^ 32 → Suits (jump_choice n long) (insns.Jump n)
+jump_suits : (n : ℕ) (long : Bool) → n < 2 ^ 32 → Suits (jump_choice n long) (insns.Jump n)
 unfolding rows
 jump_suits n long small = by_mark 32 n long (bare (one 0xEB 1 1 d Neither Absent is patterns.Jump) false 0 (short n)) (bare (one 0xE9 1 1 d Neither Absent id patterns.Jump) false 0 (numbers.Dword n)) (insns.Jump n)
     (λ h. record { listed = (100, lit< tt, refl); wide = refl; repeat = refl; number = lit< tt; rm = tt; value = n; reads = reads_short false Dword n h; means = refl })

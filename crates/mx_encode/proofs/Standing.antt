@@ -31,11 +31,12 @@ mode_suits base n false lt = none (eqb n 0 && not (eqb base 5)) refl
     byte : (b : Bool) → is_short 32 n ≡ b → ModeSuits (cond b 1 2) base n
     byte true e = record { below = lit< tt; keeps_base = refl; gives = value_short 32 n e }
     byte false e = record { below = lit< tt; keeps_base = refl; gives = value_4 n lt }
+
     none : (b : Bool) → (eqb n 0 && not (eqb base 5)) ≡ b → ModeSuits (cond b 0 (cond (is_short 32 n) 1 2)) base n
     none true e =
-      let both = and_parts (eqb n 0) (not (eqb base 5)) e in
-      let other = not-true (eqb base 5) both.1 in
-      record { below = lit< tt; keeps_base = other; gives = rw other (sym (eqb-true n 0 both.0)) }
+        let both = and_parts (eqb n 0) (not (eqb base 5)) e in
+        let other = not-true (eqb base 5) both.1 in
+        record { below = lit< tt; keeps_base = other; gives = rw other (sym (eqb-true n 0 both.0)) }
     none false e = byte (is_short 32 n) refl
 
 -- ---- the SIB byte

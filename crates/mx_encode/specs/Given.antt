@@ -124,7 +124,6 @@ Fits (insns.In size port) = PortFits port
 Fits (insns.Out size port) = PortFits port
 Fits (insns.Plain o) = Unit {0}
 
-
 -- ---- ModRM and SIB as the code holds them
 
 abbrev pub sib_seen : Option code_sib.Sib → Option Sib

@@ -7,6 +7,7 @@ mod encoding;
 mod fields;
 mod forms;
 mod jumps;
+mod laws;
 mod numbers;
 mod operands;
 mod places;
@@ -14,6 +15,7 @@ mod single;
 mod writing;
 
 pub use encoding::encode;
+pub use laws::{chosen_spells, one_chosen};
 
 /// What is asked for where a shorter form would do. A mark asks for nothing where an instruction
 /// has nothing to widen.
@@ -29,3 +31,6 @@ pub struct Wide {
 /// signed byte.
 #[derive(Clone, Copy, Debug, PartialEq, Eq)]
 pub struct NoForm;
+
+#[cfg(test)]
+mod tests;

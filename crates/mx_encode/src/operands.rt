@@ -8,7 +8,8 @@ use crate::fields::Number;
 use crate::forms::Form;
 use crate::numbers::{arithmetic_number, is_wide, short, shortens};
 use mx_insn::{
-    Arithmetic, Extension, Immediate, Memory, Operand, OperandSize, Operands, Register, Size, WideImmediate,
+    Arithmetic, Extension, Immediate, Memory, Operand, OperandSize, Operands, Register, Size,
+    WideImmediate,
 };
 
 fn arithmetic_immediate(operation: Arithmetic, to: Operand, value: Immediate, long: bool) -> Form
@@ -65,9 +66,7 @@ fn move_immediate(to: Operand, value: Immediate) -> Form
 {
     match to {
         Operand::Register(to) => match value {
-            Immediate::Byte(n) => {
-                Form::bare(0xb0 + to.number()).with_immediate(Number::Byte(n))
-            }
+            Immediate::Byte(n) => { Form::bare(0xb0 + to.number()).with_immediate(Number::Byte(n)) }
             Immediate::Word(n) => Form::bare(0xb8 + to.number())
                 .widened(true)
                 .with_immediate(Number::Word(n)),
@@ -91,9 +90,7 @@ fn value_into(opcode: u8, to: Operand, value: Immediate) -> Form
         Immediate::Word(n) => Form::with_rm(opcode + 1, 0, to)
             .widened(true)
             .with_immediate(Number::Word(n)),
-        Immediate::Dword(n) => {
-            Form::with_rm(opcode + 1, 0, to).with_immediate(Number::Dword(n))
-        }
+        Immediate::Dword(n) => { Form::with_rm(opcode + 1, 0, to).with_immediate(Number::Dword(n)) }
     }
 }
 
