@@ -4,3 +4,4 @@ pub mod Listed
 pub mod Suits
 pub mod Families
 pub mod Answer
+pub mod Spelled

@@ -1,5 +1,5 @@
 -- The chosen spelling of an instruction.
-use Rattle.std.specs.Prelude.{◌≡◌, ℕ, Bool, true, false, List, Option, None, Some}
+use Rattle.std.specs.Prelude.{◌≡◌, ℕ, Bool, true, false, List, Some}
 use Rattle.mx_insn.specs.declared.insn.Insn.{Insn}
 use Rattle.mx_insn.specs.Spelling.{Fields, SpellsBy}
 use Rattle.mx_encode.specs.declared.Wide.{Wide}
@@ -17,11 +17,3 @@ pub record Chosen (i : Insn) (wide : Wide) (bytes : List ℕ) : Type 0 where
   pub is_chosen : choice i wide ≡ Some chosen
   pub stands : has_place chosen.rm ≡ true
   pub spells : SpellsBy chosen.row (fields_of chosen wide.displacement) bytes i
-
-abbrev pub stands : Option Choice → Bool
-stands None = false
-stands (Some c) = has_place c.rm
-
--- ESP is no index, and LOOP and JECXZ reach no further than a byte with its sign extended
-abbrev pub has_form : Insn → Wide → Bool
-has_form i wide = stands (choice i wide)

@@ -1,7 +1,8 @@
 //! One instruction.
 
 ghost use Rattle.std.specs.Prelude.{◌≡◌, ◌↔◌, ℕ, List, IsOk, IsTrue, IfOk, IfErr};
-ghost use Rattle.mx_encode.specs.Chosen.{Chosen, has_form};
+ghost use Rattle.mx_encode.specs.Forms.{has_form};
+ghost use Rattle.mx_encode.specs.Chosen.{Chosen};
 
 use crate::choice::form_of;
 use crate::places::has_place;
@@ -12,7 +13,7 @@ use mx_insn::{ArrayVec, Insn};
 /// The bytes that are chosen for an instruction. Takes no memory.
 pub fn encode(insn: &Insn, wide: Wide) -> Result<ArrayVec<u8, 15>, NoForm>
     ensures chosen { IfOk result (λ bytes. Chosen insn.now wide bytes.items) }
-    ensures form { IsOk result ↔ IsTrue (has_form insn.now wide) }
+    ensures form { IsOk result ↔ IsTrue (has_form insn.now) }
     ensures none { IfErr result (λ _. (bytes : List ℕ) → Chosen insn.now wide bytes → ⊥) }
 {
     let form = form_of(insn, wide)?;

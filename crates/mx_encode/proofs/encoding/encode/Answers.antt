@@ -1,5 +1,7 @@
-use Rattle.std.proofs.Common.{◌∙◌, sym}
+use Rattle.std.proofs.Common.{◌≡◌, ◌∙◌, sym, refl}
+use Rattle.mx_encode.specs.Chosen.{Chosen, fields_of}
 use Rattle.mx_encode.proofs.Answer.{reg_fits, chosen_given}
+use Rattle.mx_encode.proofs.Spelled.{spelled_has_form}
 use Rattle.mx_encode.proofs.encoding.encode.Goals as goal
 
 pub bytes_of_form-requires : goal.bytes_of_form-requires
@@ -7,3 +9,9 @@ bytes_of_form-requires c = reg_fits c.in_ok-form.form c.args.insn.now c.args.wid
 
 pub returns-clause-chosen : goal.returns-clause-chosen
 returns-clause-chosen c = chosen_given c.in_ok-form.form c.args.insn.now c.args.wide c.bytes_of_form.result.items c.in_ok-form.ensures.form c.in_ok-form.ensures.fits (sym c.has_place.ensures ∙ c.if-not-has_place.false) c.bytes_of_form.ensures
+
+pub returns-clause-form : goal.returns-clause-form
+returns-clause-form c =
+    let bytes = c.bytes_of_form.result.items in
+    let x = chosen_given c.in_ok-form.form c.args.insn.now c.args.wide bytes c.in_ok-form.ensures.form c.in_ok-form.ensures.fits (sym c.has_place.ensures ∙ c.if-not-has_place.false) c.bytes_of_form.ensures in
+    (λ e. spelled_has_form c.args.insn.now bytes (x.chosen.row, fields_of x.chosen c.args.wide.displacement, x.spells), λ e. refl)
