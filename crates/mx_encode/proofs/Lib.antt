@@ -5,3 +5,4 @@ pub mod Suits
 pub mod Families
 pub mod Answer
 pub mod Spelled
+pub mod Formless

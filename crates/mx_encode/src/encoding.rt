@@ -1,6 +1,7 @@
 //! One instruction.
 
 ghost use Rattle.std.specs.Prelude.{◌≡◌, ◌↔◌, ℕ, List, IsOk, IsTrue, IfOk, IfErr};
+ghost use Rattle.mx_insn.specs.Spelling.{Spells};
 ghost use Rattle.mx_encode.specs.Forms.{has_form};
 ghost use Rattle.mx_encode.specs.Chosen.{Chosen};
 
@@ -14,7 +15,7 @@ use mx_insn::{ArrayVec, Insn};
 pub fn encode(insn: &Insn, wide: Wide) -> Result<ArrayVec<u8, 15>, NoForm>
     ensures chosen { IfOk result (λ bytes. Chosen insn.now wide bytes.items) }
     ensures form { IsOk result ↔ IsTrue (has_form insn.now) }
-    ensures none { IfErr result (λ _. (bytes : List ℕ) → Chosen insn.now wide bytes → ⊥) }
+    ensures none { IfErr result (λ _. (bytes : List ℕ) → Spells bytes insn.now → ⊥) }
 {
     let form = form_of(insn, wide)?;
     if !has_place(form.rm) {
