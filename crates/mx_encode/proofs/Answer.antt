@@ -1,9 +1,8 @@
 -- The bytes of the form that was given are those that are chosen.
-use Rattle.std.proofs.Common.{◌≡◌, ℕ, ◌<◌, Bool, true, List, Option, Some, None, Result, Ok, Err, refl, sym, ap, subst}
+use Rattle.std.proofs.Common.{◌≡◌, ℕ, true, List, Option, Some, None, Ok, refl, sym, subst}
 use Rattle.mx_insn.specs.declared.insn.Insn.{Insn}
 use Rattle.mx_insn.specs.Spelling.{SpellsBy, spelling}
 use Rattle.mx_encode.specs.declared.Wide.{Wide}
-use Rattle.mx_encode.specs.declared.NoForm.{NoForm}
 use Rattle.mx_encode.specs.declared.forms.Form.{Form}
 use Rattle.mx_encode.specs.Places.{has_place, place_for}
 use Rattle.mx_encode.specs.Choice.{Choice, choice}

@@ -1,8 +1,7 @@
 -- What is chosen for each instruction suits it.
-use Rattle.std.proofs.Common.{◌≡◌, ℕ, ◌+◌, ◌<◌, ◌^◌, Bool, true, false, ◌&&◌, cond, eqb, Option, Some, None, refl, sym, ap, ◌∙◌, arith, lit<}
-use Rattle.std.specs.Prelude.{Contains, not, is_some}
+use Rattle.std.proofs.Common.{◌≡◌, ℕ, ◌<◌, ◌^◌, Bool, true, false, cond, eqb, Option, Some, None, refl, lit<}
+use Rattle.std.specs.Prelude.{not}
 use Rattle.std.proofs.lemmas.Bool.{and_parts, cond_both, eqb-true}
-use Rattle.mx_word.specs.Word.{width}
 use Rattle.mx_word.specs.Names.{register_number, condition_code}
 use Rattle.mx_word.specs.declared.size.Size.{Size}
 use Rattle.mx_word.specs.declared.size.Size.TheVariants.{Byte, Word, Dword}
@@ -34,7 +33,6 @@ use Rattle.mx_insn.specs.declared.insn.Loop.{Loop}
 use Rattle.mx_insn.specs.declared.insn.Transfer.{Transfer}
 use Rattle.mx_insn.specs.declared.insn.Comparison.{Comparison}
 use Rattle.mx_insn.specs.declared.insn.Repeat.{Repeat}
-use Rattle.mx_insn.specs.declared.insn.Repeat.TheVariants.{Repe, Repne}
 use Rattle.mx_insn.specs.declared.insn.Port.{Port}
 use Rattle.mx_insn.specs.declared.insn.Port.TheVariants as ports
 use Rattle.mx_insn.specs.declared.insn.PortSize.{PortSize}
@@ -43,20 +41,20 @@ use Rattle.mx_insn.specs.declared.insn.Plain.{Plain}
 use Rattle.mx_insn.specs.declared.insn.Plain.TheVariants.{Pushad, Popad, Pushfd, Popfd, Sahf, Lahf, Nop, Leave, Int3, Into, Hlt, Cli, Sti, Cmc, Clc, Stc, Cld, Std}
 use Rattle.mx_insn.specs.declared.insn.Insn.{Insn}
 use Rattle.mx_insn.specs.declared.insn.Insn.TheVariants as insns
-use Rattle.mx_insn.specs.declared.row.ModRm.TheVariants.{Absent, Any, AnyMemory, Only}
-use Rattle.mx_insn.specs.declared.row.Repeats.TheVariants.{Neither, Rep, Both}
+use Rattle.mx_insn.specs.declared.row.ModRm.TheVariants.{Absent, Any, Only}
+use Rattle.mx_insn.specs.declared.row.Repeats.TheVariants.{Neither, Both}
 use Rattle.mx_insn.specs.declared.row.CountColumn.TheVariants as by
 use Rattle.mx_insn.specs.declared.row.Pattern.TheVariants as patterns
-use Rattle.mx_insn.specs.Table.{rows, b, v, d, no, ib, is, iw, id, iv, one, two}
+use Rattle.mx_insn.specs.Table.{rows, v, d, no, ib, is, iw, id, iv, one, two}
 use Rattle.mx_insn.specs.Spelling.{to_rm, size_of, allows_wide, allows_repeat}
 use Rattle.mx_encode.specs.declared.Wide.{Wide}
 use Rattle.mx_encode.specs.declared.fields.Number.TheVariants as numbers
-use Rattle.mx_encode.specs.Numbers.{arithmetic_number, shift_number, is_word, is_wide, is_short, shortens, short}
-use Rattle.mx_encode.specs.Choice.{Choice, bare, with_rm, sized, sized_column, choice, arithmetic_immediate, arithmetic_choice, move_immediate, move_choice, test_choice, test_immediate, exchange_choice, step_choice, unary_choice, product_number, product_choice, shift_choice, load_address, multiply_choice, multiply_immediate, zero_extension, sign_extension, set_condition, push_choice, push_immediate, pop_choice, jump_if, jump_choice, call_choice, jump_to, call_to, loop_opcode, loop_choice, return_choice, interrupt_choice, extend_accumulator, spread_sign, rep, transfer_opcode, transfer_choice, compare_opcode, compare_choice, in_choice, out_choice, plain_opcode, plain_column, plain_choice}
+use Rattle.mx_encode.specs.Numbers.{arithmetic_number, shift_number, is_word, is_short, shortens, short}
+use Rattle.mx_encode.specs.Choice.{Choice, bare, with_rm, sized, sized_column, choice, arithmetic_immediate, arithmetic_choice, move_immediate, move_choice, test_choice, test_immediate, exchange_choice, unary_choice, product_number, product_choice, shift_choice, load_address, multiply_choice, multiply_immediate, zero_extension, sign_extension, set_condition, push_choice, push_immediate, pop_choice, jump_if, jump_choice, call_choice, jump_to, call_to, loop_opcode, loop_choice, return_choice, interrupt_choice, extend_accumulator, spread_sign, transfer_choice, compare_choice, in_choice, out_choice, plain_column, plain_choice}
 use Rattle.mx_encode.specs.Given.{OperandFits, ImmediateFits, WideImmediateFits, OperandsFit, CountFits, PortFits, Fits}
 use Rattle.mx_encode.proofs.Digits.{register_below, register_again, arithmetic_below, arithmetic_again, condition_below, condition_again}
 use Rattle.mx_encode.proofs.Listed.{arithmetic_rm_reg, arithmetic_reg_rm, move_rm_reg, move_reg_rm, test_rm_reg, exchange_rm_reg, inc_rm, dec_rm, not_rm, neg_rm, product_rm, shift_immediate, shift_one, shift_cl, transfer_listed, compare_listed, loop_listed, plain_listed}
-use Rattle.mx_encode.proofs.Suits.{Reads, reads_nothing, reads_byte, reads_word, reads_dword, reads_whole_word, reads_whole_dword, reads_short, Suits, sized_suits}
+use Rattle.mx_encode.proofs.Suits.{reads_nothing, reads_byte, reads_word, reads_dword, reads_whole_word, reads_whole_dword, reads_short, Suits, sized_suits}
 
 -- a value that a byte stands for
 shortened : (w n : ℕ) (long : Bool) → shortens w n long ≡ true → is_short w n ≡ true

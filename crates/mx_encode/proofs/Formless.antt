@@ -2,13 +2,9 @@
 use Rattle.std.proofs.Common.{◌≡◌, ℕ, Bool, true, false, cond, eqb, Option, Some, None, Result, Ok, Err, refl, sym, ap, ◌∙◌, List, IfErr}
 use Rattle.std.proofs.lemmas.Bool.{cond_both, both_ways}
 use Rattle.mx_word.specs.declared.size.Size.TheVariants.{Byte, Word, Dword}
-use Rattle.mx_word.specs.declared.names.Arithmetic.{Arithmetic}
 use Rattle.mx_word.specs.declared.names.Unary.TheVariants.{Inc, Dec, Not, Neg}
-use Rattle.mx_insn.specs.declared.insn.Operand.{Operand}
 use Rattle.mx_insn.specs.declared.insn.Operand.TheVariants as operand
-use Rattle.mx_insn.specs.declared.insn.Operands.{Operands}
 use Rattle.mx_insn.specs.declared.insn.Operands.TheVariants as operands
-use Rattle.mx_insn.specs.declared.insn.Immediate.{Immediate}
 use Rattle.mx_insn.specs.declared.insn.Immediate.TheVariants as immediate
 use Rattle.mx_insn.specs.declared.insn.WideImmediate.TheVariants as wide_immediates
 use Rattle.mx_insn.specs.declared.insn.Count.TheVariants as counts
@@ -29,7 +25,7 @@ use Rattle.mx_encode.specs.Numbers.{shortens, is_short, short}
 use Rattle.mx_encode.specs.Places.{has_place}
 use Rattle.mx_encode.specs.Forms.{has_form}
 use Rattle.mx_encode.specs.Choice.{Choice, choice, bare, loop_opcode}
-use Rattle.mx_encode.specs.Given.{Gives, laid}
+use Rattle.mx_encode.specs.Given.{Gives}
 use Rattle.mx_encode.proofs.Spelled.{spelled_has_form}
 
 abbrev pub stands : Option Choice → Bool

@@ -1,5 +1,5 @@
 -- Each row that is chosen stands in the table.
-use Rattle.std.proofs.Common.{◌≡◌, ℕ, ◌+◌, ◌<◌, length, refl, lit<}
+use Rattle.std.proofs.Common.{ℕ, refl, lit<}
 use Rattle.std.specs.Prelude.{Contains}
 use Rattle.mx_word.specs.declared.size.Size.{Size}
 use Rattle.mx_word.specs.declared.size.Size.TheVariants.{Byte, Word, Dword}
@@ -16,16 +16,15 @@ use Rattle.mx_insn.specs.declared.insn.Comparison.{Comparison}
 use Rattle.mx_insn.specs.declared.insn.Comparison.TheVariants.{Cmps, Scas}
 use Rattle.mx_insn.specs.declared.insn.Plain.{Plain}
 use Rattle.mx_insn.specs.declared.insn.Plain.TheVariants.{Pushad, Popad, Pushfd, Popfd, Sahf, Lahf, Nop, Leave, Int3, Into, Hlt, Cli, Sti, Cmc, Clc, Stc, Cld, Std}
-use Rattle.mx_insn.specs.declared.row.Row.{Row}
 use Rattle.mx_insn.specs.declared.row.Repeats.{Repeats}
 use Rattle.mx_insn.specs.declared.row.Repeats.TheVariants.{Neither, Rep, Both}
 use Rattle.mx_insn.specs.declared.row.ModRm.{ModRm}
-use Rattle.mx_insn.specs.declared.row.ModRm.TheVariants.{Absent, Any, AnyMemory, Only}
+use Rattle.mx_insn.specs.declared.row.ModRm.TheVariants.{Absent, Any, Only}
 use Rattle.mx_insn.specs.declared.row.ImmediateColumn.{ImmediateColumn}
 use Rattle.mx_insn.specs.declared.row.CountColumn.TheVariants as by
 use Rattle.mx_insn.specs.declared.row.Pattern.{Pattern}
 use Rattle.mx_insn.specs.declared.row.Pattern.TheVariants as patterns
-use Rattle.mx_insn.specs.Table.{rows, b, v, d, no, ib, is, iw, id, iv, one, two}
+use Rattle.mx_insn.specs.Table.{rows, d, no, ib, is, one}
 use Rattle.mx_encode.specs.Numbers.{shift_number}
 use Rattle.mx_encode.specs.Choice.{sized, product_number, loop_opcode, transfer_opcode, compare_opcode, plain_opcode, plain_column}
 

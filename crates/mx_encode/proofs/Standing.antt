@@ -1,17 +1,16 @@
 -- The bytes of a place name the operand that they were made of.
-use Rattle.std.proofs.Common.{◌≡◌, ℕ, ◌+◌, ◌*◌, ◌/◌, ◌%◌, ◌^◌, ◌<◌, Bool, true, false, ◌&&◌, cond, eqb, List, [], ◌∷◌, length, Option, Some, None, refl, sym, ap, ◌∙◌, arith, lit<, subst}
+use Rattle.std.proofs.Common.{◌≡◌, ℕ, ◌^◌, ◌<◌, Bool, true, false, ◌&&◌, cond, eqb, Option, Some, None, refl, sym, ap, ◌∙◌, arith, lit<}
 use Rattle.std.specs.Prelude.{not, is_some}
-use Rattle.std.proofs.lemmas.Bool.{eqb-true, ne_eqb, and_parts, and_right, and_left, and_cases, not-true, not-false, true≢false, cond-true, cond-false}
-use Rattle.mx_word.specs.Word.{value, bytes_of}
+use Rattle.std.proofs.lemmas.Bool.{eqb-true, ne_eqb, and_parts, not-true}
+use Rattle.mx_word.specs.Word.{bytes_of}
 use Rattle.mx_word.specs.Names.{register_number}
 use Rattle.mx_word.specs.declared.names.Register.{Register}
-use Rattle.mx_word.specs.declared.names.Register.TheVariants.{Eax, Ecx, Edx, Ebx, Esp, Ebp, Esi, Edi}
 use Rattle.mx_insn.specs.declared.insn.Index.{Index}
 use Rattle.mx_insn.specs.declared.insn.Memory.{Memory}
 use Rattle.mx_insn.specs.declared.insn.Operand.{Operand}
 use Rattle.mx_insn.specs.declared.insn.Operand.TheVariants as operand
-use Rattle.mx_insn.specs.Spelling.{Sib, Place, PlaceFits, SibFits, AreBytes, has_sib, base_field, base_of, index_of, displacement_length, displacement_of, operand_of, register, scale, extended}
-use Rattle.mx_encode.specs.Numbers.{scale_number, is_short}
+use Rattle.mx_insn.specs.Spelling.{Sib, PlaceFits, SibFits, has_sib, base_field, base_of, index_of, displacement_length, displacement_of, operand_of}
+use Rattle.mx_encode.specs.Numbers.{is_short}
 use Rattle.mx_encode.specs.Places.{base_number, sib_of, rm_number, mode_behind, mode_of, memory_place, place_of, can_index, can_stand}
 use Rattle.mx_encode.specs.Given.{OperandFits}
 use Rattle.mx_encode.proofs.Digits.{no_bytes, are_bytes_of, length-bytes_of, value_4, value_short, register_below, register_again, scale_below, scale_again}

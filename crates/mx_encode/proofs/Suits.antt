@@ -1,15 +1,13 @@
 -- A choice that suits an instruction spells it, whatever is marked.
-use Rattle.std.proofs.Common.{◌≡◌, ℕ, ◌<◌, ◌^◌, ◌%◌, Bool, true, false, ◌&&◌, eqb, List, [], ◌∷◌, length, Option, Some, None, refl, sym, ap, ◌∙◌, arith, lit<}
+use Rattle.std.proofs.Common.{◌≡◌, ℕ, ◌<◌, ◌^◌, ◌%◌, Bool, true, false, eqb, length, Option, Some, None, refl, sym, ◌∙◌, arith}
 use Rattle.std.specs.Prelude.{Contains, not}
 use Rattle.std.proofs.lemmas.Bool.{eq-eqb}
-use Rattle.mx_word.specs.Word.{width, bytes_of}
+use Rattle.mx_word.specs.Word.{width}
 use Rattle.mx_word.specs.declared.size.Size.{Size}
 use Rattle.mx_word.specs.declared.size.Size.TheVariants.{Byte, Word, Dword}
 use Rattle.mx_insn.specs.declared.insn.Operand.{Operand}
 use Rattle.mx_insn.specs.declared.insn.Operand.TheVariants as operand
-use Rattle.mx_insn.specs.declared.insn.Repeat.{Repeat}
 use Rattle.mx_insn.specs.declared.insn.Insn.{Insn}
-use Rattle.mx_insn.specs.declared.row.Row.{Row}
 use Rattle.mx_insn.specs.declared.row.Repeats.TheVariants.{Neither}
 use Rattle.mx_insn.specs.declared.row.ModRm.{ModRm}
 use Rattle.mx_insn.specs.declared.row.ModRm.TheVariants.{Absent, Any, AnyMemory, Only}
@@ -17,7 +15,7 @@ use Rattle.mx_insn.specs.declared.row.ImmediateColumn.{ImmediateColumn}
 use Rattle.mx_insn.specs.declared.row.ImmediateColumn.TheVariants as columns
 use Rattle.mx_insn.specs.declared.row.Pattern.{Pattern}
 use Rattle.mx_insn.specs.Table.{rows, no}
-use Rattle.mx_insn.specs.Spelling.{Fields, Parts, PlaceStands, SpellsBy, AreBytes, accumulator, allows_wide, allows_repeat, size_of, immediate_length, immediate_value, made, reg_field, rm_operand, spelling}
+use Rattle.mx_insn.specs.Spelling.{Parts, PlaceStands, SpellsBy, AreBytes, accumulator, allows_wide, allows_repeat, size_of, immediate_length, immediate_value, made, reg_field, rm_operand, spelling}
 use Rattle.mx_encode.specs.declared.fields.Number.{Number}
 use Rattle.mx_encode.specs.declared.fields.Number.TheVariants as numbers
 use Rattle.mx_encode.specs.declared.fields.Rm.{Rm}

@@ -1,5 +1,5 @@
 -- Which row of the table, and which values in it, an instruction and its marks take.
-use Rattle.std.specs.Prelude.{ℕ, ◌+◌, ◌%◌, ◌==◌, Bool, true, false, if◌then◌else◌, Option, Some, None}
+use Rattle.std.specs.Prelude.{ℕ, ◌+◌, ◌==◌, Bool, true, false, if◌then◌else◌, Option, Some, None}
 use Rattle.mx_word.specs.Names.{register_number, condition_code}
 use Rattle.mx_word.specs.declared.size.Size.{Size}
 use Rattle.mx_word.specs.declared.size.Size.TheVariants.{Byte, Word, Dword}
@@ -32,7 +32,7 @@ use Rattle.mx_insn.specs.declared.insn.Transfer.TheVariants.{Movs, Stos, Lods}
 use Rattle.mx_insn.specs.declared.insn.Comparison.{Comparison}
 use Rattle.mx_insn.specs.declared.insn.Comparison.TheVariants.{Cmps, Scas}
 use Rattle.mx_insn.specs.declared.insn.Repeat.{Repeat}
-use Rattle.mx_insn.specs.declared.insn.Repeat.TheVariants.{Repe, Repne}
+use Rattle.mx_insn.specs.declared.insn.Repeat.TheVariants.{Repe}
 use Rattle.mx_insn.specs.declared.insn.Port.{Port}
 use Rattle.mx_insn.specs.declared.insn.Port.TheVariants as ports
 use Rattle.mx_insn.specs.declared.insn.PortSize.{PortSize}

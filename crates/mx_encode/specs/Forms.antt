@@ -1,6 +1,5 @@
 -- Which instructions bytes can spell: all but those that index by ESP, and a LOOP or JECXZ that goes too far.
 use Rattle.std.specs.Prelude.{Bool, true}
-use Rattle.mx_insn.specs.declared.insn.Operand.{Operand}
 use Rattle.mx_insn.specs.declared.insn.Operands.{Operands}
 use Rattle.mx_insn.specs.declared.insn.Operands.TheVariants as operands
 use Rattle.mx_insn.specs.declared.insn.Insn.{Insn}

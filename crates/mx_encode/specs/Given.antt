@@ -1,9 +1,8 @@
 -- What the code's functions give.
-use Rattle.std.specs.Prelude.{◌≡◌, ℕ, ◌+◌, ◌<◌, ◌^◌, Bool, true, false, List, ◌∷◌, ◌++◌, Option, Some, None, Result, Ok, Err}
+use Rattle.std.specs.Prelude.{◌≡◌, ℕ, ◌+◌, ◌<◌, ◌^◌, true, false, List, ◌∷◌, ◌++◌, Option, Some, None, Result, Ok, Err}
 use Rattle.mx_word.specs.Names.{register_number}
 use Rattle.mx_word.specs.declared.size.Size.{Size}
 use Rattle.mx_word.specs.declared.size.Size.TheVariants.{Byte, Word, Dword}
-use Rattle.mx_insn.specs.declared.insn.Memory.{Memory}
 use Rattle.mx_insn.specs.declared.insn.Operand.{Operand}
 use Rattle.mx_insn.specs.declared.insn.Operand.TheVariants as operand
 use Rattle.mx_insn.specs.declared.insn.Operands.{Operands}
@@ -26,7 +25,6 @@ use Rattle.mx_encode.specs.declared.forms.Form.{Form}
 use Rattle.mx_encode.specs.declared.fields.Rm.{Rm}
 use Rattle.mx_encode.specs.declared.fields.Number.TheVariants as numbers
 use Rattle.mx_encode.specs.Numbers.{number_bytes}
-use Rattle.mx_encode.specs.Places.{place_for}
 use Rattle.mx_encode.specs.Choice.{Choice}
 
 -- a choice, without its row

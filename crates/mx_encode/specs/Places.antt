@@ -1,5 +1,5 @@
 -- How an operand stands in ModRM, SIB and displacement (manual, 17.2.1).
-use Rattle.std.specs.Prelude.{ℕ, ◌==◌, Bool, true, false, not, ◌&&◌, ◌||◌, if◌then◌else◌, [], Option, Some, None}
+use Rattle.std.specs.Prelude.{ℕ, ◌==◌, Bool, true, false, not, ◌&&◌, if◌then◌else◌, [], Option, Some, None}
 use Rattle.mx_word.specs.Word.{bytes_of}
 use Rattle.mx_word.specs.Names.{register_number}
 use Rattle.mx_word.specs.declared.names.Register.{Register}

@@ -15,7 +15,7 @@ mod single;
 mod writing;
 
 pub use encoding::encode;
-pub use laws::{chosen_spells, one_chosen};
+pub use laws::{chosen_spells, one_chosen, spelled_has_form};
 
 /// What is asked for where a shorter form would do. A mark asks for nothing where an instruction
 /// has nothing to widen.
