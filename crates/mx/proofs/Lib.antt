@@ -1,2 +1,4 @@
 pub mod SymbolLists
 pub mod Answering
+mod Given
+mod OneWords

@@ -3,3 +3,4 @@ pub mod File
 pub mod Load
 pub mod One
 pub mod Failure
+pub mod Words

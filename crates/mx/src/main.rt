@@ -72,3 +72,6 @@ fn main(rt: HostRuntime) -> ExitCode {
         }
     }
 }
+
+#[cfg(test)]
+mod tests;

@@ -1,7 +1,13 @@
 //! The command line.
 
-use clap::{Arg, ArgAction, Command, Error};
-use std::alloc::{AllocError, Global};
+ghost use Rattle.std.specs.Prelude.{◌≡◌, ℕ, IfErr, IfOk, codes, is_some, map, true};
+ghost use Rattle.clap.specs.Words.{FailsBy, app_of, fault_of, first_of, found_of, kind_of, rows_of, shape_of};
+ghost use Rattle.clap.specs.Words.{subcommand_of, takes};
+ghost use Rattle.mx.specs.Words.{Asks, AsksBy, HasNumber, mx_app, one_shape};
+
+use clap::error::ErrorKind;
+use clap::{Arg, ArgAction, ArgMatches, Command, Error};
+use std::alloc::Global;
 
 /// What the words of a command line ask for.
 #[derive(Clone, Copy, Debug, PartialEq, Eq)]
@@ -10,8 +16,11 @@ pub enum Request<'a> {
     One { file: &'a str, steps: u32 },
 }
 
-/// The command line's grammar, with its help.
-fn grammar<'a>(alloc: Global) -> Result<Command<'a>, Error> {
+/// `one FILE N`, with its help.
+fn one_grammar<'a>(alloc: Global) -> Result<Command<'a>, Error>
+    ensures shape { IfOk result (λ c. shape_of c ≡ one_shape) }
+    ensures err { IfErr result (λ e. kind_of e ≡ ErrorKind.OutOfMemory) }
+{
     let file = Arg::new(alloc, "FILE")
         .required(true)
         .action(ArgAction::Set)
@@ -21,27 +30,52 @@ fn grammar<'a>(alloc: Global) -> Result<Command<'a>, Error> {
         .action(ArgAction::Set)
         .value_parser(clap::value_parser!(u32))
         .help("How many steps at most, 0 to 4294967295");
-    let one = Command::new(alloc, "one")
+    let command = Command::new(alloc, "one")
         .about(
             "Runs one program for at most N steps and prints its registers, flags and how it stopped",
         )
         .arg(file)?
         .arg(steps)?;
-    let command = Command::new(alloc, "mx")
-        .about("A machine for the process layer of MINIX 3.1")
-        .subcommand_required(true)
-        .subcommand(one)?;
     Ok(command)
 }
 
+/// The command line's grammar, with its help.
+fn grammar<'a>(alloc: Global) -> Result<Command<'a>, Error>
+    ensures app { IfOk result (λ c. app_of c ≡ mx_app) }
+    ensures err { IfErr result (λ e. kind_of e ≡ ErrorKind.OutOfMemory) }
+{
+    let command = Command::new(alloc, "mx")
+        .about("A machine for the process layer of MINIX 3.1")
+        .subcommand_required(true)
+        .disable_help_subcommand(true)
+        .subcommand(one_grammar(alloc)?)?;
+    Ok(command)
+}
+
+/// What `one` asks for, whose values are there.
+fn one_request<'a>(matches: &ArgMatches<'a>) -> Request<'a>
+    requires file { is_some (first_of (codes "FILE") (rows_of (found_of matches.now))) ≡ true }
+    requires steps { (n : ℕ) × HasNumber (codes "N") (rows_of (found_of matches.now)) n }
+    ensures { AsksBy result (codes "one") (rows_of (found_of matches.now)) }
+{
+    let file = matches.get_str("FILE").unwrap();
+    let steps = matches.get_one::<u32>("N").unwrap();
+    Request::One { file, steps }
+}
+
 /// Reads the words of a command line, the program's own name first.
-pub fn command<'a>(alloc: Global, words: &'a [&'a str]) -> Result<Request<'a>, Error> {
+pub fn command<'a>(alloc: Global, words: &'a [&'a str]) -> Result<Request<'a>, Error>
+    ensures asks { IfOk result (λ r. Asks r (subcommand_of mx_app (map (λ s. s.now) words.now))) }
+    ensures passes { IfErr result (λ e. takes mx_app (map (λ s. s.now) words.now) ≡ true
+        → kind_of e ≡ ErrorKind.OutOfMemory) }
+    ensures kinds { FailsBy (fault_of mx_app (map (λ s. s.now) words.now)) result }
+{
     let matches = grammar(alloc)?.try_get_matches_from(words)?;
-    let Some(one) = matches.subcommand_matches("one") else {
-        return Err(Error::from(AllocError));
-    };
-    match (one.get_str("FILE"), one.get_one::<u32>("N")) {
-        (Some(file), Some(steps)) => Ok(Request::One { file, steps }),
-        _ => Err(Error::from(AllocError)),
+    match matches.subcommand_matches("one") {
+        Some(one) => Ok(one_request(one)),
+        None => unreachable!(),
     }
 }
+
+#[cfg(test)]
+mod tests;

@@ -27,6 +27,22 @@ pub fn alu(operation: Arithmetic, size: Size, x: u32, y: u32, flags: &Flags) -> 
     ensures flags { result.1 ≡ alu_flags operation (width size) x y flags.now }
     ensures below { result.0 < 2 ^ width size }
 {
+    match size {
+        Size::Byte => operate(operation, Size::Byte, x, y, flags),
+        Size::Word => operate(operation, Size::Word, x, y, flags),
+        Size::Dword => operate(operation, Size::Dword, x, y, flags),
+    }
+}
+
+/// The same, inlined for each size, so that no size is looked at twice.
+#[inline(always)]
+fn operate(operation: Arithmetic, size: Size, x: u32, y: u32, flags: &Flags) -> (u32, Flags)
+    requires left { x < 2 ^ width size }
+    requires right { y < 2 ^ width size }
+    ensures value { result.0 ≡ alu_value operation (width size) x y flags.now }
+    ensures flags { result.1 ≡ alu_flags operation (width size) x y flags.now }
+    ensures below { result.0 < 2 ^ width size }
+{
     match operation {
         Arithmetic::Add => (add_w(size, x, y, false), flags.after_add(size, x, y, false)),
         Arithmetic::Or => (x | y, flags.after_logic(size, x | y)),

@@ -1,6 +1,6 @@
 //! ModRM, SIB, displacement and immediate.
 
-ghost use Rattle.std.specs.Prelude.{◌≡◌, ◌<◌, ◌^◌, IfOk};
+ghost use Rattle.std.specs.Prelude.{◌≡◌, ◌+◌, ◌<◌, ◌≤◌, ◌^◌, IfOk, length};
 ghost use Rattle.mx_word.specs.Word.{width};
 ghost use Rattle.mx_insn.specs.Spelling.{register, scale, base_of, extended, size_of};
 ghost use Rattle.mx_decode.specs.Given.{Gives, number_at, displacement_at, immediate_at, sib_parts, base_parts, memory_at, operand_at, modrm_at, place_code, immediate_bound};
@@ -36,9 +36,10 @@ fn scale(field: u8) -> Scale
 }
 
 #[tactic(auto, unfolding(crate::specs::Given::number_at, crate::specs::Reading::take_exact))]
-fn byte(bytes: &[u8]) -> Result<(u32, &[u8]), DecodeFault>
+pub fn byte(bytes: &[u8]) -> Result<(u32, &[u8]), DecodeFault>
     ensures value { Gives (λ x. (x.0, x.1.now)) result (number_at 1 bytes.now) }
     ensures small { IfOk result (λ x. x.0 < 256) }
+    ensures one { IfOk result (λ x. length bytes.now ≡ 1 + length x.1.now) }
 {
     match bytes {
         [a, rest @ ..] => Ok((u32::from(*a), rest)),
@@ -58,7 +59,7 @@ fn word(bytes: &[u8]) -> Result<(u32, &[u8]), DecodeFault>
 }
 
 #[tactic(auto, unfolding(crate::specs::Given::number_at, crate::specs::Reading::take_exact))]
-fn dword(bytes: &[u8]) -> Result<(u32, &[u8]), DecodeFault>
+pub fn dword(bytes: &[u8]) -> Result<(u32, &[u8]), DecodeFault>
     ensures { Gives (λ x. (x.0, x.1.now)) result (number_at 4 bytes.now) }
 {
     match bytes {
@@ -132,9 +133,11 @@ fn base_of(mode: u8, field: u8) -> Option<Register>
 }
 
 #[tactic(auto, unfolding(crate::specs::Given::memory_at))]
-fn memory(mode: u8, rm: u8, bytes: &[u8]) -> Result<(Memory, &[u8]), DecodeFault>
+pub fn memory(mode: u8, rm: u8, bytes: &[u8]) -> Result<(Memory, &[u8]), DecodeFault>
     requires { mode < 3 }
-    ensures { Gives (λ x. (x.0, x.1.now)) result (memory_at mode rm bytes.now) }
+    ensures value { Gives (λ x. (x.0, x.1.now)) result (memory_at mode rm bytes.now) }
+    ensures within { IfOk result (λ x. length x.1.now ≤ length bytes.now) }
+    ensures few { IfOk result (λ x. length bytes.now ≤ 5 + length x.1.now) }
 {
     let (field, index, rest) = base(rm, bytes)?;
     let (displacement, rest) = displacement(mode, field, rest)?;

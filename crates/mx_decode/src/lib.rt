@@ -4,6 +4,7 @@
 mod fields;
 mod head;
 mod meaning;
+mod quick;
 mod select;
 mod single;
 mod spellings;
@@ -20,3 +21,6 @@ pub enum DecodeFault {
 
 pub use single::decode;
 pub use spellings::{few_bytes, front_is, front_of_fifteen, one_spelling};
+
+#[cfg(test)]
+mod tests;

@@ -22,7 +22,7 @@ pub struct Values {
     pub immediate: u32,
 }
 
-fn arithmetic(number: u8) -> Arithmetic
+pub fn arithmetic(number: u8) -> Arithmetic
     ensures { result ≡ arithmetic number }
 {
     match number {
@@ -37,7 +37,7 @@ fn arithmetic(number: u8) -> Arithmetic
     }
 }
 
-fn condition(number: u8) -> Condition
+pub fn condition(number: u8) -> Condition
     ensures { result ≡ condition number }
 {
     match number {

@@ -4,13 +4,17 @@ ghost use Rattle.std.specs.Prelude.{◌≡◌, ◌<◌, ◌≤◌, ◌+◌, ◌+
 ghost use Rattle.mx_insn.specs.declared.insn.Insn.{Insn};
 ghost use Rattle.mx_insn.specs.Spelling.{Spells, IsOpen, size_of};
 ghost use Rattle.mx_decode.specs.Decode.{SpellsFirst, NoneFirst, front};
-ghost use Rattle.mx_decode.specs.Reading.{number_of, reading, counted};
+ghost use Rattle.mx_decode.specs.Reading.{number_of, reading};
 ghost use Rattle.mx_decode.specs.Given.{Gives, immediate_bound, narrow_bound, operands_code};
 
 use crate::DecodeFault;
 use crate::fields::{immediate, place, size_of};
 use crate::head::{Head, read_head};
 use crate::meaning::{Values, insn_of};
+use crate::quick::{
+    arithmetic_from_rm, arithmetic_signed, arithmetic_to_rm, decrease, increase, jump_if,
+    move_dword, move_from_rm, move_to_rm, pop, push,
+};
 use crate::select::row_of;
 use mx_insn::{Insn, Row};
 
@@ -45,8 +49,9 @@ fn read(bytes: &[u8]) -> Result<(Insn, &[u8]), DecodeFault>
     operands(head, row, rest)
 }
 
+#[inline(never)]
 fn read_counted(bytes: &[u8]) -> Result<(Insn, u8), DecodeFault>
-    ensures { result ≡ counted bytes.now (reading bytes.now) }
+    ensures { result ≡ front bytes.now }
 {
     match read(bytes) {
         Err(fault) => Err(fault),
@@ -54,12 +59,50 @@ fn read_counted(bytes: &[u8]) -> Result<(Insn, u8), DecodeFault>
     }
 }
 
+/// No bytes.
+#[inline(never)]
+fn nothing(bytes: &[u8]) -> Result<(Insn, u8), DecodeFault>
+    requires { length bytes.now < 1 }
+    ensures { result ≡ front bytes.now }
+{
+    Err(DecodeFault::Short)
+}
+
+/// By the commonest rows first. Each arm is a call, so that no answer is copied from arm to arm.
+#[inline(always)]
+fn at_front(bytes: &[u8]) -> Result<(Insn, u8), DecodeFault>
+    ensures { result ≡ front bytes.now }
+{
+    match bytes {
+        [] => nothing(bytes),
+        [opcode, rest @ ..] => match *opcode {
+            0x01 | 0x09 | 0x11 | 0x19 | 0x21 | 0x29 | 0x31 | 0x39 => arithmetic_to_rm(
+                *opcode, rest,
+            ),
+            0x03 | 0x0B | 0x13 | 0x1B | 0x23 | 0x2B | 0x33 | 0x3B => arithmetic_from_rm(
+                *opcode, rest,
+            ),
+            0x83 => arithmetic_signed(rest),
+            0x89 => move_to_rm(rest),
+            0x8B => move_from_rm(rest),
+            0x40..=0x47 => increase(*opcode, rest),
+            0x48..=0x4F => decrease(*opcode, rest),
+            0x50..=0x57 => push(*opcode, rest),
+            0x58..=0x5F => pop(*opcode, rest),
+            0x70..=0x7F => jump_if(*opcode, rest),
+            0xB8..=0xBF => move_dword(*opcode, rest),
+            _ => read_counted(bytes),
+        },
+    }
+}
+
 /// The instruction at the front, and how many bytes it takes. Takes no memory.
+#[inline(always)]
 pub fn decode(bytes: &[u8]) -> Result<(Insn, u8), DecodeFault>
     ensures value { result ≡ front bytes.now }
     ensures ok { (i : Insn) (k : ℕ) → (result ≡ Ok (i, k)) ↔ SpellsFirst bytes.now k i }
     ensures not_in_table { (result ≡ Err DecodeFault.NotInTable) ↔ (NoneFirst bytes.now × ¬ IsOpen bytes.now) }
     ensures short { (result ≡ Err DecodeFault.Short) ↔ (NoneFirst bytes.now × IsOpen bytes.now) }
 {
-    read_counted(bytes)
+    at_front(bytes)
 }

@@ -1,6 +1,6 @@
 //! Laws of spellings, and of the instruction at the front.
 
-ghost use Rattle.std.specs.Prelude.{◌≡◌, ◌↔◌, ◌≤◌, ◌++◌, ℕ, List, length, take};
+ghost use Rattle.std.specs.Prelude.{◌≡◌, ◌↔◌, ◌<◌, ◌≤◌, ◌++◌, ℕ, List, length, slice_index, take};
 ghost use Rattle.mx_insn.specs.declared.insn.Insn.{Insn};
 ghost use Rattle.mx_insn.specs.Spelling.{AreBytes, Spells, IsOpen};
 ghost use Rattle.mx_decode.specs.Decode.{SpellsFirst, NoneFirst, front};
@@ -28,7 +28,7 @@ pub fn front_is()
 
 /// The first 15 bytes decide what is at the front, and what is there takes 1 to 14 of them.
 pub fn front_of_fifteen()
-    ensures same { (bytes : List ℕ) → AreBytes bytes → front (take 15 bytes) ≡ front bytes }
+    ensures same { (bytes : List ℕ) → ((i : ℕ) → slice_index (take 15 bytes) i < 256) → front (take 15 bytes) ≡ front bytes }
     ensures least { (bytes : List ℕ) (i : Insn) (k : ℕ) → AreBytes bytes → front bytes ≡ Ok (i, k) → 1 ≤ k }
     ensures most { (bytes : List ℕ) (i : Insn) (k : ℕ) → AreBytes bytes → front bytes ≡ Ok (i, k) → k ≤ 14 }
     ensures within { (bytes : List ℕ) (i : Insn) (k : ℕ) → AreBytes bytes → front bytes ≡ Ok (i, k) → k ≤ length bytes }

@@ -7,11 +7,11 @@ ghost use Rattle.mx_exec.specs.Accumulator.{upper_register, with_halves, multipl
 ghost use Rattle.mx_exec.specs.Step.{after, kept, tested, factored, count_of};
 
 use crate::Image;
-use crate::operands::{
-    common_size, destination, immediate_size, immediate_value, size_of, wide_size, wide_value,
-};
+use crate::operands::{immediate_size, immediate_value, size_of, wide_size, wide_value};
 use mx_alu::{Signedness, alu, divide, multiply, multiply_low, shift, unary};
-use mx_insn::{Count, Immediate, Insn, Operand, OperandSize, Operands, Product, WideImmediate};
+use mx_insn::{
+    Count, Immediate, Insn, Memory, Operand, OperandSize, Operands, Product, WideImmediate,
+};
 use mx_word::{Arithmetic, Register, Shift, Size, Unary};
 
 /// Writes a result to its operand; that of CMP is kept nowhere.
@@ -37,6 +37,69 @@ fn keep(
     }
 }
 
+/// An operation on a register and what stands in another place.
+fn operate_on_register(
+    image: &mut Image,
+    operation: Arithmetic,
+    size: Size,
+    to: Register,
+    from: &Operand,
+    next: u32,
+) -> Result<(), u8>
+    ensures { Performs image.old (after (Insn.Arithmetic operation (Operands.ToRegister size to from.now)) next image.old) result image.new }
+{
+    let y = image.value(from, size)?;
+    let x = image.regs.get(size, to);
+    let (value, flags) = alu(operation, size, x, y, &image.flags);
+    if operation != Arithmetic::Cmp {
+        image.regs.set(size, to, value);
+    }
+    image.flags = flags;
+    image.eip = next;
+    Ok(())
+}
+
+/// An operation on memory and a register.
+fn operate_on_memory(
+    image: &mut Image,
+    operation: Arithmetic,
+    size: Size,
+    to: &Memory,
+    from: Register,
+    next: u32,
+) -> Result<(), u8>
+    ensures { Performs image.old (after (Insn.Arithmetic operation (Operands.ToMemory size to.now from)) next image.old) result image.new }
+{
+    let operand = Operand::Memory(*to);
+    let x = image.value(&operand, size)?;
+    let y = image.regs.get(size, from);
+    let (value, flags) = alu(operation, size, x, y, &image.flags);
+    keep(image, operation, &operand, size, value)?;
+    image.flags = flags;
+    image.eip = next;
+    Ok(())
+}
+
+/// An operation on an operand and a number.
+fn operate_immediate(
+    image: &mut Image,
+    operation: Arithmetic,
+    to: &Operand,
+    number: Immediate,
+    next: u32,
+) -> Result<(), u8>
+    ensures { Performs image.old (after (Insn.Arithmetic operation (Operands.Immediate to.now number)) next image.old) result image.new }
+{
+    let size = immediate_size(number);
+    let x = image.value(to, size)?;
+    let y = immediate_value(number);
+    let (value, flags) = alu(operation, size, x, y, &image.flags);
+    keep(image, operation, to, size, value)?;
+    image.flags = flags;
+    image.eip = next;
+    Ok(())
+}
+
 pub fn operate(
     image: &mut Image,
     operation: Arithmetic,
@@ -45,15 +108,17 @@ pub fn operate(
 ) -> Result<(), u8>
     ensures { Performs image.old (after (Insn.Arithmetic operation operands.now) next image.old) result image.new }
 {
-    let size = common_size(operands);
-    let operand = destination(operands);
-    let x = image.value(&operand, size)?;
-    let y = image.source(operands)?;
-    let (value, flags) = alu(operation, size, x, y, &image.flags);
-    keep(image, operation, &operand, size, value)?;
-    image.flags = flags;
-    image.eip = next;
-    Ok(())
+    match operands {
+        Operands::ToRegister { size, to, from } => {
+            operate_on_register(image, operation, *size, *to, from, next)
+        }
+        Operands::ToMemory { size, to, from } => {
+            operate_on_memory(image, operation, *size, to, *from, next)
+        }
+        Operands::Immediate { to, value } => {
+            operate_immediate(image, operation, to, *value, next)
+        }
+    }
 }
 
 /// Sets the flags of AND.

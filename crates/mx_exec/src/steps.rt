@@ -1,16 +1,24 @@
 //! One step.
 
-ghost use Rattle.std.specs.Prelude.{◌≡◌, drop, Ok, Err};
+ghost use Rattle.std.specs.Prelude.{◌≡◌, ℕ, List, take, drop, Ok, Err};
 ghost use Rattle.mx_decode.specs.Decode.{front};
 ghost use Rattle.mx_exec.specs.Image.{code_of, Performs};
 ghost use Rattle.mx_exec.specs.Step.{after, outcome_of, one};
 
 use crate::image::more;
 use crate::{Code, Image, Outcome, arithmetic, jumps, moves, plain, strings};
-use mx_decode::{DecodeFault, decode, fifteen_suffice};
+use mx_decode::{DecodeFault, decode, front_of_fifteen};
 use mx_insn::Insn;
 
-/// The instruction at EIP, and its length. Fifteen bytes decide what it is.
+/// What stands at the front of code of which these are the first fifteen bytes.
+fn decode_front(bytes: &[u8]) -> Result<(Insn, u8), DecodeFault>
+    ensures { (code : List ℕ) → bytes.now ≡ take 15 code → result ≡ front code }
+{
+    front_of_fifteen();
+    decode(bytes)
+}
+
+/// The instruction at EIP, and its length.
 fn fetch(image: &Image) -> Result<(Insn, u8), DecodeFault>
     ensures { result ≡ front (drop image.now.eip (code_of image.now)) }
 {
@@ -18,10 +26,9 @@ fn fetch(image: &Image) -> Result<(Insn, u8), DecodeFault>
         Code::Separate(text) => text,
         Code::Shared => &image.memory,
     };
-    fifteen_suffice();
     match code.front(image.eip) {
-        Some(bytes) => decode(bytes),
-        None => decode(&code.copy_of_front(image.eip)),
+        Some(bytes) => decode_front(bytes),
+        None => decode_front(&code.copy_of_front(image.eip)),
     }
 }
 
@@ -144,11 +151,12 @@ pub fn step(image: &mut Image) -> Outcome
     ensures outcome { result ≡ (one image.old).0 }
     ensures image { image.new ≡ (one image.old).1 }
 {
-    match fetch(image) {
+    let fetched = fetch(image);
+    match &fetched {
         Ok((insn, length)) => {
-            let next = more(image.eip, u32::from(length));
-            match perform(image, &insn, next) {
-                Ok(()) => outcome(&insn),
+            let next = more(image.eip, u32::from(*length));
+            match perform(image, insn, next) {
+                Ok(()) => outcome(insn),
                 Err(vector) => Outcome::Fault(vector),
             }
         }

@@ -3,7 +3,7 @@
 ghost use Rattle.std.specs.Prelude.{◌≡◌, ◌^◌, ◌<◌, Ok, Err, IfOk};
 ghost use Rattle.mx_word.specs.Word.{width};
 ghost use Rattle.mx_exec.specs.Image.{Performs};
-ghost use Rattle.mx_exec.specs.Strings.{read_by, written_by, advanced, transferred, compared, counted_down, ends_repeat, transfer, compare};
+ghost use Rattle.mx_exec.specs.Strings.{read_by, written_by, advanced, transferred, compared, counted_down, is_counted_out, ends_repeat, transfer, compare};
 
 use crate::Image;
 use crate::image::{less, more};
@@ -104,6 +104,13 @@ fn count_down(image: &mut Image)
     image.set_register(Register::Ecx, count);
 }
 
+/// Whether ECX has run out.
+fn is_counted_out(image: &Image) -> bool
+    ensures { result ≡ is_counted_out image.now }
+{
+    image.register(Register::Ecx) == 0
+}
+
 pub fn transfer(
     image: &mut Image,
     operation: Transfer,
@@ -118,13 +125,13 @@ pub fn transfer(
         image.eip = next;
         return Ok(());
     }
-    if image.register(Register::Ecx) == 0 {
+    if is_counted_out(image) {
         image.eip = next;
         return Ok(());
     }
     transfer_once(image, operation, size)?;
     count_down(image);
-    if image.register(Register::Ecx) == 0 {
+    if is_counted_out(image) {
         image.eip = next;
     }
     Ok(())
@@ -154,13 +161,13 @@ pub fn compare(
         image.eip = next;
         return Ok(());
     };
-    if image.register(Register::Ecx) == 0 {
+    if is_counted_out(image) {
         image.eip = next;
         return Ok(());
     }
     compare_once(image, operation, size)?;
     count_down(image);
-    if image.register(Register::Ecx) == 0 || ends_repeat(image, repeat) {
+    if is_counted_out(image) || ends_repeat(image, repeat) {
         image.eip = next;
     }
     Ok(())

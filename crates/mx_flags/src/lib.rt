@@ -42,6 +42,7 @@ impl Model for Flags {
 impl Flags {
     /// The flags with these values.
     #[tactic(auto, using(crate::proofs::Bits::values_of_bits_of))]
+    #[inline(always)]
     pub fn from_values(values: FlagValues) -> Flags
         ensures { result ≡ values }
     {
@@ -58,6 +59,7 @@ impl Flags {
     }
 
     /// The values of the flags.
+    #[inline(always)]
     pub fn values(&self) -> FlagValues
         ensures { result ≡ self.now }
     {
@@ -235,6 +237,7 @@ impl Flags {
     }
 
     /// After AND, OR, XOR or TEST with this result.
+    #[inline(always)]
     pub fn after_logic(&self, size: Size, word: u32) -> Flags
         requires { word < 2 ^ width size }
         ensures { result ≡ logic_flags (width size) word self.now }
@@ -247,6 +250,7 @@ impl Flags {
     }
 
     /// After the sum of two words and a carry.
+    #[inline(always)]
     pub fn after_add(&self, size: Size, x: u32, y: u32, carry: bool) -> Flags
         requires left { x < 2 ^ width size }
         requires right { y < 2 ^ width size }
@@ -256,6 +260,7 @@ impl Flags {
     }
 
     /// After the difference of two words and a borrow.
+    #[inline(always)]
     pub fn after_sub(&self, size: Size, x: u32, y: u32, borrow: bool) -> Flags
         requires left { x < 2 ^ width size }
         requires right { y < 2 ^ width size }
@@ -265,6 +270,7 @@ impl Flags {
     }
 
     /// After INC of a word, which keeps the carry.
+    #[inline(always)]
     pub fn after_increment(&self, size: Size, x: u32) -> Flags
         requires { x < 2 ^ width size }
         ensures { result ≡ increment_flags (width size) x self.now }
@@ -276,6 +282,7 @@ impl Flags {
     }
 
     /// After DEC of a word, which keeps the carry.
+    #[inline(always)]
     pub fn after_decrement(&self, size: Size, x: u32) -> Flags
         requires { x < 2 ^ width size }
         ensures { result ≡ decrement_flags (width size) x self.now }
@@ -286,6 +293,7 @@ impl Flags {
         })
     }
 
+    #[inline(always)]
     fn sum_values(&self, size: Size, x: u32, y: u32, carry: bool) -> FlagValues
         requires left { x < 2 ^ width size }
         requires right { y < 2 ^ width size }
@@ -297,6 +305,7 @@ impl Flags {
         self.arithmetic_values(size, whole, signs, low)
     }
 
+    #[inline(always)]
     fn difference_values(&self, size: Size, x: u32, y: u32, borrow: bool) -> FlagValues
         requires left { x < 2 ^ width size }
         requires right { y < 2 ^ width size }
@@ -308,6 +317,7 @@ impl Flags {
         self.arithmetic_values(size, whole, signs, low)
     }
 
+    #[inline(always)]
     fn arithmetic_values(&self, size: Size, whole: i64, signs: i64, low: i64) -> FlagValues
         ensures { result ≡ arithmetic_flags (width size) whole signs low self.now }
     {
@@ -319,6 +329,7 @@ impl Flags {
         }
     }
 
+    #[inline(always)]
     fn result_values(&self, size: Size, word: u32) -> FlagValues
         ensures { result ≡ result_flags (width size) word self.now }
     {

@@ -6,3 +6,6 @@ mod runs;
 
 pub use joining::runs_join;
 pub use runs::{Runs, Stop};
+
+#[cfg(test)]
+mod tests;

@@ -37,6 +37,7 @@ impl Segment {
     }
 
     /// The number of bytes.
+    #[inline(always)]
     pub fn limit(&self) -> usize
         ensures { result ≡ length self.now }
     {
@@ -51,6 +52,7 @@ impl Segment {
     }
 
     /// The byte at a place inside.
+    #[inline(always)]
     fn byte(&self, at: usize) -> u8
         requires { at < length self.now }
         ensures { result ≡ slice_index self.now at }
@@ -58,6 +60,7 @@ impl Segment {
         self.bytes[at]
     }
 
+    #[inline(always)]
     fn set_byte(&mut self, at: usize, byte: u8)
         requires { at < length self.old }
         ensures { self.new ≡ slice_set self.old at byte }
@@ -66,6 +69,7 @@ impl Segment {
     }
 
     /// Whether an access of a size at a place lies inside.
+    #[inline(always)]
     pub fn holds(&self, at: u32, size: Size) -> bool
         ensures { result ≡ inside self.now at (bytes_in size) }
     {
@@ -132,6 +136,7 @@ impl Segment {
     }
 
     /// The bytes from a place on, at most 15 of them, where they lie together.
+    #[inline(always)]
     pub fn front(&self, at: u32) -> Option<&[u8]>
         ensures { IfSome result (λ front. front.now ≡ take 15 (drop at self.now)) }
     {

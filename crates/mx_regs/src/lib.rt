@@ -31,12 +31,14 @@ impl Regs {
         Regs { words: [0; 8] }
     }
 
+    #[inline(always)]
     fn word(&self, register: Register) -> u32
         ensures { result ≡ register_word self.now register }
     {
         self.words[register.number() as usize]
     }
 
+    #[inline(always)]
     fn set_word(&mut self, register: Register, word: u32)
         ensures { self.new ≡ with_word self.old register word }
     {
@@ -44,6 +46,7 @@ impl Regs {
     }
 
     /// The register of a size.
+    #[inline(always)]
     pub fn get(&self, size: Size, register: Register) -> u32
         ensures value { result ≡ register_at self.now size register }
         ensures below { result < 2 ^ width size }
@@ -63,6 +66,7 @@ impl Regs {
     }
 
     /// Sets the register of a size; the other bits stay.
+    #[inline(always)]
     pub fn set(&mut self, size: Size, register: Register, value: u32)
         requires { value < 2 ^ width size }
         ensures { self.new ≡ with_register self.old size register value }

@@ -1,9 +1,4 @@
-use Rattle.std.proofs.Common.{◌≡◌, ◌∙◌, ap, sym, subst, Result, Ok, Err, List, ℕ}
-use Rattle.mx_insn.specs.declared.insn.Insn.{Insn}
-use Rattle.mx_insn.specs.declared.row.Row.{Row}
-use Rattle.mx_decode.specs.declared.DecodeFault.{DecodeFault}
-use Rattle.mx_decode.specs.Reading.{reading, head_at, chosen, rows_of, operands_at, ◌>>=◌}
-use Rattle.mx_decode.specs.Given.{Gives}
+use Rattle.mx_decode.specs.Reading.{reading}
 use Rattle.mx_decode.proofs.Agrees.{row_fits, operands_same}
 use Rattle.mx_decode.proofs.single.read.Goals as goal
 

@@ -1,0 +1,39 @@
+use super::*;
+use std::test::Fail;
+
+// MOV EAX, 5 in a text of its own, over one dword of data.
+const MOVE: &str =
+    "b8_mov | b805000000 | b805000000 | 00000000 | 0 0 0 0 4 0 0 0 | 0 | 0 | go | 5 0 0 0 4 0 0 0 | 5 | 0 | cd5 | -\n";
+
+const WRONG: &str =
+    "b8_mov | b805000000 | b805000000 | 00000000 | 0 0 0 0 4 0 0 0 | 0 | 0 | go | 6 0 0 0 4 0 0 0 | 5 | 1 | cd5 | 2:ff\n";
+
+fn checked(rt: &impl AllocGlobal, lines: &str) -> Result<(String, Result<Tally, Failure>), Fail> {
+    let mut out = Vec::new(rt.alloc());
+    let result = check_all(rt.alloc(), lines.as_bytes(), &mut out);
+    Ok((String::from_utf8(out).map_err(|_| "text")?, result))
+}
+
+#[test]
+fn compares(rt: HostRuntime) -> Result<(), Fail> {
+    let (out, tally) = checked(&rt, MOVE)?;
+    assert_eq!(rt; out.as_str(), "1 cases, 0 wrong\n");
+    assert_eq!(rt; tally, Ok(Tally { cases: 1, wrong: 0 }));
+    let (out, tally) = checked(&rt, WRONG)?;
+    assert_eq!(rt;
+        out.as_str(),
+        "b8_mov b805000000 EAX wanted 6 found 5\nb8_mov b805000000 flags wanted 1 found 0\nb8_mov b805000000 byte wanted ff found 0\n1 cases, 1 wrong\n"
+    );
+    assert_eq!(rt; tally, Ok(Tally { cases: 1, wrong: 1 }));
+    Ok(())
+}
+
+#[test]
+fn refuses_what_is_no_case(rt: HostRuntime) -> Result<(), Fail> {
+    for line in ["", "b8_mov", "a | b | c"] {
+        let text = format!(in rt.alloc(); "{MOVE}{line}\n")?;
+        let (_, tally) = checked(&rt, text.as_str())?;
+        assert_eq!(rt; tally, Err(Failure::Line(2)), "{line}");
+    }
+    Ok(())
+}
