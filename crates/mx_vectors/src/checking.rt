@@ -2,8 +2,10 @@
 
 use crate::case::{Case, CaseError, State, parse_case};
 use mx_decode::decode;
+use mx_encode::{Wide, encode};
 use mx_exec::{Code, Image, Outcome, step};
 use mx_flags::Flags;
+use mx_insn::Insn;
 use mx_mem::Segment;
 use mx_regs::Regs;
 use mx_word::{NoMemory, Register, Size};
@@ -128,6 +130,36 @@ fn is_length_same<W: Write>(case: &Case<'_>, out: &mut W) -> io::Result<bool> {
     is_same(case, "length", wanted, found, out)
 }
 
+/// Whether an instruction's spelling decodes as the instruction, whole.
+fn decodes_again(insn: &Insn, wide: Wide) -> bool {
+    let Ok(bytes) = encode(insn, wide) else {
+        return false;
+    };
+    match decode(bytes.as_slice()) {
+        Ok((again, length)) => again == *insn && usize::from(length) == bytes.len(),
+        Err(_) => false,
+    }
+}
+
+/// Whether the case's instruction, spelled with any marks, decodes again.
+fn is_spelled<W: Write>(case: &Case<'_>, out: &mut W) -> io::Result<bool> {
+    let Ok((insn, _)) = decode(case.bytes.as_slice()) else {
+        return Ok(false);
+    };
+    let mut same = true;
+    for immediate in [false, true] {
+        for displacement in [false, true] {
+            let wide = Wide {
+                immediate,
+                displacement,
+            };
+            let found = u32::from(decodes_again(&insn, wide));
+            same &= is_same(case, "spelling", 1, found, out)?;
+        }
+    }
+    Ok(same)
+}
+
 fn are_registers_same<W: Write>(
     case: &Case<'_>,
     wanted: &State,
@@ -157,6 +189,7 @@ fn is_memory_same<W: Write>(case: &Case<'_>, image: &Image, out: &mut W) -> io::
 pub fn check_case<W: Write>(alloc: Global, case: &Case<'_>, out: &mut W) -> Result<bool, Failure> {
     let mut image = image_of(alloc, case)?;
     let mut same = is_length_same(case, out)?;
+    same &= is_spelled(case, out)?;
     let outcome = step(&mut image);
     same &= is_same(
         case,
