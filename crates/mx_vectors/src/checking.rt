@@ -1,5 +1,8 @@
 //! Takes the step of a case and compares.
 
+ghost use Rattle.std.specs.Prelude.{◌≡◌, IsTrue};
+ghost use Rattle.mx_encode.specs.Forms.{has_form};
+
 use crate::case::{Case, CaseError, State, parse_case};
 use mx_decode::decode;
 use mx_encode::{Wide, encode};
@@ -130,14 +133,16 @@ fn is_length_same<W: Write>(case: &Case<'_>, out: &mut W) -> io::Result<bool> {
     is_same(case, "length", wanted, found, out)
 }
 
-/// Whether an instruction's spelling decodes as the instruction, whole.
-fn decodes_again(insn: &Insn, wide: Wide) -> bool {
+/// What an instruction's spelling decodes as: where it has one, as itself.
+fn decoded_again(insn: &Insn, wide: Wide) -> Option<Insn>
+    ensures { IsTrue (has_form insn.now) → result ≡ Some insn.now }
+{
     let Ok(bytes) = encode(insn, wide) else {
-        return false;
+        return None;
     };
     match decode(bytes.as_slice()) {
-        Ok((again, length)) => again == *insn && usize::from(length) == bytes.len(),
-        Err(_) => false,
+        Ok((again, _)) => Some(again),
+        Err(_) => None,
     }
 }
 
@@ -153,7 +158,7 @@ fn is_spelled<W: Write>(case: &Case<'_>, out: &mut W) -> io::Result<bool> {
                 immediate,
                 displacement,
             };
-            let found = u32::from(decodes_again(&insn, wide));
+            let found = u32::from(decoded_again(&insn, wide) == Some(insn));
             same &= is_same(case, "spelling", 1, found, out)?;
         }
     }
