@@ -1,9 +1,14 @@
 //! Takes the step of a case and compares.
 
+ghost use Rattle.std.specs.Prelude.{◌≡◌, IsTrue};
+ghost use Rattle.mx_encode.specs.Forms.{has_form};
+
 use crate::case::{Case, CaseError, State, parse_case};
 use mx_decode::decode;
+use mx_encode::{Wide, encode};
 use mx_exec::{Code, Image, Outcome, step};
 use mx_flags::Flags;
+use mx_insn::Insn;
 use mx_mem::Segment;
 use mx_regs::Regs;
 use mx_word::{NoMemory, Register, Size};
@@ -128,6 +133,38 @@ fn is_length_same<W: Write>(case: &Case<'_>, out: &mut W) -> io::Result<bool> {
     is_same(case, "length", wanted, found, out)
 }
 
+/// What an instruction's spelling decodes as: where it has one, as itself.
+fn decoded_again(insn: &Insn, wide: Wide) -> Option<Insn>
+    ensures { IsTrue (has_form insn.now) → result ≡ Some insn.now }
+{
+    let Ok(bytes) = encode(insn, wide) else {
+        return None;
+    };
+    match decode(bytes.as_slice()) {
+        Ok((again, _)) => Some(again),
+        Err(_) => None,
+    }
+}
+
+/// Whether the case's instruction, spelled with any marks, decodes again.
+fn is_spelled<W: Write>(case: &Case<'_>, out: &mut W) -> io::Result<bool> {
+    let Ok((insn, _)) = decode(case.bytes.as_slice()) else {
+        return Ok(false);
+    };
+    let mut same = true;
+    for immediate in [false, true] {
+        for displacement in [false, true] {
+            let wide = Wide {
+                immediate,
+                displacement,
+            };
+            let found = u32::from(decoded_again(&insn, wide) == Some(insn));
+            same &= is_same(case, "spelling", 1, found, out)?;
+        }
+    }
+    Ok(same)
+}
+
 fn are_registers_same<W: Write>(
     case: &Case<'_>,
     wanted: &State,
@@ -179,6 +216,7 @@ fn wanted_flags(case: &Case<'_>) -> u32 {
 pub fn check_case<W: Write>(alloc: Global, case: &Case<'_>, out: &mut W) -> Result<bool, Failure> {
     let mut image = image_of(alloc, case)?;
     let mut same = is_length_same(case, out)?;
+    same &= is_spelled(case, out)?;
     let outcome = step(&mut image);
     same &= is_same(
         case,

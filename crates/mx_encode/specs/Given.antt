@@ -1,0 +1,132 @@
+-- What the code's functions give.
+use Rattle.std.specs.Prelude.{◌≡◌, ℕ, ◌+◌, ◌<◌, ◌^◌, true, false, List, ◌∷◌, ◌++◌, Option, Some, None, Result, Ok, Err}
+use Rattle.mx_word.specs.Names.{register_number}
+use Rattle.mx_word.specs.declared.size.Size.{Size}
+use Rattle.mx_word.specs.declared.size.Size.TheVariants.{Byte, Word, Dword}
+use Rattle.mx_insn.specs.declared.insn.Operand.{Operand}
+use Rattle.mx_insn.specs.declared.insn.Operand.TheVariants as operand
+use Rattle.mx_insn.specs.declared.insn.Operands.{Operands}
+use Rattle.mx_insn.specs.declared.insn.Operands.TheVariants as operands
+use Rattle.mx_insn.specs.declared.insn.Immediate.{Immediate}
+use Rattle.mx_insn.specs.declared.insn.Immediate.TheVariants as immediate
+use Rattle.mx_insn.specs.declared.insn.WideImmediate.{WideImmediate}
+use Rattle.mx_insn.specs.declared.insn.WideImmediate.TheVariants as wide_immediates
+use Rattle.mx_insn.specs.declared.insn.Count.{Count}
+use Rattle.mx_insn.specs.declared.insn.Count.TheVariants as counts
+use Rattle.mx_insn.specs.declared.insn.Port.{Port}
+use Rattle.mx_insn.specs.declared.insn.Port.TheVariants as ports
+use Rattle.mx_insn.specs.declared.insn.Insn.{Insn}
+use Rattle.mx_insn.specs.declared.insn.Insn.TheVariants as insns
+use Rattle.mx_insn.specs.Spelling.{Sib, opcode, Place, prefix_bytes, escape_bytes, modrm_bytes}
+use Rattle.mx_encode.specs.declared.NoForm.{NoForm}
+use Rattle.mx_encode.specs.declared.fields.Sib as code_sib
+use Rattle.mx_encode.specs.declared.fields.Place as code_place
+use Rattle.mx_encode.specs.declared.forms.Form.{Form}
+use Rattle.mx_encode.specs.declared.fields.Rm.{Rm}
+use Rattle.mx_encode.specs.declared.fields.Number.TheVariants as numbers
+use Rattle.mx_encode.specs.Numbers.{number_bytes}
+use Rattle.mx_encode.specs.Choice.{Choice}
+
+-- a choice, without its row
+abbrev pub laid : Choice → Form
+laid c = record { wide = c.wide; repeat = c.repeat; escaped = c.row.escaped; opcode = opcode c.row c.number; rm = c.rm; immediate = c.immediate }
+
+-- what a function returned is what was chosen
+abbrev pub Gives : Result Form NoForm → Option Choice → Type 0
+Gives (Ok f) (Some c) = f ≡ laid c
+Gives (Ok f) None = ⊥
+Gives (Err e) (Some c) = ⊥
+Gives (Err e) None = Unit {0}
+
+-- a reg field has three bits
+abbrev pub RegFits : Option Rm → Type 0
+RegFits None = Unit {0}
+RegFits (Some rm) = rm.reg < 8
+
+abbrev pub form_bytes : Form → Option Place → List ℕ
+form_bytes f place = prefix_bytes f.wide f.repeat false ++ (escape_bytes f.escaped ++ (f.opcode ∷ (modrm_bytes place ++ number_bytes f.immediate)))
+
+-- a value by an opcode for bytes and the next, for words and dwords, under /0
+abbrev pub value_into : ℕ → Operand → Immediate → Form
+value_into first to (immediate.Byte n) = record { wide = false; repeat = None; escaped = false; opcode = first; rm = Some (record { reg = 0; operand = to }); immediate = numbers.Byte n }
+value_into first to (immediate.Word n) = record { wide = true; repeat = None; escaped = false; opcode = first + 1; rm = Some (record { reg = 0; operand = to }); immediate = numbers.Word n }
+value_into first to (immediate.Dword n) = record { wide = false; repeat = None; escaped = false; opcode = first + 1; rm = Some (record { reg = 0; operand = to }); immediate = numbers.Dword n }
+
+-- INC or DEC, by the opcode for words and dwords in a register or else under /n of FE and FF
+abbrev pub step_form : ℕ → ℕ → Size → Operand → Form
+step_form first n Byte o = record { wide = false; repeat = None; escaped = false; opcode = 0xFE; rm = Some (record { reg = n; operand = o }); immediate = numbers.Nothing }
+step_form first n Word (operand.Register r) = record { wide = true; repeat = None; escaped = false; opcode = first + register_number r; rm = None; immediate = numbers.Nothing }
+step_form first n Dword (operand.Register r) = record { wide = false; repeat = None; escaped = false; opcode = first + register_number r; rm = None; immediate = numbers.Nothing }
+step_form first n Word (operand.Memory m) = record { wide = true; repeat = None; escaped = false; opcode = 0xFF; rm = Some (record { reg = n; operand = operand.Memory m }); immediate = numbers.Nothing }
+step_form first n Dword (operand.Memory m) = record { wide = false; repeat = None; escaped = false; opcode = 0xFF; rm = Some (record { reg = n; operand = operand.Memory m }); immediate = numbers.Nothing }
+
+-- ---- the numbers of an instruction are as wide as their types
+
+abbrev pub OperandFits : Operand → Type 0
+OperandFits (operand.Register r) = Unit {0}
+OperandFits (operand.Memory m) = m.displacement < 2 ^ 32
+
+abbrev pub ImmediateFits : Immediate → Type 0
+ImmediateFits (immediate.Byte n) = n < 2 ^ 8
+ImmediateFits (immediate.Word n) = n < 2 ^ 16
+ImmediateFits (immediate.Dword n) = n < 2 ^ 32
+
+abbrev pub WideImmediateFits : WideImmediate → Type 0
+WideImmediateFits (wide_immediates.Word n) = n < 2 ^ 16
+WideImmediateFits (wide_immediates.Dword n) = n < 2 ^ 32
+
+abbrev pub OperandsFit : Operands → Type 0
+OperandsFit (operands.ToRegister size to from) = OperandFits from
+OperandsFit (operands.ToMemory size to from) = to.displacement < 2 ^ 32
+OperandsFit (operands.Immediate to value) = OperandFits to × ImmediateFits value
+
+abbrev pub CountFits : Count → Type 0
+CountFits counts.Cl = Unit {0}
+CountFits (counts.Immediate n) = n < 2 ^ 8
+
+abbrev pub PortFits : Port → Type 0
+PortFits ports.Dx = Unit {0}
+PortFits (ports.Immediate n) = n < 2 ^ 8
+
+abbrev pub Fits : Insn → Type 0
+Fits (insns.Arithmetic o x) = OperandsFit x
+Fits (insns.Move x) = OperandsFit x
+Fits (insns.Test size o r) = OperandFits o
+Fits (insns.TestImmediate o value) = OperandFits o × ImmediateFits value
+Fits (insns.Exchange size o r) = OperandFits o
+Fits (insns.LoadAddress size to m) = m.displacement < 2 ^ 32
+Fits (insns.Unary o size x) = OperandFits x
+Fits (insns.Product o size x) = OperandFits x
+Fits (insns.Multiply size to from) = OperandFits from
+Fits (insns.MultiplyImmediate to from value) = OperandFits from × WideImmediateFits value
+Fits (insns.Shift o size x count) = OperandFits x × CountFits count
+Fits (insns.ZeroExtend e to from) = OperandFits from
+Fits (insns.SignExtend e to from) = OperandFits from
+Fits (insns.SetCondition c o) = OperandFits o
+Fits (insns.Push o) = OperandFits o
+Fits (insns.PushImmediate n) = n < 2 ^ 32
+Fits (insns.Pop r) = Unit {0}
+Fits (insns.JumpIf c n) = n < 2 ^ 32
+Fits (insns.Jump n) = n < 2 ^ 32
+Fits (insns.Call n) = n < 2 ^ 32
+Fits (insns.JumpTo o) = OperandFits o
+Fits (insns.CallTo o) = OperandFits o
+Fits (insns.Loop o n) = n < 2 ^ 32
+Fits (insns.Return n) = n < 2 ^ 16
+Fits (insns.Interrupt n) = n < 2 ^ 8
+Fits (insns.ExtendAccumulator size) = Unit {0}
+Fits (insns.SpreadSign size) = Unit {0}
+Fits (insns.Transfer o size repeated) = Unit {0}
+Fits (insns.Compare o size repeat) = Unit {0}
+Fits (insns.In size port) = PortFits port
+Fits (insns.Out size port) = PortFits port
+Fits (insns.Plain o) = Unit {0}
+
+-- ---- ModRM and SIB as the code holds them
+
+abbrev pub sib_seen : Option code_sib.Sib → Option Sib
+sib_seen None = None
+sib_seen (Some s) = Some (record { scale = s.scale; index = s.index; base = s.base })
+
+abbrev pub place_seen : code_place.Place → Place
+place_seen p = record { mode = p.mode; reg = p.reg; rm = p.rm; sib = sib_seen p.sib; displacement = number_bytes p.displacement }

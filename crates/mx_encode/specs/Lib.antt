@@ -1,0 +1,6 @@
+pub mod Numbers
+pub mod Places
+pub mod Forms
+pub mod Choice
+pub mod Chosen
+pub mod Given

@@ -1,0 +1,127 @@
+//! Instructions on registers that they don't name, and those without operands.
+
+ghost use Rattle.std.specs.Prelude.{◌≡◌, ◌<◌};
+ghost use Rattle.mx_encode.specs.Choice.{rep, transfer_opcode, transfer_choice, compare_opcode, compare_choice, extend_accumulator, spread_sign, in_choice, out_choice, plain_opcode, plain_choice};
+ghost use Rattle.mx_encode.specs.Given.{laid, PortFits};
+
+use crate::fields::Number;
+use crate::forms::{Form, is_word, sized_opcode};
+use crate::numbers::is_wide;
+use mx_insn::{Comparison, OperandSize, Plain, Port, PortSize, Repeat, Size, Transfer};
+
+/// CBW or CWDE.
+pub fn extend_accumulator(size: OperandSize) -> Form
+    ensures { result ≡ laid (extend_accumulator size) }
+{
+    Form::bare(0x98).widened(is_wide(size))
+}
+
+/// CWD or CDQ.
+pub fn spread_sign(size: OperandSize) -> Form
+    ensures { result ≡ laid (spread_sign size) }
+{
+    Form::bare(0x99).widened(is_wide(size))
+}
+
+fn transfer_opcode(operation: Transfer) -> u8
+    ensures value { result ≡ transfer_opcode operation }
+    ensures below { result < 255 }
+{
+    match operation {
+        Transfer::Movs => 0xa4,
+        Transfer::Stos => 0xaa,
+        Transfer::Lods => 0xac,
+    }
+}
+
+fn rep(repeated: bool) -> Option<Repeat>
+    ensures { result ≡ rep repeated }
+{
+    if repeated { Some(Repeat::Repe) } else { None }
+}
+
+/// MOVS, STOS, LODS.
+pub fn transfer(operation: Transfer, size: Size, repeated: bool) -> Form
+    ensures { result ≡ laid (transfer_choice operation size repeated) }
+{
+    Form::bare(sized_opcode(size, transfer_opcode(operation)))
+        .widened(is_word(size))
+        .repeated(rep(repeated))
+}
+
+fn compare_opcode(operation: Comparison) -> u8
+    ensures value { result ≡ compare_opcode operation }
+    ensures below { result < 255 }
+{
+    match operation {
+        Comparison::Cmps => 0xa6,
+        Comparison::Scas => 0xae,
+    }
+}
+
+/// CMPS, SCAS.
+pub fn compare(operation: Comparison, size: Size, repeat: Option<Repeat>) -> Form
+    ensures { result ≡ laid (compare_choice operation size repeat) }
+{
+    Form::bare(sized_opcode(size, compare_opcode(operation)))
+        .widened(is_word(size))
+        .repeated(repeat)
+}
+
+/// IN.
+pub fn input(size: PortSize, port: Port) -> Form
+    ensures form { result ≡ laid (in_choice size port) }
+    ensures fits { PortFits port }
+{
+    match (port, size) {
+        (Port::Immediate(n), PortSize::Byte) => Form::bare(0xe4).with_immediate(Number::Byte(n)),
+        (Port::Immediate(n), PortSize::Dword) => Form::bare(0xe5).with_immediate(Number::Byte(n)),
+        (Port::Dx, PortSize::Byte) => Form::bare(0xec),
+        (Port::Dx, PortSize::Dword) => Form::bare(0xed),
+    }
+}
+
+/// OUT.
+pub fn output(size: PortSize, port: Port) -> Form
+    ensures form { result ≡ laid (out_choice size port) }
+    ensures fits { PortFits port }
+{
+    match (port, size) {
+        (Port::Immediate(n), PortSize::Byte) => Form::bare(0xe6).with_immediate(Number::Byte(n)),
+        (Port::Immediate(n), PortSize::Dword) => Form::bare(0xe7).with_immediate(Number::Byte(n)),
+        (Port::Dx, PortSize::Byte) => Form::bare(0xee),
+        (Port::Dx, PortSize::Dword) => Form::bare(0xef),
+    }
+}
+
+fn plain_opcode(operation: Plain) -> u8
+    ensures { result ≡ plain_opcode operation }
+{
+    match operation {
+        Plain::Pushad => 0x60,
+        Plain::Popad => 0x61,
+        Plain::Nop => 0x90,
+        Plain::Pushfd => 0x9c,
+        Plain::Popfd => 0x9d,
+        Plain::Sahf => 0x9e,
+        Plain::Lahf => 0x9f,
+        Plain::Leave => 0xc9,
+        Plain::Int3 => 0xcc,
+        Plain::Into => 0xce,
+        Plain::Hlt => 0xf4,
+        Plain::Cmc => 0xf5,
+        Plain::Clc => 0xf8,
+        Plain::Stc => 0xf9,
+        Plain::Cli => 0xfa,
+        Plain::Sti => 0xfb,
+        Plain::Cld => 0xfc,
+        Plain::Std => 0xfd,
+    }
+}
+
+/// An instruction without operands.
+pub fn plain(operation: Plain) -> Form
+    ensures { result ≡ laid (plain_choice operation) }
+{
+    Form::bare(plain_opcode(operation))
+}

@@ -1,0 +1,111 @@
+//! What an instruction's bytes are made of.
+
+ghost use Rattle.std.specs.Prelude.{◌≡◌, ◌<◌, true, false, None, Some};
+ghost use Rattle.mx_encode.specs.Numbers.{is_word};
+ghost use Rattle.mx_encode.specs.Choice.{sized_opcode};
+
+use crate::fields::{Number, Rm};
+use mx_insn::{Operand, Repeat, Size};
+
+/// An opcode and its prefixes, the operand that mod and rm name, and the immediate.
+#[derive(Clone, Copy)]
+pub struct Form {
+    /// 66 stands.
+    pub wide: bool,
+    pub repeat: Option<Repeat>,
+    /// Behind 0F.
+    pub escaped: bool,
+    pub opcode: u8,
+    pub rm: Option<Rm>,
+    pub immediate: Number,
+}
+
+impl Form {
+    /// An opcode alone.
+    pub fn bare(opcode: u8) -> Form
+        ensures { result ≡ record { wide = false; repeat = None; escaped = false; opcode = opcode; rm = None; immediate = Number.Nothing } }
+    {
+        Form {
+            wide: false,
+            repeat: None,
+            escaped: false,
+            opcode,
+            rm: None,
+            immediate: Number::Nothing,
+        }
+    }
+
+    /// An opcode with a reg field and an operand.
+    pub fn with_rm(opcode: u8, reg: u8, operand: Operand) -> Form
+        ensures { result ≡ record { wide = false; repeat = None; escaped = false; opcode = opcode; rm = Some (record { reg = reg; operand = operand }); immediate = Number.Nothing } }
+    {
+        Form {
+            wide: false,
+            repeat: None,
+            escaped: false,
+            opcode,
+            rm: Some(Rm { reg, operand }),
+            immediate: Number::Nothing,
+        }
+    }
+
+    /// Of two opcodes, for bytes and next to it for words and dwords, that of the size, with a reg
+    /// field and an operand.
+    pub fn sized(size: Size, opcode: u8, reg: u8, operand: Operand) -> Form
+        requires { opcode < 255 }
+        ensures { result ≡ record { wide = is_word size; repeat = None; escaped = false; opcode = sized_opcode size opcode; rm = Some (record { reg = reg; operand = operand }); immediate = Number.Nothing } }
+    {
+        Form::with_rm(sized_opcode(size, opcode), reg, operand).widened(is_word(size))
+    }
+
+    /// With 66, or without.
+    pub fn widened(self, wide: bool) -> Form
+        ensures { result ≡ record self { wide = wide } }
+    {
+        Form { wide, ..self }
+    }
+
+    /// Behind 0F.
+    pub fn escaped(self) -> Form
+        ensures { result ≡ record self { escaped = true } }
+    {
+        Form {
+            escaped: true,
+            ..self
+        }
+    }
+
+    /// With F3, F2, or neither.
+    pub fn repeated(self, repeat: Option<Repeat>) -> Form
+        ensures { result ≡ record self { repeat = repeat } }
+    {
+        Form { repeat, ..self }
+    }
+
+    /// With an immediate.
+    pub fn with_immediate(self, immediate: Number) -> Form
+        ensures { result ≡ record self { immediate = immediate } }
+    {
+        Form { immediate, ..self }
+    }
+}
+
+pub fn is_word(size: Size) -> bool
+    ensures { result ≡ is_word size }
+{
+    match size {
+        Size::Word => true,
+        Size::Byte | Size::Dword => false,
+    }
+}
+
+/// Of an opcode for bytes and the next, for words and dwords, that of the size.
+pub fn sized_opcode(size: Size, opcode: u8) -> u8
+    requires { opcode < 255 }
+    ensures { result ≡ sized_opcode size opcode }
+{
+    match size {
+        Size::Byte => opcode,
+        Size::Word | Size::Dword => opcode + 1,
+    }
+}

@@ -1,0 +1,97 @@
+//! Jumps, calls and returns.
+
+ghost use Rattle.std.specs.Prelude.{◌≡◌};
+ghost use Rattle.mx_encode.specs.Choice.{jump_if, jump_choice, call_choice, jump_to, call_to, loop_opcode, loop_choice, return_choice, interrupt_choice};
+ghost use Rattle.mx_encode.specs.Given.{laid, Gives, OperandFits};
+
+use crate::NoForm;
+use crate::fields::Number;
+use crate::forms::Form;
+use crate::numbers::{is_short, short, shortens};
+use mx_insn::{Condition, Loop, Operand, Size};
+
+/// Jcc.
+pub fn jump_if(condition: Condition, displacement: u32, long: bool) -> Form
+    ensures { result ≡ laid (jump_if condition displacement long) }
+{
+    if shortens(Size::Dword, displacement, long) {
+        Form::bare(0x70 + condition.code()).with_immediate(short(displacement))
+    } else {
+        Form::bare(0x80 + condition.code())
+            .escaped()
+            .with_immediate(Number::Dword(displacement))
+    }
+}
+
+/// JMP.
+pub fn jump(displacement: u32, long: bool) -> Form
+    ensures { result ≡ laid (jump_choice displacement long) }
+{
+    if shortens(Size::Dword, displacement, long) {
+        Form::bare(0xeb).with_immediate(short(displacement))
+    } else {
+        Form::bare(0xe9).with_immediate(Number::Dword(displacement))
+    }
+}
+
+/// CALL.
+pub fn call(displacement: u32) -> Form
+    ensures { result ≡ laid (call_choice displacement) }
+{
+    Form::bare(0xe8).with_immediate(Number::Dword(displacement))
+}
+
+/// JMP to where an operand says.
+pub fn jump_to(operand: Operand) -> Form
+    ensures form { result ≡ laid (jump_to operand) }
+    ensures fits { OperandFits operand }
+{
+    Form::with_rm(0xff, 4, operand)
+}
+
+/// CALL of where an operand says.
+pub fn call_to(operand: Operand) -> Form
+    ensures form { result ≡ laid (call_to operand) }
+    ensures fits { OperandFits operand }
+{
+    Form::with_rm(0xff, 2, operand)
+}
+
+fn loop_opcode(operation: Loop) -> u8
+    ensures { result ≡ loop_opcode operation }
+{
+    match operation {
+        Loop::Loopne => 0xe0,
+        Loop::Loope => 0xe1,
+        Loop::Loop => 0xe2,
+        Loop::Jecxz => 0xe3,
+    }
+}
+
+/// LOOPNE, LOOPE, LOOP, JECXZ.
+pub fn looping(operation: Loop, displacement: u32) -> Result<Form, NoForm>
+    ensures { Gives result (loop_choice operation displacement) }
+{
+    if !is_short(Size::Dword, displacement) {
+        return Err(NoForm);
+    }
+    Ok(Form::bare(loop_opcode(operation)).with_immediate(short(displacement)))
+}
+
+/// RET.
+pub fn returning(number: u16) -> Form
+    ensures { result ≡ laid (return_choice number) }
+{
+    if number == 0 {
+        Form::bare(0xc3)
+    } else {
+        Form::bare(0xc2).with_immediate(Number::Word(number))
+    }
+}
+
+/// INT.
+pub fn interrupt(number: u8) -> Form
+    ensures { result ≡ laid (interrupt_choice number) }
+{
+    Form::bare(0xcd).with_immediate(Number::Byte(number))
+}

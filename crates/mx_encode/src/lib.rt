@@ -1,0 +1,36 @@
+//! Instructions to bytes: of the spellings of an instruction, the one that is chosen.
+#![tactic(auto)]
+
+mod accumulator;
+mod choice;
+mod encoding;
+mod fields;
+mod forms;
+mod jumps;
+mod laws;
+mod numbers;
+mod operands;
+mod places;
+mod single;
+mod writing;
+
+pub use encoding::encode;
+pub use laws::{chosen_spells, one_chosen, spelled_has_form};
+
+/// What is asked for where a shorter form would do. A mark asks for nothing where an instruction
+/// has nothing to widen.
+#[derive(Clone, Copy, Debug, PartialEq, Eq)]
+pub struct Wide {
+    /// An immediate as wide as the operands.
+    pub immediate: bool,
+    /// A displacement of 32 bits, in memory behind a base or in a jump.
+    pub displacement: bool,
+}
+
+/// No bytes spell the instruction: ESP is an index, or a LOOP or JECXZ goes further than a
+/// signed byte.
+#[derive(Clone, Copy, Debug, PartialEq, Eq)]
+pub struct NoForm;
+
+#[cfg(test)]
+mod tests;

@@ -1,0 +1,80 @@
+//! The numbers of names in an instruction's fields, and numbers that a byte can stand for.
+
+ghost use Rattle.std.specs.Prelude.{◌≡◌, ◌<◌, ◌^◌};
+ghost use Rattle.mx_word.specs.Word.{width};
+ghost use Rattle.mx_encode.specs.Numbers.{scale_number, arithmetic_number, shift_number, is_wide, is_short, shortens, short};
+
+use crate::fields::Number;
+use mx_insn::{Arithmetic, OperandSize, Scale, Shift, Size};
+use mx_word::signed;
+
+pub fn scale_number(scale: Scale) -> u8
+    ensures value { result ≡ scale_number scale }
+    ensures below { result < 4 }
+{
+    match scale {
+        Scale::One => 0,
+        Scale::Two => 1,
+        Scale::Four => 2,
+        Scale::Eight => 3,
+    }
+}
+
+pub fn arithmetic_number(operation: Arithmetic) -> u8
+    ensures value { result ≡ arithmetic_number operation }
+    ensures below { result < 8 }
+{
+    match operation {
+        Arithmetic::Add => 0,
+        Arithmetic::Or => 1,
+        Arithmetic::Adc => 2,
+        Arithmetic::Sbb => 3,
+        Arithmetic::And => 4,
+        Arithmetic::Sub => 5,
+        Arithmetic::Xor => 6,
+        Arithmetic::Cmp => 7,
+    }
+}
+
+pub fn shift_number(operation: Shift) -> u8
+    ensures value { result ≡ shift_number operation }
+    ensures below { result < 8 }
+{
+    match operation {
+        Shift::Rol => 0,
+        Shift::Ror => 1,
+        Shift::Shl => 4,
+        Shift::Shr => 5,
+        Shift::Sar => 7,
+    }
+}
+
+pub fn is_wide(size: OperandSize) -> bool
+    ensures { result ≡ is_wide size }
+{
+    match size {
+        OperandSize::Word => true,
+        OperandSize::Dword => false,
+    }
+}
+
+/// Whether a number is a byte with its sign extended.
+pub fn is_short(size: Size, number: u32) -> bool
+    ensures { result ≡ is_short (width size) number }
+{
+    size.modulo(signed(Size::Byte, number % 256)) == number
+}
+
+/// Whether a byte stands for a number that may be marked wide.
+pub fn shortens(size: Size, number: u32, long: bool) -> bool
+    ensures { result ≡ shortens (width size) number long }
+{
+    !long && is_short(size, number)
+}
+
+/// The low byte, where the rest is its sign.
+pub fn short(number: u32) -> Number
+    ensures { result ≡ short number }
+{
+    Number::Byte((number % 256) as u8)
+}

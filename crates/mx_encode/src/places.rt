@@ -1,0 +1,141 @@
+//! ModRM, SIB and displacement.
+
+ghost use Rattle.std.specs.Prelude.{◌≡◌, ◌<◌, ◌^◌, Bool};
+ghost use Rattle.mx_word.specs.Word.{bytes_of};
+ghost use Rattle.mx_word.specs.Names.{register_number};
+ghost use Rattle.mx_insn.specs.Spelling.{displacement_length};
+ghost use Rattle.mx_encode.specs.Numbers.{number_bytes};
+ghost use Rattle.mx_encode.specs.Places.{base_number, sib_of, rm_number, mode_behind, mode_of, memory_place, place_of, can_index, can_stand, has_place};
+ghost use Rattle.mx_encode.specs.Given.{sib_seen, place_seen};
+
+use crate::fields::{Number, Place, Rm, Sib};
+use crate::numbers::{is_short, scale_number};
+use mx_insn::{Index, Memory, Operand, Register, Size};
+
+/// Without a base the base field is 101.
+fn base_number(base: Option<Register>) -> u8
+    ensures value { result ≡ base_number base }
+    ensures below { result < 8 }
+{
+    match base {
+        None => 5,
+        Some(register) => register.number(),
+    }
+}
+
+/// A SIB byte stands only where there is an index, or the base is ESP.
+fn sib_of(base: Option<Register>, index: Option<Index>) -> Option<Sib>
+    ensures { sib_seen result ≡ sib_of base index }
+{
+    let base = base_number(base);
+    match index {
+        Some(index) => Some(Sib {
+            scale: scale_number(index.scale),
+            index: index.register.number(),
+            base,
+        }),
+        None if base == 4 => Some(Sib {
+            scale: 0,
+            index: 4,
+            base: 4,
+        }),
+        None => None,
+    }
+}
+
+fn mode_behind(base: Register, displacement: u32, long: bool) -> u8
+    ensures value { result ≡ mode_behind (register_number base) displacement long }
+    ensures below { result < 3 }
+{
+    if long {
+        2
+    } else if displacement == 0 && base.number() != 5 {
+        0
+    } else if is_short(Size::Dword, displacement) {
+        1
+    } else {
+        2
+    }
+}
+
+fn mode_of(base: Option<Register>, displacement: u32, long: bool) -> u8
+    ensures value { result ≡ mode_of base displacement long }
+    ensures below { result < 3 }
+{
+    match base {
+        None => 0,
+        Some(base) => mode_behind(base, displacement, long),
+    }
+}
+
+fn displacement_of(mode: u8, base: u8, displacement: u32) -> Number
+    requires { mode < 3 }
+    ensures { number_bytes result ≡ bytes_of (displacement_length mode base) displacement }
+{
+    match mode {
+        0 if base != 5 => Number::Nothing,
+        1 => Number::Byte((displacement % 256) as u8),
+        _ => Number::Dword(displacement),
+    }
+}
+
+fn memory_place(reg: u8, memory: Memory, long: bool) -> Place
+    requires { reg < 8 }
+    ensures { place_seen result ≡ memory_place reg memory long }
+{
+    let mode = mode_of(memory.base, memory.displacement, long);
+    let base = base_number(memory.base);
+    let sib = sib_of(memory.base, memory.index);
+    Place {
+        mode,
+        reg,
+        rm: if sib.is_some() { 4 } else { base },
+        sib,
+        displacement: displacement_of(mode, base, memory.displacement),
+    }
+}
+
+/// Where the operand stands.
+pub fn place_of(rm: Rm, long: bool) -> Place
+    requires { rm.reg < 8 }
+    ensures { place_seen result ≡ place_of rm.reg rm.operand long }
+{
+    match rm.operand {
+        Operand::Register(register) => Place {
+            mode: 3,
+            reg: rm.reg,
+            rm: register.number(),
+            sib: None,
+            displacement: Number::Nothing,
+        },
+        Operand::Memory(memory) => memory_place(rm.reg, memory, long),
+    }
+}
+
+fn can_index(index: Option<Index>) -> bool
+    ensures { result ≡ can_index index }
+{
+    match index {
+        None => true,
+        Some(index) => index.register.number() != 4,
+    }
+}
+
+fn can_stand(operand: Operand) -> bool
+    ensures { result ≡ can_stand operand }
+{
+    match operand {
+        Operand::Register(_) => true,
+        Operand::Memory(memory) => can_index(memory.index),
+    }
+}
+
+/// Whether bytes can name the operand: ESP is no index.
+pub fn has_place(rm: Option<Rm>) -> bool
+    ensures { result ≡ has_place rm }
+{
+    match rm {
+        None => true,
+        Some(rm) => can_stand(rm.operand),
+    }
+}
