@@ -22,6 +22,7 @@ pub struct Values {
     pub immediate: u32,
 }
 
+#[inline(always)]
 pub fn arithmetic(number: u8) -> Arithmetic
     ensures { result ≡ arithmetic number }
 {
@@ -37,6 +38,7 @@ pub fn arithmetic(number: u8) -> Arithmetic
     }
 }
 
+#[inline(always)]
 pub fn condition(number: u8) -> Condition
     ensures { result ≡ condition number }
 {

@@ -1,6 +1,6 @@
 //! One instruction.
 
-ghost use Rattle.std.specs.Prelude.{◌≡◌, ◌<◌, ◌≤◌, ◌+◌, ◌++◌, ◌↔◌, ℕ, List, length, IfOk};
+ghost use Rattle.std.specs.Prelude.{◌≡◌, ◌<◌, ◌≤◌, ◌+◌, ◌++◌, ◌↔◌, ℕ, List, length, IfOk, IfSome, Ok};
 ghost use Rattle.mx_insn.specs.declared.insn.Insn.{Insn};
 ghost use Rattle.mx_insn.specs.Spelling.{Spells, IsOpen, size_of};
 ghost use Rattle.mx_decode.specs.Decode.{SpellsFirst, NoneFirst, front};
@@ -12,8 +12,8 @@ use crate::fields::{immediate, place, size_of};
 use crate::head::{Head, read_head};
 use crate::meaning::{Values, insn_of};
 use crate::quick::{
-    arithmetic_from_rm, arithmetic_signed, arithmetic_to_rm, decrease, increase, jump_if,
-    move_dword, move_from_rm, move_to_rm, pop, push,
+    arithmetic_from_rm, arithmetic_signed, arithmetic_signed_whole, arithmetic_to_rm, decrease,
+    increase, jump_if, move_dword, move_from_rm, move_to_rm, pop, push,
 };
 use crate::select::row_of;
 use mx_insn::{Insn, Row};
@@ -59,22 +59,24 @@ fn read_counted(bytes: &[u8]) -> Result<(Insn, u8), DecodeFault>
     }
 }
 
-/// No bytes.
+/// The whole table, and not inlined: only what `quick` leaves comes here.
 #[inline(never)]
-fn nothing(bytes: &[u8]) -> Result<(Insn, u8), DecodeFault>
-    requires { length bytes.now < 1 }
-    ensures { result ≡ front bytes.now }
-{
-    Err(DecodeFault::Short)
-}
-
-/// By the commonest rows first. Each arm is a call, so that no answer is copied from arm to arm.
-#[inline(always)]
 fn at_front(bytes: &[u8]) -> Result<(Insn, u8), DecodeFault>
     ensures { result ≡ front bytes.now }
 {
     match bytes {
-        [] => nothing(bytes),
+        [0x83, rest @ ..] => arithmetic_signed_whole(rest),
+        _ => read_counted(bytes),
+    }
+}
+
+/// The commonest rows.
+#[inline(always)]
+fn quick(bytes: &[u8]) -> Option<(Insn, u8)>
+    ensures { IfSome result (λ x. front bytes.now ≡ Ok x) }
+{
+    match bytes {
+        [] => None,
         [opcode, rest @ ..] => match *opcode {
             0x01 | 0x09 | 0x11 | 0x19 | 0x21 | 0x29 | 0x31 | 0x39 => arithmetic_to_rm(
                 *opcode, rest,
@@ -91,7 +93,21 @@ fn at_front(bytes: &[u8]) -> Result<(Insn, u8), DecodeFault>
             0x58..=0x5F => pop(*opcode, rest),
             0x70..=0x7F => jump_if(*opcode, rest),
             0xB8..=0xBF => move_dword(*opcode, rest),
-            _ => read_counted(bytes),
+            _ => None,
+        },
+    }
+}
+
+/// By the commonest rows first.
+#[inline(always)]
+fn by_rows(bytes: &[u8]) -> Result<(Insn, u8), DecodeFault>
+    ensures { result ≡ front bytes.now }
+{
+    match quick(bytes) {
+        Some((insn, length)) => Ok((insn, length)),
+        None => match at_front(bytes) {
+            Ok((insn, length)) => Ok((insn, length)),
+            Err(fault) => Err(fault),
         },
     }
 }
@@ -104,5 +120,5 @@ pub fn decode(bytes: &[u8]) -> Result<(Insn, u8), DecodeFault>
     ensures not_in_table { (result ≡ Err DecodeFault.NotInTable) ↔ (NoneFirst bytes.now × ¬ IsOpen bytes.now) }
     ensures short { (result ≡ Err DecodeFault.Short) ↔ (NoneFirst bytes.now × IsOpen bytes.now) }
 {
-    at_front(bytes)
+    by_rows(bytes)
 }
