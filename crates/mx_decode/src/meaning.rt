@@ -112,7 +112,8 @@ fn port_size(size: Size) -> PortSize
     }
 }
 
-fn to_rm(size: Size, to: Operand, from: Register) -> Operands
+#[inline(always)]
+pub fn to_rm(size: Size, to: Operand, from: Register) -> Operands
     ensures { result ≡ to_rm size to from }
 {
     match to {
@@ -125,7 +126,8 @@ fn to_rm(size: Size, to: Operand, from: Register) -> Operands
     }
 }
 
-fn memory_of(operand: Operand) -> Memory
+#[inline(always)]
+pub fn memory_of(operand: Operand) -> Memory
     ensures { result ≡ memory_of operand }
 {
     match operand {

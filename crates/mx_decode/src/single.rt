@@ -9,8 +9,10 @@ ghost use Rattle.mx_decode.specs.Given.{Gives, immediate_bound, narrow_bound, op
 
 use crate::DecodeFault;
 use crate::fields::{immediate, place, size_of};
+use crate::flow::{call, jump, jump_short, leave, push_byte, push_dword, return_plain};
 use crate::head::{Head, read_head};
 use crate::meaning::{Values, insn_of};
+use crate::named::{by_operand, load_address, move_byte_from_rm, move_byte_to_rm, test, test_byte};
 use crate::quick::{
     arithmetic_from_rm, arithmetic_signed, arithmetic_signed_whole, arithmetic_to_rm, decrease,
     increase, jump_if, move_dword, move_from_rm, move_to_rm, pop, push,
@@ -59,9 +61,9 @@ fn read_counted(bytes: &[u8]) -> Result<(Insn, u8), DecodeFault>
     }
 }
 
-/// The whole table, and not inlined: only what `quick` leaves comes here.
+/// What no function of its own reads.
 #[inline(never)]
-fn at_front(bytes: &[u8]) -> Result<(Insn, u8), DecodeFault>
+fn searched(bytes: &[u8]) -> Result<(Insn, u8), DecodeFault>
     ensures { result ≡ front bytes.now }
 {
     match bytes {
@@ -70,9 +72,48 @@ fn at_front(bytes: &[u8]) -> Result<(Insn, u8), DecodeFault>
     }
 }
 
-/// The commonest rows.
+/// Rows less common than those of `commonest`.
 #[inline(always)]
-fn quick(bytes: &[u8]) -> Option<(Insn, u8)>
+fn common(bytes: &[u8]) -> Option<(Insn, u8)>
+    ensures { IfSome result (λ x. front bytes.now ≡ Ok x) }
+{
+    match bytes {
+        [] => None,
+        [opcode, rest @ ..] => match *opcode {
+            0x68 => push_dword(rest),
+            0x6A => push_byte(rest),
+            0x84 => test_byte(rest),
+            0x85 => test(rest),
+            0x88 => move_byte_to_rm(rest),
+            0x8A => move_byte_from_rm(rest),
+            0x8D => load_address(rest),
+            0xC3 => return_plain(rest),
+            0xC9 => leave(rest),
+            0xE8 => call(rest),
+            0xE9 => jump(rest),
+            0xEB => jump_short(rest),
+            0xFF => by_operand(rest),
+            _ => None,
+        },
+    }
+}
+
+/// Not inlined: each further arm beside the commonest would cost them instructions.
+#[inline(never)]
+fn at_front(bytes: &[u8]) -> Result<(Insn, u8), DecodeFault>
+    ensures { result ≡ front bytes.now }
+{
+    match common(bytes) {
+        Some((insn, length)) => Ok((insn, length)),
+        None => match searched(bytes) {
+            Ok((insn, length)) => Ok((insn, length)),
+            Err(fault) => Err(fault),
+        },
+    }
+}
+
+#[inline(always)]
+fn commonest(bytes: &[u8]) -> Option<(Insn, u8)>
     ensures { IfSome result (λ x. front bytes.now ≡ Ok x) }
 {
     match bytes {
@@ -98,12 +139,13 @@ fn quick(bytes: &[u8]) -> Option<(Insn, u8)>
     }
 }
 
-/// By the commonest rows first.
+/// By the commonest rows first. A call's answer is taken apart, so that the place where it stood
+/// isn't the place of the answer here.
 #[inline(always)]
 fn by_rows(bytes: &[u8]) -> Result<(Insn, u8), DecodeFault>
     ensures { result ≡ front bytes.now }
 {
-    match quick(bytes) {
+    match commonest(bytes) {
         Some((insn, length)) => Ok((insn, length)),
         None => match at_front(bytes) {
             Ok((insn, length)) => Ok((insn, length)),
