@@ -2,10 +2,8 @@
 #![tactic(auto)]
 
 mod fields;
-mod flow;
 mod head;
 mod meaning;
-mod named;
 mod quick;
 mod select;
 mod single;
