@@ -6,7 +6,7 @@ ghost use Rattle.mx.specs.Limits.{rounded, IsWithin};
 ghost use Rattle.mx.specs.Load.{filled_to, loaded};
 
 use crate::program::Program;
-use mx_exec::{Code, Image};
+use mx_exec::{Code, Image, Text};
 use mx_flags::Flags;
 use mx_mem::Segment;
 use mx_regs::Regs;
@@ -43,7 +43,7 @@ fn limit_of(program: &Program) -> u32
     ((u64::from(program.total) + 4095) / 4096 * 4096) as u32
 }
 
-/// The image of a program. Takes memory for its segments alone.
+/// The image of a program. Takes memory for its segments, and for what its text keeps decoded.
 pub fn load(alloc: Global, program: &Program) -> Result<Image, NoMemory>
     ensures { IfOk result (λ image. image ≡ loaded program.now) }
 {
@@ -54,7 +54,8 @@ pub fn load(alloc: Global, program: &Program) -> Result<Image, NoMemory>
     regs.set(Size::Dword, Register::Esp, limit);
     if program.sep {
         let memory = segment(alloc, limit, init, &[])?;
-        let code = Code::Separate(segment(alloc, text.len() as u32, text, &[])?);
+        let text = segment(alloc, text.len() as u32, text, &[])?;
+        let code = Code::Separate(Text::new(alloc, text)?);
         return Ok(image(program.entry, regs, memory, code));
     }
     let memory = segment(alloc, limit, text, init)?;

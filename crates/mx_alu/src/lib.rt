@@ -19,24 +19,9 @@ pub use products::{DivideFault, Division, Halves, divide, multiply, multiply_low
 pub use shifts::shift;
 
 /// The result of an operation on two words, and the flags after it. TEST is an AND, as CMP is a
-/// SUB, whose result nobody keeps.
-pub fn alu(operation: Arithmetic, size: Size, x: u32, y: u32, flags: &Flags) -> (u32, Flags)
-    requires left { x < 2 ^ width size }
-    requires right { y < 2 ^ width size }
-    ensures value { result.0 ≡ alu_value operation (width size) x y flags.now }
-    ensures flags { result.1 ≡ alu_flags operation (width size) x y flags.now }
-    ensures below { result.0 < 2 ^ width size }
-{
-    match size {
-        Size::Byte => operate(operation, Size::Byte, x, y, flags),
-        Size::Word => operate(operation, Size::Word, x, y, flags),
-        Size::Dword => operate(operation, Size::Dword, x, y, flags),
-    }
-}
-
-/// The same, inlined for each size, so that no size is looked at twice.
+/// SUB, whose result nobody keeps. Inlined, so that a caller who knows the size looks at none.
 #[inline(always)]
-fn operate(operation: Arithmetic, size: Size, x: u32, y: u32, flags: &Flags) -> (u32, Flags)
+pub fn alu(operation: Arithmetic, size: Size, x: u32, y: u32, flags: &Flags) -> (u32, Flags)
     requires left { x < 2 ^ width size }
     requires right { y < 2 ^ width size }
     ensures value { result.0 ≡ alu_value operation (width size) x y flags.now }
@@ -67,6 +52,7 @@ fn operate(operation: Arithmetic, size: Size, x: u32, y: u32, flags: &Flags) -> 
 }
 
 /// The result of an operation on one word, and the flags after it.
+#[inline(always)]
 pub fn unary(operation: Unary, size: Size, x: u32, flags: &Flags) -> (u32, Flags)
     requires { x < 2 ^ width size }
     ensures value { result.0 ≡ unary_value operation (width size) x }

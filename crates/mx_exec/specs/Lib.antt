@@ -4,3 +4,4 @@ pub mod Stack
 pub mod Accumulator
 pub mod Strings
 pub mod Step
+pub mod Text

@@ -37,8 +37,9 @@ fn keep(
     }
 }
 
-/// An operation on a register and what stands in another place.
-fn operate_on_register(
+/// An operation on a register and what stands in another place, inlined for each size.
+#[inline(always)]
+fn operate_registers(
     image: &mut Image,
     operation: Arithmetic,
     size: Size,
@@ -57,6 +58,24 @@ fn operate_on_register(
     image.flags = flags;
     image.eip = next;
     Ok(())
+}
+
+/// The same, with the size looked at once.
+fn operate_on_register(
+    image: &mut Image,
+    operation: Arithmetic,
+    size: Size,
+    to: Register,
+    from: &Operand,
+    next: u32,
+) -> Result<(), u8>
+    ensures { Performs image.old (after (Insn.Arithmetic operation (Operands.ToRegister size to from.now)) next image.old) result image.new }
+{
+    match size {
+        Size::Byte => operate_registers(image, operation, Size::Byte, to, from, next),
+        Size::Word => operate_registers(image, operation, Size::Word, to, from, next),
+        Size::Dword => operate_registers(image, operation, Size::Dword, to, from, next),
+    }
 }
 
 /// An operation on memory and a register.
@@ -80,8 +99,9 @@ fn operate_on_memory(
     Ok(())
 }
 
-/// An operation on an operand and a number.
-fn operate_immediate(
+/// An operation on an operand and a number, inlined for each size.
+#[inline(always)]
+fn operate_number(
     image: &mut Image,
     operation: Arithmetic,
     to: &Operand,
@@ -98,6 +118,23 @@ fn operate_immediate(
     image.flags = flags;
     image.eip = next;
     Ok(())
+}
+
+/// The same, with the size looked at once.
+fn operate_immediate(
+    image: &mut Image,
+    operation: Arithmetic,
+    to: &Operand,
+    number: Immediate,
+    next: u32,
+) -> Result<(), u8>
+    ensures { Performs image.old (after (Insn.Arithmetic operation (Operands.Immediate to.now number)) next image.old) result image.new }
+{
+    match number {
+        Immediate::Byte(y) => operate_number(image, operation, to, Immediate::Byte(y), next),
+        Immediate::Word(y) => operate_number(image, operation, to, Immediate::Word(y), next),
+        Immediate::Dword(y) => operate_number(image, operation, to, Immediate::Dword(y), next),
+    }
 }
 
 pub fn operate(
@@ -161,7 +198,9 @@ pub fn test_immediate(
     Ok(())
 }
 
-pub fn unary_operation(
+/// An operation on one operand, inlined for each size.
+#[inline(always)]
+fn operate_alone(
     image: &mut Image,
     operation: Unary,
     size: Size,
@@ -176,6 +215,22 @@ pub fn unary_operation(
     image.flags = flags;
     image.eip = next;
     Ok(())
+}
+
+pub fn unary_operation(
+    image: &mut Image,
+    operation: Unary,
+    size: Size,
+    operand: &Operand,
+    next: u32,
+) -> Result<(), u8>
+    ensures { Performs image.old (after (Insn.Unary operation size operand.now) next image.old) result image.new }
+{
+    match size {
+        Size::Byte => operate_alone(image, operation, Size::Byte, operand, next),
+        Size::Word => operate_alone(image, operation, Size::Word, operand, next),
+        Size::Dword => operate_alone(image, operation, Size::Dword, operand, next),
+    }
 }
 
 /// How far a shift goes.

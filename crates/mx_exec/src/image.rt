@@ -1,9 +1,14 @@
 //! A process as its processor sees it.
 
-ghost use Rattle.std.specs.Prelude.{◌≡◌, ◌<◌, ◌^◌, length, Ok, Err};
+ghost use Rattle.std.specs.Prelude.{◌≡◌, ◌<◌, ◌^◌, length, drop, Ok, Err};
+ghost use Rattle.mx_decode.specs.Decode.{front};
+ghost use Rattle.mx_exec.specs.Text.{Fetches};
 ghost use Rattle.mx_exec.specs.Image.{code_of, less, more, register_of, with_dword, jumped, Performs};
 
+use crate::text::{Text, decode_at};
+use mx_decode::DecodeFault;
 use mx_flags::Flags;
+use mx_insn::Insn;
 use mx_mem::Segment;
 use mx_regs::Regs;
 use mx_word::{Register, Size};
@@ -12,7 +17,7 @@ use mx_word::{Register, Size};
 #[derive(Drop)]
 pub enum Code {
     /// In a segment of its own, which nothing writes.
-    Separate(Segment),
+    Separate(Text),
     /// In the data segment.
     Shared,
 }
@@ -59,6 +64,18 @@ impl Image {
         match &self.code {
             Code::Separate(text) => text.limit(),
             Code::Shared => self.memory.limit(),
+        }
+    }
+
+    /// Puts the instruction at EIP into `insn`, and answers its length.
+    #[inline(always)]
+    pub(crate) fn fetch(&mut self, insn: &mut Insn) -> Result<u8, DecodeFault>
+        ensures same { self.new ≡ self.old }
+        ensures fetched { Fetches (front (drop self.old.eip (code_of self.old))) result insn.new }
+    {
+        match &mut self.code {
+            Code::Separate(text) => text.fetch(self.eip, insn),
+            Code::Shared => decode_at(&self.memory, self.eip, insn),
         }
     }
 

@@ -10,6 +10,8 @@ mod plain;
 mod stack;
 mod steps;
 mod strings;
+mod text;
 
 pub use image::{Code, Image, Outcome};
 pub use steps::step;
+pub use text::Text;

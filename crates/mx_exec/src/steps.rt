@@ -1,36 +1,13 @@
 //! One step.
 
-ghost use Rattle.std.specs.Prelude.{◌≡◌, ℕ, List, take, drop, Ok, Err};
-ghost use Rattle.mx_decode.specs.Decode.{front};
-ghost use Rattle.mx_exec.specs.Image.{code_of, Performs};
+ghost use Rattle.std.specs.Prelude.{◌≡◌, Ok, Err};
+ghost use Rattle.mx_exec.specs.Image.{Performs};
 ghost use Rattle.mx_exec.specs.Step.{after, outcome_of, one};
 
 use crate::image::more;
-use crate::{Code, Image, Outcome, arithmetic, jumps, moves, plain, strings};
-use mx_decode::{DecodeFault, decode, front_of_fifteen};
-use mx_insn::Insn;
-
-/// What stands at the front of code of which these are the first fifteen bytes.
-fn decode_front(bytes: &[u8]) -> Result<(Insn, u8), DecodeFault>
-    ensures { (code : List ℕ) → bytes.now ≡ take 15 code → result ≡ front code }
-{
-    front_of_fifteen();
-    decode(bytes)
-}
-
-/// The instruction at EIP, and its length.
-fn fetch(image: &Image) -> Result<(Insn, u8), DecodeFault>
-    ensures { result ≡ front (drop image.now.eip (code_of image.now)) }
-{
-    let code = match &image.code {
-        Code::Separate(text) => text,
-        Code::Shared => &image.memory,
-    };
-    match code.front(image.eip) {
-        Some(bytes) => decode_front(bytes),
-        None => decode_front(&code.copy_of_front(image.eip)),
-    }
-}
+use crate::{Image, Outcome, arithmetic, jumps, moves, plain, strings};
+use mx_decode::DecodeFault;
+use mx_insn::{Insn, Plain};
 
 fn outcome(insn: &Insn) -> Outcome
     ensures { result ≡ outcome_of insn.now }
@@ -41,7 +18,9 @@ fn outcome(insn: &Insn) -> Outcome
     }
 }
 
-/// Performs an instruction, or answers its vector and changes nothing.
+/// Performs an instruction, or answers its vector and changes nothing. Inlined, so that a step has
+/// no registers to save.
+#[inline(always)]
 fn perform(image: &mut Image, insn: &Insn, next: u32) -> Result<(), u8>
     ensures { Performs image.old (after insn.now next image.old) result image.new }
 {
@@ -147,16 +126,17 @@ fn perform(image: &mut Image, insn: &Insn, next: u32) -> Result<(), u8>
 
 /// One step of a process: the instruction at EIP, or one iteration of a repeated string
 /// instruction. A fault changes nothing.
+#[inline(always)]
 pub fn step(image: &mut Image) -> Outcome
     ensures outcome { result ≡ (one image.old).0 }
     ensures image { image.new ≡ (one image.old).1 }
 {
-    let fetched = fetch(image);
-    match &fetched {
-        Ok((insn, length)) => {
-            let next = more(image.eip, u32::from(*length));
-            match perform(image, insn, next) {
-                Ok(()) => outcome(insn),
+    let mut insn = Insn::Plain(Plain::Nop);
+    match image.fetch(&mut insn) {
+        Ok(length) => {
+            let next = more(image.eip, u32::from(length));
+            match perform(image, &insn, next) {
+                Ok(()) => outcome(&insn),
                 Err(vector) => Outcome::Fault(vector),
             }
         }

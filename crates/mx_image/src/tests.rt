@@ -1,7 +1,7 @@
 //! Rows of the manual's pages, worked by hand, and of the machine's own choices.
 
 use crate::{Runs, Stop, runs_join};
-use mx_exec::{Code, Image};
+use mx_exec::{Code, Image, Text};
 use mx_flags::Flags;
 use mx_mem::Segment;
 use mx_regs::Regs;
@@ -476,7 +476,7 @@ fn image_of(alloc: Global, row: &Row) -> Result<Image, Fail> {
         eip: 0,
         flags: Flags::from_bits(row.flags),
         memory,
-        code: Code::Separate(segment_of(alloc, text_limit, row.text)?),
+        code: Code::Separate(Text::new(alloc, segment_of(alloc, text_limit, row.text)?)?),
     })
 }
 

@@ -6,7 +6,7 @@ ghost use Rattle.mx_encode.specs.Forms.{has_form};
 use crate::case::{Case, CaseError, State, parse_case};
 use mx_decode::decode;
 use mx_encode::{Wide, encode};
-use mx_exec::{Code, Image, Outcome, step};
+use mx_exec::{Code, Image, Outcome, Text, step};
 use mx_flags::Flags;
 use mx_insn::Insn;
 use mx_mem::Segment;
@@ -84,7 +84,7 @@ fn image_of(alloc: Global, case: &Case<'_>) -> Result<Image, NoMemory> {
         regs.set(Size::Dword, *register, *word);
     }
     let code = match &case.code {
-        Some(text) => Code::Separate(segment_of(alloc, text.as_slice())?),
+        Some(text) => Code::Separate(Text::new(alloc, segment_of(alloc, text.as_slice())?)?),
         None => Code::Shared,
     };
     Ok(Image {
