@@ -1,5 +1,8 @@
 //! What `one` prints.
 
+ghost use Rattle.mx.specs.File.{refusal_of};
+ghost use Rattle.mx.specs.Failure.{Tells};
+
 use crate::failure::Failure;
 use crate::running::one;
 use mx_flags::FlagValues;
@@ -15,7 +18,9 @@ pub fn print_one<W: Write>(
     bytes: &[u8],
     steps: u32,
     out: &mut W,
-) -> Result<(), Failure> {
+) -> Result<(), Failure>
+    ensures { Tells (refusal_of bytes.now) result }
+{
     let (count, stop, image) = one(alloc, bytes, steps)?;
     print_registers(&image, out)?;
     print_state(image.eip(), image.flags(), out)?;

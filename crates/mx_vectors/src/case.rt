@@ -1,6 +1,10 @@
 //! A case, as a line has it.
 
+ghost use Rattle.std.specs.Prelude.{◌≡◌, IfOk, length};
+ghost use Rattle.mx_vectors.specs.Line.{Reads, IsNumber, AreRegisters, AreBytes, IsCode, IsOutcome, IsState};
+
 use mx_exec::Outcome;
+use mx_word::Bytes;
 use std::alloc::{AllocError, AllocFailed, Global};
 
 /// Registers, EIP and flags.
@@ -18,16 +22,17 @@ pub struct Case<'a> {
     pub row: &'a str,
     /// The instruction's bytes, as text and as bytes.
     pub spelling: &'a str,
-    pub bytes: Vec<u8>,
+    pub bytes: Bytes,
     /// The code, where it doesn't stand in the data.
-    pub code: Option<Vec<u8>>,
-    pub memory: Vec<u8>,
+    pub code: Option<Bytes>,
+    pub memory: Bytes,
     pub before: State,
     pub outcome: Outcome,
     pub after: State,
     /// Which flags to compare.
     pub mask: u32,
-    pub memory_after: Vec<u8>,
+    pub memory_after: Bytes,
+    ghost same_limit: { length memory_after ≡ length memory },
 }
 
 /// Why a line is no case.
@@ -38,18 +43,33 @@ pub enum CaseError {
 }
 
 impl From<AllocError> for CaseError {
+    ghost use Rattle.std.specs.Prelude.{◌≡◌};
+    ghost use Rattle.mx_vectors.specs.declared.case.CaseError.TheVariants as errors;
+
+    ghost from_gives = { λ _ e. e ≡ errors.NoMemory };
+
     fn from(_: AllocError) -> CaseError {
         CaseError::NoMemory
     }
 }
 
 impl<T: Drop> From<AllocFailed<T>> for CaseError {
+    ghost use Rattle.std.specs.Prelude.{◌≡◌};
+    ghost use Rattle.mx_vectors.specs.declared.case.CaseError.TheVariants as errors;
+
+    ghost from_gives = { λ _ e. e ≡ errors.NoMemory };
+
     fn from(_: AllocFailed<T>) -> CaseError {
         CaseError::NoMemory
     }
 }
 
 impl From<hex::FromHexError> for CaseError {
+    ghost use Rattle.std.specs.Prelude.{◌≡◌};
+    ghost use Rattle.mx_vectors.specs.Failure.{case_error_of};
+
+    ghost from_gives = { λ error e. e ≡ case_error_of error };
+
     fn from(error: hex::FromHexError) -> CaseError {
         match error {
             hex::FromHexError::OutOfMemory => CaseError::NoMemory,
@@ -58,24 +78,37 @@ impl From<hex::FromHexError> for CaseError {
     }
 }
 
-fn read_number(text: &str) -> Result<u32, CaseError> {
+/// A number in hexadecimal digits.
+fn read_number(text: &str) -> Result<u32, CaseError>
+    ensures { Reads (IsNumber text.now) result }
+{
     u32::from_str_radix(text, 16).map_err(|_| CaseError::Malformed)
 }
 
-fn read_registers(alloc: Global, text: &str) -> Result<[u32; 8], CaseError> {
-    let mut numbers = Vec::new(alloc);
-    for word in text.split(' ') {
-        numbers.push(read_number(word)?)?;
-    }
-    match numbers.as_slice() {
-        [eax, ecx, edx, ebx, esp, ebp, esi, edi] => {
-            Ok([*eax, *ecx, *edx, *ebx, *esp, *ebp, *esi, *edi])
-        }
-        _ => Err(CaseError::Malformed),
-    }
+/// Eight numbers parted by spaces.
+fn read_registers(alloc: Global, text: &str) -> Result<[u32; 8], CaseError>
+    ensures { Reads (AreRegisters text.now) result }
+{
+    let words: Vec<&str> = text.split(' ').collect(alloc)?;
+    let [eax, ecx, edx, ebx, esp, ebp, esi, edi] = words.as_slice() else {
+        return Err(CaseError::Malformed);
+    };
+    Ok([
+        read_number(*eax)?,
+        read_number(*ecx)?,
+        read_number(*edx)?,
+        read_number(*ebx)?,
+        read_number(*esp)?,
+        read_number(*ebp)?,
+        read_number(*esi)?,
+        read_number(*edi)?,
+    ])
 }
 
-fn read_outcome(text: &str) -> Result<Outcome, CaseError> {
+/// How the step ended.
+fn read_outcome(text: &str) -> Result<Outcome, CaseError>
+    ensures { Reads (IsOutcome text.now) result }
+{
     if text == "go" {
         return Ok(Outcome::Go);
     }
@@ -85,8 +118,10 @@ fn read_outcome(text: &str) -> Result<Outcome, CaseError> {
 }
 
 /// The bytes after the changes that a text names.
-fn changed(memory: &Vec<u8>, changes: &str) -> Result<Vec<u8>, CaseError> {
-    let mut after = memory.clone()?;
+fn changed(alloc: Global, memory: &[u8], changes: &str) -> Result<Vec<u8>, CaseError>
+    ensures { IfOk result (λ after. length after.items ≡ length memory.now) }
+{
+    let mut after = memory.to_vec(alloc)?;
     if changes == "-" {
         return Ok(after);
     }
@@ -101,7 +136,10 @@ fn changed(memory: &Vec<u8>, changes: &str) -> Result<Vec<u8>, CaseError> {
     Ok(after)
 }
 
-fn read_state(alloc: Global, words: &str, eip: &str, flags: &str) -> Result<State, CaseError> {
+/// Registers, EIP and flags.
+fn read_state(alloc: Global, words: &str, eip: &str, flags: &str) -> Result<State, CaseError>
+    ensures { Reads (IsState words.now eip.now flags.now) result }
+{
     Ok(State {
         registers: read_registers(alloc, words)?,
         eip: read_number(eip)?,
@@ -109,11 +147,21 @@ fn read_state(alloc: Global, words: &str, eip: &str, flags: &str) -> Result<Stat
     })
 }
 
-fn code_of(alloc: Global, text: &str) -> Result<Option<Vec<u8>>, CaseError> {
+/// Bytes in hexadecimal digits.
+fn bytes_of(alloc: Global, text: &str) -> Result<Bytes, CaseError>
+    ensures { Reads (AreBytes text.now) result }
+{
+    Ok(Bytes::from_vec(hex::decode(alloc, text)?))
+}
+
+/// The code, where it doesn't stand in the data.
+fn code_of(alloc: Global, text: &str) -> Result<Option<Bytes>, CaseError>
+    ensures { Reads (IsCode text.now) result }
+{
     if text == "-" {
         return Ok(None);
     }
-    Ok(Some(hex::decode(alloc, text)?))
+    Ok(Some(bytes_of(alloc, text)?))
 }
 
 /// Reads a line.
@@ -137,18 +185,18 @@ pub fn parse_case<'a>(alloc: Global, line: &'a str) -> Result<Case<'a>, CaseErro
     else {
         return Err(CaseError::Malformed);
     };
-    let memory = hex::decode(alloc, *memory)?;
-    let memory_after = changed(&memory, *changes)?;
+    let memory = bytes_of(alloc, *memory)?;
+    let memory_after = changed(alloc, memory.as_slice(), *changes)?;
     Ok(Case {
         row: *row,
         spelling: *spelling,
-        bytes: hex::decode(alloc, *spelling)?,
+        bytes: bytes_of(alloc, *spelling)?,
         code: code_of(alloc, *code)?,
         memory,
         before: read_state(alloc, *words, *eip, *flags)?,
         outcome: read_outcome(*ends)?,
         after: read_state(alloc, *words_after, *eip_after, *flags_after)?,
         mask: read_number(*mask)?,
-        memory_after,
+        memory_after: Bytes::from_vec(memory_after),
     })
 }
