@@ -1,5 +1,6 @@
 -- Comparisons, one after another.
-use Rattle.std.proofs.Common.{eq-eqb, eqb→eq, ◌==◌, ◌≡◌, ◌∙◌, ◌<◌, ◌≤◌, ◌+◌, ℕ, Bool, true, false, ◌&&◌, bit_and, IsTrue, ◌↔◌, List, [], ◌∷◌, ◌++◌, length, take, refl, sym, ap, ap₂, arith, slice_index}
+use Rattle.std.proofs.Common.{eq-eqb, ◌==◌, ◌≡◌, ◌∙◌, ◌<◌, ◌≤◌, ◌+◌, ℕ, Bool, true, false, ◌&&◌, bit_and, IsTrue, ◌↔◌, List, [], ◌∷◌, ◌++◌, length, take, refl, sym, ap, ap₂, arith, slice_index}
+use Rattle.std.proofs.lemmas.Bool.{eqb-true}
 use Rattle.std.proofs.lemmas.List.{take_more, take_all}
 use Rattle.std.specs.Prelude.{IsOk, Ok, Err, Result}
 use Rattle.mx_insn.specs.declared.insn.Insn.{Insn}
@@ -38,7 +39,7 @@ last_same (a ∷ p) (b ∷ q) x y e =
 
 -- none of them yet
 pub same_none : (n : ℕ) (a b : List ℕ) → n ≡ length a → IsTrue (n == length b) ↔ SameFirst 0 a b
-same_none n a b e = ((λ t. record { limit = sym e ∙ eqb→eq n (length b) t; first = refl }), (λ s. eq-eqb n (length b) (e ∙ s.limit)))
+same_none n a b e = ((λ t. record { limit = sym e ∙ eqb-true n (length b) t; first = refl }), (λ s. eq-eqb n (length b) (e ∙ s.limit)))
 
 -- one byte more
 pub same_more : (a b : List ℕ) (i : ℕ) → i < length b → SameFirst (i + 1) a b ↔ (SameFirst i a b × (slice_index a i ≡ slice_index b i))
@@ -49,6 +50,7 @@ same_more a b i low = (to, from)
         let below : i < length a = omega (arith, s.limit) in
         let parts = last_same (take i a) (take i b) _ _ (sym (take_more a i 0 below) ∙ (s.first ∙ take_more b i 0 low)) in
         (record { limit = s.limit; first = parts.0 }, parts.1)
+
     from : SameFirst i a b × (slice_index a i ≡ slice_index b i) → SameFirst (i + 1) a b
     from h =
         let below : i < length a = omega (arith, h.0.limit) in
@@ -100,14 +102,20 @@ agreeing c o m is_o is_m size spelling outcome registers eip flags memory a b d 
     let five = both (size && spelling && outcome && registers) eip four f in
     let six = both (size && spelling && outcome && registers && eip) flags five g in
     let all = both (size && spelling && outcome && registers && eip && flags) memory six h in
-    let w = whole (front c.bytes) (length c.bytes) in
-    ((λ t. let p = all.0 t in record {
-      spelled = w.0 p.0.0.0.0.0;
-      outcome = sym is_o ∙ p.0.0.0.0.1;
-      registers = ap (λ (x : Image). x.regs) (sym is_m) ∙ p.0.0.0.1;
-      eip = ap (λ (x : Image). x.eip) (sym is_m) ∙ p.0.0.1;
-      flags = ap (λ (x : Image). bit_and (bits_of x.flags) (compared_flags c.mask)) (sym is_m) ∙ p.0.1;
-      memory = ap (λ (x : Image). x.memory) (sym is_m) ∙ p.1;
-    }),
-    (λ s. all.1 ((((((w.1 s.spelled, is_o ∙ s.outcome), ap (λ (x : Image). x.regs) is_m ∙ s.registers), ap (λ (x : Image). x.eip) is_m ∙ s.eip),
-    ap (λ (x : Image). bit_and (bits_of x.flags) (compared_flags c.mask)) is_m ∙ s.flags), ap (λ (x : Image). x.memory) is_m ∙ s.memory))))
+    let w = whole (front c.bytes) (length c.bytes) in (
+      (λ t. let p = all.0 t in record {
+        spelled = w.0 p.0.0.0.0.0;
+        outcome = sym is_o ∙ p.0.0.0.0.1;
+        registers = ap (λ (x : Image). x.regs) (sym is_m) ∙ p.0.0.0.1;
+        eip = ap (λ (x : Image). x.eip) (sym is_m) ∙ p.0.0.1;
+        flags = ap (λ (x : Image). bit_and (bits_of x.flags) (compared_flags c.mask)) (sym is_m) ∙ p.0.1;
+        memory = ap (λ (x : Image). x.memory) (sym is_m) ∙ p.1;
+      }),
+      (λ s. all.1 ((
+        (
+          (((w.1 s.spelled, is_o ∙ s.outcome), ap (λ (x : Image). x.regs) is_m ∙ s.registers), ap (λ (x : Image). x.eip) is_m ∙ s.eip),
+          ap (λ (x : Image). bit_and (bits_of x.flags) (compared_flags c.mask)) is_m ∙ s.flags,
+        ),
+        ap (λ (x : Image). x.memory) is_m ∙ s.memory,
+      ))),
+    )

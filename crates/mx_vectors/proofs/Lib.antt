@@ -1,3 +1,3 @@
 pub mod Again
 pub mod Comparing
-pub mod Reading
+pub mod Numbers

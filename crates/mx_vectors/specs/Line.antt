@@ -6,6 +6,8 @@ use Rattle.hex.specs.Hex.{decode_of}
 use Rattle.mx_exec.specs.declared.image.Outcome.{Outcome}
 use Rattle.mx_exec.specs.declared.image.Outcome.TheVariants.{Go, Trap, Fault}
 use Rattle.mx_vectors.specs.declared.case.State.{State}
+use Rattle.mx_vectors.specs.declared.reading.Fields.{Fields}
+use Rattle.mx_vectors.specs.declared.case.Case.{Case}
 use Rattle.mx_vectors.specs.declared.case.CaseError.{CaseError}
 use Rattle.mx_vectors.specs.declared.case.CaseError.TheVariants.{Malformed, NoMemory}
 
@@ -50,3 +52,16 @@ pub record IsState (a b c : List ℕ) (s : State) : Type 0 where
   pub registers : AreRegisters a s.registers
   pub eip : IsNumber b s.eip
   pub flags : IsNumber c s.flags
+
+-- each part is what its field spells; of the changes, that there are none
+pub record IsCase (f : Fields) (c : Case) : Type 0 where
+  pub row : c.row.now ≡ f.row.now
+  pub spelling : c.spelling.now ≡ f.spelling.now
+  pub bytes : AreBytes f.spelling.now c.bytes
+  pub code : IsCode f.code.now c.code
+  pub memory : AreBytes f.memory.now c.memory
+  pub before : IsState f.words.now f.eip.now f.flags.now c.before
+  pub outcome : IsOutcome f.ends.now c.outcome
+  pub after : IsState f.words_after.now f.eip_after.now f.flags_after.now c.after
+  pub mask : IsNumber f.mask.now c.mask
+  pub unchanged : f.changes.now ≡ codes "-" → c.memory_after ≡ c.memory

@@ -7,9 +7,13 @@ ghost use Rattle.mx_flags.specs.Flags.{bits_of};
 ghost use Rattle.mx_regs.specs.Regs.{register_word};
 ghost use Rattle.mx_regs.specs.Words.{words_of};
 ghost use Rattle.mx_vectors.specs.Agreement.{Agrees, SameBits, compared_flags, counted, image_of, length_of, number_of, wanted_flags, with_case};
+ghost use Rattle.mx_vectors.specs.Line.{IsCase};
+ghost use Rattle.mx_vectors.specs.declared.case.Case.{Case};
+ghost use Rattle.mx_vectors.specs.declared.reading.Fields.{Fields};
 ghost use Rattle.mx_vectors.specs.Failure.{IsWanting, failure_of_line};
 
-use crate::case::{Case, CaseError, parse_case};
+use crate::case::{Case, CaseError};
+use crate::reading::parse_case;
 use mx_decode::decode;
 use mx_encode::{Wide, encode, spelled_has_form};
 use mx_exec::{Code, Image, Outcome, step};
@@ -201,11 +205,21 @@ fn decoded_again(insn: &Insn, wide: Wide) -> Option<Insn>
     }
 }
 
+/// Whether two values are equal: where they are the same, by the law of `Eq`.
+fn is_equal<T: Eq>(found: &T, wanted: &T) -> bool
+    ensures { found.now ≡ wanted.now → IsTrue result }
+{
+    found == wanted
+}
+
 /// Whether an instruction's spelling decodes as the instruction.
 fn is_again(insn: &Insn, wide: Wide) -> bool
     ensures { IsTrue (has_form insn.now) → IsTrue result }
 {
-    decoded_again(insn, wide) == Some(*insn)
+    match decoded_again(insn, wide) {
+        Some(again) => is_equal(&again, insn),
+        None => false,
+    }
 }
 
 /// Whether the case's instruction, spelled with any marks, decodes again: where there is one.
@@ -259,11 +273,7 @@ fn is_register_same<W: Write>(
 }
 
 /// Compares the registers.
-fn are_registers_same<W: Write>(
-    case: &Case<'_>,
-    image: &Image,
-    out: &mut W,
-) -> io::Result<bool>
+fn are_registers_same<W: Write>(case: &Case<'_>, image: &Image, out: &mut W) -> io::Result<bool>
     ensures { IfOk result (λ same. IsTrue same ↔ (image.now.regs ≡ words_of case.now.after.registers)) }
 {
     let [eax, ecx, edx, ebx, esp, ebp, esi, edi] = case.after.registers;
@@ -363,7 +373,8 @@ fn check_line<W: Write>(
     line: &str,
     out: &mut W,
 ) -> Result<Tally, Failure>
-    ensures counted { IfOk result (λ after. (same : Bool) × (after ≡ with_case tally same)) }
+    ensures counted { IfOk result (λ after. (case : Case) × (fields : Fields) × IsCase fields case
+        × ((same : Bool) × (IsTrue same ↔ Agrees case) × (after ≡ with_case tally same))) }
     ensures err { IfErr result (λ failure. (failure ≡ Failure.Line (counted tally.cases)) ⊎ IsWanting failure) }
 {
     match parse_case(alloc, line) {
