@@ -2,3 +2,4 @@ pub mod SymbolLists
 pub mod Answering
 mod Given
 mod OneWords
+pub mod Telling

@@ -36,11 +36,17 @@ impl Failure {
 
 /// The line without its end, as `mx: 20 Truncated`: a code and its name.
 impl fmt::Display for Failure {
+    ghost use Rattle.std.specs.Prelude.{Some};
+    ghost use Rattle.mx.specs.Failure.{line_of};
+
+    ghost output = { λ failure. Some (line_of failure) };
+
     fn fmt<W: fmt::Write>(&self, f: &mut fmt::Formatter<W>) -> fmt::Result {
         match *self {
             Failure::Refused(error) => {
-                let code = error as u8;
-                write!(f, "mx: {code} {error:?}")
+                let code = error.code();
+                let name = error.name();
+                write!(f, "mx: {code} {name}")
             }
             Failure::NotText => write!(f, "mx: a word of the command line isn't text"),
             Failure::File => write!(f, "mx: 80 File"),
@@ -50,6 +56,11 @@ impl fmt::Display for Failure {
 }
 
 impl From<FileError> for Failure {
+    ghost use Rattle.std.specs.Prelude.{◌≡◌};
+    ghost use Rattle.mx.specs.Failure.{failure_of};
+
+    ghost from_gives = { λ error failure. failure ≡ failure_of error };
+
     fn from(error: FileError) -> Failure {
         match error {
             FileError::NoMemory => Failure::NoMemory,
@@ -59,18 +70,34 @@ impl From<FileError> for Failure {
 }
 
 impl From<AllocError> for Failure {
+    ghost use Rattle.std.specs.Prelude.{◌≡◌};
+    ghost use Rattle.mx.specs.declared.failure.Failure.TheVariants as failures;
+
+    ghost from_gives = { λ _ failure. failure ≡ failures.NoMemory };
+
     fn from(_: AllocError) -> Failure {
         Failure::NoMemory
     }
 }
 
 impl<T: Drop> From<AllocFailed<T>> for Failure {
+    ghost use Rattle.std.specs.Prelude.{◌≡◌};
+    ghost use Rattle.mx.specs.declared.failure.Failure.TheVariants as failures;
+
+    ghost from_gives = { λ _ failure. failure ≡ failures.NoMemory };
+
     fn from(_: AllocFailed<T>) -> Failure {
         Failure::NoMemory
     }
 }
 
 impl From<io::Error> for Failure {
+    ghost use Rattle.std.specs.Prelude.{◌≡◌};
+    ghost use Rattle.std.specs.IoError.{error_kind};
+    ghost use Rattle.mx.specs.Failure.{failure_of_kind};
+
+    ghost from_gives = { λ error failure. failure ≡ failure_of_kind (error_kind error) };
+
     fn from(error: io::Error) -> Failure {
         match error.kind() {
             io::ErrorKind::OutOfMemory => Failure::NoMemory,

@@ -1,6 +1,11 @@
 //! The machine for the process layer of MINIX 3.1.
 #![tactic(auto)]
 
+ghost use Rattle.std.specs.Prelude.{◌≡◌, ◌≢◌, ◌⊎◌, IfErr, IfOk};
+ghost use Rattle.std.specs.IoError.{error_kind};
+ghost use Rattle.clap.specs.Words.{kind_of};
+ghost use Rattle.mx.specs.Failure.{Explains, words_failure_of};
+
 mod failure;
 mod file;
 mod load;
@@ -19,17 +24,30 @@ use std::{env, fs, io};
 pub use words::{Request, command};
 
 /// Reads a file and prints its first steps.
-fn run_one(rt: &(impl Files + Print + AllocGlobal), file: &str, steps: u32) -> Result<(), Failure> {
+fn run_one(rt: &(impl Files + Print + AllocGlobal), file: &str, steps: u32) -> Result<(), Failure>
+    ensures { IfErr result (λ failure. failure ≢ Failure.NotText) }
+{
     let bytes = fs::read(rt, file)?;
     print_one(rt.alloc(), bytes.as_slice(), steps, &mut io::writer(rt))
 }
 
+/// Why the program's words can't be had.
+fn words_failure(error: &io::Error) -> Failure
+    ensures { result ≡ words_failure_of (error_kind error.now) }
+{
+    match error.kind() {
+        io::ErrorKind::OutOfMemory => Failure::NoMemory,
+        _ => Failure::NotText,
+    }
+}
+
 /// The program's words, its own name first.
-fn arguments(rt: &(impl Env + AllocGlobal)) -> Result<Vec<String>, Failure> {
+fn arguments(rt: &(impl Env + AllocGlobal)) -> Result<Vec<String>, Failure>
+    ensures { IfErr result (λ failure. (failure ≡ Failure.NotText) ⊎ (failure ≡ Failure.NoMemory)) }
+{
     let words = match env::args(rt) {
         Ok(words) => words,
-        Err(error) if error.kind() == io::ErrorKind::OutOfMemory => return Err(Failure::NoMemory),
-        Err(_) => return Err(Failure::NotText),
+        Err(error) => return Err(words_failure(&error)),
     };
     let mut arguments = Vec::new(rt.alloc());
     for word in words {
@@ -39,7 +57,9 @@ fn arguments(rt: &(impl Env + AllocGlobal)) -> Result<Vec<String>, Failure> {
 }
 
 /// Prints help where it was asked for, or what is wrong with the words.
-fn explain(rt: &(impl Print + Eprint), error: &clap::Error) -> Result<u8, Failure> {
+fn explain(rt: &(impl Print + Eprint), error: &clap::Error) -> Result<u8, Failure>
+    ensures { Explains (kind_of error.now) result }
+{
     if error.kind() == ErrorKind::OutOfMemory {
         return Err(Failure::NoMemory);
     }
@@ -48,7 +68,9 @@ fn explain(rt: &(impl Print + Eprint), error: &clap::Error) -> Result<u8, Failur
 }
 
 /// Does what the words ask for, and answers the status to end with.
-fn perform(rt: &(impl Env + Files + Print + Eprint + AllocGlobal)) -> Result<u8, Failure> {
+fn perform(rt: &(impl Env + Files + Print + Eprint + AllocGlobal)) -> Result<u8, Failure>
+    ensures { IfOk result (λ status. (status ≡ 0) ⊎ (status ≡ 2)) }
+{
     let arguments = arguments(rt)?;
     let mut words = Vec::new(rt.alloc());
     for argument in &arguments {

@@ -2,6 +2,7 @@
 
 ghost use Rattle.std.specs.Prelude.{◌≡◌, length};
 ghost use Rattle.mx.specs.Limits.{IsWithin};
+ghost use Rattle.mx.specs.Failure.{code_of, name_of};
 
 use mx_word::{Bytes, NoMemory};
 use std::alloc::AllocError;
@@ -19,6 +20,32 @@ pub enum FileError {
     TooLarge = 26,
     BadSymbols = 27,
     NoMemory = 90,
+}
+
+impl FileError {
+    /// The number that the line has.
+    pub fn code(self) -> u8
+        ensures { result ≡ code_of self }
+    {
+        self as u8
+    }
+
+    /// The name that the line has.
+    pub fn name(self) -> &'static str
+        ensures { result.now ≡ name_of self }
+    {
+        match self {
+            FileError::Truncated => "Truncated",
+            FileError::BadMagic => "BadMagic",
+            FileError::BadCpu => "BadCpu",
+            FileError::BadFlags => "BadFlags",
+            FileError::BadHeader => "BadHeader",
+            FileError::NoTotal => "NoTotal",
+            FileError::TooLarge => "TooLarge",
+            FileError::BadSymbols => "BadSymbols",
+            FileError::NoMemory => "NoMemory",
+        }
+    }
 }
 
 impl From<AllocError> for FileError {

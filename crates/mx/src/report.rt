@@ -1,5 +1,9 @@
 //! What `one` prints.
 
+ghost use Rattle.std.specs.Prelude.{IfErr};
+ghost use Rattle.mx.specs.File.{refusal_of};
+ghost use Rattle.mx.specs.Failure.{IsWanting, Tells};
+
 use crate::failure::Failure;
 use crate::running::one;
 use mx_flags::FlagValues;
@@ -15,9 +19,23 @@ pub fn print_one<W: Write>(
     bytes: &[u8],
     steps: u32,
     out: &mut W,
-) -> Result<(), Failure> {
+) -> Result<(), Failure>
+    ensures { Tells (refusal_of bytes.now) result }
+{
     let (count, stop, image) = one(alloc, bytes, steps)?;
-    print_registers(&image, out)?;
+    print_steps(count, stop, &image, out)
+}
+
+/// Prints an image, and how the steps to it ended.
+fn print_steps<R: Runs, W: Write>(
+    count: u32,
+    stop: Stop,
+    image: &R,
+    out: &mut W,
+) -> Result<(), Failure>
+    ensures { IfErr result IsWanting }
+{
+    print_registers(image, out)?;
     print_state(image.eip(), image.flags(), out)?;
     print_stop(count, stop, out)?;
     out.flush()?;

@@ -1,1 +1,3 @@
 pub mod Again
+pub mod Comparing
+pub mod Numbers

@@ -8,9 +8,11 @@
 
 mod case;
 mod checking;
+mod reading;
 
-pub use case::{Case, CaseError, State, parse_case};
+pub use case::{Case, CaseError, State};
 pub use checking::{Failure, Tally, check_all, check_case};
+pub use reading::parse_case;
 use std::io::{self, BufReader};
 use std::process::ExitCode;
 
