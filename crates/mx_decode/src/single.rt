@@ -1,6 +1,6 @@
 //! One instruction.
 
-ghost use Rattle.std.specs.Prelude.{◌≡◌, ◌<◌, ◌≤◌, ◌+◌, ◌++◌, ◌↔◌, ℕ, List, length, IfOk};
+ghost use Rattle.std.specs.Prelude.{◌≡◌, ◌<◌, ◌≤◌, ◌+◌, ◌++◌, ◌↔◌, ℕ, List, length, IfOk, IfSome, Ok};
 ghost use Rattle.mx_insn.specs.declared.insn.Insn.{Insn};
 ghost use Rattle.mx_insn.specs.Spelling.{Spells, IsOpen, size_of};
 ghost use Rattle.mx_decode.specs.Decode.{SpellsFirst, NoneFirst, front};
@@ -9,11 +9,13 @@ ghost use Rattle.mx_decode.specs.Given.{Gives, immediate_bound, narrow_bound, op
 
 use crate::DecodeFault;
 use crate::fields::{immediate, place, size_of};
+use crate::flow::{call, jump, jump_short, leave, push_byte, push_dword, return_plain};
 use crate::head::{Head, read_head};
 use crate::meaning::{Values, insn_of};
+use crate::named::{by_operand, load_address, move_byte_from_rm, move_byte_to_rm, test, test_byte};
 use crate::quick::{
-    arithmetic_from_rm, arithmetic_signed, arithmetic_to_rm, decrease, increase, jump_if,
-    move_dword, move_from_rm, move_to_rm, pop, push,
+    arithmetic_from_rm, arithmetic_signed, arithmetic_signed_whole, arithmetic_to_rm, decrease,
+    increase, jump_if, move_dword, move_from_rm, move_to_rm, pop, push,
 };
 use crate::select::row_of;
 use mx_insn::{Insn, Row};
@@ -59,22 +61,63 @@ fn read_counted(bytes: &[u8]) -> Result<(Insn, u8), DecodeFault>
     }
 }
 
-/// No bytes.
+/// What no function of its own reads.
 #[inline(never)]
-fn nothing(bytes: &[u8]) -> Result<(Insn, u8), DecodeFault>
-    requires { length bytes.now < 1 }
-    ensures { result ≡ front bytes.now }
-{
-    Err(DecodeFault::Short)
-}
-
-/// By the commonest rows first. Each arm is a call, so that no answer is copied from arm to arm.
-#[inline(always)]
-fn at_front(bytes: &[u8]) -> Result<(Insn, u8), DecodeFault>
+fn searched(bytes: &[u8]) -> Result<(Insn, u8), DecodeFault>
     ensures { result ≡ front bytes.now }
 {
     match bytes {
-        [] => nothing(bytes),
+        [0x83, rest @ ..] => arithmetic_signed_whole(rest),
+        _ => read_counted(bytes),
+    }
+}
+
+/// Rows less common than those of `commonest`.
+#[inline(always)]
+fn common(bytes: &[u8]) -> Option<(Insn, u8)>
+    ensures { IfSome result (λ x. front bytes.now ≡ Ok x) }
+{
+    match bytes {
+        [] => None,
+        [opcode, rest @ ..] => match *opcode {
+            0x68 => push_dword(rest),
+            0x6A => push_byte(rest),
+            0x84 => test_byte(rest),
+            0x85 => test(rest),
+            0x88 => move_byte_to_rm(rest),
+            0x8A => move_byte_from_rm(rest),
+            0x8D => load_address(rest),
+            0xC3 => return_plain(rest),
+            0xC9 => leave(rest),
+            0xE8 => call(rest),
+            0xE9 => jump(rest),
+            0xEB => jump_short(rest),
+            0xFF => by_operand(rest),
+            _ => None,
+        },
+    }
+}
+
+/// Not inlined: each further arm beside the commonest would cost them instructions.
+#[inline(never)]
+fn at_front(bytes: &[u8]) -> Result<(Insn, u8), DecodeFault>
+    ensures { result ≡ front bytes.now }
+{
+    match common(bytes) {
+        Some((insn, length)) => Ok((insn, length)),
+        None => match searched(bytes) {
+            Ok((insn, length)) => Ok((insn, length)),
+            Err(fault) => Err(fault),
+        },
+    }
+}
+
+#[inline(always)]
+fn commonest(bytes: &[u8]) -> Option<(Insn, u8)>
+    ensures { IfSome result (λ x. front bytes.now ≡ Ok x) }
+{
+    match bytes {
+        [] => None,
         [opcode, rest @ ..] => match *opcode {
             0x01 | 0x09 | 0x11 | 0x19 | 0x21 | 0x29 | 0x31 | 0x39 => arithmetic_to_rm(
                 *opcode, rest,
@@ -91,7 +134,22 @@ fn at_front(bytes: &[u8]) -> Result<(Insn, u8), DecodeFault>
             0x58..=0x5F => pop(*opcode, rest),
             0x70..=0x7F => jump_if(*opcode, rest),
             0xB8..=0xBF => move_dword(*opcode, rest),
-            _ => read_counted(bytes),
+            _ => None,
+        },
+    }
+}
+
+/// By the commonest rows first. A call's answer is taken apart, so that the place where it stood
+/// isn't the place of the answer here.
+#[inline(always)]
+fn by_rows(bytes: &[u8]) -> Result<(Insn, u8), DecodeFault>
+    ensures { result ≡ front bytes.now }
+{
+    match commonest(bytes) {
+        Some((insn, length)) => Ok((insn, length)),
+        None => match at_front(bytes) {
+            Ok((insn, length)) => Ok((insn, length)),
+            Err(fault) => Err(fault),
         },
     }
 }
@@ -104,5 +162,5 @@ pub fn decode(bytes: &[u8]) -> Result<(Insn, u8), DecodeFault>
     ensures not_in_table { (result ≡ Err DecodeFault.NotInTable) ↔ (NoneFirst bytes.now × ¬ IsOpen bytes.now) }
     ensures short { (result ≡ Err DecodeFault.Short) ↔ (NoneFirst bytes.now × IsOpen bytes.now) }
 {
-    at_front(bytes)
+    by_rows(bytes)
 }

@@ -11,6 +11,7 @@ use mx_decode::{DecodeFault, decode, front_of_fifteen};
 use mx_insn::Insn;
 
 /// What stands at the front of code of which these are the first fifteen bytes.
+#[inline(never)]
 fn decode_front(bytes: &[u8]) -> Result<(Insn, u8), DecodeFault>
     ensures { (code : List ℕ) → bytes.now ≡ take 15 code → result ≡ front code }
 {
