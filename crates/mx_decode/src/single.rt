@@ -21,12 +21,12 @@ use crate::select::row_of;
 use mx_insn::{Insn, Row};
 
 #[tactic(auto, unfolding(crate::specs::Given::operands_code))]
-fn operands(head: Head, row: Row, bytes: &[u8]) -> Result<(Insn, &[u8]), DecodeFault>
-    requires first { row.first ≤ head.opcode }
-    requires step { 0 < row.step }
-    requires number { number_of row head.opcode < row.count }
-    requires narrow { immediate_bound row.immediate (size_of row.sizes head.wide) head.wide ≤ narrow_bound row.pattern (size_of row.sizes head.wide) head.wide }
-    ensures { Gives (λ x. (x.0, x.1.now)) result (operands_code head row bytes.now) }
+fn operands<'a>(head: Head, row: &Row, bytes: &'a [u8]) -> Result<(Insn, &'a [u8]), DecodeFault>
+    requires first { row.now.first ≤ head.opcode }
+    requires step { 0 < row.now.step }
+    requires number { number_of row.now head.opcode < 255 }
+    requires narrow { immediate_bound row.now.immediate (size_of row.now.sizes head.wide) head.wide ≤ narrow_bound row.now.pattern (size_of row.now.sizes head.wide) head.wide }
+    ensures { Gives (λ x. (x.0, x.1.now)) result (operands_code head row.now bytes.now) }
 {
     let size = size_of(row.sizes, head.wide);
     let (reg, rm, rest) = place(row.modrm, bytes)?;
