@@ -61,9 +61,9 @@ fn read_counted(bytes: &[u8]) -> Result<(Insn, u8), DecodeFault>
     }
 }
 
-/// What no function of its own reads.
+/// By the table what no function of its own reads.
 #[inline(never)]
-fn searched(bytes: &[u8]) -> Result<(Insn, u8), DecodeFault>
+fn by_table(bytes: &[u8]) -> Result<(Insn, u8), DecodeFault>
     ensures { result ≡ front bytes.now }
 {
     match bytes {
@@ -105,13 +105,11 @@ fn at_front(bytes: &[u8]) -> Result<(Insn, u8), DecodeFault>
 {
     match common(bytes) {
         Some((insn, length)) => Ok((insn, length)),
-        None => match searched(bytes) {
-            Ok((insn, length)) => Ok((insn, length)),
-            Err(fault) => Err(fault),
-        },
+        None => by_table(bytes),
     }
 }
 
+/// Each opcode stands by its own number: a range would be compared, behind the jump by the others.
 #[inline(always)]
 fn commonest(bytes: &[u8]) -> Option<(Insn, u8)>
     ensures { IfSome result (λ x. front bytes.now ≡ Ok x) }
@@ -128,29 +126,37 @@ fn commonest(bytes: &[u8]) -> Option<(Insn, u8)>
             0x83 => arithmetic_signed(rest),
             0x89 => move_to_rm(rest),
             0x8B => move_from_rm(rest),
-            0x40..=0x47 => increase(*opcode, rest),
-            0x48..=0x4F => decrease(*opcode, rest),
-            0x50..=0x57 => push(*opcode, rest),
-            0x58..=0x5F => pop(*opcode, rest),
-            0x70..=0x7F => jump_if(*opcode, rest),
-            0xB8..=0xBF => move_dword(*opcode, rest),
+            0x40 | 0x41 | 0x42 | 0x43 | 0x44 | 0x45 | 0x46 | 0x47 => increase(*opcode, rest),
+            0x48 | 0x49 | 0x4A | 0x4B | 0x4C | 0x4D | 0x4E | 0x4F => decrease(*opcode, rest),
+            0x50 | 0x51 | 0x52 | 0x53 | 0x54 | 0x55 | 0x56 | 0x57 => push(*opcode, rest),
+            0x58 | 0x59 | 0x5A | 0x5B | 0x5C | 0x5D | 0x5E | 0x5F => pop(*opcode, rest),
+            0x70 | 0x71 | 0x72 | 0x73 | 0x74 | 0x75 | 0x76 | 0x77 => jump_if(*opcode, rest),
+            0x78 | 0x79 | 0x7A | 0x7B | 0x7C | 0x7D | 0x7E | 0x7F => jump_if(*opcode, rest),
+            0xB8 | 0xB9 | 0xBA | 0xBB | 0xBC | 0xBD | 0xBE | 0xBF => move_dword(*opcode, rest),
             _ => None,
         },
     }
 }
 
-/// By the commonest rows first. A call's answer is taken apart, so that the place where it stood
-/// isn't the place of the answer here.
+/// A call's answer is taken apart, so that the place where it stood isn't the place of the answer here.
+#[inline(always)]
+fn otherwise(bytes: &[u8]) -> Result<(Insn, u8), DecodeFault>
+    ensures { result ≡ front bytes.now }
+{
+    match at_front(bytes) {
+        Ok((insn, length)) => Ok((insn, length)),
+        Err(fault) => Err(fault),
+    }
+}
+
+/// By the commonest rows first.
 #[inline(always)]
 fn by_rows(bytes: &[u8]) -> Result<(Insn, u8), DecodeFault>
     ensures { result ≡ front bytes.now }
 {
     match commonest(bytes) {
         Some((insn, length)) => Ok((insn, length)),
-        None => match at_front(bytes) {
-            Ok((insn, length)) => Ok((insn, length)),
-            Err(fault) => Err(fault),
-        },
+        None => otherwise(bytes),
     }
 }
 
