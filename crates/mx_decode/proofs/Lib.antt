@@ -6,7 +6,7 @@ pub mod Heads
 pub mod Choice
 pub mod Laws
 pub mod Answer
-pub mod Spans
+pub mod Lines
 pub mod Agrees
 pub mod Front
 pub mod FirstByte

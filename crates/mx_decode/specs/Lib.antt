@@ -1,4 +1,4 @@
 pub mod Reading
 pub mod Decode
 pub mod Given
-pub mod Spans
+pub mod Lines

@@ -1,14 +1,15 @@
 //! ModRM, SIB, displacement and immediate.
 
-ghost use Rattle.std.specs.Prelude.{◌≡◌, ◌+◌, ◌<◌, ◌≤◌, ◌^◌, IfOk, length};
+ghost use Rattle.std.specs.Prelude.{◌≡◌, ◌+◌, ◌<◌, ◌≤◌, ◌^◌, ◌/◌, ◌%◌, IfOk, Some, length};
 ghost use Rattle.mx_word.specs.Word.{width};
-ghost use Rattle.mx_insn.specs.Spelling.{register, scale, base_of, extended, size_of};
+ghost use Rattle.mx_insn.specs.Spelling.{register, scale, base_of, index_of, extended, size_of};
 ghost use Rattle.mx_decode.specs.Given.{Gives, number_at, displacement_at, immediate_at, sib_parts, base_parts, memory_at, operand_at, modrm_at, place_code, immediate_bound};
 
 use crate::DecodeFault;
 use mx_insn::{ImmediateColumn, Index, Memory, ModRm, Operand, Register, Scale, Size, Sizes};
 use mx_word::signed;
 
+#[inline(always)]
 pub fn register(field: u8) -> Register
     ensures { result ≡ register field }
 {
@@ -24,6 +25,7 @@ pub fn register(field: u8) -> Register
     }
 }
 
+#[inline(always)]
 fn scale(field: u8) -> Scale
     ensures { result ≡ scale field }
 {
@@ -93,22 +95,27 @@ fn displacement(mode: u8, base: u8, bytes: &[u8]) -> Result<(u32, &[u8]), Decode
     }
 }
 
+/// The index that a SIB byte names.
+#[inline(always)]
+pub fn index(sib: u8) -> Option<Index>
+    ensures { result ≡ index_of (Some (record { scale = sib / 64; index = sib / 8 % 8; base = sib % 8 })) }
+{
+    match sib / 8 % 8 {
+        4 => None,
+        field => Some(Index {
+            register: register(field),
+            scale: scale(sib / 64),
+        }),
+    }
+}
+
 #[tactic(auto, unfolding(crate::specs::Given::sib_parts))]
 fn sib(bytes: &[u8]) -> Result<(u8, Option<Index>, &[u8]), DecodeFault>
     ensures { Gives (λ x. ((x.0, x.1), x.2.now)) result (sib_parts bytes.now) }
 {
     match bytes {
         [] => Err(DecodeFault::Short),
-        [sib, rest @ ..] => {
-            let index = match *sib / 8 % 8 {
-                4 => None,
-                field => Some(Index {
-                    register: register(field),
-                    scale: scale(*sib / 64),
-                }),
-            };
-            Ok((*sib % 8, index, rest))
-        }
+        [sib, rest @ ..] => { Ok((*sib % 8, index(*sib), rest)) }
     }
 }
 
@@ -123,7 +130,8 @@ fn base(rm: u8, bytes: &[u8]) -> Result<(u8, Option<Index>, &[u8]), DecodeFault>
     Ok((rm, None, bytes))
 }
 
-fn base_of(mode: u8, field: u8) -> Option<Register>
+#[inline(always)]
+pub fn base_of(mode: u8, field: u8) -> Option<Register>
     ensures { result ≡ base_of mode field }
 {
     if mode == 0 && field == 5 {

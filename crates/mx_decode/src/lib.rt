@@ -2,8 +2,10 @@
 #![tactic(auto)]
 
 mod fields;
+mod flow;
 mod head;
 mod meaning;
+mod named;
 mod quick;
 mod select;
 mod single;

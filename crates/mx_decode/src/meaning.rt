@@ -22,6 +22,7 @@ pub struct Values {
     pub immediate: u32,
 }
 
+#[inline(always)]
 pub fn arithmetic(number: u8) -> Arithmetic
     ensures { result ≡ arithmetic number }
 {
@@ -37,6 +38,7 @@ pub fn arithmetic(number: u8) -> Arithmetic
     }
 }
 
+#[inline(always)]
 pub fn condition(number: u8) -> Condition
     ensures { result ≡ condition number }
 {
@@ -110,7 +112,8 @@ fn port_size(size: Size) -> PortSize
     }
 }
 
-fn to_rm(size: Size, to: Operand, from: Register) -> Operands
+#[inline(always)]
+pub fn to_rm(size: Size, to: Operand, from: Register) -> Operands
     ensures { result ≡ to_rm size to from }
 {
     match to {
@@ -123,7 +126,8 @@ fn to_rm(size: Size, to: Operand, from: Register) -> Operands
     }
 }
 
-fn memory_of(operand: Operand) -> Memory
+#[inline(always)]
+pub fn memory_of(operand: Operand) -> Memory
     ensures { result ≡ memory_of operand }
 {
     match operand {

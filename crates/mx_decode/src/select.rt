@@ -1,13 +1,14 @@
 //! The row of the bytes.
 
-ghost use Rattle.std.specs.Prelude.{◌≡◌, find};
-ghost use Rattle.mx_insn.specs.Spelling.{allows_wide, allows_repeat, allows_place};
-ghost use Rattle.mx_decode.specs.Reading.{is_absent, stands, takes, chosen, rows_of};
+ghost use Rattle.std.specs.Prelude.{◌≡◌, ◌&&◌, ℕ, List, [], ◌∷◌};
+ghost use Rattle.mx_insn.specs.Spelling.{allows_wide, allows_repeat};
+ghost use Rattle.mx_decode.specs.Reading.{is_absent, stands, chosen, rows_of};
+ghost use Rattle.mx_decode.specs.Lines.{allows_mode};
 ghost use Rattle.mx_decode.specs.Given.{Gives};
 
 use crate::DecodeFault;
 use crate::head::Head;
-use crate::table::rows_of;
+use crate::table::row_under;
 use mx_insn::{ModRm, Repeat, Repeats, Row, Sizes};
 
 fn allows_wide(sizes: Sizes, wide: bool) -> bool
@@ -28,14 +29,13 @@ fn allows_repeat(repeats: Repeats, repeat: Option<Repeat>) -> bool
     }
 }
 
-fn allows_place(column: ModRm, mode: u8, field: u8) -> bool
-    ensures { result ≡ allows_place column mode field }
+/// The mod field may be this one.
+fn allows_mode(column: ModRm, mode: u8) -> bool
+    ensures { result ≡ allows_mode column mode }
 {
     match column {
-        ModRm::Absent => false,
-        ModRm::Any => true,
         ModRm::AnyMemory => mode != 3,
-        ModRm::Only(number) => number == field,
+        ModRm::Absent | ModRm::Any | ModRm::Only(_) => true,
     }
 }
 
@@ -55,62 +55,52 @@ fn stands(row: &Row, wide: bool, repeat: Option<Repeat>) -> bool
     allows_wide(row.sizes, wide) && allows_repeat(row.repeats, repeat)
 }
 
-/// And this ModRM byte in it.
-fn takes(row: &Row, wide: bool, repeat: Option<Repeat>, modrm: u8) -> bool
-    ensures { result ≡ takes wide repeat modrm row.now }
+/// And this mod field in it.
+fn takes(row: &Row, wide: bool, repeat: Option<Repeat>, mode: u8) -> bool
+    ensures { result ≡ (stands wide repeat row.now && allows_mode row.now.modrm mode) }
 {
-    stands(row, wide, repeat) && allows_place(row.modrm, modrm / 64, modrm / 8 % 8)
+    stands(row, wide, repeat) && allows_mode(row.modrm, mode)
 }
 
-/// The first row that the prefixes may stand before.
-fn first_standing(rows: &[Row], wide: bool, repeat: Option<Repeat>) -> Option<Row>
-    ensures { result ≡ find (stands wide repeat) rows.now }
+/// The row where nothing follows the opcode. The row under field 0 has the loosest prefixes.
+fn bare(head: Head) -> Result<&'static Row, DecodeFault>
+    ensures { Gives (λ x. x.now) result (chosen head.wide head.repeat (rows_of head.escaped head.opcode) []) }
 {
-    rows.iter().copied().find(|row| stands(row, wide, repeat))
-}
-
-/// The first row that this ModRM byte may stand in too.
-fn first_taking(rows: &[Row], wide: bool, repeat: Option<Repeat>, modrm: u8) -> Option<Row>
-    ensures { result ≡ find (takes wide repeat modrm) rows.now }
-{
-    rows.iter()
-        .copied()
-        .find(|row| takes(row, wide, repeat, modrm))
-}
-
-#[tactic(auto, unfolding(crate::specs::Reading::chosen))]
-fn choose(
-    wide: bool,
-    repeat: Option<Repeat>,
-    rows: &[Row],
-    bytes: &[u8],
-) -> Result<Row, DecodeFault>
-    ensures { Gives (λ x. x) result (chosen wide repeat rows.now bytes.now) }
-{
-    let first = match first_standing(rows, wide, repeat) {
-        None => return Err(DecodeFault::NotInTable),
-        Some(row) => row,
-    };
-    if is_absent(first.modrm) {
-        return Ok(first);
+    match row_under(head.escaped, head.opcode, 0) {
+        None => Err(DecodeFault::NotInTable),
+        Some(row) => {
+            if !stands(row, head.wide, head.repeat) {
+                return Err(DecodeFault::NotInTable);
+            }
+            if is_absent(row.modrm) {
+                return Ok(row);
+            }
+            Err(DecodeFault::Short)
+        }
     }
-    match bytes {
-        [] => Err(DecodeFault::Short),
-        [modrm, ..] => match first_taking(rows, wide, repeat, *modrm) {
-            None => Err(DecodeFault::NotInTable),
-            Some(row) => Ok(row),
-        },
+}
+
+/// The row where this byte follows, a ModRM byte if the row has one.
+fn followed(head: Head, modrm: u8) -> Result<&'static Row, DecodeFault>
+    ensures { (rest : List ℕ) → Gives (λ x. x.now) result (chosen head.wide head.repeat (rows_of head.escaped head.opcode) (modrm ∷ rest)) }
+{
+    match row_under(head.escaped, head.opcode, modrm / 8 % 8) {
+        None => Err(DecodeFault::NotInTable),
+        Some(row) => {
+            if takes(row, head.wide, head.repeat, modrm / 64) {
+                return Ok(row);
+            }
+            Err(DecodeFault::NotInTable)
+        }
     }
 }
 
 /// The row that the bytes behind the opcode are of.
-pub fn row_of(head: Head, bytes: &[u8]) -> Result<Row, DecodeFault>
-    ensures { Gives (λ x. x) result (chosen head.wide head.repeat (rows_of head.escaped head.opcode) bytes.now) }
+pub fn row_of(head: Head, bytes: &[u8]) -> Result<&'static Row, DecodeFault>
+    ensures { Gives (λ x. x.now) result (chosen head.wide head.repeat (rows_of head.escaped head.opcode) bytes.now) }
 {
-    choose(
-        head.wide,
-        head.repeat,
-        rows_of(head.escaped, head.opcode),
-        bytes,
-    )
+    match bytes {
+        [] => bare(head),
+        [modrm, ..] => followed(head, *modrm),
+    }
 }
