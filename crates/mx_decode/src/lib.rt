@@ -10,6 +10,7 @@ mod quick;
 mod select;
 mod single;
 mod spellings;
+mod stored;
 mod table;
 
 /// Why bytes are no instruction.
@@ -23,6 +24,7 @@ pub enum DecodeFault {
 
 pub use single::decode;
 pub use spellings::{few_bytes, front_is, front_of_fifteen, one_spelling};
+pub use stored::decode_stored;
 
 #[cfg(test)]
 mod tests;

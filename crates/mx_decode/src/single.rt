@@ -63,7 +63,7 @@ fn read_counted(bytes: &[u8]) -> Result<(Insn, u8), DecodeFault>
 
 /// By the table what no function of its own reads.
 #[inline(never)]
-fn by_table(bytes: &[u8]) -> Result<(Insn, u8), DecodeFault>
+pub fn by_table(bytes: &[u8]) -> Result<(Insn, u8), DecodeFault>
     ensures { result ≡ front bytes.now }
 {
     match bytes {
@@ -100,7 +100,7 @@ fn common(bytes: &[u8]) -> Option<(Insn, u8)>
 
 /// Not inlined: each further arm beside the commonest would cost them instructions.
 #[inline(never)]
-fn at_front(bytes: &[u8]) -> Result<(Insn, u8), DecodeFault>
+pub fn at_front(bytes: &[u8]) -> Result<(Insn, u8), DecodeFault>
     ensures { result ≡ front bytes.now }
 {
     match common(bytes) {

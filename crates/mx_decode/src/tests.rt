@@ -94,6 +94,22 @@ fn places(rt: HostRuntime) {
 }
 
 #[test]
+fn stored(rt: HostRuntime) {
+    for bytes in [
+        &[0x01, 0xD8][..],
+        &[0x8B, 0x44, 0xB3, 0x08],
+        &[0x83, 0xC0, 0x05],
+        &[0x0F, 0xAF, 0xC1],
+        &[0xE8, 1, 2, 3, 4],
+        &[0x75],
+        &[0xD6],
+    ] {
+        assert!(rt; decode_stored(bytes) == decode(bytes));
+    }
+    assert!(rt; decode_stored(&[0x49]) == decode(&[0x49, 0x90]));
+}
+
+#[test]
 fn immediates(rt: HostRuntime) {
     let eax = Operand::Register(Register::Eax);
     let add = |value: Immediate| Insn::Arithmetic {
