@@ -1,4 +1,4 @@
-use Rattle.std.proofs.Common.{sym, arith, ◌∙◌}
+use Rattle.std.proofs.Common.{sym, arith}
 use Rattle.mx_decode.proofs.Lines.{bare_none, bare_refused, bare_alone, bare_short}
 use Rattle.mx_decode.proofs.select.bare.Goals as goal
 
