@@ -1,8 +1,8 @@
 -- What is answered of a file, from what the reader answers.
-use Rattle.std.proofs.Common.{◌≡◌, ℕ, List, Option, Some, None, Result, Ok, Err, refl}
+use Rattle.std.proofs.Common.{◌≡◌, ℕ, List, Option, Some, None, Ok, Err, refl}
 use Rattle.mx_exec.specs.declared.image.Image.{Image}
 use Rattle.mx_image.specs.declared.runs.Stop.{Stop}
-use Rattle.mx_image.specs.Run.{Ran, ran}
+use Rattle.mx_image.specs.Run.{ran}
 use Rattle.mx.specs.declared.program.Program.{Program}
 use Rattle.mx.specs.declared.program.FileError.{FileError}
 use Rattle.mx.specs.declared.program.FileError.TheVariants.{NoMemory}

@@ -1,5 +1,5 @@
 -- Symbols one after another.
-use Rattle.std.proofs.Common.{◌≡◌, ℕ, zero, suc, ◌+◌, ◌*◌, List, [], ◌∷◌, ◌++◌, refl, ap, sym, ◌∙◌, arith}
+use Rattle.std.proofs.Common.{◌≡◌, ℕ, zero, suc, ◌+◌, ◌*◌, List, [], ◌∷◌, ◌++◌, ap, ◌∙◌, arith}
 use Rattle.mx.specs.declared.program.Symbol.{Symbol}
 use Rattle.mx.specs.File.{symbol_at, symbols_from}
 

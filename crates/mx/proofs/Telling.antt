@@ -3,7 +3,6 @@ use Rattle.std.proofs.Common.{◌≡◌, ℕ, List, Option, Some, None, Result, 
 use Rattle.mx_exec.specs.declared.image.Image.{Image}
 use Rattle.mx_image.specs.declared.runs.Stop.{Stop}
 use Rattle.mx.specs.declared.program.FileError.{FileError}
-use Rattle.mx.specs.declared.program.FileError.TheVariants as errors
 use Rattle.mx.specs.declared.failure.Failure.{Failure as Kind}
 use Rattle.mx.specs.One.{Answers}
 use Rattle.mx.specs.Failure.{IsWanting, Tells, failure_of}

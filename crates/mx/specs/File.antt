@@ -1,5 +1,5 @@
 -- Which bytes are a file of which program (a.out.h, struct exec and struct nlist).
-use Rattle.std.specs.Prelude.{◌≡◌, ℕ, zero, suc, ◌+◌, ◌*◌, ◌/◌, ◌%◌, Bool, true, false, not, ◌&&◌, ◌||◌, ◌==◌, nat_lt, if◌then◌else◌, List, [], ◌∷◌, length, take, drop, slice_index, Option, Some, None, Result, Ok, Err, bit_and}
+use Rattle.std.specs.Prelude.{◌≡◌, ℕ, zero, suc, ◌+◌, ◌/◌, ◌%◌, Bool, not, ◌&&◌, ◌||◌, ◌==◌, nat_lt, if◌then◌else◌, List, [], ◌∷◌, length, take, drop, slice_index, Option, Some, None, Result, Ok, Err, bit_and}
 use Rattle.mx_word.specs.Word.{value_at}
 use Rattle.mx.specs.Limits.{rounded, used_of}
 use Rattle.mx.specs.declared.program.Symbol.{Symbol}

@@ -1,5 +1,5 @@
 -- The image that a program begins with (Tanenbaum and Woodhull, 4.7.4).
-use Rattle.std.specs.Prelude.{ℕ, ◌-◌, Bool, true, false, List, ◌++◌, length, replicate, if◌then◌else◌}
+use Rattle.std.specs.Prelude.{ℕ, ◌-◌, Bool, List, ◌++◌, length, replicate, if◌then◌else◌}
 use Rattle.mx_flags.specs.Flags.{values_of}
 use Rattle.mx_regs.specs.Regs.{no_words}
 use Rattle.mx_exec.specs.declared.image.Code.{Code}

@@ -1,6 +1,6 @@
 -- How a line's fields spell a case.
-use Rattle.std.specs.Prelude.{◌≡◌, ◌≢◌, ◌<◌, ℕ, ⊤, List, [], ◌∷◌, ◌++◌, ◌==◌, length, slice_set, codes, Option, Some, None, Result, Ok, Err}
-use Rattle.std.specs.List.{slice_split, AllPass}
+use Rattle.std.specs.Prelude.{◌≡◌, ℕ, ⊤, List, [], ◌∷◌, ◌++◌, ◌==◌, length, codes, Option, Some, None, Result, Ok, Err}
+use Rattle.std.specs.List.{slice_split}
 use Rattle.std.specs.Str.Parse.{ParsesUnsigned}
 use Rattle.hex.specs.Hex.{decode_of}
 use Rattle.mx_exec.specs.declared.image.Outcome.{Outcome}

@@ -1,4 +1,4 @@
-use Rattle.std.proofs.Common.{arith, rules}
+use Rattle.std.proofs.Common.{arith}
 use Rattle.std.proofs.lemmas.Grind.{common_steps}
 use Rattle.mx.proofs.SymbolLists.{symbols_from-more}
 use Rattle.mx.proofs.file.symbols_from.Goals as goal

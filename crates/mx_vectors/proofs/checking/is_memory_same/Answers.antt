@@ -1,7 +1,7 @@
-use Rattle.std.proofs.Common.{◌≡◌, ◌∙◌, ◌≤◌, length, ap, sym, arith, slice_index, List, ℕ}
-use Rattle.std.specs.Prelude.{slice_get, unwrap_or, Option}
+use Rattle.std.proofs.Common.{◌∙◌, ap, sym, ℕ}
+use Rattle.std.specs.Prelude.{unwrap_or, Option}
 use Rattle.std.proofs.lemmas.Option.{unwrap_or-slice_get}
-use Rattle.mx_vectors.proofs.Comparing.{SameFirst, same_none, tested_more, same_all}
+use Rattle.mx_vectors.proofs.Comparing.{same_none, tested_more, same_all}
 use Rattle.mx_vectors.proofs.checking.is_memory_same.Goals as goal
 
 pub loop-at-init : goal.loop-at-init
