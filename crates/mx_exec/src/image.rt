@@ -3,7 +3,7 @@
 ghost use Rattle.std.specs.Prelude.{◌≡◌, ◌<◌, ◌^◌, length, drop, Ok, Err};
 ghost use Rattle.mx_decode.specs.Decode.{front};
 ghost use Rattle.mx_exec.specs.Text.{Fetches};
-ghost use Rattle.mx_exec.specs.Image.{code_of, less, more, register_of, with_dword, jumped, Performs};
+ghost use Rattle.mx_exec.specs.Image.{code_of, less, more, blank, register_of, with_dword, jumped, Performs};
 
 use crate::text::{Text, decode_at};
 use mx_decode::DecodeFault;
@@ -12,6 +12,7 @@ use mx_insn::Insn;
 use mx_mem::Segment;
 use mx_regs::Regs;
 use mx_word::{Register, Size};
+use std::alloc::Global;
 
 /// Where the code stands.
 #[derive(Drop)]
@@ -44,6 +45,19 @@ pub enum Outcome {
 }
 
 impl Image {
+    /// What stands where an image was moved out: no memory, and zeros. Takes no memory.
+    pub fn blank(alloc: Global) -> Image
+        ensures { result ≡ blank }
+    {
+        Image {
+            regs: Regs::new(),
+            eip: 0,
+            flags: Flags::from_bits(0),
+            memory: Segment::empty(alloc),
+            code: Code::Shared,
+        }
+    }
+
     /// The 32 bits of a register.
     pub fn register(&self, register: Register) -> u32
         ensures { result ≡ register_of self.now register }
