@@ -1,0 +1,5 @@
+pub mod Numbers
+pub mod Words
+pub mod Operands
+pub mod Statement
+pub mod Listed
