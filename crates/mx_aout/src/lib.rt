@@ -1,0 +1,11 @@
+//! Programs and the files that hold them, in the 80386 layout of MINIX's `a.out.h`.
+#![tactic(auto)]
+
+mod file;
+mod program;
+
+pub use file::read;
+pub use program::{FileError, Program, Symbol, Symbols};
+
+#[cfg(test)]
+mod tests;
