@@ -1,5 +1,4 @@
 pub mod Numbers
-pub mod Words
 pub mod Operands
 pub mod Statement
 pub mod Listed

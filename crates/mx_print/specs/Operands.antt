@@ -7,10 +7,10 @@ use Rattle.mx_insn.specs.declared.insn.Scale.{Scale}
 use Rattle.mx_insn.specs.declared.insn.Scale.TheVariants.{One, Two, Four, Eight}
 use Rattle.mx_insn.specs.declared.insn.Index.{Index}
 use Rattle.mx_insn.specs.declared.insn.Memory.{Memory}
+use Rattle.mx_words.specs.Registers.{register_word, size_word}
 use Rattle.mx_print.specs.declared.argument.Argument.{Argument}
 use Rattle.mx_print.specs.declared.argument.Argument.TheVariants as written
 use Rattle.mx_print.specs.Numbers.{number_text}
-use Rattle.mx_print.specs.Words.{register_word, size_word}
 
 abbrev pub scale_text : Scale → List ℕ
 scale_text One = codes "*1"

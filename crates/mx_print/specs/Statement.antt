@@ -1,5 +1,5 @@
 -- How an instruction is written: the word of what it does, and its operands.
-use Rattle.std.specs.Prelude.{ℕ, ◌+◌, ◌%◌, ◌^◌, ◌==◌, if◌then◌else◌, true, List, [], ◌∷◌, ◌++◌, codes, Some}
+use Rattle.std.specs.Prelude.{ℕ, ◌+◌, ◌%◌, ◌^◌, ◌==◌, if◌then◌else◌, true, List, [], ◌∷◌, ◌++◌, codes, Option, Some, None}
 use Rattle.std.specs.List.{join_by}
 use Rattle.mx_word.specs.declared.size.Size.{Size}
 use Rattle.mx_word.specs.declared.size.Size.TheVariants.{Byte, Word, Dword}
@@ -19,69 +19,79 @@ use Rattle.mx_insn.specs.declared.insn.Count.{Count}
 use Rattle.mx_insn.specs.declared.insn.Count.TheVariants as counts
 use Rattle.mx_insn.specs.declared.insn.Extension.{Extension}
 use Rattle.mx_insn.specs.declared.insn.Extension.TheVariants.{ByteToWord, ByteToDword, WordToDword}
-use Rattle.mx_insn.specs.declared.insn.Repeat.TheVariants.{Repe, Repne}
+use Rattle.mx_insn.specs.declared.insn.Product.TheVariants.{Imul}
+use Rattle.mx_insn.specs.declared.insn.Repeat.TheVariants as repeats
 use Rattle.mx_insn.specs.declared.insn.Port.{Port}
 use Rattle.mx_insn.specs.declared.insn.Port.TheVariants as ports
 use Rattle.mx_insn.specs.declared.insn.PortSize.{PortSize}
 use Rattle.mx_insn.specs.declared.insn.PortSize.TheVariants as port_sizes
 use Rattle.mx_insn.specs.declared.insn.Insn.{Insn}
 use Rattle.mx_insn.specs.declared.insn.Insn.TheVariants as insns
+use Rattle.mx_words.specs.declared.mnemonic.Single.TheVariants.{Mov, Test, Xchg, Lea, Movzx, Movsx, Push, Pop, Jmp, Call, Ret, Int, Cbw, Cwde, Cwd, Cdq, In, Out}
+use Rattle.mx_words.specs.declared.mnemonic.Mnemonic.{Mnemonic}
+use Rattle.mx_words.specs.declared.mnemonic.Mnemonic.TheVariants.{Arithmetic, Unary, Product, Shift, Loop, Plain, Single, JumpIf, SetCondition, Transfer, Compare}
+use Rattle.mx_words.specs.declared.start.Prefix.{Prefix}
+use Rattle.mx_words.specs.declared.start.Prefix.TheVariants.{Rep, Repe, Repne}
+use Rattle.mx_words.specs.Words.{word_of, prefix_word}
 use Rattle.mx_print.specs.declared.argument.Argument.{Argument}
 use Rattle.mx_print.specs.declared.argument.Argument.TheVariants as written
-use Rattle.mx_print.specs.Words.{size_letter, condition_word, arithmetic_word, unary_word, shift_word, product_word, looping_word, transfer_word, comparison_word, plain_word}
 use Rattle.mx_print.specs.Operands.{argument_text}
 
 -- ---- words
 
--- in front of a string instruction that repeats, and of nothing else
-abbrev pub repeat_text : Insn → List ℕ
-repeat_text (insns.Transfer o size true) = codes "rep "
-repeat_text (insns.Compare o size (Some Repe)) = codes "repe "
-repeat_text (insns.Compare o size (Some Repne)) = codes "repne "
-repeat_text i = []
+-- REP, REPE or REPNE in front of a string instruction that repeats, and of nothing else
+abbrev pub prefix_of : Insn → Option Prefix
+prefix_of (insns.Transfer o size true) = Some Rep
+prefix_of (insns.Compare o size (Some repeats.Repe)) = Some Repe
+prefix_of (insns.Compare o size (Some repeats.Repne)) = Some Repne
+prefix_of i = None
+
+abbrev pub prefix_text : Option Prefix → List ℕ
+prefix_text None = []
+prefix_text (Some x) = prefix_word x ++ codes " "
 
 -- CBW and CWDE, CWD and CDQ are one instruction at two sizes
-abbrev pub extend_word : OperandSize → List ℕ
-extend_word operand_sizes.Word = codes "cbw"
-extend_word operand_sizes.Dword = codes "cwde"
+abbrev pub extend_mnemonic : OperandSize → Mnemonic
+extend_mnemonic operand_sizes.Word = Single Cbw
+extend_mnemonic operand_sizes.Dword = Single Cwde
 
-abbrev pub spread_word : OperandSize → List ℕ
-spread_word operand_sizes.Word = codes "cwd"
-spread_word operand_sizes.Dword = codes "cdq"
+abbrev pub spread_mnemonic : OperandSize → Mnemonic
+spread_mnemonic operand_sizes.Word = Single Cwd
+spread_mnemonic operand_sizes.Dword = Single Cdq
 
-abbrev pub mnemonic : Insn → List ℕ
-mnemonic (insns.Arithmetic o x) = arithmetic_word o
-mnemonic (insns.Move x) = codes "mov"
-mnemonic (insns.Test size x r) = codes "test"
-mnemonic (insns.TestImmediate x n) = codes "test"
-mnemonic (insns.Exchange size x r) = codes "xchg"
-mnemonic (insns.LoadAddress size r m) = codes "lea"
-mnemonic (insns.Unary o size x) = unary_word o
-mnemonic (insns.Product o size x) = product_word o
-mnemonic (insns.Multiply size r x) = codes "imul"
-mnemonic (insns.MultiplyImmediate r x n) = codes "imul"
-mnemonic (insns.Shift o size x n) = shift_word o
-mnemonic (insns.ZeroExtend e r x) = codes "movzx"
-mnemonic (insns.SignExtend e r x) = codes "movsx"
-mnemonic (insns.SetCondition c x) = codes "set" ++ condition_word c
-mnemonic (insns.Push x) = codes "push"
-mnemonic (insns.PushImmediate n) = codes "push"
-mnemonic (insns.Pop r) = codes "pop"
-mnemonic (insns.JumpIf c n) = codes "j" ++ condition_word c
-mnemonic (insns.Jump n) = codes "jmp"
-mnemonic (insns.Call n) = codes "call"
-mnemonic (insns.JumpTo x) = codes "jmp"
-mnemonic (insns.CallTo x) = codes "call"
-mnemonic (insns.Loop o n) = looping_word o
-mnemonic (insns.Return n) = codes "ret"
-mnemonic (insns.Interrupt n) = codes "int"
-mnemonic (insns.ExtendAccumulator size) = extend_word size
-mnemonic (insns.SpreadSign size) = spread_word size
-mnemonic (insns.Transfer o size repeated) = transfer_word o ++ size_letter size
-mnemonic (insns.Compare o size repeat) = comparison_word o ++ size_letter size
-mnemonic (insns.In size port) = codes "in"
-mnemonic (insns.Out size port) = codes "out"
-mnemonic (insns.Plain o) = plain_word o
+abbrev pub mnemonic_of : Insn → Mnemonic
+mnemonic_of (insns.Arithmetic o x) = Arithmetic o
+mnemonic_of (insns.Move x) = Single Mov
+mnemonic_of (insns.Test size x r) = Single Test
+mnemonic_of (insns.TestImmediate x n) = Single Test
+mnemonic_of (insns.Exchange size x r) = Single Xchg
+mnemonic_of (insns.LoadAddress size r m) = Single Lea
+mnemonic_of (insns.Unary o size x) = Unary o
+mnemonic_of (insns.Product o size x) = Product o
+mnemonic_of (insns.Multiply size r x) = Product Imul
+mnemonic_of (insns.MultiplyImmediate r x n) = Product Imul
+mnemonic_of (insns.Shift o size x n) = Shift o
+mnemonic_of (insns.ZeroExtend e r x) = Single Movzx
+mnemonic_of (insns.SignExtend e r x) = Single Movsx
+mnemonic_of (insns.SetCondition c x) = SetCondition c
+mnemonic_of (insns.Push x) = Single Push
+mnemonic_of (insns.PushImmediate n) = Single Push
+mnemonic_of (insns.Pop r) = Single Pop
+mnemonic_of (insns.JumpIf c n) = JumpIf c
+mnemonic_of (insns.Jump n) = Single Jmp
+mnemonic_of (insns.Call n) = Single Call
+mnemonic_of (insns.JumpTo x) = Single Jmp
+mnemonic_of (insns.CallTo x) = Single Call
+mnemonic_of (insns.Loop o n) = Loop o
+mnemonic_of (insns.Return n) = Single Ret
+mnemonic_of (insns.Interrupt n) = Single Int
+mnemonic_of (insns.ExtendAccumulator size) = extend_mnemonic size
+mnemonic_of (insns.SpreadSign size) = spread_mnemonic size
+mnemonic_of (insns.Transfer o size repeated) = Transfer o size
+mnemonic_of (insns.Compare o size repeat) = Compare o size
+mnemonic_of (insns.In size port) = Single In
+mnemonic_of (insns.Out size port) = Single Out
+mnemonic_of (insns.Plain o) = Plain o
 
 -- ---- operands, the destination first
 
@@ -186,4 +196,4 @@ arguments_text (x ∷ xs) = codes " " ++ join_by argument_text (codes ", ") (x �
 
 -- an instruction, by the address of the next one
 abbrev pub statement : ℕ → Insn → List ℕ
-statement next i = repeat_text i ++ (mnemonic i ++ arguments_text (arguments_of next i))
+statement next i = prefix_text (prefix_of i) ++ (word_of (mnemonic_of i) ++ arguments_text (arguments_of next i))

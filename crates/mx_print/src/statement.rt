@@ -1,90 +1,114 @@
 //! Writes instructions.
 
 ghost use Rattle.std.specs.Prelude.{◌≡◌, ◌++◌, OnOk, string_bytes};
-ghost use Rattle.mx_print.specs.Statement.{repeat_text, mnemonic, statement, extend_word, spread_word};
+ghost use Rattle.mx_words.specs.Words.{word_of};
+ghost use Rattle.mx_print.specs.Statement.{prefix_of, prefix_text, mnemonic_of, extend_mnemonic, spread_mnemonic, statement};
 
 use crate::operand::push_arguments;
 use crate::{argument, words};
-use mx_insn::{Insn, OperandSize, Repeat};
+use mx_insn::{Insn, OperandSize, Product, Repeat};
+use mx_words::{Mnemonic, Prefix, Single};
 use std::alloc::AllocError;
 
-/// What stands in front of a string instruction that repeats, and of nothing else.
-fn repeat(insn: &Insn) -> &'static str
-    ensures { result.now ≡ repeat_text insn.now }
+/// What stands in front of an instruction.
+fn prefix(insn: &Insn) -> Option<Prefix>
+    ensures { result ≡ prefix_of insn.now }
 {
     match *insn {
-        Insn::Transfer { repeated: true, .. } => "rep ",
+        Insn::Transfer { repeated: true, .. } => Some(Prefix::Rep),
         Insn::Compare {
             repeat: Some(Repeat::Repe),
             ..
-        } => "repe ",
+        } => Some(Prefix::Repe),
         Insn::Compare {
             repeat: Some(Repeat::Repne),
             ..
-        } => "repne ",
-        _ => "",
+        } => Some(Prefix::Repne),
+        _ => None,
     }
 }
 
-fn extend(size: OperandSize) -> &'static str
-    ensures { result.now ≡ extend_word size }
+/// CBW or CWDE.
+fn extend(size: OperandSize) -> Mnemonic
+    ensures { result ≡ extend_mnemonic size }
 {
     match size {
-        OperandSize::Word => "cbw",
-        OperandSize::Dword => "cwde",
+        OperandSize::Word => Mnemonic::Single(Single::Cbw),
+        OperandSize::Dword => Mnemonic::Single(Single::Cwde),
     }
 }
 
-fn spread(size: OperandSize) -> &'static str
-    ensures { result.now ≡ spread_word size }
+/// CWD or CDQ.
+fn spread(size: OperandSize) -> Mnemonic
+    ensures { result ≡ spread_mnemonic size }
 {
     match size {
-        OperandSize::Word => "cwd",
-        OperandSize::Dword => "cdq",
+        OperandSize::Word => Mnemonic::Single(Single::Cwd),
+        OperandSize::Dword => Mnemonic::Single(Single::Cdq),
     }
 }
 
-/// The two parts of an instruction's word.
-fn word(insn: &Insn) -> (&'static str, &'static str)
-    ensures { result.0.now ++ result.1.now ≡ mnemonic insn.now }
+fn mnemonic(insn: &Insn) -> Mnemonic
+    ensures { result ≡ mnemonic_of insn.now }
 {
     match *insn {
-        Insn::Arithmetic { operation, .. } => (words::arithmetic(operation), ""),
-        Insn::Move(_) => ("mov", ""),
-        Insn::Test { .. } | Insn::TestImmediate { .. } => ("test", ""),
-        Insn::Exchange { .. } => ("xchg", ""),
-        Insn::LoadAddress { .. } => ("lea", ""),
-        Insn::Unary { operation, .. } => (words::unary(operation), ""),
-        Insn::Product { operation, .. } => (words::product(operation), ""),
-        Insn::Multiply { .. } | Insn::MultiplyImmediate { .. } => ("imul", ""),
-        Insn::Shift { operation, .. } => (words::shift(operation), ""),
-        Insn::ZeroExtend { .. } => ("movzx", ""),
-        Insn::SignExtend { .. } => ("movsx", ""),
-        Insn::SetCondition { condition, .. } => ("set", words::condition(condition)),
-        Insn::Push(_) | Insn::PushImmediate(_) => ("push", ""),
-        Insn::Pop(_) => ("pop", ""),
-        Insn::JumpIf { condition, .. } => ("j", words::condition(condition)),
-        Insn::Jump(_) | Insn::JumpTo(_) => ("jmp", ""),
-        Insn::Call(_) | Insn::CallTo(_) => ("call", ""),
-        Insn::Loop { operation, .. } => (words::looping(operation), ""),
-        Insn::Return(_) => ("ret", ""),
-        Insn::Interrupt(_) => ("int", ""),
-        Insn::ExtendAccumulator(size) => (extend(size), ""),
-        Insn::SpreadSign(size) => (spread(size), ""),
+        Insn::Arithmetic { operation, .. } => Mnemonic::Arithmetic(operation),
+        Insn::Move(_) => Mnemonic::Single(Single::Mov),
+        Insn::Test { .. } | Insn::TestImmediate { .. } => Mnemonic::Single(Single::Test),
+        Insn::Exchange { .. } => Mnemonic::Single(Single::Xchg),
+        Insn::LoadAddress { .. } => Mnemonic::Single(Single::Lea),
+        Insn::Unary { operation, .. } => Mnemonic::Unary(operation),
+        Insn::Product { operation, .. } => Mnemonic::Product(operation),
+        Insn::Multiply { .. } | Insn::MultiplyImmediate { .. } => Mnemonic::Product(Product::Imul),
+        Insn::Shift { operation, .. } => Mnemonic::Shift(operation),
+        Insn::ZeroExtend { .. } => Mnemonic::Single(Single::Movzx),
+        Insn::SignExtend { .. } => Mnemonic::Single(Single::Movsx),
+        Insn::SetCondition { condition, .. } => Mnemonic::SetCondition(condition),
+        Insn::Push(_) | Insn::PushImmediate(_) => Mnemonic::Single(Single::Push),
+        Insn::Pop(_) => Mnemonic::Single(Single::Pop),
+        Insn::JumpIf { condition, .. } => Mnemonic::JumpIf(condition),
+        Insn::Jump(_) | Insn::JumpTo(_) => Mnemonic::Single(Single::Jmp),
+        Insn::Call(_) | Insn::CallTo(_) => Mnemonic::Single(Single::Call),
+        Insn::Loop { operation, .. } => Mnemonic::Loop(operation),
+        Insn::Return(_) => Mnemonic::Single(Single::Ret),
+        Insn::Interrupt(_) => Mnemonic::Single(Single::Int),
+        Insn::ExtendAccumulator(size) => extend(size),
+        Insn::SpreadSign(size) => spread(size),
         Insn::Transfer {
             operation,
             size,
             ..
-        } => (words::transfer(operation), words::size_letter(size)),
+        } => Mnemonic::Transfer(operation, size),
         Insn::Compare {
             operation,
             size,
             ..
-        } => (words::comparison(operation), words::size_letter(size)),
-        Insn::In { .. } => ("in", ""),
-        Insn::Out { .. } => ("out", ""),
-        Insn::Plain(operation) => (words::plain(operation), ""),
+        } => Mnemonic::Compare(operation, size),
+        Insn::In { .. } => Mnemonic::Single(Single::In),
+        Insn::Out { .. } => Mnemonic::Single(Single::Out),
+        Insn::Plain(operation) => Mnemonic::Plain(operation),
     }
+}
+
+/// Appends a prefix and the space behind it, where there is one.
+fn push_prefix(out: &mut String, prefix: Option<Prefix>) -> Result<(), AllocError>
+    ensures { OnOk result (string_bytes out.new ≡ string_bytes out.old ++ prefix_text prefix) }
+{
+    match prefix {
+        None => Ok(()),
+        Some(prefix) => {
+            out.push_str(words::prefix(prefix))?;
+            out.push_str(" ")
+        }
+    }
+}
+
+fn push_mnemonic(out: &mut String, mnemonic: Mnemonic) -> Result<(), AllocError>
+    ensures { OnOk result (string_bytes out.new ≡ string_bytes out.old ++ word_of mnemonic) }
+{
+    let (front, ending) = words::mnemonic(mnemonic);
+    out.push_str(front)?;
+    out.push_str(ending)
 }
 
 /// Appends an instruction as the assembler's notation writes it, where the next instruction stands
@@ -93,9 +117,7 @@ fn word(insn: &Insn) -> (&'static str, &'static str)
 pub fn push_statement(out: &mut String, insn: &Insn, next: u32) -> Result<(), AllocError>
     ensures { OnOk result (string_bytes out.new ≡ string_bytes out.old ++ statement next insn.now) }
 {
-    out.push_str(repeat(insn))?;
-    let (front, ending) = word(insn);
-    out.push_str(front)?;
-    out.push_str(ending)?;
+    push_prefix(out, prefix(insn))?;
+    push_mnemonic(out, mnemonic(insn))?;
     push_arguments(out, argument::of_insn(insn, next))
 }

@@ -1,11 +1,13 @@
 //! The words of statements.
 
-ghost use Rattle.std.specs.Prelude.{◌≡◌};
-ghost use Rattle.mx_print.specs.Words.{register_word, size_word, size_letter, condition_word, arithmetic_word, unary_word, shift_word, product_word, looping_word, transfer_word, comparison_word, plain_word};
+ghost use Rattle.std.specs.Prelude.{◌≡◌, ◌++◌};
+ghost use Rattle.mx_words.specs.Registers.{register_word, size_word};
+ghost use Rattle.mx_words.specs.Words.{size_letter, condition_word, arithmetic_word, unary_word, shift_word, product_word, loop_word, transfer_word, comparison_word, plain_word, single_word, word_of, prefix_word};
 
 use mx_insn::{
     Arithmetic, Comparison, Condition, Loop, Plain, Product, Register, Shift, Size, Transfer, Unary,
 };
+use mx_words::{Mnemonic, Prefix, Single};
 
 fn byte_register(register: Register) -> &'static str
     ensures { result.now ≡ register_word Size.Byte register }
@@ -73,7 +75,7 @@ pub fn size(size: Size) -> &'static str
 }
 
 /// A size behind a string instruction's name.
-pub fn size_letter(size: Size) -> &'static str
+fn size_letter(size: Size) -> &'static str
     ensures { result.now ≡ size_letter size }
 {
     match size {
@@ -83,7 +85,7 @@ pub fn size_letter(size: Size) -> &'static str
     }
 }
 
-pub fn condition(condition: Condition) -> &'static str
+fn condition(condition: Condition) -> &'static str
     ensures { result.now ≡ condition_word condition }
 {
     match condition {
@@ -106,7 +108,7 @@ pub fn condition(condition: Condition) -> &'static str
     }
 }
 
-pub fn arithmetic(operation: Arithmetic) -> &'static str
+fn arithmetic(operation: Arithmetic) -> &'static str
     ensures { result.now ≡ arithmetic_word operation }
 {
     match operation {
@@ -121,7 +123,7 @@ pub fn arithmetic(operation: Arithmetic) -> &'static str
     }
 }
 
-pub fn unary(operation: Unary) -> &'static str
+fn unary(operation: Unary) -> &'static str
     ensures { result.now ≡ unary_word operation }
 {
     match operation {
@@ -132,7 +134,7 @@ pub fn unary(operation: Unary) -> &'static str
     }
 }
 
-pub fn shift(operation: Shift) -> &'static str
+fn shift(operation: Shift) -> &'static str
     ensures { result.now ≡ shift_word operation }
 {
     match operation {
@@ -144,7 +146,7 @@ pub fn shift(operation: Shift) -> &'static str
     }
 }
 
-pub fn product(operation: Product) -> &'static str
+fn product(operation: Product) -> &'static str
     ensures { result.now ≡ product_word operation }
 {
     match operation {
@@ -155,8 +157,8 @@ pub fn product(operation: Product) -> &'static str
     }
 }
 
-pub fn looping(operation: Loop) -> &'static str
-    ensures { result.now ≡ looping_word operation }
+fn looping(operation: Loop) -> &'static str
+    ensures { result.now ≡ loop_word operation }
 {
     match operation {
         Loop::Loopne => "loopne",
@@ -166,7 +168,7 @@ pub fn looping(operation: Loop) -> &'static str
     }
 }
 
-pub fn transfer(operation: Transfer) -> &'static str
+fn transfer(operation: Transfer) -> &'static str
     ensures { result.now ≡ transfer_word operation }
 {
     match operation {
@@ -176,7 +178,7 @@ pub fn transfer(operation: Transfer) -> &'static str
     }
 }
 
-pub fn comparison(operation: Comparison) -> &'static str
+fn comparison(operation: Comparison) -> &'static str
     ensures { result.now ≡ comparison_word operation }
 {
     match operation {
@@ -185,7 +187,7 @@ pub fn comparison(operation: Comparison) -> &'static str
     }
 }
 
-pub fn plain(operation: Plain) -> &'static str
+fn plain(operation: Plain) -> &'static str
     ensures { result.now ≡ plain_word operation }
 {
     match operation {
@@ -207,5 +209,59 @@ pub fn plain(operation: Plain) -> &'static str
         Plain::Stc => "stc",
         Plain::Cld => "cld",
         Plain::Std => "std",
+    }
+}
+
+fn single(mnemonic: Single) -> &'static str
+    ensures { result.now ≡ single_word mnemonic }
+{
+    match mnemonic {
+        Single::Mov => "mov",
+        Single::Test => "test",
+        Single::Xchg => "xchg",
+        Single::Lea => "lea",
+        Single::Movzx => "movzx",
+        Single::Movsx => "movsx",
+        Single::Push => "push",
+        Single::Pop => "pop",
+        Single::Jmp => "jmp",
+        Single::Call => "call",
+        Single::Ret => "ret",
+        Single::Int => "int",
+        Single::Cbw => "cbw",
+        Single::Cwde => "cwde",
+        Single::Cwd => "cwd",
+        Single::Cdq => "cdq",
+        Single::In => "in",
+        Single::Out => "out",
+    }
+}
+
+pub fn prefix(prefix: Prefix) -> &'static str
+    ensures { result.now ≡ prefix_word prefix }
+{
+    match prefix {
+        Prefix::Rep => "rep",
+        Prefix::Repe => "repe",
+        Prefix::Repne => "repne",
+    }
+}
+
+/// The two parts of a mnemonic's word, of which the second may be empty.
+pub fn mnemonic(mnemonic: Mnemonic) -> (&'static str, &'static str)
+    ensures { result.0.now ++ result.1.now ≡ word_of mnemonic }
+{
+    match mnemonic {
+        Mnemonic::Arithmetic(operation) => (arithmetic(operation), ""),
+        Mnemonic::Unary(operation) => (unary(operation), ""),
+        Mnemonic::Product(operation) => (product(operation), ""),
+        Mnemonic::Shift(operation) => (shift(operation), ""),
+        Mnemonic::Loop(operation) => (looping(operation), ""),
+        Mnemonic::Plain(operation) => (plain(operation), ""),
+        Mnemonic::Single(mnemonic) => (single(mnemonic), ""),
+        Mnemonic::JumpIf(tested) => ("j", condition(tested)),
+        Mnemonic::SetCondition(tested) => ("set", condition(tested)),
+        Mnemonic::Transfer(operation, size) => (transfer(operation), size_letter(size)),
+        Mnemonic::Compare(operation, size) => (comparison(operation), size_letter(size)),
     }
 }
