@@ -1,4 +1,4 @@
--- The lines of a text.
+-- The lines of a text (our own).
 use Rattle.std.specs.Prelude.{ℕ, ◌==◌, if◌then◌else◌, List, [], ◌∷◌, length}
 
 -- the line that begins with a byte and goes on as the first of these

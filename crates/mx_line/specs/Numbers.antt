@@ -1,9 +1,9 @@
--- Which bytes spell which number.
+-- Which bytes spell which number (C's decimal and hexadecimal constants; the bound is our own).
 use Rattle.std.specs.Prelude.{◌≡◌, ◌≢◌, ℕ, ◌+◌, ◌*◌, ◌^◌, ◌<◌, ◌⊎◌, List, [], ◌∷◌}
 use Rattle.std.specs.List.{All}
 use Rattle.mx_line.specs.Bytes.{digit_value}
 
--- the number of which `above` is the front and whose further digits these are
+-- digits, highest first: the number of which `above` is the front and whose further digits these are
 abbrev pub value_from : ℕ → ℕ → List ℕ → ℕ
 value_from base above [] = above
 value_from base above (b ∷ bs) = value_from base (above * base + digit_value b) bs

@@ -2,7 +2,7 @@
 
 ghost use Rattle.std.specs.Prelude.{◌≡◌, slice_index};
 ghost use Rattle.std.specs.List.{list_all};
-ghost use Rattle.mx_line.specs.Bytes.{is_letter, is_word_byte};
+ghost use Rattle.mx_line.specs.Bytes.{is_letter, begins_name, is_word_byte};
 ghost use Rattle.mx_line.specs.Names.{padded, is_name, name_of};
 
 use crate::numbers::is_digit;
@@ -13,18 +13,25 @@ pub struct Name {
     pub bytes: [u8; 8],
 }
 
-/// Whether a byte is a letter or the underscore.
+/// Whether a byte is one of A to Z and a to z.
 pub fn is_letter(byte: u8) -> bool
     ensures { result ≡ is_letter byte }
 {
-    byte >= b'A' && byte <= b'Z' || byte >= b'a' && byte <= b'z' || byte == b'_'
+    byte >= b'A' && byte <= b'Z' || byte >= b'a' && byte <= b'z'
+}
+
+/// Whether a name may begin with a byte: a letter or the underscore.
+pub fn begins_name(byte: u8) -> bool
+    ensures { result ≡ begins_name byte }
+{
+    is_letter(byte) || byte == b'_'
 }
 
 /// Whether a byte may stand in a name behind its first.
 pub fn is_word_byte(byte: u8) -> bool
     ensures { result ≡ is_word_byte byte }
 {
-    is_letter(byte) || is_digit(byte)
+    begins_name(byte) || is_digit(byte)
 }
 
 /// A word's byte, and 0 behind its end.
@@ -60,12 +67,12 @@ fn is_name(word: &[u8]) -> bool
 {
     match word.split_first() {
         None => false,
-        Some((first, rest)) => word.len() <= 8 && is_letter(*first) && are_word_bytes(rest),
+        Some((first, rest)) => word.len() <= 8 && begins_name(*first) && are_word_bytes(rest),
     }
 }
 
 /// The name that a word is: a letter or underscore, then letters, digits and underscores, eight
-/// bytes at most.
+/// bytes at most. It may still be a register's or a size's.
 pub fn name_of(word: &[u8]) -> Option<Name>
     ensures { result ≡ name_of word.now }
 {
