@@ -4,3 +4,4 @@ pub mod Forms
 pub mod Choice
 pub mod Chosen
 pub mod Given
+pub mod Filled

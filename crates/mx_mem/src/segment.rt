@@ -1,8 +1,10 @@
 //! A segment: bytes from 0 up to a limit.
 
-ghost use Rattle.std.specs.Prelude.{◌≡◌, ◌+◌, ◌^◌, ◌<◌, ◌≤◌, Ok, Err, OnOk, OnErr, IfOk, IfSome, length, slice_get, slice_index, slice_set, replicate, take, drop};
+ghost use Rattle.std.specs.Prelude.{◌≡◌, ◌+◌, ◌^◌, ◌<◌, ◌≤◌, Ok, Err, OnOk, OnErr, IfOk, IfSome, [], length, slice_get, slice_index, slice_set, replicate, take, drop};
 ghost use Rattle.mx_word.specs.Word.{width, bytes_in};
-ghost use Rattle.mx_mem.specs.Segment.{inside, read_at, written, copied};
+ghost use Rattle.mx_mem.specs.Segment.{inside, read_at, written, copied, overwritten};
+
+mod copies;
 
 use mx_insn::ArrayVec;
 use mx_word::{NoMemory, Size};
@@ -164,5 +166,38 @@ impl Segment {
             front.push(self.byte(place));
         }
         front
+    }
+}
+
+impl Segment {
+    /// No bytes at all. Takes no memory.
+    pub fn empty(alloc: Global) -> Segment
+        ensures { result ≡ [] }
+    {
+        Segment {
+            bytes: Vec::new(alloc),
+        }
+    }
+
+    /// A copy of the 36 bytes from a place on.
+    pub fn message(&self, at: u32) -> [u8; 36]
+        requires { at + 36 ≤ length self.now }
+        ensures { result ≡ take 36 (drop at self.now) }
+    {
+        let at = at as usize;
+        let mut message = [0; 36];
+        message.copy_from_slice(&self.bytes[at..at + 36]);
+        message
+    }
+
+    /// Writes bytes over those from a place on.
+    pub fn put(&mut self, at: u32, bytes: &[u8])
+        requires { at + length bytes.now ≤ length self.old }
+        ensures value { self.new ≡ overwritten self.old at bytes.now }
+        ensures limit { length self.new ≡ length self.old }
+    {
+        let at = at as usize;
+        let end = at + bytes.len();
+        self.bytes[at..end].copy_from_slice(bytes);
     }
 }
