@@ -1,6 +1,6 @@
 //! Lists a text.
 
-ghost use Rattle.std.specs.Prelude.{◌≡◌, ◌<◌, ◌≤◌, ◌+◌, ◌^◌, ◌++◌, length, OnOk, IfOk, string_bytes};
+ghost use Rattle.std.specs.Prelude.{◌≡◌, ◌<◌, ◌≤◌, ◌+◌, ◌^◌, ◌++◌, length, drop, OnOk, IfOk, string_bytes};
 ghost use Rattle.mx_dis.specs.Parting.{size_of};
 ghost use Rattle.mx_dis.specs.Listing.{part_text, line_of, IsListing};
 
@@ -34,6 +34,14 @@ fn push_line(out: &mut String, at: u32, part: &Part) -> Result<(), AllocError>
     out.push_str("\n")
 }
 
+/// The bytes behind the part that they begin with.
+fn behind<'a>(bytes: &'a [u8], part: &Part) -> &'a [u8]
+    requires { size_of part.now ≤ length bytes.now }
+    ensures { result.now ≡ drop (size_of part.now) bytes.now }
+{
+    &bytes[part.size() as usize..]
+}
+
 /// The listing of a program's text from 0, one line an instruction: the address, a space, the
 /// statement that the assembler would read. A byte where no instruction begins has a line of its
 /// own, and the listing goes on at the next.
@@ -47,7 +55,7 @@ pub fn list(alloc: Global, program: &Program) -> Result<String, NoMemory>
         let part = first_part(rest);
         push_line(&mut out, at, &part)?;
         at += u32::from(part.size());
-        rest = &rest[part.size() as usize..];
+        rest = behind(rest, &part);
     }
     Ok(out)
 }

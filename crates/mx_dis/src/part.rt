@@ -4,6 +4,7 @@ ghost use Rattle.std.specs.Prelude.{◌≡◌, ◌<◌, ◌≤◌, ◌∷◌, Li
 ghost use Rattle.mx_dis.specs.declared.part.Part.{Part};
 ghost use Rattle.mx_dis.specs.Parting.{IsParting, size_of};
 
+use crate::laws::takes_bytes;
 use mx_decode::decode;
 use mx_insn::Insn;
 
@@ -36,6 +37,7 @@ pub fn first_part(bytes: &[u8]) -> Part
     ensures within { size_of result ≤ length bytes.now }
     ensures byte { size_of result < 256 }
 {
+    takes_bytes();
     match decode(bytes) {
         Ok((insn, size)) => Part::Instruction(insn, size),
         Err(_) => Part::Byte(bytes[0]),
