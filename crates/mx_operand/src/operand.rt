@@ -1,0 +1,71 @@
+//! Whole operands.
+
+ghost use Rattle.std.specs.Prelude.{◌≡◌, MatchOption, Some, None};
+ghost use Rattle.mx_operand.specs.Operands.{is_close, before_close, bracketed, operand_of};
+
+use crate::item::Item;
+use crate::memory::{Address, address_of};
+use crate::value::value_of;
+use mx_insn::{Register, Size};
+use mx_lex::Mark;
+use mx_statement::Value;
+
+/// A register, a value, or a place in memory with its size word.
+#[derive(Clone, Copy)]
+pub enum Operand {
+    Register(Size, Register),
+    Value(Value),
+    Memory(Option<Size>, Address),
+}
+
+fn is_close(item: Item) -> bool
+    ensures { result ≡ is_close item }
+{
+    match item {
+        Item::Mark(Mark::Close) => true,
+        _ => false,
+    }
+}
+
+/// What stands before the closing bracket, where one stands last.
+#[tactic(auto, using(crate::proofs::Closing::before_close_last))]
+fn before_close(items: &[Item]) -> Option<&[Item]>
+    ensures { MatchOption result (before_close items.now ≡ None) (λ r. before_close items.now ≡ Some r.now) }
+{
+    match items.split_last() {
+        None => None,
+        Some((last, rest)) => { if is_close(*last) { Some(rest) } else { None } }
+    }
+}
+
+fn bracketed(size: Option<Size>, items: &[Item]) -> Option<Operand>
+    ensures { result ≡ bracketed size items.now }
+{
+    let inside = before_close(items)?;
+    let address = address_of(inside)?;
+    Some(Operand::Memory(size, address))
+}
+
+/// The operand that items say.
+pub fn operand_of(items: &[Item]) -> Option<Operand>
+    ensures { result ≡ operand_of items.now }
+{
+    match items.split_first() {
+        Some((Item::Register(size, register), rest)) => {
+            if rest.is_empty() {
+                Some(Operand::Register(*size, *register))
+            } else {
+                None
+            }
+        }
+        Some((Item::Mark(Mark::Open), rest)) => bracketed(None, rest),
+        Some((Item::Size(size), rest)) => match rest.split_first() {
+            Some((Item::Mark(Mark::Open), rest)) => bracketed(Some(*size), rest),
+            _ => None,
+        },
+        _ => {
+            let value = value_of(items)?;
+            Some(Operand::Value(value))
+        }
+    }
+}
