@@ -2,7 +2,7 @@
 use Rattle.std.proofs.Common.{◌≡◌, Some, None, Bool, true, false, List, [], ◌∷◌, ◌++◌, ap, ◌∙◌, refl, cond}
 use Rattle.mx_operand.specs.declared.item.Item.{Item}
 use Rattle.mx_operand.specs.Items.{◌>>=◌}
-use Rattle.mx_operand.specs.Operands.{is_close, before_close}
+use Rattle.mx_operand.specs.Arguments.{is_close, before_close}
 
 onto : (b : Bool) (t : Item) (xs : List Item) → (cond b (Some xs) None >>= λ front. Some (t ∷ front)) ≡ cond b (Some (t ∷ xs)) None
 onto true t xs = refl

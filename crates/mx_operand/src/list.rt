@@ -1,11 +1,11 @@
-//! Operands, parted by commas.
+//! Arguments, parted by commas.
 
 ghost use Rattle.std.specs.Prelude.{◌≡◌, ◌∷◌, [], ◌<◌, length, MatchOption, IfSome, IfOk, Some, None};
 ghost use Rattle.std.specs.List.{slice_split};
-ghost use Rattle.mx_operand.specs.Lists.{is_comma, operands_of};
+ghost use Rattle.mx_operand.specs.Lists.{is_comma, arguments_of};
 
+use crate::argument::{Argument, argument_of};
 use crate::item::Item;
-use crate::operand::{Operand, operand_of};
 use mx_lex::Mark;
 use std::alloc::{AllocError, Global};
 
@@ -33,9 +33,9 @@ pub fn parted(items: &[Item]) -> Option<(&[Item], &[Item])>
     None
 }
 
-/// The operands that items say.
-pub fn operands_of(alloc: Global, items: &[Item]) -> Result<Option<Vec<Operand>>, AllocError>
-    ensures { IfOk result (λ found. MatchOption found (operands_of items.now ≡ None) (λ v. operands_of items.now ≡ Some v.items)) }
+/// The arguments that items say.
+pub fn arguments_of(alloc: Global, items: &[Item]) -> Result<Option<Vec<Argument>>, AllocError>
+    ensures { IfOk result (λ found. MatchOption found (arguments_of items.now ≡ None) (λ v. arguments_of items.now ≡ Some v.items)) }
 {
     let mut found = Vec::new(alloc);
     if items.is_empty() {
@@ -43,14 +43,14 @@ pub fn operands_of(alloc: Global, items: &[Item]) -> Result<Option<Vec<Operand>>
     }
     let mut rest = items;
     while let Some((front, more)) = parted(rest) {
-        match operand_of(front) {
-            Some(operand) => found.push(operand)?,
+        match argument_of(front) {
+            Some(argument) => found.push(argument)?,
             None => return Ok(None),
         }
         rest = more;
     }
-    match operand_of(rest) {
-        Some(operand) => found.push(operand)?,
+    match argument_of(rest) {
+        Some(argument) => found.push(argument)?,
         None => return Ok(None),
     }
     Ok(Some(found))

@@ -18,8 +18,8 @@ const MINUS: Item = Item::Mark(Mark::Minus);
 const STAR: Item = Item::Mark(Mark::Star);
 
 fn is_place(items: &[Item], base: bool, scale: Option<Scale>, number: u32) -> bool {
-    match operand_of(items) {
-        Some(Operand::Memory(_, address)) => {
+    match argument_of(items) {
+        Some(Argument::Memory(_, address)) => {
             address.base.is_some() == base
                 && address.index.map(|index| index.scale) == scale
                 && address.value.number == number
@@ -58,6 +58,6 @@ fn shapes(rt: HostRuntime) {
         &[EBX, EBX],
     ];
     for items in refused {
-        assert!(rt; operand_of(items).is_none());
+        assert!(rt; argument_of(items).is_none());
     }
 }
