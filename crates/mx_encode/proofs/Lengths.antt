@@ -35,12 +35,12 @@ abbrev rm_length : Option Rm → ℕ
 rm_length rm = length (modrm_bytes (place_for rm true))
 
 abbrev chosen_length : Choice → ℕ
-chosen_length c = length (prefix_bytes c.wide c.repeat false) + (length (escape_bytes c.row.escaped) + suc (rm_length c.rm + length (number_bytes c.immediate)))
+chosen_length c = length (prefix_bytes c.resized c.repeat false) + (length (escape_bytes c.row.escaped) + suc (rm_length c.rm + length (number_bytes c.immediate)))
 
 length-spelling : (c : Choice) → length (spelling c.row (fields_of c true)) ≡ chosen_length c
 length-spelling c =
-    length-append (prefix_bytes c.wide c.repeat false) _
-    ∙ ap (λ n. length (prefix_bytes c.wide c.repeat false) + n) (length-append (escape_bytes c.row.escaped) _
+    length-append (prefix_bytes c.resized c.repeat false) _
+    ∙ ap (λ n. length (prefix_bytes c.resized c.repeat false) + n) (length-append (escape_bytes c.row.escaped) _
     ∙ ap (λ n. length (escape_bytes c.row.escaped) + suc n) (length-append (modrm_bytes (place_for c.rm true)) (number_bytes c.immediate)))
 
 abbrev given_length : Option Choice → ℕ
@@ -79,7 +79,7 @@ rm_length_at None n = refl
 rm_length_at (Some rm) n = operand_length rm.reg rm.operand n
 
 length_at : (c : Choice) (n : ℕ) → chosen_length (choice_at c n) ≡ chosen_length c
-length_at c n = ap (λ k. length (prefix_bytes c.wide c.repeat false) + (length (escape_bytes c.row.escaped) + suc (k + length (number_bytes c.immediate)))) (rm_length_at c.rm n)
+length_at c n = ap (λ k. length (prefix_bytes c.resized c.repeat false) + (length (escape_bytes c.row.escaped) + suc (k + length (number_bytes c.immediate)))) (rm_length_at c.rm n)
 
 abbrev given_at : Option Choice → ℕ → Option Choice
 given_at None n = None

@@ -1,0 +1,5 @@
+pub mod ListLemmas
+pub mod WaitLemmas
+pub mod SoundLemmas
+pub mod TableLemmas
+pub mod FrameLemmas

@@ -1,0 +1,44 @@
+-- What queues and messages leave alone.
+use Rattle.std.specs.Prelude.{ℕ, map, List, Option, Some, None, if◌then◌else◌, slice_set, slice_index_or}
+use Rattle.mx_proc.specs.declared.process.Process.{Process}
+use Rattle.mx_proc.specs.declared.process.Masks.{Masks}
+use Rattle.mx_proc.specs.declared.devices.Devices.{Devices}
+use Rattle.mx_proc.specs.States.{is_out}
+use Rattle.mx_proc.specs.World.{World, nobody}
+
+-- Of a process.
+pub record Fixed : Type 0 where
+  pub generation : ℕ
+  pub restarts : ℕ
+  pub steps : ℕ
+  pub masks : Masks
+  pub best : ℕ
+  pub quantum : ℕ
+
+-- Of a table.
+pub record Frame : Type 0 where
+  pub fixed : List Fixed
+  -- which slots are on processors, and with how many ticks
+  pub loans : List (Option ℕ)
+  pub uptime : ℕ
+  pub devices : Devices
+
+abbrev pub fixed_of : Process → Fixed
+fixed_of p = record { generation = p.generation; restarts = p.restarts; steps = p.steps; masks = p.masks; best = p.best; quantum = p.quantum }
+
+abbrev pub nothing_fixed : Fixed
+nothing_fixed = fixed_of nobody
+
+abbrev pub loan_of : Process → Option ℕ
+loan_of p = if is_out p.state then Some p.ticks else None
+
+unfoldable pub frame : World → Frame
+frame w = record { fixed = map fixed_of w.slots; loans = map loan_of w.slots; uptime = w.uptime; devices = w.devices }
+
+-- a slot's image is out with so many ticks, or home
+abbrev pub with_loan : Frame → ℕ → Option ℕ → Frame
+with_loan f s loan = record f { loans = slice_set f.loans s loan }
+
+-- a process has made so many steps
+abbrev pub with_steps : Frame → ℕ → ℕ → Frame
+with_steps f s steps = record f { fixed = slice_set f.fixed s (record (slice_index_or f.fixed s nothing_fixed) { steps = steps }) }

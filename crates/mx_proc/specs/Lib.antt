@@ -1,0 +1,12 @@
+pub mod Errors
+pub mod Partners
+pub mod Queues
+pub mod Waits
+pub mod Console
+pub mod Devices
+pub mod Messages
+pub mod States
+pub mod World
+pub mod Endpoints
+pub mod Sound
+pub mod Frame

@@ -1,0 +1,37 @@
+//! The console.
+
+ghost use Rattle.std.specs.Prelude.{◌≡◌, IfOk};
+ghost use Rattle.mx_proc.specs.Console.{nothing_written};
+
+use circular_buffer::HeapCircularBuffer;
+use mx_word::NoMemory;
+use std::alloc::Global;
+use std::marker::Model;
+
+/// The last 4,096 bytes that were written, and the count of all.
+#[derive(Drop)]
+pub struct Console {
+    kept: HeapCircularBuffer<u8>,
+    count: u32,
+}
+
+impl Model for Console {
+    ghost use Rattle.std.specs.Prelude.{◌≡◌};
+    ghost use Rattle.mx_proc.specs.Console.{Written};
+
+    ghost Value = { Written };
+
+    ghost view = { λ c. record { kept = c.kept.items; count = c.count } };
+
+    ghost invariant = { λ c. c.kept.capacity ≡ 4096 };
+}
+
+impl Console {
+    /// Nothing written yet, with room for all that is kept.
+    pub fn new(alloc: Global) -> Result<Console, NoMemory>
+        ensures { IfOk result (λ console. console ≡ nothing_written) }
+    {
+        let kept = HeapCircularBuffer::with_capacity(alloc, 4096)?;
+        Ok(Console { kept, count: 0 })
+    }
+}

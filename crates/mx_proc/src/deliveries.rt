@@ -1,0 +1,66 @@
+//! The last deliveries.
+
+ghost use Rattle.std.specs.Prelude.{◌≡◌, [], ◌∷◌, ◌++◌, IfOk, slice_get};
+ghost use Rattle.circular_buffer.specs.Buffer.{keep_last};
+
+use circular_buffer::HeapCircularBuffer;
+use mx_word::NoMemory;
+use std::alloc::Global;
+use std::marker::Model;
+
+/// What was delivered.
+#[derive(Clone, Copy, Debug, PartialEq, Eq)]
+pub enum DeliveryKind {
+    Message,
+    Notification,
+}
+
+/// A delivery: the endpoints that sender and receiver then had, and the message's type.
+#[derive(Clone, Copy, Debug, PartialEq, Eq)]
+pub struct Delivery {
+    pub from: u32,
+    pub to: u32,
+    pub message_type: u32,
+    pub kind: DeliveryKind,
+}
+
+/// The last 1,024 deliveries, the oldest first.
+#[derive(Drop)]
+pub struct Deliveries {
+    kept: HeapCircularBuffer<Delivery>,
+}
+
+impl Model for Deliveries {
+    ghost use Rattle.std.specs.Prelude.{List, ◌≡◌};
+    ghost use Rattle.mx_proc.specs.declared.deliveries.Delivery.{Delivery};
+
+    ghost Value = { List Delivery };
+
+    ghost view = { λ d. d.kept.items };
+
+    ghost invariant = { λ d. d.kept.capacity ≡ 1024 };
+}
+
+impl Deliveries {
+    /// None yet, with room for all that are kept.
+    pub fn new(alloc: Global) -> Result<Deliveries, NoMemory>
+        ensures { IfOk result (λ deliveries. deliveries ≡ []) }
+    {
+        let kept = HeapCircularBuffer::with_capacity(alloc, 1024)?;
+        Ok(Deliveries { kept })
+    }
+
+    /// One more; the oldest past 1,024 goes.
+    pub fn push(&mut self, delivery: Delivery)
+        ensures { self.new ≡ keep_last 1024 (self.old ++ delivery ∷ []) }
+    {
+        self.kept.push_back(delivery);
+    }
+
+    /// A kept delivery, counted from the oldest.
+    pub fn get(&self, index: usize) -> Option<Delivery>
+        ensures { result ≡ slice_get self.now index }
+    {
+        self.kept.get(index).copied()
+    }
+}

@@ -1,0 +1,30 @@
+//! Interrupt lines, machine registers and the console.
+
+ghost use Rattle.std.specs.Prelude.{◌≡◌, IfOk};
+ghost use Rattle.mx_proc.specs.Devices.{no_devices};
+
+use crate::console::Console;
+use mx_word::NoMemory;
+use std::alloc::Global;
+
+/// Who owns which interrupt line, the machine's registers and its console.
+#[derive(Drop)]
+pub struct Devices {
+    pub owners: [Option<u8>; 16],
+    pub registers: [u32; 256],
+    pub console: Console,
+}
+
+impl Devices {
+    /// Lines without owners, registers of 0 and an empty console.
+    pub fn new(alloc: Global) -> Result<Devices, NoMemory>
+        ensures { IfOk result (λ devices. devices ≡ no_devices) }
+    {
+        let console = Console::new(alloc)?;
+        Ok(Devices {
+            owners: [None; 16],
+            registers: [0; 256],
+            console,
+        })
+    }
+}

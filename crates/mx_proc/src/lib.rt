@@ -1,0 +1,19 @@
+//! The process table: slots, ready lists, blocked sends, devices and the log of deliveries.
+#![tactic(auto)]
+
+mod console;
+mod deliveries;
+mod devices;
+mod errors;
+mod process;
+mod queue;
+mod ready;
+mod table;
+mod waits;
+
+pub use console::Console;
+pub use deliveries::{Deliveries, Delivery, DeliveryKind};
+pub use devices::Devices;
+pub use errors::Errno;
+pub use process::{Cause, Endpoint, Masks, Partner, Process, Slot, Source, State};
+pub use table::{Stale, Table};

@@ -1,0 +1,200 @@
+//! The table.
+
+ghost use Rattle.std.specs.Prelude.{◌≡◌, ℕ, ◌+◌, ◌*◌, ◌<◌, ◌≤◌, ◌^◌, true, IfOk, IfErr, OnErr, OnOk, IsOk, MatchResult, length, slice_get};
+ghost use Rattle.mx_exec.specs.Image.{blank};
+ghost use Rattle.mx_proc.specs.Endpoints.{looked_up};
+ghost use Rattle.mx_proc.specs.Sound.{Sound, HasBuffer};
+ghost use Rattle.mx_proc.specs.States.{is_blocked, is_down};
+
+use crate::deliveries::{Deliveries, Delivery};
+use crate::devices::Devices;
+use crate::process::{Endpoint, Masks, Process, Slot, State};
+use crate::ready::Ready;
+use crate::waits::Waits;
+use mx_exec::Image;
+use mx_word::NoMemory;
+use std::alloc::Global;
+use std::marker::Model;
+use std::mem;
+
+mod lending;
+mod messages;
+mod queues;
+
+/// An endpoint whose process is dead, or that never was one.
+#[derive(Clone, Copy, Debug, PartialEq, Eq)]
+pub struct Stale;
+
+/// The processes with their queues, the devices and the last deliveries. All the room that they need
+/// is taken by `new` and `add`.
+pub struct Table {
+    slots: Vec<Process>,
+    ready: Ready,
+    waits: Waits,
+    renewed: Option<u8>,
+    uptime: u32,
+    devices: Devices,
+    deliveries: Deliveries,
+}
+
+impl Model for Table {
+    ghost use Rattle.mx_proc.specs.World.{World};
+    ghost use Rattle.mx_proc.specs.Sound.{Sound};
+
+    ghost Value = { World };
+
+    ghost view = { λ t. record { slots = t.slots.items; ready = t.ready; waits = t.waits; renewed = t.renewed; uptime = t.uptime; devices = t.devices; deliveries = t.deliveries } };
+
+    ghost invariant = { λ t. Sound (record { slots = t.slots.items; ready = t.ready; waits = t.waits; renewed = t.renewed; uptime = t.uptime; devices = t.devices; deliveries = t.deliveries }) };
+}
+
+impl Table {
+    ghost use Rattle.mx_proc.specs.World.{no_world, added, process_at, endpoint_of};
+    ghost use Rattle.mx_proc.specs.Endpoints.{is_current};
+
+    /// A table without processes, with room for all that it keeps.
+    pub fn new(alloc: Global) -> Result<Table, NoMemory>
+        ensures { IfOk result (λ table. table ≡ no_world) }
+    {
+        Ok(Table {
+            slots: Vec::with_capacity(alloc, 32)?,
+            ready: Ready::new(),
+            waits: Waits::new(),
+            renewed: None,
+            uptime: 0,
+            devices: Devices::new(alloc)?,
+            deliveries: Deliveries::new(alloc)?,
+        })
+    }
+
+    /// Gives a process the next slot: ready, with a full quantum, at the end of the list of its level.
+    /// A blank image takes the place of the one that it is given.
+    pub fn add(
+        &mut self,
+        alloc: Global,
+        image: &mut Image,
+        masks: Masks,
+        level: u8,
+        best: u8,
+        quantum: u32,
+    ) -> Result<Slot, NoMemory>
+        requires room { length self.old.slots < 32 }
+        requires level { level ≤ 14 }
+        requires best { best ≤ level }
+        requires some { 0 < quantum }
+        requires quantum { quantum ≤ 65535 }
+        ensures slot { IfOk result (λ slot. slot ≡ length self.old.slots) }
+        ensures ok { OnOk result ((self.new ≡ added self.old image.old masks level best quantum) × (image.new ≡ blank)) }
+        ensures err { OnErr result ((self.new ≡ self.old) × (image.new ≡ image.old)) }
+    {
+        let slot = self.slots.as_slice().len() as u8;
+        let process = Process {
+            state: State::Ready,
+            generation: 0,
+            restarts: 0,
+            masks,
+            level,
+            best,
+            quantum,
+            ticks: quantum,
+            steps: 0,
+            pending: [false; 34],
+            lines: 0,
+            alarm: None,
+            image: mem::replace(image, Image::blank(alloc)),
+        };
+        match self.slots.push(process) {
+            Ok(()) => {
+                self.ready.push_back(level, slot);
+                Ok(slot)
+            }
+            Err(refused) => {
+                *image = refused.value.image;
+                Err(NoMemory)
+            }
+        }
+    }
+
+    /// The slot of an endpoint, where its process is alive.
+    pub fn look(&self, endpoint: Endpoint) -> Result<Slot, Stale>
+        ensures { result ≡ looked_up self.now endpoint }
+    {
+        if endpoint >= 0x8000_0000 {
+            return Err(Stale);
+        }
+        let slot = endpoint % 1024;
+        if slot < self.slots.len() as u32 && self.is_current(slot as u8, endpoint / 1024) {
+            Ok(slot as u8)
+        } else {
+            Err(Stale)
+        }
+    }
+
+    /// Whether a slot's process isn't down and has this generation.
+    pub fn is_current(&self, slot: Slot, generation: u32) -> bool
+        requires { slot < length self.now.slots }
+        ensures { result ≡ is_current self.now slot generation }
+    {
+        let process = self.process(slot);
+        !process.state.is_down() && process.generation == generation
+    }
+
+    /// The process of a slot.
+    #[inline(always)]
+    pub fn process(&self, slot: Slot) -> &Process
+        requires { slot < length self.now.slots }
+        ensures value { result.now ≡ process_at self.now slot }
+        ensures buffer { is_blocked (process_at self.now slot).state ≡ true → HasBuffer (process_at self.now slot) }
+        ensures generation { (process_at self.now slot).generation < 2 ^ 20 }
+        ensures level { (process_at self.now slot).level ≤ 14 }
+        ensures best { (process_at self.now slot).best ≤ (process_at self.now slot).level }
+    {
+        &self.slots[slot as usize]
+    }
+
+    /// The endpoint of a slot's process.
+    pub fn endpoint(&self, slot: Slot) -> Endpoint
+        requires { slot < length self.now.slots }
+        ensures value { result ≡ endpoint_of self.now slot }
+        ensures below { result < 2 ^ 31 }
+        ensures slot { result ≡ (process_at self.now slot).generation * 1024 + slot }
+    {
+        self.process(slot).generation * 1024 + u32::from(slot)
+    }
+
+    /// How many slots are used.
+    pub fn used(&self) -> u8
+        ensures value { result ≡ length self.now.slots }
+        ensures few { result ≤ 32 }
+    {
+        self.slots.len() as u8
+    }
+
+    /// The slot whose quantum was renewed last.
+    pub fn renewed(&self) -> Option<Slot>
+        ensures { result ≡ self.now.renewed }
+    {
+        self.renewed
+    }
+
+    /// The ticks since boot.
+    pub fn uptime(&self) -> u32
+        ensures { result ≡ self.now.uptime }
+    {
+        self.uptime
+    }
+
+    /// A delivery that is kept, counted from the oldest.
+    pub fn delivery(&self, index: usize) -> Option<Delivery>
+        ensures { result ≡ slice_get self.now.deliveries index }
+    {
+        self.deliveries.get(index)
+    }
+
+    /// Opens what always holds of a table to a proof.
+    pub fn sound(&self)
+        ensures { Sound self.now }
+    {
+        let _slots = &self.slots;
+    }
+}

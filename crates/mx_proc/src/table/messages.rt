@@ -1,0 +1,176 @@
+//! Results, messages and notifications.
+
+ghost use Rattle.std.specs.Prelude.{◌≡◌, ◌≢◌, ℕ, ◌+◌, ◌<◌, ◌≤◌, ◌^◌, true, length};
+ghost use Rattle.std.specs.Option.{ForSome};
+ghost use Rattle.mx_proc.specs.Frame.{frame};
+ghost use Rattle.mx_proc.specs.Messages.{notification, type_of};
+ghost use Rattle.mx_proc.specs.Partners.{place_of, lines_told};
+ghost use Rattle.mx_proc.specs.Sound.{HasBuffer};
+ghost use Rattle.mx_proc.specs.World.{process_at, endpoint_of, buffer_at, memory_at, with_result, received_at, delivered, noticed, with_pending, source_endpoint, logged, without_pending, message_of, with_process, IsUsedSource, pending_source};
+
+use super::Table;
+use crate::deliveries::{Delivery, DeliveryKind};
+use crate::process::{Partner, Slot, Source};
+use mx_word::{Register, Size, read_dword, write_dword};
+
+impl Table {
+    /// Sets the result of a process's trap, in EAX.
+    pub fn set_result(&mut self, slot: Slot, value: u32)
+        requires slot { slot < length self.old.slots }
+        ensures value { self.new ≡ with_result self.old slot value }
+        ensures frame { frame self.new ≡ frame self.old }
+        ensures states { (s : ℕ) → (process_at self.new s).state ≡ (process_at self.old s).state }
+        ensures used { length self.new.slots ≡ length self.old.slots }
+    {
+        let process = &mut self.slots[slot as usize];
+        process.image.regs.set(Size::Dword, Register::Eax, value);
+    }
+
+    /// Writes a message to the buffer of a process.
+    pub fn receive(&mut self, slot: Slot, message: &[u8; 36])
+        requires slot { slot < length self.old.slots }
+        requires inside { HasBuffer (process_at self.old slot) }
+        ensures value { self.new ≡ received_at self.old slot message.now }
+        ensures frame { frame self.new ≡ frame self.old }
+    {
+        let process = &mut self.slots[slot as usize];
+        let at = process.image.register(Register::Ebx);
+        process.image.memory.put(at, message);
+    }
+
+    /// Keeps a delivery; the oldest past 1,024 goes.
+    fn log(&mut self, from: u32, to: u32, message_type: u32, kind: DeliveryKind)
+        ensures value { self.new ≡ logged self.old from to message_type kind }
+        ensures frame { frame self.new ≡ frame self.old }
+    {
+        self.deliveries.push(Delivery {
+            from,
+            to,
+            message_type,
+            kind,
+        });
+    }
+
+    /// The message at the buffer of a process, with the source written by the kernel.
+    fn message(&self, slot: Slot) -> [u8; 36]
+        requires slot { slot < length self.now.slots }
+        requires inside { HasBuffer (process_at self.now slot) }
+        ensures { result ≡ message_of self.now slot }
+    {
+        let source = self.endpoint(slot);
+        let image = &self.slots[slot as usize].image;
+        let mut message = image.memory.message(image.register(Register::Ebx));
+        write_dword(&mut message, source);
+        message
+    }
+
+    /// Brings the message of one process to another.
+    #[tactic(auto, unfolding(crate::specs::World::delivered))]
+    pub fn deliver(&mut self, from: Slot, to: Slot)
+        requires from { from < length self.old.slots }
+        requires to { to < length self.old.slots }
+        requires readable { HasBuffer (process_at self.old from) }
+        requires writable { HasBuffer (process_at self.old to) }
+        ensures value { self.new ≡ delivered self.old from to }
+        ensures frame { frame self.new ≡ frame self.old }
+        ensures others { (s : ℕ) → s ≢ to → process_at self.new s ≡ process_at self.old s }
+        ensures states { (s : ℕ) → (process_at self.new s).state ≡ (process_at self.old s).state }
+        ensures used { length self.new.slots ≡ length self.old.slots }
+        ensures waits { self.new.waits ≡ self.old.waits }
+    {
+        let message = self.message(from);
+        let (source, destination) = (self.endpoint(from), self.endpoint(to));
+        self.receive(to, &message);
+        self.log(
+            source,
+            destination,
+            read_dword(&message[4..]),
+            DeliveryKind::Message,
+        );
+    }
+
+    /// The number that a notification has as its source.
+    fn source_endpoint(&self, source: Source) -> u32
+        requires { IsUsedSource self.now source }
+        ensures { result ≡ source_endpoint self.now source }
+    {
+        match source {
+            Source::Hardware => 0xFFFF_FFFF,
+            Source::Clock => 0xFFFF_FFFD,
+            Source::Slot(slot) => self.endpoint(slot),
+        }
+    }
+
+    /// Clears the pending bit of a source and the lines that it tells, which are the answer.
+    fn clear_pending(&mut self, slot: Slot, source: Source) -> u32
+        requires slot { slot < length self.old.slots }
+        requires source { IsUsedSource self.old source }
+        ensures value { self.new ≡ with_process self.old slot (without_pending (process_at self.old slot) source) }
+        ensures lines { result ≡ lines_told source (process_at self.old slot).lines }
+        ensures frame { frame self.new ≡ frame self.old }
+    {
+        let process = &mut self.slots[slot as usize];
+        process.pending[source.place() as usize] = false;
+        let told = source.lines_told(process.lines);
+        process.lines -= told;
+        told
+    }
+
+    /// Brings a notification to a process, whose pending bit for it is cleared.
+    #[tactic(auto, unfolding(crate::specs::World::noticed))]
+    pub fn notice(&mut self, slot: Slot, source: Source)
+        requires slot { slot < length self.old.slots }
+        requires source { IsUsedSource self.old source }
+        requires inside { HasBuffer (process_at self.old slot) }
+        ensures value { self.new ≡ noticed self.old slot source }
+        ensures frame { frame self.new ≡ frame self.old }
+        ensures others { (s : ℕ) → s ≢ slot → process_at self.new s ≡ process_at self.old s }
+        ensures states { (s : ℕ) → (process_at self.new s).state ≡ (process_at self.old s).state }
+        ensures used { length self.new.slots ≡ length self.old.slots }
+        ensures waits { self.new.waits ≡ self.old.waits }
+    {
+        let from = self.source_endpoint(source);
+        let to = self.endpoint(slot);
+        let uptime = self.uptime;
+        let lines = self.clear_pending(slot, source);
+        self.receive(slot, &notification(from, uptime, lines));
+        self.log(from, to, 4096, DeliveryKind::Notification);
+    }
+
+    /// Sets the pending bit of a source.
+    pub fn set_pending(&mut self, slot: Slot, source: Source)
+        requires slot { slot < length self.old.slots }
+        requires source { IsUsedSource self.old source }
+        ensures value { self.new ≡ with_pending self.old slot (place_of source) true }
+        ensures frame { frame self.new ≡ frame self.old }
+        ensures states { (s : ℕ) → (process_at self.new s).state ≡ (process_at self.old s).state }
+        ensures used { length self.new.slots ≡ length self.old.slots }
+        ensures waits { self.new.waits ≡ self.old.waits }
+    {
+        let process = &mut self.slots[slot as usize];
+        process.pending[source.place() as usize] = true;
+    }
+
+    /// The first source that has a pending bit at a slot and that the partner may be.
+    pub fn first_pending(&self, slot: Slot, partner: Partner) -> Option<Source>
+        requires { slot < length self.now.slots }
+        ensures value { result ≡ pending_source self.now slot partner }
+        ensures used { ForSome result (λ source. IsUsedSource self.now source) }
+    {
+        let known = 2 + self.slots.len();
+        let bits = &self.slots[slot as usize].pending[..known];
+        Some(Source::of_place(partner.first_pending(bits)?))
+    }
+}
+
+/// The bytes of a notification.
+fn notification(source: u32, uptime: u32, lines: u32) -> [u8; 36]
+    ensures { result ≡ notification source uptime lines }
+{
+    let mut message = [0; 36];
+    write_dword(&mut message, source);
+    write_dword(&mut message[4..], 4096);
+    write_dword(&mut message[8..], uptime);
+    write_dword(&mut message[12..], lines);
+    message
+}

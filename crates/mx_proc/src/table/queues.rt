@@ -1,0 +1,131 @@
+//! Moves between states and queues. Each leaves a sound table.
+
+ghost use Rattle.std.specs.Prelude.{◌≡◌, ◌≢◌, ℕ, false, true, ◌<◌, ◌≤◌, ◌↔◌, IsTrue, IfSome, length};
+ghost use Rattle.mx_proc.specs.Queues.{picked};
+ghost use Rattle.mx_proc.specs.Frame.{frame};
+ghost use Rattle.mx_proc.specs.Sound.{HasBuffer};
+ghost use Rattle.mx_proc.specs.States.{IsAlone, is_ready, is_sending, is_blocked, is_out};
+ghost use Rattle.mx_proc.specs.Waits.{caller_of, leads, Reaches};
+ghost use Rattle.mx_proc.specs.World.{process_at, with_state, to_front as front_of, to_end as end_of, unqueued, unblocked, blocked};
+
+use super::Table;
+use crate::process::{Partner, Slot, State};
+
+impl Table {
+    /// Makes a process that is in no queue wait for a message, or the like: it stays in none.
+    pub fn set_state(&mut self, slot: Slot, state: State)
+        requires slot { slot < length self.old.slots }
+        requires alone { IsAlone (process_at self.old slot).state }
+        requires still { IsAlone state }
+        requires home { is_out (process_at self.old slot).state ≡ false }
+        requires stays { is_out state ≡ false }
+        requires inside { is_blocked state ≡ true → HasBuffer (process_at self.old slot) }
+        ensures value { self.new ≡ with_state self.old slot state }
+        ensures frame { frame self.new ≡ frame self.old }
+    {
+        let process = &mut self.slots[slot as usize];
+        process.state = state;
+    }
+
+    /// Makes a process ready, at the front of the list of its level.
+    pub fn to_front(&mut self, slot: Slot)
+        requires slot { slot < length self.old.slots }
+        requires alone { IsAlone (process_at self.old slot).state }
+        requires home { is_out (process_at self.old slot).state ≡ false }
+        ensures value { self.new ≡ front_of self.old slot }
+        ensures frame { frame self.new ≡ frame self.old }
+    {
+        let process = &mut self.slots[slot as usize];
+        process.state = State::Ready;
+        let level = process.level;
+        self.ready.push_front(level, slot);
+    }
+
+    /// Makes a process ready with a new quantum, at the end of the list of a level.
+    pub fn to_end(&mut self, slot: Slot, level: u8)
+        requires slot { slot < length self.old.slots }
+        requires level { level ≤ 14 }
+        requires best { (process_at self.old slot).best ≤ level }
+        requires alone { IsAlone (process_at self.old slot).state }
+        requires home { is_out (process_at self.old slot).state ≡ false }
+        ensures value { self.new ≡ end_of self.old slot level }
+        ensures frame { frame self.new ≡ frame self.old }
+    {
+        let process = &mut self.slots[slot as usize];
+        process.state = State::Ready;
+        process.level = level;
+        process.ticks = process.quantum;
+        self.ready.push_back(level, slot);
+        self.renewed = Some(slot);
+    }
+
+    /// Takes a ready process out of the list of its level.
+    pub fn unqueue(&mut self, slot: Slot)
+        requires slot { slot < length self.old.slots }
+        requires ready { is_ready (process_at self.old slot).state ≡ true }
+        ensures value { self.new ≡ unqueued self.old slot }
+        ensures frame { frame self.new ≡ frame self.old }
+    {
+        let process = &mut self.slots[slot as usize];
+        process.state = State::Home;
+        let level = process.level;
+        self.ready.remove(level, slot);
+    }
+
+    /// The front of the lowest list that isn't empty.
+    pub fn pick(&self) -> Option<Slot>
+        ensures value { result ≡ picked self.now.ready }
+    {
+        self.ready.pick()
+    }
+
+    /// Blocks a send, behind the others. A chain of blocked sends from its destination must not lead
+    /// back to it.
+    pub fn block(&mut self, from: Slot, to: Slot, state: State)
+        requires slot { from < length self.old.slots }
+        requires to { to < length self.old.slots }
+        requires apart { from ≢ to }
+        requires free { Reaches self.old.waits to from → ⊥ }
+        requires alone { IsAlone (process_at self.old from).state }
+        requires home { is_out (process_at self.old from).state ≡ false }
+        requires still { is_ready state ≡ false }
+        requires sends { is_sending state ≡ true }
+        requires inside { HasBuffer (process_at self.old from) }
+        ensures value { self.new ≡ blocked self.old from to state }
+        ensures frame { frame self.new ≡ frame self.old }
+    {
+        let process = &mut self.slots[from as usize];
+        process.state = state;
+        self.waits.push(from, to);
+    }
+
+    /// Takes a blocked send away.
+    pub fn unblock(&mut self, from: Slot)
+        requires slot { from < length self.old.slots }
+        requires sends { is_sending (process_at self.old from).state ≡ true }
+        ensures value { self.new ≡ unblocked self.old from }
+        ensures frame { frame self.new ≡ frame self.old }
+    {
+        let process = &mut self.slots[from as usize];
+        process.state = State::Home;
+        self.waits.remove(from);
+    }
+
+    /// Of those that the partner may be, the first that waits for a slot.
+    pub fn caller(&self, to: Slot, partner: Partner) -> Option<Slot>
+        ensures value { result ≡ caller_of to partner self.now.waits }
+        ensures used { IfSome result (λ p. p < length self.now.slots) }
+        ensures sending { IfSome result (λ p. is_sending (process_at self.now p).state ≡ true) }
+        ensures buffer { IfSome result (λ p. HasBuffer (process_at self.now p)) }
+    {
+        self.waits.caller(to, partner)
+    }
+
+    /// Whether a chain of blocked sends leads from one slot to another.
+    pub fn reaches(&self, from: Slot, to: Slot) -> bool
+        ensures value { result ≡ leads self.now.waits from to }
+        ensures law { IsTrue result ↔ Reaches self.now.waits from to }
+    {
+        self.waits.reaches(from, to)
+    }
+}

@@ -1,0 +1,7 @@
+use Rattle.std.proofs.Common.{refl}
+use Rattle.mx_encode.specs.Forms.{has_form}
+use Rattle.mx_statement.proofs.Spelled.{given}
+use Rattle.mx_statement.proofs.instruction.Instruction.new.Goals as goal
+
+pub returns : goal.returns
+returns c = given c.args.insn c.args.immediate c.args.displacement _ (has_form c.args.insn) refl
