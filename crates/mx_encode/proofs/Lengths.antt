@@ -1,11 +1,10 @@
 -- How many bytes are chosen doesn't hang on a displacement that is marked wide.
-use Rattle.std.proofs.Common.{◌≡◌, ℕ, suc, ◌+◌, Bool, true, false, cond, eqb, List, ◌++◌, length, Option, Some, None, refl, sym, ap, ◌∙◌, subst, IsTrue}
+use Rattle.std.proofs.Common.{◌≡◌, ℕ, suc, ◌+◌, Bool, true, false, cond, eqb, List, ◌++◌, length, Option, Some, None, refl, sym, ap, ◌∙◌, IsTrue}
 use Rattle.std.proofs.lemmas.List.{length-append}
 use Rattle.mx_word.specs.declared.size.Size.TheVariants.{Byte, Word, Dword}
 use Rattle.mx_word.specs.declared.names.Register.{Register}
 use Rattle.mx_word.specs.declared.names.Unary.TheVariants.{Inc, Dec, Not, Neg}
 use Rattle.mx_word.specs.Word.{bytes_of}
-use Rattle.mx_insn.specs.declared.insn.Memory.{Memory}
 use Rattle.mx_insn.specs.declared.insn.Index.{Index}
 use Rattle.mx_insn.specs.declared.insn.Operand.{Operand}
 use Rattle.mx_insn.specs.declared.insn.Operand.TheVariants as operand
@@ -19,7 +18,6 @@ use Rattle.mx_insn.specs.declared.insn.PortSize.TheVariants as port_sizes
 use Rattle.mx_insn.specs.declared.insn.Insn.{Insn}
 use Rattle.mx_insn.specs.declared.insn.Insn.TheVariants as insns
 use Rattle.mx_insn.specs.Spelling.{spelling, prefix_bytes, escape_bytes, modrm_bytes, sib_bytes, displacement_length}
-use Rattle.mx_encode.specs.declared.Wide.{Wide}
 use Rattle.mx_encode.specs.declared.fields.Rm.{Rm}
 use Rattle.mx_encode.specs.declared.fields.Number.{Number}
 use Rattle.mx_insn.specs.declared.row.Row.{Row}
@@ -27,7 +25,7 @@ use Rattle.mx_encode.specs.Numbers.{number_bytes, is_short, shortens}
 use Rattle.mx_encode.specs.Places.{place_for, sib_of, mode_of, base_number}
 use Rattle.mx_encode.specs.Choice.{Choice, choice, bare}
 use Rattle.mx_encode.specs.Chosen.{Chosen, fields_of}
-use Rattle.mx_encode.specs.Filled.{memory_at, operand_at, with_displacement}
+use Rattle.mx_encode.specs.Filled.{operand_at, with_displacement}
 
 -- ---- the length of a choice
 
