@@ -22,11 +22,12 @@ mod messages;
 mod queues;
 
 /// An endpoint whose process is dead, or that never was one.
-#[derive(Clone, Copy, Debug, PartialEq, Eq)]
+#[derive(Clone, Copy, PartialEq, Eq)]
 pub struct Stale;
 
 /// The processes with their queues, the devices and the last deliveries. All the room that they need
 /// is taken by `new` and `add`.
+#[derive(Drop)]
 pub struct Table {
     slots: Vec<Process>,
     ready: Ready,
