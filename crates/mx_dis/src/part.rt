@@ -9,7 +9,7 @@ use mx_decode::decode;
 use mx_insn::Insn;
 
 /// What stands in a text from one place to the next.
-#[derive(Clone, Copy, PartialEq, Eq)]
+#[derive(Clone, Copy)]
 pub enum Part {
     /// An instruction, and how many bytes spell it.
     Instruction(Insn, u8),
