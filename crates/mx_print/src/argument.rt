@@ -11,7 +11,7 @@ use mx_insn::{
 };
 
 /// An operand as it is written.
-#[derive(Clone, Copy, Debug, PartialEq, Eq)]
+#[derive(Clone, Copy)]
 pub enum Argument {
     Register(Size, Register),
     Memory(Size, Memory),
@@ -21,7 +21,7 @@ pub enum Argument {
 }
 
 /// The operands of one instruction, the destination first.
-#[derive(Clone, Copy, Debug, PartialEq, Eq)]
+#[derive(Clone, Copy)]
 pub enum Arguments {
     Nothing,
     One(Argument),

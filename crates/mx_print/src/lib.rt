@@ -10,6 +10,3 @@ mod words;
 pub use argument::{Argument, Arguments};
 pub use number::{push_eight_digits, push_number};
 pub use statement::push_statement;
-
-#[cfg(test)]
-mod tests;
