@@ -1,12 +1,12 @@
-use Rattle.std.proofs.Common.{◌≡◌, ◌≢◌, ℕ, ◌+◌, ◌<◌, ◌≤◌, ◌==◌, inl, inr, nat_lt, Bool, true, false, cond, List, [], ◌∷◌, ◌++◌, length, get_or, slice_set, refl, sym, ap, ◌∙◌, arith, subst, zero-add, map, length-set, get_or-set_same, get_or-set_other, Option, Some, None, IfSome, length-append}
-use Rattle.std.proofs.lemmas.Bool.{cases_eq, cases_lt, lt-ltb, eq-eqb, ne_eqb}
+use Rattle.std.proofs.Common.{suc, ◌≡◌, ◌≢◌, ℕ, ◌+◌, ◌<◌, ◌≤◌, ◌==◌, inl, inr, nat_lt, Bool, true, false, cond, List, [], ◌∷◌, ◌++◌, length, get_or, slice_set, refl, sym, ap, ◌∙◌, arith, subst, zero-add, map, length-set, get_or-set_same, get_or-set_other, Option, Some, None, IfSome, length-append}
+use Rattle.std.proofs.lemmas.Bool.{cases_Bool, cases_eq, cases_lt, lt-ltb, eq-eqb, ne_eqb}
 use Rattle.std.proofs.Math.ListN.{get_or-eq_default, get_or-append}
 use Rattle.std.proofs.Math.Seq.{get_or-append_seam}
 use Rattle.mx_proc.specs.declared.process.Process.{Process}
 use Rattle.mx_proc.specs.declared.process.State.{State}
 use Rattle.mx_proc.specs.declared.process.State.TheVariants.{Home, Ready, Out, Doomed, Sending, Calling, Receiving, Awaiting, Down}
 use Rattle.mx_proc.specs.declared.devices.Devices.{Devices}
-use Rattle.mx_proc.specs.Queues.{tally, times, without, list_at, InNoList}
+use Rattle.mx_proc.specs.Queues.{tally, times, without, list_at, picked, InNoList}
 use Rattle.mx_proc.specs.States.{is_ready, is_sending, is_blocked, IsAlone}
 use Rattle.mx_proc.specs.Waits.{sends_of, without_from, IsPair, Reaches, Acyclic}
 use Rattle.mx_proc.specs.World.{World, nobody, process_at, with_process}
@@ -336,3 +336,24 @@ waits_room w s h b q =
     ] in
     let shorter : length from < 32 = has_room from s most (omega (arith, h.few)) (sends-times s w.waits ∙ alone_waiting w s h q) in
     omega (arith, length-from w.waits)
+
+-- who is picked stands in a list
+picked_listed : (lists : List (List ℕ)) (s : ℕ) → picked lists ≡ Some s → (level : ℕ) × (1 ≤ times s (list_at lists level))
+picked_listed [] s e = cc
+picked_listed ([] ∷ lists) s e = let k = picked_listed lists s e in (suc k.0, k.1)
+picked_listed ((x ∷ xs) ∷ lists) s e = let is : x ≡ s = cc in (0, omega (arith, tally-same x s is))
+
+-- so it is ready, and used
+pub picked_ready : (w : World) (s : ℕ) → Sound w → picked w.ready ≡ Some s → (s < length w.slots) × (is_ready (process_at w s).state ≡ true)
+picked_ready w s h e =
+    let k : (level : ℕ) × (1 ≤ times s (list_at w.ready level)) = picked_listed w.ready s e in
+    let ready : is_ready (process_at w s).state ≡ true = elim (cases_Bool (is_ready (process_at w s).state)) [
+      | inl y ↦ y
+      | inr n ↦ absurd (omega (arith, k.1, alone_listed w s h n k.0))
+    ] in (
+      elim (cases_lt s (length w.slots)) [
+        | inl lt ↦ lt
+        | inr ge ↦ let f : false ≡ true = ap (λ (p : Process). is_ready p.state) (sym (get_or-eq_default w.slots nobody ge)) ∙ ready in cc
+      ],
+      ready,
+    )

@@ -75,6 +75,8 @@ impl Table {
     /// The front of the lowest list that isn't empty.
     pub fn pick(&self) -> Option<Slot>
         ensures value { result ≡ picked self.now.ready }
+        ensures used { IfSome result (λ s. s < length self.now.slots) }
+        ensures ready { IfSome result (λ s. is_ready (process_at self.now s).state ≡ true) }
     {
         self.ready.pick()
     }

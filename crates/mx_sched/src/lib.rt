@@ -1,0 +1,66 @@
+//! Who runs next.
+#![tactic(auto)]
+
+ghost use Rattle.std.specs.Prelude.{◌≡◌, ◌≢◌, ℕ, ◌<◌, true, false, length, IfSome};
+ghost use Rattle.mx_proc.specs.Queues.{picked};
+ghost use Rattle.mx_proc.specs.Frame.{frame};
+ghost use Rattle.mx_proc.specs.States.{IsAlone, is_ready, is_out};
+ghost use Rattle.mx_proc.specs.World.{process_at, unqueued};
+ghost use Rattle.mx_sched.specs.Queueing.{queued};
+
+use mx_proc::{Slot, Table};
+
+/// The lowest level of a process. The list below it, 15, is the idle list, and stays empty.
+const LOWEST: u8 = 14;
+
+/// Queues a process that is at home and in no queue: to the front of its list where ticks are left,
+/// else with a new quantum and perhaps on another level to the end of its list.
+#[tactic(auto, unfolding(crate::specs::Queueing::queued))]
+pub fn enqueue(table: &mut Table, slot: Slot)
+    requires slot { slot < length table.old.slots }
+    requires alone { IsAlone (process_at table.old slot).state }
+    requires home { is_out (process_at table.old slot).state ≡ false }
+    ensures value { table.new ≡ queued table.old slot }
+    ensures frame { frame table.new ≡ frame table.old }
+    ensures used { length table.new.slots ≡ length table.old.slots }
+    ensures waits { table.new.waits ≡ table.old.waits }
+    ensures others { (s : ℕ) → s ≢ slot → process_at table.new s ≡ process_at table.old s }
+{
+    let process = table.process(slot);
+    if process.ticks > 0 {
+        table.to_front(slot);
+        return;
+    }
+    let (level, best) = (process.level, process.best);
+    let again = match table.renewed() {
+        Some(last) => last == slot,
+        None => false,
+    };
+    let next = if again {
+        if level < LOWEST { level + 1 } else { LOWEST }
+    } else if best < level {
+        level - 1
+    } else {
+        best
+    };
+    table.to_end(slot, next);
+}
+
+/// Takes a ready process out of its list.
+pub fn dequeue(table: &mut Table, slot: Slot)
+    requires slot { slot < length table.old.slots }
+    requires ready { is_ready (process_at table.old slot).state ≡ true }
+    ensures value { table.new ≡ unqueued table.old slot }
+    ensures frame { frame table.new ≡ frame table.old }
+{
+    table.unqueue(slot);
+}
+
+/// The front of the lowest list that isn't empty: it is ready.
+pub fn pick(table: &Table) -> Option<Slot>
+    ensures value { result ≡ picked table.now.ready }
+    ensures used { IfSome result (λ s. s < length table.now.slots) }
+    ensures ready { IfSome result (λ s. is_ready (process_at table.now s).state ≡ true) }
+{
+    table.pick()
+}
