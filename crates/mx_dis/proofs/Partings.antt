@@ -1,13 +1,14 @@
 -- What partings have in common.
-use Rattle.std.proofs.Common.{◌≡◌, ℕ, zero, suc, ◌<◌, ◌≤◌, get_or, arith, refl, sym, ◌∙◌, ap, subst, List, [], ◌∷◌, ◌++◌, length, take, drop, length-append, length-take}
+use Rattle.std.proofs.Common.{◌≡◌, ℕ, zero, suc, ◌<◌, ◌≤◌, get_or, arith, refl, sym, ◌∙◌, ap, subst, List, [], ◌∷◌, ◌++◌, length, take, drop, length-append, length-take, length-drop}
 use Rattle.std.proofs.lemmas.List.{take-append-drop, drop-drop}
+use Rattle.std.proofs.lemmas.List.Elements.{All-drop}
 use Rattle.std.proofs.Math.Seq.{take-append_seam, drop-append_seam}
 use Rattle.std.specs.Prelude.{◌↔◌, Result, Ok, Err}
 use Rattle.mx_insn.specs.declared.insn.Insn.{Insn}
-use Rattle.mx_insn.specs.Spelling.{Spells, AreBytes}
+use Rattle.mx_insn.specs.Spelling.{Spells, AreBytes, IsOpen}
 use Rattle.mx_decode.specs.declared.DecodeFault.{DecodeFault}
 use Rattle.mx_decode.specs.declared.DecodeFault.TheVariants.{NotInTable, Short}
-use Rattle.mx_decode.specs.Decode.{SpellsFirst, front}
+use Rattle.mx_decode.specs.Decode.{SpellsFirst, NoneFirst, front}
 use Rattle.mx_dis.specs.declared.part.Part.{Part}
 use Rattle.mx_dis.specs.declared.part.Part.TheVariants.{Instruction, Byte}
 use Rattle.mx_dis.specs.Parting.{IsParting, BeginsWith, total_size}
@@ -92,3 +93,36 @@ none_first Short x y = (y.0 refl).0
 pub cut_one : (t : List ℕ) → 0 < length t → t ≡ get_or t 0 0 ∷ drop 1 t
 cut_one [] lt = absurd (omega arith)
 cut_one (x ∷ xs) lt = refl
+
+abbrev pub FrontOk : Type 0
+FrontOk = (bytes : List ℕ) (i : Insn) (k : ℕ) → AreBytes bytes → (front bytes ≡ Ok (i, k)) ↔ SpellsFirst bytes k i
+
+abbrev pub FrontNotInTable : Type 0
+FrontNotInTable = (bytes : List ℕ) → AreBytes bytes → (front bytes ≡ Err NotInTable) ↔ (NoneFirst bytes × ¬ IsOpen bytes)
+
+abbrev pub FrontShort : Type 0
+FrontShort = (bytes : List ℕ) → AreBytes bytes → (front bytes ≡ Err Short) ↔ (NoneFirst bytes × IsOpen bytes)
+
+abbrev pub SomeParting : List ℕ → Type 0
+SomeParting t = (parts : List Part) × IsParting t parts
+
+byte_first : (t : List ℕ) → 0 < length t → NoneFirst t → SomeParting (drop 1 t) → SomeParting t
+byte_first t lt none (parts, p) = (Byte (get_or t 0 0) ∷ parts, (drop 1 t, cut_one t lt, none, p))
+
+-- the first part, by what decoding answers, and a parting of what is behind it
+first_and_rest : FrontOk → FrontNotInTable → FrontShort → TakesBytes → (t : List ℕ) → AreBytes t → 0 < length t
+    → (r : Result (Insn × ℕ) DecodeFault) → front t ≡ r → ((k : ℕ) → 1 ≤ k → SomeParting (drop k t)) → SomeParting t
+first_and_rest ok nit short least t b lt (Ok (i, k)) e rest =
+    let x = (ok t i k b).0 e in
+    let more = rest k (least t k i x) in
+    (Instruction i k ∷ more.0, (x, more.1))
+first_and_rest ok nit short least t b lt (Err NotInTable) e rest = byte_first t lt ((nit t b).0 e).0 (rest 1 (omega arith))
+first_and_rest ok nit short least t b lt (Err Short) e rest = byte_first t lt ((short t b).0 e).0 (rest 1 (omega arith))
+
+-- a list of at most n bytes has a parting
+pub some_parting : FrontOk → FrontNotInTable → FrontShort → TakesBytes → (n : ℕ) (t : List ℕ) → length t ≤ n → AreBytes t → SomeParting t
+some_parting ok nit short least n [] le b = ([], refl)
+some_parting ok nit short least zero (x ∷ t) le b = absurd (omega arith)
+some_parting ok nit short least (suc n) (x ∷ t) le b =
+    first_and_rest ok nit short least (x ∷ t) b (omega arith) (front (x ∷ t)) refl
+    (λ k one. some_parting ok nit short least n (drop k (x ∷ t)) (omega (arith, length-drop k (x ∷ t))) (All-drop (λ b. b < 256) k (x ∷ t) b))

@@ -2,7 +2,7 @@
 
 ghost use Rattle.std.specs.Prelude.{◌≡◌, ◌≤◌, ◌+◌, ◌++◌, ℕ, List, length, drop};
 ghost use Rattle.mx_insn.specs.declared.insn.Insn.{Insn};
-ghost use Rattle.mx_insn.specs.Spelling.{Spells};
+ghost use Rattle.mx_insn.specs.Spelling.{AreBytes, Spells};
 ghost use Rattle.mx_decode.specs.Decode.{SpellsFirst};
 ghost use Rattle.mx_dis.specs.declared.part.Part.{Part};
 ghost use Rattle.mx_dis.specs.Parting.{IsParting, BeginsWith, total_size};
@@ -19,11 +19,13 @@ pub fn takes_bytes()
     front_of_fifteen();
 }
 
-/// A text has one parting.
+/// Bytes have just one parting.
 pub fn one_parting()
-    ensures { (t : List ℕ) (a b : List Part) → IsParting t a → IsParting t b → a ≡ b }
+    ensures some { (t : List ℕ) → AreBytes t → (parts : List Part) × IsParting t parts }
+    ensures one { (t : List ℕ) (a b : List Part) → IsParting t a → IsParting t b → a ≡ b }
 {
     takes_bytes();
+    front_is();
     one_spelling();
 }
 
