@@ -1,5 +1,5 @@
 pub mod Answering
 mod Given
-mod OneWords
+mod AskedWords
 pub mod Telling
 mod Showing

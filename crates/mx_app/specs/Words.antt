@@ -1,5 +1,5 @@
 -- The command line's grammar, and what a request says of its words.
-use Rattle.std.specs.Prelude.{◌≡◌, ℕ, true, false, List, [], ◌∷◌, Option, Some, None, Ok, codes, pos}
+use Rattle.std.specs.Prelude.{◌≡◌, ◌⊎◌, is_some, ℕ, true, false, List, [], ◌∷◌, Option, Some, None, Ok, codes, pos}
 use Rattle.std.specs.Str.Parse.{ParsesUnsigned}
 use Rattle.std.specs.declared.num.ParseIntError.{ParseIntError}
 use Rattle.clap.specs.Words.{App, Row, Rule, Shape, Text, first_of, new_rule, one_of}
@@ -7,7 +7,7 @@ use Rattle.clap.specs.Simple.{new_shape}
 use Rattle.clap.specs.declared.builder.action.ArgAction.TheVariants.{Set}
 use Rattle.clap.specs.declared.builder.value_parser.ValueParser.TheVariants.{Signed}
 use Rattle.mx_app.specs.declared.words.Request.{Request}
-use Rattle.mx_app.specs.declared.words.Request.TheVariants.{One}
+use Rattle.mx_app.specs.declared.words.Request.TheVariants.{One, Dis, Nm}
 
 -- ---- the grammar
 
@@ -27,16 +27,22 @@ subcommand name arguments = record (new_shape name) { rules = arguments }
 abbrev pub one_shape : Shape
 one_shape = subcommand (codes "one") (wanted (codes "FILE") ∷ wanted_number (codes "N") ∷ [])
 
+-- `dis FILE` and `nm FILE`
+abbrev pub dis_shape : Shape
+dis_shape = subcommand (codes "dis") (wanted (codes "FILE") ∷ [])
+
+abbrev pub nm_shape : Shape
+nm_shape = subcommand (codes "nm") (wanted (codes "FILE") ∷ [])
+
 -- one of the subcommands is wanted
-abbrev pub mx_grammar : App
-mx_grammar = record {
-  top = record (new_shape (codes "mx")) {
-    is_leaf = false;
-    subcommand_required = true;
-    disable_help_subcommand = true;
-  };
-  subs = one_shape ∷ [];
+abbrev pub top_app : App
+top_app = record {
+  top = record (new_shape (codes "mx")) { subcommand_required = true; disable_help_subcommand = true };
+  subs = [];
 }
+
+abbrev pub mx_grammar : App
+mx_grammar = record { top = record top_app.top { is_leaf = false }; subs = one_shape ∷ dis_shape ∷ nm_shape ∷ [] }
 
 -- ---- requests
 
@@ -51,7 +57,19 @@ abbrev pub AsksBy : Request → Text → List Row → Type 0
 AsksBy (One file steps) name rows =
     (name ≡ codes "one") × (first_of (codes "FILE") rows ≡ Some file.now)
     × HasNumber (codes "N") rows steps
+AsksBy (Dis file) name rows = (name ≡ codes "dis") × (first_of (codes "FILE") rows ≡ Some file.now)
+AsksBy (Nm file) name rows = (name ≡ codes "nm") × (first_of (codes "FILE") rows ≡ Some file.now)
 
 abbrev pub Asks : Request → Option (Text × List Row) → Type 0
 Asks request (Some found) = AsksBy request found.0 found.1
 Asks request None = ⊥
+
+-- what a subcommand's words have: a file, and for `one` a number too
+abbrev pub HasFile : List Row → Type 0
+HasFile rows = is_some (first_of (codes "FILE") rows) ≡ true
+
+abbrev pub HasOne : List Row → Type 0
+HasOne rows = HasFile rows × ((n : ℕ) × HasNumber (codes "N") rows n)
+
+abbrev pub IsAsked : Text → List Row → Type 0
+IsAsked name rows = ((name ≡ codes "one") × HasOne rows) ⊎ (((name ≡ codes "dis") × HasFile rows) ⊎ ((name ≡ codes "nm") × HasFile rows))

@@ -6,6 +6,7 @@ ghost use Rattle.clap.specs.Words.{kind_of};
 ghost use Rattle.mx_app.specs.Failure.{Explains, words_failure_of};
 
 use crate::failure::Failure;
+use crate::listing::{print_listing, print_names};
 use crate::report::print_one;
 use crate::words::{Request, command};
 use clap::error::ErrorKind;
@@ -18,6 +19,33 @@ fn run_one(rt: &(impl Files + Print + AllocGlobal), file: &str, steps: u32) -> R
 {
     let bytes = fs::read(rt, file)?;
     print_one(rt.alloc(), bytes.as_slice(), steps, &mut io::writer(rt))
+}
+
+/// Reads a file and prints its instructions.
+fn run_dis(rt: &(impl Files + Print + AllocGlobal), file: &str) -> Result<(), Failure>
+    ensures { IfErr result (λ failure. failure ≢ Failure.NotText) }
+{
+    let bytes = fs::read(rt, file)?;
+    print_listing(rt.alloc(), bytes.as_slice(), &mut io::writer(rt))
+}
+
+/// Reads a file and prints its symbols.
+fn run_nm(rt: &(impl Files + Print + AllocGlobal), file: &str) -> Result<(), Failure>
+    ensures { IfErr result (λ failure. failure ≢ Failure.NotText) }
+{
+    let bytes = fs::read(rt, file)?;
+    print_names(rt.alloc(), bytes.as_slice(), &mut io::writer(rt))
+}
+
+/// Does what a request asks for.
+fn run(rt: &(impl Files + Print + AllocGlobal), request: Request<'_>) -> Result<(), Failure>
+    ensures { IfErr result (λ failure. failure ≢ Failure.NotText) }
+{
+    match request {
+        Request::One { file, steps } => run_one(rt, file, steps),
+        Request::Dis { file } => run_dis(rt, file),
+        Request::Nm { file } => run_nm(rt, file),
+    }
 }
 
 /// Why the program's words can't be had.
@@ -66,8 +94,8 @@ pub fn perform_words(rt: &(impl Env + Files + Print + Eprint + AllocGlobal)) -> 
         words.push(argument.as_str())?;
     }
     match command(rt.alloc(), words.as_slice()) {
-        Ok(Request::One { file, steps }) => {
-            run_one(rt, file, steps)?;
+        Ok(request) => {
+            run(rt, request)?;
             Ok(0)
         }
         Err(error) => explain(rt, &error),

@@ -3,7 +3,7 @@
 ghost use Rattle.std.specs.Prelude.{◌≡◌, ℕ, IfErr, IfOk, codes, false, is_some, map, true};
 ghost use Rattle.clap.specs.Words.{FailsBy, app_of, fault_of, first_of, found_of, kind_of, rows_of, rule_of, shape_of};
 ghost use Rattle.clap.specs.Words.{subcommand_of, takes};
-ghost use Rattle.mx_app.specs.Words.{Asks, AsksBy, HasNumber, mx_grammar, one_shape, wanted};
+ghost use Rattle.mx_app.specs.Words.{Asks, AsksBy, IsAsked, HasNumber, dis_shape, mx_grammar, nm_shape, one_shape, top_app, wanted};
 
 use clap::error::ErrorKind;
 use clap::{Arg, ArgAction, ArgMatches, Command, Error};
@@ -14,6 +14,10 @@ use std::alloc::Global;
 pub enum Request<'a> {
     /// `one FILE N`.
     One { file: &'a str, steps: u32 },
+    /// `dis FILE`.
+    Dis { file: &'a str },
+    /// `nm FILE`.
+    Nm { file: &'a str },
 }
 
 /// An argument that has to be given, once.
@@ -44,16 +48,49 @@ fn one_grammar<'a>(alloc: Global) -> Result<Command<'a>, Error>
     Ok(command)
 }
 
+/// `dis FILE`, with its help.
+fn dis_grammar<'a>(alloc: Global) -> Result<Command<'a>, Error>
+    ensures shape { IfOk result (λ c. shape_of c ≡ dis_shape) }
+    ensures err { IfErr result (λ e. kind_of e ≡ ErrorKind.OutOfMemory) }
+{
+    let file = wanted(alloc, "FILE", "An a.out file of MINIX 3 for the 80386");
+    let command = Command::new(alloc, "dis")
+        .about("Prints the instructions of a program, one a line")
+        .arg(file)?;
+    Ok(command)
+}
+
+/// `nm FILE`, with its help.
+fn nm_grammar<'a>(alloc: Global) -> Result<Command<'a>, Error>
+    ensures shape { IfOk result (λ c. shape_of c ≡ nm_shape) }
+    ensures err { IfErr result (λ e. kind_of e ≡ ErrorKind.OutOfMemory) }
+{
+    let file = wanted(alloc, "FILE", "An a.out file of MINIX 3 for the 80386");
+    let command = Command::new(alloc, "nm")
+        .about("Prints the symbols of a program, one a line")
+        .arg(file)?;
+    Ok(command)
+}
+
+/// The command line before its subcommands.
+fn top_grammar<'a>(alloc: Global) -> Command<'a>
+    ensures { app_of result ≡ top_app }
+{
+    Command::new(alloc, "mx")
+        .about("A machine for the process layer of MINIX 3.1")
+        .subcommand_required(true)
+        .disable_help_subcommand(true)
+}
+
 /// The command line's grammar, with its help.
 fn grammar<'a>(alloc: Global) -> Result<Command<'a>, Error>
     ensures app { IfOk result (λ c. app_of c ≡ mx_grammar) }
     ensures err { IfErr result (λ e. kind_of e ≡ ErrorKind.OutOfMemory) }
 {
-    let command = Command::new(alloc, "mx")
-        .about("A machine for the process layer of MINIX 3.1")
-        .subcommand_required(true)
-        .disable_help_subcommand(true)
-        .subcommand(one_grammar(alloc)?)?;
+    let command = top_grammar(alloc)
+        .subcommand(one_grammar(alloc)?)?
+        .subcommand(dis_grammar(alloc)?)?
+        .subcommand(nm_grammar(alloc)?)?;
     Ok(command)
 }
 
@@ -68,6 +105,30 @@ fn one_request<'a>(matches: &ArgMatches<'a>) -> Request<'a>
     Request::One { file, steps }
 }
 
+/// The file that `dis` or `nm` asks for, which is there.
+fn file_asked<'a>(matches: &ArgMatches<'a>) -> &'a str
+    requires { is_some (first_of (codes "FILE") (rows_of (found_of matches.now))) ≡ true }
+    ensures { first_of (codes "FILE") (rows_of (found_of matches.now)) ≡ Some result.now }
+{
+    matches.get_str("FILE").unwrap()
+}
+
+/// What a subcommand's words ask for.
+fn request_of<'a>(name: &str, matches: &ArgMatches<'a>) -> Request<'a>
+    requires { IsAsked name.now (rows_of (found_of matches.now)) }
+    ensures { AsksBy result name.now (rows_of (found_of matches.now)) }
+{
+    if name == "one" {
+        return one_request(matches);
+    }
+    let file = file_asked(matches);
+    if name == "dis" {
+        Request::Dis { file }
+    } else {
+        Request::Nm { file }
+    }
+}
+
 /// Reads the words of a command line, the program's own name first.
 pub fn command<'a>(alloc: Global, words: &'a [&'a str]) -> Result<Request<'a>, Error>
     ensures asks { IfOk result (λ r. Asks r (subcommand_of mx_grammar (map (λ s. s.now) words.now))) }
@@ -76,8 +137,8 @@ pub fn command<'a>(alloc: Global, words: &'a [&'a str]) -> Result<Request<'a>, E
     ensures kinds { FailsBy (fault_of mx_grammar (map (λ s. s.now) words.now)) result }
 {
     let matches = grammar(alloc)?.try_get_matches_from(words)?;
-    match matches.subcommand_matches("one") {
-        Some(one) => Ok(one_request(one)),
+    match matches.subcommand() {
+        Some((name, found)) => Ok(request_of(name, found)),
         None => unreachable!(),
     }
 }

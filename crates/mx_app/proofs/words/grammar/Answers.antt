@@ -1,23 +1,22 @@
-use Rattle.std.proofs.Common.{rules, ◌≡◌, ◌∙◌, ap, ap₂, codes, true}
-use Rattle.std.specs.Prelude.{[]}
-use Rattle.clap.specs.Simple.{new_shape}
-use Rattle.clap.specs.Words.{App, Shape, app_of, shape_of, with_subcommand}
+use Rattle.std.proofs.Common.{◌≡◌, ◌∙◌, ap, ap₂, false, true, refl}
+use Rattle.clap.specs.declared.builder.command.Command.{Command}
+use Rattle.clap.specs.Words.{Shape, shape_of, with_subcommand}
+use Rattle.clap.specs.declared.builder.command.Command.TheViews.{out-Command as fields_of}
 use Rattle.clap.proofs.SimpleLemmas.{is_false}
 use Rattle.clap.proofs.WalkLemmas.{both}
-use Rattle.mx_app.specs.Words.{one_shape}
 use Rattle.mx_app.proofs.words.grammar.Goals as goal
 
--- the command before its subcommands
-abbrev start : App
-start = record {
-  top = record (new_shape (codes "mx")) { subcommand_required = true; disable_help_subcommand = true };
-  subs = [];
-}
+-- a command of a plain shape has no global argument
+has_no_globals : (c : Command) (s : Shape) → shape_of c ≡ s → s.is_plain ≡ true → (fields_of c).has_globals ≡ false
+has_no_globals c s e plain =
+    let here : (shape_of c).is_plain ≡ true = ap (λ (x : Shape). x.is_plain) e ∙ plain in
+    is_false _ (both _ _ (both _ _ (both _ _ here).1).1).0
 
 pub returns-clause-app : goal.returns-clause-app
 returns-clause-app c =
-    let one_is : shape_of c.in_ok-one_grammar.field-0 ≡ one_shape = c.in_ok-one_grammar.ensures.shape in
-    let plain : (shape_of c.in_ok-one_grammar.field-0).is_plain ≡ true = ap (λ (s : Shape). s.is_plain) one_is in
-    let start_is : app_of c.disable_help_subcommand.result ≡ start = search rules in
-    c.in_ok-command.ensures.shape (is_false _ (both _ _ (both _ _ (both _ _ plain).1).1).0)
-    ∙ ap₂ with_subcommand start_is one_is
+    let one_is = c.in_ok-one_grammar.ensures.shape in
+    let dis_is = c.in_ok-dis_grammar.ensures.shape in
+    let nm_is = c.in_ok-nm_grammar.ensures.shape in
+    let first = c.in_ok-subcommand.ensures.shape (has_no_globals _ _ one_is refl) ∙ ap₂ with_subcommand c.top_grammar.ensures one_is in
+    let second = c.in_ok-subcommand-2.ensures.shape (has_no_globals _ _ dis_is refl) ∙ ap₂ with_subcommand first dis_is in
+    c.in_ok-command.ensures.shape (has_no_globals _ _ nm_is refl) ∙ ap₂ with_subcommand second nm_is

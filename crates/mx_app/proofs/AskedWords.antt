@@ -1,5 +1,5 @@
--- What the words of `one` have, where the grammar finds no fault with them.
-use Rattle.std.proofs.Common.{◌≡◌, ◌<◌, ◌==◌, ℕ, Bool, true, false, cond, is_some, refl, sym, ap, subst, arith, inl, inr, codes, drop, List, [], ◌∷◌, Option, Some, None, true≢false}
+-- What the words of a subcommand have, where the grammar finds no fault with them.
+use Rattle.std.proofs.Common.{◌≡◌, ◌⊎◌, ◌<◌, ◌==◌, ℕ, Bool, true, false, cond, is_some, refl, sym, ap, subst, arith, inl, inr, codes, drop, List, [], ◌∷◌, Option, Some, None, true≢false}
 use Rattle.std.specs.Prelude.{Ok, option_map, pos, unwrap_or}
 use Rattle.std.specs.Option.{option_map_or}
 use Rattle.std.specs.declared.num.ParseIntError.{ParseIntError}
@@ -13,7 +13,7 @@ use Rattle.clap.specs.Faults.{defaults_fault, entered_fault, level_fault, settle
 use Rattle.clap.specs.Walk.{answers_to, finished, nothing_held, rows_after, settled, stop_after, walk, walk_from}
 use Rattle.clap.specs.declared.builder.value_parser.ValueParser.TheVariants.{Signed}
 use Rattle.clap.proofs.ValueTestLemmas.{accepts-Accepts}
-use Rattle.mx_app.specs.Words.{HasNumber, mx_grammar, one_shape, wanted}
+use Rattle.mx_app.specs.Words.{HasFile, HasNumber, HasOne, IsAsked, mx_grammar, one_shape, wanted}
 use Rattle.mx_app.proofs.Given.{IsOnly, SetsValue, has_wanted, no_fault, value_given}
 
 -- the grammar as a parse sees it: with the help flag, and each argument's place
@@ -27,6 +27,12 @@ head_of (s ∷ rest) = s
 abbrev one_whole : Shape
 one_whole = head_of whole.subs
 
+abbrev dis_whole : Shape
+dis_whole = head_of (drop 1 whole.subs)
+
+abbrev nm_whole : Shape
+nm_whole = head_of (drop 2 whole.subs)
+
 abbrev first_rule : List Rule → Rule
 first_rule [] = wanted (codes "FILE")
 first_rule (a ∷ rest) = a
@@ -36,19 +42,6 @@ file_rule = first_rule one_whole.rules
 
 abbrev steps_rule : Rule
 steps_rule = first_rule (drop 1 one_whole.rules)
-
--- the words enter `one`, which finds no fault with those after its name
-entered_one : (stop : Option (Text × List Text)) → entered_fault whole stop ≡ [] → is_some (entered whole stop) ≡ true
-    → (words : List Text) × (entered whole stop ≡ Some (codes "one", rows_after one_whole.rules [] words)) × (level_fault one_whole [] nothing_held words false [] ≡ [])
-entered_one None e there = absurd (true≢false (sym there))
-entered_one (Some p) e there = go (answers_to p.0 (label_of one_whole)) e there
-  where
-    go : (b : Bool) → option_map_or (λ (s : Shape). level_fault s [] nothing_held p.1 false []) (cond b (Some one_whole) None) [] ≡ []
-        → is_some (option_map (λ (s : Shape). rows_at s p.1) (cond b (Some one_whole) None)) ≡ true
-        → (words : List Text) × (option_map (λ (s : Shape). rows_at s p.1) (cond b (Some one_whole) None) ≡ Some (codes "one", rows_after one_whole.rules [] words))
-        × (level_fault one_whole [] nothing_held words false [] ≡ [])
-    go true e there = (p.1, refl, e)
-    go false e there = absurd (true≢false (sym there))
 
 file_sets : SetsValue file_rule
 file_sets = record { set = refl; least = omega arith; defaults = refl; required = refl }
@@ -98,10 +91,48 @@ only_file = ((λ e. refl), ((λ e. cc), ((λ e. cc), tt)))
 only_steps : IsOnly steps_rule one_whole.rules
 only_steps = ((λ e. cc), ((λ e. refl), ((λ e. cc), tt)))
 
-pub one_asked : (words : List Text) → fault_of mx_grammar words ≡ []
-    → (rows : List Row) × (subcommand_of mx_grammar words ≡ Some (codes "one", rows)) × (is_some (first_of (codes "FILE") rows) ≡ true)
-    × ((n : ℕ) × HasNumber (codes "N") rows n)
-one_asked words e =
+one_values : (words : List Text) → level_fault one_whole [] nothing_held words false [] ≡ [] → HasOne (rows_after one_whole.rules [] words)
+one_values words fine =
+    let file = value_given file_rule file_sets one_whole only_file words (inl refl) refl fine in
+    let steps = value_given steps_rule steps_sets one_whole only_steps words (inr (inl refl)) refl fine in
+    let number = number_of steps.0 (accepts-Accepts steps_rule.ignore_case (Signed (pos 0) (pos 4294967295)) steps.0 steps.3) in
+    (ap is_some file.1, (number.0, (without_minus steps.0, steps.2, number.1)))
+
+dis_sets : SetsValue (first_rule dis_whole.rules)
+dis_sets = record { set = refl; least = omega arith; defaults = refl; required = refl }
+
+dis_only : IsOnly (first_rule dis_whole.rules) dis_whole.rules
+dis_only = ((λ e. refl), ((λ e. cc), tt))
+
+dis_values : (words : List Text) → level_fault dis_whole [] nothing_held words false [] ≡ [] → HasFile (rows_after dis_whole.rules [] words)
+dis_values words fine = ap is_some (value_given (first_rule dis_whole.rules) dis_sets dis_whole dis_only words (inl refl) refl fine).1
+
+nm_sets : SetsValue (first_rule nm_whole.rules)
+nm_sets = record { set = refl; least = omega arith; defaults = refl; required = refl }
+
+nm_only : IsOnly (first_rule nm_whole.rules) nm_whole.rules
+nm_only = ((λ e. refl), ((λ e. cc), tt))
+
+nm_values : (words : List Text) → level_fault nm_whole [] nothing_held words false [] ≡ [] → HasFile (rows_after nm_whole.rules [] words)
+nm_values words fine = ap is_some (value_given (first_rule nm_whole.rules) nm_sets nm_whole nm_only words (inl refl) refl fine).1
+
+-- the words enter a subcommand, which finds no fault with those after its name
+entered_asked : (stop : Option (Text × List Text)) → entered_fault whole stop ≡ [] → is_some (entered whole stop) ≡ true
+    → (name : Text) × (rows : List Row) × (entered whole stop ≡ Some (name, rows)) × IsAsked name rows
+entered_asked None e there = absurd (true≢false (sym there))
+entered_asked (Some p) e there = go (answers_to p.0 (label_of one_whole)) (answers_to p.0 (label_of dis_whole)) (answers_to p.0 (label_of nm_whole)) e there
+  where
+    go : (b c d : Bool) → option_map_or (λ (s : Shape). level_fault s [] nothing_held p.1 false []) (cond b (Some one_whole) (cond c (Some dis_whole) (cond d (Some nm_whole) None))) [] ≡ []
+        → is_some (option_map (λ (s : Shape). rows_at s p.1) (cond b (Some one_whole) (cond c (Some dis_whole) (cond d (Some nm_whole) None)))) ≡ true
+        → (name : Text) × (rows : List Row) × (option_map (λ (s : Shape). rows_at s p.1) (cond b (Some one_whole) (cond c (Some dis_whole) (cond d (Some nm_whole) None))) ≡ Some (name, rows)) × IsAsked name rows
+    go true c d e there = (codes "one", rows_after one_whole.rules [] p.1, refl, inl (refl, one_values p.1 e))
+    go false true d e there = (codes "dis", rows_after dis_whole.rules [] p.1, refl, inr (inl (refl, dis_values p.1 e)))
+    go false false true e there = (codes "nm", rows_after nm_whole.rules [] p.1, refl, inr (inr (refl, nm_values p.1 e)))
+    go false false false e there = absurd (true≢false (sym there))
+
+pub words_asked : (words : List Text) → fault_of mx_grammar words ≡ []
+    → (name : Text) × (rows : List Row) × (subcommand_of mx_grammar words ≡ Some (name, rows)) × IsAsked name rows
+words_asked words e =
     let ws = argument_words mx_grammar words in
     let stop = stop_after whole.top.rules (names_of whole) ws in
     let walked_fine = no_fault (walk_fault whole.top (names_of whole) (walk_from nothing_held) ws) _ e in
@@ -110,8 +141,4 @@ one_asked words e =
     let settled_fine = no_fault (settle_fault whole.top.rules whole.top.args_override_self end) _ entered_fine.1 in
     let defaults_fine = no_fault (defaults_fault (settled whole.top.rules end).rows whole.top.rules) _ settled_fine.1 in
     let met : is_some (entered whole stop) ≡ true = has_wanted whole.top (finished whole.top.rules end) _ refl defaults_fine.1 in
-    let one = entered_one stop entered_fine.0 met in
-    let file = value_given file_rule file_sets one_whole only_file one.0 (inl refl) refl one.2 in
-    let steps = value_given steps_rule steps_sets one_whole only_steps one.0 (inr (inl refl)) refl one.2 in
-    let number = number_of steps.0 (accepts-Accepts steps_rule.ignore_case (Signed (pos 0) (pos 4294967295)) steps.0 steps.3) in
-    (rows_after one_whole.rules [] one.0, one.1, ap is_some file.1, (number.0, (without_minus steps.0, steps.2, number.1)))
+    entered_asked stop entered_fine.0 met
