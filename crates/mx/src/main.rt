@@ -1,92 +1,11 @@
 //! The machine for the process layer of MINIX 3.1.
 #![tactic(auto)]
 
-ghost use Rattle.std.specs.Prelude.{◌≡◌, ◌≢◌, ◌⊎◌, IfErr, IfOk};
-ghost use Rattle.std.specs.IoError.{error_kind};
-ghost use Rattle.clap.specs.Words.{kind_of};
-ghost use Rattle.mx.specs.Failure.{Explains, words_failure_of};
-
-mod failure;
-mod file;
-mod load;
-mod program;
-mod report;
-mod running;
-mod words;
-
-use clap::error::ErrorKind;
-pub use failure::Failure;
-pub use report::print_one;
-pub use running::one;
+pub use mx_app::{Failure, FileError, Request, command, one, perform_words, print_one};
 use std::process::ExitCode;
-use std::rt::{Env, Files};
-use std::{env, fs, io};
-pub use words::{Request, command};
-
-/// Reads a file and prints its first steps.
-fn run_one(rt: &(impl Files + Print + AllocGlobal), file: &str, steps: u32) -> Result<(), Failure>
-    ensures { IfErr result (λ failure. failure ≢ Failure.NotText) }
-{
-    let bytes = fs::read(rt, file)?;
-    print_one(rt.alloc(), bytes.as_slice(), steps, &mut io::writer(rt))
-}
-
-/// Why the program's words can't be had.
-fn words_failure(error: &io::Error) -> Failure
-    ensures { result ≡ words_failure_of (error_kind error.now) }
-{
-    match error.kind() {
-        io::ErrorKind::OutOfMemory => Failure::NoMemory,
-        _ => Failure::NotText,
-    }
-}
-
-/// The program's words, its own name first.
-fn arguments(rt: &(impl Env + AllocGlobal)) -> Result<Vec<String>, Failure>
-    ensures { IfErr result (λ failure. (failure ≡ Failure.NotText) ⊎ (failure ≡ Failure.NoMemory)) }
-{
-    let words = match env::args(rt) {
-        Ok(words) => words,
-        Err(error) => return Err(words_failure(&error)),
-    };
-    let mut arguments = Vec::new(rt.alloc());
-    for word in words {
-        arguments.push(word)?;
-    }
-    Ok(arguments)
-}
-
-/// Prints help where it was asked for, or what is wrong with the words.
-fn explain(rt: &(impl Print + Eprint), error: &clap::Error) -> Result<u8, Failure>
-    ensures { Explains (kind_of error.now) result }
-{
-    if error.kind() == ErrorKind::OutOfMemory {
-        return Err(Failure::NoMemory);
-    }
-    error.print(rt)?;
-    Ok(if error.use_stderr() { 2 } else { 0 })
-}
-
-/// Does what the words ask for, and answers the status to end with.
-fn perform(rt: &(impl Env + Files + Print + Eprint + AllocGlobal)) -> Result<u8, Failure>
-    ensures { IfOk result (λ status. (status ≡ 0) ⊎ (status ≡ 2)) }
-{
-    let arguments = arguments(rt)?;
-    let mut words = Vec::new(rt.alloc());
-    for argument in &arguments {
-        words.push(argument.as_str())?;
-    }
-    match command(rt.alloc(), words.as_slice()) {
-        Ok(Request::One { file, steps }) => {
-            run_one(rt, file, steps)?;
-            Ok(0)
-        }
-        Err(error) => explain(rt, &error),
-    }
-}
 
 fn main(rt: HostRuntime) -> ExitCode {
-    match perform(&rt) {
+    match perform_words(&rt) {
         Ok(status) => ExitCode::from(status),
         Err(failure) => {
             let _ = eprintln!(rt; "{failure}");
@@ -94,6 +13,3 @@ fn main(rt: HostRuntime) -> ExitCode {
         }
     }
 }
-
-#[cfg(test)]
-mod tests;

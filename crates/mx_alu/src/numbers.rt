@@ -3,12 +3,12 @@
 ghost use Rattle.std.specs.Prelude.{◌≡◌, ◌≢◌, ◌*◌, ◌^◌, ◌<◌, ◌≤◌, pos, ◌+ℤ◌, ◌*ℤ◌, ◌≤ℤ◌, unsigned_abs, int_div, int_rem, IfNone, IfSome, true};
 ghost use Rattle.std.specs.Int.{int_shr};
 ghost use Rattle.mx_word.specs.Word.{width, signed, modulo, leaves_signed};
-ghost use Rattle.mx_alu.specs.Products.{number_of};
+ghost use Rattle.mx_alu.specs.Products.{as_number};
 
 use mx_word::{Size, signed};
 
 /// How a word is read: MUL, DIV and MOVZX read it as unsigned, IMUL, IDIV and MOVSX as signed.
-#[derive(Clone, Copy, Debug, PartialEq, Eq)]
+#[derive(Clone, Copy, PartialEq, Eq)]
 pub enum Signedness {
     Unsigned,
     Signed,
@@ -17,7 +17,7 @@ pub enum Signedness {
 /// A word as a number.
 pub(crate) fn number(kind: Signedness, size: Size, x: u32) -> i64
     requires { x < 2 ^ width size }
-    ensures { result ≡ number_of kind (width size) x }
+    ensures { result ≡ as_number kind (width size) x }
 {
     match kind {
         Signedness::Unsigned => i64::from(x),

@@ -9,21 +9,21 @@ use mx_flags::Flags;
 use mx_word::{Size, signed};
 
 /// A number of two words.
-#[derive(Clone, Copy, Debug, PartialEq, Eq)]
+#[derive(Clone, Copy, PartialEq, Eq)]
 pub struct Halves {
     pub low: u32,
     pub high: u32,
 }
 
 /// A quotient toward zero, and the remainder, which has the dividend's sign.
-#[derive(Clone, Copy, Debug, PartialEq, Eq)]
+#[derive(Clone, Copy, PartialEq, Eq)]
 pub struct Division {
     pub quotient: u32,
     pub remainder: u32,
 }
 
 /// The divisor is 0, or the quotient is out of a word's range.
-#[derive(Clone, Copy, Debug, PartialEq, Eq)]
+#[derive(Clone, Copy, PartialEq, Eq)]
 pub struct DivideFault;
 
 /// The product of two words, whole, and the flags after it: MUL, and IMUL with one operand.
@@ -35,11 +35,11 @@ pub fn multiply(kind: Signedness, size: Size, x: u32, y: u32, flags: &Flags) -> 
     ensures low { result.0.low < 2 ^ width size }
     ensures high { result.0.high < 2 ^ width size }
 {
-    let (halves, wide) = match kind {
+    let (halves, outside) = match kind {
         Signedness::Unsigned => unsigned_product(size, x, y),
         Signedness::Signed => signed_product(size, x, y),
     };
-    (halves, flags.with_carry_and_overflow(wide, wide))
+    (halves, flags.with_carry_and_overflow(outside, outside))
 }
 
 /// The low word of the signed product of two words, and the flags after it: IMUL with two or
@@ -51,15 +51,15 @@ pub fn multiply_low(size: Size, x: u32, y: u32, flags: &Flags) -> (u32, Flags)
     ensures flags { result.1 ≡ multiply_flags Signedness.Signed (width size) x y flags.now }
     ensures below { result.0 < 2 ^ width size }
 {
-    let (halves, wide) = signed_product(size, x, y);
-    (halves.low, flags.with_carry_and_overflow(wide, wide))
+    let (halves, outside) = signed_product(size, x, y);
+    (halves.low, flags.with_carry_and_overflow(outside, outside))
 }
 
 fn unsigned_product(size: Size, x: u32, y: u32) -> (Halves, bool)
     requires left { x < 2 ^ width size }
     requires right { y < 2 ^ width size }
     ensures value { result.0 ≡ halves_of (width size) (product_of Signedness.Unsigned (width size) x y) }
-    ensures wide { result.1 ≡ leaves Signedness.Unsigned (width size) (product_of Signedness.Unsigned (width size) x y) }
+    ensures outside { result.1 ≡ leaves Signedness.Unsigned (width size) (product_of Signedness.Unsigned (width size) x y) }
     ensures low { result.0.low < 2 ^ width size }
     ensures high { result.0.high < 2 ^ width size }
 {
@@ -78,7 +78,7 @@ fn signed_product(size: Size, x: u32, y: u32) -> (Halves, bool)
     requires left { x < 2 ^ width size }
     requires right { y < 2 ^ width size }
     ensures value { result.0 ≡ halves_of (width size) (product_of Signedness.Signed (width size) x y) }
-    ensures wide { result.1 ≡ leaves Signedness.Signed (width size) (product_of Signedness.Signed (width size) x y) }
+    ensures outside { result.1 ≡ leaves Signedness.Signed (width size) (product_of Signedness.Signed (width size) x y) }
     ensures low { result.0.low < 2 ^ width size }
     ensures high { result.0.high < 2 ^ width size }
 {

@@ -48,8 +48,8 @@ fn move_by(operation: Shift, size: Size, x: u32, places: u32) -> (u32, bool)
             (rotated, size.is_negative(rotated))
         }
         Shift::Shl => {
-            let wide = lifted(x, places);
-            (size.low(wide), size.high(wide) % 2 == 1)
+            let lifted = lifted(x, places);
+            (size.low(lifted), size.high(lifted) % 2 == 1)
         }
         Shift::Shr => (x >> places, (x >> (places - 1)) % 2 == 1),
         Shift::Sar => {
@@ -70,8 +70,8 @@ fn rotated(size: Size, x: u32, places: u32) -> u32
     ensures value { result ≡ rotated (width size) x places }
     ensures below { result < 2 ^ width size }
 {
-    let wide = lifted(x, places);
-    size.low(wide) + size.high(wide) as u32
+    let lifted = lifted(x, places);
+    size.low(lifted) + size.high(lifted) as u32
 }
 
 /// Overflow after one place.

@@ -2,7 +2,7 @@
 
 ghost use Rattle.std.specs.Prelude.{◌≡◌, ◌+◌, ◌<◌, ◌≤◌, ◌^◌, ◌/◌, ◌%◌, IfOk, Some, length};
 ghost use Rattle.mx_word.specs.Word.{width};
-ghost use Rattle.mx_insn.specs.Spelling.{register, scale, base_of, index_of, extended, size_of};
+ghost use Rattle.mx_insn.specs.Spelling.{register, scale, base_of, index_of, sign_extended, row_size};
 ghost use Rattle.mx_decode.specs.Given.{Gives, number_at, displacement_at, immediate_at, sib_parts, base_parts, memory_at, operand_at, modrm_at, place_code, immediate_bound};
 
 use crate::DecodeFault;
@@ -71,9 +71,9 @@ pub fn dword(bytes: &[u8]) -> Result<(u32, &[u8]), DecodeFault>
 }
 
 /// A byte with its sign extended.
-fn extended(byte: u32, size: Size) -> u32
+fn sign_extended(byte: u32, size: Size) -> u32
     requires { byte < 256 }
-    ensures value { result ≡ extended (width size) byte }
+    ensures value { result ≡ sign_extended (width size) byte }
     ensures below { result < 2 ^ width size }
 {
     size.modulo(signed(Size::Byte, byte))
@@ -89,7 +89,7 @@ fn displacement(mode: u8, base: u8, bytes: &[u8]) -> Result<(u32, &[u8]), Decode
         0 => Ok((0, bytes)),
         1 => {
             let (low, rest) = byte(bytes)?;
-            Ok((extended(low, Size::Dword), rest))
+            Ok((sign_extended(low, Size::Dword), rest))
         }
         _ => dword(bytes),
     }
@@ -196,12 +196,12 @@ pub fn place(column: ModRm, bytes: &[u8]) -> Result<(u8, Operand, &[u8]), Decode
     }
 }
 
-pub fn size_of(sizes: Sizes, wide: bool) -> Size
-    ensures { result ≡ size_of sizes wide }
+pub fn row_size(sizes: Sizes, resized: bool) -> Size
+    ensures { result ≡ row_size sizes resized }
 {
     match sizes {
         Sizes::Byte => Size::Byte,
-        Sizes::Variable if wide => Size::Word,
+        Sizes::Variable if resized => Size::Word,
         Sizes::Variable | Sizes::Dword => Size::Dword,
     }
 }
@@ -210,21 +210,21 @@ pub fn size_of(sizes: Sizes, wide: bool) -> Size
 pub fn immediate(
     column: ImmediateColumn,
     size: Size,
-    wide: bool,
+    resized: bool,
     bytes: &[u8],
 ) -> Result<(u32, &[u8]), DecodeFault>
-    ensures value { Gives (λ x. (x.0, x.1.now)) result (immediate_at column size wide bytes.now) }
-    ensures bound { IfOk result (λ x. x.0 < immediate_bound column size wide) }
+    ensures value { Gives (λ x. (x.0, x.1.now)) result (immediate_at column size resized bytes.now) }
+    ensures bound { IfOk result (λ x. x.0 < immediate_bound column size resized) }
 {
     match column {
         ImmediateColumn::Nothing => Ok((0, bytes)),
         ImmediateColumn::Byte => byte(bytes),
         ImmediateColumn::SignedByte => {
             let (low, rest) = byte(bytes)?;
-            Ok((extended(low, size), rest))
+            Ok((sign_extended(low, size), rest))
         }
         ImmediateColumn::Word => word(bytes),
         ImmediateColumn::Dword => dword(bytes),
-        ImmediateColumn::Variable => { if wide { word(bytes) } else { dword(bytes) } }
+        ImmediateColumn::Variable => { if resized { word(bytes) } else { dword(bytes) } }
     }
 }

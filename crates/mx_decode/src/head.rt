@@ -2,30 +2,34 @@
 
 ghost use Rattle.std.specs.Prelude.{None, Some, true};
 ghost use Rattle.mx_insn.specs.declared.insn.Repeat.TheVariants as repeats;
-ghost use Rattle.mx_decode.specs.Reading.{escaped_at, opcode_at, wide_then, repeat_then, head_at};
+ghost use Rattle.mx_decode.specs.Reading.{escaped_at, opcode_at, resized_then, repeat_then, head_at};
 ghost use Rattle.mx_decode.specs.Given.{Gives};
 
 use crate::DecodeFault;
 use mx_insn::Repeat;
 
 /// What stands before the operands.
-#[derive(Clone, Copy, Debug, PartialEq, Eq)]
+#[derive(Clone, Copy)]
 pub struct Head {
-    pub wide: bool,
+    pub resized: bool,
     pub repeat: Option<Repeat>,
     pub escaped: bool,
     pub opcode: u8,
 }
 
-fn escaped(wide: bool, repeat: Option<Repeat>, bytes: &[u8]) -> Result<(Head, &[u8]), DecodeFault>
-    ensures { Gives (λ x. (x.0, x.1.now)) result (escaped_at wide repeat bytes.now) }
+fn escaped(
+    resized: bool,
+    repeat: Option<Repeat>,
+    bytes: &[u8],
+) -> Result<(Head, &[u8]), DecodeFault>
+    ensures { Gives (λ x. (x.0, x.1.now)) result (escaped_at resized repeat bytes.now) }
 {
     match (repeat, bytes) {
         (Some(_), _) => Err(DecodeFault::NotInTable),
         (None, []) => Err(DecodeFault::Short),
         (None, [opcode, rest @ ..]) => {
             let head = Head {
-                wide,
+                resized,
                 repeat: None,
                 escaped: true,
                 opcode: *opcode,
@@ -35,15 +39,15 @@ fn escaped(wide: bool, repeat: Option<Repeat>, bytes: &[u8]) -> Result<(Head, &[
     }
 }
 
-fn opcode(wide: bool, repeat: Option<Repeat>, bytes: &[u8]) -> Result<(Head, &[u8]), DecodeFault>
-    ensures { Gives (λ x. (x.0, x.1.now)) result (opcode_at wide repeat bytes.now) }
+fn opcode(resized: bool, repeat: Option<Repeat>, bytes: &[u8]) -> Result<(Head, &[u8]), DecodeFault>
+    ensures { Gives (λ x. (x.0, x.1.now)) result (opcode_at resized repeat bytes.now) }
 {
     match bytes {
         [] => Err(DecodeFault::Short),
-        [0x0F, rest @ ..] => escaped(wide, repeat, rest),
+        [0x0F, rest @ ..] => escaped(resized, repeat, rest),
         [opcode, rest @ ..] => {
             let head = Head {
-                wide,
+                resized,
                 repeat,
                 escaped: false,
                 opcode: *opcode,
@@ -53,8 +57,8 @@ fn opcode(wide: bool, repeat: Option<Repeat>, bytes: &[u8]) -> Result<(Head, &[u
     }
 }
 
-fn behind_wide(bytes: &[u8]) -> Result<(Head, &[u8]), DecodeFault>
-    ensures { Gives (λ x. (x.0, x.1.now)) result (wide_then bytes.now) }
+fn behind_66(bytes: &[u8]) -> Result<(Head, &[u8]), DecodeFault>
+    ensures { Gives (λ x. (x.0, x.1.now)) result (resized_then bytes.now) }
 {
     match bytes {
         [] => Err(DecodeFault::Short),
@@ -81,7 +85,7 @@ pub fn read_head(bytes: &[u8]) -> Result<(Head, &[u8]), DecodeFault>
 {
     match bytes {
         [] => Err(DecodeFault::Short),
-        [0x66, rest @ ..] => behind_wide(rest),
+        [0x66, rest @ ..] => behind_66(rest),
         [0xF3, rest @ ..] => behind_repeat(Repeat::Repe, rest),
         [0xF2, rest @ ..] => behind_repeat(Repeat::Repne, rest),
         _ => opcode(false, None, bytes),

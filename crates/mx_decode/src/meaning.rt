@@ -12,9 +12,9 @@ use mx_insn::{
 };
 
 /// What stands in an instruction's bytes beside the row.
-#[derive(Clone, Copy, Debug, PartialEq, Eq)]
+#[derive(Clone, Copy)]
 pub struct Values {
-    pub wide: bool,
+    pub resized: bool,
     pub repeat: Option<Repeat>,
     pub number: u8,
     pub reg: u8,
@@ -73,30 +73,30 @@ fn immediate_of(size: Size, number: u32) -> Immediate
     }
 }
 
-fn wide_immediate(wide: bool, number: u32) -> WideImmediate
-    requires { number < (if wide then 65536 else 2 ^ 32) }
-    ensures { result ≡ wide_immediate wide number }
+fn wide_immediate(resized: bool, number: u32) -> WideImmediate
+    requires { number < (if resized then 65536 else 2 ^ 32) }
+    ensures { result ≡ wide_immediate resized number }
 {
-    if wide {
+    if resized {
         return WideImmediate::Word(number as u16);
     }
     WideImmediate::Dword(number)
 }
 
-fn operand_size(wide: bool) -> OperandSize
-    ensures { result ≡ operand_size wide }
+fn operand_size(resized: bool) -> OperandSize
+    ensures { result ≡ operand_size resized }
 {
-    if wide {
+    if resized {
         OperandSize::Word
     } else {
         OperandSize::Dword
     }
 }
 
-fn byte_extension(wide: bool) -> Extension
-    ensures { result ≡ byte_extension wide }
+fn byte_extension(resized: bool) -> Extension
+    ensures { result ≡ byte_extension resized }
 {
-    if wide {
+    if resized {
         Extension::ByteToWord
     } else {
         Extension::ByteToDword
@@ -161,12 +161,12 @@ const ACCUMULATOR: Operand = Operand::Register(Register::Eax);
 
 /// The instruction that a row's instruction column makes.
 pub fn insn_of(pattern: Pattern, size: Size, values: Values) -> Insn
-    requires narrow { values.immediate < narrow_bound pattern size values.wide }
+    requires narrow { values.immediate < narrow_bound pattern size values.resized }
     requires number { values.number < 255 }
     ensures { result ≡ made pattern size (parts_in values) }
 {
     let Values {
-        wide,
+        resized,
         rm,
         immediate,
         ..
@@ -247,7 +247,7 @@ pub fn insn_of(pattern: Pattern, size: Size, values: Values) -> Insn
             register: Register::Eax,
         },
         Pattern::LoadAddress => Insn::LoadAddress {
-            size: operand_size(wide),
+            size: operand_size(resized),
             to: reg,
             memory: memory_of(rm),
         },
@@ -267,14 +267,14 @@ pub fn insn_of(pattern: Pattern, size: Size, values: Values) -> Insn
             operand: rm,
         },
         Pattern::MultiplyRegRm => Insn::Multiply {
-            size: operand_size(wide),
+            size: operand_size(resized),
             to: reg,
             from: rm,
         },
         Pattern::MultiplyRegRmImmediate => Insn::MultiplyImmediate {
             to: reg,
             from: rm,
-            by: wide_immediate(wide, immediate),
+            by: wide_immediate(resized, immediate),
         },
         Pattern::ShiftRm(operation, column) => Insn::Shift {
             operation,
@@ -283,7 +283,7 @@ pub fn insn_of(pattern: Pattern, size: Size, values: Values) -> Insn
             count: shift_count(column, immediate),
         },
         Pattern::ZeroExtendByte => Insn::ZeroExtend {
-            extension: byte_extension(wide),
+            extension: byte_extension(resized),
             to: reg,
             from: rm,
         },
@@ -293,7 +293,7 @@ pub fn insn_of(pattern: Pattern, size: Size, values: Values) -> Insn
             from: rm,
         },
         Pattern::SignExtendByte => Insn::SignExtend {
-            extension: byte_extension(wide),
+            extension: byte_extension(resized),
             to: reg,
             from: rm,
         },
@@ -324,8 +324,8 @@ pub fn insn_of(pattern: Pattern, size: Size, values: Values) -> Insn
         },
         Pattern::Return => Insn::Return(immediate as u16),
         Pattern::Interrupt => Insn::Interrupt(immediate as u8),
-        Pattern::ExtendAccumulator => Insn::ExtendAccumulator(operand_size(wide)),
-        Pattern::SpreadSign => Insn::SpreadSign(operand_size(wide)),
+        Pattern::ExtendAccumulator => Insn::ExtendAccumulator(operand_size(resized)),
+        Pattern::SpreadSign => Insn::SpreadSign(operand_size(resized)),
         Pattern::Transfer(operation) => Insn::Transfer {
             operation,
             size,

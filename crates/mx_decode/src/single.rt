@@ -2,13 +2,13 @@
 
 ghost use Rattle.std.specs.Prelude.{◌≡◌, ◌<◌, ◌≤◌, ◌+◌, ◌++◌, ◌↔◌, ℕ, List, length, IfOk, IfSome, Ok};
 ghost use Rattle.mx_insn.specs.declared.insn.Insn.{Insn};
-ghost use Rattle.mx_insn.specs.Spelling.{Spells, IsOpen, size_of};
+ghost use Rattle.mx_insn.specs.Spelling.{Spells, IsOpen, row_size};
 ghost use Rattle.mx_decode.specs.Decode.{SpellsFirst, NoneFirst, front};
-ghost use Rattle.mx_decode.specs.Reading.{number_of, reading};
+ghost use Rattle.mx_decode.specs.Reading.{opcode_number, reading};
 ghost use Rattle.mx_decode.specs.Given.{Gives, immediate_bound, narrow_bound, operands_code};
 
 use crate::DecodeFault;
-use crate::fields::{immediate, place, size_of};
+use crate::fields::{immediate, place, row_size};
 use crate::flow::{call, jump, jump_short, leave, push_byte, push_dword, return_plain};
 use crate::head::{Head, read_head};
 use crate::meaning::{Values, insn_of};
@@ -24,15 +24,15 @@ use mx_insn::{Insn, Row};
 fn operands<'a>(head: Head, row: &Row, bytes: &'a [u8]) -> Result<(Insn, &'a [u8]), DecodeFault>
     requires first { row.now.first ≤ head.opcode }
     requires step { 0 < row.now.step }
-    requires number { number_of row.now head.opcode < 255 }
-    requires narrow { immediate_bound row.now.immediate (size_of row.now.sizes head.wide) head.wide ≤ narrow_bound row.now.pattern (size_of row.now.sizes head.wide) head.wide }
+    requires number { opcode_number row.now head.opcode < 255 }
+    requires narrow { immediate_bound row.now.immediate (row_size row.now.sizes head.resized) head.resized ≤ narrow_bound row.now.pattern (row_size row.now.sizes head.resized) head.resized }
     ensures { Gives (λ x. (x.0, x.1.now)) result (operands_code head row.now bytes.now) }
 {
-    let size = size_of(row.sizes, head.wide);
+    let size = row_size(row.sizes, head.resized);
     let (reg, rm, rest) = place(row.modrm, bytes)?;
-    let (immediate, rest) = immediate(row.immediate, size, head.wide, rest)?;
+    let (immediate, rest) = immediate(row.immediate, size, head.resized, rest)?;
     let values = Values {
-        wide: head.wide,
+        resized: head.resized,
         repeat: head.repeat,
         number: (head.opcode - row.first) / row.step,
         reg,

@@ -12,7 +12,7 @@ use Rattle.mx_word.specs.declared.names.Arithmetic.{Arithmetic}
 use Rattle.mx_word.specs.declared.names.Arithmetic.TheVariants.{Add, Or, Adc, Sbb, And, Sub, Xor, Cmp}
 use Rattle.mx_insn.specs.declared.insn.Scale.{Scale}
 use Rattle.mx_insn.specs.declared.insn.Scale.TheVariants.{One, Two, Four, Eight}
-use Rattle.mx_insn.specs.Spelling.{AreBytes, extended, register, scale, arithmetic, condition}
+use Rattle.mx_insn.specs.Spelling.{AreBytes, sign_extended, register, scale, arithmetic, condition}
 use Rattle.mx_encode.specs.Numbers.{scale_number, arithmetic_number, is_short}
 
 -- ---- bytes
@@ -20,8 +20,8 @@ use Rattle.mx_encode.specs.Numbers.{scale_number, arithmetic_number, is_short}
 pub no_bytes : AreBytes []
 no_bytes = All-nil (λ b. b < 256)
 
-pub one_byte : (n : ℕ) → n < 256 → AreBytes (n ∷ [])
-one_byte n lt = All-cons (λ b. b < 256) n [] lt no_bytes
+pub is_one_byte : (n : ℕ) → n < 256 → AreBytes (n ∷ [])
+is_one_byte n lt = All-cons (λ b. b < 256) n [] lt no_bytes
 
 pub are_bytes_of : (k n : ℕ) → AreBytes (bytes_of k n)
 are_bytes_of zero n = no_bytes
@@ -40,8 +40,8 @@ value_2 n lt = omega arith
 pub value_4 : (n : ℕ) → n < 2 ^ 32 → value (bytes_of 4 n) ≡ n
 value_4 n lt = omega arith
 
-pub value_short : (w n : ℕ) → is_short w n ≡ true → extended w (value ((n % 256) ∷ [])) ≡ n
-value_short w n h = ap (extended w) (value_1 (n % 256)) ∙ eqb-true (extended w (n % 256)) n h
+pub value_short : (w n : ℕ) → is_short w n ≡ true → sign_extended w (value ((n % 256) ∷ [])) ≡ n
+value_short w n h = ap (sign_extended w) (value_1 (n % 256)) ∙ eqb-true (sign_extended w (n % 256)) n h
 
 -- ---- names
 

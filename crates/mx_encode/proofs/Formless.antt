@@ -13,10 +13,7 @@ use Rattle.mx_insn.specs.declared.insn.Port.TheVariants as ports
 use Rattle.mx_insn.specs.declared.insn.PortSize.TheVariants as port_sizes
 use Rattle.mx_insn.specs.declared.insn.Insn.{Insn}
 use Rattle.mx_insn.specs.declared.insn.Insn.TheVariants as insns
-use Rattle.mx_insn.specs.declared.row.Repeats.TheVariants.{Neither}
-use Rattle.mx_insn.specs.declared.row.ModRm.TheVariants.{Absent}
-use Rattle.mx_insn.specs.declared.row.Pattern.TheVariants as patterns
-use Rattle.mx_insn.specs.Table.{d, is, one}
+use Rattle.mx_insn.specs.Table.{loop_row}
 use Rattle.mx_insn.specs.Spelling.{Spells}
 use Rattle.mx_encode.specs.declared.Wide.{Wide}
 use Rattle.mx_encode.specs.declared.NoForm.{NoForm}
@@ -24,7 +21,7 @@ use Rattle.mx_encode.specs.declared.forms.Form.{Form}
 use Rattle.mx_encode.specs.Numbers.{shortens, is_short, short}
 use Rattle.mx_encode.specs.Places.{has_place}
 use Rattle.mx_encode.specs.Forms.{has_form}
-use Rattle.mx_encode.specs.Choice.{Choice, choice, bare, loop_opcode}
+use Rattle.mx_encode.specs.Choice.{Choice, choice, bare}
 use Rattle.mx_encode.specs.Given.{Gives}
 use Rattle.mx_encode.proofs.Spelled.{spelled_has_form}
 
@@ -92,7 +89,7 @@ form_is (insns.Jump n) wide = either (shortens 32 n wide.displacement) _ _ _ ref
 form_is (insns.Call n) wide = refl
 form_is (insns.JumpTo o) wide = refl
 form_is (insns.CallTo o) wide = refl
-form_is (insns.Loop o n) wide = elim (is_short 32 n) as (λ b. stands (cond b (Some (bare (one (loop_opcode o) 1 1 d Neither Absent is (patterns.Loop o)) false 0 (short n))) None) ≡ b) [ true ↦ refl | false ↦ refl ]
+form_is (insns.Loop o n) wide = elim (is_short 32 n) as (λ b. stands (cond b (Some (bare (loop_row o) false 0 (short n))) None) ≡ b) [ true ↦ refl | false ↦ refl ]
 form_is (insns.Return n) wide = either (eqb n 0) _ _ _ refl refl
 form_is (insns.Interrupt n) wide = refl
 form_is (insns.ExtendAccumulator size) wide = refl

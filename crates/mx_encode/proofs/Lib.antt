@@ -6,3 +6,4 @@ pub mod Families
 pub mod Answer
 pub mod Spelled
 pub mod Formless
+pub mod Lengths

@@ -26,9 +26,7 @@ use Rattle.mx_insn.specs.declared.row.ImmediateColumn.{ImmediateColumn}
 use Rattle.mx_insn.specs.declared.row.CountColumn.TheVariants as by
 use Rattle.mx_insn.specs.declared.row.Pattern.{Pattern}
 use Rattle.mx_insn.specs.declared.row.Pattern.TheVariants as patterns
-use Rattle.mx_insn.specs.Table.{rows, d, no, ib, is, one}
-use Rattle.mx_encode.specs.Numbers.{shift_number}
-use Rattle.mx_encode.specs.Choice.{sized, product_number, loop_opcode, transfer_opcode, compare_opcode, plain_opcode, plain_column}
+use Rattle.mx_insn.specs.Table.{sized, arithmetic_rm_reg_row, arithmetic_reg_rm_row, test_rm_reg_row, exchange_rm_reg_row, move_rm_reg_row, move_reg_rm_row, transfer_row, compare_row, shift_immediate_row, shift_one_row, shift_cl_row, loop_row, not_rm_row, neg_rm_row, product_row, increase_rm_row, decrease_rm_row, plain_row, rows, no, ib}
 
 -- ---- where a row stands
 
@@ -52,54 +50,54 @@ pair_listed Byte first step count repeats modrm immediate pattern x y = x
 pair_listed Word first step count repeats modrm immediate pattern x y = y
 pair_listed Dword first step count repeats modrm immediate pattern x y = y
 
-pub arithmetic_rm_reg : (size : Size) → Contains rows (sized size 0x00 8 8 Neither Any no patterns.ArithmeticRmReg)
+pub arithmetic_rm_reg : (size : Size) → Contains rows (arithmetic_rm_reg_row size)
 unfolding rows
 arithmetic_rm_reg size = pair_listed size 0x00 8 8 Neither Any no patterns.ArithmeticRmReg (opcode_at 0x00, lit< tt, refl) (opcode_at 0x01, lit< tt, refl)
 
-pub arithmetic_reg_rm : (size : Size) → Contains rows (sized size 0x02 8 8 Neither Any no patterns.ArithmeticRegRm)
+pub arithmetic_reg_rm : (size : Size) → Contains rows (arithmetic_reg_rm_row size)
 unfolding rows
 arithmetic_reg_rm size = pair_listed size 0x02 8 8 Neither Any no patterns.ArithmeticRegRm (opcode_at 0x02, lit< tt, refl) (opcode_at 0x03, lit< tt, refl)
 
-pub move_rm_reg : (size : Size) → Contains rows (sized size 0x88 1 1 Neither Any no patterns.MoveRmReg)
+pub move_rm_reg : (size : Size) → Contains rows (move_rm_reg_row size)
 unfolding rows
 move_rm_reg size = pair_listed size 0x88 1 1 Neither Any no patterns.MoveRmReg (opcode_at 0x88, lit< tt, refl) (opcode_at 0x89, lit< tt, refl)
 
-pub move_reg_rm : (size : Size) → Contains rows (sized size 0x8A 1 1 Neither Any no patterns.MoveRegRm)
+pub move_reg_rm : (size : Size) → Contains rows (move_reg_rm_row size)
 unfolding rows
 move_reg_rm size = pair_listed size 0x8A 1 1 Neither Any no patterns.MoveRegRm (opcode_at 0x8A, lit< tt, refl) (opcode_at 0x8B, lit< tt, refl)
 
-pub test_rm_reg : (size : Size) → Contains rows (sized size 0x84 1 1 Neither Any no patterns.TestRmReg)
+pub test_rm_reg : (size : Size) → Contains rows (test_rm_reg_row size)
 unfolding rows
 test_rm_reg size = pair_listed size 0x84 1 1 Neither Any no patterns.TestRmReg (opcode_at 0x84, lit< tt, refl) (opcode_at 0x85, lit< tt, refl)
 
-pub exchange_rm_reg : (size : Size) → Contains rows (sized size 0x86 1 1 Neither Any no patterns.ExchangeRmReg)
+pub exchange_rm_reg : (size : Size) → Contains rows (exchange_rm_reg_row size)
 unfolding rows
 exchange_rm_reg size = pair_listed size 0x86 1 1 Neither Any no patterns.ExchangeRmReg (opcode_at 0x86, lit< tt, refl) (opcode_at 0x87, lit< tt, refl)
 
-pub inc_rm : (size : Size) → Contains rows (sized size 0xFE 1 1 Neither (Only 0) no (patterns.UnaryRm Inc))
+pub inc_rm : (size : Size) → Contains rows (increase_rm_row size)
 unfolding rows
 inc_rm size = pair_listed size 0xFE 1 1 Neither (Only 0) no (patterns.UnaryRm Inc) (under_at 0xFE 0, lit< tt, refl) (under_at 0xFF 0, lit< tt, refl)
 
-pub dec_rm : (size : Size) → Contains rows (sized size 0xFE 1 1 Neither (Only 1) no (patterns.UnaryRm Dec))
+pub dec_rm : (size : Size) → Contains rows (decrease_rm_row size)
 unfolding rows
 dec_rm size = pair_listed size 0xFE 1 1 Neither (Only 1) no (patterns.UnaryRm Dec) (under_at 0xFE 1, lit< tt, refl) (under_at 0xFF 1, lit< tt, refl)
 
-pub not_rm : (size : Size) → Contains rows (sized size 0xF6 1 1 Neither (Only 2) no (patterns.UnaryRm Not))
+pub not_rm : (size : Size) → Contains rows (not_rm_row size)
 unfolding rows
 not_rm size = pair_listed size 0xF6 1 1 Neither (Only 2) no (patterns.UnaryRm Not) (under_at 0xF6 2, lit< tt, refl) (under_at 0xF7 2, lit< tt, refl)
 
-pub neg_rm : (size : Size) → Contains rows (sized size 0xF6 1 1 Neither (Only 3) no (patterns.UnaryRm Neg))
+pub neg_rm : (size : Size) → Contains rows (neg_rm_row size)
 unfolding rows
 neg_rm size = pair_listed size 0xF6 1 1 Neither (Only 3) no (patterns.UnaryRm Neg) (under_at 0xF6 3, lit< tt, refl) (under_at 0xF7 3, lit< tt, refl)
 
-pub product_rm : (o : Product) (size : Size) → Contains rows (sized size 0xF6 1 1 Neither (Only (product_number o)) no (patterns.ProductRm o))
+pub product_rm : (o : Product) (size : Size) → Contains rows (product_row o size)
 unfolding rows
 product_rm Mul size = pair_listed size 0xF6 1 1 Neither (Only 4) no (patterns.ProductRm Mul) (under_at 0xF6 4, lit< tt, refl) (under_at 0xF7 4, lit< tt, refl)
 product_rm Imul size = pair_listed size 0xF6 1 1 Neither (Only 5) no (patterns.ProductRm Imul) (under_at 0xF6 5, lit< tt, refl) (under_at 0xF7 5, lit< tt, refl)
 product_rm Div size = pair_listed size 0xF6 1 1 Neither (Only 6) no (patterns.ProductRm Div) (under_at 0xF6 6, lit< tt, refl) (under_at 0xF7 6, lit< tt, refl)
 product_rm Idiv size = pair_listed size 0xF6 1 1 Neither (Only 7) no (patterns.ProductRm Idiv) (under_at 0xF6 7, lit< tt, refl) (under_at 0xF7 7, lit< tt, refl)
 
-pub shift_immediate : (o : Shift) (size : Size) → Contains rows (sized size 0xC0 1 1 Neither (Only (shift_number o)) ib (patterns.ShiftRm o by.Immediate))
+pub shift_immediate : (o : Shift) (size : Size) → Contains rows (shift_immediate_row o size)
 unfolding rows
 shift_immediate Rol size = pair_listed size 0xC0 1 1 Neither (Only 0) ib (patterns.ShiftRm Rol by.Immediate) (under_at 0xC0 0, lit< tt, refl) (under_at 0xC1 0, lit< tt, refl)
 shift_immediate Ror size = pair_listed size 0xC0 1 1 Neither (Only 1) ib (patterns.ShiftRm Ror by.Immediate) (under_at 0xC0 1, lit< tt, refl) (under_at 0xC1 1, lit< tt, refl)
@@ -107,7 +105,7 @@ shift_immediate Shl size = pair_listed size 0xC0 1 1 Neither (Only 4) ib (patter
 shift_immediate Shr size = pair_listed size 0xC0 1 1 Neither (Only 5) ib (patterns.ShiftRm Shr by.Immediate) (under_at 0xC0 5, lit< tt, refl) (under_at 0xC1 5, lit< tt, refl)
 shift_immediate Sar size = pair_listed size 0xC0 1 1 Neither (Only 7) ib (patterns.ShiftRm Sar by.Immediate) (under_at 0xC0 7, lit< tt, refl) (under_at 0xC1 7, lit< tt, refl)
 
-pub shift_one : (o : Shift) (size : Size) → Contains rows (sized size 0xD0 1 1 Neither (Only (shift_number o)) no (patterns.ShiftRm o by.One))
+pub shift_one : (o : Shift) (size : Size) → Contains rows (shift_one_row o size)
 unfolding rows
 shift_one Rol size = pair_listed size 0xD0 1 1 Neither (Only 0) no (patterns.ShiftRm Rol by.One) (under_at 0xD0 0, lit< tt, refl) (under_at 0xD1 0, lit< tt, refl)
 shift_one Ror size = pair_listed size 0xD0 1 1 Neither (Only 1) no (patterns.ShiftRm Ror by.One) (under_at 0xD0 1, lit< tt, refl) (under_at 0xD1 1, lit< tt, refl)
@@ -115,7 +113,7 @@ shift_one Shl size = pair_listed size 0xD0 1 1 Neither (Only 4) no (patterns.Shi
 shift_one Shr size = pair_listed size 0xD0 1 1 Neither (Only 5) no (patterns.ShiftRm Shr by.One) (under_at 0xD0 5, lit< tt, refl) (under_at 0xD1 5, lit< tt, refl)
 shift_one Sar size = pair_listed size 0xD0 1 1 Neither (Only 7) no (patterns.ShiftRm Sar by.One) (under_at 0xD0 7, lit< tt, refl) (under_at 0xD1 7, lit< tt, refl)
 
-pub shift_cl : (o : Shift) (size : Size) → Contains rows (sized size 0xD2 1 1 Neither (Only (shift_number o)) no (patterns.ShiftRm o by.Cl))
+pub shift_cl : (o : Shift) (size : Size) → Contains rows (shift_cl_row o size)
 unfolding rows
 shift_cl Rol size = pair_listed size 0xD2 1 1 Neither (Only 0) no (patterns.ShiftRm Rol by.Cl) (under_at 0xD2 0, lit< tt, refl) (under_at 0xD3 0, lit< tt, refl)
 shift_cl Ror size = pair_listed size 0xD2 1 1 Neither (Only 1) no (patterns.ShiftRm Ror by.Cl) (under_at 0xD2 1, lit< tt, refl) (under_at 0xD3 1, lit< tt, refl)
@@ -123,25 +121,25 @@ shift_cl Shl size = pair_listed size 0xD2 1 1 Neither (Only 4) no (patterns.Shif
 shift_cl Shr size = pair_listed size 0xD2 1 1 Neither (Only 5) no (patterns.ShiftRm Shr by.Cl) (under_at 0xD2 5, lit< tt, refl) (under_at 0xD3 5, lit< tt, refl)
 shift_cl Sar size = pair_listed size 0xD2 1 1 Neither (Only 7) no (patterns.ShiftRm Sar by.Cl) (under_at 0xD2 7, lit< tt, refl) (under_at 0xD3 7, lit< tt, refl)
 
-pub transfer_listed : (o : Transfer) (size : Size) → Contains rows (sized size (transfer_opcode o) 1 1 Rep Absent no (patterns.Transfer o))
+pub transfer_listed : (o : Transfer) (size : Size) → Contains rows (transfer_row o size)
 unfolding rows
 transfer_listed Movs size = pair_listed size 0xA4 1 1 Rep Absent no (patterns.Transfer Movs) (opcode_at 0xA4, lit< tt, refl) (opcode_at 0xA5, lit< tt, refl)
 transfer_listed Stos size = pair_listed size 0xAA 1 1 Rep Absent no (patterns.Transfer Stos) (opcode_at 0xAA, lit< tt, refl) (opcode_at 0xAB, lit< tt, refl)
 transfer_listed Lods size = pair_listed size 0xAC 1 1 Rep Absent no (patterns.Transfer Lods) (opcode_at 0xAC, lit< tt, refl) (opcode_at 0xAD, lit< tt, refl)
 
-pub compare_listed : (o : Comparison) (size : Size) → Contains rows (sized size (compare_opcode o) 1 1 Both Absent no (patterns.Compare o))
+pub compare_listed : (o : Comparison) (size : Size) → Contains rows (compare_row o size)
 unfolding rows
 compare_listed Cmps size = pair_listed size 0xA6 1 1 Both Absent no (patterns.Compare Cmps) (opcode_at 0xA6, lit< tt, refl) (opcode_at 0xA7, lit< tt, refl)
 compare_listed Scas size = pair_listed size 0xAE 1 1 Both Absent no (patterns.Compare Scas) (opcode_at 0xAE, lit< tt, refl) (opcode_at 0xAF, lit< tt, refl)
 
-pub loop_listed : (o : Loop) → Contains rows (one (loop_opcode o) 1 1 d Neither Absent is (patterns.Loop o))
+pub loop_listed : (o : Loop) → Contains rows (loop_row o)
 unfolding rows
 loop_listed loops.Loopne = (opcode_at 0xE0, lit< tt, refl)
 loop_listed loops.Loope = (opcode_at 0xE1, lit< tt, refl)
 loop_listed loops.Loop = (opcode_at 0xE2, lit< tt, refl)
 loop_listed loops.Jecxz = (opcode_at 0xE3, lit< tt, refl)
 
-pub plain_listed : (o : Plain) → Contains rows (one (plain_opcode o) 1 1 (plain_column o) Neither Absent no (patterns.Plain o))
+pub plain_listed : (o : Plain) → Contains rows (plain_row o)
 unfolding rows
 plain_listed Pushad = (opcode_at 0x60, lit< tt, refl)
 plain_listed Popad = (opcode_at 0x61, lit< tt, refl)

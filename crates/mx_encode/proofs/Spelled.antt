@@ -21,7 +21,7 @@ use Rattle.mx_insn.specs.declared.row.ImmediateColumn.TheVariants as columns
 use Rattle.mx_insn.specs.declared.row.Pattern.{Pattern}
 use Rattle.mx_insn.specs.declared.row.Pattern.TheVariants as patterns
 use Rattle.mx_insn.specs.Table.{rows}
-use Rattle.mx_insn.specs.Spelling.{Sib, Place, PlaceFits, PlaceStands, SibFits, AreBytes, Parts, Spells, index_of, operand_of, rm_operand, register, scale, extended, immediate_length, immediate_value, size_of, made, parts, to_rm, memory_of}
+use Rattle.mx_insn.specs.Spelling.{Sib, Place, PlaceFits, PlaceStands, SibFits, AreBytes, Parts, Spells, index_of, operand_of, rm_operand, register, scale, sign_extended, immediate_length, immediate_value, row_size, made, parts, to_rm, memory_of}
 use Rattle.mx_encode.specs.Numbers.{is_short}
 use Rattle.mx_encode.specs.Places.{can_index, can_stand}
 use Rattle.mx_encode.specs.Forms.{operands_stand, has_form}
@@ -97,32 +97,32 @@ at_each p (suc n) k h lt =
       | inr ne ↦ at_each p n k (and_parts _ _ h).1 (omega (arith, ne))
     ]
 
-each_short : all_below (λ b. is_short 32 (extended 32 b)) 256 ≡ true
+each_short : all_below (λ b. is_short 32 (sign_extended 32 b)) 256 ≡ true
 each_short = refl
 
-short_again : (bytes : List ℕ) → length bytes ≡ 1 → AreBytes bytes → is_short 32 (extended 32 (value bytes)) ≡ true
+short_again : (bytes : List ℕ) → length bytes ≡ 1 → AreBytes bytes → is_short 32 (sign_extended 32 (value bytes)) ≡ true
 short_again [] len small = absurd cc
 short_again (x ∷ []) len small =
-    ap (λ b. is_short 32 (extended 32 b)) (value_1 x) ∙ at_each (λ b. is_short 32 (extended 32 b)) 256 x each_short (All-head (λ b. b < 256) x [] small)
+    ap (λ b. is_short 32 (sign_extended 32 b)) (value_1 x) ∙ at_each (λ b. is_short 32 (sign_extended 32 b)) 256 x each_short (All-head (λ b. b < 256) x [] small)
 short_again (x ∷ (y ∷ rest)) len small = absurd (omega (arith, len))
 
 abbrev LoopReads : Pattern → ℕ → Type 0
 LoopReads (patterns.Loop o) n = is_short 32 n ≡ true
 LoopReads _ n = Unit {0}
 
-loop_value : (column : ImmediateColumn) (size : Sizes) (wide : Bool) (bytes : List ℕ) → (is_signed column && is_dword size) ≡ true → length bytes ≡ immediate_length column wide → AreBytes bytes → is_short 32 (immediate_value column (size_of size wide) bytes) ≡ true
-loop_value columns.SignedByte sizes.Dword wide bytes e len small = short_again bytes len small
-loop_value columns.SignedByte sizes.Byte wide bytes e len small = absurd cc
-loop_value columns.SignedByte sizes.Variable wide bytes e len small = absurd cc
-loop_value columns.Nothing size wide bytes e len small = absurd cc
-loop_value columns.Byte size wide bytes e len small = absurd cc
-loop_value columns.Word size wide bytes e len small = absurd cc
-loop_value columns.Dword size wide bytes e len small = absurd cc
-loop_value columns.Variable size wide bytes e len small = absurd cc
+loop_value : (column : ImmediateColumn) (size : Sizes) (resized : Bool) (bytes : List ℕ) → (is_signed column && is_dword size) ≡ true → length bytes ≡ immediate_length column resized → AreBytes bytes → is_short 32 (immediate_value column (row_size size resized) bytes) ≡ true
+loop_value columns.SignedByte sizes.Dword resized bytes e len small = short_again bytes len small
+loop_value columns.SignedByte sizes.Byte resized bytes e len small = absurd cc
+loop_value columns.SignedByte sizes.Variable resized bytes e len small = absurd cc
+loop_value columns.Nothing size resized bytes e len small = absurd cc
+loop_value columns.Byte size resized bytes e len small = absurd cc
+loop_value columns.Word size resized bytes e len small = absurd cc
+loop_value columns.Dword size resized bytes e len small = absurd cc
+loop_value columns.Variable size resized bytes e len small = absurd cc
 
-loop_reads : (pattern : Pattern) (column : ImmediateColumn) (size : Sizes) (wide : Bool) (bytes : List ℕ) → loop_sound pattern column size ≡ true → length bytes ≡ immediate_length column wide → AreBytes bytes → LoopReads pattern (immediate_value column (size_of size wide) bytes)
-loop_reads (patterns.Loop o) column size wide bytes e len small = loop_value column size wide bytes e len small
-loop_reads _ column size wide bytes e len small = tt
+loop_reads : (pattern : Pattern) (column : ImmediateColumn) (size : Sizes) (resized : Bool) (bytes : List ℕ) → loop_sound pattern column size ≡ true → length bytes ≡ immediate_length column resized → AreBytes bytes → LoopReads pattern (immediate_value column (row_size size resized) bytes)
+loop_reads (patterns.Loop o) column size resized bytes e len small = loop_value column size resized bytes e len small
+loop_reads _ column size resized bytes e len small = tt
 
 -- ---- every instruction column
 
@@ -164,4 +164,4 @@ made_stands _ size p h l = refl
 pub spelled_has_form : (i : Insn) (bytes : List ℕ) → Spells bytes i → has_form i ≡ true
 spelled_has_form i bytes (row, f, s) =
     subst (λ (z : Insn). has_form z ≡ true) (sym s.means)
-    (made_stands row.pattern (size_of row.sizes f.wide) (parts row f) (rm_stands row.modrm f.place s.fit.place) (loop_reads row.pattern row.immediate row.sizes f.wide f.immediate (sound_of row s.listed) s.fit.immediate s.fit.bytes))
+    (made_stands row.pattern (row_size row.sizes f.resized) (parts row f) (rm_stands row.modrm f.place s.fit.place) (loop_reads row.pattern row.immediate row.sizes f.resized f.immediate (sound_of row s.listed) s.fit.immediate s.fit.bytes))

@@ -14,38 +14,38 @@ use Rattle.mx_insn.specs.declared.row.ModRm.TheVariants.{Absent, Any, AnyMemory,
 use Rattle.mx_insn.specs.declared.row.ImmediateColumn.{ImmediateColumn}
 use Rattle.mx_insn.specs.declared.row.ImmediateColumn.TheVariants as columns
 use Rattle.mx_insn.specs.declared.row.Pattern.{Pattern}
-use Rattle.mx_insn.specs.Table.{rows, no}
-use Rattle.mx_insn.specs.Spelling.{Parts, PlaceStands, SpellsBy, AreBytes, accumulator, allows_wide, allows_repeat, size_of, immediate_length, immediate_value, made, reg_field, rm_operand, spelling}
+use Rattle.mx_insn.specs.Table.{sized, sized_column, rows, no}
+use Rattle.mx_insn.specs.Spelling.{Parts, PlaceStands, SpellsBy, AreBytes, accumulator, allows_resized, allows_repeat, row_size, immediate_length, immediate_value, made, reg_field, rm_operand, spelling}
 use Rattle.mx_encode.specs.declared.fields.Number.{Number}
 use Rattle.mx_encode.specs.declared.fields.Number.TheVariants as numbers
 use Rattle.mx_encode.specs.declared.fields.Rm.{Rm}
 use Rattle.mx_encode.specs.Numbers.{number_bytes, is_short, short, is_word}
 use Rattle.mx_encode.specs.Places.{has_place, place_for, place_of}
-use Rattle.mx_encode.specs.Choice.{Choice, with_rm, sized, sized_column}
+use Rattle.mx_encode.specs.Choice.{Choice, with_rm}
 use Rattle.mx_encode.specs.Chosen.{fields_of}
 use Rattle.mx_encode.specs.Given.{OperandFits, RegFits}
-use Rattle.mx_encode.proofs.Digits.{no_bytes, one_byte, are_bytes_of, value_1, value_2, value_4, value_short}
+use Rattle.mx_encode.proofs.Digits.{no_bytes, is_one_byte, are_bytes_of, value_1, value_2, value_4, value_short}
 use Rattle.mx_encode.proofs.Standing.{place_fits, place_named, memory_mode}
 
 -- ---- immediates
 
 -- the bytes may stand in the column, and give the number n
-pub record Reads (column : ImmediateColumn) (wide : Bool) (size : Size) (x : Number) (n : ℕ) : Type 0 where
-  pub long : length (number_bytes x) ≡ immediate_length column wide
+pub record Reads (column : ImmediateColumn) (resized : Bool) (size : Size) (x : Number) (n : ℕ) : Type 0 where
+  pub long : length (number_bytes x) ≡ immediate_length column resized
   pub bytes : AreBytes (number_bytes x)
   pub gives : immediate_value column size (number_bytes x) ≡ n
 
-pub reads_nothing : (wide : Bool) (size : Size) → Reads columns.Nothing wide size numbers.Nothing 0
-reads_nothing wide size = record { long = refl; bytes = no_bytes; gives = refl }
+pub reads_nothing : (resized : Bool) (size : Size) → Reads columns.Nothing resized size numbers.Nothing 0
+reads_nothing resized size = record { long = refl; bytes = no_bytes; gives = refl }
 
-pub reads_byte : (wide : Bool) (size : Size) (n : ℕ) → n < 2 ^ 8 → Reads columns.Byte wide size (numbers.Byte n) n
-reads_byte wide size n lt = record { long = refl; bytes = one_byte n lt; gives = value_1 n }
+pub reads_byte : (resized : Bool) (size : Size) (n : ℕ) → n < 2 ^ 8 → Reads columns.Byte resized size (numbers.Byte n) n
+reads_byte resized size n lt = record { long = refl; bytes = is_one_byte n lt; gives = value_1 n }
 
-pub reads_word : (wide : Bool) (size : Size) (n : ℕ) → n < 2 ^ 16 → Reads columns.Word wide size (numbers.Word n) n
-reads_word wide size n lt = record { long = refl; bytes = are_bytes_of 2 n; gives = value_2 n lt }
+pub reads_word : (resized : Bool) (size : Size) (n : ℕ) → n < 2 ^ 16 → Reads columns.Word resized size (numbers.Word n) n
+reads_word resized size n lt = record { long = refl; bytes = are_bytes_of 2 n; gives = value_2 n lt }
 
-pub reads_dword : (wide : Bool) (size : Size) (n : ℕ) → n < 2 ^ 32 → Reads columns.Dword wide size (numbers.Dword n) n
-reads_dword wide size n lt = record { long = refl; bytes = are_bytes_of 4 n; gives = value_4 n lt }
+pub reads_dword : (resized : Bool) (size : Size) (n : ℕ) → n < 2 ^ 32 → Reads columns.Dword resized size (numbers.Dword n) n
+reads_dword resized size n lt = record { long = refl; bytes = are_bytes_of 4 n; gives = value_4 n lt }
 
 pub reads_whole_word : (size : Size) (n : ℕ) → n < 2 ^ 16 → Reads columns.Variable true size (numbers.Word n) n
 reads_whole_word size n lt = record { long = refl; bytes = are_bytes_of 2 n; gives = value_2 n lt }
@@ -53,8 +53,8 @@ reads_whole_word size n lt = record { long = refl; bytes = are_bytes_of 2 n; giv
 pub reads_whole_dword : (size : Size) (n : ℕ) → n < 2 ^ 32 → Reads columns.Variable false size (numbers.Dword n) n
 reads_whole_dword size n lt = record { long = refl; bytes = are_bytes_of 4 n; gives = value_4 n lt }
 
-pub reads_short : (wide : Bool) (size : Size) (n : ℕ) → is_short (width size) n ≡ true → Reads columns.SignedByte wide size (short n) n
-reads_short wide size n h = record { long = refl; bytes = one_byte (n % 256) (omega arith); gives = value_short (width size) n h }
+pub reads_short : (resized : Bool) (size : Size) (n : ℕ) → is_short (width size) n ≡ true → Reads columns.SignedByte resized size (short n) n
+reads_short resized size n h = record { long = refl; bytes = is_one_byte (n % 256) (omega arith); gives = value_short (width size) n h }
 
 -- ---- operands
 
@@ -120,46 +120,46 @@ operand_is column (Some rm) long s h = place_named rm.reg rm.operand long h (sui
 -- ---- the whole
 
 abbrev pub parts_of : Choice → ℕ → Parts
-parts_of c n = record { wide = c.wide; repeat = c.repeat; number = c.number; reg = reg_of c.rm; rm = operand_in c.rm; immediate = n }
+parts_of c n = record { resized = c.resized; repeat = c.repeat; number = c.number; reg = reg_of c.rm; rm = operand_in c.rm; immediate = n }
 
 pub record Suits (c : Choice) (i : Insn) : Type 0 where
   pub listed : Contains rows c.row
-  pub wide : allows_wide c.row.sizes c.wide ≡ true
+  pub resized : allows_resized c.row.sizes c.resized ≡ true
   pub repeat : allows_repeat c.row.repeats c.repeat ≡ true
   pub number : c.number < c.row.count
   pub rm : RmSuits c.row.modrm c.rm
   pub value : ℕ
-  pub reads : Reads c.row.immediate c.wide (size_of c.row.sizes c.wide) c.immediate value
-  pub means : i ≡ made c.row.pattern (size_of c.row.sizes c.wide) (parts_of c value)
+  pub reads : Reads c.row.immediate c.resized (row_size c.row.sizes c.resized) c.immediate value
+  pub means : i ≡ made c.row.pattern (row_size c.row.sizes c.resized) (parts_of c value)
 
 pub suits_spell : (c : Choice) (i : Insn) (long : Bool) → Suits c i → has_place c.rm ≡ true → SpellsBy c.row (fields_of c long) (spelling c.row (fields_of c long)) i
 suits_spell c i long s h = record {
   listed = s.listed;
-  fit = record { wide = s.wide; repeat = s.repeat; number = s.number; place = stands c.row.modrm c.rm long s.rm; immediate = s.reads.long; bytes = s.reads.bytes };
+  fit = record { resized = s.resized; repeat = s.repeat; number = s.number; place = stands c.row.modrm c.rm long s.rm; immediate = s.reads.long; bytes = s.reads.bytes };
   bytes_are = refl;
   means = rw (reg_is c.rm long, operand_is c.row.modrm c.rm long s.rm h, s.reads.gives) s.means;
 }
 
 -- ---- rows that come in two sizes
 
-sized_wide : (size : Size) → allows_wide (sized_column size) (is_word size) ≡ true
-sized_wide Byte = refl
-sized_wide Word = refl
-sized_wide Dword = refl
+sized_resized : (size : Size) → allows_resized (sized_column size) (is_word size) ≡ true
+sized_resized Byte = refl
+sized_resized Word = refl
+sized_resized Dword = refl
 
-sized_is : (size : Size) → size_of (sized_column size) (is_word size) ≡ size
+sized_is : (size : Size) → row_size (sized_column size) (is_word size) ≡ size
 sized_is Byte = refl
 sized_is Word = refl
 sized_is Dword = refl
 
-pub sized_suits : (size : Size) (first step count : ℕ) (column : ModRm) (pattern : Pattern) (number reg : ℕ) (o : Operand) (i : Insn) → Contains rows (sized size first step count Neither column no pattern) → number < count → RmSuits column (Some (record { reg = reg; operand = o })) → i ≡ made pattern size (record { wide = is_word size; repeat = None; number = number; reg = reg; rm = o; immediate = 0 }) → Suits (with_rm (sized size first step count Neither column no pattern) (is_word size) number reg o numbers.Nothing) i
+pub sized_suits : (size : Size) (first step count : ℕ) (column : ModRm) (pattern : Pattern) (number reg : ℕ) (o : Operand) (i : Insn) → Contains rows (sized size first step count Neither column no pattern) → number < count → RmSuits column (Some (record { reg = reg; operand = o })) → i ≡ made pattern size (record { resized = is_word size; repeat = None; number = number; reg = reg; rm = o; immediate = 0 }) → Suits (with_rm (sized size first step count Neither column no pattern) (is_word size) number reg o numbers.Nothing) i
 sized_suits size first step count column pattern number reg o i listed lt rm means = record {
   listed = listed;
-  wide = sized_wide size;
+  resized = sized_resized size;
   repeat = refl;
   number = lt;
   rm = rm;
   value = 0;
-  reads = reads_nothing (is_word size) (size_of (sized_column size) (is_word size));
+  reads = reads_nothing (is_word size) (row_size (sized_column size) (is_word size));
   means = rw (sized_is size) means;
 }

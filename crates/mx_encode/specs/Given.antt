@@ -29,7 +29,7 @@ use Rattle.mx_encode.specs.Choice.{Choice}
 
 -- a choice, without its row
 abbrev pub laid : Choice → Form
-laid c = record { wide = c.wide; repeat = c.repeat; escaped = c.row.escaped; opcode = opcode c.row c.number; rm = c.rm; immediate = c.immediate }
+laid c = record { resized = c.resized; repeat = c.repeat; escaped = c.row.escaped; opcode = opcode c.row c.number; rm = c.rm; immediate = c.immediate }
 
 -- what a function returned is what was chosen
 abbrev pub Gives : Result Form NoForm → Option Choice → Type 0
@@ -44,21 +44,21 @@ RegFits None = Unit {0}
 RegFits (Some rm) = rm.reg < 8
 
 abbrev pub form_bytes : Form → Option Place → List ℕ
-form_bytes f place = prefix_bytes f.wide f.repeat false ++ (escape_bytes f.escaped ++ (f.opcode ∷ (modrm_bytes place ++ number_bytes f.immediate)))
+form_bytes f place = prefix_bytes f.resized f.repeat false ++ (escape_bytes f.escaped ++ (f.opcode ∷ (modrm_bytes place ++ number_bytes f.immediate)))
 
 -- a value by an opcode for bytes and the next, for words and dwords, under /0
 abbrev pub value_into : ℕ → Operand → Immediate → Form
-value_into first to (immediate.Byte n) = record { wide = false; repeat = None; escaped = false; opcode = first; rm = Some (record { reg = 0; operand = to }); immediate = numbers.Byte n }
-value_into first to (immediate.Word n) = record { wide = true; repeat = None; escaped = false; opcode = first + 1; rm = Some (record { reg = 0; operand = to }); immediate = numbers.Word n }
-value_into first to (immediate.Dword n) = record { wide = false; repeat = None; escaped = false; opcode = first + 1; rm = Some (record { reg = 0; operand = to }); immediate = numbers.Dword n }
+value_into first to (immediate.Byte n) = record { resized = false; repeat = None; escaped = false; opcode = first; rm = Some (record { reg = 0; operand = to }); immediate = numbers.Byte n }
+value_into first to (immediate.Word n) = record { resized = true; repeat = None; escaped = false; opcode = first + 1; rm = Some (record { reg = 0; operand = to }); immediate = numbers.Word n }
+value_into first to (immediate.Dword n) = record { resized = false; repeat = None; escaped = false; opcode = first + 1; rm = Some (record { reg = 0; operand = to }); immediate = numbers.Dword n }
 
 -- INC or DEC, by the opcode for words and dwords in a register or else under /n of FE and FF
 abbrev pub step_form : ℕ → ℕ → Size → Operand → Form
-step_form first n Byte o = record { wide = false; repeat = None; escaped = false; opcode = 0xFE; rm = Some (record { reg = n; operand = o }); immediate = numbers.Nothing }
-step_form first n Word (operand.Register r) = record { wide = true; repeat = None; escaped = false; opcode = first + register_number r; rm = None; immediate = numbers.Nothing }
-step_form first n Dword (operand.Register r) = record { wide = false; repeat = None; escaped = false; opcode = first + register_number r; rm = None; immediate = numbers.Nothing }
-step_form first n Word (operand.Memory m) = record { wide = true; repeat = None; escaped = false; opcode = 0xFF; rm = Some (record { reg = n; operand = operand.Memory m }); immediate = numbers.Nothing }
-step_form first n Dword (operand.Memory m) = record { wide = false; repeat = None; escaped = false; opcode = 0xFF; rm = Some (record { reg = n; operand = operand.Memory m }); immediate = numbers.Nothing }
+step_form first n Byte o = record { resized = false; repeat = None; escaped = false; opcode = 0xFE; rm = Some (record { reg = n; operand = o }); immediate = numbers.Nothing }
+step_form first n Word (operand.Register r) = record { resized = true; repeat = None; escaped = false; opcode = first + register_number r; rm = None; immediate = numbers.Nothing }
+step_form first n Dword (operand.Register r) = record { resized = false; repeat = None; escaped = false; opcode = first + register_number r; rm = None; immediate = numbers.Nothing }
+step_form first n Word (operand.Memory m) = record { resized = true; repeat = None; escaped = false; opcode = 0xFF; rm = Some (record { reg = n; operand = operand.Memory m }); immediate = numbers.Nothing }
+step_form first n Dword (operand.Memory m) = record { resized = false; repeat = None; escaped = false; opcode = 0xFF; rm = Some (record { reg = n; operand = operand.Memory m }); immediate = numbers.Nothing }
 
 -- ---- the numbers of an instruction are as wide as their types
 

@@ -5,13 +5,11 @@ use Rattle.mx_word.specs.declared.size.Size.{Size}
 use Rattle.mx_word.specs.declared.size.Size.TheVariants.{Byte, Word, Dword}
 use Rattle.mx_word.specs.declared.names.Arithmetic.{Arithmetic}
 use Rattle.mx_word.specs.declared.names.Arithmetic.TheVariants.{Add, Or, Adc, Sbb, And, Sub, Xor, Cmp}
-use Rattle.mx_word.specs.declared.names.Shift.{Shift}
-use Rattle.mx_word.specs.declared.names.Shift.TheVariants.{Rol, Ror, Shl, Shr, Sar}
 use Rattle.mx_insn.specs.declared.insn.Scale.{Scale}
 use Rattle.mx_insn.specs.declared.insn.Scale.TheVariants.{One, Two, Four, Eight}
 use Rattle.mx_insn.specs.declared.insn.OperandSize.{OperandSize}
 use Rattle.mx_insn.specs.declared.insn.OperandSize.TheVariants as operand_sizes
-use Rattle.mx_insn.specs.Spelling.{extended}
+use Rattle.mx_insn.specs.Spelling.{sign_extended}
 use Rattle.mx_encode.specs.declared.fields.Number.{Number}
 use Rattle.mx_encode.specs.declared.fields.Number.TheVariants as numbers
 
@@ -33,28 +31,21 @@ arithmetic_number Sub = 5
 arithmetic_number Xor = 6
 arithmetic_number Cmp = 7
 
-abbrev pub shift_number : Shift → ℕ
-shift_number Rol = 0
-shift_number Ror = 1
-shift_number Shl = 4
-shift_number Shr = 5
-shift_number Sar = 7
-
 -- 66 stands for words
 abbrev pub is_word : Size → Bool
 is_word Byte = false
 is_word Word = true
 is_word Dword = false
 
-abbrev pub is_wide : OperandSize → Bool
-is_wide operand_sizes.Word = true
-is_wide operand_sizes.Dword = false
+abbrev pub is_word_size : OperandSize → Bool
+is_word_size operand_sizes.Word = true
+is_word_size operand_sizes.Dword = false
 
 -- ---- numbers
 
 -- a number of w bits is a byte with its sign extended
 abbrev pub is_short : ℕ → ℕ → Bool
-is_short w n = extended w (n % 256) == n
+is_short w n = sign_extended w (n % 256) == n
 
 -- and isn't marked wide
 abbrev pub shortens : ℕ → ℕ → Bool → Bool

@@ -1,26 +1,27 @@
 //! Instructions on registers that they don't name, and those without operands.
 
 ghost use Rattle.std.specs.Prelude.{◌≡◌, ◌<◌};
-ghost use Rattle.mx_encode.specs.Choice.{rep, transfer_opcode, transfer_choice, compare_opcode, compare_choice, extend_accumulator, spread_sign, in_choice, out_choice, plain_opcode, plain_choice};
+ghost use Rattle.mx_insn.specs.Table.{compare_opcode, plain_opcode, transfer_opcode};
+ghost use Rattle.mx_encode.specs.Choice.{rep, transfer_choice, compare_choice, extend_accumulator, spread_sign, in_choice, out_choice, plain_choice};
 ghost use Rattle.mx_encode.specs.Given.{laid, PortFits};
 
 use crate::fields::Number;
 use crate::forms::{Form, is_word, sized_opcode};
-use crate::numbers::is_wide;
+use crate::numbers::is_word_size;
 use mx_insn::{Comparison, OperandSize, Plain, Port, PortSize, Repeat, Size, Transfer};
 
 /// CBW or CWDE.
 pub fn extend_accumulator(size: OperandSize) -> Form
     ensures { result ≡ laid (extend_accumulator size) }
 {
-    Form::bare(0x98).widened(is_wide(size))
+    Form::bare(0x98).resized(is_word_size(size))
 }
 
 /// CWD or CDQ.
 pub fn spread_sign(size: OperandSize) -> Form
     ensures { result ≡ laid (spread_sign size) }
 {
-    Form::bare(0x99).widened(is_wide(size))
+    Form::bare(0x99).resized(is_word_size(size))
 }
 
 fn transfer_opcode(operation: Transfer) -> u8
@@ -45,7 +46,7 @@ pub fn transfer(operation: Transfer, size: Size, repeated: bool) -> Form
     ensures { result ≡ laid (transfer_choice operation size repeated) }
 {
     Form::bare(sized_opcode(size, transfer_opcode(operation)))
-        .widened(is_word(size))
+        .resized(is_word(size))
         .repeated(rep(repeated))
 }
 
@@ -64,7 +65,7 @@ pub fn compare(operation: Comparison, size: Size, repeat: Option<Repeat>) -> For
     ensures { result ≡ laid (compare_choice operation size repeat) }
 {
     Form::bare(sized_opcode(size, compare_opcode(operation)))
-        .widened(is_word(size))
+        .resized(is_word(size))
         .repeated(repeat)
 }
 

@@ -1,8 +1,8 @@
 //! What an instruction's bytes are made of.
 
 ghost use Rattle.std.specs.Prelude.{◌≡◌, ◌<◌, true, false, None, Some};
+ghost use Rattle.mx_insn.specs.Table.{sized_opcode};
 ghost use Rattle.mx_encode.specs.Numbers.{is_word};
-ghost use Rattle.mx_encode.specs.Choice.{sized_opcode};
 
 use crate::fields::{Number, Rm};
 use mx_insn::{Operand, Repeat, Size};
@@ -11,7 +11,7 @@ use mx_insn::{Operand, Repeat, Size};
 #[derive(Clone, Copy)]
 pub struct Form {
     /// 66 stands.
-    pub wide: bool,
+    pub resized: bool,
     pub repeat: Option<Repeat>,
     /// Behind 0F.
     pub escaped: bool,
@@ -23,10 +23,10 @@ pub struct Form {
 impl Form {
     /// An opcode alone.
     pub fn bare(opcode: u8) -> Form
-        ensures { result ≡ record { wide = false; repeat = None; escaped = false; opcode = opcode; rm = None; immediate = Number.Nothing } }
+        ensures { result ≡ record { resized = false; repeat = None; escaped = false; opcode = opcode; rm = None; immediate = Number.Nothing } }
     {
         Form {
-            wide: false,
+            resized: false,
             repeat: None,
             escaped: false,
             opcode,
@@ -37,10 +37,10 @@ impl Form {
 
     /// An opcode with a reg field and an operand.
     pub fn with_rm(opcode: u8, reg: u8, operand: Operand) -> Form
-        ensures { result ≡ record { wide = false; repeat = None; escaped = false; opcode = opcode; rm = Some (record { reg = reg; operand = operand }); immediate = Number.Nothing } }
+        ensures { result ≡ record { resized = false; repeat = None; escaped = false; opcode = opcode; rm = Some (record { reg = reg; operand = operand }); immediate = Number.Nothing } }
     {
         Form {
-            wide: false,
+            resized: false,
             repeat: None,
             escaped: false,
             opcode,
@@ -53,16 +53,16 @@ impl Form {
     /// field and an operand.
     pub fn sized(size: Size, opcode: u8, reg: u8, operand: Operand) -> Form
         requires { opcode < 255 }
-        ensures { result ≡ record { wide = is_word size; repeat = None; escaped = false; opcode = sized_opcode size opcode; rm = Some (record { reg = reg; operand = operand }); immediate = Number.Nothing } }
+        ensures { result ≡ record { resized = is_word size; repeat = None; escaped = false; opcode = sized_opcode size opcode; rm = Some (record { reg = reg; operand = operand }); immediate = Number.Nothing } }
     {
-        Form::with_rm(sized_opcode(size, opcode), reg, operand).widened(is_word(size))
+        Form::with_rm(sized_opcode(size, opcode), reg, operand).resized(is_word(size))
     }
 
     /// With 66, or without.
-    pub fn widened(self, wide: bool) -> Form
-        ensures { result ≡ record self { wide = wide } }
+    pub fn resized(self, resized: bool) -> Form
+        ensures { result ≡ record self { resized = resized } }
     {
-        Form { wide, ..self }
+        Form { resized, ..self }
     }
 
     /// Behind 0F.

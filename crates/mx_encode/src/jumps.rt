@@ -1,7 +1,8 @@
 //! Jumps, calls and returns.
 
 ghost use Rattle.std.specs.Prelude.{◌≡◌};
-ghost use Rattle.mx_encode.specs.Choice.{jump_if, jump_choice, call_choice, jump_to, call_to, loop_opcode, loop_choice, return_choice, interrupt_choice};
+ghost use Rattle.mx_insn.specs.Table.{loop_opcode};
+ghost use Rattle.mx_encode.specs.Choice.{jump_if, jump_choice, call_choice, jump_to, call_to, loop_choice, return_choice, interrupt_choice};
 ghost use Rattle.mx_encode.specs.Given.{laid, Gives, OperandFits};
 
 use crate::NoForm;

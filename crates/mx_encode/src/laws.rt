@@ -1,11 +1,13 @@
 //! Laws of the spelling that is chosen.
 
-ghost use Rattle.std.specs.Prelude.{◌≡◌, ℕ, List, IsTrue};
+ghost use Rattle.std.specs.Prelude.{◌≡◌, ℕ, List, IsTrue, length};
 ghost use Rattle.mx_insn.specs.declared.insn.Insn.{Insn};
 ghost use Rattle.mx_insn.specs.Spelling.{Spells};
 ghost use Rattle.mx_encode.specs.declared.Wide.{Wide};
 ghost use Rattle.mx_encode.specs.Forms.{has_form};
 ghost use Rattle.mx_encode.specs.Chosen.{Chosen};
+ghost use Rattle.mx_encode.specs.Lengths.{chosen_length};
+ghost use Rattle.mx_encode.specs.Filled.{with_immediate, with_displacement, with_target, reaches};
 
 /// What is chosen for an instruction spells it.
 pub fn chosen_spells()
@@ -20,4 +22,25 @@ pub fn one_chosen()
 /// What has a spelling has a form: it doesn't index by ESP, nor loop further than a signed byte.
 pub fn spelled_has_form()
     ensures { (i : Insn) (bytes : List ℕ) → Spells bytes i → IsTrue (has_form i) }
+{}
+
+/// An immediate that is marked wide decides neither whether there is a form nor its length.
+pub fn immediate_keeps_length()
+    ensures form { (i : Insn) (n : ℕ) → has_form (with_immediate i n) ≡ has_form i }
+    ensures count { (i : Insn) (wide : Wide) (n : ℕ) → IsTrue wide.immediate → chosen_length (with_immediate i n) wide ≡ chosen_length i wide }
+    ensures length { (i : Insn) (wide : Wide) (n : ℕ) (a b : List ℕ) → IsTrue wide.immediate → Chosen i wide a → Chosen (with_immediate i n) wide b → length b ≡ length a }
+{}
+
+/// A displacement in memory that is marked wide decides neither whether there is a form nor its
+/// length.
+pub fn displacement_keeps_length()
+    ensures form { (i : Insn) (n : ℕ) → has_form (with_displacement i n) ≡ has_form i }
+    ensures count { (i : Insn) (wide : Wide) (n : ℕ) → IsTrue wide.displacement → chosen_length (with_displacement i n) wide ≡ chosen_length i wide }
+    ensures length { (i : Insn) (wide : Wide) (n : ℕ) (a b : List ℕ) → IsTrue wide.displacement → Chosen i wide a → Chosen (with_displacement i n) wide b → length b ≡ length a }
+{}
+
+/// How far a jump goes decides neither, as long as it reaches.
+pub fn target_keeps_length()
+    ensures form { (i : Insn) (wide : Wide) (m n : ℕ) → IsTrue (reaches i wide m) → IsTrue (reaches i wide n) → has_form (with_target i n) ≡ has_form (with_target i m) }
+    ensures length { (i : Insn) (wide : Wide) (m n : ℕ) (a b : List ℕ) → IsTrue (reaches i wide m) → IsTrue (reaches i wide n) → Chosen (with_target i m) wide a → Chosen (with_target i n) wide b → length b ≡ length a }
 {}

@@ -5,6 +5,7 @@ mod accumulator;
 mod choice;
 mod encoding;
 mod fields;
+mod filled;
 mod forms;
 mod jumps;
 mod laws;
@@ -15,11 +16,15 @@ mod single;
 mod writing;
 
 pub use encoding::encode;
-pub use laws::{chosen_spells, one_chosen, spelled_has_form};
+pub use filled::{with_displacement, with_immediate};
+pub use laws::{
+    chosen_spells, displacement_keeps_length, immediate_keeps_length, one_chosen, spelled_has_form,
+    target_keeps_length,
+};
 
 /// What is asked for where a shorter form would do. A mark asks for nothing where an instruction
 /// has nothing to widen.
-#[derive(Clone, Copy, Debug, PartialEq, Eq)]
+#[derive(Clone, Copy, PartialEq, Eq)]
 pub struct Wide {
     /// An immediate as wide as the operands.
     pub immediate: bool,

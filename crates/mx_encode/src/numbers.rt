@@ -2,7 +2,8 @@
 
 ghost use Rattle.std.specs.Prelude.{◌≡◌, ◌<◌, ◌^◌};
 ghost use Rattle.mx_word.specs.Word.{width};
-ghost use Rattle.mx_encode.specs.Numbers.{scale_number, arithmetic_number, shift_number, is_wide, is_short, shortens, short};
+ghost use Rattle.mx_insn.specs.Table.{shift_number};
+ghost use Rattle.mx_encode.specs.Numbers.{scale_number, arithmetic_number, is_word_size, is_short, shortens, short};
 
 use crate::fields::Number;
 use mx_insn::{Arithmetic, OperandSize, Scale, Shift, Size};
@@ -49,8 +50,8 @@ pub fn shift_number(operation: Shift) -> u8
     }
 }
 
-pub fn is_wide(size: OperandSize) -> bool
-    ensures { result ≡ is_wide size }
+pub fn is_word_size(size: OperandSize) -> bool
+    ensures { result ≡ is_word_size size }
 {
     match size {
         OperandSize::Word => true,

@@ -6,7 +6,7 @@ ghost use Rattle.mx_encode.specs.Given.{laid, value_into, OperandFits, OperandsF
 
 use crate::fields::Number;
 use crate::forms::Form;
-use crate::numbers::{arithmetic_number, is_wide, short, shortens};
+use crate::numbers::{arithmetic_number, is_word_size, short, shortens};
 use mx_insn::{
     Arithmetic, Extension, Immediate, Memory, Operand, OperandSize, Operands, Register, Size,
     WideImmediate,
@@ -24,9 +24,9 @@ fn arithmetic_immediate(operation: Arithmetic, to: Operand, value: Immediate, lo
         Immediate::Byte(n) => Form::with_rm(0x80, reg, to).with_immediate(Number::Byte(n)),
         Immediate::Word(n) => {
             if shortens(Size::Word, u32::from(n), long) {
-                short_form.widened(true).with_immediate(short(u32::from(n)))
+                short_form.resized(true).with_immediate(short(u32::from(n)))
             } else {
-                long_form.widened(true).with_immediate(Number::Word(n))
+                long_form.resized(true).with_immediate(Number::Word(n))
             }
         }
         Immediate::Dword(n) => {
@@ -68,7 +68,7 @@ fn move_immediate(to: Operand, value: Immediate) -> Form
         Operand::Register(to) => match value {
             Immediate::Byte(n) => { Form::bare(0xb0 + to.number()).with_immediate(Number::Byte(n)) }
             Immediate::Word(n) => Form::bare(0xb8 + to.number())
-                .widened(true)
+                .resized(true)
                 .with_immediate(Number::Word(n)),
             Immediate::Dword(n) => {
                 Form::bare(0xb8 + to.number()).with_immediate(Number::Dword(n))
@@ -88,7 +88,7 @@ fn value_into(opcode: u8, to: Operand, value: Immediate) -> Form
     match value {
         Immediate::Byte(n) => Form::with_rm(opcode, 0, to).with_immediate(Number::Byte(n)),
         Immediate::Word(n) => Form::with_rm(opcode + 1, 0, to)
-            .widened(true)
+            .resized(true)
             .with_immediate(Number::Word(n)),
         Immediate::Dword(n) => { Form::with_rm(opcode + 1, 0, to).with_immediate(Number::Dword(n)) }
     }
@@ -143,7 +143,7 @@ pub fn load_address(size: OperandSize, to: Register, memory: Memory) -> Form
     ensures form { result ≡ laid (load_address size to memory) }
     ensures fits { memory.displacement < 2 ^ 32 }
 {
-    Form::with_rm(0x8d, to.number(), Operand::Memory(memory)).widened(is_wide(size))
+    Form::with_rm(0x8d, to.number(), Operand::Memory(memory)).resized(is_word_size(size))
 }
 
 /// IMUL with two operands.
@@ -153,7 +153,7 @@ pub fn multiply(size: OperandSize, to: Register, from: Operand) -> Form
 {
     Form::with_rm(0xaf, to.number(), from)
         .escaped()
-        .widened(is_wide(size))
+        .resized(is_word_size(size))
 }
 
 /// IMUL with three operands.
@@ -167,9 +167,9 @@ pub fn multiply_immediate(to: Register, from: Operand, value: WideImmediate, lon
     match value {
         WideImmediate::Word(n) => {
             if shortens(Size::Word, u32::from(n), long) {
-                short_form.widened(true).with_immediate(short(u32::from(n)))
+                short_form.resized(true).with_immediate(short(u32::from(n)))
             } else {
-                long_form.widened(true).with_immediate(Number::Word(n))
+                long_form.resized(true).with_immediate(Number::Word(n))
             }
         }
         WideImmediate::Dword(n) => {
@@ -189,7 +189,7 @@ pub fn zero_extend(extension: Extension, to: Register, from: Operand) -> Form
 {
     let from_byte = Form::with_rm(0xb6, to.number(), from).escaped();
     match extension {
-        Extension::ByteToWord => from_byte.widened(true),
+        Extension::ByteToWord => from_byte.resized(true),
         Extension::ByteToDword => from_byte,
         Extension::WordToDword => Form::with_rm(0xb7, to.number(), from).escaped(),
     }
@@ -202,7 +202,7 @@ pub fn sign_extend(extension: Extension, to: Register, from: Operand) -> Form
 {
     let from_byte = Form::with_rm(0xbe, to.number(), from).escaped();
     match extension {
-        Extension::ByteToWord => from_byte.widened(true),
+        Extension::ByteToWord => from_byte.resized(true),
         Extension::ByteToDword => from_byte,
         Extension::WordToDword => Form::with_rm(0xbf, to.number(), from).escaped(),
     }

@@ -1,7 +1,8 @@
 //! Instructions with one operand, and the stack's.
 
 ghost use Rattle.std.specs.Prelude.{◌≡◌, ◌<◌, ◌^◌, true, false, None, Some, Bool};
-ghost use Rattle.mx_encode.specs.Choice.{step_choice, unary_choice, product_number, product_choice, shift_choice, set_condition, push_choice, push_immediate, pop_choice};
+ghost use Rattle.mx_insn.specs.Table.{product_number};
+ghost use Rattle.mx_encode.specs.Choice.{step_choice, unary_choice, product_choice, shift_choice, set_condition, push_choice, push_immediate, pop_choice};
 ghost use Rattle.mx_encode.specs.Given.{laid, step_form, OperandFits, CountFits};
 
 use crate::fields::Number;
@@ -18,7 +19,7 @@ fn step(opcode: u8, reg: u8, size: Size, operand: Operand) -> Form
     match operand {
         Operand::Register(register) => match size {
             Size::Byte => Form::with_rm(0xfe, reg, operand),
-            Size::Word => Form::bare(opcode + register.number()).widened(true),
+            Size::Word => Form::bare(opcode + register.number()).resized(true),
             Size::Dword => Form::bare(opcode + register.number()),
         },
         Operand::Memory(_) => Form::sized(size, 0xfe, reg, operand),

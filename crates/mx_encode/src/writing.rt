@@ -2,7 +2,7 @@
 
 ghost use Rattle.std.specs.Prelude.{◌≡◌, ◌+◌, ◌≤◌, ◌++◌, length, false};
 ghost use Rattle.mx_word.specs.Word.{bytes_of};
-ghost use Rattle.mx_insn.specs.Spelling.{wide_bytes, repeat_bytes, escape_bytes, place_bytes, modrm_bytes, sib_bytes};
+ghost use Rattle.mx_insn.specs.Spelling.{resized_bytes, repeat_bytes, escape_bytes, place_bytes, modrm_bytes, sib_bytes};
 ghost use Rattle.mx_encode.specs.Numbers.{number_bytes};
 ghost use Rattle.mx_encode.specs.Places.{place_for};
 ghost use Rattle.mx_encode.specs.Given.{RegFits, form_bytes, sib_seen, place_seen};
@@ -44,12 +44,12 @@ fn put_number(bytes: &mut Bytes, number: Number)
     }
 }
 
-fn put_wide(bytes: &mut Bytes, wide: bool)
+fn put_resized(bytes: &mut Bytes, resized: bool)
     requires { length bytes.old.items + 1 ≤ 15 }
-    ensures bytes { bytes.new.items ≡ bytes.old.items ++ wide_bytes wide }
+    ensures bytes { bytes.new.items ≡ bytes.old.items ++ resized_bytes resized }
     ensures room { length bytes.new.items ≤ length bytes.old.items + 1 }
 {
-    if wide {
+    if resized {
         bytes.push(0x66);
     }
 }
@@ -113,7 +113,7 @@ pub fn bytes_of_form(form: Form, long: bool) -> Bytes
     ensures { result.items ≡ form_bytes form (place_for form.rm long) }
 {
     let mut bytes = Bytes::new();
-    put_wide(&mut bytes, form.wide);
+    put_resized(&mut bytes, form.resized);
     put_repeat(&mut bytes, form.repeat);
     put_escape(&mut bytes, form.escaped);
     bytes.push(form.opcode);

@@ -3,7 +3,7 @@
 ghost use Rattle.std.specs.Prelude.{◌≡◌, ◌<◌, ◌^◌, length, drop, Ok, Err};
 ghost use Rattle.mx_decode.specs.Decode.{front};
 ghost use Rattle.mx_exec.specs.Text.{Fetches};
-ghost use Rattle.mx_exec.specs.Image.{code_of, less, more, blank, register_of, with_dword, jumped, Performs};
+ghost use Rattle.mx_exec.specs.Image.{code_bytes, dword_difference, dword_sum, blank, register_of, with_dword, jumped, Performs};
 
 use crate::text::{Text, decode_at};
 use mx_decode::DecodeFault;
@@ -34,7 +34,7 @@ pub struct Image {
 }
 
 /// How a step ends.
-#[derive(Clone, Copy, Debug, PartialEq, Eq)]
+#[derive(Clone, Copy, PartialEq, Eq)]
 pub enum Outcome {
     /// On to the next step.
     Go,
@@ -73,7 +73,7 @@ impl Image {
 
     /// The limit of the code, in bytes.
     pub(crate) fn code_limit(&self) -> usize
-        ensures { result ≡ length (code_of self.now) }
+        ensures { result ≡ length (code_bytes self.now) }
     {
         match &self.code {
             Code::Separate(text) => text.limit(),
@@ -85,7 +85,7 @@ impl Image {
     #[inline(always)]
     pub(crate) fn fetch(&mut self, insn: &mut Insn) -> Result<u8, DecodeFault>
         ensures same { self.new ≡ self.old }
-        ensures fetched { Fetches (front (drop self.old.eip (code_of self.old))) result insn.new }
+        ensures fetched { Fetches (front (drop self.old.eip (code_bytes self.old))) result insn.new }
     {
         match &mut self.code {
             Code::Separate(text) => text.fetch(self.eip, insn),
@@ -106,15 +106,15 @@ impl Image {
 }
 
 /// A number less another, modulo 2^32.
-pub fn less(number: u32, by: u32) -> u32
-    ensures { result ≡ less number by }
+pub fn dword_difference(number: u32, by: u32) -> u32
+    ensures { result ≡ dword_difference number by }
 {
     number.wrapping_sub(by)
 }
 
 /// A number and another more, modulo 2^32.
-pub fn more(number: u32, by: u32) -> u32
-    ensures { result ≡ more number by }
+pub fn dword_sum(number: u32, by: u32) -> u32
+    ensures { result ≡ dword_sum number by }
 {
     number.wrapping_add(by)
 }

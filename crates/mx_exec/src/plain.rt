@@ -3,9 +3,9 @@
 ghost use Rattle.std.specs.Prelude.{◌≡◌, Ok, Err};
 ghost use Rattle.mx_exec.specs.Image.{Performs, passed};
 ghost use Rattle.mx_exec.specs.Stack.{top_of};
-ghost use Rattle.mx_exec.specs.Step.{plain_after, left};
+ghost use Rattle.mx_exec.specs.Step.{plain_after, frame_released};
 
-use crate::image::more;
+use crate::image::dword_sum;
 use crate::{Image, stack};
 use mx_flags::Flags;
 use mx_insn::Plain;
@@ -41,13 +41,13 @@ fn pop_flags(image: &mut Image, next: u32) -> Result<(), u8>
 
 /// LEAVE: ESP is EBP, then POP EBP.
 fn leave(image: &mut Image) -> Result<(), u8>
-    ensures { Performs image.old (left image.old) result image.new }
+    ensures { Performs image.old (frame_released image.old) result image.new }
 {
     let top = image.register(Register::Ebp);
     let Ok(value) = image.memory.read(top, Size::Dword) else {
         return Err(12);
     };
-    image.set_register(Register::Esp, more(top, 4));
+    image.set_register(Register::Esp, dword_sum(top, 4));
     image.set_register(Register::Ebp, value);
     Ok(())
 }

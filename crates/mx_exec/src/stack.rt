@@ -3,11 +3,11 @@
 ghost use Rattle.std.specs.Prelude.{◌≡◌, ◌^◌, ◌<◌, length, Ok, Err, true, IfOk};
 ghost use Rattle.mx_word.specs.Word.{value_at};
 ghost use Rattle.mx_mem.specs.Segment.{inside, with_value};
-ghost use Rattle.mx_exec.specs.Image.{Performs, less, more};
+ghost use Rattle.mx_exec.specs.Image.{Performs, dword_difference, dword_sum};
 ghost use Rattle.mx_exec.specs.Stack.{pushed, top_of, dropped, has_room, has_dwords, with_pushed, pushad_words, pushad, popad, popad_words};
 
 use crate::Image;
-use crate::image::{less, more};
+use crate::image::{dword_difference, dword_sum};
 use mx_mem::{OutOfLimit, Segment};
 use mx_regs::Regs;
 use mx_word::{Register, Size};
@@ -16,7 +16,7 @@ use mx_word::{Register, Size};
 pub fn push(image: &mut Image, value: u32) -> Result<(), u8>
     ensures { Performs image.old (pushed value image.old) result image.new }
 {
-    let top = less(image.register(Register::Esp), 4);
+    let top = dword_difference(image.register(Register::Esp), 4);
     match image.memory.write(top, Size::Dword, value) {
         Ok(()) => {
             image.set_register(Register::Esp, top);
@@ -43,7 +43,7 @@ pub fn top(image: &Image) -> Result<u32, u8>
 pub fn drop_bytes(image: &mut Image, count: u32)
     ensures { image.new ≡ dropped count image.old }
 {
-    let top = more(image.register(Register::Esp), count);
+    let top = dword_sum(image.register(Register::Esp), count);
     image.set_register(Register::Esp, top);
 }
 
@@ -51,14 +51,14 @@ pub fn drop_bytes(image: &mut Image, count: u32)
 fn has_room(memory: &Segment, top: u32) -> bool
     ensures { result ≡ has_room memory.now top 8 }
 {
-    let a = less(top, 4);
-    let b = less(a, 4);
-    let c = less(b, 4);
-    let d = less(c, 4);
-    let e = less(d, 4);
-    let f = less(e, 4);
-    let g = less(f, 4);
-    let h = less(g, 4);
+    let a = dword_difference(top, 4);
+    let b = dword_difference(a, 4);
+    let c = dword_difference(b, 4);
+    let d = dword_difference(c, 4);
+    let e = dword_difference(d, 4);
+    let f = dword_difference(e, 4);
+    let g = dword_difference(f, 4);
+    let h = dword_difference(g, 4);
     memory.holds(a, Size::Dword)
         && memory.holds(b, Size::Dword)
         && memory.holds(c, Size::Dword)
@@ -86,14 +86,14 @@ fn store_all(memory: &mut Segment, regs: &Regs, top: u32)
     requires { has_room memory.old top 8 ≡ true }
     ensures { memory.new ≡ with_pushed memory.old top (pushad_words regs.now) }
 {
-    let a = less(top, 4);
-    let b = less(a, 4);
-    let c = less(b, 4);
-    let d = less(c, 4);
-    let e = less(d, 4);
-    let f = less(e, 4);
-    let g = less(f, 4);
-    let h = less(g, 4);
+    let a = dword_difference(top, 4);
+    let b = dword_difference(a, 4);
+    let c = dword_difference(b, 4);
+    let d = dword_difference(c, 4);
+    let e = dword_difference(d, 4);
+    let f = dword_difference(e, 4);
+    let g = dword_difference(f, 4);
+    let h = dword_difference(g, 4);
     store(memory, a, regs.get(Size::Dword, Register::Eax));
     store(memory, b, regs.get(Size::Dword, Register::Ecx));
     store(memory, c, regs.get(Size::Dword, Register::Edx));
@@ -113,7 +113,7 @@ pub fn push_all(image: &mut Image) -> Result<(), u8>
         return Err(12);
     }
     store_all(&mut image.memory, &image.regs, top);
-    image.set_register(Register::Esp, less(top, 32));
+    image.set_register(Register::Esp, dword_difference(top, 32));
     Ok(())
 }
 
@@ -121,13 +121,13 @@ pub fn push_all(image: &mut Image) -> Result<(), u8>
 fn has_dwords(memory: &Segment, top: u32) -> bool
     ensures { result ≡ has_dwords memory.now top 8 }
 {
-    let b = more(top, 4);
-    let c = more(b, 4);
-    let d = more(c, 4);
-    let e = more(d, 4);
-    let f = more(e, 4);
-    let g = more(f, 4);
-    let h = more(g, 4);
+    let b = dword_sum(top, 4);
+    let c = dword_sum(b, 4);
+    let d = dword_sum(c, 4);
+    let e = dword_sum(d, 4);
+    let f = dword_sum(e, 4);
+    let g = dword_sum(f, 4);
+    let h = dword_sum(g, 4);
     memory.holds(top, Size::Dword)
         && memory.holds(b, Size::Dword)
         && memory.holds(c, Size::Dword)
@@ -154,17 +154,17 @@ fn load_all(regs: &mut Regs, memory: &Segment, top: u32)
     requires { has_dwords memory.now top 8 ≡ true }
     ensures { regs.new ≡ popad_words memory.now top }
 {
-    let b = more(top, 4);
-    let c = more(b, 4);
-    let d = more(c, 4);
-    let e = more(d, 4);
-    let f = more(e, 4);
-    let g = more(f, 4);
-    let h = more(g, 4);
+    let b = dword_sum(top, 4);
+    let c = dword_sum(b, 4);
+    let d = dword_sum(c, 4);
+    let e = dword_sum(d, 4);
+    let f = dword_sum(e, 4);
+    let g = dword_sum(f, 4);
+    let h = dword_sum(g, 4);
     regs.set(Size::Dword, Register::Edi, load(memory, top));
     regs.set(Size::Dword, Register::Esi, load(memory, b));
     regs.set(Size::Dword, Register::Ebp, load(memory, c));
-    regs.set(Size::Dword, Register::Esp, more(top, 32));
+    regs.set(Size::Dword, Register::Esp, dword_sum(top, 32));
     regs.set(Size::Dword, Register::Ebx, load(memory, e));
     regs.set(Size::Dword, Register::Edx, load(memory, f));
     regs.set(Size::Dword, Register::Ecx, load(memory, g));

@@ -2,9 +2,9 @@
 
 ghost use Rattle.std.specs.Prelude.{◌≡◌, Ok, Err};
 ghost use Rattle.mx_exec.specs.Image.{Performs};
-ghost use Rattle.mx_exec.specs.Step.{after, outcome_of, one};
+ghost use Rattle.mx_exec.specs.Step.{after, outcome_of, one_step};
 
-use crate::image::more;
+use crate::image::dword_sum;
 use crate::{Image, Outcome, arithmetic, jumps, moves, plain, strings};
 use mx_decode::DecodeFault;
 use mx_insn::{Insn, Plain};
@@ -13,7 +13,7 @@ fn outcome(insn: &Insn) -> Outcome
     ensures { result ≡ outcome_of insn.now }
 {
     match insn {
-        Insn::Interrupt(_) => Outcome::Trap,
+        Insn::Interrupt(33) => Outcome::Trap,
         _ => Outcome::Go,
     }
 }
@@ -89,8 +89,8 @@ fn perform(image: &mut Image, insn: &Insn, next: u32) -> Result<(), u8>
             condition,
             displacement,
         } => { jumps::jump_if(image, *condition, *displacement, next) }
-        Insn::Jump(displacement) => image.jump(more(next, *displacement)),
-        Insn::Call(displacement) => jumps::call(image, more(next, *displacement), next),
+        Insn::Jump(displacement) => image.jump(dword_sum(next, *displacement)),
+        Insn::Call(displacement) => jumps::call(image, dword_sum(next, *displacement), next),
         Insn::JumpTo(operand) => jumps::jump_to(image, operand),
         Insn::CallTo(operand) => jumps::call_to(image, operand, next),
         Insn::Loop {
@@ -128,13 +128,13 @@ fn perform(image: &mut Image, insn: &Insn, next: u32) -> Result<(), u8>
 /// instruction. A fault changes nothing.
 #[inline(always)]
 pub fn step(image: &mut Image) -> Outcome
-    ensures outcome { result ≡ (one image.old).0 }
-    ensures image { image.new ≡ (one image.old).1 }
+    ensures outcome { result ≡ (one_step image.old).0 }
+    ensures image { image.new ≡ (one_step image.old).1 }
 {
     let mut insn = Insn::Plain(Plain::Nop);
     match image.fetch(&mut insn) {
         Ok(length) => {
-            let next = more(image.eip, u32::from(length));
+            let next = dword_sum(image.eip, u32::from(length));
             match perform(image, &insn, next) {
                 Ok(()) => outcome(&insn),
                 Err(vector) => Outcome::Fault(vector),

@@ -6,7 +6,7 @@ ghost use Rattle.mx_exec.specs.Image.{Performs};
 ghost use Rattle.mx_exec.specs.Strings.{read_by, written_by, advanced, transferred, compared, counted_down, is_counted_out, ends_repeat, transfer, compare};
 
 use crate::Image;
-use crate::image::{less, more};
+use crate::image::{dword_difference, dword_sum};
 use mx_insn::{Comparison, Repeat, Transfer};
 use mx_mem::OutOfLimit;
 use mx_word::{Register, Size};
@@ -39,9 +39,9 @@ fn advance(image: &mut Image, pointer: Register, size: Size)
 {
     let from = image.register(pointer);
     let to = if image.flags.direction() {
-        less(from, size.bytes())
+        dword_difference(from, size.bytes())
     } else {
-        more(from, size.bytes())
+        dword_sum(from, size.bytes())
     };
     image.set_register(pointer, to);
 }
@@ -100,7 +100,7 @@ fn compare_once(image: &mut Image, operation: Comparison, size: Size) -> Result<
 fn count_down(image: &mut Image)
     ensures { image.new ≡ counted_down image.old }
 {
-    let count = less(image.register(Register::Ecx), 1);
+    let count = dword_difference(image.register(Register::Ecx), 1);
     image.set_register(Register::Ecx, count);
 }
 

@@ -4,6 +4,8 @@ ghost use Rattle.std.specs.Prelude.{◌≡◌, ◌+◌, ◌^◌, ◌<◌, ◌≤
 ghost use Rattle.mx_word.specs.Word.{width, bytes_in};
 ghost use Rattle.mx_mem.specs.Segment.{inside, read_at, written, copied, overwritten};
 
+mod copies;
+
 use mx_insn::ArrayVec;
 use mx_word::{NoMemory, Size};
 use std::alloc::Global;

@@ -3,3 +3,4 @@ pub mod WaitLemmas
 pub mod SoundLemmas
 pub mod TableLemmas
 pub mod FrameLemmas
+pub mod ServingLemmas

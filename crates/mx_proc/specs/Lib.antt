@@ -10,3 +10,4 @@ pub mod World
 pub mod Endpoints
 pub mod Sound
 pub mod Frame
+pub mod Serving

@@ -1,6 +1,7 @@
 //! The console.
 
-ghost use Rattle.std.specs.Prelude.{◌≡◌, IfOk};
+ghost use Rattle.std.specs.Prelude.{◌≡◌, ◌+◌, ◌^◌, ◌<◌, ◌++◌, ◌∷◌, [], IfOk};
+ghost use Rattle.circular_buffer.specs.Buffer.{keep_last};
 ghost use Rattle.mx_proc.specs.Console.{nothing_written};
 
 use circular_buffer::HeapCircularBuffer;
@@ -33,5 +34,14 @@ impl Console {
     {
         let kept = HeapCircularBuffer::with_capacity(alloc, 4096)?;
         Ok(Console { kept, count: 0 })
+    }
+
+    /// Writes a byte; of those that are kept the oldest past 4,096 goes.
+    pub fn push(&mut self, byte: u8)
+        requires { self.old.count + 1 < 2 ^ 32 }
+        ensures { self.new ≡ record { kept = keep_last 4096 (self.old.kept ++ byte ∷ []); count = self.old.count + 1 } }
+    {
+        self.kept.push_back(byte);
+        self.count += 1;
     }
 }

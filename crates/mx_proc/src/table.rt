@@ -20,6 +20,7 @@ use std::mem;
 mod lending;
 mod messages;
 mod queues;
+mod serving;
 
 /// An endpoint whose process is dead, or that never was one.
 #[derive(Clone, Copy, PartialEq, Eq)]

@@ -10,7 +10,7 @@ use Rattle.mx_flags.specs.Flags.{bits_of}
 use Rattle.mx_regs.specs.Words.{words_of}
 use Rattle.mx_exec.specs.declared.image.Image.{Image}
 use Rattle.mx_exec.specs.declared.image.Outcome.{Outcome}
-use Rattle.mx_exec.specs.Step.{one}
+use Rattle.mx_exec.specs.Step.{one_step}
 use Rattle.mx_vectors.specs.declared.case.Case.{Case}
 use Rattle.mx_vectors.specs.Agreement.{Agrees, SameBits, compared_flags, image_of, length_of, wanted_flags}
 
@@ -89,7 +89,7 @@ whole (Ok p) k = ((λ h. (p.0, let e : p.1 ≡ k = h.0 in ap (λ (n : ℕ). Ok (
 whole (Err f) k = ((λ h. let bad = h.1 in absurd cc), (λ h. let e = h.1 in absurd cc))
 
 -- seven comparisons are agreement
-pub agreeing : (c : Case) (o : Outcome) (m : Image) → o ≡ (one (image_of c)).0 → m ≡ (one (image_of c)).1
+pub agreeing : (c : Case) (o : Outcome) (m : Image) → o ≡ (one_step (image_of c)).0 → m ≡ (one_step (image_of c)).1
     → (size spelling outcome registers eip flags memory : Bool)
     → IsTrue size ↔ (length_of (front c.bytes) ≡ length c.bytes) → IsTrue spelling ↔ IsOk (front c.bytes) → IsTrue outcome ↔ (o ≡ c.outcome)
     → IsTrue registers ↔ (m.regs ≡ words_of c.after.registers) → IsTrue eip ↔ (m.eip ≡ c.after.eip)

@@ -10,7 +10,7 @@ use Rattle.mx_exec.specs.declared.image.Code.TheVariants.{Separate, Shared}
 use Rattle.mx_exec.specs.declared.image.Image.{Image}
 use Rattle.mx_exec.specs.declared.image.Outcome.{Outcome}
 use Rattle.mx_exec.specs.declared.image.Outcome.TheVariants.{Go, Trap, Fault}
-use Rattle.mx_exec.specs.Step.{one}
+use Rattle.mx_exec.specs.Step.{one_step}
 use Rattle.mx_vectors.specs.declared.case.Case.{Case}
 use Rattle.mx_vectors.specs.declared.checking.Tally.{Tally}
 
@@ -63,11 +63,11 @@ SameBits mask a b = bit_and a mask ≡ bit_and b mask
 -- the case's bytes, whole, spell an instruction, and the step of its image is as the case says
 pub record Agrees (c : Case) : Type 0 where
   pub spelled : (i : Insn) × (front c.bytes ≡ Ok (i, length c.bytes))
-  pub outcome : (one (image_of c)).0 ≡ c.outcome
-  pub registers : (one (image_of c)).1.regs ≡ words_of c.after.registers
-  pub eip : (one (image_of c)).1.eip ≡ c.after.eip
-  pub flags : SameBits (compared_flags c.mask) (bits_of (one (image_of c)).1.flags) (wanted_flags c)
-  pub memory : (one (image_of c)).1.memory ≡ c.memory_after
+  pub outcome : (one_step (image_of c)).0 ≡ c.outcome
+  pub registers : (one_step (image_of c)).1.regs ≡ words_of c.after.registers
+  pub eip : (one_step (image_of c)).1.eip ≡ c.after.eip
+  pub flags : SameBits (compared_flags c.mask) (bits_of (one_step (image_of c)).1.flags) (wanted_flags c)
+  pub memory : (one_step (image_of c)).1.memory ≡ c.memory_after
 
 -- ---- counting
 

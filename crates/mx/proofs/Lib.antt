@@ -1,5 +1,0 @@
-pub mod SymbolLists
-pub mod Answering
-mod Given
-mod OneWords
-pub mod Telling

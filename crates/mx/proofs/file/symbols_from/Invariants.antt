@@ -1,6 +1,0 @@
-use Rattle.std.proofs.Common.{◌≡◌, length}
-use Rattle.mx.specs.File.{symbols_from}
-use Rattle.mx.proofs.file.symbols_from.Given as goal
-
-abbrev pub invariant-loop-number : goal.invariant-loop-number
-invariant-loop-number l = record { symbols : l.symbols.items ≡ symbols_from l.bytes l.at l.number; long : length l.symbols.items ≡ l.number }

@@ -1,0 +1,13 @@
+//! Programs and the files that hold them, in the 80386 layout of MINIX's `a.out.h`.
+#![tactic(auto)]
+
+mod file;
+mod program;
+mod writing;
+
+pub use file::read;
+pub use program::{FileError, Program, Symbol, Symbols};
+pub use writing::{one_program, read_back, write};
+
+#[cfg(test)]
+mod tests;

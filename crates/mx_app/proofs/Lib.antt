@@ -1,0 +1,4 @@
+pub mod Answering
+mod Given
+mod OneWords
+pub mod Telling

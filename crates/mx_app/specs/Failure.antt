@@ -1,0 +1,64 @@
+-- Failures: what becomes one, its line and its status.
+use Rattle.std.specs.Prelude.{◌≡◌, ◌⊎◌, ℕ, List, ◌++◌, codes, Option, Some, None, Result, Err, IfErr, MatchResult}
+use Rattle.std.specs.Fmt.{decimal}
+use Rattle.std.specs.declared.io.ErrorKind.{ErrorKind}
+use Rattle.std.specs.declared.io.ErrorKind.TheVariants as kinds
+use Rattle.clap.specs.declared.error.kind.ErrorKind.{ErrorKind as WordsErrorKind}
+use Rattle.clap.specs.declared.error.kind.ErrorKind.TheVariants as words
+use Rattle.mx_aout.specs.declared.program.FileError.{FileError}
+use Rattle.mx_aout.specs.declared.program.FileError.TheVariants as errors
+use Rattle.mx_aout.specs.Refusals.{refusal_code, refusal_name}
+use Rattle.mx_app.specs.declared.failure.Failure.{Failure as Kind}
+use Rattle.mx_app.specs.declared.failure.Failure.TheVariants.{Refused, NotText, File, NoMemory}
+
+abbrev pub status_of : Kind → ℕ
+status_of (Refused e) = 1
+status_of NotText = 2
+status_of File = 3
+status_of NoMemory = 4
+
+-- ---- what becomes a failure: want of memory is no refusal of a file, nor a failure of it
+
+abbrev pub failure_of : FileError → Kind
+failure_of errors.NoMemory = NoMemory
+failure_of e = Refused e
+
+abbrev pub failure_of_kind : ErrorKind → Kind
+failure_of_kind kinds.OutOfMemory = NoMemory
+failure_of_kind k = File
+
+-- why the words of the command line can't be had
+abbrev pub words_failure_of : ErrorKind → Kind
+words_failure_of kinds.OutOfMemory = NoMemory
+words_failure_of k = NotText
+
+-- ---- lines
+
+-- a failure's line, without its end
+abbrev pub line_of : Kind → List ℕ
+line_of (Refused e) = codes "mx: " ++ decimal (refusal_code e) ++ codes " " ++ refusal_name e
+line_of NotText = codes "mx: a word of the command line isn't text"
+line_of File = codes "mx: 80 File"
+line_of NoMemory = codes "mx: 90 NoMemory"
+
+-- ---- commands
+
+-- files and memory alone can be wanting
+abbrev pub IsWanting : Kind → Type 0
+IsWanting f = (f ≡ File) ⊎ (f ≡ NoMemory)
+
+-- what is told of a file, by its first refusal that stands: it, and else only what is wanting
+abbrev pub Tells : Option FileError → {A : Type 0} → Result A Kind → Type 0
+Tells (Some e) r = r ≡ Err (failure_of e)
+Tells None r = IfErr r IsWanting
+
+-- the status after a text on the words: of help that was asked for, and of a mistake
+abbrev pub text_status_of : WordsErrorKind → ℕ
+text_status_of words.DisplayHelp = 0
+text_status_of words.DisplayVersion = 0
+text_status_of k = 2
+
+-- what is told of words that are refused
+abbrev pub Explains : WordsErrorKind → Result ℕ Kind → Type 0
+Explains words.OutOfMemory r = r ≡ Err NoMemory
+Explains k r = MatchResult r (λ status. status ≡ text_status_of k) IsWanting

@@ -1,0 +1,107 @@
+//! Why a command fails: its line on standard error, and its status.
+
+ghost use Rattle.std.specs.Prelude.{◌≡◌};
+ghost use Rattle.mx_app.specs.Failure.{status_of};
+
+use mx_aout::FileError;
+use std::alloc::{AllocError, AllocFailed};
+use std::{fmt, io};
+
+/// Why a command fails.
+#[derive(Clone, Copy, Debug, PartialEq, Eq)]
+pub enum Failure {
+    /// The file is refused.
+    Refused(FileError),
+    /// A word of the command line isn't text.
+    NotText,
+    /// A file or standard output can't be read or written.
+    File,
+    /// Want of memory.
+    NoMemory,
+}
+
+impl Failure {
+    /// The status that the program ends with.
+    pub fn status(self) -> u8
+        ensures { result ≡ status_of self }
+    {
+        match self {
+            Failure::Refused(_) => 1,
+            Failure::NotText => 2,
+            Failure::File => 3,
+            Failure::NoMemory => 4,
+        }
+    }
+}
+
+/// The line without its end, as `mx: 20 Truncated`: a code and its name.
+impl fmt::Display for Failure {
+    ghost use Rattle.std.specs.Prelude.{Some};
+    ghost use Rattle.mx_app.specs.Failure.{line_of};
+
+    ghost output = { λ failure. Some (line_of failure) };
+
+    fn fmt<W: fmt::Write>(&self, f: &mut fmt::Formatter<W>) -> fmt::Result {
+        match *self {
+            Failure::Refused(error) => {
+                let code = error.code();
+                let name = error.name();
+                write!(f, "mx: {code} {name}")
+            }
+            Failure::NotText => write!(f, "mx: a word of the command line isn't text"),
+            Failure::File => write!(f, "mx: 80 File"),
+            Failure::NoMemory => write!(f, "mx: 90 NoMemory"),
+        }
+    }
+}
+
+impl From<FileError> for Failure {
+    ghost use Rattle.std.specs.Prelude.{◌≡◌};
+    ghost use Rattle.mx_app.specs.Failure.{failure_of};
+
+    ghost from_gives = { λ error failure. failure ≡ failure_of error };
+
+    fn from(error: FileError) -> Failure {
+        match error {
+            FileError::NoMemory => Failure::NoMemory,
+            _ => Failure::Refused(error),
+        }
+    }
+}
+
+impl From<AllocError> for Failure {
+    ghost use Rattle.std.specs.Prelude.{◌≡◌};
+    ghost use Rattle.mx_app.specs.declared.failure.Failure.TheVariants as failures;
+
+    ghost from_gives = { λ _ failure. failure ≡ failures.NoMemory };
+
+    fn from(_: AllocError) -> Failure {
+        Failure::NoMemory
+    }
+}
+
+impl<T: Drop> From<AllocFailed<T>> for Failure {
+    ghost use Rattle.std.specs.Prelude.{◌≡◌};
+    ghost use Rattle.mx_app.specs.declared.failure.Failure.TheVariants as failures;
+
+    ghost from_gives = { λ _ failure. failure ≡ failures.NoMemory };
+
+    fn from(_: AllocFailed<T>) -> Failure {
+        Failure::NoMemory
+    }
+}
+
+impl From<io::Error> for Failure {
+    ghost use Rattle.std.specs.Prelude.{◌≡◌};
+    ghost use Rattle.std.specs.IoError.{error_kind};
+    ghost use Rattle.mx_app.specs.Failure.{failure_of_kind};
+
+    ghost from_gives = { λ error failure. failure ≡ failure_of_kind (error_kind error) };
+
+    fn from(error: io::Error) -> Failure {
+        match error.kind() {
+            io::ErrorKind::OutOfMemory => Failure::NoMemory,
+            _ => Failure::File,
+        }
+    }
+}

@@ -1,0 +1,18 @@
+//! What the program `mx` does: its command line, its subcommands, and why they fail.
+#![tactic(auto)]
+
+mod failure;
+mod perform;
+mod report;
+mod running;
+mod words;
+
+pub use failure::Failure;
+pub use mx_aout::FileError;
+pub use perform::perform_words;
+pub use report::print_one;
+pub use running::one;
+pub use words::{Request, command};
+
+#[cfg(test)]
+mod tests;

@@ -1,0 +1,3 @@
+pub mod Parting
+pub mod Listing
+pub mod Names

@@ -1,0 +1,109 @@
+//! One token.
+
+ghost use Rattle.std.specs.Prelude.{◌≡◌, ◌≢◌, ◌<◌, length, slice_index, true, MatchOption, IfOk, IfErr};
+ghost use Rattle.mx_line.specs.Bytes.{is_digit};
+ghost use Rattle.mx_lex.specs.Bytes.{begins_word};
+ghost use Rattle.mx_lex.specs.Tokens.{IsOver, IsToken, BrokenAt, mark_byte};
+
+use crate::gaps::run_end;
+use crate::kinds::{Kind, LexError, Mark, Token};
+use crate::text::quote_at;
+use mx_line::{begins_name, is_digit, is_letter, number_of};
+
+fn mark_of(byte: u8) -> Option<Mark>
+    ensures { MatchOption result ((m : Mark) → byte ≢ mark_byte m) (λ m. byte ≡ mark_byte m) }
+{
+    match byte {
+        b'[' => Some(Mark::Open),
+        b']' => Some(Mark::Close),
+        b'+' => Some(Mark::Plus),
+        b'-' => Some(Mark::Minus),
+        b'*' => Some(Mark::Star),
+        b',' => Some(Mark::Comma),
+        b':' => Some(Mark::Colon),
+        _ => None,
+    }
+}
+
+/// Whether a word begins at a place: with a letter or underscore, or with a dot before a letter.
+fn begins_word(bytes: &[u8], at: usize) -> bool
+    requires { at < length bytes.now }
+    ensures { result ≡ begins_word bytes.now at }
+{
+    begins_name(bytes[at]) || bytes[at] == b'.' && at + 1 < bytes.len() && is_letter(bytes[at + 1])
+}
+
+/// The number that begins at a place.
+fn number_at(bytes: &[u8], start: usize) -> Result<Token, LexError>
+    requires place { start < length bytes.now }
+    requires digit { is_digit (slice_index bytes.now start) ≡ true }
+    ensures start { IfOk result (λ k. k.start ≡ start) }
+    ensures token { IfOk result (λ k. IsToken bytes.now k) }
+    ensures fault { IfErr result (λ e. BrokenAt bytes.now start e) }
+{
+    let end = run_end(bytes, start + 1);
+    match number_of(&bytes[start..end]) {
+        None => Err(LexError::BadNumber(start)),
+        Some(number) => Ok(Token {
+            kind: Kind::Number(number),
+            start,
+            end,
+        }),
+    }
+}
+
+/// The text that begins at a place.
+fn text_at(bytes: &[u8], start: usize) -> Result<Token, LexError>
+    requires place { start < length bytes.now }
+    requires quote { slice_index bytes.now start ≡ 34 }
+    ensures start { IfOk result (λ k. k.start ≡ start) }
+    ensures token { IfOk result (λ k. IsToken bytes.now k) }
+    ensures fault { IfErr result (λ e. BrokenAt bytes.now start e) }
+{
+    let end = quote_at(bytes, start + 1)? + 1;
+    Ok(Token {
+        kind: Kind::Text,
+        start,
+        end,
+    })
+}
+
+/// The token that begins at a place.
+pub fn token_at(bytes: &[u8], start: usize) -> Result<Token, LexError>
+    requires place { start < length bytes.now }
+    requires over { IsOver bytes.now start }
+    ensures start { IfOk result (λ k. k.start ≡ start) }
+    ensures token { IfOk result (λ k. IsToken bytes.now k) }
+    ensures fault { IfErr result (λ e. BrokenAt bytes.now start e) }
+{
+    let byte = bytes[start];
+    if byte == b'\n' {
+        return Ok(Token {
+            kind: Kind::LineFeed,
+            start,
+            end: start + 1,
+        });
+    }
+    if let Some(mark) = mark_of(byte) {
+        return Ok(Token {
+            kind: Kind::Mark(mark),
+            start,
+            end: start + 1,
+        });
+    }
+    if byte == b'"' {
+        return text_at(bytes, start);
+    }
+    if is_digit(byte) {
+        return number_at(bytes, start);
+    }
+    if !begins_word(bytes, start) {
+        return Err(LexError::BadByte(start));
+    }
+    let end = run_end(bytes, start + 1);
+    Ok(Token {
+        kind: Kind::Word,
+        start,
+        end,
+    })
+}

@@ -1,0 +1,71 @@
+//! Texts between quotes.
+
+ghost use Rattle.std.specs.Prelude.{◌≡◌, ◌<◌, ◌≤◌, length, slice_index, IfOk, IfErr};
+ghost use Rattle.mx_lex.specs.Bytes.{ends_at, is_escape, escaped, text_value};
+ghost use Rattle.mx_lex.specs.Tokens.{Body, IsBrokenText};
+
+use crate::gaps::ends_at;
+use crate::kinds::LexError;
+use std::alloc::{AllocError, Global};
+
+fn is_escape(byte: u8) -> bool
+    ensures { result ≡ is_escape byte }
+{
+    byte == b'n' || byte == b'0' || byte == b'"' || byte == b'\\'
+}
+
+/// Where the quote that ends a text stands.
+pub fn quote_at(bytes: &[u8], start: usize) -> Result<usize, LexError>
+    requires { start ≤ length bytes.now }
+    ensures quote { IfOk result (λ e. (e < length bytes.now) × Body bytes.now start e × (slice_index bytes.now e ≡ 34)) }
+    ensures fault { IfErr result (λ e. IsBrokenText bytes.now start e) }
+{
+    let mut at = start;
+    while !ends_at(bytes, at) {
+        let byte = bytes[at];
+        if byte == b'"' {
+            return Ok(at);
+        }
+        if byte != b'\\' {
+            at += 1;
+            continue;
+        }
+        if ends_at(bytes, at + 1) {
+            return Err(LexError::OpenText(at + 1));
+        }
+        if !is_escape(bytes[at + 1]) {
+            return Err(LexError::BadByte(at));
+        }
+        at += 2;
+    }
+    Err(LexError::OpenText(at))
+}
+
+fn escaped(byte: u8) -> u8
+    ensures { result ≡ escaped byte }
+{
+    match byte {
+        b'n' => b'\n',
+        b'0' => 0,
+        _ => byte,
+    }
+}
+
+/// The bytes that a text stands for, of what stands between its quotes.
+pub fn text_bytes(alloc: Global, body: &[u8]) -> Result<Vec<u8>, AllocError>
+    ensures { IfOk result (λ bytes. bytes.items ≡ text_value body.now) }
+{
+    let mut bytes = Vec::new(alloc);
+    let mut rest = body;
+    while let Some((first, more)) = rest.split_first() {
+        rest = more;
+        match (*first, more.split_first()) {
+            (b'\\', Some((second, behind))) => {
+                bytes.push(escaped(*second))?;
+                rest = behind;
+            }
+            _ => bytes.push(*first)?,
+        }
+    }
+    Ok(bytes)
+}

@@ -1,0 +1,9 @@
+//! Images of programs.
+#![tactic(auto)]
+
+mod loading;
+
+pub use loading::load;
+
+#[cfg(test)]
+mod tests;

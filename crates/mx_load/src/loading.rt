@@ -1,0 +1,76 @@
+//! Makes the image that a program begins with.
+
+ghost use Rattle.std.specs.Prelude.{◌≡◌, ◌+◌, ◌≤◌, ◌++◌, IfOk, length, take, drop};
+ghost use Rattle.mx_flags.specs.Flags.{values_of};
+ghost use Rattle.mx_aout.specs.Limits.{rounded, IsWithin};
+ghost use Rattle.mx_load.specs.Load.{filled_to, loaded};
+
+use mx_aout::Program;
+use mx_exec::{Code, Image, Text};
+use mx_flags::Flags;
+use mx_mem::Segment;
+use mx_regs::Regs;
+use mx_word::{NoMemory, Register, Size};
+use std::alloc::Global;
+
+/// A segment of two lists of bytes and zeros up to a limit.
+fn segment(alloc: Global, limit: u32, first: &[u8], second: &[u8]) -> Result<Segment, NoMemory>
+    requires { length first.now + length second.now ≤ limit }
+    ensures { IfOk result (λ s. s ≡ filled_to limit (first.now ++ second.now)) }
+{
+    let mut segment = Segment::new(alloc, limit)?;
+    fill(&mut segment, 0, first);
+    fill(&mut segment, first.len() as u32, second);
+    Ok(segment)
+}
+
+/// Copies bytes to a place where they lie inside.
+fn fill(segment: &mut Segment, at: u32, bytes: &[u8])
+    requires { at + length bytes.now ≤ length segment.old }
+    ensures { segment.new ≡ take at segment.old ++ bytes.now ++ drop (at + length bytes.now) segment.old }
+{
+    match segment.fill_from(at, bytes) {
+        Ok(()) => {}
+        Err(_) => unreachable!(),
+    }
+}
+
+/// The data segment's limit.
+fn limit_of(program: &Program) -> u32
+    ensures value { result ≡ rounded program.now.total }
+    ensures within { IsWithin program.now.sep program.now.total (length program.now.text) (length program.now.init) program.now.bss (length program.now.symbols) }
+{
+    ((u64::from(program.total) + 4095) / 4096 * 4096) as u32
+}
+
+/// The image of a program. Takes memory for its segments, and for what its text keeps decoded.
+pub fn load(alloc: Global, program: &Program) -> Result<Image, NoMemory>
+    ensures { IfOk result (λ image. image ≡ loaded program.now) }
+{
+    let limit = limit_of(program);
+    let text = program.text.as_slice();
+    let init = program.init.as_slice();
+    let mut regs = Regs::new();
+    regs.set(Size::Dword, Register::Esp, limit);
+    if program.sep {
+        let memory = segment(alloc, limit, init, &[])?;
+        let text = segment(alloc, text.len() as u32, text, &[])?;
+        let code = Code::Separate(Text::new(alloc, text)?);
+        return Ok(image(program.entry, regs, memory, code));
+    }
+    let memory = segment(alloc, limit, text, init)?;
+    Ok(image(program.entry, regs, memory, Code::Shared))
+}
+
+/// An image with all flags 0.
+fn image(eip: u32, regs: Regs, memory: Segment, code: Code) -> Image
+    ensures { result ≡ record { regs = regs; eip = eip; flags = values_of 0; memory = memory; code = code } }
+{
+    Image {
+        regs,
+        eip,
+        flags: Flags::from_bits(0),
+        memory,
+        code,
+    }
+}

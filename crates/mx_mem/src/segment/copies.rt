@@ -1,0 +1,32 @@
+//! Copies of bytes within a segment and from one to another.
+
+ghost use Rattle.std.specs.Prelude.{◌≡◌, ◌+◌, ◌≤◌, length};
+ghost use Rattle.mx_mem.specs.Segment.{overwritten, part};
+
+use super::Segment;
+
+impl Segment {
+    /// Copies bytes from one place to another, as if they were all read first: the two may overlap.
+    pub fn copy_within(&mut self, from: u32, to: u32, count: u32)
+        requires from { from + count ≤ length self.old }
+        requires to { to + count ≤ length self.old }
+        ensures value { self.new ≡ overwritten self.old to (part self.old from count) }
+        ensures limit { length self.new ≡ length self.old }
+    {
+        let from = from as usize;
+        let end = from + count as usize;
+        self.bytes.copy_within(from..end, to as usize);
+    }
+
+    /// Copies bytes of another segment to a place.
+    pub fn copy_from(&mut self, source: &Segment, from: u32, to: u32, count: u32)
+        requires from { from + count ≤ length source.now }
+        requires to { to + count ≤ length self.old }
+        ensures value { self.new ≡ overwritten self.old to (part source.now from count) }
+        ensures limit { length self.new ≡ length self.old }
+    {
+        let from = from as usize;
+        let end = from + count as usize;
+        self.put(to, &source.bytes[from..end]);
+    }
+}

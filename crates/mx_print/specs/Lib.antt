@@ -1,0 +1,4 @@
+pub mod Numbers
+pub mod Operands
+pub mod Statement
+pub mod Listed

@@ -1,0 +1,18 @@
+use Rattle.std.proofs.Common.{refl}
+use Rattle.mx_proc.proofs.TableLemmas.{alone_changed}
+use Rattle.mx_proc.proofs.FrameLemmas.{framed_home}
+use Rattle.mx_proc.proofs.table.Table.bury.Goals as goal
+
+pub invariant_of-self : goal.invariant_of-self
+invariant_of-self c = alone_changed _ _ c.args.slot c.index_mut-process.result.now _ c.self.view_is c.self.invariant c.requires.slot c.index_mut-process.ensures.value c.requires.alone (refl, refl) (λ k. record {
+  level = k.level;
+  best = k.best;
+  quantum = k.quantum;
+  generation = k.generation;
+  ticks = k.ticks;
+  pending = refl;
+  buffer = λ m. cc;
+})
+
+pub returns-clause-frame : goal.returns-clause-frame
+returns-clause-frame c = framed_home _ _ c.args.slot c.index_mut-process.result.now _ _ _ _ _ c.self.view_is c.requires.slot c.index_mut-process.ensures.value refl refl c.requires.home

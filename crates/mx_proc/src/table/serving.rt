@@ -1,0 +1,190 @@
+//! What death, kernel calls, interrupt lines and the clock change.
+
+ghost use Rattle.std.specs.Prelude.{◌≡◌, ◌≢◌, ℕ, false, ◌+◌, ◌<◌, ◌≤◌, ◌^◌, ◌==◌, Some, None, IfSome, length, map, slice_set, slice_index_or, bit_or};
+ghost use Rattle.mx_mem.specs.Segment.{overwritten, part};
+ghost use Rattle.mx_proc.specs.Endpoints.{names_slot};
+ghost use Rattle.mx_proc.specs.Frame.{frame};
+ghost use Rattle.mx_proc.specs.Serving.{without_bit_of, owner_but, forgotten, buried, with_alarm, with_line, with_owner, ticked_on, with_register, with_written, with_copy, copied_to};
+ghost use Rattle.mx_proc.specs.States.{IsAlone, is_out};
+ghost use Rattle.mx_proc.specs.World.{process_at, memory_at, nobody};
+
+use super::Table;
+use crate::devices::Devices;
+use crate::process::{Cause, Endpoint, Process, Slot, State};
+
+impl Table {
+    /// Lines, registers and console.
+    pub fn devices(&self) -> &Devices
+        ensures { result.now ≡ self.now.devices }
+    {
+        &self.devices
+    }
+
+    /// Whether an endpoint names a slot that is used, whatever its generation.
+    pub fn names_slot(&self, endpoint: Endpoint) -> bool
+        ensures { result ≡ names_slot self.now endpoint }
+    {
+        endpoint < 0x8000_0000 && endpoint % 1024 < self.slots.len() as u32
+    }
+
+    /// Clears the bits of a slot.at every process, and gives up its lines.
+    pub fn forget(&mut self, slot: Slot)
+        requires { slot < length self.old.slots }
+        ensures value { self.new ≡ forgotten self.old slot }
+        ensures frame { frame self.new ≡ record (frame self.old) { devices = self.new.devices } }
+    {
+        clear_bits(self.slots.as_mut_slice(), slot);
+        give_up(&mut self.devices.owners, slot);
+    }
+
+    /// A process that is at home and in no queue is down, with nothing pending.
+    pub fn bury(&mut self, slot: Slot, cause: Cause)
+        requires slot { slot < length self.old.slots }
+        requires alone { IsAlone (process_at self.old slot).state }
+        requires home { is_out (process_at self.old slot).state ≡ false }
+        ensures value { self.new ≡ buried self.old slot cause }
+        ensures frame { frame self.new ≡ frame self.old }
+    {
+        let process = &mut self.slots[slot as usize];
+        process.state = State::Down(cause);
+        process.pending = [false; 34];
+        process.lines = 0;
+        process.alarm = None;
+    }
+
+    /// Sets the uptime at which the alarm of a process rings, or clears it.
+    pub fn set_alarm(&mut self, slot: Slot, due: Option<u64>)
+        requires slot { slot < length self.old.slots }
+        ensures value { self.new ≡ with_alarm self.old slot due }
+        ensures frame { frame self.new ≡ frame self.old }
+    {
+        let process = &mut self.slots[slot as usize];
+        process.alarm = due;
+    }
+
+    /// Sets the bit of a line at a process.
+    pub fn set_line(&mut self, slot: Slot, line: u8)
+        requires slot { slot < length self.old.slots }
+        requires line { line < 16 }
+        ensures value { self.new ≡ with_line self.old slot line }
+        ensures frame { frame self.new ≡ frame self.old }
+    {
+        let process = &mut self.slots[slot as usize];
+        process.lines |= 1 << line;
+    }
+
+    /// One tick more.
+    pub fn advance(&mut self)
+        requires { self.old.uptime + 1 < 2 ^ 32 }
+        ensures value { self.new ≡ ticked_on self.old }
+        ensures frame { frame self.new ≡ record (frame self.old) { uptime = self.old.uptime + 1 } }
+    {
+        self.uptime += 1;
+    }
+
+    /// Gives a line an owner, or none.
+    pub fn set_owner(&mut self, line: u8, owner: Option<Slot>)
+        requires line { line < 16 }
+        requires used { IfSome owner (λ s. s < length self.old.slots) }
+        ensures value { self.new ≡ with_owner self.old line owner }
+        ensures frame { frame self.new ≡ record (frame self.old) { devices = self.new.devices } }
+    {
+        self.devices.owners[line as usize] = owner;
+    }
+
+    /// Sets a register of the machine.
+    pub fn set_register(&mut self, register: u8, value: u32)
+        ensures value { self.new ≡ with_register self.old register value }
+        ensures frame { frame self.new ≡ record (frame self.old) { devices = self.new.devices } }
+    {
+        self.devices.registers[register as usize] = value;
+    }
+
+    /// Writes a byte to the console; of those that are kept the oldest past 4,096 goes.
+    pub fn write_console(&mut self, byte: u8)
+        requires { self.old.devices.console.count + 1 < 2 ^ 32 }
+        ensures value { self.new ≡ with_written self.old byte }
+        ensures frame { frame self.new ≡ record (frame self.old) { devices = self.new.devices } }
+    {
+        self.devices.console.push(byte);
+    }
+
+    /// Copies bytes of one process to another or to itself, as if they were all read first.
+    pub fn copy(&mut self, from: Slot, at: u32, to: Slot, place: u32, count: u32)
+        requires from { from < length self.old.slots }
+        requires to { to < length self.old.slots }
+        requires source { at + count ≤ length (memory_at self.old from) }
+        requires destination { place + count ≤ length (memory_at self.old to) }
+        ensures value { self.new ≡ with_copy self.old from at to place count }
+        ensures frame { frame self.new ≡ frame self.old }
+    {
+        copy_between(
+            self.slots.as_mut_slice(),
+            from as usize,
+            at,
+            to as usize,
+            place,
+            count,
+        );
+    }
+}
+
+/// Clears the bits of a slot.
+fn clear_bits(processes: &mut [Process], slot: Slot)
+    requires { slot < 32 }
+    ensures { processes.new ≡ map (without_bit_of slot) processes.old }
+{
+    for i in 0..processes.len() {
+        processes[i].pending[2 + slot as usize] = false;
+    }
+}
+
+/// An owner, unless it is this slot.
+fn owner_but(owner: Option<Slot>, slot: Slot) -> Option<Slot>
+    ensures { result ≡ owner_but slot owner }
+{
+    match owner {
+        Some(other) => { if other == slot { None } else { Some(other) } }
+        None => None,
+    }
+}
+
+/// Gives up the lines of a slot.
+fn give_up(owners: &mut [Option<Slot>], slot: Slot)
+    ensures { owners.new ≡ map (owner_but slot) owners.old }
+{
+    for i in 0..owners.len() {
+        owners[i] = owner_but(owners[i], slot);
+    }
+}
+
+/// Copies bytes of one process to another.
+fn copy_across(source: &Process, at: u32, target: &mut Process, place: u32, count: u32)
+    requires source { at + count ≤ length source.now.image.memory }
+    requires destination { place + count ≤ length target.old.image.memory }
+    ensures { target.new ≡ copied_to target.old place (part source.now.image.memory at count) }
+{
+    target
+        .image
+        .memory
+        .copy_from(&source.image.memory, at, place, count);
+}
+
+/// Copies bytes of one process to another or to itself.
+fn copy_between(processes: &mut [Process], from: usize, at: u32, to: usize, place: u32, count: u32)
+    requires from { from < length processes.old }
+    requires to { to < length processes.old }
+    requires source { at + count ≤ length (slice_index_or processes.old from nobody).image.memory }
+    requires destination { place + count ≤ length (slice_index_or processes.old to nobody).image.memory }
+    ensures { processes.new ≡ slice_set processes.old to (copied_to (slice_index_or processes.old to nobody) place (part (slice_index_or processes.old from nobody).image.memory at count)) }
+{
+    if from == to {
+        processes[to].image.memory.copy_within(at, place, count);
+    } else if from < to {
+        let (low, high) = processes.split_at_mut(to);
+        copy_across(&low[from], at, &mut high[0], place, count);
+    } else {
+        let (low, high) = processes.split_at_mut(from);
+        copy_across(&high[0], at, &mut low[to], place, count);
+    }
+}

@@ -1,0 +1,14 @@
+//! Which word is which.
+#![tactic(auto)]
+
+mod groups;
+mod mnemonic;
+mod registers;
+mod start;
+
+pub use mnemonic::{Mnemonic, Single, mnemonic_named};
+pub use registers::{register_named, size_named};
+pub use start::{Directive, Prefix, Start, start_named};
+
+#[cfg(test)]
+mod tests;
