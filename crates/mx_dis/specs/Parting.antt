@@ -12,14 +12,14 @@ IsParting t (Instruction i k ∷ parts) = SpellsFirst t k i × IsParting (drop k
 IsParting t (Byte b ∷ parts) = (rest : List ℕ) × (t ≡ b ∷ rest) × NoneFirst t × IsParting rest parts
 
 -- how many bytes a part takes
-abbrev pub size_of : Part → ℕ
-size_of (Instruction i k) = k
-size_of (Byte b) = 1
+abbrev pub part_size : Part → ℕ
+part_size (Instruction i k) = k
+part_size (Byte b) = 1
 
 -- how many bytes parts take together
 abbrev pub total_size : List Part → ℕ
 total_size [] = 0
-total_size (p ∷ parts) = size_of p + total_size parts
+total_size (p ∷ parts) = part_size p + total_size parts
 
 -- the first part is this instruction, spelled by so many bytes, and the others are a parting of the rest
 abbrev pub BeginsWith : Insn → ℕ → List ℕ → List Part → Type 0

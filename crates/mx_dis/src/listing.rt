@@ -1,7 +1,7 @@
 //! Lists a text.
 
 ghost use Rattle.std.specs.Prelude.{◌≡◌, ◌<◌, ◌≤◌, ◌+◌, ◌^◌, ◌++◌, length, drop, OnOk, IfOk, string_bytes};
-ghost use Rattle.mx_dis.specs.Parting.{size_of};
+ghost use Rattle.mx_dis.specs.Parting.{part_size};
 ghost use Rattle.mx_dis.specs.Listing.{part_text, line_of, IsListing};
 
 use crate::part::{Part, first_part};
@@ -25,7 +25,7 @@ fn push_part(out: &mut String, part: &Part, next: u32) -> Result<(), AllocError>
 
 /// The line of a part at an address.
 fn push_line(out: &mut String, at: u32, part: &Part) -> Result<(), AllocError>
-    requires { at + size_of part.now < 2 ^ 32 }
+    requires { at + part_size part.now < 2 ^ 32 }
     ensures { OnOk result (string_bytes out.new ≡ string_bytes out.old ++ line_of at part.now) }
 {
     push_eight_digits(out, at)?;
@@ -36,8 +36,8 @@ fn push_line(out: &mut String, at: u32, part: &Part) -> Result<(), AllocError>
 
 /// The bytes behind the part that they begin with.
 fn behind<'a>(bytes: &'a [u8], part: &Part) -> &'a [u8]
-    requires { size_of part.now ≤ length bytes.now }
-    ensures { result.now ≡ drop (size_of part.now) bytes.now }
+    requires { part_size part.now ≤ length bytes.now }
+    ensures { result.now ≡ drop (part_size part.now) bytes.now }
 {
     &bytes[part.size() as usize..]
 }

@@ -2,7 +2,7 @@
 
 ghost use Rattle.std.specs.Prelude.{◌≡◌, ◌<◌, ◌≤◌, ◌∷◌, List, length, drop};
 ghost use Rattle.mx_dis.specs.declared.part.Part.{Part};
-ghost use Rattle.mx_dis.specs.Parting.{IsParting, size_of};
+ghost use Rattle.mx_dis.specs.Parting.{IsParting, part_size};
 
 use crate::laws::takes_bytes;
 use mx_decode::decode;
@@ -20,7 +20,7 @@ pub enum Part {
 impl Part {
     /// How many bytes it takes.
     pub fn size(&self) -> u8
-        ensures { result ≡ size_of self.now }
+        ensures { result ≡ part_size self.now }
     {
         match self {
             Part::Instruction(_, size) => *size,
@@ -32,10 +32,10 @@ impl Part {
 /// The part that bytes begin with.
 pub fn first_part(bytes: &[u8]) -> Part
     requires { 0 < length bytes.now }
-    ensures parting { (rest : List Part) → IsParting (drop (size_of result) bytes.now) rest → IsParting bytes.now (result ∷ rest) }
-    ensures least { 1 ≤ size_of result }
-    ensures within { size_of result ≤ length bytes.now }
-    ensures byte { size_of result < 256 }
+    ensures parting { (rest : List Part) → IsParting (drop (part_size result) bytes.now) rest → IsParting bytes.now (result ∷ rest) }
+    ensures least { 1 ≤ part_size result }
+    ensures within { part_size result ≤ length bytes.now }
+    ensures byte { part_size result < 256 }
 {
     takes_bytes();
     match decode(bytes) {

@@ -1,5 +1,5 @@
 -- Which statement stands behind what it begins with.
-use Rattle.std.specs.Prelude.{ℕ, ◌==◌, ◌-◌, ◌+◌, if◌then◌else◌, Bool, true, false, nat_eq, Option, Some, None, List, [], ◌∷◌, slice_range}
+use Rattle.std.specs.Prelude.{ℕ, ◌&&◌, ◌-◌, ◌+◌, if◌then◌else◌, Bool, true, false, nat_eq, Option, Some, None, List, [], ◌∷◌, slice_range}
 use Rattle.std.specs.List.{slice_split}
 use Rattle.std.specs.Cmp.Lexicographic.{pointwise}
 use Rattle.mx_word.specs.declared.size.Size.{Size}
@@ -49,14 +49,17 @@ stated_by short m ts = do
   xs ← arguments_of ts
   stated short m xs
 
-abbrev pub stated_or_short : Bool → Mnemonic → Item → List Item → Option Statement
-stated_or_short true m t ts = stated_by true m ts
-stated_or_short false m t ts = stated_by false m (t ∷ ts)
-
 -- right behind JMP and Jcc `short` is always the mark, and elsewhere a name
+abbrev pub is_marked : Mnemonic → List Item → Bool
+is_marked m [] = false
+is_marked m (t ∷ ts) = takes_short m && is_short t
+
+abbrev pub unmarked : Mnemonic → List Item → List Item
+unmarked m [] = []
+unmarked m (t ∷ ts) = if takes_short m && is_short t then ts else t ∷ ts
+
 abbrev pub behind_mnemonic : Mnemonic → List Item → Option Statement
-behind_mnemonic m [] = stated_by false m []
-behind_mnemonic m (t ∷ ts) = if takes_short m then stated_or_short (is_short t) m t ts else stated_by false m (t ∷ ts)
+behind_mnemonic m ts = stated_by (is_marked m ts) m (unmarked m ts)
 
 -- a string instruction, alone
 abbrev pub behind_prefix : Prefix → Option Mnemonic → List Item → Option Statement
@@ -89,6 +92,29 @@ abbrev pub standing_alone : Statement → List Item → Option Statement
 standing_alone s [] = Some s
 standing_alone s _ = None
 
+abbrev pub text_given : Option (List ℕ) → Option Statement
+text_given text = do
+  bytes ← text
+  Some (statements.Ascii bytes)
+
+abbrev pub number_alone : List Item → Option ℕ
+number_alone (items.Number n ∷ []) = Some n
+number_alone _ = None
+
+abbrev pub space_of : List Item → Option Statement
+space_of ts = do
+  n ← number_alone ts
+  Some (statements.Space n)
+
+abbrev pub stack_of : List Item → Option Statement
+stack_of ts = do
+  n ← number_alone ts
+  Some (statements.Stack n)
+
+abbrev pub entry_of : List Item → Option Statement
+entry_of (items.Name w ∷ []) = Some (statements.Entry w)
+entry_of _ = None
+
 abbrev pub behind_directive : Directive → Option (List ℕ) → List Item → Option Statement
 behind_directive directives.Text text ts = standing_alone (statements.Enter sections.Text) ts
 behind_directive directives.Data text ts = standing_alone (statements.Enter sections.Data) ts
@@ -96,12 +122,11 @@ behind_directive directives.Bss text ts = standing_alone (statements.Enter secti
 behind_directive directives.Data1 text ts = data_of sizes.Byte ts
 behind_directive directives.Data2 text ts = data_of sizes.Word ts
 behind_directive directives.Data4 text ts = data_of sizes.Dword ts
-behind_directive directives.Ascii (Some bytes) ts = Some (statements.Ascii bytes)
-behind_directive directives.Space text (items.Number n ∷ []) = Some (statements.Space n)
+behind_directive directives.Ascii text ts = text_given text
+behind_directive directives.Space text ts = space_of ts
 behind_directive directives.Sep text ts = standing_alone statements.Separate ts
-behind_directive directives.Entry text (items.Name w ∷ []) = Some (statements.Entry w)
-behind_directive directives.Stack text (items.Number n ∷ []) = Some (statements.Stack n)
-behind_directive _ text ts = None
+behind_directive directives.Entry text ts = entry_of ts
+behind_directive directives.Stack text ts = stack_of ts
 
 -- the bytes of a text that stands alone, without its quotes
 abbrev pub text_in : List ℕ → Token → Kind → Option (List ℕ)

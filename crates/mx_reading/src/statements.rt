@@ -2,7 +2,7 @@
 
 ghost use Rattle.std.specs.Prelude.{◌≡◌, ◌+◌, ◌≤◌, IfOk, All};
 ghost use Rattle.mx_lex.specs.Tokens.{IsSlice};
-ghost use Rattle.mx_reading.specs.Statements.{is_short, takes_short, stated_by, behind_mnemonic, behind_prefix, standing_alone, behind_directive, text_alone, statement_of};
+ghost use Rattle.mx_reading.specs.Statements.{is_short, takes_short, stated_by, is_marked, unmarked, behind_mnemonic, behind_prefix, standing_alone, text_given, number_alone, space_of, stack_of, entry_of, behind_directive, text_alone, statement_of};
 
 use crate::data::data_of;
 use crate::items::Begun;
@@ -48,6 +48,32 @@ fn stated_by(
     }
 }
 
+/// Whether `short` stands right behind a mnemonic that takes it.
+fn is_marked(mnemonic: Mnemonic, items: &[Item]) -> bool
+    ensures { result ≡ is_marked mnemonic items.now }
+{
+    match items.split_first() {
+        None => false,
+        Some((first, _)) => takes_short(mnemonic) && is_short(*first),
+    }
+}
+
+/// What stands behind a mnemonic and its `short`.
+fn unmarked(mnemonic: Mnemonic, items: &[Item]) -> &[Item]
+    ensures { result.now ≡ unmarked mnemonic items.now }
+{
+    match items.split_first() {
+        None => items,
+        Some((first, rest)) => {
+            if takes_short(mnemonic) && is_short(*first) {
+                rest
+            } else {
+                items
+            }
+        }
+    }
+}
+
 /// The instruction of a mnemonic and what stands behind it.
 fn behind_mnemonic(
     alloc: Global,
@@ -56,16 +82,8 @@ fn behind_mnemonic(
 ) -> Result<Option<Statement>, AllocError>
     ensures { IfOk result (λ s. s ≡ behind_mnemonic mnemonic items.now) }
 {
-    match items.split_first() {
-        None => stated_by(alloc, false, mnemonic, items),
-        Some((first, rest)) => {
-            if takes_short(mnemonic) && is_short(*first) {
-                stated_by(alloc, true, mnemonic, rest)
-            } else {
-                stated_by(alloc, false, mnemonic, items)
-            }
-        }
-    }
+    let short = is_marked(mnemonic, items);
+    stated_by(alloc, short, mnemonic, unmarked(mnemonic, items))
 }
 
 fn behind_prefix(prefix: Prefix, second: Option<Mnemonic>, items: &[Item]) -> Option<Statement>
@@ -104,6 +122,45 @@ pub fn text_alone(alloc: Global, text: &[u8], tokens: &[Token]) -> Result<Option
     }
 }
 
+fn text_given(text: Option<Bytes>) -> Option<Statement>
+    ensures { result ≡ text_given text }
+{
+    let bytes = text?;
+    Some(Statement::Ascii(bytes))
+}
+
+fn number_alone(items: &[Item]) -> Option<u32>
+    ensures { result ≡ number_alone items.now }
+{
+    match items {
+        [Item::Number(number)] => Some(*number),
+        _ => None,
+    }
+}
+
+fn space_of(items: &[Item]) -> Option<Statement>
+    ensures { result ≡ space_of items.now }
+{
+    let number = number_alone(items)?;
+    Some(Statement::Space(number))
+}
+
+fn stack_of(items: &[Item]) -> Option<Statement>
+    ensures { result ≡ stack_of items.now }
+{
+    let number = number_alone(items)?;
+    Some(Statement::Stack(number))
+}
+
+fn entry_of(items: &[Item]) -> Option<Statement>
+    ensures { result ≡ entry_of items.now }
+{
+    match items {
+        [Item::Name(name)] => Some(Statement::Entry(*name)),
+        _ => None,
+    }
+}
+
 fn behind_directive(
     alloc: Global,
     directive: Directive,
@@ -112,32 +169,19 @@ fn behind_directive(
 ) -> Result<Option<Statement>, AllocError>
     ensures { IfOk result (λ s. s ≡ behind_directive directive text items.now) }
 {
-    let statement = match directive {
-        Directive::Text => standing_alone(Statement::Enter(Section::Text), items),
-        Directive::Data => standing_alone(Statement::Enter(Section::Data), items),
-        Directive::Bss => standing_alone(Statement::Enter(Section::Bss), items),
-        Directive::Data1 => data_of(alloc, Size::Byte, items)?,
-        Directive::Data2 => data_of(alloc, Size::Word, items)?,
-        Directive::Data4 => data_of(alloc, Size::Dword, items)?,
-        Directive::Ascii => match text {
-            Some(bytes) => Some(Statement::Ascii(bytes)),
-            None => None,
-        },
-        Directive::Space => match items {
-            [Item::Number(number)] => Some(Statement::Space(*number)),
-            _ => None,
-        },
-        Directive::Sep => standing_alone(Statement::Separate, items),
-        Directive::Entry => match items {
-            [Item::Name(name)] => Some(Statement::Entry(*name)),
-            _ => None,
-        },
-        Directive::Stack => match items {
-            [Item::Number(number)] => Some(Statement::Stack(*number)),
-            _ => None,
-        },
-    };
-    Ok(statement)
+    match directive {
+        Directive::Text => Ok(standing_alone(Statement::Enter(Section::Text), items)),
+        Directive::Data => Ok(standing_alone(Statement::Enter(Section::Data), items)),
+        Directive::Bss => Ok(standing_alone(Statement::Enter(Section::Bss), items)),
+        Directive::Data1 => data_of(alloc, Size::Byte, items),
+        Directive::Data2 => data_of(alloc, Size::Word, items),
+        Directive::Data4 => data_of(alloc, Size::Dword, items),
+        Directive::Ascii => Ok(text_given(text)),
+        Directive::Space => Ok(space_of(items)),
+        Directive::Sep => Ok(standing_alone(Statement::Separate, items)),
+        Directive::Entry => Ok(entry_of(items)),
+        Directive::Stack => Ok(stack_of(items)),
+    }
 }
 
 /// The statement of what it begins with, the mnemonic behind a prefix, the text that stands alone,

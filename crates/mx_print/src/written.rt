@@ -1,10 +1,10 @@
 //! The operands of an instruction as they are written.
 
 ghost use Rattle.std.specs.Prelude.{◌≡◌, [], ◌∷◌};
-ghost use Rattle.mx_print.specs.Statement.{argument_of, size_of, operands_of, product_of, count_of, extension_of, accumulator_of, port_of, target_of, return_arguments, arguments_of};
+ghost use Rattle.mx_print.specs.Statement.{written_operand, written_size, written_pair, written_product, written_count, written_extension, written_accumulator, written_port, written_target, written_return, written_operands};
 ghost use Rattle.mx_print.specs.Listed.{listed};
 
-use Arguments::{Nothing, One, Three, Two};
+use WrittenOperands::{Nothing, One, Three, Two};
 use mx_insn::{
     Count, Extension, Immediate, Insn, Memory, Operand, OperandSize, Operands, Port, PortSize,
     Register, Size, WideImmediate,
@@ -12,7 +12,7 @@ use mx_insn::{
 
 /// An operand as it is written.
 #[derive(Clone, Copy)]
-pub enum Argument {
+pub enum Written {
     Register(Size, Register),
     Memory(Size, Memory),
     /// A place in memory of which the address alone counts.
@@ -22,24 +22,24 @@ pub enum Argument {
 
 /// The operands of one instruction, the destination first.
 #[derive(Clone, Copy)]
-pub enum Arguments {
+pub enum WrittenOperands {
     Nothing,
-    One(Argument),
-    Two(Argument, Argument),
-    Three(Argument, Argument, Argument),
+    One(Written),
+    Two(Written, Written),
+    Three(Written, Written, Written),
 }
 
-fn of_operand(size: Size, operand: Operand) -> Argument
-    ensures { result ≡ argument_of size operand }
+fn of_operand(size: Size, operand: Operand) -> Written
+    ensures { result ≡ written_operand size operand }
 {
     match operand {
-        Operand::Register(register) => Argument::Register(size, register),
-        Operand::Memory(memory) => Argument::Memory(size, memory),
+        Operand::Register(register) => Written::Register(size, register),
+        Operand::Memory(memory) => Written::Memory(size, memory),
     }
 }
 
 fn of_size(size: OperandSize) -> Size
-    ensures { result ≡ size_of size }
+    ensures { result ≡ written_size size }
 {
     match size {
         OperandSize::Word => Size::Word,
@@ -47,142 +47,139 @@ fn of_size(size: OperandSize) -> Size
     }
 }
 
-fn with_immediate(to: Operand, value: Immediate) -> Arguments
-    ensures { listed result ≡ operands_of (Operands.Immediate to value) }
+fn with_immediate(to: Operand, value: Immediate) -> WrittenOperands
+    ensures { listed result ≡ written_pair (Operands.Immediate to value) }
 {
     let (size, value) = match value {
         Immediate::Byte(value) => (Size::Byte, u32::from(value)),
         Immediate::Word(value) => (Size::Word, u32::from(value)),
         Immediate::Dword(value) => (Size::Dword, value),
     };
-    Two(of_operand(size, to), Argument::Number(value))
+    Two(of_operand(size, to), Written::Number(value))
 }
 
-fn of_operands(operands: Operands) -> Arguments
-    ensures { listed result ≡ operands_of operands }
+fn of_operands(operands: Operands) -> WrittenOperands
+    ensures { listed result ≡ written_pair operands }
 {
     match operands {
         Operands::ToRegister { size, to, from } => Two(
-            Argument::Register(size, to),
+            Written::Register(size, to),
             of_operand(size, from),
         ),
         Operands::ToMemory { size, to, from } => Two(
-            Argument::Memory(size, to),
-            Argument::Register(size, from),
+            Written::Memory(size, to),
+            Written::Register(size, from),
         ),
         Operands::Immediate { to, value } => with_immediate(to, value),
     }
 }
 
 /// Of an IMUL with three operands.
-fn of_product(to: Register, from: Operand, by: WideImmediate) -> Arguments
-    ensures { listed result ≡ product_of to from by }
+fn of_product(to: Register, from: Operand, by: WideImmediate) -> WrittenOperands
+    ensures { listed result ≡ written_product to from by }
 {
     let (size, value) = match by {
         WideImmediate::Word(value) => (Size::Word, u32::from(value)),
         WideImmediate::Dword(value) => (Size::Dword, value),
     };
     Three(
-        Argument::Register(size, to),
+        Written::Register(size, to),
         of_operand(size, from),
-        Argument::Number(value),
+        Written::Number(value),
     )
 }
 
-fn of_count(count: Count) -> Argument
-    ensures { result ≡ count_of count }
+fn of_count(count: Count) -> Written
+    ensures { result ≡ written_count count }
 {
     match count {
-        Count::Cl => Argument::Register(Size::Byte, Register::Ecx),
-        Count::Immediate(count) => Argument::Number(u32::from(count)),
+        Count::Cl => Written::Register(Size::Byte, Register::Ecx),
+        Count::Immediate(count) => Written::Number(u32::from(count)),
     }
 }
 
 /// Of MOVZX and MOVSX.
-fn of_extension(extension: Extension, to: Register, from: Operand) -> Arguments
-    ensures { listed result ≡ extension_of extension to from }
+fn of_extension(extension: Extension, to: Register, from: Operand) -> WrittenOperands
+    ensures { listed result ≡ written_extension extension to from }
 {
     let (to_size, from_size) = match extension {
         Extension::ByteToWord => (Size::Word, Size::Byte),
         Extension::ByteToDword => (Size::Dword, Size::Byte),
         Extension::WordToDword => (Size::Dword, Size::Word),
     };
-    Two(Argument::Register(to_size, to), of_operand(from_size, from))
+    Two(Written::Register(to_size, to), of_operand(from_size, from))
 }
 
 /// AL or EAX.
-fn of_accumulator(size: PortSize) -> Argument
-    ensures { result ≡ accumulator_of size }
+fn of_accumulator(size: PortSize) -> Written
+    ensures { result ≡ written_accumulator size }
 {
     match size {
-        PortSize::Byte => Argument::Register(Size::Byte, Register::Eax),
-        PortSize::Dword => Argument::Register(Size::Dword, Register::Eax),
+        PortSize::Byte => Written::Register(Size::Byte, Register::Eax),
+        PortSize::Dword => Written::Register(Size::Dword, Register::Eax),
     }
 }
 
-fn of_port(port: Port) -> Argument
-    ensures { result ≡ port_of port }
+fn of_port(port: Port) -> Written
+    ensures { result ≡ written_port port }
 {
     match port {
-        Port::Dx => Argument::Register(Size::Word, Register::Edx),
-        Port::Immediate(port) => Argument::Number(u32::from(port)),
+        Port::Dx => Written::Register(Size::Word, Register::Edx),
+        Port::Immediate(port) => Written::Number(u32::from(port)),
     }
 }
 
 /// Of a jump, a call or a loop: the address that it names.
-fn of_target(next: u32, displacement: u32) -> Arguments
-    ensures { listed result ≡ target_of next displacement ∷ [] }
+fn of_target(next: u32, displacement: u32) -> WrittenOperands
+    ensures { listed result ≡ written_target next displacement ∷ [] }
 {
-    One(Argument::Number(next.wrapping_add(displacement)))
+    One(Written::Number(next.wrapping_add(displacement)))
 }
 
 /// Of RET.
-fn of_return(count: u16) -> Arguments
-    ensures { listed result ≡ return_arguments count }
+fn of_return(count: u16) -> WrittenOperands
+    ensures { listed result ≡ written_return count }
 {
     match count {
         0 => Nothing,
-        _ => One(Argument::Number(u32::from(count))),
+        _ => One(Written::Number(u32::from(count))),
     }
 }
 
 /// An operand and a register of its size.
-fn with_register(size: Size, operand: Operand, register: Register) -> Arguments
-    ensures { listed result ≡ argument_of size operand ∷ Argument.Register size register ∷ [] }
+fn with_register(size: Size, operand: Operand, register: Register) -> WrittenOperands
+    ensures { listed result ≡ written_operand size operand ∷ Written.Register size register ∷ [] }
 {
-    Two(
-        of_operand(size, operand),
-        Argument::Register(size, register),
-    )
+    Two(of_operand(size, operand), Written::Register(size, register))
 }
 
 /// A register of a size, and an operand of its size.
-fn to_register(size: Size, to: Register, from: Operand) -> Arguments
-    ensures { listed result ≡ Argument.Register size to ∷ argument_of size from ∷ [] }
+fn to_register(size: Size, to: Register, from: Operand) -> WrittenOperands
+    ensures { listed result ≡ Written.Register size to ∷ written_operand size from ∷ [] }
 {
-    Two(Argument::Register(size, to), of_operand(size, from))
+    Two(Written::Register(size, to), of_operand(size, from))
 }
 
 /// Of LEA.
-fn of_address(size: OperandSize, to: Register, memory: Memory) -> Arguments
-    ensures { listed result ≡ Argument.Register (size_of size) to ∷ Argument.Address memory ∷ [] }
+fn of_address(size: OperandSize, to: Register, memory: Memory) -> WrittenOperands
+    ensures { listed result ≡ Written.Register (written_size size) to ∷ Written.Address memory ∷ [] }
 {
     Two(
-        Argument::Register(of_size(size), to),
-        Argument::Address(memory),
+        Written::Register(of_size(size), to),
+        Written::Address(memory),
     )
 }
 
 /// Of a rotate or a shift.
-fn of_shift(size: Size, operand: Operand, count: Count) -> Arguments
-    ensures { listed result ≡ argument_of size operand ∷ count_of count ∷ [] }
+fn of_shift(size: Size, operand: Operand, count: Count) -> WrittenOperands
+    ensures { listed result ≡ written_operand size operand ∷ written_count count ∷ [] }
 {
     Two(of_operand(size, operand), of_count(count))
 }
 
 /// The operands of an instruction, by the address of the next one.
-pub fn of_insn(insn: &Insn, next: u32) -> Arguments
-    ensures { listed result ≡ arguments_of next insn.now }
+pub fn of_insn(insn: &Insn, next: u32) -> WrittenOperands
+    ensures { listed result ≡ written_operands next insn.now }
 {
     match *insn {
         Insn::Arithmetic { operands, .. } => of_operands(operands),
@@ -221,8 +218,8 @@ pub fn of_insn(insn: &Insn, next: u32) -> Arguments
         } => of_extension(extension, to, from),
         Insn::SetCondition { operand, .. } => One(of_operand(Size::Byte, operand)),
         Insn::Push(operand) => One(of_operand(Size::Dword, operand)),
-        Insn::PushImmediate(value) => One(Argument::Number(value)),
-        Insn::Pop(register) => One(Argument::Register(Size::Dword, register)),
+        Insn::PushImmediate(value) => One(Written::Number(value)),
+        Insn::Pop(register) => One(Written::Register(Size::Dword, register)),
         Insn::JumpIf { displacement, .. } => of_target(next, displacement),
         Insn::Jump(displacement) => of_target(next, displacement),
         Insn::Call(displacement) => of_target(next, displacement),
@@ -230,7 +227,7 @@ pub fn of_insn(insn: &Insn, next: u32) -> Arguments
         Insn::CallTo(operand) => One(of_operand(Size::Dword, operand)),
         Insn::Loop { displacement, .. } => of_target(next, displacement),
         Insn::Return(count) => of_return(count),
-        Insn::Interrupt(vector) => One(Argument::Number(u32::from(vector))),
+        Insn::Interrupt(vector) => One(Written::Number(u32::from(vector))),
         Insn::ExtendAccumulator(_) | Insn::SpreadSign(_) => Nothing,
         Insn::Transfer { .. } | Insn::Compare { .. } | Insn::Plain(_) => Nothing,
         Insn::In { size, port } => Two(of_accumulator(size), of_port(port)),

@@ -1,0 +1,222 @@
+use Rattle.std.proofs.Common.{◌≡◌, ◌≢◌, ◌^◌, ℕ, zero, suc, ◌+◌, ◌-◌, ◌<◌, ◌≤◌, ◌==◌, ◌&&◌, nat_lt, Bool, true, false, cond, not, List, [], ◌∷◌, ◌++◌, length, drop, map, filter, Option, Some, None, inl, inr, refl, sym, ap, ◌∙◌, arith, subst, get_or, get_or-set_same, get_or-set_other, length-set, slice_set}
+use Rattle.std.proofs.lemmas.Bool.{cases_eq, cases_Bool, cases_lt, eq-eqb, ne_eqb}
+use Rattle.std.proofs.Math.Seq.{drop-cons}
+use Rattle.std.proofs.Math.ListN.{drop_of_length-le, get_or-eq_default}
+use Rattle.mx_proc.specs.declared.process.Process.{Process}
+use Rattle.mx_proc.specs.declared.process.State.{State}
+use Rattle.mx_proc.specs.declared.process.State.TheVariants.{Home, Ready, Out, Doomed, Sending, Calling, Receiving, Awaiting, Down}
+use Rattle.mx_proc.specs.declared.process.Partner.TheVariants.{Any, System, Only}
+use Rattle.mx_proc.specs.declared.process.Source.TheVariants.{Hardware, Clock, Slot}
+use Rattle.mx_proc.specs.declared.errors.Errno.TheVariants.{Dead}
+use Rattle.mx_proc.specs.Errors.{bits_of}
+use Rattle.mx_proc.specs.Queues.{tally}
+use Rattle.mx_proc.specs.Waits.{sends_of, without_from, caller_of}
+use Rattle.mx_proc.specs.States.{is_ready, is_sending, is_out, IsAlone}
+use Rattle.mx_proc.specs.World.{World, process_at, nobody, unqueued, unblocked, with_result, to_front, to_end}
+use Rattle.mx_proc.specs.Sound.{Sound}
+use Rattle.mx_sched.specs.Queueing.{queued, next_level, is_last_renewed}
+use Rattle.mx_ipc.specs.Calls.{goes_on}
+use Rattle.std.proofs.lemmas.List.{length-map, get_or-map}
+use Rattle.mx_proc.specs.declared.process.Cause.{Cause}
+use Rattle.mx_proc.specs.declared.process.Cause.TheVariants.{Exit}
+use Rattle.mx_proc.specs.Serving.{without_bit_of, forgotten, buried}
+use Rattle.mx_respawn.specs.Death.{callers, receivers, names, taken_out, freed, all_freed, waiting_for, died}
+use Rattle.mx_respawn.specs.Waking.{woken}
+
+-- ---- states
+
+pub sending_ready : (st : State) → is_sending st ≡ true → is_ready st ≡ false
+sending_ready Sending h = refl
+sending_ready Calling h = refl
+sending_ready Home h = refl
+sending_ready Ready h = cc
+sending_ready Out h = refl
+sending_ready Doomed h = refl
+sending_ready (Receiving x) h = refl
+sending_ready (Awaiting x) h = refl
+sending_ready (Down x) h = refl
+
+pub sending_names : (st : State) (s : ℕ) → is_sending st ≡ true → names st s ≡ false
+sending_names Sending s h = refl
+sending_names Calling s h = refl
+sending_names Home s h = refl
+sending_names Ready s h = refl
+sending_names Out s h = refl
+sending_names Doomed s h = refl
+sending_names (Receiving x) s h = cc
+sending_names (Awaiting x) s h = cc
+sending_names (Down x) s h = refl
+
+-- ---- one slot
+
+pub apart_at : (ps : List Process) (s t : ℕ) (p : Process) → t ≢ s → get_or (slice_set ps s p) t nobody ≡ get_or ps t nobody
+apart_at ps s t p n = get_or-set_other ps s t p nobody n
+
+chosen : {A : Type 0} (st : State) (a b c : A) → is_sending st ≡ true → cond (is_ready st) a (cond (is_sending st) b c) ≡ b
+chosen st a b c h = rw (sending_ready st h) (rw h refl)
+
+pub taken_out-sending : (w : World) (s : ℕ) → is_sending (process_at w s).state ≡ true → taken_out w s ≡ unblocked w s
+unfolding taken_out
+taken_out-sending w s h = chosen (process_at w s).state (unqueued w s) (unblocked w s) w h
+
+pub taken_out-alone : (w : World) (s : ℕ) → IsAlone (process_at w s).state → taken_out w s ≡ w
+unfolding taken_out
+taken_out-alone w s h = rw (h.0) (rw (h.1) refl)
+
+ready_at : (w : World) (s : ℕ) → s < length w.slots → (process_at (queued w s) s).state ≡ Ready
+unfolding queued
+ready_at w s b = let p = process_at w s in let l = next_level p (is_last_renewed w s) in elim (cases_Bool (nat_lt 0 p.ticks)) [
+  | inl y ↦ rw y (ap (λ (x : Process). x.state) (get_or-set_same w.slots s (record p { state = Ready }) nobody b))
+  | inr n ↦ rw n (ap (λ (x : Process). x.state) (get_or-set_same w.slots s (record p { state = Ready; level = l; ticks = p.quantum }) nobody b))
+]
+
+-- who goes on is ready
+pub goes_on-ready : (w : World) (s r : ℕ) → s < length w.slots → (process_at (goes_on w s r) s).state ≡ Ready
+unfolding goes_on
+goes_on-ready w s r b = ready_at (with_result w s r) s (subst (λ n. s < n) (sym (length-set w.slots s _)) b)
+
+-- ---- callers
+
+-- a slot that doesn't send has no pair to take away
+without_none : (s : ℕ) (ps : List (ℕ × ℕ)) → sends_of s ps ≡ 0 → without_from s ps ≡ ps
+without_none s [] h = refl
+without_none s (x ∷ xs) h = elim (cases_eq x.0 s) [
+  | inl e ↦ absurd (omega (arith, ap tally (eq-eqb x.0 s e)))
+  | inr n ↦ rw (ne_eqb x.0 s n) (ap (λ l. x ∷ l) (without_none s xs (omega arith)))
+]
+
+pub fewer : (s : ℕ) (ps : List (ℕ × ℕ)) → 0 < sends_of s ps → length (without_from s ps) < length ps
+fewer s [] h = absurd (omega arith)
+fewer s (x ∷ xs) h = elim (cases_eq x.0 s) [
+  | inl e ↦ rw (eq-eqb x.0 s e) (omega (arith, no_more s xs))
+  | inr n ↦ rw (ne_eqb x.0 s n) (let k : length (without_from s xs) < length xs = fewer s xs (omega (arith, ap tally (ne_eqb x.0 s n))) in omega arith)
+]
+  where
+    no_more : (s : ℕ) (ps : List (ℕ × ℕ)) → length (without_from s ps) ≤ length ps
+    no_more s [] = omega arith
+    no_more s (x ∷ xs) = elim (cases_eq x.0 s) [
+      | inl e ↦ rw (eq-eqb x.0 s e) (omega (arith, no_more s xs))
+      | inr n ↦ rw (ne_eqb x.0 s n) (omega (arith, no_more s xs))
+    ]
+
+caller_here : (s p : ℕ) (x : ℕ × ℕ) (xs : List (ℕ × ℕ)) → (x.1 == s) ≡ true → caller_of s Any (x ∷ xs) ≡ Some p → x.0 ≡ p
+caller_here s p x xs y e = let k : cond (true && true) (Some x.0) (caller_of s Any xs) ≡ Some p = subst (λ b. cond (b && true) (Some x.0) (caller_of s Any xs) ≡ Some p) y e in cc
+
+caller_later : (s p : ℕ) (x : ℕ × ℕ) (xs : List (ℕ × ℕ)) → (x.1 == s) ≡ false → caller_of s Any (x ∷ xs) ≡ Some p → caller_of s Any xs ≡ Some p
+caller_later s p x xs n e = subst (λ b. cond (b && true) (Some x.0) (caller_of s Any xs) ≡ Some p) n e
+
+-- the first caller comes first
+first_caller : (s p : ℕ) (ps : List (ℕ × ℕ)) → caller_of s Any ps ≡ Some p → sends_of p ps ≤ 1 → callers s ps ≡ p ∷ callers s (without_from p ps)
+first_caller s p [] e u = cc
+first_caller s p (x ∷ xs) e u = elim (cases_Bool (x.1 == s)) [
+  | inl y ↦ let is : x.0 ≡ p = caller_here s p x xs y e in
+      let none : sends_of p xs ≡ 0 = omega (arith, ap tally (eq-eqb x.0 p is)) in
+      rw y (rw (eq-eqb x.0 p is) (ap (λ q. q ∷ callers s xs) is ∙ ap (λ l. p ∷ callers s l) (sym (without_none p xs none))))
+  | inr n ↦ let i : callers s xs ≡ p ∷ callers s (without_from p xs) = first_caller s p xs (caller_later s p x xs n e) (omega arith) in
+      rw n (elim (cases_eq x.0 p) [
+        | inl q ↦ rw (eq-eqb x.0 p q) i
+        | inr m ↦ rw (ne_eqb x.0 p m) (rw n i)
+      ])
+]
+
+pub no_caller : (s : ℕ) (ps : List (ℕ × ℕ)) → caller_of s Any ps ≡ None → callers s ps ≡ []
+no_caller s [] e = refl
+no_caller s (x ∷ xs) e = elim (cases_Bool (x.1 == s)) [
+  | inl y ↦ let k : cond (true && true) (Some x.0) (caller_of s Any xs) ≡ None = subst (λ b. cond (b && true) (Some x.0) (caller_of s Any xs) ≡ None) y e in cc
+  | inr n ↦ rw n (no_caller s xs (subst (λ b. cond (b && true) (Some x.0) (caller_of s Any xs) ≡ None) n e))
+]
+
+tally-le : (b : Bool) → tally b ≤ 1
+tally-le true = omega arith
+tally-le false = omega arith
+
+-- once the first is freed, the others are left
+pub freed_next : (w v u : World) (s p : ℕ) → Sound w → caller_of s Any w.waits ≡ Some p → is_sending (process_at w p).state ≡ true → v ≡ unblocked w p → u ≡ goes_on v p (bits_of Dead) → u.waits ≡ v.waits
+    → all_freed u (callers s u.waits) ≡ all_freed w (callers s w.waits)
+freed_next w v u s p h e y f g k =
+    let left : u.waits ≡ without_from p w.waits = k ∙ ap (λ (x : World). x.waits) f in
+    let is : u ≡ freed w p = g ∙ ap (λ x. goes_on x p (bits_of Dead)) (f ∙ sym (taken_out-sending w p y)) in
+    let once : sends_of p w.waits ≤ 1 = omega (arith, (h.each p).waiting, tally-le (is_sending (process_at w p).state)) in
+    ap (λ l. all_freed u (callers s l)) left ∙ ap (λ x. all_freed x (callers s (without_from p w.waits))) is ∙ ap (all_freed w) (sym (first_caller s p w.waits e once))
+
+pub fewer_wait : (w v u : World) (p : ℕ) → Sound w → is_sending (process_at w p).state ≡ true → v ≡ unblocked w p → u.waits ≡ v.waits → length u.waits < length w.waits
+fewer_wait w v u p h y f k =
+    let left : length u.waits ≡ length (without_from p w.waits) = ap length (k ∙ ap (λ (x : World). x.waits) f) in
+    let some : 0 < sends_of p w.waits = omega (arith, (h.each p).waiting, ap tally y) in
+    let less : length (without_from p w.waits) < length w.waits = fewer p w.waits some in
+    omega arith
+
+pub all_freed-append : (w : World) (ps qs : List ℕ) → all_freed w (ps ++ qs) ≡ all_freed (all_freed w ps) qs
+all_freed-append w [] qs = refl
+all_freed-append w (p ∷ ps) qs = all_freed-append (freed w p) ps qs
+
+-- ---- receivers
+
+-- who receives from a slot depends on the states
+pub receivers-same : (s n : ℕ) (ps qs : List Process) → length ps ≡ length qs → ((t : ℕ) → names (get_or ps t nobody).state s ≡ names (get_or qs t nobody).state s) → receivers s n ps ≡ receivers s n qs
+receivers-same s n [] [] e h = refl
+receivers-same s n [] (q ∷ qs) e h = absurd (omega arith)
+receivers-same s n (p ∷ ps) [] e h = absurd (omega arith)
+receivers-same s n (p ∷ ps) (q ∷ qs) e h =
+    let later : receivers s (n + 1) ps ≡ receivers s (n + 1) qs = receivers-same s (n + 1) ps qs (omega arith) (λ t. h (suc t)) in
+    ap (λ b. cond (not (n == s) && b) (n ∷ receivers s (n + 1) ps) (receivers s (n + 1) ps)) (h 0)
+    ∙ ap (λ l. cond (not (n == s) && names q.state s) (n ∷ l) l) later
+
+receivers_next : (s t : ℕ) (ps : List Process) → t < length ps
+    → receivers s t (drop t ps) ≡ cond (not (t == s) && names (get_or ps t nobody).state s) (t ∷ receivers s (t + 1) (drop (t + 1) ps)) (receivers s (t + 1) (drop (t + 1) ps))
+receivers_next s t ps h = let k : suc t ≡ t + 1 = omega arith in ap (receivers s t) (drop-cons ps t nobody h)
+    ∙ ap (λ i. cond (not (t == s) && names (get_or ps t nobody).state s) (t ∷ receivers s (t + 1) (drop i ps)) (receivers s (t + 1) (drop i ps))) k
+
+-- a process goes on where it receives from a slot alone
+pub woken_is : (w : World) (s t : ℕ) → IsAlone (process_at w t).state → goes_on w t (bits_of Dead) ≡ freed w t
+woken_is w s t h = ap (λ x. goes_on x t (bits_of Dead)) (sym (taken_out-alone w t h))
+
+pub none_left : (s t : ℕ) (ps : List Process) → length ps ≤ t → receivers s t (drop t ps) ≡ []
+none_left s t ps h = ap (receivers s t) (drop_of_length-le ps h)
+
+pub freed_all : (w : World) (s : ℕ) → caller_of s Any w.waits ≡ None → all_freed w (callers s w.waits) ≡ w
+freed_all w s e = ap (all_freed w) (no_caller s w.waits e)
+
+pub home_sending : (st : State) → st ≡ Home → is_sending st ≡ false
+home_sending st h = ap is_sending h
+
+pub home_names : (st : State) (s : ℕ) → st ≡ Home → names st s ≡ false
+home_names st s h = ap (λ x. names x s) h
+
+-- once one is looked at, the later ones are left
+pub woken_next : (w u : World) (s t : ℕ) (ps : List Process) → t < length ps → process_at w t ≡ get_or ps t nobody → u ≡ woken w s t
+    → all_freed u (receivers s (t + 1) (drop (t + 1) ps)) ≡ all_freed w (receivers s t (drop t ps))
+woken_next w u s t ps h same e =
+    let rest = receivers s (t + 1) (drop (t + 1) ps) in
+    let b = not (t == s) && names (process_at w t).state s in
+    ap (λ x. all_freed x rest) e ∙ both w t rest b ∙ ap (λ (p : Process). all_freed w (cond (not (t == s) && names p.state s) (t ∷ rest) rest)) same ∙ ap (all_freed w) (sym (receivers_next s t ps h))
+  where
+    both : (w : World) (t : ℕ) (rest : List ℕ) (b : Bool) → all_freed (cond b (freed w t) w) rest ≡ all_freed w (cond b (t ∷ rest) rest)
+    both w t rest true = refl
+    both w t rest false = refl
+
+-- who receives from the slot alone goes on
+pub woken_goes : (w u : World) (s t v : ℕ) → t ≢ s → names (process_at w t).state s ≡ true → IsAlone (process_at w t).state → u ≡ goes_on w t v → v ≡ bits_of Dead → u ≡ woken w s t
+woken_goes w u s t v n y a e is = rw (ne_eqb t s n) (rw y (e ∙ ap (goes_on w t) is ∙ woken_is w s t a))
+
+-- ---- the whole
+
+pub home_used : (w : World) (t : ℕ) → (process_at w t).state ≡ Home → t < length w.slots
+home_used w t h = elim (cases_lt t (length w.slots)) [
+  | inl lt ↦ lt
+  | inr ge ↦ let e : (process_at w t).state ≡ Down Exit = ap (λ (p : Process). p.state) (get_or-eq_default w.slots nobody ge) in absurd (let f : Down Exit ≡ Home = sym e ∙ h in cc)
+]
+
+pub forgotten-at : (w : World) (s t : ℕ) → t < length w.slots → process_at (forgotten w s) t ≡ without_bit_of s (process_at w t)
+forgotten-at w s t b = get_or-map (without_bit_of s) w.slots t nobody nobody b
+
+pub forgotten-used : (w : World) (s : ℕ) → length (forgotten w s).slots ≡ length w.slots
+forgotten-used w s = length-map w.slots (without_bit_of s)
+
+-- the steps of a death
+pub died_is : (w left fc wr f b : World) (s : ℕ) (cause : Cause) → left ≡ taken_out w s → fc ≡ all_freed left (callers s left.waits) → wr ≡ all_freed fc (receivers s 0 fc.slots)
+    → receivers s 0 fc.slots ≡ receivers s 0 left.slots → f ≡ forgotten wr s → b ≡ buried f s cause → b ≡ died w s cause
+unfolding died
+died_is w left fc wr f b s cause e1 e2 e3 e4 e5 e6 =
+    let told : wr ≡ all_freed left (waiting_for left s) = e3 ∙ ap (all_freed fc) e4 ∙ ap (λ x. all_freed x (receivers s 0 left.slots)) e2 ∙ sym (all_freed-append left (callers s left.waits) (receivers s 0 left.slots)) in
+    e6 ∙ ap (λ x. buried x s cause) (e5 ∙ ap (λ x. forgotten x s) (told ∙ ap (λ x. all_freed x (waiting_for x s)) e1))

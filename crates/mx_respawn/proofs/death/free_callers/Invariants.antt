@@ -1,0 +1,19 @@
+use Rattle.std.proofs.Common.{◌≡◌, ℕ, false, length}
+use Rattle.mx_proc.specs.Frame.{frame}
+use Rattle.mx_proc.specs.States.{is_sending}
+use Rattle.mx_proc.specs.World.{process_at}
+use Rattle.mx_respawn.specs.Death.{all_freed, callers, names}
+use Rattle.mx_respawn.proofs.death.free_callers.Given as goal
+
+-- those that still wait are left
+abbrev pub invariant-loop-from : goal.invariant-loop-from
+invariant-loop-from l = record {
+  told : all_freed l.table (callers l.slot l.table.waits) ≡ all_freed l.initial.table (callers l.slot l.initial.table.waits);
+  frame : frame l.table ≡ frame l.initial.table;
+  used : length l.table.slots ≡ length l.initial.table.slots;
+  kept : (t : ℕ) → is_sending (process_at l.initial.table t).state ≡ false → process_at l.table t ≡ process_at l.initial.table t;
+  named : (t : ℕ) → names (process_at l.table t).state l.slot ≡ names (process_at l.initial.table t).state l.slot;
+}
+
+abbrev pub decreases-loop-from : goal.decreases-loop-from
+decreases-loop-from l = length l.table.waits
