@@ -2,7 +2,6 @@
 #![tactic(auto)]
 
 pub use mx_app::{Failure, FileError, Request, command, one, perform_words, print_one};
-
 use std::process::ExitCode;
 
 fn main(rt: HostRuntime) -> ExitCode {

@@ -66,6 +66,3 @@ pub fn unary(operation: Unary, size: Size, x: u32, flags: &Flags) -> (u32, Flags
         Unary::Neg => (sub_w(size, 0, x, false), flags.after_sub(size, 0, x, false)),
     }
 }
-
-#[cfg(test)]
-mod tests;

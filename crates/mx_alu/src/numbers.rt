@@ -8,7 +8,7 @@ ghost use Rattle.mx_alu.specs.Products.{as_number};
 use mx_word::{Size, signed};
 
 /// How a word is read: MUL, DIV and MOVZX read it as unsigned, IMUL, IDIV and MOVSX as signed.
-#[derive(Clone, Copy, Debug, PartialEq, Eq)]
+#[derive(Clone, Copy, PartialEq, Eq)]
 pub enum Signedness {
     Unsigned,
     Signed,

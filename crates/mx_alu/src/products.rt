@@ -9,21 +9,21 @@ use mx_flags::Flags;
 use mx_word::{Size, signed};
 
 /// A number of two words.
-#[derive(Clone, Copy, Debug, PartialEq, Eq)]
+#[derive(Clone, Copy, PartialEq, Eq)]
 pub struct Halves {
     pub low: u32,
     pub high: u32,
 }
 
 /// A quotient toward zero, and the remainder, which has the dividend's sign.
-#[derive(Clone, Copy, Debug, PartialEq, Eq)]
+#[derive(Clone, Copy, PartialEq, Eq)]
 pub struct Division {
     pub quotient: u32,
     pub remainder: u32,
 }
 
 /// The divisor is 0, or the quotient is out of a word's range.
-#[derive(Clone, Copy, Debug, PartialEq, Eq)]
+#[derive(Clone, Copy, PartialEq, Eq)]
 pub struct DivideFault;
 
 /// The product of two words, whole, and the flags after it: MUL, and IMUL with one operand.

@@ -1,1 +1,4 @@
 mod SymbolLists
+mod WrittenSymbols
+mod WrittenFile
+mod OneProgram

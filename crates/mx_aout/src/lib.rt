@@ -3,9 +3,11 @@
 
 mod file;
 mod program;
+mod writing;
 
 pub use file::read;
 pub use program::{FileError, Program, Symbol, Symbols};
+pub use writing::{one_program, read_back, write};
 
 #[cfg(test)]
 mod tests;

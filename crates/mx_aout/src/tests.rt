@@ -1,4 +1,4 @@
-use crate::{FileError, Program, read};
+use crate::{FileError, Program, one_program, read, read_back, write};
 use std::alloc::Global;
 use std::process::Abort;
 use std::test::Fail;
@@ -39,6 +39,25 @@ fn check_long(rt: &impl Abort, program: &Program) {
         }
         _ => panic!(rt; "one symbol"),
     }
+}
+
+/// The short form: 12 bytes of text and one symbol.
+static SHORT: [u8; 60] = [
+    0x01, 0x03, 0x30, 0x10, 0x20, 0, 0, 0, 12, 0, 0, 0, 0, 0, 0, 0, 0, 0, 0, 0, 0, 0, 0, 0, 0,
+    0x10, 0, 0, 0x10, 0, 0, 0, 0xB8, 0x05, 0, 0, 0, 0x83, 0xC0, 0x7B, 0xE2, 0xF6, 0xCD, 0x21, b's',
+    b't', b'a', b'r', b't', 0, 0, 0, 0, 0, 0, 0, 2, 0, 0, 0,
+];
+
+#[test]
+fn writes_what_it_reads(rt: HostRuntime) -> Result<(), Fail> {
+    one_program();
+    for file in [TRAP.as_slice(), SHORT.as_slice()] {
+        let program = read(rt.alloc(), file).map_err(|_| "refused")?;
+        let again = read_back(rt.alloc(), &program).map_err(|_| "refused")?;
+        let written = write(rt.alloc(), &again)?;
+        assert!(rt; written.as_slice() == file);
+    }
+    Ok(())
 }
 
 #[test]

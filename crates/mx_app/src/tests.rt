@@ -141,31 +141,31 @@ fn reads_words(rt: HostRuntime) -> Result<(), Fail> {
     let last = u32::MAX;
     let lines = [
         (
-            ["mx", "one", file, "0"].as_slice(),
+            ["mx", "one", "sum.out", "0"].as_slice(),
             Ok(Request::One { file, steps: 0 }),
         ),
         (
-            ["mx", "one", file, "4294967295"].as_slice(),
+            ["mx", "one", "sum.out", "4294967295"].as_slice(),
             Ok(Request::One { file, steps: last }),
         ),
         (
-            ["mx", "one", file, "4294967296"].as_slice(),
+            ["mx", "one", "sum.out", "4294967296"].as_slice(),
             Err(ErrorKind::ValueValidation),
         ),
         (
-            ["mx", "one", file, "-1"].as_slice(),
+            ["mx", "one", "sum.out", "-1"].as_slice(),
             Err(ErrorKind::UnknownArgument),
         ),
         (
-            ["mx", "one", file].as_slice(),
+            ["mx", "one", "sum.out"].as_slice(),
             Err(ErrorKind::MissingRequiredArgument),
         ),
         (
-            ["mx", "two", file, "9"].as_slice(),
+            ["mx", "two", "sum.out", "9"].as_slice(),
             Err(ErrorKind::InvalidSubcommand),
         ),
         (
-            ["mx", "one", file, "9", "9"].as_slice(),
+            ["mx", "one", "sum.out", "9", "9"].as_slice(),
             Err(ErrorKind::UnknownArgument),
         ),
         (["mx"].as_slice(), Err(ErrorKind::MissingSubcommand)),

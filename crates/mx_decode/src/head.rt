@@ -9,7 +9,7 @@ use crate::DecodeFault;
 use mx_insn::Repeat;
 
 /// What stands before the operands.
-#[derive(Clone, Copy, Debug, PartialEq, Eq)]
+#[derive(Clone, Copy)]
 pub struct Head {
     pub resized: bool,
     pub repeat: Option<Repeat>,

@@ -25,6 +25,3 @@ pub enum DecodeFault {
 pub use single::decode;
 pub use spellings::{few_bytes, front_is, front_of_fifteen, one_spelling};
 pub use stored::decode_stored;
-
-#[cfg(test)]
-mod tests;

@@ -12,7 +12,7 @@ use mx_insn::{
 };
 
 /// What stands in an instruction's bytes beside the row.
-#[derive(Clone, Copy, Debug, PartialEq, Eq)]
+#[derive(Clone, Copy)]
 pub struct Values {
     pub resized: bool,
     pub repeat: Option<Repeat>,

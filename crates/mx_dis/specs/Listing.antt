@@ -3,24 +3,24 @@ use Rattle.std.specs.Prelude.{◌≡◌, ℕ, ◌+◌, List, [], ◌∷◌, ◌+
 use Rattle.mx_words.specs.declared.start.Directive.TheVariants.{Data1}
 use Rattle.mx_words.specs.Words.{directive_word}
 use Rattle.mx_print.specs.Numbers.{number_text, eight_digits}
-use Rattle.mx_print.specs.Statement.{statement}
+use Rattle.mx_print.specs.Statement.{statement_text}
 use Rattle.mx_dis.specs.declared.part.Part.{Part}
 use Rattle.mx_dis.specs.declared.part.Part.TheVariants.{Instruction, Byte}
-use Rattle.mx_dis.specs.Parting.{IsParting, size_of}
+use Rattle.mx_dis.specs.Parting.{IsParting, part_size}
 
 -- what a part is, where the next part stands at an address: an instruction, or the directive for its byte
 abbrev pub part_text : ℕ → Part → List ℕ
-part_text next (Instruction i k) = statement next i
+part_text next (Instruction i k) = statement_text next i
 part_text next (Byte b) = directive_word Data1 ++ (codes " " ++ number_text b)
 
 -- the line of a part at an address: the address, a space, and what the part is
 abbrev pub line_of : ℕ → Part → List ℕ
-line_of at p = eight_digits at ++ (codes " " ++ (part_text (at + size_of p) p ++ codes "\n"))
+line_of at p = eight_digits at ++ (codes " " ++ (part_text (at + part_size p) p ++ codes "\n"))
 
 -- the lines of parts, of which the first stands at an address, and each other behind the one before
 abbrev pub lines_of : ℕ → List Part → List ℕ
 lines_of at [] = []
-lines_of at (p ∷ parts) = line_of at p ++ lines_of (at + size_of p) parts
+lines_of at (p ∷ parts) = line_of at p ++ lines_of (at + part_size p) parts
 
 -- the listing of the bytes that stand from an address on: the lines of their parting
 abbrev pub IsListing : ℕ → List ℕ → List ℕ → Type 0

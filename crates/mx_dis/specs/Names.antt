@@ -1,5 +1,5 @@
 -- The list of a program's symbols (a.out.h, struct nlist; the letters are those of nm).
-use Rattle.std.specs.Prelude.{ℕ, ◌%◌, ◌==◌, not, ◌&&◌, nat_le, if◌then◌else◌, List, ◌++◌, codes, map, take_while}
+use Rattle.std.specs.Prelude.{ℕ, ◌%◌, ◌==◌, ◌&&◌, nat_le, if◌then◌else◌, List, [], ◌∷◌, ◌++◌, codes, map}
 use Rattle.std.specs.List.{flat_map}
 use Rattle.mx_aout.specs.declared.program.Symbol.{Symbol}
 use Rattle.mx_print.specs.Numbers.{eight_digits}
@@ -15,9 +15,13 @@ letter_of class =
 abbrev pub shown : ℕ → ℕ
 shown b = if nat_le 0x21 b && nat_le b 0x7E then b else 0x2E
 
--- a name up to its first zero byte
+-- a name's bytes up to the first zero byte
+abbrev pub before_zero : List ℕ → List ℕ
+before_zero [] = []
+before_zero (b ∷ bytes) = if b == 0 then [] else b ∷ before_zero bytes
+
 abbrev pub name_text : List ℕ → List ℕ
-name_text name = map shown (take_while (λ b. not (b == 0)) name)
+name_text name = map shown (before_zero name)
 
 -- a symbol's line: its value, its letter, its name
 abbrev pub name_line : Symbol → List ℕ

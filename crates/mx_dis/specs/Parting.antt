@@ -1,5 +1,5 @@
 -- How a text is parted into instructions and single bytes.
-use Rattle.std.specs.Prelude.{◌≡◌, ℕ, ◌+◌, List, [], ◌∷◌, ◌++◌, length, drop}
+use Rattle.std.specs.Prelude.{◌≡◌, ℕ, ◌+◌, List, [], ◌∷◌, drop}
 use Rattle.mx_insn.specs.declared.insn.Insn.{Insn}
 use Rattle.mx_decode.specs.Decode.{SpellsFirst, NoneFirst}
 use Rattle.mx_dis.specs.declared.part.Part.{Part}
@@ -12,11 +12,15 @@ IsParting t (Instruction i k ∷ parts) = SpellsFirst t k i × IsParting (drop k
 IsParting t (Byte b ∷ parts) = (rest : List ℕ) × (t ≡ b ∷ rest) × NoneFirst t × IsParting rest parts
 
 -- how many bytes a part takes
-abbrev pub size_of : Part → ℕ
-size_of (Instruction i k) = k
-size_of (Byte b) = 1
+abbrev pub part_size : Part → ℕ
+part_size (Instruction i k) = k
+part_size (Byte b) = 1
 
+-- how many bytes parts take together
+abbrev pub total_size : List Part → ℕ
+total_size [] = 0
+total_size (p ∷ parts) = part_size p + total_size parts
 
--- the first part is this instruction, spelled by this many bytes, and the others are a parting of the rest
+-- the first part is this instruction, spelled by so many bytes, and the others are a parting of the rest
 abbrev pub BeginsWith : Insn → ℕ → List ℕ → List Part → Type 0
 BeginsWith i k rest parts = (others : List Part) × (parts ≡ Instruction i k ∷ others) × IsParting rest others

@@ -41,11 +41,11 @@ use Rattle.mx_insn.specs.declared.insn.Plain.{Plain}
 use Rattle.mx_insn.specs.declared.insn.Plain.TheVariants.{Pushad, Popad, Pushfd, Popfd, Sahf, Lahf, Nop, Leave, Int3, Into, Hlt, Cli, Sti, Cmc, Clc, Stc, Cld, Std}
 use Rattle.mx_insn.specs.declared.insn.Insn.{Insn}
 use Rattle.mx_insn.specs.declared.insn.Insn.TheVariants as insns
-use Rattle.mx_insn.specs.declared.row.ModRm.TheVariants.{Absent, Any, Only}
-use Rattle.mx_insn.specs.declared.row.Repeats.TheVariants.{Neither, Both}
+use Rattle.mx_insn.specs.declared.row.ModRm.TheVariants.{Any, Only}
+use Rattle.mx_insn.specs.declared.row.Repeats.TheVariants.{Both}
 use Rattle.mx_insn.specs.declared.row.CountColumn.TheVariants as by
 use Rattle.mx_insn.specs.declared.row.Pattern.TheVariants as patterns
-use Rattle.mx_insn.specs.Table.{shift_number, product_number, sized_column, plain_column, arithmetic_rm_reg_row, arithmetic_whole_row, arithmetic_signed_row, push_dword_row, push_signed_row, multiply_whole_row, multiply_signed_row, jump_if_signed_row, jump_if_dword_row, move_rm_reg_row, shift_immediate_row, shift_one_row, return_bytes_row, return_row, loop_row, jump_dword_row, jump_signed_row, rows, is}
+use Rattle.mx_insn.specs.Table.{shift_number, product_number, sized_column, plain_column, arithmetic_rm_reg_row, arithmetic_whole_row, arithmetic_signed_row, push_dword_row, push_signed_row, multiply_whole_row, multiply_signed_row, jump_if_signed_row, jump_if_dword_row, move_rm_reg_row, shift_immediate_row, shift_one_row, return_bytes_row, return_row, loop_row, jump_dword_row, jump_signed_row, rows}
 use Rattle.mx_insn.specs.Spelling.{to_rm, row_size, allows_resized, allows_repeat}
 use Rattle.mx_encode.specs.declared.Wide.{Wide}
 use Rattle.mx_encode.specs.declared.fields.Number.TheVariants as numbers

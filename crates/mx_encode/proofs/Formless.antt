@@ -13,10 +13,7 @@ use Rattle.mx_insn.specs.declared.insn.Port.TheVariants as ports
 use Rattle.mx_insn.specs.declared.insn.PortSize.TheVariants as port_sizes
 use Rattle.mx_insn.specs.declared.insn.Insn.{Insn}
 use Rattle.mx_insn.specs.declared.insn.Insn.TheVariants as insns
-use Rattle.mx_insn.specs.declared.row.Repeats.TheVariants.{Neither}
-use Rattle.mx_insn.specs.declared.row.ModRm.TheVariants.{Absent}
-use Rattle.mx_insn.specs.declared.row.Pattern.TheVariants as patterns
-use Rattle.mx_insn.specs.Table.{loop_row, is}
+use Rattle.mx_insn.specs.Table.{loop_row}
 use Rattle.mx_insn.specs.Spelling.{Spells}
 use Rattle.mx_encode.specs.declared.Wide.{Wide}
 use Rattle.mx_encode.specs.declared.NoForm.{NoForm}

@@ -27,7 +27,10 @@ use Rattle.mx_encode.specs.Numbers.{number_bytes, is_short, shortens}
 use Rattle.mx_encode.specs.Places.{place_for, sib_of, mode_of, base_number}
 use Rattle.mx_encode.specs.Choice.{Choice, choice, bare}
 use Rattle.mx_encode.specs.Chosen.{Chosen, fields_of}
-use Rattle.mx_encode.specs.Filled.{memory_at, operand_at, with_displacement}
+use Rattle.mx_encode.specs.Filled.{memory_at, operand_at, with_displacement, with_immediate}
+use Rattle.mx_encode.specs.Lengths.{spelled_length, chosen_length as whole_length}
+use Rattle.mx_encode.specs.Numbers.{arithmetic_number}
+use Rattle.mx_word.specs.Names.{register_number}
 
 -- ---- the length of a choice
 
@@ -178,3 +181,32 @@ length_stays i short true n a b h x y =
     length-chosen (with_displacement i n) short b y
     ∙ (ap given_length (choice_stays i short n) ∙ (given_length_at (choice i (record { immediate = short; displacement = true })) n ∙ sym (length-chosen i short a x)))
 length_stays i short false n a b h x y = cc
+
+-- ---- the same as a number
+
+spelled_given : (c : Option Choice) → spelled_length c true ≡ given_length c
+spelled_given None = refl
+spelled_given (Some c) = length-spelling c
+
+pub displaced_count : (i : Insn) (short long : Bool) (n : ℕ) → IsTrue long
+    → whole_length (with_displacement i n) (record { immediate = short; displacement = long }) ≡ whole_length i (record { immediate = short; displacement = long })
+displaced_count i short true n h =
+    spelled_given (choice (with_displacement i n) (record { immediate = short; displacement = true }))
+    ∙ (ap given_length (choice_stays i short n) ∙ (given_length_at (choice i (record { immediate = short; displacement = true })) n
+    ∙ sym (spelled_given (choice i (record { immediate = short; displacement = true })))))
+displaced_count i short false n h = cc
+
+-- whatever stands before them, four bytes are four
+four_behind : (before : List ℕ) (m n : ℕ) → length (before ++ bytes_of 4 n) ≡ length (before ++ bytes_of 4 m)
+four_behind before m n = length-append before (bytes_of 4 n) ∙ sym (length-append before (bytes_of 4 m))
+
+pub valued_count : (i : Insn) (short long : Bool) (n : ℕ) → IsTrue short
+    → whole_length (with_immediate i n) (record { immediate = short; displacement = long }) ≡ whole_length i (record { immediate = short; displacement = long })
+valued_count i false long n h = cc
+valued_count (insns.Arithmetic o (operands.Immediate to (immediate.Dword m))) true long n h = ap suc (four_behind (modrm_bytes (place_for (Some (record { reg = arithmetic_number o; operand = to })) long)) m n)
+valued_count (insns.Move (operands.Immediate (operand.Memory a) (immediate.Dword m))) true long n h = ap suc (four_behind (modrm_bytes (place_for (Some (record { reg = 0; operand = operand.Memory a })) long)) m n)
+valued_count (insns.Move (operands.Immediate (operand.Register r) (immediate.Dword m))) true long n h = refl
+valued_count (insns.TestImmediate o (immediate.Dword m)) true long n h = ap suc (four_behind (modrm_bytes (place_for (Some (record { reg = 0; operand = o })) long)) m n)
+valued_count (insns.MultiplyImmediate to from (wide_immediates.Dword m)) true long n h = ap suc (four_behind (modrm_bytes (place_for (Some (record { reg = register_number to; operand = from })) long)) m n)
+valued_count (insns.PushImmediate m) true long n h = refl
+valued_count i true long n h = refl

@@ -26,7 +26,7 @@ use Rattle.mx_insn.specs.declared.row.ImmediateColumn.{ImmediateColumn}
 use Rattle.mx_insn.specs.declared.row.CountColumn.TheVariants as by
 use Rattle.mx_insn.specs.declared.row.Pattern.{Pattern}
 use Rattle.mx_insn.specs.declared.row.Pattern.TheVariants as patterns
-use Rattle.mx_insn.specs.Table.{sized, arithmetic_rm_reg_row, arithmetic_reg_rm_row, test_rm_reg_row, exchange_rm_reg_row, move_rm_reg_row, move_reg_rm_row, transfer_row, compare_row, shift_immediate_row, shift_one_row, shift_cl_row, loop_row, not_rm_row, neg_rm_row, product_row, increase_rm_row, decrease_rm_row, plain_row, rows, no, ib, is}
+use Rattle.mx_insn.specs.Table.{sized, arithmetic_rm_reg_row, arithmetic_reg_rm_row, test_rm_reg_row, exchange_rm_reg_row, move_rm_reg_row, move_reg_rm_row, transfer_row, compare_row, shift_immediate_row, shift_one_row, shift_cl_row, loop_row, not_rm_row, neg_rm_row, product_row, increase_rm_row, decrease_rm_row, plain_row, rows, no, ib}
 
 -- ---- where a row stands
 

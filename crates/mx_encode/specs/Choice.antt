@@ -1,5 +1,5 @@
 -- Which row of the table, and which values in it, an instruction and its marks take.
-use Rattle.std.specs.Prelude.{ℕ, ◌+◌, ◌==◌, Bool, true, false, if◌then◌else◌, Option, Some, None}
+use Rattle.std.specs.Prelude.{ℕ, ◌==◌, Bool, true, false, if◌then◌else◌, Option, Some, None}
 use Rattle.mx_word.specs.Names.{register_number, condition_code}
 use Rattle.mx_word.specs.declared.size.Size.{Size}
 use Rattle.mx_word.specs.declared.size.Size.TheVariants.{Byte, Word, Dword}
@@ -20,17 +20,13 @@ use Rattle.mx_insn.specs.declared.insn.Immediate.TheVariants as immediate
 use Rattle.mx_insn.specs.declared.insn.WideImmediate.{WideImmediate}
 use Rattle.mx_insn.specs.declared.insn.WideImmediate.TheVariants as wide_immediates
 use Rattle.mx_insn.specs.declared.insn.Product.{Product}
-use Rattle.mx_insn.specs.declared.insn.Product.TheVariants.{Mul, Imul, Div, Idiv}
 use Rattle.mx_insn.specs.declared.insn.Count.{Count}
 use Rattle.mx_insn.specs.declared.insn.Count.TheVariants as counts
 use Rattle.mx_insn.specs.declared.insn.Extension.{Extension}
 use Rattle.mx_insn.specs.declared.insn.Extension.TheVariants.{ByteToWord, ByteToDword, WordToDword}
 use Rattle.mx_insn.specs.declared.insn.Loop.{Loop}
-use Rattle.mx_insn.specs.declared.insn.Loop.TheVariants as loops
 use Rattle.mx_insn.specs.declared.insn.Transfer.{Transfer}
-use Rattle.mx_insn.specs.declared.insn.Transfer.TheVariants.{Movs, Stos, Lods}
 use Rattle.mx_insn.specs.declared.insn.Comparison.{Comparison}
-use Rattle.mx_insn.specs.declared.insn.Comparison.TheVariants.{Cmps, Scas}
 use Rattle.mx_insn.specs.declared.insn.Repeat.{Repeat}
 use Rattle.mx_insn.specs.declared.insn.Repeat.TheVariants.{Repe}
 use Rattle.mx_insn.specs.declared.insn.Port.{Port}
@@ -38,19 +34,9 @@ use Rattle.mx_insn.specs.declared.insn.Port.TheVariants as ports
 use Rattle.mx_insn.specs.declared.insn.PortSize.{PortSize}
 use Rattle.mx_insn.specs.declared.insn.PortSize.TheVariants as port_sizes
 use Rattle.mx_insn.specs.declared.insn.Plain.{Plain}
-use Rattle.mx_insn.specs.declared.insn.Plain.TheVariants.{Pushad, Popad, Pushfd, Popfd, Sahf, Lahf, Nop, Leave, Int3, Into, Hlt, Cli, Sti, Cmc, Clc, Stc, Cld, Std}
 use Rattle.mx_insn.specs.declared.insn.Insn.{Insn}
 use Rattle.mx_insn.specs.declared.insn.Insn.TheVariants as insns
 use Rattle.mx_insn.specs.declared.row.Row.{Row}
-use Rattle.mx_insn.specs.declared.row.Sizes.{Sizes}
-use Rattle.mx_insn.specs.declared.row.Repeats.{Repeats}
-use Rattle.mx_insn.specs.declared.row.Repeats.TheVariants.{Neither, Rep, Both}
-use Rattle.mx_insn.specs.declared.row.ModRm.{ModRm}
-use Rattle.mx_insn.specs.declared.row.ModRm.TheVariants.{Absent, Any, AnyMemory, Only}
-use Rattle.mx_insn.specs.declared.row.ImmediateColumn.{ImmediateColumn}
-use Rattle.mx_insn.specs.declared.row.CountColumn.TheVariants as by
-use Rattle.mx_insn.specs.declared.row.Pattern.{Pattern}
-use Rattle.mx_insn.specs.declared.row.Pattern.TheVariants as patterns
 use Rattle.mx_insn.specs.Table.{shift_number, product_number, arithmetic_rm_reg_row, arithmetic_reg_rm_row, arithmetic_byte_row, arithmetic_whole_row, arithmetic_signed_row, increase_reg_row, decrease_reg_row, push_reg_row, pop_reg_row, push_dword_row, push_signed_row, multiply_whole_row, multiply_signed_row, jump_if_signed_row, jump_if_dword_row, test_rm_reg_row, test_rm_byte_row, test_rm_whole_row, exchange_rm_reg_row, move_rm_reg_row, move_reg_rm_row, move_reg_byte_row, move_reg_whole_row, move_rm_byte_row, move_rm_whole_row, load_address_row, extend_accumulator_row, spread_sign_row, transfer_row, compare_row, shift_immediate_row, shift_one_row, shift_cl_row, return_bytes_row, return_row, interrupt_row, loop_row, call_row, jump_dword_row, jump_signed_row, call_rm_row, jump_rm_row, push_rm_row, in_immediate_byte_row, in_immediate_dword_row, out_immediate_byte_row, out_immediate_dword_row, in_dx_byte_row, in_dx_dword_row, out_dx_byte_row, out_dx_dword_row, not_rm_row, neg_rm_row, product_row, increase_rm_row, decrease_rm_row, plain_row, set_condition_row, multiply_reg_rm_row, zero_extend_byte_row, zero_extend_word_row, sign_extend_byte_row, sign_extend_word_row}
 use Rattle.mx_encode.specs.declared.Wide.{Wide}
 use Rattle.mx_encode.specs.declared.fields.Number.{Number}

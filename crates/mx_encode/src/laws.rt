@@ -6,6 +6,7 @@ ghost use Rattle.mx_insn.specs.Spelling.{Spells};
 ghost use Rattle.mx_encode.specs.declared.Wide.{Wide};
 ghost use Rattle.mx_encode.specs.Forms.{has_form};
 ghost use Rattle.mx_encode.specs.Chosen.{Chosen};
+ghost use Rattle.mx_encode.specs.Lengths.{chosen_length};
 ghost use Rattle.mx_encode.specs.Filled.{with_immediate, with_displacement, with_target, reaches};
 
 /// What is chosen for an instruction spells it.
@@ -26,6 +27,7 @@ pub fn spelled_has_form()
 /// An immediate that is marked wide decides neither whether there is a form nor its length.
 pub fn immediate_keeps_length()
     ensures form { (i : Insn) (n : ℕ) → has_form (with_immediate i n) ≡ has_form i }
+    ensures count { (i : Insn) (wide : Wide) (n : ℕ) → IsTrue wide.immediate → chosen_length (with_immediate i n) wide ≡ chosen_length i wide }
     ensures length { (i : Insn) (wide : Wide) (n : ℕ) (a b : List ℕ) → IsTrue wide.immediate → Chosen i wide a → Chosen (with_immediate i n) wide b → length b ≡ length a }
 {}
 
@@ -33,6 +35,7 @@ pub fn immediate_keeps_length()
 /// length.
 pub fn displacement_keeps_length()
     ensures form { (i : Insn) (n : ℕ) → has_form (with_displacement i n) ≡ has_form i }
+    ensures count { (i : Insn) (wide : Wide) (n : ℕ) → IsTrue wide.displacement → chosen_length (with_displacement i n) wide ≡ chosen_length i wide }
     ensures length { (i : Insn) (wide : Wide) (n : ℕ) (a b : List ℕ) → IsTrue wide.displacement → Chosen i wide a → Chosen (with_displacement i n) wide b → length b ≡ length a }
 {}
 

@@ -24,7 +24,7 @@ pub use laws::{
 
 /// What is asked for where a shorter form would do. A mark asks for nothing where an instruction
 /// has nothing to widen.
-#[derive(Clone, Copy, Debug, PartialEq, Eq)]
+#[derive(Clone, Copy, PartialEq, Eq)]
 pub struct Wide {
     /// An immediate as wide as the operands.
     pub immediate: bool,

@@ -34,7 +34,7 @@ pub struct Image {
 }
 
 /// How a step ends.
-#[derive(Clone, Copy, Debug, PartialEq, Eq)]
+#[derive(Clone, Copy, PartialEq, Eq)]
 pub enum Outcome {
     /// On to the next step.
     Go,

@@ -10,7 +10,7 @@ use mx_word::{Condition, Size, differ, difference, has_even_ones, signed, sum};
 use std::marker::Model;
 
 /// The values of the seven flags (80386 Programmer's Reference Manual, 2.3.4).
-#[derive(Clone, Copy, Debug, PartialEq, Eq)]
+#[derive(Clone, Copy, PartialEq, Eq)]
 pub struct FlagValues {
     pub carry: bool,
     pub parity: bool,
@@ -362,6 +362,3 @@ fn leaves_low_digit(whole: i64) -> bool
 {
     whole < 0 || whole >= 16
 }
-
-#[cfg(test)]
-mod tests;

@@ -7,12 +7,13 @@ use mx_mem::Segment;
 use mx_regs::Regs;
 use mx_word::{Register, Size};
 use std::alloc::Global;
-use std::process::Abort;
 use std::test::Fail;
 
 /// What a run begins with: text of its own, zeros but for some bytes, and the registers EAX, ECX,
 /// EDX, EBX, ESP, EBP, ESI, EDI; and what it ends with.
 struct Row {
+    /// The code is the data segment itself.
+    shared: bool,
     text: &'static [u8],
     memory: &'static [(u32, u8)],
     words: [u32; 8],
@@ -46,7 +47,8 @@ const LIMIT: u32 = 0x1000;
 
 /// A row that begins with zeros and makes one step without a fault.
 const ROW: Row = Row {
-    text: &[],
+    shared: false,
+    text: b"",
     memory: &[],
     words: [0; 8],
     flags: 0,
@@ -70,10 +72,10 @@ static REGISTERS: [Register; 8] = [
     Register::Edi,
 ];
 
-/// Arithmetic, shifts, products and extensions.
-static ARITHMETIC: [Row; 15] = [
+static ROWS: [Row; 51] = [
+    // arithmetic, shifts, products and extensions
     Row {
-        text: &[0x83, 0xC0, 0x01],
+        text: b"\x83\xC0\x01",
         words: [0xFFFFFFFF, 0, 0, 0, 0, 0, 0, 0],
         words_after: [0, 0, 0, 0, 0, 0, 0, 0],
         eip_after: 3,
@@ -81,7 +83,7 @@ static ARITHMETIC: [Row; 15] = [
         ..ROW
     },
     Row {
-        text: &[0x2C, 0x80],
+        text: b"\x2C\x80",
         words: [0x7F, 0, 0, 0, 0, 0, 0, 0],
         words_after: [0xFF, 0, 0, 0, 0, 0, 0, 0],
         eip_after: 2,
@@ -89,7 +91,7 @@ static ARITHMETIC: [Row; 15] = [
         ..ROW
     },
     Row {
-        text: &[0x40],
+        text: b"\x40",
         words: [0x7FFFFFFF, 0, 0, 0, 0, 0, 0, 0],
         flags: CARRY,
         words_after: [0x80000000, 0, 0, 0, 0, 0, 0, 0],
@@ -98,14 +100,14 @@ static ARITHMETIC: [Row; 15] = [
         ..ROW
     },
     Row {
-        text: &[0xF7, 0xF9],
+        text: b"\xF7\xF9",
         words: [0x80000000, 0xFFFFFFFF, 0xFFFFFFFF, 0, 0, 0, 0, 0],
         stop: Stop::Fault(0),
         words_after: [0x80000000, 0xFFFFFFFF, 0xFFFFFFFF, 0, 0, 0, 0, 0],
         ..ROW
     },
     Row {
-        text: &[0xC1, 0xE0, 0x20],
+        text: b"\xC1\xE0\x20",
         words: [5, 0, 0, 0, 0, 0, 0, 0],
         flags: CARRY + AUXILIARY + OVERFLOW,
         words_after: [5, 0, 0, 0, 0, 0, 0, 0],
@@ -114,7 +116,7 @@ static ARITHMETIC: [Row; 15] = [
         ..ROW
     },
     Row {
-        text: &[0xC0, 0xE8, 0x09],
+        text: b"\xC0\xE8\x09",
         words: [0xFF, 0, 0, 0, 0, 0, 0, 0],
         flags: CARRY + AUXILIARY + SIGN + OVERFLOW,
         words_after: [0, 0, 0, 0, 0, 0, 0, 0],
@@ -123,7 +125,7 @@ static ARITHMETIC: [Row; 15] = [
         ..ROW
     },
     Row {
-        text: &[0xC0, 0xF8, 0x09],
+        text: b"\xC0\xF8\x09",
         words: [0x80, 0, 0, 0, 0, 0, 0, 0],
         flags: ZERO,
         words_after: [0xFF, 0, 0, 0, 0, 0, 0, 0],
@@ -132,7 +134,7 @@ static ARITHMETIC: [Row; 15] = [
         ..ROW
     },
     Row {
-        text: &[0xD1, 0xE0],
+        text: b"\xD1\xE0",
         words: [0x40000000, 0, 0, 0, 0, 0, 0, 0],
         flags: CARRY + ZERO,
         words_after: [0x80000000, 0, 0, 0, 0, 0, 0, 0],
@@ -141,28 +143,28 @@ static ARITHMETIC: [Row; 15] = [
         ..ROW
     },
     Row {
-        text: &[0xF6, 0xF1],
+        text: b"\xF6\xF1",
         words: [0xFF, 2, 0, 0, 0, 0, 0, 0],
         words_after: [0x17F, 2, 0, 0, 0, 0, 0, 0],
         eip_after: 2,
         ..ROW
     },
     Row {
-        text: &[0xF6, 0xF1],
+        text: b"\xF6\xF1",
         words: [0x100, 1, 0, 0, 0, 0, 0, 0],
         stop: Stop::Fault(0),
         words_after: [0x100, 1, 0, 0, 0, 0, 0, 0],
         ..ROW
     },
     Row {
-        text: &[0xF6, 0xF9],
+        text: b"\xF6\xF9",
         words: [0xFFF9, 2, 0, 0, 0, 0, 0, 0],
         words_after: [0xFFFD, 2, 0, 0, 0, 0, 0, 0],
         eip_after: 2,
         ..ROW
     },
     Row {
-        text: &[0x6B, 0xC0, 0xFE],
+        text: b"\x6B\xC0\xFE",
         words: [0x40000000, 0, 0, 0, 0, 0, 0, 0],
         flags: CARRY + OVERFLOW,
         words_after: [0x80000000, 0, 0, 0, 0, 0, 0, 0],
@@ -170,7 +172,7 @@ static ARITHMETIC: [Row; 15] = [
         ..ROW
     },
     Row {
-        text: &[0x6B, 0xC0, 0xFE],
+        text: b"\x6B\xC0\xFE",
         words: [0x40000001, 0, 0, 0, 0, 0, 0, 0],
         words_after: [0x7FFFFFFE, 0, 0, 0, 0, 0, 0, 0],
         eip_after: 3,
@@ -178,31 +180,28 @@ static ARITHMETIC: [Row; 15] = [
         ..ROW
     },
     Row {
-        text: &[0x9F],
+        text: b"\x9F",
         words_after: [0x200, 0, 0, 0, 0, 0, 0, 0],
         eip_after: 1,
         ..ROW
     },
     Row {
-        text: &[0x0F, 0xBE, 0xC1],
+        text: b"\x0F\xBE\xC1",
         words: [0, 0x80, 0, 0, 0, 0, 0, 0],
         words_after: [0xFFFFFF80, 0x80, 0, 0, 0, 0, 0, 0],
         eip_after: 3,
         ..ROW
     },
-];
-
-/// Operands in memory and the stack.
-static MEMORY: [Row; 9] = [
+    // operands in memory and the stack
     Row {
-        text: &[0x8B, 0x44, 0x24, 0x04],
+        text: b"\x8B\x44\x24\x04",
         words: [0, 0, 0, 0, 0xFFC, 0, 0, 0],
         stop: Stop::Fault(12),
         words_after: [0, 0, 0, 0, 0xFFC, 0, 0, 0],
         ..ROW
     },
     Row {
-        text: &[0x8B, 0x04, 0x25, 0x10, 0x00, 0x00, 0x00],
+        text: b"\x8B\x04\x25\x10\x00\x00\x00",
         memory: &[(0x10, 0x01), (0x11, 0x02), (0x12, 0x03), (0x13, 0x04)],
         words_after: [0x4030201, 0, 0, 0, 0, 0, 0, 0],
         eip_after: 7,
@@ -210,7 +209,7 @@ static MEMORY: [Row; 9] = [
         ..ROW
     },
     Row {
-        text: &[0x8B, 0x44, 0x25, 0x04],
+        text: b"\x8B\x44\x25\x04",
         memory: &[(0x14, 0x01), (0x15, 0x02), (0x16, 0x03), (0x17, 0x04)],
         words: [0, 0, 0, 0, 0, 0x10, 0, 0],
         words_after: [0x4030201, 0, 0, 0, 0, 0x10, 0, 0],
@@ -219,7 +218,7 @@ static MEMORY: [Row; 9] = [
         ..ROW
     },
     Row {
-        text: &[0x60],
+        text: b"\x60",
         memory: &[
             (0x0, 0x09),
             (0x1, 0x09),
@@ -262,7 +261,7 @@ static MEMORY: [Row; 9] = [
         ..ROW
     },
     Row {
-        text: &[0x54],
+        text: b"\x54",
         words: [0, 0, 0, 0, 0x100, 0, 0, 0],
         words_after: [0, 0, 0, 0, 0xFC, 0, 0, 0],
         eip_after: 1,
@@ -270,14 +269,14 @@ static MEMORY: [Row; 9] = [
         ..ROW
     },
     Row {
-        text: &[0xE8, 0x00, 0x00, 0x00, 0x00],
+        text: b"\xE8\x00\x00\x00\x00",
         words: [0, 0, 0, 0, 0x1000, 0, 0, 0],
         stop: Stop::Fault(13),
         words_after: [0, 0, 0, 0, 0x1000, 0, 0, 0],
         ..ROW
     },
     Row {
-        text: &[0xA3, 0xFC, 0x0F, 0x00, 0x00],
+        text: b"\xA3\xFC\x0F\x00\x00",
         words: [0x4030201, 0, 0, 0, 0, 0, 0, 0],
         words_after: [0x4030201, 0, 0, 0, 0, 0, 0, 0],
         eip_after: 5,
@@ -285,14 +284,14 @@ static MEMORY: [Row; 9] = [
         ..ROW
     },
     Row {
-        text: &[0xA3, 0xFD, 0x0F, 0x00, 0x00],
+        text: b"\xA3\xFD\x0F\x00\x00",
         words: [0x4030201, 0, 0, 0, 0, 0, 0, 0],
         stop: Stop::Fault(13),
         words_after: [0x4030201, 0, 0, 0, 0, 0, 0, 0],
         ..ROW
     },
     Row {
-        text: &[0x83, 0xC0, 0x01, 0x40, 0x9C],
+        text: b"\x83\xC0\x01\x40\x9C",
         words: [0xFFFFFFFF, 0, 0, 0, 0x1000, 0, 0, 0],
         budget: 3,
         count: 3,
@@ -302,12 +301,9 @@ static MEMORY: [Row; 9] = [
         memory_after: &[(0xFFC, 0x03), (0xFFD, 0x02), (0xFFE, 0x00), (0xFFF, 0x00)],
         ..ROW
     },
-];
-
-/// String instructions, some of them behind a repeat.
-static STRINGS: [Row; 5] = [
+    // string instructions, some of them behind a repeat
     Row {
-        text: &[0xF3, 0xA4],
+        text: b"\xF3\xA4",
         memory: &[(0x5, 0x07)],
         words: [0, 0, 0, 0, 0, 0, 5, 9],
         words_after: [0, 0, 0, 0, 0, 0, 5, 9],
@@ -316,7 +312,7 @@ static STRINGS: [Row; 5] = [
         ..ROW
     },
     Row {
-        text: &[0xF3, 0xA4],
+        text: b"\xF3\xA4",
         memory: &[(0x0, 0x2A)],
         words: [0, 2, 0, 0, 0, 0, 0, 0x10],
         words_after: [0, 1, 0, 0, 0, 0, 1, 0x11],
@@ -324,7 +320,7 @@ static STRINGS: [Row; 5] = [
         ..ROW
     },
     Row {
-        text: &[0xA4],
+        text: b"\xA4",
         memory: &[(0x5, 0x2A)],
         words: [0, 0, 0, 0, 0, 0, 5, 9],
         flags: DOWN,
@@ -335,7 +331,7 @@ static STRINGS: [Row; 5] = [
         ..ROW
     },
     Row {
-        text: &[0xF3, 0xA6],
+        text: b"\xF3\xA6",
         memory: &[
             (0x10, 0x01),
             (0x11, 0x02),
@@ -361,7 +357,7 @@ static STRINGS: [Row; 5] = [
         ..ROW
     },
     Row {
-        text: &[0xF3, 0xAA],
+        text: b"\xF3\xAA",
         words: [0xAA, 5, 0, 0, 0, 0, 0, 0xFFE],
         budget: 99,
         count: 3,
@@ -370,185 +366,201 @@ static STRINGS: [Row; 5] = [
         memory_after: &[(0xFFE, 0xAA), (0xFFF, 0xAA)],
         ..ROW
     },
-];
-
-/// What faults.
-static FAULTS: [Row; 15] = [
+    // what faults
     Row {
-        text: &[0xF4],
+        text: b"\xF4",
         stop: Stop::Fault(13),
         ..ROW
     },
     Row {
-        text: &[0xD6],
+        text: b"\xD6",
         stop: Stop::Fault(6),
         ..ROW
     },
     Row {
-        text: &[0x66],
+        text: b"\x66",
         stop: Stop::Fault(13),
         ..ROW
     },
     Row {
-        text: &[0x66, 0x66, 0x40],
+        text: b"\x66\x66\x40",
         stop: Stop::Fault(6),
         ..ROW
     },
     Row {
-        text: &[0xF3, 0x40],
+        text: b"\xF3\x40",
         stop: Stop::Fault(6),
         ..ROW
     },
     Row {
-        text: &[0x8D, 0xC0],
+        text: b"\x8D\xC0",
         stop: Stop::Fault(6),
         ..ROW
     },
     Row {
-        text: &[0x66, 0x50],
+        text: b"\x66\x50",
         stop: Stop::Fault(6),
         ..ROW
     },
     Row {
-        text: &[0x66, 0x0F, 0xB7, 0xC1],
+        text: b"\x66\x0F\xB7\xC1",
         stop: Stop::Fault(6),
         ..ROW
     },
     Row {
-        text: &[0xCC],
+        text: b"\xCC",
         stop: Stop::Fault(3),
         ..ROW
     },
     Row {
-        text: &[0xCD, 0x03],
+        text: b"\xCD\x03",
         stop: Stop::Fault(3),
         ..ROW
     },
     Row {
-        text: &[0xCD, 0x04],
+        text: b"\xCD\x04",
         stop: Stop::Fault(4),
         ..ROW
     },
     Row {
-        text: &[0xCD, 0x05],
+        text: b"\xCD\x05",
         stop: Stop::Fault(13),
         ..ROW
     },
     Row {
-        text: &[0xE4, 0x00],
+        text: b"\xE4\x00",
         stop: Stop::Fault(13),
         ..ROW
     },
     Row {
-        text: &[0x75, 0x7F],
+        text: b"\x75\x7F",
         stop: Stop::Fault(13),
         ..ROW
     },
     Row {
-        text: &[0xCE],
+        text: b"\xCE",
         flags: OVERFLOW,
         stop: Stop::Fault(4),
         flags_after: ONES + OVERFLOW,
         ..ROW
     },
+    Row {
+        text: b"\xF3\x0F",
+        stop: Stop::Fault(6),
+        ..ROW
+    },
+    Row {
+        text: b"\xF2\xA4",
+        stop: Stop::Fault(6),
+        ..ROW
+    },
+    Row {
+        text: b"\xC0\xD0",
+        stop: Stop::Fault(6),
+        ..ROW
+    },
+    Row {
+        text: b"\x66\xFF\xD0",
+        stop: Stop::Fault(6),
+        ..ROW
+    },
+    Row {
+        text: b"\x8B\x44\x24",
+        stop: Stop::Fault(13),
+        ..ROW
+    },
+    Row {
+        text: b"\x66\xB8\x01",
+        stop: Stop::Fault(13),
+        ..ROW
+    },
+    // MOV byte [7], 42h over the INC EAX that follows makes it INC EDX
+    Row {
+        shared: true,
+        memory: &[
+            (0, 0xC6),
+            (1, 0x05),
+            (2, 0x07),
+            (3, 0x00),
+            (4, 0x00),
+            (5, 0x00),
+            (6, 0x42),
+            (7, 0x40),
+        ],
+        budget: 2,
+        count: 2,
+        words_after: [0, 0, 1, 0, 0, 0, 0, 0],
+        eip_after: 8,
+        memory_after: &[
+            (0, 0xC6),
+            (1, 0x05),
+            (2, 0x07),
+            (3, 0x00),
+            (4, 0x00),
+            (5, 0x00),
+            (6, 0x42),
+            (7, 0x42),
+        ],
+        ..ROW
+    },
 ];
 
-fn segment_of(alloc: Global, limit: u32, bytes: &[u8]) -> Result<Segment, Fail> {
-    let mut segment = Segment::new(alloc, limit).map_err(|_| "memory")?;
-    segment.fill_from(0, bytes).map_err(|_| "limit")?;
+fn segment_of(alloc: Global, limit: u32, bytes: &[(u32, u8)]) -> Result<Segment, Fail> {
+    let mut segment = Segment::new(alloc, limit)?;
+    for (at, byte) in bytes {
+        segment.write(*at, Size::Byte, u32::from(*byte))?;
+    }
     Ok(segment)
 }
 
+/// An image at address 0, whose text is in a segment of its own.
 fn image_of(alloc: Global, row: &Row) -> Result<Image, Fail> {
+    let mut text = segment_of(alloc, u32::try_from(row.text.len())?, &[])?;
+    text.fill_from(0, row.text)?;
     let mut regs = Regs::new();
     for (register, word) in REGISTERS.iter().zip(&row.words) {
         regs.set(Size::Dword, *register, *word);
-    }
-    let text_limit = u32::try_from(row.text.len()).map_err(|_| "limit")?;
-    let mut memory = segment_of(alloc, LIMIT, &[])?;
-    for (at, byte) in row.memory {
-        memory
-            .write(*at, Size::Byte, u32::from(*byte))
-            .map_err(|_| "limit")?;
     }
     Ok(Image {
         regs,
         eip: 0,
         flags: Flags::from_bits(row.flags),
-        memory,
-        code: Code::Separate(Text::new(alloc, segment_of(alloc, text_limit, row.text)?)?),
+        memory: segment_of(alloc, LIMIT, row.memory)?,
+        code: match row.shared {
+            true => Code::Shared,
+            false => Code::Separate(Text::new(alloc, text)?),
+        },
     })
-}
-
-/// Runs each row, and compares registers, EIP, flags and all of the memory.
-fn run_rows(rt: &(impl AllocGlobal + Abort), rows: &[Row]) -> Result<(), Fail> {
-    for (number, row) in rows.iter().enumerate() {
-        let mut image = image_of(rt.alloc(), row)?;
-        let (count, stop) = image.run(row.budget);
-        assert_eq!(rt; count, row.count, "count of row {number}");
-        assert_eq!(rt; stop, row.stop, "stop of row {number}");
-        for (register, word) in REGISTERS.iter().zip(&row.words_after) {
-            assert_eq!(rt; image.reg(*register), *word, "{register:?} of row {number}");
-        }
-        assert_eq!(rt; image.eip(), row.eip_after, "EIP of row {number}");
-        let flags = image.flags.to_bits();
-        assert_eq!(rt; flags, row.flags_after, "flags of row {number}");
-        compare_memory(rt, number, row, &image);
-    }
-    Ok(())
-}
-
-fn compare_memory(rt: &impl Abort, number: usize, row: &Row, image: &Image) {
-    for at in 0..LIMIT {
-        let wanted = row
-            .memory_after
-            .iter()
-            .find(|(place, _)| *place == at)
-            .map_or(0, |(_, byte)| *byte);
-        assert_eq!(rt; image.byte(at), Some(wanted), "byte {at} of row {number}");
-    }
-    assert_eq!(rt; image.byte(LIMIT), None);
-}
-
-#[test]
-fn arithmetic(rt: HostRuntime) -> Result<(), Fail> {
-    run_rows(&rt, &ARITHMETIC)
-}
-
-#[test]
-fn operands_and_stack(rt: HostRuntime) -> Result<(), Fail> {
-    run_rows(&rt, &MEMORY)
-}
-
-#[test]
-fn strings(rt: HostRuntime) -> Result<(), Fail> {
-    run_rows(&rt, &STRINGS)
-}
-
-#[test]
-fn faults(rt: HostRuntime) -> Result<(), Fail> {
-    run_rows(&rt, &FAULTS)
-}
-
-// MOV byte [7], 42h over the INC EAX that follows makes it INC EDX.
-#[test]
-fn overwritten_code(rt: HostRuntime) -> Result<(), Fail> {
-    let program = [0xC6, 0x05, 0x07, 0x00, 0x00, 0x00, 0x42, 0x40];
-    let mut image = Image {
-        regs: Regs::new(),
-        eip: 0,
-        flags: Flags::from_bits(0),
-        memory: segment_of(rt.alloc(), LIMIT, &program)?,
-        code: Code::Shared,
-    };
-    assert_eq!(rt; ended(&mut image, 2), (2, Stop::Spent));
-    assert_eq!(rt; image.reg(Register::Eax), 0);
-    assert_eq!(rt; image.reg(Register::Edx), 1);
-    runs_join();
-    Ok(())
 }
 
 /// A run by the trait's bound alone.
 fn ended<R: Runs>(machine: &mut R, budget: u32) -> (u32, Stop) {
     machine.run(budget)
+}
+
+/// Runs each row, and compares registers, EIP, flags and all of the memory.
+#[test]
+fn worked_rows(rt: HostRuntime) -> Result<(), Fail> {
+    for (number, row) in ROWS.iter().enumerate() {
+        let mut image = image_of(rt.alloc(), row)?;
+        let made = ended(&mut image, row.budget);
+        assert!(rt; made == (row.count, row.stop), "stop of row {number}");
+        for (register, word) in REGISTERS.iter().zip(&row.words_after) {
+            assert!(rt; image.reg(*register) == *word, "registers of row {number}");
+        }
+        let ends = (image.eip(), image.flags.to_bits());
+        assert!(rt;
+            ends == (row.eip_after, row.flags_after),
+            "EIP or flags of row {number}"
+        );
+        let memory = segment_of(rt.alloc(), LIMIT, row.memory_after)?;
+        for at in 0..=LIMIT {
+            assert!(rt;
+                image.byte(at) == memory.get(at),
+                "byte {at} of row {number}"
+            );
+        }
+    }
+    runs_join();
+    Ok(())
 }

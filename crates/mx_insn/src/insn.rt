@@ -3,7 +3,7 @@
 use mx_word::{Arithmetic, Condition, Register, Shift, Size, Unary};
 
 /// What an index register is multiplied by.
-#[derive(Clone, Copy, Debug, PartialEq, Eq)]
+#[derive(Clone, Copy, PartialEq, Eq)]
 pub enum Scale {
     One,
     Two,
@@ -12,14 +12,14 @@ pub enum Scale {
 }
 
 /// An index register and its scale. ESP is no index: no bytes spell it.
-#[derive(Clone, Copy, Debug, PartialEq, Eq)]
+#[derive(Clone, Copy, PartialEq, Eq)]
 pub struct Index {
     pub register: Register,
     pub scale: Scale,
 }
 
 /// A place in memory: base + index * scale + displacement, modulo 2^32.
-#[derive(Clone, Copy, Debug, PartialEq, Eq)]
+#[derive(Clone, Copy, PartialEq, Eq)]
 pub struct Memory {
     pub base: Option<Register>,
     pub index: Option<Index>,
@@ -27,21 +27,21 @@ pub struct Memory {
 }
 
 /// What mod and rm name: a register or a place in memory.
-#[derive(Clone, Copy, Debug, PartialEq, Eq)]
+#[derive(Clone, Copy, PartialEq, Eq)]
 pub enum Operand {
     Register(Register),
     Memory(Memory),
 }
 
 /// The operand size of a row that has no byte form.
-#[derive(Clone, Copy, Debug, PartialEq, Eq)]
+#[derive(Clone, Copy, PartialEq, Eq)]
 pub enum OperandSize {
     Word,
     Dword,
 }
 
 /// A number in the instruction, with its size.
-#[derive(Clone, Copy, Debug, PartialEq, Eq)]
+#[derive(Clone, Copy, PartialEq, Eq)]
 pub enum Immediate {
     Byte(u8),
     Word(u16),
@@ -49,14 +49,14 @@ pub enum Immediate {
 }
 
 /// A number in an instruction that has no byte form.
-#[derive(Clone, Copy, Debug, PartialEq, Eq)]
+#[derive(Clone, Copy, PartialEq, Eq)]
 pub enum WideImmediate {
     Word(u16),
     Dword(u32),
 }
 
 /// Two operands of one size, of which at most one is memory.
-#[derive(Clone, Copy, Debug, PartialEq, Eq)]
+#[derive(Clone, Copy, PartialEq, Eq)]
 pub enum Operands {
     ToRegister {
         size: Size,
@@ -75,7 +75,7 @@ pub enum Operands {
 }
 
 /// A multiplication or division of the accumulator.
-#[derive(Clone, Copy, Debug, PartialEq, Eq)]
+#[derive(Clone, Copy, PartialEq, Eq)]
 pub enum Product {
     Mul,
     Imul,
@@ -84,14 +84,14 @@ pub enum Product {
 }
 
 /// How far a shift or a rotate goes.
-#[derive(Clone, Copy, Debug, PartialEq, Eq)]
+#[derive(Clone, Copy, PartialEq, Eq)]
 pub enum Count {
     Cl,
     Immediate(u8),
 }
 
 /// What MOVZX and MOVSX extend, and to which size.
-#[derive(Clone, Copy, Debug, PartialEq, Eq)]
+#[derive(Clone, Copy, PartialEq, Eq)]
 pub enum Extension {
     ByteToWord,
     ByteToDword,
@@ -99,7 +99,7 @@ pub enum Extension {
 }
 
 /// A jump that ECX decides.
-#[derive(Clone, Copy, Debug, PartialEq, Eq)]
+#[derive(Clone, Copy, PartialEq, Eq)]
 pub enum Loop {
     Loopne,
     Loope,
@@ -108,7 +108,7 @@ pub enum Loop {
 }
 
 /// A string instruction that moves a value.
-#[derive(Clone, Copy, Debug, PartialEq, Eq)]
+#[derive(Clone, Copy, PartialEq, Eq)]
 pub enum Transfer {
     Movs,
     Stos,
@@ -116,35 +116,35 @@ pub enum Transfer {
 }
 
 /// A string instruction that compares.
-#[derive(Clone, Copy, Debug, PartialEq, Eq)]
+#[derive(Clone, Copy, PartialEq, Eq)]
 pub enum Comparison {
     Cmps,
     Scas,
 }
 
 /// F3 or F2 before a comparison of strings: on while equal, or while not equal.
-#[derive(Clone, Copy, Debug, PartialEq, Eq)]
+#[derive(Clone, Copy, PartialEq, Eq)]
 pub enum Repeat {
     Repe,
     Repne,
 }
 
 /// Where IN and OUT find the port's number.
-#[derive(Clone, Copy, Debug, PartialEq, Eq)]
+#[derive(Clone, Copy, PartialEq, Eq)]
 pub enum Port {
     Dx,
     Immediate(u8),
 }
 
 /// What IN and OUT move: AL or EAX.
-#[derive(Clone, Copy, Debug, PartialEq, Eq)]
+#[derive(Clone, Copy, PartialEq, Eq)]
 pub enum PortSize {
     Byte,
     Dword,
 }
 
 /// An instruction without operands.
-#[derive(Clone, Copy, Debug, PartialEq, Eq)]
+#[derive(Clone, Copy, PartialEq, Eq)]
 pub enum Plain {
     Pushad,
     Popad,
@@ -169,7 +169,7 @@ pub enum Plain {
 /// An instruction. Displacements of jumps are relative to the next instruction, modulo 2^32.
 /// No bytes spell a LOOP or JECXZ whose displacement isn't a signed byte, nor ESP as an index;
 /// every other value has a spelling.
-#[derive(Clone, Copy, Debug, PartialEq, Eq)]
+#[derive(Clone, Copy, PartialEq, Eq)]
 pub enum Insn {
     /// ADD, OR, ADC, SBB, AND, SUB, XOR, CMP.
     Arithmetic {

@@ -4,7 +4,7 @@ use crate::insn::{Comparison, Loop, Plain, Product, Transfer};
 use mx_word::{Shift, Unary};
 
 /// The operand size of a row: b, v (word behind 66, else dword), or d (also where it has no mark).
-#[derive(Clone, Copy, Debug, PartialEq, Eq)]
+#[derive(Clone, Copy)]
 pub enum Sizes {
     Byte,
     Variable,
@@ -12,7 +12,7 @@ pub enum Sizes {
 }
 
 /// Which of F3 and F2 may stand before a row.
-#[derive(Clone, Copy, Debug, PartialEq, Eq)]
+#[derive(Clone, Copy)]
 pub enum Repeats {
     Neither,
     /// F3, as REP.
@@ -22,7 +22,7 @@ pub enum Repeats {
 }
 
 /// A row's ModRM byte.
-#[derive(Clone, Copy, Debug, PartialEq, Eq)]
+#[derive(Clone, Copy)]
 pub enum ModRm {
     /// There is none.
     Absent,
@@ -35,7 +35,7 @@ pub enum ModRm {
 }
 
 /// What stands last in a row: nothing, ib, is, iw, id, iv.
-#[derive(Clone, Copy, Debug, PartialEq, Eq)]
+#[derive(Clone, Copy)]
 pub enum ImmediateColumn {
     Nothing,
     Byte,
@@ -48,7 +48,7 @@ pub enum ImmediateColumn {
 }
 
 /// Where a shift's count stands.
-#[derive(Clone, Copy, Debug, PartialEq, Eq)]
+#[derive(Clone, Copy)]
 pub enum CountColumn {
     Immediate,
     One,
@@ -56,7 +56,7 @@ pub enum CountColumn {
 }
 
 /// A row's instruction, with its operands in the order in which the manual names them.
-#[derive(Clone, Copy, Debug, PartialEq, Eq)]
+#[derive(Clone, Copy)]
 pub enum Pattern {
     ArithmeticRmReg,
     ArithmeticRegRm,
@@ -110,7 +110,7 @@ pub enum Pattern {
 }
 
 /// A row of the table: opcodes first, first + step, .. of which there are count, and its columns.
-#[derive(Clone, Copy, Debug, PartialEq, Eq)]
+#[derive(Clone, Copy)]
 pub struct Row {
     /// Behind 0F.
     pub escaped: bool,

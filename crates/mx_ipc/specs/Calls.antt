@@ -15,11 +15,11 @@ use Rattle.mx_proc.specs.World.{World, process_at, with_state, with_result, with
 use Rattle.mx_sched.specs.Queueing.{queued}
 use Rattle.mx_ipc.specs.declared.calls.Call.{Call}
 use Rattle.mx_ipc.specs.declared.calls.Call.TheVariants as call
-use Rattle.mx_ipc.specs.declared.calls.Name.{Name}
-use Rattle.mx_ipc.specs.declared.calls.Name.TheVariants.{Any, Hardware, Clock, System, Process}
-use Rattle.mx_ipc.specs.declared.calls.After.{After}
-use Rattle.mx_ipc.specs.declared.calls.After.TheVariants.{Done, Kernel}
-use Rattle.mx_ipc.specs.Checks.{call_of, name_of, refusal}
+use Rattle.mx_ipc.specs.declared.calls.Party.{Party}
+use Rattle.mx_ipc.specs.declared.calls.Party.TheVariants.{Any, Hardware, Clock, System, Process}
+use Rattle.mx_ipc.specs.declared.calls.TrapAnswer.{TrapAnswer}
+use Rattle.mx_ipc.specs.declared.calls.TrapAnswer.TheVariants.{Done, Kernel}
+use Rattle.mx_ipc.specs.Checks.{call_of, party_of, refusal}
 
 -- a process goes on with a result: EAX is it, and the process is queued
 unfoldable pub goes_on : World → ℕ → ℕ → World
@@ -70,7 +70,7 @@ unfoldable pub told : World → Source → ℕ → World
 told w from d = if hears (process_at w d).state from then goes_on (noticed w d from) d 0 else with_pending w d (place_of from) true
 
 -- whom a RECEIVE names
-abbrev pub partner_of : Name → Partner
+abbrev pub partner_of : Party → Partner
 partner_of Any = partner.Any
 partner_of Hardware = partner.Only source.Hardware
 partner_of Clock = partner.Only source.Clock
@@ -78,35 +78,35 @@ partner_of System = partner.System
 partner_of (Process d g) = partner.Only (source.Slot d)
 
 -- what a call that passed the checks does; SENDREC to SYSTEM is left to the kernel
-abbrev pub acted : World → ℕ → Call → Name → World
+abbrev pub acted : World → ℕ → Call → Party → World
 acted w s call.Send (Process d g) = sent w s d
-acted w s call.Receive name = received w s (partner_of name)
+acted w s call.Receive party = received w s (partner_of party)
 acted w s call.Sendrec (Process d g) = called w s d
 acted w s call.Notify (Process d g) = goes_on (told w (source.Slot s) d) s 0
 acted w s _ _ = w
 
-abbrev pub performed_by : World → ℕ → Call → Option Name → Option Errno → World
-performed_by w s call name (Some e) = goes_on w s (bits_of e)
+abbrev pub performed_by : World → ℕ → Call → Option Party → Option Errno → World
+performed_by w s call party (Some e) = goes_on w s (bits_of e)
 performed_by w s call None None = w
-performed_by w s call (Some name) None = acted w s call name
+performed_by w s call (Some party) None = acted w s call party
 
 -- a call by s that names a number: the first check that holds gives the result, else it acts
 unfoldable pub performed : World → ℕ → Call → ℕ → World
-performed w s call n = let name = name_of w n in performed_by w s call name (refusal w s call name)
+performed w s call n = let party = party_of w n in performed_by w s call party (refusal w s call party)
 
-abbrev pub answer_by : Call → Option Name → Option Errno → After
+abbrev pub answer_by : Call → Option Party → Option Errno → TrapAnswer
 answer_by call.Sendrec (Some System) None = Kernel
 answer_by _ _ _ = Done
 
 -- whether a kernel call is left to make
-unfoldable pub answer : World → ℕ → Call → ℕ → After
-answer w s call n = let name = name_of w n in answer_by call name (refusal w s call name)
+unfoldable pub answer : World → ℕ → Call → ℕ → TrapAnswer
+answer w s call n = let party = party_of w n in answer_by call party (refusal w s call party)
 
 abbrev pub trapped_by : World → ℕ → Option Call → ℕ → World
 trapped_by w s None n = goes_on w s (bits_of Denied)
 trapped_by w s (Some call) n = performed w s call n
 
-abbrev pub trap_answer_by : World → ℕ → Option Call → ℕ → After
+abbrev pub trap_answer_by : World → ℕ → Option Call → ℕ → TrapAnswer
 trap_answer_by w s None n = Done
 trap_answer_by w s (Some call) n = answer w s call n
 
@@ -114,7 +114,7 @@ trap_answer_by w s (Some call) n = answer w s call n
 unfoldable pub trapped : World → ℕ → World
 trapped w s = let regs = (process_at w s).image.regs in trapped_by w s (call_of regs.ecx) regs.eax
 
-unfoldable pub trap_answer : World → ℕ → After
+unfoldable pub trap_answer : World → ℕ → TrapAnswer
 trap_answer w s = let regs = (process_at w s).image.regs in trap_answer_by w s (call_of regs.ecx) regs.eax
 
 -- NOTIFY: of a slot it is a call by it; of HARDWARE and CLOCK it is the notification alone

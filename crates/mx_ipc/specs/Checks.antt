@@ -1,5 +1,5 @@
 -- The six checks of a trap (book, 2.6.3; proc.c, sys_call and mini_send).
-use Rattle.std.specs.Prelude.{ℕ, ◌≡◌, ◌≢◌, ◌<◌, ◌+◌, ◌/◌, ◌%◌, ◌^◌, ◌-◌, ◌==◌, nat_lt, not, ◌&&◌, ◌||◌, Bool, true, false, List, [], ◌∷◌, Option, Some, None, if◌then◌else◌, length, drop}
+use Rattle.std.specs.Prelude.{ℕ, ◌≡◌, ◌≢◌, ◌<◌, ◌+◌, ◌/◌, ◌%◌, ◌^◌, ◌-◌, ◌==◌, nat_lt, not, ◌&&◌, ◌||◌, Bool, true, false, List, [], ◌∷◌, Option, Some, None, if◌then◌else◌, length, drop, is_none}
 use Rattle.mx_proc.specs.declared.errors.Errno.{Errno}
 use Rattle.mx_proc.specs.declared.errors.Errno.TheVariants.{BadAddress, Locked, BadEndpoint, Denied, Dead}
 use Rattle.mx_proc.specs.Endpoints.{names_slot, is_current}
@@ -8,33 +8,33 @@ use Rattle.mx_proc.specs.Waits.{leads, Reaches}
 use Rattle.mx_proc.specs.World.{World, process_at, buffer_at, memory_at}
 use Rattle.mx_ipc.specs.declared.calls.Call.{Call}
 use Rattle.mx_ipc.specs.declared.calls.Call.TheVariants.{Send, Receive, Sendrec, Notify}
-use Rattle.mx_ipc.specs.declared.calls.Name.{Name}
-use Rattle.mx_ipc.specs.declared.calls.Name.TheVariants.{Any, Hardware, Clock, System, Process}
+use Rattle.mx_ipc.specs.declared.calls.Party.{Party}
+use Rattle.mx_ipc.specs.declared.calls.Party.TheVariants.{Any, Hardware, Clock, System, Process}
 
 -- the call that ECX numbers
 abbrev pub call_of : ℕ → Option Call
 call_of n = if n == 1 then Some Send else if n == 2 then Some Receive else if n == 3 then Some Sendrec else if n == 4 then Some Notify else None
 
-abbrev pub number_of : Call → ℕ
-number_of Send = 1
-number_of Receive = 2
-number_of Sendrec = 3
-number_of Notify = 4
+abbrev pub call_number : Call → ℕ
+call_number Send = 1
+call_number Receive = 2
+call_number Sendrec = 3
+call_number Notify = 4
 
 -- what EAX names: ANY is 31438, HARDWARE -1, SYSTEM -2 and CLOCK -3; a process by its slot and generation
-unfoldable pub name_of : World → ℕ → Option Name
-name_of w n =
-  if n == 31438 then Some Any else
-  if n == 2 ^ 32 - 1 then Some Hardware else
-  if n == 2 ^ 32 - 2 then Some System else
-  if n == 2 ^ 32 - 3 then Some Clock else
-  if names_slot w n then Some (Process (n % 1024) (n / 1024)) else None
+unfoldable pub party_of : World → ℕ → Option Party
+party_of w n =
+    if n == 31438 then Some Any else
+    if n == 2 ^ 32 - 1 then Some Hardware else
+    if n == 2 ^ 32 - 2 then Some System else
+    if n == 2 ^ 32 - 3 then Some Clock else
+    if names_slot w n then Some (Process (n % 1024) (n / 1024)) else None
 
 abbrev pub has_bit : ℕ → ℕ → Bool
 has_bit mask n = (mask / 2 ^ n) % 2 == 1
 
 -- a pseudo-process in SEND or NOTIFY
-abbrev pub to_pseudo : Call → Name → Bool
+abbrev pub to_pseudo : Call → Party → Bool
 to_pseudo Send Hardware = true
 to_pseudo Send Clock = true
 to_pseudo Send System = true
@@ -44,7 +44,7 @@ to_pseudo Notify System = true
 to_pseudo _ _ = false
 
 -- ANY outside RECEIVE; HARDWARE or CLOCK in SENDREC
-abbrev pub out_of_place : Call → Name → Bool
+abbrev pub out_of_place : Call → Party → Bool
 out_of_place Send Any = true
 out_of_place Sendrec Any = true
 out_of_place Notify Any = true
@@ -66,19 +66,15 @@ abbrev pub is_notify : Call → Bool
 is_notify Notify = true
 is_notify _ = false
 
--- what holds of a name, where there is one
-abbrev pub of_name : Option Name → (Name → Bool) → Bool
-of_name None f = false
-of_name (Some name) f = f name
+-- what holds of a party, where there is one
+abbrev pub of_party : Option Party → (Party → Bool) → Bool
+of_party None f = false
+of_party (Some party) f = f party
 
 -- what holds of the slot and the generation that are named, where a process is
-abbrev pub of_process : Option Name → (ℕ → ℕ → Bool) → Bool
+abbrev pub of_process : Option Party → (ℕ → ℕ → Bool) → Bool
 of_process (Some (Process d g)) f = f d g
 of_process _ f = false
-
-abbrev pub is_none : Option Name → Bool
-is_none None = true
-is_none (Some name) = false
 
 -- the buffer's 36 bytes don't all lie inside the data segment
 abbrev pub is_outside : World → ℕ → Bool
@@ -89,51 +85,51 @@ abbrev pub is_masked : World → ℕ → ℕ → Bool
 is_masked w s d = not (has_bit (process_at w s).masks.sends d)
 
 -- a process that is named has a slot
-abbrev pub NamesSlot : World → Name → Type 0
+abbrev pub NamesSlot : World → Party → Type 0
 NamesSlot w (Process d g) = d < length w.slots
 NamesSlot w _ = Unit {0}
 
 -- a process that is named is another, and no chain leads from it to s
-abbrev pub IsFree : World → ℕ → Name → Type 0
+abbrev pub IsFree : World → ℕ → Party → Type 0
 IsFree w s (Process d g) = (s ≢ d) × (Reaches w.waits d s → ⊥)
 IsFree w s _ = Unit {0}
 
 -- THE SIX CHECKS of a call by s, in order, each with the error that is its result where it holds
-abbrev pub checks : World → ℕ → Call → Option Name → List (Bool × Errno)
-checks w s call name =
-    (not (has_bit (process_at w s).masks.traps (number_of call)) || of_name name (to_pseudo call), Denied)
-  ∷ (is_none name || of_name name (out_of_place call), BadEndpoint)
-  ∷ (not (is_notify call) && is_outside w s, BadAddress)
-  ∷ (of_process name (λ d g. not (is_receive call) && is_masked w s d), Denied)
-  ∷ (of_process name (λ d g. not (is_current w d g)), Dead)
-  ∷ (of_process name (λ d g. is_send call && ((d == s) || leads w.waits d s)), Locked)
-  ∷ []
+abbrev pub checks : World → ℕ → Call → Option Party → List (Bool × Errno)
+checks w s call party =
+    (not (has_bit (process_at w s).masks.traps (call_number call)) || of_party party (to_pseudo call), Denied)
+    ∷ (is_none party || of_party party (out_of_place call), BadEndpoint)
+    ∷ (not (is_notify call) && is_outside w s, BadAddress)
+    ∷ (of_process party (λ d g. not (is_receive call) && is_masked w s d), Denied)
+    ∷ (of_process party (λ d g. not (is_current w d g)), Dead)
+    ∷ (of_process party (λ d g. is_send call && ((d == s) || leads w.waits d s)), Locked)
+    ∷ []
 
 -- the error of the first that holds
 abbrev pub first_error : List (Bool × Errno) → Option Errno
 first_error [] = None
 first_error (check ∷ rest) = if check.0 then Some check.1 else first_error rest
 
--- those behind the trap mask, for a name
-unfoldable pub name_refusal : World → ℕ → Call → Name → Option Errno
-name_refusal w s call name = if to_pseudo call name then Some Denied else first_error (drop 1 (checks w s call (Some name)))
+-- those behind the trap mask, for a party
+unfoldable pub party_refusal : World → ℕ → Call → Party → Option Errno
+party_refusal w s call party = if to_pseudo call party then Some Denied else first_error (drop 1 (checks w s call (Some party)))
 
 -- the last three, for a process
 unfoldable pub process_refusal : World → ℕ → Call → ℕ → ℕ → Option Errno
 process_refusal w s call d g = first_error (drop 3 (checks w s call (Some (Process d g))))
 
 -- THE REFUSAL of a call, or none
-unfoldable pub refusal : World → ℕ → Call → Option Name → Option Errno
-refusal w s call name = first_error (checks w s call name)
+unfoldable pub refusal : World → ℕ → Call → Option Party → Option Errno
+refusal w s call party = first_error (checks w s call party)
 
 -- what is known of a process that passed the last three
 abbrev pub PassedProcess : World → ℕ → Call → ℕ → Type 0
 PassedProcess w s call d = is_send call ≡ true → (s ≢ d) × (Reaches w.waits d s → ⊥)
 
 -- What is known of a call that passed them all.
-pub record Passed (w : World) (s : ℕ) (call : Call) (name : Name) : Type 0 where
-  pub used : NamesSlot w name
+pub record Passed (w : World) (s : ℕ) (call : Call) (party : Party) : Type 0 where
+  pub used : NamesSlot w party
   pub buffer : is_notify call ≡ false → HasBuffer (process_at w s)
-  pub pseudo : to_pseudo call name ≡ false
-  pub place : out_of_place call name ≡ false
-  pub free : is_send call ≡ true → IsFree w s name
+  pub pseudo : to_pseudo call party ≡ false
+  pub place : out_of_place call party ≡ false
+  pub free : is_send call ≡ true → IsFree w s party

@@ -1,10 +1,10 @@
 //! The four calls as values.
 
 ghost use Rattle.std.specs.Prelude.{◌≡◌, ◌<◌};
-ghost use Rattle.mx_ipc.specs.Checks.{call_of, number_of};
+ghost use Rattle.mx_ipc.specs.Checks.{call_of, call_number};
 
 /// The calls that a trap makes.
-#[derive(Clone, Copy, Debug, PartialEq, Eq)]
+#[derive(Clone, Copy, PartialEq, Eq)]
 pub enum Call {
     Send,
     Receive,
@@ -28,7 +28,7 @@ impl Call {
 
     /// Its number, which is that of its bit in the trap mask too.
     pub fn number(self) -> u32
-        ensures value { result ≡ number_of self }
+        ensures value { result ≡ call_number self }
         ensures below { result < 5 }
     {
         match self {
@@ -41,8 +41,8 @@ impl Call {
 }
 
 /// Whom a call names.
-#[derive(Clone, Copy, Debug, PartialEq, Eq)]
-pub enum Name {
+#[derive(Clone, Copy, PartialEq, Eq)]
+pub enum Party {
     Any,
     Hardware,
     Clock,
@@ -52,8 +52,8 @@ pub enum Name {
 }
 
 /// What is left to do after a trap.
-#[derive(Clone, Copy, Debug, PartialEq, Eq)]
-pub enum After {
+#[derive(Clone, Copy, PartialEq, Eq)]
+pub enum TrapAnswer {
     /// Nothing.
     Done,
     /// A kernel call.

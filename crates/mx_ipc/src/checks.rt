@@ -3,25 +3,25 @@
 ghost use Rattle.std.specs.Prelude.{◌≡◌, ℕ, ◌<◌, ◌^◌, length, Some, None, MatchResult, IfOk};
 ghost use Rattle.std.specs.Option.{ForSome};
 ghost use Rattle.mx_proc.specs.World.{process_at};
-ghost use Rattle.mx_ipc.specs.Checks.{name_of, has_bit, to_pseudo, out_of_place, is_send, is_receive, is_notify, is_outside, is_masked, refusal, Passed, NamesSlot, IsFree, PassedProcess, process_refusal, name_refusal};
+ghost use Rattle.mx_ipc.specs.Checks.{party_of, has_bit, to_pseudo, out_of_place, is_send, is_receive, is_notify, is_outside, is_masked, refusal, Passed, NamesSlot, IsFree, PassedProcess, process_refusal, party_refusal};
 
-use crate::calls::{Call, Name};
+use crate::calls::{Call, Party};
 use mx_proc::{Errno, Slot, Table};
 use mx_word::Register;
 
 /// Whom a number names.
-#[tactic(auto, unfolding(crate::specs::Checks::name_of))]
-pub(crate) fn name_of(table: &Table, number: u32) -> Option<Name>
-    ensures value { result ≡ name_of table.now number }
-    ensures used { ForSome result (λ name. NamesSlot table.now name) }
+#[tactic(auto, unfolding(crate::specs::Checks::party_of))]
+pub(crate) fn party_of(table: &Table, number: u32) -> Option<Party>
+    ensures value { result ≡ party_of table.now number }
+    ensures used { ForSome result (λ party. NamesSlot table.now party) }
 {
     match number {
-        31438 => Some(Name::Any),
-        0xFFFF_FFFF => Some(Name::Hardware),
-        0xFFFF_FFFE => Some(Name::System),
-        0xFFFF_FFFD => Some(Name::Clock),
+        31438 => Some(Party::Any),
+        0xFFFF_FFFF => Some(Party::Hardware),
+        0xFFFF_FFFE => Some(Party::System),
+        0xFFFF_FFFD => Some(Party::Clock),
         _ if number < 0x8000_0000 && number % 1024 < u32::from(table.used()) => {
-            Some(Name::Process((number % 1024) as u8, number / 1024))
+            Some(Party::Process((number % 1024) as u8, number / 1024))
         }
         _ => None,
     }
@@ -36,22 +36,22 @@ fn has_bit(mask: u32, bit: u32) -> bool
 }
 
 /// A pseudo-process in SEND or NOTIFY.
-fn to_pseudo(call: Call, name: Name) -> bool
-    ensures { result ≡ to_pseudo call name }
+fn to_pseudo(call: Call, party: Party) -> bool
+    ensures { result ≡ to_pseudo call party }
 {
-    match (call, name) {
-        (Call::Send | Call::Notify, Name::Hardware | Name::Clock | Name::System) => true,
+    match (call, party) {
+        (Call::Send | Call::Notify, Party::Hardware | Party::Clock | Party::System) => true,
         _ => false,
     }
 }
 
 /// ANY outside RECEIVE; HARDWARE or CLOCK in SENDREC.
-fn out_of_place(call: Call, name: Name) -> bool
-    ensures { result ≡ out_of_place call name }
+fn out_of_place(call: Call, party: Party) -> bool
+    ensures { result ≡ out_of_place call party }
 {
-    match (call, name) {
-        (Call::Send | Call::Sendrec | Call::Notify, Name::Any) => true,
-        (Call::Sendrec, Name::Hardware | Name::Clock) => true,
+    match (call, party) {
+        (Call::Send | Call::Sendrec | Call::Notify, Party::Any) => true,
+        (Call::Sendrec, Party::Hardware | Party::Clock) => true,
         _ => false,
     }
 }
@@ -94,7 +94,13 @@ fn is_outside(table: &Table, slot: Slot) -> bool
 
 /// The last three checks, which ask about a process that is named.
 #[tactic(auto, unfolding(crate::specs::Checks::process_refusal))]
-fn check_process(table: &Table, slot: Slot, call: Call, to: Slot, generation: u32) -> Result<(), Errno>
+fn check_process(
+    table: &Table,
+    slot: Slot,
+    call: Call,
+    to: Slot,
+    generation: u32,
+) -> Result<(), Errno>
     requires slot { slot < length table.now.slots }
     requires to { to < length table.now.slots }
     ensures value { MatchResult result (λ _. process_refusal table.now slot call to generation ≡ None) (λ e. process_refusal table.now slot call to generation ≡ Some e) }
@@ -115,40 +121,40 @@ fn check_process(table: &Table, slot: Slot, call: Call, to: Slot, generation: u3
 }
 
 /// The checks behind the trap mask.
-#[tactic(auto, unfolding(crate::specs::Checks::name_refusal, crate::specs::Checks::process_refusal))]
-fn check_name(table: &Table, slot: Slot, call: Call, name: Name) -> Result<(), Errno>
+#[tactic(auto, unfolding(crate::specs::Checks::party_refusal, crate::specs::Checks::process_refusal))]
+fn check_party(table: &Table, slot: Slot, call: Call, party: Party) -> Result<(), Errno>
     requires slot { slot < length table.now.slots }
-    requires named { NamesSlot table.now name }
-    ensures value { MatchResult result (λ _. name_refusal table.now slot call name ≡ None) (λ e. name_refusal table.now slot call name ≡ Some e) }
-    ensures passed { IfOk result (λ _. Passed table.now slot call name) }
+    requires named { NamesSlot table.now party }
+    ensures value { MatchResult result (λ _. party_refusal table.now slot call party ≡ None) (λ e. party_refusal table.now slot call party ≡ Some e) }
+    ensures passed { IfOk result (λ _. Passed table.now slot call party) }
 {
-    if to_pseudo(call, name) {
+    if to_pseudo(call, party) {
         return Err(Errno::Denied);
     }
-    if out_of_place(call, name) {
+    if out_of_place(call, party) {
         return Err(Errno::BadEndpoint);
     }
     if !is_notify(call) && is_outside(table, slot) {
         return Err(Errno::BadAddress);
     }
-    if let Name::Process(to, generation) = name {
+    if let Party::Process(to, generation) = party {
         check_process(table, slot, call, to, generation)?;
     }
     Ok(())
 }
 
 /// The six checks of a call: whom it names, or the error of the first that holds.
-#[tactic(auto, unfolding(crate::specs::Checks::refusal, crate::specs::Checks::name_refusal))]
-pub(crate) fn check(table: &Table, slot: Slot, call: Call, number: u32) -> Result<Name, Errno>
+#[tactic(auto, unfolding(crate::specs::Checks::refusal, crate::specs::Checks::party_refusal))]
+pub(crate) fn check(table: &Table, slot: Slot, call: Call, number: u32) -> Result<Party, Errno>
     requires slot { slot < length table.now.slots }
-    ensures name { IfOk result (λ name. name_of table.now number ≡ Some name) }
-    ensures value { MatchResult result (λ _. refusal table.now slot call (name_of table.now number) ≡ None) (λ e. refusal table.now slot call (name_of table.now number) ≡ Some e) }
-    ensures passed { IfOk result (λ name. Passed table.now slot call name) }
+    ensures party { IfOk result (λ party. party_of table.now number ≡ Some party) }
+    ensures value { MatchResult result (λ _. refusal table.now slot call (party_of table.now number) ≡ None) (λ e. refusal table.now slot call (party_of table.now number) ≡ Some e) }
+    ensures passed { IfOk result (λ party. Passed table.now slot call party) }
 {
     if !has_bit(table.process(slot).masks.traps, call.number()) {
         return Err(Errno::Denied);
     }
-    let name = name_of(table, number).ok_or(Errno::BadEndpoint)?;
-    check_name(table, slot, call, name)?;
-    Ok(name)
+    let party = party_of(table, number).ok_or(Errno::BadEndpoint)?;
+    check_party(table, slot, call, party)?;
+    Ok(party)
 }

@@ -13,12 +13,15 @@ ghost use Rattle.mx_proc.specs.declared.process.State.TheVariants.{Home};
 ghost use Rattle.mx_ipc.specs.Checks.{Passed};
 ghost use Rattle.mx_ipc.specs.Calls.{goes_on, accepts, hears, sent, released, taken, received, called, told, partner_of, acted, performed, answer, trapped, trap_answer, notified, answer_by, MayNotify};
 ghost use Rattle.mx_ipc.specs.declared.calls.Call.TheVariants as calls;
-ghost use Rattle.mx_ipc.specs.declared.calls.After.TheVariants.{Kernel};
+ghost use Rattle.mx_ipc.specs.declared.calls.TrapAnswer.TheVariants.{Kernel};
 
 mod calls;
 mod checks;
 
-pub use calls::{After, Call, Name};
+pub use calls::{Call, Party, TrapAnswer};
+
+#[cfg(test)]
+mod tests;
 
 use checks::check;
 use mx_proc::{Endpoint, Errno, Partner, Slot, Source, State, Table};
@@ -164,7 +167,12 @@ fn deliver_and_await(table: &mut Table, slot: Slot, to: Slot)
     if accepts(state, slot) {
         table.deliver(slot, to);
         go_on(table, to, 0);
-        take_or_wait(table, slot, Partner::Only(Source::Slot(to)), State::Awaiting(to));
+        take_or_wait(
+            table,
+            slot,
+            Partner::Only(Source::Slot(to)),
+            State::Awaiting(to),
+        );
     } else {
         table.block(slot, to, State::Calling);
     }
@@ -190,45 +198,45 @@ fn tell(table: &mut Table, source: Source, to: Slot)
 }
 
 /// Whom a RECEIVE names.
-fn partner_of(name: Name) -> Partner
-    ensures { result ≡ partner_of name }
+fn partner_of(party: Party) -> Partner
+    ensures { result ≡ partner_of party }
 {
-    match name {
-        Name::Any => Partner::Any,
-        Name::System => Partner::System,
-        Name::Hardware => Partner::Only(Source::Hardware),
-        Name::Clock => Partner::Only(Source::Clock),
-        Name::Process(slot, _) => Partner::Only(Source::Slot(slot)),
+    match party {
+        Party::Any => Partner::Any,
+        Party::System => Partner::System,
+        Party::Hardware => Partner::Only(Source::Hardware),
+        Party::Clock => Partner::Only(Source::Clock),
+        Party::Process(slot, _) => Partner::Only(Source::Slot(slot)),
     }
 }
 
 /// What a call that passed the checks does.
-fn act(table: &mut Table, slot: Slot, call: Call, name: Name) -> After
+fn act(table: &mut Table, slot: Slot, call: Call, party: Party) -> TrapAnswer
     requires slot { slot < length table.old.slots }
     requires home { (process_at table.old slot).state ≡ Home }
-    requires passed { Passed table.old slot call name }
-    ensures value { table.new ≡ acted table.old slot call name }
+    requires passed { Passed table.old slot call party }
+    ensures value { table.new ≡ acted table.old slot call party }
     ensures frame { frame table.new ≡ frame table.old }
-    ensures answer { result ≡ answer_by call (Some name) None }
+    ensures answer { result ≡ answer_by call (Some party) None }
     ensures same { result ≡ Kernel → table.new ≡ table.old }
 {
-    match (call, name) {
-        (Call::Send, Name::Process(to, _)) => deliver_or_block(table, slot, to),
-        (Call::Receive, _) => hear_or_take(table, slot, partner_of(name)),
-        (Call::Sendrec, Name::Process(to, _)) => deliver_and_await(table, slot, to),
-        (Call::Sendrec, Name::System) => return After::Kernel,
-        (Call::Notify, Name::Process(to, _)) => {
+    match (call, party) {
+        (Call::Send, Party::Process(to, _)) => deliver_or_block(table, slot, to),
+        (Call::Receive, _) => hear_or_take(table, slot, partner_of(party)),
+        (Call::Sendrec, Party::Process(to, _)) => deliver_and_await(table, slot, to),
+        (Call::Sendrec, Party::System) => return TrapAnswer::Kernel,
+        (Call::Notify, Party::Process(to, _)) => {
             tell(table, Source::Slot(slot), to);
             go_on(table, slot, 0);
         }
         _ => {}
     }
-    After::Done
+    TrapAnswer::Done
 }
 
 /// A call that names a number: the checks, and what it does where it passes them.
 #[tactic(auto, unfolding(crate::specs::Calls::performed, crate::specs::Calls::answer))]
-fn perform(table: &mut Table, slot: Slot, call: Call, number: u32) -> After
+fn perform(table: &mut Table, slot: Slot, call: Call, number: u32) -> TrapAnswer
     requires slot { slot < length table.old.slots }
     requires home { (process_at table.old slot).state ≡ Home }
     ensures value { table.new ≡ performed table.old slot call number }
@@ -239,9 +247,9 @@ fn perform(table: &mut Table, slot: Slot, call: Call, number: u32) -> After
     match check(table, slot, call, number) {
         Err(error) => {
             go_on(table, slot, error.bits());
-            After::Done
+            TrapAnswer::Done
         }
-        Ok(name) => act(table, slot, call, name),
+        Ok(party) => act(table, slot, call, party),
     }
 }
 
@@ -296,7 +304,7 @@ pub fn notify(table: &mut Table, source: Source, to: Endpoint)
 /// A trap of a process that has come home: the call that its registers say. Where a SENDREC to SYSTEM
 /// passes the checks, nothing has changed, and a kernel call is left to make.
 #[tactic(auto, unfolding(crate::specs::Calls::trapped, crate::specs::Calls::trap_answer))]
-pub fn trap(table: &mut Table, slot: Slot) -> After
+pub fn trap(table: &mut Table, slot: Slot) -> TrapAnswer
     requires slot { slot < length table.old.slots }
     requires home { (process_at table.old slot).state ≡ Home }
     ensures value { table.new ≡ trapped table.old slot }
@@ -309,7 +317,7 @@ pub fn trap(table: &mut Table, slot: Slot) -> After
     match Call::of_number(image.register(Register::Ecx)) {
         None => {
             go_on(table, slot, Errno::Denied.bits());
-            After::Done
+            TrapAnswer::Done
         }
         Some(call) => perform(table, slot, call, number),
     }

@@ -85,7 +85,7 @@ BrokenAt t a (BadByte e) =
     ⊎ ((slice_index t a ≡ 34) × IsBrokenText t (a + 1) (BadByte e))
 BrokenAt t a (BadNumber e) =
     (e ≡ a) × (is_digit (slice_index t a) ≡ true) ×
-    ((b : ℕ) × AllFrom is_word_byte t a b × (b < length t → is_word_byte (slice_index t b) ≡ false) × (b ≤ length t) ×
+    ((b : ℕ) × (a < b) × AllFrom is_word_byte t a b × (b < length t → is_word_byte (slice_index t b) ≡ false) × (b ≤ length t) ×
     ((n : ℕ) → IsNumber (slice_range t a b) n → ⊥))
 BrokenAt t a (OpenText e) = (slice_index t a ≡ 34) × IsBrokenText t (a + 1) (OpenText e)
 BrokenAt t a NoMemory = ⊥

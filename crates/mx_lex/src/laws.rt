@@ -1,9 +1,21 @@
 //! Laws of tokens.
 
 ghost use Rattle.std.specs.Prelude.{◌≡◌, ◌≤◌, ℕ, List, length};
-ghost use Rattle.mx_lex.specs.Tokens.{Gap, IsOver};
+ghost use Rattle.mx_lex.specs.declared.kinds.LexError.{LexError};
+ghost use Rattle.mx_lex.specs.declared.kinds.Token.{Token};
+ghost use Rattle.mx_lex.specs.Tokens.{Gap, IsOver, IsReadAs, IsFault};
 
 /// A gap that ends where no other begins has one end.
 pub fn gap_has_one_end()
     ensures { (t : List ℕ) (a b c : ℕ) → Gap t a b → Gap t a c → b ≤ length t → c ≤ length t → IsOver t b → IsOver t c → b ≡ c }
+{}
+
+/// A text has one reading at most.
+pub fn one_reading()
+    ensures { (t : List ℕ) (ks js : List Token) → IsReadAs t ks → IsReadAs t js → ks ≡ js }
+{}
+
+/// No text has both a reading and a fault.
+pub fn reading_or_fault()
+    ensures { (t : List ℕ) (ks : List Token) (e : LexError) → IsReadAs t ks → IsFault t e → ⊥ }
 {}

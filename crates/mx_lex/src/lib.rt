@@ -2,13 +2,13 @@
 #![tactic(auto)]
 
 mod gaps;
+mod kinds;
 mod laws;
+mod reading;
 mod scan;
 mod text;
-mod kinds;
-mod reading;
 
-pub use laws::gap_has_one_end;
-pub use text::text_bytes;
 pub use kinds::{Kind, LexError, Mark, Token};
+pub use laws::{gap_has_one_end, one_reading, reading_or_fault};
 pub use reading::{tokens, tokens_in};
+pub use text::text_bytes;

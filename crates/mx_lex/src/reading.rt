@@ -4,8 +4,8 @@ ghost use Rattle.std.specs.Prelude.{IfOk, IfErr, All};
 ghost use Rattle.mx_lex.specs.Tokens.{IsReadAs, IsSlice, TellsFault};
 
 use crate::gaps::gap_end;
-use crate::scan::token_at;
 use crate::kinds::{LexError, Token};
+use crate::scan::token_at;
 use std::alloc::Global;
 
 /// The tokens of bytes, or the first offset at fault.

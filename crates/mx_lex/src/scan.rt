@@ -6,8 +6,8 @@ ghost use Rattle.mx_lex.specs.Bytes.{begins_word};
 ghost use Rattle.mx_lex.specs.Tokens.{IsOver, IsToken, BrokenAt, mark_byte};
 
 use crate::gaps::run_end;
-use crate::text::quote_at;
 use crate::kinds::{Kind, LexError, Mark, Token};
+use crate::text::quote_at;
 use mx_line::{begins_name, is_digit, is_letter, number_of};
 
 fn mark_of(byte: u8) -> Option<Mark>
@@ -44,7 +44,11 @@ fn number_at(bytes: &[u8], start: usize) -> Result<Token, LexError>
     let end = run_end(bytes, start + 1);
     match number_of(&bytes[start..end]) {
         None => Err(LexError::BadNumber(start)),
-        Some(number) => Ok(Token { kind: Kind::Number(number), start, end }),
+        Some(number) => Ok(Token {
+            kind: Kind::Number(number),
+            start,
+            end,
+        }),
     }
 }
 
@@ -57,7 +61,11 @@ fn text_at(bytes: &[u8], start: usize) -> Result<Token, LexError>
     ensures fault { IfErr result (λ e. BrokenAt bytes.now start e) }
 {
     let end = quote_at(bytes, start + 1)? + 1;
-    Ok(Token { kind: Kind::Text, start, end })
+    Ok(Token {
+        kind: Kind::Text,
+        start,
+        end,
+    })
 }
 
 /// The token that begins at a place.
@@ -70,10 +78,18 @@ pub fn token_at(bytes: &[u8], start: usize) -> Result<Token, LexError>
 {
     let byte = bytes[start];
     if byte == b'\n' {
-        return Ok(Token { kind: Kind::LineFeed, start, end: start + 1 });
+        return Ok(Token {
+            kind: Kind::LineFeed,
+            start,
+            end: start + 1,
+        });
     }
     if let Some(mark) = mark_of(byte) {
-        return Ok(Token { kind: Kind::Mark(mark), start, end: start + 1 });
+        return Ok(Token {
+            kind: Kind::Mark(mark),
+            start,
+            end: start + 1,
+        });
     }
     if byte == b'"' {
         return text_at(bytes, start);
@@ -85,5 +101,9 @@ pub fn token_at(bytes: &[u8], start: usize) -> Result<Token, LexError>
         return Err(LexError::BadByte(start));
     }
     let end = run_end(bytes, start + 1);
-    Ok(Token { kind: Kind::Word, start, end })
+    Ok(Token {
+        kind: Kind::Word,
+        start,
+        end,
+    })
 }

@@ -1,10 +1,10 @@
 -- Operands as a list.
 use Rattle.std.specs.Prelude.{List, [], ◌∷◌}
-use Rattle.mx_print.specs.declared.argument.Argument.{Argument}
-use Rattle.mx_print.specs.declared.argument.Arguments.{Arguments}
-use Rattle.mx_print.specs.declared.argument.Arguments.TheVariants.{Nothing, One, Two, Three}
+use Rattle.mx_print.specs.declared.written.Written.{Written}
+use Rattle.mx_print.specs.declared.written.WrittenOperands.{WrittenOperands}
+use Rattle.mx_print.specs.declared.written.WrittenOperands.TheVariants.{Nothing, One, Two, Three}
 
-abbrev pub listed : Arguments → List Argument
+abbrev pub listed : WrittenOperands → List Written
 listed Nothing = []
 listed (One x) = x ∷ []
 listed (Two x y) = x ∷ y ∷ []

@@ -8,8 +8,8 @@ use Rattle.mx_insn.specs.declared.insn.Scale.TheVariants.{One, Two, Four, Eight}
 use Rattle.mx_insn.specs.declared.insn.Index.{Index}
 use Rattle.mx_insn.specs.declared.insn.Memory.{Memory}
 use Rattle.mx_words.specs.Registers.{register_word, size_word}
-use Rattle.mx_print.specs.declared.argument.Argument.{Argument}
-use Rattle.mx_print.specs.declared.argument.Argument.TheVariants as written
+use Rattle.mx_print.specs.declared.written.Written.{Written}
+use Rattle.mx_print.specs.declared.written.Written.TheVariants as written
 use Rattle.mx_print.specs.Numbers.{number_text}
 
 abbrev pub scale_text : Scale → List ℕ
@@ -44,8 +44,8 @@ abbrev pub bracket_text : Memory → List ℕ
 bracket_text m = codes "[" ++ (place_text m ++ codes "]")
 
 -- a register's word, memory behind the word of its size, an address without one, a number
-abbrev pub argument_text : Argument → List ℕ
-argument_text (written.Register size r) = register_word size r
-argument_text (written.Memory size m) = size_word size ++ (codes " " ++ bracket_text m)
-argument_text (written.Address m) = bracket_text m
-argument_text (written.Number n) = number_text n
+abbrev pub operand_text : Written → List ℕ
+operand_text (written.Register size r) = register_word size r
+operand_text (written.Memory size m) = size_word size ++ (codes " " ++ bracket_text m)
+operand_text (written.Address m) = bracket_text m
+operand_text (written.Number n) = number_text n

@@ -33,9 +33,9 @@ use Rattle.mx_words.specs.declared.mnemonic.Mnemonic.TheVariants.{Arithmetic, Un
 use Rattle.mx_words.specs.declared.start.Prefix.{Prefix}
 use Rattle.mx_words.specs.declared.start.Prefix.TheVariants.{Rep, Repe, Repne}
 use Rattle.mx_words.specs.Words.{word_of, prefix_word}
-use Rattle.mx_print.specs.declared.argument.Argument.{Argument}
-use Rattle.mx_print.specs.declared.argument.Argument.TheVariants as written
-use Rattle.mx_print.specs.Operands.{argument_text}
+use Rattle.mx_print.specs.declared.written.Written.{Written}
+use Rattle.mx_print.specs.declared.written.Written.TheVariants as written
+use Rattle.mx_print.specs.Operands.{operand_text}
 
 -- ---- words
 
@@ -95,13 +95,13 @@ mnemonic_of (insns.Plain o) = Plain o
 
 -- ---- operands, the destination first
 
-abbrev pub argument_of : Size → Operand → Argument
-argument_of size (operand.Register r) = written.Register size r
-argument_of size (operand.Memory m) = written.Memory size m
+abbrev pub written_operand : Size → Operand → Written
+written_operand size (operand.Register r) = written.Register size r
+written_operand size (operand.Memory m) = written.Memory size m
 
-abbrev pub size_of : OperandSize → Size
-size_of operand_sizes.Word = Word
-size_of operand_sizes.Dword = Dword
+abbrev pub written_size : OperandSize → Size
+written_size operand_sizes.Word = Word
+written_size operand_sizes.Dword = Dword
 
 -- a number's size and the number itself, unsigned
 abbrev pub immediate_size : Immediate → Size
@@ -114,86 +114,86 @@ immediate_number (immediates.Byte n) = n
 immediate_number (immediates.Word n) = n
 immediate_number (immediates.Dword n) = n
 
-abbrev pub operands_of : Operands → List Argument
-operands_of (operands.ToRegister size to from) = written.Register size to ∷ argument_of size from ∷ []
-operands_of (operands.ToMemory size to from) = written.Memory size to ∷ written.Register size from ∷ []
-operands_of (operands.Immediate to n) = argument_of (immediate_size n) to ∷ written.Number (immediate_number n) ∷ []
+abbrev pub written_pair : Operands → List Written
+written_pair (operands.ToRegister size to from) = written.Register size to ∷ written_operand size from ∷ []
+written_pair (operands.ToMemory size to from) = written.Memory size to ∷ written.Register size from ∷ []
+written_pair (operands.Immediate to n) = written_operand (immediate_size n) to ∷ written.Number (immediate_number n) ∷ []
 
 -- register, operand and number of an IMUL of three operands
-abbrev pub product_of : Register → Operand → WideImmediate → List Argument
-product_of to from (wide_immediates.Word n) = written.Register Word to ∷ argument_of Word from ∷ written.Number n ∷ []
-product_of to from (wide_immediates.Dword n) = written.Register Dword to ∷ argument_of Dword from ∷ written.Number n ∷ []
+abbrev pub written_product : Register → Operand → WideImmediate → List Written
+written_product to from (wide_immediates.Word n) = written.Register Word to ∷ written_operand Word from ∷ written.Number n ∷ []
+written_product to from (wide_immediates.Dword n) = written.Register Dword to ∷ written_operand Dword from ∷ written.Number n ∷ []
 
 -- how far a shift goes: a number, or CL
-abbrev pub count_of : Count → Argument
-count_of counts.Cl = written.Register Byte Ecx
-count_of (counts.Immediate n) = written.Number n
+abbrev pub written_count : Count → Written
+written_count counts.Cl = written.Register Byte Ecx
+written_count (counts.Immediate n) = written.Number n
 
 -- what MOVZX and MOVSX write and read
-abbrev pub extension_of : Extension → Register → Operand → List Argument
-extension_of ByteToWord to from = written.Register Word to ∷ argument_of Byte from ∷ []
-extension_of ByteToDword to from = written.Register Dword to ∷ argument_of Byte from ∷ []
-extension_of WordToDword to from = written.Register Dword to ∷ argument_of Word from ∷ []
+abbrev pub written_extension : Extension → Register → Operand → List Written
+written_extension ByteToWord to from = written.Register Word to ∷ written_operand Byte from ∷ []
+written_extension ByteToDword to from = written.Register Dword to ∷ written_operand Byte from ∷ []
+written_extension WordToDword to from = written.Register Dword to ∷ written_operand Word from ∷ []
 
 -- AL or EAX, and where the port's number stands
-abbrev pub accumulator_of : PortSize → Argument
-accumulator_of port_sizes.Byte = written.Register Byte Eax
-accumulator_of port_sizes.Dword = written.Register Dword Eax
+abbrev pub written_accumulator : PortSize → Written
+written_accumulator port_sizes.Byte = written.Register Byte Eax
+written_accumulator port_sizes.Dword = written.Register Dword Eax
 
-abbrev pub port_of : Port → Argument
-port_of ports.Dx = written.Register Word Edx
-port_of (ports.Immediate n) = written.Number n
+abbrev pub written_port : Port → Written
+written_port ports.Dx = written.Register Word Edx
+written_port (ports.Immediate n) = written.Number n
 
 -- the address that a displacement names: it counts from the next instruction, modulo 2 ^ 32
-abbrev pub target_of : ℕ → ℕ → Argument
-target_of next displacement = written.Number ((next + displacement) % 2 ^ 32)
+abbrev pub written_target : ℕ → ℕ → Written
+written_target next displacement = written.Number ((next + displacement) % 2 ^ 32)
 
 -- a RET that takes nothing more off the stack has no operand
-abbrev pub return_arguments : ℕ → List Argument
-return_arguments n = if n == 0 then [] else written.Number n ∷ []
+abbrev pub written_return : ℕ → List Written
+written_return n = if n == 0 then [] else written.Number n ∷ []
 
 -- the operands of an instruction, by the address of the next one
-abbrev pub arguments_of : ℕ → Insn → List Argument
-arguments_of next (insns.Arithmetic o x) = operands_of x
-arguments_of next (insns.Move x) = operands_of x
-arguments_of next (insns.Test size x r) = argument_of size x ∷ written.Register size r ∷ []
-arguments_of next (insns.TestImmediate x n) = operands_of (operands.Immediate x n)
-arguments_of next (insns.Exchange size x r) = argument_of size x ∷ written.Register size r ∷ []
-arguments_of next (insns.LoadAddress size r m) = written.Register (size_of size) r ∷ written.Address m ∷ []
-arguments_of next (insns.Unary o size x) = argument_of size x ∷ []
-arguments_of next (insns.Product o size x) = argument_of size x ∷ []
-arguments_of next (insns.Multiply size r x) = written.Register (size_of size) r ∷ argument_of (size_of size) x ∷ []
-arguments_of next (insns.MultiplyImmediate r x n) = product_of r x n
-arguments_of next (insns.Shift o size x n) = argument_of size x ∷ count_of n ∷ []
-arguments_of next (insns.ZeroExtend e r x) = extension_of e r x
-arguments_of next (insns.SignExtend e r x) = extension_of e r x
-arguments_of next (insns.SetCondition c x) = argument_of Byte x ∷ []
-arguments_of next (insns.Push x) = argument_of Dword x ∷ []
-arguments_of next (insns.PushImmediate n) = written.Number n ∷ []
-arguments_of next (insns.Pop r) = written.Register Dword r ∷ []
-arguments_of next (insns.JumpIf c n) = target_of next n ∷ []
-arguments_of next (insns.Jump n) = target_of next n ∷ []
-arguments_of next (insns.Call n) = target_of next n ∷ []
-arguments_of next (insns.JumpTo x) = argument_of Dword x ∷ []
-arguments_of next (insns.CallTo x) = argument_of Dword x ∷ []
-arguments_of next (insns.Loop o n) = target_of next n ∷ []
-arguments_of next (insns.Return n) = return_arguments n
-arguments_of next (insns.Interrupt n) = written.Number n ∷ []
-arguments_of next (insns.ExtendAccumulator size) = []
-arguments_of next (insns.SpreadSign size) = []
-arguments_of next (insns.Transfer o size repeated) = []
-arguments_of next (insns.Compare o size repeat) = []
-arguments_of next (insns.In size port) = accumulator_of size ∷ port_of port ∷ []
-arguments_of next (insns.Out size port) = port_of port ∷ accumulator_of size ∷ []
-arguments_of next (insns.Plain o) = []
+abbrev pub written_operands : ℕ → Insn → List Written
+written_operands next (insns.Arithmetic o x) = written_pair x
+written_operands next (insns.Move x) = written_pair x
+written_operands next (insns.Test size x r) = written_operand size x ∷ written.Register size r ∷ []
+written_operands next (insns.TestImmediate x n) = written_pair (operands.Immediate x n)
+written_operands next (insns.Exchange size x r) = written_operand size x ∷ written.Register size r ∷ []
+written_operands next (insns.LoadAddress size r m) = written.Register (written_size size) r ∷ written.Address m ∷ []
+written_operands next (insns.Unary o size x) = written_operand size x ∷ []
+written_operands next (insns.Product o size x) = written_operand size x ∷ []
+written_operands next (insns.Multiply size r x) = written.Register (written_size size) r ∷ written_operand (written_size size) x ∷ []
+written_operands next (insns.MultiplyImmediate r x n) = written_product r x n
+written_operands next (insns.Shift o size x n) = written_operand size x ∷ written_count n ∷ []
+written_operands next (insns.ZeroExtend e r x) = written_extension e r x
+written_operands next (insns.SignExtend e r x) = written_extension e r x
+written_operands next (insns.SetCondition c x) = written_operand Byte x ∷ []
+written_operands next (insns.Push x) = written_operand Dword x ∷ []
+written_operands next (insns.PushImmediate n) = written.Number n ∷ []
+written_operands next (insns.Pop r) = written.Register Dword r ∷ []
+written_operands next (insns.JumpIf c n) = written_target next n ∷ []
+written_operands next (insns.Jump n) = written_target next n ∷ []
+written_operands next (insns.Call n) = written_target next n ∷ []
+written_operands next (insns.JumpTo x) = written_operand Dword x ∷ []
+written_operands next (insns.CallTo x) = written_operand Dword x ∷ []
+written_operands next (insns.Loop o n) = written_target next n ∷ []
+written_operands next (insns.Return n) = written_return n
+written_operands next (insns.Interrupt n) = written.Number n ∷ []
+written_operands next (insns.ExtendAccumulator size) = []
+written_operands next (insns.SpreadSign size) = []
+written_operands next (insns.Transfer o size repeated) = []
+written_operands next (insns.Compare o size repeat) = []
+written_operands next (insns.In size port) = written_accumulator size ∷ written_port port ∷ []
+written_operands next (insns.Out size port) = written_port port ∷ written_accumulator size ∷ []
+written_operands next (insns.Plain o) = []
 
 -- ---- the whole
 
 -- behind a word: nothing, or a space and the operands with `, ` between them
-abbrev pub arguments_text : List Argument → List ℕ
-arguments_text [] = []
-arguments_text (x ∷ xs) = codes " " ++ join_by argument_text (codes ", ") (x ∷ xs)
+abbrev pub operands_text : List Written → List ℕ
+operands_text [] = []
+operands_text (x ∷ xs) = codes " " ++ join_by operand_text (codes ", ") (x ∷ xs)
 
 -- an instruction, by the address of the next one
-abbrev pub statement : ℕ → Insn → List ℕ
-statement next i = prefix_text (prefix_of i) ++ (word_of (mnemonic_of i) ++ arguments_text (arguments_of next i))
+abbrev pub statement_text : ℕ → Insn → List ℕ
+statement_text next i = prefix_text (prefix_of i) ++ (word_of (mnemonic_of i) ++ operands_text (written_operands next i))

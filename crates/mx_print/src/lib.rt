@@ -1,15 +1,12 @@
 //! Instructions as the assembler's notation writes them.
 #![tactic(auto)]
 
-mod argument;
 mod number;
 mod operand;
 mod statement;
 mod words;
+mod written;
 
-pub use argument::{Argument, Arguments};
 pub use number::{push_eight_digits, push_number};
 pub use statement::push_statement;
-
-#[cfg(test)]
-mod tests;
+pub use written::{Written, WrittenOperands};

@@ -3,12 +3,12 @@
 ghost use Rattle.std.specs.Prelude.{◌≡◌, ◌++◌, ◌==◌, if◌then◌else◌, [], codes, OnOk, string_bytes};
 ghost use Rattle.mx_print.specs.Listed.{listed};
 ghost use Rattle.mx_print.specs.Numbers.{number_text};
-ghost use Rattle.mx_print.specs.Operands.{scale_text, index_text, place_text, bracket_text, argument_text};
-ghost use Rattle.mx_print.specs.Statement.{arguments_text};
+ghost use Rattle.mx_print.specs.Operands.{scale_text, index_text, place_text, bracket_text, operand_text};
+ghost use Rattle.mx_print.specs.Statement.{operands_text};
 
-use crate::argument::{Argument, Arguments};
 use crate::number::push_number;
 use crate::words;
+use crate::written::{Written, WrittenOperands};
 use mx_insn::{Index, Memory, Scale};
 use std::alloc::AllocError;
 
@@ -66,49 +66,49 @@ fn push_bracket(out: &mut String, memory: Memory) -> Result<(), AllocError>
     out.push_str("]")
 }
 
-fn push_argument(out: &mut String, argument: Argument) -> Result<(), AllocError>
-    ensures { OnOk result (string_bytes out.new ≡ string_bytes out.old ++ argument_text argument) }
+fn push_operand(out: &mut String, operand: Written) -> Result<(), AllocError>
+    ensures { OnOk result (string_bytes out.new ≡ string_bytes out.old ++ operand_text operand) }
 {
-    match argument {
-        Argument::Register(size, register) => out.push_str(words::register(size, register)),
-        Argument::Memory(size, memory) => {
+    match operand {
+        Written::Register(size, register) => out.push_str(words::register(size, register)),
+        Written::Memory(size, memory) => {
             out.push_str(words::size(size))?;
             out.push_str(" ")?;
             push_bracket(out, memory)
         }
-        Argument::Address(memory) => push_bracket(out, memory),
-        Argument::Number(value) => push_number(out, value),
+        Written::Address(memory) => push_bracket(out, memory),
+        Written::Number(value) => push_number(out, value),
     }
 }
 
 /// Two operands, and a comma between them.
-fn push_two(out: &mut String, first: Argument, second: Argument) -> Result<(), AllocError>
-    ensures { OnOk result (string_bytes out.new ≡ string_bytes out.old ++ (argument_text first ++ (codes ", " ++ argument_text second))) }
+fn push_two(out: &mut String, first: Written, second: Written) -> Result<(), AllocError>
+    ensures { OnOk result (string_bytes out.new ≡ string_bytes out.old ++ (operand_text first ++ (codes ", " ++ operand_text second))) }
 {
-    push_argument(out, first)?;
+    push_operand(out, first)?;
     out.push_str(", ")?;
-    push_argument(out, second)
+    push_operand(out, second)
 }
 
 /// A space and the operands, where there are any.
-pub fn push_arguments(out: &mut String, arguments: Arguments) -> Result<(), AllocError>
-    ensures { OnOk result (string_bytes out.new ≡ string_bytes out.old ++ arguments_text (listed arguments)) }
+pub fn push_operands(out: &mut String, operands: WrittenOperands) -> Result<(), AllocError>
+    ensures { OnOk result (string_bytes out.new ≡ string_bytes out.old ++ operands_text (listed operands)) }
 {
-    match arguments {
-        Arguments::Nothing => Ok(()),
-        Arguments::One(only) => {
+    match operands {
+        WrittenOperands::Nothing => Ok(()),
+        WrittenOperands::One(only) => {
             out.push_str(" ")?;
-            push_argument(out, only)
+            push_operand(out, only)
         }
-        Arguments::Two(first, second) => {
+        WrittenOperands::Two(first, second) => {
             out.push_str(" ")?;
             push_two(out, first, second)
         }
-        Arguments::Three(first, second, third) => {
+        WrittenOperands::Three(first, second, third) => {
             out.push_str(" ")?;
             push_two(out, first, second)?;
             out.push_str(", ")?;
-            push_argument(out, third)
+            push_operand(out, third)
         }
     }
 }

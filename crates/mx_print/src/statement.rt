@@ -2,10 +2,10 @@
 
 ghost use Rattle.std.specs.Prelude.{◌≡◌, ◌++◌, OnOk, string_bytes};
 ghost use Rattle.mx_words.specs.Words.{word_of};
-ghost use Rattle.mx_print.specs.Statement.{prefix_of, prefix_text, mnemonic_of, extend_mnemonic, spread_mnemonic, statement};
+ghost use Rattle.mx_print.specs.Statement.{prefix_of, prefix_text, mnemonic_of, extend_mnemonic, spread_mnemonic, statement_text};
 
-use crate::operand::push_arguments;
-use crate::{argument, words};
+use crate::operand::push_operands;
+use crate::{words, written};
 use mx_insn::{Insn, OperandSize, Product, Repeat};
 use mx_words::{Mnemonic, Prefix, Single};
 use std::alloc::AllocError;
@@ -115,9 +115,9 @@ fn push_mnemonic(out: &mut String, mnemonic: Mnemonic) -> Result<(), AllocError>
 /// at the address `next`: jumps name the address that they go to. On an error a part of it may stand
 /// in `out`.
 pub fn push_statement(out: &mut String, insn: &Insn, next: u32) -> Result<(), AllocError>
-    ensures { OnOk result (string_bytes out.new ≡ string_bytes out.old ++ statement next insn.now) }
+    ensures { OnOk result (string_bytes out.new ≡ string_bytes out.old ++ statement_text next insn.now) }
 {
     push_prefix(out, prefix(insn))?;
     push_mnemonic(out, mnemonic(insn))?;
-    push_arguments(out, argument::of_insn(insn, next))
+    push_operands(out, written::of_insn(insn, next))
 }

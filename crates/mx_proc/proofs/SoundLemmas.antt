@@ -348,8 +348,12 @@ pub picked_ready : (w : World) (s : ℕ) → Sound w → picked w.ready ≡ Some
 picked_ready w s h e =
     let k : (level : ℕ) × (1 ≤ times s (list_at w.ready level)) = picked_listed w.ready s e in
     let ready : is_ready (process_at w s).state ≡ true = elim (cases_Bool (is_ready (process_at w s).state)) [
-        inl y ↦ y
-      | inr n ↦ absurd (omega (arith, k.1, alone_listed w s h n k.0)) ] in
-    (elim (cases_lt s (length w.slots)) [
-        inl lt ↦ lt
-      | inr ge ↦ let f : false ≡ true = ap (λ (p : Process). is_ready p.state) (sym (get_or-eq_default w.slots nobody ge)) ∙ ready in cc ], ready)
+      | inl y ↦ y
+      | inr n ↦ absurd (omega (arith, k.1, alone_listed w s h n k.0))
+    ] in (
+      elim (cases_lt s (length w.slots)) [
+        | inl lt ↦ lt
+        | inr ge ↦ let f : false ≡ true = ap (λ (p : Process). is_ready p.state) (sym (get_or-eq_default w.slots nobody ge)) ∙ ready in cc
+      ],
+      ready,
+    )

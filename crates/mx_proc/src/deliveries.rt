@@ -9,14 +9,14 @@ use std::alloc::Global;
 use std::marker::Model;
 
 /// What was delivered.
-#[derive(Clone, Copy, Debug, PartialEq, Eq)]
+#[derive(Clone, Copy, PartialEq, Eq)]
 pub enum DeliveryKind {
     Message,
     Notification,
 }
 
 /// A delivery: the endpoints that sender and receiver then had, and the message's type.
-#[derive(Clone, Copy, Debug, PartialEq, Eq)]
+#[derive(Clone, Copy, PartialEq, Eq)]
 pub struct Delivery {
     pub from: u32,
     pub to: u32,

@@ -2,7 +2,7 @@
 
 ghost use Rattle.std.specs.Prelude.{◌≡◌, ◌<◌, ◌≤◌, length, IfSome};
 ghost use Rattle.mx_proc.specs.Partners.{place_of, source_of, lines_told, may_be, first_pending};
-ghost use Rattle.mx_proc.specs.States.{is_down};
+ghost use Rattle.mx_proc.specs.States.{is_ready, is_down};
 
 use mx_exec::Image;
 
@@ -14,7 +14,7 @@ pub type Slot = u8;
 pub type Endpoint = u32;
 
 /// Who notifies.
-#[derive(Clone, Copy, Debug, PartialEq, Eq)]
+#[derive(Clone, Copy, PartialEq, Eq)]
 pub enum Source {
     /// The interrupt lines.
     Hardware,
@@ -61,7 +61,7 @@ impl Source {
 }
 
 /// Whom a process receives from.
-#[derive(Clone, Copy, Debug, PartialEq, Eq)]
+#[derive(Clone, Copy, PartialEq, Eq)]
 pub enum Partner {
     /// Anybody.
     Any,
@@ -100,7 +100,7 @@ impl Partner {
 }
 
 /// Why a process died.
-#[derive(Clone, Copy, Debug, PartialEq, Eq)]
+#[derive(Clone, Copy, PartialEq, Eq)]
 pub enum Cause {
     /// By its own EXIT.
     Exit,
@@ -111,7 +111,7 @@ pub enum Cause {
 }
 
 /// What a process does.
-#[derive(Clone, Copy, Debug, PartialEq, Eq)]
+#[derive(Clone, Copy, PartialEq, Eq)]
 pub enum State {
     /// At home while the kernel serves it, in no queue. No process is so once an event is over.
     Home,
@@ -135,7 +135,7 @@ pub enum State {
 
 /// What a process may do: bit n of `traps` is call n, bit s of `sends` is slot s, bit i of `calls`
 /// is kernel call i.
-#[derive(Clone, Copy, Debug, PartialEq, Eq)]
+#[derive(Clone, Copy, PartialEq, Eq)]
 pub struct Masks {
     pub traps: u32,
     pub sends: u32,
@@ -168,6 +168,13 @@ pub struct Process {
 }
 
 impl State {
+    /// Whether the process stands in the ready list of its level.
+    pub fn is_ready(self) -> bool
+        ensures { result ≡ is_ready self }
+    {
+        matches!(self, State::Ready)
+    }
+
     /// Whether the process is dead.
     pub fn is_down(self) -> bool
         ensures { result ≡ is_down self }

@@ -23,11 +23,12 @@ mod queues;
 mod serving;
 
 /// An endpoint whose process is dead, or that never was one.
-#[derive(Clone, Copy, Debug, PartialEq, Eq)]
+#[derive(Clone, Copy, PartialEq, Eq)]
 pub struct Stale;
 
 /// The processes with their queues, the devices and the last deliveries. All the room that they need
 /// is taken by `new` and `add`.
+#[derive(Drop)]
 pub struct Table {
     slots: Vec<Process>,
     ready: Ready,

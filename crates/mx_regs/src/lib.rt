@@ -114,22 +114,3 @@ fn is_second_byte(register: Register) -> bool
         Register::Esp | Register::Ebp | Register::Esi | Register::Edi => true,
     }
 }
-
-#[cfg(test)]
-mod tests {
-    use super::*;
-
-    // AH is the second byte of EAX, and setting SI leaves the upper half of ESI.
-    #[test]
-    fn parts_of_registers(rt: HostRuntime) {
-        let mut regs = Regs::new();
-        regs.set(Size::Dword, Register::Eax, 0x1234_5678);
-        regs.set(Size::Byte, Register::Esp, 0xAB);
-        assert_eq!(rt; regs.get(Size::Dword, Register::Eax), 0x1234_AB78);
-        assert_eq!(rt; regs.get(Size::Byte, Register::Eax), 0x78);
-        regs.set(Size::Dword, Register::Esi, 0xFFFF_FFFF);
-        regs.set(Size::Word, Register::Esi, 1);
-        assert_eq!(rt; regs.get(Size::Dword, Register::Esi), 0xFFFF_0001);
-        assert_eq!(rt; regs.get(Size::Word, Register::Esi), 1);
-    }
-}

@@ -11,7 +11,7 @@ abbrev pub formed : (insn : Insn) → Option Value → Option Value → (b : Boo
 formed insn immediate displacement true e = Some (record { insn = insn; immediate = immediate; displacement = displacement; spelled = e })
 formed insn immediate displacement false e = None
 
-abbrev pub instruction_of : Insn → Option Value → Option Value → Option Instruction
+unfoldable pub instruction_of : Insn → Option Value → Option Value → Option Instruction
 instruction_of insn immediate displacement = formed insn immediate displacement (has_form insn) refl
 
 -- a number is marked wide where it holds a name

@@ -21,6 +21,7 @@ impl Instruction {
     ghost use Rattle.mx_statement.specs.Instructions.{instruction_of, marks};
 
     /// Nothing where no bytes spell the instruction, which indexes by ESP then.
+    #[tactic(auto, unfolding(crate::specs::Instructions::instruction_of))]
     pub fn new(
         insn: Insn,
         immediate: Option<Value>,

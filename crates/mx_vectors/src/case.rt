@@ -7,7 +7,7 @@ use mx_word::Bytes;
 use std::alloc::{AllocError, AllocFailed};
 
 /// Registers, EIP and flags.
-#[derive(Clone, Copy, Debug, PartialEq, Eq)]
+#[derive(Clone, Copy, PartialEq, Eq)]
 pub struct State {
     pub registers: [u32; 8],
     pub eip: u32,
@@ -15,7 +15,7 @@ pub struct State {
 }
 
 /// One step of a processor.
-#[derive(Debug, Drop)]
+#[derive(Drop)]
 pub struct Case<'a> {
     /// Row and mnemonic.
     pub row: &'a str,
@@ -35,7 +35,7 @@ pub struct Case<'a> {
 }
 
 /// Why a line is no case.
-#[derive(Clone, Copy, Debug, PartialEq, Eq)]
+#[derive(Clone, Copy, PartialEq, Eq)]
 pub enum CaseError {
     Malformed,
     NoMemory,

@@ -18,7 +18,7 @@ impl From<AllocError> for NoMemory {
 }
 
 /// A list of bytes, as a file's text or an image's code.
-#[derive(Debug, Drop)]
+#[derive(Drop)]
 pub struct Bytes {
     bytes: Vec<u8>,
 }

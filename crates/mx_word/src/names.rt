@@ -5,7 +5,7 @@ ghost use Rattle.mx_word.specs.Names.{register_number, condition_code};
 
 /// A register, by the name of its 32 bits. Under size byte the first four name AL, CL, DL and BL,
 /// the last four AH, CH, DH and BH (80386 Programmer's Reference Manual, 2.3.1).
-#[derive(Clone, Copy, Debug, PartialEq, Eq)]
+#[derive(Clone, Copy, PartialEq, Eq)]
 pub enum Register {
     Eax,
     Ecx,
@@ -37,7 +37,7 @@ impl Register {
 }
 
 /// What a conditional jump or SETcc tests, in the order of the codes 0 to 15 (manual, appendix D).
-#[derive(Clone, Copy, Debug, PartialEq, Eq)]
+#[derive(Clone, Copy, PartialEq, Eq)]
 pub enum Condition {
     Overflow,
     NotOverflow,
@@ -85,7 +85,7 @@ impl Condition {
 }
 
 /// An operation on two operands, in the order of its number in an opcode or a reg field.
-#[derive(Clone, Copy, Debug, PartialEq, Eq)]
+#[derive(Clone, Copy, PartialEq, Eq)]
 pub enum Arithmetic {
     Add,
     Or,
@@ -98,7 +98,7 @@ pub enum Arithmetic {
 }
 
 /// An operation on one operand.
-#[derive(Clone, Copy, Debug, PartialEq, Eq)]
+#[derive(Clone, Copy, PartialEq, Eq)]
 pub enum Unary {
     Inc,
     Dec,
@@ -107,7 +107,7 @@ pub enum Unary {
 }
 
 /// A rotate or a shift.
-#[derive(Clone, Copy, Debug, PartialEq, Eq)]
+#[derive(Clone, Copy, PartialEq, Eq)]
 pub enum Shift {
     Rol,
     Ror,

@@ -5,7 +5,7 @@ ghost use Rattle.std.specs.Int.{from_bool};
 ghost use Rattle.mx_word.specs.Word.{width, bytes_in, signed, modulo, leaves_unsigned, leaves_signed, has_even_ones, is_negative, IsSmall, sum_of, difference_of, differ};
 
 /// How wide an operand is: 8, 16 or 32 bits.
-#[derive(Clone, Copy, Debug, PartialEq, Eq)]
+#[derive(Clone, Copy, PartialEq, Eq)]
 pub enum Size {
     Byte,
     Word,

@@ -17,7 +17,7 @@ use mx_insn::{
 };
 
 /// Mnemonics that are alone of their kind.
-#[derive(Clone, Copy, Debug, PartialEq, Eq)]
+#[derive(Clone, Copy, PartialEq, Eq)]
 pub enum Single {
     Mov,
     Test,
@@ -40,7 +40,7 @@ pub enum Single {
 }
 
 /// What an instruction is called. Conditions and the sizes of strings stand in the word.
-#[derive(Clone, Copy, Debug, PartialEq, Eq)]
+#[derive(Clone, Copy, PartialEq, Eq)]
 pub enum Mnemonic {
     Arithmetic(Arithmetic),
     Unary(Unary),

@@ -9,7 +9,7 @@ ghost use Rattle.mx_words.specs.Words.{prefix_word, directive_word, start_word};
 use crate::mnemonic::{Mnemonic, mnemonic_named};
 
 /// What stands before a string instruction.
-#[derive(Clone, Copy, Debug, PartialEq, Eq)]
+#[derive(Clone, Copy, PartialEq, Eq)]
 pub enum Prefix {
     Rep,
     Repe,
@@ -17,7 +17,7 @@ pub enum Prefix {
 }
 
 /// What begins with a dot.
-#[derive(Clone, Copy, Debug, PartialEq, Eq)]
+#[derive(Clone, Copy, PartialEq, Eq)]
 pub enum Directive {
     Text,
     Data,
@@ -33,7 +33,7 @@ pub enum Directive {
 }
 
 /// What a statement begins with.
-#[derive(Clone, Copy, Debug, PartialEq, Eq)]
+#[derive(Clone, Copy, PartialEq, Eq)]
 pub enum Start {
     Mnemonic(Mnemonic),
     Repeat(Prefix),

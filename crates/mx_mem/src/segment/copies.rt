@@ -30,22 +30,3 @@ impl Segment {
         self.put(to, &source.bytes[from..end]);
     }
 }
-
-#[cfg(test)]
-mod tests {
-    use super::*;
-    use std::test::Fail;
-
-    #[test]
-    fn overlapping_copies(rt: HostRuntime) -> Result<(), Fail> {
-        for (from, to, want) in [(0, 1, [1, 1, 2, 3, 5]), (1, 0, [2, 3, 4, 4, 5])] {
-            let mut segment = Segment::new(rt.alloc(), 5).map_err(|_| "memory")?;
-            segment.fill_from(0, &[1, 2, 3, 4, 5]).map_err(|_| "limit")?;
-            segment.copy_within(from, to, 3);
-            assert_eq!(rt; segment.bytes.as_slice(), want.as_slice());
-            segment.copy_from(&Segment::new(rt.alloc(), 2).map_err(|_| "memory")?, 0, 3, 2);
-            assert_eq!(rt; segment.get(3), Some(0));
-        }
-        Ok(())
-    }
-}

@@ -59,9 +59,9 @@ impl Table {
     {
         let source = self.endpoint(slot);
         let image = &self.slots[slot as usize].image;
-        let mut message = image.memory.message(image.register(Register::Ebx));
-        write_dword(&mut message, source);
-        message
+        let mut sent = image.memory.message(image.register(Register::Ebx));
+        write_dword(&mut sent, source);
+        sent
     }
 
     /// Brings the message of one process to another.
@@ -81,12 +81,8 @@ impl Table {
         let message = self.message(from);
         let (source, destination) = (self.endpoint(from), self.endpoint(to));
         self.receive(to, &message);
-        self.log(
-            source,
-            destination,
-            read_dword(&message[4..]),
-            DeliveryKind::Message,
-        );
+        let message_type = read_dword(&message[4..]);
+        self.log(source, destination, message_type, DeliveryKind::Message);
     }
 
     /// The number that a notification has as its source.

@@ -27,7 +27,7 @@ loop-at-preserved c =
     let before = c.loop-at.invariant.tokens in
     let gap : Gap t before.0 token.start = rw c.in_ok-token.ensures.start before.2 in
     let tokens : AreTokens t 0 (c.loop-at.found.items ++ token ∷ []) token.end =
-        AreTokens-snoc t 0 before.0 c.loop-at.found.items token before.1 gap c.in_ok-token.ensures.token in record {
+    AreTokens-snoc t 0 before.0 c.loop-at.found.items token before.1 gap c.in_ok-token.ensures.token in record {
       within = c.gap_end-at-in-loop-at.ensures.within;
       over = c.gap_end-at-in-loop-at.ensures.over;
       slices = rw c.in_ok-push.ensures.items (All-push (IsSlice t) c.loop-at.found.items token c.loop-at.invariant.slices (slice_of t token c.in_ok-token.ensures.token));

@@ -1,0 +1,130 @@
+-- What the bytes of the lines add up to.
+use Rattle.std.proofs.Common.{◌≡◌, ℕ, ◌+◌, ◌<◌, ◌≤◌, Bool, true, false, List, [], ◌∷◌, ◌++◌, length, get_or, drop, take, map, refl, sym, ◌∙◌, ap, subst, Option, Some, None, append_assoc, replicate}
+use Rattle.std.specs.Prelude.{if◌then◌else◌}
+use Rattle.std.specs.List.{flat_map}
+use Rattle.std.proofs.lemmas.List.{append-nil, drop_all, take_more, map-append}
+use Rattle.std.proofs.lemmas.Grind.{flat_map-append}
+use Rattle.mx_statement.specs.declared.value.Value.{Value}
+use Rattle.mx_statement.specs.declared.statement.Section.{Section}
+use Rattle.mx_statement.specs.declared.statement.Section.TheVariants.{Text, Data, Bss}
+use Rattle.mx_statement.specs.declared.statement.Statement.{Statement}
+use Rattle.mx_statement.specs.declared.line.Line.{Line}
+use Rattle.mx_asm.specs.declared.sizes.Sizes.{Sizes}
+use Rattle.mx_asm.specs.declared.fault.Fault.{Fault}
+use Rattle.mx_asm.specs.declared.fault.Problem.TheVariants.{TooLarge}
+use Rattle.mx_asm.specs.Lengths.{length_of}
+use Rattle.mx_asm.specs.Layout.{Above, start, spot_of, sizes_after, address_of, left_by, laid_by, behind, said}
+use Rattle.mx_asm.specs.Bytes.{AllStand, AreParts, BytesOf, StandsIn, Pushes, contents, put_into}
+use Rattle.mx_asm.specs.Faults.{first_problem, fault_behind, first_of, last_line, is_too_large}
+use Rattle.mx_asm.proofs.Lengths.{KeepsLength, stands_length}
+
+-- with any bytes for the lines that are left, from here on, there are bytes for all
+abbrev pub Completes : Above → List Line → ℕ → Sizes → List ℕ → List ℕ → Type 0
+Completes a ls i s text init =
+    (rest : List (List ℕ)) → AllStand a s (drop i ls) rest →
+    AreParts a start.sizes ls (text ++ contents Text s (drop i ls) rest) (init ++ contents Data s (drop i ls) rest)
+
+-- one line more
+pub completes_more : KeepsLength → (a : Above) (ls : List Line) (i : ℕ) (s r : Sizes) (text init : List ℕ) (l : Line) (b : List ℕ) → Completes a ls i s text init
+    → drop i ls ≡ l ∷ drop (i + 1) ls → StandsIn s.section a (address_of a (spot_of s)) (said l) b → r ≡ sizes_after s (said l) (length_of (said l))
+    → Completes a ls (i + 1) r (text ++ put_into Text s.section b) (init ++ put_into Data s.section b)
+completes_more law a ls i s r text init l b before next right same rest stand =
+    let n : length b ≡ length_of (said l) = stands_length law s.section a (address_of a (spot_of s)) (said l) b right in
+    let e : r ≡ sizes_after s (said l) (length b) = same ∙ ap (sizes_after s (said l)) (sym n) in
+    let stand' : AllStand a (sizes_after s (said l) (length b)) (drop (i + 1) ls) rest = subst (λ (x : Sizes). AllStand a x (drop (i + 1) ls) rest) e stand in
+    let whole : AllStand a s (drop i ls) (b ∷ rest) = subst (λ (x : List Line). AllStand a s x (b ∷ rest)) (sym next) (right, stand') in
+    let parts = before (b ∷ rest) whole in
+    let t : contents Text s (drop i ls) (b ∷ rest) ≡ put_into Text s.section b ++ contents Text r (drop (i + 1) ls) rest =
+    ap (λ (x : List Line). contents Text s x (b ∷ rest)) next ∙ ap (λ (x : Sizes). put_into Text s.section b ++ contents Text x (drop (i + 1) ls) rest) (sym e) in
+    let u : contents Data s (drop i ls) (b ∷ rest) ≡ put_into Data s.section b ++ contents Data r (drop (i + 1) ls) rest =
+    ap (λ (x : List Line). contents Data s x (b ∷ rest)) next ∙ ap (λ (x : Sizes). put_into Data s.section b ++ contents Data x (drop (i + 1) ls) rest) (sym e) in
+    record {
+      bytes = parts.bytes;
+      stand = parts.stand;
+      text_is = append_assoc text (put_into Text s.section b) (contents Text r (drop (i + 1) ls) rest) ∙ ap (λ (x : List ℕ). text ++ x) (sym t) ∙ parts.text_is;
+      init_is = append_assoc init (put_into Data s.section b) (contents Data r (drop (i + 1) ls) rest) ∙ ap (λ (x : List ℕ). init ++ x) (sym u) ∙ parts.init_is;
+    }
+
+-- lengths by the bytes are the statements' own
+pub lengths_same : KeepsLength → (a b : Above) (s : Sizes) (ls : List Line) (bs : List (List ℕ)) → AllStand a s ls bs → left_by b ls (map length bs) ≡ laid_by b ls
+lengths_same law a b s [] [] h = refl
+lengths_same law a b s [] (x ∷ bs) h = absurd h
+lengths_same law a b s (l ∷ ls) [] h = absurd h
+lengths_same law a b s (l ∷ ls) (x ∷ bs) (right, more) =
+    let n : length x ≡ length_of (said l) = stands_length law s.section a (address_of a (spot_of s)) (said l) x right in
+    ap (λ (m : ℕ). left_by (behind b l m) ls (map length bs)) n ∙ lengths_same law a (behind b l (length_of (said l))) (sizes_after s (said l) (length x)) ls bs more
+
+-- what one statement puts out
+pub record PutsOut (a : Above) (s : Sizes) (t : Statement) (text init text' init' : List ℕ) : Type 0 where
+  pub bytes : List ℕ
+  pub stand : StandsIn s.section a (address_of a (spot_of s)) t bytes
+  pub text_is : text' ≡ text ++ put_into Text s.section bytes
+  pub init_is : init' ≡ init ++ put_into Data s.section bytes
+
+pub put_text : (a : Above) (s : Sizes) (at : ℕ) (t : Statement) (text init text' init' : List ℕ) → s.section ≡ Text → at ≡ address_of a (spot_of s)
+    → Pushes a at t text text' → init' ≡ init → PutsOut a s t text init text' init'
+put_text a s at t text init text' init' here place (b, right, new) same = record {
+  bytes = b;
+  stand = subst (λ (v : Section). StandsIn v a (address_of a (spot_of s)) t b) (sym here) (subst (λ (v : ℕ). BytesOf a v t b) place right);
+  text_is = new ∙ ap (λ (v : Section). text ++ put_into Text v b) (sym here);
+  init_is = same ∙ sym (append-nil init) ∙ ap (λ (v : Section). init ++ put_into Data v b) (sym here);
+}
+
+pub put_init : (a : Above) (s : Sizes) (at : ℕ) (t : Statement) (text init text' init' : List ℕ) → s.section ≡ Data → at ≡ address_of a (spot_of s)
+    → Pushes a at t init init' → text' ≡ text → PutsOut a s t text init text' init'
+put_init a s at t text init text' init' here place (b, right, new) same = record {
+  bytes = b;
+  stand = subst (λ (v : Section). StandsIn v a (address_of a (spot_of s)) t b) (sym here) (subst (λ (v : ℕ). BytesOf a v t b) place right);
+  text_is = same ∙ sym (append-nil text) ∙ ap (λ (v : Section). text ++ put_into Text v b) (sym here);
+  init_is = new ∙ ap (λ (v : Section). init ++ put_into Data v b) (sym here);
+}
+
+pub put_bss : (a : Above) (s : Sizes) (t : Statement) (text init text' init' : List ℕ) → s.section ≡ Bss → text' ≡ text → init' ≡ init → PutsOut a s t text init text' init'
+put_bss a s t text init text' init' here same same' = record {
+  bytes = replicate (length_of t) 0;
+  stand = subst (λ (v : Section). StandsIn v a (address_of a (spot_of s)) t (replicate (length_of t) 0)) (sym here) refl;
+  text_is = same ∙ sym (append-nil text) ∙ ap (λ (v : Section). text ++ put_into Text v (replicate (length_of t) 0)) (sym here);
+  init_is = same' ∙ sym (append-nil init) ∙ ap (λ (v : Section). init ++ put_into Data v (replicate (length_of t) 0)) (sym here);
+}
+
+pub completes_put : KeepsLength → (a : Above) (ls : List Line) (i : ℕ) (s r : Sizes) (text init text' init' : List ℕ) (l : Line) → drop i ls ≡ l ∷ drop (i + 1) ls
+    → Completes a ls i s text init → PutsOut a s (said l) text init text' init' → r ≡ sizes_after s (said l) (length_of (said l)) → Completes a ls (i + 1) r text' init'
+completes_put law a ls i s r text init text' init' l next before put same =
+    let more = completes_more law a ls i s r text init l put.bytes before next put.stand same in
+    subst (λ (v : List ℕ). Completes a ls (i + 1) r v init') (sym put.text_is)
+    (subst (λ (v : List ℕ). Completes a ls (i + 1) r (text ++ put_into Text s.section put.bytes) v) (sym put.init_is) more)
+
+-- with no line left the bytes are whole
+pub completed : (a : Above) (ls : List Line) (i : ℕ) (s : Sizes) (text init : List ℕ) → length ls ≤ i → Completes a ls i s text init → AreParts a start.sizes ls text init
+completed a ls i s text init h before =
+    let over : drop i ls ≡ [] = drop_all i ls h in
+    let parts = before [] (subst (λ (v : List Line). AllStand a s v []) (sym over) tt) in record {
+      bytes = parts.bytes;
+      stand = parts.stand;
+      text_is = sym (append-nil text) ∙ ap (λ (v : List Line). text ++ contents Text s v []) (sym over) ∙ parts.text_is;
+      init_is = sym (append-nil init) ∙ ap (λ (v : List Line). init ++ contents Data s v []) (sym over) ∙ parts.init_is;
+    }
+
+pub begun : (a : Above) (ls : List Line) → Completes a ls 0 start.sizes [] []
+begun a ls rest stand = record { bytes = rest; stand = stand; text_is = refl; init_is = refl }
+
+pub no_fault : (lines : List Line) (a : Above) → a ≡ laid_by start lines → first_problem a start.sizes 1 lines ≡ None
+    → is_too_large a ≡ false → fault_behind lines ≡ None
+no_fault lines a same two small =
+    let large : Option Fault = Some (record { problem = TooLarge; line = last_line lines }) in
+    let laid = laid_by start lines in
+    let two' : first_problem laid start.sizes 1 lines ≡ None = subst (λ (x : Above). first_problem x start.sizes 1 lines ≡ None) same two in
+    let small' : is_too_large laid ≡ false = subst (λ (x : Above). is_too_large x ≡ false) same small in
+    ap (λ (x : Option Fault). first_of x (if is_too_large laid then large else None)) two'
+    ∙ ap (λ (x : Bool). if x then large else None) small'
+
+-- ---- the values of a line
+
+pub values_more : (f : Value → Option ℕ) (g : ℕ → List ℕ) (vs : List Value) (i : ℕ) (v : Value) (number : ℕ) (old out new : List ℕ) → i < length vs
+    → f (get_or vs i v) ≡ Some number → (ns : List ℕ) × (map f (take i vs) ≡ map Some ns) × (out ≡ old ++ flat_map g ns) → new ≡ out ++ g number
+    → (ns : List ℕ) × (map f (take (i + 1) vs) ≡ map Some ns) × (new ≡ old ++ flat_map g ns)
+values_more f g vs i v number old out new h there (ns, each, e) same = (
+  ns ++ number ∷ [],
+  ap (map f) (take_more vs i v h) ∙ map-append f (take i vs) (get_or vs i v ∷ []) ∙ ap (λ (x : List (Option ℕ)). x ++ f (get_or vs i v) ∷ []) each ∙ ap (λ (x : Option ℕ). map Some ns ++ x ∷ []) there ∙ sym (map-append Some ns (number ∷ [])),
+  same ∙ ap (λ (x : List ℕ). x ++ g number) e ∙ append_assoc old (flat_map g ns) (g number) ∙ ap (λ (x : List ℕ). old ++ (flat_map g ns ++ x)) (sym (append-nil (g number))) ∙ ap (λ (x : List ℕ). old ++ x) (sym (flat_map-append g ns (number ∷ []))),
+)

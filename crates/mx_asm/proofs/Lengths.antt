@@ -1,0 +1,112 @@
+-- How long the chosen bytes are.
+use Rattle.std.proofs.Common.{◌≡◌, ℕ, zero, suc, ◌+◌, ◌*◌, Bool, true, false, List, [], ◌∷◌, ◌++◌, length, map, refl, sym, ◌∙◌, ap, subst, Option, Some, None, IsTrue, arith}
+use Rattle.std.specs.Prelude.{is_some}
+use Rattle.std.specs.List.{flat_map}
+use Rattle.std.proofs.lemmas.List.{length-append, length-replicate, length-map}
+use Rattle.mx_word.specs.Word.{bytes_of, bytes_in}
+use Rattle.mx_encode.specs.Filled.{with_immediate, with_displacement}
+use Rattle.mx_statement.specs.declared.statement.Section.{Section}
+use Rattle.mx_statement.specs.declared.statement.Section.TheVariants.{Text, Data, Bss}
+use Rattle.mx_statement.specs.declared.statement.Statement.{Statement}
+use Rattle.mx_statement.specs.declared.statement.Statement.TheVariants as says
+use Rattle.mx_statement.specs.declared.instruction.Instruction.{Instruction}
+use Rattle.mx_statement.specs.declared.value.Value.{Value}
+use Rattle.mx_statement.specs.Instructions.{marks}
+use Rattle.mx_asm.specs.Lengths.{length_of}
+use Rattle.mx_asm.specs.Layout.{Above, value_under}
+use Rattle.mx_asm.specs.Bytes.{BytesOf, StandsIn, named_under, put_under, put_in, then_put}
+use Rattle.mx_insn.specs.declared.insn.Insn.{Insn}
+use Rattle.mx_encode.specs.declared.Wide.{Wide}
+use Rattle.mx_encode.specs.Choice.{choice}
+use Rattle.mx_encode.specs.Chosen.{Chosen}
+use Rattle.mx_encode.specs.Numbers.{is_short}
+use Rattle.std.specs.Prelude.{not}
+use Rattle.mx_statement.specs.declared.branch.Branch.{Branch}
+use Rattle.mx_statement.specs.declared.branch.Branch.TheVariants as branches
+use Rattle.mx_asm.specs.Branches.{branch_by, branch_marks, branch_length, is_too_far}
+use Rattle.mx_encode.specs.Lengths.{spelled_length, chosen_length}
+
+pub length-chosen : (i : Insn) (wide : Wide) (b : List ℕ) → Chosen i wide b → length b ≡ chosen_length i wide
+length-chosen i wide b x = ap length x.spells.bytes_are ∙ sym (ap (λ c. spelled_length c wide.displacement) x.is_chosen)
+
+is_true : (b : Bool) → not b ≡ false → b ≡ true
+is_true true h = refl
+is_true false h = cc
+
+-- a jump that reaches has the length that is asked for
+reached_length : (k : Branch) (d : ℕ) → is_too_far k d ≡ false → chosen_length (branch_by k d) (branch_marks k) ≡ branch_length k
+reached_length (branches.Jump true) d h = rw (is_true (is_short 32 d) h) refl
+reached_length (branches.Jump false) d h = refl
+reached_length (branches.JumpIf c true) d h = rw (is_true (is_short 32 d) h) refl
+reached_length (branches.JumpIf c false) d h = refl
+reached_length branches.Call d h = refl
+reached_length (branches.Loop o) d h = rw (is_true (is_short 32 d) h) refl
+
+pub branch_bytes_length : (k : Branch) (d : ℕ) (b : List ℕ) → is_too_far k d ≡ false → Chosen (branch_by k d) (branch_marks k) b → length b ≡ branch_length k
+branch_bytes_length k d b h x = length-chosen (branch_by k d) (branch_marks k) b x ∙ reached_length k d h
+
+-- ---- values
+
+bytes_of_length : (k n : ℕ) → length (bytes_of k n) ≡ k
+bytes_of_length zero n = refl
+bytes_of_length (suc k) n = ap suc (bytes_of_length k _)
+
+pub flat_length : (k : ℕ) (ns : List ℕ) → length (flat_map (bytes_of k) ns) ≡ k * length ns
+flat_length k [] = omega arith
+flat_length k (n ∷ ns) =
+    let here : length (bytes_of k n) ≡ k = bytes_of_length k n in
+    let rest : length (flat_map (bytes_of k) ns) ≡ k * length ns = flat_length k ns in
+    let whole : length (bytes_of k n ++ flat_map (bytes_of k) ns) ≡ length (bytes_of k n) + length (flat_map (bytes_of k) ns) = length-append (bytes_of k n) (flat_map (bytes_of k) ns) in
+    omega arith
+
+-- ---- instructions
+
+-- numbers that are marked wide leave the length as it is; the encoder's laws
+pub record KeepsLength : Type 0 where
+  pub immediate : (i : Insn) (wide : Wide) (n : ℕ) → IsTrue wide.immediate → chosen_length (with_immediate i n) wide ≡ chosen_length i wide
+  pub displacement : (i : Insn) (wide : Wide) (n : ℕ) → IsTrue wide.displacement → chosen_length (with_displacement i n) wide ≡ chosen_length i wide
+
+-- a number that is put in keeps whatever putting one in keeps
+put_keeps : (put : Insn → ℕ → Insn) (f : Insn → ℕ) (a : Above) (v : Option Value) (i insn : Insn) → ((n : ℕ) → IsTrue (is_some v) → f (put i n) ≡ f i)
+    → put_under a put v i ≡ Some insn → f insn ≡ f i
+put_keeps put f a None i insn keeps e = let same : insn ≡ i = cc in ap f same
+put_keeps put f a (Some v) i insn keeps e = by_case (value_under a v) e
+  where
+    by_case : (o : Option ℕ) → put_in put i o ≡ Some insn → f insn ≡ f i
+    by_case None e = cc
+    by_case (Some n) e = let same : insn ≡ put i n = cc in ap f same ∙ keeps n refl
+
+then_keeps : (put : Insn → ℕ → Insn) (f : Insn → ℕ) (a : Above) (v : Option Value) (o : Option Insn) (insn : Insn) (k : ℕ)
+    → ((i : Insn) (n : ℕ) → IsTrue (is_some v) → f (put i n) ≡ f i) → ((i : Insn) → o ≡ Some i → f i ≡ k)
+    → then_put a put v o ≡ Some insn → f insn ≡ k
+then_keeps put f a v None insn k keeps before e = cc
+then_keeps put f a v (Some i) insn k keeps before e = put_keeps put f a v i insn (keeps i) e ∙ before i refl
+
+named_length : KeepsLength → (a : Above) (i : Instruction) (insn : Insn) → named_under a i ≡ Some insn → chosen_length insn (marks i) ≡ chosen_length i.insn (marks i)
+named_length law a i insn e =
+    then_keeps with_displacement (λ x. chosen_length x (marks i)) a i.displacement (put_under a with_immediate i.immediate i.insn) insn (chosen_length i.insn (marks i))
+    (λ x n h. law.displacement x (marks i) n h)
+    (λ x e'. put_keeps with_immediate (λ y. chosen_length y (marks i)) a i.immediate i.insn x (λ n h. law.immediate i.insn (marks i) n h) e')
+    e
+
+-- ---- statements
+
+-- a statement's bytes have its length, wherever its names stand
+pub bytes_length : KeepsLength → (a : Above) (at : ℕ) (t : Statement) (b : List ℕ) → BytesOf a at t b → length b ≡ length_of t
+bytes_length law a at says.Nothing b h = ap length h
+bytes_length law a at (says.Enter section) b h = ap length h
+bytes_length law a at (says.Data size values) b (numbers, e, h) =
+    let same : length values ≡ length numbers = sym (length-map values (value_under a)) ∙ ap length e ∙ length-map numbers Some in
+    ap length h ∙ flat_length (bytes_in size) numbers ∙ ap (λ n. bytes_in size * n) (sym same)
+bytes_length law a at (says.Ascii bytes) b h = ap length h
+bytes_length law a at (says.Space n) b h = ap length h ∙ length-replicate n 0
+bytes_length law a at says.Separate b h = ap length h
+bytes_length law a at (says.Entry name) b h = ap length h
+bytes_length law a at (says.Stack n) b h = ap length h
+bytes_length law a at (says.Instruction i) b (insn, e, x) = length-chosen insn (marks i) b x ∙ named_length law a i insn e
+bytes_length law a at (says.Branch k target) b (x, e, chosen, n) = n
+
+pub stands_length : KeepsLength → (section : Section) (a : Above) (at : ℕ) (t : Statement) (b : List ℕ) → StandsIn section a at t b → length b ≡ length_of t
+stands_length law Text a at t b h = bytes_length law a at t b h
+stands_length law Data a at t b h = bytes_length law a at t b h
+stands_length law Bss a at t b h = ap length h ∙ length-replicate (length_of t) 0

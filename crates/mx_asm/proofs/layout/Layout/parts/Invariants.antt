@@ -1,0 +1,14 @@
+use Rattle.std.proofs.Common.{◌≡◌, ℕ, ◌+◌, ◌*◌, ◌^◌, drop, None}
+use Rattle.mx_asm.specs.Layout.{start, SizesWithin}
+use Rattle.mx_asm.specs.Faults.{first_problem}
+use Rattle.mx_asm.specs.View.{above_of}
+use Rattle.mx_asm.proofs.Emitting.{Completes}
+use Rattle.mx_asm.proofs.layout.Layout.parts.Given as goal
+
+-- whatever stands for the lines that are left completes what is put out
+abbrev pub invariant-loop-line : goal.invariant-loop-line
+invariant-loop-line l = record {
+  clean : first_problem (above_of l.self) l.sizes (l.line-index + 1) (drop l.line-index l.lines) ≡ None;
+  sizes : SizesWithin l.sizes (l.line-index * 2 ^ 64);
+  completes : Completes (above_of l.self) l.lines l.line-index l.sizes l.text.items l.init.items;
+}

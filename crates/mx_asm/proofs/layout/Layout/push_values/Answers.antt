@@ -1,0 +1,13 @@
+use Rattle.std.proofs.Common.{rules, arith, ◌≡◌, ◌∙◌, ℕ, ◌+◌, get_or, sym, ap, false}
+use Rattle.std.proofs.lemmas.Grind.{common_steps}
+use Rattle.mx_word.specs.Word.{bytes_of, bytes_in}
+use Rattle.mx_asm.specs.Layout.{value_under}
+use Rattle.mx_asm.specs.View.{above_of}
+use Rattle.mx_asm.proofs.Emitting.{values_more}
+use Rattle.mx_asm.proofs.layout.Layout.push_values.Goals as goal
+
+pub loop-value-preserved : goal.loop-value-preserved
+loop-value-preserved c = record {
+  clean = grind (arith, common_steps, c.loop-value.invariant.clean);
+  put = values_more (value_under (above_of c.args.self.now)) (bytes_of (bytes_in c.args.size)) c.args.values.now c.loop-value.value-index _ c.in-Some.number c.args.out.now.items c.loop-value.out.items c.push_number.new.out.items c.loop-value-test.true (sym c.value.ensures ∙ c.in-Some.is) c.loop-value.invariant.put c.in_ok-push_number.ensures;
+}

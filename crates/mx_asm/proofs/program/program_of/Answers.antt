@@ -1,0 +1,52 @@
+use Rattle.std.proofs.Common.{rules, arith, ◌≡◌, ◌∙◌, ◌+◌, List, length, map, sym, ap, subst, refl}
+use Rattle.mx_statement.specs.declared.statement.Section.TheVariants.{Text, Data}
+use Rattle.mx_asm.specs.View.{above_of}
+use Rattle.mx_asm.specs.Layout.{Above, left_by, laid_by, start}
+use Rattle.mx_asm.specs.Bytes.{AllStand, contents}
+use Rattle.mx_asm.specs.Faults.{total_of}
+use Rattle.mx_asm.specs.Assembled.{symbol_under, entry_under}
+use Rattle.mx_asm.proofs.Lengths.{KeepsLength}
+use Rattle.mx_asm.proofs.Emitting.{lengths_same, no_fault}
+use Rattle.mx_asm.proofs.Fitting.{contents_size}
+use Rattle.mx_asm.proofs.program.program_of.Goals as goal
+
+pub returns-clause-program : goal.returns-clause-program
+returns-clause-program c =
+    let lines = c.args.lines.now in
+    let a = above_of c.args.layout.now in
+    let law : KeepsLength = record { immediate = c.immediate_keeps_length.ensures.count; displacement = c.displacement_keeps_length.ensures.count } in
+    let parts = c.in_ok-parts.ensures in
+    let made = c.program.ensures in
+    let back : a ≡ left_by start lines (map length parts.bytes) = c.requires.laid ∙ sym (lengths_same law a start start.sizes lines parts.bytes parts.stand) in
+    record {
+      accepted = no_fault lines a c.requires.laid (sym c.in-None.ensures) (sym c.is_too_large.ensures ∙ c.if-is_too_large.false);
+      bytes = parts.bytes;
+      stand = subst (λ (x : Above). AllStand x start.sizes lines parts.bytes) back parts.stand;
+      text = made.text ∙ parts.text_is;
+      init = made.init ∙ parts.init_is;
+      bss = made.bss ∙ ap (λ (x : Above). x.sizes.bss) back;
+      sep = made.sep ∙ ap (λ (x : Above). x.sep) back;
+      entry = made.entry ∙ ap (λ (x : Above). entry_under x x.entry) back;
+      total = made.total ∙ ap total_of back;
+      symbols = made.symbols ∙ ap (λ (x : Above). map (symbol_under x) x.labels) back;
+    }
+
+pub program-requires-clause-text : goal.program-requires-clause-text
+program-requires-clause-text c =
+    let lines = c.args.lines.now in
+    let a = above_of c.args.layout.now in
+    let law : KeepsLength = record { immediate = c.immediate_keeps_length.ensures.count; displacement = c.displacement_keeps_length.ensures.count } in
+    let parts = c.in_ok-parts.ensures in
+    let back : a ≡ left_by start lines (map length parts.bytes) = c.requires.laid ∙ sym (lengths_same law a start start.sizes lines parts.bytes parts.stand) in
+    let size = contents_size law Text (λ b. refl) a start lines parts.bytes parts.stand in
+    ap length parts.text_is ∙ omega (arith, size, ap (λ (x : Above). x.sizes.text) back)
+
+pub program-requires-clause-init : goal.program-requires-clause-init
+program-requires-clause-init c =
+    let lines = c.args.lines.now in
+    let a = above_of c.args.layout.now in
+    let law : KeepsLength = record { immediate = c.immediate_keeps_length.ensures.count; displacement = c.displacement_keeps_length.ensures.count } in
+    let parts = c.in_ok-parts.ensures in
+    let back : a ≡ left_by start lines (map length parts.bytes) = c.requires.laid ∙ sym (lengths_same law a start start.sizes lines parts.bytes parts.stand) in
+    let size = contents_size law Data (λ b. refl) a start lines parts.bytes parts.stand in
+    ap length parts.init_is ∙ omega (arith, size, ap (λ (x : Above). x.sizes.init) back)

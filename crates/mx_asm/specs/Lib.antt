@@ -1,0 +1,7 @@
+pub mod Branches
+pub mod Lengths
+pub mod Layout
+pub mod View
+pub mod Bytes
+pub mod Faults
+pub mod Assembled

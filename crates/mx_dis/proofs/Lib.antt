@@ -1,0 +1,2 @@
+mod Partings
+mod Listings

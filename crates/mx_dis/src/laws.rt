@@ -1,0 +1,46 @@
+//! Laws of partings and listings.
+
+ghost use Rattle.std.specs.Prelude.{◌≡◌, ◌≤◌, ◌+◌, ◌++◌, ℕ, List, length, drop};
+ghost use Rattle.mx_insn.specs.declared.insn.Insn.{Insn};
+ghost use Rattle.mx_insn.specs.Spelling.{AreBytes, Spells};
+ghost use Rattle.mx_decode.specs.Decode.{SpellsFirst};
+ghost use Rattle.mx_dis.specs.declared.part.Part.{Part};
+ghost use Rattle.mx_dis.specs.Parting.{IsParting, BeginsWith, total_size};
+ghost use Rattle.mx_dis.specs.Listing.{lines_of};
+
+use mx_decode::{few_bytes, front_is, front_of_fifteen, one_spelling};
+
+/// An instruction takes a byte at least.
+pub fn takes_bytes()
+    ensures { (t : List ℕ) (k : ℕ) (i : Insn) → SpellsFirst t k i → 1 ≤ k }
+{
+    few_bytes();
+    front_is();
+    front_of_fifteen();
+}
+
+/// Bytes have just one parting.
+pub fn one_parting()
+    ensures some { (t : List ℕ) → AreBytes t → (parts : List Part) × IsParting t parts }
+    ensures one { (t : List ℕ) (a b : List Part) → IsParting t a → IsParting t b → a ≡ b }
+{
+    takes_bytes();
+    front_is();
+    one_spelling();
+}
+
+/// What spells first at a part's place is that part.
+pub fn parted_there()
+    ensures first { (t : List ℕ) (k : ℕ) (i : Insn) (parts : List Part) → SpellsFirst t k i → IsParting t parts → BeginsWith i k (drop k t) parts }
+    ensures spelled { (b rest : List ℕ) (i : Insn) (parts : List Part) → Spells b i → IsParting (b ++ rest) parts → BeginsWith i (length b) rest parts }
+    ensures later { (t : List ℕ) (front back : List Part) → IsParting t (front ++ back) → IsParting (drop (total_size front) t) back }
+{
+    takes_bytes();
+    one_spelling();
+}
+
+/// The lines of parts that follow others stand behind the others' lines, from the address on where
+/// these end.
+pub fn lines_join()
+    ensures { (at : ℕ) (front back : List Part) → lines_of at (front ++ back) ≡ lines_of at front ++ lines_of (at + total_size front) back }
+{}

@@ -1,0 +1,45 @@
+//! The parts of a text.
+
+ghost use Rattle.std.specs.Prelude.{◌≡◌, ◌<◌, ◌≤◌, ◌∷◌, List, length, drop};
+ghost use Rattle.mx_dis.specs.declared.part.Part.{Part};
+ghost use Rattle.mx_dis.specs.Parting.{IsParting, part_size};
+
+use crate::laws::takes_bytes;
+use mx_decode::decode;
+use mx_insn::Insn;
+
+/// What stands in a text from one place to the next.
+#[derive(Clone, Copy)]
+pub enum Part {
+    /// An instruction, and how many bytes spell it.
+    Instruction(Insn, u8),
+    /// A byte where no instruction begins.
+    Byte(u8),
+}
+
+impl Part {
+    /// How many bytes it takes.
+    pub fn size(&self) -> u8
+        ensures { result ≡ part_size self.now }
+    {
+        match self {
+            Part::Instruction(_, size) => *size,
+            Part::Byte(_) => 1,
+        }
+    }
+}
+
+/// The part that bytes begin with.
+pub fn first_part(bytes: &[u8]) -> Part
+    requires { 0 < length bytes.now }
+    ensures parting { (rest : List Part) → IsParting (drop (part_size result) bytes.now) rest → IsParting bytes.now (result ∷ rest) }
+    ensures least { 1 ≤ part_size result }
+    ensures within { part_size result ≤ length bytes.now }
+    ensures byte { part_size result < 256 }
+{
+    takes_bytes();
+    match decode(bytes) {
+        Ok((insn, size)) => Part::Instruction(insn, size),
+        Err(_) => Part::Byte(bytes[0]),
+    }
+}

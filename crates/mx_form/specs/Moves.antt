@@ -1,0 +1,49 @@
+-- What moves values as they are, or extends them: XCHG, LEA, MOVZX, MOVSX.
+use Rattle.std.specs.Prelude.{Option, Some, None, List, [], ◌∷◌}
+use Rattle.mx_word.specs.declared.size.Size.{Size}
+use Rattle.mx_word.specs.declared.size.Size.TheVariants.{Byte, Word, Dword}
+use Rattle.mx_insn.specs.declared.insn.Extension.{Extension}
+use Rattle.mx_insn.specs.declared.insn.Extension.TheVariants.{ByteToWord, ByteToDword, WordToDword}
+use Rattle.mx_insn.specs.declared.insn.Insn.TheVariants as insns
+use Rattle.mx_operand.specs.declared.argument.Argument.{Argument}
+use Rattle.mx_operand.specs.declared.argument.Argument.TheVariants as arguments
+use Rattle.mx_operand.specs.Items.{◌>>=◌}
+use Rattle.mx_statement.specs.declared.statement.Statement.{Statement}
+use Rattle.mx_form.specs.Numbers.{waiting}
+use Rattle.mx_form.specs.Spots.{says, memory_of, spot_of, spot_beside, not_byte}
+
+-- a register or memory, and a register
+abbrev pub exchange : List Argument → Option Statement
+exchange (x ∷ arguments.Register s r ∷ []) = do
+  spot ← spot_beside s x
+  says (insns.Exchange s spot.operand r) None spot.displacement
+exchange _ = None
+
+-- no size word stands before LEA's brackets
+abbrev pub load_address : List Argument → Option Statement
+load_address (arguments.Register s to ∷ arguments.Memory None a ∷ []) = do
+  size ← not_byte s
+  m ← memory_of a
+  says (insns.LoadAddress size to m) None (waiting a.value)
+load_address _ = None
+
+abbrev pub extension_of : Size → Size → Option Extension
+extension_of Word Byte = Some ByteToWord
+extension_of Dword Byte = Some ByteToDword
+extension_of Dword Word = Some WordToDword
+extension_of _ _ = None
+
+-- a register from a register, or from memory behind a size word
+abbrev pub zero_extend : List Argument → Option Statement
+zero_extend (arguments.Register s to ∷ y ∷ []) = do
+  spot ← spot_of y
+  extension ← extension_of s spot.size
+  says (insns.ZeroExtend extension to spot.operand) None spot.displacement
+zero_extend _ = None
+
+abbrev pub sign_extend : List Argument → Option Statement
+sign_extend (arguments.Register s to ∷ y ∷ []) = do
+  spot ← spot_of y
+  extension ← extension_of s spot.size
+  says (insns.SignExtend extension to spot.operand) None spot.displacement
+sign_extend _ = None

@@ -1,0 +1,62 @@
+-- Single operands, and the rule for sizes.
+use Rattle.std.specs.Prelude.{if◌then◌else◌, Option, Some, None}
+use Rattle.mx_word.specs.declared.size.Size.{Size}
+use Rattle.mx_word.specs.declared.size.Size.TheVariants.{Byte, Word, Dword}
+use Rattle.mx_insn.specs.declared.insn.Memory.{Memory}
+use Rattle.mx_insn.specs.declared.insn.Operand.TheVariants as operands
+use Rattle.mx_insn.specs.declared.insn.OperandSize.{OperandSize}
+use Rattle.mx_insn.specs.declared.insn.OperandSize.TheVariants as operand_sizes
+use Rattle.mx_insn.specs.declared.insn.Insn.{Insn}
+use Rattle.mx_operand.specs.declared.argument.Argument.{Argument}
+use Rattle.mx_operand.specs.declared.argument.Argument.TheVariants as arguments
+use Rattle.mx_operand.specs.declared.memory.Address.{Address}
+use Rattle.mx_operand.specs.Items.{◌>>=◌}
+use Rattle.mx_statement.specs.declared.value.Value.{Value}
+use Rattle.mx_statement.specs.declared.branch.Branch.{Branch}
+use Rattle.mx_statement.specs.declared.statement.Statement.{Statement}
+use Rattle.mx_statement.specs.declared.statement.Statement.TheVariants as statements
+use Rattle.mx_statement.specs.Instructions.{instruction_of}
+use Rattle.mx_form.specs.declared.spot.Spot.{Spot}
+use Rattle.mx_form.specs.Numbers.{is_same, names_no_other, number_in, waiting}
+
+-- an instruction that has a form, and the values that are still to be put in: as its immediate, as its displacement
+abbrev pub says : Insn → Option Value → Option Value → Option Statement
+says insn immediate displacement = do
+  i ← instruction_of insn immediate displacement
+  Some (statements.Instruction i)
+
+abbrev pub goes : Branch → Value → Option Statement
+goes branch target = Some (statements.Branch branch target)
+
+abbrev pub memory_of : Address → Option Memory
+memory_of a = do
+  d ← number_in Dword a.value
+  Some (record { base = a.base; index = a.index; displacement = d })
+
+abbrev pub spot_in : Size → Address → Option Spot
+spot_in s a = do
+  m ← memory_of a
+  Some (record { size = s; operand = operands.Memory m; displacement = waiting a.value })
+
+-- where no register gives the size: a register itself, or a place in memory behind its size word
+abbrev pub spot_of : Argument → Option Spot
+spot_of (arguments.Register s r) = Some (record { size = s; operand = operands.Register r; displacement = None })
+spot_of (arguments.Memory (Some s) a) = spot_in s a
+spot_of _ = None
+
+-- one of a size that stands fixed
+abbrev pub spot_of_size : Size → Argument → Option Spot
+spot_of_size s x = do
+  spot ← spot_of x
+  if is_same spot.size s then Some spot else None
+
+-- beside a register, which gives the size: a register of that size, or a place in memory that is said to be of no other
+abbrev pub spot_beside : Size → Argument → Option Spot
+spot_beside s (arguments.Register t r) = if is_same t s then Some (record { size = s; operand = operands.Register r; displacement = None }) else None
+spot_beside s (arguments.Memory named a) = if names_no_other named s then spot_in s a else None
+spot_beside s (arguments.Value v) = None
+
+abbrev pub not_byte : Size → Option OperandSize
+not_byte Byte = None
+not_byte Word = Some operand_sizes.Word
+not_byte Dword = Some operand_sizes.Dword

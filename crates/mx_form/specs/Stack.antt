@@ -1,0 +1,75 @@
+-- The stack, interrupts and ports: PUSH, POP, RET, INT, IN, OUT, and what stands alone.
+use Rattle.std.specs.Prelude.{Option, Some, None, List, [], ◌∷◌}
+use Rattle.mx_word.specs.declared.size.Size.TheVariants.{Byte, Word, Dword}
+use Rattle.mx_word.specs.declared.names.Register.TheVariants.{Eax, Edx}
+use Rattle.mx_insn.specs.declared.insn.Port.{Port}
+use Rattle.mx_insn.specs.declared.insn.Port.TheVariants as ports
+use Rattle.mx_insn.specs.declared.insn.PortSize.{PortSize}
+use Rattle.mx_insn.specs.declared.insn.PortSize.TheVariants as port_sizes
+use Rattle.mx_insn.specs.declared.insn.Insn.{Insn}
+use Rattle.mx_insn.specs.declared.insn.Insn.TheVariants as insns
+use Rattle.mx_operand.specs.declared.argument.Argument.{Argument}
+use Rattle.mx_operand.specs.declared.argument.Argument.TheVariants as arguments
+use Rattle.mx_operand.specs.Items.{◌>>=◌}
+use Rattle.mx_statement.specs.declared.statement.Statement.{Statement}
+use Rattle.mx_form.specs.Numbers.{number_in, waiting}
+use Rattle.mx_form.specs.Spots.{says, spot_of_size}
+
+abbrev pub alone : Insn → List Argument → Option Statement
+alone insn [] = says insn None None
+alone insn _ = None
+
+-- a number, or a dword of a register or memory
+abbrev pub push : List Argument → Option Statement
+push (arguments.Value v ∷ []) = do
+  word ← number_in Dword v
+  says (insns.PushImmediate word) (waiting v) None
+push (x ∷ []) = do
+  spot ← spot_of_size Dword x
+  says (insns.Push spot.operand) None spot.displacement
+push _ = None
+
+abbrev pub pop : List Argument → Option Statement
+pop (arguments.Register Dword r ∷ []) = says (insns.Pop r) None None
+pop _ = None
+
+abbrev pub return_of : List Argument → Option Statement
+return_of [] = says (insns.Return 0) None None
+return_of (arguments.Value v ∷ []) = do
+  word ← number_in Word v
+  says (insns.Return word) None None
+return_of _ = None
+
+abbrev pub interrupt : List Argument → Option Statement
+interrupt (arguments.Value v ∷ []) = do
+  word ← number_in Byte v
+  says (insns.Interrupt word) None None
+interrupt _ = None
+
+-- DX, or a number of 8 bits
+abbrev pub port_of : Argument → Option Port
+port_of (arguments.Register Word Edx) = Some ports.Dx
+port_of (arguments.Value v) = do
+  word ← number_in Byte v
+  Some (ports.Immediate word)
+port_of _ = None
+
+-- AL or EAX
+abbrev pub accumulator : Argument → Option PortSize
+accumulator (arguments.Register Byte Eax) = Some port_sizes.Byte
+accumulator (arguments.Register Dword Eax) = Some port_sizes.Dword
+accumulator _ = None
+
+abbrev pub port_in : List Argument → Option Statement
+port_in (x ∷ y ∷ []) = do
+  size ← accumulator x
+  port ← port_of y
+  says (insns.In size port) None None
+port_in _ = None
+
+abbrev pub port_out : List Argument → Option Statement
+port_out (x ∷ y ∷ []) = do
+  port ← port_of x
+  size ← accumulator y
+  says (insns.Out size port) None None
+port_out _ = None

@@ -1,0 +1,20 @@
+//! Forms: a mnemonic and its arguments to a statement.
+#![tactic(auto)]
+
+mod form;
+mod moves;
+mod number;
+mod operations;
+mod pair;
+mod spot;
+mod stack;
+mod transfers;
+
+pub use form::{repeated, stated};
+pub use mx_operand::{Address, Argument, Index, Name, Register, Scale, Size, Value};
+pub use mx_statement::{Branch, Instruction, Statement};
+pub use mx_words::{Mnemonic, Prefix, Single};
+pub use number::number_in;
+
+#[cfg(test)]
+mod tests;

@@ -1,0 +1,54 @@
+-- Which items between brackets are a place in memory.
+use Rattle.std.specs.Prelude.{ℕ, ◌==◌, if◌then◌else◌, List, [], ◌∷◌, Option, Some, None, true, false}
+use Rattle.mx_word.specs.declared.size.Size.TheVariants.{Dword}
+use Rattle.mx_word.specs.declared.names.Register.{Register}
+use Rattle.mx_word.specs.declared.names.Register.TheVariants as registers
+use Rattle.mx_insn.specs.declared.insn.Scale.{Scale}
+use Rattle.mx_insn.specs.declared.insn.Scale.TheVariants as scales
+use Rattle.mx_lex.specs.declared.kinds.Mark.TheVariants.{Plus, Minus, Star}
+use Rattle.mx_operand.specs.declared.item.Item.{Item}
+use Rattle.mx_operand.specs.declared.item.Item.TheVariants as items
+use Rattle.mx_operand.specs.declared.memory.Address.{Address}
+use Rattle.mx_statement.specs.declared.value.Value.{Value}
+use Rattle.mx_operand.specs.Items.{◌>>=◌}
+use Rattle.mx_operand.specs.Values.{valued, value_of}
+
+abbrev pub scale_of : ℕ → Option Scale
+scale_of n =
+    if n == 1 then Some scales.One
+    else if n == 2 then Some scales.Two
+    else if n == 4 then Some scales.Four
+    else if n == 8 then Some scales.Eight
+    else None
+
+-- the value behind a register: left out, behind a plus and without a sign, or -n
+abbrev pub displaced : List Item → Option Value
+displaced [] = valued None false 0
+displaced (items.Mark Plus ∷ items.Mark Minus ∷ ts) = None
+displaced (items.Mark Plus ∷ ts) = value_of ts
+displaced (items.Mark Minus ∷ ts) = value_of (items.Mark Minus ∷ ts)
+displaced _ = None
+
+-- with an index, which ESP is not
+abbrev pub indexed : Option Register → Register → Option Scale → List Item → Option Address
+indexed base registers.Esp scale ts = None
+indexed base register scale ts = do
+  s ← scale
+  v ← displaced ts
+  Some (record { base = base; index = Some (record { register = register; scale = s }); value = v })
+
+-- without an index
+abbrev pub based : Register → List Item → Option Address
+based base ts = do
+  v ← displaced ts
+  Some (record { base = Some base; index = None; value = v })
+
+-- index*scale, base+index*scale, base+index (of scale 1), base, each with a value behind it or without; or a value alone
+abbrev pub address_of : List Item → Option Address
+address_of (items.Register Dword i ∷ items.Mark Star ∷ items.Number n ∷ ts) = indexed None i (scale_of n) ts
+address_of (items.Register Dword b ∷ items.Mark Plus ∷ items.Register Dword i ∷ items.Mark Star ∷ items.Number n ∷ ts) = indexed (Some b) i (scale_of n) ts
+address_of (items.Register Dword b ∷ items.Mark Plus ∷ items.Register Dword i ∷ ts) = indexed (Some b) i (Some scales.One) ts
+address_of (items.Register Dword b ∷ ts) = based b ts
+address_of ts = do
+  v ← value_of ts
+  Some (record { base = None; index = None; value = v })

@@ -1,0 +1,2 @@
+mod Sorting
+mod Valuing

@@ -1,0 +1,148 @@
+-- Which statement stands behind what it begins with.
+use Rattle.std.specs.Prelude.{ℕ, ◌&&◌, ◌-◌, ◌+◌, if◌then◌else◌, Bool, true, false, nat_eq, Option, Some, None, List, [], ◌∷◌, slice_range}
+use Rattle.std.specs.List.{slice_split}
+use Rattle.std.specs.Cmp.Lexicographic.{pointwise}
+use Rattle.mx_word.specs.declared.size.Size.{Size}
+use Rattle.mx_word.specs.declared.size.Size.TheVariants as sizes
+use Rattle.mx_line.specs.Names.{padded}
+use Rattle.mx_lex.specs.Bytes.{text_value}
+use Rattle.mx_lex.specs.declared.kinds.Kind.{Kind}
+use Rattle.mx_lex.specs.declared.kinds.Kind.TheVariants as kinds
+use Rattle.mx_lex.specs.declared.kinds.Token.{Token}
+use Rattle.mx_words.specs.Words.{short_word}
+use Rattle.mx_words.specs.declared.mnemonic.Mnemonic.{Mnemonic}
+use Rattle.mx_words.specs.declared.mnemonic.Mnemonic.TheVariants as mnemonics
+use Rattle.mx_words.specs.declared.mnemonic.Single.TheVariants.{Jmp}
+use Rattle.mx_words.specs.declared.start.Prefix.{Prefix}
+use Rattle.mx_words.specs.declared.start.Directive.{Directive}
+use Rattle.mx_words.specs.declared.start.Directive.TheVariants as directives
+use Rattle.mx_words.specs.declared.start.Start.TheVariants as starts
+use Rattle.mx_operand.specs.declared.item.Item.{Item}
+use Rattle.mx_operand.specs.declared.item.Item.TheVariants as items
+use Rattle.mx_operand.specs.Items.{◌>>=◌}
+use Rattle.mx_operand.specs.Values.{value_of}
+use Rattle.mx_operand.specs.Lists.{is_comma, arguments_of}
+use Rattle.mx_statement.specs.declared.value.Value.{Value}
+use Rattle.mx_statement.specs.declared.statement.Section.{Section}
+use Rattle.mx_statement.specs.declared.statement.Section.TheVariants as sections
+use Rattle.mx_statement.specs.declared.statement.Statement.{Statement}
+use Rattle.mx_statement.specs.declared.statement.Statement.TheVariants as statements
+use Rattle.mx_form.specs.Numbers.{number_in}
+use Rattle.mx_form.specs.Statements.{stated, repeated}
+use Rattle.mx_reading.specs.declared.items.Begun.{Begun}
+use Rattle.mx_reading.specs.declared.items.Begun.TheVariants as begun
+
+-- ---- behind a mnemonic
+
+-- the word `short`
+abbrev pub is_short : Item → Bool
+is_short (items.Name w) = pointwise nat_eq w.bytes (padded short_word)
+is_short _ = false
+
+abbrev pub takes_short : Mnemonic → Bool
+takes_short (mnemonics.Single Jmp) = true
+takes_short (mnemonics.JumpIf c) = true
+takes_short _ = false
+
+abbrev pub stated_by : Bool → Mnemonic → List Item → Option Statement
+stated_by short m ts = do
+  xs ← arguments_of ts
+  stated short m xs
+
+-- right behind JMP and Jcc `short` is always the mark, and elsewhere a name
+abbrev pub is_marked : Mnemonic → List Item → Bool
+is_marked m [] = false
+is_marked m (t ∷ ts) = takes_short m && is_short t
+
+abbrev pub unmarked : Mnemonic → List Item → List Item
+unmarked m [] = []
+unmarked m (t ∷ ts) = if takes_short m && is_short t then ts else t ∷ ts
+
+abbrev pub behind_mnemonic : Mnemonic → List Item → Option Statement
+behind_mnemonic m ts = stated_by (is_marked m ts) m (unmarked m ts)
+
+-- a string instruction, alone
+abbrev pub behind_prefix : Prefix → Option Mnemonic → List Item → Option Statement
+behind_prefix p (Some m) (t ∷ []) = repeated p m
+behind_prefix p _ _ = None
+
+-- ---- behind a directive
+
+-- a value that fits
+abbrev pub value_in : Size → List Item → Option Value
+value_in s ts = do
+  v ← value_of ts
+  n ← number_in s v
+  Some v
+
+abbrev pub values_in : Size → List (List Item) → Option (List Value)
+values_in s [] = Some []
+values_in s (part ∷ parts) = do
+  v ← value_in s part
+  vs ← values_in s parts
+  Some (v ∷ vs)
+
+-- values with commas
+abbrev pub data_of : Size → List Item → Option Statement
+data_of s ts = do
+  vs ← values_in s (slice_split is_comma ts)
+  Some (statements.Data s vs)
+
+abbrev pub standing_alone : Statement → List Item → Option Statement
+standing_alone s [] = Some s
+standing_alone s _ = None
+
+abbrev pub text_given : Option (List ℕ) → Option Statement
+text_given text = do
+  bytes ← text
+  Some (statements.Ascii bytes)
+
+abbrev pub number_alone : List Item → Option ℕ
+number_alone (items.Number n ∷ []) = Some n
+number_alone _ = None
+
+abbrev pub space_of : List Item → Option Statement
+space_of ts = do
+  n ← number_alone ts
+  Some (statements.Space n)
+
+abbrev pub stack_of : List Item → Option Statement
+stack_of ts = do
+  n ← number_alone ts
+  Some (statements.Stack n)
+
+abbrev pub entry_of : List Item → Option Statement
+entry_of (items.Name w ∷ []) = Some (statements.Entry w)
+entry_of _ = None
+
+abbrev pub behind_directive : Directive → Option (List ℕ) → List Item → Option Statement
+behind_directive directives.Text text ts = standing_alone (statements.Enter sections.Text) ts
+behind_directive directives.Data text ts = standing_alone (statements.Enter sections.Data) ts
+behind_directive directives.Bss text ts = standing_alone (statements.Enter sections.Bss) ts
+behind_directive directives.Data1 text ts = data_of sizes.Byte ts
+behind_directive directives.Data2 text ts = data_of sizes.Word ts
+behind_directive directives.Data4 text ts = data_of sizes.Dword ts
+behind_directive directives.Ascii text ts = text_given text
+behind_directive directives.Space text ts = space_of ts
+behind_directive directives.Sep text ts = standing_alone statements.Separate ts
+behind_directive directives.Entry text ts = entry_of ts
+behind_directive directives.Stack text ts = stack_of ts
+
+-- the bytes of a text that stands alone, without its quotes
+abbrev pub text_in : List ℕ → Token → Kind → Option (List ℕ)
+text_in t k kinds.Text = Some (text_value (slice_range t (k.start + 1) (k.end - 1)))
+text_in t k _ = None
+
+abbrev pub text_alone : List ℕ → List Token → Option (List ℕ)
+text_alone t (k ∷ []) = text_in t k k.kind
+text_alone t _ = None
+
+-- ---- the whole statement
+
+-- what it begins with, the mnemonic behind a prefix, the text that stands alone, and what stands behind its first word
+abbrev pub statement_of : Begun → Option Mnemonic → Option (List ℕ) → List Item → Option Statement
+statement_of begun.Nothing second text ts = Some statements.Nothing
+statement_of begun.Unknown second text ts = None
+statement_of (begun.Known (starts.Mnemonic m)) second text ts = behind_mnemonic m ts
+statement_of (begun.Known (starts.Repeat p)) second text ts = behind_prefix p second ts
+statement_of (begun.Known (starts.Directive d)) second text ts = behind_directive d text ts

@@ -1,0 +1,14 @@
+//! What a line of an assembler text says.
+#![tactic(auto)]
+
+mod data;
+mod items;
+mod reading;
+mod statements;
+
+pub use mx_lex::LexError;
+pub use mx_statement::Line;
+pub use reading::read_line;
+
+#[cfg(test)]
+mod tests;

@@ -1,0 +1,207 @@
+//! What stands behind a statement's first word.
+
+ghost use Rattle.std.specs.Prelude.{◌≡◌, ◌+◌, ◌≤◌, IfOk, All};
+ghost use Rattle.mx_lex.specs.Tokens.{IsSlice};
+ghost use Rattle.mx_reading.specs.Statements.{is_short, takes_short, stated_by, is_marked, unmarked, behind_mnemonic, behind_prefix, standing_alone, text_given, number_alone, space_of, stack_of, entry_of, behind_directive, text_alone, statement_of};
+
+use crate::data::data_of;
+use crate::items::Begun;
+use mx_form::{repeated, stated};
+use mx_lex::{Kind, Token, text_bytes};
+use mx_operand::{Item, arguments_of};
+use mx_statement::{Section, Statement};
+use mx_word::{Bytes, Size};
+use mx_words::{Directive, Mnemonic, Prefix, Single, Start};
+use std::alloc::{AllocError, Global};
+
+/// Whether `short` may stand behind a mnemonic.
+fn takes_short(mnemonic: Mnemonic) -> bool
+    ensures { result ≡ takes_short mnemonic }
+{
+    match mnemonic {
+        Mnemonic::Single(Single::Jmp) => true,
+        Mnemonic::JumpIf(_) => true,
+        _ => false,
+    }
+}
+
+fn is_short(item: Item) -> bool
+    ensures { result ≡ is_short item }
+{
+    match item {
+        Item::Name(name) => name.bytes == *b"short\0\0\0",
+        _ => false,
+    }
+}
+
+fn stated_by(
+    alloc: Global,
+    short: bool,
+    mnemonic: Mnemonic,
+    items: &[Item],
+) -> Result<Option<Statement>, AllocError>
+    ensures { IfOk result (λ s. s ≡ stated_by short mnemonic items.now) }
+{
+    match arguments_of(alloc, items)? {
+        None => Ok(None),
+        Some(arguments) => Ok(stated(short, mnemonic, arguments.as_slice())),
+    }
+}
+
+/// Whether `short` stands right behind a mnemonic that takes it.
+fn is_marked(mnemonic: Mnemonic, items: &[Item]) -> bool
+    ensures { result ≡ is_marked mnemonic items.now }
+{
+    match items.split_first() {
+        None => false,
+        Some((first, _)) => takes_short(mnemonic) && is_short(*first),
+    }
+}
+
+/// What stands behind a mnemonic and its `short`.
+fn unmarked(mnemonic: Mnemonic, items: &[Item]) -> &[Item]
+    ensures { result.now ≡ unmarked mnemonic items.now }
+{
+    match items.split_first() {
+        None => items,
+        Some((first, rest)) => {
+            if takes_short(mnemonic) && is_short(*first) {
+                rest
+            } else {
+                items
+            }
+        }
+    }
+}
+
+/// The instruction of a mnemonic and what stands behind it.
+fn behind_mnemonic(
+    alloc: Global,
+    mnemonic: Mnemonic,
+    items: &[Item],
+) -> Result<Option<Statement>, AllocError>
+    ensures { IfOk result (λ s. s ≡ behind_mnemonic mnemonic items.now) }
+{
+    let short = is_marked(mnemonic, items);
+    stated_by(alloc, short, mnemonic, unmarked(mnemonic, items))
+}
+
+fn behind_prefix(prefix: Prefix, second: Option<Mnemonic>, items: &[Item]) -> Option<Statement>
+    ensures { result ≡ behind_prefix prefix second items.now }
+{
+    match (second, items) {
+        (Some(mnemonic), [_]) => repeated(prefix, mnemonic),
+        _ => None,
+    }
+}
+
+fn standing_alone(statement: Statement, items: &[Item]) -> Option<Statement>
+    ensures { result ≡ standing_alone statement items.now }
+{
+    if items.is_empty() {
+        Some(statement)
+    } else {
+        None
+    }
+}
+
+/// The text that stands alone, without its quotes.
+pub fn text_alone(alloc: Global, text: &[u8], tokens: &[Token]) -> Result<Option<Bytes>, AllocError>
+    requires { All (IsSlice text.now) tokens.now }
+    ensures { IfOk result (λ bytes. bytes ≡ text_alone text.now tokens.now) }
+{
+    match tokens {
+        [token] => {
+            if token.kind != Kind::Text {
+                return Ok(None);
+            }
+            let bytes = text_bytes(alloc, &text[token.start + 1..token.end - 1])?;
+            Ok(Some(Bytes::from_vec(bytes)))
+        }
+        _ => Ok(None),
+    }
+}
+
+fn text_given(text: Option<Bytes>) -> Option<Statement>
+    ensures { result ≡ text_given text }
+{
+    let bytes = text?;
+    Some(Statement::Ascii(bytes))
+}
+
+fn number_alone(items: &[Item]) -> Option<u32>
+    ensures { result ≡ number_alone items.now }
+{
+    match items {
+        [Item::Number(number)] => Some(*number),
+        _ => None,
+    }
+}
+
+fn space_of(items: &[Item]) -> Option<Statement>
+    ensures { result ≡ space_of items.now }
+{
+    let number = number_alone(items)?;
+    Some(Statement::Space(number))
+}
+
+fn stack_of(items: &[Item]) -> Option<Statement>
+    ensures { result ≡ stack_of items.now }
+{
+    let number = number_alone(items)?;
+    Some(Statement::Stack(number))
+}
+
+fn entry_of(items: &[Item]) -> Option<Statement>
+    ensures { result ≡ entry_of items.now }
+{
+    match items {
+        [Item::Name(name)] => Some(Statement::Entry(*name)),
+        _ => None,
+    }
+}
+
+fn behind_directive(
+    alloc: Global,
+    directive: Directive,
+    text: Option<Bytes>,
+    items: &[Item],
+) -> Result<Option<Statement>, AllocError>
+    ensures { IfOk result (λ s. s ≡ behind_directive directive text items.now) }
+{
+    match directive {
+        Directive::Text => Ok(standing_alone(Statement::Enter(Section::Text), items)),
+        Directive::Data => Ok(standing_alone(Statement::Enter(Section::Data), items)),
+        Directive::Bss => Ok(standing_alone(Statement::Enter(Section::Bss), items)),
+        Directive::Data1 => data_of(alloc, Size::Byte, items),
+        Directive::Data2 => data_of(alloc, Size::Word, items),
+        Directive::Data4 => data_of(alloc, Size::Dword, items),
+        Directive::Ascii => Ok(text_given(text)),
+        Directive::Space => Ok(space_of(items)),
+        Directive::Sep => Ok(standing_alone(Statement::Separate, items)),
+        Directive::Entry => Ok(entry_of(items)),
+        Directive::Stack => Ok(stack_of(items)),
+    }
+}
+
+/// The statement of what it begins with, the mnemonic behind a prefix, the text that stands alone,
+/// and what stands behind its first word.
+pub fn statement_of(
+    alloc: Global,
+    begun: Begun,
+    second: Option<Mnemonic>,
+    text: Option<Bytes>,
+    items: &[Item],
+) -> Result<Option<Statement>, AllocError>
+    ensures { IfOk result (λ s. s ≡ statement_of begun second text items.now) }
+{
+    match begun {
+        Begun::Nothing => Ok(Some(Statement::Nothing)),
+        Begun::Unknown => Ok(None),
+        Begun::Known(Start::Mnemonic(mnemonic)) => behind_mnemonic(alloc, mnemonic, items),
+        Begun::Known(Start::Repeat(prefix)) => Ok(behind_prefix(prefix, second, items)),
+        Begun::Known(Start::Directive(directive)) => {
+            behind_directive(alloc, directive, text, items)
+        }
+    }
+}
