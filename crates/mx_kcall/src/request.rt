@@ -75,7 +75,7 @@ impl Answer {
 }
 
 /// How a kernel call ended.
-#[derive(Clone, Copy, Debug, PartialEq, Eq)]
+#[derive(Clone, Copy, PartialEq, Eq)]
 pub enum After {
     /// It was answered with this result, and the caller goes on.
     Reply(u32),
