@@ -2,3 +2,4 @@ pub mod Lengths
 pub mod Laying
 pub mod Emitting
 pub mod Fitting
+pub mod Reading

@@ -1,6 +1,7 @@
-//! The assembler: read lines to a program, or the first fault.
+//! The assembler: a text to a program, or the first fault.
 #![tactic(auto)]
 
+mod assembling;
 mod branch;
 mod emit;
 mod fault;
@@ -9,7 +10,8 @@ mod program;
 mod second;
 mod sizes;
 
+pub use assembling::assemble;
 pub use fault::{AsmError, Fault, Problem};
-pub use layout::Layout;
-pub use program::program_of;
-pub use sizes::{Sizes, Spot};
+
+#[cfg(test)]
+mod tests;
