@@ -2,6 +2,7 @@
 
 ghost use Rattle.std.specs.Prelude.{◌≡◌, Ok, Err};
 ghost use Rattle.mx_exec.specs.Image.{Performs};
+ghost use Rattle.mx_exec.specs.Lasting.{lasting};
 ghost use Rattle.mx_exec.specs.Step.{after, outcome_of, one_step};
 
 use crate::image::dword_sum;
@@ -130,6 +131,7 @@ fn perform(image: &mut Image, insn: &Insn, next: u32) -> Result<(), u8>
 pub fn step(image: &mut Image) -> Outcome
     ensures outcome { result ≡ (one_step image.old).0 }
     ensures image { image.new ≡ (one_step image.old).1 }
+    ensures lasting { lasting image.new ≡ lasting image.old }
 {
     let mut insn = Insn::Plain(Plain::Nop);
     match image.fetch(&mut insn) {

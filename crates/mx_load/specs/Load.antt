@@ -1,10 +1,11 @@
 -- The image that a program begins with (Tanenbaum and Woodhull, 4.7.4).
-use Rattle.std.specs.Prelude.{ℕ, ◌-◌, Bool, List, ◌++◌, length, replicate, if◌then◌else◌}
+use Rattle.std.specs.Prelude.{◌≡◌, ℕ, ◌-◌, Bool, List, ◌++◌, length, replicate, if◌then◌else◌}
 use Rattle.mx_flags.specs.Flags.{values_of}
 use Rattle.mx_regs.specs.Regs.{no_words}
 use Rattle.mx_exec.specs.declared.image.Code.{Code}
 use Rattle.mx_exec.specs.declared.image.Code.TheVariants.{Separate, Shared}
 use Rattle.mx_exec.specs.declared.image.Image.{Image}
+use Rattle.mx_exec.specs.Lasting.{lasting}
 use Rattle.mx_aout.specs.Limits.{rounded}
 use Rattle.mx_aout.specs.declared.program.Program.{Program}
 
@@ -28,3 +29,7 @@ loaded p = record {
   memory = filled_to (rounded p.total) (contents_of p.sep p.text p.init);
   code = code_of_text p.sep p.text;
 }
+
+-- the image was loaded from the program, whatever it did since: what no step changes is that of the program
+abbrev pub IsLoadedFrom : Image → Program → Type 0
+IsLoadedFrom m p = lasting m ≡ (code_of_text p.sep p.text, rounded p.total)

@@ -3,7 +3,7 @@
 
 mod loading;
 
-pub use loading::load;
+pub use loading::{load, refill};
 
 #[cfg(test)]
 mod tests;

@@ -3,7 +3,8 @@
 ghost use Rattle.std.specs.Prelude.{◌≡◌, ◌+◌, ◌≤◌, ◌++◌, IfOk, length, take, drop};
 ghost use Rattle.mx_flags.specs.Flags.{values_of};
 ghost use Rattle.mx_aout.specs.Limits.{rounded, IsWithin};
-ghost use Rattle.mx_load.specs.Load.{filled_to, loaded};
+ghost use Rattle.mx_regs.specs.Regs.{no_words};
+ghost use Rattle.mx_load.specs.Load.{IsLoadedFrom, filled_to, loaded};
 
 use mx_aout::Program;
 use mx_exec::{Code, Image, Text};
@@ -43,15 +44,24 @@ fn limit_of(program: &Program) -> u32
     ((u64::from(program.total) + 4095) / 4096 * 4096) as u32
 }
 
+/// Registers that are 0 but for ESP.
+fn first_registers(top: u32) -> Regs
+    ensures { result ≡ record no_words { esp = top } }
+{
+    let mut regs = Regs::new();
+    regs.set(Size::Dword, Register::Esp, top);
+    regs
+}
+
 /// The image of a program. Takes memory for its segments, and for what its text keeps decoded.
 pub fn load(alloc: Global, program: &Program) -> Result<Image, NoMemory>
-    ensures { IfOk result (λ image. image ≡ loaded program.now) }
+    ensures image { IfOk result (λ image. image ≡ loaded program.now) }
+    ensures from { IfOk result (λ image. IsLoadedFrom image program.now) }
 {
     let limit = limit_of(program);
     let text = program.text.as_slice();
     let init = program.init.as_slice();
-    let mut regs = Regs::new();
-    regs.set(Size::Dword, Register::Esp, limit);
+    let regs = first_registers(limit);
     if program.sep {
         let memory = segment(alloc, limit, init, &[])?;
         let text = segment(alloc, text.len() as u32, text, &[])?;
@@ -72,5 +82,34 @@ fn image(eip: u32, regs: Regs, memory: Segment, code: Code) -> Image
         flags: Flags::from_bits(0),
         memory,
         code,
+    }
+}
+
+/// Makes an image that was loaded from a program what it was when it was loaded, whatever it did
+/// since. Takes no memory.
+pub fn refill(image: &mut Image, program: &Program)
+    requires { IsLoadedFrom image.old program.now }
+    ensures image { image.new ≡ loaded program.now }
+    ensures from { IsLoadedFrom image.new program.now }
+{
+    refill_memory(&mut image.memory, program);
+    image.regs = first_registers(limit_of(program));
+    image.eip = program.entry;
+    image.flags = Flags::from_bits(0);
+}
+
+/// Writes what the data segment begins with, and zeros behind it.
+fn refill_memory(memory: &mut Segment, program: &Program)
+    requires { length memory.old ≡ rounded program.now.total }
+    ensures { memory.new ≡ (loaded program.now).memory }
+{
+    memory.clear();
+    let init = program.init.as_slice();
+    if program.sep {
+        fill(memory, 0, init);
+    } else {
+        let text = program.text.as_slice();
+        fill(memory, 0, text);
+        fill(memory, text.len() as u32, init);
     }
 }

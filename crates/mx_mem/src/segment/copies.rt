@@ -1,6 +1,6 @@
-//! Copies of bytes within a segment and from one to another.
+//! Copies of bytes within a segment and from one to another, and a segment's clearing.
 
-ghost use Rattle.std.specs.Prelude.{◌≡◌, ◌+◌, ◌≤◌, length};
+ghost use Rattle.std.specs.Prelude.{◌≡◌, ◌+◌, ◌≤◌, length, replicate};
 ghost use Rattle.mx_mem.specs.Segment.{overwritten, part};
 
 use super::Segment;
@@ -28,5 +28,12 @@ impl Segment {
         let from = from as usize;
         let end = from + count as usize;
         self.put(to, &source.bytes[from..end]);
+    }
+
+    /// Makes every byte zero.
+    pub fn clear(&mut self)
+        ensures { self.new ≡ replicate (length self.old) 0 }
+    {
+        self.bytes.as_mut_slice().fill(0);
     }
 }
