@@ -3,3 +3,4 @@ pub mod Laying
 pub mod Emitting
 pub mod Fitting
 pub mod Reading
+pub mod Deciding

@@ -5,6 +5,7 @@ mod assembling;
 mod branch;
 mod emit;
 mod fault;
+mod laws;
 mod layout;
 mod program;
 mod second;
@@ -12,6 +13,7 @@ mod sizes;
 
 pub use assembling::assemble;
 pub use fault::{AsmError, Fault, Problem};
+pub use laws::{program_is_one, program_or_fault};
 
 #[cfg(test)]
 mod tests;
