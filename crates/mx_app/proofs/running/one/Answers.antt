@@ -16,4 +16,4 @@ returns-in_err-image c =
     rw (p.1, p.2) (answers_no_memory (refusal_of c.args.bytes.now) c.args.bytes.now c.args.steps c.in_ok-program.program c.in_ok-program.ensures)
 
 pub returns : goal.returns
-returns c = answers_run (refusal_of c.args.bytes.now) c.args.bytes.now c.args.steps c.in_ok-program.program _ _ _ c.in_ok-program.ensures (ap (ran c.args.steps) (sym c.in_ok-image.ensures) ∙ c.run-count.ensures.ran)
+returns c = answers_run (refusal_of c.args.bytes.now) c.args.bytes.now c.args.steps c.in_ok-program.program _ _ _ c.in_ok-program.ensures (ap (ran c.args.steps) (sym c.in_ok-image.ensures.image) ∙ c.run-count.ensures.ran)
