@@ -2,3 +2,4 @@ pub mod Answering
 mod Given
 mod OneWords
 pub mod Telling
+mod Showing

@@ -1,3 +1,4 @@
 pub mod One
+pub mod Shown
 pub mod Failure
 pub mod Words

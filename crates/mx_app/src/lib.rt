@@ -2,12 +2,14 @@
 #![tactic(auto)]
 
 mod failure;
+mod listing;
 mod perform;
 mod report;
 mod running;
 mod words;
 
 pub use failure::Failure;
+pub use listing::{print_listing, print_names};
 pub use mx_aout::FileError;
 pub use perform::perform_words;
 pub use report::print_one;

@@ -1,6 +1,7 @@
 //! What `one` prints.
 
-ghost use Rattle.std.specs.Prelude.{IfErr};
+ghost use Rattle.std.specs.Prelude.{IfErr, OnOk};
+ghost use Rattle.std.specs.Io.KnownBytes.{Appends};
 ghost use Rattle.mx_aout.specs.File.{refusal_of};
 ghost use Rattle.mx_app.specs.Failure.{IsWanting, Tells};
 
@@ -41,8 +42,9 @@ fn print_steps<R: Runs, W: Write>(
 }
 
 /// Writes a text whole.
-fn print_text<W: Write>(text: &str, out: &mut W) -> Result<(), Failure>
-    ensures { IfErr result IsWanting }
+pub(crate) fn print_text<W: Write>(text: &str, out: &mut W) -> Result<(), Failure>
+    ensures err { IfErr result IsWanting }
+    ensures bytes { OnOk result (Appends (W.contents out.old) (W.contents out.new) text.now) }
 {
     out.write_all(text.as_bytes())?;
     out.flush()?;

@@ -28,6 +28,57 @@ fn compares(rt: HostRuntime) -> Result<(), Fail> {
     Ok(())
 }
 
+// ADC [0], EAX with carry, in a text of its own: 5 and 1 and 1 more are 7.
+const ADD: [&str; 13] = [
+    "11_adc",
+    "110500000000",
+    "110500000000",
+    "05000000",
+    "1 0 0 0 4 0 0 0",
+    "0",
+    "41",
+    "go",
+    "1 0 0 0 4 0 0 0",
+    "6",
+    "0",
+    "8d5",
+    "0:07",
+];
+
+// Each field that is compared or that the step begins with, and a wrong text for it.
+const FALSIFIED: [(usize, &str); 12] = [
+    (1, "1105010000"),
+    (2, "010500000000"),
+    (3, "06000000"),
+    (4, "2 0 0 0 4 0 0 0"),
+    (5, "1"),
+    (6, "40"),
+    (7, "fault-6"),
+    (8, "1 0 0 0 4 0 0 1"),
+    (9, "5"),
+    (10, "4"),
+    (11, "0"),
+    (12, "0:08"),
+];
+
+#[test]
+fn tells_each_falsified_field(rt: HostRuntime) -> Result<(), Fail> {
+    for (place, text) in FALSIFIED.iter().chain(&[(0, "11_adc")]) {
+        let mut line = String::new(rt.alloc());
+        for (at, field) in ADD.iter().enumerate() {
+            let shown = if at == *place { *text } else { *field };
+            let part = if at == 0 { "" } else { " | " };
+            line.push_str(part)?;
+            line.push_str(shown)?;
+        }
+        line.push_str("\n")?;
+        let (_, tally) = checked(&rt, line.as_str())?;
+        let wrong = u64::from(*place != 0);
+        assert_eq!(rt; tally, Ok(Tally { cases: 1, wrong }), "field {place}");
+    }
+    Ok(())
+}
+
 #[test]
 fn refuses_what_is_no_case(rt: HostRuntime) -> Result<(), Fail> {
     for line in ["", "b8_mov", "a | b | c"] {
