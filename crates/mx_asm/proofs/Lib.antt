@@ -2,3 +2,5 @@ pub mod Lengths
 pub mod Laying
 pub mod Emitting
 pub mod Fitting
+pub mod Reading
+pub mod Deciding

@@ -38,3 +38,13 @@ pub record AreAssembled (lines : List Line) (p : Program) : Type 0 where
   pub entry : p.entry ≡ entry_under (left_by start lines (map length bytes)) (left_by start lines (map length bytes)).entry
   pub total : p.total ≡ total_of (left_by start lines (map length bytes))
   pub symbols : p.symbols ≡ map (symbol_under (left_by start lines (map length bytes))) (left_by start lines (map length bytes)).labels
+
+-- alike in all that a file says of it
+pub record SameProgram (p q : Program) : Type 0 where
+  pub sep : p.sep ≡ q.sep
+  pub entry : p.entry ≡ q.entry
+  pub total : p.total ≡ q.total
+  pub text : p.text ≡ q.text
+  pub init : p.init ≡ q.init
+  pub bss : p.bss ≡ q.bss
+  pub symbols : p.symbols ≡ q.symbols

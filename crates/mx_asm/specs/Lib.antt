@@ -5,3 +5,4 @@ pub mod View
 pub mod Bytes
 pub mod Faults
 pub mod Assembled
+pub mod Text

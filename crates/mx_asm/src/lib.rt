@@ -1,15 +1,19 @@
-//! The assembler: read lines to a program, or the first fault.
+//! The assembler: a text to a program, or the first fault.
 #![tactic(auto)]
 
+mod assembling;
 mod branch;
 mod emit;
 mod fault;
+mod laws;
 mod layout;
 mod program;
 mod second;
 mod sizes;
 
+pub use assembling::assemble;
 pub use fault::{AsmError, Fault, Problem};
-pub use layout::Layout;
-pub use program::program_of;
-pub use sizes::{Sizes, Spot};
+pub use laws::{program_is_one, program_or_fault};
+
+#[cfg(test)]
+mod tests;

@@ -9,8 +9,9 @@ use Rattle.mx_operand.specs.declared.argument.Argument.{Argument}
 use Rattle.mx_operand.specs.declared.argument.Argument.TheVariants as arguments
 use Rattle.mx_operand.specs.Items.{◌>>=◌}
 use Rattle.mx_statement.specs.declared.statement.Statement.{Statement}
+use Rattle.mx_form.specs.declared.moves.ExtensionParts.{ExtensionParts}
 use Rattle.mx_form.specs.Numbers.{waiting}
-use Rattle.mx_form.specs.Spots.{says, memory_of, spot_of, spot_beside, not_byte}
+use Rattle.mx_form.specs.Spots.{says, memory_named, spot_of, spot_beside, not_byte}
 
 -- a register or memory, and a register
 abbrev pub exchange : List Argument → Option Statement
@@ -23,7 +24,7 @@ exchange _ = None
 abbrev pub load_address : List Argument → Option Statement
 load_address (arguments.Register s to ∷ arguments.Memory None a ∷ []) = do
   size ← not_byte s
-  m ← memory_of a
+  m ← memory_named a
   says (insns.LoadAddress size to m) None (waiting a.value)
 load_address _ = None
 
@@ -34,16 +35,19 @@ extension_of Dword Word = Some WordToDword
 extension_of _ _ = None
 
 -- a register from a register, or from memory behind a size word
-abbrev pub zero_extend : List Argument → Option Statement
-zero_extend (arguments.Register s to ∷ y ∷ []) = do
+abbrev pub extension_parts : List Argument → Option ExtensionParts
+extension_parts (arguments.Register s to ∷ y ∷ []) = do
   spot ← spot_of y
   extension ← extension_of s spot.size
-  says (insns.ZeroExtend extension to spot.operand) None spot.displacement
-zero_extend _ = None
+  Some (record { extension = extension; to = to; from = spot.operand; displacement = spot.displacement })
+extension_parts _ = None
+
+abbrev pub zero_extend : List Argument → Option Statement
+zero_extend xs = do
+  x ← extension_parts xs
+  says (insns.ZeroExtend x.extension x.to x.from) None x.displacement
 
 abbrev pub sign_extend : List Argument → Option Statement
-sign_extend (arguments.Register s to ∷ y ∷ []) = do
-  spot ← spot_of y
-  extension ← extension_of s spot.size
-  says (insns.SignExtend extension to spot.operand) None spot.displacement
-sign_extend _ = None
+sign_extend xs = do
+  x ← extension_parts xs
+  says (insns.SignExtend x.extension x.to x.from) None x.displacement

@@ -5,7 +5,7 @@ use Rattle.mx_word.specs.declared.size.Size.TheVariants.{Byte, Word, Dword}
 use Rattle.mx_word.specs.Word.{width, modulo}
 use Rattle.mx_line.specs.declared.names.Name.{Name}
 use Rattle.mx_insn.specs.declared.insn.Immediate.{Immediate}
-use Rattle.mx_insn.specs.declared.insn.Immediate.TheVariants as immediates
+use Rattle.mx_insn.specs.Spelling.{immediate_of}
 use Rattle.mx_statement.specs.declared.value.Value.{Value}
 use Rattle.mx_statement.specs.Values.{whole_of}
 use Rattle.mx_operand.specs.Items.{◌>>=◌}
@@ -14,8 +14,8 @@ use Rattle.mx_operand.specs.Items.{◌>>=◌}
 abbrev pub is_outside : ℕ → ℤ → Bool
 is_outside w z = int_lt z (neg_ℤ (pos (2 ^ (w - 1)))) || int_le (pos (2 ^ w)) z
 
--- without a name, the low bits of a number in range; what holds a name needs 32 bits, and is 0 until its label's
--- address is put in
+-- without a name, the low bits of a number in range; with a name a sum modulo 2 ^ 32, whatever the number, so that it
+-- needs 32 bits and has no range: 0 stands for it until its label's address is put in
 abbrev pub low_bits : Option Name → Size → ℤ → Option ℕ
 low_bits None s z = if is_outside (width s) z then None else Some (modulo (width s) z)
 low_bits (Some name) Byte z = None
@@ -29,15 +29,10 @@ number_in s v = low_bits v.name s (whole_of v)
 abbrev pub waiting : Value → Option Value
 waiting v = if is_some v.name then Some v else None
 
-abbrev pub immediate : Size → ℕ → Immediate
-immediate Byte n = immediates.Byte n
-immediate Word n = immediates.Word n
-immediate Dword n = immediates.Dword n
-
-abbrev pub immediate_of : Size → Value → Option Immediate
-immediate_of s v = do
+abbrev pub immediate_in : Size → Value → Option Immediate
+immediate_in s v = do
   word ← number_in s v
-  Some (immediate s word)
+  Some (immediate_of s word)
 
 abbrev pub is_same : Size → Size → Bool
 is_same Byte Byte = true

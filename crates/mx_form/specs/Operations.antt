@@ -18,7 +18,7 @@ use Rattle.mx_operand.specs.declared.argument.Argument.TheVariants as arguments
 use Rattle.mx_operand.specs.Items.{◌>>=◌}
 use Rattle.mx_statement.specs.declared.value.Value.{Value}
 use Rattle.mx_statement.specs.declared.statement.Statement.{Statement}
-use Rattle.mx_form.specs.Numbers.{number_in, immediate_of, waiting}
+use Rattle.mx_form.specs.Numbers.{number_in, immediate_in, waiting}
 use Rattle.mx_form.specs.Spots.{says, spot_of, spot_of_size, spot_beside, not_byte}
 
 abbrev pub unary : Unary → List Argument → Option Statement
@@ -34,19 +34,19 @@ test (x ∷ arguments.Register s r ∷ []) = do
   says (insns.Test s spot.operand r) None spot.displacement
 test (x ∷ arguments.Value v ∷ []) = do
   spot ← spot_of x
-  i ← immediate_of spot.size v
+  i ← immediate_in spot.size v
   says (insns.TestImmediate spot.operand i) (waiting v) spot.displacement
 test _ = None
 
-abbrev pub wide_immediate : Size → ℕ → Option WideImmediate
-wide_immediate Byte n = None
-wide_immediate Word n = Some (wide_immediates.Word n)
-wide_immediate Dword n = Some (wide_immediates.Dword n)
+abbrev pub sized_factor : Size → ℕ → Option WideImmediate
+sized_factor Byte n = None
+sized_factor Word n = Some (wide_immediates.Word n)
+sized_factor Dword n = Some (wide_immediates.Dword n)
 
 abbrev pub factor_of : Size → Value → Option WideImmediate
 factor_of s v = do
   word ← number_in s v
-  wide_immediate s word
+  sized_factor s word
 
 -- with the accumulator; IMUL also into a register, and by an immediate
 abbrev pub product : Product → List Argument → Option Statement

@@ -10,8 +10,8 @@ use Rattle.mx_operand.specs.Items.{◌>>=◌}
 use Rattle.mx_statement.specs.declared.value.Value.{Value}
 use Rattle.mx_form.specs.declared.spot.Spot.{Spot}
 use Rattle.mx_form.specs.declared.pair.Pair.{Pair}
-use Rattle.mx_form.specs.Numbers.{names_no_other, immediate_of, waiting}
-use Rattle.mx_form.specs.Spots.{memory_of, spot_of, spot_beside}
+use Rattle.mx_form.specs.Numbers.{names_no_other, immediate_in, waiting}
+use Rattle.mx_form.specs.Spots.{memory_named, spot_of, spot_beside}
 
 -- a register from a register or from memory
 abbrev pub from_spot : Size → Register → Argument → Option Pair
@@ -22,13 +22,13 @@ from_spot s to from = do
 -- memory from a register
 abbrev pub to_memory : Option Size → Address → Size → Register → Option Pair
 to_memory named a s from = if names_no_other named s then (do
-  m ← memory_of a
+  m ← memory_named a
   Some (record { operands = ToMemory s m from; immediate = None; displacement = waiting a.value })) else None
 
 -- a register or memory from an immediate of its size
 abbrev pub to_spot : Spot → Value → Option Pair
 to_spot spot v = do
-  i ← immediate_of spot.size v
+  i ← immediate_in spot.size v
   Some (record { operands = Immediate spot.operand i; immediate = waiting v; displacement = spot.displacement })
 
 -- into a register or memory from an immediate, into a register from a register or memory, into memory from a register

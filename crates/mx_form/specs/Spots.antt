@@ -28,14 +28,14 @@ says insn immediate displacement = do
 abbrev pub goes : Branch → Value → Option Statement
 goes branch target = Some (statements.Branch branch target)
 
-abbrev pub memory_of : Address → Option Memory
-memory_of a = do
+abbrev pub memory_named : Address → Option Memory
+memory_named a = do
   d ← number_in Dword a.value
   Some (record { base = a.base; index = a.index; displacement = d })
 
 abbrev pub spot_in : Size → Address → Option Spot
 spot_in s a = do
-  m ← memory_of a
+  m ← memory_named a
   Some (record { size = s; operand = operands.Memory m; displacement = waiting a.value })
 
 -- where no register gives the size: a register itself, or a place in memory behind its size word

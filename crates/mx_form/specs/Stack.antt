@@ -55,14 +55,14 @@ port_of (arguments.Value v) = do
 port_of _ = None
 
 -- AL or EAX
-abbrev pub accumulator : Argument → Option PortSize
-accumulator (arguments.Register Byte Eax) = Some port_sizes.Byte
-accumulator (arguments.Register Dword Eax) = Some port_sizes.Dword
-accumulator _ = None
+abbrev pub port_size_of : Argument → Option PortSize
+port_size_of (arguments.Register Byte Eax) = Some port_sizes.Byte
+port_size_of (arguments.Register Dword Eax) = Some port_sizes.Dword
+port_size_of _ = None
 
 abbrev pub port_in : List Argument → Option Statement
 port_in (x ∷ y ∷ []) = do
-  size ← accumulator x
+  size ← port_size_of x
   port ← port_of y
   says (insns.In size port) None None
 port_in _ = None
@@ -70,6 +70,6 @@ port_in _ = None
 abbrev pub port_out : List Argument → Option Statement
 port_out (x ∷ y ∷ []) = do
   port ← port_of x
-  size ← accumulator y
+  size ← port_size_of y
   says (insns.Out size port) None None
 port_out _ = None

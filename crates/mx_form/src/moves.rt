@@ -1,13 +1,13 @@
 //! What moves values as they are, or extends them.
 
 ghost use Rattle.std.specs.Prelude.{◌≡◌, ◌∷◌, []};
-ghost use Rattle.mx_form.specs.Moves.{exchange, load_address, extension_of, zero_extend, sign_extend};
+ghost use Rattle.mx_form.specs.Moves.{exchange, load_address, extension_of, extension_parts, zero_extend, sign_extend};
 
 use crate::number::waiting;
-use crate::spot::{memory_of, not_byte, says, spot_beside, spot_of};
-use mx_insn::{Extension, Insn, Size};
+use crate::spot::{memory_named, not_byte, says, spot_beside, spot_of};
+use mx_insn::{Extension, Insn, Operand, Register, Size};
 use mx_operand::Argument;
-use mx_statement::Statement;
+use mx_statement::{Statement, Value};
 
 fn exchange_two(first: Argument, second: Argument) -> Option<Statement>
     ensures { result ≡ exchange (first ∷ second ∷ []) }
@@ -42,7 +42,7 @@ fn load_two(first: Argument, second: Argument) -> Option<Statement>
     match (first, second) {
         (Argument::Register(size, to), Argument::Memory(None, address)) => {
             let size = not_byte(size)?;
-            let memory = memory_of(address)?;
+            let memory = memory_named(address)?;
             says(
                 Insn::LoadAddress { size, to, memory },
                 None,
@@ -74,20 +74,38 @@ fn extension_of(to: Size, from: Size) -> Option<Extension>
     }
 }
 
-fn zero_extend_two(first: Argument, second: Argument) -> Option<Statement>
-    ensures { result ≡ zero_extend (first ∷ second ∷ []) }
+/// What MOVZX or MOVSX takes into which register.
+#[derive(Clone, Copy)]
+pub struct ExtensionParts {
+    pub extension: Extension,
+    pub to: Register,
+    pub from: Operand,
+    pub displacement: Option<Value>,
+}
+
+fn extension_parts_of_two(first: Argument, second: Argument) -> Option<ExtensionParts>
+    ensures { result ≡ extension_parts (first ∷ second ∷ []) }
 {
     match first {
         Argument::Register(size, to) => {
             let spot = spot_of(second)?;
             let extension = extension_of(size, spot.size)?;
-            let insn = Insn::ZeroExtend {
+            Some(ExtensionParts {
                 extension,
                 to,
                 from: spot.operand,
-            };
-            says(insn, None, spot.displacement)
+                displacement: spot.displacement,
+            })
         }
+        _ => None,
+    }
+}
+
+fn extension_parts(arguments: &[Argument]) -> Option<ExtensionParts>
+    ensures { result ≡ extension_parts arguments.now }
+{
+    match arguments {
+        [first, second] => extension_parts_of_two(*first, *second),
         _ => None,
     }
 }
@@ -96,36 +114,24 @@ fn zero_extend_two(first: Argument, second: Argument) -> Option<Statement>
 pub fn zero_extend(arguments: &[Argument]) -> Option<Statement>
     ensures { result ≡ zero_extend arguments.now }
 {
-    match arguments {
-        [first, second] => zero_extend_two(*first, *second),
-        _ => None,
-    }
-}
-
-fn sign_extend_two(first: Argument, second: Argument) -> Option<Statement>
-    ensures { result ≡ sign_extend (first ∷ second ∷ []) }
-{
-    match first {
-        Argument::Register(size, to) => {
-            let spot = spot_of(second)?;
-            let extension = extension_of(size, spot.size)?;
-            let insn = Insn::SignExtend {
-                extension,
-                to,
-                from: spot.operand,
-            };
-            says(insn, None, spot.displacement)
-        }
-        _ => None,
-    }
+    let parts = extension_parts(arguments)?;
+    let insn = Insn::ZeroExtend {
+        extension: parts.extension,
+        to: parts.to,
+        from: parts.from,
+    };
+    says(insn, None, parts.displacement)
 }
 
 /// MOVSX.
 pub fn sign_extend(arguments: &[Argument]) -> Option<Statement>
     ensures { result ≡ sign_extend arguments.now }
 {
-    match arguments {
-        [first, second] => sign_extend_two(*first, *second),
-        _ => None,
-    }
+    let parts = extension_parts(arguments)?;
+    let insn = Insn::SignExtend {
+        extension: parts.extension,
+        to: parts.to,
+        from: parts.from,
+    };
+    says(insn, None, parts.displacement)
 }

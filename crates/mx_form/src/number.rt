@@ -2,7 +2,7 @@
 
 ghost use Rattle.std.specs.Prelude.{◌≡◌, ◌<◌, ◌^◌, IfSome};
 ghost use Rattle.mx_word.specs.Word.{width};
-ghost use Rattle.mx_form.specs.Numbers.{number_in, waiting, immediate_of, names_no_other};
+ghost use Rattle.mx_form.specs.Numbers.{number_in, waiting, immediate_in, names_no_other};
 
 use mx_insn::{Immediate, Size};
 use mx_statement::Value;
@@ -37,8 +37,8 @@ pub fn waiting(value: Value) -> Option<Value>
     }
 }
 
-pub fn immediate_of(size: Size, value: Value) -> Option<Immediate>
-    ensures { result ≡ immediate_of size value }
+pub fn immediate_in(size: Size, value: Value) -> Option<Immediate>
+    ensures { result ≡ immediate_in size value }
 {
     let word = number_in(size, value)?;
     match size {

@@ -3,7 +3,7 @@
 ghost use Rattle.std.specs.Prelude.{◌≡◌, ◌∷◌, []};
 ghost use Rattle.mx_form.specs.Operations.{factor_of, unary, test, product, count_of, shift, set_condition};
 
-use crate::number::{immediate_of, number_in, waiting};
+use crate::number::{immediate_in, number_in, waiting};
 use crate::spot::{not_byte, says, spot_beside, spot_of, spot_of_size};
 use mx_insn::{Condition, Count, Insn, Product, Register, Shift, Size, Unary, WideImmediate};
 use mx_operand::Argument;
@@ -42,7 +42,7 @@ fn test_two(first: Argument, second: Argument) -> Option<Statement>
         }
         Argument::Value(value) => {
             let spot = spot_of(first)?;
-            let immediate = immediate_of(spot.size, value)?;
+            let immediate = immediate_in(spot.size, value)?;
             let insn = Insn::TestImmediate {
                 operand: spot.operand,
                 value: immediate,

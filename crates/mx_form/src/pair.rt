@@ -4,8 +4,8 @@ ghost use Rattle.std.specs.Prelude.{◌≡◌, ◌∷◌, []};
 ghost use Rattle.mx_operand.specs.declared.argument.Argument.TheVariants as arguments;
 ghost use Rattle.mx_form.specs.Pairs.{from_spot, to_memory, to_spot, operands_of};
 
-use crate::number::{immediate_of, names_no_other, waiting};
-use crate::spot::{Spot, memory_of, spot_beside, spot_of};
+use crate::number::{immediate_in, names_no_other, waiting};
+use crate::spot::{Spot, memory_named, spot_beside, spot_of};
 use mx_insn::{Operand, Operands, Register, Size};
 use mx_operand::{Address, Argument};
 use mx_statement::Value;
@@ -39,7 +39,7 @@ fn to_memory(named: Option<Size>, address: Address, size: Size, from: Register) 
     if !names_no_other(named, size) {
         return None;
     }
-    let to = memory_of(address)?;
+    let to = memory_named(address)?;
     Some(Pair {
         operands: Operands::ToMemory { size, to, from },
         immediate: None,
@@ -50,7 +50,7 @@ fn to_memory(named: Option<Size>, address: Address, size: Size, from: Register) 
 fn to_spot(spot: Spot, value: Value) -> Option<Pair>
     ensures { result ≡ to_spot spot value }
 {
-    let immediate = immediate_of(spot.size, value)?;
+    let immediate = immediate_in(spot.size, value)?;
     Some(Pair {
         operands: Operands::Immediate {
             to: spot.operand,

@@ -1,7 +1,7 @@
 //! Single operands.
 
 ghost use Rattle.std.specs.Prelude.{◌≡◌};
-ghost use Rattle.mx_form.specs.Spots.{says, goes, memory_of, spot_in, spot_of, spot_of_size, spot_beside, not_byte};
+ghost use Rattle.mx_form.specs.Spots.{says, goes, memory_named, spot_in, spot_of, spot_of_size, spot_beside, not_byte};
 
 use crate::number::{names_no_other, number_in, waiting};
 use mx_insn::{Insn, Memory, Operand, OperandSize, Size};
@@ -33,8 +33,8 @@ pub fn goes(branch: Branch, target: Value) -> Option<Statement>
 }
 
 /// The place in memory that an address is.
-pub fn memory_of(address: Address) -> Option<Memory>
-    ensures { result ≡ memory_of address }
+pub fn memory_named(address: Address) -> Option<Memory>
+    ensures { result ≡ memory_named address }
 {
     let displacement = number_in(Size::Dword, address.value)?;
     Some(Memory {
@@ -47,7 +47,7 @@ pub fn memory_of(address: Address) -> Option<Memory>
 fn spot_in(size: Size, address: Address) -> Option<Spot>
     ensures { result ≡ spot_in size address }
 {
-    let memory = memory_of(address)?;
+    let memory = memory_named(address)?;
     Some(Spot {
         size,
         operand: Operand::Memory(memory),

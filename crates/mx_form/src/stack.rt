@@ -1,7 +1,7 @@
 //! The stack, interrupts and ports.
 
 ghost use Rattle.std.specs.Prelude.{◌≡◌, ◌∷◌, []};
-ghost use Rattle.mx_form.specs.Stack.{alone, push, pop, return_of, interrupt, port_of, accumulator, port_in, port_out};
+ghost use Rattle.mx_form.specs.Stack.{alone, push, pop, return_of, interrupt, port_of, port_size_of, port_in, port_out};
 
 use crate::number::{number_in, waiting};
 use crate::spot::{says, spot_of_size};
@@ -121,8 +121,8 @@ fn port_of(argument: Argument) -> Option<Port>
     }
 }
 
-fn accumulator(argument: Argument) -> Option<PortSize>
-    ensures { result ≡ accumulator argument }
+fn port_size_of(argument: Argument) -> Option<PortSize>
+    ensures { result ≡ port_size_of argument }
 {
     match argument {
         Argument::Register(Size::Byte, Register::Eax) => Some(PortSize::Byte),
@@ -137,7 +137,7 @@ pub fn port_in(arguments: &[Argument]) -> Option<Statement>
 {
     match arguments {
         [first, second] => {
-            let size = accumulator(*first)?;
+            let size = port_size_of(*first)?;
             let port = port_of(*second)?;
             says(Insn::In { size, port }, None, None)
         }
@@ -152,7 +152,7 @@ pub fn port_out(arguments: &[Argument]) -> Option<Statement>
     match arguments {
         [first, second] => {
             let port = port_of(*first)?;
-            let size = accumulator(*second)?;
+            let size = port_size_of(*second)?;
             says(Insn::Out { size, port }, None, None)
         }
         _ => None,

@@ -43,7 +43,8 @@ based base ts = do
   v ← displaced ts
   Some (record { base = Some base; index = None; value = v })
 
--- index*scale, base+index*scale, base+index (of scale 1), base, each with a value behind it or without; or a value alone
+-- index*scale, base+index*scale, base+index (of scale 1), base, of registers of 32 bits, each with a value behind it or
+-- without; or a value alone
 abbrev pub address_of : List Item → Option Address
 address_of (items.Register Dword i ∷ items.Mark Star ∷ items.Number n ∷ ts) = indexed None i (scale_of n) ts
 address_of (items.Register Dword b ∷ items.Mark Plus ∷ items.Register Dword i ∷ items.Mark Star ∷ items.Number n ∷ ts) = indexed (Some b) i (scale_of n) ts

@@ -1,2 +1,3 @@
 mod Sorting
+mod Unique
 mod Valuing

@@ -22,18 +22,18 @@ token_bytes t k = slice_range t k.start k.end
 
 -- ---- words
 
--- neither a register nor a size word, and without a dot
+-- neither a register nor a size word
 abbrev pub IsOrdinary : List ℕ → Type 0
-IsOrdinary w = (slice_index w 0 ≢ 46) × ((s : Size) (r : Register) → w ≢ register_word s r) × ((s : Size) → w ≢ size_word s)
+IsOrdinary w = ((s : Size) (r : Register) → w ≢ register_word s r) × ((s : Size) → w ≢ size_word s)
 
--- a register, a size word, a name, or a word with a dot; a token that is a word without a dot is no name only where it is
--- too long
+-- a register, a size word, a name, or a word with a dot before it; a token that is a word without a dot is no name only
+-- where it is too long
 abbrev pub IsWordItem : List ℕ → Item → Type 0
 IsWordItem w (items.Register s r) = w ≡ register_word s r
 IsWordItem w (items.Size s) = w ≡ size_word s
-IsWordItem w (items.Name n) = IsOrdinary w × (name_of w ≡ Some n)
-IsWordItem w items.Long = IsOrdinary w × (name_of w ≡ None)
-IsWordItem w items.Other = slice_index w 0 ≡ 46
+IsWordItem w (items.Name n) = IsOrdinary w × (slice_index w 0 ≢ 46) × (name_of w ≡ Some n)
+IsWordItem w items.Long = IsOrdinary w × (slice_index w 0 ≢ 46) × (name_of w ≡ None)
+IsWordItem w items.Other = IsOrdinary w × (slice_index w 0 ≡ 46)
 IsWordItem w _ = ⊥
 
 -- ---- tokens

@@ -25,7 +25,7 @@ abbrev pub any_long : List Item → Bool
 any_long [] = false
 any_long (t ∷ ts) = is_long t || any_long ts
 
--- the word behind a prefix is none of a label or an operand
+-- the word right behind a prefix is neither a label nor an operand
 abbrev pub long_behind : Begun → List Item → Bool
 long_behind (begun.Known (starts.Repeat p)) [] = false
 long_behind (begun.Known (starts.Repeat p)) (t ∷ ts) = any_long ts

@@ -42,9 +42,6 @@ fn is_dotted(word: &[u8]) -> bool
 fn word_item(word: &[u8]) -> Item
     ensures { IsWordItem word.now result }
 {
-    if is_dotted(word) {
-        return Item::Other;
-    }
     match register_named(word) {
         Some((size, register)) => return Item::Register(size, register),
         None => {}
@@ -52,6 +49,9 @@ fn word_item(word: &[u8]) -> Item
     match size_named(word) {
         Some(size) => return Item::Size(size),
         None => {}
+    }
+    if is_dotted(word) {
+        return Item::Other;
     }
     match name_of(word) {
         Some(name) => Item::Name(name),

@@ -3,9 +3,11 @@
 
 mod data;
 mod items;
+mod laws;
 mod reading;
 mod statements;
 
+pub use laws::one_line;
 pub use mx_lex::LexError;
 pub use mx_statement::Line;
 pub use reading::read_line;

@@ -6,7 +6,8 @@ use Rattle.mx_encode.specs.Forms.{has_form}
 use Rattle.mx_statement.specs.declared.value.Value.{Value}
 use Rattle.mx_statement.specs.declared.instruction.Instruction.{Instruction}
 
--- these parts, where the instruction has a form
+-- these parts, where the instruction has a form; no line of a text lacks one, since ESP is refused as an index before, so
+-- that whatever stands here can be encoded
 abbrev pub formed : (insn : Insn) → Option Value → Option Value → (b : Bool) → has_form insn ≡ b → Option Instruction
 formed insn immediate displacement true e = Some (record { insn = insn; immediate = immediate; displacement = displacement; spelled = e })
 formed insn immediate displacement false e = None

@@ -7,7 +7,7 @@ use crate::statement::{Section, Statement};
 use mx_line::Name;
 
 /// What a statement begins with.
-#[derive(Clone, Copy, Debug, PartialEq, Eq)]
+#[derive(Clone, Copy, PartialEq, Eq)]
 pub enum Beginning {
     Nothing,
     /// Neither a mnemonic nor a repeat nor a directive.
@@ -39,7 +39,7 @@ pub struct Line {
 }
 
 /// Why a line is refused, in the order in which it is told.
-#[derive(Clone, Copy, Debug, PartialEq, Eq)]
+#[derive(Clone, Copy, PartialEq, Eq)]
 pub enum Reason {
     LongName,
     Twice,

@@ -10,7 +10,7 @@ use mx_word::{Bytes, Size};
 use std::marker::Model;
 
 /// Where a program's bytes stand.
-#[derive(Clone, Copy, Debug, PartialEq, Eq)]
+#[derive(Clone, Copy, PartialEq, Eq)]
 pub enum Section {
     Text,
     Data,

@@ -3,7 +3,7 @@
 use mx_line::Name;
 
 /// `n`, `-n`, `name`, `name+n` or `name-n`.
-#[derive(Clone, Copy, Debug, PartialEq, Eq)]
+#[derive(Clone, Copy, PartialEq, Eq)]
 pub struct Value {
     pub name: Option<Name>,
     pub minus: bool,

@@ -1,6 +1,6 @@
--- Which word is which: mnemonics, what may stand around them, and directives (mnemonics: manual, chapter 17;
--- of the names that the manual has for one condition, the first; directives are those of MINIX's assembler, as
--- far as they are here, and `.stack` and `.sep` our own).
+-- Which word is which: mnemonics, what may stand around them, and directives (mnemonics: manual, chapter 17; of the
+-- names that the manual has for one condition we take one. `.text`, `.data`, `.bss`, `.data1`, `.data2`, `.data4`, `.ascii`
+-- and `.space` are those of MINIX's assembler; `.sep`, `.entry`, `.stack` and `short` are our own).
 use Rattle.std.specs.Prelude.{ℕ, List, ◌++◌, codes}
 use Rattle.mx_word.specs.declared.size.Size.{Size}
 use Rattle.mx_word.specs.declared.size.Size.TheVariants.{Byte, Word, Dword}

@@ -1,0 +1,143 @@
+-- A text has a program or a fault, and one program at most.
+use Rattle.std.proofs.Common.{◌≡◌, ℕ, ◌+◌, ◌⊎◌, inl, inr, List, [], ◌∷◌, ◌++◌, length, map, replicate, refl, sym, ◌∙◌, ap, subst, Option, Some, None}
+use Rattle.std.specs.List.{flat_map}
+use Rattle.mx_word.specs.Word.{bytes_of, bytes_in}
+use Rattle.mx_insn.specs.declared.insn.Insn.{Insn}
+use Rattle.mx_encode.specs.declared.Wide.{Wide}
+use Rattle.mx_encode.specs.Chosen.{Chosen}
+use Rattle.mx_lex.specs.Tokens.{IsReadAs, IsFault}
+use Rattle.mx_lex.specs.declared.kinds.Token.{Token}
+use Rattle.mx_lex.specs.declared.kinds.LexError.{LexError}
+use Rattle.mx_statement.specs.declared.statement.Section.{Section}
+use Rattle.mx_statement.specs.declared.statement.Section.TheVariants.{Text, Data, Bss}
+use Rattle.mx_statement.specs.declared.statement.Statement.{Statement}
+use Rattle.mx_statement.specs.declared.statement.Statement.TheVariants as says
+use Rattle.mx_statement.specs.declared.line.Line.{Line}
+use Rattle.mx_statement.specs.declared.line.Reason.{Reason}
+use Rattle.mx_statement.specs.Instructions.{marks}
+use Rattle.mx_reading.specs.Lines.{IsLine}
+use Rattle.mx_aout.specs.declared.program.Program.{Program}
+use Rattle.mx_asm.specs.declared.fault.Fault.{Fault}
+use Rattle.mx_asm.specs.declared.sizes.Sizes.{Sizes}
+use Rattle.mx_asm.specs.Branches.{branch_by, branch_marks, distance}
+use Rattle.mx_asm.specs.Lengths.{length_of}
+use Rattle.mx_asm.specs.Layout.{Above, start, said, reason_of, left_by, laid_by, value_under, address_of, spot_of, sizes_after}
+use Rattle.mx_asm.specs.Bytes.{AllStand, BytesOf, StandsIn, contents}
+use Rattle.mx_asm.specs.Faults.{fault_behind, total_of}
+use Rattle.mx_asm.specs.Assembled.{AreAssembled, SameProgram, symbol_under, entry_under}
+use Rattle.mx_asm.specs.Text.{IsTaken, AreTaken, IsWrong, IsFirstWrong, on_behind, Assembled, HasFault}
+use Rattle.mx_asm.proofs.Lengths.{KeepsLength}
+use Rattle.mx_asm.proofs.Emitting.{lengths_same}
+
+abbrev pub OneLine : Type 0
+OneLine = (t : List ℕ) (a b : Line) → IsLine t a → IsLine t b → a ≡ b
+
+abbrev pub NeverBoth : Type 0
+NeverBoth = (t : List ℕ) (ks : List Token) (e : LexError) → IsReadAs t ks → IsFault t e → ⊥
+
+abbrev pub OneChosen : Type 0
+OneChosen = (i : Insn) (wide : Wide) (a b : List ℕ) → Chosen i wide a → Chosen i wide b → a ≡ b
+
+-- ---- a line that is taken isn't wrong
+
+not_some : (o : Option Reason) (r : Reason) → o ≡ None → o ≡ Some r → ⊥
+not_some None r e f = cc
+not_some (Some s) r e f = cc
+
+taken_not_wrong : OneLine → NeverBoth → (a : Above) (n : ℕ) (ts : List (List ℕ)) (ls : List Line) (f : Fault) → AreTaken a ts ls → IsFirstWrong a n ts f → ⊥
+taken_not_wrong one never a n [] ls f x wrong = wrong
+taken_not_wrong one never a n (t ∷ ts) [] f x wrong = x
+taken_not_wrong one never a n (t ∷ ts) (l ∷ ls) f ((line, clean), more) (inl (at, inl (e, fault, tells))) = never t line.0 e line.1 fault
+taken_not_wrong one never a n (t ∷ ts) (l ∷ ls) f ((line, clean), more) (inl (at, inr (k, r, other, stands, problem))) =
+    let same : k ≡ l = one t k l other line in
+    not_some (reason_of a l) r clean (subst (λ (x : Line). reason_of a x ≡ Some r) same stands)
+taken_not_wrong one never a n (t ∷ ts) (l ∷ ls) f ((line, clean), more) (inr (k, (other, clean'), wrong)) =
+    let same : k ≡ l = one t k l other line in
+    taken_not_wrong one never (on_behind a l) (n + 1) ts ls f more (subst (λ (x : Line). IsFirstWrong (on_behind a x) (n + 1) ts f) same wrong)
+
+pub taken_same : OneLine → (a : Above) (ts : List (List ℕ)) (ls ks : List Line) → AreTaken a ts ls → AreTaken a ts ks → ls ≡ ks
+taken_same one a [] [] [] x y = refl
+taken_same one a [] [] (k ∷ ks) x y = absurd y
+taken_same one a [] (l ∷ ls) ks x y = absurd x
+taken_same one a (t ∷ ts) [] ks x y = absurd x
+taken_same one a (t ∷ ts) (l ∷ ls) [] x y = absurd y
+taken_same one a (t ∷ ts) (l ∷ ls) (k ∷ ks) ((line, clean), more) ((other, clean'), more') =
+    let same : k ≡ l = one t k l other line in
+    let rest : ls ≡ ks = taken_same one (on_behind a l) ts ls ks more (subst (λ (x : Line). AreTaken (on_behind a x) ts ks) same more') in
+    cc
+
+no_fault_left : (o : Option Fault) (f : Fault) → o ≡ None → o ≡ Some f → ⊥
+no_fault_left None f e g = cc
+no_fault_left (Some h) f e g = cc
+
+pub never_program_and_fault : OneLine → NeverBoth → (t : List ℕ) (p : Program) (f : Fault) → Assembled t p → HasFault t f → ⊥
+never_program_and_fault one never t p f (ls, taken, made) (inl wrong) = taken_not_wrong one never start 1 _ ls f taken wrong
+never_program_and_fault one never t p f (ls, taken, made) (inr (ks, taken', told)) =
+    let same : ks ≡ ls = taken_same one start _ ks ls taken' taken in
+    no_fault_left (fault_behind ls) f made.accepted (subst (λ (x : List Line). fault_behind x ≡ Some f) same told)
+
+-- ---- the bytes of a statement
+
+somes_same : (xs ys : List ℕ) → map Some xs ≡ map Some ys → xs ≡ ys
+somes_same [] [] e = refl
+somes_same [] (y ∷ ys) e = cc
+somes_same (x ∷ xs) [] e = cc
+somes_same (x ∷ xs) (y ∷ ys) e = let rest : xs ≡ ys = somes_same xs ys cc in let here : x ≡ y = cc in cc
+
+bytes_same : OneChosen → (a : Above) (at : ℕ) (t : Statement) (b c : List ℕ) → BytesOf a at t b → BytesOf a at t c → b ≡ c
+bytes_same one a at says.Nothing b c x y = x ∙ sym y
+bytes_same one a at (says.Enter section) b c x y = x ∙ sym y
+bytes_same one a at (says.Data size values) b c (ns, e, x) (ms, f, y) =
+    let same : ns ≡ ms = somes_same ns ms (sym e ∙ f) in x ∙ ap (flat_map (bytes_of (bytes_in size))) same ∙ sym y
+bytes_same one a at (says.Ascii bytes) b c x y = x ∙ sym y
+bytes_same one a at (says.Space n) b c x y = x ∙ sym y
+bytes_same one a at says.Separate b c x y = x ∙ sym y
+bytes_same one a at (says.Entry name) b c x y = x ∙ sym y
+bytes_same one a at (says.Stack n) b c x y = x ∙ sym y
+bytes_same one a at (says.Instruction i) b c (insn, e, x) (other, f, y) =
+    let same : other ≡ insn = cc in one insn (marks i) b c x (subst (λ (z : Insn). Chosen z (marks i) c) same y)
+bytes_same one a at (says.Branch k target) b c (x, e, chosen, n) (y, f, chosen', m) =
+    let same : y ≡ x = cc in
+    let long : length c ≡ length b = m ∙ sym n in
+    one (branch_by k (distance (at + length b) x)) (branch_marks k) b c chosen
+    (subst (λ (z : ℕ). Chosen (branch_by k (distance (at + length b) z)) (branch_marks k) c) same (subst (λ (z : ℕ). Chosen (branch_by k (distance (at + z) y)) (branch_marks k) c) long chosen'))
+
+stands_same : OneChosen → (section : Section) (a : Above) (at : ℕ) (t : Statement) (b c : List ℕ) → StandsIn section a at t b → StandsIn section a at t c → b ≡ c
+stands_same one Text a at t b c x y = bytes_same one a at t b c x y
+stands_same one Data a at t b c x y = bytes_same one a at t b c x y
+stands_same one Bss a at t b c x y = x ∙ sym y
+
+all_same : OneChosen → (a : Above) (s : Sizes) (ls : List Line) (bs cs : List (List ℕ)) → AllStand a s ls bs → AllStand a s ls cs → bs ≡ cs
+all_same one a s [] [] [] x y = refl
+all_same one a s [] [] (c ∷ cs) x y = absurd y
+all_same one a s [] (b ∷ bs) cs x y = absurd x
+all_same one a s (l ∷ ls) [] cs x y = absurd x
+all_same one a s (l ∷ ls) (b ∷ bs) [] x y = absurd y
+all_same one a s (l ∷ ls) (b ∷ bs) (c ∷ cs) (x, xs) (y, ys) =
+    let same : c ≡ b = stands_same one s.section a (address_of a (spot_of s)) (said l) c b y x in
+    let rest : bs ≡ cs = all_same one a (sizes_after s (said l) (length b)) ls bs cs xs (subst (λ (z : List ℕ). AllStand a (sizes_after s (said l) (length z)) ls cs) same ys) in
+    cc
+
+-- ---- one program
+
+lines_program : KeepsLength → OneChosen → (ls : List Line) (p q : Program) → AreAssembled ls p → AreAssembled ls q → SameProgram p q
+lines_program law one ls p q x y =
+    let a = left_by start ls (map length x.bytes) in
+    let left : left_by start ls (map length y.bytes) ≡ a = lengths_same law _ start start.sizes ls y.bytes y.stand ∙ sym (lengths_same law a start start.sizes ls x.bytes x.stand) in
+    let stand : AllStand a start.sizes ls y.bytes = subst (λ (z : Above). AllStand z start.sizes ls y.bytes) left y.stand in
+    let bytes : x.bytes ≡ y.bytes = all_same one a start.sizes ls x.bytes y.bytes x.stand stand in
+    let back : a ≡ left_by start ls (map length y.bytes) = sym left in
+    record {
+      sep = x.sep ∙ ap (λ (z : Above). z.sep) back ∙ sym y.sep;
+      entry = x.entry ∙ ap (λ (z : Above). entry_under z z.entry) back ∙ sym y.entry;
+      total = x.total ∙ ap total_of back ∙ sym y.total;
+      text = x.text ∙ ap (contents Text start.sizes ls) bytes ∙ sym y.text;
+      init = x.init ∙ ap (contents Data start.sizes ls) bytes ∙ sym y.init;
+      bss = x.bss ∙ ap (λ (z : Above). z.sizes.bss) back ∙ sym y.bss;
+      symbols = x.symbols ∙ ap (λ (z : Above). map (symbol_under z) z.labels) back ∙ sym y.symbols;
+    }
+
+pub one_program : OneLine → KeepsLength → OneChosen → (t : List ℕ) (p q : Program) → Assembled t p → Assembled t q → SameProgram p q
+one_program one law chosen t p q (ls, taken, made) (ks, taken', made') =
+    let same : ks ≡ ls = taken_same one start _ ks ls taken' taken in
+    lines_program law chosen ls p q made (subst (λ (x : List Line). AreAssembled x q) same made')

@@ -1,0 +1,51 @@
+-- The lines of a text, one more at a time.
+use Rattle.std.proofs.Common.{◌≡◌, ℕ, ◌+◌, ◌*◌, ◌^◌, ◌≤◌, ◌⊎◌, inl, inr, Bool, true, false, List, [], ◌∷◌, ◌++◌, length, refl, sym, ◌∙◌, ap, subst, arith, append_assoc, length-append, Option, Some, None}
+use Rattle.std.specs.Prelude.{◌||◌}
+use Rattle.mx_statement.specs.declared.line.Line.{Line}
+use Rattle.mx_statement.specs.declared.line.Reason.{Reason}
+use Rattle.mx_statement.specs.Reasons.{refusal}
+use Rattle.mx_line.specs.declared.names.Name.{Name}
+use Rattle.std.proofs.lemmas.List.Elements.{All-weaker}
+use Rattle.mx_asm.specs.declared.sizes.Sizes.{Sizes}
+use Rattle.mx_asm.specs.declared.sizes.Spot.{Spot}
+use Rattle.mx_asm.specs.declared.fault.Fault.{Fault}
+use Rattle.mx_asm.specs.Lengths.{length_of}
+use Rattle.mx_asm.specs.Layout.{Above, start, behind, said, laid_by, reason_of, stands, is_second, SizesWithin, AllSpotsWithin}
+use Rattle.mx_asm.specs.Text.{IsTaken, AreTaken, on_behind, IsFirstWrong, IsWrong}
+use Rattle.mx_asm.proofs.Laying.{behind_within, labels_behind_within}
+
+-- whatever goes on from here goes on from the start
+abbrev pub TakesOn : Above → List (List ℕ) → List (List ℕ) → List Line → Type 0
+TakesOn a left all found = (ls : List Line) → AreTaken a left ls → AreTaken start all (found ++ ls)
+
+abbrev pub WrongsOn : Above → ℕ → List (List ℕ) → List (List ℕ) → Type 0
+WrongsOn a n left all = (f : Fault) → IsFirstWrong a n left f → IsFirstWrong start 1 all f
+
+pub takes_more : (a b : Above) (t : List ℕ) (left more all : List (List ℕ)) (found : List Line) (l : Line) → TakesOn a left all found → left ≡ t ∷ more → IsTaken a t l → b ≡ on_behind a l
+    → TakesOn b more all (found ++ l ∷ [])
+takes_more a b t left more all found l before next taken same ls rest =
+    let rest' : AreTaken (on_behind a l) more ls = subst (λ (x : Above). AreTaken x more ls) same rest in
+    let whole : AreTaken a left (l ∷ ls) = subst (λ (x : List (List ℕ)). AreTaken a x (l ∷ ls)) (sym next) (taken, rest') in
+    subst (λ (x : List Line). AreTaken start all x) (sym (append_assoc found (l ∷ []) ls)) (before (l ∷ ls) whole)
+
+pub wrongs_more : (a b : Above) (n m : ℕ) (t : List ℕ) (left more all : List (List ℕ)) (l : Line) → WrongsOn a n left all → left ≡ t ∷ more → IsTaken a t l → b ≡ on_behind a l → m ≡ n + 1
+    → WrongsOn b m more all
+wrongs_more a b n m t left more all l before next taken same one f rest =
+    let rest' : IsFirstWrong (on_behind a l) (n + 1) more f = subst (λ (x : Above). IsFirstWrong x (n + 1) more f) same (subst (λ (x : ℕ). IsFirstWrong b x more f) one rest) in
+    before f (subst (λ (x : List (List ℕ)). IsFirstWrong a n x f) (sym next) (inr (l, taken, rest')))
+
+laid_snoc : (a : Above) (found : List Line) (l : Line) → laid_by a (found ++ l ∷ []) ≡ on_behind (laid_by a found) l
+laid_snoc a [] l = refl
+laid_snoc a (k ∷ found) l = laid_snoc (behind a k (length_of (said k))) found l
+
+pub laid_more : (a b : Above) (found : List Line) (l : Line) → a ≡ laid_by start found → b ≡ on_behind a l → b ≡ laid_by start (found ++ l ∷ [])
+laid_more a b found l laid same = same ∙ ap (λ (x : Above). on_behind x l) laid ∙ sym (laid_snoc start found l)
+
+pub one_longer : (found : List Line) (l : Line) → length (found ++ l ∷ []) ≡ length found + 1
+one_longer found l = length-append found (l ∷ [])
+
+pub sizes_weaker : (s : Sizes) (k m : ℕ) → SizesWithin s k → k ≤ m → SizesWithin s m
+sizes_weaker s k m (x, y, z) le = (omega arith, omega arith, omega arith)
+
+pub spots_weaker : (labels : List (Name × Spot)) (k m : ℕ) → AllSpotsWithin labels k → k ≤ m → AllSpotsWithin labels m
+spots_weaker labels k m h le = All-weaker (λ (e : Name × Spot). e.1.offset ≤ k) (λ (e : Name × Spot). e.1.offset ≤ m) (λ e p. omega (arith, p)) labels h

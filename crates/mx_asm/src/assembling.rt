@@ -1,0 +1,107 @@
+//! Texts.
+
+ghost use Rattle.std.specs.Prelude.{◌≡◌, ◌≤◌, ◌^◌, length, IfOk, IfErr};
+ghost use Rattle.mx_line.specs.Lines.{lines};
+ghost use Rattle.mx_asm.specs.Lengths.{length_of};
+ghost use Rattle.mx_asm.specs.Layout.{SizesWithin, AllSpotsWithin, start, said, laid_by};
+ghost use Rattle.mx_asm.specs.Text.{IsTaken, AreTaken, on_behind, Assembled, TellsFault, TellsFirst, TellsWrong, TellsLexical};
+ghost use Rattle.mx_asm.specs.View.{above_of};
+
+use crate::fault::{AsmError, Fault, Problem, problem_of};
+use crate::layout::Layout;
+use crate::program::program_of;
+use mx_aout::Program;
+use mx_lex::LexError;
+use mx_line::next_line;
+use mx_reading::read_line;
+use mx_statement::Line;
+use std::alloc::Global;
+
+/// What is told of a line's bytes.
+fn told_of(error: LexError, line: usize) -> AsmError
+    ensures { TellsLexical error line result }
+{
+    let problem = match error {
+        LexError::BadByte(_) => Problem::BadByte,
+        LexError::BadNumber(_) => Problem::BadNumber,
+        LexError::OpenText(_) => Problem::OpenText,
+        LexError::NoMemory => return AsmError::NoMemory,
+    };
+    AsmError::At(Fault { problem, line })
+}
+
+/// What the lines of a text say, and where they stand.
+#[derive(Drop)]
+struct Read {
+    layout: Layout,
+    lines: Vec<Line>,
+}
+
+impl Layout {
+    /// Takes a line in behind those above it, or tells what is wrong with it.
+    fn take_line(&mut self, alloc: Global, text: &[u8], number: usize) -> Result<Line, AsmError>
+        requires { SizesWithin self.old.sizes (2 ^ 126) }
+        ensures taken { IfOk result (λ line. IsTaken (above_of self.old) text.now line) }
+        ensures behind { IfOk result (λ line. above_of self.new ≡ on_behind (above_of self.old) line) }
+        ensures small { IfOk result (λ line. length_of (said line) ≤ 2 ^ 64) }
+        ensures wrong { IfErr result (TellsWrong (above_of self.old) number text.now) }
+    {
+        let line = match read_line(alloc, text) {
+            Ok(line) => line,
+            Err(error) => return Err(told_of(error, number)),
+        };
+        match self.reason_of(&line) {
+            Some(reason) => {
+                return Err(AsmError::At(Fault {
+                    problem: problem_of(reason),
+                    line: number,
+                }));
+            }
+            None => {}
+        }
+        self.go_behind(&line)?;
+        Ok(line)
+    }
+}
+
+/// How many lines there are; that many fit in memory.
+fn count(lines: &[Line]) -> usize
+    ensures count { result ≡ length lines.now }
+    ensures small { result ≤ 2 ^ 62 }
+{
+    lines.len()
+}
+
+/// The lines of a text, or the first with which something is wrong.
+fn read_lines(alloc: Global, text: &[u8]) -> Result<Read, AsmError>
+    ensures taken { IfOk result (λ read. AreTaken start (lines text.now) read.lines.items) }
+    ensures laid { IfOk result (λ read. above_of read.layout ≡ laid_by start read.lines.items) }
+    ensures sizes { IfOk result (λ read. SizesWithin read.layout.sizes (2 ^ 126)) }
+    ensures labels { IfOk result (λ read. AllSpotsWithin (above_of read.layout).labels (2 ^ 126)) }
+    ensures wrong { IfErr result (TellsFirst text.now) }
+{
+    let mut layout = Layout::new(alloc);
+    let mut found = Vec::new(alloc);
+    let mut rest = text;
+    let mut number = 1;
+    while let Some((line, more)) = next_line(rest) {
+        let taken = layout.take_line(alloc, line, number)?;
+        found.push(taken)?;
+        number = count(found.as_slice()) + 1;
+        rest = more;
+    }
+    Ok(Read {
+        layout,
+        lines: found,
+    })
+}
+
+/// The program of a text, or its first fault. Takes memory only for what it answers and for the
+/// lines it has read.
+pub fn assemble(alloc: Global, text: &str) -> Result<Program, AsmError>
+    ensures program { IfOk result (Assembled text.now) }
+    ensures fault { IfErr result (TellsFault text.now) }
+{
+    let read = read_lines(alloc, text.as_bytes())?;
+    program_of(alloc, &read.layout, read.lines.as_slice())
+}

@@ -1,0 +1,5 @@
+pub mod Requests
+pub mod Refusals
+pub mod Serving
+pub mod Clock
+pub mod Ringing

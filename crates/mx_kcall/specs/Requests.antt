@@ -1,0 +1,58 @@
+-- Kernel calls as messages to SYSTEM, and their replies (our choice).
+use Rattle.std.specs.Prelude.{ℕ, ◌-◌, ◌^◌, ◌++◌, ◌==◌, List, drop, take, replicate, Option, Some, None, if◌then◌else◌}
+use Rattle.mx_word.specs.Word.{value_at, bytes_of}
+use Rattle.mx_proc.specs.World.{World, buffer_at, memory_at}
+use Rattle.mx_kcall.specs.declared.request.Words.{Words}
+use Rattle.mx_kcall.specs.declared.request.Answer.{Answer}
+use Rattle.mx_kcall.specs.declared.request.Request.{Request}
+use Rattle.mx_kcall.specs.declared.request.Request.TheVariants.{Exit, Times, SetAlarm, Irqctl, Devio, Vircopy, Kill, Whois}
+
+-- the number at a place of a message
+abbrev pub word_at : List ℕ → ℕ → ℕ
+word_at bytes k = value_at (drop k bytes) 0 4
+
+-- the type and the words of a message, behind the four bytes of its source
+abbrev pub words_of : List ℕ → Words
+words_of bytes = record { kind = word_at bytes 4; p0 = word_at bytes 8; p1 = word_at bytes 12; p2 = word_at bytes 16; p3 = word_at bytes 20; p4 = word_at bytes 24 }
+
+-- those at the buffer of a process
+unfoldable pub words_at : World → ℕ → Words
+words_at w s = words_of (take 36 (drop (buffer_at w s) (memory_at w s)))
+
+-- THE EIGHT CALLS by the type, with their words
+abbrev pub request_of : Words → Option Request
+request_of m =
+    if m.kind == 0x600 then Some Exit else
+    if m.kind == 0x601 then Some Times else
+    -- a delay, 0 cancels
+    if m.kind == 0x602 then Some (SetAlarm m.p0) else
+    -- 1 takes, 0 gives up; a line
+    if m.kind == 0x603 then Some (Irqctl m.p0 m.p1) else
+    -- 0 reads, 1 writes; a register; a value
+    if m.kind == 0x604 then Some (Devio m.p0 m.p1 m.p2) else
+    -- from, its address, to, its address, how many bytes
+    if m.kind == 0x605 then Some (Vircopy m.p0 m.p1 m.p2 m.p3 m.p4) else
+    -- an endpoint
+    if m.kind == 0x606 then Some (Kill m.p0) else
+    -- a slot
+    if m.kind == 0x607 then Some (Whois m.p0) else
+    None
+
+-- the bit of a call in the mask of calls
+abbrev pub bit_of : Request → ℕ
+bit_of Exit = 0
+bit_of Times = 1
+bit_of (SetAlarm delay) = 2
+bit_of (Irqctl action line) = 3
+bit_of (Devio action register value) = 4
+bit_of (Vircopy from at to place count) = 5
+bit_of (Kill endpoint) = 6
+bit_of (Whois slot) = 7
+
+-- no words
+abbrev pub no_answer : Answer
+no_answer = record { p0 = 0; p1 = 0; p2 = 0 }
+
+-- a reply: from SYSTEM (-2), with the result as its type, then words, zeros else
+abbrev pub reply_bytes : ℕ → Answer → List ℕ
+reply_bytes result a = bytes_of 4 (2 ^ 32 - 2) ++ bytes_of 4 result ++ bytes_of 4 a.p0 ++ bytes_of 4 a.p1 ++ bytes_of 4 a.p2 ++ replicate 16 0

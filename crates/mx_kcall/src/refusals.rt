@@ -1,0 +1,181 @@
+//! Why kernel calls are refused.
+
+ghost use Rattle.std.specs.Prelude.{◌≡◌, ◌∷◌, [], ◌<◌, ◌+◌, ◌%◌, ◌≤◌, ◌||◌, nat_lt, not, false, length, Some, None, MatchResult, IfOk};
+ghost use Rattle.std.specs.Option.{ForSome};
+ghost use Rattle.mx_mem.specs.Segment.{inside};
+ghost use Rattle.mx_proc.specs.Endpoints.{names_slot, is_alive};
+ghost use Rattle.mx_proc.specs.Sound.{HasBuffer};
+ghost use Rattle.mx_proc.specs.States.{is_out};
+ghost use Rattle.mx_proc.specs.World.{process_at, memory_at};
+ghost use Rattle.mx_proc.specs.declared.errors.Errno.TheVariants.{BadEndpoint, Dead};
+ghost use Rattle.mx_ipc.specs.Checks.{has_bit, first_error};
+ghost use Rattle.mx_kcall.specs.Refusals.{reasons, request_refusal, call_refusal, is_away, IsPermitted};
+ghost use Rattle.mx_kcall.specs.Requests.{request_of, words_at};
+ghost use Rattle.mx_kcall.specs.declared.request.Request.TheVariants as requests;
+
+use crate::request::{Request, request_of, words_at};
+use mx_proc::{Endpoint, Errno, Slot, Stale, State, Table};
+
+/// Whether a mask has a bit.
+fn has_bit(mask: u32, bit: u32) -> bool
+    requires { bit < 32 }
+    ensures { result ≡ has_bit mask bit }
+{
+    (mask >> bit) % 2 == 1
+}
+
+/// The slot of an endpoint that is alive.
+fn check_endpoint(table: &Table, endpoint: Endpoint) -> Result<Slot, Errno>
+    ensures value { MatchResult result (λ _. first_error ((not (names_slot table.now endpoint), BadEndpoint) ∷ (not (is_alive table.now endpoint), Dead) ∷ []) ≡ None) (λ e. first_error ((not (names_slot table.now endpoint), BadEndpoint) ∷ (not (is_alive table.now endpoint), Dead) ∷ []) ≡ Some e) }
+    ensures slot { IfOk result (λ s. (s ≡ endpoint % 1024) × (s < length table.now.slots)) }
+{
+    if !table.names_slot(endpoint) {
+        return Err(Errno::BadEndpoint);
+    }
+    match table.look(endpoint) {
+        Ok(slot) => Ok(slot),
+        Err(Stale) => Err(Errno::Dead),
+    }
+}
+
+/// Whether a slot's process is on a processor.
+fn is_away(table: &Table, slot: Slot) -> bool
+    requires { slot < length table.now.slots }
+    ensures { result ≡ is_out (process_at table.now slot).state }
+{
+    match table.process(slot).state {
+        State::Out | State::Doomed => true,
+        _ => false,
+    }
+}
+
+/// Whether bytes of a slot's process lie inside its memory.
+fn holds(table: &Table, slot: Slot, at: u32, count: u32) -> bool
+    requires { slot < length table.now.slots }
+    ensures { result ≡ inside (memory_at table.now slot) at count }
+{
+    at as usize + count as usize <= table.process(slot).image.memory.limit()
+}
+
+/// IRQCTL's refusals.
+fn check_irqctl(table: &Table, slot: Slot, action: u32, line: u32) -> Result<(), Errno>
+    ensures value { MatchResult result (λ _. first_error (reasons table.now slot (requests.Irqctl action line)) ≡ None) (λ e. first_error (reasons table.now slot (requests.Irqctl action line)) ≡ Some e) }
+    ensures permitted { IfOk result (λ _. line < 16) }
+{
+    if action > 1 || line > 15 {
+        return Err(Errno::Invalid);
+    }
+    let refused = match table.devices().owners[line as usize] {
+        Some(owner) => owner != slot,
+        None => action == 0,
+    };
+    if refused {
+        Err(Errno::NotPermitted)
+    } else {
+        Ok(())
+    }
+}
+
+/// VIRCOPY's refusals.
+fn check_vircopy(
+    table: &Table,
+    slot: Slot,
+    from: Endpoint,
+    at: u32,
+    to: Endpoint,
+    place: u32,
+    count: u32,
+) -> Result<(), Errno>
+    ensures value { MatchResult result (λ _. first_error (reasons table.now slot (requests.Vircopy from at to place count)) ≡ None) (λ e. first_error (reasons table.now slot (requests.Vircopy from at to place count)) ≡ Some e) }
+    ensures permitted { IfOk result (λ _. IsPermitted table.now (requests.Vircopy from at to place count)) }
+{
+    if count > 65_536 {
+        return Err(Errno::Invalid);
+    }
+    let source = check_endpoint(table, from)?;
+    let destination = check_endpoint(table, to)?;
+    if is_away(table, source) || is_away(table, destination) {
+        return Err(Errno::NotReady);
+    }
+    if !holds(table, source, at, count) || !holds(table, destination, place, count) {
+        return Err(Errno::BadAddress);
+    }
+    Ok(())
+}
+
+/// KILL's refusals.
+fn check_kill(table: &Table, slot: Slot, endpoint: Endpoint) -> Result<(), Errno>
+    ensures value { MatchResult result (λ _. first_error (reasons table.now slot (requests.Kill endpoint)) ≡ None) (λ e. first_error (reasons table.now slot (requests.Kill endpoint)) ≡ Some e) }
+    ensures permitted { IfOk result (λ _. IsPermitted table.now (requests.Kill endpoint)) }
+{
+    let victim = check_endpoint(table, endpoint)?;
+    if is_away(table, victim) {
+        return Err(Errno::NotReady);
+    }
+    Ok(())
+}
+
+/// WHOIS's refusals.
+fn check_whois(table: &Table, slot: Slot, named: u32) -> Result<(), Errno>
+    ensures value { MatchResult result (λ _. first_error (reasons table.now slot (requests.Whois named)) ≡ None) (λ e. first_error (reasons table.now slot (requests.Whois named)) ≡ Some e) }
+    ensures permitted { IfOk result (λ _. named < length table.now.slots) }
+{
+    if named >= u32::from(table.used()) {
+        return Err(Errno::Invalid);
+    }
+    if table.process(named as u8).state.is_down() {
+        return Err(Errno::Dead);
+    }
+    Ok(())
+}
+
+/// A request's own refusals, the first told.
+#[tactic(auto, unfolding(crate::specs::Refusals::request_refusal))]
+fn check_request(table: &Table, slot: Slot, request: Request) -> Result<(), Errno>
+    ensures value { MatchResult result (λ _. request_refusal table.now slot request ≡ None) (λ e. request_refusal table.now slot request ≡ Some e) }
+    ensures permitted { IfOk result (λ _. IsPermitted table.now request) }
+{
+    match request {
+        Request::Exit | Request::Times | Request::SetAlarm(_) => Ok(()),
+        Request::Irqctl { action, line } => check_irqctl(table, slot, action, line),
+        Request::Devio {
+            action,
+            register,
+            ..
+        } => {
+            if action > 1 || register > 255 {
+                return Err(Errno::Invalid);
+            }
+            Ok(())
+        }
+        Request::Vircopy {
+            from,
+            at,
+            to,
+            place,
+            count,
+        } => check_vircopy(table, slot, from, at, to, place, count),
+        Request::Kill(endpoint) => check_kill(table, slot, endpoint),
+        Request::Whois(named) => check_whois(table, slot, named),
+    }
+}
+
+/// The request at a process's buffer, unless it is refused: by its type, by the mask of calls, by
+/// its own reasons.
+#[tactic(auto, unfolding(crate::specs::Refusals::request_refusal, crate::specs::Refusals::call_refusal))]
+pub(crate) fn check(table: &Table, slot: Slot) -> Result<Request, Errno>
+    requires slot { slot < length table.now.slots }
+    requires inside { HasBuffer (process_at table.now slot) }
+    ensures value { MatchResult result (λ r. (request_of (words_at table.now slot) ≡ Some r) × (call_refusal table.now slot ≡ None)) (λ e. call_refusal table.now slot ≡ Some e) }
+    ensures permitted { IfOk result (λ r. IsPermitted table.now r) }
+{
+    let request = match request_of(words_at(table, slot)) {
+        Some(request) => request,
+        None => return Err(Errno::BadRequest),
+    };
+    if !has_bit(table.process(slot).masks.calls, request.bit()) {
+        return Err(Errno::Denied);
+    }
+    check_request(table, slot, request)?;
+    Ok(request)
+}

@@ -1,0 +1,171 @@
+//! Requests and replies as bytes and as values.
+
+ghost use Rattle.std.specs.Prelude.{◌≡◌, ◌<◌, length};
+ghost use Rattle.mx_proc.specs.Sound.{HasBuffer};
+ghost use Rattle.mx_proc.specs.World.{process_at};
+ghost use Rattle.mx_kcall.specs.Requests.{words_of, words_at, request_of, bit_of, no_answer, reply_bytes};
+
+use mx_proc::{Endpoint, Slot, Table};
+use mx_word::{Register, read_dword, write_dword};
+
+/// The type of a message to SYSTEM, and the first of its words.
+#[derive(Clone, Copy)]
+pub struct Words {
+    pub kind: u32,
+    pub p0: u32,
+    pub p1: u32,
+    pub p2: u32,
+    pub p3: u32,
+    pub p4: u32,
+}
+
+/// A kernel call.
+#[derive(Clone, Copy)]
+pub enum Request {
+    /// The caller dies.
+    Exit,
+    /// Tells the uptime and the caller's steps.
+    Times,
+    /// Sets the caller's alarm after so many ticks; 0 cancels it.
+    SetAlarm(u32),
+    /// Takes (1) or gives up (0) an interrupt line.
+    Irqctl {
+        action: u32,
+        line: u32,
+    },
+    /// Reads (0) or writes (1) a register of the machine; register 0 is the console.
+    Devio {
+        action: u32,
+        register: u32,
+        value: u32,
+    },
+    /// Copies so many bytes from one process's address to another's.
+    Vircopy {
+        from: Endpoint,
+        at: u32,
+        to: Endpoint,
+        place: u32,
+        count: u32,
+    },
+    /// Kills a process.
+    Kill(Endpoint),
+    /// Tells the endpoint of a slot.
+    Whois(u32),
+}
+
+/// The words of a reply.
+#[derive(Clone, Copy)]
+pub struct Answer {
+    pub p0: u32,
+    pub p1: u32,
+    pub p2: u32,
+}
+
+impl Answer {
+    /// No words.
+    pub fn none() -> Answer
+        ensures { result ≡ no_answer }
+    {
+        Answer {
+            p0: 0,
+            p1: 0,
+            p2: 0,
+        }
+    }
+}
+
+/// How a kernel call ended.
+#[derive(Clone, Copy, PartialEq, Eq)]
+pub enum After {
+    /// It was answered with this result, and the caller goes on.
+    Reply(u32),
+    /// The caller died.
+    Died,
+}
+
+fn words_of(message: &[u8; 36]) -> Words
+    ensures { result ≡ words_of message.now }
+{
+    Words {
+        kind: read_dword(&message[4..]),
+        p0: read_dword(&message[8..]),
+        p1: read_dword(&message[12..]),
+        p2: read_dword(&message[16..]),
+        p3: read_dword(&message[20..]),
+        p4: read_dword(&message[24..]),
+    }
+}
+
+/// The words of the message at a process's buffer.
+#[tactic(auto, unfolding(crate::specs::Requests::words_at))]
+pub(crate) fn words_at(table: &Table, slot: Slot) -> Words
+    requires slot { slot < length table.now.slots }
+    requires inside { HasBuffer (process_at table.now slot) }
+    ensures { result ≡ words_at table.now slot }
+{
+    let image = &table.process(slot).image;
+    words_of(&image.memory.message(image.register(Register::Ebx)))
+}
+
+/// The request that words make.
+pub(crate) fn request_of(words: Words) -> Option<Request>
+    ensures { result ≡ request_of words }
+{
+    let request = match words.kind {
+        0x600 => Request::Exit,
+        0x601 => Request::Times,
+        0x602 => Request::SetAlarm(words.p0),
+        0x603 => Request::Irqctl {
+            action: words.p0,
+            line: words.p1,
+        },
+        0x604 => Request::Devio {
+            action: words.p0,
+            register: words.p1,
+            value: words.p2,
+        },
+        0x605 => Request::Vircopy {
+            from: words.p0,
+            at: words.p1,
+            to: words.p2,
+            place: words.p3,
+            count: words.p4,
+        },
+        0x606 => Request::Kill(words.p0),
+        0x607 => Request::Whois(words.p0),
+        _ => return None,
+    };
+    Some(request)
+}
+
+impl Request {
+    /// Its bit in the mask of calls.
+    pub(crate) fn bit(self) -> u32
+        ensures value { result ≡ bit_of self }
+        ensures below { result < 8 }
+    {
+        match self {
+            Request::Exit => 0,
+            Request::Times => 1,
+            Request::SetAlarm(_) => 2,
+            Request::Irqctl { .. } => 3,
+            Request::Devio { .. } => 4,
+            Request::Vircopy { .. } => 5,
+            Request::Kill(_) => 6,
+            Request::Whois(_) => 7,
+        }
+    }
+}
+
+/// The bytes of a reply.
+pub(crate) fn reply_bytes(outcome: u32, answer: Answer) -> [u8; 36]
+    ensures { result ≡ reply_bytes outcome answer }
+{
+    let mut message = [0; 36];
+    write_dword(&mut message, 0xFFFF_FFFE);
+    write_dword(&mut message[4..], outcome);
+    write_dword(&mut message[8..], answer.p0);
+    write_dword(&mut message[12..], answer.p1);
+    write_dword(&mut message[16..], answer.p2);
+    message
+}

@@ -1,0 +1,179 @@
+//! What kernel calls do.
+
+ghost use Rattle.std.specs.Prelude.{◌≡◌, ◌≢◌, ℕ, ◌+◌, ◌<◌, ◌≤◌, ◌^◌, ◌==◌, false, Some, None, length};
+ghost use Rattle.mx_proc.specs.Frame.{frame};
+ghost use Rattle.mx_proc.specs.Sound.{HasBuffer};
+ghost use Rattle.mx_proc.specs.World.{process_at};
+ghost use Rattle.mx_proc.specs.declared.process.State.TheVariants.{Home};
+ghost use Rattle.mx_kcall.specs.Refusals.{IsPermitted};
+ghost use Rattle.mx_kcall.specs.Requests.{no_answer};
+ghost use Rattle.mx_kcall.specs.Serving.{due_after, ticks_left, changed, answered, ends, replied, served, after_served, called, after_call};
+
+use crate::refusals::check;
+use crate::request::{After, Answer, Request, reply_bytes};
+use mx_ipc::go_on;
+use mx_proc::{Cause, Slot, Table};
+use mx_respawn::die;
+
+/// When an alarm rings that is set for a delay; never where that is 0.
+fn due_after(uptime: u32, delay: u32) -> Option<u64>
+    ensures { result ≡ due_after uptime delay }
+{
+    if delay == 0 {
+        None
+    } else {
+        Some(u64::from(uptime) + u64::from(delay))
+    }
+}
+
+/// The ticks that an alarm has left, 0 where none stands.
+fn ticks_left(uptime: u32, alarm: Option<u64>) -> u32
+    ensures { result ≡ ticks_left uptime alarm }
+{
+    match alarm {
+        Some(due) => (due.saturating_sub(u64::from(uptime)) % 0x1_0000_0000) as u32,
+        None => 0,
+    }
+}
+
+/// The words of a request's reply.
+fn answer(table: &Table, slot: Slot, request: Request) -> Answer
+    requires slot { slot < length table.now.slots }
+    requires permitted { IsPermitted table.now request }
+    ensures { result ≡ answered table.now slot request }
+{
+    // So few that a slot fits a byte.
+    let _used = table.used();
+    let p0 = match request {
+        Request::Times => {
+            let steps = table.process(slot).steps;
+            return Answer {
+                p0: table.uptime(),
+                p1: (steps % 0x1_0000_0000) as u32,
+                p2: (steps / 0x1_0000_0000) as u32,
+            };
+        }
+        Request::SetAlarm(_) => ticks_left(table.uptime(), table.process(slot).alarm),
+        Request::Devio {
+            action: 0,
+            register,
+            ..
+        } if register != 0 => table.devices().registers[register as usize],
+        Request::Whois(named) => table.endpoint(named as u8),
+        _ => 0,
+    };
+    Answer { p0, p1: 0, p2: 0 }
+}
+
+/// Does what a request asks of a table.
+fn change(table: &mut Table, slot: Slot, request: Request)
+    requires slot { slot < length table.old.slots }
+    requires home { (process_at table.old slot).state ≡ Home }
+    requires inside { HasBuffer (process_at table.old slot) }
+    requires room { table.old.devices.console.count + 1 < 2 ^ 32 }
+    requires permitted { IsPermitted table.old request }
+    requires stays { ends slot request ≡ false }
+    ensures value { table.new ≡ changed table.old slot request }
+    ensures frame { frame table.new ≡ record (frame table.old) { devices = table.new.devices } }
+    ensures used { length table.new.slots ≡ length table.old.slots }
+    ensures home { (process_at table.new slot).state ≡ Home }
+    ensures inside { HasBuffer (process_at table.new slot) }
+{
+    // So few that a slot fits a byte.
+    let _used = table.used();
+    match request {
+        Request::Exit | Request::Times | Request::Whois(_) => {}
+        Request::SetAlarm(delay) => table.set_alarm(slot, due_after(table.uptime(), delay)),
+        Request::Irqctl { action, line } => {
+            table.set_owner(line as u8, if action == 1 { Some(slot) } else { None });
+        }
+        Request::Devio {
+            action,
+            register,
+            value,
+        } => {
+            if action == 0 {} else if register == 0 {
+                table.write_console((value % 256) as u8);
+            } else {
+                table.set_register(register as u8, value);
+            }
+        }
+        Request::Vircopy {
+            from,
+            at,
+            to,
+            place,
+            count,
+        } => table.copy((from % 1024) as u8, at, (to % 1024) as u8, place, count),
+        Request::Kill(endpoint) => die(table, (endpoint % 1024) as u8, Cause::Kill),
+    }
+}
+
+/// Writes the reply to the caller's buffer, and the caller goes on.
+fn reply(table: &mut Table, slot: Slot, outcome: u32, answer: Answer)
+    requires slot { slot < length table.old.slots }
+    requires home { (process_at table.old slot).state ≡ Home }
+    requires inside { HasBuffer (process_at table.old slot) }
+    ensures value { table.new ≡ replied table.old slot outcome answer }
+    ensures frame { frame table.new ≡ frame table.old }
+    ensures used { length table.new.slots ≡ length table.old.slots }
+    ensures devices { table.new.devices ≡ table.old.devices }
+{
+    table.receive(slot, &reply_bytes(outcome, answer));
+    go_on(table, slot, 0);
+}
+
+/// Whether the caller of a request dies by it.
+fn ends(slot: Slot, request: Request) -> bool
+    ensures { result ≡ ends slot request }
+{
+    match request {
+        Request::Exit => true,
+        Request::Kill(endpoint) => endpoint % 1024 == u32::from(slot),
+        _ => false,
+    }
+}
+
+/// A request that isn't refused.
+#[tactic(auto, unfolding(crate::specs::Serving::served))]
+fn serve(table: &mut Table, slot: Slot, request: Request) -> After
+    requires slot { slot < length table.old.slots }
+    requires home { (process_at table.old slot).state ≡ Home }
+    requires inside { HasBuffer (process_at table.old slot) }
+    requires room { table.old.devices.console.count + 1 < 2 ^ 32 }
+    requires permitted { IsPermitted table.old request }
+    ensures value { table.new ≡ served table.old slot request }
+    ensures after { result ≡ after_served slot request }
+    ensures frame { frame table.new ≡ record (frame table.old) { devices = table.new.devices } }
+    ensures used { length table.new.slots ≡ length table.old.slots }
+{
+    if ends(slot, request) {
+        die(table, slot, Cause::Exit);
+        return After::Died;
+    }
+    let words = answer(table, slot, request);
+    change(table, slot, request);
+    reply(table, slot, 0, words);
+    After::Reply(0)
+}
+
+/// The kernel call that the message at a process's buffer asks for.
+#[tactic(auto, unfolding(crate::specs::Serving::called, crate::specs::Serving::after_call))]
+pub fn call(table: &mut Table, slot: Slot) -> After
+    requires slot { slot < length table.old.slots }
+    requires home { (process_at table.old slot).state ≡ Home }
+    requires inside { HasBuffer (process_at table.old slot) }
+    requires room { table.old.devices.console.count + 1 < 2 ^ 32 }
+    ensures value { table.new ≡ called table.old slot }
+    ensures after { result ≡ after_call table.old slot }
+    ensures frame { frame table.new ≡ record (frame table.old) { devices = table.new.devices } }
+    ensures used { length table.new.slots ≡ length table.old.slots }
+{
+    match check(table, slot) {
+        Ok(request) => serve(table, slot, request),
+        Err(refusal) => {
+            reply(table, slot, refusal.bits(), Answer::none());
+            After::Reply(refusal.bits())
+        }
+    }
+}
