@@ -1,5 +1,5 @@
 -- What the words of a subcommand have, where the grammar finds no fault with them.
-use Rattle.std.proofs.Common.{◌≡◌, ◌⊎◌, ◌<◌, ◌==◌, ℕ, Bool, true, false, cond, is_some, refl, sym, ap, subst, arith, inl, inr, codes, drop, List, [], ◌∷◌, Option, Some, None, true≢false}
+use Rattle.std.proofs.Common.{◌≡◌, ◌<◌, ◌==◌, ℕ, Bool, true, false, cond, is_some, refl, sym, ap, subst, arith, inl, inr, codes, drop, List, [], ◌∷◌, Option, Some, None, true≢false}
 use Rattle.std.specs.Prelude.{Ok, option_map, pos, unwrap_or}
 use Rattle.std.specs.Option.{option_map_or}
 use Rattle.std.specs.declared.num.ParseIntError.{ParseIntError}
@@ -7,13 +7,13 @@ use Rattle.std.specs.Str.Parse.{IsNumeral, ParsesUnsigned, digits_value, starts_
 use Rattle.std.proofs.lemmas.Bool.{ne_eqb}
 use Rattle.std.proofs.lemmas.Int.{ints}
 use Rattle.std.proofs.lemmas.Str.Parse.{digit_from_value}
-use Rattle.clap.specs.Words.{App, IsSignedIn, Row, Rule, Shape, Text, built, fault_of, first_of, subcommand_of, without_minus}
+use Rattle.clap.specs.Words.{App, IsSignedIn, Row, Rule, Shape, Text, built, fault_of, subcommand_of, without_minus}
 use Rattle.clap.specs.Simple.{argument_words, entered, label_of, names_of, rows_at}
 use Rattle.clap.specs.Faults.{defaults_fault, entered_fault, level_fault, settle_fault, walk_fault}
 use Rattle.clap.specs.Walk.{answers_to, finished, nothing_held, rows_after, settled, stop_after, walk, walk_from}
 use Rattle.clap.specs.declared.builder.value_parser.ValueParser.TheVariants.{Signed}
 use Rattle.clap.proofs.ValueTestLemmas.{accepts-Accepts}
-use Rattle.mx_app.specs.Words.{HasFile, HasNumber, HasOne, IsAsked, mx_grammar, one_shape, wanted}
+use Rattle.mx_app.specs.Words.{HasFile, HasOne, IsAsked, mx_grammar, one_shape, wanted}
 use Rattle.mx_app.proofs.Given.{IsOnly, SetsValue, has_wanted, no_fault, value_given}
 
 -- the grammar as a parse sees it: with the help flag, and each argument's place

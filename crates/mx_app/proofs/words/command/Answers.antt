@@ -1,11 +1,11 @@
-use Rattle.std.proofs.Common.{◌≡◌, ◌∙◌, ap, codes, map, subst, sym, true, is_some, ℕ, List, [], refl}
+use Rattle.std.proofs.Common.{◌≡◌, ◌∙◌, ap, map, subst, sym, true, List, [], refl}
 use Rattle.std.specs.Prelude.{None, Option, Some, option_map, unwrap_or}
 use Rattle.clap.specs.Words.{App, Row, Text, fault_of, found_of, is_simple, is_simple_and_free, kind_of, rows_of, subcommand_name_of, subcommand_of, subcommand_rows_of, takes}
 use Rattle.clap.specs.declared.error.kind.ErrorKind.TheVariants.{OutOfMemory}
 use Rattle.clap.specs.declared.parser.matches.ArgMatches.{ArgMatches}
 use Rattle.clap.specs.declared.parser.matches.ArgMatches.TheViews.{out-ArgMatches}
 use Rattle.clap.proofs.TakesLemmas.{passed_up}
-use Rattle.mx_app.specs.Words.{Asks, AsksBy, IsAsked, mx_grammar}
+use Rattle.mx_app.specs.Words.{IsAsked, mx_grammar}
 use Rattle.mx_app.proofs.AskedWords.{words_asked}
 use Rattle.mx_app.proofs.words.command.Goals as goal
 
