@@ -1,6 +1,6 @@
 //! The console.
 
-ghost use Rattle.std.specs.Prelude.{◌≡◌, ◌+◌, ◌^◌, ◌<◌, ◌++◌, ◌∷◌, [], IfOk};
+ghost use Rattle.std.specs.Prelude.{◌≡◌, ◌+◌, ◌^◌, ◌<◌, ◌++◌, ◌∷◌, [], IfOk, slice_get};
 ghost use Rattle.circular_buffer.specs.Buffer.{keep_last};
 ghost use Rattle.mx_proc.specs.Console.{nothing_written};
 
@@ -43,5 +43,19 @@ impl Console {
     {
         self.kept.push_back(byte);
         self.count += 1;
+    }
+
+    /// A kept byte, counted from the oldest.
+    pub fn get(&self, index: usize) -> Option<u8>
+        ensures { result ≡ slice_get self.now.kept index }
+    {
+        self.kept.get(index).copied()
+    }
+
+    /// How many bytes were ever written.
+    pub fn count(&self) -> u32
+        ensures { result ≡ self.now.count }
+    {
+        self.count
     }
 }
