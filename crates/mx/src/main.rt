@@ -1,7 +1,10 @@
 //! The machine for the process layer of MINIX 3.1.
 #![tactic(auto)]
 
-pub use mx_app::{Failure, FileError, Request, command, one, perform_words, print_listing, print_names, print_one};
+pub use mx_app::{
+    Failure, FileError, Request, assemble_file, command, one, perform_words, print_listing,
+    print_names, print_one,
+};
 use std::process::ExitCode;
 
 fn main(rt: HostRuntime) -> ExitCode {
