@@ -2,7 +2,8 @@
 #![tactic(auto)]
 
 pub use mx_app::{
-    Failure, FileError, Request, command, one, perform_words, print_listing, print_names, print_one,
+    Failure, FileError, Request, assemble_file, command, one, perform_words, print_listing,
+    print_names, print_one,
 };
 use std::process::ExitCode;
 

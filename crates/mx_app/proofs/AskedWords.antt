@@ -13,7 +13,7 @@ use Rattle.clap.specs.Faults.{defaults_fault, entered_fault, level_fault, settle
 use Rattle.clap.specs.Walk.{answers_to, finished, nothing_held, rows_after, settled, stop_after, walk, walk_from}
 use Rattle.clap.specs.declared.builder.value_parser.ValueParser.TheVariants.{Signed}
 use Rattle.clap.proofs.ValueTestLemmas.{accepts-Accepts}
-use Rattle.mx_app.specs.Words.{HasFile, HasOne, IsAsked, mx_grammar, one_shape, wanted}
+use Rattle.mx_app.specs.Words.{HasFile, HasOne, HasText, IsAsked, mx_grammar, one_shape, wanted}
 use Rattle.mx_app.proofs.Given.{IsOnly, SetsValue, has_wanted, no_fault, value_given}
 
 -- the grammar as a parse sees it: with the help flag, and each argument's place
@@ -27,11 +27,14 @@ head_of (s ∷ rest) = s
 abbrev one_whole : Shape
 one_whole = head_of whole.subs
 
+abbrev as_whole : Shape
+as_whole = head_of (drop 1 whole.subs)
+
 abbrev dis_whole : Shape
-dis_whole = head_of (drop 1 whole.subs)
+dis_whole = head_of (drop 2 whole.subs)
 
 abbrev nm_whole : Shape
-nm_whole = head_of (drop 2 whole.subs)
+nm_whole = head_of (drop 3 whole.subs)
 
 abbrev first_rule : List Rule → Rule
 first_rule [] = wanted (codes "FILE")
@@ -98,6 +101,24 @@ one_values words fine =
     let number = number_of steps.0 (accepts-Accepts steps_rule.ignore_case (Signed (pos 0) (pos 4294967295)) steps.0 steps.3) in
     (ap is_some file.1, (number.0, (without_minus steps.0, steps.2, number.1)))
 
+text_sets : SetsValue (first_rule as_whole.rules)
+text_sets = record { set = refl; least = omega arith; defaults = refl; required = refl }
+
+text_only : IsOnly (first_rule as_whole.rules) as_whole.rules
+text_only = ((λ e. refl), ((λ e. cc), ((λ e. cc), tt)))
+
+target_sets : SetsValue (first_rule (drop 1 as_whole.rules))
+target_sets = record { set = refl; least = omega arith; defaults = refl; required = refl }
+
+target_only : IsOnly (first_rule (drop 1 as_whole.rules)) as_whole.rules
+target_only = ((λ e. cc), ((λ e. refl), ((λ e. cc), tt)))
+
+as_values : (words : List Text) → level_fault as_whole [] nothing_held words false [] ≡ [] → HasText (rows_after as_whole.rules [] words)
+as_values words fine =
+    let text = value_given (first_rule as_whole.rules) text_sets as_whole text_only words (inl refl) refl fine in
+    let file = value_given (first_rule (drop 1 as_whole.rules)) target_sets as_whole target_only words (inr (inl refl)) refl fine in
+    (ap is_some text.1, ap is_some file.1)
+
 dis_sets : SetsValue (first_rule dis_whole.rules)
 dis_sets = record { set = refl; least = omega arith; defaults = refl; required = refl }
 
@@ -120,15 +141,16 @@ nm_values words fine = ap is_some (value_given (first_rule nm_whole.rules) nm_se
 entered_asked : (stop : Option (Text × List Text)) → entered_fault whole stop ≡ [] → is_some (entered whole stop) ≡ true
     → (name : Text) × (rows : List Row) × (entered whole stop ≡ Some (name, rows)) × IsAsked name rows
 entered_asked None e there = absurd (true≢false (sym there))
-entered_asked (Some p) e there = go (answers_to p.0 (label_of one_whole)) (answers_to p.0 (label_of dis_whole)) (answers_to p.0 (label_of nm_whole)) e there
+entered_asked (Some p) e there = go (answers_to p.0 (label_of one_whole)) (answers_to p.0 (label_of as_whole)) (answers_to p.0 (label_of dis_whole)) (answers_to p.0 (label_of nm_whole)) e there
   where
-    go : (b c d : Bool) → option_map_or (λ (s : Shape). level_fault s [] nothing_held p.1 false []) (cond b (Some one_whole) (cond c (Some dis_whole) (cond d (Some nm_whole) None))) [] ≡ []
-        → is_some (option_map (λ (s : Shape). rows_at s p.1) (cond b (Some one_whole) (cond c (Some dis_whole) (cond d (Some nm_whole) None)))) ≡ true
-        → (name : Text) × (rows : List Row) × (option_map (λ (s : Shape). rows_at s p.1) (cond b (Some one_whole) (cond c (Some dis_whole) (cond d (Some nm_whole) None))) ≡ Some (name, rows)) × IsAsked name rows
-    go true c d e there = (codes "one", rows_after one_whole.rules [] p.1, refl, inl (refl, one_values p.1 e))
-    go false true d e there = (codes "dis", rows_after dis_whole.rules [] p.1, refl, inr (inl (refl, dis_values p.1 e)))
-    go false false true e there = (codes "nm", rows_after nm_whole.rules [] p.1, refl, inr (inr (refl, nm_values p.1 e)))
-    go false false false e there = absurd (true≢false (sym there))
+    go : (b a c d : Bool) → option_map_or (λ (s : Shape). level_fault s [] nothing_held p.1 false []) (cond b (Some one_whole) (cond a (Some as_whole) (cond c (Some dis_whole) (cond d (Some nm_whole) None)))) [] ≡ []
+        → is_some (option_map (λ (s : Shape). rows_at s p.1) (cond b (Some one_whole) (cond a (Some as_whole) (cond c (Some dis_whole) (cond d (Some nm_whole) None))))) ≡ true
+        → (name : Text) × (rows : List Row) × (option_map (λ (s : Shape). rows_at s p.1) (cond b (Some one_whole) (cond a (Some as_whole) (cond c (Some dis_whole) (cond d (Some nm_whole) None)))) ≡ Some (name, rows)) × IsAsked name rows
+    go true a c d e there = (codes "one", rows_after one_whole.rules [] p.1, refl, inl (refl, one_values p.1 e))
+    go false true c d e there = (codes "as", rows_after as_whole.rules [] p.1, refl, inr (inl (refl, as_values p.1 e)))
+    go false false true d e there = (codes "dis", rows_after dis_whole.rules [] p.1, refl, inr (inr (inl (refl, dis_values p.1 e))))
+    go false false false true e there = (codes "nm", rows_after nm_whole.rules [] p.1, refl, inr (inr (inr (refl, nm_values p.1 e))))
+    go false false false false e there = absurd (true≢false (sym there))
 
 pub words_asked : (words : List Text) → fault_of mx_grammar words ≡ []
     → (name : Text) × (rows : List Row) × (subcommand_of mx_grammar words ≡ Some (name, rows)) × IsAsked name rows

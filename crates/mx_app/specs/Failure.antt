@@ -8,11 +8,17 @@ use Rattle.clap.specs.declared.error.kind.ErrorKind.TheVariants as words
 use Rattle.mx_aout.specs.declared.program.FileError.{FileError}
 use Rattle.mx_aout.specs.declared.program.FileError.TheVariants as errors
 use Rattle.mx_aout.specs.Refusals.{refusal_code, refusal_name}
+use Rattle.mx_asm.specs.Faults.{code_of}
+use Rattle.mx_asm.specs.declared.fault.Problem.{Problem}
+use Rattle.mx_asm.specs.declared.fault.Problem.TheVariants as problems
+use Rattle.mx_asm.specs.declared.fault.AsmError.{AsmError}
+use Rattle.mx_asm.specs.declared.fault.AsmError.TheVariants as asm_errors
 use Rattle.mx_app.specs.declared.failure.Failure.{Failure as Kind}
-use Rattle.mx_app.specs.declared.failure.Failure.TheVariants.{Refused, NotText, File, NoMemory}
+use Rattle.mx_app.specs.declared.failure.Failure.TheVariants.{Refused, Faulty, NotText, File, NoMemory}
 
 abbrev pub status_of : Kind → ℕ
 status_of (Refused e) = 1
+status_of (Faulty f) = 1
 status_of NotText = 2
 status_of File = 3
 status_of NoMemory = 4
@@ -22,6 +28,10 @@ status_of NoMemory = 4
 abbrev pub failure_of : FileError → Kind
 failure_of errors.NoMemory = NoMemory
 failure_of e = Refused e
+
+abbrev pub failure_of_text : AsmError → Kind
+failure_of_text (asm_errors.At f) = Faulty f
+failure_of_text asm_errors.NoMemory = NoMemory
 
 abbrev pub failure_of_kind : ErrorKind → Kind
 failure_of_kind kinds.OutOfMemory = NoMemory
@@ -34,9 +44,24 @@ words_failure_of k = NotText
 
 -- ---- lines
 
+-- the name of what is wrong with a line of a text
+abbrev pub problem_name : Problem → List ℕ
+problem_name problems.BadByte = codes "BadByte"
+problem_name problems.BadNumber = codes "BadNumber"
+problem_name problems.OpenText = codes "OpenText"
+problem_name problems.UnknownWord = codes "UnknownWord"
+problem_name problems.BadOperands = codes "BadOperands"
+problem_name problems.Twice = codes "Twice"
+problem_name problems.Undefined = codes "Undefined"
+problem_name problems.TooFar = codes "TooFar"
+problem_name problems.WrongSection = codes "WrongSection"
+problem_name problems.TooLarge = codes "TooLarge"
+problem_name problems.LongName = codes "LongName"
+
 -- a failure's line, without its end
 abbrev pub line_of : Kind → List ℕ
 line_of (Refused e) = codes "mx: " ++ decimal (refusal_code e) ++ codes " " ++ refusal_name e
+line_of (Faulty f) = codes "mx: " ++ decimal (code_of f.problem) ++ codes " " ++ problem_name f.problem ++ codes " line " ++ decimal f.line
 line_of NotText = codes "mx: a word of the command line isn't text"
 line_of File = codes "mx: 80 File"
 line_of NoMemory = codes "mx: 90 NoMemory"

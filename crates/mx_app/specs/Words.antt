@@ -7,7 +7,7 @@ use Rattle.clap.specs.Simple.{new_shape}
 use Rattle.clap.specs.declared.builder.action.ArgAction.TheVariants.{Set}
 use Rattle.clap.specs.declared.builder.value_parser.ValueParser.TheVariants.{Signed}
 use Rattle.mx_app.specs.declared.words.Request.{Request}
-use Rattle.mx_app.specs.declared.words.Request.TheVariants.{One, Dis, Nm}
+use Rattle.mx_app.specs.declared.words.Request.TheVariants.{One, As, Dis, Nm}
 
 -- ---- the grammar
 
@@ -27,6 +27,10 @@ subcommand name arguments = record (new_shape name) { rules = arguments }
 abbrev pub one_shape : Shape
 one_shape = subcommand (codes "one") (wanted (codes "FILE") ∷ wanted_number (codes "N") ∷ [])
 
+-- `as TEXT FILE`
+abbrev pub as_shape : Shape
+as_shape = subcommand (codes "as") (wanted (codes "TEXT") ∷ wanted (codes "FILE") ∷ [])
+
 -- `dis FILE` and `nm FILE`
 abbrev pub dis_shape : Shape
 dis_shape = subcommand (codes "dis") (wanted (codes "FILE") ∷ [])
@@ -42,7 +46,7 @@ top_app = record {
 }
 
 abbrev pub mx_grammar : App
-mx_grammar = record { top = record top_app.top { is_leaf = false }; subs = one_shape ∷ dis_shape ∷ nm_shape ∷ [] }
+mx_grammar = record { top = record top_app.top { is_leaf = false }; subs = one_shape ∷ as_shape ∷ dis_shape ∷ nm_shape ∷ [] }
 
 -- ---- requests
 
@@ -57,6 +61,8 @@ abbrev pub AsksBy : Request → Text → List Row → Type 0
 AsksBy (One file steps) name rows =
     (name ≡ codes "one") × (first_of (codes "FILE") rows ≡ Some file.now)
     × HasNumber (codes "N") rows steps
+AsksBy (As text file) name rows =
+    (name ≡ codes "as") × (first_of (codes "TEXT") rows ≡ Some text.now) × (first_of (codes "FILE") rows ≡ Some file.now)
 AsksBy (Dis file) name rows = (name ≡ codes "dis") × (first_of (codes "FILE") rows ≡ Some file.now)
 AsksBy (Nm file) name rows = (name ≡ codes "nm") × (first_of (codes "FILE") rows ≡ Some file.now)
 
@@ -64,12 +70,15 @@ abbrev pub Asks : Request → Option (Text × List Row) → Type 0
 Asks request (Some found) = AsksBy request found.0 found.1
 Asks request None = ⊥
 
--- what a subcommand's words have: a file, and for `one` a number too
+-- what a subcommand's words have: a file, for `one` a number and for `as` a text too
 abbrev pub HasFile : List Row → Type 0
 HasFile rows = is_some (first_of (codes "FILE") rows) ≡ true
 
 abbrev pub HasOne : List Row → Type 0
 HasOne rows = HasFile rows × ((n : ℕ) × HasNumber (codes "N") rows n)
 
+abbrev pub HasText : List Row → Type 0
+HasText rows = (is_some (first_of (codes "TEXT") rows) ≡ true) × HasFile rows
+
 abbrev pub IsAsked : Text → List Row → Type 0
-IsAsked name rows = ((name ≡ codes "one") × HasOne rows) ⊎ (((name ≡ codes "dis") × HasFile rows) ⊎ ((name ≡ codes "nm") × HasFile rows))
+IsAsked name rows = ((name ≡ codes "one") × HasOne rows) ⊎ (((name ≡ codes "as") × HasText rows) ⊎ (((name ≡ codes "dis") × HasFile rows) ⊎ ((name ≡ codes "nm") × HasFile rows)))

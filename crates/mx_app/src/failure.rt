@@ -1,9 +1,11 @@
 //! Why a command fails: its line on standard error, and its status.
 
 ghost use Rattle.std.specs.Prelude.{◌≡◌};
-ghost use Rattle.mx_app.specs.Failure.{status_of};
+ghost use Rattle.mx_app.specs.Failure.{problem_name, status_of};
 
 use mx_aout::FileError;
+use mx_asm::{AsmError, Fault, Problem};
+use mx_word::NoMemory;
 use std::alloc::{AllocError, AllocFailed};
 use std::{fmt, io};
 
@@ -12,6 +14,8 @@ use std::{fmt, io};
 pub enum Failure {
     /// The file is refused.
     Refused(FileError),
+    /// A text for the assembler has a fault.
+    Faulty(Fault),
     /// A word of the command line isn't text.
     NotText,
     /// A file or standard output can't be read or written.
@@ -26,11 +30,30 @@ impl Failure {
         ensures { result ≡ status_of self }
     {
         match self {
-            Failure::Refused(_) => 1,
+            Failure::Refused(_) | Failure::Faulty(_) => 1,
             Failure::NotText => 2,
             Failure::File => 3,
             Failure::NoMemory => 4,
         }
+    }
+}
+
+/// The name that a fault's line has.
+fn problem_name(problem: Problem) -> &'static str
+    ensures { result.now ≡ problem_name problem }
+{
+    match problem {
+        Problem::BadByte => "BadByte",
+        Problem::BadNumber => "BadNumber",
+        Problem::OpenText => "OpenText",
+        Problem::UnknownWord => "UnknownWord",
+        Problem::BadOperands => "BadOperands",
+        Problem::Twice => "Twice",
+        Problem::Undefined => "Undefined",
+        Problem::TooFar => "TooFar",
+        Problem::WrongSection => "WrongSection",
+        Problem::TooLarge => "TooLarge",
+        Problem::LongName => "LongName",
     }
 }
 
@@ -47,6 +70,12 @@ impl fmt::Display for Failure {
                 let code = error.code();
                 let name = error.name();
                 write!(f, "mx: {code} {name}")
+            }
+            Failure::Faulty(fault) => {
+                let code = fault.problem.code();
+                let name = problem_name(fault.problem);
+                let line = fault.line;
+                write!(f, "mx: {code} {name} line {line}")
             }
             Failure::NotText => write!(f, "mx: a word of the command line isn't text"),
             Failure::File => write!(f, "mx: 80 File"),
@@ -66,6 +95,31 @@ impl From<FileError> for Failure {
             FileError::NoMemory => Failure::NoMemory,
             _ => Failure::Refused(error),
         }
+    }
+}
+
+impl From<AsmError> for Failure {
+    ghost use Rattle.std.specs.Prelude.{◌≡◌};
+    ghost use Rattle.mx_app.specs.Failure.{failure_of_text};
+
+    ghost from_gives = { λ error failure. failure ≡ failure_of_text error };
+
+    fn from(error: AsmError) -> Failure {
+        match error {
+            AsmError::At(fault) => Failure::Faulty(fault),
+            AsmError::NoMemory => Failure::NoMemory,
+        }
+    }
+}
+
+impl From<NoMemory> for Failure {
+    ghost use Rattle.std.specs.Prelude.{◌≡◌};
+    ghost use Rattle.mx_app.specs.declared.failure.Failure.TheVariants as failures;
+
+    ghost from_gives = { λ _ failure. failure ≡ failures.NoMemory };
+
+    fn from(_: NoMemory) -> Failure {
+        Failure::NoMemory
     }
 }
 

@@ -1,6 +1,7 @@
 //! What the program `mx` does: its command line, its subcommands, and why they fail.
 #![tactic(auto)]
 
+mod assembly;
 mod failure;
 mod listing;
 mod perform;
@@ -8,6 +9,7 @@ mod report;
 mod running;
 mod words;
 
+pub use assembly::assemble_file;
 pub use failure::Failure;
 pub use listing::{print_listing, print_names};
 pub use mx_aout::FileError;

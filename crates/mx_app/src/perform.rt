@@ -5,6 +5,7 @@ ghost use Rattle.std.specs.IoError.{error_kind};
 ghost use Rattle.clap.specs.Words.{kind_of};
 ghost use Rattle.mx_app.specs.Failure.{Explains, words_failure_of};
 
+use crate::assembly::assemble_file;
 use crate::failure::Failure;
 use crate::listing::{print_listing, print_names};
 use crate::report::print_one;
@@ -19,6 +20,16 @@ fn run_one(rt: &(impl Files + Print + AllocGlobal), file: &str, steps: u32) -> R
 {
     let bytes = fs::read(rt, file)?;
     print_one(rt.alloc(), bytes.as_slice(), steps, &mut io::writer(rt))
+}
+
+/// Assembles a text and writes the program's file.
+fn run_as(rt: &(impl Files + AllocGlobal), text: &str, file: &str) -> Result<(), Failure>
+    ensures { IfErr result (λ failure. failure ≢ Failure.NotText) }
+{
+    let text = fs::read(rt, text)?;
+    let bytes = assemble_file(rt.alloc(), text.as_slice())?;
+    fs::write(rt, file, bytes)?;
+    Ok(())
 }
 
 /// Reads a file and prints its instructions.
@@ -43,6 +54,7 @@ fn run(rt: &(impl Files + Print + AllocGlobal), request: Request<'_>) -> Result<
 {
     match request {
         Request::One { file, steps } => run_one(rt, file, steps),
+        Request::As { text, file } => run_as(rt, text, file),
         Request::Dis { file } => run_dis(rt, file),
         Request::Nm { file } => run_nm(rt, file),
     }

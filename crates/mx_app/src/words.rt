@@ -3,17 +3,29 @@
 ghost use Rattle.std.specs.Prelude.{◌≡◌, ℕ, IfErr, IfOk, codes, false, is_some, map, true};
 ghost use Rattle.clap.specs.Words.{FailsBy, app_of, fault_of, first_of, found_of, kind_of, rows_of, rule_of, shape_of};
 ghost use Rattle.clap.specs.Words.{subcommand_of, takes};
-ghost use Rattle.mx_app.specs.Words.{Asks, AsksBy, IsAsked, HasNumber, dis_shape, mx_grammar, nm_shape, one_shape, top_app, wanted};
+ghost use Rattle.mx_app.specs.Words.{Asks, AsksBy, IsAsked, as_shape, HasNumber, dis_shape, mx_grammar, nm_shape, one_shape, top_app, wanted};
 
 use clap::error::ErrorKind;
 use clap::{Arg, ArgAction, ArgMatches, Command, Error};
 use std::alloc::Global;
+
+/// A text that assembles, at the end of the help.
+const AS_EXAMPLE: &str = "A text, which gives 42 in EAX and traps:
+
+.sep
+start:  mov ecx, 6      ; turns
+next:   add eax, 7
+        loop next
+        int 33
+.entry start";
 
 /// What the words of a command line ask for.
 #[derive(Clone, Copy, Debug, PartialEq, Eq)]
 pub enum Request<'a> {
     /// `one FILE N`.
     One { file: &'a str, steps: u32 },
+    /// `as TEXT FILE`.
+    As { text: &'a str, file: &'a str },
     /// `dis FILE`.
     Dis { file: &'a str },
     /// `nm FILE`.
@@ -45,6 +57,21 @@ fn one_grammar<'a>(alloc: Global) -> Result<Command<'a>, Error>
         )
         .arg(file)?
         .arg(steps)?;
+    Ok(command)
+}
+
+/// `as TEXT FILE`, with its help.
+fn as_grammar<'a>(alloc: Global) -> Result<Command<'a>, Error>
+    ensures shape { IfOk result (λ c. shape_of c ≡ as_shape) }
+    ensures err { IfErr result (λ e. kind_of e ≡ ErrorKind.OutOfMemory) }
+{
+    let text = wanted(alloc, "TEXT", "A text for the assembler");
+    let file = wanted(alloc, "FILE", "The a.out file to write");
+    let command = Command::new(alloc, "as")
+        .about("Assembles a text to a program")
+        .after_help(AS_EXAMPLE)
+        .arg(text)?
+        .arg(file)?;
     Ok(command)
 }
 
@@ -89,6 +116,7 @@ fn grammar<'a>(alloc: Global) -> Result<Command<'a>, Error>
 {
     let command = top_grammar(alloc)
         .subcommand(one_grammar(alloc)?)?
+        .subcommand(as_grammar(alloc)?)?
         .subcommand(dis_grammar(alloc)?)?
         .subcommand(nm_grammar(alloc)?)?;
     Ok(command)
@@ -105,12 +133,12 @@ fn one_request<'a>(matches: &ArgMatches<'a>) -> Request<'a>
     Request::One { file, steps }
 }
 
-/// The file that `dis` or `nm` asks for, which is there.
-fn file_asked<'a>(matches: &ArgMatches<'a>) -> &'a str
-    requires { is_some (first_of (codes "FILE") (rows_of (found_of matches.now))) ≡ true }
-    ensures { first_of (codes "FILE") (rows_of (found_of matches.now)) ≡ Some result.now }
+/// The value that an argument has, which is there.
+fn value_asked<'a>(matches: &ArgMatches<'a>, id: &str) -> &'a str
+    requires { is_some (first_of id.now (rows_of (found_of matches.now))) ≡ true }
+    ensures { first_of id.now (rows_of (found_of matches.now)) ≡ Some result.now }
 {
-    matches.get_str("FILE").unwrap()
+    matches.get_str(id).unwrap()
 }
 
 /// What a subcommand's words ask for.
@@ -121,8 +149,11 @@ fn request_of<'a>(name: &str, matches: &ArgMatches<'a>) -> Request<'a>
     if name == "one" {
         return one_request(matches);
     }
-    let file = file_asked(matches);
-    if name == "dis" {
+    let file = value_asked(matches, "FILE");
+    if name == "as" {
+        let text = value_asked(matches, "TEXT");
+        Request::As { text, file }
+    } else if name == "dis" {
         Request::Dis { file }
     } else {
         Request::Nm { file }

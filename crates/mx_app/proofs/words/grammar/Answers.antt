@@ -17,6 +17,8 @@ returns-clause-app c =
     let one_is = c.in_ok-one_grammar.ensures.shape in
     let dis_is = c.in_ok-dis_grammar.ensures.shape in
     let nm_is = c.in_ok-nm_grammar.ensures.shape in
+    let as_is = c.in_ok-as_grammar.ensures.shape in
     let first = c.in_ok-subcommand.ensures.shape (has_no_globals _ _ one_is refl) ∙ ap₂ with_subcommand c.top_grammar.ensures one_is in
-    let second = c.in_ok-subcommand-2.ensures.shape (has_no_globals _ _ dis_is refl) ∙ ap₂ with_subcommand first dis_is in
-    c.in_ok-command.ensures.shape (has_no_globals _ _ nm_is refl) ∙ ap₂ with_subcommand second nm_is
+    let second = c.in_ok-subcommand-2.ensures.shape (has_no_globals _ _ as_is refl) ∙ ap₂ with_subcommand first as_is in
+    let third = c.in_ok-subcommand-3.ensures.shape (has_no_globals _ _ dis_is refl) ∙ ap₂ with_subcommand second dis_is in
+    c.in_ok-command.ensures.shape (has_no_globals _ _ nm_is refl) ∙ ap₂ with_subcommand third nm_is
