@@ -1,0 +1,6 @@
+pub mod Refusals
+pub mod Held
+pub mod Whole
+pub mod Move
+pub mod History
+pub mod Rest
