@@ -26,12 +26,15 @@ first_table services = record no_world {
 }
 
 -- BOOT: no processor has a process, and there are no records
-abbrev pub booted : Config → List Service → Whole
-booted config services = record {
+abbrev pub booted_with : List Service → ℕ → ℕ → ℕ → Whole
+booted_with services cpus others capacity = record {
   table = first_table services;
-  cpus = replicate config.cpus None;
-  others = config.others;
+  cpus = replicate cpus None;
+  others = others;
   services = services;
   records = 0;
-  capacity = config.log;
+  capacity = capacity;
 }
+
+abbrev pub booted : Config → List Service → Whole
+booted config services = booted_with services config.cpus config.others config.log
