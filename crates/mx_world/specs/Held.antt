@@ -1,8 +1,9 @@
 -- Steps of a process that is on a processor.
-use Rattle.std.specs.Prelude.{ℕ, zero, suc, ◌+◌, ◌-◌, min}
+use Rattle.std.specs.Prelude.{◌≡◌, ℕ, zero, suc, ◌+◌, ◌-◌, min}
 use Rattle.mx_exec.specs.declared.image.Image.{Image}
 use Rattle.mx_exec.specs.declared.image.Outcome.{Outcome}
 use Rattle.mx_exec.specs.declared.image.Outcome.TheVariants.{Go, Trap, Fault}
+use Rattle.mx_exec.specs.Lasting.{lasting}
 use Rattle.mx_exec.specs.Step.{one_step}
 use Rattle.mx_image.specs.declared.runs.Stop.{Stop}
 use Rattle.mx_image.specs.declared.runs.Stop.TheVariants as stop
@@ -22,6 +23,12 @@ run_by_stop (stop.Fault v) k o = ((0, stop.Fault v), o)
 -- A RUN of at most k steps: at most as many as the budget leaves, and none after a stop
 unfoldable pub held_run : ℕ → Out → (ℕ × Stop) × Out
 held_run k o = run_by_stop o.stop k o
+
+-- What came back is what was lent, after a run of the steps that it counts.
+pub record IsBack (lent out : Out) : Type 0 where
+  pub run : (held_run out.count lent).1 ≡ out
+  -- no step changes what the image lasts with
+  pub lasting : lasting out.image ≡ lasting lent.image
 
 -- ---- one step
 

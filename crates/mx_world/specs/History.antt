@@ -1,12 +1,12 @@
 -- What a kernel keeps, and the world that it stands for.
-use Rattle.std.specs.Prelude.{ℕ, ◌==◌, List, [], ◌∷◌, ◌++◌, replicate, filter}
+use Rattle.std.specs.Prelude.{◌≡◌, ℕ, ◌==◌, List, [], ◌∷◌, ◌++◌, None, replicate, filter}
 use Rattle.mx_world.specs.declared.events.Event.{Event}
 use Rattle.mx_world.specs.declared.events.Event.TheVariants as event
 use Rattle.mx_world.specs.declared.history.Record.{Record}
 use Rattle.mx_world.specs.declared.history.Recorded.{Recorded}
 use Rattle.mx_world.specs.declared.history.Recorded.TheVariants as recorded
 use Rattle.mx_world.specs.Whole.{Whole}
-use Rattle.mx_world.specs.Move.{after_event}
+use Rattle.mx_world.specs.Move.{event_refusal, after_event}
 
 -- the events that a record stands for: a return stands for its steps too
 abbrev pub events_of : ℕ → Recorded → List (ℕ × Event)
@@ -30,6 +30,11 @@ part_of records a = filter (λ (x : Record). x.actor == a) records
 abbrev pub after_events : Whole → List (ℕ × Event) → Whole
 after_events w [] = w
 after_events w (x ∷ xs) = after_events (after_event w x.0 x.1) xs
+
+-- each event is accepted, at the world that the ones before it lead to
+abbrev pub AreAccepted : Whole → List (ℕ × Event) → Type 0
+AreAccepted w [] = Unit {0}
+AreAccepted w (x ∷ xs) = (event_refusal w x.0 x.1 ≡ None) × AreAccepted (after_event w x.0 x.1) xs
 
 -- What a kernel is seen as: the world at boot, and what was recorded since.
 pub record Kept : Type 0 where

@@ -32,7 +32,7 @@ pub enum Answer {
     /// How the step ended.
     Went(Outcome),
     /// The endpoint of the process that was taken, and how many steps it may make.
-    Taken { endpoint: Endpoint, budget: u32 },
+    Taken(Endpoint, u32),
     /// How many steps the process made that came back.
     Returned(u32),
     Done,

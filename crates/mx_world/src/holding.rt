@@ -1,6 +1,7 @@
 //! What a processor holds.
 
 ghost use Rattle.std.specs.Prelude.{◌≡◌};
+ghost use Rattle.mx_exec.specs.Lasting.{lasting};
 ghost use Rattle.mx_world.specs.declared.holding.Out.{Out};
 ghost use Rattle.mx_world.specs.Held.{held_run};
 
@@ -24,7 +25,8 @@ pub trait Held {
     /// Makes at most `k` steps within the budget, and none after a trap or a fault. Answers how many
     /// it made and how they ended; after a trap or a fault, none and that stop. Takes no memory.
     fn run(&mut self, k: u32) -> (u32, Stop)
-        ensures { held_run k (out self.old) ≡ (result, out self.new) };
+        ensures ran { held_run k (out self.old) ≡ (result, out self.new) }
+        ensures lasting { lasting (out self.new).image ≡ lasting (out self.old).image };
 
     /// The image as it is.
     fn image(&self) -> &Image
