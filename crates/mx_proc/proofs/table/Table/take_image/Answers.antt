@@ -1,0 +1,10 @@
+use Rattle.std.proofs.Common.{refl}
+use Rattle.mx_proc.proofs.TableLemmas.{alone_changed, down_alone}
+use Rattle.mx_proc.proofs.FrameLemmas.{put}
+use Rattle.mx_proc.proofs.table.Table.take_image.Goals as goal
+
+pub invariant_of-self : goal.invariant_of-self
+invariant_of-self c = alone_changed _ _ c.args.slot c.index_mut-process.result.now _ c.self.view_is c.self.invariant c.requires.slot c.index_mut-process.ensures.value (down_alone _ c.requires.down) (down_alone _ c.requires.down) (λ k. record { level = k.level; best = k.best; quantum = k.quantum; ticks = k.ticks; generation = k.generation; pending = k.pending; buffer = λ m. cc })
+
+pub returns-clause-frame : goal.returns-clause-frame
+returns-clause-frame c = put _ _ c.args.slot _ _ c.self.view_is c.requires.slot
