@@ -49,10 +49,13 @@ pub framed_out : (w n : World) (s : ℕ) (q p : Process) (r : List (List ℕ)) (
 framed_out w n s q p r v k l is b e fixed a h t = framed w n s q p r v k l is e fixed (out_loan p q a (ap (λ (x : Process). is_out x.state) (the_process w n s q is b e) ∙ h) t)
 
 -- one slot is another process's
+pub put_new : (w n : World) (s : ℕ) (p : Process) (r : List (List ℕ)) → w ≡ n → frame (record w { slots = slice_set w.slots s p; ready = r }) ≡ reframed (frame n) s p
+unfolding frame
+put_new w n s p r v =
+    same (map fixed_of (slice_set w.slots s p)) (slice_set (map fixed_of w.slots) s (fixed_of p)) (map loan_of (slice_set w.slots s p)) (slice_set (map loan_of w.slots) s (loan_of p)) w.uptime w.devices
+    (map-put fixed_of w.slots s p) (map-put loan_of w.slots s p) ∙ ap (λ x. reframed (frame x) s p) v
+
+-- and the table tells it
 pub put : (w n : World) (s : ℕ) (p : Process) (r : List (List ℕ)) → w ≡ n → s < length n.slots
     → frame (record w { slots = slice_set w.slots s p; ready = r }) ≡ reframed (frame n) s (process_at (with_process w s p) s)
-unfolding frame
-put w n s p r v b =
-    same (map fixed_of (slice_set w.slots s p)) (slice_set (map fixed_of w.slots) s (fixed_of p)) (map loan_of (slice_set w.slots s p)) (slice_set (map loan_of w.slots) s (loan_of p)) w.uptime w.devices
-    (map-put fixed_of w.slots s p) (map-put loan_of w.slots s p)
-    ∙ ap (λ x. reframed (frame x) s p) v ∙ ap (reframed (frame n) s) (sym (process-same w (with_process w s p) s p (subst (λ (x : World). s < length x.slots) (sym v) b) refl))
+put w n s p r v b = put_new w n s p r v ∙ ap (reframed (frame n) s) (sym (process-same w (with_process w s p) s p (subst (λ (x : World). s < length x.slots) (sym v) b) refl))

@@ -141,6 +141,17 @@ down_alone Calling h = cc
 down_alone (Receiving x) h = cc
 down_alone (Awaiting x) h = cc
 
+pub down_idle : (st : State) → is_down st ≡ true → is_blocked st ≡ true → false ≡ true
+down_idle (Down x) h b = b
+down_idle Out h b = b
+down_idle Doomed h b = b
+down_idle Home h b = b
+down_idle Ready h b = b
+down_idle Sending h b = h
+down_idle Calling h b = h
+down_idle (Receiving x) h b = h
+down_idle (Awaiting x) h b = h
+
 -- a change of a process that keeps its state
 pub kept_states : (w w' : World) (d : ℕ) (p : Process) → d < length w.slots → w'.slots ≡ slice_set w.slots d p → p.state ≡ (process_at w d).state → (s : ℕ) → (process_at w' s).state ≡ (process_at w s).state
 kept_states w w' d p b e k s = elim (cases_eq s d) [

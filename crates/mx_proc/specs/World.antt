@@ -202,9 +202,9 @@ added w image masks level best quantum = record w {
   ready = slice_set w.ready level (list_at w.ready level ++ length w.slots ∷ []);
 }
 
--- a slot begins again: a new process of the next generation, with one restart more used up, at the end of the list of its level
-abbrev pub revived : World → ℕ → Image → Masks → ℕ → ℕ → ℕ → World
-revived w s image masks level best quantum = let p = process_at w s in record w {
-  slots = slice_set w.slots s (record (new_process image masks level best quantum) { generation = p.generation + 1; restarts = p.restarts + 1 });
-  ready = slice_set w.ready level (list_at w.ready level ++ s ∷ []);
+-- another process, which is ready, stands in a slot, and at the end of the list of its level
+abbrev pub revived : World → ℕ → Process → World
+revived w s p = record w {
+  slots = slice_set w.slots s p;
+  ready = slice_set w.ready p.level (list_at w.ready p.level ++ s ∷ []);
 }

@@ -5,10 +5,10 @@ ghost use Rattle.mx_exec.specs.Image.{blank};
 ghost use Rattle.mx_proc.specs.Frame.{frame, reframed};
 ghost use Rattle.mx_proc.specs.States.{IsAlone, is_out, is_down};
 ghost use Rattle.mx_proc.specs.World.{process_at, with_state, moved_out, moved_home, spent, with_image, revived};
-ghost use Rattle.mx_proc.specs.declared.process.State.TheVariants.{Home, Out, Doomed};
+ghost use Rattle.mx_proc.specs.declared.process.State.TheVariants.{Home, Ready, Out, Doomed};
 
 use super::Table;
-use crate::process::{Masks, Process, Slot, State};
+use crate::process::{Process, Slot, State};
 use mx_exec::Image;
 use std::mem;
 
@@ -76,44 +76,23 @@ impl Table {
         mem::replace(&mut process.image, blank)
     }
 
-    /// The slot of a dead process begins again: the next generation, one restart more used up, ready
-    /// with a full quantum at the end of the list of its level.
-    pub fn revive(
-        &mut self,
-        slot: Slot,
-        image: Image,
-        masks: Masks,
-        level: u8,
-        best: u8,
-        quantum: u32,
-    )
+    /// Puts a new process, which is ready, in the place of a dead one, and at the end of the list of its
+    /// level.
+    pub fn revive(&mut self, slot: Slot, process: Process)
         requires slot { slot < length self.old.slots }
         requires down { is_down (process_at self.old slot).state ≡ true }
-        requires generation { (process_at self.old slot).generation + 1 < 2 ^ 20 }
-        requires restarts { (process_at self.old slot).restarts + 1 < 2 ^ 32 }
-        requires level { level ≤ 14 }
-        requires best { best ≤ level }
-        requires some { 0 < quantum }
-        requires quantum { quantum ≤ 65535 }
-        ensures value { self.new ≡ revived self.old slot image masks level best quantum }
-        ensures frame { frame self.new ≡ reframed (frame self.old) slot (process_at self.new slot) }
+        requires ready { process.state ≡ Ready }
+        requires generation { process.generation < 2 ^ 20 }
+        requires pending { length process.pending ≡ 34 }
+        requires level { process.level ≤ 14 }
+        requires best { process.best ≤ process.level }
+        requires quantum { process.quantum ≤ 65535 }
+        requires ticks { process.ticks ≤ 65535 }
+        ensures value { self.new ≡ revived self.old slot process }
+        ensures frame { frame self.new ≡ reframed (frame self.old) slot process }
     {
-        let process = &mut self.slots[slot as usize];
-        *process = Process {
-            state: State::Ready,
-            generation: process.generation + 1,
-            restarts: process.restarts + 1,
-            masks,
-            level,
-            best,
-            quantum,
-            ticks: quantum,
-            steps: 0,
-            pending: [false; 34],
-            lines: 0,
-            alarm: None,
-            image,
-        };
+        let level = process.level;
+        self.slots[slot as usize] = process;
         self.ready.push_back(level, slot);
     }
 }
