@@ -3,4 +3,4 @@
 
 mod laws;
 
-pub use laws::steps_change_places;
+pub use laws::{histories_replay, steps_change_places};
