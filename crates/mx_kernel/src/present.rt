@@ -59,6 +59,27 @@ fn count_out(leases: &[Option<Lease>]) -> usize
 }
 
 impl Present {
+    /// A table with nothing recorded yet.
+    pub(crate) fn new(
+        table: Table,
+        leases: Vec<Option<Lease>>,
+        others: u8,
+        services: Vec<Service>,
+        capacity: u32,
+    ) -> Present
+        requires { Holds table leases.items services.items 0 capacity }
+        ensures { result ≡ record { table = table; leases = leases.items; others = others; services = services.items; records = 0; capacity = capacity } }
+    {
+        Present {
+            table,
+            leases,
+            others,
+            services,
+            records: 0,
+            capacity,
+        }
+    }
+
     /// The table.
     pub(crate) fn table(&self) -> &Table
         ensures { result.now ≡ self.now.table }
