@@ -30,6 +30,7 @@ use Rattle.mx_world.specs.Whole.{Whole, Lent, held_by, out_count, free}
 use Rattle.mx_kernel.specs.Agrees.{Agrees, IsFresh, IsAccepted, IsRefused}
 use Rattle.mx_kernel.specs.Situation.{Situation, situation_of, free_records, on_to, with_taken, with_returned, refusal_to_take, HasTaken, HasActed, refusal_to, raised_by, respawned_by, table_after, answer_to, is_for_all, recorded_as}
 use Rattle.mx_kernel.proofs.HoldsLemmas.{holds_in}
+use Rattle.mx_kernel.proofs.PresentLemmas.{HoldsOf}
 
 -- ---- one record more
 
@@ -64,7 +65,7 @@ accepted-recorded k a x h e = subst (λ l. AreAccepted k.boot l) (sym (unfold-la
   (accepted-append k.boot (unfolded k.history) (events_of a x ++ []) h (accepted-append (after_events k.boot (unfolded k.history)) (events_of a x) [] e tt))
 
 -- how many actors there are
-abbrev actors_of : Whole → ℕ
+abbrev pub actors_of : Whole → ℕ
 actors_of w = length w.cpus + w.others
 
 -- THE STEP from one record to the next
@@ -315,3 +316,39 @@ back_agrees d n room more k a l o x h at s same after written bigger =
           inl i ↦ let z : None ≡ Some m = sym (ap (λ q. held_by v q) i ∙ get_or-set_same w.cpus a None None (holds_in w.cpus a l at)) ∙ e in cc
         | inr i ↦ let f = h.fresh b m (sym (get_or-set_other w.cpus a b None None i) ∙ e) in record { count = f.count; stop = f.stop; loaded = f.loaded } ])
       bigger
+
+-- ---- a kernel by its parts
+
+-- what a kernel is seen as
+abbrev pub kept_of : Situation → ℕ → List Record → Kept
+kept_of d n records = record { boot = booted_with d.services n d.others d.capacity; history = records }
+
+-- the same services, others and capacity
+boot-same : (d m : Situation) (n : ℕ) (records : List Record) → m.services ≡ d.services → m.others ≡ d.others → m.capacity ≡ d.capacity → kept_of m n records ≡ kept_of d n records
+boot-same d m n records s o c =
+    ap (λ x. let k : Kept = record { boot = booted_with x n m.others m.capacity; history = records } in k) s
+    ∙ ap (λ x. let k : Kept = record { boot = booted_with d.services n x m.capacity; history = records } in k) o
+    ∙ ap (λ x. let k : Kept = record { boot = booted_with d.services n d.others x; history = records } in k) c
+
+pub recorded_by : (d m : Situation) (n a : ℕ) (records more : List Record) (x : Recorded) → m.services ≡ d.services → m.others ≡ d.others → m.capacity ≡ d.capacity → more ≡ records ++ record { actor = a; event = x } ∷ []
+    → kept_of m n more ≡ with_record (kept_of d n records) a x
+recorded_by d m n a records more x s o c e = boot-same d m n more s o c ∙ ap (λ l. kept_of d n l) e
+
+pub after_taking : (d m : Situation) (n a s : ℕ) (records more : List Record) (o : Out) → HasTaken d m a s o → more ≡ records ++ record { actor = a; event = recorded.Take } ∷ [] → kept_of m n more ≡ with_record (kept_of d n records) a recorded.Take
+after_taking d m n a s records more o h e = recorded_by d m n a records more recorded.Take (ap (λ (d : Situation). d.services) h.after) (ap (λ (d : Situation). d.others) h.after) (ap (λ (d : Situation). d.capacity) h.after) e
+
+pub after_acting : (d m : Situation) (n a : ℕ) (records more : List Record) (e : Event) (x : Answer) → HasActed d m e x → more ≡ records ++ record { actor = a; event = recorded_as e } ∷ [] → kept_of m n more ≡ with_record (kept_of d n records) a (recorded_as e)
+after_acting d m n a records more e x h i = recorded_by d m n a records more (recorded_as e) (ap (λ (d : Situation). d.services) h.after) (ap (λ (d : Situation). d.others) h.after) (ap (λ (d : Situation). d.capacity) h.after) i
+
+pub after_returning : (d m : Situation) (n a s : ℕ) (records more : List Record) (o : Out) → m ≡ with_returned d a s o → more ≡ records ++ record { actor = a; event = recorded.Back o.count } ∷ [] → kept_of m n more ≡ with_record (kept_of d n records) a (recorded.Back o.count)
+after_returning d m n a s records more o h e = recorded_by d m n a records more (recorded.Back o.count) (ap (λ (d : Situation). d.services) h) (ap (λ (d : Situation). d.others) h) (ap (λ (d : Situation). d.capacity) h) e
+
+-- there is room for a record more
+pub room_for : (d m : Situation) (room : ℕ) (k : Kept) → Agrees d room k → HoldsOf m → m.records ≡ d.records + 1 → m.capacity ≡ d.capacity → length k.history < room
+room_for d m room k h holds r c = omega (arith, h.records, h.space, holds.room, r, c)
+
+-- a processor is an actor
+pub is_actor : (d : Situation) (room : ℕ) (k : Kept) (a : ℕ) → Agrees d room k → a < length d.leases → a < actors_of k.boot
+is_actor d room k a h b =
+    let n : length d.leases ≡ length (replay k).cpus = ap (λ (d : Situation). length d.leases) h.present ∙ length-map (replay k).cpus lease_of in
+    omega (arith, b, n, h.actors)

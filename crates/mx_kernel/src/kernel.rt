@@ -1,6 +1,6 @@
 //! The kernel, and the history that it keeps.
 
-ghost use Rattle.std.specs.Prelude.{◌≡◌, ◌≤◌, ◌<◌, ◌+◌, ◌++◌, ◌∷◌, [], true, Some, None, IfOk, IfErr, OnOk, All, length, slice_get, vec_len, vec_capacity};
+ghost use Rattle.std.specs.Prelude.{◌≡◌, ℕ, ◌≤◌, ◌<◌, ◌+◌, ◌++◌, ◌∷◌, [], true, Some, None, IfOk, IfErr, OnOk, All, length, slice_get, vec_len, vec_capacity};
 ghost use Rattle.std.specs.Option.{option_map};
 ghost use Rattle.mx_world.specs.declared.events.Event.TheVariants as events;
 ghost use Rattle.mx_world.specs.declared.history.Recorded.TheVariants as recorded;
