@@ -3,6 +3,7 @@
 ghost use Rattle.std.specs.Prelude.{◌≡◌, ◌<◌, true, false, length};
 ghost use Rattle.mx_load.specs.Load.{IsLoadedFrom};
 ghost use Rattle.mx_proc.specs.Frame.{frame, reframed};
+ghost use Rattle.mx_proc.specs.Sound.{NoneComesHome};
 ghost use Rattle.mx_proc.specs.States.{is_down};
 ghost use Rattle.mx_proc.specs.World.{process_at};
 ghost use Rattle.mx_respawn.specs.Respawn.{is_worn, next_process, respawned};
@@ -30,6 +31,7 @@ pub fn respawn(table: &mut Table, slot: Slot, service: &Service)
     ensures value { table.new ≡ respawned table.old slot service.now }
     ensures frame { frame table.new ≡ reframed (frame table.old) slot (next_process (process_at table.old slot) service.now) }
     ensures used { length table.new.slots ≡ length table.old.slots }
+    ensures settled { NoneComesHome table.old table.new }
 {
     let dead = table.process(slot);
     let (generation, restarts) = (dead.generation, dead.restarts);
