@@ -1,8 +1,9 @@
 -- What frames say of each slot.
-use Rattle.std.proofs.Common.{◌≡◌, ◌≢◌, ◌∙◌, ℕ, zero, suc, ◌+◌, List, [], ◌∷◌, map, length, Option, Some, None, get_or, slice_set, get_or-set_other, length-set, refl, ap, sym, arith}
+use Rattle.std.proofs.Common.{◌≡◌, ◌≢◌, ◌∙◌, ℕ, zero, suc, ◌+◌, ◌≤◌, List, [], ◌∷◌, map, length, Option, Some, None, get_or, slice_set, get_or-set_other, length-set, refl, ap, sym, arith}
 use Rattle.std.proofs.lemmas.List.{length-map}
 use Rattle.mx_proc.specs.declared.process.Process.{Process}
 use Rattle.mx_proc.specs.declared.devices.Devices.{Devices}
+use Rattle.mx_proc.specs.Console.{Written}
 use Rattle.mx_proc.specs.Frame.{Frame, Fixed, fixed_of, loan_of, frame, reframed}
 use Rattle.mx_proc.specs.World.{World, nobody, process_at}
 use Rattle.mx_kernel.specs.Serving.{KeepsBut, Keeps, WritesAtMostOne}
@@ -95,3 +96,6 @@ uptime_is t u n e = sym (uptime-of u) ∙ ap (λ (f : Frame). f.uptime) e
 
 pub uptime_written : (t u : World) (n : ℕ) → frame u ≡ (let f : Frame = record (frame t) { uptime = n } in f) → WritesAtMostOne t u
 uptime_written t u n e = let d : u.devices.console.count ≡ t.devices.console.count = ap (λ (d : Devices). d.console.count) (same_devices t u (record (frame t) { uptime = n }) e refl) in omega (arith, d)
+
+pub same_console : (t u : World) → u.devices.console ≡ t.devices.console → WritesAtMostOne t u
+same_console t u e = let d : u.devices.console.count ≡ t.devices.console.count = ap (λ (c : Written). c.count) e in omega (arith, d)

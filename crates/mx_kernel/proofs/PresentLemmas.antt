@@ -57,7 +57,7 @@ down_out (Awaiting x) h = cc
 no_loan : (p : Process) → is_out p.state ≡ false → loan_of p ≡ None
 no_loan p h = rw h refl
 
-ready_loan : (p : Process) → is_ready p.state ≡ true → loan_of p ≡ None
+pub ready_loan : (p : Process) → is_ready p.state ≡ true → loan_of p ≡ None
 ready_loan p h = no_loan p (state_loan p.state p.ticks h)
 
 pub down_loan : (p : Process) → is_down p.state ≡ true → loan_of p ≡ None

@@ -2,7 +2,7 @@
 use Rattle.std.specs.Prelude.{◌≡◌, ◌<◌, ◌≤◌, ℕ, ◌+◌, ◌-◌, ◌*◌, ◌%◌, ◌^◌, Bool, true, false, nat_lt, if◌then◌else◌, List, map, length, Option, Some, None, Result, Ok, Err, slice_get, slice_set}
 use Rattle.mx_proc.specs.Endpoints.{is_alive}
 use Rattle.mx_proc.specs.Queues.{picked}
-use Rattle.mx_proc.specs.States.{is_down}
+use Rattle.mx_proc.specs.States.{is_ready, is_down}
 use Rattle.mx_proc.specs.World.{World, process_at}
 use Rattle.mx_respawn.specs.declared.service.Service.{Service}
 use Rattle.mx_respawn.specs.Respawn.{is_worn, respawned}
@@ -59,6 +59,7 @@ pub record HasTaken (d n : Situation) (a s : ℕ) (o : Out) : Type 0 where
   pub accepted : refusal_to_take d a ≡ None
   pub processor : a < length d.leases
   pub first : picked d.table.ready ≡ Some s
+  pub ready : is_ready (process_at d.table s).state ≡ true
   pub out : o ≡ (lent_of d.table s).out
   pub after : n ≡ with_taken d a s
 

@@ -3,6 +3,7 @@
 ghost use Rattle.std.specs.Prelude.{◌≡◌, ℕ, ◌+◌, ◌-◌, ◌<◌, ◌≤◌, ◌^◌, ◌==◌, ◌&&◌, true, Some, None, IsSome, IfOk, IfErr, OnOk, is_none, length, slice_get};
 ghost use Rattle.mx_load.specs.Load.{IsLoadedFrom};
 ghost use Rattle.mx_proc.specs.Queues.{picked};
+ghost use Rattle.mx_proc.specs.Sound.{Sound};
 ghost use Rattle.mx_proc.specs.States.{is_ready};
 ghost use Rattle.mx_proc.specs.World.{process_at};
 ghost use Rattle.mx_respawn.specs.declared.service.Service.{Service};
@@ -18,8 +19,7 @@ use crate::serving::{come_home, kill, send_out};
 use mx_image::Stop;
 use mx_kcall::{raise, tick};
 use mx_proc::{Endpoint, Slot, Table};
-use crate::stub::{is_worn, respawn};
-use mx_respawn::Service;
+use mx_respawn::{Service, is_worn, respawn};
 use mx_sched::pick;
 use mx_world::{Answer, Event, Lease, Out, Refusal};
 use std::marker::Model;
@@ -68,9 +68,10 @@ impl Present {
 
     /// Opens to a proof what always holds.
     pub(crate) fn opened(&self)
-        ensures { Holds self.now.table self.now.leases self.now.services self.now.records self.now.capacity }
+        ensures sound { Sound self.now.table }
+        ensures holds { Holds self.now.table self.now.leases self.now.services self.now.records self.now.capacity }
     {
-        let _table = &self.table;
+        self.table.sound();
     }
 
     /// How many processors there are.
