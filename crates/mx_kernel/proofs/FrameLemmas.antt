@@ -75,10 +75,10 @@ same_uptime t u f e d = sym (uptime-of u) ∙ ap (λ (f : Frame). f.uptime) e �
 -- one after another
 pub then_but : (s : ℕ) (t u v : World) → KeepsBut s t u → KeepsBut s u v → KeepsBut s t v
 then_but s t u v a b = record {
-    fixed = λ q n. b.fixed q n ∙ a.fixed q n;
-    loans = λ q n. b.loans q n ∙ a.loans q n;
-    used = b.used ∙ a.used;
-  }
+  fixed = λ q n. b.fixed q n ∙ a.fixed q n;
+  loans = λ q n. b.loans q n ∙ a.loans q n;
+  used = b.used ∙ a.used;
+}
 
 pub but_all : (s : ℕ) (t u : World) → Keeps t u → KeepsBut s t u
 but_all s t u k = record { fixed = λ q n. k.fixed q; loans = λ q n. k.loans q; used = k.used }

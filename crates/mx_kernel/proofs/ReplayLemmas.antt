@@ -62,12 +62,12 @@ length-more (y ∷ ys) x = omega (arith, length-more ys x)
 pub replay-recorded : (k : Kept) (a : ℕ) (x : Recorded) → replay (with_record k a x) ≡ after_events (replay k) (events_of a x)
 unfolding replay
 replay-recorded k a x = ap (after_events k.boot) (unfold-last k.history (record { actor = a; event = x })) ∙ after-append k.boot (unfolded k.history) (events_of a x ++ [])
-  ∙ after-append (after_events k.boot (unfolded k.history)) (events_of a x) []
+    ∙ after-append (after_events k.boot (unfolded k.history)) (events_of a x) []
 
 accepted-recorded : (k : Kept) (a : ℕ) (x : Recorded) → AreAccepted k.boot (unfolded k.history) → AreAccepted (replay k) (events_of a x) → AreAccepted k.boot (unfolded (with_record k a x).history)
 unfolding replay
 accepted-recorded k a x h e = subst (λ l. AreAccepted k.boot l) (sym (unfold-last k.history (record { actor = a; event = x })))
-  (accepted-append k.boot (unfolded k.history) (events_of a x ++ []) h (accepted-append (after_events k.boot (unfolded k.history)) (events_of a x) [] e tt))
+    (accepted-append k.boot (unfolded k.history) (events_of a x ++ []) h (accepted-append (after_events k.boot (unfolded k.history)) (events_of a x) [] e tt))
 
 -- how many actors there are
 abbrev pub actors_of : Whole → ℕ
@@ -92,10 +92,10 @@ recorded-agrees d n room more k a x v h accepted e is records capacity actors wr
 -- a record that stands for one event
 one-event : (k n : Kept) (a : ℕ) (e : Event) (x : Recorded) → events_of a x ≡ (a, e) ∷ [] → event_refusal (replay k) a e ≡ None → n ≡ with_record k a x → IsAccepted k n a e x
 one-event k n a e x is accepted same = record {
-    accepted = accepted;
-    recorded = same;
-    world = ap replay same ∙ replay-recorded k a x ∙ ap (after_events (replay k)) is;
-  }
+  accepted = accepted;
+  recorded = same;
+  world = ap replay same ∙ replay-recorded k a x ∙ ap (after_events (replay k)) is;
+}
 
 -- ---- what a kernel knows is what its history says
 
@@ -193,8 +193,8 @@ act_agrees d n room more k a e x h all acted written bigger =
     let v : Whole = noted w (table_after (situation_of w) e) in
     let one = events-same a e all in
     recorded-agrees d n room more k a (recorded_as e) v h (subst (λ l. AreAccepted w l) (sym one) (accepted, tt)) (ap (after_events w) one ∙ after-same w a e all accepted)
-      (acted.after ∙ ap (λ d. on_to d (table_after d e)) h.present) (ap (λ (d : Situation). d.records) acted.after) (ap (λ (d : Situation). d.capacity) acted.after) refl written
-      (λ b l i. let f = h.fresh b l i in record { count = f.count; stop = f.stop; loaded = f.loaded }) bigger
+    (acted.after ∙ ap (λ d. on_to d (table_after d e)) h.present) (ap (λ (d : Situation). d.records) acted.after) (ap (λ (d : Situation). d.capacity) acted.after) refl written
+    (λ b l i. let f = h.fresh b l i in record { count = f.count; stop = f.stop; loaded = f.loaded }) bigger
 
 -- ---- a processor takes a process
 
@@ -226,10 +226,11 @@ pub take_lent : (d n : Situation) (room : ℕ) (k m : Kept) (a s : ℕ) (o : Out
 take_lent d n room k m a s o h taken same =
     let w = replay k in
     let first : picked w.table.ready ≡ Some s = ap (λ (d : Situation). picked d.table.ready) (sym h.present) ∙ taken.first in
-    let below : a < length w.cpus = omega (arith, taken.processor, ap (λ (d : Situation). length d.leases) h.present, length-map w.cpus lease_of) in
-    (lent_of w.table s,
+    let below : a < length w.cpus = omega (arith, taken.processor, ap (λ (d : Situation). length d.leases) h.present, length-map w.cpus lease_of) in (
+      lent_of w.table s,
       ap (λ m. held_by (replay m) a) same ∙ ap (λ w. held_by w a) (replay-recorded k a recorded.Take ∙ after_take-is w a s first) ∙ get_or-set_same w.cpus a (Some (lent_of w.table s)) None below,
-      ap (λ (d : Situation). (lent_of d.table s).out) (sym h.present) ∙ sym taken.out)
+      ap (λ (d : Situation). (lent_of d.table s).out) (sym h.present) ∙ sym taken.out,
+    )
 
 -- IsLoadedFrom of each image that is at home comes from what always holds
 pub take_agrees : (d n : Situation) (room more : ℕ) (k : Kept) (a s : ℕ) (o : Out) → Agrees d room k → HasTaken d n a s o → HoldsOf d
@@ -242,15 +243,19 @@ take_agrees d n room more k a s o h taken holds written bigger =
     let v : Whole = with_held (noted w (sent_out w.table s)) a (Some l) in
     let below : a < length w.cpus = omega (arith, taken.processor, ap (λ (d : Situation). length d.leases) h.present, length-map w.cpus lease_of) in
     recorded-agrees d n room more k a recorded.Take v h (take_accepted d room k a h taken.accepted, tt) (after_take-is w a s first)
-      (taken.after ∙ ap (λ d. with_taken d a s) h.present ∙ ap (λ x. let y : Situation = record (situation_of w) { table = sent_out w.table s; records = w.records + 1; leases = x } in y) (sym (map-put lease_of w.cpus a (Some l))))
-      (ap (λ (d : Situation). d.records) taken.after) (ap (λ (d : Situation). d.capacity) taken.after)
-      (ap (λ n. n + w.others) (length-set w.cpus a (Some l))) written
-      (λ b m e. elim (cases_eq b a) [
-          inl i ↦ let z : Some l ≡ Some m = sym (ap (λ x. held_by v x) i ∙ get_or-set_same w.cpus a (Some l) None below) ∙ e in let y : l ≡ m = cc in
-              subst (λ (m : Lent). IsFresh v m) y (record { count = refl; stop = refl;
-                loaded = λ u g. subst (λ (d : Situation). IsLoadedFrom (process_at d.table s).image u.program) h.present (loaded u (ap (λ (d : Situation). slice_get d.services s) h.present ∙ g)) })
-        | inr i ↦ let f = h.fresh b m (sym (get_or-set_other w.cpus a b (Some l) None i) ∙ e) in record { count = f.count; stop = f.stop; loaded = f.loaded } ])
-      bigger
+    (taken.after ∙ ap (λ d. with_taken d a s) h.present ∙ ap (λ x. let y : Situation = record (situation_of w) { table = sent_out w.table s; records = w.records + 1; leases = x } in y) (sym (map-put lease_of w.cpus a (Some l))))
+    (ap (λ (d : Situation). d.records) taken.after) (ap (λ (d : Situation). d.capacity) taken.after)
+    (ap (λ n. n + w.others) (length-set w.cpus a (Some l))) written
+    (λ b m e. elim (cases_eq b a) [
+      | inl i ↦ let z : Some l ≡ Some m = sym (ap (λ x. held_by v x) i ∙ get_or-set_same w.cpus a (Some l) None below) ∙ e in let y : l ≡ m = cc in
+          subst (λ (m : Lent). IsFresh v m) y (record {
+            count = refl;
+            stop = refl;
+            loaded = λ u g. subst (λ (d : Situation). IsLoadedFrom (process_at d.table s).image u.program) h.present (loaded u (ap (λ (d : Situation). slice_get d.services s) h.present ∙ g));
+          })
+      | inr i ↦ let f = h.fresh b m (sym (get_or-set_other w.cpus a b (Some l) None i) ∙ e) in record { count = f.count; stop = f.stop; loaded = f.loaded }
+    ])
+    bigger
 
 -- ---- a processor brings a process back
 
@@ -315,16 +320,17 @@ back_agrees d n room more k a l o x h at s same after written bigger =
     let v : Whole = with_held (noted w (returned w.table (record l { out = o }))) a None in
     let steps = replicate o.count (a, events.Step) in
     recorded-agrees d n room more k a (recorded.Back o.count) v h
-      (accepted-append w steps ((a, events.Back) ∷ []) s.accepted (back-refusal w (after_events w steps) a l o at s.after, tt))
-      (after-append w steps ((a, events.Back) ∷ []) ∙ after_back-is w (after_events w steps) a l o at s.after)
-      (after ∙ ap (λ q. with_returned d a q o) same ∙ ap (λ d. with_returned d a l.slot o) h.present
-        ∙ ap (λ y. let z : Situation = record (situation_of w) { table = returned w.table (record l { out = o }); records = w.records + 1; leases = y } in z) (sym (map-put lease_of w.cpus a None)))
-      (ap (λ (d : Situation). d.records) after) (ap (λ (d : Situation). d.capacity) after)
-      (ap (λ n. n + w.others) (length-set w.cpus a None)) written
-      (λ b m e. elim (cases_eq b a) [
-          inl i ↦ absurd (nothing m (sym (ap (λ q. held_by v q) i ∙ get_or-set_same w.cpus a None None (holds_in w.cpus a l at)) ∙ e))
-        | inr i ↦ let f = h.fresh b m (sym (get_or-set_other w.cpus a b None None i) ∙ e) in record { count = f.count; stop = f.stop; loaded = f.loaded } ])
-      bigger
+    (accepted-append w steps ((a, events.Back) ∷ []) s.accepted (back-refusal w (after_events w steps) a l o at s.after, tt))
+    (after-append w steps ((a, events.Back) ∷ []) ∙ after_back-is w (after_events w steps) a l o at s.after)
+    (after ∙ ap (λ q. with_returned d a q o) same ∙ ap (λ d. with_returned d a l.slot o) h.present
+    ∙ ap (λ y. let z : Situation = record (situation_of w) { table = returned w.table (record l { out = o }); records = w.records + 1; leases = y } in z) (sym (map-put lease_of w.cpus a None)))
+    (ap (λ (d : Situation). d.records) after) (ap (λ (d : Situation). d.capacity) after)
+    (ap (λ n. n + w.others) (length-set w.cpus a None)) written
+    (λ b m e. elim (cases_eq b a) [
+      | inl i ↦ absurd (nothing m (sym (ap (λ q. held_by v q) i ∙ get_or-set_same w.cpus a None None (holds_in w.cpus a l at)) ∙ e))
+      | inr i ↦ let f = h.fresh b m (sym (get_or-set_other w.cpus a b None None i) ∙ e) in record { count = f.count; stop = f.stop; loaded = f.loaded }
+    ])
+    bigger
 
 -- ---- a kernel by its parts
 
@@ -370,11 +376,11 @@ holder_is_actor d room k a x h e = is_actor d room k a h (holds_in d.leases a x 
 
 pub opened_sound : (d : Situation) (room : ℕ) (k n : Kept) → k ≡ n → Agrees d room k → Sound d.table → HoldsOf d → IsSound (replay n)
 opened_sound d room k n v h sound holds = subst (λ k. IsSound (replay k)) v (record {
-    table = subst (λ (d : Situation). Sound d.table) h.present sound;
-    holds = subst HoldsOf h.present holds;
-    counts = λ a l e. let f = h.fresh a l e in omega (arith, f.count);
-    loaded = λ a l s e g. (h.fresh a l e).loaded s g;
-  })
+  table = subst (λ (d : Situation). Sound d.table) h.present sound;
+  holds = subst HoldsOf h.present holds;
+  counts = λ a l e. let f = h.fresh a l e in omega (arith, f.count);
+  loaded = λ a l s e g. (h.fresh a l e).loaded s g;
+})
 
 pub opened_accepted : (d : Situation) (room : ℕ) (k n : Kept) → k ≡ n → Agrees d room k → AreAccepted n.boot (unfolded n.history)
 opened_accepted d room k n v h = subst (λ (k : Kept). AreAccepted k.boot (unfolded k.history)) v h.accepted
@@ -384,3 +390,6 @@ opened_written d room k n v h = subst (λ (k : Kept). All (IsWritable (actors_of
 
 pub opened_fresh : (d : Situation) (room : ℕ) (k n : Kept) → k ≡ n → Agrees d room k → (a : ℕ) (l : Lent) → held_by (replay n) a ≡ Some l → IsFresh (replay n) l
 opened_fresh d room k n v h = subst (λ (k : Kept). (a : ℕ) (l : Lent) → held_by (replay k) a ≡ Some l → IsFresh (replay k) l) v h.fresh
+
+pub event_actor : (d : Situation) (room : ℕ) (k n : Kept) (a : ℕ) → k ≡ n → Agrees d room k → a < actors_of (replay n) → a < actors_of k.boot
+event_actor d room k n a v h b = let z : a < actors_of (replay k) = subst (λ (k : Kept). a < actors_of (replay k)) (sym v) b in omega (arith, z, h.actors)

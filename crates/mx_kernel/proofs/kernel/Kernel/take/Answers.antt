@@ -19,7 +19,7 @@ returns-in_err-out-clause-err c = (take_refused _ _ _ _ c.args.cpu _ c.self.view
 pub invariant_of-self-2 : goal.invariant_of-self-2
 invariant_of-self-2 c = let t = c.in_ok-out.ensures in
     subst (λ k. Agrees _ _ k) (sym (after_taking _ _ c.self.inside.processors c.args.cpu t.0 _ _ _ t.1 c.note.ensures.items))
-      (take_agrees _ _ _ _ _ c.args.cpu t.0 _ c.self.invariant t.1 c.opened.ensures.holds (record { actor = is_actor _ _ _ c.args.cpu c.self.invariant t.1.processor; number = omega arith }) c.note.ensures.room)
+    (take_agrees _ _ _ _ _ c.args.cpu t.0 _ c.self.invariant t.1 c.opened.ensures.holds (record { actor = is_actor _ _ _ c.args.cpu c.self.invariant t.1.processor; number = omega arith }) c.note.ensures.room)
 
 pub returns-clause-ok : goal.returns-clause-ok
 returns-clause-ok c = let t = c.in_ok-out.ensures in
