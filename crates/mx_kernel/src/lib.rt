@@ -1,4 +1,0 @@
-//! The kernel.
-#![tactic(auto)]
-
-mod booting;
