@@ -225,8 +225,8 @@ get-at (y ∷ ys) (suc i) x e b = get-at ys i x e (omega (arith, b))
 
 pub respawn_acted : (d n : Situation) (u : World) (s e : ℕ) (v : Service) → d ≡ n → MayRespawn n s e → slice_get d.services s ≡ Some v → u ≡ respawned d.table s v → HasActed n (on_to d u) (events.Respawn s) (Respawned e)
 respawn_acted d n u s e v same m at is = record {
-    accepted = m.accepted;
-    answer = ap (λ x. let y : Answer = Respawned x in y) m.endpoint;
-    after = ap (on_to d) (is ∙ ap (respawned_by d.table s) (sym at)) ∙ ap (λ d. on_to d (table_after d (events.Respawn s))) same;
-    number = omega (arith, m.small);
-  }
+  accepted = m.accepted;
+  answer = ap (λ x. let y : Answer = Respawned x in y) m.endpoint;
+  after = ap (on_to d) (is ∙ ap (respawned_by d.table s) (sym at)) ∙ ap (λ d. on_to d (table_after d (events.Respawn s))) same;
+  number = omega (arith, m.small);
+}

@@ -21,6 +21,7 @@ use std::marker::Model;
 
 /// A kernel: where it stands, and the history that led there. All the room that it needs was taken when
 /// it was made.
+#[derive(Drop)]
 pub struct Kernel {
     present: Present,
     records: Vec<Record>,

@@ -25,6 +25,7 @@ use mx_world::{Answer, Event, Lease, Out, Refusal};
 use std::marker::Model;
 
 /// A kernel's table, and what it keeps in mind of its processors.
+#[derive(Drop)]
 pub(crate) struct Present {
     table: Table,
     leases: Vec<Option<Lease>>,

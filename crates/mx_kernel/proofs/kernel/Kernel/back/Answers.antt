@@ -38,5 +38,5 @@ pub returns-clause-world : goal.returns-clause-world
 returns-clause-world c =
     let s = back_steps _ _ _ _ c.args.cpu c.requires.0 c.args.out c.runs_are_steps.ensures c.self.view_is c.self.invariant c.requires.1 c.requires.2 in
     λ l h. let z : Some c.requires.0 ≡ Some l = sym c.requires.1 ∙ h in let same : c.requires.0 ≡ l = cc in
-    subst (λ (l : Lent). replay _ ≡ after_event (with_held (replay c.args.self.now) c.args.cpu (Some (record l { out = c.args.out }))) c.args.cpu events.Back) same
+    subst (λ (l : Lent). replay (kept_of c.come_back.new.self c.self.inside.processors c.note.new.records.items) ≡ after_event (with_held (replay c.args.self.now) c.args.cpu (Some (record l { out = c.args.out }))) c.args.cpu events.Back) same
     (back_world _ _ _ _ _ c.args.cpu c.requires.0 c.args.out c.self.view_is c.self.invariant c.requires.1 s (after_returning _ _ c.self.inside.processors c.args.cpu c.in-Some.lease.slot _ _ c.args.out c.come_back.ensures.value c.note.ensures.items))

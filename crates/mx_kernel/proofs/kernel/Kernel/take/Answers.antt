@@ -16,7 +16,7 @@ use Rattle.mx_kernel.proofs.ReplayLemmas.{kept_of, take_refused, take_is, take_l
 use Rattle.mx_kernel.proofs.kernel.Kernel.take.Goals as goal
 
 pub returns-in_err-out-clause-err : goal.returns-in_err-out-clause-err
-returns-in_err-out-clause-err c = 
+returns-in_err-out-clause-err c =
     let p = err_from_is_err_and c.from_residual.result c.from_residual.ensures.1 in
     rw (p.1, p.2) (take_refused _ _ _ _ c.args.cpu _ c.self.view_is c.self.invariant c.in_err-out.ensures.0, ap (λ d. kept_of d c.self.inside.processors c.self.inside.records.items) c.in_err-out.ensures.1 ∙ c.self.view_is)
 

@@ -11,7 +11,7 @@ invariant_of-self c =
     let used : c.args.slot < length c.self.inside.table.slots = subst (λ (d : Situation). c.args.slot < length d.table.slots) (sym c.self.view_is) may.used in
     let down : is_down (process_at c.self.inside.table c.args.slot).state ≡ true = ap (λ (d : Situation). is_down (process_at d.table c.args.slot).state) c.self.view_is ∙ may.down in
     respawned_holds _ _ _ c.args.slot c.index.result.now c.self.view_is c.self.invariant (get-at c.self.inside.services.items c.args.slot c.index.result.now c.index.ensures (omega (arith, used, c.self.invariant.served))) used down
-      c.respawn.ensures.value c.respawn.ensures.frame c.respawn.ensures.settled may.room
+    c.respawn.ensures.value c.respawn.ensures.frame c.respawn.ensures.settled may.room
 
 pub returns : goal.returns
 returns c =
