@@ -137,16 +137,17 @@ no_lease : (n : ℕ) → map lease_of (replicate n None) ≡ replicate n None
 no_lease zero = refl
 no_lease (suc n) = ap (λ l. None ∷ l) (no_lease n)
 
-pub boot_agrees : (ss : List Service) (cpus others capacity room : ℕ) (leases : List (Option Lease)) (items : List Record) → leases ≡ replicate cpus None → items ≡ [] → capacity ≤ room
+pub boot_agrees : (ss : List Service) (cpus others capacity room : ℕ) (leases : List (Option Lease)) (items : List Record) → cpus ≤ 8 → leases ≡ replicate cpus None → items ≡ [] → capacity ≤ room
     → Agrees (record { table = first_table ss; leases = leases; others = others; services = ss; records = 0; capacity = capacity }) room (record { boot = booted_with ss cpus others capacity; history = items })
 unfolding replay
-boot_agrees ss cpus others capacity room leases items idle none fits =
+boot_agrees ss cpus others capacity room leases items eight idle none fits =
     subst (λ l. Agrees (record { table = first_table ss; leases = leases; others = others; services = ss; records = 0; capacity = capacity }) room (record { boot = booted_with ss cpus others capacity; history = l })) (sym none)
       (record {
         present = ap (λ (l : List (Option Lease)). let d : Situation = record { table = first_table ss; leases = l; others = others; services = ss; records = 0; capacity = capacity } in d) (idle ∙ sym (no_lease cpus));
         records = refl;
         space = fits;
         accepted = tt;
+        few = omega (arith, length-replicate {A = Option Lent} cpus None);
         actors = refl;
         written = All-nil _;
         fresh = λ a l h. let z = none_at Lent cpus a in cc;

@@ -86,6 +86,7 @@ recorded-agrees d n room more k a x v h accepted e is records capacity actors wr
       records = omega (arith, records, h.records, length-more k.history (record { actor = a; event = x }));
       space = omega (arith, capacity, h.space, bigger);
       accepted = accepted-recorded k a x h.accepted accepted;
+      few = h.few;
       actors = ap actors_of z ∙ actors ∙ h.actors;
       written = all-more (IsWritable (actors_of k.boot)) k.history (record { actor = a; event = x }) h.written written;
       fresh = subst (λ (w : Whole). (b : ℕ) (l : Lent) → held_by w b ≡ Some l → IsFresh w l) (sym z) fresh;
@@ -392,6 +393,11 @@ opened_written d room k n v h = subst (λ (k : Kept). All (IsWritable (actors_of
 
 pub opened_fresh : (d : Situation) (room : ℕ) (k n : Kept) → k ≡ n → Agrees d room k → (a : ℕ) (l : Lent) → held_by (replay n) a ≡ Some l → IsFresh (replay n) l
 opened_fresh d room k n v h = subst (λ (k : Kept). (a : ℕ) (l : Lent) → held_by (replay k) a ≡ Some l → IsFresh (replay k) l) v h.fresh
+
+pub opened_few : (d : Situation) (room : ℕ) (k n : Kept) → k ≡ n → Agrees d room k → k.boot.others ≡ d.others → length (replay n).cpus ≤ 8
+opened_few d room k n v h same =
+    let others : d.others ≡ (replay k).others = ap (λ (x : Situation). x.others) h.present in
+    subst (λ (k : Kept). length (replay k).cpus ≤ 8) v (omega (arith, h.actors, h.few, others, same))
 
 pub event_actor : (d : Situation) (room : ℕ) (k n : Kept) (a : ℕ) → k ≡ n → Agrees d room k → a < actors_of (replay n) → a < actors_of k.boot
 event_actor d room k n a v h b = let z : a < actors_of (replay k) = subst (λ (k : Kept). a < actors_of (replay k)) (sym v) b in omega (arith, z, h.actors)

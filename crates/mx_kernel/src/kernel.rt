@@ -187,6 +187,7 @@ impl Kernel {
     /// Opens to a proof what always holds of a kernel.
     pub fn opened(&self)
         ensures sound { IsSound (replay self.now) }
+        ensures few { length (replay self.now).cpus ≤ 8 }
         ensures accepted { AreAccepted self.now.boot (unfolded self.now.history) }
         ensures written { All (IsWritable (length (replay self.now).cpus + (replay self.now).others)) self.now.history }
         ensures fresh { (a : ℕ) (l : Lent) → held_by (replay self.now) a ≡ Some l → IsFresh (replay self.now) l }
