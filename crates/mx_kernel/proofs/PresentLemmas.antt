@@ -209,10 +209,6 @@ pub or_true : (b c : Bool) → c ≡ true → (b || c) ≡ true
 or_true true c e = refl
 or_true false c e = e
 
-pub not_false : (b : Bool) → not b ≡ false → b ≡ true
-not_false true e = refl
-not_false false e = cc
-
 -- ---- the service of a slot
 
 some-same : {X : Type 0} (x y : X) → x ≡ y → Some x ≡ Some y
