@@ -1,12 +1,15 @@
 -- A kernel and the history that it keeps.
-use Rattle.std.proofs.Common.{◌≡◌, ◌≢◌, ◌∙◌, ℕ, zero, suc, ◌+◌, ◌-◌, ◌*◌, ◌%◌, ◌<◌, ◌≤◌, ◌^◌, ◌++◌, List, [], ◌∷◌, map, replicate, length, Option, Some, None, Bool, true, false, get_or, slice_set, slice_get, All, get_or-set_same, get_or-set_other, length-set, append_assoc, inl, inr, refl, ap, sym, subst, arith}
+use Rattle.std.proofs.Common.{◌≡◌, ◌≢◌, ◌∙◌, ℕ, zero, suc, ◌+◌, ◌-◌, ◌*◌, ◌%◌, ◌<◌, ◌≤◌, ◌^◌, ◌++◌, List, [], ◌∷◌, map, replicate, length, Option, Some, None, Bool, true, false, is_none, ◌&&◌, ◌==◌, get_or, slice_set, slice_get, All, get_or-set_same, get_or-set_other, length-set, append_assoc, inl, inr, refl, ap, sym, subst, arith}
 use Rattle.std.proofs.lemmas.Bool.{cases_eq, lt-leb}
 use Rattle.std.proofs.lemmas.List.{length-map}
+use Rattle.std.proofs.lemmas.List.Elements.{All-append}
 use Rattle.mx_image.specs.declared.runs.Stop.{Stop}
 use Rattle.mx_image.specs.declared.runs.Stop.TheVariants.{Spent}
 use Rattle.mx_load.specs.Load.{IsLoadedFrom}
 use Rattle.mx_proc.specs.Endpoints.{is_alive}
 use Rattle.mx_proc.specs.Queues.{picked}
+use Rattle.mx_proc.specs.Sound.{Sound}
+use Rattle.mx_proc.specs.declared.process.Process.{Process}
 use Rattle.mx_proc.specs.World.{World, process_at}
 use Rattle.mx_respawn.specs.declared.service.Service.{Service}
 use Rattle.mx_kcall.specs.Refusals.{owner_of}
@@ -24,12 +27,14 @@ use Rattle.mx_world.specs.Boot.{booted_with}
 use Rattle.mx_world.specs.Held.{held_run, IsBack}
 use Rattle.mx_world.specs.History.{Kept, AreAccepted, IsWritable, events_of, unfolded, after_events, replay, with_record}
 use Rattle.mx_world.specs.Move.{event_refusal, event_answer, after_event, after_take, after_back, after_line, after_respawn, if_full, line_refusal, kill_refusal, respawn_refusal, take_refusal, back_refusal, noted, with_held, sent_out, lent_of, returned}
-use Rattle.mx_world.specs.Sound.{lease_of, lease_at}
+use Rattle.mx_world.specs.Rest.{at_rest, down_are_worn}
+use Rattle.mx_world.specs.Sound.{lease_of, lease_at, IsSound}
 use Rattle.mx_world.specs.Steps.{StepsTo}
 use Rattle.mx_world.specs.Whole.{Whole, Lent, held_by, out_count, free}
 use Rattle.mx_kernel.specs.Agrees.{Agrees, IsFresh, IsAccepted, IsRefused}
 use Rattle.mx_kernel.specs.Situation.{Situation, situation_of, free_records, on_to, with_taken, with_returned, refusal_to_take, HasTaken, HasActed, refusal_to, raised_by, respawned_by, table_after, answer_to, is_for_all, recorded_as}
 use Rattle.mx_kernel.proofs.HoldsLemmas.{holds_in}
+use Rattle.mx_kernel.proofs.PresentLemmas.{HoldsOf, ready_loan}
 
 -- ---- one record more
 
@@ -45,9 +50,12 @@ accepted-append : (w : Whole) (xs ys : List (ℕ × Event)) → AreAccepted w xs
 accepted-append w [] ys a b = b
 accepted-append w (x ∷ xs) ys a b = (a.0, accepted-append (after_event w x.0 x.1) xs ys a.1 b)
 
+all-one : {X : Type 0} (P : X → Type 0) (x : X) → P x → All P (x ∷ [])
+all-one P x h zero d b = h
+all-one P x h (suc k) d b = absurd (omega (arith, b))
+
 all-more : {X : Type 0} (P : X → Type 0) (xs : List X) (x : X) → All P xs → P x → All P (xs ++ x ∷ [])
-all-more P [] x a h = (h, tt)
-all-more P (y ∷ ys) x a h = (a.0, all-more P ys x a.1 h)
+all-more P xs x a h = All-append P xs (x ∷ []) a (all-one P x h)
 
 length-more : {X : Type 0} (xs : List X) (x : X) → length (xs ++ x ∷ []) ≡ length xs + 1
 length-more [] x = refl
@@ -56,15 +64,15 @@ length-more (y ∷ ys) x = omega (arith, length-more ys x)
 pub replay-recorded : (k : Kept) (a : ℕ) (x : Recorded) → replay (with_record k a x) ≡ after_events (replay k) (events_of a x)
 unfolding replay
 replay-recorded k a x = ap (after_events k.boot) (unfold-last k.history (record { actor = a; event = x })) ∙ after-append k.boot (unfolded k.history) (events_of a x ++ [])
-  ∙ after-append (after_events k.boot (unfolded k.history)) (events_of a x) []
+    ∙ after-append (after_events k.boot (unfolded k.history)) (events_of a x) []
 
 accepted-recorded : (k : Kept) (a : ℕ) (x : Recorded) → AreAccepted k.boot (unfolded k.history) → AreAccepted (replay k) (events_of a x) → AreAccepted k.boot (unfolded (with_record k a x).history)
 unfolding replay
 accepted-recorded k a x h e = subst (λ l. AreAccepted k.boot l) (sym (unfold-last k.history (record { actor = a; event = x })))
-  (accepted-append k.boot (unfolded k.history) (events_of a x ++ []) h (accepted-append (after_events k.boot (unfolded k.history)) (events_of a x) [] e tt))
+    (accepted-append k.boot (unfolded k.history) (events_of a x ++ []) h (accepted-append (after_events k.boot (unfolded k.history)) (events_of a x) [] e tt))
 
 -- how many actors there are
-abbrev actors_of : Whole → ℕ
+abbrev pub actors_of : Whole → ℕ
 actors_of w = length w.cpus + w.others
 
 -- THE STEP from one record to the next
@@ -78,6 +86,7 @@ recorded-agrees d n room more k a x v h accepted e is records capacity actors wr
       records = omega (arith, records, h.records, length-more k.history (record { actor = a; event = x }));
       space = omega (arith, capacity, h.space, bigger);
       accepted = accepted-recorded k a x h.accepted accepted;
+      few = h.few;
       actors = ap actors_of z ∙ actors ∙ h.actors;
       written = all-more (IsWritable (actors_of k.boot)) k.history (record { actor = a; event = x }) h.written written;
       fresh = subst (λ (w : Whole). (b : ℕ) (l : Lent) → held_by w b ≡ Some l → IsFresh w l) (sym z) fresh;
@@ -86,10 +95,10 @@ recorded-agrees d n room more k a x v h accepted e is records capacity actors wr
 -- a record that stands for one event
 one-event : (k n : Kept) (a : ℕ) (e : Event) (x : Recorded) → events_of a x ≡ (a, e) ∷ [] → event_refusal (replay k) a e ≡ None → n ≡ with_record k a x → IsAccepted k n a e x
 one-event k n a e x is accepted same = record {
-    accepted = accepted;
-    recorded = same;
-    world = ap replay same ∙ replay-recorded k a x ∙ ap (after_events (replay k)) is;
-  }
+  accepted = accepted;
+  recorded = same;
+  world = ap replay same ∙ replay-recorded k a x ∙ ap (after_events (replay k)) is;
+}
 
 -- ---- what a kernel knows is what its history says
 
@@ -187,8 +196,8 @@ act_agrees d n room more k a e x h all acted written bigger =
     let v : Whole = noted w (table_after (situation_of w) e) in
     let one = events-same a e all in
     recorded-agrees d n room more k a (recorded_as e) v h (subst (λ l. AreAccepted w l) (sym one) (accepted, tt)) (ap (after_events w) one ∙ after-same w a e all accepted)
-      (acted.after ∙ ap (λ d. on_to d (table_after d e)) h.present) (ap (λ (d : Situation). d.records) acted.after) (ap (λ (d : Situation). d.capacity) acted.after) refl written
-      (λ b l i. let f = h.fresh b l i in record { count = f.count; stop = f.stop; loaded = f.loaded }) bigger
+    (acted.after ∙ ap (λ d. on_to d (table_after d e)) h.present) (ap (λ (d : Situation). d.records) acted.after) (ap (λ (d : Situation). d.capacity) acted.after) refl written
+    (λ b l i. let f = h.fresh b l i in record { count = f.count; stop = f.stop; loaded = f.loaded }) bigger
 
 -- ---- a processor takes a process
 
@@ -220,30 +229,36 @@ pub take_lent : (d n : Situation) (room : ℕ) (k m : Kept) (a s : ℕ) (o : Out
 take_lent d n room k m a s o h taken same =
     let w = replay k in
     let first : picked w.table.ready ≡ Some s = ap (λ (d : Situation). picked d.table.ready) (sym h.present) ∙ taken.first in
-    let below : a < length w.cpus = omega (arith, taken.processor, ap (λ (d : Situation). length d.leases) h.present, length-map w.cpus lease_of) in
-    (lent_of w.table s,
+    let below : a < length w.cpus = omega (arith, taken.processor, ap (λ (d : Situation). length d.leases) h.present, length-map w.cpus lease_of) in (
+      lent_of w.table s,
       ap (λ m. held_by (replay m) a) same ∙ ap (λ w. held_by w a) (replay-recorded k a recorded.Take ∙ after_take-is w a s first) ∙ get_or-set_same w.cpus a (Some (lent_of w.table s)) None below,
-      ap (λ (d : Situation). (lent_of d.table s).out) (sym h.present) ∙ sym taken.out)
+      ap (λ (d : Situation). (lent_of d.table s).out) (sym h.present) ∙ sym taken.out,
+    )
 
 -- IsLoadedFrom of each image that is at home comes from what always holds
-pub take_agrees : (d n : Situation) (room more : ℕ) (k : Kept) (a s : ℕ) (o : Out) → Agrees d room k → HasTaken d n a s o → ((v : Service) → slice_get d.services s ≡ Some v → IsLoadedFrom (process_at d.table s).image v.program)
+pub take_agrees : (d n : Situation) (room more : ℕ) (k : Kept) (a s : ℕ) (o : Out) → Agrees d room k → HasTaken d n a s o → HoldsOf d
     → IsWritable (actors_of k.boot) (record { actor = a; event = recorded.Take }) → room ≤ more → Agrees n more (with_record k a recorded.Take)
-take_agrees d n room more k a s o h taken loaded written bigger =
+take_agrees d n room more k a s o h taken holds written bigger =
+    let loaded : (v : Service) → slice_get d.services s ≡ Some v → IsLoadedFrom (process_at d.table s).image v.program = λ v g. holds.loaded s v g (ready_loan (process_at d.table s) taken.ready) in
     let w = replay k in
     let first : picked w.table.ready ≡ Some s = ap (λ (d : Situation). picked d.table.ready) (sym h.present) ∙ taken.first in
     let l : Lent = lent_of w.table s in
     let v : Whole = with_held (noted w (sent_out w.table s)) a (Some l) in
     let below : a < length w.cpus = omega (arith, taken.processor, ap (λ (d : Situation). length d.leases) h.present, length-map w.cpus lease_of) in
     recorded-agrees d n room more k a recorded.Take v h (take_accepted d room k a h taken.accepted, tt) (after_take-is w a s first)
-      (taken.after ∙ ap (λ d. with_taken d a s) h.present ∙ ap (λ x. let y : Situation = record (situation_of w) { table = sent_out w.table s; records = w.records + 1; leases = x } in y) (sym (map-put lease_of w.cpus a (Some l))))
-      (ap (λ (d : Situation). d.records) taken.after) (ap (λ (d : Situation). d.capacity) taken.after)
-      (ap (λ n. n + w.others) (length-set w.cpus a (Some l))) written
-      (λ b m e. elim (cases_eq b a) [
-          inl i ↦ let z : Some l ≡ Some m = sym (ap (λ x. held_by v x) i ∙ get_or-set_same w.cpus a (Some l) None below) ∙ e in let y : l ≡ m = cc in
-              subst (λ (m : Lent). IsFresh v m) y (record { count = refl; stop = refl;
-                loaded = λ u g. subst (λ (d : Situation). IsLoadedFrom (process_at d.table s).image u.program) h.present (loaded u (ap (λ (d : Situation). slice_get d.services s) h.present ∙ g)) })
-        | inr i ↦ let f = h.fresh b m (sym (get_or-set_other w.cpus a b (Some l) None i) ∙ e) in record { count = f.count; stop = f.stop; loaded = f.loaded } ])
-      bigger
+    (taken.after ∙ ap (λ d. with_taken d a s) h.present ∙ ap (λ x. let y : Situation = record (situation_of w) { table = sent_out w.table s; records = w.records + 1; leases = x } in y) (sym (map-put lease_of w.cpus a (Some l))))
+    (ap (λ (d : Situation). d.records) taken.after) (ap (λ (d : Situation). d.capacity) taken.after)
+    (ap (λ n. n + w.others) (length-set w.cpus a (Some l))) written
+    (λ b m e. elim (cases_eq b a) [
+      | inl i ↦ let z : Some l ≡ Some m = sym (ap (λ x. held_by v x) i ∙ get_or-set_same w.cpus a (Some l) None below) ∙ e in let y : l ≡ m = cc in
+          subst (λ (m : Lent). IsFresh v m) y (record {
+            count = refl;
+            stop = refl;
+            loaded = λ u g. subst (λ (d : Situation). IsLoadedFrom (process_at d.table s).image u.program) h.present (loaded u (ap (λ (d : Situation). slice_get d.services s) h.present ∙ g));
+          })
+      | inr i ↦ let f = h.fresh b m (sym (get_or-set_other w.cpus a b (Some l) None i) ∙ e) in record { count = f.count; stop = f.stop; loaded = f.loaded }
+    ])
+    bigger
 
 -- ---- a processor brings a process back
 
@@ -298,6 +313,9 @@ back_world d room k n m a l o v h at s same =
     ap replay same ∙ replay-recorded k a (recorded.Back o.count) ∙ after-append (replay k) (replicate o.count (a, events.Step)) ((a, events.Back) ∷ [])
     ∙ ap (λ w. after_event w a events.Back) s.after ∙ ap (λ k. after_event (with_held (replay k) a (Some (record l { out = o }))) a events.Back) v
 
+nothing : (m : Lent) → None ≡ Some m → ⊥
+nothing m e = cc
+
 pub back_agrees : (d n : Situation) (room more : ℕ) (k : Kept) (a : ℕ) (l : Lent) (o : Out) (x : Lease) → Agrees d room k → held_by (replay k) a ≡ Some l → StepsTo (replay k) a o.count l o → x.slot ≡ l.slot → n ≡ with_returned d a x.slot o
     → IsWritable (actors_of k.boot) (record { actor = a; event = recorded.Back o.count }) → room ≤ more → Agrees n more (with_record k a (recorded.Back o.count))
 back_agrees d n room more k a l o x h at s same after written bigger =
@@ -305,13 +323,93 @@ back_agrees d n room more k a l o x h at s same after written bigger =
     let v : Whole = with_held (noted w (returned w.table (record l { out = o }))) a None in
     let steps = replicate o.count (a, events.Step) in
     recorded-agrees d n room more k a (recorded.Back o.count) v h
-      (accepted-append w steps ((a, events.Back) ∷ []) s.accepted (back-refusal w (after_events w steps) a l o at s.after, tt))
-      (after-append w steps ((a, events.Back) ∷ []) ∙ after_back-is w (after_events w steps) a l o at s.after)
-      (after ∙ ap (λ q. with_returned d a q o) same ∙ ap (λ d. with_returned d a l.slot o) h.present
-        ∙ ap (λ y. let z : Situation = record (situation_of w) { table = returned w.table (record l { out = o }); records = w.records + 1; leases = y } in z) (sym (map-put lease_of w.cpus a None)))
-      (ap (λ (d : Situation). d.records) after) (ap (λ (d : Situation). d.capacity) after)
-      (ap (λ n. n + w.others) (length-set w.cpus a None)) written
-      (λ b m e. elim (cases_eq b a) [
-          inl i ↦ let z : None ≡ Some m = sym (ap (λ q. held_by v q) i ∙ get_or-set_same w.cpus a None None (holds_in w.cpus a l at)) ∙ e in cc
-        | inr i ↦ let f = h.fresh b m (sym (get_or-set_other w.cpus a b None None i) ∙ e) in record { count = f.count; stop = f.stop; loaded = f.loaded } ])
-      bigger
+    (accepted-append w steps ((a, events.Back) ∷ []) s.accepted (back-refusal w (after_events w steps) a l o at s.after, tt))
+    (after-append w steps ((a, events.Back) ∷ []) ∙ after_back-is w (after_events w steps) a l o at s.after)
+    (after ∙ ap (λ q. with_returned d a q o) same ∙ ap (λ d. with_returned d a l.slot o) h.present
+    ∙ ap (λ y. let z : Situation = record (situation_of w) { table = returned w.table (record l { out = o }); records = w.records + 1; leases = y } in z) (sym (map-put lease_of w.cpus a None)))
+    (ap (λ (d : Situation). d.records) after) (ap (λ (d : Situation). d.capacity) after)
+    (ap (λ n. n + w.others) (length-set w.cpus a None)) written
+    (λ b m e. elim (cases_eq b a) [
+      | inl i ↦ absurd (nothing m (sym (ap (λ q. held_by v q) i ∙ get_or-set_same w.cpus a None None (holds_in w.cpus a l at)) ∙ e))
+      | inr i ↦ let f = h.fresh b m (sym (get_or-set_other w.cpus a b None None i) ∙ e) in record { count = f.count; stop = f.stop; loaded = f.loaded }
+    ])
+    bigger
+
+-- ---- a kernel by its parts
+
+-- what a kernel is seen as
+abbrev pub kept_of : Situation → ℕ → List Record → Kept
+kept_of d n records = record { boot = booted_with d.services n d.others d.capacity; history = records }
+
+-- the same services, others and capacity
+boot-same : (d m : Situation) (n : ℕ) (records : List Record) → m.services ≡ d.services → m.others ≡ d.others → m.capacity ≡ d.capacity → kept_of m n records ≡ kept_of d n records
+boot-same d m n records s o c =
+    ap (λ x. let k : Kept = record { boot = booted_with x n m.others m.capacity; history = records } in k) s
+    ∙ ap (λ x. let k : Kept = record { boot = booted_with d.services n x m.capacity; history = records } in k) o
+    ∙ ap (λ x. let k : Kept = record { boot = booted_with d.services n d.others x; history = records } in k) c
+
+pub recorded_by : (d m : Situation) (n a : ℕ) (records more : List Record) (x : Recorded) → m.services ≡ d.services → m.others ≡ d.others → m.capacity ≡ d.capacity → more ≡ records ++ record { actor = a; event = x } ∷ []
+    → kept_of m n more ≡ with_record (kept_of d n records) a x
+recorded_by d m n a records more x s o c e = boot-same d m n more s o c ∙ ap (λ l. kept_of d n l) e
+
+pub after_taking : (d m : Situation) (n a s : ℕ) (records more : List Record) (o : Out) → HasTaken d m a s o → more ≡ records ++ record { actor = a; event = recorded.Take } ∷ [] → kept_of m n more ≡ with_record (kept_of d n records) a recorded.Take
+after_taking d m n a s records more o h e = recorded_by d m n a records more recorded.Take (ap (λ (d : Situation). d.services) h.after) (ap (λ (d : Situation). d.others) h.after) (ap (λ (d : Situation). d.capacity) h.after) e
+
+pub after_acting : (d m : Situation) (n a : ℕ) (records more : List Record) (e : Event) (x : Answer) → HasActed d m e x → more ≡ records ++ record { actor = a; event = recorded_as e } ∷ [] → kept_of m n more ≡ with_record (kept_of d n records) a (recorded_as e)
+after_acting d m n a records more e x h i = recorded_by d m n a records more (recorded_as e) (ap (λ (d : Situation). d.services) h.after) (ap (λ (d : Situation). d.others) h.after) (ap (λ (d : Situation). d.capacity) h.after) i
+
+pub after_returning : (d m : Situation) (n a s : ℕ) (records more : List Record) (o : Out) → m ≡ with_returned d a s o → more ≡ records ++ record { actor = a; event = recorded.Back o.count } ∷ [] → kept_of m n more ≡ with_record (kept_of d n records) a (recorded.Back o.count)
+after_returning d m n a s records more o h e = recorded_by d m n a records more (recorded.Back o.count) (ap (λ (d : Situation). d.services) h) (ap (λ (d : Situation). d.others) h) (ap (λ (d : Situation). d.capacity) h) e
+
+-- there is room for a record more
+pub room_for : (d m : Situation) (room : ℕ) (k : Kept) → Agrees d room k → HoldsOf m → m.records ≡ d.records + 1 → m.capacity ≡ d.capacity → length k.history < room
+room_for d m room k h holds r c = omega (arith, h.records, h.space, holds.room, r, c)
+
+-- a processor is an actor
+pub is_actor : (d : Situation) (room : ℕ) (k : Kept) (a : ℕ) → Agrees d room k → a < length d.leases → a < actors_of k.boot
+is_actor d room k a h b =
+    let n : length d.leases ≡ length (replay k).cpus = ap (λ (d : Situation). length d.leases) h.present ∙ length-map (replay k).cpus lease_of in
+    omega (arith, b, n, h.actors)
+
+-- who brings something back is an actor
+pub holder_is_actor : (d : Situation) (room : ℕ) (k : Kept) (a : ℕ) (x : Lease) → Agrees d room k → lease_at d.leases a ≡ Some x → a < actors_of k.boot
+holder_is_actor d room k a x h e = is_actor d room k a h (holds_in d.leases a x e)
+
+-- ---- what always holds of a kernel
+
+pub opened_sound : (d : Situation) (room : ℕ) (k n : Kept) → k ≡ n → Agrees d room k → Sound d.table → HoldsOf d → IsSound (replay n)
+opened_sound d room k n v h sound holds = subst (λ k. IsSound (replay k)) v (record {
+  table = subst (λ (d : Situation). Sound d.table) h.present sound;
+  holds = subst HoldsOf h.present holds;
+  counts = λ a l e. let f = h.fresh a l e in omega (arith, f.count);
+  loaded = λ a l s e g. (h.fresh a l e).loaded s g;
+})
+
+pub opened_accepted : (d : Situation) (room : ℕ) (k n : Kept) → k ≡ n → Agrees d room k → AreAccepted n.boot (unfolded n.history)
+opened_accepted d room k n v h = subst (λ (k : Kept). AreAccepted k.boot (unfolded k.history)) v h.accepted
+
+pub opened_written : (d : Situation) (room : ℕ) (k n : Kept) → k ≡ n → Agrees d room k → All (IsWritable (actors_of (replay n))) n.history
+opened_written d room k n v h = subst (λ (k : Kept). All (IsWritable (actors_of (replay k))) k.history) v (subst (λ m. All (IsWritable m) k.history) (sym h.actors) h.written)
+
+pub opened_fresh : (d : Situation) (room : ℕ) (k n : Kept) → k ≡ n → Agrees d room k → (a : ℕ) (l : Lent) → held_by (replay n) a ≡ Some l → IsFresh (replay n) l
+opened_fresh d room k n v h = subst (λ (k : Kept). (a : ℕ) (l : Lent) → held_by (replay k) a ≡ Some l → IsFresh (replay k) l) v h.fresh
+
+pub opened_few : (d : Situation) (room : ℕ) (k n : Kept) → k ≡ n → Agrees d room k → k.boot.others ≡ d.others → length (replay n).cpus ≤ 8
+opened_few d room k n v h same =
+    let others : d.others ≡ (replay k).others = ap (λ (x : Situation). x.others) h.present in
+    subst (λ (k : Kept). length (replay k).cpus ≤ 8) v (omega (arith, h.actors, h.few, others, same))
+
+pub event_actor : (d : Situation) (room : ℕ) (k n : Kept) (a : ℕ) → k ≡ n → Agrees d room k → a < actors_of (replay n) → a < actors_of k.boot
+event_actor d room k n a v h b = let z : a < actors_of (replay k) = subst (λ (k : Kept). a < actors_of (replay k)) (sym v) b in omega (arith, z, h.actors)
+
+-- ---- at rest
+
+at_rest-is : (w : Whole) → (is_none (picked w.table.ready) && (out_count w.cpus == 0) && down_are_worn w.table.slots w.services) ≡ at_rest w
+unfolding at_rest
+at_rest-is w = refl
+
+pub rest_same : (d : Situation) (room : ℕ) (k n : Kept) → k ≡ n → Agrees d room k → (is_none (picked d.table.ready) && (out_count d.leases == 0) && down_are_worn d.table.slots d.services) ≡ at_rest (replay n)
+rest_same d room k n v h = let w = replay k in
+    ap (λ (d : Situation). is_none (picked d.table.ready) && (out_count d.leases == 0) && down_are_worn d.table.slots d.services) h.present
+    ∙ ap (λ m. is_none (picked w.table.ready) && (m == 0) && down_are_worn w.table.slots w.services) (count_leases w.cpus)
+    ∙ at_rest-is w ∙ ap (λ k. at_rest (replay k)) v

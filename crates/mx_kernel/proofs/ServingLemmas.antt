@@ -7,7 +7,9 @@ use Rattle.mx_exec.specs.Lasting.{lasting}
 use Rattle.mx_image.specs.declared.runs.Stop.{Stop}
 use Rattle.mx_proc.specs.declared.devices.Devices.{Devices}
 use Rattle.mx_proc.specs.declared.process.Process.{Process}
-use Rattle.mx_proc.specs.declared.process.State.TheVariants.{Home, Out, Doomed}
+use Rattle.mx_proc.specs.declared.process.Cause.{Cause}
+use Rattle.mx_proc.specs.declared.process.State.{State}
+use Rattle.mx_proc.specs.declared.process.State.TheVariants.{Home, Out, Doomed, Down}
 use Rattle.mx_proc.specs.Frame.{Frame, Fixed, fixed_of, loan_of, frame}
 use Rattle.mx_proc.specs.Sound.{NoneComesHome}
 use Rattle.mx_proc.specs.World.{World, nobody, process_at, with_process, with_state, unqueued, moved_out, moved_home, spent}
@@ -47,10 +49,10 @@ sent-used t s = put-used (unqueued t s) s (record (process_at (unqueued t s) s) 
 
 sent_keeps : (t u : World) (s : ℕ) → u ≡ sent_out t s → KeepsBut s t u
 sent_keeps t u s e = subst (KeepsBut s t) (sym e) (record {
-    fixed = λ q n. ap fixed_of (sent-other t s q n);
-    loans = λ q n. ap loan_of (sent-other t s q n);
-    used = sent-used t s;
-  })
+  fixed = λ q n. ap fixed_of (sent-other t s q n);
+  loans = λ q n. ap loan_of (sent-other t s q n);
+  used = sent-used t s;
+})
 
 sent_loan : (t u : World) (s : ℕ) → u ≡ sent_out t s → s < length t.slots → loan_of (process_at u s) ≡ Some (process_at t s).ticks
 sent_loan t u s e b = ap (λ u. loan_of (process_at u s)) e ∙ ap loan_of (sent-at t s b)
@@ -60,8 +62,9 @@ sent_steps t u s e b = ap (λ u. (process_at u s).steps) e ∙ ap (λ (p : Proce
 
 sent_settled : (t u : World) (s : ℕ) → u ≡ sent_out t s → s < length t.slots → Settled t → Settled u
 sent_settled t u s e b h = subst Settled (sym e) (λ q. elim (cases_eq q s) [
-    inl i ↦ λ z. let x : Out ≡ Home = sym (ap (λ (p : Process). p.state) (sent-at t s b)) ∙ ap (λ y. (process_at (sent_out t s) y).state) (sym i) ∙ z in cc
-  | inr n ↦ λ z. h q (sym (ap (λ (p : Process). p.state) (sent-other t s q n)) ∙ z) ])
+  | inl i ↦ λ z. let x : Out ≡ Home = sym (ap (λ (p : Process). p.state) (sent-at t s b)) ∙ ap (λ y. (process_at (sent_out t s) y).state) (sym i) ∙ z in cc
+  | inr n ↦ λ z. h q (sym (ap (λ (p : Process). p.state) (sent-other t s q n)) ∙ z)
+])
 
 sent_uptime : (t u : World) (s : ℕ) → u ≡ sent_out t s → u.uptime ≡ t.uptime
 unfolding sent_out
@@ -73,13 +76,13 @@ sent_devices t u s e = ap (λ (u : World). u.devices) e
 
 pub is_sent : (t u : World) (s : ℕ) → u ≡ sent_out t s → s < length t.slots → IsSent t u s
 is_sent t u s e b = record {
-    others = sent_keeps t u s e;
-    loan = sent_loan t u s e b;
-    steps = sent_steps t u s e b;
-    settled = sent_settled t u s e b;
-    uptime = sent_uptime t u s e;
-    devices = sent_devices t u s e;
-  }
+  others = sent_keeps t u s e;
+  loan = sent_loan t u s e b;
+  steps = sent_steps t u s e b;
+  settled = sent_settled t u s e b;
+  uptime = sent_uptime t u s e;
+  devices = sent_devices t u s e;
+}
 
 -- ---- a process comes home
 
@@ -112,10 +115,10 @@ home-used t l =
 
 home-keeps : (t : World) (l : Lent) → KeepsBut l.slot t (come_home t l)
 home-keeps t l = record {
-    fixed = λ q n. ap fixed_of (home-other t l q n);
-    loans = λ q n. ap loan_of (home-other t l q n);
-    used = home-used t l;
-  }
+  fixed = λ q n. ap fixed_of (home-other t l q n);
+  loans = λ q n. ap loan_of (home-other t l q n);
+  used = home-used t l;
+}
 
 home-same : (t : World) (l : Lent) → ((come_home t l).uptime ≡ t.uptime) × ((come_home t l).devices ≡ t.devices)
 unfolding come_home
@@ -140,11 +143,21 @@ is_returned t m u l b e f w s =
 -- who is home goes on
 pub goes_on_settled : (t u : World) (s : ℕ) → NoneComesHome t u → (process_at u s).state ≢ Home → SettledBut s t → Settled u
 goes_on_settled t u s h own others q = elim (cases_eq q s) [
-    inl i ↦ subst (λ x. (process_at u x).state ≢ Home) (sym i) own
-  | inr n ↦ h q (others q n) ]
+  | inl i ↦ subst (λ x. (process_at u x).state ≢ Home) (sym i) own
+  | inr n ↦ h q (others q n)
+]
 
 -- one that is out is doomed
 pub doomed_settled : (t u : World) (s : ℕ) → u ≡ with_state t s Doomed → s < length t.slots → Settled t → Settled u
 doomed_settled t u s e b h = subst Settled (sym e) (λ q. elim (cases_eq q s) [
-    inl i ↦ λ z. let x : Doomed ≡ Home = sym (ap (λ (p : Process). p.state) (put-at t s (record (process_at t s) { state = Doomed }) b)) ∙ ap (λ y. (process_at (with_state t s Doomed) y).state) (sym i) ∙ z in cc
-  | inr n ↦ λ z. h q (sym (ap (λ (p : Process). p.state) (put-other t s q (record (process_at t s) { state = Doomed }) n)) ∙ z) ])
+  | inl i ↦ λ z. let x : Doomed ≡ Home = sym (ap (λ (p : Process). p.state) (put-at t s (record (process_at t s) { state = Doomed }) b)) ∙ ap (λ y. (process_at (with_state t s Doomed) y).state) (sym i) ∙ z in cc
+  | inr n ↦ λ z. h q (sym (ap (λ (p : Process). p.state) (put-other t s q (record (process_at t s) { state = Doomed }) n)) ∙ z)
+])
+
+pub is_down_not_home : (st : State) (cause : Cause) → st ≡ Down cause → st ≢ Home
+is_down_not_home st cause e h = let z : Down cause ≡ Home = sym e ∙ h in cc
+
+-- home, and its steps counted
+pub home_as : (t m u : World) (s : ℕ) (o : Held) → m ≡ moved_home t s o.image → u ≡ spent m s o.count → u ≡ come_home t (record { slot = s; out = o })
+unfolding come_home
+home_as t m u s o e f = f ∙ ap (λ m. spent m s o.count) e

@@ -1,6 +1,6 @@
 //! The kernel, and the history that it keeps.
 
-ghost use Rattle.std.specs.Prelude.{◌≡◌, ◌≤◌, ◌<◌, ◌+◌, ◌++◌, ◌∷◌, [], true, Some, None, IfOk, IfErr, OnOk, OnErr, All, length, slice_get, vec_len, vec_capacity};
+ghost use Rattle.std.specs.Prelude.{◌≡◌, ℕ, ◌≤◌, ◌<◌, ◌+◌, ◌++◌, ◌∷◌, [], true, Some, None, IfOk, IfErr, OnOk, OnErr, All, length, slice_get, vec_len, vec_capacity};
 ghost use Rattle.std.specs.Option.{option_map};
 ghost use Rattle.mx_world.specs.declared.events.Event.TheVariants as events;
 ghost use Rattle.mx_world.specs.declared.history.Recorded.TheVariants as recorded;
@@ -26,6 +26,7 @@ use std::mem;
 
 /// A kernel: where it stands, and the history that led there. All the room that it needs was taken when
 /// it was made.
+#[derive(Drop)]
 pub struct Kernel {
     present: Present,
     records: Vec<Record>,
@@ -116,9 +117,8 @@ impl Kernel {
     {
         runs_are_steps();
         let count = out.count;
-        let lease = match self.present.lease(cpu) {
-            Some(lease) => lease,
-            None => unreachable!(),
+        let Some(lease) = self.present.lease(cpu) else {
+            unreachable!()
         };
         self.present.come_back(cpu, lease, out);
         self.present.opened();
@@ -187,10 +187,11 @@ impl Kernel {
     /// Opens to a proof what always holds of a kernel.
     pub fn opened(&self)
         ensures sound { IsSound (replay self.now) }
+        ensures few { length (replay self.now).cpus ≤ 8 }
         ensures accepted { AreAccepted self.now.boot (unfolded self.now.history) }
         ensures written { All (IsWritable (length (replay self.now).cpus + (replay self.now).others)) self.now.history }
         ensures fresh { (a : ℕ) (l : Lent) → held_by (replay self.now) a ≡ Some l → IsFresh (replay self.now) l }
     {
-        self.table().sound();
+        self.present.opened();
     }
 }

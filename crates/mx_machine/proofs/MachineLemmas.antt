@@ -1,10 +1,12 @@
 -- What processors hold over what the kernel shows as lent.
-use Rattle.std.proofs.Common.{◌≡◌, ◌≢◌, ◌∙◌, ◌<◌, ◌≤◌, ℕ, zero, suc, ◌+◌, ◌-◌, ◌%◌, cond, nat_lt, Bool, true, false, List, [], ◌∷◌, length, Option, Some, None, Result, Ok, Err, slice_get, slice_set, get_or, inl, inr, refl, sym, ap, subst, arith}
+use Rattle.std.proofs.Common.{◌≡◌, ◌≢◌, ◌∙◌, ◌<◌, ◌≤◌, ℕ, zero, suc, ◌+◌, ◌-◌, ◌*◌, ◌%◌, cond, nat_lt, Bool, true, false, List, [], ◌∷◌, ◌++◌, length, Option, Some, None, Result, Ok, Err, slice_get, slice_set, get_or, inl, inr, refl, sym, ap, subst, arith}
 use Rattle.std.proofs.lemmas.Bool.{cases_eq}
 use Rattle.std.proofs.lemmas.List.{set-get_or, set-set, get_or-set_other, get_or-set_same, length-set}
 use Rattle.mx_proc.specs.Queues.{picked}
 use Rattle.mx_proc.specs.Endpoints.{is_alive}
-use Rattle.mx_proc.specs.World.{World, process_at}
+use Rattle.mx_exec.specs.Image.{blank}
+use Rattle.mx_proc.specs.World.{World, process_at, nobody, endpoint_of, unqueued}
+use Rattle.mx_proc.specs.declared.process.State.TheVariants.{Home, Out as OnProcessor}
 use Rattle.mx_proc.specs.declared.process.Process.{Process}
 use Rattle.mx_kcall.specs.Refusals.{owner_of}
 use Rattle.mx_respawn.specs.declared.service.Service.{Service}
@@ -13,10 +15,10 @@ use Rattle.mx_world.specs.declared.events.Event.TheVariants.{Step, Take, Back, L
 use Rattle.mx_world.specs.declared.events.Refusal.{Refusal}
 use Rattle.mx_world.specs.declared.events.Refusal.TheVariants.{LogFull, CpuBusy, NoProcess, AtStop, CpuEmpty}
 use Rattle.mx_world.specs.declared.events.Answer.{Answer}
-use Rattle.mx_world.specs.declared.events.Answer.TheVariants.{Returned}
+use Rattle.mx_world.specs.declared.events.Answer.TheVariants.{Returned, Taken}
 use Rattle.mx_world.specs.declared.holding.Out.{Out}
 use Rattle.mx_world.specs.Whole.{Whole, Lent, held_by, out_count, free}
-use Rattle.mx_world.specs.Move.{if_full, take_refusal, line_refusal, kill_refusal, respawn_refusal, event_refusal, after_event, event_answer, moved_by, move, after_line, after_respawn, after_take, after_back, with_held, noted, returned, lent_of, step_refusal, back_refusal, back_answer}
+use Rattle.mx_world.specs.Move.{if_full, take_refusal, line_refusal, kill_refusal, respawn_refusal, event_refusal, after_event, event_answer, moved_by, move, after_line, after_respawn, after_take, after_back, with_held, noted, returned, lent_of, step_refusal, back_refusal, back_answer, take_answer, sent_out, moves}
 use Rattle.mx_world.specs.History.{Kept, replay}
 use Rattle.mx_machine.specs.Machine.{Running, held_now, all_held_now, world_of}
 
@@ -271,3 +273,49 @@ back-accepted k n os a l o b h g is =
     ∙ ap (λ (x : Option Lent). let p : Result Answer Refusal × Whole = (Ok (back_answer x), after_back (with_cpus w cs) a x) in p) held
     ∙ ap (λ (v : Whole). let p : Result Answer Refusal × Whole = (Ok (Returned o.count), v) in p)
         (ap (λ (v : Whole). with_cpus v (slice_set cs a None)) (sym new) ∙ ap (with_cpus (replay n)) (sym cpus))
+
+-- ---- takes: whose process it is
+
+taken_is : (w v : Whole) (a s : ℕ) (l : Lent) → v ≡ after_take w a (Some s) → held_by v a ≡ Some l → l ≡ lent_of w.table s
+taken_is w v a s l is h =
+    let m : Lent = lent_of w.table s in
+    let new : v.cpus ≡ slice_set w.cpus a (Some m) = ap (λ (u : Whole). u.cpus) is in
+    let at : get_or (slice_set w.cpus a (Some m)) a None ≡ Some l = ap (λ x. get_or x a None) (sym new) ∙ h in
+    let in_new : a < length (slice_set w.cpus a (Some m)) = holds_in (slice_set w.cpus a (Some m)) a l at in
+    let below : a < length w.cpus = omega (arith, length-set w.cpus a (Some m)) in
+    let they : Some m ≡ Some l = sym (get_or-set_same w.cpus a (Some m) None below) ∙ at in
+    sym (let e : m ≡ l = cc in e)
+
+generation_kept : (ps : List Process) (s : ℕ) (p : Process) → p.generation ≡ (get_or ps s nobody).generation → (get_or (slice_set ps s p) s nobody).generation ≡ (get_or ps s nobody).generation
+generation_kept [] s p h = refl
+generation_kept (x ∷ xs) zero p h = h
+generation_kept (x ∷ xs) (suc s) p h = generation_kept xs s p h
+
+endpoint_out : (t : World) (s : ℕ) → endpoint_of (sent_out t s) s ≡ endpoint_of t s
+unfolding sent_out
+endpoint_out t s = ap (λ g. g * 1024 + s)
+    (generation_kept (unqueued t s).slots s (record (process_at (unqueued t s) s) { state = OnProcessor; image = blank }) refl
+     ∙ generation_kept t.slots s (record (process_at t s) { state = Home }) refl)
+
+answer_by : (w v : Whole) (a e : ℕ) (l : Lent) (out : Out) (first : Option ℕ) → held_by w a ≡ None → v ≡ after_take w a first → held_by v a ≡ Some l → l.out ≡ out → e ≡ endpoint_of v.table l.slot
+    → take_answer w.table first ≡ Taken e out.budget
+answer_by w v a e l out None idle is h same at = let z : held_by v a ≡ None = ap (λ (u : Whole). held_by u a) is ∙ idle in cc
+answer_by w v a e l out (Some s) idle is h same at =
+    let it : l ≡ lent_of w.table s = taken_is w v a s l is h in
+    let budget : (process_at w.table s).ticks ≡ out.budget = ap (λ (x : Lent). x.out.budget) (sym it) ∙ ap (λ (o : Out). o.budget) same in
+    let endpoint : endpoint_of w.table s ≡ e =
+          sym (at ∙ ap (λ (u : Whole). endpoint_of u.table l.slot) is ∙ ap (λ (x : Lent). endpoint_of (sent_out w.table s) x.slot) it ∙ endpoint_out w.table s) in
+    ap (λ n. Taken n (process_at w.table s).ticks) endpoint ∙ ap (Taken e) budget
+
+pub taken-answer : (k n : Kept) (a e : ℕ) (l : Lent) (out : Out) → event_refusal (replay k) a Take ≡ None → replay n ≡ after_event (replay k) a Take → held_by (replay n) a ≡ Some l → l.out ≡ out
+    → e ≡ endpoint_of (replay n).table l.slot → event_answer (replay k) a Take ≡ Taken e out.budget
+unfolding after_event event_answer
+taken-answer k n a e l out ok is h same at = answer_by (replay k) (replay n) a e l out (picked (replay k).table.ready) (take_idle (replay k) a ok) is h same at
+
+-- ---- lists of events
+
+pub moves-more : (w : Whole) (xs : List (ℕ × Event)) (x : ℕ × Event) → moves w (xs ++ x ∷ []) ≡ ((moves w xs).0 ++ (move (moves w xs).1 x.0 x.1).0 ∷ [], (move (moves w xs).1 x.0 x.1).1)
+moves-more w [] x = refl
+moves-more w (y ∷ ys) x =
+    let m = move w y.0 y.1 in
+    ap (λ (r : List (Result Answer Refusal) × Whole). let p : List (Result Answer Refusal) × Whole = (m.0 ∷ r.0, r.1) in p) (moves-more m.1 ys x)

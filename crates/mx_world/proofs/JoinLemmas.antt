@@ -26,8 +26,8 @@ ended : (o : Out) (r : Ran) (b : ℕ) (s : Stop) → held_run b (after_run o r).
 ended o r b s h e =
     let n : r.count ≡ r.count + 0 = omega arith in
     sym (ap (λ (y : (ℕ × Stop) × Out). let z : (ℕ × Stop) × Out = ((r.count + y.0.0, y.0.1), y.1) in z) h
-      ∙ ap (λ (k : ℕ). let z : (ℕ × Stop) × Out = ((k, s), (after_run o r).1) in z) (sym n)
-      ∙ ap (λ (t : Stop). let z : (ℕ × Stop) × Out = ((r.count, t), (after_run o r).1) in z) (sym e))
+    ∙ ap (λ (k : ℕ). let z : (ℕ × Stop) × Out = ((k, s), (after_run o r).1) in z) (sym n)
+    ∙ ap (λ (t : Stop). let z : (ℕ × Stop) × Out = ((r.count, t), (after_run o r).1) in z) (sym e))
 
 -- a run that went on goes on
 went_on : (o : Out) (r q : Ran) (b : ℕ) → held_run b (after_run o r).1 ≡ after_run (after_run o r).1 q → after_run o (counted r.count q) ≡ then_held (after_run o r) b

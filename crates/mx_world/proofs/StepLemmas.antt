@@ -57,8 +57,8 @@ none_made w a l h s b =
     record {
       accepted = tt;
       after = ap (λ c. let x : Whole = record w { cpus = c } in x) (sym (set-own w.cpus a None (Some l) h))
-        ∙ ap (λ (k : ℕ). with_held w a (Some (with_out l l.out.image k l.out.stop))) n
-        ∙ ap (λ (t : Stop). with_held w a (Some (with_out l l.out.image (l.out.count + 0) t))) s;
+          ∙ ap (λ (k : ℕ). with_held w a (Some (with_out l l.out.image k l.out.stop))) n
+          ∙ ap (λ (t : Stop). with_held w a (Some (with_out l l.out.image (l.out.count + 0) t))) s;
       count = refl;
       within = omega (arith, b);
       budget = refl;
@@ -83,8 +83,8 @@ more_made w a n l m i t h s b e rest =
     subst (λ (j : ℕ). StepsTo w a j l (record l.out { image = i; count = l.out.count + (1 + n); stop = t })) q (record {
       accepted = (step-accepted w a l h s b, subst (λ (u : Whole). AreAccepted u (steps_of a n)) (sym first) r.accepted);
       after = ap (λ (u : Whole). after_events u (steps_of a n)) first ∙ r.after
-        ∙ ap (λ c. let u : Whole = record w { cpus = c } in u) (set-twice w.cpus a (Some x) (Some (with_out l i (l.out.count + 1 + n) t)))
-        ∙ ap (λ (j : ℕ). with_held w a (Some (with_out l i j t))) k;
+          ∙ ap (λ c. let u : Whole = record w { cpus = c } in u) (set-twice w.cpus a (Some x) (Some (with_out l i (l.out.count + 1 + n) t)))
+          ∙ ap (λ (j : ℕ). with_held w a (Some (with_out l i j t))) k;
       count = let z : l.out.count + (1 + n) ≡ l.out.count + suc n = omega arith in z;
       within = omega (arith, r.within);
       budget = refl;

@@ -19,5 +19,4 @@ pub fn held_runs_join()
 /// which is refused.
 pub fn runs_are_steps()
     ensures { (w : Whole) (a k : ℕ) (l : Lent) → held_by w a ≡ Some l → l.out.count ≤ l.out.budget → StepsTo w a (held_run k l.out).0.0 l (held_run k l.out).1 }
-{
-}
+{}

@@ -14,7 +14,7 @@ pub add-requires-clause-room : goal.add-requires-clause-room
 add-requires-clause-room c =
     let so_far = take c.loop-service.service-index c.args.services.now in
     subst (λ (w : World). length w.slots < 32) (sym c.loop-service.invariant)
-      (omega (arith, first-used so_far, length-take-le c.loop-service.service-index c.args.services.now (omega arith)))
+    (omega (arith, first-used so_far, length-take-le c.loop-service.service-index c.args.services.now (omega arith)))
 
 pub loop-service-preserved : goal.loop-service-preserved
 loop-service-preserved c =

@@ -35,4 +35,4 @@ invariant_of-result c =
           ∙ ap (λ (w : World). let d : Situation = record { table = w; leases = leases; others = config.others; services = c.replace-entered.result.items; records = 0; capacity = config.log } in d) table
           ∙ ap (λ (x : List Service). let d : Situation = record { table = first_table ss; leases = leases; others = config.others; services = x; records = 0; capacity = config.log } in d) entered in
     subst (λ (d : Situation). Agrees d (vec_capacity records) (record { boot = booted_with d.services config.cpus d.others d.capacity; history = records.items })) (sym is)
-      (boot_agrees ss config.cpus config.others config.log (vec_capacity records) leases records.items c.in_ok-leases.ensures c.in_ok-records.ensures.items room)
+      (boot_agrees ss config.cpus config.others config.log (vec_capacity records) leases records.items config.cpus_fit c.in_ok-leases.ensures c.in_ok-records.ensures.items room)

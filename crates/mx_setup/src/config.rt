@@ -65,7 +65,7 @@ pub struct ServiceLines {
 
 impl Model for ServiceLines {
     ghost use Rattle.std.specs.Prelude.{List};
-    ghost use Rattle.mx_world.specs.declared.config.ServiceLine.{ServiceLine};
+    ghost use Rattle.mx_setup.specs.declared.config.ServiceLine.{ServiceLine};
 
     ghost Value = { List ServiceLine };
 
