@@ -2,13 +2,15 @@
 
 ghost use Rattle.std.specs.Prelude.{◌≡◌};
 
-use crate::{Answer, Config, Event, Kernel, Machine, Refusal, ServiceLines, Tool};
+use crate::{
+    Answer, Config, Event, FileName, Held, Kernel, Machine, Out, Refusal, ServiceLine,
+    ServiceLines, Tool,
+};
 use mx_aout::{Program, read};
 use mx_exec::Outcome;
 use mx_proc::{Cause, Masks, Partner, State};
 use mx_respawn::{Label, Service};
 use mx_word::{Register, Size};
-use mx_world::{FileName, Held, Out, ServiceLine};
 use std::alloc::Global;
 use std::process::Abort;
 use std::test::Fail;
@@ -72,8 +74,8 @@ const ASKS: Made = Made(
 /// Writes a byte of its data, then RECEIVE from anybody.
 const WRITES: Made = Made(
     &[
-        0xC6, 5, 0, 0, 0, 0, 7, 0xB9, 2, 0, 0, 0, 0xB8, 0xCE, 0x7A, 0, 0, 0xBB, 0x40, 0, 0, 0, 0xCD,
-        0x21,
+        0xC6, 5, 0, 0, 0, 0, 7, 0xB9, 2, 0, 0, 0, 0xB8, 0xCE, 0x7A, 0, 0, 0xBB, 0x40, 0, 0, 0,
+        0xCD, 0x21,
     ],
     0,
     0,
@@ -85,9 +87,9 @@ const WRITES: Made = Made(
 /// SENDREC to 3, SEND to 3, then WHOIS of slot 3.
 const LOOKS: Made = Made(
     &[
-        0xB9, 3, 0, 0, 0, 0xB8, 3, 0, 0, 0, 0xBB, 0, 0, 0, 0, 0xCD, 0x21, 0xB9, 1, 0, 0, 0, 0xB8, 3,
-        0, 0, 0, 0xCD, 0x21, 0xC7, 5, 4, 0, 0, 0, 7, 6, 0, 0, 0xC7, 5, 8, 0, 0, 0, 3, 0, 0, 0, 0xB9,
-        3, 0, 0, 0, 0xB8, 0xFE, 0xFF, 0xFF, 0xFF, 0xCD, 0x21,
+        0xB9, 3, 0, 0, 0, 0xB8, 3, 0, 0, 0, 0xBB, 0, 0, 0, 0, 0xCD, 0x21, 0xB9, 1, 0, 0, 0, 0xB8,
+        3, 0, 0, 0, 0xCD, 0x21, 0xC7, 5, 4, 0, 0, 0, 7, 6, 0, 0, 0xC7, 5, 8, 0, 0, 0, 3, 0, 0, 0,
+        0xB9, 3, 0, 0, 0, 0xB8, 0xFE, 0xFF, 0xFF, 0xFF, 0xCD, 0x21,
     ],
     8,
     0x80,
@@ -102,9 +104,9 @@ const IDLE: Made = Made(&[0x90], 0, 0, 14, 20, 0);
 /// RECEIVE from anybody, then nineteen instructions and a trap.
 const WORKS: Made = Made(
     &[
-        0xB9, 2, 0, 0, 0, 0xB8, 0xCE, 0x7A, 0, 0, 0xBB, 0x40, 0, 0, 0, 0xCD, 0x21, 0x40, 0x40, 0x40,
+        0xB9, 2, 0, 0, 0, 0xB8, 0xCE, 0x7A, 0, 0, 0xBB, 0x40, 0, 0, 0, 0xCD, 0x21, 0x40, 0x40,
         0x40, 0x40, 0x40, 0x40, 0x40, 0x40, 0x40, 0x40, 0x40, 0x40, 0x40, 0x40, 0x40, 0x40, 0x40,
-        0x40, 0xCD, 0x21,
+        0x40, 0x40, 0xCD, 0x21,
     ],
     0,
     0,
@@ -368,8 +370,15 @@ fn events(rt: HostRuntime) -> Result<(), Fail> {
             assert!(rt; end.0 < table.used());
             let process = table.process(end.0);
             assert!(rt; process.state == end.1, "row {number}");
-            assert_eq!(rt; (process.level, process.ticks, process.steps), (end.2, end.3, end.4));
-            assert_eq!(rt; process.image.register(Register::Eax), end.5, "row {number}");
+            assert_eq!(rt;
+                (process.level, process.ticks, process.steps),
+                (end.2, end.3, end.4)
+            );
+            assert_eq!(rt;
+                process.image.register(Register::Eax),
+                end.5,
+                "row {number}"
+            );
             assert!(rt; process.image.memory.read(end.6, Size::Dword) == Ok(end.7));
         }
     }
