@@ -1,12 +1,13 @@
 //! A kernel, and what its processors hold.
 
-ghost use Rattle.std.specs.Prelude.{◌≡◌, ℕ, ◌+◌, ◌<◌, ◌≤◌, ◌++◌, ◌∷◌, [], All, Ok, None, Some, IsSome, IfSome, IfErr, OnOk, OnErr, MatchOption, vec_len, vec_capacity};
+ghost use Rattle.std.specs.Prelude.{◌≡◌, ℕ, true, ◌+◌, ◌<◌, ◌≤◌, ◌++◌, ◌∷◌, [], All, Ok, None, Some, IsSome, IfSome, IfErr, OnOk, OnErr, MatchOption, length, vec_len, vec_capacity};
 ghost use Rattle.mx_proc.specs.World.{endpoint_of};
 ghost use Rattle.mx_world.specs.declared.events.Event.TheVariants as events;
 ghost use Rattle.mx_world.specs.declared.events.Refusal.TheVariants.{CpuEmpty};
 ghost use Rattle.mx_world.specs.History.{replay};
 ghost use Rattle.mx_world.specs.Move.{move, moves};
 ghost use Rattle.mx_world.specs.Whole.{Lent, held_by, out_count};
+ghost use Rattle.mx_kernel.specs.Situation.{is_for_all};
 ghost use Rattle.mx_machine.specs.Machine.{HasWorked, IsActor, IsRunOf, world_of};
 
 use crate::steps::{Tool, step_held, work_held};
@@ -80,11 +81,18 @@ impl Machine {
         &self.kernel
     }
 
+    /// How many actors there are: the processors, and the others.
+    pub fn actors(&self) -> usize
+        ensures { result ≡ length (world_of self.now).cpus + (world_of self.now).others }
+    {
+        self.kernel.actors()
+    }
+
     /// The image that a processor holds, as it is now.
     pub fn image(&self, cpu: u8) -> Option<&Image>
         ensures { MatchOption result (held_by (world_of self.now) cpu ≡ None) (λ image. (l : Lent) × (held_by (world_of self.now) cpu ≡ Some l) × (image.now ≡ l.out.image)) }
     {
-        if cpu >= 8 {
+        if cpu as usize >= self.outs.len() {
             return None;
         }
         match &self.outs[cpu as usize] {
@@ -101,7 +109,7 @@ impl Machine {
     {
         held_runs_join();
         runs_are_steps();
-        if cpu >= 8 {
+        if cpu as usize >= self.outs.len() {
             return Err(Refusal::CpuEmpty);
         }
         work_held(tool, &mut self.outs[cpu as usize])
@@ -112,7 +120,7 @@ impl Machine {
         ensures { move (world_of self.old) cpu events.Step ≡ (result, world_of self.new) }
     {
         held_runs_join();
-        if cpu >= 8 {
+        if cpu as usize >= self.outs.len() {
             return Err(Refusal::CpuEmpty);
         }
         step_held(&mut self.outs[cpu as usize])
@@ -133,13 +141,22 @@ impl Machine {
     fn back(&mut self, cpu: u8) -> Result<Answer, Refusal>
         ensures { move (world_of self.old) cpu events.Back ≡ (result, world_of self.new) }
     {
-        if cpu >= 8 {
+        if cpu as usize >= self.outs.len() {
             return Err(Refusal::CpuEmpty);
         }
         match mem::replace(&mut self.outs[cpu as usize], None) {
             Some(out) => Ok(Answer::Returned(self.kernel.back(cpu, out))),
             None => Err(Refusal::CpuEmpty),
         }
+    }
+
+    /// A line, a tick, a kill or a respawn.
+    fn rule(&mut self, actor: u8, event: Event) -> Result<Answer, Refusal>
+        requires event { is_for_all event ≡ true }
+        requires actor { actor < length (world_of self.old).cpus + (world_of self.old).others }
+        ensures { move (world_of self.old) actor event ≡ (result, world_of self.new) }
+    {
+        self.kernel.event(actor, event)
     }
 
     /// One event of an actor: it is refused, and nothing changes, or it is answered.
@@ -151,7 +168,7 @@ impl Machine {
             Event::Step => self.step(actor),
             Event::Take => self.take(actor),
             Event::Back => self.back(actor),
-            _ => self.kernel.event(actor, event),
+            _ => self.rule(actor, event),
         }
     }
 

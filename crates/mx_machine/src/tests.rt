@@ -1,6 +1,6 @@
 //! Machines that are worked by hand, event by event.
 
-ghost use Rattle.std.specs.Prelude.{◌≡◌};
+ghost use Rattle.std.specs.Prelude.{◌≡◌, IfOk};
 
 use crate::{
     Answer, Config, Event, FileName, Held, Kernel, Machine, Out, Refusal, ServiceLine,
@@ -307,7 +307,9 @@ fn service(rt: &impl Abort, alloc: Global, made: &Made) -> Result<Service, Fail>
 }
 
 /// Two processors and one other actor. The kernel reads nothing of the services' lines.
-fn config(rt: &impl Abort, alloc: Global, log: u32) -> Result<Config, Fail> {
+fn config(rt: &impl Abort, alloc: Global, log: u32) -> Result<Config, Fail>
+    ensures { IfOk result (λ config. config.cpus ≡ 2) }
+{
     let line = ServiceLine {
         name: name(rt),
         file: FileName::from_string(String::from_str(alloc, "a")?),
@@ -335,6 +337,7 @@ fn config(rt: &impl Abort, alloc: Global, log: u32) -> Result<Config, Fail> {
 fn sends<T: Send>(_: &T) {}
 
 /// One run of so many steps.
+#[derive(Drop)]
 struct Steps(u32);
 
 impl Tool for Steps {
@@ -347,24 +350,34 @@ impl Tool for Steps {
     }
 }
 
+/// A row's machine, as it is booted.
+#[tactic(auto, unfolding(mx_world::specs::History::replay))]
+fn machine_of(rt: &impl Abort, alloc: Global, row: &Row) -> Result<Machine, Fail> {
+    let mut services = Vec::with_capacity(alloc, row.services.len())?;
+    for made in row.services {
+        services.push(service(rt, alloc, made)?)?;
+    }
+    assert!(rt; 0 < services.as_slice().len() && services.as_slice().len() <= 32);
+    let config = config(rt, alloc, row.log)?;
+    let kernel = Kernel::new(alloc, &config, &mut services)?;
+    sends(&kernel);
+    Ok(Machine::new(kernel))
+}
+
 #[test]
 fn events(rt: HostRuntime) -> Result<(), Fail> {
     for (number, row) in ROWS.iter().enumerate() {
-        let mut services = Vec::with_capacity(rt.alloc(), row.services.len())?;
-        for made in row.services {
-            services.push(service(&rt, rt.alloc(), made)?)?;
-        }
-        assert!(rt; 0 < services.len() && services.len() <= 32);
-        let config = config(&rt, rt.alloc(), row.log)?;
-        let kernel = Kernel::new(rt.alloc(), &config, &mut services)?;
-        sends(&kernel);
-        let mut machine = Machine::new(kernel);
+        let mut machine = machine_of(&rt, rt.alloc(), row)?;
         for turn in row.turns {
             for _ in 1..turn.2 {
+                assert!(rt; (turn.0 as usize) < machine.actors());
                 assert!(rt; machine.apply(turn.0, turn.1) == Ok(Answer::Went(Outcome::Go)));
             }
+            assert!(rt; (turn.0 as usize) < machine.actors());
             assert!(rt; machine.apply(turn.0, turn.1) == turn.3, "row {number}");
         }
+        let mut steps = Steps(1);
+        assert!(rt; machine.work(7, &mut steps) == Err(Refusal::CpuEmpty));
         let table = machine.kernel().table();
         for end in row.ends {
             assert!(rt; end.0 < table.used());
