@@ -52,6 +52,7 @@ fn endpoint_on(kernel: &Kernel, cpu: u8) -> Endpoint
 fn add(answers: &mut Vec<Result<Answer, Refusal>>, answer: Result<Answer, Refusal>)
     requires { vec_len answers.old < vec_capacity answers.old }
     ensures items { answers.new.items ≡ answers.old.items ++ answer ∷ [] }
+    ensures len { vec_len answers.new ≡ vec_len answers.old + 1 }
     ensures room { vec_capacity answers.old ≤ vec_capacity answers.new }
 {
     match answers.push(answer) {
