@@ -26,60 +26,56 @@ macro_rules! row {
 
 #[tactic(auto, unfolding(crate::specs::Map::rows_in, mx_insn::specs::Table::rows))]
 fn column_rows(part: u8) -> &'static [Row]
-    requires { part < 8 }
-    ensures { result.now ≡ rows_in false part }
-{
-    match part {
-        0 => &[
-            row!(false 0x00 + 8 * 8 => Byte Neither Nothing; ModRm::Any; Pattern::ArithmeticRmReg),
-        ],
-        1 => &[
-            row!(false 0x01 + 8 * 8 => Variable Neither Nothing; ModRm::Any; Pattern::ArithmeticRmReg),
-        ],
-        2 => &[
-            row!(false 0x02 + 8 * 8 => Byte Neither Nothing; ModRm::Any; Pattern::ArithmeticRegRm),
-        ],
-        3 => &[
-            row!(false 0x03 + 8 * 8 => Variable Neither Nothing; ModRm::Any; Pattern::ArithmeticRegRm),
-        ],
-        4 => &[
-            row!(false 0x04 + 8 * 8 => Byte Neither Byte; ModRm::Absent; Pattern::ArithmeticAccImmediate),
-        ],
-        5 => &[
-            row!(false 0x05 + 8 * 8 => Variable Neither Variable; ModRm::Absent; Pattern::ArithmeticAccImmediate),
-        ],
-        6 => &[],
-        _ => &[],
-    }
-}
-
-#[tactic(auto, unfolding(crate::specs::Map::rows_in, mx_insn::specs::Table::rows))]
-fn low_rows(part: u8) -> &'static [Row]
     requires least { 8 ≤ part }
     requires most { part < 16 }
     ensures { result.now ≡ rows_in false part }
 {
     match part {
         8 => &[
-            row!(false 0x40 + 1 * 8 => Variable Neither Nothing; ModRm::Absent; Pattern::UnaryReg(Unary::Inc)),
+            row!(false 0x00 + 8 * 8 => Byte Neither Nothing; ModRm::Any; Pattern::ArithmeticRmReg),
         ],
         9 => &[
-            row!(false 0x48 + 1 * 8 => Variable Neither Nothing; ModRm::Absent; Pattern::UnaryReg(Unary::Dec)),
+            row!(false 0x01 + 8 * 8 => Variable Neither Nothing; ModRm::Any; Pattern::ArithmeticRmReg),
         ],
-        10 => &[row!(false 0x50 + 1 * 8 => Dword Neither Nothing; ModRm::Absent; Pattern::PushReg)],
-        11 => &[row!(false 0x58 + 1 * 8 => Dword Neither Nothing; ModRm::Absent; Pattern::PopReg)],
+        10 => &[
+            row!(false 0x02 + 8 * 8 => Byte Neither Nothing; ModRm::Any; Pattern::ArithmeticRegRm),
+        ],
+        11 => &[
+            row!(false 0x03 + 8 * 8 => Variable Neither Nothing; ModRm::Any; Pattern::ArithmeticRegRm),
+        ],
         12 => &[
-            row!(false 0x60 + 1 * 1 => Dword Neither Nothing; ModRm::Absent; Pattern::Plain(Plain::Pushad)),
-            row!(false 0x61 + 1 * 1 => Dword Neither Nothing; ModRm::Absent; Pattern::Plain(Plain::Popad)),
+            row!(false 0x04 + 8 * 8 => Byte Neither Byte; ModRm::Absent; Pattern::ArithmeticAccImmediate),
         ],
         13 => &[
+            row!(false 0x05 + 8 * 8 => Variable Neither Variable; ModRm::Absent; Pattern::ArithmeticAccImmediate),
+        ],
+        14 => &[],
+        _ => &[],
+    }
+}
+
+#[tactic(auto, unfolding(crate::specs::Map::rows_in, mx_insn::specs::Table::rows))]
+fn low_rows(part: u8) -> &'static [Row]
+    requires least { 4 ≤ part }
+    requires most { part < 8 }
+    ensures { result.now ≡ rows_in false part }
+{
+    match part {
+        4 => &[
+            row!(false 0x40 + 1 * 8 => Variable Neither Nothing; ModRm::Absent; Pattern::UnaryReg(Unary::Inc)),
+            row!(false 0x48 + 1 * 8 => Variable Neither Nothing; ModRm::Absent; Pattern::UnaryReg(Unary::Dec)),
+        ],
+        5 => &[
+            row!(false 0x50 + 1 * 8 => Dword Neither Nothing; ModRm::Absent; Pattern::PushReg),
+            row!(false 0x58 + 1 * 8 => Dword Neither Nothing; ModRm::Absent; Pattern::PopReg),
+        ],
+        6 => &[
+            row!(false 0x60 + 1 * 1 => Dword Neither Nothing; ModRm::Absent; Pattern::Plain(Plain::Pushad)),
+            row!(false 0x61 + 1 * 1 => Dword Neither Nothing; ModRm::Absent; Pattern::Plain(Plain::Popad)),
             row!(false 0x68 + 1 * 1 => Dword Neither Dword; ModRm::Absent; Pattern::PushImmediate),
             row!(false 0x6A + 1 * 1 => Dword Neither SignedByte; ModRm::Absent; Pattern::PushImmediate),
             row!(false 0x69 + 1 * 1 => Variable Neither Variable; ModRm::Any; Pattern::MultiplyRegRmImmediate),
             row!(false 0x6B + 1 * 1 => Variable Neither SignedByte; ModRm::Any; Pattern::MultiplyRegRmImmediate),
-        ],
-        14 => &[
-            row!(false 0x70 + 1 * 16 => Dword Neither SignedByte; ModRm::Absent; Pattern::JumpIf),
         ],
         _ => &[
             row!(false 0x70 + 1 * 16 => Dword Neither SignedByte; ModRm::Absent; Pattern::JumpIf),
@@ -287,9 +283,9 @@ pub fn rows_near(escaped: bool, opcode: u8) -> &'static [Row]
     if escaped {
         escaped_rows(opcode / 64)
     } else if opcode < 0x40 {
-        column_rows(opcode % 8)
+        column_rows(8 + opcode % 8)
     } else if opcode < 0x80 {
-        low_rows(opcode / 8)
+        low_rows(opcode / 16)
     } else if opcode < 0xC0 {
         middle_rows(opcode / 8)
     } else {
