@@ -1,8 +1,8 @@
 //! One instruction.
 
-ghost use Rattle.std.specs.Prelude.{◌≡◌, ◌<◌, ◌≤◌, ◌+◌, ◌++◌, ◌↔◌, ℕ, List, length, IfOk, IfSome, Ok};
+ghost use Rattle.std.specs.Prelude.{◌≡◌, ◌<◌, ◌≤◌, ◌↔◌, ℕ, Ok};
 ghost use Rattle.mx_insn.specs.declared.insn.Insn.{Insn};
-ghost use Rattle.mx_insn.specs.Spelling.{Spells, IsOpen, row_size};
+ghost use Rattle.mx_insn.specs.Spelling.{IsOpen, row_size};
 ghost use Rattle.mx_decode.specs.Decode.{SpellsFirst, NoneFirst, front};
 ghost use Rattle.mx_decode.specs.Reading.{opcode_number, reading};
 ghost use Rattle.mx_decode.specs.Given.{Gives, immediate_bound, narrow_bound, operands_code};

@@ -1,4 +1,4 @@
-//! The rows of the table, by parts of the opcode maps.
+//! The rows of the table, by parts of the opcode maps, in the table's order within a part.
 
 ghost use Rattle.std.specs.Prelude.{◌≡◌, ◌≤◌, ◌<◌, true, false};
 ghost use Rattle.mx_decode.specs.Map.{part, rows_in};
@@ -24,6 +24,7 @@ macro_rules! row {
     };
 }
 
+/// Below 40, where the rows are columns of the map.
 #[tactic(auto, unfolding(crate::specs::Map::rows_in, mx_insn::specs::Table::rows))]
 fn column_rows(part: u8) -> &'static [Row]
     requires least { 8 ≤ part }
@@ -54,6 +55,7 @@ fn column_rows(part: u8) -> &'static [Row]
     }
 }
 
+/// From 40 on, sixteen opcodes each.
 #[tactic(auto, unfolding(crate::specs::Map::rows_in, mx_insn::specs::Table::rows))]
 fn low_rows(part: u8) -> &'static [Row]
     requires least { 4 ≤ part }
@@ -83,6 +85,7 @@ fn low_rows(part: u8) -> &'static [Row]
     }
 }
 
+/// From 80 on, eight opcodes each.
 #[tactic(auto, unfolding(crate::specs::Map::rows_in, mx_insn::specs::Table::rows))]
 fn middle_rows(part: u8) -> &'static [Row]
     requires least { 16 ≤ part }
@@ -147,6 +150,7 @@ fn middle_rows(part: u8) -> &'static [Row]
     }
 }
 
+/// From C0 on, eight opcodes each.
 #[tactic(auto, unfolding(crate::specs::Map::rows_in, mx_insn::specs::Table::rows))]
 fn high_rows(part: u8) -> &'static [Row]
     requires least { 24 ≤ part }
@@ -254,6 +258,7 @@ fn high_rows(part: u8) -> &'static [Row]
     }
 }
 
+/// Behind 0F, 64 opcodes each.
 #[tactic(auto, unfolding(crate::specs::Map::rows_in, mx_insn::specs::Table::rows))]
 fn escaped_rows(part: u8) -> &'static [Row]
     requires { part < 4 }
