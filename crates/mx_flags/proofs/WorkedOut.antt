@@ -170,3 +170,16 @@ logic_worked_out n k d f same_auxiliary same_direction =
     let upper : k / 16 % 2 * 16 / 2 ^ 32 % 2 ≡ 0 = omega arith in
     let lower : k / 16 % 2 * 16 / 2 ^ 31 % 2 ≡ 0 = omega arith in
     rw (auxiliary, upper, lower, same_auxiliary, same_direction) refl
+
+pub marked : (rest word k : ℕ) (c o d : Bool) (f : FlagValues) → has_even_ones word ≡ f.parity → (k / 16 % 2 == 1) ≡ f.auxiliary → (rest == 0) ≡ f.zero → is_negative 32 word ≡ f.sign → d ≡ f.direction →
+    worked_out rest word (k / 16 % 2 * 16 + 2 ^ 31 * from_bool o) c d ≡ record f { carry = c; overflow = o }
+marked rest word k c true d f same_parity same_auxiliary same_zero same_sign same_direction =
+    let auxiliary : (k / 16 % 2 * 16 + 2 ^ 31 * 1) / 16 % 2 ≡ k / 16 % 2 = omega arith in
+    let upper : (k / 16 % 2 * 16 + 2 ^ 31 * 1) / 2 ^ 32 % 2 ≡ 0 = omega arith in
+    let lower : (k / 16 % 2 * 16 + 2 ^ 31 * 1) / 2 ^ 31 % 2 ≡ 1 = omega arith in
+    rw (auxiliary, upper, lower, same_parity, same_auxiliary, same_zero, same_sign, same_direction) refl
+marked rest word k c false d f same_parity same_auxiliary same_zero same_sign same_direction =
+    let auxiliary : (k / 16 % 2 * 16 + 2 ^ 31 * 0) / 16 % 2 ≡ k / 16 % 2 = omega arith in
+    let upper : (k / 16 % 2 * 16 + 2 ^ 31 * 0) / 2 ^ 32 % 2 ≡ 0 = omega arith in
+    let lower : (k / 16 % 2 * 16 + 2 ^ 31 * 0) / 2 ^ 31 % 2 ≡ 0 = omega arith in
+    rw (auxiliary, upper, lower, same_parity, same_auxiliary, same_zero, same_sign, same_direction) refl

@@ -247,14 +247,17 @@ impl Flags {
     }
 
     /// With this carry and overflow, as after shifts and multiplications.
+    #[inline(always)]
     pub fn with_carry_and_overflow(&self, carry: bool, overflow: bool) -> Flags
         ensures { result ≡ record self.now { carry = carry; overflow = overflow } }
     {
-        Flags::from_values(FlagValues {
-            carry,
-            overflow,
-            ..self.values()
-        })
+        Flags {
+            zero: self.zero,
+            word: self.word,
+            carries: self.carries / 16 % 2 * 16 + 0x8000_0000 * u64::from(overflow),
+            carry: u32::from(carry),
+            direction: self.direction,
+        }
     }
 
     /// With zero, sign and parity of a result.
