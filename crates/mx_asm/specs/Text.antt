@@ -56,6 +56,10 @@ IsFirstWrong a n (t ∷ ts) f =
     ((f.line ≡ n) × IsWrong a t f.problem)
     ⊎ ((l : Line) × IsTaken a t l × IsFirstWrong (on_behind a l) (n + 1) ts f)
 
+-- the text's lines say these, and nothing stands against them
+abbrev pub AreAccepted : List ℕ → List Line → Type 0
+AreAccepted t ls = AreTaken start (lines t) ls × (fault_behind ls ≡ None)
+
 -- the text's lines say these, none is refused, and they make this program
 abbrev pub Assembled : List ℕ → Program → Type 0
 Assembled t p = (ls : List Line) × AreTaken start (lines t) ls × AreAssembled ls p
