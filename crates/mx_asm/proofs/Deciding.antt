@@ -1,5 +1,5 @@
 -- A text has a program or a fault, and one program at most.
-use Rattle.std.proofs.Common.{◌≡◌, ℕ, ◌+◌, ◌⊎◌, inl, inr, List, [], ◌∷◌, ◌++◌, length, map, replicate, refl, sym, ◌∙◌, ap, subst, Option, Some, None}
+use Rattle.std.proofs.Common.{◌≡◌, ℕ, ◌+◌, inl, inr, List, [], ◌∷◌, length, map, refl, sym, ◌∙◌, ap, subst, Option, Some, None}
 use Rattle.std.specs.List.{flat_map}
 use Rattle.mx_word.specs.Word.{bytes_of, bytes_in}
 use Rattle.mx_insn.specs.declared.insn.Insn.{Insn}
@@ -23,12 +23,11 @@ use Rattle.mx_asm.specs.declared.fault.Problem.TheVariants.{BadByte, BadNumber, 
 use Rattle.mx_asm.specs.declared.fault.Fault.{Fault}
 use Rattle.mx_asm.specs.declared.sizes.Sizes.{Sizes}
 use Rattle.mx_asm.specs.Branches.{branch_by, branch_marks, distance}
-use Rattle.mx_asm.specs.Lengths.{length_of}
-use Rattle.mx_asm.specs.Layout.{Above, start, said, reason_of, left_by, laid_by, value_under, address_of, spot_of, sizes_after}
+use Rattle.mx_asm.specs.Layout.{Above, start, said, reason_of, left_by, address_of, spot_of, sizes_after}
 use Rattle.mx_asm.specs.Bytes.{AllStand, BytesOf, StandsIn, contents}
 use Rattle.mx_asm.specs.Faults.{fault_behind, problem_of, total_of}
 use Rattle.mx_asm.specs.Assembled.{AreAssembled, SameProgram, symbol_under, entry_under}
-use Rattle.mx_asm.specs.Text.{IsTaken, AreTaken, IsWrong, IsFirstWrong, on_behind, AreAccepted, Assembled, HasFault}
+use Rattle.mx_asm.specs.Text.{AreTaken, IsWrong, IsFirstWrong, on_behind, AreAccepted, Assembled, HasFault}
 use Rattle.mx_asm.proofs.Lengths.{KeepsLength}
 use Rattle.mx_asm.proofs.Emitting.{lengths_same}
 

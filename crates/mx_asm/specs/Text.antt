@@ -1,5 +1,5 @@
 -- The program of a text, or its first fault.
-use Rattle.std.specs.Prelude.{◌≡◌, ℕ, ◌+◌, ◌⊎◌, List, [], ◌∷◌, Option, Some, None, ⊤}
+use Rattle.std.specs.Prelude.{◌≡◌, ℕ, ◌+◌, ◌⊎◌, List, [], ◌∷◌, Some, None, ⊤}
 use Rattle.mx_line.specs.Lines.{lines}
 use Rattle.mx_lex.specs.Tokens.{IsFault}
 use Rattle.mx_lex.specs.declared.kinds.LexError.{LexError}
