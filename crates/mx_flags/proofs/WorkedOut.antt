@@ -44,14 +44,14 @@ overflow_kept false false = refl
 
 pub worked_out_of : (v : FlagValues) → worked_out (1 - from_bool v.zero) (2 ^ 31 * from_bool v.sign + (1 - from_bool v.parity)) (16 * from_bool v.auxiliary + 2 ^ 31 * from_bool v.overflow) (from_bool v.carry == 1) (from_bool v.direction == 1) ≡ v
 worked_out_of v = rw (
-    zero_kept v.zero,
-    parity_kept v.sign v.parity,
-    sign_kept v.sign v.parity,
-    auxiliary_kept v.auxiliary v.overflow,
-    overflow_kept v.auxiliary v.overflow,
-    one_kept v.carry,
-    one_kept v.direction,
-  ) refl
+  zero_kept v.zero,
+  parity_kept v.sign v.parity,
+  sign_kept v.sign v.parity,
+  auxiliary_kept v.auxiliary v.overflow,
+  overflow_kept v.auxiliary v.overflow,
+  one_kept v.carry,
+  one_kept v.direction,
+) refl
 
 -- ---- a sum's and a difference's
 
@@ -70,7 +70,6 @@ difference_auxiliary : (x y c n : ℕ) → c ≤ 1 → n + y + c ≡ 2 ^ 33 + x 
 difference_auxiliary x y c n most whole =
     let bits = three_bits x y n 4 in
     grind (arith)
-
 
 signed_small : (x : ℕ) → x < 2 ^ 31 → signed 32 x ≡ pos x
 signed_small x small = grind (arith)
@@ -107,19 +106,19 @@ sum_bits : (x y c n u l : ℕ) → x < 2 ^ 32 → y < 2 ^ 32 → c ≤ 1 → n �
 sum_bits x y c n u l left right most whole upper lower =
     elim (cases_lt x (2 ^ 31)) [
       | inl xs ↦ elim (cases_lt y (2 ^ 31)) [
-          | inl ys ↦ rw (signed_small x xs, signed_small y ys) (elim (cases_lt n (2 ^ 31)) [
-              | inl ns ↦ same u l (pos x +ℤ pos y +ℤ pos c) (omega arith) (grind (arith)) (grind (arith))
-              | inr nl ↦ above u l (pos x +ℤ pos y +ℤ pos c) (omega arith) (grind (arith))
-            ])
-          | inr yl ↦ rw (signed_small x xs, signed_large y yl) (same u l (pos x +ℤ (pos y -ℤ pos (2 ^ 32)) +ℤ pos c) (omega arith) (grind (arith)) (grind (arith)))
-        ]
+        | inl ys ↦ rw (signed_small x xs, signed_small y ys) (elim (cases_lt n (2 ^ 31)) [
+          | inl ns ↦ same u l (pos x +ℤ pos y +ℤ pos c) (omega arith) (grind (arith)) (grind (arith))
+          | inr nl ↦ above u l (pos x +ℤ pos y +ℤ pos c) (omega arith) (grind (arith))
+        ])
+        | inr yl ↦ rw (signed_small x xs, signed_large y yl) (same u l (pos x +ℤ (pos y -ℤ pos (2 ^ 32)) +ℤ pos c) (omega arith) (grind (arith)) (grind (arith)))
+      ]
       | inr xl ↦ elim (cases_lt y (2 ^ 31)) [
-          | inl ys ↦ rw (signed_large x xl, signed_small y ys) (same u l (pos x -ℤ pos (2 ^ 32) +ℤ pos y +ℤ pos c) (omega arith) (grind (arith)) (grind (arith)))
-          | inr yl ↦ rw (signed_large x xl, signed_large y yl) (elim (cases_lt n (2 ^ 31 + 2 ^ 32)) [
-              | inl ns ↦ below u l (pos x -ℤ pos (2 ^ 32) +ℤ (pos y -ℤ pos (2 ^ 32)) +ℤ pos c) (omega arith) (grind (arith))
-              | inr nl ↦ same u l (pos x -ℤ pos (2 ^ 32) +ℤ (pos y -ℤ pos (2 ^ 32)) +ℤ pos c) (omega arith) (grind (arith)) (grind (arith))
-            ])
-        ]
+        | inl ys ↦ rw (signed_large x xl, signed_small y ys) (same u l (pos x -ℤ pos (2 ^ 32) +ℤ pos y +ℤ pos c) (omega arith) (grind (arith)) (grind (arith)))
+        | inr yl ↦ rw (signed_large x xl, signed_large y yl) (elim (cases_lt n (2 ^ 31 + 2 ^ 32)) [
+          | inl ns ↦ below u l (pos x -ℤ pos (2 ^ 32) +ℤ (pos y -ℤ pos (2 ^ 32)) +ℤ pos c) (omega arith) (grind (arith))
+          | inr nl ↦ same u l (pos x -ℤ pos (2 ^ 32) +ℤ (pos y -ℤ pos (2 ^ 32)) +ℤ pos c) (omega arith) (grind (arith)) (grind (arith))
+        ])
+      ]
     ]
 
 difference_bits : (x y c n u l : ℕ) → x < 2 ^ 32 → y < 2 ^ 32 → c ≤ 1 → n + y + c ≡ 2 ^ 33 + x → u ≡ (x / 2 ^ 32 % 2 + y / 2 ^ 32 % 2 + n / 2 ^ 32 % 2) % 2 → l ≡ (x / 2 ^ 31 % 2 + y / 2 ^ 31 % 2 + n / 2 ^ 31 % 2) % 2 →
@@ -127,19 +126,19 @@ difference_bits : (x y c n u l : ℕ) → x < 2 ^ 32 → y < 2 ^ 32 → c ≤ 1 
 difference_bits x y c n u l left right most whole upper lower =
     elim (cases_lt x (2 ^ 31)) [
       | inl xs ↦ elim (cases_lt y (2 ^ 31)) [
-          | inl ys ↦ rw (signed_small x xs, signed_small y ys) (same u l (pos x -ℤ pos y -ℤ pos c) (omega arith) (grind (arith)) (grind (arith)))
-          | inr yl ↦ rw (signed_small x xs, signed_large y yl) (elim (cases_lt n (2 ^ 32 + 2 ^ 31)) [
-              | inl ns ↦ same u l (pos x -ℤ (pos y -ℤ pos (2 ^ 32)) -ℤ pos c) (omega arith) (grind (arith)) (grind (arith))
-              | inr nl ↦ above u l (pos x -ℤ (pos y -ℤ pos (2 ^ 32)) -ℤ pos c) (omega arith) (grind (arith))
-            ])
-        ]
+        | inl ys ↦ rw (signed_small x xs, signed_small y ys) (same u l (pos x -ℤ pos y -ℤ pos c) (omega arith) (grind (arith)) (grind (arith)))
+        | inr yl ↦ rw (signed_small x xs, signed_large y yl) (elim (cases_lt n (2 ^ 32 + 2 ^ 31)) [
+          | inl ns ↦ same u l (pos x -ℤ (pos y -ℤ pos (2 ^ 32)) -ℤ pos c) (omega arith) (grind (arith)) (grind (arith))
+          | inr nl ↦ above u l (pos x -ℤ (pos y -ℤ pos (2 ^ 32)) -ℤ pos c) (omega arith) (grind (arith))
+        ])
+      ]
       | inr xl ↦ elim (cases_lt y (2 ^ 31)) [
-          | inl ys ↦ rw (signed_large x xl, signed_small y ys) (elim (cases_lt n (2 ^ 33 + 2 ^ 31)) [
-              | inl ns ↦ below u l (pos x -ℤ pos (2 ^ 32) -ℤ pos y -ℤ pos c) (omega arith) (grind (arith))
-              | inr nl ↦ same u l (pos x -ℤ pos (2 ^ 32) -ℤ pos y -ℤ pos c) (omega arith) (grind (arith)) (grind (arith))
-            ])
-          | inr yl ↦ rw (signed_large x xl, signed_large y yl) (same u l (pos x -ℤ pos (2 ^ 32) -ℤ (pos y -ℤ pos (2 ^ 32)) -ℤ pos c) (omega arith) (grind (arith)) (grind (arith)))
-        ]
+        | inl ys ↦ rw (signed_large x xl, signed_small y ys) (elim (cases_lt n (2 ^ 33 + 2 ^ 31)) [
+          | inl ns ↦ below u l (pos x -ℤ pos (2 ^ 32) -ℤ pos y -ℤ pos c) (omega arith) (grind (arith))
+          | inr nl ↦ same u l (pos x -ℤ pos (2 ^ 32) -ℤ pos y -ℤ pos c) (omega arith) (grind (arith)) (grind (arith))
+        ])
+        | inr yl ↦ rw (signed_large x xl, signed_large y yl) (same u l (pos x -ℤ pos (2 ^ 32) -ℤ (pos y -ℤ pos (2 ^ 32)) -ℤ pos c) (omega arith) (grind (arith)) (grind (arith)))
+      ]
     ]
 
 leaves_pos : (w k : ℕ) → leaves_unsigned w (pos k) ≡ nat_le (2 ^ w) k

@@ -544,7 +544,14 @@ static ROWS: [Row; 55] = [
         count: 3,
         stop: Stop::Fault(13),
         words_after: [1, 0, 0, 0, 0, 0, 0, 0],
-        memory_after: &[(0, 0x88), (1, 0x05), (2, 0x05), (5, 0x01), (6, 0xEB), (7, 0xF8)],
+        memory_after: &[
+            (0, 0x88),
+            (1, 0x05),
+            (2, 0x05),
+            (5, 0x01),
+            (6, 0xEB),
+            (7, 0xF8),
+        ],
         ..ROW
     },
     // REP MOVSB over itself: INC EAX and MOVSB stand there then
