@@ -1,6 +1,6 @@
 -- What stands above a line of a configuration.
 use Rattle.std.specs.Prelude.{ℕ, ◌≤◌, List, [], length, Option, None, IfSome}
-use Rattle.mx_world.specs.declared.config.ServiceLine.{ServiceLine}
+use Rattle.mx_setup.specs.declared.config.ServiceLine.{ServiceLine}
 
 pub record Above : Type 0 where
   pub cpus : Option ℕ

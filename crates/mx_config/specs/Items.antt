@@ -6,7 +6,7 @@ use Rattle.mx_line.specs.Names.{name_of}
 use Rattle.mx_respawn.specs.Labels.{IsReserved}
 use Rattle.mx_fields.specs.Fields.{◌>>=◌, fields, only}
 use Rattle.mx_respawn.specs.declared.label.Label.{Label}
-use Rattle.mx_world.specs.declared.config.ServiceLine.{ServiceLine}
+use Rattle.mx_setup.specs.declared.config.ServiceLine.{ServiceLine}
 use Rattle.mx_config.specs.declared.service.Terms.{Terms}
 use Rattle.mx_config.specs.declared.item.Item.{Item}
 use Rattle.mx_config.specs.declared.item.Item.TheVariants.{Cpus, Log, Others, Service}

@@ -5,8 +5,9 @@ use Rattle.std.specs.Str.{bytes_eq}
 use Rattle.mx_line.specs.Lines.{lines, last_line}
 use Rattle.mx_fields.specs.declared.error.BootError.{BootError}
 use Rattle.mx_fields.specs.declared.error.BootError.TheVariants.{BadLine, TwiceNamed, TooMany, NoMemory}
-use Rattle.mx_world.specs.declared.config.ServiceLine.{ServiceLine}
-use Rattle.mx_world.specs.declared.config.Config.{Config}
+use Rattle.mx_respawn.specs.declared.label.Label.{Label}
+use Rattle.mx_setup.specs.declared.config.ServiceLine.{ServiceLine}
+use Rattle.mx_setup.specs.declared.config.Config.{Config}
 use Rattle.mx_config.specs.declared.item.Item.{Item}
 use Rattle.mx_config.specs.declared.item.Item.TheVariants.{Cpus, Log, Others, Service}
 use Rattle.mx_config.specs.Items.{said_in, Says, SaysNothing}
@@ -14,15 +15,15 @@ use Rattle.mx_config.specs.Above.{Above, start}
 
 -- ---- what a line may not say below others
 
-abbrev pub is_named : List ServiceLine → ServiceLine → Bool
-is_named above s = list_any (λ (t : ServiceLine). bytes_eq t.name.name.bytes s.name.name.bytes) above
+abbrev pub is_named : List ServiceLine → Label → Bool
+is_named above label = list_any (λ (t : ServiceLine). bytes_eq t.name.name.bytes label.name.bytes) above
 
 -- an item, or a service's name, that stands above already
 abbrev pub is_twice : Above → Item → Bool
 is_twice a (Cpus n) = is_some a.cpus
 is_twice a (Log n) = is_some a.log
 is_twice a (Others n) = is_some a.others
-is_twice a (Service s) = is_named a.lines s
+is_twice a (Service s) = is_named a.lines s.name
 
 -- a service below 32 others
 abbrev pub is_over : Above → Item → Bool

@@ -1,6 +1,6 @@
 //! Items of a configuration.
 
-use mx_world::ServiceLine;
+use mx_setup::ServiceLine;
 
 /// What a line of a configuration says.
 #[derive(Drop)]

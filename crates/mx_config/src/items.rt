@@ -4,7 +4,7 @@ ghost use Rattle.std.specs.Prelude.{◌≡◌, ◌≢◌, ◌≤◌, ◌∷◌, 
 ghost use Rattle.std.specs.List.{before_first};
 ghost use Rattle.mx_fields.specs.Fields.{fields};
 ghost use Rattle.mx_respawn.specs.declared.label.Label.{Label};
-ghost use Rattle.mx_world.specs.declared.config.ServiceLine.{ServiceLine};
+ghost use Rattle.mx_setup.specs.declared.config.ServiceLine.{ServiceLine};
 ghost use Rattle.mx_config.specs.declared.service.Terms.{Terms};
 ghost use Rattle.mx_config.specs.declared.item.Item.{Item};
 ghost use Rattle.mx_config.specs.Terms.{AreWithin};
@@ -15,7 +15,7 @@ use crate::service::Terms;
 use crate::terms::{number_between, terms_of};
 use mx_fields::{next_field, one_field};
 use mx_respawn::Label;
-use mx_world::{FileName, ServiceLine};
+use mx_setup::{FileName, ServiceLine};
 use std::alloc::{AllocError, Global};
 
 /// What stands before a comment.
@@ -74,7 +74,7 @@ fn service_of(alloc: Global, line: &[u8]) -> Result<Option<ServiceLine>, AllocEr
 }
 
 /// What a line says whose fields begin with a word.
-fn item_at(alloc: Global, word: &[u8], line: &[u8]) -> Result<Option<Item>, AllocError>
+pub fn item_at(alloc: Global, word: &[u8], line: &[u8]) -> Result<Option<Item>, AllocError>
     ensures said { IfOk result (λ o. MatchOption o ((i : Item) → Says (word.now ∷ fields line.now) i → ⊥) (Says (word.now ∷ fields line.now))) }
     ensures within { IfOk result (λ o. IfSome o IsWithin) }
 {
