@@ -1,6 +1,6 @@
 //! A configuration while its lines are read.
 
-ghost use Rattle.std.specs.Prelude.{◌≡◌, None, IfOk, IfErr};
+ghost use Rattle.std.specs.Prelude.{◌≡◌, None, IfOk, IfErr, false};
 ghost use Rattle.mx_fields.specs.declared.error.BootError.TheVariants.{NoMemory};
 ghost use Rattle.mx_config.specs.Above.{Above, start};
 ghost use Rattle.mx_config.specs.Items.{IsWithin};
