@@ -1,1 +1,4 @@
+pub mod Reading
 pub mod Verbs
+pub mod Script
+pub mod Debug

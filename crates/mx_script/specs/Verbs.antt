@@ -23,5 +23,5 @@ abbrev pub verbs : List Verb
 verbs = Step ∷ Take ∷ Back ∷ Line ∷ Tick ∷ Kill ∷ Respawn ∷ Break ∷ Clear ∷ Go ∷ Registers ∷ Memory ∷ Messages ∷ []
 
 -- the verb that a word is
-abbrev pub verb_of : List ℕ → Option Verb
+unfoldable pub verb_of : List ℕ → Option Verb
 verb_of word = find (λ v. bytes_eq word (verb_word v)) verbs

@@ -1,6 +1,16 @@
-//! Scripts: the lines that make a machine's events, one by one.
+//! Scripts: texts of which each line is one thing to do with a machine.
 #![tactic(auto)]
 
+mod debug;
+mod numbers;
+mod place;
+mod reading;
+mod script;
 mod verb;
 
+pub use debug::{DebugLine, debug_script};
+pub use numbers::{actor, count, only_actor, only_count};
+pub use place::{Place, SymbolName};
+pub use reading::{ReadsLine, read_lines};
+pub use script::{ScriptLine, script};
 pub use verb::{Verb, verb_named};

@@ -1,7 +1,8 @@
-//! The words that lines begin with.
+//! The words that say what a line is about.
 
-ghost use Rattle.std.specs.Prelude.{◌≡◌};
-ghost use Rattle.mx_script.specs.Verbs.{verb_of};
+ghost use Rattle.std.specs.Prelude.{◌≡◌, ◌≢◌, MatchOption};
+ghost use Rattle.mx_script.specs.declared.verb.Verb.{Verb};
+ghost use Rattle.mx_script.specs.Verbs.{verb_word, verb_of};
 
 /// What a line of a script or of a history is about.
 #[derive(Clone, Copy, Debug, PartialEq, Eq)]
@@ -21,9 +22,8 @@ pub enum Verb {
     Messages,
 }
 
-/// The verb that a word is.
-pub fn verb_named(word: &[u8]) -> Option<Verb>
-    ensures { result ≡ verb_of word.now }
+fn matching(word: &[u8]) -> Option<Verb>
+    ensures { MatchOption result ((v : Verb) → word.now ≢ verb_word v) (λ v. word.now ≡ verb_word v) }
 {
     match word {
         b"step" => Some(Verb::Step),
@@ -41,4 +41,11 @@ pub fn verb_named(word: &[u8]) -> Option<Verb>
         b"messages" => Some(Verb::Messages),
         _ => None,
     }
+}
+
+/// The verb that a word is.
+pub fn verb_named(word: &[u8]) -> Option<Verb>
+    ensures { result ≡ verb_of word.now }
+{
+    matching(word)
 }
