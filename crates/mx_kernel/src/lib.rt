@@ -1,0 +1,4 @@
+//! The kernel.
+#![tactic(auto)]
+
+mod booting;
