@@ -4,8 +4,8 @@ use Rattle.mx_fields.specs.Fields.{fields, only, pair, ◌>>=◌}
 use Rattle.mx_fields.specs.Numbers.{number_up_to}
 use Rattle.mx_script.specs.declared.verb.Verb.{Verb}
 use Rattle.mx_script.specs.declared.verb.Verb.TheVariants as verbs
-use Rattle.mx_script.specs.declared.script.ScriptLine.{ScriptLine}
-use Rattle.mx_script.specs.declared.script.ScriptLine.TheVariants.{Step, Take, Back, Line, Tick, Kill, Respawn}
+use Rattle.mx_script.specs.declared.scripts.ScriptLine.{ScriptLine}
+use Rattle.mx_script.specs.declared.scripts.ScriptLine.TheVariants.{Step, Take, Back, Line, Tick, Kill, Respawn}
 use Rattle.mx_script.specs.Verbs.{verb_of}
 
 -- the number of a processor or another actor

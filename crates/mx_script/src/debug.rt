@@ -7,9 +7,9 @@ ghost use Rattle.mx_script.specs.Reading.{AreRead, TellsUnread};
 ghost use Rattle.mx_script.specs.Debug.{slot_and_place, memory_of, debug_line_of, debug_line};
 
 use crate::numbers::{actor, actor_and_count, count, only_actor};
-use crate::place::{Place, place};
+use crate::place::{Place, place_named};
 use crate::reading::{ReadsLine, read_lines};
-use crate::script::{ScriptLine, script_line_of};
+use crate::scripts::{ScriptLine, script_line_of};
 use crate::verb::{Verb, verb_named};
 use mx_fields::{BootError, next_field, two_fields};
 use std::alloc::Global;
@@ -39,7 +39,7 @@ fn slot_and_place(line: &[u8]) -> Option<(u32, Place)>
 {
     let (first, second) = two_fields(line)?;
     let slot = count(first)?;
-    let place = place(second)?;
+    let place = place_named(second)?;
     Some((slot, place))
 }
 

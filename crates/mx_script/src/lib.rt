@@ -5,12 +5,12 @@ mod debug;
 mod numbers;
 mod place;
 mod reading;
-mod script;
+mod scripts;
 mod verb;
 
 pub use debug::{DebugLine, debug_script};
 pub use numbers::{actor, count, only_actor, only_count};
-pub use place::{Place, SymbolName};
+pub use place::{Place, SymbolName, place_named};
 pub use reading::{ReadsLine, read_lines};
-pub use script::{ScriptLine, script};
+pub use scripts::{ScriptLine, script};
 pub use verb::{Verb, verb_named};

@@ -63,7 +63,7 @@ fn named_place(word: &[u8]) -> Place
 }
 
 /// The place that a word is: an address, which begins with a digit, or a symbol's name.
-pub fn place(word: &[u8]) -> Option<Place>
+pub fn place_named(word: &[u8]) -> Option<Place>
     ensures { result ≡ place_of word.now }
 {
     if is_digit(*word.first()?) {
