@@ -2,6 +2,7 @@
 #![tactic(auto)]
 
 mod debug;
+mod laws;
 mod numbers;
 mod place;
 mod reading;
@@ -9,6 +10,7 @@ mod scripts;
 mod verb;
 
 pub use debug::{DebugLine, debug_script};
+pub use laws::{number_again, verb_again, words_again};
 pub use numbers::{actor, count, only_actor, only_count};
 pub use place::{Place, SymbolName, place_named};
 pub use reading::{ReadsLine, read_lines};

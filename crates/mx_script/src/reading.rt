@@ -12,7 +12,7 @@ use std::alloc::Global;
 pub trait ReadsLine {
     type Said;
 
-    ghost says: { Self → List ℕ → Option Said };
+    ghost says: { Self → List ℕ → Option Self.Said };
 
     /// What a line says, if it says anything. Takes no memory.
     fn read(&self, line: &[u8]) -> Option<Self::Said>
