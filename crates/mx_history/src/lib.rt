@@ -9,4 +9,4 @@ mod sink;
 pub use laws::{history_again, one_history, one_text};
 pub use logs::log;
 pub use saving::{SaveFault, save_records};
-pub use sink::{Sink, SinkFault};
+pub use sink::{Over, Sink, SinkFault};

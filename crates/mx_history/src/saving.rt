@@ -1,73 +1,68 @@
 //! Writes the text of a history.
 
-ghost use Rattle.std.specs.Prelude.{◌≡◌, ◌≤◌, ◌<◌, ◌+◌, ◌++◌, false, length, OnOk, codes};
+ghost use Rattle.std.specs.Prelude.{◌≡◌, ◌≤◌, ◌<◌, ◌+◌, ◌++◌, ◌∷◌, false, length, OnOk, codes};
 ghost use Rattle.std.specs.Fmt.{decimal};
 ghost use Rattle.arrayvec.specs.ArrayVec.{array_vec_len};
-ghost use Rattle.mx_history.specs.Text.{event_text, record_text, history_text};
+ghost use Rattle.mx_script.specs.Words.{joined};
+ghost use Rattle.mx_history.specs.Text.{event_words, record_words, history_text};
 
 use crate::sink::{Sink, SinkFault};
 use arrayvec::ArrayVec;
+use mx_script::decimal_text;
 use mx_world::{Record, Recorded};
 
 /// The sink has failed.
 #[derive(Clone, Copy, Debug, PartialEq, Eq)]
 pub struct SaveFault;
 
-/// The bytes of a line. The longest is that of a respawn: two numbers of 3 and of 10 digits.
+/// The bytes of a line: two numbers of at most 10 digits and a word of at most 7 bytes, with what
+/// parts and ends them.
 type Line = ArrayVec<u8, 32>;
-
-/// Appends a number.
-fn push_decimal(line: &mut Line, number: u32)
-    requires { array_vec_len line.old + length (decimal number) ≤ 32 }
-    ensures { line.new.items ≡ line.old.items ++ decimal number }
-{
-    if number >= 10 {
-        push_decimal(line, number / 10);
-    }
-    line.push(b'0' + (number % 10) as u8);
-}
 
 /// Appends bytes.
 fn push_bytes(line: &mut Line, bytes: &[u8])
     requires { array_vec_len line.old + length bytes.now ≤ 32 }
-    ensures { line.new.items ≡ line.old.items ++ bytes.now }
+    ensures bytes { line.new.items ≡ line.old.items ++ bytes.now }
+    ensures count { array_vec_len line.new ≡ array_vec_len line.old + length bytes.now }
 {
     for byte in bytes {
         line.push(*byte);
     }
 }
 
-/// Appends a verb, with the space behind it, and its number.
-fn push_counted(line: &mut Line, verb: &[u8], number: u32)
-    requires { array_vec_len line.old + length verb.now ≤ 22 }
-    ensures { line.new.items ≡ line.old.items ++ (verb.now ++ decimal number) }
+/// Appends a word and a number, parted by a space.
+fn push_counted(line: &mut Line, word: &[u8], number: u32)
+    requires { array_vec_len line.old + length word.now ≤ 21 }
+    ensures bytes { line.new.items ≡ line.old.items ++ (word.now ++ 32 ∷ decimal number) }
+    ensures few { array_vec_len line.new ≤ array_vec_len line.old + length word.now + 11 }
 {
-    push_bytes(line, verb);
-    push_decimal(line, number);
+    push_bytes(line, word);
+    line.push(b' ');
+    push_bytes(line, decimal_text(number).as_slice());
 }
 
 /// Appends what was recorded.
 fn push_event(line: &mut Line, event: Recorded)
-    requires { array_vec_len line.old ≤ 4 }
-    ensures { line.new.items ≡ line.old.items ++ event_text event }
+    requires { array_vec_len line.old ≤ 11 }
+    ensures bytes { line.new.items ≡ line.old.items ++ joined (event_words event) }
+    ensures few { array_vec_len line.new ≤ 29 }
 {
     match event {
         Recorded::Take => push_bytes(line, b"take"),
-        Recorded::Back(steps) => push_counted(line, b"back ", steps),
-        Recorded::Line(number) => push_counted(line, b"line ", number),
+        Recorded::Back(steps) => push_counted(line, b"back", steps),
+        Recorded::Line(number) => push_counted(line, b"line", number),
         Recorded::Tick => push_bytes(line, b"tick"),
-        Recorded::Kill(endpoint) => push_counted(line, b"kill ", endpoint),
-        Recorded::Respawn(slot) => push_counted(line, b"respawn ", slot),
+        Recorded::Kill(endpoint) => push_counted(line, b"kill", endpoint),
+        Recorded::Respawn(slot) => push_counted(line, b"respawn", slot),
     }
 }
 
 /// The line of a record, with its line feed.
 fn line_of(record: Record) -> Line
-    ensures { result.items ≡ record_text record ++ codes "\n" }
-    ensures some { 0 < array_vec_len result }
+    ensures { result.items ≡ joined (record_words record) ++ codes "\n" }
 {
     let mut line = ArrayVec::new();
-    push_decimal(&mut line, u32::from(record.actor));
+    push_bytes(&mut line, decimal_text(u32::from(record.actor)).as_slice());
     line.push(b' ');
     push_event(&mut line, record.event);
     line.push(b'\n');

@@ -1,5 +1,5 @@
 -- The decimal text of a number is a word that spells this number.
-use Rattle.std.proofs.Common.{◌≡◌, ℕ, ◌+◌, ◌-◌, ◌*◌, ◌/◌, ◌%◌, ◌<◌, ◌≤◌, ◌^◌, ◌⊎◌, inl, inr, Bool, true, false, cond, not, ◌&&◌, ◌||◌, List, [], ◌∷◌, ◌++◌, Option, Some, None, refl, sym, ap, ◌∙◌, arith}
+use Rattle.std.proofs.Common.{◌≡◌, ℕ, suc, ◌+◌, ◌-◌, ◌*◌, ◌/◌, ◌%◌, ◌<◌, ◌≤◌, ◌^◌, ◌⊎◌, inl, inr, Bool, true, false, cond, not, ◌&&◌, ◌||◌, List, [], ◌∷◌, ◌++◌, Option, Some, None, refl, sym, ap, ◌∙◌, arith, zero-add}
 use Rattle.std.specs.Prelude.{◌==◌, nat_lt, nat_le}
 use Rattle.std.specs.Fmt.{decimal}
 use Rattle.std.specs.List.{list_all}
@@ -60,7 +60,7 @@ abbrev is_digit10 : ℕ → Bool
 is_digit10 b = nat_lt (digit_value b) 10
 
 digit_small : (d : ℕ) → d < 10 → is_digit10 (48 + d) ≡ true
-digit_small d h = ap (λ v. nat_lt v 10) (digit_value-again d h) ∙ le_true (d + 1) 10 (omega (arith, h))
+digit_small d h = ap (λ v. nat_lt v 10) (digit_value-again d h) ∙ le_true (suc d) 10 (omega (arith, h))
 
 pub record Spells (n : ℕ) (ds : List ℕ) : Type 0 where
   pub some : has_bytes ds ≡ true
@@ -72,7 +72,7 @@ spells = decimal_by_steps Spells
     (λ n h. record {
       some = refl;
       digits = and_true (is_digit10 (48 + n)) true (digit_small n h) refl;
-      value = digit_value-again n h;
+      value = zero-add (digit_value (48 + n)) ∙ digit_value-again n h;
     })
     (λ n ds ge h. record {
       some = bytes_before ds ((48 + n % 10) ∷ []) h.some;

@@ -1,5 +1,5 @@
 -- Words that are written with spaces between are read as these words, and lines as these lines.
-use Rattle.std.proofs.Common.{◌≡◌, ℕ, Bool, true, false, not, ◌&&◌, ◌||◌, List, [], ◌∷◌, ◌++◌, refl, sym, ap, ap₂, ◌∙◌, append_assoc}
+use Rattle.std.proofs.Common.{◌≡◌, ℕ, Bool, true, false, cond, not, ◌&&◌, ◌||◌, List, [], ◌∷◌, ◌++◌, refl, sym, ap, ap₂, ◌∙◌, append_assoc}
 use Rattle.std.specs.Prelude.{◌==◌, filter, map, codes}
 use Rattle.std.specs.List.{list_all, flat_map, AllByRecursion, slice_split, onto_first}
 use Rattle.std.proofs.lemmas.List.Splits.{slice_split-cons_yes, slice_split-cons_no}
@@ -26,7 +26,7 @@ neither false false h = (refl, refl)
 neither false true h = cc
 neither true b h = cc
 
-passed : {A : Type 0} (c : Bool) (a b : A) → c ≡ false → (if c then a else b) ≡ b
+passed : {A : Type 0} (c : Bool) (a b : A) → c ≡ false → cond c a b ≡ b
 passed true a b h = cc
 passed false a b h = refl
 

@@ -1,0 +1,2 @@
+mod ReadAgain
+mod OneHistory
