@@ -8,7 +8,7 @@ ghost use Rattle.mx_history.specs.Text.{event_words, record_words, history_text}
 
 use crate::sink::{Sink, SinkFault};
 use arrayvec::ArrayVec;
-use mx_script::decimal_text;
+use itoa::Buffer;
 use mx_world::{Record, Recorded};
 
 /// The sink has failed.
@@ -30,6 +30,15 @@ fn push_bytes(line: &mut Line, bytes: &[u8])
     }
 }
 
+/// Appends a number.
+fn push_number(line: &mut Line, number: u32)
+    requires { array_vec_len line.old ≤ 22 }
+    ensures bytes { line.new.items ≡ line.old.items ++ decimal number }
+    ensures few { array_vec_len line.new ≤ array_vec_len line.old + 10 }
+{
+    push_bytes(line, Buffer::new().format(number).as_bytes());
+}
+
 /// Appends a word and a number, parted by a space.
 fn push_counted(line: &mut Line, word: &[u8], number: u32)
     requires { array_vec_len line.old + length word.now ≤ 21 }
@@ -38,7 +47,7 @@ fn push_counted(line: &mut Line, word: &[u8], number: u32)
 {
     push_bytes(line, word);
     line.push(b' ');
-    push_bytes(line, decimal_text(number).as_slice());
+    push_number(line, number);
 }
 
 /// Appends what was recorded.
@@ -62,7 +71,7 @@ fn line_of(record: Record) -> Line
     ensures { result.items ≡ joined (record_words record) ++ codes "\n" }
 {
     let mut line = ArrayVec::new();
-    push_bytes(&mut line, decimal_text(u32::from(record.actor)).as_slice());
+    push_number(&mut line, u32::from(record.actor));
     line.push(b' ');
     push_event(&mut line, record.event);
     line.push(b'\n');

@@ -5,15 +5,15 @@ ghost use Rattle.std.specs.Fmt.{decimal};
 ghost use Rattle.mx_proc.specs.World.{endpoint_of};
 ghost use Rattle.mx_report.specs.Report.{spaced, partner_word, cause_words, receiver_word, state_words, name_bytes};
 
+use itoa::Buffer;
 use mx_proc::{Cause, Partner, Slot, Source, State, Table};
-use mx_script::decimal_text;
 use std::alloc::AllocError;
 
 /// Appends a number.
 pub fn push_decimal(out: &mut Vec<u8>, number: u32) -> Result<(), AllocError>
     ensures { OnOk result (out.new.items ≡ out.old.items ++ decimal number) }
 {
-    out.extend_from_slice(decimal_text(number).as_slice())
+    out.extend_from_slice(Buffer::new().format(number).as_bytes())
 }
 
 /// Appends a field, behind a space.

@@ -2,7 +2,6 @@
 #![tactic(auto)]
 
 mod debug;
-mod decimals;
 mod laws;
 mod numbers;
 mod place;
@@ -11,7 +10,6 @@ mod scripts;
 mod verb;
 
 pub use debug::{DebugLine, debug_script};
-pub use decimals::decimal_text;
 pub use laws::{number_again, verb_again, words_again};
 pub use numbers::{actor, count, only_actor, only_count};
 pub use place::{Place, SymbolName, place_named};
