@@ -245,7 +245,7 @@ fn make_trap(
     assert!(rt; slot < table.used());
     assert!(rt; table.process(slot).state.is_ready());
     dequeue(table, slot);
-    let mut image = table.lend(alloc, slot);
+    let mut image = table.lend(slot);
     image.regs.set(Size::Dword, Register::Ecx, step.2);
     image.regs.set(Size::Dword, Register::Eax, step.3);
     image.regs.set(Size::Dword, Register::Ebx, step.4);

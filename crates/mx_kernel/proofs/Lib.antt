@@ -1,1 +1,4 @@
 pub mod BootLemmas
+pub mod FrameLemmas
+pub mod HoldsLemmas
+pub mod ReplayLemmas

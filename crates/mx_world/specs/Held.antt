@@ -24,6 +24,10 @@ run_by_stop (stop.Fault v) k o = ((0, stop.Fault v), o)
 unfoldable pub held_run : ℕ → Out → (ℕ × Stop) × Out
 held_run k o = run_by_stop o.stop k o
 
+-- a run after another: their steps together, and how the later one ended
+abbrev pub then_held : (ℕ × Stop) × Out → ℕ → (ℕ × Stop) × Out
+then_held first k = let second = held_run k first.1 in ((first.0.0 + second.0.0, second.0.1), second.1)
+
 -- What came back is what was lent, after a run of the steps that it counts.
 pub record IsBack (lent out : Out) : Type 0 where
   pub run : (held_run out.count lent).1 ≡ out

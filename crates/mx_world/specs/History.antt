@@ -1,5 +1,5 @@
 -- What a kernel keeps, and the world that it stands for.
-use Rattle.std.specs.Prelude.{◌≡◌, ℕ, ◌==◌, List, [], ◌∷◌, ◌++◌, None, replicate, filter}
+use Rattle.std.specs.Prelude.{◌≡◌, ◌<◌, ◌^◌, ℕ, ◌==◌, List, [], ◌∷◌, ◌++◌, None, replicate, filter}
 use Rattle.mx_world.specs.declared.events.Event.{Event}
 use Rattle.mx_world.specs.declared.events.Event.TheVariants as event
 use Rattle.mx_world.specs.declared.history.Record.{Record}
@@ -35,6 +35,19 @@ after_events w (x ∷ xs) = after_events (after_event w x.0 x.1) xs
 abbrev pub AreAccepted : Whole → List (ℕ × Event) → Type 0
 AreAccepted w [] = Unit {0}
 AreAccepted w (x ∷ xs) = (event_refusal w x.0 x.1 ≡ None) × AreAccepted (after_event w x.0 x.1) xs
+
+-- a record as a text may say it: by an actor of the machine, with a number below 2 ^ 31
+abbrev pub number_in : Recorded → ℕ
+number_in recorded.Take = 0
+number_in (recorded.Back n) = n
+number_in (recorded.Line l) = l
+number_in recorded.Tick = 0
+number_in (recorded.Kill e) = e
+number_in (recorded.Respawn s) = s
+
+pub record IsWritable (actors : ℕ) (x : Record) : Type 0 where
+  pub actor : x.actor < actors
+  pub number : number_in x.event < 2 ^ 31
 
 -- What a kernel is seen as: the world at boot, and what was recorded since.
 pub record Kept : Type 0 where

@@ -33,8 +33,8 @@ use Rattle.mx_world.specs.Whole.{Whole, Lent, held_by, free}
 -- ---- refusals
 
 -- fewer records are free than an event needs
-abbrev pub if_full : Whole → ℕ → Option Refusal
-if_full w needed = if nat_lt (free w) needed then Some LogFull else None
+abbrev pub if_full : ℕ → ℕ → Option Refusal
+if_full left needed = if nat_lt left needed then Some LogFull else None
 
 abbrev pub is_stop : Stop → Bool
 is_stop Spent = false
@@ -53,32 +53,37 @@ abbrev pub back_refusal : Option Lent → Option Refusal
 back_refusal None = Some CpuEmpty
 back_refusal (Some l) = None
 
--- what a processor holds, and who is first to run
-abbrev pub take_refusal : Whole → Option Lent → Option ℕ → Option Refusal
-take_refusal w (Some l) first = Some CpuBusy
-take_refusal w None None = Some NoProcess
--- its own record, and that of its Back
-take_refusal w None (Some s) = if_full w 2
+-- by the free records, what the processor holds, and who is first to run
+abbrev pub take_refusal : {X : Type 0} → ℕ → Option X → Option ℕ → Option Refusal
+take_refusal left (Some x) first = Some CpuBusy
+take_refusal left None None = Some NoProcess
+-- a record of its own, and one for its return
+take_refusal left None (Some s) = if_full left 2
 
--- who owns the line
-abbrev pub line_refusal : Whole → Option ℕ → Option Refusal
-line_refusal w None = Some NoLine
-line_refusal w (Some s) = if_full w 1
+-- by who owns the line
+abbrev pub line_refusal : ℕ → Option ℕ → Option Refusal
+line_refusal left None = Some NoLine
+line_refusal left (Some s) = if_full left 1
 
--- what the slot is made from
-abbrev pub respawn_refusal : Whole → Process → Option Service → Option Refusal
-respawn_refusal w p None = Some NoService
-respawn_refusal w p (Some v) = if not (is_down p.state) then Some NotDown else if is_worn p v then Some Worn else if_full w 1
+-- by whether a process that is alive has the endpoint
+abbrev pub kill_refusal : ℕ → Bool → Option Refusal
+kill_refusal left true = if_full left 1
+kill_refusal left false = Some NoProcess
+
+-- by the slot's process, and what the slot is made from
+abbrev pub respawn_refusal : ℕ → Process → Option Service → Option Refusal
+respawn_refusal left p None = Some NoService
+respawn_refusal left p (Some v) = if not (is_down p.state) then Some NotDown else if is_worn p v then Some Worn else if_full left 1
 
 -- THE REFUSAL: the first that holds, or none
 unfoldable pub event_refusal : Whole → ℕ → Event → Option Refusal
 event_refusal w a Step = step_refusal (held_by w a)
-event_refusal w a Take = if nat_lt a (length w.cpus) then take_refusal w (held_by w a) (picked w.table.ready) else Some CpuBusy
+event_refusal w a Take = if nat_lt a (length w.cpus) then take_refusal (free w) (held_by w a) (picked w.table.ready) else Some CpuBusy
 event_refusal w a Back = back_refusal (held_by w a)
-event_refusal w a (Line l) = line_refusal w (owner_of w.table l)
-event_refusal w a Tick = if_full w 1
-event_refusal w a (Kill e) = if is_alive w.table e then if_full w 1 else Some NoProcess
-event_refusal w a (Respawn s) = respawn_refusal w (process_at w.table s) (slice_get w.services s)
+event_refusal w a (Line l) = line_refusal (free w) (owner_of w.table l)
+event_refusal w a Tick = if_full (free w) 1
+event_refusal w a (Kill e) = kill_refusal (free w) (is_alive w.table e)
+event_refusal w a (Respawn s) = respawn_refusal (free w) (process_at w.table s) (slice_get w.services s)
 
 -- ---- what the table becomes
 

@@ -7,6 +7,7 @@ ghost use Rattle.mx_world.specs.Held.{held_run};
 
 use mx_exec::Image;
 use mx_image::{Runs, Stop};
+use mx_proc::Slot;
 
 /// A process that is on a processor: its image, how many steps it may make, how many it has made,
 /// and how the last of them ended.
@@ -16,6 +17,14 @@ pub struct Out {
     pub budget: u32,
     pub count: u32,
     pub stop: Stop,
+}
+
+/// What the kernel keeps in mind of a process that is on a processor: its slot, and how many steps it
+/// may make.
+#[derive(Clone, Copy, PartialEq, Eq)]
+pub struct Lease {
+    pub slot: Slot,
+    pub budget: u32,
 }
 
 /// What a processor holds a process by.
@@ -36,6 +45,7 @@ pub trait Held {
 impl Held for Out {
     ghost out = { λ o. o };
 
+    #[tactic(auto, unfolding(crate::specs::Held::held_run), using(crate::proofs::RunLemmas::ran_within))]
     fn run(&mut self, k: u32) -> (u32, Stop) {
         match self.stop {
             Stop::Spent => {

@@ -6,8 +6,10 @@ mod config;
 mod events;
 mod history;
 mod holding;
+mod laws;
 
 pub use config::{Config, FileName, ServiceLine, ServiceLines};
 pub use events::{Answer, Event, Refusal};
 pub use history::{Record, Recorded};
-pub use holding::{Held, Out};
+pub use holding::{Held, Lease, Out};
+pub use laws::{held_runs_join, runs_are_steps};
