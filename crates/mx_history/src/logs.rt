@@ -1,10 +1,15 @@
 //! Reads the text of a history.
 
-ghost use Rattle.std.specs.Prelude.{◌≡◌, ◌+◌, IfOk, IfErr};
+ghost use Rattle.std.specs.Prelude.{◌≡◌, ◌+◌, List, IfOk, IfErr, MatchResult};
+ghost use Rattle.std.specs.List.{AllByRecursion};
+ghost use Rattle.mx_fields.specs.declared.error.BootError.TheVariants.{NoMemory};
+ghost use Rattle.mx_world.specs.declared.history.Record.{Record};
+ghost use Rattle.mx_history.specs.Text.{history_text, IsSayable};
 ghost use Rattle.mx_fields.specs.Fields.{fields};
 ghost use Rattle.mx_script.specs.Script.{after_verb};
 ghost use Rattle.mx_history.specs.Log.{recorded_of, made_by, record_line, is_ended, IsHistory, TellsFault};
 
+use crate::laws::{history_again, one_history};
 use mx_fields::{BootError, next_field};
 use mx_script::{ReadsLine, Verb, actor, only_count, read_lines, verb_named};
 use mx_world::{Config, Record, Recorded};
@@ -81,21 +86,31 @@ fn is_ended(text: &[u8]) -> bool
     }
 }
 
-/// The history that a text is, one record a line: `A take`, `A back N`, `A line L`, `A tick`,
-/// `A kill E`, `A respawn S`, A the actor; each line is ended by a line feed. The numbers are
-/// decimal; A is below the count of the configuration's processors and others, the other numbers at
-/// most 2,147,483,647. Else `BadRecord` with the first line at fault.
-pub fn log(alloc: Global, text: &str, config: &Config) -> Result<Vec<Record>, BootError>
-    ensures history { IfOk result (λ records. IsHistory (config.now.cpus + config.now.others) text.now records.items) }
-    ensures fault { IfErr result (λ e. TellsFault (config.now.cpus + config.now.others) text.now e) }
+/// The records of a text, or its first line at fault.
+fn read_log(alloc: Global, text: &[u8], actors: u8) -> Result<Vec<Record>, BootError>
+    ensures history { IfOk result (λ records. IsHistory actors text.now records.items) }
+    ensures fault { IfErr result (λ e. TellsFault actors text.now e) }
 {
-    let reader = RecordReader {
-        actors: config.cpus + config.others,
-    };
-    let records = read_lines(alloc, &reader, text.as_bytes())?;
-    if is_ended(text.as_bytes()) {
+    let records = read_lines(alloc, &RecordReader { actors }, text)?;
+    if is_ended(text) {
         Ok(records)
     } else {
         Err(BootError::BadRecord(records.len()))
     }
+}
+
+/// The history that a text is, one record a line: `A take`, `A back N`, `A line L`, `A tick`,
+/// `A kill E`, `A respawn S`, A the actor; each line is ended by a line feed. The numbers are
+/// decimal; A is below the count of the configuration's processors and others, the other numbers at
+/// most 2,147,483,647. Else `BadRecord` with the first line at fault. So the text of a history is
+/// read as that history.
+pub fn log(alloc: Global, text: &str, config: &Config) -> Result<Vec<Record>, BootError>
+    ensures history { IfOk result (λ records. IsHistory (config.now.cpus + config.now.others) text.now records.items) }
+    ensures fault { IfErr result (λ e. TellsFault (config.now.cpus + config.now.others) text.now e) }
+    ensures saved { (records : List Record) → AllByRecursion (IsSayable (config.now.cpus + config.now.others)) records → text.now ≡ history_text records
+        → MatchResult result (λ found. found.items ≡ records) (λ e. e ≡ NoMemory) }
+{
+    one_history();
+    history_again();
+    read_log(alloc, text.as_bytes(), config.cpus + config.others)
 }
