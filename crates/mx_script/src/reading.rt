@@ -20,7 +20,11 @@ pub trait ReadsLine {
 }
 
 /// What the lines of a text say, or `BadRecord` with the first line that says nothing.
-pub fn read_lines<R: ReadsLine>(alloc: Global, reader: &R, text: &[u8]) -> Result<Vec<R::Said>, BootError>
+pub fn read_lines<R: ReadsLine>(
+    alloc: Global,
+    reader: &R,
+    text: &[u8],
+) -> Result<Vec<R::Said>, BootError>
 where
     R::Said: Drop,
     ensures read { IfOk result (λ found. AreRead (R.says reader.now) (lines text.now) found.items) }
