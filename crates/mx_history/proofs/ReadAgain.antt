@@ -1,6 +1,6 @@
 -- The text of a history is read as that history.
-use Rattle.std.proofs.Common.{◌≡◌, ◌⊎◌, inl, inr, ℕ, suc, ◌<◌, ◌≤◌, ◌^◌, Bool, true, false, List, [], ◌∷◌, ◌++◌, Option, Some, None, refl, sym, ap, ap₂, ◌∙◌, arith, append_assoc}
-use Rattle.std.specs.Prelude.{map, codes, nat_lt, nat_le, if◌then◌else◌}
+use Rattle.std.proofs.Common.{◌≡◌, ◌⊎◌, inl, inr, ℕ, suc, ◌<◌, ◌≤◌, ◌^◌, Bool, true, false, cond, length, ◌+◌, List, [], ◌∷◌, ◌++◌, Option, Some, None, refl, sym, ap, ap₂, ◌∙◌, arith, append_assoc}
+use Rattle.std.specs.Prelude.{map, codes, nat_lt, nat_le, All}
 use Rattle.std.proofs.lemmas.Bool.Decides.{leb_tells}
 use Rattle.std.specs.Fmt.{decimal}
 use Rattle.std.specs.List.{flat_map, AllByRecursion}
@@ -15,7 +15,8 @@ use Rattle.mx_script.specs.Script.{actor_of, only_count, after_verb}
 use Rattle.mx_world.specs.declared.history.Record.{Record}
 use Rattle.mx_world.specs.declared.history.Recorded.{Recorded}
 use Rattle.mx_world.specs.declared.history.Recorded.TheVariants.{Take, Back, Line, Tick, Kill, Respawn}
-use Rattle.mx_history.specs.Text.{event_words, record_words, history_text, IsShort, IsSayable}
+use Rattle.mx_world.specs.History.{number_in, IsWritable}
+use Rattle.mx_history.specs.Text.{event_words, record_words, history_text}
 use Rattle.mx_history.specs.Log.{recorded_of, made_by, record_of, record_line, is_ended, IsHistory}
 
 -- what is known of words, numbers and verbs
@@ -27,7 +28,7 @@ pub record AreReadAgain : Type 0 where
   pub verb_word : (v : Verb) → is_word (verb_word v) ≡ true
   pub verb : (v : Verb) → verb_of (verb_word v) ≡ Some v
 
-chosen : {A : Type 0} (c : Bool) (a b : A) → c ≡ true → (if c then a else b) ≡ a
+chosen : {A : Type 0} (c : Bool) (a b : A) → c ≡ true → cond c a b ≡ a
 chosen true a b h = refl
 chosen false a b h = cc
 
@@ -55,8 +56,12 @@ text_is_ended (r ∷ rs) =
     ap is_ended (append_assoc (joined (record_words r)) (10 ∷ []) (history_text rs))
     ∙ ended_behind (joined (record_words r)) (history_text rs) (text_is_ended rs)
 
+by_recursion : (P : Record → Type 0) (xs : List Record) → All P xs → AllByRecursion P xs
+by_recursion P [] h = tt
+by_recursion P (x ∷ xs) h = (h 0 x (omega arith), by_recursion P xs (λ n d l. h (suc n) d (omega (arith, l))))
+
 module _ (k : AreReadAgain) where
-  event_words_are : (e : Recorded) → IsShort e → AreWords (event_words e)
+  event_words_are : (e : Recorded) → number_in e < 2 ^ 31 → AreWords (event_words e)
   event_words_are Take h = (k.verb_word verbs.Take, tt)
   event_words_are (Back n) h = (k.verb_word verbs.Back, (k.word n (omega (arith, h)), tt))
   event_words_are (Line n) h = (k.verb_word verbs.Line, (k.word n (omega (arith, h)), tt))
@@ -64,18 +69,18 @@ module _ (k : AreReadAgain) where
   event_words_are (Kill n) h = (k.verb_word verbs.Kill, (k.word n (omega (arith, h)), tt))
   event_words_are (Respawn n) h = (k.verb_word verbs.Respawn, (k.word n (omega (arith, h)), tt))
 
-  record_words_are : (actors : ℕ) (r : Record) → actors ≤ 256 → IsSayable actors r → AreWords (record_words r)
-  record_words_are actors r few h = (k.word r.actor (let a = h.0 in omega (arith, a, few)), event_words_are r.event h.1)
+  record_words_are : (actors : ℕ) (r : Record) → actors ≤ 256 → IsWritable actors r → AreWords (record_words r)
+  record_words_are actors r few h = (k.word r.actor (let a = h.actor in omega (arith, a, few)), event_words_are r.event h.number)
 
-  counted_again : (v : Verb) (n : ℕ) (f : ℕ → Recorded) → n ≤ 2147483647
+  counted_again : (v : Verb) (n : ℕ) (f : ℕ → Recorded) → n < 2 ^ 31
       → ((fs : List (List ℕ)) → recorded_of v fs ≡ (only_count fs >>= (λ m. Some (f m))))
       → after_verb recorded_of (verb_word v ∷ decimal n ∷ []) ≡ Some (f n)
   counted_again v n f h rows =
       ap (λ o. o >>= (λ u. recorded_of u (decimal n ∷ []))) (k.verb v)
       ∙ rows (decimal n ∷ [])
-      ∙ ap (λ o. o >>= (λ m. Some (f m))) (k.number 2147483647 n h (omega (arith, h)))
+      ∙ ap (λ o. o >>= (λ m. Some (f m))) (k.number 2147483647 n (omega (arith, h)) (omega (arith, h)))
 
-  recorded_again : (e : Recorded) → IsShort e → after_verb recorded_of (event_words e) ≡ Some e
+  recorded_again : (e : Recorded) → number_in e < 2 ^ 31 → after_verb recorded_of (event_words e) ≡ Some e
   recorded_again Take h = ap (λ o. o >>= (λ u. recorded_of u [])) (k.verb verbs.Take)
   recorded_again (Back n) h = counted_again verbs.Back n Back h (λ fs. refl)
   recorded_again (Line n) h = counted_again verbs.Line n Line h (λ fs. refl)
@@ -83,18 +88,18 @@ module _ (k : AreReadAgain) where
   recorded_again (Kill n) h = counted_again verbs.Kill n Kill h (λ fs. refl)
   recorded_again (Respawn n) h = counted_again verbs.Respawn n Respawn h (λ fs. refl)
 
-  record_again : (actors : ℕ) (r : Record) → actors ≤ 256 → IsSayable actors r → record_of actors (record_words r) ≡ Some r
+  record_again : (actors : ℕ) (r : Record) → actors ≤ 256 → IsWritable actors r → record_of actors (record_words r) ≡ Some r
   record_again actors r few h =
       ap (λ o. o >>= (λ a. after_verb recorded_of (event_words r.event) >>= (λ e. made_by actors a e)))
-      (k.number 255 r.actor (let a = h.0 in omega (arith, a, few)) (let a = h.0 in omega (arith, a, few)))
-      ∙ ap (λ o. o >>= (λ e. made_by actors r.actor e)) (recorded_again r.event h.1)
-      ∙ chosen (nat_lt r.actor actors) (Some r) None (below_true r.actor actors h.0)
+      (k.number 255 r.actor (let a = h.actor in omega (arith, a, few)) (let a = h.actor in omega (arith, a, few)))
+      ∙ ap (λ o. o >>= (λ e. made_by actors r.actor e)) (recorded_again r.event h.number)
+      ∙ chosen (nat_lt r.actor actors) (Some r) None (below_true r.actor actors h.actor)
 
-  all_words : (actors : ℕ) (records : List Record) → actors ≤ 256 → AllByRecursion (IsSayable actors) records → AllByRecursion AreWords (map record_words records)
+  all_words : (actors : ℕ) (records : List Record) → actors ≤ 256 → AllByRecursion (IsWritable actors) records → AllByRecursion AreWords (map record_words records)
   all_words actors [] few h = tt
   all_words actors (r ∷ rs) few h = (record_words_are actors r few h.0, all_words actors rs few h.1)
 
-  all_read : (actors : ℕ) (records : List Record) → actors ≤ 256 → AllByRecursion (IsSayable actors) records
+  all_read : (actors : ℕ) (records : List Record) → actors ≤ 256 → AllByRecursion (IsWritable actors) records
       → map (record_line actors) (map joined (map record_words records)) ≡ map Some records
   all_read actors [] few h = refl
   all_read actors (r ∷ rs) few h =
@@ -102,7 +107,8 @@ module _ (k : AreReadAgain) where
       (ap (record_of actors) (k.fields (record_words r) (record_words_are actors r few h.0)) ∙ record_again actors r few h.0)
       (all_read actors rs few h.1)
 
-  pub read_again : (actors : ℕ) (records : List Record) → actors ≤ 256 → AllByRecursion (IsSayable actors) records → IsHistory actors (history_text records) records
-  read_again actors records few h =
+  pub read_again : (actors : ℕ) (records : List Record) → actors ≤ 256 → All (IsWritable actors) records → IsHistory actors (history_text records) records
+  read_again actors records few all =
+      let h = by_recursion (IsWritable actors) records all in
       (ap (map (record_line actors)) (ap lines (text_of_words records) ∙ k.lines (map record_words records) (all_words actors records few h))
       ∙ all_read actors records few h, text_is_ended records)

@@ -1,5 +1,5 @@
 -- The text of a history (our own): a record a line, the fields parted by one space, each line ended by a line feed.
-use Rattle.std.specs.Prelude.{ℕ, ◌<◌, ◌≤◌, List, [], ◌∷◌, ◌++◌, codes, ⊤}
+use Rattle.std.specs.Prelude.{ℕ, List, [], ◌∷◌, ◌++◌, codes}
 use Rattle.std.specs.List.{flat_map}
 use Rattle.std.specs.Fmt.{decimal}
 use Rattle.mx_script.specs.declared.verb.Verb.TheVariants as verbs
@@ -22,15 +22,3 @@ record_words r = decimal r.actor ∷ event_words r.event
 
 abbrev pub history_text : List Record → List ℕ
 history_text records = flat_map (λ r. joined (record_words r) ++ codes "\n") records
-
--- the number of an event, if it has one, is one that a history's text may have
-abbrev pub IsShort : Recorded → Type 0
-IsShort (Back n) = n ≤ 2147483647
-IsShort (Line l) = l ≤ 2147483647
-IsShort (Kill e) = e ≤ 2147483647
-IsShort (Respawn s) = s ≤ 2147483647
-IsShort _ = ⊤
-
--- the actor is one of so many, and the number is one that a history's text may have
-abbrev pub IsSayable : ℕ → Record → Type 0
-IsSayable actors r = (r.actor < actors) × IsShort r.event

@@ -1,9 +1,9 @@
 //! Laws of histories' texts.
 
-ghost use Rattle.std.specs.Prelude.{◌≡◌, ◌≤◌, ℕ, List};
-ghost use Rattle.std.specs.List.{AllByRecursion};
+ghost use Rattle.std.specs.Prelude.{◌≡◌, ◌≤◌, ℕ, List, All};
 ghost use Rattle.mx_world.specs.declared.history.Record.{Record};
-ghost use Rattle.mx_history.specs.Text.{history_text, IsSayable};
+ghost use Rattle.mx_world.specs.History.{IsWritable};
+ghost use Rattle.mx_history.specs.Text.{history_text};
 ghost use Rattle.mx_history.specs.Log.{IsHistory, IsFault};
 
 use mx_script::{number_again, verb_again, words_again};
@@ -16,7 +16,7 @@ pub fn one_history()
 
 /// The text of a history is read as that history.
 pub fn history_again()
-    ensures { (actors : ℕ) (records : List Record) → actors ≤ 256 → AllByRecursion (IsSayable actors) records → IsHistory actors (history_text records) records }
+    ensures { (actors : ℕ) (records : List Record) → actors ≤ 256 → All (IsWritable actors) records → IsHistory actors (history_text records) records }
 {
     words_again();
     number_again();
@@ -25,7 +25,7 @@ pub fn history_again()
 
 /// The text of a history is that of no other.
 pub fn one_text()
-    ensures { (a b : List Record) → AllByRecursion (IsSayable 256) a → AllByRecursion (IsSayable 256) b → history_text a ≡ history_text b → a ≡ b }
+    ensures { (a b : List Record) → All (IsWritable 256) a → All (IsWritable 256) b → history_text a ≡ history_text b → a ≡ b }
 {
     history_again();
     one_history();

@@ -1,10 +1,10 @@
 //! Reads the text of a history.
 
-ghost use Rattle.std.specs.Prelude.{◌≡◌, ◌+◌, List, IfOk, IfErr, MatchResult};
-ghost use Rattle.std.specs.List.{AllByRecursion};
+ghost use Rattle.std.specs.Prelude.{◌≡◌, ◌+◌, List, All, IfOk, IfErr, MatchResult};
 ghost use Rattle.mx_fields.specs.declared.error.BootError.TheVariants.{NoMemory};
 ghost use Rattle.mx_world.specs.declared.history.Record.{Record};
-ghost use Rattle.mx_history.specs.Text.{history_text, IsSayable};
+ghost use Rattle.mx_world.specs.History.{IsWritable};
+ghost use Rattle.mx_history.specs.Text.{history_text};
 ghost use Rattle.mx_fields.specs.Fields.{fields};
 ghost use Rattle.mx_script.specs.Script.{after_verb};
 ghost use Rattle.mx_history.specs.Log.{recorded_of, made_by, record_line, is_ended, IsHistory, TellsFault};
@@ -108,7 +108,7 @@ fn read_log(alloc: Global, text: &[u8], actors: u8) -> Result<Vec<Record>, BootE
 pub fn log(alloc: Global, text: &str, config: &Config) -> Result<Vec<Record>, BootError>
     ensures history { IfOk result (λ records. IsHistory (config.now.cpus + config.now.others) text.now records.items) }
     ensures fault { IfErr result (λ e. TellsFault (config.now.cpus + config.now.others) text.now e) }
-    ensures saved { (records : List Record) → AllByRecursion (IsSayable (config.now.cpus + config.now.others)) records → text.now ≡ history_text records
+    ensures saved { (records : List Record) → All (IsWritable (config.now.cpus + config.now.others)) records → text.now ≡ history_text records
         → MatchResult result (λ found. found.items ≡ records) (λ e. e ≡ NoMemory) }
 {
     one_history();
