@@ -21,12 +21,12 @@ use Rattle.mx_history.specs.Log.{recorded_of, made_by, record_of, record_line, i
 
 -- what is known of words, numbers and verbs
 pub record AreReadAgain : Type 0 where
-  pub fields : (ws : List (List ℕ)) → AreWords ws → fields (joined ws) ≡ ws
-  pub lines : (lists : List (List (List ℕ))) → AllByRecursion AreWords lists → lines (lines_of_words lists) ≡ map joined lists
-  pub word : (n : ℕ) → n < 2 ^ 64 → is_word (decimal n) ≡ true
-  pub number : (limit n : ℕ) → n ≤ limit → n < 2 ^ 64 → number_up_to limit 10 (decimal n) ≡ Some n
-  pub verb_word : (v : Verb) → is_word (verb_word v) ≡ true
-  pub verb : (v : Verb) → verb_of (verb_word v) ≡ Some v
+  pub fields_again : (ws : List (List ℕ)) → AreWords ws → fields (joined ws) ≡ ws
+  pub lines_again : (lists : List (List (List ℕ))) → AllByRecursion AreWords lists → lines (lines_of_words lists) ≡ map joined lists
+  pub word_again : (n : ℕ) → n < 2 ^ 64 → is_word (decimal n) ≡ true
+  pub number_again : (limit n : ℕ) → n ≤ limit → n < 2 ^ 64 → number_up_to limit 10 (decimal n) ≡ Some n
+  pub verb_word_again : (v : Verb) → is_word (verb_word v) ≡ true
+  pub verb_again : (v : Verb) → verb_of (verb_word v) ≡ Some v
 
 chosen : {A : Type 0} (c : Bool) (a b : A) → c ≡ true → cond c a b ≡ a
 chosen true a b h = refl
@@ -62,36 +62,36 @@ by_recursion P (x ∷ xs) h = (h 0 x (omega arith), by_recursion P xs (λ n d l.
 
 module _ (k : AreReadAgain) where
   event_words_are : (e : Recorded) → number_in e < 2 ^ 31 → AreWords (event_words e)
-  event_words_are Take h = (k.verb_word verbs.Take, tt)
-  event_words_are (Back n) h = (k.verb_word verbs.Back, (k.word n (omega (arith, h)), tt))
-  event_words_are (Line n) h = (k.verb_word verbs.Line, (k.word n (omega (arith, h)), tt))
-  event_words_are Tick h = (k.verb_word verbs.Tick, tt)
-  event_words_are (Kill n) h = (k.verb_word verbs.Kill, (k.word n (omega (arith, h)), tt))
-  event_words_are (Respawn n) h = (k.verb_word verbs.Respawn, (k.word n (omega (arith, h)), tt))
+  event_words_are Take h = (k.verb_word_again verbs.Take, tt)
+  event_words_are (Back n) h = (k.verb_word_again verbs.Back, (k.word_again n (omega (arith, h)), tt))
+  event_words_are (Line n) h = (k.verb_word_again verbs.Line, (k.word_again n (omega (arith, h)), tt))
+  event_words_are Tick h = (k.verb_word_again verbs.Tick, tt)
+  event_words_are (Kill n) h = (k.verb_word_again verbs.Kill, (k.word_again n (omega (arith, h)), tt))
+  event_words_are (Respawn n) h = (k.verb_word_again verbs.Respawn, (k.word_again n (omega (arith, h)), tt))
 
   record_words_are : (actors : ℕ) (r : Record) → actors ≤ 256 → IsWritable actors r → AreWords (record_words r)
-  record_words_are actors r few h = (k.word r.actor (let a = h.actor in omega (arith, a, few)), event_words_are r.event h.number)
+  record_words_are actors r few h = (k.word_again r.actor (let a = h.actor in omega (arith, a, few)), event_words_are r.event h.number)
 
   counted_again : (v : Verb) (n : ℕ) (f : ℕ → Recorded) → n < 2 ^ 31
       → ((fs : List (List ℕ)) → recorded_of v fs ≡ (only_count fs >>= (λ m. Some (f m))))
       → after_verb recorded_of (verb_word v ∷ decimal n ∷ []) ≡ Some (f n)
   counted_again v n f h rows =
-      ap (λ o. o >>= (λ u. recorded_of u (decimal n ∷ []))) (k.verb v)
+      ap (λ o. o >>= (λ u. recorded_of u (decimal n ∷ []))) (k.verb_again v)
       ∙ rows (decimal n ∷ [])
-      ∙ ap (λ o. o >>= (λ m. Some (f m))) (k.number 2147483647 n (omega (arith, h)) (omega (arith, h)))
+      ∙ ap (λ o. o >>= (λ m. Some (f m))) (k.number_again 2147483647 n (omega (arith, h)) (omega (arith, h)))
 
   recorded_again : (e : Recorded) → number_in e < 2 ^ 31 → after_verb recorded_of (event_words e) ≡ Some e
-  recorded_again Take h = ap (λ o. o >>= (λ u. recorded_of u [])) (k.verb verbs.Take)
+  recorded_again Take h = ap (λ o. o >>= (λ u. recorded_of u [])) (k.verb_again verbs.Take)
   recorded_again (Back n) h = counted_again verbs.Back n Back h (λ fs. refl)
   recorded_again (Line n) h = counted_again verbs.Line n Line h (λ fs. refl)
-  recorded_again Tick h = ap (λ o. o >>= (λ u. recorded_of u [])) (k.verb verbs.Tick)
+  recorded_again Tick h = ap (λ o. o >>= (λ u. recorded_of u [])) (k.verb_again verbs.Tick)
   recorded_again (Kill n) h = counted_again verbs.Kill n Kill h (λ fs. refl)
   recorded_again (Respawn n) h = counted_again verbs.Respawn n Respawn h (λ fs. refl)
 
   record_again : (actors : ℕ) (r : Record) → actors ≤ 256 → IsWritable actors r → record_of actors (record_words r) ≡ Some r
   record_again actors r few h =
       ap (λ o. o >>= (λ a. after_verb recorded_of (event_words r.event) >>= (λ e. made_by actors a e)))
-      (k.number 255 r.actor (let a = h.actor in omega (arith, a, few)) (let a = h.actor in omega (arith, a, few)))
+      (k.number_again 255 r.actor (let a = h.actor in omega (arith, a, few)) (let a = h.actor in omega (arith, a, few)))
       ∙ ap (λ o. o >>= (λ e. made_by actors r.actor e)) (recorded_again r.event h.number)
       ∙ chosen (nat_lt r.actor actors) (Some r) None (below_true r.actor actors h.actor)
 
@@ -104,11 +104,11 @@ module _ (k : AreReadAgain) where
   all_read actors [] few h = refl
   all_read actors (r ∷ rs) few h =
       ap₂ (λ o os. o ∷ os)
-      (ap (record_of actors) (k.fields (record_words r) (record_words_are actors r few h.0)) ∙ record_again actors r few h.0)
+      (ap (record_of actors) (k.fields_again (record_words r) (record_words_are actors r few h.0)) ∙ record_again actors r few h.0)
       (all_read actors rs few h.1)
 
   pub read_again : (actors : ℕ) (records : List Record) → actors ≤ 256 → All (IsWritable actors) records → IsHistory actors (history_text records) records
   read_again actors records few all =
       let h = by_recursion (IsWritable actors) records all in
-      (ap (map (record_line actors)) (ap lines (text_of_words records) ∙ k.lines (map record_words records) (all_words actors records few h))
+      (ap (map (record_line actors)) (ap lines (text_of_words records) ∙ k.lines_again (map record_words records) (all_words actors records few h))
       ∙ all_read actors records few h, text_is_ended records)

@@ -58,6 +58,7 @@ fn made_by(actors: u8, actor: u8, event: Recorded) -> Option<Record>
 }
 
 /// Reads the records of so many actors.
+#[derive(Drop)]
 struct RecordReader {
     actors: u8,
 }

@@ -19,20 +19,20 @@ abbrev pub spaced : List (List ℕ) → List ℕ
 spaced ws = flat_map (λ (w : List ℕ). 32 ∷ w) ws
 
 -- whom a process receives from
-abbrev pub partner_word : World → Partner → List ℕ
+unfoldable pub partner_word : World → Partner → List ℕ
 partner_word w Any = codes "any"
 partner_word w System = codes "-2"
 partner_word w (Only Hardware) = codes "-1"
 partner_word w (Only Clock) = codes "-3"
 partner_word w (Only (Slot s)) = decimal (endpoint_of w s)
 
-abbrev pub cause_words : Cause → List (List ℕ)
+unfoldable pub cause_words : Cause → List (List ℕ)
 cause_words Exit = codes "exit" ∷ []
 cause_words Kill = codes "kill" ∷ []
 cause_words (Fault v) = codes "fault" ∷ decimal v ∷ []
 
 -- whom a blocked send is for
-abbrev pub receiver_word : World → ℕ → List ℕ
+unfoldable pub receiver_word : World → ℕ → List ℕ
 receiver_word w s = decimal (endpoint_of w (unwrap_or (next_of s w.waits) s))
 
 -- what the process of a slot does; no process is at home once an event is over

@@ -56,6 +56,7 @@ pub fn endpoint_of(table: &Table, slot: Slot) -> u32
     }
 }
 
+#[tactic(auto, unfolding(crate::specs::Report::partner_word))]
 fn push_partner(out: &mut Vec<u8>, table: &Table, partner: Partner) -> Result<(), AllocError>
     ensures { OnOk result (out.new.items ≡ out.old.items ++ 32 ∷ partner_word table.now partner) }
 {
@@ -68,6 +69,7 @@ fn push_partner(out: &mut Vec<u8>, table: &Table, partner: Partner) -> Result<()
     }
 }
 
+#[tactic(auto, unfolding(crate::specs::Report::cause_words))]
 fn push_cause(out: &mut Vec<u8>, cause: Cause) -> Result<(), AllocError>
     ensures { OnOk result (out.new.items ≡ out.old.items ++ spaced (cause_words cause)) }
 {
@@ -82,6 +84,7 @@ fn push_cause(out: &mut Vec<u8>, cause: Cause) -> Result<(), AllocError>
 }
 
 /// Appends whom a blocked send is for.
+#[tactic(auto, unfolding(crate::specs::Report::receiver_word))]
 fn push_receiver(out: &mut Vec<u8>, table: &Table, slot: Slot) -> Result<(), AllocError>
     ensures { OnOk result (out.new.items ≡ out.old.items ++ 32 ∷ receiver_word table.now slot) }
 {
