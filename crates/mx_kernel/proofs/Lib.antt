@@ -1,4 +1,5 @@
 pub mod BootLemmas
 pub mod FrameLemmas
+pub mod ServingLemmas
 pub mod HoldsLemmas
 pub mod ReplayLemmas

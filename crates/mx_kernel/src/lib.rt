@@ -5,5 +5,6 @@ mod booting;
 mod kernel;
 mod present;
 mod serving;
+mod stub;
 
 pub use kernel::Kernel;

@@ -18,7 +18,8 @@ use crate::serving::{come_home, kill, send_out};
 use mx_image::Stop;
 use mx_kcall::{raise, tick};
 use mx_proc::{Slot, Table};
-use mx_respawn::{Service, is_worn, respawn};
+use crate::stub::{is_worn, respawn};
+use mx_respawn::Service;
 use mx_sched::pick;
 use mx_world::{Answer, Event, Lease, Out, Refusal};
 use std::marker::Model;
@@ -45,8 +46,7 @@ impl Model for Present {
 }
 
 /// How many processors hold a process.
-fn count_out(leases: &[Option<Lease>]) -> u32
-    requires { length leases.now < 2 ^ 32 }
+fn count_out(leases: &[Option<Lease>]) -> usize
     ensures { result ≡ out_count leases.now }
 {
     let mut count = 0;
@@ -98,14 +98,14 @@ impl Present {
     }
 
     /// The free records.
-    fn free(&self) -> u32
+    fn free(&self) -> usize
         ensures { result ≡ free_records self.now }
     {
-        self.capacity - (self.records + count_out(self.leases.as_slice()))
+        self.capacity as usize - (self.records as usize + count_out(self.leases.as_slice()))
     }
 
     /// Fewer records are free than an event needs.
-    fn if_full(&self, needed: u32) -> Result<(), Refusal>
+    fn if_full(&self, needed: usize) -> Result<(), Refusal>
         ensures ok { OnOk result ((if_full (free_records self.now) needed ≡ None) × (needed ≤ free_records self.now)) }
         ensures err { IfErr result (λ refusal. if_full (free_records self.now) needed ≡ Some refusal) }
     {

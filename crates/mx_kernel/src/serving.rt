@@ -1,12 +1,13 @@
 //! What events do to the table.
 
-ghost use Rattle.std.specs.Prelude.{◌≡◌, ◌≢◌, ℕ, ◌+◌, ◌<◌, ◌≤◌, ◌^◌, true, length};
-ghost use Rattle.mx_proc.specs.Frame.{frame, reframed};
+ghost use Rattle.std.specs.Prelude.{◌≡◌, ◌+◌, ◌<◌, ◌≤◌, ◌^◌, true, length};
+ghost use Rattle.mx_proc.specs.Frame.{frame};
 ghost use Rattle.mx_proc.specs.States.{is_ready, is_out};
 ghost use Rattle.mx_proc.specs.World.{process_at};
 ghost use Rattle.mx_proc.specs.declared.process.State.TheVariants.{Home};
 ghost use Rattle.mx_ipc.specs.Calls.{trap_answer};
-ghost use Rattle.mx_world.specs.Move.{sent_out, trap_acted, resumed, come_home, returned, is_doomed, killed};
+ghost use Rattle.mx_world.specs.Move.{sent_out, trap_acted, resumed, come_home, returned, killed};
+ghost use Rattle.mx_kernel.specs.Serving.{IsReturned, IsSent, Settled, SettledBut, WritesAtMostOne};
 
 use mx_exec::Image;
 use mx_image::Stop;
@@ -18,13 +19,13 @@ use mx_sched::enqueue;
 use mx_world::Out;
 
 /// Moves the image of a ready process out.
-#[tactic(auto, unfolding(mx_world::specs::Move::sent_out))]
+#[tactic(auto, unfolding(mx_world::specs::Move::sent_out), using(crate::proofs::ServingLemmas::is_sent))]
 pub(crate) fn send_out(table: &mut Table, slot: Slot) -> Image
     requires slot { slot < length table.old.slots }
     requires ready { is_ready (process_at table.old slot).state ≡ true }
     ensures value { table.new ≡ sent_out table.old slot }
     ensures image { result ≡ (process_at table.old slot).image }
-    ensures frame { frame table.new ≡ reframed (frame table.old) slot (process_at table.new slot) }
+    ensures sent { IsSent table.old table.new slot }
 {
     table.unqueue(slot);
     table.lend(slot)
@@ -37,7 +38,8 @@ fn act(table: &mut Table, slot: Slot)
     requires room { table.old.devices.console.count + 1 < 2 ^ 32 }
     ensures value { table.new ≡ trap_acted table.old slot (trap_answer table.old slot) }
     ensures frame { frame table.new ≡ record (frame table.old) { devices = table.new.devices } }
-    ensures console { table.new.devices.console.count ≤ table.old.devices.console.count + 1 }
+    ensures console { WritesAtMostOne table.old table.new }
+    ensures settled { SettledBut slot table.old → Settled table.new }
 {
     match trap(table, slot) {
         TrapAnswer::Done => {}
@@ -54,7 +56,8 @@ fn resume(table: &mut Table, slot: Slot, doomed: bool, stop: Stop)
     requires room { table.old.devices.console.count + 1 < 2 ^ 32 }
     ensures value { table.new ≡ resumed table.old slot doomed stop }
     ensures frame { frame table.new ≡ record (frame table.old) { devices = table.new.devices } }
-    ensures console { table.new.devices.console.count ≤ table.old.devices.console.count + 1 }
+    ensures console { WritesAtMostOne table.old table.new }
+    ensures settled { SettledBut slot table.old → Settled table.new }
 {
     if doomed {
         die(table, slot, Cause::Kill);
@@ -76,6 +79,7 @@ pub(crate) fn come_home(table: &mut Table, slot: Slot, out: Out)
     requires steps { (process_at table.old slot).steps + out.count < 2 ^ 64 }
     requires room { table.old.devices.console.count + 1 < 2 ^ 32 }
     ensures value { table.new ≡ returned table.old (record { slot = slot; out = out }) }
+    ensures returned { IsReturned table.old table.new slot out }
 {
     let doomed = matches!(table.process(slot).state, State::Doomed);
     let Out {
@@ -95,6 +99,8 @@ pub(crate) fn kill(table: &mut Table, slot: Slot)
     requires slot { slot < length table.old.slots }
     ensures value { table.new ≡ killed table.old slot }
     ensures frame { frame table.new ≡ record (frame table.old) { devices = table.new.devices } }
+    ensures console { WritesAtMostOne table.old table.new }
+    ensures settled { Settled table.old → Settled table.new }
 {
     match table.process(slot).state {
         State::Out | State::Doomed => table.doom(slot),
