@@ -1,2 +1,4 @@
+mod Faults
+mod Ended
 mod ReadAgain
 mod OneHistory

@@ -89,12 +89,12 @@ fn is_ended(text: &[u8]) -> bool
 }
 
 /// The records of a text, or its first line at fault.
-fn read_log(alloc: Global, text: &[u8], actors: u8) -> Result<Vec<Record>, BootError>
+fn read_log(alloc: Global, text: &str, actors: u8) -> Result<Vec<Record>, BootError>
     ensures history { IfOk result (λ records. IsHistory actors text.now records.items) }
     ensures fault { IfErr result (λ e. TellsFault actors text.now e) }
 {
-    let records = read_lines(alloc, &RecordReader { actors }, text)?;
-    if is_ended(text) {
+    let records = read_lines(alloc, &RecordReader { actors }, text.as_bytes())?;
+    if is_ended(text.as_bytes()) {
         Ok(records)
     } else {
         Err(BootError::BadRecord(records.len()))
@@ -114,5 +114,5 @@ pub fn log(alloc: Global, text: &str, config: &Config) -> Result<Vec<Record>, Bo
 {
     one_history();
     history_again();
-    read_log(alloc, text.as_bytes(), config.cpus + config.others)
+    read_log(alloc, text, config.cpus + config.others)
 }

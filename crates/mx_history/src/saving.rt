@@ -67,13 +67,13 @@ fn push_event(line: &mut Line, event: Recorded)
 }
 
 /// The line of a record, with its line feed.
-fn line_of(record: Record) -> Line
-    ensures { result.items ≡ joined (record_words record) ++ codes "\n" }
+fn line_of(entry: Record) -> Line
+    ensures { result.items ≡ joined (record_words entry) ++ codes "\n" }
 {
     let mut line = ArrayVec::new();
-    push_number(&mut line, u32::from(record.actor));
+    push_number(&mut line, u32::from(entry.actor));
     line.push(b' ');
-    push_event(&mut line, record.event);
+    push_event(&mut line, entry.event);
     line.push(b'\n');
     line
 }
@@ -101,8 +101,8 @@ pub fn save_records<S: Sink>(records: &[Record], sink: &mut S) -> Result<(), Sav
     ensures taken { OnOk result (S.taken sink.new ≡ S.taken sink.old ++ history_text records.now) }
     ensures whole { OnOk result (S.has_failed sink.new ≡ false) }
 {
-    for record in records {
-        put_all(sink, line_of(*record).as_slice())?;
+    for entry in records {
+        put_all(sink, line_of(*entry).as_slice())?;
     }
     Ok(())
 }
