@@ -1,4 +1,3 @@
-mod Faults
 mod Ended
 mod ReadAgain
 mod OneHistory

@@ -109,6 +109,8 @@ module _ (k : AreReadAgain) where
 
   pub read_again : (actors : ℕ) (records : List Record) → actors ≤ 256 → All (IsWritable actors) records → IsHistory actors (history_text records) records
   read_again actors records few all =
-      let h = by_recursion (IsWritable actors) records all in
-      (ap (map (record_line actors)) (ap lines (text_of_words records) ∙ k.lines_again (map record_words records) (all_words actors records few h))
-      ∙ all_read actors records few h, text_is_ended records)
+      let h = by_recursion (IsWritable actors) records all in (
+        ap (map (record_line actors)) (ap lines (text_of_words records) ∙ k.lines_again (map record_words records) (all_words actors records few h))
+            ∙ all_read actors records few h,
+        text_is_ended records,
+      )
