@@ -63,3 +63,7 @@ first-more ss s low =
     let slots : map first_process (ss ++ s ∷ []) ≡ map first_process ss ++ first_process s ∷ [] = map-append first_process ss (s ∷ []) in
     ap (λ l. let w : World = record no_world { slots = l; ready = map g (range_with_len 0 16) } in w) slots
     ∙ ap (λ r. let w : World = record no_world { slots = map first_process ss ++ first_process s ∷ []; ready = r } in w) ready
+
+pub first-used : (ss : List Service) → length (first_table ss).slots ≡ length ss
+unfolding first_table
+first-used ss = length-map ss first_process

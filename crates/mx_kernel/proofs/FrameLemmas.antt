@@ -1,11 +1,12 @@
 -- What frames say of each slot.
-use Rattle.std.proofs.Common.{◌≡◌, ◌≢◌, ◌∙◌, ℕ, zero, suc, ◌+◌, List, [], ◌∷◌, map, length, Option, Some, None, get_or, slice_set, get_or-set_other, length-set, refl, ap, sym, arith}
+use Rattle.std.proofs.Common.{◌≡◌, ◌≢◌, ◌∙◌, ℕ, zero, suc, ◌+◌, ◌≤◌, List, [], ◌∷◌, map, length, Option, Some, None, get_or, slice_set, get_or-set_other, length-set, refl, ap, sym, arith}
 use Rattle.std.proofs.lemmas.List.{length-map}
 use Rattle.mx_proc.specs.declared.process.Process.{Process}
 use Rattle.mx_proc.specs.declared.devices.Devices.{Devices}
+use Rattle.mx_proc.specs.Console.{Written}
 use Rattle.mx_proc.specs.Frame.{Frame, Fixed, fixed_of, loan_of, frame, reframed}
 use Rattle.mx_proc.specs.World.{World, nobody, process_at}
-use Rattle.mx_kernel.specs.Serving.{KeepsBut, Keeps}
+use Rattle.mx_kernel.specs.Serving.{KeepsBut, Keeps, WritesAtMostOne}
 
 get_or-mapped : {X Y : Type 0} (f : X → Y) (xs : List X) (i : ℕ) (d : X) → get_or (map f xs) i (f d) ≡ f (get_or xs i d)
 get_or-mapped f [] i d = refl
@@ -81,3 +82,20 @@ then_but s t u v a b = record {
 
 pub but_all : (s : ℕ) (t u : World) → Keeps t u → KeepsBut s t u
 but_all s t u k = record { fixed = λ q n. k.fixed q; loans = λ q n. k.loans q; used = k.used }
+
+-- a frame that stays has its devices
+pub kept_frame : (t u : World) → frame u ≡ frame t → frame u ≡ (let f : Frame = record (frame t) { devices = u.devices } in f)
+unfolding frame
+kept_frame t u e = ap (λ (f : Frame). let g : Frame = record f { devices = u.devices } in g) e
+
+pub same_written : (t u : World) → frame u ≡ frame t → WritesAtMostOne t u
+same_written t u e = let d : u.devices.console.count ≡ t.devices.console.count = ap (λ (d : Devices). d.console.count) (same_devices t u (frame t) e refl) in omega (arith, d)
+
+pub uptime_is : (t u : World) (n : ℕ) → frame u ≡ (let f : Frame = record (frame t) { uptime = n } in f) → u.uptime ≡ n
+uptime_is t u n e = sym (uptime-of u) ∙ ap (λ (f : Frame). f.uptime) e
+
+pub uptime_written : (t u : World) (n : ℕ) → frame u ≡ (let f : Frame = record (frame t) { uptime = n } in f) → WritesAtMostOne t u
+uptime_written t u n e = let d : u.devices.console.count ≡ t.devices.console.count = ap (λ (d : Devices). d.console.count) (same_devices t u (record (frame t) { uptime = n }) e refl) in omega (arith, d)
+
+pub same_console : (t u : World) → u.devices.console ≡ t.devices.console → WritesAtMostOne t u
+same_console t u e = let d : u.devices.console.count ≡ t.devices.console.count = ap (λ (c : Written). c.count) e in omega (arith, d)

@@ -7,6 +7,8 @@ use Rattle.mx_image.specs.declared.runs.Stop.TheVariants.{Spent}
 use Rattle.mx_load.specs.Load.{IsLoadedFrom}
 use Rattle.mx_proc.specs.Endpoints.{is_alive}
 use Rattle.mx_proc.specs.Queues.{picked}
+use Rattle.mx_proc.specs.Sound.{Sound}
+use Rattle.mx_proc.specs.declared.process.Process.{Process}
 use Rattle.mx_proc.specs.World.{World, process_at}
 use Rattle.mx_respawn.specs.declared.service.Service.{Service}
 use Rattle.mx_kcall.specs.Refusals.{owner_of}
@@ -24,12 +26,13 @@ use Rattle.mx_world.specs.Boot.{booted_with}
 use Rattle.mx_world.specs.Held.{held_run, IsBack}
 use Rattle.mx_world.specs.History.{Kept, AreAccepted, IsWritable, events_of, unfolded, after_events, replay, with_record}
 use Rattle.mx_world.specs.Move.{event_refusal, event_answer, after_event, after_take, after_back, after_line, after_respawn, if_full, line_refusal, kill_refusal, respawn_refusal, take_refusal, back_refusal, noted, with_held, sent_out, lent_of, returned}
-use Rattle.mx_world.specs.Sound.{lease_of, lease_at}
+use Rattle.mx_world.specs.Sound.{lease_of, lease_at, IsSound}
 use Rattle.mx_world.specs.Steps.{StepsTo}
 use Rattle.mx_world.specs.Whole.{Whole, Lent, held_by, out_count, free}
 use Rattle.mx_kernel.specs.Agrees.{Agrees, IsFresh, IsAccepted, IsRefused}
 use Rattle.mx_kernel.specs.Situation.{Situation, situation_of, free_records, on_to, with_taken, with_returned, refusal_to_take, HasTaken, HasActed, refusal_to, raised_by, respawned_by, table_after, answer_to, is_for_all, recorded_as}
 use Rattle.mx_kernel.proofs.HoldsLemmas.{holds_in}
+use Rattle.mx_kernel.proofs.PresentLemmas.{HoldsOf, ready_loan}
 
 -- ---- one record more
 
@@ -45,8 +48,11 @@ accepted-append : (w : Whole) (xs ys : List (ℕ × Event)) → AreAccepted w xs
 accepted-append w [] ys a b = b
 accepted-append w (x ∷ xs) ys a b = (a.0, accepted-append (after_event w x.0 x.1) xs ys a.1 b)
 
+all-one : {X : Type 0} (P : X → Type 0) (x : X) → P x → All P (x ∷ [])
+all-one P x h = (h, tt)
+
 all-more : {X : Type 0} (P : X → Type 0) (xs : List X) (x : X) → All P xs → P x → All P (xs ++ x ∷ [])
-all-more P [] x a h = (h, tt)
+all-more P [] x a h = all-one P x h
 all-more P (y ∷ ys) x a h = (a.0, all-more P ys x a.1 h)
 
 length-more : {X : Type 0} (xs : List X) (x : X) → length (xs ++ x ∷ []) ≡ length xs + 1
@@ -64,7 +70,7 @@ accepted-recorded k a x h e = subst (λ l. AreAccepted k.boot l) (sym (unfold-la
   (accepted-append k.boot (unfolded k.history) (events_of a x ++ []) h (accepted-append (after_events k.boot (unfolded k.history)) (events_of a x) [] e tt))
 
 -- how many actors there are
-abbrev actors_of : Whole → ℕ
+abbrev pub actors_of : Whole → ℕ
 actors_of w = length w.cpus + w.others
 
 -- THE STEP from one record to the next
@@ -226,9 +232,10 @@ take_lent d n room k m a s o h taken same =
       ap (λ (d : Situation). (lent_of d.table s).out) (sym h.present) ∙ sym taken.out)
 
 -- IsLoadedFrom of each image that is at home comes from what always holds
-pub take_agrees : (d n : Situation) (room more : ℕ) (k : Kept) (a s : ℕ) (o : Out) → Agrees d room k → HasTaken d n a s o → ((v : Service) → slice_get d.services s ≡ Some v → IsLoadedFrom (process_at d.table s).image v.program)
+pub take_agrees : (d n : Situation) (room more : ℕ) (k : Kept) (a s : ℕ) (o : Out) → Agrees d room k → HasTaken d n a s o → HoldsOf d
     → IsWritable (actors_of k.boot) (record { actor = a; event = recorded.Take }) → room ≤ more → Agrees n more (with_record k a recorded.Take)
-take_agrees d n room more k a s o h taken loaded written bigger =
+take_agrees d n room more k a s o h taken holds written bigger =
+    let loaded : (v : Service) → slice_get d.services s ≡ Some v → IsLoadedFrom (process_at d.table s).image v.program = λ v g. holds.loaded s v g (ready_loan (process_at d.table s) taken.ready) in
     let w = replay k in
     let first : picked w.table.ready ≡ Some s = ap (λ (d : Situation). picked d.table.ready) (sym h.present) ∙ taken.first in
     let l : Lent = lent_of w.table s in
@@ -298,6 +305,9 @@ back_world d room k n m a l o v h at s same =
     ap replay same ∙ replay-recorded k a (recorded.Back o.count) ∙ after-append (replay k) (replicate o.count (a, events.Step)) ((a, events.Back) ∷ [])
     ∙ ap (λ w. after_event w a events.Back) s.after ∙ ap (λ k. after_event (with_held (replay k) a (Some (record l { out = o }))) a events.Back) v
 
+nothing : (m : Lent) → None ≡ Some m → ⊥
+nothing m e = cc
+
 pub back_agrees : (d n : Situation) (room more : ℕ) (k : Kept) (a : ℕ) (l : Lent) (o : Out) (x : Lease) → Agrees d room k → held_by (replay k) a ≡ Some l → StepsTo (replay k) a o.count l o → x.slot ≡ l.slot → n ≡ with_returned d a x.slot o
     → IsWritable (actors_of k.boot) (record { actor = a; event = recorded.Back o.count }) → room ≤ more → Agrees n more (with_record k a (recorded.Back o.count))
 back_agrees d n room more k a l o x h at s same after written bigger =
@@ -312,6 +322,65 @@ back_agrees d n room more k a l o x h at s same after written bigger =
       (ap (λ (d : Situation). d.records) after) (ap (λ (d : Situation). d.capacity) after)
       (ap (λ n. n + w.others) (length-set w.cpus a None)) written
       (λ b m e. elim (cases_eq b a) [
-          inl i ↦ let z : None ≡ Some m = sym (ap (λ q. held_by v q) i ∙ get_or-set_same w.cpus a None None (holds_in w.cpus a l at)) ∙ e in cc
+          inl i ↦ absurd (nothing m (sym (ap (λ q. held_by v q) i ∙ get_or-set_same w.cpus a None None (holds_in w.cpus a l at)) ∙ e))
         | inr i ↦ let f = h.fresh b m (sym (get_or-set_other w.cpus a b None None i) ∙ e) in record { count = f.count; stop = f.stop; loaded = f.loaded } ])
       bigger
+
+-- ---- a kernel by its parts
+
+-- what a kernel is seen as
+abbrev pub kept_of : Situation → ℕ → List Record → Kept
+kept_of d n records = record { boot = booted_with d.services n d.others d.capacity; history = records }
+
+-- the same services, others and capacity
+boot-same : (d m : Situation) (n : ℕ) (records : List Record) → m.services ≡ d.services → m.others ≡ d.others → m.capacity ≡ d.capacity → kept_of m n records ≡ kept_of d n records
+boot-same d m n records s o c =
+    ap (λ x. let k : Kept = record { boot = booted_with x n m.others m.capacity; history = records } in k) s
+    ∙ ap (λ x. let k : Kept = record { boot = booted_with d.services n x m.capacity; history = records } in k) o
+    ∙ ap (λ x. let k : Kept = record { boot = booted_with d.services n d.others x; history = records } in k) c
+
+pub recorded_by : (d m : Situation) (n a : ℕ) (records more : List Record) (x : Recorded) → m.services ≡ d.services → m.others ≡ d.others → m.capacity ≡ d.capacity → more ≡ records ++ record { actor = a; event = x } ∷ []
+    → kept_of m n more ≡ with_record (kept_of d n records) a x
+recorded_by d m n a records more x s o c e = boot-same d m n more s o c ∙ ap (λ l. kept_of d n l) e
+
+pub after_taking : (d m : Situation) (n a s : ℕ) (records more : List Record) (o : Out) → HasTaken d m a s o → more ≡ records ++ record { actor = a; event = recorded.Take } ∷ [] → kept_of m n more ≡ with_record (kept_of d n records) a recorded.Take
+after_taking d m n a s records more o h e = recorded_by d m n a records more recorded.Take (ap (λ (d : Situation). d.services) h.after) (ap (λ (d : Situation). d.others) h.after) (ap (λ (d : Situation). d.capacity) h.after) e
+
+pub after_acting : (d m : Situation) (n a : ℕ) (records more : List Record) (e : Event) (x : Answer) → HasActed d m e x → more ≡ records ++ record { actor = a; event = recorded_as e } ∷ [] → kept_of m n more ≡ with_record (kept_of d n records) a (recorded_as e)
+after_acting d m n a records more e x h i = recorded_by d m n a records more (recorded_as e) (ap (λ (d : Situation). d.services) h.after) (ap (λ (d : Situation). d.others) h.after) (ap (λ (d : Situation). d.capacity) h.after) i
+
+pub after_returning : (d m : Situation) (n a s : ℕ) (records more : List Record) (o : Out) → m ≡ with_returned d a s o → more ≡ records ++ record { actor = a; event = recorded.Back o.count } ∷ [] → kept_of m n more ≡ with_record (kept_of d n records) a (recorded.Back o.count)
+after_returning d m n a s records more o h e = recorded_by d m n a records more (recorded.Back o.count) (ap (λ (d : Situation). d.services) h) (ap (λ (d : Situation). d.others) h) (ap (λ (d : Situation). d.capacity) h) e
+
+-- there is room for a record more
+pub room_for : (d m : Situation) (room : ℕ) (k : Kept) → Agrees d room k → HoldsOf m → m.records ≡ d.records + 1 → m.capacity ≡ d.capacity → length k.history < room
+room_for d m room k h holds r c = omega (arith, h.records, h.space, holds.room, r, c)
+
+-- a processor is an actor
+pub is_actor : (d : Situation) (room : ℕ) (k : Kept) (a : ℕ) → Agrees d room k → a < length d.leases → a < actors_of k.boot
+is_actor d room k a h b =
+    let n : length d.leases ≡ length (replay k).cpus = ap (λ (d : Situation). length d.leases) h.present ∙ length-map (replay k).cpus lease_of in
+    omega (arith, b, n, h.actors)
+
+-- who brings something back is an actor
+pub holder_is_actor : (d : Situation) (room : ℕ) (k : Kept) (a : ℕ) (x : Lease) → Agrees d room k → lease_at d.leases a ≡ Some x → a < actors_of k.boot
+holder_is_actor d room k a x h e = is_actor d room k a h (holds_in d.leases a x e)
+
+-- ---- what always holds of a kernel
+
+pub opened_sound : (d : Situation) (room : ℕ) (k n : Kept) → k ≡ n → Agrees d room k → Sound d.table → HoldsOf d → IsSound (replay n)
+opened_sound d room k n v h sound holds = subst (λ k. IsSound (replay k)) v (record {
+    table = subst (λ (d : Situation). Sound d.table) h.present sound;
+    holds = subst HoldsOf h.present holds;
+    counts = λ a l e. let f = h.fresh a l e in omega (arith, f.count);
+    loaded = λ a l s e g. (h.fresh a l e).loaded s g;
+  })
+
+pub opened_accepted : (d : Situation) (room : ℕ) (k n : Kept) → k ≡ n → Agrees d room k → AreAccepted n.boot (unfolded n.history)
+opened_accepted d room k n v h = subst (λ (k : Kept). AreAccepted k.boot (unfolded k.history)) v h.accepted
+
+pub opened_written : (d : Situation) (room : ℕ) (k n : Kept) → k ≡ n → Agrees d room k → All (IsWritable (actors_of (replay n))) n.history
+opened_written d room k n v h = subst (λ (k : Kept). All (IsWritable (actors_of (replay k))) k.history) v (subst (λ m. All (IsWritable m) k.history) (sym h.actors) h.written)
+
+pub opened_fresh : (d : Situation) (room : ℕ) (k n : Kept) → k ≡ n → Agrees d room k → (a : ℕ) (l : Lent) → held_by (replay n) a ≡ Some l → IsFresh (replay n) l
+opened_fresh d room k n v h = subst (λ (k : Kept). (a : ℕ) (l : Lent) → held_by (replay k) a ≡ Some l → IsFresh (replay k) l) v h.fresh

@@ -7,7 +7,9 @@ use Rattle.mx_exec.specs.Lasting.{lasting}
 use Rattle.mx_image.specs.declared.runs.Stop.{Stop}
 use Rattle.mx_proc.specs.declared.devices.Devices.{Devices}
 use Rattle.mx_proc.specs.declared.process.Process.{Process}
-use Rattle.mx_proc.specs.declared.process.State.TheVariants.{Home, Out, Doomed}
+use Rattle.mx_proc.specs.declared.process.Cause.{Cause}
+use Rattle.mx_proc.specs.declared.process.State.{State}
+use Rattle.mx_proc.specs.declared.process.State.TheVariants.{Home, Out, Doomed, Down}
 use Rattle.mx_proc.specs.Frame.{Frame, Fixed, fixed_of, loan_of, frame}
 use Rattle.mx_proc.specs.Sound.{NoneComesHome}
 use Rattle.mx_proc.specs.World.{World, nobody, process_at, with_process, with_state, unqueued, moved_out, moved_home, spent}
@@ -148,3 +150,11 @@ pub doomed_settled : (t u : World) (s : ℕ) → u ≡ with_state t s Doomed →
 doomed_settled t u s e b h = subst Settled (sym e) (λ q. elim (cases_eq q s) [
     inl i ↦ λ z. let x : Doomed ≡ Home = sym (ap (λ (p : Process). p.state) (put-at t s (record (process_at t s) { state = Doomed }) b)) ∙ ap (λ y. (process_at (with_state t s Doomed) y).state) (sym i) ∙ z in cc
   | inr n ↦ λ z. h q (sym (ap (λ (p : Process). p.state) (put-other t s q (record (process_at t s) { state = Doomed }) n)) ∙ z) ])
+
+pub is_down_not_home : (st : State) (cause : Cause) → st ≡ Down cause → st ≢ Home
+is_down_not_home st cause e h = let z : Down cause ≡ Home = sym e ∙ h in cc
+
+-- home, and its steps counted
+pub home_as : (t m u : World) (s : ℕ) (o : Held) → m ≡ moved_home t s o.image → u ≡ spent m s o.count → u ≡ come_home t (record { slot = s; out = o })
+unfolding come_home
+home_as t m u s o e f = f ∙ ap (λ m. spent m s o.count) e

@@ -1,10 +1,11 @@
 -- Where a kernel stands, by what it keeps in mind: of what is out it knows slot and budget.
-use Rattle.std.specs.Prelude.{◌≡◌, ◌<◌, ℕ, ◌+◌, ◌-◌, ◌*◌, ◌%◌, ◌^◌, Bool, true, false, nat_lt, if◌then◌else◌, List, map, length, Option, Some, None, Result, Ok, Err, slice_get, slice_set}
+use Rattle.std.specs.Prelude.{◌≡◌, ◌<◌, ◌≤◌, ℕ, ◌+◌, ◌-◌, ◌*◌, ◌%◌, ◌^◌, Bool, true, false, nat_lt, if◌then◌else◌, List, map, length, Option, Some, None, Result, Ok, Err, slice_get, slice_set}
 use Rattle.mx_proc.specs.Endpoints.{is_alive}
 use Rattle.mx_proc.specs.Queues.{picked}
+use Rattle.mx_proc.specs.States.{is_ready, is_down}
 use Rattle.mx_proc.specs.World.{World, process_at}
 use Rattle.mx_respawn.specs.declared.service.Service.{Service}
-use Rattle.mx_respawn.specs.Respawn.{respawned}
+use Rattle.mx_respawn.specs.Respawn.{is_worn, respawned}
 use Rattle.mx_kcall.specs.Clock.{raised, ticked}
 use Rattle.mx_kcall.specs.Refusals.{owner_of}
 use Rattle.mx_world.specs.declared.events.Answer.{Answer}
@@ -58,6 +59,7 @@ pub record HasTaken (d n : Situation) (a s : ℕ) (o : Out) : Type 0 where
   pub accepted : refusal_to_take d a ≡ None
   pub processor : a < length d.leases
   pub first : picked d.table.ready ≡ Some s
+  pub ready : is_ready (process_at d.table s).state ≡ true
   pub out : o ≡ (lent_of d.table s).out
   pub after : n ≡ with_taken d a s
 
@@ -118,6 +120,16 @@ pub record HasActed (d n : Situation) (e : Event) (x : Answer) : Type 0 where
   pub answer : x ≡ answer_to d e
   pub after : n ≡ on_to d (table_after d e)
   pub number : number_in (recorded_as e) < 2 ^ 31
+
+-- A slot may get a new process, which has this endpoint.
+pub record MayRespawn (d : Situation) (s e : ℕ) : Type 0 where
+  pub accepted : refusal_to d (Respawn s) ≡ None
+  pub used : s < length d.table.slots
+  pub small : s < 32
+  pub down : is_down (process_at d.table s).state ≡ true
+  pub fresh : (v : Service) → slice_get d.services s ≡ Some v → is_worn (process_at d.table s) v ≡ false
+  pub room : 1 ≤ free_records d
+  pub endpoint : e ≡ ((process_at d.table s).generation + 1) * 1024 + s
 
 abbrev pub Acts : Situation → Situation → Event → Result Answer Refusal → Type 0
 Acts d n e (Ok x) = HasActed d n e x

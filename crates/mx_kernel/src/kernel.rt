@@ -1,6 +1,6 @@
 //! The kernel, and the history that it keeps.
 
-ghost use Rattle.std.specs.Prelude.{◌≡◌, ◌≤◌, ◌<◌, ◌+◌, ◌++◌, ◌∷◌, [], true, Some, None, IfOk, IfErr, OnOk, All, length, slice_get, vec_len, vec_capacity};
+ghost use Rattle.std.specs.Prelude.{◌≡◌, ℕ, ◌≤◌, ◌<◌, ◌+◌, ◌++◌, ◌∷◌, [], true, Some, None, IfOk, IfErr, OnOk, All, length, slice_get, vec_len, vec_capacity};
 ghost use Rattle.std.specs.Option.{option_map};
 ghost use Rattle.mx_world.specs.declared.events.Event.TheVariants as events;
 ghost use Rattle.mx_world.specs.declared.history.Recorded.TheVariants as recorded;
@@ -87,9 +87,8 @@ impl Kernel {
     {
         runs_are_steps();
         let count = out.count;
-        let lease = match self.present.lease(cpu) {
-            Some(lease) => lease,
-            None => unreachable!(),
+        let Some(lease) = self.present.lease(cpu) else {
+            unreachable!()
         };
         self.present.come_back(cpu, lease, out);
         self.present.opened();
@@ -162,6 +161,6 @@ impl Kernel {
         ensures written { All (IsWritable (length (replay self.now).cpus + (replay self.now).others)) self.now.history }
         ensures fresh { (a : ℕ) (l : Lent) → held_by (replay self.now) a ≡ Some l → IsFresh (replay self.now) l }
     {
-        self.table().sound();
+        self.present.opened();
     }
 }

@@ -5,6 +5,5 @@ mod booting;
 mod kernel;
 mod present;
 mod serving;
-mod stub;
 
 pub use kernel::Kernel;

@@ -1,8 +1,9 @@
 //! Where a kernel stands, without its history.
 
-ghost use Rattle.std.specs.Prelude.{◌≡◌, ℕ, ◌+◌, ◌-◌, ◌<◌, ◌≤◌, ◌^◌, ◌==◌, ◌&&◌, true, Some, None, IsSome, IfErr, OnOk, is_none, length, slice_get};
+ghost use Rattle.std.specs.Prelude.{◌≡◌, ℕ, ◌+◌, ◌-◌, ◌<◌, ◌≤◌, ◌^◌, ◌==◌, ◌&&◌, true, Some, None, IsSome, IfOk, IfErr, OnOk, is_none, length, slice_get};
 ghost use Rattle.mx_load.specs.Load.{IsLoadedFrom};
 ghost use Rattle.mx_proc.specs.Queues.{picked};
+ghost use Rattle.mx_proc.specs.Sound.{Sound};
 ghost use Rattle.mx_proc.specs.States.{is_ready};
 ghost use Rattle.mx_proc.specs.World.{process_at};
 ghost use Rattle.mx_respawn.specs.declared.service.Service.{Service};
@@ -12,14 +13,13 @@ ghost use Rattle.mx_world.specs.Move.{if_full, lent_of};
 ghost use Rattle.mx_world.specs.Rest.{down_are_worn};
 ghost use Rattle.mx_world.specs.Sound.{Holds, lease_at};
 ghost use Rattle.mx_world.specs.Whole.{out_count};
-ghost use Rattle.mx_kernel.specs.Situation.{is_for_all, free_records, with_taken, with_returned, Takes, Acts};
+ghost use Rattle.mx_kernel.specs.Situation.{is_for_all, free_records, refusal_to, MayRespawn, with_taken, with_returned, Takes, Acts};
 
 use crate::serving::{come_home, kill, send_out};
 use mx_image::Stop;
 use mx_kcall::{raise, tick};
-use mx_proc::{Slot, Table};
-use crate::stub::{is_worn, respawn};
-use mx_respawn::Service;
+use mx_proc::{Endpoint, Slot, Table};
+use mx_respawn::{Service, is_worn, respawn};
 use mx_sched::pick;
 use mx_world::{Answer, Event, Lease, Out, Refusal};
 use std::marker::Model;
@@ -68,9 +68,10 @@ impl Present {
 
     /// Opens to a proof what always holds.
     pub(crate) fn opened(&self)
-        ensures { Holds self.now.table self.now.leases self.now.services self.now.records self.now.capacity }
+        ensures sound { Sound self.now.table }
+        ensures holds { Holds self.now.table self.now.leases self.now.services self.now.records self.now.capacity }
     {
-        let _table = &self.table;
+        self.table.sound();
     }
 
     /// How many processors there are.
@@ -232,24 +233,32 @@ impl Present {
         Ok(Answer::Done)
     }
 
-    /// A slot whose process is dead gets a new one.
-    fn respawn(&mut self, slot: u32) -> Result<Answer, Refusal>
-        ensures { Acts self.old self.new (events.Respawn slot) result }
+    /// The endpoint of the process that a slot gets next, or why it gets none.
+    fn next_endpoint(&self, slot: u32) -> Result<Endpoint, Refusal>
+        ensures ok { IfOk result (λ endpoint. MayRespawn self.now slot endpoint) }
+        ensures err { IfErr result (λ refusal. refusal_to self.now (events.Respawn slot) ≡ Some refusal) }
     {
         if slot >= u32::from(self.table.used()) {
             return Err(Refusal::NoService);
         }
-        let service = &self.services[slot as usize];
         let process = self.table.process(slot as u8);
         if !process.state.is_down() {
             return Err(Refusal::NotDown);
         }
-        if is_worn(process, service) {
+        if is_worn(process, &self.services[slot as usize]) {
             return Err(Refusal::Worn);
         }
         let endpoint = (process.generation + 1) * 1024 + slot;
         self.if_full(1)?;
-        respawn(&mut self.table, slot as u8, service);
+        Ok(endpoint)
+    }
+
+    /// A slot whose process is dead gets a new one.
+    fn respawn(&mut self, slot: u32) -> Result<Answer, Refusal>
+        ensures { Acts self.old self.new (events.Respawn slot) result }
+    {
+        let endpoint = self.next_endpoint(slot)?;
+        respawn(&mut self.table, slot as u8, &self.services[slot as usize]);
         self.records += 1;
         Ok(Answer::Respawned(endpoint))
     }

@@ -143,7 +143,7 @@ held_over w c a (Respawn s) n = respawn_held w c s (slice_get w.services s)
 -- ---- events
 
 -- a step of what a processor has
-step_by : Whole → ℕ → Lent → Bool → Result Answer Refusal × Whole
+abbrev step_by : Whole → ℕ → Lent → Bool → Result Answer Refusal × Whole
 step_by w c l true = (Err AtStop, w)
 step_by w c l false = (Ok (Went (outcome_of_step l.out)), with_held w c (Some (record l { out = stepped l.out })))
 

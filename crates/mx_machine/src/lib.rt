@@ -1,11 +1,6 @@
 //! The machine of one thread.
 #![tactic(auto)]
 
-mod machine;
+mod laws;
 
-pub use machine::{Machine, Tool};
-pub use mx_kernel::Kernel;
-pub use mx_world::{
-    Answer, Config, Event, FileName, Held, Out, Record, Recorded, Refusal, ServiceLine,
-    ServiceLines,
-};
+pub use laws::steps_change_places;

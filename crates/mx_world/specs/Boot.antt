@@ -6,7 +6,7 @@ use Rattle.mx_load.specs.Load.{loaded}
 use Rattle.mx_proc.specs.declared.process.Process.{Process}
 use Rattle.mx_proc.specs.World.{World, no_world, new_process}
 use Rattle.mx_respawn.specs.declared.service.Service.{Service}
-use Rattle.mx_world.specs.declared.config.Config.{Config}
+use Rattle.mx_setup.specs.declared.config.Config.{Config}
 use Rattle.mx_world.specs.Whole.{Whole}
 
 -- a service's process: its program's image, ready with a full quantum, of generation 0

@@ -2,14 +2,13 @@
 //! processor holds.
 #![tactic(auto)]
 
-mod config;
 mod events;
 mod history;
 mod holding;
 mod laws;
 
-pub use config::{Config, FileName, ServiceLine, ServiceLines};
 pub use events::{Answer, Event, Refusal};
 pub use history::{Record, Recorded};
 pub use holding::{Held, Lease, Out};
 pub use laws::{held_runs_join, runs_are_steps};
+pub use mx_setup::{Config, FileName, ServiceLine, ServiceLines};
