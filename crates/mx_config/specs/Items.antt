@@ -1,6 +1,6 @@
 -- What a line of a configuration says (our own notation).
-use Rattle.std.specs.Prelude.{◌≡◌, ◌≤◌, ⊤, ℕ, Bool, not, ◌==◌, List, [], ◌∷◌, codes, Option, Some, None}
-use Rattle.std.specs.List.{before_first}
+use Rattle.std.specs.Prelude.{◌≡◌, ◌≤◌, ⊤, ℕ, Bool, false, ◌==◌, ◌||◌, List, [], ◌∷◌, codes, Option, Some, None}
+use Rattle.std.specs.List.{before_first, list_any}
 use Rattle.std.specs.Str.{IsUtf8}
 use Rattle.mx_line.specs.Names.{name_of}
 use Rattle.mx_respawn.specs.Labels.{IsReserved}
@@ -30,11 +30,15 @@ abbrev pub said_of : ServiceLine → Terms
 said_of s = record { masks = s.masks; level = s.level; best = s.best; quantum = s.quantum; restarts = s.restarts }
 
 
+-- a tab or a carriage return, which is no part of a file's name
+abbrev pub is_stray : ℕ → Bool
+is_stray b = b == 9 || b == 13
+
 -- NAME FILE and what stands behind: a name that a label may have, and a text
 abbrev pub HasParts : List (List ℕ) → Label → List ℕ → Terms → Type 0
 HasParts (name ∷ file ∷ fs) label text terms =
     (name_of name ≡ Some label.name) × (IsReserved name → ⊥)
-    × (file ≡ text) × IsUtf8 file
+    × (file ≡ text) × IsUtf8 file × (list_any is_stray file ≡ false)
     × (terms_of fs ≡ Some terms)
 HasParts _ label text terms = ⊥
 

@@ -1,16 +1,16 @@
 //! A configuration while its lines are read.
 
-ghost use Rattle.std.specs.Prelude.{◌≡◌, None, IfOk, IfErr};
-ghost use Rattle.mx_fields.specs.declared.error.BootError.TheVariants.{NoMemory};
+ghost use Rattle.std.specs.Prelude.{◌≡◌, ◌≢◌, [], None, IfOk, IfErr, false};
+ghost use Rattle.mx_fields.specs.declared.error.BootError.TheVariants.{BadLine, NoMemory};
 ghost use Rattle.mx_config.specs.Above.{Above, start};
 ghost use Rattle.mx_config.specs.Items.{IsWithin};
-ghost use Rattle.mx_config.specs.Lines.{is_named, is_twice, is_over, reason_of, behind, IsTaken, TellsWrong};
+ghost use Rattle.mx_config.specs.Lines.{is_named, is_twice, is_over, reason_of, behind, IsTaken, TellsWrong, IsConfigOf};
 
 use crate::item::Item;
 use crate::items::{before_comment, item_at};
 use mx_fields::{BootError, next_field};
 use mx_respawn::Label;
-use mx_setup::ServiceLine;
+use mx_setup::{Config, ServiceLine, ServiceLines};
 use std::alloc::Global;
 use std::marker::Model;
 
@@ -103,6 +103,7 @@ impl Draft {
     }
 
     /// Takes a line in, or tells what is wrong with it.
+    #[tactic(auto, using(crate::proofs::Taking::told_wrong))]
     pub fn take_line(&mut self, alloc: Global, line: &[u8], number: usize) -> Result<(), BootError>
         ensures taken { IfOk result (λ _. IsTaken self.old number line.now self.new) }
         ensures wrong { IfErr result (TellsWrong self.old number line.now) }
@@ -120,5 +121,22 @@ impl Draft {
             None => {}
         }
         self.go_behind(item)
+    }
+
+    /// The configuration that is said, or that there is no service, told of the last line.
+    pub fn into_config(self, last: usize) -> Result<Config, BootError>
+        ensures config { IfOk result (IsConfigOf self) }
+        ensures some { IfOk result (λ _. self.lines ≢ []) }
+        ensures none { IfErr result (λ e. (self.lines ≡ []) × (e ≡ BadLine last)) }
+    {
+        if self.lines.is_empty() {
+            return Err(BootError::BadLine(last));
+        }
+        Ok(Config {
+            cpus: self.cpus.unwrap_or(1),
+            others: self.others.unwrap_or(1),
+            log: self.log.unwrap_or(65_536),
+            lines: ServiceLines::from_vec(self.lines),
+        })
     }
 }

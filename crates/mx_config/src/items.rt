@@ -1,14 +1,14 @@
 //! What a line of a configuration says.
 
 ghost use Rattle.std.specs.Prelude.{◌≡◌, ◌≢◌, ◌≤◌, ◌∷◌, [], ℕ, List, Some, None, MatchOption, IfOk, IfSome, codes};
-ghost use Rattle.std.specs.List.{before_first};
+ghost use Rattle.std.specs.List.{before_first, list_any};
 ghost use Rattle.mx_fields.specs.Fields.{fields};
 ghost use Rattle.mx_respawn.specs.declared.label.Label.{Label};
 ghost use Rattle.mx_setup.specs.declared.config.ServiceLine.{ServiceLine};
 ghost use Rattle.mx_config.specs.declared.service.Terms.{Terms};
 ghost use Rattle.mx_config.specs.declared.item.Item.{Item};
 ghost use Rattle.mx_config.specs.Terms.{AreWithin};
-ghost use Rattle.mx_config.specs.Items.{is_hash, said_in, numbered, HasParts, IsService, Says, IsWithin};
+ghost use Rattle.mx_config.specs.Items.{is_hash, is_stray, said_in, numbered, HasParts, IsService, Says, IsWithin};
 
 use crate::item::Item;
 use crate::service::Terms;
@@ -22,10 +22,11 @@ use std::alloc::{AllocError, Global};
 pub fn before_comment(line: &[u8]) -> &[u8]
     ensures { result.now ≡ before_first is_hash line.now }
 {
-    match line.iter().position(|byte| *byte == b'#') {
-        Some(end) => &line[..end],
-        None => line,
+    let mut end = 0;
+    while end < line.len() && line[end] != b'#' {
+        end += 1;
     }
+    &line[..end]
 }
 
 /// The number that a line is.
@@ -38,6 +39,20 @@ fn numbered(line: &[u8], least: u32, most: u32) -> Option<u32>
     number_between(word, least, most)
 }
 
+/// Whether a byte is no part of a file's name.
+fn is_stray(byte: u8) -> bool
+    ensures { result ≡ is_stray byte }
+{
+    byte == b'\t' || byte == b'\r'
+}
+
+/// Whether a byte of a field is no part of a file's name.
+fn has_stray(file: &[u8]) -> bool
+    ensures { result ≡ list_any is_stray file.now }
+{
+    file.iter().any(|byte| is_stray(*byte))
+}
+
 /// The name, the file and the terms of a service.
 fn parts_of(line: &[u8]) -> Option<(Label, &str, Terms)>
     ensures within { IfSome result (λ p. AreWithin p.2) }
@@ -47,6 +62,9 @@ fn parts_of(line: &[u8]) -> Option<(Label, &str, Terms)>
     let (file, rest) = next_field(rest)?;
     let label = Label::new(name)?;
     let terms = terms_of(rest)?;
+    if has_stray(file) {
+        return None;
+    }
     match str::from_utf8(file) {
         Ok(text) => Some((label, text, terms)),
         Err(_) => None,
@@ -78,12 +96,14 @@ pub fn item_at(alloc: Global, word: &[u8], line: &[u8]) -> Result<Option<Item>, 
     ensures said { IfOk result (λ o. MatchOption o ((i : Item) → Says (word.now ∷ fields line.now) i → ⊥) (Says (word.now ∷ fields line.now))) }
     ensures within { IfOk result (λ o. IfSome o IsWithin) }
 {
-    let item = match word {
-        b"cpus" => numbered(line, 1, 8).map(|n| Item::Cpus(n as u8)),
-        b"log" => numbered(line, 1, 1_048_576).map(Item::Log),
-        b"others" => numbered(line, 1, 4).map(|n| Item::Others(n as u8)),
-        b"service" => service_of(alloc, line)?.map(Item::Service),
-        _ => None,
-    };
-    Ok(item)
+    match word {
+        b"cpus" => Ok(numbered(line, 1, 8).map(|number| Item::Cpus(number as u8))),
+        b"log" => Ok(numbered(line, 1, 1_048_576).map(Item::Log)),
+        b"others" => Ok(numbered(line, 1, 4).map(|number| Item::Others(number as u8))),
+        b"service" => {
+            let service = service_of(alloc, line)?;
+            Ok(service.map(Item::Service))
+        }
+        _ => Ok(None),
+    }
 }

@@ -8,7 +8,7 @@ ghost use Rattle.mx_config.specs.Lines.{AreTaken, IsConfig, TellsFirst, TellsFau
 use crate::draft::Draft;
 use mx_fields::BootError;
 use mx_line::next_line;
-use mx_setup::{Config, ServiceLines};
+use mx_setup::Config;
 use std::alloc::Global;
 
 /// What the lines of a text say, and the number of the last one.
@@ -30,18 +30,11 @@ fn read_lines(alloc: Global, text: &[u8]) -> Result<(Draft, usize), BootError>
 
 /// The configuration that a text is, or the first line at fault. Takes memory only for what it
 /// answers.
+#[tactic(auto, using(crate::proofs::Taking::told_fault, crate::proofs::Taking::told_last))]
 pub fn config(alloc: Global, text: &str) -> Result<Config, BootError>
     ensures config { IfOk result (IsConfig text.now) }
     ensures fault { IfErr result (TellsFault text.now) }
 {
     let (draft, last) = read_lines(alloc, text.as_bytes())?;
-    if draft.lines.is_empty() {
-        return Err(BootError::BadLine(last));
-    }
-    Ok(Config {
-        cpus: draft.cpus.unwrap_or(1),
-        others: draft.others.unwrap_or(1),
-        log: draft.log.unwrap_or(65_536),
-        lines: ServiceLines::from_vec(draft.lines),
-    })
+    draft.into_config(last)
 }

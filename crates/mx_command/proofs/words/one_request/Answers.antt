@@ -5,7 +5,7 @@ use Rattle.std.specs.declared.num.ParseIntError.{ParseIntError}
 use Rattle.clap.specs.Words.{ReadsOne, Text, first_of, found_of, one_text, rows_of}
 use Rattle.clap.proofs.CallerLemmas.{some_of_text}
 use Rattle.clap.proofs.WalkLemmas.{first_value-rows, one_text-rows}
-use Rattle.mx_app.proofs.words.one_request.Goals as goal
+use Rattle.mx_command.proofs.words.one_request.Goals as goal
 
 -- a text that is a number is read as that number
 number_read : (E : Type 0) (G : Text → Result ℕ E → Type 0) (text : Text) (n : ℕ) (r : Option ℕ)

@@ -3,7 +3,7 @@
 ghost use Rattle.std.specs.Prelude.{◌≡◌, ℕ, IfErr, IfOk, codes, false, is_some, map, true};
 ghost use Rattle.clap.specs.Words.{FailsBy, app_of, fault_of, first_of, found_of, kind_of, rows_of, rule_of, shape_of};
 ghost use Rattle.clap.specs.Words.{subcommand_of, takes};
-ghost use Rattle.mx_app.specs.Words.{Asks, AsksBy, IsAsked, as_shape, HasNumber, dis_shape, mx_grammar, nm_shape, one_shape, top_app, wanted};
+ghost use Rattle.mx_command.specs.Words.{Asks, AsksBy, IsAsked, as_shape, HasNumber, dis_shape, mx_grammar, nm_shape, one_shape, top_app, wanted};
 
 use clap::error::ErrorKind;
 use clap::{Arg, ArgAction, ArgMatches, Command, Error};

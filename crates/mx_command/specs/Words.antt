@@ -6,8 +6,8 @@ use Rattle.clap.specs.Words.{App, Row, Rule, Shape, Text, first_of, new_rule, on
 use Rattle.clap.specs.Simple.{new_shape}
 use Rattle.clap.specs.declared.builder.action.ArgAction.TheVariants.{Set}
 use Rattle.clap.specs.declared.builder.value_parser.ValueParser.TheVariants.{Signed}
-use Rattle.mx_app.specs.declared.words.Request.{Request}
-use Rattle.mx_app.specs.declared.words.Request.TheVariants.{One, As, Dis, Nm}
+use Rattle.mx_command.specs.declared.words.Request.{Request}
+use Rattle.mx_command.specs.declared.words.Request.TheVariants.{One, As, Dis, Nm}
 
 -- ---- the grammar
 

@@ -4,7 +4,7 @@ use Rattle.clap.specs.Words.{Shape, shape_of, with_subcommand}
 use Rattle.clap.specs.declared.builder.command.Command.TheViews.{out-Command as fields_of}
 use Rattle.clap.proofs.SimpleLemmas.{is_false}
 use Rattle.clap.proofs.WalkLemmas.{both}
-use Rattle.mx_app.proofs.words.grammar.Goals as goal
+use Rattle.mx_command.proofs.words.grammar.Goals as goal
 
 -- a command of a plain shape has no global argument
 has_no_globals : (c : Command) (s : Shape) → shape_of c ≡ s → s.is_plain ≡ true → (fields_of c).has_globals ≡ false

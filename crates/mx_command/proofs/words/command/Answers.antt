@@ -5,9 +5,9 @@ use Rattle.clap.specs.declared.error.kind.ErrorKind.TheVariants.{OutOfMemory}
 use Rattle.clap.specs.declared.parser.matches.ArgMatches.{ArgMatches}
 use Rattle.clap.specs.declared.parser.matches.ArgMatches.TheViews.{out-ArgMatches}
 use Rattle.clap.proofs.TakesLemmas.{passed_up}
-use Rattle.mx_app.specs.Words.{IsAsked, mx_grammar}
-use Rattle.mx_app.proofs.AskedWords.{words_asked}
-use Rattle.mx_app.proofs.words.command.Goals as goal
+use Rattle.mx_command.specs.Words.{IsAsked, mx_grammar}
+use Rattle.mx_command.proofs.AskedWords.{words_asked}
+use Rattle.mx_command.proofs.words.command.Goals as goal
 
 pub returns-in_err-matches-clause-passes : goal.returns-in_err-matches-clause-passes
 returns-in_err-matches-clause-passes c =

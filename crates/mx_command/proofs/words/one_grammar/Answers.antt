@@ -4,8 +4,8 @@ use Rattle.clap.specs.declared.builder.arg.Arg.{Arg}
 use Rattle.clap.specs.declared.builder.value_parser.ValueParser.TheVariants.{Signed}
 use Rattle.clap.specs.Words.{App, Rule, app_of, new_app, rule_of, with_rule}
 use Rattle.clap.specs.Simple.{app_of_fields}
-use Rattle.mx_app.specs.Words.{wanted_number}
-use Rattle.mx_app.proofs.words.one_grammar.Goals as goal
+use Rattle.mx_command.specs.Words.{wanted_number}
+use Rattle.mx_command.proofs.words.one_grammar.Goals as goal
 
 pub returns-clause-shape : goal.returns-clause-shape
 returns-clause-shape c =

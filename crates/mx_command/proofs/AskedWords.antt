@@ -13,8 +13,8 @@ use Rattle.clap.specs.Faults.{defaults_fault, entered_fault, level_fault, settle
 use Rattle.clap.specs.Walk.{answers_to, finished, nothing_held, rows_after, settled, stop_after, walk, walk_from}
 use Rattle.clap.specs.declared.builder.value_parser.ValueParser.TheVariants.{Signed}
 use Rattle.clap.proofs.ValueTestLemmas.{accepts-Accepts}
-use Rattle.mx_app.specs.Words.{HasFile, HasOne, HasText, IsAsked, mx_grammar, one_shape, wanted}
-use Rattle.mx_app.proofs.Given.{IsOnly, SetsValue, has_wanted, no_fault, value_given}
+use Rattle.mx_command.specs.Words.{HasFile, HasOne, HasText, IsAsked, mx_grammar, one_shape, wanted}
+use Rattle.mx_command.proofs.Given.{IsOnly, SetsValue, has_wanted, no_fault, value_given}
 
 -- the grammar as a parse sees it: with the help flag, and each argument's place
 abbrev whole : App
