@@ -15,7 +15,7 @@ use std::test::Fail;
 #[derive(Clone, Copy)]
 struct Row(u32, [u32; 6], u32, u32);
 
-const ROWS: [Row; 17] = [
+const ROWS: [Row; 20] = [
     // Counts past the most, at the limit and one past it.
     Row(0xFF, [0x605, 0, 0, 0, 0, 65_537], 0xFFFF_FFEA, 0),
     Row(0xFF, [0x605, 0, 4096, 1, 4096, 0], 0, 0),
@@ -32,7 +32,10 @@ const ROWS: [Row; 17] = [
     Row(0xFF, [0x603, 2, 3, 0, 0, 0], 0xFFFF_FFEA, 0),
     Row(0xFF, [0x603, 0, 3, 0, 0, 0], 0xFFFF_FFFF, 0),
     Row(0xFF, [0x604, 1, 0, 0x41, 0, 0], 0, 0),
+    Row(0xFF, [0x604, 0, 0, 0, 0, 0], 0, 0),
     Row(0xFF, [0x604, 0, 256, 0, 0, 0], 0xFFFF_FFEA, 0),
+    Row(0xFF, [0x606, 2, 0, 0, 0, 0], 0xFFFF_FF99, 0),
+    Row(0xFF, [0x606, 1025, 0, 0, 0, 0], 0xFFFF_FF97, 0),
     Row(0xFF, [0x606, 1, 0, 0, 0, 0], 0, 0),
     Row(0xFF, [0x607, 1, 0, 0, 0, 0], 0, 1),
     Row(0xFF, [0x607, 2, 0, 0, 0, 0], 0xFFFF_FFEA, 0),
@@ -171,7 +174,7 @@ fn kernel_calls(rt: HostRuntime) -> Result<(), Fail> {
         let written = table.devices().console.get(0);
         assert!(rt;
             written
-                == if row.1[0] == 0x604 && row.2 == 0 {
+                == if row.1[0] == 0x604 && row.1[1] == 1 {
                     Some(0x41)
                 } else {
                     None
@@ -185,7 +188,7 @@ fn kernel_calls(rt: HostRuntime) -> Result<(), Fail> {
 #[test]
 fn copies(rt: HostRuntime) -> Result<(), Fail> {
     for (number, (from, to, count, place, wanted)) in [
-        (100, 101, 4, 100, 0x0302_0101),
+        (100, 101, 4, 101, 0x0403_0201),
         (516, 600, 4, 600, 0x605),
         (100, 520, 4, 520, 0),
         (100, 512, 36, 512, 0xFFFF_FFFE),
@@ -257,8 +260,9 @@ fn deaths(rt: HostRuntime) -> Result<(), Fail> {
             assert_eq!(rt; pick(&table), Some(*slot), "death {number}");
             assert!(rt; *slot < table.used());
             let process = table.process(*slot);
-            let wanted = if *slot < 2 { 0 } else { 0xFFFF_FF97 };
-            assert!(rt; *slot == 1 || process.image.register(Register::Eax) == wanted);
+            let waited = death.senders.contains(slot) || death.receivers.contains(slot);
+            let wanted = if waited { 0xFFFF_FF97 } else { 0 };
+            assert_eq!(rt; process.image.register(Register::Eax), wanted);
             assert!(rt; process.state.is_ready());
             dequeue(&mut table, *slot);
         }
