@@ -1,15 +1,28 @@
 -- One service more at boot.
-use Rattle.std.proofs.Common.{◌≡◌, ◌≢◌, ◌∙◌, ◌<◌, ◌≤◌, ℕ, zero, suc, ◌+◌, ◌==◌, cond, List, [], ◌∷◌, ◌++◌, map, length, slice_set, get_or, inl, inr, refl, sym, ap, arith, subst}
+use Rattle.std.proofs.Common.{◌≡◌, ◌≢◌, ◌∙◌, ◌<◌, ◌≤◌, ◌^◌, ℕ, zero, suc, ◌+◌, ◌-◌, ◌*◌, ◌==◌, Bool, true, false, cond, List, [], ◌∷◌, ◌++◌, map, replicate, length, slice_set, slice_get, get_or, Option, Some, None, inl, inr, refl, sym, ap, arith, subst, length-append}
 use Rattle.std.specs.List.{range_with_len}
 use Rattle.std.proofs.lemmas.Bool.{cases_eq, eq-eqb, ne_eqb}
-use Rattle.std.proofs.lemmas.List.{map-append, length-map}
+use Rattle.std.proofs.lemmas.List.{map-append, length-map, length-replicate}
+use Rattle.std.proofs.lemmas.List.Elements.{All-nil}
 use Rattle.std.proofs.lemmas.List.FromFn.{get_or-map-range_with_len}
+use Rattle.mx_aout.specs.Limits.{rounded, used_of}
+use Rattle.mx_aout.specs.declared.program.Program.{Program}
+use Rattle.mx_exec.specs.declared.image.Code.{Code}
+use Rattle.mx_load.specs.Load.{loaded, contents_of, filled_to, code_of_text, IsLoadedFrom}
 use Rattle.mx_proc.specs.declared.process.Process.{Process}
-use Rattle.mx_proc.specs.World.{World, no_world, added}
+use Rattle.mx_proc.specs.declared.process.State.TheVariants.{Home}
+use Rattle.mx_proc.specs.World.{World, no_world, added, nobody}
+use Rattle.mx_proc.specs.Frame.{loan_of}
 use Rattle.mx_proc.specs.Queues.{list_at}
-use Rattle.mx_load.specs.Load.{loaded}
 use Rattle.mx_respawn.specs.declared.service.Service.{Service}
-use Rattle.mx_world.specs.Boot.{first_process, slots_from, first_table}
+use Rattle.mx_world.specs.declared.holding.Lease.{Lease}
+use Rattle.mx_world.specs.declared.history.Record.{Record}
+use Rattle.mx_world.specs.Whole.{Lent, out_count}
+use Rattle.mx_world.specs.Boot.{first_process, slots_from, first_table, booted_with}
+use Rattle.mx_world.specs.Sound.{Holds, lease_of, lease_at}
+use Rattle.mx_world.specs.History.{replay}
+use Rattle.mx_kernel.specs.Agrees.{Agrees}
+use Rattle.mx_kernel.specs.Situation.{Situation}
 
 same_values : {X : Type 0} (f g : ℕ → X) (a n : ℕ) → ((j : ℕ) → a ≤ j → g j ≡ f j) → map g (range_with_len a n) ≡ map f (range_with_len a n)
 same_values f g a zero h = refl
@@ -67,3 +80,82 @@ first-more ss s low =
 pub first-used : (ss : List Service) → length (first_table ss).slots ≡ length ss
 unfolding first_table
 first-used ss = length-map ss first_process
+
+-- ---- what holds at boot
+
+each_first : (P : Process → Type 0) → ((s : Service) → P (first_process s)) → P nobody → (ss : List Service) (n : ℕ) → P (get_or (map first_process ss) n nobody)
+each_first P f z [] n = z
+each_first P f z (s ∷ ss) zero = f s
+each_first P f z (s ∷ ss) (suc n) = each_first P f z ss n
+
+first-at : (ss : List Service) (n : ℕ) (v : Service) → slice_get ss n ≡ Some v → get_or (map first_process ss) n nobody ≡ first_process v
+first-at [] n v h = cc
+first-at (s ∷ ss) zero v h = ap first_process (let e : s ≡ v = cc in e)
+first-at (s ∷ ss) (suc n) v h = first-at ss n v h
+
+contents_fit : (sep : Bool) (text init : List ℕ) (bss limit : ℕ) → used_of sep (length text) (length init) bss ≤ limit → length (contents_of sep text init) ≤ limit
+contents_fit true text init bss limit h = omega arith
+contents_fit false text init bss limit h = omega (arith, length-append text init)
+
+filled-length : (limit : ℕ) (bytes : List ℕ) → length bytes ≤ limit → length (filled_to limit bytes) ≡ limit
+filled-length limit bytes h = omega (arith, length-append bytes (replicate (limit - length bytes) 0), length-replicate {A = ℕ} (limit - length bytes) 0)
+
+loaded_from : (p : Program) → IsLoadedFrom (loaded p) p
+loaded_from p = ap (λ (n : ℕ). let x : Code × ℕ = (code_of_text p.sep p.text, n) in x)
+    (filled-length (rounded p.total) (contents_of p.sep p.text p.init) (contents_fit p.sep p.text p.init p.bss (rounded p.total) p.within.4))
+
+-- as many times nothing
+abbrev nothings : (X : Type 0) → ℕ → List (Option X)
+nothings X n = replicate n None
+
+none_at : (X : Type 0) (n a : ℕ) → get_or (nothings X n) a None ≡ None
+none_at X zero a = refl
+none_at X (suc n) zero = refl
+none_at X (suc n) (suc a) = none_at X n a
+
+none_out : (X : Type 0) (n : ℕ) → out_count (nothings X n) ≡ 0
+none_out X zero = refl
+none_out X (suc n) = none_out X n
+
+pub boot_holds : (ss : List Service) (cpus capacity : ℕ) → capacity ≤ 2 ^ 20 → Holds (first_table ss) (replicate cpus None) ss 0 capacity
+unfolding first_table
+boot_holds ss cpus capacity fits = record {
+    room = omega (arith, none_out Lease cpus);
+    size = fits;
+    uptime = omega arith;
+    console = omega arith;
+    steps = λ s. each_first (λ p. p.steps ≤ 65535 * 0) (λ v. omega arith) (omega arith) ss s;
+    settled = λ s. each_first (λ p. p.state ≢ Home) (λ v e. cc) (λ e. cc) ss s;
+    leased = λ a x h. let z = none_at Lease cpus a in cc;
+    lent = λ s n h. absurd (each_first (λ p. loan_of p ≡ Some n → ⊥) (λ v e. cc) (λ e. cc) ss s h);
+    apart = λ a b x y h k same. let z = none_at Lease cpus a in cc;
+    served = sym (length-map ss first_process);
+    loaded = λ s v h home. subst (λ (p : Process). IsLoadedFrom p.image v.program) (sym (first-at ss s v h)) (loaded_from v.program);
+  }
+
+no_lease : (n : ℕ) → map lease_of (replicate n None) ≡ replicate n None
+no_lease zero = refl
+no_lease (suc n) = ap (λ l. None ∷ l) (no_lease n)
+
+pub boot_agrees : (ss : List Service) (cpus others capacity room : ℕ) (leases : List (Option Lease)) (items : List Record) → cpus ≤ 8 → leases ≡ replicate cpus None → items ≡ [] → capacity ≤ room
+    → Agrees (record { table = first_table ss; leases = leases; others = others; services = ss; records = 0; capacity = capacity }) room (record { boot = booted_with ss cpus others capacity; history = items })
+unfolding replay
+boot_agrees ss cpus others capacity room leases items eight idle none fits =
+    subst (λ l. Agrees (record { table = first_table ss; leases = leases; others = others; services = ss; records = 0; capacity = capacity }) room (record { boot = booted_with ss cpus others capacity; history = l })) (sym none)
+      (record {
+        present = ap (λ (l : List (Option Lease)). let d : Situation = record { table = first_table ss; leases = l; others = others; services = ss; records = 0; capacity = capacity } in d) (idle ∙ sym (no_lease cpus));
+        records = refl;
+        space = fits;
+        accepted = tt;
+        few = omega (arith, length-replicate {A = Option Lent} cpus None);
+        actors = refl;
+        written = All-nil _;
+        fresh = λ a l h. let z = none_at Lent cpus a in cc;
+      })
+
+more : {X : Type 0} → (n : ℕ) (x : X) → replicate n x ++ x ∷ [] ≡ replicate (suc n) x
+more zero x = refl
+more (suc n) x = ap (λ l. x ∷ l) (more n x)
+
+pub replicate_more : {X : Type 0} → (n : ℕ) (x : X) → replicate (n + 1) x ≡ replicate n x ++ x ∷ []
+replicate_more n x = ap (λ k. replicate k x) (let e : n + 1 ≡ suc n = omega arith in e) ∙ sym (more n x)

@@ -17,13 +17,16 @@ use Rattle.mx_proc.specs.States.{is_ready, is_out, is_down}
 use Rattle.mx_proc.specs.World.{World, nobody, process_at}
 use Rattle.mx_respawn.specs.declared.service.Service.{Service}
 use Rattle.mx_respawn.specs.Respawn.{is_worn, next_process, respawned}
+use Rattle.mx_world.specs.declared.events.Answer.{Answer}
+use Rattle.mx_world.specs.declared.events.Answer.TheVariants.{Respawned}
+use Rattle.mx_world.specs.declared.events.Event.TheVariants as events
 use Rattle.mx_world.specs.declared.holding.Lease.{Lease}
 use Rattle.mx_world.specs.declared.holding.Out.{Out as Held}
 use Rattle.mx_world.specs.Rest.{down_are_worn}
 use Rattle.mx_world.specs.Sound.{Holds, lease_at}
 use Rattle.mx_world.specs.Whole.{out_count}
 use Rattle.mx_kernel.specs.Serving.{IsReturned, IsSent, Settled, WritesAtMostOne}
-use Rattle.mx_kernel.specs.Situation.{Situation, free_records}
+use Rattle.mx_kernel.specs.Situation.{Situation, free_records, on_to, MayRespawn, HasActed, respawned_by, table_after}
 use Rattle.mx_kernel.proofs.FrameLemmas.{keeps_frame, keeps_but_devices, keeps_but_uptime, keeps_others, same_uptime, same_written, uptime_is, uptime_written}
 use Rattle.mx_kernel.proofs.HoldsLemmas.{holds_on, holds_at, holds_taken, holds_returned}
 
@@ -141,7 +144,7 @@ killed_holds d n u v h f w s room =
 -- ---- a respawn
 
 filled : (limit : ℕ) (bytes : List ℕ) → length bytes ≤ limit → length (filled_to limit bytes) ≡ limit
-filled limit bytes h = omega (arith, h, length-append bytes (replicate (limit - length bytes) 0), length-replicate (limit - length bytes) 0)
+filled limit bytes h = omega (arith, h, length-append bytes (replicate (limit - length bytes) 0), length-replicate {A = ℕ} (limit - length bytes) 0)
 
 contents : (sep : Bool) (text init : List ℕ) (bss limit : ℕ) → used_of sep (length text) (length init) bss ≤ limit → length (contents_of sep text init) ≤ limit
 contents true text init bss limit h = omega (arith, h)
@@ -180,12 +183,13 @@ worn-step (p ∷ ps) [] i v e b c = absurd (omega (arith, c))
 worn-step (p ∷ ps) (w ∷ vs) zero v e b c = ap (λ x. (not (is_down p.state) || is_worn p x) && down_are_worn ps vs) (sym e)
 worn-step (p ∷ ps) (w ∷ vs) (suc i) v e b c = worn-step ps vs i v e (omega (arith, b)) (omega (arith, c))
 
--- one that isn't decides
-pub one_not_worn : (t : World) (vs : List Service) (i : ℕ) (v : Service) → down_are_worn (drop i t.slots) (drop i vs) ≡ down_are_worn t.slots vs → v ≡ get_or vs i v → i < length t.slots → i < length vs
-    → is_down (process_at t i).state ≡ true → is_worn (process_at t i) v ≡ false → false ≡ down_are_worn t.slots vs
-one_not_worn t vs i v h e b c down worn = (let z : false ≡ ((not (is_down (process_at t i).state) || is_worn (process_at t i) v) && down_are_worn (drop (suc i) t.slots) (drop (suc i) vs)) = rw (down, worn) refl in z) ∙ sym (worn-step t.slots vs i v e b c) ∙ h
+up-step : (ps : List Process) (vs : List Service) (i : ℕ) → i < length ps → i < length vs → is_down (get_or ps i nobody).state ≡ false → down_are_worn (drop i ps) (drop i vs) ≡ down_are_worn (drop (suc i) ps) (drop (suc i) vs)
+up-step [] vs i b c down = absurd (omega (arith, b))
+up-step (p ∷ ps) [] i b c down = absurd (omega (arith, c))
+up-step (p ∷ ps) (w ∷ vs) zero b c down = rw down refl
+up-step (p ∷ ps) (w ∷ vs) (suc i) b c down = up-step ps vs i (omega (arith, b)) (omega (arith, c)) down
 
--- and one that is leaves it to the rest
+-- one that is worn leaves it to the rest
 pub one_worn : (t : World) (vs : List Service) (i : ℕ) (v : Service) → down_are_worn (drop i t.slots) (drop i vs) ≡ down_are_worn t.slots vs → v ≡ get_or vs i v → i < length t.slots → i < length vs
     → (not (is_down (process_at t i).state) || is_worn (process_at t i) v) ≡ true → down_are_worn (drop (i + 1) t.slots) (drop (i + 1) vs) ≡ down_are_worn t.slots vs
 one_worn t vs i v h e b c worn =
@@ -194,9 +198,31 @@ one_worn t vs i v h e b c worn =
     ∙ (let z : down_are_worn (drop (suc i) t.slots) (drop (suc i) vs) ≡ ((not (is_down (process_at t i).state) || is_worn (process_at t i) v) && down_are_worn (drop (suc i) t.slots) (drop (suc i) vs)) = rw worn refl in z)
     ∙ sym (worn-step t.slots vs i v e b c) ∙ h
 
-pub none_left : (ps : List Process) (vs : List Service) (i : ℕ) → length ps ≤ i → down_are_worn (drop i ps) (drop i vs) ≡ true
-none_left [] vs zero h = refl
-none_left [] vs (suc i) h = refl
-none_left (p ∷ ps) vs zero h = absurd (omega (arith, h))
-none_left (p ∷ ps) [] (suc i) h = none_left ps [] i (omega (arith, h))
-none_left (p ∷ ps) (v ∷ vs) (suc i) h = none_left ps vs i (omega (arith, h))
+-- a process that isn't down neither
+pub one_not_down : (t : World) (vs : List Service) (i : ℕ) → down_are_worn (drop i t.slots) (drop i vs) ≡ down_are_worn t.slots vs → i < length t.slots → i < length vs → is_down (process_at t i).state ≡ false
+    → down_are_worn (drop (i + 1) t.slots) (drop (i + 1) vs) ≡ down_are_worn t.slots vs
+one_not_down t vs i h b c down =
+    let n : i + 1 ≡ suc i = omega arith in
+    ap (λ k. down_are_worn (drop k t.slots) (drop k vs)) n ∙ sym (up-step t.slots vs i b c down) ∙ h
+
+pub or_true : (b c : Bool) → c ≡ true → (b || c) ≡ true
+or_true true c e = refl
+or_true false c e = e
+
+-- ---- the service of a slot
+
+some-same : {X : Type 0} (x y : X) → x ≡ y → Some x ≡ Some y
+some-same {X} x y e = ap (λ z. let o : Option X = Some z in o) e
+
+pub get-at : {X : Type 0} (xs : List X) (i : ℕ) (x : X) → x ≡ get_or xs i x → i < length xs → slice_get xs i ≡ Some x
+get-at [] i x e b = absurd (omega (arith, b))
+get-at (y ∷ ys) zero x e b = some-same y x (sym e)
+get-at (y ∷ ys) (suc i) x e b = get-at ys i x e (omega (arith, b))
+
+pub respawn_acted : (d n : Situation) (u : World) (s e : ℕ) (v : Service) → d ≡ n → MayRespawn n s e → slice_get d.services s ≡ Some v → u ≡ respawned d.table s v → HasActed n (on_to d u) (events.Respawn s) (Respawned e)
+respawn_acted d n u s e v same m at is = record {
+  accepted = m.accepted;
+  answer = ap (λ x. let y : Answer = Respawned x in y) m.endpoint;
+  after = ap (on_to d) (is ∙ ap (respawned_by d.table s) (sym at)) ∙ ap (λ d. on_to d (table_after d (events.Respawn s))) same;
+  number = omega (arith, m.small);
+}

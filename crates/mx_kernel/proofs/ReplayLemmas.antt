@@ -1,7 +1,8 @@
 -- A kernel and the history that it keeps.
-use Rattle.std.proofs.Common.{◌≡◌, ◌≢◌, ◌∙◌, ℕ, zero, suc, ◌+◌, ◌-◌, ◌*◌, ◌%◌, ◌<◌, ◌≤◌, ◌^◌, ◌++◌, List, [], ◌∷◌, map, replicate, length, Option, Some, None, Bool, true, false, get_or, slice_set, slice_get, All, get_or-set_same, get_or-set_other, length-set, append_assoc, inl, inr, refl, ap, sym, subst, arith}
+use Rattle.std.proofs.Common.{◌≡◌, ◌≢◌, ◌∙◌, ℕ, zero, suc, ◌+◌, ◌-◌, ◌*◌, ◌%◌, ◌<◌, ◌≤◌, ◌^◌, ◌++◌, List, [], ◌∷◌, map, replicate, length, Option, Some, None, Bool, true, false, is_none, ◌&&◌, ◌==◌, get_or, slice_set, slice_get, All, get_or-set_same, get_or-set_other, length-set, append_assoc, inl, inr, refl, ap, sym, subst, arith}
 use Rattle.std.proofs.lemmas.Bool.{cases_eq, lt-leb}
 use Rattle.std.proofs.lemmas.List.{length-map}
+use Rattle.std.proofs.lemmas.List.Elements.{All-append}
 use Rattle.mx_image.specs.declared.runs.Stop.{Stop}
 use Rattle.mx_image.specs.declared.runs.Stop.TheVariants.{Spent}
 use Rattle.mx_load.specs.Load.{IsLoadedFrom}
@@ -26,6 +27,7 @@ use Rattle.mx_world.specs.Boot.{booted_with}
 use Rattle.mx_world.specs.Held.{held_run, IsBack}
 use Rattle.mx_world.specs.History.{Kept, AreAccepted, IsWritable, events_of, unfolded, after_events, replay, with_record}
 use Rattle.mx_world.specs.Move.{event_refusal, event_answer, after_event, after_take, after_back, after_line, after_respawn, if_full, line_refusal, kill_refusal, respawn_refusal, take_refusal, back_refusal, noted, with_held, sent_out, lent_of, returned}
+use Rattle.mx_world.specs.Rest.{at_rest, down_are_worn}
 use Rattle.mx_world.specs.Sound.{lease_of, lease_at, IsSound}
 use Rattle.mx_world.specs.Steps.{StepsTo}
 use Rattle.mx_world.specs.Whole.{Whole, Lent, held_by, out_count, free}
@@ -49,11 +51,11 @@ accepted-append w [] ys a b = b
 accepted-append w (x ∷ xs) ys a b = (a.0, accepted-append (after_event w x.0 x.1) xs ys a.1 b)
 
 all-one : {X : Type 0} (P : X → Type 0) (x : X) → P x → All P (x ∷ [])
-all-one P x h = (h, tt)
+all-one P x h zero d b = h
+all-one P x h (suc k) d b = absurd (omega (arith, b))
 
 all-more : {X : Type 0} (P : X → Type 0) (xs : List X) (x : X) → All P xs → P x → All P (xs ++ x ∷ [])
-all-more P [] x a h = all-one P x h
-all-more P (y ∷ ys) x a h = (a.0, all-more P ys x a.1 h)
+all-more P xs x a h = All-append P xs (x ∷ []) a (all-one P x h)
 
 length-more : {X : Type 0} (xs : List X) (x : X) → length (xs ++ x ∷ []) ≡ length xs + 1
 length-more [] x = refl
@@ -84,6 +86,7 @@ recorded-agrees d n room more k a x v h accepted e is records capacity actors wr
       records = omega (arith, records, h.records, length-more k.history (record { actor = a; event = x }));
       space = omega (arith, capacity, h.space, bigger);
       accepted = accepted-recorded k a x h.accepted accepted;
+      few = h.few;
       actors = ap actors_of z ∙ actors ∙ h.actors;
       written = all-more (IsWritable (actors_of k.boot)) k.history (record { actor = a; event = x }) h.written written;
       fresh = subst (λ (w : Whole). (b : ℕ) (l : Lent) → held_by w b ≡ Some l → IsFresh w l) (sym z) fresh;
@@ -391,5 +394,22 @@ opened_written d room k n v h = subst (λ (k : Kept). All (IsWritable (actors_of
 pub opened_fresh : (d : Situation) (room : ℕ) (k n : Kept) → k ≡ n → Agrees d room k → (a : ℕ) (l : Lent) → held_by (replay n) a ≡ Some l → IsFresh (replay n) l
 opened_fresh d room k n v h = subst (λ (k : Kept). (a : ℕ) (l : Lent) → held_by (replay k) a ≡ Some l → IsFresh (replay k) l) v h.fresh
 
+pub opened_few : (d : Situation) (room : ℕ) (k n : Kept) → k ≡ n → Agrees d room k → k.boot.others ≡ d.others → length (replay n).cpus ≤ 8
+opened_few d room k n v h same =
+    let others : d.others ≡ (replay k).others = ap (λ (x : Situation). x.others) h.present in
+    subst (λ (k : Kept). length (replay k).cpus ≤ 8) v (omega (arith, h.actors, h.few, others, same))
+
 pub event_actor : (d : Situation) (room : ℕ) (k n : Kept) (a : ℕ) → k ≡ n → Agrees d room k → a < actors_of (replay n) → a < actors_of k.boot
 event_actor d room k n a v h b = let z : a < actors_of (replay k) = subst (λ (k : Kept). a < actors_of (replay k)) (sym v) b in omega (arith, z, h.actors)
+
+-- ---- at rest
+
+at_rest-is : (w : Whole) → (is_none (picked w.table.ready) && (out_count w.cpus == 0) && down_are_worn w.table.slots w.services) ≡ at_rest w
+unfolding at_rest
+at_rest-is w = refl
+
+pub rest_same : (d : Situation) (room : ℕ) (k n : Kept) → k ≡ n → Agrees d room k → (is_none (picked d.table.ready) && (out_count d.leases == 0) && down_are_worn d.table.slots d.services) ≡ at_rest (replay n)
+rest_same d room k n v h = let w = replay k in
+    ap (λ (d : Situation). is_none (picked d.table.ready) && (out_count d.leases == 0) && down_are_worn d.table.slots d.services) h.present
+    ∙ ap (λ m. is_none (picked w.table.ready) && (m == 0) && down_are_worn w.table.slots w.services) (count_leases w.cpus)
+    ∙ at_rest-is w ∙ ap (λ k. at_rest (replay k)) v

@@ -23,6 +23,7 @@ pub record Agrees (d : Situation) (room : ℕ) (k : Kept) : Type 0 where
   pub records : d.records ≡ length k.history
   pub space : d.capacity ≤ room
   pub accepted : AreAccepted k.boot (unfolded k.history)
+  pub few : length k.boot.cpus ≤ 8
   -- by actors of the machine, whose number stays
   pub actors : length (replay k).cpus + (replay k).others ≡ length k.boot.cpus + k.boot.others
   pub written : All (IsWritable (length k.boot.cpus + k.boot.others)) k.history

@@ -1,9 +1,10 @@
 //! The kernel, and the history that it keeps.
 
-ghost use Rattle.std.specs.Prelude.{◌≡◌, ℕ, ◌≤◌, ◌<◌, ◌+◌, ◌++◌, ◌∷◌, [], true, Some, None, IfOk, IfErr, OnOk, All, length, slice_get, vec_len, vec_capacity};
+ghost use Rattle.std.specs.Prelude.{◌≡◌, ℕ, ◌≤◌, ◌<◌, ◌+◌, ◌++◌, ◌∷◌, [], true, Some, None, IfOk, IfErr, OnOk, OnErr, All, length, slice_get, vec_len, vec_capacity};
 ghost use Rattle.std.specs.Option.{option_map};
 ghost use Rattle.mx_world.specs.declared.events.Event.TheVariants as events;
 ghost use Rattle.mx_world.specs.declared.history.Recorded.TheVariants as recorded;
+ghost use Rattle.mx_world.specs.Boot.{booted};
 ghost use Rattle.mx_world.specs.Held.{IsBack};
 ghost use Rattle.mx_world.specs.History.{AreAccepted, IsWritable, unfolded, replay, with_record};
 ghost use Rattle.mx_world.specs.Move.{event_refusal, event_answer, after_event, with_held};
@@ -13,14 +14,19 @@ ghost use Rattle.mx_world.specs.Whole.{Lent, held_by};
 ghost use Rattle.mx_kernel.specs.Agrees.{IsAccepted, IsFresh, IsRefused};
 ghost use Rattle.mx_kernel.specs.Situation.{is_for_all, recorded_as};
 
+use crate::booting::{first_table, no_leases};
 use crate::present::Present;
 use mx_proc::{Delivery, Slot, Table};
 use mx_respawn::Service;
-use mx_world::{Answer, Event, Out, Record, Recorded, Refusal, runs_are_steps};
+use mx_word::NoMemory;
+use mx_world::{Answer, Config, Event, Out, Record, Recorded, Refusal, runs_are_steps};
+use std::alloc::Global;
 use std::marker::Model;
+use std::mem;
 
 /// A kernel: where it stands, and the history that led there. All the room that it needs was taken when
 /// it was made.
+#[derive(Drop)]
 pub struct Kernel {
     present: Present,
     records: Vec<Record>,
@@ -65,6 +71,30 @@ fn recorded_as(event: Event) -> Recorded
 }
 
 impl Kernel {
+    /// The kernel of a configuration and its services, each of which has its slot by its place in the
+    /// list. The services are moved out of the list, which is left empty; for want of memory they stay.
+    pub fn new(
+        alloc: Global,
+        config: &Config,
+        services: &mut Vec<Service>,
+    ) -> Result<Kernel, NoMemory>
+        requires some { 0 < length services.old.items }
+        requires few { length services.old.items ≤ 32 }
+        ensures booted { IfOk result (λ kernel. kernel ≡ record { boot = booted config.now services.old.items; history = [] }) }
+        ensures emptied { OnOk result (services.new.items ≡ []) }
+        ensures same { OnErr result (services.new.items ≡ services.old.items) }
+    {
+        let table = first_table(alloc, services.as_slice())?;
+        let leases = no_leases(alloc, config.cpus)?;
+        let records = Vec::with_capacity(alloc, config.log as usize)?;
+        let entered = mem::replace(services, Vec::new(alloc));
+        Ok(Kernel {
+            present: Present::new(table, leases, config.others, entered, config.log),
+            records,
+            processors: config.cpus,
+        })
+    }
+
     /// A processor takes the process that is first to run, and is lent its image.
     pub fn take(&mut self, cpu: u8) -> Result<Out, Refusal>
         ensures ok { OnOk result (IsAccepted self.old self.new cpu events.Take recorded.Take) }
@@ -157,6 +187,7 @@ impl Kernel {
     /// Opens to a proof what always holds of a kernel.
     pub fn opened(&self)
         ensures sound { IsSound (replay self.now) }
+        ensures few { length (replay self.now).cpus ≤ 8 }
         ensures accepted { AreAccepted self.now.boot (unfolded self.now.history) }
         ensures written { All (IsWritable (length (replay self.now).cpus + (replay self.now).others)) self.now.history }
         ensures fresh { (a : ℕ) (l : Lent) → held_by (replay self.now) a ≡ Some l → IsFresh (replay self.now) l }

@@ -25,6 +25,7 @@ use mx_world::{Answer, Event, Lease, Out, Refusal};
 use std::marker::Model;
 
 /// A kernel's table, and what it keeps in mind of its processors.
+#[derive(Drop)]
 pub(crate) struct Present {
     table: Table,
     leases: Vec<Option<Lease>>,
@@ -59,6 +60,27 @@ fn count_out(leases: &[Option<Lease>]) -> usize
 }
 
 impl Present {
+    /// A table with nothing recorded yet.
+    pub(crate) fn new(
+        table: Table,
+        leases: Vec<Option<Lease>>,
+        others: u8,
+        services: Vec<Service>,
+        capacity: u32,
+    ) -> Present
+        requires { Holds table leases.items services.items 0 capacity }
+        ensures { result ≡ record { table = table; leases = leases.items; others = others; services = services.items; records = 0; capacity = capacity } }
+    {
+        Present {
+            table,
+            leases,
+            others,
+            services,
+            records: 0,
+            capacity,
+        }
+    }
+
     /// The table.
     pub(crate) fn table(&self) -> &Table
         ensures { result.now ≡ self.now.table }

@@ -16,7 +16,7 @@ use Rattle.mx_world.specs.declared.events.Answer.{Answer}
 use Rattle.mx_world.specs.declared.events.Answer.TheVariants.{Went}
 use Rattle.mx_world.specs.Held.{stepped, outcome_of_step}
 use Rattle.mx_world.specs.Whole.{Whole, Lent, held_by, out_count, free}
-use Rattle.mx_world.specs.Move.{if_full, at_stop, step_refusal, back_refusal, take_refusal, line_refusal, respawn_refusal, event_refusal, after_event, event_answer, moved_by, move, with_held, noted, after_step, after_take, after_back, after_line, after_respawn, step_answer, back_answer, lent_of, sent_out, returned}
+use Rattle.mx_world.specs.Move.{if_full, at_stop, step_refusal, back_refusal, take_refusal, line_refusal, kill_refusal, respawn_refusal, event_refusal, after_event, event_answer, moved_by, move, with_held, noted, after_step, after_take, after_back, after_line, after_respawn, step_answer, back_answer, lent_of, sent_out, returned}
 use Rattle.mx_machine.specs.Laws.{ChangePlaces, IsOthers}
 
 -- ---- what a processor has is replaced
@@ -31,37 +31,22 @@ count_kept (Some x ∷ xs) (suc c) l m h = ap (λ n. suc n) (count_kept xs c l m
 free_kept : (w : Whole) (c : ℕ) (l m : Lent) → held_by w c ≡ Some l → free (with_held w c (Some m)) ≡ free w
 free_kept w c l m h = ap (λ n. w.capacity - (w.records + n)) (count_kept w.cpus c l m h)
 
-full_kept : (w : Whole) (c n : ℕ) (l m : Lent) → held_by w c ≡ Some l → if_full (with_held w c (Some m)) n ≡ if_full w n
-full_kept w c n l m h = ap (λ k. cond (nat_lt k n) (Some LogFull) None) (free_kept w c l m h)
-
 others_kept : (w : Whole) (c a : ℕ) (m : Lent) → a ≢ c → held_by (with_held w c (Some m)) a ≡ held_by w a
 others_kept w c a m n = get_or-set_other w.cpus c a (Some m) None n
-
-take-kept : (w : Whole) (c : ℕ) (l m : Lent) (held : Option Lent) (first : Option ℕ) → held_by w c ≡ Some l → take_refusal (with_held w c (Some m)) held first ≡ take_refusal w held first
-take-kept w c l m (Some k) first h = refl
-take-kept w c l m None None h = refl
-take-kept w c l m None (Some s) h = full_kept w c 2 l m h
-
-line-kept : (w : Whole) (c : ℕ) (l m : Lent) (owner : Option ℕ) → held_by w c ≡ Some l → line_refusal (with_held w c (Some m)) owner ≡ line_refusal w owner
-line-kept w c l m None h = refl
-line-kept w c l m (Some s) h = full_kept w c 1 l m h
-
-respawn-kept : (w : Whole) (c : ℕ) (l m : Lent) (p : Process) (v : Option Service) → held_by w c ≡ Some l → respawn_refusal (with_held w c (Some m)) p v ≡ respawn_refusal w p v
-respawn-kept w c l m p None h = refl
-respawn-kept w c l m p (Some v) h = rw (full_kept w c 1 l m h) refl
 
 refusal_kept : (w : Whole) (c a : ℕ) (x : Event) (l m : Lent) → held_by w c ≡ Some l → IsOthers c a x → event_refusal (with_held w c (Some m)) a x ≡ event_refusal w a x
 unfolding event_refusal
 refusal_kept w c a Step l m h n = ap step_refusal (others_kept w c a m n)
 refusal_kept w c a Take l m h n =
-    ap (λ k. cond (nat_lt a k) (take_refusal (with_held w c (Some m)) (held_by (with_held w c (Some m)) a) (picked w.table.ready)) (Some CpuBusy)) (length-set w.cpus c (Some m))
+    let first = picked w.table.ready in
+    ap (λ k. cond (nat_lt a k) (take_refusal (free (with_held w c (Some m))) (held_by (with_held w c (Some m)) a) first) (Some CpuBusy)) (length-set w.cpus c (Some m))
     ∙ ap (λ r. cond (nat_lt a (length w.cpus)) r (Some CpuBusy))
-        (ap (λ o. take_refusal (with_held w c (Some m)) o (picked w.table.ready)) (others_kept w c a m n) ∙ take-kept w c l m (held_by w a) (picked w.table.ready) h)
+        (ap (λ k. take_refusal k (held_by (with_held w c (Some m)) a) first) (free_kept w c l m h) ∙ ap (λ o. take_refusal (free w) o first) (others_kept w c a m n))
 refusal_kept w c a Back l m h n = ap back_refusal (others_kept w c a m n)
-refusal_kept w c a (Line i) l m h n = line-kept w c l m (owner_of w.table i) h
-refusal_kept w c a Tick l m h n = full_kept w c 1 l m h
-refusal_kept w c a (Kill e) l m h n = ap (λ r. cond (is_alive w.table e) r (Some NoProcess)) (full_kept w c 1 l m h)
-refusal_kept w c a (Respawn s) l m h n = respawn-kept w c l m (process_at w.table s) (slice_get w.services s) h
+refusal_kept w c a (Line i) l m h n = ap (λ k. line_refusal k (owner_of w.table i)) (free_kept w c l m h)
+refusal_kept w c a Tick l m h n = ap (λ k. if_full k 1) (free_kept w c l m h)
+refusal_kept w c a (Kill e) l m h n = ap (λ k. kill_refusal k (is_alive w.table e)) (free_kept w c l m h)
+refusal_kept w c a (Respawn s) l m h n = ap (λ k. respawn_refusal k (process_at w.table s) (slice_get w.services s)) (free_kept w c l m h)
 
 answer_kept : (w : Whole) (c a : ℕ) (x : Event) (m : Lent) → IsOthers c a x → event_answer (with_held w c (Some m)) a x ≡ event_answer w a x
 unfolding event_answer
@@ -202,5 +187,5 @@ step-changes w c a x l h n =
     record {
       first = ap (λ p. p.0) later ∙ step_answers u w c l b ∙ sym (ap (λ p. p.0) now);
       second = ap (λ (p : Result Answer Refusal × Whole). (move p.1 a x).0) now ∙ second_answer w c a x l b h n;
-      world = sym (ap (λ (p : Result Answer Refusal × Whole). (move p.1 a x).1) now ∙ both_worlds w c a x l b h n ∙ sym (ap (λ p. p.1) later));
+      world = ap (λ (p : Result Answer Refusal × Whole). (move p.1 a x).1) now ∙ both_worlds w c a x l b h n ∙ sym (ap (λ p. p.1) later);
     }

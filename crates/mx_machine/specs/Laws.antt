@@ -1,9 +1,10 @@
 -- Laws of events.
-use Rattle.std.specs.Prelude.{ℕ, ◌≡◌, ◌≢◌}
+use Rattle.std.specs.Prelude.{ℕ, ◌≡◌, ◌≢◌, All, IsOk}
 use Rattle.mx_world.specs.declared.events.Event.{Event}
 use Rattle.mx_world.specs.declared.events.Event.TheVariants.{Step, Take, Back}
 use Rattle.mx_world.specs.Whole.{Whole}
-use Rattle.mx_world.specs.Move.{move}
+use Rattle.mx_world.specs.History.{Kept, unfolded, replay}
+use Rattle.mx_world.specs.Move.{move, moves}
 
 -- two events may change places: in both orders each has the same answer, and the world after them is the same
 pub record ChangePlaces (w : Whole) (a : ℕ) (x : Event) (b : ℕ) (y : Event) : Type 0 where
@@ -17,3 +18,8 @@ IsOthers c a Step = a ≢ c
 IsOthers c a Take = a ≢ c
 IsOthers c a Back = a ≢ c
 IsOthers c a _ = Unit {0}
+
+-- a history replays: each event that it stands for is accepted, and they lead to its replay
+pub record Replays (k : Kept) : Type 0 where
+  pub accepted : All IsOk (moves k.boot (unfolded k.history)).0
+  pub world : (moves k.boot (unfolded k.history)).1 ≡ replay k

@@ -2,5 +2,7 @@
 #![tactic(auto)]
 
 mod laws;
+mod steps;
 
-pub use laws::steps_change_places;
+pub use laws::{histories_replay, steps_change_places};
+pub use steps::Tool;

@@ -15,4 +15,4 @@ pub returns-in-Kernel-clause-console : goal.returns-in-Kernel-clause-console
 returns-in-Kernel-clause-console c = subst (λ (t : World). WritesAtMostOne t c.call.new.table) (c.trap.ensures.same c.in-Kernel.is) c.call.ensures.console
 
 pub returns-in-Kernel-clause-settled : goal.returns-in-Kernel-clause-settled
-returns-in-Kernel-clause-settled c = goes_on_settled _ _ _ (λ s h. c.call.ensures.settled s (c.trap.ensures.settled s h)) c.call.ensures.own
+returns-in-Kernel-clause-settled c = goes_on_settled c.args.table.now c.call.new.table c.args.slot (λ s h. c.call.ensures.settled s (c.trap.ensures.settled s h)) c.call.ensures.own

@@ -1,4 +1,5 @@
-use Rattle.mx_kernel.proofs.ReplayLemmas.{opened_sound, opened_accepted, opened_written, opened_fresh}
+use Rattle.std.proofs.Common.{refl}
+use Rattle.mx_kernel.proofs.ReplayLemmas.{opened_sound, opened_accepted, opened_written, opened_fresh, opened_few}
 use Rattle.mx_kernel.proofs.kernel.Kernel.opened.Goals as goal
 
 pub returns-clause-sound : goal.returns-clause-sound
@@ -12,3 +13,6 @@ returns-clause-written c = opened_written _ _ _ _ c.self.view_is c.self.invarian
 
 pub returns-clause-fresh : goal.returns-clause-fresh
 returns-clause-fresh c = opened_fresh _ _ _ _ c.self.view_is c.self.invariant
+
+pub returns-clause-few : goal.returns-clause-few
+returns-clause-few c = opened_few _ _ _ _ c.self.view_is c.self.invariant refl

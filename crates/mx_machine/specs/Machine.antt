@@ -1,0 +1,67 @@
+-- The machine of one thread: a kernel, and what its processors hold.
+use Rattle.std.specs.Prelude.{ℕ, ◌+◌, ◌≡◌, ◌<◌, ◌≤◌, List, [], ◌∷◌, Option, Some, None, Result, Ok, Err, length, slice_index_or, if◌then◌else◌}
+use Rattle.mx_world.specs.declared.events.Answer.{Answer}
+use Rattle.mx_world.specs.declared.events.Answer.TheVariants.{Went}
+use Rattle.mx_world.specs.declared.events.Event.{Event}
+use Rattle.mx_world.specs.declared.events.Event.TheVariants.{Step, Take, Back}
+use Rattle.mx_world.specs.declared.events.Refusal.{Refusal}
+use Rattle.mx_world.specs.declared.events.Refusal.TheVariants.{AtStop, CpuEmpty}
+use Rattle.mx_world.specs.declared.holding.Out.{Out}
+use Rattle.mx_world.specs.Whole.{Whole, Lent, held_by}
+use Rattle.mx_world.specs.Held.{IsBack, held_run, outcome_of_step, stepped}
+use Rattle.mx_world.specs.Move.{at_stop}
+use Rattle.mx_world.specs.History.{Kept, AreAccepted, after_events, replay}
+use Rattle.mx_world.specs.Steps.{steps_of}
+
+-- What a machine is seen as: its kernel, and what each processor holds.
+pub record Running : Type 0 where
+  pub kernel : Kept
+  pub outs : List (Option Out)
+
+-- what the kernel shows as lent, as the processor holds it now
+abbrev pub held_now : Option Lent → Option Out → Option Lent
+held_now (Some l) (Some o) = Some (record l { out = o })
+held_now lent _ = lent
+
+abbrev pub all_held_now : List (Option Lent) → List (Option Out) → List (Option Lent)
+all_held_now (l ∷ ls) (o ∷ os) = held_now l o ∷ all_held_now ls os
+all_held_now ls _ = ls
+
+-- THE WORLD of a machine: its kernel's, but that a processor's process stands where the processor has brought it
+unfoldable pub world_of : Running → Whole
+world_of m = let w = replay m.kernel in record w { cpus = all_held_now w.cpus m.outs }
+
+-- What a processor holds is what it was lent, after a run of the steps that it counts.
+pub record IsRunOf (lent out : Out) : Type 0 where
+  pub back : IsBack lent out
+  pub within : out.count ≤ out.budget
+
+-- a processor holds something exactly where it was lent something
+abbrev pub IsHeld : Option Lent → Option Out → Type 0
+IsHeld (Some l) (Some o) = IsRunOf l.out o
+IsHeld None None = Unit {0}
+IsHeld _ _ = ⊥
+
+-- What always holds of a machine.
+pub record IsRunning (m : Running) : Type 0 where
+  pub few : length (replay m.kernel).cpus ≤ 8
+  pub each : (a : ℕ) → IsHeld (held_by (replay m.kernel) a) (slice_index_or m.outs a None)
+
+-- A tool has worked with what a processor holds: the world is that after the steps of its run, none of which is refused.
+pub record HasWorked (w u : Whole) (a j : ℕ) (l : Lent) : Type 0 where
+  pub held : held_by w a ≡ Some l
+  pub accepted : AreAccepted w (steps_of a (held_run j l.out).0.0)
+  pub world : u ≡ after_events w (steps_of a (held_run j l.out).0.0)
+  pub out : held_by u a ≡ Some (record l { out = (held_run j l.out).1 })
+
+-- one step of what a processor holds
+abbrev pub stepped_held : Option Out → Result Answer Refusal × Option Out
+stepped_held None = (Err CpuEmpty, None)
+stepped_held (Some o) = if at_stop o then (Err AtStop, Some o) else (Ok (Went (outcome_of_step o)), Some (stepped o))
+
+-- the actors of lines, ticks, kills and respawns are numbered: processors, then the others
+abbrev pub IsActor : Whole → ℕ → Event → Type 0
+IsActor w a Step = Unit {0}
+IsActor w a Take = Unit {0}
+IsActor w a Back = Unit {0}
+IsActor w a _ = a < length w.cpus + w.others

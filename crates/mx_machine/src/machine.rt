@@ -1,0 +1,184 @@
+//! A kernel, and what its processors hold.
+
+ghost use Rattle.std.specs.Prelude.{◌≡◌, ℕ, ◌+◌, ◌<◌, ◌≤◌, ◌++◌, ◌∷◌, [], All, Ok, None, Some, IsSome, IfSome, IfErr, OnOk, OnErr, MatchOption, vec_len, vec_capacity};
+ghost use Rattle.mx_proc.specs.World.{endpoint_of};
+ghost use Rattle.mx_world.specs.declared.events.Event.TheVariants as events;
+ghost use Rattle.mx_world.specs.declared.events.Refusal.TheVariants.{CpuEmpty};
+ghost use Rattle.mx_world.specs.History.{replay};
+ghost use Rattle.mx_world.specs.Move.{move, moves};
+ghost use Rattle.mx_world.specs.Whole.{Lent, held_by, out_count};
+ghost use Rattle.mx_machine.specs.Machine.{HasWorked, IsActor, IsRunOf, world_of};
+
+use crate::steps::{Tool, step_held, work_held};
+use mx_exec::Image;
+use mx_kernel::Kernel;
+use mx_proc::Endpoint;
+use mx_word::NoMemory;
+use mx_world::{Answer, Event, Out, Refusal, held_runs_join, runs_are_steps};
+use std::marker::Model;
+use std::mem;
+
+/// The machine of one thread: a kernel, and what each of its processors holds.
+#[derive(Drop)]
+pub struct Machine {
+    kernel: Kernel,
+    outs: [Option<Out>; 8],
+}
+
+impl Model for Machine {
+    ghost use Rattle.mx_machine.specs.Machine.{Running, IsRunning};
+
+    ghost Value = { Running };
+
+    ghost view = { λ m. record { kernel = m.kernel; outs = m.outs } };
+
+    ghost invariant = { λ m. IsRunning (record { kernel = m.kernel; outs = m.outs }) };
+}
+
+/// The endpoint of the process that is on a processor.
+fn endpoint_on(kernel: &Kernel, cpu: u8) -> Endpoint
+    requires { IsSome (held_by (replay kernel.now) cpu) }
+    ensures { IfSome (held_by (replay kernel.now) cpu) (λ l. result ≡ endpoint_of (replay kernel.now).table l.slot) }
+{
+    kernel.opened();
+    match kernel.slot_on(cpu) {
+        Some(slot) => kernel.table().endpoint(slot),
+        None => unreachable!(),
+    }
+}
+
+/// Adds an answer, where there is room.
+fn add(answers: &mut Vec<Result<Answer, Refusal>>, answer: Result<Answer, Refusal>)
+    requires { vec_len answers.old < vec_capacity answers.old }
+    ensures items { answers.new.items ≡ answers.old.items ++ answer ∷ [] }
+    ensures room { vec_capacity answers.old ≤ vec_capacity answers.new }
+{
+    match answers.push(answer) {
+        Ok(()) => {}
+        Err(_) => unreachable!(),
+    }
+}
+
+impl Machine {
+    /// A kernel's machine, whose processors hold nothing yet. Takes no memory.
+    pub fn new(kernel: Kernel) -> Machine
+        requires { out_count (replay kernel).cpus ≡ 0 }
+        ensures kernel { result.kernel ≡ kernel }
+        ensures world { world_of result ≡ replay kernel }
+    {
+        kernel.opened();
+        Machine {
+            kernel,
+            outs: [None, None, None, None, None, None, None, None],
+        }
+    }
+
+    /// The kernel.
+    pub fn kernel(&self) -> &Kernel
+        ensures { result.now ≡ self.now.kernel }
+    {
+        &self.kernel
+    }
+
+    /// The image that a processor holds, as it is now.
+    pub fn image(&self, cpu: u8) -> Option<&Image>
+        ensures { MatchOption result (held_by (world_of self.now) cpu ≡ None) (λ image. (l : Lent) × (held_by (world_of self.now) cpu ≡ Some l) × (image.now ≡ l.out.image)) }
+    {
+        if cpu >= 8 {
+            return None;
+        }
+        match &self.outs[cpu as usize] {
+            Some(out) => Some(&out.image),
+            None => None,
+        }
+    }
+
+    /// Lends what a processor holds to a tool.
+    pub fn work<T: Tool>(&mut self, cpu: u8, tool: &mut T) -> Result<(), Refusal>
+        ensures ok { OnOk result ((l : Lent) × HasWorked (world_of self.old) (world_of self.new) cpu (T.steps tool.old l.out) l × T.Becomes tool.old l.out tool.new) }
+        ensures err { IfErr result (λ refusal. (refusal ≡ CpuEmpty) × (held_by (world_of self.old) cpu ≡ None) × (self.new ≡ self.old) × (tool.new ≡ tool.old)) }
+        ensures kernel { self.new.kernel ≡ self.old.kernel }
+    {
+        held_runs_join();
+        runs_are_steps();
+        if cpu >= 8 {
+            return Err(Refusal::CpuEmpty);
+        }
+        work_held(tool, &mut self.outs[cpu as usize])
+    }
+
+    /// A step of a processor.
+    fn step(&mut self, cpu: u8) -> Result<Answer, Refusal>
+        ensures { move (world_of self.old) cpu events.Step ≡ (result, world_of self.new) }
+    {
+        held_runs_join();
+        if cpu >= 8 {
+            return Err(Refusal::CpuEmpty);
+        }
+        step_held(&mut self.outs[cpu as usize])
+    }
+
+    /// A processor takes the process that is first to run.
+    fn take(&mut self, cpu: u8) -> Result<Answer, Refusal>
+        ensures { move (world_of self.old) cpu events.Take ≡ (result, world_of self.new) }
+    {
+        let out = self.kernel.take(cpu)?;
+        self.kernel.opened();
+        let answer = Answer::Taken(endpoint_on(&self.kernel, cpu), out.budget);
+        self.outs[cpu as usize] = Some(out);
+        Ok(answer)
+    }
+
+    /// A processor's process comes back.
+    fn back(&mut self, cpu: u8) -> Result<Answer, Refusal>
+        ensures { move (world_of self.old) cpu events.Back ≡ (result, world_of self.new) }
+    {
+        if cpu >= 8 {
+            return Err(Refusal::CpuEmpty);
+        }
+        match mem::replace(&mut self.outs[cpu as usize], None) {
+            Some(out) => Ok(Answer::Returned(self.kernel.back(cpu, out))),
+            None => Err(Refusal::CpuEmpty),
+        }
+    }
+
+    /// One event of an actor: it is refused, and nothing changes, or it is answered.
+    pub fn apply(&mut self, actor: u8, event: Event) -> Result<Answer, Refusal>
+        requires { IsActor (world_of self.old) actor event }
+        ensures { move (world_of self.old) actor event ≡ (result, world_of self.new) }
+    {
+        match event {
+            Event::Step => self.step(actor),
+            Event::Take => self.take(actor),
+            Event::Back => self.back(actor),
+            _ => self.kernel.event(actor, event),
+        }
+    }
+
+    /// Events in order, each by its actor; their answers are added to a list. For want of memory nothing
+    /// changes.
+    pub fn run(
+        &mut self,
+        events: &[(u8, Event)],
+        answers: &mut Vec<Result<Answer, Refusal>>,
+    ) -> Result<(), NoMemory>
+        requires { All (λ x. IsActor (world_of self.old) x.0 x.1) events.now }
+        ensures ok { OnOk result ((answers.new.items ≡ answers.old.items ++ (moves (world_of self.old) events.now).0) × (world_of self.new ≡ (moves (world_of self.old) events.now).1)) }
+        ensures err { OnErr result ((answers.new.items ≡ answers.old.items) × (self.new ≡ self.old)) }
+    {
+        answers.reserve(events.len())?;
+        for pair in events {
+            let answer = self.apply(pair.0, pair.1);
+            add(answers, answer);
+        }
+        Ok(())
+    }
+
+    /// Opens to a proof what always holds of a machine: what a processor holds is what the kernel lent,
+    /// after a run.
+    pub fn opened(&self)
+        ensures { (a : ℕ) (l m : Lent) → held_by (replay self.now.kernel) a ≡ Some l → held_by (world_of self.now) a ≡ Some m → IsRunOf l.out m.out }
+    {
+        let _kernel = &self.kernel;
+    }
+}
