@@ -3,17 +3,17 @@
 
 ghost use Rattle.std.specs.Prelude.{◌≡◌, ◌≢◌, ℕ, ◌%◌, ◌<◌, ◌^◌, ◌-◌, Some, None, true, false, length};
 ghost use Rattle.mx_proc.specs.Frame.{frame};
-ghost use Rattle.mx_proc.specs.Sound.{HasBuffer};
+ghost use Rattle.mx_proc.specs.Sound.{HasBuffer, NoneComesHome};
 ghost use Rattle.mx_proc.specs.States.{IsAlone, is_ready, is_sending, is_blocked, is_out};
 ghost use Rattle.mx_proc.specs.Waits.{Reaches, without_from};
 ghost use Rattle.mx_proc.specs.Partners.{place_of};
 ghost use Rattle.mx_proc.specs.World.{process_at, IsUsedSource};
 ghost use Rattle.mx_proc.specs.Endpoints.{names_slot};
-ghost use Rattle.mx_proc.specs.declared.process.State.TheVariants.{Home};
+ghost use Rattle.mx_proc.specs.declared.process.State.TheVariants.{Home, Ready};
 ghost use Rattle.mx_ipc.specs.Checks.{Passed};
 ghost use Rattle.mx_ipc.specs.Calls.{goes_on, accepts, hears, sent, released, taken, received, called, told, partner_of, acted, performed, answer, trapped, trap_answer, notified, answer_by, MayNotify};
 ghost use Rattle.mx_ipc.specs.declared.calls.Call.TheVariants as calls;
-ghost use Rattle.mx_ipc.specs.declared.calls.TrapAnswer.TheVariants.{Kernel};
+ghost use Rattle.mx_ipc.specs.declared.calls.TrapAnswer.TheVariants.{Done, Kernel};
 
 mod calls;
 mod checks;
@@ -38,6 +38,8 @@ pub fn go_on(table: &mut Table, slot: Slot, value: u32)
     ensures used { length table.new.slots ≡ length table.old.slots }
     ensures waits { table.new.waits ≡ table.old.waits }
     ensures others { (s : ℕ) → s ≢ slot → process_at table.new s ≡ process_at table.old s }
+    ensures ready { (process_at table.new slot).state ≡ Ready }
+    ensures settled { NoneComesHome table.old table.new }
 {
     table.set_result(slot, value);
     enqueue(table, slot);
@@ -81,6 +83,8 @@ fn deliver_or_block(table: &mut Table, slot: Slot, to: Slot)
     requires free { Reaches table.old.waits to slot → ⊥ }
     ensures value { table.new ≡ sent table.old slot to }
     ensures frame { frame table.new ≡ frame table.old }
+    ensures settled { NoneComesHome table.old table.new }
+    ensures own { (process_at table.new slot).state ≢ Home }
 {
     let state = table.process(to).state;
     if accepts(state, slot) {
@@ -103,6 +107,7 @@ fn release(table: &mut Table, slot: Slot, from: Slot)
     ensures frame { frame table.new ≡ frame table.old }
     ensures used { length table.new.slots ≡ length table.old.slots }
     ensures others { (s : ℕ) → s ≢ from → process_at table.new s ≡ process_at table.old s }
+    ensures settled { NoneComesHome table.old table.new }
 {
     let state = table.process(from).state;
     table.unblock(from);
@@ -120,8 +125,11 @@ fn take_or_wait(table: &mut Table, slot: Slot, partner: Partner, state: State)
     requires inside { HasBuffer (process_at table.old slot) }
     requires alone { IsAlone state }
     requires stays { is_out state ≡ false }
+    requires waits { state ≢ Home }
     ensures value { table.new ≡ taken table.old slot partner state }
     ensures frame { frame table.new ≡ frame table.old }
+    ensures settled { NoneComesHome table.old table.new }
+    ensures own { (process_at table.new slot).state ≢ Home }
 {
     match table.caller(slot, partner) {
         None => table.set_state(slot, state),
@@ -141,6 +149,8 @@ fn hear_or_take(table: &mut Table, slot: Slot, partner: Partner)
     requires inside { HasBuffer (process_at table.old slot) }
     ensures value { table.new ≡ received table.old slot partner }
     ensures frame { frame table.new ≡ frame table.old }
+    ensures settled { NoneComesHome table.old table.new }
+    ensures own { (process_at table.new slot).state ≢ Home }
 {
     match table.first_pending(slot, partner) {
         None => take_or_wait(table, slot, partner, State::Receiving(partner)),
@@ -162,6 +172,8 @@ fn deliver_and_await(table: &mut Table, slot: Slot, to: Slot)
     requires free { Reaches table.old.waits to slot → ⊥ }
     ensures value { table.new ≡ called table.old slot to }
     ensures frame { frame table.new ≡ frame table.old }
+    ensures settled { NoneComesHome table.old table.new }
+    ensures own { (process_at table.new slot).state ≢ Home }
 {
     let state = table.process(to).state;
     if accepts(state, slot) {
@@ -187,6 +199,7 @@ fn tell(table: &mut Table, source: Source, to: Slot)
     ensures frame { frame table.new ≡ frame table.old }
     ensures used { length table.new.slots ≡ length table.old.slots }
     ensures home { (s : ℕ) → (process_at table.old s).state ≡ Home → (process_at table.new s).state ≡ Home }
+    ensures settled { NoneComesHome table.old table.new }
 {
     let state = table.process(to).state;
     if hears(state, source) {
@@ -219,6 +232,9 @@ fn act(table: &mut Table, slot: Slot, call: Call, party: Party) -> TrapAnswer
     ensures frame { frame table.new ≡ frame table.old }
     ensures answer { result ≡ answer_by call (Some party) None }
     ensures same { result ≡ Kernel → table.new ≡ table.old }
+    ensures settled { NoneComesHome table.old table.new }
+    ensures own { result ≡ Done → (process_at table.new slot).state ≢ Home }
+    ensures buffer { result ≡ Kernel → HasBuffer (process_at table.old slot) }
 {
     match (call, party) {
         (Call::Send, Party::Process(to, _)) => deliver_or_block(table, slot, to),
@@ -243,6 +259,9 @@ fn perform(table: &mut Table, slot: Slot, call: Call, number: u32) -> TrapAnswer
     ensures frame { frame table.new ≡ frame table.old }
     ensures answer { result ≡ answer table.old slot call number }
     ensures same { result ≡ Kernel → table.new ≡ table.old }
+    ensures settled { NoneComesHome table.old table.new }
+    ensures own { result ≡ Done → (process_at table.new slot).state ≢ Home }
+    ensures buffer { result ≡ Kernel → HasBuffer (process_at table.old slot) }
 {
     match check(table, slot, call, number) {
         Err(error) => {
@@ -290,6 +309,7 @@ pub fn notify(table: &mut Table, source: Source, to: Endpoint)
     requires { MayNotify table.old source to }
     ensures value { table.new ≡ notified table.old source to }
     ensures frame { frame table.new ≡ frame table.old }
+    ensures settled { NoneComesHome table.old table.new }
 {
     // So few that a slot fits a byte.
     let _used = table.used();
@@ -311,6 +331,9 @@ pub fn trap(table: &mut Table, slot: Slot) -> TrapAnswer
     ensures frame { frame table.new ≡ frame table.old }
     ensures answer { result ≡ trap_answer table.old slot }
     ensures same { result ≡ Kernel → table.new ≡ table.old }
+    ensures settled { NoneComesHome table.old table.new }
+    ensures own { result ≡ Done → (process_at table.new slot).state ≢ Home }
+    ensures buffer { result ≡ Kernel → HasBuffer (process_at table.old slot) }
 {
     let image = &table.process(slot).image;
     let number = image.register(Register::Eax);

@@ -236,7 +236,6 @@ fn new_table(rt: &impl Abort, alloc: Global) -> Result<Table, Fail> {
 /// A ready process makes a trap, with a message in its buffer.
 fn make_trap(
     rt: &impl Abort,
-    alloc: Global,
     table: &mut Table,
     step: &Step,
     message: &[u8],
@@ -245,7 +244,7 @@ fn make_trap(
     assert!(rt; slot < table.used());
     assert!(rt; table.process(slot).state.is_ready());
     dequeue(table, slot);
-    let mut image = table.lend(alloc, slot);
+    let mut image = table.lend(slot);
     image.regs.set(Size::Dword, Register::Ecx, step.2);
     image.regs.set(Size::Dword, Register::Eax, step.3);
     image.regs.set(Size::Dword, Register::Ebx, step.4);
@@ -270,7 +269,7 @@ fn traps(rt: HostRuntime) -> Result<(), Fail> {
         if step.0 {
             table = new_table(&rt, rt.alloc())?;
         }
-        let after = make_trap(&rt, rt.alloc(), &mut table, step, &[])?;
+        let after = make_trap(&rt, &mut table, step, &[])?;
         let own = look_at(&rt, &table, step.1);
         assert!(rt; own == step.5, "step {number}");
         assert!(rt;
@@ -297,7 +296,6 @@ fn messages(rt: HostRuntime) -> Result<(), Fail> {
         let step = Step(ON, slot, call, name, buffer, Goes(0), slot, Goes(0));
         make_trap(
             &rt,
-            rt.alloc(),
             &mut table,
             &step,
             if slot == 2 { &sent } else { &[] },

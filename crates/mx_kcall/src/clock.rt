@@ -2,6 +2,7 @@
 
 ghost use Rattle.std.specs.Prelude.{◌≡◌, ◌≢◌, ℕ, ◌+◌, ◌<◌, ◌^◌, IsSome, IfSome, length};
 ghost use Rattle.mx_proc.specs.Frame.{frame};
+ghost use Rattle.mx_proc.specs.Sound.{NoneComesHome};
 ghost use Rattle.mx_proc.specs.World.{process_at};
 ghost use Rattle.mx_kcall.specs.Refusals.{owner_of};
 ghost use Rattle.mx_kcall.specs.Clock.{is_due, raised, ticked};
@@ -16,6 +17,7 @@ pub fn raise(table: &mut Table, line: u8)
     requires owned { IsSome (owner_of table.old line) }
     ensures value { IfSome (owner_of table.old line) (λ s. table.new ≡ raised table.old line s) }
     ensures frame { frame table.new ≡ frame table.old }
+    ensures settled { NoneComesHome table.old table.new }
 {
     table.sound();
     if let Some(owner) = table.devices().owners[line as usize] {
@@ -40,6 +42,7 @@ fn ring(table: &mut Table, slot: Slot)
     ensures value { table.new ≡ rung_if_due table.old slot }
     ensures frame { frame table.new ≡ frame table.old }
     ensures others { (s : ℕ) → s ≢ slot → (process_at table.new s).alarm ≡ (process_at table.old s).alarm }
+    ensures settled { NoneComesHome table.old table.new }
 {
     if is_due(table.uptime(), table.process(slot).alarm) {
         table.set_alarm(slot, None);
@@ -53,6 +56,7 @@ pub fn tick(table: &mut Table)
     requires { table.old.uptime + 1 < 2 ^ 32 }
     ensures value { table.new ≡ ticked table.old }
     ensures frame { frame table.new ≡ record (frame table.old) { uptime = table.old.uptime + 1 } }
+    ensures settled { NoneComesHome table.old table.new }
 {
     table.advance();
     for slot in 0..table.used() {

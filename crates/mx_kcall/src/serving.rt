@@ -2,7 +2,7 @@
 
 ghost use Rattle.std.specs.Prelude.{◌≡◌, ◌≢◌, ℕ, ◌+◌, ◌<◌, ◌≤◌, ◌^◌, ◌==◌, false, Some, None, length};
 ghost use Rattle.mx_proc.specs.Frame.{frame};
-ghost use Rattle.mx_proc.specs.Sound.{HasBuffer};
+ghost use Rattle.mx_proc.specs.Sound.{HasBuffer, NoneComesHome};
 ghost use Rattle.mx_proc.specs.World.{process_at};
 ghost use Rattle.mx_proc.specs.declared.process.State.TheVariants.{Home};
 ghost use Rattle.mx_kcall.specs.Refusals.{IsPermitted};
@@ -78,6 +78,8 @@ fn change(table: &mut Table, slot: Slot, request: Request)
     ensures used { length table.new.slots ≡ length table.old.slots }
     ensures home { (process_at table.new slot).state ≡ Home }
     ensures inside { HasBuffer (process_at table.new slot) }
+    ensures settled { NoneComesHome table.old table.new }
+    ensures console { table.new.devices.console.count ≤ table.old.devices.console.count + 1 }
 {
     // So few that a slot fits a byte.
     let _used = table.used();
@@ -118,6 +120,8 @@ fn reply(table: &mut Table, slot: Slot, outcome: u32, answer: Answer)
     ensures frame { frame table.new ≡ frame table.old }
     ensures used { length table.new.slots ≡ length table.old.slots }
     ensures devices { table.new.devices ≡ table.old.devices }
+    ensures settled { NoneComesHome table.old table.new }
+    ensures own { (process_at table.new slot).state ≢ Home }
 {
     table.receive(slot, &reply_bytes(outcome, answer));
     go_on(table, slot, 0);
@@ -146,6 +150,9 @@ fn serve(table: &mut Table, slot: Slot, request: Request) -> After
     ensures after { result ≡ after_served slot request }
     ensures frame { frame table.new ≡ record (frame table.old) { devices = table.new.devices } }
     ensures used { length table.new.slots ≡ length table.old.slots }
+    ensures settled { NoneComesHome table.old table.new }
+    ensures own { (process_at table.new slot).state ≢ Home }
+    ensures console { table.new.devices.console.count ≤ table.old.devices.console.count + 1 }
 {
     if ends(slot, request) {
         die(table, slot, Cause::Exit);
@@ -168,6 +175,9 @@ pub fn call(table: &mut Table, slot: Slot) -> After
     ensures after { result ≡ after_call table.old slot }
     ensures frame { frame table.new ≡ record (frame table.old) { devices = table.new.devices } }
     ensures used { length table.new.slots ≡ length table.old.slots }
+    ensures settled { NoneComesHome table.old table.new }
+    ensures own { (process_at table.new slot).state ≢ Home }
+    ensures console { table.new.devices.console.count ≤ table.old.devices.console.count + 1 }
 {
     match check(table, slot) {
         Ok(request) => serve(table, slot, request),

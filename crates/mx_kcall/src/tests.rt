@@ -66,7 +66,7 @@ fn make_call(
     assert!(rt; slot < table.used());
     assert!(rt; table.process(slot).state.is_ready());
     dequeue(table, slot);
-    let mut image = table.lend(alloc, slot);
+    let mut image = table.lend(slot);
     for (place, word) in (516..540).step_by(4).zip(words.iter()) {
         let _ = image.memory.write(place, Size::Dword, *word);
     }

@@ -1,12 +1,11 @@
 use Rattle.std.proofs.Common.{◌≡◌, ℕ, ◌<◌, zero, suc, map, List, [], ◌∷◌, length, get_or, slice_set, Option, Some, true, false, refl, sym, ap, ◌∙◌, subst}
-use Rattle.std.proofs.lemmas.List.{get_or-map}
 use Rattle.mx_proc.specs.declared.process.Process.{Process}
 use Rattle.mx_proc.specs.declared.devices.Devices.{Devices}
 use Rattle.mx_proc.specs.States.{is_out}
-use Rattle.mx_proc.specs.World.{World, nobody, process_at}
-use Rattle.mx_proc.specs.Frame.{Fixed, Frame, fixed_of, loan_of, nothing_fixed, frame, with_loan, with_steps}
+use Rattle.mx_proc.specs.World.{World, process_at, with_process}
+use Rattle.mx_proc.specs.Frame.{Fixed, Frame, fixed_of, loan_of, frame, reframed}
 use Rattle.mx_proc.specs.declared.deliveries.Delivery.{Delivery}
-use Rattle.mx_proc.proofs.ListLemmas.{get_or-any}
+use Rattle.mx_proc.proofs.SoundLemmas.{process-same}
 use Rattle.mx_proc.proofs.TableLemmas.{the_process, home_of}
 
 -- a list of what f shows, where tally item was replaced by tally that shows the same
@@ -49,20 +48,14 @@ pub framed_out : (w n : World) (s : ℕ) (q p : Process) (r : List (List ℕ)) (
     → is_out p.state ≡ true → is_out (process_at n s).state ≡ true → p.ticks ≡ q.ticks → frame (record w { slots = slice_set w.slots s p; ready = r; waits = v; renewed = k; deliveries = l }) ≡ frame n
 framed_out w n s q p r v k l is b e fixed a h t = framed w n s q p r v k l is e fixed (out_loan p q a (ap (λ (x : Process). is_out x.state) (the_process w n s q is b e) ∙ h) t)
 
--- one loan is changed
-pub loaned : (w n : World) (s : ℕ) (q p : Process) → w ≡ n → q ≡ get_or w.slots s q → fixed_of p ≡ fixed_of q → frame (record w { slots = slice_set w.slots s p }) ≡ with_loan (frame n) s (loan_of p)
+-- one slot is another process's
+pub put_new : (w n : World) (s : ℕ) (p : Process) (r : List (List ℕ)) → w ≡ n → frame (record w { slots = slice_set w.slots s p; ready = r }) ≡ reframed (frame n) s p
 unfolding frame
-loaned w n s q p v e fixed =
-    same (map fixed_of (slice_set w.slots s p)) (map fixed_of w.slots) (map loan_of (slice_set w.slots s p)) (slice_set (map loan_of w.slots) s (loan_of p)) w.uptime w.devices
-    (map-set fixed_of w.slots s q p (fixed ∙ ap fixed_of e)) (map-put loan_of w.slots s p) ∙ ap (λ x. with_loan (frame x) s (loan_of p)) v
+put_new w n s p r v =
+    same (map fixed_of (slice_set w.slots s p)) (slice_set (map fixed_of w.slots) s (fixed_of p)) (map loan_of (slice_set w.slots s p)) (slice_set (map loan_of w.slots) s (loan_of p)) w.uptime w.devices
+    (map-put fixed_of w.slots s p) (map-put loan_of w.slots s p) ∙ ap (λ x. reframed (frame x) s p) v
 
--- steps are counted
-pub counted : (w n : World) (s k : ℕ) (q p : Process) → w ≡ n → s < length n.slots → q ≡ get_or w.slots s q → fixed_of p ≡ record (fixed_of q) { steps = k } → is_out p.state ≡ false → is_out (process_at n s).state ≡ false
-    → frame (record w { slots = slice_set w.slots s p }) ≡ with_steps (frame n) s k
-unfolding frame
-counted w n s k q p v b e fixed a h =
-    let lt : s < length w.slots = subst (λ (x : World). s < length x.slots) (sym v) b in
-    let was : fixed_of q ≡ get_or (map fixed_of w.slots) s nothing_fixed = ap fixed_of (e ∙ get_or-any w.slots s q nobody lt) ∙ sym (get_or-map fixed_of w.slots s nobody nothing_fixed lt) in
-    same (map fixed_of (slice_set w.slots s p)) (slice_set (map fixed_of w.slots) s (record (get_or (map fixed_of w.slots) s nothing_fixed) { steps = k })) (map loan_of (slice_set w.slots s p)) (map loan_of w.slots) w.uptime w.devices
-    (map-put fixed_of w.slots s p ∙ ap (slice_set (map fixed_of w.slots) s) (fixed ∙ ap (λ (f : Fixed). record f { steps = k }) was))
-    (map-set loan_of w.slots s q p (no_loan p q a (home_of w n s q v b e h) ∙ ap loan_of e)) ∙ ap (λ x. with_steps (frame x) s k) v
+-- and the table tells it
+pub put : (w n : World) (s : ℕ) (p : Process) (r : List (List ℕ)) → w ≡ n → s < length n.slots
+    → frame (record w { slots = slice_set w.slots s p; ready = r }) ≡ reframed (frame n) s (process_at (with_process w s p) s)
+put w n s p r v b = put_new w n s p r v ∙ ap (reframed (frame n) s) (sym (process-same w (with_process w s p) s p (subst (λ (x : World). s < length x.slots) (sym v) b) refl))

@@ -154,9 +154,9 @@ copied_sound w n s at bytes ps v h b room e =
       memory = length-overwritten q.image.memory at bytes room;
     }))
 
-pub copied_framed : (w n : World) (s at : ℕ) (bytes : List ℕ) (ps : List Process) → w ≡ n → s < length n.slots
+pub copied_framed : (w n : World) (s at : ℕ) (bytes : List ℕ) (ps : List Process) → w ≡ n → s < length n.slots → at + length bytes ≤ length (get_or w.slots s nobody).image.memory
     → ps ≡ slice_set w.slots s (copied_to (get_or w.slots s nobody) at bytes) → frame (record w { slots = ps }) ≡ frame n
-copied_framed w n s at bytes ps v b e =
+copied_framed w n s at bytes ps v b room e =
     let q = get_or w.slots s nobody in
     let used : s < length w.slots = subst (λ (x : World). s < length x.slots) (sym v) b in
-    ap (λ l. frame (record w { slots = l })) e ∙ framed w n s q (copied_to q at bytes) w.ready w.waits w.renewed w.deliveries v (get_or-any w.slots s nobody q used) refl refl
+    ap (λ l. frame (record w { slots = l })) e ∙ framed w n s q (copied_to q at bytes) w.ready w.waits w.renewed w.deliveries v (get_or-any w.slots s nobody q used) (ap (λ k. record (fixed_of q) { lasting = (q.image.code, k) }) (length-overwritten q.image.memory at bytes room)) refl

@@ -4,7 +4,7 @@ use Rattle.mx_proc.specs.declared.process.Process.{Process}
 use Rattle.mx_proc.specs.declared.process.State.{State}
 use Rattle.mx_proc.specs.declared.process.State.TheVariants.{Home, Ready, Out, Doomed, Sending, Calling, Receiving, Awaiting, Down}
 use Rattle.mx_proc.specs.Queues.{tally, times, without, list_at}
-use Rattle.mx_proc.specs.States.{IsAlone, is_ready, is_sending, is_blocked, is_out}
+use Rattle.mx_proc.specs.States.{IsAlone, is_ready, is_sending, is_blocked, is_down, is_out}
 use Rattle.mx_proc.specs.Waits.{without_from, Reaches}
 use Rattle.mx_proc.specs.World.{World, nobody, process_at, with_process}
 use Rattle.mx_proc.specs.Sound.{Sound, IsProcess, HasBuffer}
@@ -129,6 +129,28 @@ out_alone Calling h = cc
 out_alone (Receiving x) h = cc
 out_alone (Awaiting x) h = cc
 out_alone (Down x) h = cc
+
+pub down_alone : (st : State) → is_down st ≡ true → IsAlone st
+down_alone (Down x) h = (refl, refl)
+down_alone Out h = cc
+down_alone Doomed h = cc
+down_alone Home h = cc
+down_alone Ready h = cc
+down_alone Sending h = cc
+down_alone Calling h = cc
+down_alone (Receiving x) h = cc
+down_alone (Awaiting x) h = cc
+
+pub down_idle : (st : State) → is_down st ≡ true → is_blocked st ≡ true → false ≡ true
+down_idle (Down x) h b = b
+down_idle Out h b = b
+down_idle Doomed h b = b
+down_idle Home h b = b
+down_idle Ready h b = b
+down_idle Sending h b = h
+down_idle Calling h b = h
+down_idle (Receiving x) h b = h
+down_idle (Awaiting x) h b = h
 
 -- a change of a process that keeps its state
 pub kept_states : (w w' : World) (d : ℕ) (p : Process) → d < length w.slots → w'.slots ≡ slice_set w.slots d p → p.state ≡ (process_at w d).state → (s : ℕ) → (process_at w' s).state ≡ (process_at w s).state

@@ -1,10 +1,12 @@
 -- What queues and messages leave alone.
-use Rattle.std.specs.Prelude.{ℕ, map, List, Option, Some, None, if◌then◌else◌, slice_set, slice_index_or}
+use Rattle.std.specs.Prelude.{ℕ, map, List, Option, Some, None, if◌then◌else◌, slice_set}
+use Rattle.mx_exec.specs.declared.image.Code.{Code}
+use Rattle.mx_exec.specs.Lasting.{lasting}
 use Rattle.mx_proc.specs.declared.process.Process.{Process}
 use Rattle.mx_proc.specs.declared.process.Masks.{Masks}
 use Rattle.mx_proc.specs.declared.devices.Devices.{Devices}
 use Rattle.mx_proc.specs.States.{is_out}
-use Rattle.mx_proc.specs.World.{World, nobody}
+use Rattle.mx_proc.specs.World.{World}
 
 -- Of a process.
 pub record Fixed : Type 0 where
@@ -14,6 +16,8 @@ pub record Fixed : Type 0 where
   pub masks : Masks
   pub best : ℕ
   pub quantum : ℕ
+  -- what no step changes of its image
+  pub lasting : Code × ℕ
 
 -- Of a table.
 pub record Frame : Type 0 where
@@ -24,10 +28,7 @@ pub record Frame : Type 0 where
   pub devices : Devices
 
 abbrev pub fixed_of : Process → Fixed
-fixed_of p = record { generation = p.generation; restarts = p.restarts; steps = p.steps; masks = p.masks; best = p.best; quantum = p.quantum }
-
-abbrev pub nothing_fixed : Fixed
-nothing_fixed = fixed_of nobody
+fixed_of p = record { generation = p.generation; restarts = p.restarts; steps = p.steps; masks = p.masks; best = p.best; quantum = p.quantum; lasting = lasting p.image }
 
 abbrev pub loan_of : Process → Option ℕ
 loan_of p = if is_out p.state then Some p.ticks else None
@@ -35,10 +36,6 @@ loan_of p = if is_out p.state then Some p.ticks else None
 unfoldable pub frame : World → Frame
 frame w = record { fixed = map fixed_of w.slots; loans = map loan_of w.slots; uptime = w.uptime; devices = w.devices }
 
--- a slot's image is out with so many ticks, or home
-abbrev pub with_loan : Frame → ℕ → Option ℕ → Frame
-with_loan f s loan = record f { loans = slice_set f.loans s loan }
-
--- a process has made so many steps
-abbrev pub with_steps : Frame → ℕ → ℕ → Frame
-with_steps f s steps = record f { fixed = slice_set f.fixed s (record (slice_index_or f.fixed s nothing_fixed) { steps = steps }) }
+-- of one slot all is this process's, of the others what it was
+abbrev pub reframed : Frame → ℕ → Process → Frame
+reframed f s p = record f { fixed = slice_set f.fixed s (fixed_of p); loans = slice_set f.loans s (loan_of p) }

@@ -1,6 +1,7 @@
 -- What always holds of a table.
-use Rattle.std.specs.Prelude.{ℕ, ◌+◌, ◌<◌, ◌^◌, ◌≡◌, ◌≤◌, ◌==◌, true, List, [], length, None, IfSome, slice_index_or, if◌then◌else◌}
+use Rattle.std.specs.Prelude.{ℕ, ◌+◌, ◌<◌, ◌^◌, ◌≡◌, ◌≤◌, ◌==◌, ◌≢◌, true, List, [], length, None, IfSome, slice_index_or, if◌then◌else◌}
 use Rattle.mx_proc.specs.declared.process.Process.{Process}
+use Rattle.mx_proc.specs.declared.process.State.TheVariants.{Home}
 use Rattle.mx_proc.specs.Queues.{tally, times, list_at}
 use Rattle.mx_proc.specs.States.{is_ready, is_sending, is_blocked}
 use Rattle.mx_proc.specs.Waits.{sends_of, IsPair, Acyclic}
@@ -45,3 +46,7 @@ pub record Sound (w : World) : Type 0 where
   -- who owns a line has a slot
   pub lines : length w.devices.owners ≡ 16
   pub owned : (line : ℕ) → IfSome (slice_index_or w.devices.owners line None) (λ s. s < length w.slots)
+
+-- who is at home was so before
+abbrev pub NoneComesHome : World → World → Type 0
+NoneComesHome w n = (s : ℕ) → (process_at w s).state ≢ Home → (process_at n s).state ≢ Home

@@ -177,6 +177,10 @@ moved_home w s image = with_process w s (record (process_at w s) { state = Home;
 abbrev pub spent : World → ℕ → ℕ → World
 spent w s n = let p = process_at w s in with_process w s (record p { ticks = p.ticks - n; steps = p.steps + n })
 
+-- another image stands in a slot
+abbrev pub with_image : World → ℕ → Image → World
+with_image w s image = with_process w s (record (process_at w s) { image = image })
+
 -- ---- new processes
 
 -- a process as it begins: ready, with a full quantum
@@ -196,4 +200,11 @@ abbrev pub added : World → Image → Masks → ℕ → ℕ → ℕ → World
 added w image masks level best quantum = record w {
   slots = w.slots ++ new_process image masks level best quantum ∷ [];
   ready = slice_set w.ready level (list_at w.ready level ++ length w.slots ∷ []);
+}
+
+-- another process, which is ready, stands in a slot, and at the end of the list of its level
+abbrev pub revived : World → ℕ → Process → World
+revived w s p = record w {
+  slots = slice_set w.slots s p;
+  ready = slice_set w.ready p.level (list_at w.ready p.level ++ s ∷ []);
 }

@@ -12,6 +12,7 @@ use Rattle.mx_proc.specs.Errors.{bits_of}
 use Rattle.mx_proc.specs.Queues.{tally}
 use Rattle.mx_proc.specs.Waits.{sends_of, without_from, caller_of}
 use Rattle.mx_proc.specs.States.{is_ready, is_sending, is_out, IsAlone}
+use Rattle.mx_proc.specs.Frame.{Frame, frame}
 use Rattle.mx_proc.specs.World.{World, process_at, nobody, unqueued, unblocked, with_result, to_front, to_end}
 use Rattle.mx_proc.specs.Sound.{Sound}
 use Rattle.mx_sched.specs.Queueing.{queued, next_level, is_last_renewed}
@@ -62,18 +63,6 @@ taken_out-sending w s h = chosen (process_at w s).state (unqueued w s) (unblocke
 pub taken_out-alone : (w : World) (s : ℕ) → IsAlone (process_at w s).state → taken_out w s ≡ w
 unfolding taken_out
 taken_out-alone w s h = rw (h.0) (rw (h.1) refl)
-
-ready_at : (w : World) (s : ℕ) → s < length w.slots → (process_at (queued w s) s).state ≡ Ready
-unfolding queued
-ready_at w s b = let p = process_at w s in let l = next_level p (is_last_renewed w s) in elim (cases_Bool (nat_lt 0 p.ticks)) [
-  | inl y ↦ rw y (ap (λ (x : Process). x.state) (get_or-set_same w.slots s (record p { state = Ready }) nobody b))
-  | inr n ↦ rw n (ap (λ (x : Process). x.state) (get_or-set_same w.slots s (record p { state = Ready; level = l; ticks = p.quantum }) nobody b))
-]
-
--- who goes on is ready
-pub goes_on-ready : (w : World) (s r : ℕ) → s < length w.slots → (process_at (goes_on w s r) s).state ≡ Ready
-unfolding goes_on
-goes_on-ready w s r b = ready_at (with_result w s r) s (subst (λ n. s < n) (sym (length-set w.slots s _)) b)
 
 -- ---- callers
 
@@ -212,6 +201,18 @@ forgotten-at w s t b = get_or-map (without_bit_of s) w.slots t nobody nobody b
 
 pub forgotten-used : (w : World) (s : ℕ) → length (forgotten w s).slots ≡ length w.slots
 forgotten-used w s = length-map w.slots (without_bit_of s)
+
+pub forgotten-state : (s : ℕ) (ps : List Process) (t : ℕ) → (get_or (map (without_bit_of s) ps) t nobody).state ≡ (get_or ps t nobody).state
+forgotten-state s [] t = refl
+forgotten-state s (p ∷ ps) zero = refl
+forgotten-state s (p ∷ ps) (suc t) = forgotten-state s ps t
+
+pub buried-state : (w : World) (s : ℕ) (cause : Cause) → s < length w.slots → (process_at (buried w s cause) s).state ≡ Down cause
+buried-state w s cause b = ap (λ (p : Process). p.state) (get_or-set_same w.slots s _ nobody b)
+
+pub same_devices : (w n : World) → frame w ≡ frame n → w.devices ≡ n.devices
+unfolding frame
+same_devices w n e = ap (λ (f : Frame). f.devices) e
 
 -- the steps of a death
 pub died_is : (w left fc wr f b : World) (s : ℕ) (cause : Cause) → left ≡ taken_out w s → fc ≡ all_freed left (callers s left.waits) → wr ≡ all_freed fc (receivers s 0 fc.slots)

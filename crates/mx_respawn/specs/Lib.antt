@@ -1,3 +1,4 @@
 pub mod Labels
 pub mod Death
 pub mod Waking
+pub mod Respawn

@@ -3,9 +3,10 @@
 ghost use Rattle.std.specs.Prelude.{◌≡◌, ◌≢◌, ℕ, ◌++◌, ◌<◌, false, true, length};
 ghost use Rattle.mx_proc.specs.Frame.{frame};
 ghost use Rattle.mx_proc.specs.Serving.{without_bit_of};
+ghost use Rattle.mx_proc.specs.Sound.{NoneComesHome};
 ghost use Rattle.mx_proc.specs.States.{IsAlone, is_out, is_ready, is_sending};
 ghost use Rattle.mx_proc.specs.World.{process_at};
-ghost use Rattle.mx_proc.specs.declared.process.State.TheVariants.{Home};
+ghost use Rattle.mx_proc.specs.declared.process.State.TheVariants.{Home, Down};
 ghost use Rattle.mx_respawn.specs.Death.{names, taken_out, callers, receivers, all_freed, died};
 ghost use Rattle.mx_respawn.specs.Waking.{woken};
 
@@ -54,6 +55,7 @@ fn free_callers(table: &mut Table, slot: Slot)
     ensures used { length table.new.slots ≡ length table.old.slots }
     ensures others { (s : ℕ) → (process_at table.old s).state ≡ Home → process_at table.new s ≡ process_at table.old s }
     ensures receivers { receivers slot 0 table.new.slots ≡ receivers slot 0 table.old.slots }
+    ensures settled { NoneComesHome table.old table.new }
 {
     while let Some(from) = table.caller(slot, Partner::Any) {
         table.sound();
@@ -71,6 +73,7 @@ fn wake(table: &mut Table, slot: Slot, other: Slot)
     ensures others { (s : ℕ) → s ≢ other → process_at table.new s ≡ process_at table.old s }
     ensures home { (process_at table.old other).state ≡ Home → process_at table.new other ≡ process_at table.old other }
     ensures used { length table.new.slots ≡ length table.old.slots }
+    ensures settled { NoneComesHome table.old table.new }
 {
     let state = table.process(other).state;
     if other != slot && names(state, slot) {
@@ -85,6 +88,7 @@ fn wake_receivers(table: &mut Table, slot: Slot)
     ensures own { process_at table.new slot ≡ process_at table.old slot }
     ensures others { (s : ℕ) → (process_at table.old s).state ≡ Home → process_at table.new s ≡ process_at table.old s }
     ensures used { length table.new.slots ≡ length table.old.slots }
+    ensures settled { NoneComesHome table.old table.new }
 {
     for other in 0..table.used() {
         wake(table, slot, other);
@@ -99,6 +103,9 @@ pub fn die(table: &mut Table, slot: Slot, cause: Cause)
     ensures frame { frame table.new ≡ record (frame table.old) { devices = table.new.devices } }
     ensures used { length table.new.slots ≡ length table.old.slots }
     ensures home { (s : ℕ) → s ≢ slot → (process_at table.old s).state ≡ Home → process_at table.new s ≡ without_bit_of slot (process_at table.old s) }
+    ensures console { table.new.devices.console ≡ table.old.devices.console }
+    ensures down { (process_at table.new slot).state ≡ Down cause }
+    ensures settled { NoneComesHome table.old table.new }
 {
     take_out(table, slot);
     free_callers(table, slot);

@@ -6,6 +6,7 @@ ghost use Rattle.mx_proc.specs.Queues.{picked};
 ghost use Rattle.mx_proc.specs.Frame.{frame};
 ghost use Rattle.mx_proc.specs.States.{IsAlone, is_ready, is_out};
 ghost use Rattle.mx_proc.specs.World.{process_at, unqueued};
+ghost use Rattle.mx_proc.specs.declared.process.State.TheVariants.{Ready};
 ghost use Rattle.mx_sched.specs.Queueing.{queued};
 
 use mx_proc::{Slot, Table};
@@ -24,6 +25,7 @@ pub fn enqueue(table: &mut Table, slot: Slot)
     ensures frame { frame table.new ≡ frame table.old }
     ensures used { length table.new.slots ≡ length table.old.slots }
     ensures waits { table.new.waits ≡ table.old.waits }
+    ensures ready { (process_at table.new slot).state ≡ Ready }
     ensures others { (s : ℕ) → s ≢ slot → process_at table.new s ≡ process_at table.old s }
 {
     let process = table.process(slot);

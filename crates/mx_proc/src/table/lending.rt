@@ -1,29 +1,30 @@
 //! Images out and home.
 
-ghost use Rattle.std.specs.Prelude.{◌≡◌, false, true, ◌+◌, ◌<◌, ◌≤◌, ◌^◌, Some, None, length};
-ghost use Rattle.mx_proc.specs.Frame.{frame, with_loan, with_steps};
-ghost use Rattle.mx_proc.specs.States.{IsAlone, is_out};
-ghost use Rattle.mx_proc.specs.World.{process_at, with_state, moved_out, moved_home, spent};
-ghost use Rattle.mx_proc.specs.declared.process.State.TheVariants.{Home, Out, Doomed};
+ghost use Rattle.std.specs.Prelude.{◌≡◌, false, true, ◌+◌, ◌<◌, ◌≤◌, ◌^◌, length};
+ghost use Rattle.mx_exec.specs.Image.{blank};
+ghost use Rattle.mx_proc.specs.Frame.{frame, reframed};
+ghost use Rattle.mx_proc.specs.States.{IsAlone, is_out, is_down};
+ghost use Rattle.mx_proc.specs.World.{process_at, with_state, moved_out, moved_home, spent, with_image, revived};
+ghost use Rattle.mx_proc.specs.declared.process.State.TheVariants.{Home, Ready, Out, Doomed};
 
 use super::Table;
-use crate::process::{Slot, State};
+use crate::process::{Process, Slot, State};
 use mx_exec::Image;
-use std::alloc::Global;
 use std::mem;
 
 impl Table {
     /// Moves the image of a process out. Takes no memory.
-    pub fn lend(&mut self, alloc: Global, slot: Slot) -> Image
+    pub fn lend(&mut self, slot: Slot) -> Image
         requires slot { slot < length self.old.slots }
         requires home { (process_at self.old slot).state ≡ Home }
         ensures value { self.new ≡ moved_out self.old slot }
         ensures image { result ≡ (process_at self.old slot).image }
-        ensures frame { frame self.new ≡ with_loan (frame self.old) slot (Some (process_at self.old slot).ticks) }
+        ensures frame { frame self.new ≡ reframed (frame self.old) slot (process_at self.new slot) }
     {
+        let blank = Image::blank(*self.slots.allocator());
         let process = &mut self.slots[slot as usize];
         process.state = State::Out;
-        mem::replace(&mut process.image, Image::blank(alloc))
+        mem::replace(&mut process.image, blank)
     }
 
     /// Moves an image home.
@@ -31,7 +32,7 @@ impl Table {
         requires slot { slot < length self.old.slots }
         requires out { is_out (process_at self.old slot).state ≡ true }
         ensures value { self.new ≡ moved_home self.old slot image }
-        ensures frame { frame self.new ≡ with_loan (frame self.old) slot None }
+        ensures frame { frame self.new ≡ reframed (frame self.old) slot (process_at self.new slot) }
     {
         let process = &mut self.slots[slot as usize];
         process.state = State::Home;
@@ -45,7 +46,7 @@ impl Table {
         requires ticks { steps ≤ (process_at self.old slot).ticks }
         requires room { (process_at self.old slot).steps + steps < 2 ^ 64 }
         ensures value { self.new ≡ spent self.old slot steps }
-        ensures frame { frame self.new ≡ with_steps (frame self.old) slot ((process_at self.old slot).steps + steps) }
+        ensures frame { frame self.new ≡ reframed (frame self.old) slot (process_at self.new slot) }
     {
         let process = &mut self.slots[slot as usize];
         process.ticks -= steps;
@@ -61,5 +62,37 @@ impl Table {
     {
         let process = &mut self.slots[slot as usize];
         process.state = State::Doomed;
+    }
+    /// Moves the image of a dead process out, to be made new for `revive`. Takes no memory.
+    pub fn take_image(&mut self, slot: Slot) -> Image
+        requires slot { slot < length self.old.slots }
+        requires down { is_down (process_at self.old slot).state ≡ true }
+        ensures value { self.new ≡ with_image self.old slot blank }
+        ensures image { result ≡ (process_at self.old slot).image }
+        ensures frame { frame self.new ≡ reframed (frame self.old) slot (process_at self.new slot) }
+    {
+        let blank = Image::blank(*self.slots.allocator());
+        let process = &mut self.slots[slot as usize];
+        mem::replace(&mut process.image, blank)
+    }
+
+    /// Puts a new process, which is ready, in the place of a dead one, and at the end of the list of its
+    /// level.
+    pub fn revive(&mut self, slot: Slot, process: Process)
+        requires slot { slot < length self.old.slots }
+        requires down { is_down (process_at self.old slot).state ≡ true }
+        requires ready { process.state ≡ Ready }
+        requires generation { process.generation < 2 ^ 20 }
+        requires pending { length process.pending ≡ 34 }
+        requires level { process.level ≤ 14 }
+        requires best { process.best ≤ process.level }
+        requires quantum { process.quantum ≤ 65535 }
+        requires ticks { process.ticks ≤ 65535 }
+        ensures value { self.new ≡ revived self.old slot process }
+        ensures frame { frame self.new ≡ reframed (frame self.old) slot process }
+    {
+        let level = process.level;
+        self.slots[slot as usize] = process;
+        self.ready.push_back(level, slot);
     }
 }

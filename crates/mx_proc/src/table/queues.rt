@@ -5,7 +5,7 @@ ghost use Rattle.mx_proc.specs.Queues.{picked};
 ghost use Rattle.mx_proc.specs.Frame.{frame};
 ghost use Rattle.mx_proc.specs.Sound.{HasBuffer};
 ghost use Rattle.mx_proc.specs.States.{IsAlone, is_ready, is_sending, is_blocked, is_out};
-ghost use Rattle.mx_proc.specs.Waits.{caller_of, leads, Reaches};
+ghost use Rattle.mx_proc.specs.Waits.{caller_of, next_of, leads, Reaches};
 ghost use Rattle.mx_proc.specs.World.{process_at, with_state, to_front as front_of, to_end as end_of, unqueued, unblocked, blocked};
 
 use super::Table;
@@ -121,6 +121,13 @@ impl Table {
         ensures buffer { IfSome result (λ p. HasBuffer (process_at self.now p)) }
     {
         self.waits.caller(to, partner)
+    }
+
+    /// Whom a blocked send is for.
+    pub fn next(&self, from: Slot) -> Option<Slot>
+        ensures { result ≡ next_of from self.now.waits }
+    {
+        self.waits.next(from)
     }
 
     /// Whether a chain of blocked sends leads from one slot to another.

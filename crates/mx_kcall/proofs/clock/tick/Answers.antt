@@ -16,6 +16,7 @@ loop-slot-preserved c =
       told = rung_next c.loop-slot.table c.ring.new.table c.advance.new.self.uptime c.loop-slot.slot c.advance.new.self.slots lt (same_uptime c.loop-slot.table c.advance.new.self inv.frame) (inv.later c.loop-slot.slot (omega arith)) c.ring.ensures.value ∙ inv.told;
       later = λ s h. let n : s ≢ c.loop-slot.slot = omega arith in c.ring.ensures.others s n ∙ inv.later s (omega arith);
       frame = c.ring.ensures.frame ∙ inv.frame;
+      settled = λ s h. c.ring.ensures.settled s (inv.settled s h);
       end = inv.end;
     }
 

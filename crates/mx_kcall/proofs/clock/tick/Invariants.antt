@@ -1,5 +1,6 @@
 use Rattle.std.proofs.Common.{◌≡◌, ◌≤◌, ℕ, length, drop}
 use Rattle.mx_proc.specs.Frame.{frame}
+use Rattle.mx_proc.specs.Sound.{NoneComesHome}
 use Rattle.mx_proc.specs.World.{process_at}
 use Rattle.mx_kcall.specs.Clock.{due_slots, all_rung}
 use Rattle.mx_kcall.proofs.clock.tick.Given as goal
@@ -10,5 +11,6 @@ invariant-loop-slot l = record {
   told : all_rung l.table (due_slots l.initial.table.uptime l.slot (drop l.slot l.initial.table.slots)) ≡ all_rung l.initial.table (due_slots l.initial.table.uptime 0 l.initial.table.slots);
   later : (s : ℕ) → l.slot ≤ s → (process_at l.table s).alarm ≡ (process_at l.initial.table s).alarm;
   frame : frame l.table ≡ frame l.initial.table;
+  settled : NoneComesHome l.initial.table l.table;
   end : l.slot-end ≡ length l.initial.table.slots;
 }

@@ -1,10 +1,13 @@
-use Rattle.std.proofs.Common.{◌≡◌, ◌≢◌, ◌∙◌, ◌<◌, ℕ, ap, sym, subst, length, length-set}
+use Rattle.std.proofs.Common.{◌≡◌, ◌≢◌, ◌∙◌, ◌<◌, ℕ, inl, inr, ap, sym, subst, length, length-set}
+use Rattle.std.proofs.lemmas.Bool.{cases_eq}
+use Rattle.mx_proc.specs.declared.process.State.TheVariants.{Home, Down}
 use Rattle.mx_proc.specs.declared.process.Process.{Process}
+use Rattle.mx_proc.specs.declared.devices.Devices.{Devices}
 use Rattle.mx_proc.specs.Frame.{Frame, frame}
 use Rattle.mx_proc.specs.World.{World, process_at}
 use Rattle.mx_proc.specs.Serving.{without_bit_of}
 use Rattle.mx_proc.specs.States.{IsAlone, is_out}
-use Rattle.mx_respawn.proofs.DeathLemmas.{died_is, forgotten-at, forgotten-used, apart_at, home_used}
+use Rattle.mx_respawn.proofs.DeathLemmas.{died_is, forgotten-at, forgotten-used, forgotten-state, buried-state, same_devices, apart_at, home_used}
 use Rattle.mx_respawn.proofs.death.die.Goals as goal
 
 -- how many slots are used before it is forgotten
@@ -46,3 +49,23 @@ returns-clause-home c s n h =
     ∙ ap (λ (w : World). process_at w s) c.forget.ensures.value
     ∙ forgotten-at c.wake_receivers.new.table c.args.slot s (home_used c.wake_receivers.new.table s (ap (λ (p : Process). p.state) (d ∙ b ∙ a) ∙ h))
     ∙ ap (without_bit_of c.args.slot) (d ∙ b ∙ a)
+
+pub returns-clause-console : goal.returns-clause-console
+returns-clause-console c = ap (λ (w : World). w.devices.console) c.bury.ensures.value ∙ ap (λ (w : World). w.devices.console) c.forget.ensures.value
+    ∙ ap (λ (d : Devices). d.console) (same_devices _ _ (c.wake_receivers.ensures.frame ∙ c.free_callers.ensures.frame ∙ c.take_out.ensures.frame))
+
+used_then : (c : goal.After-bury-arg-1) → length c.forget.new.self.slots ≡ length c.args.table.now.slots
+used_then c = ap (λ (w : World). length w.slots) c.forget.ensures.value ∙ forgotten-used c.wake_receivers.new.table c.args.slot ∙ used_before c
+
+pub returns-clause-down : goal.returns-clause-down
+returns-clause-down c = ap (λ (w : World). (process_at w c.args.slot).state) c.bury.ensures.value
+    ∙ buried-state c.forget.new.self c.args.slot c.args.cause (subst (λ n. c.args.slot < n) (sym (used_then c.before)) c.requires.slot)
+
+pub returns-clause-settled : goal.returns-clause-settled
+returns-clause-settled c s h = elim (cases_eq s c.args.slot) [
+  | inl e ↦ subst (λ x. (process_at c.bury.new.self x).state ≢ Home) (sym e) (λ k. let f : Down c.args.cause ≡ Home = sym (returns-clause-down c) ∙ k in cc)
+  | inr n ↦ subst (λ st. st ≢ Home)
+      (sym (ap (λ (w : World). (process_at w s).state) c.bury.ensures.value ∙ ap (λ (p : Process). p.state) (apart_at c.forget.new.self.slots c.args.slot s _ n)
+        ∙ ap (λ (w : World). (process_at w s).state) c.forget.ensures.value ∙ forgotten-state c.args.slot c.wake_receivers.new.table.slots s))
+      (c.wake_receivers.ensures.settled s (c.free_callers.ensures.settled s (subst (λ (p : Process). p.state ≢ Home) (sym (c.take_out.ensures.others s n)) h)))
+]

@@ -1,13 +1,14 @@
 use Rattle.std.proofs.Common.{◌≡◌, ◌≢◌, ◌∙◌, ◌<◌, ℕ, true, false, ap, sym, subst, length, refl, length-set, inl, inr}
 use Rattle.std.proofs.lemmas.Bool.{cases_eq}
-use Rattle.mx_proc.specs.declared.process.State.TheVariants.{Ready}
+use Rattle.mx_proc.specs.declared.process.Process.{Process}
+use Rattle.mx_proc.specs.declared.process.State.TheVariants.{Ready, Home}
 use Rattle.mx_proc.specs.declared.errors.Errno.TheVariants.{Dead}
 use Rattle.mx_proc.specs.Errors.{bits_of}
 use Rattle.mx_proc.specs.World.{World, process_at}
 use Rattle.mx_proc.specs.States.{is_sending}
 use Rattle.mx_ipc.specs.Calls.{goes_on}
 use Rattle.mx_respawn.specs.Death.{names}
-use Rattle.mx_respawn.proofs.DeathLemmas.{freed_next, fewer_wait, freed_all, sending_names, goes_on-ready, apart_at, receivers-same, home_sending}
+use Rattle.mx_respawn.proofs.DeathLemmas.{freed_next, fewer_wait, freed_all, sending_names, apart_at, receivers-same, home_sending}
 use Rattle.mx_respawn.proofs.death.free_callers.Goals as goal
 
 pub loop-from-smaller : goal.loop-from-smaller
@@ -24,13 +25,16 @@ other_than : (w : World) (p t : ℕ) → is_sending (process_at w p).state ≡ t
 other_than w p t y n e = let f : true ≡ false = sym y ∙ ap (λ x. is_sending (process_at w x).state) (sym e) ∙ n in cc
 
 ready_now : (c : goal.After-go_on) → (process_at c.go_on.new.table c.in-Some.from).state ≡ Ready
-ready_now c = ap (λ (w : World). (process_at w c.in-Some.from).state) (freed_is c)
-    ∙ goes_on-ready c.unblock.new.self c.in-Some.from (bits_of Dead) (subst (λ n. c.in-Some.from < n) (sym (ap (λ (w : World). length w.slots) c.unblock.ensures.value ∙ length-set c.loop-from.table.slots _ _)) c.in-Some.ensures.used)
+ready_now c = c.go_on.ensures.ready
 
 pub loop-from-preserved : goal.loop-from-preserved
 loop-from-preserved c = record {
   told = freed_next c.loop-from.table c.unblock.new.self c.go_on.new.table c.args.slot c.in-Some.from c.sound.ensures (sym c.in-Some.ensures.value) c.in-Some.ensures.sending c.unblock.ensures.value (freed_is c) c.go_on.ensures.waits ∙ c.loop-from.invariant.told;
   frame = c.go_on.ensures.frame ∙ c.unblock.ensures.frame ∙ c.loop-from.invariant.frame;
+  settled = λ t h. elim (cases_eq t c.in-Some.from) [
+    | inl e ↦ subst (λ x. (process_at c.go_on.new.table x).state ≢ Home) (sym e) (λ k. let f : Ready ≡ Home = sym (ready_now c) ∙ k in cc)
+    | inr n ↦ subst (λ (p : Process). p.state ≢ Home) (sym (stays c t n)) (c.loop-from.invariant.settled t h)
+  ];
   used = c.go_on.ensures.used ∙ ap (λ (w : World). length w.slots) c.unblock.ensures.value ∙ length-set c.loop-from.table.slots _ _ ∙ c.loop-from.invariant.used;
   kept = λ t n. let same = c.loop-from.invariant.kept t n in
       stays c t (other_than c.loop-from.table c.in-Some.from t c.in-Some.ensures.sending (ap (λ p. is_sending p.state) same ∙ n)) ∙ same;

@@ -17,6 +17,7 @@ loop-other-preserved c =
         | inl e ↦ ap (process_at c.wake.new.table) e ∙ c.wake.ensures.home (ap (λ x. (process_at c.loop-other.table x).state) (sym e) ∙ ap (λ p. p.state) (inv.kept s h) ∙ h) ∙ ap (process_at c.loop-other.table) (sym e) ∙ inv.kept s h
         | inr n ↦ c.wake.ensures.others s n ∙ inv.kept s h
       ];
+      settled = λ s h. c.wake.ensures.settled s (inv.settled s h);
       frame = c.wake.ensures.frame ∙ inv.frame;
       own = c.wake.ensures.own ∙ inv.own;
       used = c.wake.ensures.used ∙ inv.used;

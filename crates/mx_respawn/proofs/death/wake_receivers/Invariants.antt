@@ -1,5 +1,6 @@
 use Rattle.std.proofs.Common.{◌≡◌, ◌≤◌, ℕ, length, drop}
 use Rattle.mx_proc.specs.Frame.{frame}
+use Rattle.mx_proc.specs.Sound.{NoneComesHome}
 use Rattle.mx_proc.specs.World.{process_at}
 use Rattle.mx_proc.specs.declared.process.State.TheVariants.{Home}
 use Rattle.mx_respawn.specs.Death.{all_freed, receivers}
@@ -11,6 +12,7 @@ invariant-loop-other l = record {
   told : all_freed l.table (receivers l.slot l.other (drop l.other l.initial.table.slots)) ≡ all_freed l.initial.table (receivers l.slot 0 l.initial.table.slots);
   later : (s : ℕ) → l.other ≤ s → process_at l.table s ≡ process_at l.initial.table s;
   kept : (s : ℕ) → (process_at l.initial.table s).state ≡ Home → process_at l.table s ≡ process_at l.initial.table s;
+  settled : NoneComesHome l.initial.table l.table;
   frame : frame l.table ≡ frame l.initial.table;
   own : process_at l.table l.slot ≡ process_at l.initial.table l.slot;
   used : length l.table.slots ≡ length l.initial.table.slots;

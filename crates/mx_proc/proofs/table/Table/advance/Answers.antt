@@ -1,4 +1,4 @@
-use Rattle.std.proofs.Common.{◌≡◌, ◌+◌, ◌∙◌, ap}
+use Rattle.std.proofs.Common.{◌+◌, ◌∙◌, ap}
 use Rattle.mx_proc.specs.Frame.{Frame, frame}
 use Rattle.mx_proc.specs.World.{World}
 use Rattle.mx_proc.proofs.ServingLemmas.{clocked}

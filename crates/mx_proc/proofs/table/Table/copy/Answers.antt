@@ -1,4 +1,4 @@
-use Rattle.std.proofs.Common.{List, ◌≡◌, ◌≤◌, ◌+◌, ◌++◌, ◌∙◌, ℕ, ap, sym, subst, arith, length, take, drop, slice_set, get_or, length-set}
+use Rattle.std.proofs.Common.{List, ◌≡◌, ◌≤◌, ◌+◌, ◌++◌, ◌∙◌, ap, sym, subst, arith, length, take, drop, slice_set, get_or, length-set}
 use Rattle.mx_mem.specs.Segment.{part}
 use Rattle.mx_proc.specs.World.{World, nobody, memory_at}
 use Rattle.mx_proc.specs.declared.process.Process.{Process}
@@ -13,12 +13,14 @@ the_slots c =
     let told : c.copy_between.new.processes ≡ f c.self.inside.slots.items = c.copy_between.ensures ∙ ap f c.as_mut_slice.ensures.value in
     whole _ c.self.inside.slots.items _ (ap length told ∙ length-set c.self.inside.slots.items _ _ ∙ sym (ap length c.as_mut_slice.ensures.value) ∙ c.as_mut_slice.ensures.len) ∙ told
 
-pub invariant_of-self : goal.invariant_of-self
-invariant_of-self c = copied_sound _ _ c.args.to c.args.place _ _ c.self.view_is c.self.invariant c.requires.to
-    (let source : c.args.at + c.args.count ≤ length (get_or c.self.inside.slots.items c.args.from nobody).image.memory = subst (λ (x : World). c.args.at + c.args.count ≤ length (memory_at x c.args.from)) (sym c.self.view_is) c.requires.source in
+room : (c : goal.After-self-1) → c.args.place + length (part (get_or c.self.inside.slots.items c.args.from nobody).image.memory c.args.at c.args.count) ≤ length (get_or c.self.inside.slots.items c.args.to nobody).image.memory
+room c =
+    let source : c.args.at + c.args.count ≤ length (get_or c.self.inside.slots.items c.args.from nobody).image.memory = subst (λ (x : World). c.args.at + c.args.count ≤ length (memory_at x c.args.from)) (sym c.self.view_is) c.requires.source in
     let room : c.args.place + c.args.count ≤ length (get_or c.self.inside.slots.items c.args.to nobody).image.memory = subst (λ (x : World). c.args.place + c.args.count ≤ length (memory_at x c.args.to)) (sym c.self.view_is) c.requires.destination in
-    omega (arith, room, length-part (get_or c.self.inside.slots.items c.args.from nobody).image.memory c.args.at c.args.count source))
-    (the_slots c)
+    omega (arith, room, length-part (get_or c.self.inside.slots.items c.args.from nobody).image.memory c.args.at c.args.count source)
+
+pub invariant_of-self : goal.invariant_of-self
+invariant_of-self c = copied_sound _ _ c.args.to c.args.place _ _ c.self.view_is c.self.invariant c.requires.to (room c) (the_slots c)
 
 pub returns-clause-frame : goal.returns-clause-frame
-returns-clause-frame c = copied_framed _ _ c.args.to c.args.place _ _ c.self.view_is c.requires.to (the_slots c)
+returns-clause-frame c = copied_framed _ _ c.args.to c.args.place _ _ c.self.view_is c.requires.to (room c) (the_slots c)

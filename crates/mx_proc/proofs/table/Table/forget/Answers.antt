@@ -1,4 +1,4 @@
-use Rattle.std.proofs.Common.{◌≡◌, ◌++◌, ◌∙◌, ℕ, ap, sym, subst, length, map, take, drop}
+use Rattle.std.proofs.Common.{◌≡◌, ◌++◌, ◌∙◌, ap, sym, subst, length, map, take, drop}
 use Rattle.std.proofs.lemmas.List.{length-map}
 use Rattle.mx_proc.specs.Serving.{without_bit_of}
 use Rattle.mx_proc.specs.Sound.{Sound}

@@ -1,4 +1,5 @@
-use Rattle.std.proofs.Common.{refl}
+use Rattle.std.proofs.Common.{ℕ, refl, ap}
+use Rattle.mx_proc.specs.Frame.{fixed_of}
 use Rattle.mx_proc.proofs.TableLemmas.{alike}
 use Rattle.mx_proc.proofs.FrameLemmas.{framed}
 use Rattle.mx_proc.proofs.table.Table.receive.Goals as goal
@@ -17,4 +18,4 @@ invariant_of-self c = alike _ _ c.args.slot c.index_mut-process.result.now _ c.s
 })
 
 pub returns-clause-frame : goal.returns-clause-frame
-returns-clause-frame c = framed _ _ c.args.slot c.index_mut-process.result.now _ _ _ _ _ c.self.view_is c.index_mut-process.ensures.value refl refl
+returns-clause-frame c = framed _ _ c.args.slot c.index_mut-process.result.now _ _ _ _ _ c.self.view_is c.index_mut-process.ensures.value (ap (λ (n : ℕ). record (fixed_of c.index_mut-process.result.now) { lasting = (c.index_mut-process.result.now.image.code, n) }) c.put.ensures.limit) refl

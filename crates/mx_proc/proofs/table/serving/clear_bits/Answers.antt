@@ -1,4 +1,4 @@
-use Rattle.std.proofs.Common.{◌≡◌, ◌<◌, ◌+◌, ◌∙◌, ap, sym, arith, length, slice_set}
+use Rattle.std.proofs.Common.{◌<◌, ◌∙◌, ap, sym, arith, length, slice_set}
 use Rattle.std.proofs.lemmas.List.Edits.{map_over_more}
 use Rattle.mx_proc.specs.Serving.{without_bit_of}
 use Rattle.mx_proc.proofs.table.serving.clear_bits.Goals as goal

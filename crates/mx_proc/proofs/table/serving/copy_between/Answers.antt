@@ -1,4 +1,4 @@
-use Rattle.std.proofs.Common.{◌≡◌, ◌<◌, ◌≢◌, ◌++◌, ◌∙◌, ℕ, ap, arith, length, slice_set}
+use Rattle.std.proofs.Common.{◌<◌, ◌≢◌, ◌++◌, ◌∙◌, ap, arith, slice_set}
 use Rattle.mx_mem.specs.Segment.{part}
 use Rattle.mx_proc.specs.declared.process.Process.{Process}
 use Rattle.mx_proc.specs.Serving.{copied_to}

@@ -1,4 +1,4 @@
-use Rattle.std.proofs.Common.{◌≡◌, ◌<◌, ◌+◌, ◌∙◌, ap, sym, arith, length, slice_set, get_or, None, Option, ℕ}
+use Rattle.std.proofs.Common.{◌<◌, ◌∙◌, ap, arith, length, slice_set, None}
 use Rattle.std.proofs.lemmas.List.Edits.{map_over_more}
 use Rattle.mx_proc.specs.Serving.{owner_but}
 use Rattle.mx_proc.proofs.ListLemmas.{get_or-any}

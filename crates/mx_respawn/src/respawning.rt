@@ -1,0 +1,67 @@
+//! Respawn.
+
+ghost use Rattle.std.specs.Prelude.{◌≡◌, ◌<◌, true, false, length};
+ghost use Rattle.mx_load.specs.Load.{IsLoadedFrom};
+ghost use Rattle.mx_proc.specs.Frame.{frame, reframed};
+ghost use Rattle.mx_proc.specs.Sound.{NoneComesHome};
+ghost use Rattle.mx_proc.specs.States.{is_down};
+ghost use Rattle.mx_proc.specs.World.{process_at};
+ghost use Rattle.mx_respawn.specs.Respawn.{is_worn, next_process, respawned};
+
+use crate::service::Service;
+use mx_exec::Image;
+use mx_load::refill;
+use mx_proc::{Process, Slot, State, Table};
+
+/// Whether a process can have none after it: the restarts of its service are used up, or its
+/// generation is the last one.
+pub fn is_worn(process: &Process, service: &Service) -> bool
+    ensures { result ≡ is_worn process.now service.now }
+{
+    service.restarts <= process.restarts || process.generation >= 0xF_FFFF
+}
+
+/// The process after a dead one, from that one's own image.
+fn next_process(dead: &Process, image: Image, service: &Service) -> Process
+    requires fresh { is_worn dead.now service.now ≡ false }
+    requires from { IsLoadedFrom image service.now.program }
+    ensures value { result ≡ next_process dead.now service.now }
+    ensures from { IsLoadedFrom result.image service.now.program }
+{
+    let mut image = image;
+    refill(&mut image, &service.program);
+    Process {
+        state: State::Ready,
+        generation: dead.generation + 1,
+        restarts: dead.restarts + 1,
+        masks: service.masks,
+        level: service.level,
+        best: service.best,
+        quantum: service.quantum,
+        ticks: service.quantum,
+        steps: 0,
+        pending: [false; 34],
+        lines: 0,
+        alarm: None,
+        image,
+    }
+}
+
+/// The slot of a dead process gets a new one, from the service that the dead one was loaded from.
+/// Takes no memory.
+#[tactic(auto, unfolding(crate::specs::Respawn::respawned))]
+pub fn respawn(table: &mut Table, slot: Slot, service: &Service)
+    requires slot { slot < length table.old.slots }
+    requires down { is_down (process_at table.old slot).state ≡ true }
+    requires fresh { is_worn (process_at table.old slot) service.now ≡ false }
+    requires from { IsLoadedFrom (process_at table.old slot).image service.now.program }
+    ensures value { table.new ≡ respawned table.old slot service.now }
+    ensures frame { frame table.new ≡ reframed (frame table.old) slot (next_process (process_at table.old slot) service.now) }
+    ensures from { IsLoadedFrom (process_at table.new slot).image service.now.program }
+    ensures used { length table.new.slots ≡ length table.old.slots }
+    ensures settled { NoneComesHome table.old table.new }
+{
+    let image = table.take_image(slot);
+    let process = next_process(table.process(slot), image, service);
+    table.revive(slot, process);
+}

@@ -1,0 +1,3 @@
+pub mod RunLemmas
+pub mod JoinLemmas
+pub mod StepLemmas

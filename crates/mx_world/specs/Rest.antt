@@ -1,0 +1,17 @@
+-- A machine at rest: nothing can happen any more but ticks and lines.
+use Rattle.std.specs.Prelude.{ℕ, ◌==◌, ◌&&◌, ◌||◌, not, Bool, true, List, [], ◌∷◌, is_none}
+use Rattle.mx_proc.specs.declared.process.Process.{Process}
+use Rattle.mx_proc.specs.Queues.{picked}
+use Rattle.mx_proc.specs.States.{is_down}
+use Rattle.mx_respawn.specs.declared.service.Service.{Service}
+use Rattle.mx_respawn.specs.Respawn.{is_worn}
+use Rattle.mx_world.specs.Whole.{Whole, out_count}
+
+-- each slot that is down is worn
+abbrev pub down_are_worn : List Process → List Service → Bool
+down_are_worn (p ∷ ps) (v ∷ vs) = (not (is_down p.state) || is_worn p v) && down_are_worn ps vs
+down_are_worn _ _ = true
+
+-- AT REST: nothing is ready, nothing is out, and each slot that is down is worn
+unfoldable pub at_rest : Whole → Bool
+at_rest w = is_none (picked w.table.ready) && (out_count w.cpus == 0) && down_are_worn w.table.slots w.services

@@ -1,0 +1,22 @@
+//! Laws of runs.
+
+ghost use Rattle.std.specs.Prelude.{◌≡◌, ◌≤◌, ℕ, ◌+◌, Some};
+ghost use Rattle.mx_world.specs.declared.holding.Out.{Out};
+ghost use Rattle.mx_world.specs.Held.{held_run, then_held};
+ghost use Rattle.mx_world.specs.Steps.{StepsTo};
+ghost use Rattle.mx_world.specs.Whole.{Whole, Lent, held_by};
+
+use mx_image::runs_join;
+
+/// Law: whatever is held, a run of `a` steps and then one of `b` steps are one run of `a + b` steps.
+pub fn held_runs_join()
+    ensures { (a b : ℕ) (o : Out) → held_run (a + b) o ≡ then_held (held_run a o) b }
+{
+    runs_join();
+}
+
+/// Law: a run of what a processor holds is so many steps of the processor as the run makes, none of
+/// which is refused.
+pub fn runs_are_steps()
+    ensures { (w : Whole) (a k : ℕ) (l : Lent) → held_by w a ≡ Some l → l.out.count ≤ l.out.budget → StepsTo w a (held_run k l.out).0.0 l (held_run k l.out).1 }
+{}

@@ -1,0 +1,14 @@
+//! The whole machine: what it is booted from, what happens to it, what is kept of that, and what a
+//! processor holds.
+#![tactic(auto)]
+
+mod events;
+mod history;
+mod holding;
+mod laws;
+
+pub use events::{Answer, Event, Refusal};
+pub use history::{Record, Recorded};
+pub use holding::{Held, Lease, Out};
+pub use laws::{held_runs_join, runs_are_steps};
+pub use mx_setup::{Config, FileName, ServiceLine, ServiceLines};
