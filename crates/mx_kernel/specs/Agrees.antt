@@ -1,0 +1,39 @@
+-- What a kernel's parts say of its history, and what its calls answer.
+use Rattle.std.specs.Prelude.{◌≡◌, ◌≤◌, ◌+◌, ℕ, All, Option, Some, None, length, slice_get}
+use Rattle.mx_image.specs.declared.runs.Stop.TheVariants.{Spent}
+use Rattle.mx_load.specs.Load.{IsLoadedFrom}
+use Rattle.mx_respawn.specs.declared.service.Service.{Service}
+use Rattle.mx_world.specs.declared.events.Event.{Event}
+use Rattle.mx_world.specs.declared.events.Refusal.{Refusal}
+use Rattle.mx_world.specs.declared.history.Recorded.{Recorded}
+use Rattle.mx_world.specs.History.{Kept, AreAccepted, IsWritable, unfolded, replay, with_record}
+use Rattle.mx_world.specs.Move.{event_refusal, after_event}
+use Rattle.mx_world.specs.Whole.{Whole, Lent, held_by}
+use Rattle.mx_kernel.specs.Situation.{Situation, situation_of}
+
+-- What a kernel's own replay lends has made no step, and was loaded from its slot's program.
+pub record IsFresh (w : Whole) (l : Lent) : Type 0 where
+  pub count : l.out.count ≡ 0
+  pub stop : l.out.stop ≡ Spent
+  pub loaded : (v : Service) → slice_get w.services l.slot ≡ Some v → IsLoadedFrom l.out.image v.program
+
+-- A kernel stands where its history leads to, each event of which was accepted, and has room for more.
+pub record Agrees (d : Situation) (room : ℕ) (k : Kept) : Type 0 where
+  pub present : d ≡ situation_of (replay k)
+  pub records : d.records ≡ length k.history
+  pub space : d.capacity ≤ room
+  pub accepted : AreAccepted k.boot (unfolded k.history)
+  -- by actors of the machine, whose number stays
+  pub actors : length (replay k).cpus + (replay k).others ≡ length k.boot.cpus + k.boot.others
+  pub written : All (IsWritable (length k.boot.cpus + k.boot.others)) k.history
+  pub fresh : (a : ℕ) (l : Lent) → held_by (replay k) a ≡ Some l → IsFresh (replay k) l
+
+-- An event was accepted: its record is one more, and the world is the table's.
+pub record IsAccepted (k n : Kept) (a : ℕ) (e : Event) (r : Recorded) : Type 0 where
+  pub accepted : event_refusal (replay k) a e ≡ None
+  pub recorded : n ≡ with_record k a r
+  pub world : replay n ≡ after_event (replay k) a e
+
+-- it was refused, and nothing changed
+abbrev pub IsRefused : Kept → Kept → ℕ → Event → Refusal → Type 0
+IsRefused k n a e r = (event_refusal (replay k) a e ≡ Some r) × (n ≡ k)

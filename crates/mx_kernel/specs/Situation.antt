@@ -1,0 +1,136 @@
+-- Where a kernel stands, by what it keeps in mind: of what is out it knows slot and budget.
+use Rattle.std.specs.Prelude.{◌≡◌, ◌<◌, ◌≤◌, ℕ, ◌+◌, ◌-◌, ◌*◌, ◌%◌, ◌^◌, Bool, true, false, nat_lt, if◌then◌else◌, List, map, length, Option, Some, None, Result, Ok, Err, slice_get, slice_set}
+use Rattle.mx_proc.specs.Endpoints.{is_alive}
+use Rattle.mx_proc.specs.Queues.{picked}
+use Rattle.mx_proc.specs.States.{is_ready, is_down}
+use Rattle.mx_proc.specs.World.{World, process_at}
+use Rattle.mx_respawn.specs.declared.service.Service.{Service}
+use Rattle.mx_respawn.specs.Respawn.{is_worn, respawned}
+use Rattle.mx_kcall.specs.Clock.{raised, ticked}
+use Rattle.mx_kcall.specs.Refusals.{owner_of}
+use Rattle.mx_world.specs.declared.events.Answer.{Answer}
+use Rattle.mx_world.specs.declared.events.Answer.TheVariants.{Done, Respawned}
+use Rattle.mx_world.specs.declared.events.Event.{Event}
+use Rattle.mx_world.specs.declared.events.Event.TheVariants.{Step, Take, Back, Line, Tick, Kill, Respawn}
+use Rattle.mx_world.specs.declared.events.Refusal.{Refusal}
+use Rattle.mx_world.specs.declared.events.Refusal.TheVariants.{CpuBusy}
+use Rattle.mx_world.specs.declared.history.Recorded.{Recorded}
+use Rattle.mx_world.specs.declared.history.Recorded.TheVariants as recorded
+use Rattle.mx_world.specs.declared.holding.Lease.{Lease}
+use Rattle.mx_world.specs.declared.holding.Out.{Out}
+use Rattle.mx_world.specs.History.{number_in}
+use Rattle.mx_world.specs.Move.{if_full, line_refusal, kill_refusal, respawn_refusal, take_refusal, sent_out, returned, killed, lent_of}
+use Rattle.mx_world.specs.Sound.{lease_of, lease_at}
+use Rattle.mx_world.specs.Whole.{Whole, out_count}
+
+pub record Situation : Type 0 where
+  pub table : World
+  pub leases : List (Option Lease)
+  pub others : ℕ
+  pub services : List Service
+  pub records : ℕ
+  pub capacity : ℕ
+
+-- what a kernel knows of a machine
+abbrev pub situation_of : Whole → Situation
+situation_of w = record { table = w.table; leases = map lease_of w.cpus; others = w.others; services = w.services; records = w.records; capacity = w.capacity }
+
+abbrev pub free_records : Situation → ℕ
+free_records d = d.capacity - (d.records + out_count d.leases)
+
+-- one record more, and another table
+abbrev pub on_to : Situation → World → Situation
+on_to d t = record d { table = t; records = d.records + 1 }
+
+abbrev pub with_lease : Situation → ℕ → Option Lease → Situation
+with_lease d a x = record d { leases = slice_set d.leases a x }
+
+-- ---- a processor's events
+
+abbrev pub refusal_to_take : Situation → ℕ → Option Refusal
+refusal_to_take d a = if nat_lt a (length d.leases) then take_refusal (free_records d) (lease_at d.leases a) (picked d.table.ready) else Some CpuBusy
+
+-- a slot's process is taken by a processor
+abbrev pub with_taken : Situation → ℕ → ℕ → Situation
+with_taken d a s = with_lease (on_to d (sent_out d.table s)) a (Some (record { slot = s; budget = (process_at d.table s).ticks }))
+
+-- It was accepted that a processor takes a process.
+pub record HasTaken (d n : Situation) (a s : ℕ) (o : Out) : Type 0 where
+  pub accepted : refusal_to_take d a ≡ None
+  pub processor : a < length d.leases
+  pub first : picked d.table.ready ≡ Some s
+  pub ready : is_ready (process_at d.table s).state ≡ true
+  pub out : o ≡ (lent_of d.table s).out
+  pub after : n ≡ with_taken d a s
+
+-- what a kernel answers a processor that asks for a process
+abbrev pub Takes : Situation → Situation → ℕ → Result Out Refusal → Type 0
+Takes d n a (Ok o) = (s : ℕ) × HasTaken d n a s o
+Takes d n a (Err r) = (refusal_to_take d a ≡ Some r) × (n ≡ d)
+
+-- it comes back
+abbrev pub with_returned : Situation → ℕ → ℕ → Out → Situation
+with_returned d a s o = with_lease (on_to d (returned d.table (record { slot = s; out = o }))) a None
+
+-- ---- the events that any actor may do
+
+abbrev pub refusal_to : Situation → Event → Option Refusal
+refusal_to d (Line l) = line_refusal (free_records d) (owner_of d.table l)
+refusal_to d Tick = if_full (free_records d) 1
+refusal_to d (Kill e) = kill_refusal (free_records d) (is_alive d.table e)
+refusal_to d (Respawn s) = respawn_refusal (free_records d) (process_at d.table s) (slice_get d.services s)
+refusal_to d _ = None
+
+abbrev pub raised_by : World → ℕ → Option ℕ → World
+raised_by t l None = t
+raised_by t l (Some s) = raised t l s
+
+abbrev pub respawned_by : World → ℕ → Option Service → World
+respawned_by t s None = t
+respawned_by t s (Some v) = respawned t s v
+
+abbrev pub table_after : Situation → Event → World
+table_after d (Line l) = raised_by d.table l (owner_of d.table l)
+table_after d Tick = ticked d.table
+table_after d (Kill e) = killed d.table (e % 1024)
+table_after d (Respawn s) = respawned_by d.table s (slice_get d.services s)
+table_after d _ = d.table
+
+abbrev pub answer_to : Situation → Event → Answer
+answer_to d (Respawn s) = Respawned (((process_at d.table s).generation + 1) * 1024 + s)
+answer_to d _ = Done
+
+-- the events that any actor may do
+abbrev pub is_for_all : Event → Bool
+is_for_all Step = false
+is_for_all Take = false
+is_for_all Back = false
+is_for_all _ = true
+
+-- how each of them is recorded
+abbrev pub recorded_as : Event → Recorded
+recorded_as (Line l) = recorded.Line l
+recorded_as (Kill e) = recorded.Kill e
+recorded_as (Respawn s) = recorded.Respawn s
+recorded_as _ = recorded.Tick
+
+-- Such an event was accepted.
+pub record HasActed (d n : Situation) (e : Event) (x : Answer) : Type 0 where
+  pub accepted : refusal_to d e ≡ None
+  pub answer : x ≡ answer_to d e
+  pub after : n ≡ on_to d (table_after d e)
+  pub number : number_in (recorded_as e) < 2 ^ 31
+
+-- A slot may get a new process, which has this endpoint.
+pub record MayRespawn (d : Situation) (s e : ℕ) : Type 0 where
+  pub accepted : refusal_to d (Respawn s) ≡ None
+  pub used : s < length d.table.slots
+  pub small : s < 32
+  pub down : is_down (process_at d.table s).state ≡ true
+  pub fresh : (v : Service) → slice_get d.services s ≡ Some v → is_worn (process_at d.table s) v ≡ false
+  pub room : 1 ≤ free_records d
+  pub endpoint : e ≡ ((process_at d.table s).generation + 1) * 1024 + s
+
+abbrev pub Acts : Situation → Situation → Event → Result Answer Refusal → Type 0
+Acts d n e (Ok x) = HasActed d n e x
+Acts d n e (Err r) = (refusal_to d e ≡ Some r) × (n ≡ d)

@@ -1,0 +1,9 @@
+//! The kernel: a table of processes, and the history of what happened to it.
+#![tactic(auto)]
+
+mod booting;
+mod kernel;
+mod present;
+mod serving;
+
+pub use kernel::Kernel;

@@ -1,0 +1,19 @@
+-- Laws of events.
+use Rattle.std.specs.Prelude.{ℕ, ◌≡◌, ◌≢◌}
+use Rattle.mx_world.specs.declared.events.Event.{Event}
+use Rattle.mx_world.specs.declared.events.Event.TheVariants.{Step, Take, Back}
+use Rattle.mx_world.specs.Whole.{Whole}
+use Rattle.mx_world.specs.Move.{move}
+
+-- two events may change places: in both orders each has the same answer, and the world after them is the same
+pub record ChangePlaces (w : Whole) (a : ℕ) (x : Event) (b : ℕ) (y : Event) : Type 0 where
+  pub first : (move (move w b y).1 a x).0 ≡ (move w a x).0
+  pub second : (move (move w a x).1 b y).0 ≡ (move w b y).0
+  pub world : (move (move w a x).1 b y).1 ≡ (move (move w b y).1 a x).1
+
+-- an event other than this processor's own steps, takes and returns
+abbrev pub IsOthers : ℕ → ℕ → Event → Type 0
+IsOthers c a Step = a ≢ c
+IsOthers c a Take = a ≢ c
+IsOthers c a Back = a ≢ c
+IsOthers c a _ = Unit {0}

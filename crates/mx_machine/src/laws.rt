@@ -1,0 +1,14 @@
+//! Laws of events.
+
+ghost use Rattle.std.specs.Prelude.{◌≡◌, ℕ, Some};
+ghost use Rattle.mx_world.specs.declared.events.Event.{Event};
+ghost use Rattle.mx_world.specs.declared.events.Event.TheVariants as e;
+ghost use Rattle.mx_world.specs.Whole.{Whole, Lent, held_by};
+ghost use Rattle.mx_machine.specs.Laws.{ChangePlaces, IsOthers};
+
+/// While a processor has a process, its step may change places with any event but its own steps,
+/// takes and returns.
+pub fn steps_change_places()
+    ensures { (w : Whole) (c a : ℕ) (x : Event) (l : Lent) → held_by w c ≡ Some l → IsOthers c a x → ChangePlaces w c e.Step a x }
+{
+}
