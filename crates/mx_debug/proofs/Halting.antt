@@ -197,11 +197,11 @@ one_more law points slot c o here left s n x run some = record {
     by_order i (inr l) p = let e : c ≡ i = omega arith in subst (λ (y : ℕ). is_end points slot o y ≡ false) e here_no_end
 
 reached_by : (points : List Breakpoint) (slot c : ℕ) (o : Out) → is_reached points slot (c + 1) o ≡ stands points slot o.image.eip
-reached_by points slot c o = by_case (leb_tells (c + 1) 0)
+reached_by points slot c o = by_case (leb_tells 1 (c + 1))
   where
-    by_case : ((nat_le (c + 1) 0 ≡ true) × (c + 1 ≤ 0)) ⊎ ((nat_le (c + 1) 0 ≡ false) × (0 < c + 1)) → is_reached points slot (c + 1) o ≡ stands points slot o.image.eip
-    by_case (inl p) = absurd (omega (arith, p.1))
-    by_case (inr p) = let e : nat_lt 0 (c + 1) ≡ true = ap not p.0 in ap (λ (b : Bool). b && stands points slot o.image.eip) e
+    by_case : ((nat_le 1 (c + 1) ≡ true) × (1 ≤ c + 1)) ⊎ ((nat_le 1 (c + 1) ≡ false) × (c + 1 < 1)) → is_reached points slot (c + 1) o ≡ stands points slot o.image.eip
+    by_case (inl p) = let e : nat_lt 0 (c + 1) ≡ true = p.0 in ap (λ (b : Bool). b && stands points slot o.image.eip) e
+    by_case (inr p) = absurd (omega (arith, p.1))
 
 ends_if : (s : Stop) (reached : Bool) → is_spent (cause_of s reached) ≡ false → (is_stop s ≡ true) ⊎ (reached ≡ true)
 ends_if stop.Trap reached e = inl refl
@@ -247,6 +247,10 @@ step_goes points slot c o here left s n reached told x run there t goes =
       not_reached = reached_by points slot c left ∙ sym there ∙ two.1;
       goes = λ _. sym (ap is_stop stop_is) ∙ two.0;
     }
+
+pub not_any : (a b v : Bool) → a ≡ b → v ≡ not a → v ≡ true → b ≡ false
+not_any true b v e f g = let h : true ≡ false = sym g ∙ f in absurd cc
+not_any false b v e f g = sym e
 
 spent_cause : (s : Stop) → is_stop s ≡ false → cause.Spent ≡ cause_of s false
 spent_cause stop.Spent e = refl

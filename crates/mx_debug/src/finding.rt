@@ -1,14 +1,17 @@
-//! Names of a program, and bytes of a process.
+//! Names of a program, bytes of a process, and messages that were delivered.
 
 ghost use Rattle.std.specs.Prelude.{◌≡◌, ℕ, ◌≤◌, Some, None, IfOk, IfErr, OnErr, length, take, slice_get};
 ghost use Rattle.mx_dis.specs.Names.{before_zero};
 ghost use Rattle.mx_debug.specs.Finding.{is_named, first_named};
+ghost use Rattle.mx_world.specs.History.{replay};
 ghost use Rattle.mx_debug.specs.declared.error.DebugError.TheVariants as errors;
 
 use crate::error::DebugError;
 use mx_aout::{Program, Symbol};
 use mx_exec::Image;
 use mx_image::Runs;
+use mx_kernel::Kernel;
+use mx_proc::Delivery;
 
 /// A name's bytes up to the first zero byte.
 fn before_zero(name: &[u8]) -> &[u8]
@@ -48,4 +51,11 @@ pub fn byte(image: &Image, at: u32) -> Result<u8, DebugError>
     ensures error { IfErr result (λ e. e ≡ errors.NotHere) }
 {
     image.byte(at).ok_or(DebugError::NotHere)
+}
+
+/// A delivery that a kernel keeps, counted from the oldest.
+pub fn message(kernel: &Kernel, index: usize) -> Option<Delivery>
+    ensures { result ≡ slice_get (replay kernel.now).table.deliveries index }
+{
+    kernel.delivery(index)
 }

@@ -9,7 +9,7 @@ mod points;
 mod resuming;
 
 pub use error::DebugError;
-pub use finding::{address, byte};
+pub use finding::{address, byte, message};
 pub use halt::{Cause, Halt};
 pub use mx_world::Held;
 pub use points::{Breakpoint, Debugger};

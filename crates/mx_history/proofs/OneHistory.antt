@@ -1,5 +1,5 @@
 -- A text is one history at most, and none where it has a fault.
-use Rattle.std.proofs.Common.{◌≡◌, ◌⊎◌, inl, inr, ℕ, Bool, true, false, ◌&&◌, List, [], ◌∷◌, ◌++◌, Option, Some, None, refl, sym, ap, ◌∙◌, subst}
+use Rattle.std.proofs.Common.{◌≡◌, inl, inr, ℕ, Bool, true, false, ◌&&◌, List, [], ◌∷◌, ◌++◌, Option, Some, None, refl, sym, ap, ◌∙◌, subst}
 use Rattle.std.specs.Prelude.{map, is_some, Result, Ok, Err, IfOk, IfErr, MatchResult}
 use Rattle.mx_fields.specs.declared.error.BootError.{BootError}
 use Rattle.mx_fields.specs.declared.error.BootError.TheVariants.{BadLine, TwiceNamed, TooMany, BadRecord, NoMemory}

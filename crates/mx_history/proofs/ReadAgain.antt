@@ -1,9 +1,9 @@
 -- The text of a history is read as that history.
-use Rattle.std.proofs.Common.{◌≡◌, ◌⊎◌, inl, inr, ℕ, suc, ◌<◌, ◌≤◌, ◌^◌, Bool, true, false, cond, length, ◌+◌, List, [], ◌∷◌, ◌++◌, Option, Some, None, refl, sym, ap, ap₂, ◌∙◌, arith, append_assoc}
+use Rattle.std.proofs.Common.{◌≡◌, ◌⊎◌, inl, inr, ℕ, suc, ◌<◌, ◌≤◌, ◌^◌, Bool, true, false, cond, ◌+◌, List, [], ◌∷◌, ◌++◌, Some, None, refl, ap, ap₂, ◌∙◌, arith, append_assoc}
 use Rattle.std.specs.Prelude.{map, codes, nat_lt, nat_le, All}
 use Rattle.std.proofs.lemmas.Bool.Decides.{leb_tells}
 use Rattle.std.specs.Fmt.{decimal}
-use Rattle.std.specs.List.{flat_map, AllByRecursion}
+use Rattle.std.specs.List.{AllByRecursion}
 use Rattle.mx_line.specs.Lines.{lines}
 use Rattle.mx_fields.specs.Fields.{fields, ◌>>=◌}
 use Rattle.mx_fields.specs.Numbers.{number_up_to}
@@ -11,7 +11,7 @@ use Rattle.mx_script.specs.declared.verb.Verb.{Verb}
 use Rattle.mx_script.specs.declared.verb.Verb.TheVariants as verbs
 use Rattle.mx_script.specs.Verbs.{verb_word, verb_of}
 use Rattle.mx_script.specs.Words.{is_word, AreWords, joined, lines_of_words}
-use Rattle.mx_script.specs.Script.{actor_of, only_count, after_verb}
+use Rattle.mx_script.specs.Script.{only_count, after_verb}
 use Rattle.mx_world.specs.declared.history.Record.{Record}
 use Rattle.mx_world.specs.declared.history.Recorded.{Recorded}
 use Rattle.mx_world.specs.declared.history.Recorded.TheVariants.{Take, Back, Line, Tick, Kill, Respawn}

@@ -1,9 +1,9 @@
 -- Which history a text is (our own).
-use Rattle.std.specs.Prelude.{◌≡◌, ℕ, ◌+◌, ◌==◌, ◌⊎◌, nat_lt, if◌then◌else◌, Bool, true, false, List, [], ◌∷◌, length, Option, Some, None, ⊤}
+use Rattle.std.specs.Prelude.{◌≡◌, ℕ, ◌==◌, ◌⊎◌, nat_lt, if◌then◌else◌, Bool, true, false, List, [], ◌∷◌, length, Option, Some, None, ⊤}
 use Rattle.mx_line.specs.Lines.{lines}
 use Rattle.mx_fields.specs.Fields.{fields, ◌>>=◌}
 use Rattle.mx_fields.specs.declared.error.BootError.{BootError}
-use Rattle.mx_fields.specs.declared.error.BootError.TheVariants.{BadLine, TwiceNamed, TooMany, BadRecord, NoMemory}
+use Rattle.mx_fields.specs.declared.error.BootError.TheVariants.{BadRecord, NoMemory}
 use Rattle.mx_script.specs.declared.verb.Verb.{Verb}
 use Rattle.mx_script.specs.declared.verb.Verb.TheVariants as verbs
 use Rattle.mx_script.specs.Script.{actor_of, only_count, after_verb}

@@ -1,5 +1,5 @@
 -- What a sink takes (our own).
-use Rattle.std.specs.Prelude.{◌≡◌, ℕ, ◌==◌, ◌≤◌, Bool, true, false, List, ◌++◌, length, map, take, Result, Ok, Err}
+use Rattle.std.specs.Prelude.{◌≡◌, ℕ, ◌==◌, ◌≤◌, Bool, true, List, ◌++◌, length, map, take, Result, Ok, Err}
 use Rattle.mx_history.specs.declared.sink.SinkFault.{SinkFault}
 
 -- so many of the bytes were taken, in order; a sink has failed once it takes none

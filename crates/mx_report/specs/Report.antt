@@ -8,7 +8,6 @@ use Rattle.mx_proc.specs.declared.process.Cause.{Cause}
 use Rattle.mx_proc.specs.declared.process.Cause.TheVariants.{Exit, Kill, Fault}
 use Rattle.mx_proc.specs.declared.process.Partner.{Partner}
 use Rattle.mx_proc.specs.declared.process.Partner.TheVariants.{Any, System, Only}
-use Rattle.mx_proc.specs.declared.process.Source.{Source}
 use Rattle.mx_proc.specs.declared.process.Source.TheVariants.{Hardware, Clock, Slot}
 use Rattle.mx_proc.specs.World.{World, process_at, endpoint_of}
 use Rattle.mx_proc.specs.Waits.{next_of}

@@ -33,6 +33,7 @@ pub fn push_number(out: &mut Vec<u8>, number: u32) -> Result<(), AllocError>
 }
 
 /// Appends a name without the zero bytes that pad it.
+#[tactic(auto, using(crate::proofs::Steps::name_bytes_more, crate::proofs::Steps::name_bytes_none))]
 pub fn push_name(out: &mut Vec<u8>, name: &[u8]) -> Result<(), AllocError>
     ensures { OnOk result (out.new.items ≡ out.old.items ++ name_bytes name.now) }
 {
@@ -93,7 +94,12 @@ fn push_receiver(out: &mut Vec<u8>, table: &Table, slot: Slot) -> Result<(), All
 }
 
 /// Appends what the process of a slot does.
-pub fn push_state(out: &mut Vec<u8>, table: &Table, slot: Slot, state: State) -> Result<(), AllocError>
+pub fn push_state(
+    out: &mut Vec<u8>,
+    table: &Table,
+    slot: Slot,
+    state: State,
+) -> Result<(), AllocError>
     ensures { OnOk result (out.new.items ≡ out.old.items ++ spaced (state_words table.now slot state)) }
 {
     match state {

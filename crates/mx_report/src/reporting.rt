@@ -28,6 +28,7 @@ fn push_slot(out: &mut Vec<u8>, table: &Table, slot: Slot, name: &[u8]) -> Resul
 }
 
 /// Appends the lines of services.
+#[tactic(auto, using(crate::proofs::Steps::slot_lines_more))]
 fn push_slots(out: &mut Vec<u8>, table: &Table, services: &[Service]) -> Result<(), AllocError>
     requires { length services.now ≡ length table.now.slots }
     ensures { OnOk result (out.new.items ≡ out.old.items ++ slot_lines table.now 0 services.now) }

@@ -1,4 +1,4 @@
-use Rattle.std.proofs.Common.{◌≤◌, arith}
+use Rattle.std.proofs.Common.{arith}
 use Rattle.mx_history.proofs.OneHistory.{one_of_history}
 use Rattle.mx_history.proofs.laws.one_text.Goals as goal
 
