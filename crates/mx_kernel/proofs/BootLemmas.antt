@@ -120,18 +120,18 @@ none_out X (suc n) = none_out X n
 pub boot_holds : (ss : List Service) (cpus capacity : ℕ) → capacity ≤ 2 ^ 20 → Holds (first_table ss) (replicate cpus None) ss 0 capacity
 unfolding first_table
 boot_holds ss cpus capacity fits = record {
-    room = omega (arith, none_out Lease cpus);
-    size = fits;
-    uptime = omega arith;
-    console = omega arith;
-    steps = λ s. each_first (λ p. p.steps ≤ 65535 * 0) (λ v. omega arith) (omega arith) ss s;
-    settled = λ s. each_first (λ p. p.state ≢ Home) (λ v e. cc) (λ e. cc) ss s;
-    leased = λ a x h. let z = none_at Lease cpus a in cc;
-    lent = λ s n h. absurd (each_first (λ p. loan_of p ≡ Some n → ⊥) (λ v e. cc) (λ e. cc) ss s h);
-    apart = λ a b x y h k same. let z = none_at Lease cpus a in cc;
-    served = sym (length-map ss first_process);
-    loaded = λ s v h home. subst (λ (p : Process). IsLoadedFrom p.image v.program) (sym (first-at ss s v h)) (loaded_from v.program);
-  }
+  room = omega (arith, none_out Lease cpus);
+  size = fits;
+  uptime = omega arith;
+  console = omega arith;
+  steps = λ s. each_first (λ p. p.steps ≤ 65535 * 0) (λ v. omega arith) (omega arith) ss s;
+  settled = λ s. each_first (λ p. p.state ≢ Home) (λ v e. cc) (λ e. cc) ss s;
+  leased = λ a x h. let z = none_at Lease cpus a in cc;
+  lent = λ s n h. absurd (each_first (λ p. loan_of p ≡ Some n → ⊥) (λ v e. cc) (λ e. cc) ss s h);
+  apart = λ a b x y h k same. let z = none_at Lease cpus a in cc;
+  served = sym (length-map ss first_process);
+  loaded = λ s v h home. subst (λ (p : Process). IsLoadedFrom p.image v.program) (sym (first-at ss s v h)) (loaded_from v.program);
+}
 
 no_lease : (n : ℕ) → map lease_of (replicate n None) ≡ replicate n None
 no_lease zero = refl
@@ -142,16 +142,16 @@ pub boot_agrees : (ss : List Service) (cpus others capacity room : ℕ) (leases 
 unfolding replay
 boot_agrees ss cpus others capacity room leases items eight idle none fits =
     subst (λ l. Agrees (record { table = first_table ss; leases = leases; others = others; services = ss; records = 0; capacity = capacity }) room (record { boot = booted_with ss cpus others capacity; history = l })) (sym none)
-      (record {
-        present = ap (λ (l : List (Option Lease)). let d : Situation = record { table = first_table ss; leases = l; others = others; services = ss; records = 0; capacity = capacity } in d) (idle ∙ sym (no_lease cpus));
-        records = refl;
-        space = fits;
-        accepted = tt;
-        few = omega (arith, length-replicate {A = Option Lent} cpus None);
-        actors = refl;
-        written = All-nil _;
-        fresh = λ a l h. let z = none_at Lent cpus a in cc;
-      })
+    (record {
+      present = ap (λ (l : List (Option Lease)). let d : Situation = record { table = first_table ss; leases = l; others = others; services = ss; records = 0; capacity = capacity } in d) (idle ∙ sym (no_lease cpus));
+      records = refl;
+      space = fits;
+      accepted = tt;
+      few = omega (arith, length-replicate {A = Option Lent} cpus None);
+      actors = refl;
+      written = All-nil _;
+      fresh = λ a l h. let z = none_at Lent cpus a in cc;
+    })
 
 more : {X : Type 0} → (n : ℕ) (x : X) → replicate n x ++ x ∷ [] ≡ replicate (suc n) x
 more zero x = refl

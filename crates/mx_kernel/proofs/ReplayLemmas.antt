@@ -399,6 +399,9 @@ opened_few d room k n v h same =
     let others : d.others ≡ (replay k).others = ap (λ (x : Situation). x.others) h.present in
     subst (λ (k : Kept). length (replay k).cpus ≤ 8) v (omega (arith, h.actors, h.few, others, same))
 
+pub actors-is : (d : Situation) (room p : ℕ) (k n : Kept) → k ≡ n → Agrees d room k → k.boot.others ≡ d.others → length k.boot.cpus ≡ p → p + d.others ≡ actors_of (replay n)
+actors-is d room p k n v h same cpus = subst (λ (k : Kept). p + d.others ≡ actors_of (replay k)) v (omega (arith, h.actors, same, cpus))
+
 pub event_actor : (d : Situation) (room : ℕ) (k n : Kept) (a : ℕ) → k ≡ n → Agrees d room k → a < actors_of (replay n) → a < actors_of k.boot
 event_actor d room k n a v h b = let z : a < actors_of (replay k) = subst (λ (k : Kept). a < actors_of (replay k)) (sym v) b in omega (arith, z, h.actors)
 

@@ -146,6 +146,13 @@ impl Kernel {
         self.present.at_rest()
     }
 
+    /// How many actors there are: the processors, and the others.
+    pub fn actors(&self) -> usize
+        ensures { result ≡ length (replay self.now).cpus + (replay self.now).others }
+    {
+        self.processors as usize + self.present.others() as usize
+    }
+
     /// Where the processes stand.
     pub fn table(&self) -> &Table
         ensures { result.now ≡ (replay self.now).table }

@@ -113,6 +113,13 @@ impl Present {
         }
     }
 
+    /// How many actors there are that are no processors.
+    pub(crate) fn others(&self) -> u8
+        ensures { result ≡ self.now.others }
+    {
+        self.others
+    }
+
     /// What each slot is made from.
     pub(crate) fn services(&self) -> &[Service]
         ensures { result.now ≡ self.now.services }

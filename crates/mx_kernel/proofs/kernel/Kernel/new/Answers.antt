@@ -17,9 +17,9 @@ new-requires-2 c =
     let entered : c.replace-entered.result.items ≡ ss = ap (λ v. v.items) c.replace-entered.ensures.value in
     let leases : c.in_ok-leases.leases.items ≡ replicate config.cpus None = c.in_ok-leases.ensures in
     subst (λ (w : World). Holds w c.in_ok-leases.leases.items c.replace-entered.result.items 0 config.log) (sym table)
-      (subst (λ (l : List (Option Lease)). Holds (first_table ss) l c.replace-entered.result.items 0 config.log) (sym leases)
-        (subst (λ (x : List Service). Holds (first_table ss) (replicate config.cpus None) x 0 config.log) (sym entered)
-          (boot_holds ss config.cpus config.log config.log_fits)))
+    (subst (λ (l : List (Option Lease)). Holds (first_table ss) l c.replace-entered.result.items 0 config.log) (sym leases)
+    (subst (λ (x : List Service). Holds (first_table ss) (replicate config.cpus None) x 0 config.log) (sym entered)
+    (boot_holds ss config.cpus config.log config.log_fits)))
 
 pub invariant_of-result : goal.invariant_of-result
 invariant_of-result c =
@@ -31,8 +31,8 @@ invariant_of-result c =
     let entered : c.replace-entered.result.items ≡ ss = ap (λ v. v.items) c.replace-entered.ensures.value in
     let room : config.log ≤ vec_capacity records = omega (arith, c.in_ok-records.ensures.capacity) in
     let is : c.new-2.result ≡ record { table = first_table ss; leases = leases; others = config.others; services = ss; records = 0; capacity = config.log } =
-          c.new-2.ensures
-          ∙ ap (λ (w : World). let d : Situation = record { table = w; leases = leases; others = config.others; services = c.replace-entered.result.items; records = 0; capacity = config.log } in d) table
-          ∙ ap (λ (x : List Service). let d : Situation = record { table = first_table ss; leases = leases; others = config.others; services = x; records = 0; capacity = config.log } in d) entered in
+    c.new-2.ensures
+    ∙ ap (λ (w : World). let d : Situation = record { table = w; leases = leases; others = config.others; services = c.replace-entered.result.items; records = 0; capacity = config.log } in d) table
+    ∙ ap (λ (x : List Service). let d : Situation = record { table = first_table ss; leases = leases; others = config.others; services = x; records = 0; capacity = config.log } in d) entered in
     subst (λ (d : Situation). Agrees d (vec_capacity records) (record { boot = booted_with d.services config.cpus d.others d.capacity; history = records.items })) (sym is)
-      (boot_agrees ss config.cpus config.others config.log (vec_capacity records) leases records.items config.cpus_fit c.in_ok-leases.ensures c.in_ok-records.ensures.items room)
+    (boot_agrees ss config.cpus config.others config.log (vec_capacity records) leases records.items config.cpus_fit c.in_ok-leases.ensures c.in_ok-records.ensures.items room)
