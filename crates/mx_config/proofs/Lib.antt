@@ -1,2 +1,3 @@
 pub mod Comment
+pub mod Services
 pub mod Taking

@@ -1,5 +1,5 @@
 -- Lines that are read, one more at a time.
-use Rattle.std.proofs.Common.{◌≡◌, ◌≢◌, ◌⊎◌, ◌∙◌, ℕ, ◌+◌, inl, inr, List, [], ◌∷◌, length, refl, sym, subst, ap, arith}
+use Rattle.std.proofs.Common.{◌≡◌, ◌≢◌, ◌⊎◌, ◌∙◌, ℕ, suc, ◌+◌, inl, inr, List, [], ◌∷◌, length, refl, sym, subst, ap, arith}
 use Rattle.mx_line.specs.Lines.{lines, last_line}
 use Rattle.mx_fields.specs.declared.error.BootError.{BootError}
 use Rattle.mx_fields.specs.declared.error.BootError.TheVariants.{BadLine, TwiceNamed, TooMany, BadRecord, NoMemory}
@@ -29,7 +29,7 @@ wrong_here a n line left more all e before next wrong = before e (subst (λ (x :
 
 pub count_more : (line : List ℕ) (left more : List (List ℕ)) (n : ℕ) (total : ℕ) → left ≡ line ∷ more → total ≡ n + length left → total ≡ (n + 1) + length more
 count_more line left more n total next e =
-    let longer : length left ≡ length more + 1 = ap length next in
+    let longer : length left ≡ suc (length more) = ap length next in
     omega (arith, longer, e)
 
 -- ---- what is told

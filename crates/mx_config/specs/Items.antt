@@ -29,7 +29,6 @@ numbered least most fs = do
 abbrev pub said_of : ServiceLine → Terms
 said_of s = record { masks = s.masks; level = s.level; best = s.best; quantum = s.quantum; restarts = s.restarts }
 
-
 -- a tab or a carriage return, which is no part of a file's name
 abbrev pub is_stray : ℕ → Bool
 is_stray b = b == 9 || b == 13

@@ -1,6 +1,6 @@
 //! What a line of a configuration says.
 
-ghost use Rattle.std.specs.Prelude.{◌≡◌, ◌≢◌, ◌≤◌, ◌∷◌, [], ℕ, List, Some, None, MatchOption, IfOk, IfSome, codes};
+ghost use Rattle.std.specs.Prelude.{◌≡◌, ◌≢◌, ◌≤◌, ◌∷◌, [], ℕ, List, Some, None, MatchOption, IfOk, IfSome, codes, length, take};
 ghost use Rattle.std.specs.List.{before_first, list_any};
 ghost use Rattle.mx_fields.specs.Fields.{fields};
 ghost use Rattle.mx_respawn.specs.declared.label.Label.{Label};
@@ -18,15 +18,23 @@ use mx_respawn::Label;
 use mx_setup::{FileName, ServiceLine};
 use std::alloc::{AllocError, Global};
 
-/// What stands before a comment.
-pub fn before_comment(line: &[u8]) -> &[u8]
-    ensures { result.now ≡ before_first is_hash line.now }
+/// How much stands before a comment.
+fn length_of_item(line: &[u8]) -> usize
+    ensures within { result ≤ length line.now }
+    ensures before { take result line.now ≡ before_first is_hash line.now }
 {
     let mut end = 0;
     while end < line.len() && line[end] != b'#' {
         end += 1;
     }
-    &line[..end]
+    end
+}
+
+/// What stands before a comment.
+pub fn before_comment(line: &[u8]) -> &[u8]
+    ensures { result.now ≡ before_first is_hash line.now }
+{
+    &line[..length_of_item(line)]
 }
 
 /// The number that a line is.
@@ -92,18 +100,21 @@ fn service_of(alloc: Global, line: &[u8]) -> Result<Option<ServiceLine>, AllocEr
 }
 
 /// What a line says whose fields begin with a word.
+#[tactic(auto, using(crate::proofs::Services::only_service))]
 pub fn item_at(alloc: Global, word: &[u8], line: &[u8]) -> Result<Option<Item>, AllocError>
     ensures said { IfOk result (λ o. MatchOption o ((i : Item) → Says (word.now ∷ fields line.now) i → ⊥) (Says (word.now ∷ fields line.now))) }
     ensures within { IfOk result (λ o. IfSome o IsWithin) }
 {
+    if word == b"service".as_slice() {
+        return match service_of(alloc, line)? {
+            Some(service) => Ok(Some(Item::Service(service))),
+            None => Ok(None),
+        };
+    }
     match word {
         b"cpus" => Ok(numbered(line, 1, 8).map(|number| Item::Cpus(number as u8))),
         b"log" => Ok(numbered(line, 1, 1_048_576).map(Item::Log)),
         b"others" => Ok(numbered(line, 1, 4).map(|number| Item::Others(number as u8))),
-        b"service" => {
-            let service = service_of(alloc, line)?;
-            Ok(service.map(Item::Service))
-        }
         _ => Ok(None),
     }
 }

@@ -22,7 +22,11 @@ pub fn number_between(word: &[u8], least: u32, most: u32) -> Option<u32>
 fn mask(word: &[u8]) -> Option<u32>
     ensures { result ≡ mask word.now }
 {
-    if word.len() > 8 { None } else { number_up_to(word, 16, u32::MAX) }
+    if word.len() > 8 {
+        None
+    } else {
+        number_up_to(word, 16, u32::MAX)
+    }
 }
 
 /// What stands behind a key that is the line's first field, and the line behind that.
@@ -31,7 +35,11 @@ fn value_of<'a>(line: &'a [u8], key: &[u8]) -> Option<(&'a [u8], &'a [u8])>
 {
     let (word, rest) = next_field(line)?;
     let (value, rest) = next_field(rest)?;
-    if word == key { Some((value, rest)) } else { None }
+    if word == key {
+        Some((value, rest))
+    } else {
+        None
+    }
 }
 
 /// The mask behind a key, and the line behind it.
