@@ -12,9 +12,6 @@ use Rattle.mx_debug.specs.Points.{is_at, stands}
 abbrev pub AreMarked : List Breakpoint → ℕ → List Bool → Type 0
 AreMarked points slot marks = (address : ℕ) → stands points slot address ≡ true → get_or marks (address % 1024) false ≡ true
 
-abbrev pub no_point : Breakpoint
-no_point = record { slot = 0; address = 0 }
-
 both : (a b : Bool) → (a && b) ≡ true → (a ≡ true) × (b ≡ true)
 both true b e = (refl, e)
 both false b e = absurd cc

@@ -1,26 +1,33 @@
--- One byte of a name, and one line of the report, more.
-use Rattle.std.proofs.Common.{◌≡◌, ◌≢◌, ℕ, suc, ◌+◌, ◌<◌, Bool, true, false, cond, not, List, [], ◌∷◌, ◌++◌, length, get_or, drop, sym, ap, ◌∙◌, arith, eq-eqb}
-use Rattle.std.specs.Prelude.{◌==◌}
+-- One byte of the console, and one line of the report, more.
+use Rattle.std.proofs.Common.{◌≡◌, ℕ, zero, suc, ◌+◌, ◌<◌, ◌≤◌, List, [], ◌∷◌, ◌++◌, length, get_or, drop, Some, None, refl, sym, ap, ◌∙◌, arith}
+use Rattle.std.specs.Prelude.{slice_get}
 use Rattle.std.proofs.Math.Seq.{drop-cons}
-use Rattle.std.proofs.lemmas.Bool.{ne_eqb}
+use Rattle.std.proofs.lemmas.List.{drop_all}
 use Rattle.mx_proc.specs.World.{World}
 use Rattle.mx_respawn.specs.declared.service.Service.{Service}
-use Rattle.mx_report.specs.Report.{name_bytes, slot_line, slot_lines}
+use Rattle.mx_report.specs.Report.{slot_line, slot_lines}
 
-kept : (b : ℕ) (bs : List ℕ) → (b == 0) ≡ false → name_bytes (b ∷ bs) ≡ b ∷ name_bytes bs
-kept b bs h = ap (λ (c : Bool). cond (not c) (b ∷ name_bytes bs) []) h
+pub kept_more : (kept : List ℕ) (i b : ℕ) → slice_get kept i ≡ Some b → drop i kept ≡ b ∷ drop (i + 1) kept
+kept_more [] i b h = absurd cc
+kept_more (x ∷ xs) zero b h = ap (λ (y : ℕ). y ∷ xs) (some_is x b h)
+  where
+    some_is : (x b : ℕ) → Some x ≡ Some b → x ≡ b
+    some_is x b h = cc
+kept_more (x ∷ xs) (suc i) b h =
+    let next : suc (i + 1) ≡ suc i + 1 = omega arith in
+    kept_more xs i b h ∙ ap (λ (n : ℕ). b ∷ drop n (x ∷ xs)) next
 
-ended : (b : ℕ) (bs : List ℕ) → (b == 0) ≡ true → name_bytes (b ∷ bs) ≡ []
-ended b bs h = ap (λ (c : Bool). cond (not c) (b ∷ name_bytes bs) []) h
+past : (kept : List ℕ) (i : ℕ) → slice_get kept i ≡ None → length kept ≤ i
+past [] i h = omega arith
+past (x ∷ xs) zero h = absurd cc
+past (x ∷ xs) (suc i) h = let further = past xs i h in omega (arith, further)
 
-pub name_bytes_more : (name : List ℕ) (i : ℕ) → i < length name → get_or name i 0 ≢ 0 → name_bytes (drop i name) ≡ get_or name i 0 ∷ name_bytes (drop (i + 1) name)
-name_bytes_more name i h some =
-    let next : suc i ≡ i + 1 = omega arith in
-    ap name_bytes (drop-cons name i 0 h) ∙ kept (get_or name i 0) (drop (suc i) name) (ne_eqb (get_or name i 0) 0 some)
-    ∙ ap (λ (n : ℕ). get_or name i 0 ∷ name_bytes (drop n name)) next
+pub kept_none : (kept : List ℕ) (i : ℕ) → slice_get kept i ≡ None → drop i kept ≡ []
+kept_none kept i h = drop_all i kept (past kept i h)
 
-pub name_bytes_none : (name : List ℕ) (i : ℕ) → i < length name → get_or name i 0 ≡ 0 → name_bytes (drop i name) ≡ []
-name_bytes_none name i h none = ap name_bytes (drop-cons name i 0 h) ∙ ended (get_or name i 0) (drop (suc i) name) (eq-eqb (get_or name i 0) 0 none)
+pub nil_behind : (xs : List ℕ) → xs ++ [] ≡ xs
+nil_behind [] = refl
+nil_behind (x ∷ xs) = ap (λ (ys : List ℕ). x ∷ ys) (nil_behind xs)
 
 pub slot_lines_more : (w : World) (services : List Service) (i : ℕ) (v : Service) → i < length services → v ≡ get_or services i v
     → slot_lines w i (drop i services) ≡ slot_line w i v.name.name.bytes ++ slot_lines w (i + 1) (drop (i + 1) services)

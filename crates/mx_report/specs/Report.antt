@@ -1,5 +1,5 @@
 -- What a machine is reported as (our own).
-use Rattle.std.specs.Prelude.{ℕ, ◌+◌, ◌==◌, not, List, [], ◌∷◌, ◌++◌, codes, take_while, unwrap_or}
+use Rattle.std.specs.Prelude.{ℕ, ◌+◌, ◌==◌, if◌then◌else◌, List, [], ◌∷◌, ◌++◌, codes, unwrap_or}
 use Rattle.std.specs.List.{flat_map}
 use Rattle.std.specs.Fmt.{decimal}
 use Rattle.mx_proc.specs.declared.process.State.{State}
@@ -13,7 +13,7 @@ use Rattle.mx_proc.specs.World.{World, process_at, endpoint_of}
 use Rattle.mx_proc.specs.Waits.{next_of}
 use Rattle.mx_respawn.specs.declared.service.Service.{Service}
 
--- the fields of a line behind its first, each behind a space
+-- fields of a line, each behind a space
 abbrev pub spaced : List (List ℕ) → List ℕ
 spaced ws = flat_map (λ (w : List ℕ). 32 ∷ w) ws
 
@@ -48,14 +48,15 @@ state_words w s (Down c) = codes "down" ∷ cause_words c
 
 -- a name's bytes without those that pad it
 abbrev pub name_bytes : List ℕ → List ℕ
-name_bytes name = take_while (λ b. not (b == 0)) name
+name_bytes [] = []
+name_bytes (b ∷ bs) = if b == 0 then [] else b ∷ name_bytes bs
 
 -- the line of a slot whose service has a name
 abbrev pub slot_line : World → ℕ → List ℕ → List ℕ
 slot_line w s name =
     let p = process_at w s in
-    decimal s ++ spaced (name_bytes name ∷ decimal (endpoint_of w s) ∷ []) ++ spaced (state_words w s p.state)
-    ++ spaced (decimal p.level ∷ decimal p.ticks ∷ []) ++ codes "\n"
+    decimal s ++ 32 ∷ name_bytes name ++ 32 ∷ decimal (endpoint_of w s) ++ spaced (state_words w s p.state)
+    ++ 32 ∷ decimal p.level ++ 32 ∷ decimal p.ticks ++ codes "\n"
 
 -- the lines of services, of which the first has this slot
 abbrev pub slot_lines : World → ℕ → List Service → List ℕ

@@ -33,8 +33,7 @@ pub fn push_number(out: &mut Vec<u8>, number: u32) -> Result<(), AllocError>
 }
 
 /// Appends a name without the zero bytes that pad it.
-#[tactic(auto, using(crate::proofs::Steps::name_bytes_more, crate::proofs::Steps::name_bytes_none))]
-pub fn push_name(out: &mut Vec<u8>, name: &[u8]) -> Result<(), AllocError>
+fn push_name(out: &mut Vec<u8>, name: &[u8]) -> Result<(), AllocError>
     ensures { OnOk result (out.new.items ≡ out.old.items ++ name_bytes name.now) }
 {
     for byte in name {
@@ -44,6 +43,14 @@ pub fn push_name(out: &mut Vec<u8>, name: &[u8]) -> Result<(), AllocError>
         out.push(*byte)?;
     }
     Ok(())
+}
+
+/// Appends a name as a field.
+pub fn push_label(out: &mut Vec<u8>, name: &[u8]) -> Result<(), AllocError>
+    ensures { OnOk result (out.new.items ≡ out.old.items ++ 32 ∷ name_bytes name.now) }
+{
+    out.push(b' ')?;
+    push_name(out, name)
 }
 
 /// The endpoint of a slot's process; where no process ever was its generation counts as 0.

@@ -4,7 +4,7 @@ ghost use Rattle.std.specs.Prelude.{◌≡◌, ◌<◌, ◌++◌, OnOk, IfOk, co
 ghost use Rattle.std.specs.Fmt.{decimal};
 ghost use Rattle.mx_report.specs.Report.{slot_line, slot_lines, report_text};
 
-use crate::fields::{endpoint_of, push_decimal, push_name, push_number, push_state};
+use crate::fields::{endpoint_of, push_decimal, push_label, push_number, push_state};
 use mx_proc::{Console, Slot, Table};
 use mx_respawn::Service;
 use mx_word::NoMemory;
@@ -17,8 +17,7 @@ fn push_slot(out: &mut Vec<u8>, table: &Table, slot: Slot, name: &[u8]) -> Resul
 {
     let process = table.process(slot);
     push_decimal(out, u32::from(slot))?;
-    out.push(b' ')?;
-    push_name(out, name)?;
+    push_label(out, name)?;
     push_number(out, endpoint_of(table, slot))?;
     push_state(out, table, slot, process.state)?;
     push_number(out, u32::from(process.level))?;
@@ -64,6 +63,7 @@ fn push_console(out: &mut Vec<u8>, console: &Console) -> Result<(), AllocError>
 /// The report on a table of processes: for each service in slot order its slot, name, endpoint,
 /// state, level and ticks left; the ticks since boot; how many bytes were written to the console,
 /// and of these those that are kept, as they are.
+#[tactic(auto, unfolding(crate::specs::Report::report_text))]
 pub fn report_of(alloc: Global, table: &Table, services: &[Service]) -> Result<Vec<u8>, NoMemory>
     requires { length services.now ≡ length table.now.slots }
     ensures { IfOk result (λ report. report.items ≡ report_text table.now services.now) }
