@@ -1,3 +1,4 @@
 pub mod StepLemmas
 pub mod MachineLemmas
 pub mod RunLemmas
+pub mod DoneLemmas

@@ -20,6 +20,7 @@ use Rattle.mx_world.specs.declared.holding.Out.{Out}
 use Rattle.mx_world.specs.Whole.{Whole, Lent, held_by, out_count, free}
 use Rattle.mx_world.specs.Move.{if_full, take_refusal, line_refusal, kill_refusal, respawn_refusal, event_refusal, after_event, event_answer, moved_by, move, after_line, after_respawn, after_take, after_back, with_held, noted, returned, lent_of, step_refusal, back_refusal, back_answer, take_answer, sent_out, moves}
 use Rattle.mx_world.specs.History.{Kept, replay}
+use Rattle.mx_kernel.specs.Situation.{is_for_all}
 use Rattle.mx_machine.specs.Machine.{Running, held_now, all_held_now, world_of}
 
 -- ---- lists
@@ -67,19 +68,16 @@ with_cpus w cs = record w { cpus = cs }
 
 -- an event of any actor: a line, a tick, a kill or a respawn
 abbrev pub IsAnyones : Event → Type 0
-IsAnyones Step = ⊥
-IsAnyones Take = ⊥
-IsAnyones Back = ⊥
-IsAnyones _ = Unit {0}
+IsAnyones x = is_for_all x ≡ true
 
 free_now : (w : Whole) (cs : List (Option Lent)) → out_count cs ≡ out_count w.cpus → free (with_cpus w cs) ≡ free w
 free_now w cs h = ap (λ n. w.capacity - (w.records + n)) h
 
 refusal_now : (w : Whole) (cs : List (Option Lent)) (a : ℕ) (x : Event) → IsAnyones x → out_count cs ≡ out_count w.cpus → event_refusal (with_cpus w cs) a x ≡ event_refusal w a x
 unfolding event_refusal
-refusal_now w cs a Step i h = absurd i
-refusal_now w cs a Take i h = absurd i
-refusal_now w cs a Back i h = absurd i
+refusal_now w cs a Step i h = cc
+refusal_now w cs a Take i h = cc
+refusal_now w cs a Back i h = cc
 refusal_now w cs a (Line l) i h = ap (λ k. line_refusal k (owner_of w.table l)) (free_now w cs h)
 refusal_now w cs a Tick i h = ap (λ k. if_full k 1) (free_now w cs h)
 refusal_now w cs a (Kill e) i h = ap (λ k. kill_refusal k (is_alive w.table e)) (free_now w cs h)
@@ -87,9 +85,9 @@ refusal_now w cs a (Respawn s) i h = ap (λ k. respawn_refusal k (process_at w.t
 
 answer_now : (w : Whole) (cs : List (Option Lent)) (a : ℕ) (x : Event) → IsAnyones x → event_answer (with_cpus w cs) a x ≡ event_answer w a x
 unfolding event_answer
-answer_now w cs a Step i = absurd i
-answer_now w cs a Take i = absurd i
-answer_now w cs a Back i = absurd i
+answer_now w cs a Step i = cc
+answer_now w cs a Take i = cc
+answer_now w cs a Back i = cc
 answer_now w cs a (Line l) i = refl
 answer_now w cs a Tick i = refl
 answer_now w cs a (Kill e) i = refl
@@ -105,28 +103,28 @@ after_respawn_now w cs s (Some v) = refl
 
 after_now : (w : Whole) (cs : List (Option Lent)) (a : ℕ) (x : Event) → IsAnyones x → after_event (with_cpus w cs) a x ≡ with_cpus (after_event w a x) cs
 unfolding after_event
-after_now w cs a Step i = absurd i
-after_now w cs a Take i = absurd i
-after_now w cs a Back i = absurd i
+after_now w cs a Step i = cc
+after_now w cs a Take i = cc
+after_now w cs a Back i = cc
 after_now w cs a (Line l) i = after_line_now w cs l (owner_of w.table l)
 after_now w cs a Tick i = refl
 after_now w cs a (Kill e) i = refl
 after_now w cs a (Respawn s) i = after_respawn_now w cs s (slice_get w.services s)
 
-line_cpus : (w : Whole) (l : ℕ) (owner : Option ℕ) → (after_line w l owner).cpus ≡ w.cpus
+pub line_cpus : (w : Whole) (l : ℕ) (owner : Option ℕ) → (after_line w l owner).cpus ≡ w.cpus
 line_cpus w l None = refl
 line_cpus w l (Some s) = refl
 
-respawn_cpus : (w : Whole) (s : ℕ) (v : Option Service) → (after_respawn w s v).cpus ≡ w.cpus
+pub respawn_cpus : (w : Whole) (s : ℕ) (v : Option Service) → (after_respawn w s v).cpus ≡ w.cpus
 respawn_cpus w s None = refl
 respawn_cpus w s (Some v) = refl
 
 -- such an event leaves what processors hold
 pub cpus_after : (w : Whole) (a : ℕ) (x : Event) → IsAnyones x → (after_event w a x).cpus ≡ w.cpus
 unfolding after_event
-cpus_after w a Step i = absurd i
-cpus_after w a Take i = absurd i
-cpus_after w a Back i = absurd i
+cpus_after w a Step i = cc
+cpus_after w a Take i = cc
+cpus_after w a Back i = cc
 cpus_after w a (Line l) i = line_cpus w l (owner_of w.table l)
 cpus_after w a Tick i = refl
 cpus_after w a (Kill e) i = refl
@@ -168,7 +166,7 @@ IsOwn Step = Unit {0}
 IsOwn Back = Unit {0}
 IsOwn _ = ⊥
 
-holds_in : {X : Type 0} → (xs : List (Option X)) (a : ℕ) (x : X) → get_or xs a None ≡ Some x → a < length xs
+pub holds_in : {X : Type 0} → (xs : List (Option X)) (a : ℕ) (x : X) → get_or xs a None ≡ Some x → a < length xs
 holds_in [] a x h = cc
 holds_in (y ∷ ys) zero x h = omega arith
 holds_in (y ∷ ys) (suc a) x h = let b = holds_in ys a x h in omega arith

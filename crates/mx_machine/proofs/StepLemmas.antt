@@ -128,7 +128,7 @@ held_over w c a (Respawn s) n = respawn_held w c s (slice_get w.services s)
 -- ---- events
 
 -- a step of what a processor has
-abbrev step_by : Whole → ℕ → Lent → Bool → Result Answer Refusal × Whole
+abbrev pub step_by : Whole → ℕ → Lent → Bool → Result Answer Refusal × Whole
 step_by w c l true = (Err AtStop, w)
 step_by w c l false = (Ok (Went (outcome_of_step l.out)), with_held w c (Some (record l { out = stepped l.out })))
 
@@ -137,7 +137,7 @@ unfolding event_answer after_event
 by_stop w c l true h = refl
 by_stop w c l false h = ap (λ (o : Option Lent). let p : Result Answer Refusal × Whole = (Ok (step_answer o), after_step w c o) in p) h
 
-move-step : (w : Whole) (c : ℕ) (l : Lent) → held_by w c ≡ Some l → move w c Step ≡ step_by w c l (at_stop l.out)
+pub move-step : (w : Whole) (c : ℕ) (l : Lent) → held_by w c ≡ Some l → move w c Step ≡ step_by w c l (at_stop l.out)
 unfolding move event_refusal
 move-step w c l h = ap (λ (o : Option Lent). moved_by w c Step (step_refusal o)) h ∙ by_stop w c l (at_stop l.out) h
 

@@ -1,9 +1,8 @@
 -- The machine of one thread: a kernel, and what its processors hold.
-use Rattle.std.specs.Prelude.{ℕ, ◌+◌, ◌≡◌, ◌<◌, ◌≤◌, List, [], ◌∷◌, Option, Some, None, Result, Ok, Err, length, slice_index_or, if◌then◌else◌}
+use Rattle.std.specs.Prelude.{ℕ, true, ◌+◌, ◌≡◌, ◌<◌, ◌≤◌, List, [], ◌∷◌, Option, Some, None, Result, Ok, Err, length, slice_index_or, if◌then◌else◌}
 use Rattle.mx_world.specs.declared.events.Answer.{Answer}
 use Rattle.mx_world.specs.declared.events.Answer.TheVariants.{Went}
 use Rattle.mx_world.specs.declared.events.Event.{Event}
-use Rattle.mx_world.specs.declared.events.Event.TheVariants.{Step, Take, Back}
 use Rattle.mx_world.specs.declared.events.Refusal.{Refusal}
 use Rattle.mx_world.specs.declared.events.Refusal.TheVariants.{AtStop, CpuEmpty}
 use Rattle.mx_world.specs.declared.holding.Out.{Out}
@@ -12,6 +11,7 @@ use Rattle.mx_world.specs.Held.{IsBack, held_run, outcome_of_step, stepped}
 use Rattle.mx_world.specs.Move.{at_stop}
 use Rattle.mx_world.specs.History.{Kept, AreAccepted, after_events, replay}
 use Rattle.mx_world.specs.Steps.{steps_of}
+use Rattle.mx_kernel.specs.Situation.{is_for_all}
 
 -- What a machine is seen as: its kernel, and what each processor holds.
 pub record Running : Type 0 where
@@ -45,6 +45,7 @@ IsHeld _ _ = ⊥
 -- What always holds of a machine.
 pub record IsRunning (m : Running) : Type 0 where
   pub few : length (replay m.kernel).cpus ≤ 8
+  pub places : length m.outs ≡ 8
   pub each : (a : ℕ) → IsHeld (held_by (replay m.kernel) a) (slice_index_or m.outs a None)
 
 -- A tool has worked with what a processor holds: the world is that after the steps of its run, none of which is refused.
@@ -59,9 +60,6 @@ abbrev pub stepped_held : Option Out → Result Answer Refusal × Option Out
 stepped_held None = (Err CpuEmpty, None)
 stepped_held (Some o) = if at_stop o then (Err AtStop, Some o) else (Ok (Went (outcome_of_step o)), Some (stepped o))
 
--- the actors of lines, ticks, kills and respawns are numbered: processors, then the others
+-- who raises lines, lets the clock tick, kills and respawns is one of the actors: the processors, then the others
 abbrev pub IsActor : Whole → ℕ → Event → Type 0
-IsActor w a Step = Unit {0}
-IsActor w a Take = Unit {0}
-IsActor w a Back = Unit {0}
-IsActor w a _ = a < length w.cpus + w.others
+IsActor w a x = is_for_all x ≡ true → a < length w.cpus + w.others

@@ -2,7 +2,12 @@
 #![tactic(auto)]
 
 mod laws;
+mod machine;
 mod steps;
 
 pub use laws::{histories_replay, steps_change_places};
-pub use steps::Tool;
+pub use machine::Machine;
+pub use mx_kernel::Kernel;
+pub use mx_world::{
+    Answer, Config, Event, FileName, Held, Out, Record, Recorded, Refusal, ServiceLine, ServiceLines,
+};

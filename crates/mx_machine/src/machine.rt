@@ -1,20 +1,21 @@
 //! A kernel, and what its processors hold.
 
-ghost use Rattle.std.specs.Prelude.{◌≡◌, ℕ, ◌+◌, ◌<◌, ◌≤◌, ◌++◌, ◌∷◌, [], All, Ok, None, Some, IsSome, IfSome, IfErr, OnOk, OnErr, MatchOption, vec_len, vec_capacity};
+ghost use Rattle.std.specs.Prelude.{◌≡◌, ℕ, true, ◌+◌, ◌<◌, ◌≤◌, ◌++◌, ◌∷◌, [], All, Ok, None, Some, IsSome, IfSome, IfErr, OnOk, OnErr, MatchOption, length, vec_len, vec_capacity};
 ghost use Rattle.mx_proc.specs.World.{endpoint_of};
 ghost use Rattle.mx_world.specs.declared.events.Event.TheVariants as events;
 ghost use Rattle.mx_world.specs.declared.events.Refusal.TheVariants.{CpuEmpty};
 ghost use Rattle.mx_world.specs.History.{replay};
 ghost use Rattle.mx_world.specs.Move.{move, moves};
 ghost use Rattle.mx_world.specs.Whole.{Lent, held_by, out_count};
-ghost use Rattle.mx_machine.specs.Machine.{HasWorked, IsActor, IsRunOf, world_of};
+ghost use Rattle.mx_kernel.specs.Situation.{is_for_all};
+ghost use Rattle.mx_machine.specs.Machine.{IsActor, IsRunning, world_of};
 
-use crate::steps::{Tool, step_held, work_held};
+use crate::steps::step_held;
 use mx_exec::Image;
 use mx_kernel::Kernel;
 use mx_proc::Endpoint;
 use mx_word::NoMemory;
-use mx_world::{Answer, Event, Out, Refusal, held_runs_join, runs_are_steps};
+use mx_world::{Answer, Event, Out, Refusal, held_runs_join};
 use std::marker::Model;
 use std::mem;
 
@@ -80,11 +81,19 @@ impl Machine {
         &self.kernel
     }
 
+    /// How many actors there are: the processors, and the others.
+    pub fn actors(&self) -> usize
+        ensures { result ≡ length (world_of self.now).cpus + (world_of self.now).others }
+    {
+        self.kernel.actors()
+    }
+
     /// The image that a processor holds, as it is now.
     pub fn image(&self, cpu: u8) -> Option<&Image>
         ensures { MatchOption result (held_by (world_of self.now) cpu ≡ None) (λ image. (l : Lent) × (held_by (world_of self.now) cpu ≡ Some l) × (image.now ≡ l.out.image)) }
     {
-        if cpu >= 8 {
+        self.opened();
+        if cpu as usize >= self.outs.len() {
             return None;
         }
         match &self.outs[cpu as usize] {
@@ -93,26 +102,13 @@ impl Machine {
         }
     }
 
-    /// Lends what a processor holds to a tool.
-    pub fn work<T: Tool>(&mut self, cpu: u8, tool: &mut T) -> Result<(), Refusal>
-        ensures ok { OnOk result ((l : Lent) × HasWorked (world_of self.old) (world_of self.new) cpu (T.steps tool.old l.out) l × T.Becomes tool.old l.out tool.new) }
-        ensures err { IfErr result (λ refusal. (refusal ≡ CpuEmpty) × (held_by (world_of self.old) cpu ≡ None) × (self.new ≡ self.old) × (tool.new ≡ tool.old)) }
-        ensures kernel { self.new.kernel ≡ self.old.kernel }
-    {
-        held_runs_join();
-        runs_are_steps();
-        if cpu >= 8 {
-            return Err(Refusal::CpuEmpty);
-        }
-        work_held(tool, &mut self.outs[cpu as usize])
-    }
-
     /// A step of a processor.
     fn step(&mut self, cpu: u8) -> Result<Answer, Refusal>
         ensures { move (world_of self.old) cpu events.Step ≡ (result, world_of self.new) }
     {
         held_runs_join();
-        if cpu >= 8 {
+        self.opened();
+        if cpu as usize >= self.outs.len() {
             return Err(Refusal::CpuEmpty);
         }
         step_held(&mut self.outs[cpu as usize])
@@ -133,13 +129,23 @@ impl Machine {
     fn back(&mut self, cpu: u8) -> Result<Answer, Refusal>
         ensures { move (world_of self.old) cpu events.Back ≡ (result, world_of self.new) }
     {
-        if cpu >= 8 {
+        self.opened();
+        if cpu as usize >= self.outs.len() {
             return Err(Refusal::CpuEmpty);
         }
         match mem::replace(&mut self.outs[cpu as usize], None) {
             Some(out) => Ok(Answer::Returned(self.kernel.back(cpu, out))),
             None => Err(Refusal::CpuEmpty),
         }
+    }
+
+    /// A line, a tick, a kill or a respawn.
+    fn rule(&mut self, actor: u8, event: Event) -> Result<Answer, Refusal>
+        requires event { is_for_all event ≡ true }
+        requires actor { actor < length (world_of self.old).cpus + (world_of self.old).others }
+        ensures { move (world_of self.old) actor event ≡ (result, world_of self.new) }
+    {
+        self.kernel.event(actor, event)
     }
 
     /// One event of an actor: it is refused, and nothing changes, or it is answered.
@@ -151,7 +157,7 @@ impl Machine {
             Event::Step => self.step(actor),
             Event::Take => self.take(actor),
             Event::Back => self.back(actor),
-            _ => self.kernel.event(actor, event),
+            _ => self.rule(actor, event),
         }
     }
 
@@ -174,10 +180,10 @@ impl Machine {
         Ok(())
     }
 
-    /// Opens to a proof what always holds of a machine: what a processor holds is what the kernel lent,
-    /// after a run.
+    /// Opens to a proof what always holds of a machine: what a processor holds is what the kernel lent
+    /// it, after a run.
     pub fn opened(&self)
-        ensures { (a : ℕ) (l m : Lent) → held_by (replay self.now.kernel) a ≡ Some l → held_by (world_of self.now) a ≡ Some m → IsRunOf l.out m.out }
+        ensures { IsRunning self.now }
     {
         let _kernel = &self.kernel;
     }

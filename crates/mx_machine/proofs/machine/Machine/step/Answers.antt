@@ -1,0 +1,25 @@
+use Rattle.std.proofs.Common.{◌≡◌, get_or, ◌∙◌, ◌<◌, ◌≤◌, ◌+◌, ℕ, List, [], ◌∷◌, ◌++◌, length, Option, Some, None, Result, Ok, Err, IfSome, slice_set, take, refl, sym, ap, subst, arith}
+use Rattle.mx_world.specs.declared.events.Event.TheVariants.{Step}
+use Rattle.mx_world.specs.Move.{move}
+use Rattle.mx_machine.specs.Machine.{Running, world_of}
+use Rattle.mx_machine.proofs.DoneLemmas.{any_default, none_beyond, on, step-done}
+use Rattle.mx_machine.proofs.MachineLemmas.{empty-refused}
+use Rattle.mx_machine.proofs.machine.Machine.step.Goals as goal
+
+pub returns-then-cpu-ge8 : goal.returns-then-cpu-ge8
+returns-then-cpu-ge8 c = empty-refused (world_of c.args.self.now) c.args.cpu Step tt (none_beyond c.args.self.now.kernel c.args.self.now.outs c.args.cpu c.opened.ensures (omega arith))
+
+pub invariant_of-self : goal.invariant_of-self
+invariant_of-self c =
+    let os = c.self.inside.outs in
+    let below : c.args.cpu < length os = omega (arith, c.self.invariant.places) in
+    let at = any_default os c.args.cpu None c.index-self-cpu.result below in
+    (step-done c.self.inside.kernel os c.args.cpu (get_or os c.args.cpu c.index-self-cpu.result) c.step_held.new.held c.step_held.result c.held_runs_join.ensures below c.self.invariant at c.step_held.ensures.value c.step_held.ensures.lasting).running
+
+pub returns : goal.returns
+returns c =
+    let os = c.self.inside.outs in
+    let below : c.args.cpu < length os = omega (arith, c.self.invariant.places) in
+    let at = any_default os c.args.cpu None c.index-self-cpu.result below in
+    let d = step-done c.self.inside.kernel os c.args.cpu (get_or os c.args.cpu c.index-self-cpu.result) c.step_held.new.held c.step_held.result c.held_runs_join.ensures below c.self.invariant at c.step_held.ensures.value c.step_held.ensures.lasting in
+    subst (λ (m : Running). move (world_of m) c.args.cpu Step ≡ (c.step_held.result, world_of (on c.self.inside.kernel (slice_set os c.args.cpu c.step_held.new.held)))) c.self.view_is d.world
