@@ -61,14 +61,20 @@ impl Debugger {
     pub fn has_any(&self, slot: Slot) -> bool
         ensures { result ≡ has_any self.now slot }
     {
-        self.points.as_slice().iter().any(|point| point.slot == slot)
+        self.points
+            .as_slice()
+            .iter()
+            .any(|point| point.slot == slot)
     }
 
     /// Whether a slot has a breakpoint at an address.
     pub fn stands(&self, slot: Slot, address: u32) -> bool
         ensures { result ≡ stands self.now slot address }
     {
-        self.points.as_slice().iter().any(|point| is_at(point, slot, address))
+        self.points
+            .as_slice()
+            .iter()
+            .any(|point| is_at(point, slot, address))
     }
 
     /// One breakpoint more; one that stands already is no other. An error changes nothing.

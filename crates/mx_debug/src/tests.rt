@@ -53,8 +53,20 @@ fn breakpoints(rt: HostRuntime) -> Result<(), Fail> {
     out.image.eip = 4;
     debugger.remove(3, 3);
     assert!(rt; debugger.add(7, 6) == Ok(()));
-    assert!(rt; debugger.resume(7, &mut out, 99) == Halt { count: 1, cause: Cause::Trap });
-    assert!(rt; debugger.resume(7, &mut out, 99) == Halt { count: 0, cause: Cause::Trap });
+    assert!(rt;
+        debugger.resume(7, &mut out, 99)
+            == Halt {
+                count: 1,
+                cause: Cause::Trap
+            }
+    );
+    assert!(rt;
+        debugger.resume(7, &mut out, 99)
+            == Halt {
+                count: 0,
+                cause: Cause::Trap
+            }
+    );
     assert!(rt; byte(&out.image, 15) == Ok(0) && byte(&out.image, 16) == Err(DebugError::NotHere));
     assert!(rt; DebugError::NoSymbol.code() == 60 && DebugError::NoSymbol.name() == "NoSymbol");
     Ok(())
