@@ -1,5 +1,5 @@
 -- What the machine's calls do, from what the calls below them do.
-use Rattle.std.proofs.Common.{◌≡◌, ◌≢◌, ◌∙◌, ◌<◌, ◌≤◌, ℕ, zero, suc, ◌+◌, cond, Bool, true, false, List, [], ◌∷◌, length, Option, Some, None, Result, Ok, Err, IfSome, IfOk, IfErr, map, slice_get, slice_set, get_or, inl, inr, refl, sym, ap, subst, arith}
+use Rattle.std.proofs.Common.{◌≡◌, ◌≢◌, ◌∙◌, ◌<◌, ◌≤◌, ℕ, zero, suc, ◌+◌, cond, Bool, true, false, List, [], ◌∷◌, length, Option, Some, None, Result, Ok, Err, IfSome, IfOk, IfErr, OnOk, map, slice_get, slice_set, get_or, inl, inr, refl, sym, ap, subst, arith}
 use Rattle.std.proofs.lemmas.Bool.{cases_lt}
 use Rattle.std.proofs.lemmas.List.{set-get_or, set-set, get_or-set_same, get_or-set_other, length-set}
 use Rattle.std.proofs.Math.ListN.{get_or-eq_default}
@@ -60,10 +60,10 @@ none_beyond k os a h far = let few = h.few in none-now k os a (get_or-eq_default
 
 pub running-replaced : (k : Kept) (os : List (Option Out)) (a : ℕ) (l : Lent) (p : Out) → a < length os → IsRunning (on k os) → held_by (replay k) a ≡ Some l → IsRunOf l.out p → IsRunning (on k (slice_set os a (Some p)))
 running-replaced k os a l p b h at run = record {
-    few = h.few;
-    places = length-set os a (Some p) ∙ h.places;
-    each = held-set (replay k).cpus (replay k).cpus os a (Some p) b (λ i n. refl) (subst (λ (x : Option Lent). IsHeld x (Some p)) (sym at) run) h.each;
-  }
+  few = h.few;
+  places = length-set os a (Some p) ∙ h.places;
+  each = held-set (replay k).cpus (replay k).cpus os a (Some p) b (λ i n. refl) (subst (λ (x : Option Lent). IsHeld x (Some p)) (sym at) run) h.each;
+}
 
 -- ---- a machine that was just made
 
@@ -81,10 +81,10 @@ nothing_now (Some l ∷ ls) os h = absurd (omega arith)
 
 pub new-running : (k : Kept) (os : List (Option Out)) → length (replay k).cpus ≤ 8 → out_count (replay k).cpus ≡ 0 → out_count os ≡ 0 → length os ≡ 8 → IsRunning (on k os)
 new-running k os few h g eight = record {
-    few = few;
-    places = eight;
-    each = λ a. subst (λ (x : Option Lent). IsHeld x (get_or os a None)) (sym (none_held (replay k).cpus a h)) (subst (λ (y : Option Out). IsHeld None y) (sym (none_held os a g)) tt);
-  }
+  few = few;
+  places = eight;
+  each = λ a. subst (λ (x : Option Lent). IsHeld x (get_or os a None)) (sym (none_held (replay k).cpus a h)) (subst (λ (y : Option Out). IsHeld None y) (sym (none_held os a g)) tt);
+}
 
 pub new-world : (k : Kept) (os : List (Option Out)) → out_count (replay k).cpus ≡ 0 → world_of (on k os) ≡ replay k
 unfolding world_of
@@ -142,7 +142,7 @@ step-done k os a None p r join b h g e lasts =
     let re : Err CpuEmpty ≡ r = ap (λ (q : Result Answer Refusal × Option Out). q.0) e in
     let pe : None ≡ p = ap (λ (q : Result Answer Refusal × Option Out). q.1) e in
     subst (λ (x : Result Answer Refusal). IsDone k os (slice_set os a p) a x) re (subst (λ (x : Option Out). IsDone k os (slice_set os a x) a (Err CpuEmpty)) pe
-      (refused-done k os a None CpuEmpty h g (empty-refused (world_of (on k os)) a Step tt (lends_none k os a h g))))
+    (refused-done k os a None CpuEmpty h g (empty-refused (world_of (on k os)) a Step tt (lends_none k os a h g))))
 step-done k os a (Some o) p r join b h g e lasts = some-done k os a o p r (at_stop o) join b h g refl e lasts
 
 -- ---- a tool's work
@@ -159,13 +159,17 @@ work-done k os a j o p join steps b h g is lasts =
     let s : StepsTo w a (held_run j o).0.0 m (held_run j o).1 = steps w a j m held l.runs.within in
     let run : IsRunOf l.lent.out p = run-more l.lent.out o p j join l.runs is lasts in
     let at : get_or (slice_set os a (Some p)) a None ≡ Some p = get_or-set_same os a (Some p) None b in
-    let same : Some (record l.lent { out = p }) ≡ Some (record m { out = (held_run j o).1 }) = ap (λ (x : Out). let y : Option Lent = Some (record l.lent { out = x }) in y) is in
-    (running-replaced k os a l.lent p b h l.is run, m, refl, record {
-      held = held;
-      accepted = s.accepted;
-      world = world-replaced k os a l.lent p b l.is ∙ ap (with_held w a) same ∙ sym s.after;
-      out = held-now k (slice_set os a (Some p)) a l.lent p l.is at ∙ same;
-    })
+    let same : Some (record l.lent { out = p }) ≡ Some (record m { out = (held_run j o).1 }) = ap (λ (x : Out). let y : Option Lent = Some (record l.lent { out = x }) in y) is in (
+      running-replaced k os a l.lent p b h l.is run,
+      m,
+      refl,
+      record {
+        held = held;
+        accepted = s.accepted;
+        world = world-replaced k os a l.lent p b l.is ∙ ap (with_held w a) same ∙ sym s.after;
+        out = held-now k (slice_set os a (Some p)) a l.lent p l.is at ∙ same;
+      },
+    )
 
 -- ---- takes, returns and what any actor does
 
@@ -245,13 +249,13 @@ pub record IsRuled (k n : Kept) (os : List (Option Out)) (a : ℕ) (x : Event) (
 pub ruled : (k n : Kept) (os : List (Option Out)) (a : ℕ) (x : Event) (r : Result Answer Refusal) (e : Recorded) → IsRunning (on k os) → IsAnyones x
     → IfOk r (λ y. (y ≡ event_answer (replay k) a x) × IsAccepted k n a x e) → IfErr r (λ y. IsRefused k n a x y) → IsRuled k n os a x r
 ruled k n os a x (Ok y) e h i ok err = record {
-    running = anyones-running k n os a x h i ok.1.world;
-    world = anyones-accepted k n os a x i ok.1.accepted ok.1.world ∙ ap (λ (z : Answer). let p : Result Answer Refusal × Whole = (Ok z, world_of (on n os)) in p) (sym ok.0);
-  }
+  running = anyones-running k n os a x h i ok.1.world;
+  world = anyones-accepted k n os a x i ok.1.accepted ok.1.world ∙ ap (λ (z : Answer). let p : Result Answer Refusal × Whole = (Ok z, world_of (on n os)) in p) (sym ok.0);
+}
 ruled k n os a x (Err y) e h i ok err = record {
-    running = same-running k n os err.1 h;
-    world = anyones-refused k os a x y i err.0 ∙ ap (λ (m : Kept). let p : Result Answer Refusal × Whole = (Err y, world_of (on m os)) in p) (sym err.1);
-  }
+  running = same-running k n os err.1 h;
+  world = anyones-refused k os a x y i err.0 ∙ ap (λ (m : Kept). let p : Result Answer Refusal × Whole = (Err y, world_of (on m os)) in p) (sym err.1);
+}
 
 -- ---- the slot on a processor
 
@@ -326,3 +330,37 @@ actors-kept w u a x r h = sym (ap (λ (p : Result Answer Refusal × Whole). acto
 pub take-err : (k n : Kept) (os : List (Option Out)) (a : ℕ) (e : Refusal) (m : Running) → on k os ≡ m → IsRefused k n a Take e → move (world_of m) a Take ≡ (Err e, world_of (on n os))
 take-err k n os a e m is refused = subst (λ (m : Running). move (world_of m) a Take ≡ (Err e, world_of (on n os))) is
     (take-refused k os a e refused.0 ∙ ap (λ (x : Kept). let p : Result Answer Refusal × Whole = (Err e, world_of (on x os)) in p) (sym refused.1))
+
+-- ---- a tool's call
+
+abbrev pub Lasts : Option Out → Option Out → (Out → ℕ) → (Out → Type 0) → Type 0
+Lasts held new j B = (o : Out) × (p : Out) × (held ≡ Some o) × (new ≡ Some p) × (p ≡ (held_run (j o) o).1) × (lasting p.image ≡ lasting o.image) × B o
+
+-- What a tool's call leaves.
+pub record IsWorked (k : Kept) (os : List (Option Out)) (a : ℕ) (new : Option Out) (r : Result (Unit {0}) Refusal) (j : Out → ℕ) (B : Out → Type 0) (Same : Type 0) : Type 0 where
+  pub running : IsRunning (on k (slice_set os a new))
+  pub ok : OnOk r ((l : Lent) × HasWorked (world_of (on k os)) (world_of (on k (slice_set os a new))) a (j l.out) l × B l.out)
+  pub err : IfErr r (λ e. (e ≡ CpuEmpty) × (held_by (world_of (on k os)) a ≡ None) × (on k (slice_set os a new) ≡ on k os) × Same)
+
+pub worked : (k : Kept) (os : List (Option Out)) (a : ℕ) (held new : Option Out) (r : Result (Unit {0}) Refusal) (j : Out → ℕ) (B : Out → Type 0) (Same : Type 0)
+    → ((a b : ℕ) (x : Out) → held_run (a + b) x ≡ then_held (held_run a x) b)
+    → ((w : Whole) (a k : ℕ) (l : Lent) → held_by w a ≡ Some l → l.out.count ≤ l.out.budget → StepsTo w a (held_run k l.out).0.0 l (held_run k l.out).1)
+    → a < length os → IsRunning (on k os) → get_or os a None ≡ held
+    → IfErr r (λ e. (e ≡ CpuEmpty) × (held ≡ None) × (new ≡ None) × Same) → OnOk r (Lasts held new j B) → IsWorked k os a new r j B Same
+worked k os a held new (Ok u) j B Same join steps b h at none some =
+    let o = some.0 in
+    let p = some.1 in
+    let d = work-done k os a (j o) o p join steps b h (at ∙ some.2) some.4 some.5 in
+    subst (λ (x : Option Out). IsWorked k os a x (Ok u) j B Same) (sym some.3) (record {
+      running = d.0;
+      ok = (d.1, subst (λ (x : Out). HasWorked (world_of (on k os)) (world_of (on k (slice_set os a (Some p)))) a (j x) d.1) (sym d.2) d.3, subst B (sym d.2) some.6);
+      err = tt;
+    })
+worked k os a held new (Err e) j B Same join steps b h at none some =
+    let gone : get_or os a None ≡ None = at ∙ none.1 in
+    let same : slice_set os a new ≡ os = ap (slice_set os a) none.2 ∙ same_set os a None gone in
+    record {
+      running = subst (λ (x : List (Option Out)). IsRunning (on k x)) (sym same) h;
+      ok = tt;
+      err = (none.0, lends_none k os a h gone, ap (on k) same, none.3);
+    }

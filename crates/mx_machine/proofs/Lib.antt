@@ -2,3 +2,4 @@ pub mod StepLemmas
 pub mod MachineLemmas
 pub mod RunLemmas
 pub mod DoneLemmas
+pub mod RunningLemmas

@@ -147,7 +147,7 @@ anyones-accepted k n os a x i ok is =
     move-is (with_cpus w cs) a x None (refusal_now w cs a x i (held_now-count w.cpus os) ∙ ok)
     ∙ ap (λ (y : Answer). let p : Result Answer Refusal × Whole = (Ok y, after_event (with_cpus w cs) a x) in p) (answer_now w cs a x i)
     ∙ ap (λ (v : Whole). let p : Result Answer Refusal × Whole = (Ok (event_answer w a x), v) in p)
-        (after_now w cs a x i ∙ ap (λ (v : Whole). with_cpus v cs) (sym is) ∙ ap (with_cpus (replay n)) (sym same))
+    (after_now w cs a x i ∙ ap (λ (v : Whole). with_cpus v cs) (sym is) ∙ ap (with_cpus (replay n)) (sym same))
 
 -- and one that it refuses
 pub anyones-refused : (k : Kept) (os : List (Option Out)) (a : ℕ) (x : Event) (r : Refusal) → IsAnyones x → event_refusal (replay k) a x ≡ Some r
@@ -183,9 +183,9 @@ take_now w os a =
     let first = picked w.table.ready in
     ap (λ n. cond (nat_lt a n) (take_refusal (free (with_cpus w cs)) (get_or cs a None) first) (Some CpuBusy)) (held_now-length w.cpus os)
     ∙ ap (λ r. cond (nat_lt a (length w.cpus)) r (Some CpuBusy))
-        (ap (λ n. take_refusal n (get_or cs a None) first) (free_now w cs (held_now-count w.cpus os))
-         ∙ ap (λ h. take_refusal (free w) h first) (held_now-at w.cpus os a)
-         ∙ take_refusal_now (free w) (held_by w a) (get_or os a None) first)
+    (ap (λ n. take_refusal n (get_or cs a None) first) (free_now w cs (held_now-count w.cpus os))
+    ∙ ap (λ h. take_refusal (free w) h first) (held_now-at w.cpus os a)
+    ∙ take_refusal_now (free w) (held_by w a) (get_or os a None) first)
 
 pub take-refused : (k : Kept) (os : List (Option Out)) (a : ℕ) (r : Refusal) → event_refusal (replay k) a Take ≡ Some r
     → move (world_of (record { kernel = k; outs = os })) a Take ≡ (Err r, world_of (record { kernel = k; outs = os }))
@@ -206,7 +206,7 @@ take_by w v os a l out (Some s) b idle is h same =
     let it : m.out ≡ out = let e : m ≡ l = cc in ap (λ (x : Lent). x.out) e ∙ same in
     let mine : Some (record m { out = out }) ≡ Some m = ap (λ (o : Out). let x : Option Lent = Some (record m { out = o }) in x) (sym it) in
     let cpus : all_held_now v.cpus (slice_set os a (Some out)) ≡ slice_set cs a (Some m) =
-          ap (λ x. all_held_now x (slice_set os a (Some out))) new ∙ held_now-set w.cpus os a (Some m) (Some out) b ∙ ap (slice_set cs a) mine in
+    ap (λ x. all_held_now x (slice_set os a (Some out))) new ∙ held_now-set w.cpus os a (Some m) (Some out) b ∙ ap (slice_set cs a) mine in
     ap (λ (u : Whole). with_cpus u (slice_set cs a (Some m))) (sym is) ∙ ap (with_cpus v) (sym cpus)
 
 take_idle : (w : Whole) (a : ℕ) → event_refusal w a Take ≡ None → held_by w a ≡ None
@@ -265,12 +265,12 @@ back-accepted k n os a l o b h g is =
     let put : held_by (with_held w a (Some m)) a ≡ Some m = get_or-set_same w.cpus a (Some m) None (holds_in w.cpus a l h) in
     let new : replay n ≡ with_held (noted (with_held w a (Some m)) (returned w.table m)) a None = is ∙ ap (after_back (with_held w a (Some m)) a) put in
     let cpus : all_held_now (replay n).cpus (slice_set os a None) ≡ slice_set cs a None =
-          ap (λ (v : Whole). all_held_now v.cpus (slice_set os a None)) new
-          ∙ ap (λ x. all_held_now x (slice_set os a None)) (set-set w.cpus a (Some m) None) ∙ held_now-set w.cpus os a None None b in
+    ap (λ (v : Whole). all_held_now v.cpus (slice_set os a None)) new
+    ∙ ap (λ x. all_held_now x (slice_set os a None)) (set-set w.cpus a (Some m) None) ∙ held_now-set w.cpus os a None None b in
     move-is (with_cpus w cs) a Back None (ap back_refusal held)
     ∙ ap (λ (x : Option Lent). let p : Result Answer Refusal × Whole = (Ok (back_answer x), after_back (with_cpus w cs) a x) in p) held
     ∙ ap (λ (v : Whole). let p : Result Answer Refusal × Whole = (Ok (Returned o.count), v) in p)
-        (ap (λ (v : Whole). with_cpus v (slice_set cs a None)) (sym new) ∙ ap (with_cpus (replay n)) (sym cpus))
+    (ap (λ (v : Whole). with_cpus v (slice_set cs a None)) (sym new) ∙ ap (with_cpus (replay n)) (sym cpus))
 
 -- ---- takes: whose process it is
 
@@ -293,7 +293,7 @@ endpoint_out : (t : World) (s : ℕ) → endpoint_of (sent_out t s) s ≡ endpoi
 unfolding sent_out
 endpoint_out t s = ap (λ g. g * 1024 + s)
     (generation_kept (unqueued t s).slots s (record (process_at (unqueued t s) s) { state = OnProcessor; image = blank }) refl
-     ∙ generation_kept t.slots s (record (process_at t s) { state = Home }) refl)
+    ∙ generation_kept t.slots s (record (process_at t s) { state = Home }) refl)
 
 answer_by : (w v : Whole) (a e : ℕ) (l : Lent) (out : Out) (first : Option ℕ) → held_by w a ≡ None → v ≡ after_take w a first → held_by v a ≡ Some l → l.out ≡ out → e ≡ endpoint_of v.table l.slot
     → take_answer w.table first ≡ Taken e out.budget
@@ -302,7 +302,7 @@ answer_by w v a e l out (Some s) idle is h same at =
     let it : l ≡ lent_of w.table s = taken_is w v a s l is h in
     let budget : (process_at w.table s).ticks ≡ out.budget = ap (λ (x : Lent). x.out.budget) (sym it) ∙ ap (λ (o : Out). o.budget) same in
     let endpoint : endpoint_of w.table s ≡ e =
-          sym (at ∙ ap (λ (u : Whole). endpoint_of u.table l.slot) is ∙ ap (λ (x : Lent). endpoint_of (sent_out w.table s) x.slot) it ∙ endpoint_out w.table s) in
+    sym (at ∙ ap (λ (u : Whole). endpoint_of u.table l.slot) is ∙ ap (λ (x : Lent). endpoint_of (sent_out w.table s) x.slot) it ∙ endpoint_out w.table s) in
     ap (λ n. Taken n (process_at w.table s).ticks) endpoint ∙ ap (Taken e) budget
 
 pub taken-answer : (k n : Kept) (a e : ℕ) (l : Lent) (out : Out) → event_refusal (replay k) a Take ≡ None → replay n ≡ after_event (replay k) a Take → held_by (replay n) a ≡ Some l → l.out ≡ out

@@ -95,9 +95,9 @@ one_went o (Fault v, m) = refl
 one_by : (s : Stop) (o : Out) → (is_stop s || nat_le o.budget o.count) ≡ false → (run_by_stop s 1 o).1 ≡ after_step o (one_step o.image)
 one_by stop.Spent o h =
     let left : min 1 (o.budget - o.count) ≡ 1 = elim (cases_lt o.count o.budget) [
-        | inl lt ↦ omega arith
-        | inr ge ↦ let y = le-leb o.budget o.count ge in cc
-      ] in
+      | inl lt ↦ omega arith
+      | inr ge ↦ let y = le-leb o.budget o.count ge in cc
+    ] in
     ap (λ i. (after_run o (ran i o.image)).1) left ∙ one_went o (one_step o.image)
 one_by stop.Trap o h = cc
 one_by (stop.Fault v) o h = cc
@@ -136,6 +136,6 @@ run-none lent out e zero_count spent =
 pub held-set : (ls ms : List (Option Lent)) (os : List (Option Out)) (a : ℕ) (y : Option Out) → a < length os → ((b : ℕ) → b ≢ a → get_or ms b None ≡ get_or ls b None) → IsHeld (get_or ms a None) y
     → ((b : ℕ) → IsHeld (get_or ls b None) (get_or os b None)) → (b : ℕ) → IsHeld (get_or ms b None) (get_or (slice_set os a y) b None)
 held-set ls ms os a y below others here all b = elim (cases_eq b a) [
-    | inl e ↦ subst (λ i. IsHeld (get_or ms i None) (get_or (slice_set os a y) i None)) (sym e) (subst (IsHeld (get_or ms a None)) (sym (get_or-set_same os a y None below)) here)
-    | inr n ↦ subst (λ (x : Option Lent). IsHeld x (get_or (slice_set os a y) b None)) (sym (others b n)) (subst (IsHeld (get_or ls b None)) (sym (get_or-set_other os a b y None n)) (all b))
-  ]
+  | inl e ↦ subst (λ i. IsHeld (get_or ms i None) (get_or (slice_set os a y) i None)) (sym e) (subst (IsHeld (get_or ms a None)) (sym (get_or-set_same os a y None below)) here)
+  | inr n ↦ subst (λ (x : Option Lent). IsHeld x (get_or (slice_set os a y) b None)) (sym (others b n)) (subst (IsHeld (get_or ls b None)) (sym (get_or-set_other os a b y None n)) (all b))
+]

@@ -41,7 +41,7 @@ refusal_kept w c a Take l m h n =
     let first = picked w.table.ready in
     ap (λ k. cond (nat_lt a k) (take_refusal (free (with_held w c (Some m))) (held_by (with_held w c (Some m)) a) first) (Some CpuBusy)) (length-set w.cpus c (Some m))
     ∙ ap (λ r. cond (nat_lt a (length w.cpus)) r (Some CpuBusy))
-        (ap (λ k. take_refusal k (held_by (with_held w c (Some m)) a) first) (free_kept w c l m h) ∙ ap (λ o. take_refusal (free w) o first) (others_kept w c a m n))
+    (ap (λ k. take_refusal k (held_by (with_held w c (Some m)) a) first) (free_kept w c l m h) ∙ ap (λ o. take_refusal (free w) o first) (others_kept w c a m n))
 refusal_kept w c a Back l m h n = ap back_refusal (others_kept w c a m n)
 refusal_kept w c a (Line i) l m h n = ap (λ k. line_refusal k (owner_of w.table i)) (free_kept w c l m h)
 refusal_kept w c a Tick l m h n = ap (λ k. if_full k 1) (free_kept w c l m h)

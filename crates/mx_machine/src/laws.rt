@@ -11,11 +11,9 @@ ghost use Rattle.mx_machine.specs.Laws.{ChangePlaces, IsOthers, Replays};
 /// takes and returns.
 pub fn steps_change_places()
     ensures { (w : Whole) (c a : ℕ) (x : Event) (l : Lent) → held_by w c ≡ Some l → IsOthers c a x → ChangePlaces w c e.Step a x }
-{
-}
+{}
 
 /// A history whose events are accepted, as every kernel's are, replays.
 pub fn histories_replay()
     ensures { (k : Kept) → AreAccepted k.boot (unfolded k.history) → Replays k }
-{
-}
+{}

@@ -9,5 +9,7 @@ pub use laws::{histories_replay, steps_change_places};
 pub use machine::Machine;
 pub use mx_kernel::Kernel;
 pub use mx_world::{
-    Answer, Config, Event, FileName, Held, Out, Record, Recorded, Refusal, ServiceLine, ServiceLines,
+    Answer, Config, Event, FileName, Held, Out, Record, Recorded, Refusal, ServiceLine,
+    ServiceLines,
 };
+pub use steps::Tool;

@@ -8,14 +8,14 @@ ghost use Rattle.mx_world.specs.History.{replay};
 ghost use Rattle.mx_world.specs.Move.{move, moves};
 ghost use Rattle.mx_world.specs.Whole.{Lent, held_by, out_count};
 ghost use Rattle.mx_kernel.specs.Situation.{is_for_all};
-ghost use Rattle.mx_machine.specs.Machine.{IsActor, IsRunning, world_of};
+ghost use Rattle.mx_machine.specs.Machine.{HasWorked, IsActor, IsRunning, world_of};
 
-use crate::steps::step_held;
+use crate::steps::{Tool, step_held, work_held};
 use mx_exec::Image;
 use mx_kernel::Kernel;
 use mx_proc::Endpoint;
 use mx_word::NoMemory;
-use mx_world::{Answer, Event, Out, Refusal, held_runs_join};
+use mx_world::{Answer, Event, Out, Refusal, held_runs_join, runs_are_steps};
 use std::marker::Model;
 use std::mem;
 
@@ -52,6 +52,7 @@ fn endpoint_on(kernel: &Kernel, cpu: u8) -> Endpoint
 fn add(answers: &mut Vec<Result<Answer, Refusal>>, answer: Result<Answer, Refusal>)
     requires { vec_len answers.old < vec_capacity answers.old }
     ensures items { answers.new.items ≡ answers.old.items ++ answer ∷ [] }
+    ensures len { vec_len answers.new ≡ vec_len answers.old + 1 }
     ensures room { vec_capacity answers.old ≤ vec_capacity answers.new }
 {
     match answers.push(answer) {
@@ -100,6 +101,21 @@ impl Machine {
             Some(out) => Some(&out.image),
             None => None,
         }
+    }
+
+    /// Lends what a processor holds to a tool.
+    pub fn work<T: Tool>(&mut self, cpu: u8, tool: &mut T) -> Result<(), Refusal>
+        ensures ok { OnOk result ((l : Lent) × HasWorked (world_of self.old) (world_of self.new) cpu (T.steps tool.old l.out) l × T.Becomes tool.old l.out tool.new) }
+        ensures err { IfErr result (λ refusal. (refusal ≡ CpuEmpty) × (held_by (world_of self.old) cpu ≡ None) × (self.new ≡ self.old) × (tool.new ≡ tool.old)) }
+        ensures kernel { self.new.kernel ≡ self.old.kernel }
+    {
+        held_runs_join();
+        runs_are_steps();
+        self.opened();
+        if cpu as usize >= self.outs.len() {
+            return Err(Refusal::CpuEmpty);
+        }
+        work_held(tool, &mut self.outs[cpu as usize])
     }
 
     /// A step of a processor.

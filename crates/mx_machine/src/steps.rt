@@ -13,6 +13,21 @@ use mx_exec::{Outcome, step};
 use mx_image::Stop;
 use mx_world::{Answer, Out, Refusal};
 
+/// What makes steps with what a processor holds, as a debugger does.
+pub trait Tool {
+    /// How many steps its run asks for, by what it is and what it is lent.
+    ghost steps: { Self → Out → ℕ };
+
+    /// What its work leaves it as.
+    ghost Becomes: { Self → Out → Self → Type 0 };
+
+    /// Makes its one run with what it is lent.
+    fn work(&mut self, out: &mut Out)
+        ensures ran { out.new ≡ (held_run (steps self.old out.old) out.old).1 }
+        ensures lasting { lasting out.new.image ≡ lasting out.old.image }
+        ensures becomes { Becomes self.old out.old self.new };
+}
+
 /// How a step that ended so leaves its process.
 fn stop_of(outcome: Outcome) -> Stop
     ensures { result ≡ stop_of outcome }
@@ -58,6 +73,20 @@ pub(crate) fn step_held(held: &mut Option<Out>) -> Result<Answer, Refusal>
 {
     match held {
         Some(out) => step_of(out),
+        None => Err(Refusal::CpuEmpty),
+    }
+}
+
+/// Lends what a processor holds to a tool, if it holds anything.
+pub(crate) fn work_held<T: Tool>(tool: &mut T, held: &mut Option<Out>) -> Result<(), Refusal>
+    ensures none { IfErr result (λ refusal. (refusal ≡ CpuEmpty) × (held.old ≡ None) × (held.new ≡ None) × (tool.new ≡ tool.old)) }
+    ensures some { OnOk result ((o : Out) × (p : Out) × (held.old ≡ Some o) × (held.new ≡ Some p) × (p ≡ (held_run (T.steps tool.old o) o).1) × (lasting p.image ≡ lasting o.image) × T.Becomes tool.old o tool.new) }
+{
+    match held {
+        Some(out) => {
+            tool.work(out);
+            Ok(())
+        }
         None => Err(Refusal::CpuEmpty),
     }
 }

@@ -24,7 +24,7 @@ invariant_of-self c =
     let at = any_default os a None c.index-self-cpu.result below ∙ sym c.replace.ensures.value ∙ c.in-Some.is in
     let l = lends k os a c.in-Some.out c.self.invariant at in
     subst (λ (x : Option Out). IsRunning (on c.back.new.self (slice_set os a x))) (sym c.replace.ensures.after)
-      (back-running k c.back.new.self os a l.lent c.in-Some.out below c.self.invariant l.is (c.back.ensures.world l.lent l.is))
+    (back-running k c.back.new.self os a l.lent c.in-Some.out below c.self.invariant l.is (c.back.ensures.world l.lent l.is))
 
 pub returns-in-Some : goal.returns-in-Some
 returns-in-Some c =
@@ -35,9 +35,9 @@ returns-in-Some c =
     let at = any_default os a None c.index-self-cpu.result below ∙ sym c.replace.ensures.value ∙ c.in-Some.is in
     let l = lends k os a c.in-Some.out c.self.invariant at in
     subst (λ (m : Running). move (world_of m) a Back ≡ (Ok (Returned c.back.result), world_of (on c.back.new.self (slice_set os a c.replace.new.dest)))) c.self.view_is
-      (back-accepted k c.back.new.self os a l.lent c.in-Some.out below l.is at (c.back.ensures.world l.lent l.is)
-       ∙ ap (λ (n : ℕ). let p : Result Answer Refusal × Whole = (Ok (Returned n), world_of (on c.back.new.self (slice_set os a None))) in p) (sym c.back.ensures.count)
-       ∙ ap (λ (x : Option Out). let p : Result Answer Refusal × Whole = (Ok (Returned c.back.result), world_of (on c.back.new.self (slice_set os a x))) in p) (sym c.replace.ensures.after))
+    (back-accepted k c.back.new.self os a l.lent c.in-Some.out below l.is at (c.back.ensures.world l.lent l.is)
+    ∙ ap (λ (n : ℕ). let p : Result Answer Refusal × Whole = (Ok (Returned n), world_of (on c.back.new.self (slice_set os a None))) in p) (sym c.back.ensures.count)
+    ∙ ap (λ (x : Option Out). let p : Result Answer Refusal × Whole = (Ok (Returned c.back.result), world_of (on c.back.new.self (slice_set os a x))) in p) (sym c.replace.ensures.after))
 
 pub returns-in-None : goal.returns-in-None
 returns-in-None c =
@@ -47,5 +47,5 @@ returns-in-None c =
     let below : a < length os = omega (arith, c.self.invariant.places) in
     let at = any_default os a None c.index-self-cpu.result below ∙ sym c.replace.ensures.value ∙ c.in-None.is in
     subst (λ (m : Running). move (world_of m) a Back ≡ (Err CpuEmpty, world_of (on k (slice_set os a c.replace.new.dest)))) c.self.view_is
-      (empty-refused (world_of (on k os)) a Back tt (lends_none k os a c.self.invariant at)
-       ∙ ap (λ (x : List (Option Out)). let p : Result Answer Refusal × Whole = (Err CpuEmpty, world_of (on k x)) in p) (sym (ap (slice_set os a) c.replace.ensures.after ∙ same_set os a None at)))
+    (empty-refused (world_of (on k os)) a Back tt (lends_none k os a c.self.invariant at)
+    ∙ ap (λ (x : List (Option Out)). let p : Result Answer Refusal × Whole = (Err CpuEmpty, world_of (on k x)) in p) (sym (ap (slice_set os a) c.replace.ensures.after ∙ same_set os a None at)))

@@ -16,11 +16,11 @@ returns-in-Some c =
     let at = any_default os c.args.cpu None c.index-self-cpu.result below ∙ c.in-Some.is in
     let l = lends k os c.args.cpu c.in-Some.out c.self.invariant at in
     subst (λ (m : Running). (x : Lent) × held_by (world_of m) c.args.cpu ≡ Some x × c.in-Some.out.image ≡ x.out.image) c.self.view_is
-      (record l.lent { out = c.in-Some.out }, held-now k os c.args.cpu l.lent c.in-Some.out l.is at, refl)
+    (record l.lent { out = c.in-Some.out }, held-now k os c.args.cpu l.lent c.in-Some.out l.is at, refl)
 
 pub returns-in-None : goal.returns-in-None
 returns-in-None c =
     let os = c.self.inside.outs in
     let below : c.args.cpu < length os = omega (arith, c.self.invariant.places) in
     subst (λ (m : Running). held_by (world_of m) c.args.cpu ≡ None) c.self.view_is
-      (lends_none c.self.inside.kernel os c.args.cpu c.self.invariant (any_default os c.args.cpu None c.index-self-cpu.result below ∙ c.in-None.is))
+    (lends_none c.self.inside.kernel os c.args.cpu c.self.invariant (any_default os c.args.cpu None c.index-self-cpu.result below ∙ c.in-None.is))

@@ -8,7 +8,7 @@ use Rattle.mx_machine.proofs.machine.Machine.rule.Goals as goal
 pub event-requires-clause-actor : goal.event-requires-clause-actor
 event-requires-clause-actor c =
     let b : c.args.actor < length (world_of (on c.self.inside.kernel c.self.inside.outs)).cpus + (world_of (on c.self.inside.kernel c.self.inside.outs)).others =
-          subst (λ (m : Running). c.args.actor < length (world_of m).cpus + (world_of m).others) (sym c.self.view_is) c.requires.actor in
+    subst (λ (m : Running). c.args.actor < length (world_of m).cpus + (world_of m).others) (sym c.self.view_is) c.requires.actor in
     subst (λ n. c.args.actor < n) (actors-now c.self.inside.kernel c.self.inside.outs) b
 
 pub invariant_of-self : goal.invariant_of-self
