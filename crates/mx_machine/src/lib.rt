@@ -13,3 +13,6 @@ pub use mx_world::{
     ServiceLines,
 };
 pub use steps::Tool;
+
+#[cfg(test)]
+mod tests;
