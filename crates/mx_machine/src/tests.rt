@@ -269,7 +269,7 @@ static ROWS: [Row; 8] = [
 /// The program of a text of its own, with 128 bytes of bss.
 fn program(alloc: Global, text: &[u8]) -> Result<Program, Fail> {
     let mut file = Vec::with_capacity(alloc, 32 + text.len())?;
-    let length = text.len() as u8;
+    let length = (text.len() % 256) as u8;
     file.extend_from_slice(&[
         0x01, 0x03, 0x30, 0x10, 0x20, 0, 0, 0, length, 0, 0, 0, 0, 0, 0, 0, 0x80, 0, 0, 0, 0, 0, 0,
         0, 0, 0x10, 0, 0, 0, 0, 0, 0,
