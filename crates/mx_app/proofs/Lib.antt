@@ -1,5 +1,3 @@
 pub mod Answering
-mod Given
-mod AskedWords
 pub mod Telling
 mod Showing

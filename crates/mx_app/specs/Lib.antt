@@ -2,4 +2,3 @@ pub mod One
 pub mod Shown
 pub mod Failure
 pub mod Assembling
-pub mod Words

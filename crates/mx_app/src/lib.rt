@@ -1,4 +1,4 @@
-//! What the program `mx` does: its command line, its subcommands, and why they fail.
+//! What the program `mx` does: its subcommands, and why they fail.
 #![tactic(auto)]
 
 mod assembly;
@@ -7,16 +7,15 @@ mod listing;
 mod perform;
 mod report;
 mod running;
-mod words;
 
 pub use assembly::assemble_file;
 pub use failure::Failure;
 pub use listing::{print_listing, print_names};
 pub use mx_aout::FileError;
+pub use mx_command::{Request, command};
 pub use perform::perform_words;
 pub use report::print_one;
 pub use running::one;
-pub use words::{Request, command};
 
 #[cfg(test)]
 mod tests;

@@ -9,8 +9,8 @@ use crate::assembly::assemble_file;
 use crate::failure::Failure;
 use crate::listing::{print_listing, print_names};
 use crate::report::print_one;
-use crate::words::{Request, command};
 use clap::error::ErrorKind;
+use mx_command::{Request, command};
 use std::rt::{Env, Files};
 use std::{env, fs, io};
 

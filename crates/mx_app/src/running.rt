@@ -5,7 +5,8 @@ ghost use Rattle.mx_app.specs.One.{Answers};
 
 use mx_aout::{FileError, read};
 use mx_exec::Image;
-use mx_image::{Runs, Stop};
+use mx_image::{Stop, run_with};
+use mx_kept::Cache;
 use mx_load::load;
 use std::alloc::Global;
 
@@ -16,6 +17,7 @@ pub fn one(alloc: Global, bytes: &[u8], steps: u32) -> Result<(u32, Stop, Image)
 {
     let program = read(alloc, bytes)?;
     let mut image = load(alloc, &program)?;
-    let (count, stop) = image.run(steps);
+    let mut cache = Cache::new(alloc)?;
+    let (count, stop) = run_with(&mut image, &mut cache, steps);
     Ok((count, stop, image))
 }

@@ -1,13 +1,14 @@
 -- A text has a program or a fault, and one program at most.
-use Rattle.std.proofs.Common.{◌≡◌, ℕ, ◌+◌, ◌⊎◌, inl, inr, List, [], ◌∷◌, ◌++◌, length, map, replicate, refl, sym, ◌∙◌, ap, subst, Option, Some, None}
+use Rattle.std.proofs.Common.{◌≡◌, ℕ, ◌+◌, inl, inr, List, [], ◌∷◌, length, map, refl, sym, ◌∙◌, ap, subst, Option, Some, None}
 use Rattle.std.specs.List.{flat_map}
 use Rattle.mx_word.specs.Word.{bytes_of, bytes_in}
 use Rattle.mx_insn.specs.declared.insn.Insn.{Insn}
 use Rattle.mx_encode.specs.declared.Wide.{Wide}
 use Rattle.mx_encode.specs.Chosen.{Chosen}
-use Rattle.mx_lex.specs.Tokens.{IsReadAs, IsFault}
-use Rattle.mx_lex.specs.declared.kinds.Token.{Token}
+use Rattle.mx_line.specs.Lines.{lines}
+use Rattle.mx_lex.specs.Tokens.{IsFault}
 use Rattle.mx_lex.specs.declared.kinds.LexError.{LexError}
+use Rattle.mx_lex.specs.declared.kinds.LexError.TheVariants as lexical
 use Rattle.mx_statement.specs.declared.statement.Section.{Section}
 use Rattle.mx_statement.specs.declared.statement.Section.TheVariants.{Text, Data, Bss}
 use Rattle.mx_statement.specs.declared.statement.Statement.{Statement}
@@ -17,15 +18,16 @@ use Rattle.mx_statement.specs.declared.line.Reason.{Reason}
 use Rattle.mx_statement.specs.Instructions.{marks}
 use Rattle.mx_reading.specs.Lines.{IsLine}
 use Rattle.mx_aout.specs.declared.program.Program.{Program}
+use Rattle.mx_asm.specs.declared.fault.Problem.{Problem}
+use Rattle.mx_asm.specs.declared.fault.Problem.TheVariants.{BadByte, BadNumber, OpenText}
 use Rattle.mx_asm.specs.declared.fault.Fault.{Fault}
 use Rattle.mx_asm.specs.declared.sizes.Sizes.{Sizes}
 use Rattle.mx_asm.specs.Branches.{branch_by, branch_marks, distance}
-use Rattle.mx_asm.specs.Lengths.{length_of}
-use Rattle.mx_asm.specs.Layout.{Above, start, said, reason_of, left_by, laid_by, value_under, address_of, spot_of, sizes_after}
+use Rattle.mx_asm.specs.Layout.{Above, start, said, reason_of, left_by, address_of, spot_of, sizes_after}
 use Rattle.mx_asm.specs.Bytes.{AllStand, BytesOf, StandsIn, contents}
-use Rattle.mx_asm.specs.Faults.{fault_behind, total_of}
+use Rattle.mx_asm.specs.Faults.{fault_behind, problem_of, total_of}
 use Rattle.mx_asm.specs.Assembled.{AreAssembled, SameProgram, symbol_under, entry_under}
-use Rattle.mx_asm.specs.Text.{IsTaken, AreTaken, IsWrong, IsFirstWrong, on_behind, Assembled, HasFault}
+use Rattle.mx_asm.specs.Text.{AreTaken, IsWrong, IsFirstWrong, on_behind, AreAccepted, Assembled, HasFault}
 use Rattle.mx_asm.proofs.Lengths.{KeepsLength}
 use Rattle.mx_asm.proofs.Emitting.{lengths_same}
 
@@ -33,7 +35,10 @@ abbrev pub OneLine : Type 0
 OneLine = (t : List ℕ) (a b : Line) → IsLine t a → IsLine t b → a ≡ b
 
 abbrev pub NeverBoth : Type 0
-NeverBoth = (t : List ℕ) (ks : List Token) (e : LexError) → IsReadAs t ks → IsFault t e → ⊥
+NeverBoth = (t : List ℕ) (l : Line) (e : LexError) → IsLine t l → IsFault t e → ⊥
+
+abbrev pub NeverNeither : Type 0
+NeverNeither = (t : List ℕ) → ((l : Line) → IsLine t l → ⊥) → ((e : LexError) → IsFault t e → ⊥) → ⊥
 
 abbrev pub OneChosen : Type 0
 OneChosen = (i : Insn) (wide : Wide) (a b : List ℕ) → Chosen i wide a → Chosen i wide b → a ≡ b
@@ -47,7 +52,7 @@ not_some (Some s) r e f = cc
 taken_not_wrong : OneLine → NeverBoth → (a : Above) (n : ℕ) (ts : List (List ℕ)) (ls : List Line) (f : Fault) → AreTaken a ts ls → IsFirstWrong a n ts f → ⊥
 taken_not_wrong one never a n [] ls f x wrong = wrong
 taken_not_wrong one never a n (t ∷ ts) [] f x wrong = x
-taken_not_wrong one never a n (t ∷ ts) (l ∷ ls) f ((line, clean), more) (inl (at, inl (e, fault, tells))) = never t line.0 e line.1 fault
+taken_not_wrong one never a n (t ∷ ts) (l ∷ ls) f ((line, clean), more) (inl (at, inl (e, fault, tells))) = never t l e line fault
 taken_not_wrong one never a n (t ∷ ts) (l ∷ ls) f ((line, clean), more) (inl (at, inr (k, r, other, stands, problem))) =
     let same : k ≡ l = one t k l other line in
     not_some (reason_of a l) r clean (subst (λ (x : Line). reason_of a x ≡ Some r) same stands)
@@ -75,6 +80,32 @@ never_program_and_fault one never t p f (ls, taken, made) (inl wrong) = taken_no
 never_program_and_fault one never t p f (ls, taken, made) (inr (ks, taken', told)) =
     let same : ks ≡ ls = taken_same one start _ ks ls taken' taken in
     no_fault_left (fault_behind ls) f made.accepted (subst (λ (x : List Line). fault_behind x ≡ Some f) same told)
+
+-- ---- all lines are taken, or one is the first that is wrong
+
+wrong_bytes : (a : Above) (t : List ℕ) (e : LexError) → IsFault t e → ((p : Problem) → IsWrong a t p → ⊥) → ⊥
+wrong_bytes a t (lexical.BadByte at) h k = k BadByte (inl (lexical.BadByte at, h, refl))
+wrong_bytes a t (lexical.BadNumber at) h k = k BadNumber (inl (lexical.BadNumber at, h, refl))
+wrong_bytes a t (lexical.OpenText at) h k = k OpenText (inl (lexical.OpenText at, h, refl))
+wrong_bytes a t lexical.NoMemory (ks, b, c, tokens, gap, broken) k = broken
+
+taken_or_wrong : NeverNeither → (a : Above) (n : ℕ) (ts : List (List ℕ)) → ((ls : List Line) → AreTaken a ts ls → ⊥) → ((f : Fault) → IsFirstWrong a n ts f → ⊥) → ⊥
+taken_or_wrong law a n [] taken wrong = taken [] tt
+taken_or_wrong law a n (t ∷ ts) taken wrong =
+    law t (λ l line. by_reason l line (reason_of a l) refl (λ more worse. taken_or_wrong law (on_behind a l) (n + 1) ts more worse))
+    (λ e fault. wrong_bytes a t e fault (λ p h. wrong (record { problem = p; line = n }) (inl (refl, h))))
+  where
+    by_reason : (l : Line) → IsLine t l → (o : Option Reason) → reason_of a l ≡ o
+        → (((ls : List Line) → AreTaken (on_behind a l) ts ls → ⊥) → ((f : Fault) → IsFirstWrong (on_behind a l) (n + 1) ts f → ⊥) → ⊥) → ⊥
+    by_reason l line None e again = again (λ ls h. taken (l ∷ ls) ((line, e), h)) (λ f h. wrong f (inr (l, (line, e), h)))
+    by_reason l line (Some r) e again = wrong (record { problem = problem_of r; line = n }) (inl (refl, inr (l, r, line, e, refl)))
+
+pub never_neither : NeverNeither → (t : List ℕ) → ((ls : List Line) → AreAccepted t ls → ⊥) → ((f : Fault) → HasFault t f → ⊥) → ⊥
+never_neither law t no_lines no_fault = taken_or_wrong law start 1 _ (λ ls taken. by_fault ls taken (fault_behind ls) refl) (λ f wrong. no_fault f (inl wrong))
+  where
+    by_fault : (ls : List Line) → AreTaken start (lines t) ls → (o : Option Fault) → fault_behind ls ≡ o → ⊥
+    by_fault ls taken None e = no_lines ls (taken, e)
+    by_fault ls taken (Some f) e = no_fault f (inr (ls, taken, e))
 
 -- ---- the bytes of a statement
 

@@ -1,5 +1,5 @@
 -- The sizes of what is put out.
-use Rattle.std.proofs.Common.{◌≡◌, ℕ, ◌+◌, ◌*◌, ◌/◌, ◌<◌, ◌≤◌, Bool, true, false, List, [], ◌∷◌, ◌++◌, length, map, refl, sym, ◌∙◌, ap, subst, arith, length-append, Option, Some, None}
+use Rattle.std.proofs.Common.{◌≡◌, ℕ, ◌+◌, List, [], ◌∷◌, length, map, refl, sym, ◌∙◌, ap, arith, length-append}
 use Rattle.mx_statement.specs.declared.statement.Section.{Section}
 use Rattle.mx_statement.specs.declared.statement.Section.TheVariants.{Text, Data, Bss}
 use Rattle.mx_statement.specs.declared.statement.Statement.{Statement}

@@ -1,7 +1,6 @@
 -- What the lines add up to.
-use Rattle.std.proofs.Common.{◌≡◌, ℕ, ◌+◌, ◌*◌, ◌<◌, ◌≤◌, ◌^◌, Bool, true, false, List, [], ◌∷◌, ◌++◌, length, get_or, drop, map, refl, sym, ◌∙◌, ap, subst, arith, add-one, drop-cons, Option, Some, None, cond}
-use Rattle.std.specs.Prelude.{is_some, ◌||◌}
-use Rattle.std.specs.List.{All}
+use Rattle.std.proofs.Common.{◌≡◌, ℕ, ◌+◌, ◌*◌, ◌<◌, ◌≤◌, ◌^◌, Bool, true, false, List, [], ◌∷◌, length, get_or, drop, refl, sym, ◌∙◌, ap, subst, arith, add-one, drop-cons, Option, Some, None, cond}
+use Rattle.std.specs.Prelude.{is_some}
 use Rattle.std.specs.Map.{lookup}
 use Rattle.std.proofs.lemmas.List.Elements.{All-push, All-weaker, All-head, All-tail}
 use Rattle.mx_line.specs.declared.names.Name.{Name}
@@ -15,7 +14,7 @@ use Rattle.mx_asm.specs.declared.sizes.Sizes.{Sizes}
 use Rattle.mx_asm.specs.declared.fault.Problem.{Problem}
 use Rattle.mx_asm.specs.declared.fault.Fault.{Fault}
 use Rattle.mx_asm.specs.Lengths.{length_of}
-use Rattle.mx_asm.specs.Layout.{Above, behind, size_in, spot_of, grown_in, sizes_after, SizesWithin, AllSpotsWithin, labels_with, laid_by, address_of, said}
+use Rattle.mx_asm.specs.Layout.{Above, behind, size_in, spot_of, grown_in, sizes_after, SizesWithin, AllSpotsWithin, labels_with, address_of, said}
 use Rattle.mx_asm.specs.Faults.{problem_at, first_problem, fault_or}
 
 pub none_of : {A : Type 0} (o : Option A) → is_some o ≡ false → o ≡ None

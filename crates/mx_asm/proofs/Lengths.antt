@@ -1,5 +1,5 @@
 -- How long the chosen bytes are.
-use Rattle.std.proofs.Common.{◌≡◌, ℕ, zero, suc, ◌+◌, ◌*◌, Bool, true, false, List, [], ◌∷◌, ◌++◌, length, map, refl, sym, ◌∙◌, ap, subst, Option, Some, None, IsTrue, arith}
+use Rattle.std.proofs.Common.{◌≡◌, ℕ, zero, suc, ◌+◌, ◌*◌, Bool, true, false, List, [], ◌∷◌, ◌++◌, length, refl, sym, ◌∙◌, ap, Option, Some, None, IsTrue, arith}
 use Rattle.std.specs.Prelude.{is_some}
 use Rattle.std.specs.List.{flat_map}
 use Rattle.std.proofs.lemmas.List.{length-append, length-replicate, length-map}
@@ -17,7 +17,6 @@ use Rattle.mx_asm.specs.Layout.{Above, value_under}
 use Rattle.mx_asm.specs.Bytes.{BytesOf, StandsIn, named_under, put_under, put_in, then_put}
 use Rattle.mx_insn.specs.declared.insn.Insn.{Insn}
 use Rattle.mx_encode.specs.declared.Wide.{Wide}
-use Rattle.mx_encode.specs.Choice.{choice}
 use Rattle.mx_encode.specs.Chosen.{Chosen}
 use Rattle.mx_encode.specs.Numbers.{is_short}
 use Rattle.std.specs.Prelude.{not}

@@ -1,18 +1,14 @@
 -- The lines of a text, one more at a time.
-use Rattle.std.proofs.Common.{◌≡◌, ℕ, ◌+◌, ◌*◌, ◌^◌, ◌≤◌, ◌⊎◌, inl, inr, Bool, true, false, List, [], ◌∷◌, ◌++◌, length, refl, sym, ◌∙◌, ap, subst, arith, append_assoc, length-append, Option, Some, None}
-use Rattle.std.specs.Prelude.{◌||◌}
+use Rattle.std.proofs.Common.{◌≡◌, ℕ, ◌+◌, ◌≤◌, inr, List, [], ◌∷◌, ◌++◌, length, refl, sym, ◌∙◌, ap, subst, arith, append_assoc, length-append}
 use Rattle.mx_statement.specs.declared.line.Line.{Line}
-use Rattle.mx_statement.specs.declared.line.Reason.{Reason}
-use Rattle.mx_statement.specs.Reasons.{refusal}
 use Rattle.mx_line.specs.declared.names.Name.{Name}
 use Rattle.std.proofs.lemmas.List.Elements.{All-weaker}
 use Rattle.mx_asm.specs.declared.sizes.Sizes.{Sizes}
 use Rattle.mx_asm.specs.declared.sizes.Spot.{Spot}
 use Rattle.mx_asm.specs.declared.fault.Fault.{Fault}
 use Rattle.mx_asm.specs.Lengths.{length_of}
-use Rattle.mx_asm.specs.Layout.{Above, start, behind, said, laid_by, reason_of, stands, is_second, SizesWithin, AllSpotsWithin}
-use Rattle.mx_asm.specs.Text.{IsTaken, AreTaken, on_behind, IsFirstWrong, IsWrong}
-use Rattle.mx_asm.proofs.Laying.{behind_within, labels_behind_within}
+use Rattle.mx_asm.specs.Layout.{Above, start, behind, said, laid_by, SizesWithin, AllSpotsWithin}
+use Rattle.mx_asm.specs.Text.{IsTaken, AreTaken, on_behind, IsFirstWrong}
 
 -- whatever goes on from here goes on from the start
 abbrev pub TakesOn : Above → List (List ℕ) → List (List ℕ) → List Line → Type 0

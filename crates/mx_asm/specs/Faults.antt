@@ -1,8 +1,7 @@
 -- What is told of lines that make no program (the codes and their order are our own).
-use Rattle.std.specs.Prelude.{◌≡◌, ℕ, ◌+◌, ◌*◌, Bool, true, false, not, ◌||◌, ◌==◌, nat_lt, if◌then◌else◌, List, [], ◌∷◌, length, Option, Some, None, is_some, unwrap_or, ⊤}
+use Rattle.std.specs.Prelude.{◌≡◌, ℕ, ◌+◌, ◌*◌, Bool, false, not, ◌||◌, nat_lt, if◌then◌else◌, List, [], ◌∷◌, length, Option, Some, None, is_some, unwrap_or, ⊤}
 use Rattle.std.specs.List.{list_any}
 use Rattle.mx_aout.specs.Limits.{rounded}
-use Rattle.mx_line.specs.declared.names.Name.{Name}
 use Rattle.mx_statement.specs.declared.statement.Statement.{Statement}
 use Rattle.mx_statement.specs.declared.statement.Statement.TheVariants as says
 use Rattle.mx_statement.specs.declared.value.Value.{Value}
@@ -17,7 +16,7 @@ use Rattle.mx_asm.specs.declared.fault.AsmError.TheVariants.{At, NoMemory}
 use Rattle.mx_asm.specs.declared.sizes.Sizes.{Sizes}
 use Rattle.mx_asm.specs.Branches.{branch_length, distance, is_too_far}
 use Rattle.mx_asm.specs.Lengths.{length_of}
-use Rattle.mx_asm.specs.Layout.{Above, start, laid_by, spot_of, sizes_after, address_of, value_under, spot_named, said, reason_of}
+use Rattle.mx_asm.specs.Layout.{Above, start, laid_by, spot_of, sizes_after, address_of, value_under, spot_named, said}
 
 abbrev pub code_of : Problem → ℕ
 code_of BadByte = 1

@@ -1,5 +1,5 @@
 -- The program of a text, or its first fault.
-use Rattle.std.specs.Prelude.{◌≡◌, ℕ, ◌+◌, ◌⊎◌, List, [], ◌∷◌, Option, Some, None, ⊤}
+use Rattle.std.specs.Prelude.{◌≡◌, ℕ, ◌+◌, ◌⊎◌, List, [], ◌∷◌, Some, None, ⊤}
 use Rattle.mx_line.specs.Lines.{lines}
 use Rattle.mx_lex.specs.Tokens.{IsFault}
 use Rattle.mx_lex.specs.declared.kinds.LexError.{LexError}
@@ -55,6 +55,10 @@ IsFirstWrong a n [] f = ⊥
 IsFirstWrong a n (t ∷ ts) f =
     ((f.line ≡ n) × IsWrong a t f.problem)
     ⊎ ((l : Line) × IsTaken a t l × IsFirstWrong (on_behind a l) (n + 1) ts f)
+
+-- the text's lines say these, and nothing stands against them
+abbrev pub AreAccepted : List ℕ → List Line → Type 0
+AreAccepted t ls = AreTaken start (lines t) ls × (fault_behind ls ≡ None)
 
 -- the text's lines say these, none is refused, and they make this program
 abbrev pub Assembled : List ℕ → Program → Type 0

@@ -2,20 +2,22 @@
 
 ghost use Rattle.std.specs.Prelude.{◌≡◌, ℕ, List};
 ghost use Rattle.mx_aout.specs.declared.program.Program.{Program};
+ghost use Rattle.mx_statement.specs.declared.line.Line.{Line};
 ghost use Rattle.mx_asm.specs.declared.fault.Fault.{Fault};
 ghost use Rattle.mx_asm.specs.Assembled.{SameProgram};
-ghost use Rattle.mx_asm.specs.Text.{Assembled, HasFault};
+ghost use Rattle.mx_asm.specs.Text.{AreAccepted, Assembled, HasFault};
 
 use mx_encode::{displacement_keeps_length, immediate_keeps_length, one_chosen};
-use mx_lex::reading_or_fault;
-use mx_reading::one_line;
+use mx_reading::{line_or_fault, one_line};
 
-/// No text has both a program and a fault.
+/// No text has both a program and a fault; and none has neither a fault nor lines against which
+/// nothing stands.
 pub fn program_or_fault()
-    ensures { (t : List ℕ) (p : Program) (f : Fault) → Assembled t p → HasFault t f → ⊥ }
+    ensures not_both { (t : List ℕ) (p : Program) (f : Fault) → Assembled t p → HasFault t f → ⊥ }
+    ensures not_neither { (t : List ℕ) → ((ls : List Line) → AreAccepted t ls → ⊥) → ((f : Fault) → HasFault t f → ⊥) → ⊥ }
 {
     one_line();
-    reading_or_fault();
+    line_or_fault();
 }
 
 /// At most one program is assembled from a text.

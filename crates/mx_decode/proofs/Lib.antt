@@ -6,7 +6,6 @@ pub mod Heads
 pub mod Choice
 pub mod Laws
 pub mod Answer
-pub mod Lines
+pub mod Map
 pub mod Agrees
 pub mod Front
-pub mod FirstByte

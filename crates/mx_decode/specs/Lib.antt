@@ -1,4 +1,4 @@
 pub mod Reading
 pub mod Decode
 pub mod Given
-pub mod Lines
+pub mod Map

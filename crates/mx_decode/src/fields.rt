@@ -1,6 +1,6 @@
 //! ModRM, SIB, displacement and immediate.
 
-ghost use Rattle.std.specs.Prelude.{◌≡◌, ◌+◌, ◌<◌, ◌≤◌, ◌^◌, ◌/◌, ◌%◌, IfOk, Some, length};
+ghost use Rattle.std.specs.Prelude.{◌≡◌, ◌<◌, ◌^◌, ◌/◌, ◌%◌, IfOk, Some};
 ghost use Rattle.mx_word.specs.Word.{width};
 ghost use Rattle.mx_insn.specs.Spelling.{register, scale, base_of, index_of, sign_extended, row_size};
 ghost use Rattle.mx_decode.specs.Given.{Gives, number_at, displacement_at, immediate_at, sib_parts, base_parts, memory_at, operand_at, modrm_at, place_code, immediate_bound};
@@ -38,10 +38,9 @@ fn scale(field: u8) -> Scale
 }
 
 #[tactic(auto, unfolding(crate::specs::Given::number_at, crate::specs::Reading::take_exact))]
-pub fn byte(bytes: &[u8]) -> Result<(u32, &[u8]), DecodeFault>
+fn byte(bytes: &[u8]) -> Result<(u32, &[u8]), DecodeFault>
     ensures value { Gives (λ x. (x.0, x.1.now)) result (number_at 1 bytes.now) }
     ensures small { IfOk result (λ x. x.0 < 256) }
-    ensures one { IfOk result (λ x. length bytes.now ≡ 1 + length x.1.now) }
 {
     match bytes {
         [a, rest @ ..] => Ok((u32::from(*a), rest)),
@@ -61,7 +60,7 @@ fn word(bytes: &[u8]) -> Result<(u32, &[u8]), DecodeFault>
 }
 
 #[tactic(auto, unfolding(crate::specs::Given::number_at, crate::specs::Reading::take_exact))]
-pub fn dword(bytes: &[u8]) -> Result<(u32, &[u8]), DecodeFault>
+fn dword(bytes: &[u8]) -> Result<(u32, &[u8]), DecodeFault>
     ensures { Gives (λ x. (x.0, x.1.now)) result (number_at 4 bytes.now) }
 {
     match bytes {
@@ -97,7 +96,7 @@ fn displacement(mode: u8, base: u8, bytes: &[u8]) -> Result<(u32, &[u8]), Decode
 
 /// The index that a SIB byte names.
 #[inline(always)]
-pub fn index(sib: u8) -> Option<Index>
+fn index(sib: u8) -> Option<Index>
     ensures { result ≡ index_of (Some (record { scale = sib / 64; index = sib / 8 % 8; base = sib % 8 })) }
 {
     match sib / 8 % 8 {
@@ -131,7 +130,7 @@ fn base(rm: u8, bytes: &[u8]) -> Result<(u8, Option<Index>, &[u8]), DecodeFault>
 }
 
 #[inline(always)]
-pub fn base_of(mode: u8, field: u8) -> Option<Register>
+fn base_of(mode: u8, field: u8) -> Option<Register>
     ensures { result ≡ base_of mode field }
 {
     if mode == 0 && field == 5 {
@@ -141,11 +140,9 @@ pub fn base_of(mode: u8, field: u8) -> Option<Register>
 }
 
 #[tactic(auto, unfolding(crate::specs::Given::memory_at))]
-pub fn memory(mode: u8, rm: u8, bytes: &[u8]) -> Result<(Memory, &[u8]), DecodeFault>
+fn memory(mode: u8, rm: u8, bytes: &[u8]) -> Result<(Memory, &[u8]), DecodeFault>
     requires { mode < 3 }
-    ensures value { Gives (λ x. (x.0, x.1.now)) result (memory_at mode rm bytes.now) }
-    ensures within { IfOk result (λ x. length x.1.now ≤ length bytes.now) }
-    ensures few { IfOk result (λ x. length bytes.now ≤ 5 + length x.1.now) }
+    ensures { Gives (λ x. (x.0, x.1.now)) result (memory_at mode rm bytes.now) }
 {
     let (field, index, rest) = base(rm, bytes)?;
     let (displacement, rest) = displacement(mode, field, rest)?;
@@ -173,7 +170,7 @@ fn operand(mode: u8, rm: u8, bytes: &[u8]) -> Result<(Operand, &[u8]), DecodeFau
 
 /// The reg field of a ModRM byte, and what mod and rm name.
 #[tactic(auto, unfolding(crate::specs::Given::modrm_at))]
-pub fn modrm(bytes: &[u8]) -> Result<(u8, Operand, &[u8]), DecodeFault>
+fn modrm(bytes: &[u8]) -> Result<(u8, Operand, &[u8]), DecodeFault>
     ensures { Gives (λ x. ((x.0, x.1), x.2.now)) result (modrm_at bytes.now) }
 {
     match bytes {

@@ -2,15 +2,11 @@
 #![tactic(auto)]
 
 mod fields;
-mod flow;
 mod head;
 mod meaning;
-mod named;
-mod quick;
 mod select;
 mod single;
 mod spellings;
-mod stored;
 mod table;
 
 /// Why bytes are no instruction.
@@ -24,4 +20,3 @@ pub enum DecodeFault {
 
 pub use single::decode;
 pub use spellings::{few_bytes, front_is, front_of_fifteen, one_spelling};
-pub use stored::decode_stored;

@@ -22,8 +22,7 @@ pub struct Values {
     pub immediate: u32,
 }
 
-#[inline(always)]
-pub fn arithmetic(number: u8) -> Arithmetic
+fn arithmetic(number: u8) -> Arithmetic
     ensures { result ≡ arithmetic number }
 {
     match number {
@@ -38,8 +37,7 @@ pub fn arithmetic(number: u8) -> Arithmetic
     }
 }
 
-#[inline(always)]
-pub fn condition(number: u8) -> Condition
+fn condition(number: u8) -> Condition
     ensures { result ≡ condition number }
 {
     match number {
@@ -112,8 +110,7 @@ fn port_size(size: Size) -> PortSize
     }
 }
 
-#[inline(always)]
-pub fn to_rm(size: Size, to: Operand, from: Register) -> Operands
+fn to_rm(size: Size, to: Operand, from: Register) -> Operands
     ensures { result ≡ to_rm size to from }
 {
     match to {
@@ -126,8 +123,7 @@ pub fn to_rm(size: Size, to: Operand, from: Register) -> Operands
     }
 }
 
-#[inline(always)]
-pub fn memory_of(operand: Operand) -> Memory
+fn memory_of(operand: Operand) -> Memory
     ensures { result ≡ memory_of operand }
 {
     match operand {

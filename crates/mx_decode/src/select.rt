@@ -1,15 +1,25 @@
 //! The row of the bytes.
 
-ghost use Rattle.std.specs.Prelude.{◌≡◌, ◌&&◌, ℕ, List, [], ◌∷◌};
+ghost use Rattle.std.specs.Prelude.{◌≡◌, ℕ, List, [], ◌∷◌, find, option_copied};
 ghost use Rattle.mx_insn.specs.Spelling.{allows_resized, allows_repeat};
-ghost use Rattle.mx_decode.specs.Reading.{is_absent, stands, chosen, rows_of};
-ghost use Rattle.mx_decode.specs.Lines.{allows_mode};
+ghost use Rattle.mx_decode.specs.Reading.{has_opcode, is_absent, stands, chosen, rows_of};
+ghost use Rattle.mx_decode.specs.Map.{may_follow, begins};
 ghost use Rattle.mx_decode.specs.Given.{Gives};
 
 use crate::DecodeFault;
 use crate::head::Head;
-use crate::table::row_under;
+use crate::table::rows_near;
 use mx_insn::{ModRm, Repeat, Repeats, Row, Sizes};
+
+fn has_opcode(row: &Row, escaped: bool, opcode: u8) -> bool
+    ensures { result ≡ has_opcode escaped opcode row.now }
+{
+    row.escaped == escaped
+        && row.first <= opcode
+        && 0 < row.step
+        && (opcode - row.first) / row.step < row.count
+        && (opcode - row.first) % row.step == 0
+}
 
 fn allows_resized(sizes: Sizes, resized: bool) -> bool
     ensures { result ≡ allows_resized sizes resized }
@@ -29,22 +39,23 @@ fn allows_repeat(repeats: Repeats, repeat: Option<Repeat>) -> bool
     }
 }
 
-/// The mod field may be this one.
-fn allows_mode(column: ModRm, mode: u8) -> bool
-    ensures { result ≡ allows_mode column mode }
-{
-    match column {
-        ModRm::AnyMemory => mode != 3,
-        ModRm::Absent | ModRm::Any | ModRm::Only(_) => true,
-    }
-}
-
 fn is_absent(column: ModRm) -> bool
     ensures { result ≡ is_absent column }
 {
     match column {
         ModRm::Absent => true,
         ModRm::Any | ModRm::AnyMemory | ModRm::Only(_) => false,
+    }
+}
+
+/// What stands behind the opcode may follow it: nothing yet, or this byte, a ModRM byte if the row has one.
+fn may_follow(column: ModRm, behind: Option<u8>) -> bool
+    ensures { result ≡ may_follow column behind }
+{
+    match (column, behind) {
+        (ModRm::Absent | ModRm::Any, _) | (_, None) => true,
+        (ModRm::AnyMemory, Some(modrm)) => modrm / 64 != 3,
+        (ModRm::Only(field), Some(modrm)) => field == modrm / 8 % 8,
     }
 }
 
@@ -55,23 +66,28 @@ fn stands(row: &Row, resized: bool, repeat: Option<Repeat>) -> bool
     allows_resized(row.sizes, resized) && allows_repeat(row.repeats, repeat)
 }
 
-/// And this mod field in it.
-fn takes(row: &Row, resized: bool, repeat: Option<Repeat>, mode: u8) -> bool
-    ensures { result ≡ (stands resized repeat row.now && allows_mode row.now.modrm mode) }
+/// The row may be that of the head and of what stands behind it.
+fn begins(row: &Row, head: Head, behind: Option<u8>) -> bool
+    ensures { result ≡ begins head behind row.now }
 {
-    stands(row, resized, repeat) && allows_mode(row.modrm, mode)
+    has_opcode(row, head.escaped, head.opcode)
+        && stands(row, head.resized, head.repeat)
+        && may_follow(row.modrm, behind)
 }
 
-/// The row where nothing follows the opcode. The row under field 0 has the loosest prefixes.
+fn first(rows: &'static [Row], head: Head, behind: Option<u8>) -> Option<&'static Row>
+    ensures { option_copied result ≡ find (begins head behind) rows.now }
+{
+    rows.iter().find(|row| begins(row, head, behind))
+}
+
+/// The row where nothing follows the opcode.
 fn bare(head: Head) -> Result<&'static Row, DecodeFault>
     ensures { Gives (λ x. x.now) result (chosen head.resized head.repeat (rows_of head.escaped head.opcode) []) }
 {
-    match row_under(head.escaped, head.opcode, 0) {
+    match first(rows_near(head.escaped, head.opcode), head, None) {
         None => Err(DecodeFault::NotInTable),
         Some(row) => {
-            if !stands(row, head.resized, head.repeat) {
-                return Err(DecodeFault::NotInTable);
-            }
             if is_absent(row.modrm) {
                 return Ok(row);
             }
@@ -80,18 +96,13 @@ fn bare(head: Head) -> Result<&'static Row, DecodeFault>
     }
 }
 
-/// The row where this byte follows, a ModRM byte if the row has one.
+/// The row where this byte follows.
 fn followed(head: Head, modrm: u8) -> Result<&'static Row, DecodeFault>
     ensures { (rest : List ℕ) → Gives (λ x. x.now) result (chosen head.resized head.repeat (rows_of head.escaped head.opcode) (modrm ∷ rest)) }
 {
-    match row_under(head.escaped, head.opcode, modrm / 8 % 8) {
+    match first(rows_near(head.escaped, head.opcode), head, Some(modrm)) {
         None => Err(DecodeFault::NotInTable),
-        Some(row) => {
-            if takes(row, head.resized, head.repeat, modrm / 64) {
-                return Ok(row);
-            }
-            Err(DecodeFault::NotInTable)
-        }
+        Some(row) => Ok(row),
     }
 }
 

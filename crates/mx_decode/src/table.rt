@@ -1,8 +1,7 @@
-//! The row of each opcode.
+//! The rows of the table, by parts of the opcode maps, in the table's order within a part.
 
-ghost use Rattle.std.specs.Prelude.{◌≡◌, ◌<◌, option_copied};
-ghost use Rattle.mx_decode.specs.Reading.{rows_of};
-ghost use Rattle.mx_decode.specs.Lines.{arithmetic_line, low_line, middle_line, high_line, group_line, shift_line, escaped_line, line, on_line, row_under};
+ghost use Rattle.std.specs.Prelude.{◌≡◌, ◌≤◌, ◌<◌, true, false};
+ghost use Rattle.mx_decode.specs.Map.{part, rows_in};
 
 use mx_insn::{
     Comparison, CountColumn, ImmediateColumn, Loop, ModRm, Pattern, Plain, Product, Repeats, Row,
@@ -25,439 +24,276 @@ macro_rules! row {
     };
 }
 
-/// The shifts and rotates of an opcode, by the reg field.
-macro_rules! shifts {
-    ($first:literal => $sizes:ident $immediate:ident $count:ident; $field:expr) => {
-        match $field {
-            0 => Some(&row!(false $first + 1 * 1 => $sizes Neither $immediate; ModRm::Only(0); Pattern::ShiftRm(Shift::Rol, CountColumn::$count))),
-            1 => Some(&row!(false $first + 1 * 1 => $sizes Neither $immediate; ModRm::Only(1); Pattern::ShiftRm(Shift::Ror, CountColumn::$count))),
-            4 => Some(&row!(false $first + 1 * 1 => $sizes Neither $immediate; ModRm::Only(4); Pattern::ShiftRm(Shift::Shl, CountColumn::$count))),
-            5 => Some(&row!(false $first + 1 * 1 => $sizes Neither $immediate; ModRm::Only(5); Pattern::ShiftRm(Shift::Shr, CountColumn::$count))),
-            7 => Some(&row!(false $first + 1 * 1 => $sizes Neither $immediate; ModRm::Only(7); Pattern::ShiftRm(Shift::Sar, CountColumn::$count))),
-            _ => None,
-        }
-    };
-}
-
-/// TEST with an immediate, NOT, NEG and the products of an opcode, by the reg field.
-macro_rules! products {
-    ($first:literal => $sizes:ident $immediate:ident; $field:expr) => {
-        match $field {
-            0 => Some(&row!(false $first + 1 * 1 => $sizes Neither $immediate; ModRm::Only(0); Pattern::TestRmImmediate)),
-            2 => Some(&row!(false $first + 1 * 1 => $sizes Neither Nothing; ModRm::Only(2); Pattern::UnaryRm(Unary::Not))),
-            3 => Some(&row!(false $first + 1 * 1 => $sizes Neither Nothing; ModRm::Only(3); Pattern::UnaryRm(Unary::Neg))),
-            4 => Some(&row!(false $first + 1 * 1 => $sizes Neither Nothing; ModRm::Only(4); Pattern::ProductRm(Product::Mul))),
-            5 => Some(&row!(false $first + 1 * 1 => $sizes Neither Nothing; ModRm::Only(5); Pattern::ProductRm(Product::Imul))),
-            6 => Some(&row!(false $first + 1 * 1 => $sizes Neither Nothing; ModRm::Only(6); Pattern::ProductRm(Product::Div))),
-            7 => Some(&row!(false $first + 1 * 1 => $sizes Neither Nothing; ModRm::Only(7); Pattern::ProductRm(Product::Idiv))),
-            _ => None,
-        }
-    };
-}
-
-#[tactic(auto, unfolding(crate::specs::Lines::on_line, mx_insn::specs::Table::rows))]
-fn arithmetic_row(opcode: u8) -> Option<&'static Row>
-    ensures { option_copied result ≡ on_line (arithmetic_line opcode) }
+/// Below 40, where the rows are columns of the map.
+#[tactic(auto, unfolding(crate::specs::Map::rows_in, mx_insn::specs::Table::rows))]
+fn column_rows(part: u8) -> &'static [Row]
+    requires least { 8 ≤ part }
+    requires most { part < 16 }
+    ensures { result.now ≡ rows_in false part }
 {
-    match opcode {
-        0 => Some(
-            &row!(false 0x00 + 8 * 8 => Byte Neither Nothing; ModRm::Any; Pattern::ArithmeticRmReg),
-        ),
-        1 => Some(
-            &row!(false 0x01 + 8 * 8 => Variable Neither Nothing; ModRm::Any; Pattern::ArithmeticRmReg),
-        ),
-        2 => Some(
-            &row!(false 0x02 + 8 * 8 => Byte Neither Nothing; ModRm::Any; Pattern::ArithmeticRegRm),
-        ),
-        3 => Some(
-            &row!(false 0x03 + 8 * 8 => Variable Neither Nothing; ModRm::Any; Pattern::ArithmeticRegRm),
-        ),
-        4 => Some(
-            &row!(false 0x04 + 8 * 8 => Byte Neither Byte; ModRm::Absent; Pattern::ArithmeticAccImmediate),
-        ),
-        5 => Some(
-            &row!(false 0x05 + 8 * 8 => Variable Neither Variable; ModRm::Absent; Pattern::ArithmeticAccImmediate),
-        ),
-        _ => None,
+    match part {
+        8 => &[
+            row!(false 0x00 + 8 * 8 => Byte Neither Nothing; ModRm::Any; Pattern::ArithmeticRmReg),
+        ],
+        9 => &[
+            row!(false 0x01 + 8 * 8 => Variable Neither Nothing; ModRm::Any; Pattern::ArithmeticRmReg),
+        ],
+        10 => &[
+            row!(false 0x02 + 8 * 8 => Byte Neither Nothing; ModRm::Any; Pattern::ArithmeticRegRm),
+        ],
+        11 => &[
+            row!(false 0x03 + 8 * 8 => Variable Neither Nothing; ModRm::Any; Pattern::ArithmeticRegRm),
+        ],
+        12 => &[
+            row!(false 0x04 + 8 * 8 => Byte Neither Byte; ModRm::Absent; Pattern::ArithmeticAccImmediate),
+        ],
+        13 => &[
+            row!(false 0x05 + 8 * 8 => Variable Neither Variable; ModRm::Absent; Pattern::ArithmeticAccImmediate),
+        ],
+        14 => &[],
+        _ => &[],
     }
 }
 
-#[tactic(auto, unfolding(crate::specs::Lines::on_line, mx_insn::specs::Table::rows))]
-fn low_row(opcode: u8) -> Option<&'static Row>
-    ensures { option_copied result ≡ on_line (low_line opcode) }
+/// From 40 on, sixteen opcodes each.
+#[tactic(auto, unfolding(crate::specs::Map::rows_in, mx_insn::specs::Table::rows))]
+fn low_rows(part: u8) -> &'static [Row]
+    requires least { 4 ≤ part }
+    requires most { part < 8 }
+    ensures { result.now ≡ rows_in false part }
 {
-    match opcode {
-        0x40..=0x47 => Some(
-            &row!(false 0x40 + 1 * 8 => Variable Neither Nothing; ModRm::Absent; Pattern::UnaryReg(Unary::Inc)),
-        ),
-        0x48..=0x4F => Some(
-            &row!(false 0x48 + 1 * 8 => Variable Neither Nothing; ModRm::Absent; Pattern::UnaryReg(Unary::Dec)),
-        ),
-        0x50..=0x57 => Some(
-            &row!(false 0x50 + 1 * 8 => Dword Neither Nothing; ModRm::Absent; Pattern::PushReg),
-        ),
-        0x58..=0x5F => Some(
-            &row!(false 0x58 + 1 * 8 => Dword Neither Nothing; ModRm::Absent; Pattern::PopReg),
-        ),
-        0x60 => Some(
-            &row!(false 0x60 + 1 * 1 => Dword Neither Nothing; ModRm::Absent; Pattern::Plain(Plain::Pushad)),
-        ),
-        0x61 => Some(
-            &row!(false 0x61 + 1 * 1 => Dword Neither Nothing; ModRm::Absent; Pattern::Plain(Plain::Popad)),
-        ),
-        0x68 => Some(
-            &row!(false 0x68 + 1 * 1 => Dword Neither Dword; ModRm::Absent; Pattern::PushImmediate),
-        ),
-        0x69 => Some(
-            &row!(false 0x69 + 1 * 1 => Variable Neither Variable; ModRm::Any; Pattern::MultiplyRegRmImmediate),
-        ),
-        0x6A => Some(
-            &row!(false 0x6A + 1 * 1 => Dword Neither SignedByte; ModRm::Absent; Pattern::PushImmediate),
-        ),
-        0x6B => Some(
-            &row!(false 0x6B + 1 * 1 => Variable Neither SignedByte; ModRm::Any; Pattern::MultiplyRegRmImmediate),
-        ),
-        0x70..=0x7F => Some(
-            &row!(false 0x70 + 1 * 16 => Dword Neither SignedByte; ModRm::Absent; Pattern::JumpIf),
-        ),
-        _ => None,
+    match part {
+        4 => &[
+            row!(false 0x40 + 1 * 8 => Variable Neither Nothing; ModRm::Absent; Pattern::UnaryReg(Unary::Inc)),
+            row!(false 0x48 + 1 * 8 => Variable Neither Nothing; ModRm::Absent; Pattern::UnaryReg(Unary::Dec)),
+        ],
+        5 => &[
+            row!(false 0x50 + 1 * 8 => Dword Neither Nothing; ModRm::Absent; Pattern::PushReg),
+            row!(false 0x58 + 1 * 8 => Dword Neither Nothing; ModRm::Absent; Pattern::PopReg),
+        ],
+        6 => &[
+            row!(false 0x60 + 1 * 1 => Dword Neither Nothing; ModRm::Absent; Pattern::Plain(Plain::Pushad)),
+            row!(false 0x61 + 1 * 1 => Dword Neither Nothing; ModRm::Absent; Pattern::Plain(Plain::Popad)),
+            row!(false 0x68 + 1 * 1 => Dword Neither Dword; ModRm::Absent; Pattern::PushImmediate),
+            row!(false 0x6A + 1 * 1 => Dword Neither SignedByte; ModRm::Absent; Pattern::PushImmediate),
+            row!(false 0x69 + 1 * 1 => Variable Neither Variable; ModRm::Any; Pattern::MultiplyRegRmImmediate),
+            row!(false 0x6B + 1 * 1 => Variable Neither SignedByte; ModRm::Any; Pattern::MultiplyRegRmImmediate),
+        ],
+        _ => &[
+            row!(false 0x70 + 1 * 16 => Dword Neither SignedByte; ModRm::Absent; Pattern::JumpIf),
+        ],
     }
 }
 
-#[tactic(auto, unfolding(crate::specs::Lines::on_line, mx_insn::specs::Table::rows))]
-fn middle_row(opcode: u8) -> Option<&'static Row>
-    ensures { option_copied result ≡ on_line (middle_line opcode) }
+/// From 80 on, eight opcodes each.
+#[tactic(auto, unfolding(crate::specs::Map::rows_in, mx_insn::specs::Table::rows))]
+fn middle_rows(part: u8) -> &'static [Row]
+    requires least { 16 ≤ part }
+    requires most { part < 24 }
+    ensures { result.now ≡ rows_in false part }
 {
-    match opcode {
-        0x80 => Some(
-            &row!(false 0x80 + 1 * 1 => Byte Neither Byte; ModRm::Any; Pattern::ArithmeticRmImmediate),
-        ),
-        0x81 => Some(
-            &row!(false 0x81 + 1 * 1 => Variable Neither Variable; ModRm::Any; Pattern::ArithmeticRmImmediate),
-        ),
-        0x83 => Some(
-            &row!(false 0x83 + 1 * 1 => Variable Neither SignedByte; ModRm::Any; Pattern::ArithmeticRmImmediate),
-        ),
-        0x84 => Some(
-            &row!(false 0x84 + 1 * 1 => Byte Neither Nothing; ModRm::Any; Pattern::TestRmReg),
-        ),
-        0x85 => Some(
-            &row!(false 0x85 + 1 * 1 => Variable Neither Nothing; ModRm::Any; Pattern::TestRmReg),
-        ),
-        0x86 => Some(
-            &row!(false 0x86 + 1 * 1 => Byte Neither Nothing; ModRm::Any; Pattern::ExchangeRmReg),
-        ),
-        0x87 => Some(
-            &row!(false 0x87 + 1 * 1 => Variable Neither Nothing; ModRm::Any; Pattern::ExchangeRmReg),
-        ),
-        0x88 => Some(
-            &row!(false 0x88 + 1 * 1 => Byte Neither Nothing; ModRm::Any; Pattern::MoveRmReg),
-        ),
-        0x89 => Some(
-            &row!(false 0x89 + 1 * 1 => Variable Neither Nothing; ModRm::Any; Pattern::MoveRmReg),
-        ),
-        0x8A => Some(
-            &row!(false 0x8A + 1 * 1 => Byte Neither Nothing; ModRm::Any; Pattern::MoveRegRm),
-        ),
-        0x8B => Some(
-            &row!(false 0x8B + 1 * 1 => Variable Neither Nothing; ModRm::Any; Pattern::MoveRegRm),
-        ),
-        0x8D => Some(
-            &row!(false 0x8D + 1 * 1 => Variable Neither Nothing; ModRm::AnyMemory; Pattern::LoadAddress),
-        ),
-        0x90 => Some(
-            &row!(false 0x90 + 1 * 1 => Variable Neither Nothing; ModRm::Absent; Pattern::Plain(Plain::Nop)),
-        ),
-        0x91..=0x97 => Some(
-            &row!(false 0x91 + 1 * 7 => Variable Neither Nothing; ModRm::Absent; Pattern::ExchangeRegAcc),
-        ),
-        0x98 => Some(
-            &row!(false 0x98 + 1 * 1 => Variable Neither Nothing; ModRm::Absent; Pattern::ExtendAccumulator),
-        ),
-        0x99 => Some(
-            &row!(false 0x99 + 1 * 1 => Variable Neither Nothing; ModRm::Absent; Pattern::SpreadSign),
-        ),
-        0x9C => Some(
-            &row!(false 0x9C + 1 * 1 => Dword Neither Nothing; ModRm::Absent; Pattern::Plain(Plain::Pushfd)),
-        ),
-        0x9D => Some(
-            &row!(false 0x9D + 1 * 1 => Dword Neither Nothing; ModRm::Absent; Pattern::Plain(Plain::Popfd)),
-        ),
-        0x9E => Some(
-            &row!(false 0x9E + 1 * 1 => Dword Neither Nothing; ModRm::Absent; Pattern::Plain(Plain::Sahf)),
-        ),
-        0x9F => Some(
-            &row!(false 0x9F + 1 * 1 => Dword Neither Nothing; ModRm::Absent; Pattern::Plain(Plain::Lahf)),
-        ),
-        0xA0 => Some(
-            &row!(false 0xA0 + 1 * 1 => Byte Neither Dword; ModRm::Absent; Pattern::MoveAccAt),
-        ),
-        0xA1 => Some(
-            &row!(false 0xA1 + 1 * 1 => Variable Neither Dword; ModRm::Absent; Pattern::MoveAccAt),
-        ),
-        0xA2 => Some(
-            &row!(false 0xA2 + 1 * 1 => Byte Neither Dword; ModRm::Absent; Pattern::MoveAtAcc),
-        ),
-        0xA3 => Some(
-            &row!(false 0xA3 + 1 * 1 => Variable Neither Dword; ModRm::Absent; Pattern::MoveAtAcc),
-        ),
-        0xA4 => Some(
-            &row!(false 0xA4 + 1 * 1 => Byte Rep Nothing; ModRm::Absent; Pattern::Transfer(Transfer::Movs)),
-        ),
-        0xA5 => Some(
-            &row!(false 0xA5 + 1 * 1 => Variable Rep Nothing; ModRm::Absent; Pattern::Transfer(Transfer::Movs)),
-        ),
-        0xA6 => Some(
-            &row!(false 0xA6 + 1 * 1 => Byte Both Nothing; ModRm::Absent; Pattern::Compare(Comparison::Cmps)),
-        ),
-        0xA7 => Some(
-            &row!(false 0xA7 + 1 * 1 => Variable Both Nothing; ModRm::Absent; Pattern::Compare(Comparison::Cmps)),
-        ),
-        0xA8 => Some(
-            &row!(false 0xA8 + 1 * 1 => Byte Neither Byte; ModRm::Absent; Pattern::TestAccImmediate),
-        ),
-        0xA9 => Some(
-            &row!(false 0xA9 + 1 * 1 => Variable Neither Variable; ModRm::Absent; Pattern::TestAccImmediate),
-        ),
-        0xAA => Some(
-            &row!(false 0xAA + 1 * 1 => Byte Rep Nothing; ModRm::Absent; Pattern::Transfer(Transfer::Stos)),
-        ),
-        0xAB => Some(
-            &row!(false 0xAB + 1 * 1 => Variable Rep Nothing; ModRm::Absent; Pattern::Transfer(Transfer::Stos)),
-        ),
-        0xAC => Some(
-            &row!(false 0xAC + 1 * 1 => Byte Rep Nothing; ModRm::Absent; Pattern::Transfer(Transfer::Lods)),
-        ),
-        0xAD => Some(
-            &row!(false 0xAD + 1 * 1 => Variable Rep Nothing; ModRm::Absent; Pattern::Transfer(Transfer::Lods)),
-        ),
-        0xAE => Some(
-            &row!(false 0xAE + 1 * 1 => Byte Both Nothing; ModRm::Absent; Pattern::Compare(Comparison::Scas)),
-        ),
-        0xAF => Some(
-            &row!(false 0xAF + 1 * 1 => Variable Both Nothing; ModRm::Absent; Pattern::Compare(Comparison::Scas)),
-        ),
-        0xB0..=0xB7 => Some(
-            &row!(false 0xB0 + 1 * 8 => Byte Neither Byte; ModRm::Absent; Pattern::MoveRegImmediate),
-        ),
-        0xB8..=0xBF => Some(
-            &row!(false 0xB8 + 1 * 8 => Variable Neither Variable; ModRm::Absent; Pattern::MoveRegImmediate),
-        ),
-        _ => None,
+    match part {
+        16 => &[
+            row!(false 0x80 + 1 * 1 => Byte Neither Byte; ModRm::Any; Pattern::ArithmeticRmImmediate),
+            row!(false 0x81 + 1 * 1 => Variable Neither Variable; ModRm::Any; Pattern::ArithmeticRmImmediate),
+            row!(false 0x83 + 1 * 1 => Variable Neither SignedByte; ModRm::Any; Pattern::ArithmeticRmImmediate),
+            row!(false 0x84 + 1 * 1 => Byte Neither Nothing; ModRm::Any; Pattern::TestRmReg),
+            row!(false 0x85 + 1 * 1 => Variable Neither Nothing; ModRm::Any; Pattern::TestRmReg),
+            row!(false 0x86 + 1 * 1 => Byte Neither Nothing; ModRm::Any; Pattern::ExchangeRmReg),
+            row!(false 0x87 + 1 * 1 => Variable Neither Nothing; ModRm::Any; Pattern::ExchangeRmReg),
+        ],
+        17 => &[
+            row!(false 0x88 + 1 * 1 => Byte Neither Nothing; ModRm::Any; Pattern::MoveRmReg),
+            row!(false 0x89 + 1 * 1 => Variable Neither Nothing; ModRm::Any; Pattern::MoveRmReg),
+            row!(false 0x8A + 1 * 1 => Byte Neither Nothing; ModRm::Any; Pattern::MoveRegRm),
+            row!(false 0x8B + 1 * 1 => Variable Neither Nothing; ModRm::Any; Pattern::MoveRegRm),
+            row!(false 0x8D + 1 * 1 => Variable Neither Nothing; ModRm::AnyMemory; Pattern::LoadAddress),
+        ],
+        18 => &[
+            row!(false 0x91 + 1 * 7 => Variable Neither Nothing; ModRm::Absent; Pattern::ExchangeRegAcc),
+            row!(false 0x90 + 1 * 1 => Variable Neither Nothing; ModRm::Absent; Pattern::Plain(Plain::Nop)),
+        ],
+        19 => &[
+            row!(false 0x98 + 1 * 1 => Variable Neither Nothing; ModRm::Absent; Pattern::ExtendAccumulator),
+            row!(false 0x99 + 1 * 1 => Variable Neither Nothing; ModRm::Absent; Pattern::SpreadSign),
+            row!(false 0x9C + 1 * 1 => Dword Neither Nothing; ModRm::Absent; Pattern::Plain(Plain::Pushfd)),
+            row!(false 0x9D + 1 * 1 => Dword Neither Nothing; ModRm::Absent; Pattern::Plain(Plain::Popfd)),
+            row!(false 0x9E + 1 * 1 => Dword Neither Nothing; ModRm::Absent; Pattern::Plain(Plain::Sahf)),
+            row!(false 0x9F + 1 * 1 => Dword Neither Nothing; ModRm::Absent; Pattern::Plain(Plain::Lahf)),
+        ],
+        20 => &[
+            row!(false 0xA0 + 1 * 1 => Byte Neither Dword; ModRm::Absent; Pattern::MoveAccAt),
+            row!(false 0xA1 + 1 * 1 => Variable Neither Dword; ModRm::Absent; Pattern::MoveAccAt),
+            row!(false 0xA2 + 1 * 1 => Byte Neither Dword; ModRm::Absent; Pattern::MoveAtAcc),
+            row!(false 0xA3 + 1 * 1 => Variable Neither Dword; ModRm::Absent; Pattern::MoveAtAcc),
+            row!(false 0xA4 + 1 * 1 => Byte Rep Nothing; ModRm::Absent; Pattern::Transfer(Transfer::Movs)),
+            row!(false 0xA5 + 1 * 1 => Variable Rep Nothing; ModRm::Absent; Pattern::Transfer(Transfer::Movs)),
+            row!(false 0xA6 + 1 * 1 => Byte Both Nothing; ModRm::Absent; Pattern::Compare(Comparison::Cmps)),
+            row!(false 0xA7 + 1 * 1 => Variable Both Nothing; ModRm::Absent; Pattern::Compare(Comparison::Cmps)),
+        ],
+        21 => &[
+            row!(false 0xA8 + 1 * 1 => Byte Neither Byte; ModRm::Absent; Pattern::TestAccImmediate),
+            row!(false 0xA9 + 1 * 1 => Variable Neither Variable; ModRm::Absent; Pattern::TestAccImmediate),
+            row!(false 0xAA + 1 * 1 => Byte Rep Nothing; ModRm::Absent; Pattern::Transfer(Transfer::Stos)),
+            row!(false 0xAB + 1 * 1 => Variable Rep Nothing; ModRm::Absent; Pattern::Transfer(Transfer::Stos)),
+            row!(false 0xAC + 1 * 1 => Byte Rep Nothing; ModRm::Absent; Pattern::Transfer(Transfer::Lods)),
+            row!(false 0xAD + 1 * 1 => Variable Rep Nothing; ModRm::Absent; Pattern::Transfer(Transfer::Lods)),
+            row!(false 0xAE + 1 * 1 => Byte Both Nothing; ModRm::Absent; Pattern::Compare(Comparison::Scas)),
+            row!(false 0xAF + 1 * 1 => Variable Both Nothing; ModRm::Absent; Pattern::Compare(Comparison::Scas)),
+        ],
+        22 => &[
+            row!(false 0xB0 + 1 * 8 => Byte Neither Byte; ModRm::Absent; Pattern::MoveRegImmediate),
+        ],
+        _ => &[
+            row!(false 0xB8 + 1 * 8 => Variable Neither Variable; ModRm::Absent; Pattern::MoveRegImmediate),
+        ],
     }
 }
 
-#[tactic(auto, unfolding(crate::specs::Lines::on_line, mx_insn::specs::Table::rows))]
-fn shift_row(opcode: u8, field: u8) -> Option<&'static Row>
-    ensures { option_copied result ≡ on_line (shift_line opcode field) }
+/// From C0 on, eight opcodes each.
+#[tactic(auto, unfolding(crate::specs::Map::rows_in, mx_insn::specs::Table::rows))]
+fn high_rows(part: u8) -> &'static [Row]
+    requires least { 24 ≤ part }
+    requires most { part < 32 }
+    ensures { result.now ≡ rows_in false part }
 {
-    match opcode {
-        0xC0 => shifts!(0xC0 => Byte Byte Immediate; field),
-        0xC1 => shifts!(0xC1 => Variable Byte Immediate; field),
-        0xD0 => shifts!(0xD0 => Byte Nothing One; field),
-        0xD1 => shifts!(0xD1 => Variable Nothing One; field),
-        0xD2 => shifts!(0xD2 => Byte Nothing Cl; field),
-        0xD3 => shifts!(0xD3 => Variable Nothing Cl; field),
-        _ => None,
+    match part {
+        24 => &[
+            row!(false 0xC6 + 1 * 1 => Byte Neither Byte; ModRm::Only(0); Pattern::MoveRmImmediate),
+            row!(false 0xC7 + 1 * 1 => Variable Neither Variable; ModRm::Only(0); Pattern::MoveRmImmediate),
+            row!(false 0xC0 + 1 * 1 => Byte Neither Byte; ModRm::Only(0); Pattern::ShiftRm(Shift::Rol, CountColumn::Immediate)),
+            row!(false 0xC0 + 1 * 1 => Byte Neither Byte; ModRm::Only(1); Pattern::ShiftRm(Shift::Ror, CountColumn::Immediate)),
+            row!(false 0xC0 + 1 * 1 => Byte Neither Byte; ModRm::Only(4); Pattern::ShiftRm(Shift::Shl, CountColumn::Immediate)),
+            row!(false 0xC0 + 1 * 1 => Byte Neither Byte; ModRm::Only(5); Pattern::ShiftRm(Shift::Shr, CountColumn::Immediate)),
+            row!(false 0xC0 + 1 * 1 => Byte Neither Byte; ModRm::Only(7); Pattern::ShiftRm(Shift::Sar, CountColumn::Immediate)),
+            row!(false 0xC1 + 1 * 1 => Variable Neither Byte; ModRm::Only(0); Pattern::ShiftRm(Shift::Rol, CountColumn::Immediate)),
+            row!(false 0xC1 + 1 * 1 => Variable Neither Byte; ModRm::Only(1); Pattern::ShiftRm(Shift::Ror, CountColumn::Immediate)),
+            row!(false 0xC1 + 1 * 1 => Variable Neither Byte; ModRm::Only(4); Pattern::ShiftRm(Shift::Shl, CountColumn::Immediate)),
+            row!(false 0xC1 + 1 * 1 => Variable Neither Byte; ModRm::Only(5); Pattern::ShiftRm(Shift::Shr, CountColumn::Immediate)),
+            row!(false 0xC1 + 1 * 1 => Variable Neither Byte; ModRm::Only(7); Pattern::ShiftRm(Shift::Sar, CountColumn::Immediate)),
+            row!(false 0xC2 + 1 * 1 => Dword Neither Word; ModRm::Absent; Pattern::Return),
+            row!(false 0xC3 + 1 * 1 => Dword Neither Nothing; ModRm::Absent; Pattern::Return),
+        ],
+        25 => &[
+            row!(false 0xC9 + 1 * 1 => Dword Neither Nothing; ModRm::Absent; Pattern::Plain(Plain::Leave)),
+            row!(false 0xCC + 1 * 1 => Dword Neither Nothing; ModRm::Absent; Pattern::Plain(Plain::Int3)),
+            row!(false 0xCD + 1 * 1 => Dword Neither Byte; ModRm::Absent; Pattern::Interrupt),
+            row!(false 0xCE + 1 * 1 => Dword Neither Nothing; ModRm::Absent; Pattern::Plain(Plain::Into)),
+        ],
+        26 => &[
+            row!(false 0xD0 + 1 * 1 => Byte Neither Nothing; ModRm::Only(0); Pattern::ShiftRm(Shift::Rol, CountColumn::One)),
+            row!(false 0xD0 + 1 * 1 => Byte Neither Nothing; ModRm::Only(1); Pattern::ShiftRm(Shift::Ror, CountColumn::One)),
+            row!(false 0xD0 + 1 * 1 => Byte Neither Nothing; ModRm::Only(4); Pattern::ShiftRm(Shift::Shl, CountColumn::One)),
+            row!(false 0xD0 + 1 * 1 => Byte Neither Nothing; ModRm::Only(5); Pattern::ShiftRm(Shift::Shr, CountColumn::One)),
+            row!(false 0xD0 + 1 * 1 => Byte Neither Nothing; ModRm::Only(7); Pattern::ShiftRm(Shift::Sar, CountColumn::One)),
+            row!(false 0xD1 + 1 * 1 => Variable Neither Nothing; ModRm::Only(0); Pattern::ShiftRm(Shift::Rol, CountColumn::One)),
+            row!(false 0xD1 + 1 * 1 => Variable Neither Nothing; ModRm::Only(1); Pattern::ShiftRm(Shift::Ror, CountColumn::One)),
+            row!(false 0xD1 + 1 * 1 => Variable Neither Nothing; ModRm::Only(4); Pattern::ShiftRm(Shift::Shl, CountColumn::One)),
+            row!(false 0xD1 + 1 * 1 => Variable Neither Nothing; ModRm::Only(5); Pattern::ShiftRm(Shift::Shr, CountColumn::One)),
+            row!(false 0xD1 + 1 * 1 => Variable Neither Nothing; ModRm::Only(7); Pattern::ShiftRm(Shift::Sar, CountColumn::One)),
+            row!(false 0xD2 + 1 * 1 => Byte Neither Nothing; ModRm::Only(0); Pattern::ShiftRm(Shift::Rol, CountColumn::Cl)),
+            row!(false 0xD2 + 1 * 1 => Byte Neither Nothing; ModRm::Only(1); Pattern::ShiftRm(Shift::Ror, CountColumn::Cl)),
+            row!(false 0xD2 + 1 * 1 => Byte Neither Nothing; ModRm::Only(4); Pattern::ShiftRm(Shift::Shl, CountColumn::Cl)),
+            row!(false 0xD2 + 1 * 1 => Byte Neither Nothing; ModRm::Only(5); Pattern::ShiftRm(Shift::Shr, CountColumn::Cl)),
+            row!(false 0xD2 + 1 * 1 => Byte Neither Nothing; ModRm::Only(7); Pattern::ShiftRm(Shift::Sar, CountColumn::Cl)),
+            row!(false 0xD3 + 1 * 1 => Variable Neither Nothing; ModRm::Only(0); Pattern::ShiftRm(Shift::Rol, CountColumn::Cl)),
+            row!(false 0xD3 + 1 * 1 => Variable Neither Nothing; ModRm::Only(1); Pattern::ShiftRm(Shift::Ror, CountColumn::Cl)),
+            row!(false 0xD3 + 1 * 1 => Variable Neither Nothing; ModRm::Only(4); Pattern::ShiftRm(Shift::Shl, CountColumn::Cl)),
+            row!(false 0xD3 + 1 * 1 => Variable Neither Nothing; ModRm::Only(5); Pattern::ShiftRm(Shift::Shr, CountColumn::Cl)),
+            row!(false 0xD3 + 1 * 1 => Variable Neither Nothing; ModRm::Only(7); Pattern::ShiftRm(Shift::Sar, CountColumn::Cl)),
+        ],
+        27 => &[],
+        28 => &[
+            row!(false 0xE0 + 1 * 1 => Dword Neither SignedByte; ModRm::Absent; Pattern::Loop(Loop::Loopne)),
+            row!(false 0xE1 + 1 * 1 => Dword Neither SignedByte; ModRm::Absent; Pattern::Loop(Loop::Loope)),
+            row!(false 0xE2 + 1 * 1 => Dword Neither SignedByte; ModRm::Absent; Pattern::Loop(Loop::Loop)),
+            row!(false 0xE3 + 1 * 1 => Dword Neither SignedByte; ModRm::Absent; Pattern::Loop(Loop::Jecxz)),
+            row!(false 0xE4 + 1 * 1 => Byte Neither Byte; ModRm::Absent; Pattern::InImmediate),
+            row!(false 0xE5 + 1 * 1 => Dword Neither Byte; ModRm::Absent; Pattern::InImmediate),
+            row!(false 0xE6 + 1 * 1 => Byte Neither Byte; ModRm::Absent; Pattern::OutImmediate),
+            row!(false 0xE7 + 1 * 1 => Dword Neither Byte; ModRm::Absent; Pattern::OutImmediate),
+        ],
+        29 => &[
+            row!(false 0xE8 + 1 * 1 => Dword Neither Dword; ModRm::Absent; Pattern::Call),
+            row!(false 0xE9 + 1 * 1 => Dword Neither Dword; ModRm::Absent; Pattern::Jump),
+            row!(false 0xEB + 1 * 1 => Dword Neither SignedByte; ModRm::Absent; Pattern::Jump),
+            row!(false 0xEC + 1 * 1 => Byte Neither Nothing; ModRm::Absent; Pattern::InDx),
+            row!(false 0xED + 1 * 1 => Dword Neither Nothing; ModRm::Absent; Pattern::InDx),
+            row!(false 0xEE + 1 * 1 => Byte Neither Nothing; ModRm::Absent; Pattern::OutDx),
+            row!(false 0xEF + 1 * 1 => Dword Neither Nothing; ModRm::Absent; Pattern::OutDx),
+        ],
+        30 => &[
+            row!(false 0xF4 + 1 * 1 => Dword Neither Nothing; ModRm::Absent; Pattern::Plain(Plain::Hlt)),
+            row!(false 0xF5 + 1 * 1 => Dword Neither Nothing; ModRm::Absent; Pattern::Plain(Plain::Cmc)),
+            row!(false 0xF6 + 1 * 1 => Byte Neither Byte; ModRm::Only(0); Pattern::TestRmImmediate),
+            row!(false 0xF6 + 1 * 1 => Byte Neither Nothing; ModRm::Only(2); Pattern::UnaryRm(Unary::Not)),
+            row!(false 0xF6 + 1 * 1 => Byte Neither Nothing; ModRm::Only(3); Pattern::UnaryRm(Unary::Neg)),
+            row!(false 0xF6 + 1 * 1 => Byte Neither Nothing; ModRm::Only(4); Pattern::ProductRm(Product::Mul)),
+            row!(false 0xF6 + 1 * 1 => Byte Neither Nothing; ModRm::Only(5); Pattern::ProductRm(Product::Imul)),
+            row!(false 0xF6 + 1 * 1 => Byte Neither Nothing; ModRm::Only(6); Pattern::ProductRm(Product::Div)),
+            row!(false 0xF6 + 1 * 1 => Byte Neither Nothing; ModRm::Only(7); Pattern::ProductRm(Product::Idiv)),
+            row!(false 0xF7 + 1 * 1 => Variable Neither Variable; ModRm::Only(0); Pattern::TestRmImmediate),
+            row!(false 0xF7 + 1 * 1 => Variable Neither Nothing; ModRm::Only(2); Pattern::UnaryRm(Unary::Not)),
+            row!(false 0xF7 + 1 * 1 => Variable Neither Nothing; ModRm::Only(3); Pattern::UnaryRm(Unary::Neg)),
+            row!(false 0xF7 + 1 * 1 => Variable Neither Nothing; ModRm::Only(4); Pattern::ProductRm(Product::Mul)),
+            row!(false 0xF7 + 1 * 1 => Variable Neither Nothing; ModRm::Only(5); Pattern::ProductRm(Product::Imul)),
+            row!(false 0xF7 + 1 * 1 => Variable Neither Nothing; ModRm::Only(6); Pattern::ProductRm(Product::Div)),
+            row!(false 0xF7 + 1 * 1 => Variable Neither Nothing; ModRm::Only(7); Pattern::ProductRm(Product::Idiv)),
+        ],
+        _ => &[
+            row!(false 0xFA + 1 * 1 => Dword Neither Nothing; ModRm::Absent; Pattern::Plain(Plain::Cli)),
+            row!(false 0xFB + 1 * 1 => Dword Neither Nothing; ModRm::Absent; Pattern::Plain(Plain::Sti)),
+            row!(false 0xF8 + 1 * 1 => Dword Neither Nothing; ModRm::Absent; Pattern::Plain(Plain::Clc)),
+            row!(false 0xF9 + 1 * 1 => Dword Neither Nothing; ModRm::Absent; Pattern::Plain(Plain::Stc)),
+            row!(false 0xFC + 1 * 1 => Dword Neither Nothing; ModRm::Absent; Pattern::Plain(Plain::Cld)),
+            row!(false 0xFD + 1 * 1 => Dword Neither Nothing; ModRm::Absent; Pattern::Plain(Plain::Std)),
+            row!(false 0xFE + 1 * 1 => Byte Neither Nothing; ModRm::Only(0); Pattern::UnaryRm(Unary::Inc)),
+            row!(false 0xFE + 1 * 1 => Byte Neither Nothing; ModRm::Only(1); Pattern::UnaryRm(Unary::Dec)),
+            row!(false 0xFF + 1 * 1 => Variable Neither Nothing; ModRm::Only(0); Pattern::UnaryRm(Unary::Inc)),
+            row!(false 0xFF + 1 * 1 => Variable Neither Nothing; ModRm::Only(1); Pattern::UnaryRm(Unary::Dec)),
+            row!(false 0xFF + 1 * 1 => Dword Neither Nothing; ModRm::Only(2); Pattern::CallRm),
+            row!(false 0xFF + 1 * 1 => Dword Neither Nothing; ModRm::Only(4); Pattern::JumpRm),
+            row!(false 0xFF + 1 * 1 => Dword Neither Nothing; ModRm::Only(6); Pattern::PushRm),
+        ],
     }
 }
 
-#[tactic(auto, unfolding(crate::specs::Lines::on_line, mx_insn::specs::Table::rows))]
-fn group_row(opcode: u8, field: u8) -> Option<&'static Row>
-    ensures { option_copied result ≡ on_line (group_line opcode field) }
+/// Behind 0F, 64 opcodes each.
+#[tactic(auto, unfolding(crate::specs::Map::rows_in, mx_insn::specs::Table::rows))]
+fn escaped_rows(part: u8) -> &'static [Row]
+    requires { part < 4 }
+    ensures { result.now ≡ rows_in true part }
 {
-    match opcode {
-        0xC6 => match field {
-            0 => Some(
-                &row!(false 0xC6 + 1 * 1 => Byte Neither Byte; ModRm::Only(0); Pattern::MoveRmImmediate),
-            ),
-            _ => None,
-        },
-        0xC7 => match field {
-            0 => Some(
-                &row!(false 0xC7 + 1 * 1 => Variable Neither Variable; ModRm::Only(0); Pattern::MoveRmImmediate),
-            ),
-            _ => None,
-        },
-        0xF6 => products!(0xF6 => Byte Byte; field),
-        0xF7 => products!(0xF7 => Variable Variable; field),
-        0xFE => match field {
-            0 => Some(
-                &row!(false 0xFE + 1 * 1 => Byte Neither Nothing; ModRm::Only(0); Pattern::UnaryRm(Unary::Inc)),
-            ),
-            1 => Some(
-                &row!(false 0xFE + 1 * 1 => Byte Neither Nothing; ModRm::Only(1); Pattern::UnaryRm(Unary::Dec)),
-            ),
-            _ => None,
-        },
-        0xFF => match field {
-            0 => Some(
-                &row!(false 0xFF + 1 * 1 => Variable Neither Nothing; ModRm::Only(0); Pattern::UnaryRm(Unary::Inc)),
-            ),
-            1 => Some(
-                &row!(false 0xFF + 1 * 1 => Variable Neither Nothing; ModRm::Only(1); Pattern::UnaryRm(Unary::Dec)),
-            ),
-            2 => Some(
-                &row!(false 0xFF + 1 * 1 => Dword Neither Nothing; ModRm::Only(2); Pattern::CallRm),
-            ),
-            4 => Some(
-                &row!(false 0xFF + 1 * 1 => Dword Neither Nothing; ModRm::Only(4); Pattern::JumpRm),
-            ),
-            6 => Some(
-                &row!(false 0xFF + 1 * 1 => Dword Neither Nothing; ModRm::Only(6); Pattern::PushRm),
-            ),
-            _ => None,
-        },
-        _ => shift_row(opcode, field),
+    match part {
+        0 => &[],
+        1 => &[],
+        2 => &[
+            row!(true 0x80 + 1 * 16 => Dword Neither Dword; ModRm::Absent; Pattern::JumpIf),
+            row!(true 0x90 + 1 * 16 => Byte Neither Nothing; ModRm::Any; Pattern::SetCondition),
+            row!(true 0xAF + 1 * 1 => Variable Neither Nothing; ModRm::Any; Pattern::MultiplyRegRm),
+            row!(true 0xB6 + 1 * 1 => Variable Neither Nothing; ModRm::Any; Pattern::ZeroExtendByte),
+            row!(true 0xB7 + 1 * 1 => Dword Neither Nothing; ModRm::Any; Pattern::ZeroExtendWord),
+            row!(true 0xBE + 1 * 1 => Variable Neither Nothing; ModRm::Any; Pattern::SignExtendByte),
+            row!(true 0xBF + 1 * 1 => Dword Neither Nothing; ModRm::Any; Pattern::SignExtendWord),
+        ],
+        _ => &[],
     }
 }
 
-#[tactic(auto, unfolding(crate::specs::Lines::on_line, mx_insn::specs::Table::rows))]
-fn high_row(opcode: u8, field: u8) -> Option<&'static Row>
-    ensures { option_copied result ≡ on_line (high_line opcode field) }
-{
-    match opcode {
-        0xC2 => Some(
-            &row!(false 0xC2 + 1 * 1 => Dword Neither Word; ModRm::Absent; Pattern::Return),
-        ),
-        0xC3 => Some(
-            &row!(false 0xC3 + 1 * 1 => Dword Neither Nothing; ModRm::Absent; Pattern::Return),
-        ),
-        0xC9 => Some(
-            &row!(false 0xC9 + 1 * 1 => Dword Neither Nothing; ModRm::Absent; Pattern::Plain(Plain::Leave)),
-        ),
-        0xCC => Some(
-            &row!(false 0xCC + 1 * 1 => Dword Neither Nothing; ModRm::Absent; Pattern::Plain(Plain::Int3)),
-        ),
-        0xCD => Some(
-            &row!(false 0xCD + 1 * 1 => Dword Neither Byte; ModRm::Absent; Pattern::Interrupt),
-        ),
-        0xCE => Some(
-            &row!(false 0xCE + 1 * 1 => Dword Neither Nothing; ModRm::Absent; Pattern::Plain(Plain::Into)),
-        ),
-        0xE0 => Some(
-            &row!(false 0xE0 + 1 * 1 => Dword Neither SignedByte; ModRm::Absent; Pattern::Loop(Loop::Loopne)),
-        ),
-        0xE1 => Some(
-            &row!(false 0xE1 + 1 * 1 => Dword Neither SignedByte; ModRm::Absent; Pattern::Loop(Loop::Loope)),
-        ),
-        0xE2 => Some(
-            &row!(false 0xE2 + 1 * 1 => Dword Neither SignedByte; ModRm::Absent; Pattern::Loop(Loop::Loop)),
-        ),
-        0xE3 => Some(
-            &row!(false 0xE3 + 1 * 1 => Dword Neither SignedByte; ModRm::Absent; Pattern::Loop(Loop::Jecxz)),
-        ),
-        0xE4 => Some(
-            &row!(false 0xE4 + 1 * 1 => Byte Neither Byte; ModRm::Absent; Pattern::InImmediate),
-        ),
-        0xE5 => Some(
-            &row!(false 0xE5 + 1 * 1 => Dword Neither Byte; ModRm::Absent; Pattern::InImmediate),
-        ),
-        0xE6 => Some(
-            &row!(false 0xE6 + 1 * 1 => Byte Neither Byte; ModRm::Absent; Pattern::OutImmediate),
-        ),
-        0xE7 => Some(
-            &row!(false 0xE7 + 1 * 1 => Dword Neither Byte; ModRm::Absent; Pattern::OutImmediate),
-        ),
-        0xE8 => Some(
-            &row!(false 0xE8 + 1 * 1 => Dword Neither Dword; ModRm::Absent; Pattern::Call),
-        ),
-        0xE9 => Some(
-            &row!(false 0xE9 + 1 * 1 => Dword Neither Dword; ModRm::Absent; Pattern::Jump),
-        ),
-        0xEB => Some(
-            &row!(false 0xEB + 1 * 1 => Dword Neither SignedByte; ModRm::Absent; Pattern::Jump),
-        ),
-        0xEC => Some(
-            &row!(false 0xEC + 1 * 1 => Byte Neither Nothing; ModRm::Absent; Pattern::InDx),
-        ),
-        0xED => Some(
-            &row!(false 0xED + 1 * 1 => Dword Neither Nothing; ModRm::Absent; Pattern::InDx),
-        ),
-        0xEE => Some(
-            &row!(false 0xEE + 1 * 1 => Byte Neither Nothing; ModRm::Absent; Pattern::OutDx),
-        ),
-        0xEF => Some(
-            &row!(false 0xEF + 1 * 1 => Dword Neither Nothing; ModRm::Absent; Pattern::OutDx),
-        ),
-        0xF4 => Some(
-            &row!(false 0xF4 + 1 * 1 => Dword Neither Nothing; ModRm::Absent; Pattern::Plain(Plain::Hlt)),
-        ),
-        0xF5 => Some(
-            &row!(false 0xF5 + 1 * 1 => Dword Neither Nothing; ModRm::Absent; Pattern::Plain(Plain::Cmc)),
-        ),
-        0xF8 => Some(
-            &row!(false 0xF8 + 1 * 1 => Dword Neither Nothing; ModRm::Absent; Pattern::Plain(Plain::Clc)),
-        ),
-        0xF9 => Some(
-            &row!(false 0xF9 + 1 * 1 => Dword Neither Nothing; ModRm::Absent; Pattern::Plain(Plain::Stc)),
-        ),
-        0xFA => Some(
-            &row!(false 0xFA + 1 * 1 => Dword Neither Nothing; ModRm::Absent; Pattern::Plain(Plain::Cli)),
-        ),
-        0xFB => Some(
-            &row!(false 0xFB + 1 * 1 => Dword Neither Nothing; ModRm::Absent; Pattern::Plain(Plain::Sti)),
-        ),
-        0xFC => Some(
-            &row!(false 0xFC + 1 * 1 => Dword Neither Nothing; ModRm::Absent; Pattern::Plain(Plain::Cld)),
-        ),
-        0xFD => Some(
-            &row!(false 0xFD + 1 * 1 => Dword Neither Nothing; ModRm::Absent; Pattern::Plain(Plain::Std)),
-        ),
-        _ => group_row(opcode, field),
-    }
-}
-
-#[tactic(auto, unfolding(crate::specs::Lines::on_line, mx_insn::specs::Table::rows))]
-fn escaped_row(opcode: u8) -> Option<&'static Row>
-    ensures { option_copied result ≡ on_line (escaped_line opcode) }
-{
-    match opcode {
-        0x80..=0x8F => Some(
-            &row!(true 0x80 + 1 * 16 => Dword Neither Dword; ModRm::Absent; Pattern::JumpIf),
-        ),
-        0x90..=0x9F => Some(
-            &row!(true 0x90 + 1 * 16 => Byte Neither Nothing; ModRm::Any; Pattern::SetCondition),
-        ),
-        0xAF => Some(
-            &row!(true 0xAF + 1 * 1 => Variable Neither Nothing; ModRm::Any; Pattern::MultiplyRegRm),
-        ),
-        0xB6 => Some(
-            &row!(true 0xB6 + 1 * 1 => Variable Neither Nothing; ModRm::Any; Pattern::ZeroExtendByte),
-        ),
-        0xB7 => Some(
-            &row!(true 0xB7 + 1 * 1 => Dword Neither Nothing; ModRm::Any; Pattern::ZeroExtendWord),
-        ),
-        0xBE => Some(
-            &row!(true 0xBE + 1 * 1 => Variable Neither Nothing; ModRm::Any; Pattern::SignExtendByte),
-        ),
-        0xBF => Some(
-            &row!(true 0xBF + 1 * 1 => Dword Neither Nothing; ModRm::Any; Pattern::SignExtendWord),
-        ),
-        _ => None,
-    }
-}
-
-fn dispatched(escaped: bool, opcode: u8, field: u8) -> Option<&'static Row>
-    ensures { option_copied result ≡ on_line (line escaped opcode field) }
+/// The rows of the map, behind 0F or not, in the part where the opcode stands.
+#[inline(always)]
+pub fn rows_near(escaped: bool, opcode: u8) -> &'static [Row]
+    ensures { result.now ≡ rows_in escaped (part escaped opcode) }
 {
     if escaped {
-        escaped_row(opcode)
+        escaped_rows(opcode / 64)
     } else if opcode < 0x40 {
-        arithmetic_row(opcode % 8)
+        column_rows(8 + opcode % 8)
     } else if opcode < 0x80 {
-        low_row(opcode)
+        low_rows(opcode / 16)
     } else if opcode < 0xC0 {
-        middle_row(opcode)
+        middle_rows(opcode / 8)
     } else {
-        high_row(opcode, field)
+        high_rows(opcode / 8)
     }
-}
-
-/// The row of an opcode; of those that go by the reg field, the row of this field.
-pub fn row_under(escaped: bool, opcode: u8, field: u8) -> Option<&'static Row>
-    requires { field < 8 }
-    ensures { option_copied result ≡ row_under field (rows_of escaped opcode) }
-{
-    dispatched(escaped, opcode, field)
 }

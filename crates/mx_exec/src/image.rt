@@ -71,14 +71,22 @@ impl Image {
         self.regs.set(Size::Dword, register, value);
     }
 
+    /// The segment that the code stands in.
+    #[inline(always)]
+    pub fn code_segment(&self) -> &Segment
+        ensures { result.now ≡ code_bytes self.now }
+    {
+        match &self.code {
+            Code::Separate(text) => text.segment(),
+            Code::Shared => &self.memory,
+        }
+    }
+
     /// The limit of the code, in bytes.
     pub(crate) fn code_limit(&self) -> usize
         ensures { result ≡ length (code_bytes self.now) }
     {
-        match &self.code {
-            Code::Separate(text) => text.limit(),
-            Code::Shared => self.memory.limit(),
-        }
+        self.code_segment().limit()
     }
 
     /// Puts the instruction at EIP into `insn`, and answers its length.

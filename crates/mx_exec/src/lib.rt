@@ -4,6 +4,7 @@
 mod arithmetic;
 mod image;
 mod jumps;
+mod laws;
 mod moves;
 mod operands;
 mod plain;
@@ -13,5 +14,6 @@ mod strings;
 mod text;
 
 pub use image::{Code, Image, Outcome};
-pub use steps::step;
-pub use text::Text;
+pub use laws::step_lasts;
+pub use steps::{outcome, perform, step};
+pub use text::{Text, decode_at};

@@ -10,7 +10,8 @@ use crate::{Image, Outcome, arithmetic, jumps, moves, plain, strings};
 use mx_decode::DecodeFault;
 use mx_insn::{Insn, Plain};
 
-fn outcome(insn: &Insn) -> Outcome
+/// How a step ends that performs an instruction with no fault.
+pub fn outcome(insn: &Insn) -> Outcome
     ensures { result ≡ outcome_of insn.now }
 {
     match insn {
@@ -22,7 +23,7 @@ fn outcome(insn: &Insn) -> Outcome
 /// Performs an instruction, or answers its vector and changes nothing. Inlined, so that a step has
 /// no registers to save.
 #[inline(always)]
-fn perform(image: &mut Image, insn: &Insn, next: u32) -> Result<(), u8>
+pub fn perform(image: &mut Image, insn: &Insn, next: u32) -> Result<(), u8>
     ensures { Performs image.old (after insn.now next image.old) result image.new }
 {
     match insn {

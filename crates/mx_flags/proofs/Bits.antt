@@ -4,7 +4,7 @@ use Rattle.std.specs.Int.{from_bool}
 use Rattle.mx_flags.specs.Flags.{bits_of, values_of}
 use Rattle.mx_flags.specs.declared.FlagValues.{FlagValues}
 
-from_bool_le : (b : Bool) → from_bool b ≤ 1
+pub from_bool_le : (b : Bool) → from_bool b ≤ 1
 from_bool_le true = omega arith
 from_bool_le false = omega arith
 

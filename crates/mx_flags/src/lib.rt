@@ -21,40 +21,45 @@ pub struct FlagValues {
     pub overflow: bool,
 }
 
-/// The seven flags, kept as the bits that PUSHFD stores. Callers see their values.
+/// The seven flags, kept as what they are worked out from when they are asked for. Callers see
+/// their values.
 #[derive(Drop)]
 pub struct Flags {
-    bits: u32,
+    /// Zero where the zero flag is set.
+    zero: u32,
+    /// A word with the sign and the parity.
+    word: u32,
+    /// What each bit of a sum or difference had from below: auxiliary is bit 4, and overflow
+    /// where bits 31 and 32 differ.
+    carries: u64,
+    /// One where the carry is set. A word, as the next, so that the struct has no gaps to copy.
+    carry: u32,
+    direction: u32,
 }
 
 impl Model for Flags {
-    ghost use Rattle.std.specs.Prelude.{◌≡◌};
+    ghost use Rattle.std.specs.Prelude.{◌==◌};
     ghost use Rattle.mx_flags.specs.declared.FlagValues.{FlagValues};
-    ghost use Rattle.mx_flags.specs.Flags.{bits_of, values_of};
+    ghost use Rattle.mx_flags.specs.Flags.{worked_out};
 
     ghost Value = { FlagValues };
 
-    ghost view = { λ flags. values_of flags.bits };
-
-    ghost invariant = { λ flags. flags.bits ≡ bits_of (values_of flags.bits) };
+    ghost view = { λ f. worked_out f.zero f.word f.carries (f.carry == 1) (f.direction == 1) };
 }
 
 impl Flags {
     /// The flags with these values.
-    #[tactic(auto, using(crate::proofs::Bits::values_of_bits_of))]
+    #[tactic(auto, using(crate::proofs::WorkedOut::worked_out_of))]
     #[inline(always)]
     pub fn from_values(values: FlagValues) -> Flags
         ensures { result ≡ values }
     {
         Flags {
-            bits: 514
-                + u32::from(values.carry)
-                + 4 * u32::from(values.parity)
-                + 16 * u32::from(values.auxiliary)
-                + 64 * u32::from(values.zero)
-                + 128 * u32::from(values.sign)
-                + 1024 * u32::from(values.direction)
-                + 2048 * u32::from(values.overflow),
+            zero: 1 - u32::from(values.zero),
+            word: 0x8000_0000 * u32::from(values.sign) + (1 - u32::from(values.parity)),
+            carries: 16 * u64::from(values.auxiliary) + 0x8000_0000 * u64::from(values.overflow),
+            carry: u32::from(values.carry),
+            direction: u32::from(values.direction),
         }
     }
 
@@ -63,7 +68,15 @@ impl Flags {
     pub fn values(&self) -> FlagValues
         ensures { result ≡ self.now }
     {
-        values_of(self.bits)
+        FlagValues {
+            carry: self.carry(),
+            parity: self.parity(),
+            auxiliary: self.auxiliary(),
+            zero: self.zero(),
+            sign: self.sign(),
+            direction: self.direction(),
+            overflow: self.overflow(),
+        }
     }
 
     /// The flags that a word's bits name, as POPFD takes them. Other bits don't count.
@@ -74,11 +87,18 @@ impl Flags {
     }
 
     /// The word that PUSHFD stores.
+    #[tactic(auto, using(crate::proofs::Bits::values_of_bits_of))]
     pub fn to_bits(&self) -> u32
         ensures value { result ≡ bits_of self.now }
         ensures back { values_of result ≡ self.now }
     {
-        self.bits
+        514 + u32::from(self.carry())
+            + 4 * u32::from(self.parity())
+            + 16 * u32::from(self.auxiliary())
+            + 64 * u32::from(self.zero())
+            + 128 * u32::from(self.sign())
+            + 1024 * u32::from(self.direction())
+            + 2048 * u32::from(self.overflow())
     }
 
     /// The flags with the byte that SAHF takes from AH for their low one.
@@ -96,63 +116,72 @@ impl Flags {
     pub fn low_byte(&self) -> u8
         ensures { result ≡ bits_of self.now % 256 }
     {
-        (self.bits % 256) as u8
+        (self.to_bits() % 256) as u8
     }
 
     /// The same flags again.
     pub fn copied(&self) -> Flags
         ensures { result ≡ self.now }
     {
-        Flags { bits: self.bits }
+        Flags {
+            zero: self.zero,
+            word: self.word,
+            carries: self.carries,
+            carry: self.carry,
+            direction: self.direction,
+        }
     }
 
     /// CF.
     pub fn carry(&self) -> bool
         ensures { result ≡ self.now.carry }
     {
-        self.bits % 2 == 1
+        self.carry == 1
     }
 
     /// PF.
     pub fn parity(&self) -> bool
         ensures { result ≡ self.now.parity }
     {
-        self.bits / 4 % 2 == 1
+        has_even_ones(self.word)
     }
 
     /// AF.
     pub fn auxiliary(&self) -> bool
         ensures { result ≡ self.now.auxiliary }
     {
-        self.bits / 16 % 2 == 1
+        self.carries / 16 % 2 == 1
     }
 
     /// ZF.
     pub fn zero(&self) -> bool
         ensures { result ≡ self.now.zero }
     {
-        self.bits / 64 % 2 == 1
+        self.zero == 0
     }
 
     /// SF.
     pub fn sign(&self) -> bool
         ensures { result ≡ self.now.sign }
     {
-        self.bits / 128 % 2 == 1
+        self.word >= 0x8000_0000
     }
 
     /// DF.
     pub fn direction(&self) -> bool
         ensures { result ≡ self.now.direction }
     {
-        self.bits / 1024 % 2 == 1
+        self.direction == 1
     }
 
     /// OF.
     pub fn overflow(&self) -> bool
         ensures { result ≡ self.now.overflow }
     {
-        self.bits / 2048 % 2 == 1
+        differ(
+            self.carries / 0x1_0000_0000 % 2 == 1,
+            self.carries / 0x8000_0000 % 2 == 1,
+        )
     }
 
     /// Whether a condition holds.
@@ -201,31 +230,34 @@ impl Flags {
     pub fn with_carry(&self, carry: bool) -> Flags
         ensures { result ≡ record self.now { carry = carry } }
     {
-        Flags::from_values(FlagValues {
-            carry,
-            ..self.values()
-        })
+        Flags {
+            carry: u32::from(carry),
+            ..self.copied()
+        }
     }
 
     /// With this direction, as after CLD and STD.
     pub fn with_direction(&self, direction: bool) -> Flags
         ensures { result ≡ record self.now { direction = direction } }
     {
-        Flags::from_values(FlagValues {
-            direction,
-            ..self.values()
-        })
+        Flags {
+            direction: u32::from(direction),
+            ..self.copied()
+        }
     }
 
     /// With this carry and overflow, as after shifts and multiplications.
+    #[inline(always)]
     pub fn with_carry_and_overflow(&self, carry: bool, overflow: bool) -> Flags
         ensures { result ≡ record self.now { carry = carry; overflow = overflow } }
     {
-        Flags::from_values(FlagValues {
-            carry,
-            overflow,
-            ..self.values()
-        })
+        Flags {
+            zero: self.zero,
+            word: self.word,
+            carries: self.carries / 16 % 2 * 16 + 0x8000_0000 * u64::from(overflow),
+            carry: u32::from(carry),
+            direction: self.direction,
+        }
     }
 
     /// With zero, sign and parity of a result.
@@ -233,7 +265,16 @@ impl Flags {
         requires { word < 2 ^ width size }
         ensures { result ≡ result_flags (width size) word self.now }
     {
-        Flags::from_values(self.result_values(size, word))
+        match size {
+            Size::Byte | Size::Word => Flags::from_values(self.result_values(size, word)),
+            Size::Dword => Flags {
+                zero: word,
+                word,
+                carries: self.carries,
+                carry: self.carry,
+                direction: self.direction,
+            },
+        }
     }
 
     /// After AND, OR, XOR or TEST with this result.
@@ -242,11 +283,27 @@ impl Flags {
         requires { word < 2 ^ width size }
         ensures { result ≡ logic_flags (width size) word self.now }
     {
-        Flags::from_values(FlagValues {
-            carry: false,
-            overflow: false,
-            ..self.result_values(size, word)
-        })
+        match size {
+            Size::Byte | Size::Word => Flags::from_values(FlagValues {
+                carry: false,
+                overflow: false,
+                ..self.result_values(size, word)
+            }),
+            Size::Dword => self.after_logic_of_dwords(word),
+        }
+    }
+
+    #[inline(always)]
+    fn after_logic_of_dwords(&self, word: u32) -> Flags
+        ensures { result ≡ logic_flags 32 word self.now }
+    {
+        Flags {
+            zero: word,
+            word,
+            carries: self.carries / 16 % 2 * 16,
+            carry: 0,
+            direction: self.direction,
+        }
     }
 
     /// After the sum of two words and a carry.
@@ -256,7 +313,25 @@ impl Flags {
         requires right { y < 2 ^ width size }
         ensures { result ≡ add_flags (width size) x y (from_bool carry) self.now }
     {
-        Flags::from_values(self.sum_values(size, x, y, carry))
+        match size {
+            Size::Byte | Size::Word => Flags::from_values(self.sum_values(size, x, y, carry)),
+            Size::Dword => self.after_sum_of_dwords(x, y, carry),
+        }
+    }
+
+    #[inline(always)]
+    fn after_sum_of_dwords(&self, x: u32, y: u32, carry: bool) -> Flags
+        ensures { result ≡ add_flags 32 x y (from_bool carry) self.now }
+    {
+        let whole = u64::from(x) + u64::from(y) + u64::from(carry);
+        let word = (whole % 0x1_0000_0000) as u32;
+        Flags {
+            zero: word,
+            word,
+            carries: u64::from(x) ^ u64::from(y) ^ whole,
+            carry: u32::from(whole >= 0x1_0000_0000),
+            direction: self.direction,
+        }
     }
 
     /// After the difference of two words and a borrow.
@@ -266,7 +341,27 @@ impl Flags {
         requires right { y < 2 ^ width size }
         ensures { result ≡ sub_flags (width size) x y (from_bool borrow) self.now }
     {
-        Flags::from_values(self.difference_values(size, x, y, borrow))
+        match size {
+            Size::Byte | Size::Word => {
+                Flags::from_values(self.difference_values(size, x, y, borrow))
+            }
+            Size::Dword => self.after_difference_of_dwords(x, y, borrow),
+        }
+    }
+
+    #[inline(always)]
+    fn after_difference_of_dwords(&self, x: u32, y: u32, borrow: bool) -> Flags
+        ensures { result ≡ sub_flags 32 x y (from_bool borrow) self.now }
+    {
+        let whole = 0x2_0000_0000 + u64::from(x) - u64::from(y) - u64::from(borrow);
+        let word = (whole % 0x1_0000_0000) as u32;
+        Flags {
+            zero: word,
+            word,
+            carries: u64::from(x) ^ u64::from(y) ^ whole,
+            carry: u32::from(whole < 0x2_0000_0000),
+            direction: self.direction,
+        }
     }
 
     /// After INC of a word, which keeps the carry.
@@ -275,10 +370,10 @@ impl Flags {
         requires { x < 2 ^ width size }
         ensures { result ≡ increment_flags (width size) x self.now }
     {
-        Flags::from_values(FlagValues {
-            carry: self.carry(),
-            ..self.sum_values(size, x, 1, false)
-        })
+        Flags {
+            carry: self.carry,
+            ..self.after_add(size, x, 1, false)
+        }
     }
 
     /// After DEC of a word, which keeps the carry.
@@ -287,10 +382,10 @@ impl Flags {
         requires { x < 2 ^ width size }
         ensures { result ≡ decrement_flags (width size) x self.now }
     {
-        Flags::from_values(FlagValues {
-            carry: self.carry(),
-            ..self.difference_values(size, x, 1, false)
-        })
+        Flags {
+            carry: self.carry,
+            ..self.after_sub(size, x, 1, false)
+        }
     }
 
     #[inline(always)]

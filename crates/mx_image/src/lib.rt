@@ -5,7 +5,7 @@ mod joining;
 mod runs;
 
 pub use joining::runs_join;
-pub use runs::{Runs, Stop};
+pub use runs::{Runs, Stop, run_with};
 
 #[cfg(test)]
 mod tests;

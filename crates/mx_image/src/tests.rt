@@ -1,16 +1,19 @@
 //! Rows of the manual's pages, worked by hand, and of the machine's own choices.
 
-use crate::{Runs, Stop, runs_join};
+use crate::{Runs, Stop, run_with, runs_join};
 use mx_exec::{Code, Image, Text};
 use mx_flags::Flags;
+use mx_kept::Cache;
 use mx_mem::Segment;
 use mx_regs::Regs;
 use mx_word::{Register, Size};
 use std::alloc::Global;
+use std::process::Abort;
 use std::test::Fail;
 
 /// What a run begins with: text of its own, zeros but for some bytes, and the registers EAX, ECX,
 /// EDX, EBX, ESP, EBP, ESI, EDI; and what it ends with.
+#[derive(Drop)]
 struct Row {
     /// The code is the data segment itself.
     shared: bool,
@@ -72,7 +75,7 @@ static REGISTERS: [Register; 8] = [
     Register::Edi,
 ];
 
-static ROWS: [Row; 51] = [
+static ROWS: [Row; 55] = [
     // arithmetic, shifts, products and extensions
     Row {
         text: b"\x83\xC0\x01",
@@ -503,6 +506,74 @@ static ROWS: [Row; 51] = [
         ],
         ..ROW
     },
+    // ADD EAX, 1 in a loop that counts its immediate up
+    Row {
+        shared: true,
+        memory: &[
+            (0, 0x83),
+            (1, 0xC0),
+            (2, 0x01),
+            (3, 0xFE),
+            (4, 0x05),
+            (5, 0x02),
+            (9, 0xEB),
+            (10, 0xF5),
+        ],
+        budget: 6,
+        count: 6,
+        words_after: [3, 0, 0, 0, 0, 0, 0, 0],
+        flags_after: ONES + PARITY,
+        memory_after: &[
+            (0, 0x83),
+            (1, 0xC0),
+            (2, 0x03),
+            (3, 0xFE),
+            (4, 0x05),
+            (5, 0x02),
+            (9, 0xEB),
+            (10, 0xF5),
+        ],
+        ..ROW
+    },
+    // MOV [5], AL over the highest byte of its own displacement
+    Row {
+        shared: true,
+        memory: &[(0, 0x88), (1, 0x05), (2, 0x05), (6, 0xEB), (7, 0xF8)],
+        words: [1, 0, 0, 0, 0, 0, 0, 0],
+        budget: 9,
+        count: 3,
+        stop: Stop::Fault(13),
+        words_after: [1, 0, 0, 0, 0, 0, 0, 0],
+        memory_after: &[
+            (0, 0x88),
+            (1, 0x05),
+            (2, 0x05),
+            (5, 0x01),
+            (6, 0xEB),
+            (7, 0xF8),
+        ],
+        ..ROW
+    },
+    // REP MOVSB over itself: INC EAX and MOVSB stand there then
+    Row {
+        shared: true,
+        memory: &[(0, 0xF3), (1, 0xA4), (0x20, 0x40), (0x21, 0x40)],
+        words: [0, 4, 0, 0, 0, 0, 0x20, 0],
+        budget: 3,
+        count: 3,
+        words_after: [1, 3, 0, 0, 0, 0, 0x22, 2],
+        eip_after: 2,
+        memory_after: &[(0, 0x40), (1, 0x40), (0x20, 0x40), (0x21, 0x40)],
+        ..ROW
+    },
+    // a loop in the last three bytes of a text
+    Row {
+        text: b"\x40\xEB\xFD",
+        budget: 4,
+        count: 4,
+        words_after: [2, 0, 0, 0, 0, 0, 0, 0],
+        ..ROW
+    },
 ];
 
 fn segment_of(alloc: Global, limit: u32, bytes: &[(u32, u8)]) -> Result<Segment, Fail> {
@@ -538,29 +609,60 @@ fn ended<R: Runs>(machine: &mut R, budget: u32) -> (u32, Stop) {
     machine.run(budget)
 }
 
-/// Runs each row, and compares registers, EIP, flags and all of the memory.
+/// Compares registers, EIP, flags and all of the memory with what a row ends with.
+fn compare(
+    rt: &impl Abort,
+    alloc: Global,
+    number: usize,
+    row: &Row,
+    image: &Image,
+    made: (u32, Stop),
+) -> Result<(), Fail> {
+    assert!(rt; made == (row.count, row.stop), "stop of row {number}");
+    for (register, word) in REGISTERS.iter().zip(&row.words_after) {
+        assert!(rt; image.reg(*register) == *word, "registers of row {number}");
+    }
+    let ends = (image.eip(), image.flags.to_bits());
+    assert!(rt;
+        ends == (row.eip_after, row.flags_after),
+        "EIP or flags of row {number}"
+    );
+    let memory = segment_of(alloc, LIMIT, row.memory_after)?;
+    for at in 0..=LIMIT {
+        assert!(rt;
+            image.byte(at) == memory.get(at),
+            "byte {at} of row {number}"
+        );
+    }
+    Ok(())
+}
+
+/// Runs each row twice, the second time with a cache that has what earlier rows had at the same
+/// addresses.
 #[test]
 fn worked_rows(rt: HostRuntime) -> Result<(), Fail> {
+    let mut cache = Cache::new(rt.alloc())?;
     for (number, row) in ROWS.iter().enumerate() {
         let mut image = image_of(rt.alloc(), row)?;
         let made = ended(&mut image, row.budget);
-        assert!(rt; made == (row.count, row.stop), "stop of row {number}");
-        for (register, word) in REGISTERS.iter().zip(&row.words_after) {
-            assert!(rt; image.reg(*register) == *word, "registers of row {number}");
-        }
-        let ends = (image.eip(), image.flags.to_bits());
-        assert!(rt;
-            ends == (row.eip_after, row.flags_after),
-            "EIP or flags of row {number}"
-        );
-        let memory = segment_of(rt.alloc(), LIMIT, row.memory_after)?;
-        for at in 0..=LIMIT {
-            assert!(rt;
-                image.byte(at) == memory.get(at),
-                "byte {at} of row {number}"
-            );
-        }
+        compare(&rt, rt.alloc(), number, row, &image, made)?;
+        let mut again = image_of(rt.alloc(), row)?;
+        let made = run_with(&mut again, &mut cache, row.budget);
+        compare(&rt, rt.alloc(), number, row, &again, made)?;
     }
+    // INC EAX, of which a write from outside makes INC EDX
+    let row = Row {
+        shared: true,
+        memory: &[(0, 0x40), (1, 0xEB), (2, 0xFD)],
+        ..ROW
+    };
+    let mut image = image_of(rt.alloc(), &row)?;
+    let first = run_with(&mut image, &mut cache, 4);
+    image.memory.write(0, Size::Byte, 0x42)?;
+    let second = run_with(&mut image, &mut cache, 1);
+    assert!(rt; (first.0, second.0) == (4, 1), "steps around a write");
+    let words = (image.reg(Register::Eax), image.reg(Register::Edx));
+    assert!(rt; words == (2, 1), "what stood before a write is performed");
     runs_join();
     Ok(())
 }

@@ -294,12 +294,7 @@ fn messages(rt: HostRuntime) -> Result<(), Fail> {
     ] {
         let buffer = if slot == 1 { 512 } else { 0 };
         let step = Step(ON, slot, call, name, buffer, Goes(0), slot, Goes(0));
-        make_trap(
-            &rt,
-            &mut table,
-            &step,
-            if slot == 2 { &sent } else { &[] },
-        )?;
+        make_trap(&rt, &mut table, &step, if slot == 2 { &sent } else { &[] })?;
         let wanted: [u8; 13] = match (slot, call) {
             (2, _) => [2, 0, 0, 0, 7, 0, 0, 0, 9, 0, 0, 0, 0xFF],
             (0, _) => [0, 0, 0, 0, 0, 0x10, 0, 0, 0, 0, 0, 0, 0],

@@ -1,13 +1,13 @@
 -- A text that has a reading has no fault.
-use Rattle.std.proofs.Common.{◌≡◌, ◌≢◌, ℕ, suc, ◌+◌, ◌<◌, ◌≤◌, ◌^◌, ◌⊎◌, inl, inr, Bool, true, false, List, [], ◌∷◌, length, get_or, refl, sym, ◌∙◌, ap, subst, arith, IsTrue}
-use Rattle.std.specs.Prelude.{◌&&◌, ◌||◌, ◌==◌, slice_range}
+use Rattle.std.proofs.Common.{◌≡◌, ◌≢◌, ℕ, ◌+◌, ◌<◌, ◌≤◌, ◌⊎◌, inl, inr, true, false, List, [], ◌∷◌, length, get_or, refl, sym, ◌∙◌, ap, subst, arith, IsTrue}
+use Rattle.std.specs.Prelude.{◌==◌, slice_range}
 use Rattle.std.proofs.lemmas.Bool.{cases_lt}
 use Rattle.std.proofs.lemmas.Bool.Decides.{eqb_tells}
 use Rattle.std.proofs.lemmas.Grind.{common_steps}
 use Rattle.std.proofs.lemmas.List.{get_or_past}
-use Rattle.mx_line.specs.Bytes.{is_digit, is_word_byte, begins_name}
+use Rattle.mx_line.specs.Bytes.{is_digit, is_word_byte}
 use Rattle.mx_line.specs.Numbers.{IsNumber}
-use Rattle.mx_lex.specs.Bytes.{AllFrom, begins_word, ends_at, is_escape}
+use Rattle.mx_lex.specs.Bytes.{AllFrom, ends_at, is_escape}
 use Rattle.mx_lex.specs.Tokens.{Body, ends, plain, escape, Gap, IsToken, AreTokens, HasForm, IsOver, IsBrokenText, BrokenAt, IsReadAs, IsFault, IsMeant}
 use Rattle.mx_lex.specs.declared.kinds.LexError.{LexError}
 use Rattle.mx_lex.specs.declared.kinds.LexError.TheVariants.{BadByte, BadNumber, OpenText, NoMemory}
@@ -94,7 +94,7 @@ quoted_not_broken t k e x quote broken = by_kind k.kind k.end x.form
     by_kind (kinds.Number n) b f = let h : false ≡ true = no_digit (get_or t k.start 0) 34 f.0 quote in cc
     by_kind kinds.Text b (q, end, body, last, s) = text_not_broken t (k.start + 1) end e body last broken
 
-digit_is_word : (b : ℕ) → is_digit b ≡ true → is_word_byte b ≡ true
+pub digit_is_word : (b : ℕ) → is_digit b ≡ true → is_word_byte b ≡ true
 digit_is_word b h = grind (arith, common_steps, h)
 
 -- a number's run is the run that is no number
@@ -131,7 +131,7 @@ token_not_broken t k NoMemory x broken = broken
 
 -- ---- a reading and a fault
 
-some_byte : (t : List ℕ) (a n : ℕ) → get_or t a 0 ≡ n → n ≢ 0 → a < length t
+pub some_byte : (t : List ℕ) (a n : ℕ) → get_or t a 0 ≡ n → n ≢ 0 → a < length t
 some_byte t a n e h = by_case (cases_lt a (length t))
   where
     by_case : (a < length t) ⊎ (length t ≤ a) → a < length t

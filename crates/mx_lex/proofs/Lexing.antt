@@ -1,12 +1,11 @@
 -- What the lexer's loops add up to.
-use Rattle.std.proofs.Common.{◌≡◌, ◌≢◌, ℕ, suc, ◌+◌, ◌-◌, ◌*◌, ◌<◌, ◌≤◌, ◌^◌, ◌⊎◌, inl, inr, Bool, true, false, List, [], ◌∷◌, ◌++◌, length, get_or, take, drop, refl, sym, ◌∙◌, ap, subst, arith, add-one, drop-cons, IsTrue, rules}
+use Rattle.std.proofs.Common.{◌≡◌, ◌≢◌, ℕ, ◌+◌, ◌<◌, ◌≤◌, ◌⊎◌, inl, inr, true, false, List, [], ◌∷◌, ◌++◌, length, get_or, refl, sym, subst, arith, IsTrue, rules}
 use Rattle.mx_line.specs.Bytes.{is_word_byte, is_digit}
-use Rattle.mx_lex.specs.Bytes.{AllFrom, begins_word, ends_at}
-use Rattle.mx_lex.specs.Tokens.{Body, ends, plain, escape, Gap, none, blank, carriage_return, comment, IsToken, AreTokens, HasForm, NoToken, IsOver, mark_byte, BrokenAt, TellsFault, IsSlice, least}
+use Rattle.mx_lex.specs.Bytes.{AllFrom, begins_word}
+use Rattle.mx_lex.specs.Tokens.{Body, ends, plain, escape, Gap, none, blank, carriage_return, comment, IsToken, AreTokens, HasForm, mark_byte, BrokenAt, TellsFault, IsSlice, least}
 use Rattle.mx_lex.specs.declared.kinds.LexError.{LexError}
 use Rattle.mx_lex.specs.declared.kinds.LexError.TheVariants.{BadByte, BadNumber, OpenText, NoMemory}
 use Rattle.mx_lex.specs.declared.kinds.Mark.{Mark}
-use Rattle.mx_lex.specs.declared.kinds.Mark.TheVariants.{Open, Close, Plus, Minus, Star, Comma, Colon}
 use Rattle.mx_lex.specs.declared.kinds.Kind.{Kind}
 use Rattle.mx_lex.specs.declared.kinds.Kind.TheVariants as kinds
 use Rattle.mx_lex.specs.declared.kinds.Token.{Token}

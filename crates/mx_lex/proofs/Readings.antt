@@ -1,12 +1,11 @@
 -- A text has one reading.
-use Rattle.std.proofs.Common.{◌≡◌, ◌≢◌, ℕ, suc, ◌+◌, ◌<◌, ◌≤◌, ◌^◌, ◌⊎◌, inl, inr, Bool, true, false, List, [], ◌∷◌, length, get_or, refl, sym, ◌∙◌, ap, subst, arith}
-use Rattle.std.specs.Prelude.{◌&&◌, ◌||◌, ◌==◌, slice_range, All}
+use Rattle.std.proofs.Common.{◌≡◌, ◌≢◌, ℕ, ◌+◌, ◌<◌, ◌≤◌, ◌⊎◌, inl, inr, Bool, true, false, List, [], ◌∷◌, length, get_or, refl, sym, ◌∙◌, ap, subst, arith}
+use Rattle.std.specs.Prelude.{◌&&◌, ◌||◌, ◌==◌, slice_range}
 use Rattle.std.proofs.lemmas.Bool.{cases_lt}
 use Rattle.std.proofs.lemmas.Grind.{common_steps}
 use Rattle.std.proofs.lemmas.List.Elements.{All-head, All-tail}
-use Rattle.mx_line.specs.Bytes.{is_digit, begins_name, is_letter, digit_value, is_word_byte}
-use Rattle.mx_line.specs.Numbers.{IsNumber, IsNumberInBase, AreDigits, value_from}
-use Rattle.mx_lex.specs.Bytes.{AllFrom, begins_word, ends_at}
+use Rattle.mx_line.specs.Bytes.{is_digit, begins_name, is_letter, digit_value}
+use Rattle.mx_line.specs.Numbers.{IsNumber, AreDigits, value_from}
 use Rattle.mx_lex.specs.Tokens.{Gap, none, blank, carriage_return, comment, IsToken, AreTokens, HasForm, IsOver, IsMeant, IsReadAs, mark_byte}
 use Rattle.mx_lex.specs.declared.kinds.Mark.{Mark}
 use Rattle.mx_lex.specs.declared.kinds.Mark.TheVariants.{Open, Close, Plus, Minus, Star, Comma, Colon}

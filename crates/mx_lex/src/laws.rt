@@ -15,7 +15,8 @@ pub fn one_reading()
     ensures { (t : List ℕ) (ks js : List Token) → IsReadAs t ks → IsReadAs t js → ks ≡ js }
 {}
 
-/// No text has both a reading and a fault.
+/// A text has a reading or a fault, and not both: none has neither.
 pub fn reading_or_fault()
-    ensures { (t : List ℕ) (ks : List Token) (e : LexError) → IsReadAs t ks → IsFault t e → ⊥ }
+    ensures not_both { (t : List ℕ) (ks : List Token) (e : LexError) → IsReadAs t ks → IsFault t e → ⊥ }
+    ensures not_neither { (t : List ℕ) → ((ks : List Token) → IsReadAs t ks → ⊥) → ((e : LexError) → IsFault t e → ⊥) → ⊥ }
 {}

@@ -1,11 +1,12 @@
 //! A segment: bytes from 0 up to a limit.
 
-ghost use Rattle.std.specs.Prelude.{◌≡◌, ◌+◌, ◌^◌, ◌<◌, ◌≤◌, Ok, Err, OnOk, OnErr, IfOk, IfSome, [], length, slice_get, slice_index, slice_set, replicate, take, drop};
-ghost use Rattle.mx_word.specs.Word.{width, bytes_in};
+ghost use Rattle.std.specs.Prelude.{◌≡◌, ◌+◌, ◌^◌, ◌<◌, ◌≤◌, Ok, Err, OnOk, OnErr, IfOk, IfSome, [], length, slice_get, ℕ, slice_index, slice_set, replicate, take, drop};
+ghost use Rattle.mx_word.specs.Word.{width, bytes_in, value_at};
 ghost use Rattle.mx_mem.specs.Segment.{inside, read_at, written, copied, overwritten};
 
 mod copies;
 
+use byteorder::{ByteOrder, LittleEndian};
 use mx_insn::ArrayVec;
 use mx_word::{NoMemory, Size};
 use std::alloc::Global;
@@ -62,14 +63,6 @@ impl Segment {
         self.bytes[at]
     }
 
-    #[inline(always)]
-    fn set_byte(&mut self, at: usize, byte: u8)
-        requires { at < length self.old }
-        ensures { self.new ≡ slice_set self.old at byte }
-    {
-        self.bytes[at] = byte;
-    }
-
     /// Whether an access of a size at a place lies inside.
     #[inline(always)]
     pub fn holds(&self, at: u32, size: Size) -> bool
@@ -111,14 +104,15 @@ impl Segment {
             return Err(OutOfLimit);
         }
         let at = at as usize;
-        self.set_byte(at, (value % 0x100) as u8);
+        let bytes = self.bytes.as_mut_slice();
+        bytes[at] = (value % 0x100) as u8;
         match size {
             Size::Byte => {}
-            Size::Word => self.set_byte(at + 1, (value / 0x100) as u8),
+            Size::Word => bytes[at + 1] = (value / 0x100) as u8,
             Size::Dword => {
-                self.set_byte(at + 1, (value / 0x100 % 0x100) as u8);
-                self.set_byte(at + 2, (value / 0x100 / 0x100 % 0x100) as u8);
-                self.set_byte(at + 3, (value / 0x100 / 0x100 / 0x100) as u8);
+                bytes[at + 1] = (value / 0x100 % 0x100) as u8;
+                bytes[at + 2] = (value / 0x100 / 0x100 % 0x100) as u8;
+                bytes[at + 3] = (value / 0x100 / 0x100 / 0x100) as u8;
             }
         }
         Ok(())
@@ -151,6 +145,48 @@ impl Segment {
             return Some(&bytes[at..]);
         }
         Some(&bytes[at..at + 15])
+    }
+
+    /// The number in the eight bytes from a place on, where they lie inside and together.
+    #[inline(always)]
+    pub fn qword(&self, at: u32) -> Option<u64>
+        ensures inside { IfSome result (λ number. at + 8 ≤ length self.now) }
+        ensures value { IfSome result (λ number. number ≡ value_at self.now at 8) }
+        ensures bytes { (i : ℕ) → slice_index self.now i < 256 }
+    {
+        let bytes = self.bytes.as_slice();
+        let at = at as usize;
+        if at + 8 > bytes.len() {
+            return None;
+        }
+        Some(LittleEndian::read_u64(&bytes[at..at + 8]))
+    }
+
+    /// The byte at a place, or 0 outside.
+    fn byte_or_zero(&self, at: usize) -> u64
+        ensures value { result ≡ slice_index self.now at }
+        ensures below { result < 256 }
+    {
+        match self.bytes.get(at) {
+            Some(byte) => u64::from(*byte),
+            None => 0,
+        }
+    }
+
+    /// The number in the eight bytes from a place on, with zeros for those outside.
+    #[inline(never)]
+    pub fn padded_qword(&self, at: u32) -> u64
+        ensures value { result ≡ value_at self.now at 8 }
+    {
+        let at = at as usize;
+        let h = self.byte_or_zero(at + 7);
+        let g = self.byte_or_zero(at + 6) + 0x100 * h;
+        let f = self.byte_or_zero(at + 5) + 0x100 * g;
+        let e = self.byte_or_zero(at + 4) + 0x100 * f;
+        let d = self.byte_or_zero(at + 3) + 0x100 * e;
+        let c = self.byte_or_zero(at + 2) + 0x100 * d;
+        let b = self.byte_or_zero(at + 1) + 0x100 * c;
+        self.byte_or_zero(at) + 0x100 * b
     }
 
     /// A copy of the bytes from a place on, at most 15 of them.

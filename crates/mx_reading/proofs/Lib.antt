@@ -1,3 +1,4 @@
 mod Sorting
 mod Unique
 mod Valuing
+mod Total

@@ -1,10 +1,12 @@
 //! Laws of lines.
 
 ghost use Rattle.std.specs.Prelude.{◌≡◌, ℕ, List};
+ghost use Rattle.mx_lex.specs.declared.kinds.LexError.{LexError};
+ghost use Rattle.mx_lex.specs.Tokens.{IsFault};
 ghost use Rattle.mx_statement.specs.declared.line.Line.{Line};
 ghost use Rattle.mx_reading.specs.Lines.{IsLine};
 
-use mx_lex::one_reading;
+use mx_lex::{one_reading, reading_or_fault};
 use mx_words::{one_register_or_size, one_start};
 
 /// A line of a text says one thing at most.
@@ -14,4 +16,12 @@ pub fn one_line()
     one_start();
     one_register_or_size();
     one_reading();
+}
+
+/// A line of a text says something or has a fault, and not both: none has neither.
+pub fn line_or_fault()
+    ensures not_both { (t : List ℕ) (l : Line) (e : LexError) → IsLine t l → IsFault t e → ⊥ }
+    ensures not_neither { (t : List ℕ) → ((l : Line) → IsLine t l → ⊥) → ((e : LexError) → IsFault t e → ⊥) → ⊥ }
+{
+    reading_or_fault();
 }

@@ -1,10 +1,9 @@
-use Rattle.std.proofs.Common.{rules, arith, ◌≡◌, ◌∙◌, ℕ, ◌+◌, ◌*◌, ◌^◌, ◌≤◌, List, [], ◌∷◌, ◌++◌, length, refl, sym, ap, subst}
+use Rattle.std.proofs.Common.{arith, ◌≡◌, ◌∙◌, ℕ, ◌+◌, ◌*◌, ◌^◌, List, [], ◌∷◌, ◌++◌, length, sym, ap, subst}
 use Rattle.std.proofs.lemmas.List.{append-nil}
 use Rattle.mx_statement.specs.declared.line.Line.{Line}
 use Rattle.mx_line.specs.Lines.{lines}
-use Rattle.mx_asm.specs.declared.sizes.Sizes.{Sizes}
-use Rattle.mx_asm.specs.Layout.{start, SizesWithin, AllSpotsWithin}
-use Rattle.mx_asm.specs.Text.{IsTaken, AreTaken}
+use Rattle.mx_asm.specs.Layout.{start}
+use Rattle.mx_asm.specs.Text.{AreTaken}
 use Rattle.mx_asm.specs.View.{above_of}
 use Rattle.mx_asm.proofs.Laying.{behind_within, labels_behind_within}
 use Rattle.mx_asm.proofs.Reading.{takes_more, wrongs_more, laid_more, one_longer, sizes_weaker, spots_weaker}

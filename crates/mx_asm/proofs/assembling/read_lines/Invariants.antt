@@ -1,4 +1,4 @@
-use Rattle.std.proofs.Common.{◌≡◌, ℕ, ◌+◌, ◌*◌, ◌^◌, ◌≤◌, length}
+use Rattle.std.proofs.Common.{◌≡◌, ◌+◌, ◌*◌, ◌^◌, ◌≤◌, length}
 use Rattle.mx_line.specs.Lines.{lines}
 use Rattle.mx_asm.specs.Layout.{start, laid_by, SizesWithin, AllSpotsWithin}
 use Rattle.mx_asm.specs.View.{above_of}

@@ -1,4 +1,4 @@
-use Rattle.std.proofs.Common.{rules, ◌≡◌, ◌∙◌, ℕ, ◌+◌, length, sym, subst}
+use Rattle.std.proofs.Common.{◌≡◌, ℕ, ◌+◌, length, sym, subst}
 use Rattle.mx_encode.specs.Chosen.{Chosen}
 use Rattle.mx_asm.specs.Branches.{branch_by, branch_marks, branch_length, distance}
 use Rattle.mx_asm.proofs.Lengths.{branch_bytes_length}

@@ -1,8 +1,8 @@
-use Rattle.std.proofs.Common.{rules, arith, ◌≡◌, ◌∙◌, ◌+◌, List, length, map, sym, ap, subst, refl}
+use Rattle.std.proofs.Common.{arith, ◌≡◌, ◌∙◌, length, map, sym, ap, subst, refl}
 use Rattle.mx_statement.specs.declared.statement.Section.TheVariants.{Text, Data}
 use Rattle.mx_asm.specs.View.{above_of}
-use Rattle.mx_asm.specs.Layout.{Above, left_by, laid_by, start}
-use Rattle.mx_asm.specs.Bytes.{AllStand, contents}
+use Rattle.mx_asm.specs.Layout.{Above, left_by, start}
+use Rattle.mx_asm.specs.Bytes.{AllStand}
 use Rattle.mx_asm.specs.Faults.{total_of}
 use Rattle.mx_asm.specs.Assembled.{symbol_under, entry_under}
 use Rattle.mx_asm.proofs.Lengths.{KeepsLength}

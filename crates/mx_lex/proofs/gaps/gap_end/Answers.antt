@@ -1,5 +1,5 @@
-use Rattle.std.proofs.Common.{rules, arith, ◌≡◌, ◌⊎◌, inl, inr, ℕ, ◌+◌, ◌<◌, ◌≤◌, length, get_or, refl}
-use Rattle.mx_lex.specs.Tokens.{Gap, none, blank, carriage_return, comment}
+use Rattle.std.proofs.Common.{rules, arith}
+use Rattle.mx_lex.specs.Tokens.{none, blank, carriage_return, comment}
 use Rattle.mx_lex.proofs.Lexing.{either}
 use Rattle.mx_lex.proofs.gaps.gap_end.Goals as goal
 

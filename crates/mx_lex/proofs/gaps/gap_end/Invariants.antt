@@ -1,4 +1,4 @@
-use Rattle.std.proofs.Common.{◌≡◌, ℕ, ◌≤◌, ◌-◌, length}
+use Rattle.std.proofs.Common.{ℕ, ◌≤◌, ◌-◌, length}
 use Rattle.mx_lex.specs.Tokens.{Gap}
 use Rattle.mx_lex.proofs.gaps.gap_end.Given as goal
 

@@ -1,4 +1,4 @@
-use Rattle.std.proofs.Common.{◌≡◌, ◌≢◌, ℕ, ◌≤◌, ◌<◌, ◌-◌, length, get_or}
+use Rattle.std.proofs.Common.{◌≢◌, ℕ, ◌≤◌, ◌<◌, ◌-◌, length, get_or}
 use Rattle.mx_lex.proofs.gaps.line_feed_at.Given as goal
 
 abbrev pub invariant-loop-at : goal.invariant-loop-at

@@ -1,4 +1,4 @@
-use Rattle.std.proofs.Common.{◌≡◌, ℕ, ◌≤◌, ◌-◌, length}
+use Rattle.std.proofs.Common.{ℕ, ◌≤◌, ◌-◌, length}
 use Rattle.std.specs.List.{All}
 use Rattle.mx_lex.specs.Tokens.{Gap, IsOver, AreTokens, IsSlice}
 use Rattle.mx_lex.proofs.reading.tokens_in.Given as goal

@@ -1,4 +1,4 @@
-use Rattle.std.proofs.Common.{rules, arith, ◌≡◌, ℕ, ◌+◌, ◌<◌, ◌≤◌, length, refl}
+use Rattle.std.proofs.Common.{arith, ◌+◌, refl}
 use Rattle.mx_lex.proofs.Lexing.{body_over}
 use Rattle.mx_lex.proofs.scan.text_at.Goals as goal
 

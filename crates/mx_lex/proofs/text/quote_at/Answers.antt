@@ -1,5 +1,5 @@
-use Rattle.std.proofs.Common.{rules, arith, ◌≡◌, ◌≢◌, ◌⊎◌, inl, inr, ℕ, ◌+◌, ◌<◌, ◌≤◌, length, refl, sym, ◌∙◌}
-use Rattle.mx_lex.specs.Tokens.{Body, ends, plain, escape}
+use Rattle.std.proofs.Common.{rules, inl, inr, refl}
+use Rattle.mx_lex.specs.Tokens.{ends, plain, escape}
 use Rattle.mx_lex.proofs.text.quote_at.Goals as goal
 
 pub returns-then-byte-eq34-clause-quote : goal.returns-then-byte-eq34-clause-quote

@@ -1,4 +1,4 @@
-use Rattle.std.proofs.Common.{◌≡◌, ℕ, ◌≤◌, ◌-◌, length}
+use Rattle.std.proofs.Common.{ℕ, ◌≤◌, ◌-◌, length}
 use Rattle.mx_lex.specs.Tokens.{Body}
 use Rattle.mx_lex.proofs.text.quote_at.Given as goal
 

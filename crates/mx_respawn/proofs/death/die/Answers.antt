@@ -66,6 +66,6 @@ returns-clause-settled c s h = elim (cases_eq s c.args.slot) [
   | inl e ↦ subst (λ x. (process_at c.bury.new.self x).state ≢ Home) (sym e) (λ k. let f : Down c.args.cause ≡ Home = sym (returns-clause-down c) ∙ k in cc)
   | inr n ↦ subst (λ st. st ≢ Home)
       (sym (ap (λ (w : World). (process_at w s).state) c.bury.ensures.value ∙ ap (λ (p : Process). p.state) (apart_at c.forget.new.self.slots c.args.slot s _ n)
-        ∙ ap (λ (w : World). (process_at w s).state) c.forget.ensures.value ∙ forgotten-state c.args.slot c.wake_receivers.new.table.slots s))
+      ∙ ap (λ (w : World). (process_at w s).state) c.forget.ensures.value ∙ forgotten-state c.args.slot c.wake_receivers.new.table.slots s))
       (c.wake_receivers.ensures.settled s (c.free_callers.ensures.settled s (subst (λ (p : Process). p.state ≢ Home) (sym (c.take_out.ensures.others s n)) h)))
 ]

@@ -1,4 +1,4 @@
-use Rattle.std.proofs.Common.{◌≡◌, ℕ, ◌+◌, ◌*◌, ◌^◌, drop}
+use Rattle.std.proofs.Common.{◌≡◌, ◌+◌, ◌*◌, ◌^◌, drop}
 use Rattle.mx_asm.specs.Layout.{start, SizesWithin}
 use Rattle.mx_asm.specs.Faults.{first_problem}
 use Rattle.mx_asm.specs.View.{above_of}

@@ -1,4 +1,4 @@
-use Rattle.std.proofs.Common.{rules, arith, ◌≡◌, ◌∙◌, ◌+◌, ◌*◌, ◌^◌, ap, refl}
+use Rattle.std.proofs.Common.{◌∙◌, ◌+◌, ◌*◌, ◌^◌, ap, refl}
 use Rattle.mx_asm.specs.View.{above_of}
 use Rattle.mx_asm.specs.Layout.{address_of, said}
 use Rattle.mx_asm.proofs.Laying.{next_item, sizes_within_behind, room, clean_on}

@@ -1,5 +1,5 @@
-use Rattle.std.proofs.Common.{◌≡◌, ℕ, ◌+◌, ◌*◌, ◌^◌, drop, None}
-use Rattle.mx_asm.specs.Layout.{start, SizesWithin}
+use Rattle.std.proofs.Common.{◌≡◌, ◌+◌, ◌*◌, ◌^◌, drop, None}
+use Rattle.mx_asm.specs.Layout.{SizesWithin}
 use Rattle.mx_asm.specs.Faults.{first_problem}
 use Rattle.mx_asm.specs.View.{above_of}
 use Rattle.mx_asm.proofs.Emitting.{Completes}

@@ -1,4 +1,4 @@
-use Rattle.std.proofs.Common.{rules, ◌≡◌, ◌∙◌, ◌++◌, ◌∷◌, [], ap, refl}
+use Rattle.std.proofs.Common.{◌≡◌, ◌∙◌, ◌++◌, ◌∷◌, [], refl}
 use Rattle.indexmap.proofs.CallerLemmas.{insert_entry-new}
 use Rattle.mx_asm.specs.Layout.{is_same, spot_named}
 use Rattle.mx_asm.proofs.Laying.{none_of}

@@ -1,4 +1,4 @@
-use Rattle.std.proofs.Common.{rules, arith, ◌≡◌, ◌∙◌, ℕ, ◌+◌, get_or, sym, ap, false}
+use Rattle.std.proofs.Common.{arith, ◌∙◌, sym}
 use Rattle.std.proofs.lemmas.Grind.{common_steps}
 use Rattle.mx_word.specs.Word.{bytes_of, bytes_in}
 use Rattle.mx_asm.specs.Layout.{value_under}

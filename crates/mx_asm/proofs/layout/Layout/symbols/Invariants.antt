@@ -1,5 +1,4 @@
 use Rattle.std.proofs.Common.{◌≡◌, ◌++◌, map}
-use Rattle.mx_asm.specs.Layout.{AllSpotsWithin}
 use Rattle.mx_asm.specs.Assembled.{symbol_under}
 use Rattle.mx_asm.specs.View.{above_of}
 use Rattle.mx_asm.proofs.layout.Layout.symbols.Given as goal

@@ -1,4 +1,4 @@
-use Rattle.std.proofs.Common.{rules, ◌≡◌, ◌∙◌, sym}
+use Rattle.std.proofs.Common.{◌∙◌, sym}
 use Rattle.mx_asm.specs.Layout.{is_same}
 use Rattle.mx_asm.proofs.Laying.{lookup_within}
 use Rattle.mx_asm.proofs.layout.Layout.value.Goals as goal

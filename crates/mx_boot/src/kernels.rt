@@ -1,0 +1,41 @@
+//! What is written of a kernel.
+
+ghost use Rattle.std.specs.Prelude.{◌≡◌, ◌+◌, ◌++◌, false, length, OnOk, IfOk};
+ghost use Rattle.mx_history.specs.Log.{IsHistory};
+ghost use Rattle.mx_history.specs.Text.{history_text};
+ghost use Rattle.mx_report.specs.Report.{report_text};
+ghost use Rattle.mx_world.specs.History.{replay};
+
+use mx_history::{SaveFault, Sink, history_again, save_records};
+use mx_kernel::Kernel;
+use mx_report::report_of;
+use mx_setup::Config;
+use mx_word::NoMemory;
+use std::alloc::Global;
+
+/// Writes the text of a kernel's history to a sink that hasn't failed. Takes no memory.
+pub fn save<S: Sink>(kernel: &Kernel, sink: &mut S) -> Result<(), SaveFault>
+    requires { S.has_failed sink.old ≡ false }
+    ensures taken { OnOk result (S.taken sink.new ≡ S.taken sink.old ++ history_text kernel.now.history) }
+    ensures whole { OnOk result (S.has_failed sink.new ≡ false) }
+{
+    save_records(kernel.history(), sink)
+}
+
+/// What is saved of a kernel is its history again for who reads it, by a configuration with as many
+/// actors.
+pub fn saved_again(kernel: &Kernel, config: &Config)
+    requires { config.now.cpus + config.now.others ≡ length (replay kernel.now).cpus + (replay kernel.now).others }
+    ensures { IsHistory (config.now.cpus + config.now.others) (history_text kernel.now.history) kernel.now.history }
+{
+    kernel.opened();
+    history_again();
+}
+
+/// The report on a kernel's processes.
+pub fn report(alloc: Global, kernel: &Kernel) -> Result<Vec<u8>, NoMemory>
+    ensures { IfOk result (λ report. report.items ≡ report_text (replay kernel.now).table (replay kernel.now).services) }
+{
+    kernel.opened();
+    report_of(alloc, kernel.table(), kernel.services())
+}

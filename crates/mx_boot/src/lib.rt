@@ -1,0 +1,15 @@
+//! The texts of a machine: configurations, scripts, saved histories and reports, and what is told
+//! of them.
+#![tactic(auto)]
+
+mod kernels;
+
+pub use kernels::{report, save, saved_again};
+pub use mx_config::config;
+pub use mx_fields::BootError;
+pub use mx_history::{Over, SaveFault, Sink, SinkFault, log};
+pub use mx_script::{DebugLine, Place, ScriptLine, SymbolName, debug_script, script};
+pub use mx_setup::{Config, FileName, ServiceLine, ServiceLines};
+
+#[cfg(test)]
+mod tests;

@@ -1,0 +1,3 @@
+pub mod Comment
+pub mod Services
+pub mod Taking

@@ -1,0 +1,13 @@
+//! Services, as a line tells them.
+
+use mx_proc::Masks;
+
+/// What a service's line says behind its file.
+#[derive(Clone, Copy)]
+pub struct Terms {
+    pub masks: Masks,
+    pub level: u8,
+    pub best: u8,
+    pub quantum: u32,
+    pub restarts: u32,
+}

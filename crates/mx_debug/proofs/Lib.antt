@@ -1,0 +1,4 @@
+pub mod Running
+pub mod Halting
+pub mod Marking
+pub mod Naming

@@ -1,0 +1,4 @@
+pub mod Points
+pub mod Halts
+pub mod Finding
+pub mod Errors

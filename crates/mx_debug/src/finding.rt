@@ -1,0 +1,61 @@
+//! Names of a program, bytes of a process, and messages that were delivered.
+
+ghost use Rattle.std.specs.Prelude.{◌≡◌, ℕ, ◌≤◌, Some, None, IfOk, IfErr, OnErr, length, take, slice_get};
+ghost use Rattle.mx_dis.specs.Names.{before_zero};
+ghost use Rattle.mx_debug.specs.Finding.{is_named, first_named};
+ghost use Rattle.mx_world.specs.History.{replay};
+ghost use Rattle.mx_debug.specs.declared.error.DebugError.TheVariants as errors;
+
+use crate::error::DebugError;
+use mx_aout::{Program, Symbol};
+use mx_exec::Image;
+use mx_image::Runs;
+use mx_kernel::Kernel;
+use mx_proc::Delivery;
+
+/// A name's bytes up to the first zero byte.
+fn before_zero(name: &[u8]) -> &[u8]
+    ensures { result.now ≡ before_zero name.now }
+{
+    let mut end = 0;
+    while end < name.len() && name[end] != 0 {
+        end += 1;
+    }
+    &name[..end]
+}
+
+fn is_named(symbol: &Symbol, name: &[u8]) -> bool
+    ensures { result ≡ is_named name.now symbol.now }
+{
+    before_zero(symbol.name.as_slice()) == name
+}
+
+/// The value of the first symbol of a name.
+pub fn address(program: &Program, name: &[u8]) -> Result<u32, DebugError>
+    ensures found { IfOk result (λ value. first_named program.now.symbols name.now ≡ Some value) }
+    ensures none { OnErr result (first_named program.now.symbols name.now ≡ None) }
+    ensures error { IfErr result (λ e. e ≡ errors.NoSymbol) }
+{
+    for symbol in program.symbols.as_slice() {
+        if is_named(symbol, name) {
+            return Ok(symbol.value);
+        }
+    }
+    Err(DebugError::NoSymbol)
+}
+
+/// The byte of the data segment at a place.
+pub fn byte(image: &Image, at: u32) -> Result<u8, DebugError>
+    ensures found { IfOk result (λ byte. slice_get image.now.memory at ≡ Some byte) }
+    ensures none { OnErr result (slice_get image.now.memory at ≡ None) }
+    ensures error { IfErr result (λ e. e ≡ errors.NotHere) }
+{
+    image.byte(at).ok_or(DebugError::NotHere)
+}
+
+/// A delivery that a kernel keeps, counted from the oldest.
+pub fn message(kernel: &Kernel, index: usize) -> Option<Delivery>
+    ensures { result ≡ slice_get (replay kernel.now).table.deliveries index }
+{
+    kernel.delivery(index)
+}

@@ -1,0 +1,55 @@
+//! How a run under breakpoints ends.
+
+ghost use Rattle.std.specs.Prelude.{◌≡◌};
+ghost use Rattle.mx_debug.specs.Halts.{is_spent, cause_of};
+
+use mx_image::Stop;
+
+/// What a process halts for.
+#[derive(Clone, Copy, Debug, PartialEq, Eq)]
+pub enum Cause {
+    /// All steps that were asked for, or that the budget leaves, are made.
+    Spent,
+    /// The next instruction stands at a breakpoint.
+    Breakpoint,
+    /// The last step was a trap.
+    Trap,
+    /// The last step was a fault with this vector.
+    Fault(u8),
+}
+
+impl Cause {
+    /// Whether neither a stop nor a breakpoint was met.
+    pub fn is_spent(self) -> bool
+        ensures { result ≡ is_spent self }
+    {
+        match self {
+            Cause::Spent => true,
+            Cause::Breakpoint | Cause::Trap | Cause::Fault(_) => false,
+        }
+    }
+}
+
+/// How many steps were made, and what they ended for.
+#[derive(Clone, Copy, Debug, PartialEq, Eq)]
+pub struct Halt {
+    pub count: u32,
+    pub cause: Cause,
+}
+
+/// A trap or a fault is told before a breakpoint, a breakpoint before a spent budget.
+pub fn cause_of(stop: Stop, reached: bool) -> Cause
+    ensures { result ≡ cause_of stop reached }
+{
+    match stop {
+        Stop::Trap => Cause::Trap,
+        Stop::Fault(vector) => Cause::Fault(vector),
+        Stop::Spent => {
+            if reached {
+                Cause::Breakpoint
+            } else {
+                Cause::Spent
+            }
+        }
+    }
+}

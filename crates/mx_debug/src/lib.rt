@@ -1,0 +1,18 @@
+//! A debugger: breakpoints by slot and address, over whatever holds a process. It writes nothing
+//! into what it looks at.
+#![tactic(auto)]
+
+mod error;
+mod finding;
+mod halt;
+mod points;
+mod resuming;
+
+pub use error::DebugError;
+pub use finding::{address, byte, message};
+pub use halt::{Cause, Halt};
+pub use mx_world::Held;
+pub use points::{Breakpoint, Debugger};
+
+#[cfg(test)]
+mod tests;

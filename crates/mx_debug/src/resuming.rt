@@ -1,0 +1,95 @@
+//! Steps up to a breakpoint.
+
+ghost use Rattle.std.specs.Prelude.{◌≡◌, ◌≢◌, ◌⊎◌, ℕ, ◌%◌, true, false, List, slice_index_or};
+ghost use Rattle.mx_exec.specs.Lasting.{lasting};
+ghost use Rattle.mx_debug.specs.declared.points.Breakpoint.{Breakpoint};
+ghost use Rattle.mx_debug.specs.Points.{stands, has_any};
+ghost use Rattle.mx_debug.specs.Halts.{Halts};
+
+use crate::halt::{Cause, Halt, cause_of};
+use crate::points::Debugger;
+use mx_proc::Slot;
+use mx_world::{Held, held_runs_join};
+
+/// All steps at once, where no breakpoint can be reached.
+fn run_on<H: Held>(held: &mut H, k: u32) -> Halt
+    ensures halts { (points : List Breakpoint) (slot : ℕ) → (k ≡ 0) ⊎ (has_any points slot ≡ false) → Halts points slot k (H.out held.old) result (H.out held.new) }
+    ensures lasting { lasting (H.out held.new).image ≡ lasting (H.out held.old).image }
+{
+    held_runs_join();
+    let (count, stop) = held.run(k);
+    Halt {
+        count,
+        cause: cause_of(stop, false),
+    }
+}
+
+impl Debugger {
+    /// Marks, by address modulo 1,024, where a slot has breakpoints.
+    fn marks(&self, slot: Slot) -> [bool; 1024]
+        ensures { (address : ℕ) → stands self.now slot address ≡ true → slice_index_or result (address % 1024) false ≡ true }
+    {
+        let mut marks = [false; 1024];
+        for point in self.as_slice() {
+            if point.slot == slot {
+                marks[(point.address % 1024) as usize] = true;
+            }
+        }
+        marks
+    }
+
+    /// Whether a slot has a breakpoint at an address, by its marks first.
+    fn is_reached(&self, marks: &[bool; 1024], slot: Slot, address: u32) -> bool
+        requires { (a : ℕ) → stands self.now slot a ≡ true → slice_index_or marks.now (a % 1024) false ≡ true }
+        ensures { result ≡ stands self.now slot address }
+    {
+        if !marks[(address % 1024) as usize] {
+            return false;
+        }
+        self.stands(slot, address)
+    }
+
+    /// Steps one after another, up to a breakpoint.
+    fn step_on<H: Held>(&self, slot: Slot, held: &mut H, k: u32) -> Halt
+        requires { k ≢ 0 }
+        ensures halts { Halts self.now slot k (H.out held.old) result (H.out held.new) }
+        ensures lasting { lasting (H.out held.new).image ≡ lasting (H.out held.old).image }
+    {
+        held_runs_join();
+        let marks = self.marks(slot);
+        for count in 0..k {
+            let (made, stop) = held.run(1);
+            if made == 0 {
+                return Halt {
+                    count,
+                    cause: cause_of(stop, false),
+                };
+            }
+            let reached = self.is_reached(&marks, slot, held.image().eip);
+            let cause = cause_of(stop, reached);
+            if !cause.is_spent() {
+                return Halt {
+                    count: count + 1,
+                    cause,
+                };
+            }
+        }
+        Halt {
+            count: k,
+            cause: Cause::Spent,
+        }
+    }
+
+    /// Runs what holds a slot's process for at most `k` steps, up to the first instruction at one of
+    /// the slot's breakpoints, which isn't made; but the first step always is. Takes no memory.
+    pub fn resume<H: Held>(&self, slot: Slot, held: &mut H, k: u32) -> Halt
+        ensures halts { Halts self.now slot k (H.out held.old) result (H.out held.new) }
+        ensures lasting { lasting (H.out held.new).image ≡ lasting (H.out held.old).image }
+    {
+        if k == 0 || !self.has_any(slot) {
+            run_on(held, k)
+        } else {
+            self.step_on(slot, held, k)
+        }
+    }
+}

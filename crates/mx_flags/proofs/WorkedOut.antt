@@ -1,0 +1,184 @@
+-- Flags worked out from what is kept.
+use Rattle.std.proofs.Common.{ℕ, ◌≡◌, ◌+◌, ◌-◌, ◌*◌, ◌/◌, ◌%◌, ◌^◌, ◌≤◌, ◌<◌, Bool, true, false, ◌==◌, refl, arith, inl, inr, nat_le, nat_lt, pos, ◌+ℤ◌, ◌-ℤ◌, ◌≤ℤ◌, neg_ℤ, ℤ, bit_xor, bit_and}
+use Rattle.std.specs.Int.{from_bool, bit_at}
+use Rattle.std.proofs.lemmas.Nat.Bits.{bit_at_xor}
+use Rattle.std.proofs.lemmas.Bool.{cases_lt}
+use Rattle.mx_word.specs.Word.{has_even_ones, is_negative, differ, leaves_unsigned, leaves_signed, signed, modulo}
+use Rattle.mx_flags.specs.Flags.{worked_out, add_flags, sub_flags, logic_flags}
+use Rattle.mx_flags.specs.declared.FlagValues.{FlagValues}
+
+-- ---- seven values
+
+pub one_kept : (b : Bool) → (from_bool b == 1) ≡ b
+one_kept true = refl
+one_kept false = refl
+
+zero_kept : (z : Bool) → (1 - from_bool z == 0) ≡ z
+zero_kept true = refl
+zero_kept false = refl
+
+parity_kept : (s p : Bool) → has_even_ones (2 ^ 31 * from_bool s + (1 - from_bool p)) ≡ p
+unfolding lib.Count.ones
+parity_kept true true = refl
+parity_kept true false = refl
+parity_kept false true = refl
+parity_kept false false = refl
+
+sign_kept : (s p : Bool) → is_negative 32 (2 ^ 31 * from_bool s + (1 - from_bool p)) ≡ s
+sign_kept true true = refl
+sign_kept true false = refl
+sign_kept false true = refl
+sign_kept false false = refl
+
+auxiliary_kept : (a o : Bool) → ((16 * from_bool a + 2 ^ 31 * from_bool o) / 16 % 2 == 1) ≡ a
+auxiliary_kept true true = refl
+auxiliary_kept true false = refl
+auxiliary_kept false true = refl
+auxiliary_kept false false = refl
+
+overflow_kept : (a o : Bool) → differ ((16 * from_bool a + 2 ^ 31 * from_bool o) / 2 ^ 32 % 2 == 1) ((16 * from_bool a + 2 ^ 31 * from_bool o) / 2 ^ 31 % 2 == 1) ≡ o
+overflow_kept true true = refl
+overflow_kept true false = refl
+overflow_kept false true = refl
+overflow_kept false false = refl
+
+pub worked_out_of : (v : FlagValues) → worked_out (1 - from_bool v.zero) (2 ^ 31 * from_bool v.sign + (1 - from_bool v.parity)) (16 * from_bool v.auxiliary + 2 ^ 31 * from_bool v.overflow) (from_bool v.carry == 1) (from_bool v.direction == 1) ≡ v
+worked_out_of v = rw (
+  zero_kept v.zero,
+  parity_kept v.sign v.parity,
+  sign_kept v.sign v.parity,
+  auxiliary_kept v.auxiliary v.overflow,
+  overflow_kept v.auxiliary v.overflow,
+  one_kept v.carry,
+  one_kept v.direction,
+) refl
+
+-- ---- a sum's and a difference's
+
+three_bits : (a b n i : ℕ) → bit_xor (bit_xor a b) n / 2 ^ i % 2 ≡ (a / 2 ^ i % 2 + b / 2 ^ i % 2 + n / 2 ^ i % 2) % 2
+three_bits a b n i =
+    let outer = bit_at_xor (bit_xor a b) n i in
+    let inner = bit_at_xor a b i in
+    omega arith
+
+sum_auxiliary : (x y c n : ℕ) → c ≤ 1 → n ≡ x + y + c → (bit_xor (bit_xor x y) n / 16 % 2 == 1) ≡ nat_le 16 (x % 16 + y % 16 + c)
+sum_auxiliary x y c n most whole =
+    let bits = three_bits x y n 4 in
+    grind (arith)
+
+difference_auxiliary : (x y c n : ℕ) → c ≤ 1 → n + y + c ≡ 2 ^ 33 + x → (bit_xor (bit_xor x y) n / 16 % 2 == 1) ≡ leaves_unsigned 4 (pos (x % 16) -ℤ pos (y % 16) -ℤ pos c)
+difference_auxiliary x y c n most whole =
+    let bits = three_bits x y n 4 in
+    grind (arith)
+
+signed_small : (x : ℕ) → x < 2 ^ 31 → signed 32 x ≡ pos x
+signed_small x small = grind (arith)
+
+signed_large : (x : ℕ) → 2 ^ 31 ≤ x → signed 32 x ≡ pos x -ℤ pos (2 ^ 32)
+signed_large x large = grind (arith)
+
+differ_same : (u l : ℕ) → u ≡ l → differ (u == 1) (l == 1) ≡ false
+differ_same u l same = rw same (grind (arith))
+
+differ_other : (u l : ℕ) → u + l ≡ 1 → differ (u == 1) (l == 1) ≡ true
+differ_other u l other = grind (arith)
+
+stays : (z : ℤ) → neg_ℤ (pos (2 ^ 31)) ≤ℤ z → (z +ℤ pos 1) ≤ℤ pos (2 ^ 31) → leaves_signed 32 z ≡ false
+stays z low high = grind (arith)
+
+leaves_above : (z : ℤ) → pos (2 ^ 31) ≤ℤ z → leaves_signed 32 z ≡ true
+leaves_above z high = grind (arith)
+
+leaves_below : (z : ℤ) → (z +ℤ pos 1) ≤ℤ neg_ℤ (pos (2 ^ 31)) → leaves_signed 32 z ≡ true
+leaves_below z low = grind (arith)
+
+same : (u l : ℕ) (z : ℤ) → u ≡ l → neg_ℤ (pos (2 ^ 31)) ≤ℤ z → (z +ℤ pos 1) ≤ℤ pos (2 ^ 31) → differ (u == 1) (l == 1) ≡ leaves_signed 32 z
+same u l z equal low high = rw (differ_same u l equal, stays z low high) refl
+
+above : (u l : ℕ) (z : ℤ) → u + l ≡ 1 → pos (2 ^ 31) ≤ℤ z → differ (u == 1) (l == 1) ≡ leaves_signed 32 z
+above u l z other high = rw (differ_other u l other, leaves_above z high) refl
+
+below : (u l : ℕ) (z : ℤ) → u + l ≡ 1 → (z +ℤ pos 1) ≤ℤ neg_ℤ (pos (2 ^ 31)) → differ (u == 1) (l == 1) ≡ leaves_signed 32 z
+below u l z other low = rw (differ_other u l other, leaves_below z low) refl
+
+sum_bits : (x y c n u l : ℕ) → x < 2 ^ 32 → y < 2 ^ 32 → c ≤ 1 → n ≡ x + y + c → u ≡ (x / 2 ^ 32 % 2 + y / 2 ^ 32 % 2 + n / 2 ^ 32 % 2) % 2 → l ≡ (x / 2 ^ 31 % 2 + y / 2 ^ 31 % 2 + n / 2 ^ 31 % 2) % 2 →
+    differ (u == 1) (l == 1) ≡ leaves_signed 32 (signed 32 x +ℤ signed 32 y +ℤ pos c)
+sum_bits x y c n u l left right most whole upper lower =
+    elim (cases_lt x (2 ^ 31)) [
+      | inl xs ↦ elim (cases_lt y (2 ^ 31)) [
+        | inl ys ↦ rw (signed_small x xs, signed_small y ys) (elim (cases_lt n (2 ^ 31)) [
+          | inl ns ↦ same u l (pos x +ℤ pos y +ℤ pos c) (omega arith) (grind (arith)) (grind (arith))
+          | inr nl ↦ above u l (pos x +ℤ pos y +ℤ pos c) (omega arith) (grind (arith))
+        ])
+        | inr yl ↦ rw (signed_small x xs, signed_large y yl) (same u l (pos x +ℤ (pos y -ℤ pos (2 ^ 32)) +ℤ pos c) (omega arith) (grind (arith)) (grind (arith)))
+      ]
+      | inr xl ↦ elim (cases_lt y (2 ^ 31)) [
+        | inl ys ↦ rw (signed_large x xl, signed_small y ys) (same u l (pos x -ℤ pos (2 ^ 32) +ℤ pos y +ℤ pos c) (omega arith) (grind (arith)) (grind (arith)))
+        | inr yl ↦ rw (signed_large x xl, signed_large y yl) (elim (cases_lt n (2 ^ 31 + 2 ^ 32)) [
+          | inl ns ↦ below u l (pos x -ℤ pos (2 ^ 32) +ℤ (pos y -ℤ pos (2 ^ 32)) +ℤ pos c) (omega arith) (grind (arith))
+          | inr nl ↦ same u l (pos x -ℤ pos (2 ^ 32) +ℤ (pos y -ℤ pos (2 ^ 32)) +ℤ pos c) (omega arith) (grind (arith)) (grind (arith))
+        ])
+      ]
+    ]
+
+difference_bits : (x y c n u l : ℕ) → x < 2 ^ 32 → y < 2 ^ 32 → c ≤ 1 → n + y + c ≡ 2 ^ 33 + x → u ≡ (x / 2 ^ 32 % 2 + y / 2 ^ 32 % 2 + n / 2 ^ 32 % 2) % 2 → l ≡ (x / 2 ^ 31 % 2 + y / 2 ^ 31 % 2 + n / 2 ^ 31 % 2) % 2 →
+    differ (u == 1) (l == 1) ≡ leaves_signed 32 (signed 32 x -ℤ signed 32 y -ℤ pos c)
+difference_bits x y c n u l left right most whole upper lower =
+    elim (cases_lt x (2 ^ 31)) [
+      | inl xs ↦ elim (cases_lt y (2 ^ 31)) [
+        | inl ys ↦ rw (signed_small x xs, signed_small y ys) (same u l (pos x -ℤ pos y -ℤ pos c) (omega arith) (grind (arith)) (grind (arith)))
+        | inr yl ↦ rw (signed_small x xs, signed_large y yl) (elim (cases_lt n (2 ^ 32 + 2 ^ 31)) [
+          | inl ns ↦ same u l (pos x -ℤ (pos y -ℤ pos (2 ^ 32)) -ℤ pos c) (omega arith) (grind (arith)) (grind (arith))
+          | inr nl ↦ above u l (pos x -ℤ (pos y -ℤ pos (2 ^ 32)) -ℤ pos c) (omega arith) (grind (arith))
+        ])
+      ]
+      | inr xl ↦ elim (cases_lt y (2 ^ 31)) [
+        | inl ys ↦ rw (signed_large x xl, signed_small y ys) (elim (cases_lt n (2 ^ 33 + 2 ^ 31)) [
+          | inl ns ↦ below u l (pos x -ℤ pos (2 ^ 32) -ℤ pos y -ℤ pos c) (omega arith) (grind (arith))
+          | inr nl ↦ same u l (pos x -ℤ pos (2 ^ 32) -ℤ pos y -ℤ pos c) (omega arith) (grind (arith)) (grind (arith))
+        ])
+        | inr yl ↦ rw (signed_large x xl, signed_large y yl) (same u l (pos x -ℤ pos (2 ^ 32) -ℤ (pos y -ℤ pos (2 ^ 32)) -ℤ pos c) (omega arith) (grind (arith)) (grind (arith)))
+      ]
+    ]
+
+leaves_pos : (w k : ℕ) → leaves_unsigned w (pos k) ≡ nat_le (2 ^ w) k
+leaves_pos w k = grind (arith)
+
+pub sum_worked_out : (x y c : ℕ) (d : Bool) (f : FlagValues) → x < 2 ^ 32 → y < 2 ^ 32 → c ≤ 1 → d ≡ f.direction →
+    worked_out ((x + y + c) % 2 ^ 32) ((x + y + c) % 2 ^ 32) (bit_xor (bit_xor x y) (x + y + c)) (nat_le (2 ^ 32) (x + y + c)) d ≡ add_flags 32 x y c f
+sum_worked_out x y c d f left right most same_direction =
+    let n : ℕ = x + y + c in
+    rw (leaves_pos 32 n, leaves_pos 4 (x % 16 + y % 16 + c), sum_auxiliary x y c n most refl, sum_bits x y c n _ _ left right most refl (three_bits x y n 32) (three_bits x y n 31), same_direction) refl
+
+difference_left : (x y c : ℕ) → x < 2 ^ 32 → y < 2 ^ 32 → c ≤ 1 → (2 ^ 33 + x - y - c) % 2 ^ 32 ≡ modulo 32 (pos x -ℤ pos y -ℤ pos c)
+difference_left x y c left right most = grind (arith)
+
+difference_borrowed : (x y c : ℕ) → x < 2 ^ 32 → y < 2 ^ 32 → c ≤ 1 → nat_lt (2 ^ 33 + x - y - c) (2 ^ 33) ≡ leaves_unsigned 32 (pos x -ℤ pos y -ℤ pos c)
+difference_borrowed x y c left right most = grind (arith)
+
+pub difference_worked_out : (x y c : ℕ) (d : Bool) (f : FlagValues) → x < 2 ^ 32 → y < 2 ^ 32 → c ≤ 1 → d ≡ f.direction →
+    worked_out ((2 ^ 33 + x - y - c) % 2 ^ 32) ((2 ^ 33 + x - y - c) % 2 ^ 32) (bit_xor (bit_xor x y) (2 ^ 33 + x - y - c)) (nat_lt (2 ^ 33 + x - y - c) (2 ^ 33)) d ≡ sub_flags 32 x y c f
+difference_worked_out x y c d f left right most same_direction =
+    let n : ℕ = 2 ^ 33 + x - y - c in
+    let whole : n + y + c ≡ 2 ^ 33 + x = omega arith in
+    rw (difference_left x y c left right most, difference_borrowed x y c left right most, difference_auxiliary x y c n most whole, difference_bits x y c n _ _ left right most whole (three_bits x y n 32) (three_bits x y n 31), same_direction) refl
+
+pub logic_worked_out : (n k : ℕ) (d : Bool) (f : FlagValues) → (k / 16 % 2 == 1) ≡ f.auxiliary → d ≡ f.direction → worked_out n n (k / 16 % 2 * 16) false d ≡ logic_flags 32 n f
+logic_worked_out n k d f same_auxiliary same_direction =
+    let auxiliary : k / 16 % 2 * 16 / 16 % 2 ≡ k / 16 % 2 = omega arith in
+    let upper : k / 16 % 2 * 16 / 2 ^ 32 % 2 ≡ 0 = omega arith in
+    let lower : k / 16 % 2 * 16 / 2 ^ 31 % 2 ≡ 0 = omega arith in
+    rw (auxiliary, upper, lower, same_auxiliary, same_direction) refl
+
+pub marked : (rest word k : ℕ) (c o d : Bool) (f : FlagValues) → has_even_ones word ≡ f.parity → (k / 16 % 2 == 1) ≡ f.auxiliary → (rest == 0) ≡ f.zero → is_negative 32 word ≡ f.sign → d ≡ f.direction →
+    worked_out rest word (k / 16 % 2 * 16 + 2 ^ 31 * from_bool o) c d ≡ record f { carry = c; overflow = o }
+marked rest word k c true d f same_parity same_auxiliary same_zero same_sign same_direction =
+    let auxiliary : (k / 16 % 2 * 16 + 2 ^ 31 * 1) / 16 % 2 ≡ k / 16 % 2 = omega arith in
+    let upper : (k / 16 % 2 * 16 + 2 ^ 31 * 1) / 2 ^ 32 % 2 ≡ 0 = omega arith in
+    let lower : (k / 16 % 2 * 16 + 2 ^ 31 * 1) / 2 ^ 31 % 2 ≡ 1 = omega arith in
+    rw (auxiliary, upper, lower, same_parity, same_auxiliary, same_zero, same_sign, same_direction) refl
+marked rest word k c false d f same_parity same_auxiliary same_zero same_sign same_direction =
+    let auxiliary : (k / 16 % 2 * 16 + 2 ^ 31 * 0) / 16 % 2 ≡ k / 16 % 2 = omega arith in
+    let upper : (k / 16 % 2 * 16 + 2 ^ 31 * 0) / 2 ^ 32 % 2 ≡ 0 = omega arith in
+    let lower : (k / 16 % 2 * 16 + 2 ^ 31 * 0) / 2 ^ 31 % 2 ≡ 0 = omega arith in
+    rw (auxiliary, upper, lower, same_parity, same_auxiliary, same_zero, same_sign, same_direction) refl

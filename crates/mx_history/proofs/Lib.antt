@@ -1,0 +1,3 @@
+mod Ended
+mod ReadAgain
+mod OneHistory

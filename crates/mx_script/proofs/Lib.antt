@@ -1,0 +1,4 @@
+mod VerbWords
+mod ReadSoFar
+mod WrittenWords
+mod WrittenNumbers

@@ -1,0 +1,5 @@
+pub mod Reading
+pub mod Verbs
+pub mod Script
+pub mod Debug
+pub mod Words
