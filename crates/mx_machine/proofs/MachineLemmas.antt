@@ -1,5 +1,6 @@
 -- What processors hold over what the kernel shows as lent.
 use Rattle.std.proofs.Common.{◌≡◌, ◌≢◌, ◌∙◌, ◌<◌, ◌≤◌, ℕ, zero, suc, ◌+◌, ◌-◌, ◌*◌, ◌%◌, cond, nat_lt, Bool, true, false, List, [], ◌∷◌, ◌++◌, length, Option, Some, None, Result, Ok, Err, slice_get, slice_set, get_or, inl, inr, refl, sym, ap, subst, arith}
+use Rattle.std.specs.Option.{option_map}
 use Rattle.std.proofs.lemmas.Bool.{cases_eq}
 use Rattle.std.proofs.lemmas.List.{set-get_or, set-set, get_or-set_other, get_or-set_same, length-set}
 use Rattle.mx_proc.specs.Queues.{picked}
@@ -236,6 +237,18 @@ held-now k os a l o h g = held_now-at (replay k).cpus os a ∙ ap (λ x. held_no
 pub none-now : (k : Kept) (os : List (Option Out)) (a : ℕ) → held_by (replay k) a ≡ None → held_by (world_of (record { kernel = k; outs = os })) a ≡ None
 unfolding world_of
 none-now k os a h = held_now-at (replay k).cpus os a ∙ ap (λ x. held_now x (get_or os a None)) h
+
+slot_held_now : (l : Option Lent) (o : Option Out) → option_map (λ (x : Lent). x.slot) (held_now l o) ≡ option_map (λ (x : Lent). x.slot) l
+slot_held_now None None = refl
+slot_held_now None (Some o) = refl
+slot_held_now (Some l) None = refl
+slot_held_now (Some l) (Some o) = refl
+
+-- it is the process of the same slot
+pub slot-now : (k : Kept) (os : List (Option Out)) (a : ℕ)
+    → option_map (λ (l : Lent). l.slot) (held_by (world_of (record { kernel = k; outs = os })) a) ≡ option_map (λ (l : Lent). l.slot) (held_by (replay k) a)
+unfolding world_of
+slot-now k os a = ap (option_map (λ (l : Lent). l.slot)) (held_now-at (replay k).cpus os a) ∙ slot_held_now (get_or (replay k).cpus a None) (get_or os a None)
 
 pub empty-refused : (w : Whole) (a : ℕ) (x : Event) → IsOwn x → held_by w a ≡ None → move w a x ≡ (Err CpuEmpty, w)
 unfolding event_refusal

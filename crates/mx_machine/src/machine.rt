@@ -1,6 +1,7 @@
 //! A kernel, and what its processors hold.
 
 ghost use Rattle.std.specs.Prelude.{◌≡◌, ℕ, true, ◌+◌, ◌<◌, ◌≤◌, ◌++◌, ◌∷◌, [], All, Ok, None, Some, IsSome, IfSome, IfErr, OnOk, OnErr, MatchOption, length, vec_len, vec_capacity};
+ghost use Rattle.std.specs.Option.{option_map};
 ghost use Rattle.mx_proc.specs.World.{endpoint_of};
 ghost use Rattle.mx_world.specs.declared.events.Event.TheVariants as events;
 ghost use Rattle.mx_world.specs.declared.events.Refusal.TheVariants.{CpuEmpty};
@@ -13,7 +14,7 @@ ghost use Rattle.mx_machine.specs.Machine.{HasWorked, IsActor, IsRunning, world_
 use crate::steps::{Tool, step_held, work_held};
 use mx_exec::Image;
 use mx_kernel::Kernel;
-use mx_proc::Endpoint;
+use mx_proc::{Endpoint, Slot};
 use mx_word::NoMemory;
 use mx_world::{Answer, Event, Out, Refusal, held_runs_join, runs_are_steps};
 use std::marker::Model;
@@ -101,6 +102,13 @@ impl Machine {
             Some(out) => Some(&out.image),
             None => None,
         }
+    }
+
+    /// The slot whose process a processor holds.
+    pub fn slot_on(&self, cpu: u8) -> Option<Slot>
+        ensures { result ≡ option_map (λ (l : Lent). l.slot) (held_by (world_of self.now) cpu) }
+    {
+        self.kernel.slot_on(cpu)
     }
 
     /// Lends what a processor holds to a tool.

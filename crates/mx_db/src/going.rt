@@ -1,0 +1,63 @@
+//! Steps up to a breakpoint.
+
+ghost use Rattle.std.specs.Prelude.{◌≡◌, IfOk, IfErr};
+ghost use Rattle.mx_machine.specs.Machine.{world_of};
+ghost use Rattle.mx_db.specs.Going.{HasGone, IsStuck};
+
+use mx_debug::{Cause, Debugger, Halt};
+use mx_machine::{Machine, Out, Refusal, Tool};
+use mx_proc::Slot;
+
+/// A debugger that works with the process of a slot, for at most so many steps.
+#[derive(Drop)]
+struct Resuming<'a> {
+    debugger: &'a Debugger,
+    slot: Slot,
+    steps: u32,
+    /// How it halted.
+    halt: Halt,
+}
+
+impl<'a> Tool for Resuming<'a> {
+    ghost use Rattle.std.specs.Prelude.{◌≡◌};
+    ghost use Rattle.mx_debug.specs.Halts.{Halts, after, steps_made};
+
+    ghost steps = { λ tool out. steps_made tool.debugger.now tool.slot tool.steps out };
+
+    ghost Becomes = { λ tool out u. Halts tool.debugger.now tool.slot tool.steps out u.halt (after u.halt.count out) };
+
+    fn work(&mut self, out: &mut Out) {
+        self.halt = self.debugger.resume(self.slot, out, self.steps);
+    }
+}
+
+/// Runs what a processor holds for at most so many steps, up to one of the breakpoints of its slot.
+/// Refused are `CpuEmpty`, and `AtStop` where no step can be made.
+pub fn go(
+    machine: &mut Machine,
+    debugger: &Debugger,
+    cpu: u8,
+    steps: u32,
+) -> Result<Halt, Refusal>
+    ensures gone { IfOk result (λ halt. HasGone (world_of machine.old) (world_of machine.new) debugger.now cpu steps halt) }
+    ensures stuck { IfErr result (λ refusal. IsStuck (world_of machine.old) debugger.now cpu steps refusal × (world_of machine.new ≡ world_of machine.old)) }
+    ensures kernel { machine.new.kernel ≡ machine.old.kernel }
+{
+    let Some(slot) = machine.slot_on(cpu) else {
+        return Err(Refusal::CpuEmpty);
+    };
+    let mut tool = Resuming {
+        debugger,
+        slot,
+        steps,
+        halt: Halt {
+            count: 0,
+            cause: Cause::Spent,
+        },
+    };
+    machine.work(cpu, &mut tool)?;
+    if steps != 0 && tool.halt.count == 0 {
+        return Err(Refusal::AtStop);
+    }
+    Ok(tool.halt)
+}

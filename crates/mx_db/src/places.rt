@@ -1,0 +1,64 @@
+//! Breakpoints by the slots of services and the names of their programs.
+
+ghost use Rattle.std.specs.Prelude.{◌≡◌, Some, None, MatchResult};
+ghost use Rattle.mx_world.specs.History.{replay};
+ghost use Rattle.mx_debug.specs.declared.error.DebugError.TheVariants as errors;
+ghost use Rattle.mx_db.specs.Places.{address_of, found, broken, cleared};
+
+use crate::refused::Refused;
+use mx_aout::Program;
+use mx_debug::{DebugError, Debugger, address};
+use mx_machine::{Kernel, Refusal};
+use mx_proc::Slot;
+use mx_script::Place;
+
+/// The address of a place in a program.
+fn address_of(program: &Program, place: &Place) -> Result<u32, DebugError>
+    ensures { MatchResult result (λ at. address_of program.now place.now ≡ Some at) (λ e. (address_of program.now place.now ≡ None) × (e ≡ errors.NoSymbol)) }
+{
+    match place {
+        Place::Address(at) => Ok(*at),
+        Place::Symbol(name) => address(program, name.as_slice()),
+        Place::NoName => Err(DebugError::NoSymbol),
+    }
+}
+
+/// The slot and the address that a line names.
+fn found(kernel: &Kernel, slot: u32, place: &Place) -> Result<(Slot, u32), Refused>
+    ensures { result ≡ found (replay kernel.now).services slot place.now }
+{
+    kernel.opened();
+    let Some(service) = kernel.services().get(slot as usize) else {
+        return Err(Refused::ByMachine(Refusal::NoService));
+    };
+    let at = address_of(&service.program, place)?;
+    Ok((slot as Slot, at))
+}
+
+/// Sets a breakpoint in the process of a slot.
+pub fn set_breakpoint(
+    kernel: &Kernel,
+    debugger: &mut Debugger,
+    slot: u32,
+    place: &Place,
+) -> Result<(), Refused>
+    ensures { broken debugger.old (found (replay kernel.now).services slot place.now) ≡ (result, debugger.new) }
+{
+    let (slot, at) = found(kernel, slot, place)?;
+    debugger.add(slot, at)?;
+    Ok(())
+}
+
+/// Removes a slot's breakpoint, if one stands there.
+pub fn clear_breakpoint(
+    kernel: &Kernel,
+    debugger: &mut Debugger,
+    slot: u32,
+    place: &Place,
+) -> Result<(), Refused>
+    ensures { cleared debugger.old (found (replay kernel.now).services slot place.now) ≡ (result, debugger.new) }
+{
+    let (slot, at) = found(kernel, slot, place)?;
+    debugger.remove(slot, at);
+    Ok(())
+}

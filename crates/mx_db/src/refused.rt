@@ -1,0 +1,52 @@
+//! Why a debugger's line is refused.
+
+use mx_debug::DebugError;
+use mx_machine::Refusal;
+use std::fmt;
+
+/// Why a line is refused that only a debugger's script has.
+#[derive(Clone, Copy, PartialEq, Eq)]
+pub enum Refused {
+    /// There is no such service or no such process, or it is at a stop.
+    ByMachine(Refusal),
+    /// There is no such symbol or place, or no room for a breakpoint.
+    ByDebugger(DebugError),
+}
+
+/// The line without its end, as `refused 60 NoSymbol`.
+impl fmt::Display for Refused {
+    ghost use Rattle.std.specs.Prelude.{Some};
+    ghost use Rattle.mx_db.specs.Answers.{refused_line};
+
+    ghost output = { λ refused. Some (refused_line refused) };
+
+    fn fmt<W: fmt::Write>(&self, f: &mut fmt::Formatter<W>) -> fmt::Result {
+        let (code, name) = match *self {
+            Refused::ByMachine(refusal) => (refusal.code(), refusal.name()),
+            Refused::ByDebugger(error) => (error.code(), error.name()),
+        };
+        write!(f, "refused {code} {name}")
+    }
+}
+
+impl From<Refusal> for Refused {
+    ghost use Rattle.std.specs.Prelude.{◌≡◌};
+    ghost use Rattle.mx_db.specs.declared.refused.Refused.TheVariants.{ByMachine};
+
+    ghost from_gives = { λ refusal refused. refused ≡ ByMachine refusal };
+
+    fn from(refusal: Refusal) -> Refused {
+        Refused::ByMachine(refusal)
+    }
+}
+
+impl From<DebugError> for Refused {
+    ghost use Rattle.std.specs.Prelude.{◌≡◌};
+    ghost use Rattle.mx_db.specs.declared.refused.Refused.TheVariants.{ByDebugger};
+
+    ghost from_gives = { λ error refused. refused ≡ ByDebugger error };
+
+    fn from(error: DebugError) -> Refused {
+        Refused::ByDebugger(error)
+    }
+}

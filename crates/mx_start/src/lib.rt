@@ -1,0 +1,23 @@
+//! From the names of files to a machine: the texts and the programs that it starts with, read and
+//! checked in order.
+#![tactic(auto)]
+
+mod course;
+mod named;
+mod noting;
+mod reader;
+mod runtime;
+mod setup;
+mod start;
+
+pub use course::{Course, DebugScript, History, Script};
+pub use mx_boot::{BootError, Config, DebugLine, ScriptLine};
+pub use mx_failure::Failure;
+pub use mx_machine::{Machine, Record};
+pub use named::{NamedFile, NamedFiles};
+pub use reader::Reader;
+pub use runtime::RuntimeFiles;
+pub use start::{Started, start};
+
+#[cfg(test)]
+mod tests;

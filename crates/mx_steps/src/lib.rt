@@ -1,0 +1,18 @@
+//! `mx step` and `mx replay`: a machine that is driven by a script or by a saved history.
+#![tactic(auto)]
+
+mod lines;
+mod printing;
+mod records;
+mod said;
+mod stepping;
+
+pub use lines::{perform_line, step};
+pub use mx_start::{Failure, Machine, NamedFile, NamedFiles, Reader, RuntimeFiles, ScriptLine};
+pub use printing::{print_report, print_text};
+pub use records::{Replayed, replay};
+pub use said::Said;
+pub use stepping::make_steps;
+
+#[cfg(test)]
+mod tests;
