@@ -1,6 +1,8 @@
 -- What the words of a subcommand have, where the grammar finds no fault with them.
-use Rattle.std.proofs.Common.{◌≡◌, ◌<◌, ◌==◌, ℕ, Bool, true, false, cond, is_some, refl, sym, ap, subst, arith, inl, inr, codes, drop, List, [], ◌∷◌, Option, Some, None, true≢false}
-use Rattle.std.specs.Prelude.{Ok, option_map, pos, unwrap_or}
+use Rattle.std.proofs.Common.{◌≡◌, ◌∙◌, ◌<◌, ◌==◌, ℕ, Bool, true, false, cond, is_some, IfSome, refl, sym, ap, subst, arith, inl, inr, codes, drop, List, [], ◌∷◌, Option, Some, None, true≢false}
+use Rattle.std.specs.Prelude.{Ok, find, option_map, pos, unwrap_or}
+use Rattle.std.specs.List.{AllByRecursion}
+use Rattle.std.specs.Str.{bytes_eq}
 use Rattle.std.specs.Option.{option_map_or}
 use Rattle.std.specs.declared.num.ParseIntError.{ParseIntError}
 use Rattle.std.specs.Str.Parse.{IsNumeral, ParsesUnsigned, digits_value, starts_with_minus, without_leading_plus}
@@ -8,49 +10,21 @@ use Rattle.std.proofs.lemmas.Bool.{ne_eqb}
 use Rattle.std.proofs.lemmas.Int.{ints}
 use Rattle.std.proofs.lemmas.Str.Parse.{digit_from_value}
 use Rattle.clap.specs.Words.{App, IsSignedIn, Row, Rule, Shape, Text, built, fault_of, subcommand_of, without_minus}
-use Rattle.clap.specs.Simple.{argument_words, entered, label_of, names_of, rows_at}
+use Rattle.clap.specs.Simple.{argument_words, built_leaf, entered, filled, help_rule, inherited, label_of, marked_built, names_of, rows_at, with_index, with_leaf_noted}
 use Rattle.clap.specs.Faults.{defaults_fault, entered_fault, level_fault, settle_fault, walk_fault}
 use Rattle.clap.specs.Walk.{answers_to, finished, nothing_held, rows_after, settled, stop_after, walk, walk_from}
 use Rattle.clap.specs.declared.builder.value_parser.ValueParser.TheVariants.{Signed}
 use Rattle.clap.proofs.ValueTestLemmas.{accepts-Accepts}
-use Rattle.mx_command.specs.Words.{HasFile, HasOne, HasText, IsAsked, mx_grammar, one_shape, wanted}
-use Rattle.mx_command.proofs.Given.{IsOnly, SetsValue, has_wanted, no_fault, value_given}
+use Rattle.mx_command.specs.Words.{HasNumber, IsAsked, IsGiven, mx_grammar, of_one, of_two, one_shape, wanted, wanted_number}
+use Rattle.mx_command.proofs.Given.{IsOnly, SetsValue, all_found, has_wanted, no_fault, value_given}
 
 -- the grammar as a parse sees it: with the help flag, and each argument's place
 abbrev whole : App
 whole = built mx_grammar
 
-abbrev head_of : List Shape → Shape
-head_of [] = one_shape
-head_of (s ∷ rest) = s
-
-abbrev one_whole : Shape
-one_whole = head_of whole.subs
-
-abbrev as_whole : Shape
-as_whole = head_of (drop 1 whole.subs)
-
-abbrev dis_whole : Shape
-dis_whole = head_of (drop 2 whole.subs)
-
-abbrev nm_whole : Shape
-nm_whole = head_of (drop 3 whole.subs)
-
-abbrev first_rule : List Rule → Rule
-first_rule [] = wanted (codes "FILE")
-first_rule (a ∷ rest) = a
-
-abbrev file_rule : Rule
-file_rule = first_rule one_whole.rules
-
-abbrev steps_rule : Rule
-steps_rule = first_rule (drop 1 one_whole.rules)
-
-file_sets : SetsValue file_rule
-file_sets = record { set = refl; least = omega arith; defaults = refl; required = refl }
-
-steps_sets : SetsValue steps_rule
-steps_sets = record { set = refl; least = omega arith; defaults = refl; required = refl }
+-- a subcommand as a parse sees it
+abbrev whole_of : Shape → Shape
+whole_of s = built_leaf (inherited (with_leaf_noted (marked_built mx_grammar.top)) s)
 
 without_minus-cond : (t : Text) → without_minus t ≡ cond (starts_with_minus t) (drop 1 t) t
 without_minus-cond [] = refl
@@ -88,72 +62,120 @@ number_of t passed =
         let small : digits_value 10 (without_leading_plus t) < 4294967296 = omega (arith, ints) in
         rw minus (numeral, small)
 
+-- ---- the subcommands of texts
+
+wanted_sets : (id : Text) (n : ℕ) → SetsValue (with_index n (filled (wanted id)))
+wanted_sets id n = record { set = refl; least = omega arith; defaults = refl; required = refl }
+
+-- a text's name is none that the help flag has
+abbrev IsOwn : Text → Type 0
+IsOwn id = bytes_eq (codes "help") id ≡ false
+
+one_text_given : (name first : Text) → IsOwn first → (words : List Text)
+    → level_fault (whole_of (of_one name first)) [] nothing_held words false [] ≡ []
+    → IsGiven first (rows_after (whole_of (of_one name first)).rules [] words)
+one_text_given name first own words fine =
+    let only : IsOnly (with_index 1 (filled (wanted first))) (whole_of (of_one name first)).rules =
+    ((λ e. refl), ((λ e. absurd (true≢false (sym e ∙ own))), tt)) in
+    ap is_some (value_given (with_index 1 (filled (wanted first))) (wanted_sets first 1) (whole_of (of_one name first)) only words (inl refl) refl fine).1
+
+two_texts_given : (name first second : Text) → IsOwn first → IsOwn second → bytes_eq second first ≡ false → bytes_eq first second ≡ false
+    → (words : List Text) → level_fault (whole_of (of_two name first second)) [] nothing_held words false [] ≡ []
+    → IsGiven first (rows_after (whole_of (of_two name first second)).rules [] words)
+    × IsGiven second (rows_after (whole_of (of_two name first second)).rules [] words)
+two_texts_given name first second own other apart back words fine =
+    let s = whole_of (of_two name first second) in
+    let a = with_index 1 (filled (wanted first)) in
+    let b = with_index 2 (filled (wanted second)) in
+    let only_a : IsOnly a s.rules = ((λ e. refl), ((λ e. absurd (true≢false (sym e ∙ apart))), ((λ e. absurd (true≢false (sym e ∙ own))), tt))) in
+    let only_b : IsOnly b s.rules = ((λ e. absurd (true≢false (sym e ∙ back))), ((λ e. refl), ((λ e. absurd (true≢false (sym e ∙ other))), tt))) in
+    (ap is_some (value_given a (wanted_sets first 1) s only_a words (inl refl) refl fine).1, ap is_some (value_given b (wanted_sets second 2) s only_b words (inr (inl refl)) refl fine).1)
+
+-- ---- `one`
+
+abbrev one_whole : Shape
+one_whole = whole_of one_shape
+
+abbrev file_rule : Rule
+file_rule = with_index 1 (filled (wanted (codes "FILE")))
+
+abbrev steps_rule : Rule
+steps_rule = with_index 2 (filled (wanted_number (codes "N")))
+
+steps_sets : SetsValue steps_rule
+steps_sets = record { set = refl; least = omega arith; defaults = refl; required = refl }
+
 only_file : IsOnly file_rule one_whole.rules
 only_file = ((λ e. refl), ((λ e. cc), ((λ e. cc), tt)))
 
 only_steps : IsOnly steps_rule one_whole.rules
 only_steps = ((λ e. cc), ((λ e. refl), ((λ e. cc), tt)))
 
-one_values : (words : List Text) → level_fault one_whole [] nothing_held words false [] ≡ [] → HasOne (rows_after one_whole.rules [] words)
+one_values : (words : List Text) → level_fault one_whole [] nothing_held words false [] ≡ []
+    → IsGiven (codes "FILE") (rows_after one_whole.rules [] words) × ((n : ℕ) × HasNumber (codes "N") (rows_after one_whole.rules [] words) n)
 one_values words fine =
-    let file = value_given file_rule file_sets one_whole only_file words (inl refl) refl fine in
+    let file = value_given file_rule (wanted_sets (codes "FILE") 1) one_whole only_file words (inl refl) refl fine in
     let steps = value_given steps_rule steps_sets one_whole only_steps words (inr (inl refl)) refl fine in
     let number = number_of steps.0 (accepts-Accepts steps_rule.ignore_case (Signed (pos 0) (pos 4294967295)) steps.0 steps.3) in
     (ap is_some file.1, (number.0, (without_minus steps.0, steps.2, number.1)))
 
-text_sets : SetsValue (first_rule as_whole.rules)
-text_sets = record { set = refl; least = omega arith; defaults = refl; required = refl }
+-- ---- each subcommand
 
-text_only : IsOnly (first_rule as_whole.rules) as_whole.rules
-text_only = ((λ e. refl), ((λ e. cc), ((λ e. cc), tt)))
+-- the words after the subcommand's name, with which it finds no fault, have what it asks for
+abbrev Fits : Shape → Type 0
+Fits s = (words : List Text) → level_fault s [] nothing_held words false [] ≡ [] → IsAsked s.name (rows_after s.rules [] words)
 
-target_sets : SetsValue (first_rule (drop 1 as_whole.rules))
-target_sets = record { set = refl; least = omega arith; defaults = refl; required = refl }
+one_fits : Fits one_whole
+one_fits words fine = let given = one_values words fine in
+    ((λ e. absurd (true≢false (sym e))), (λ e. (given.0, inl (refl, given.1))))
 
-target_only : IsOnly (first_rule (drop 1 as_whole.rules)) as_whole.rules
-target_only = ((λ e. cc), ((λ e. refl), ((λ e. cc), tt)))
+as_fits : Fits (whole_of (of_two (codes "as") (codes "TEXT") (codes "FILE")))
+as_fits words fine = let given = two_texts_given (codes "as") (codes "TEXT") (codes "FILE") refl refl refl refl words fine in
+    ((λ e. absurd (true≢false (sym e))), (λ e. (given.1, inr (inl (refl, given.0)))))
 
-as_values : (words : List Text) → level_fault as_whole [] nothing_held words false [] ≡ [] → HasText (rows_after as_whole.rules [] words)
-as_values words fine =
-    let text = value_given (first_rule as_whole.rules) text_sets as_whole text_only words (inl refl) refl fine in
-    let file = value_given (first_rule (drop 1 as_whole.rules)) target_sets as_whole target_only words (inr (inl refl)) refl fine in
-    (ap is_some text.1, ap is_some file.1)
+dis_fits : Fits (whole_of (of_one (codes "dis") (codes "FILE")))
+dis_fits words fine = let given = one_text_given (codes "dis") (codes "FILE") refl words fine in
+    ((λ e. absurd (true≢false (sym e))), (λ e. (given, inr (inr (inl refl)))))
 
-dis_sets : SetsValue (first_rule dis_whole.rules)
-dis_sets = record { set = refl; least = omega arith; defaults = refl; required = refl }
+nm_fits : Fits (whole_of (of_one (codes "nm") (codes "FILE")))
+nm_fits words fine = let given = one_text_given (codes "nm") (codes "FILE") refl words fine in
+    ((λ e. absurd (true≢false (sym e))), (λ e. (given, inr (inr (inr refl)))))
 
-dis_only : IsOnly (first_rule dis_whole.rules) dis_whole.rules
-dis_only = ((λ e. refl), ((λ e. cc), tt))
+step_fits : Fits (whole_of (of_two (codes "step") (codes "CONFIG") (codes "SCRIPT")))
+step_fits words fine = let given = two_texts_given (codes "step") (codes "CONFIG") (codes "SCRIPT") refl refl refl refl words fine in
+    ((λ e. (given.0, inl (refl, given.1))), (λ e. absurd (true≢false e)))
 
-dis_values : (words : List Text) → level_fault dis_whole [] nothing_held words false [] ≡ [] → HasFile (rows_after dis_whole.rules [] words)
-dis_values words fine = ap is_some (value_given (first_rule dis_whole.rules) dis_sets dis_whole dis_only words (inl refl) refl fine).1
+replay_fits : Fits (whole_of (of_two (codes "replay") (codes "CONFIG") (codes "LOG")))
+replay_fits words fine = let given = two_texts_given (codes "replay") (codes "CONFIG") (codes "LOG") refl refl refl refl words fine in
+    ((λ e. (given.0, inr (inl (refl, given.1)))), (λ e. absurd (true≢false e)))
 
-nm_sets : SetsValue (first_rule nm_whole.rules)
-nm_sets = record { set = refl; least = omega arith; defaults = refl; required = refl }
+db_fits : Fits (whole_of (of_two (codes "db") (codes "CONFIG") (codes "SCRIPT")))
+db_fits words fine = let given = two_texts_given (codes "db") (codes "CONFIG") (codes "SCRIPT") refl refl refl refl words fine in
+    ((λ e. (given.0, inr (inr (refl, given.1)))), (λ e. absurd (true≢false e)))
 
-nm_only : IsOnly (first_rule nm_whole.rules) nm_whole.rules
-nm_only = ((λ e. refl), ((λ e. cc), tt))
+all_fit : AllByRecursion Fits whole.subs
+all_fit = (one_fits, (as_fits, (dis_fits, (nm_fits, (step_fits, (replay_fits, (db_fits, tt)))))))
 
-nm_values : (words : List Text) → level_fault nm_whole [] nothing_held words false [] ≡ [] → HasFile (rows_after nm_whole.rules [] words)
-nm_values words fine = ap is_some (value_given (first_rule nm_whole.rules) nm_sets nm_whole nm_only words (inl refl) refl fine).1
+-- ---- the words of a command line
+
+-- what a subcommand's name and rows are where there is one that fits
+abbrev Met : Option (Text × List Row) → Type 0
+Met found = (name : Text) × (rows : List Row) × (found ≡ Some (name, rows)) × IsAsked name rows
+
+found_asked : (found : Option Shape) (words : List Text) → IfSome found Fits
+    → option_map_or (λ (s : Shape). level_fault s [] nothing_held words false []) found [] ≡ []
+    → is_some (option_map (λ (s : Shape). rows_at s words) found) ≡ true
+    → Met (option_map (λ (s : Shape). rows_at s words) found)
+found_asked None words fits e there = absurd (true≢false (sym there))
+found_asked (Some s) words fits e there = (s.name, rows_after s.rules [] words, refl, fits words e)
 
 -- the words enter a subcommand, which finds no fault with those after its name
-entered_asked : (stop : Option (Text × List Text)) → entered_fault whole stop ≡ [] → is_some (entered whole stop) ≡ true
-    → (name : Text) × (rows : List Row) × (entered whole stop ≡ Some (name, rows)) × IsAsked name rows
+entered_asked : (stop : Option (Text × List Text)) → entered_fault whole stop ≡ [] → is_some (entered whole stop) ≡ true → Met (entered whole stop)
 entered_asked None e there = absurd (true≢false (sym there))
-entered_asked (Some p) e there = go (answers_to p.0 (label_of one_whole)) (answers_to p.0 (label_of as_whole)) (answers_to p.0 (label_of dis_whole)) (answers_to p.0 (label_of nm_whole)) e there
-  where
-    go : (b a c d : Bool) → option_map_or (λ (s : Shape). level_fault s [] nothing_held p.1 false []) (cond b (Some one_whole) (cond a (Some as_whole) (cond c (Some dis_whole) (cond d (Some nm_whole) None)))) [] ≡ []
-        → is_some (option_map (λ (s : Shape). rows_at s p.1) (cond b (Some one_whole) (cond a (Some as_whole) (cond c (Some dis_whole) (cond d (Some nm_whole) None))))) ≡ true
-        → (name : Text) × (rows : List Row) × (option_map (λ (s : Shape). rows_at s p.1) (cond b (Some one_whole) (cond a (Some as_whole) (cond c (Some dis_whole) (cond d (Some nm_whole) None)))) ≡ Some (name, rows)) × IsAsked name rows
-    go true a c d e there = (codes "one", rows_after one_whole.rules [] p.1, refl, inl (refl, one_values p.1 e))
-    go false true c d e there = (codes "as", rows_after as_whole.rules [] p.1, refl, inr (inl (refl, as_values p.1 e)))
-    go false false true d e there = (codes "dis", rows_after dis_whole.rules [] p.1, refl, inr (inr (inl (refl, dis_values p.1 e))))
-    go false false false true e there = (codes "nm", rows_after nm_whole.rules [] p.1, refl, inr (inr (inr (refl, nm_values p.1 e))))
-    go false false false false e there = absurd (true≢false (sym there))
+entered_asked (Some p) e there =
+    found_asked (find (λ (s : Shape). answers_to p.0 (label_of s)) whole.subs) p.1 (all_found Fits (λ (s : Shape). answers_to p.0 (label_of s)) whole.subs all_fit) e there
 
-pub words_asked : (words : List Text) → fault_of mx_grammar words ≡ []
-    → (name : Text) × (rows : List Row) × (subcommand_of mx_grammar words ≡ Some (name, rows)) × IsAsked name rows
+pub words_asked : (words : List Text) → fault_of mx_grammar words ≡ [] → Met (subcommand_of mx_grammar words)
 words_asked words e =
     let ws = argument_words mx_grammar words in
     let stop = stop_after whole.top.rules (names_of whole) ws in

@@ -2,22 +2,13 @@
 
 ghost use Rattle.std.specs.Prelude.{◌≡◌, ℕ, IfErr, IfOk, codes, false, is_some, map, true};
 ghost use Rattle.clap.specs.Words.{FailsBy, app_of, fault_of, first_of, found_of, kind_of, rows_of, rule_of, shape_of};
-ghost use Rattle.clap.specs.Words.{subcommand_of, takes};
-ghost use Rattle.mx_command.specs.Words.{Asks, AsksBy, IsAsked, as_shape, HasNumber, dis_shape, mx_grammar, nm_shape, one_shape, top_app, wanted};
+ghost use Rattle.clap.specs.Words.{subcommand_of, takes, with_subcommand};
+ghost use Rattle.mx_command.specs.Words.{Asks, AsksBy, HasNumber, HasText, IsAsked, IsMachineAsked, IsProgramAsked, is_machine, mx_grammar, of_one, of_two, one_shape, program_app, top_app, wanted};
 
+use crate::help::{AS_EXAMPLE, CONFIG, DB_EXAMPLE, PROGRAM, REPLAY_EXAMPLE, STEP_EXAMPLE};
 use clap::error::ErrorKind;
 use clap::{Arg, ArgAction, ArgMatches, Command, Error};
 use std::alloc::Global;
-
-/// A text that assembles, at the end of the help.
-const AS_EXAMPLE: &str = "A text, which gives 42 in EAX and traps:
-
-.sep
-start:  mov ecx, 6      ; turns
-next:   add eax, 7
-        loop next
-        int 33
-.entry start";
 
 /// What the words of a command line ask for.
 #[derive(Clone, Copy, Debug, PartialEq, Eq)]
@@ -30,6 +21,12 @@ pub enum Request<'a> {
     Dis { file: &'a str },
     /// `nm FILE`.
     Nm { file: &'a str },
+    /// `step CONFIG SCRIPT`.
+    Step { config: &'a str, script: &'a str },
+    /// `replay CONFIG LOG`.
+    Replay { config: &'a str, log: &'a str },
+    /// `db CONFIG SCRIPT`.
+    Db { config: &'a str, script: &'a str },
 }
 
 /// An argument that has to be given, once.
@@ -43,12 +40,19 @@ fn wanted<'a>(alloc: Global, id: &'a str, help: &'a str) -> Arg<'a>
         .help(help)
 }
 
-/// `one FILE N`, with its help.
-fn one_grammar<'a>(alloc: Global) -> Result<Command<'a>, Error>
-    ensures shape { IfOk result (λ c. shape_of c ≡ one_shape) }
+/// A name on the command line, with a line of help.
+#[derive(Clone, Copy)]
+struct Word<'a> {
+    name: &'a str,
+    help: &'a str,
+}
+
+/// Adds `one FILE N`, with its help.
+fn with_number<'a>(alloc: Global, line: Command<'a>) -> Result<Command<'a>, Error>
+    ensures app { IfOk result (λ c. app_of c ≡ with_subcommand (app_of line.entry) one_shape) }
     ensures err { IfErr result (λ e. kind_of e ≡ ErrorKind.OutOfMemory) }
 {
-    let file = wanted(alloc, "FILE", "An a.out file of MINIX 3 for the 80386");
+    let file = wanted(alloc, "FILE", PROGRAM);
     let number = wanted(alloc, "N", "How many steps at most, 0 to 4294967295");
     let steps = number.value_parser(clap::value_parser!(u32));
     let command = Command::new(alloc, "one")
@@ -57,46 +61,46 @@ fn one_grammar<'a>(alloc: Global) -> Result<Command<'a>, Error>
         )
         .arg(file)?
         .arg(steps)?;
-    Ok(command)
+    Ok(line.subcommand(command)?)
 }
 
-/// `as TEXT FILE`, with its help.
-fn as_grammar<'a>(alloc: Global) -> Result<Command<'a>, Error>
-    ensures shape { IfOk result (λ c. shape_of c ≡ as_shape) }
+/// Adds a subcommand of one text, with its help.
+fn with_one<'a>(
+    alloc: Global,
+    line: Command<'a>,
+    subcommand: Word<'a>,
+    first: Word<'a>,
+) -> Result<Command<'a>, Error>
+    ensures app { IfOk result (λ c. app_of c ≡ with_subcommand (app_of line.entry) (of_one subcommand.entry.name.now first.entry.name.now)) }
     ensures err { IfErr result (λ e. kind_of e ≡ ErrorKind.OutOfMemory) }
 {
-    let text = wanted(alloc, "TEXT", "A text for the assembler");
-    let file = wanted(alloc, "FILE", "The a.out file to write");
-    let command = Command::new(alloc, "as")
-        .about("Assembles a text to a program")
-        .after_help(AS_EXAMPLE)
-        .arg(text)?
-        .arg(file)?;
-    Ok(command)
+    let value = wanted(alloc, first.name, first.help);
+    let command = Command::new(alloc, subcommand.name)
+        .about(subcommand.help)
+        .arg(value)?;
+    Ok(line.subcommand(command)?)
 }
 
-/// `dis FILE`, with its help.
-fn dis_grammar<'a>(alloc: Global) -> Result<Command<'a>, Error>
-    ensures shape { IfOk result (λ c. shape_of c ≡ dis_shape) }
+/// Adds a subcommand of two texts, with its help and an example.
+fn with_two<'a>(
+    alloc: Global,
+    line: Command<'a>,
+    subcommand: Word<'a>,
+    first: Word<'a>,
+    second: Word<'a>,
+    example: &'a str,
+) -> Result<Command<'a>, Error>
+    ensures app { IfOk result (λ c. app_of c ≡ with_subcommand (app_of line.entry) (of_two subcommand.entry.name.now first.entry.name.now second.entry.name.now)) }
     ensures err { IfErr result (λ e. kind_of e ≡ ErrorKind.OutOfMemory) }
 {
-    let file = wanted(alloc, "FILE", "An a.out file of MINIX 3 for the 80386");
-    let command = Command::new(alloc, "dis")
-        .about("Prints the instructions of a program, one a line")
-        .arg(file)?;
-    Ok(command)
-}
-
-/// `nm FILE`, with its help.
-fn nm_grammar<'a>(alloc: Global) -> Result<Command<'a>, Error>
-    ensures shape { IfOk result (λ c. shape_of c ≡ nm_shape) }
-    ensures err { IfErr result (λ e. kind_of e ≡ ErrorKind.OutOfMemory) }
-{
-    let file = wanted(alloc, "FILE", "An a.out file of MINIX 3 for the 80386");
-    let command = Command::new(alloc, "nm")
-        .about("Prints the symbols of a program, one a line")
-        .arg(file)?;
-    Ok(command)
+    let one = wanted(alloc, first.name, first.help);
+    let other = wanted(alloc, second.name, second.help);
+    let command = Command::new(alloc, subcommand.name)
+        .about(subcommand.help)
+        .after_help(example)
+        .arg(one)?
+        .arg(other)?;
+    Ok(line.subcommand(command)?)
 }
 
 /// The command line before its subcommands.
@@ -109,36 +113,138 @@ fn top_grammar<'a>(alloc: Global) -> Command<'a>
         .disable_help_subcommand(true)
 }
 
+/// The command line of the subcommands that work on one program.
+fn program_grammar<'a>(alloc: Global) -> Result<Command<'a>, Error>
+    ensures app { IfOk result (λ c. app_of c ≡ program_app) }
+    ensures err { IfErr result (λ e. kind_of e ≡ ErrorKind.OutOfMemory) }
+{
+    let file = Word {
+        name: "FILE",
+        help: PROGRAM,
+    };
+    let text = Word {
+        name: "TEXT",
+        help: "A text for the assembler",
+    };
+    let made = Word {
+        name: "FILE",
+        help: "The a.out file to write",
+    };
+    let assemble = Word {
+        name: "as",
+        help: "Assembles a text to a program",
+    };
+    let list = Word {
+        name: "dis",
+        help: "Prints the instructions of a program, one a line",
+    };
+    let symbols = Word {
+        name: "nm",
+        help: "Prints the symbols of a program, one a line",
+    };
+    let line = with_number(alloc, top_grammar(alloc))?;
+    let line = with_two(alloc, line, assemble, text, made, AS_EXAMPLE)?;
+    let line = with_one(alloc, line, list, file)?;
+    with_one(alloc, line, symbols, file)
+}
+
 /// The command line's grammar, with its help.
 fn grammar<'a>(alloc: Global) -> Result<Command<'a>, Error>
     ensures app { IfOk result (λ c. app_of c ≡ mx_grammar) }
     ensures err { IfErr result (λ e. kind_of e ≡ ErrorKind.OutOfMemory) }
 {
-    let command = top_grammar(alloc)
-        .subcommand(one_grammar(alloc)?)?
-        .subcommand(as_grammar(alloc)?)?
-        .subcommand(dis_grammar(alloc)?)?
-        .subcommand(nm_grammar(alloc)?)?;
-    Ok(command)
-}
-
-/// What `one` asks for, whose values are there.
-fn one_request<'a>(matches: &ArgMatches<'a>) -> Request<'a>
-    requires file { is_some (first_of (codes "FILE") (rows_of (found_of matches.now))) ≡ true }
-    requires steps { (n : ℕ) × HasNumber (codes "N") (rows_of (found_of matches.now)) n }
-    ensures { AsksBy result (codes "one") (rows_of (found_of matches.now)) }
-{
-    let file = matches.get_str("FILE").unwrap();
-    let steps = matches.get_one::<u32>("N").unwrap();
-    Request::One { file, steps }
+    let config = Word {
+        name: "CONFIG",
+        help: CONFIG,
+    };
+    let script = Word {
+        name: "SCRIPT",
+        help: "What happens, an event a line",
+    };
+    let log = Word {
+        name: "LOG",
+        help: "A saved history, a record a line",
+    };
+    let commands = Word {
+        name: "SCRIPT",
+        help: "Events and what to look at, one a line",
+    };
+    let step = Word {
+        name: "step",
+        help: "Runs a machine by a script and prints its answers and a report",
+    };
+    let replay = Word {
+        name: "replay",
+        help: "Runs a saved history again and prints the report",
+    };
+    let debug = Word {
+        name: "db",
+        help: "Runs a machine by a script with breakpoints, and looks into it",
+    };
+    let line = program_grammar(alloc)?;
+    let line = with_two(alloc, line, step, config, script, STEP_EXAMPLE)?;
+    let line = with_two(alloc, line, replay, config, log, REPLAY_EXAMPLE)?;
+    with_two(alloc, line, debug, config, commands, DB_EXAMPLE)
 }
 
 /// The value that an argument has, which is there.
 fn value_asked<'a>(matches: &ArgMatches<'a>, id: &str) -> &'a str
     requires { is_some (first_of id.now (rows_of (found_of matches.now))) ≡ true }
-    ensures { first_of id.now (rows_of (found_of matches.now)) ≡ Some result.now }
+    ensures { HasText id.now (rows_of (found_of matches.now)) result.now }
 {
     matches.get_str(id).unwrap()
+}
+
+/// The number that an argument has, which is there.
+fn number_asked(matches: &ArgMatches<'_>, id: &str) -> u32
+    requires { (n : ℕ) × HasNumber id.now (rows_of (found_of matches.now)) n }
+    ensures { HasNumber id.now (rows_of (found_of matches.now)) result }
+{
+    matches.get_one::<u32>(id).unwrap()
+}
+
+/// What the words of a subcommand on one program ask for.
+fn program_request<'a>(name: &str, matches: &ArgMatches<'a>) -> Request<'a>
+    requires { IsProgramAsked name.now (rows_of (found_of matches.now)) }
+    ensures { AsksBy result name.now (rows_of (found_of matches.now)) }
+{
+    let file = value_asked(matches, "FILE");
+    if name == "one" {
+        let steps = number_asked(matches, "N");
+        Request::One { file, steps }
+    } else if name == "as" {
+        let text = value_asked(matches, "TEXT");
+        Request::As { text, file }
+    } else if name == "dis" {
+        Request::Dis { file }
+    } else {
+        Request::Nm { file }
+    }
+}
+
+/// What the words of a subcommand on a machine ask for.
+fn machine_request<'a>(name: &str, matches: &ArgMatches<'a>) -> Request<'a>
+    requires { IsMachineAsked name.now (rows_of (found_of matches.now)) }
+    ensures { AsksBy result name.now (rows_of (found_of matches.now)) }
+{
+    let config = value_asked(matches, "CONFIG");
+    if name == "replay" {
+        let log = value_asked(matches, "LOG");
+        return Request::Replay { config, log };
+    }
+    let script = value_asked(matches, "SCRIPT");
+    if name == "step" {
+        Request::Step { config, script }
+    } else {
+        Request::Db { config, script }
+    }
+}
+
+/// Whether the subcommand of this name works on a machine.
+fn is_machine(name: &str) -> bool
+    ensures { result ≡ is_machine name.now }
+{
+    name == "step" || name == "replay" || name == "db"
 }
 
 /// What a subcommand's words ask for.
@@ -146,17 +252,10 @@ fn request_of<'a>(name: &str, matches: &ArgMatches<'a>) -> Request<'a>
     requires { IsAsked name.now (rows_of (found_of matches.now)) }
     ensures { AsksBy result name.now (rows_of (found_of matches.now)) }
 {
-    if name == "one" {
-        return one_request(matches);
-    }
-    let file = value_asked(matches, "FILE");
-    if name == "as" {
-        let text = value_asked(matches, "TEXT");
-        Request::As { text, file }
-    } else if name == "dis" {
-        Request::Dis { file }
+    if is_machine(name) {
+        machine_request(name, matches)
     } else {
-        Request::Nm { file }
+        program_request(name, matches)
     }
 }
 
