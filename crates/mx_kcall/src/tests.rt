@@ -11,34 +11,56 @@ use std::alloc::Global;
 use std::process::Abort;
 use std::test::Fail;
 
-/// A kernel call of slot 0, whose mask has these bits: its type and words, the result, p0.
+/// A kernel call of slot 0, whose mask has these bits: its type and words, the result, p0. Slot 1
+/// owns line 5, slot 2 is on a processor, slot 3 is down, and no slot 4 is used.
 #[derive(Clone, Copy)]
 struct Row(u32, [u32; 6], u32, u32);
 
-const ROWS: [Row; 20] = [
-    // Counts past the most, at the limit and one past it.
-    Row(0xFF, [0x605, 0, 0, 0, 0, 65_537], 0xFFFF_FFEA, 0),
-    Row(0xFF, [0x605, 0, 4096, 1, 4096, 0], 0, 0),
-    Row(0xFF, [0x605, 0, 4097, 1, 4096, 0], 0xFFFF_FFF2, 0),
-    // Endpoints that are wrong in two ways: the first is told.
-    Row(0xFF, [0x605, 2, 0, 1024, 0, 0], 0xFFFF_FF99, 0),
-    Row(0xFF, [0x605, 1024, 0, 2, 0, 0], 0xFFFF_FF97, 0),
-    Row(0xFF, [0x605, 2, 0, 2, 0, 65_537], 0xFFFF_FFEA, 0),
-    // The type is tried before the mask.
+const ROWS: [Row; 40] = [
+    // The type is tried before the mask, and the mask before the call's own reasons.
     Row(0xFF, [0x608, 0, 0, 0, 0, 0], 0xFFFF_FF95, 0),
     Row(0, [0x608, 0, 0, 0, 0, 0], 0xFFFF_FF95, 0),
     Row(0xFE, [0x600, 0, 0, 0, 0, 0], 0xFFFF_FF98, 0),
+    Row(0xDF, [0x605, 0, 0, 0, 0, 65_537], 0xFFFF_FF98, 0),
     Row(0xFF, [0x602, 5, 0, 0, 0, 0], 0, 0),
-    Row(0xFF, [0x603, 2, 3, 0, 0, 0], 0xFFFF_FFEA, 0),
+    // Lines: a wrong action on another's line, a wrong line that isn't one's own, then who owns it.
+    Row(0xFF, [0x603, 2, 5, 0, 0, 0], 0xFFFF_FFEA, 0),
+    Row(0xFF, [0x603, 0, 16, 0, 0, 0], 0xFFFF_FFEA, 0),
+    Row(0xFF, [0x603, 1, 5, 0, 0, 0], 0xFFFF_FFFF, 0),
+    Row(0xFF, [0x603, 0, 5, 0, 0, 0], 0xFFFF_FFFF, 0),
     Row(0xFF, [0x603, 0, 3, 0, 0, 0], 0xFFFF_FFFF, 0),
+    Row(0xFF, [0x603, 1, 3, 0, 0, 0], 0, 0),
     Row(0xFF, [0x604, 1, 0, 0x41, 0, 0], 0, 0),
     Row(0xFF, [0x604, 0, 0, 0, 0, 0], 0, 0),
     Row(0xFF, [0x604, 0, 256, 0, 0, 0], 0xFFFF_FFEA, 0),
-    Row(0xFF, [0x606, 2, 0, 0, 0, 0], 0xFFFF_FF99, 0),
+    Row(0xFF, [0x604, 2, 0, 0, 0, 0], 0xFFFF_FFEA, 0),
+    // Copies that are wrong in two ways, one after the other in the order of the refusals.
+    Row(0xFF, [0x605, 4, 0, 4, 0, 65_537], 0xFFFF_FFEA, 0),
+    Row(0xFF, [0x605, 4, 0, 1024, 0, 0], 0xFFFF_FF99, 0),
+    Row(0xFF, [0x605, 1024, 0, 4, 0, 0], 0xFFFF_FF97, 0),
+    Row(0xFF, [0x605, 0, 0, 4, 0, 0], 0xFFFF_FF99, 0),
+    Row(0xFF, [0x605, 2, 0, 4, 0, 0], 0xFFFF_FF99, 0),
+    Row(0xFF, [0x605, 2, 0, 3, 0, 0], 0xFFFF_FF97, 0),
+    Row(0xFF, [0x605, 2, 4097, 0, 0, 0], 0xFFFF_FF96, 0),
+    Row(0xFF, [0x605, 0, 4097, 2, 0, 0], 0xFFFF_FF96, 0),
+    Row(0xFF, [0x605, 0, 0, 2, 4097, 0], 0xFFFF_FF96, 0),
+    Row(0xFF, [0x605, 0, 4097, 1, 4097, 0], 0xFFFF_FFF2, 0),
+    // At the limit and one past it.
+    Row(0xFF, [0x605, 0, 4096, 1, 4096, 0], 0, 0),
+    Row(0xFF, [0x605, 0, 4097, 1, 4096, 0], 0xFFFF_FFF2, 0),
+    Row(0xFF, [0x605, 0, 4096, 1, 4097, 0], 0xFFFF_FFF2, 0),
+    Row(0xFF, [0x605, 0, 4093, 1, 4092, 4], 0xFFFF_FFF2, 0),
+    Row(0xFF, [0x606, 4, 0, 0, 0, 0], 0xFFFF_FF99, 0),
+    Row(0xFF, [0x606, 0xFFFF_FFFF, 0, 0, 0, 0], 0xFFFF_FF99, 0),
     Row(0xFF, [0x606, 1025, 0, 0, 0, 0], 0xFFFF_FF97, 0),
+    Row(0xFF, [0x606, 1026, 0, 0, 0, 0], 0xFFFF_FF97, 0),
+    Row(0xFF, [0x606, 3, 0, 0, 0, 0], 0xFFFF_FF97, 0),
+    Row(0xFF, [0x606, 2, 0, 0, 0, 0], 0xFFFF_FF96, 0),
     Row(0xFF, [0x606, 1, 0, 0, 0, 0], 0, 0),
     Row(0xFF, [0x607, 1, 0, 0, 0, 0], 0, 1),
-    Row(0xFF, [0x607, 2, 0, 0, 0, 0], 0xFFFF_FFEA, 0),
+    Row(0xFF, [0x607, 2, 0, 0, 0, 0], 0, 2),
+    Row(0xFF, [0x607, 4, 0, 0, 0, 0], 0xFFFF_FFEA, 0),
+    Row(0xFF, [0x607, 3, 0, 0, 0, 0], 0xFFFF_FF97, 0),
 ];
 
 /// What waits for a process that a call of slot 0 kills, how it died, and who runs then in turn.
@@ -148,6 +170,14 @@ fn make_trap(rt: &impl Abort, table: &mut Table, slot: Slot, sends: bool, named:
     }
 }
 
+/// A ready process goes to a processor.
+fn send_away(rt: &impl Abort, table: &mut Table, slot: Slot) {
+    assert!(rt; slot < table.used());
+    assert!(rt; table.process(slot).state.is_ready());
+    dequeue(table, slot);
+    let _image = table.lend(slot);
+}
+
 /// The number at a place of slot 0's memory.
 fn word_at(rt: &impl Abort, table: &Table, place: u32) -> u32 {
     assert!(rt; table.used() > 0);
@@ -160,10 +190,13 @@ fn word_at(rt: &impl Abort, table: &Table, place: u32) -> u32 {
 #[test]
 fn kernel_calls(rt: HostRuntime) -> Result<(), Fail> {
     for (number, row) in ROWS.iter().enumerate() {
-        let mut table = new_table(&rt, rt.alloc(), 2, row.0)?;
+        let mut table = new_table(&rt, rt.alloc(), 4, row.0)?;
+        make_call(&rt, &mut table, 1, &[0x603, 1, 5, 0, 0, 0]);
+        make_call(&rt, &mut table, 3, &[0x600, 0, 0, 0, 0, 0]);
+        send_away(&rt, &mut table, 2);
         let after = make_call(&rt, &mut table, 0, &row.1);
         assert!(rt; after == After::Reply(row.2), "row {number}");
-        assert!(rt; table.used() == 2);
+        assert!(rt; table.used() > 0);
         assert!(rt;
             table.process(0).image.register(Register::Eax) == 0,
             "row {number}"
@@ -184,14 +217,20 @@ fn kernel_calls(rt: HostRuntime) -> Result<(), Fail> {
     Ok(())
 }
 
-// Within one process: up by one byte, out of the caller's own message, and onto it.
+// Within one process: up by one byte and down, out of the caller's own message, onto it, and onto its
+// end and past it.
 #[test]
 fn copies(rt: HostRuntime) -> Result<(), Fail> {
     for (number, (from, to, count, place, wanted)) in [
+        (100, 101, 4, 100, 0x0302_0101),
         (100, 101, 4, 101, 0x0403_0201),
+        (101, 100, 4, 100, 0x0504_0302),
+        (101, 100, 4, 101, 0x0505_0403),
         (516, 600, 4, 600, 0x605),
         (100, 520, 4, 520, 0),
         (100, 512, 36, 512, 0xFFFF_FFFE),
+        (97, 544, 8, 544, 0),
+        (97, 544, 8, 548, 0x0504_0302),
     ]
     .into_iter()
     .enumerate()
@@ -226,6 +265,10 @@ fn lines_and_clock(rt: HostRuntime) -> Result<(), Fail> {
         (520, 9),
         (524, 0x22),
         (528, 0),
+        (532, 0),
+        (536, 0),
+        (540, 0),
+        (544, 0),
     ] {
         assert_eq!(rt; word_at(&rt, &table, place), wanted, "at {place}");
     }
