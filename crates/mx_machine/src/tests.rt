@@ -118,8 +118,8 @@ const WORKS: Made = Made(
 /// TIMES: the uptime stands at 8 and the steps at 12.
 const COUNTS: Made = Made(
     &[
-        0xC7, 5, 4, 0, 0, 0, 1, 6, 0, 0, 0xB9, 3, 0, 0, 0, 0xB8, 0xFE, 0xFF, 0xFF, 0xFF, 0xBB, 0, 0,
-        0, 0, 0xCD, 0x21,
+        0xC7, 5, 4, 0, 0, 0, 1, 6, 0, 0, 0xB9, 3, 0, 0, 0, 0xB8, 0xFE, 0xFF, 0xFF, 0xFF, 0xBB, 0,
+        0, 0, 0, 0xCD, 0x21,
     ],
     0,
     2,
