@@ -33,12 +33,7 @@ impl<'a> Tool for Resuming<'a> {
 
 /// Runs what a processor holds for at most so many steps, up to one of the breakpoints of its slot.
 /// Refused are `CpuEmpty`, and `AtStop` where no step can be made.
-pub fn go(
-    machine: &mut Machine,
-    debugger: &Debugger,
-    cpu: u8,
-    steps: u32,
-) -> Result<Halt, Refusal>
+pub fn go(machine: &mut Machine, debugger: &Debugger, cpu: u8, steps: u32) -> Result<Halt, Refusal>
     ensures gone { IfOk result (λ halt. HasGone (world_of machine.old) (world_of machine.new) debugger.now cpu steps halt) }
     ensures stuck { IfErr result (λ refusal. IsStuck (world_of machine.old) debugger.now cpu steps refusal × (world_of machine.new ≡ world_of machine.old)) }
     ensures kernel { machine.new.kernel ≡ machine.old.kernel }
