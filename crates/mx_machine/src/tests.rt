@@ -7,9 +7,9 @@ use crate::{
     ServiceLines, Tool,
 };
 use mx_aout::{Program, read};
-use mx_exec::Outcome;
-use mx_proc::{Cause, Masks, Partner, State};
-use mx_respawn::{Label, Service};
+use mx_exec::{Image, Outcome};
+use mx_proc::{Cause, Masks, Partner, Process, State};
+use mx_respawn::{Label, Service, is_worn};
 use mx_word::{Register, Size};
 use std::alloc::Global;
 use std::process::Abort;
@@ -118,8 +118,8 @@ const WORKS: Made = Made(
 /// TIMES: the uptime stands at 8 and the steps at 12.
 const COUNTS: Made = Made(
     &[
-        0xC7, 5, 4, 0, 0, 0, 1, 6, 0, 0, 0xB9, 3, 0, 0, 0, 0xB8, 0xFE, 0xFF, 0xFF, 0xFF, 0xBB, 0, 0,
-        0, 0, 0xCD, 0x21,
+        0xC7, 5, 4, 0, 0, 0, 1, 6, 0, 0, 0xB9, 3, 0, 0, 0, 0xB8, 0xFE, 0xFF, 0xFF, 0xFF, 0xBB, 0,
+        0, 0, 0, 0xCD, 0x21,
     ],
     0,
     2,
@@ -297,11 +297,9 @@ static ROWS: [Row; 10] = [
             Turn(6, Event::Back, 1, Ok(Answer::Returned(0))),
             Turn(7, Event::Take, 1, Ok(Answer::Taken(6, 5))),
             Turn(6, Event::Take, 1, Ok(Answer::Taken(7, 2))),
+            Turn(6, Event::Back, 1, Ok(Answer::Returned(0))),
         ],
-        ends: &[
-            End(0, State::Out, 7, 5, 0, 0, 0, 0),
-            End(7, State::Out, 7, 2, 3, 0, 0, 0),
-        ],
+        ends: &[End(7, State::Ready, 7, 2, 3, 0xFFFF_FF98, 0, 0)],
     },
     // TIMES counts the steps up to its own trap.
     Row {
@@ -425,6 +423,77 @@ fn machine_of(rt: &impl Abort, alloc: Global, row: &Row) -> Result<Machine, Fail
     Ok(Machine::new(kernel))
 }
 
+/// A round of E by the list: a process is taken, steps until it is refused a step, and comes back.
+const ROUND: [(u8, Event); 8] = [
+    (0, Event::Take),
+    (0, Event::Step),
+    (0, Event::Step),
+    (0, Event::Step),
+    (0, Event::Step),
+    (0, Event::Step),
+    (0, Event::Step),
+    (0, Event::Back),
+];
+
+/// E's five rounds, each as one list: whose process it is, its budget and its steps.
+fn rounds(rt: &impl Abort, alloc: Global) -> Result<(), Fail> {
+    let mut machine = machine_of(rt, alloc, &ROWS[0])?;
+    let mut answers = Vec::new(alloc);
+    for round in [(0, 20, 4), (1, 20, 4), (0, 16, 3), (0, 13, 5), (1, 16, 4)] {
+        answers.clear();
+        machine.run(&ROUND, &mut answers)?;
+        let said = answers.as_slice();
+        assert!(rt; said.len() == 8);
+        assert!(rt; said[0] == Ok(Answer::Taken(round.0, round.1)));
+        assert!(rt; said[round.2] == Ok(Answer::Went(Outcome::Trap)));
+        assert!(rt; said[6] == Err(Refusal::AtStop));
+        assert!(rt; said[7] == Ok(Answer::Returned(round.2 as u32)));
+    }
+    Ok(())
+}
+
+/// A tool's run, told once through its bound and once refused.
+fn works(rt: &impl Abort, alloc: Global) -> Result<(), Fail> {
+    let mut machine = machine_of(rt, alloc, &ROWS[1])?;
+    assert!(rt; work(&mut machine, 0, &mut Steps(9)) == Err(Refusal::CpuEmpty));
+    assert!(rt; machine.apply(0, Event::Take) == Ok(Answer::Taken(0, 5)));
+    assert!(rt; work(&mut machine, 0, &mut Steps(2)) == Ok(()));
+    assert!(rt; work(&mut machine, 0, &mut Steps(9)) == Ok(()));
+    assert!(rt; machine.image(0).is_some() && machine.image(1).is_none());
+    assert!(rt; machine.apply(0, Event::Back) == Ok(Answer::Returned(3)));
+    Ok(())
+}
+
+/// The last generation, and the last restart: no event reaches the former in a history's length.
+fn worn(rt: &impl Abort, alloc: Global) -> Result<(), Fail> {
+    let service = service(rt, alloc, &WRITES)?;
+    let rows = [
+        (0, 0, false),
+        (1, 1, true),
+        (1_048_574, 0, false),
+        (1_048_575, 0, true),
+    ];
+    for (generation, restarts, answer) in rows {
+        let process = Process {
+            state: State::Down(Cause::Exit),
+            generation,
+            restarts,
+            masks: service.masks,
+            level: 4,
+            best: 4,
+            quantum: 20,
+            ticks: 20,
+            steps: 0,
+            pending: [false; 34],
+            lines: 0,
+            alarm: None,
+            image: Image::blank(alloc),
+        };
+        assert!(rt; is_worn(&process, &service) == answer);
+    }
+    Ok(())
+}
+
 #[test]
 fn events(rt: HostRuntime) -> Result<(), Fail> {
     for (number, row) in ROWS.iter().enumerate() {
@@ -455,5 +524,7 @@ fn events(rt: HostRuntime) -> Result<(), Fail> {
             assert!(rt; process.image.memory.read(end.6, Size::Dword) == Ok(end.7));
         }
     }
-    Ok(())
+    rounds(&rt, rt.alloc())?;
+    works(&rt, rt.alloc())?;
+    worn(&rt, rt.alloc())
 }
