@@ -67,10 +67,16 @@ fn perform_debug_line(
             writeln!(text, "{said}")
         }
         DebugLine::Break(slot, place) => {
-            push_done(text, set_breakpoint(machine.kernel(), debugger, *slot, place))
+            push_done(
+                text,
+                set_breakpoint(machine.kernel(), debugger, *slot, place),
+            )
         }
         DebugLine::Clear(slot, place) => {
-            push_done(text, clear_breakpoint(machine.kernel(), debugger, *slot, place))
+            push_done(
+                text,
+                clear_breakpoint(machine.kernel(), debugger, *slot, place),
+            )
         }
         DebugLine::Go(cpu, steps) => {
             let gone = go(machine, debugger, *cpu, *steps);
