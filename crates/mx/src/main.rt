@@ -2,8 +2,8 @@
 #![tactic(auto)]
 
 pub use mx_app::{
-    Failure, FileError, Request, assemble_file, command, one, perform_words, print_listing,
-    print_names, print_one,
+    BootError, Failure, FileError, NamedFile, NamedFiles, Reader, Replayed, Request, assemble_file,
+    command, db, one, perform_words, print_listing, print_names, print_one, replay, step,
 };
 use std::process::ExitCode;
 

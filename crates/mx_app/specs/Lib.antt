@@ -1,4 +1,1 @@
-pub mod One
-pub mod Shown
-pub mod Failure
-pub mod Assembling
+pub mod Words

@@ -1,16 +1,17 @@
 //! Does what the program's words ask for.
 
-ghost use Rattle.std.specs.Prelude.{◌≡◌, ◌≢◌, ◌⊎◌, IfErr, IfOk};
+ghost use Rattle.std.specs.Prelude.{◌≡◌, ◌≢◌, ◌≤◌, ◌⊎◌, IfErr, IfOk};
 ghost use Rattle.std.specs.IoError.{error_kind};
 ghost use Rattle.clap.specs.Words.{kind_of};
-ghost use Rattle.mx_app.specs.Failure.{Explains, words_failure_of};
+ghost use Rattle.mx_app.specs.Words.{Explains, words_failure_of};
 
-use crate::assembly::assemble_file;
-use crate::failure::Failure;
-use crate::listing::{print_listing, print_names};
-use crate::report::print_one;
 use clap::error::ErrorKind;
 use mx_command::{Request, command};
+use mx_db::db;
+use mx_failure::Failure;
+use mx_program::{assemble_file, print_listing, print_names, print_one};
+use mx_start::RuntimeFiles;
+use mx_steps::{Replayed, replay, step};
 use std::rt::{Env, Files};
 use std::{env, fs, io};
 
@@ -48,16 +49,62 @@ fn run_nm(rt: &(impl Files + Print + AllocGlobal), file: &str) -> Result<(), Fai
     print_names(rt.alloc(), bytes.as_slice(), &mut io::writer(rt))
 }
 
-/// Does what a request asks for.
-fn run(rt: &(impl Files + Print + AllocGlobal), request: Request<'_>) -> Result<(), Failure>
+/// Runs a machine by a script.
+fn run_step(
+    rt: &(impl Files + Print + AllocGlobal),
+    config: &str,
+    script: &str,
+) -> Result<(), Failure>
     ensures { IfErr result (λ failure. failure ≢ Failure.NotText) }
 {
+    let mut files = RuntimeFiles::new(rt);
+    step(rt.alloc(), &mut files, config, script, &mut io::writer(rt))
+}
+
+/// Replays a saved history. Answers the status to end with: that of a refusal is 1.
+fn run_replay(
+    rt: &(impl Files + Print + AllocGlobal),
+    config: &str,
+    log: &str,
+) -> Result<u8, Failure>
+    ensures err { IfErr result (λ failure. failure ≢ Failure.NotText) }
+    ensures status { IfOk result (λ status. (status ≡ 0) ⊎ (status ≡ 1)) }
+{
+    let mut files = RuntimeFiles::new(rt);
+    let replayed = replay(rt.alloc(), &mut files, config, log, &mut io::writer(rt))?;
+    Ok(match replayed {
+        Replayed::Whole => 0,
+        Replayed::Refused => 1,
+    })
+}
+
+/// Runs a machine by a debugger's script.
+fn run_db(
+    rt: &(impl Files + Print + AllocGlobal),
+    config: &str,
+    script: &str,
+) -> Result<(), Failure>
+    ensures { IfErr result (λ failure. failure ≢ Failure.NotText) }
+{
+    let mut files = RuntimeFiles::new(rt);
+    db(rt.alloc(), &mut files, config, script, &mut io::writer(rt))
+}
+
+/// Does what a request asks for, and answers the status to end with.
+fn run(rt: &(impl Files + Print + AllocGlobal), request: Request<'_>) -> Result<u8, Failure>
+    ensures err { IfErr result (λ failure. failure ≢ Failure.NotText) }
+    ensures status { IfOk result (λ status. (status ≡ 0) ⊎ (status ≡ 1)) }
+{
     match request {
-        Request::One { file, steps } => run_one(rt, file, steps),
-        Request::As { text, file } => run_as(rt, text, file),
-        Request::Dis { file } => run_dis(rt, file),
-        Request::Nm { file } => run_nm(rt, file),
+        Request::One { file, steps } => run_one(rt, file, steps)?,
+        Request::As { text, file } => run_as(rt, text, file)?,
+        Request::Dis { file } => run_dis(rt, file)?,
+        Request::Nm { file } => run_nm(rt, file)?,
+        Request::Step { config, script } => run_step(rt, config, script)?,
+        Request::Replay { config, log } => return run_replay(rt, config, log),
+        Request::Db { config, script } => run_db(rt, config, script)?,
     }
+    Ok(0)
 }
 
 /// Why the program's words can't be had.
@@ -98,7 +145,7 @@ fn explain(rt: &(impl Print + Eprint), error: &clap::Error) -> Result<u8, Failur
 
 /// Does what the words of the program's command line ask for, and answers the status to end with.
 pub fn perform_words(rt: &(impl Env + Files + Print + Eprint + AllocGlobal)) -> Result<u8, Failure>
-    ensures { IfOk result (λ status. (status ≡ 0) ⊎ (status ≡ 2)) }
+    ensures { IfOk result (λ status. status ≤ 2) }
 {
     let arguments = arguments(rt)?;
     let mut words = Vec::new(rt.alloc());
@@ -106,10 +153,7 @@ pub fn perform_words(rt: &(impl Env + Files + Print + Eprint + AllocGlobal)) -> 
         words.push(argument.as_str())?;
     }
     match command(rt.alloc(), words.as_slice()) {
-        Ok(request) => {
-            run(rt, request)?;
-            Ok(0)
-        }
+        Ok(request) => run(rt, request),
         Err(error) => explain(rt, &error),
     }
 }

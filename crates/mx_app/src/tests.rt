@@ -1,26 +1,14 @@
-use crate::{Failure, FileError, Request, command, print_one};
+use crate::{Request, command, print_one};
 use clap::error::ErrorKind;
 use std::alloc::Global;
-use std::io::{self, Write};
 use std::test::Fail;
-
-/// The header of a file with separate text of no bytes and a total of 4096.
-static HEADER: [u8; 32] = [
-    0x01, 0x03, 0x30, 0x10, 0x20, 0, 0, 0, 0, 0, 0, 0, 0, 0, 0, 0, 0, 0, 0, 0, 0, 0, 0, 0, 0, 0x10,
-    0, 0, 0, 0, 0, 0,
-];
 
 /// A file with a separate text and an entry.
 fn separate(alloc: Global, text: &[u8], entry: u8) -> Result<Vec<u8>, Fail> {
-    let mut file = HEADER.to_vec(alloc)?;
     let size = u8::try_from(text.len()).map_err(|_| "size")?;
-    for (at, byte) in file.iter_mut().enumerate() {
-        match at {
-            8 => *byte = size,
-            20 => *byte = entry,
-            _ => {}
-        }
-    }
+    let mut file = Vec::new(alloc);
+    file.extend_from_slice(&[1, 3, 0x30, 0x10, 0x20, 0, 0, 0, size, 0, 0, 0, 0, 0, 0, 0])?;
+    file.extend_from_slice(&[0, 0, 0, 0, entry, 0, 0, 0, 0, 0x10, 0, 0, 0, 0, 0, 0])?;
     file.extend_from_slice(text)?;
     Ok(file)
 }
@@ -94,90 +82,83 @@ static ROWS: [Row; 6] = [
     },
 ];
 
-/// A writer that takes so many bytes and then fails.
-#[derive(Drop)]
-struct Failing {
-    left: usize,
-}
-
-impl Write for Failing {
-    fn write(&mut self, bytes: &[u8]) -> io::Result<usize> {
-        if self.left == 0 {
-            return Err(io::Error::from(io::ErrorKind::WriteZero));
-        }
-        let taken = bytes.len().min(self.left);
-        self.left -= taken;
-        Ok(taken)
-    }
-
-    fn flush(&mut self) -> io::Result<()> {
-        Ok(())
-    }
-}
-
 #[test]
 fn prints_steps(rt: HostRuntime) -> Result<(), Fail> {
-    for (number, row) in ROWS.iter().enumerate() {
+    for row in &ROWS {
         let file = separate(rt.alloc(), row.text, row.entry)?;
         let mut out = Vec::new(rt.alloc());
         print_one(rt.alloc(), file.as_slice(), row.steps, &mut out).map_err(|_| "refused")?;
-        assert_eq!(rt; out.as_slice(), row.printed.as_bytes(), "row {number}");
+        if out.as_slice() != row.printed.as_bytes() {
+            return Err(Fail::from(row.printed));
+        }
     }
-    for left in [0, 1, 60, 160] {
-        let result = print_one(rt.alloc(), &HEADER, 9, &mut Failing { left });
-        assert_eq!(rt; result, Err(Failure::File), "after {left} bytes");
-    }
-    let refused = Failure::Refused(FileError::Truncated);
-    let result = print_one(rt.alloc(), &[], 9, &mut Failing { left: 0 });
-    assert_eq!(rt; result, Err(refused));
-    let line = format!(in rt.alloc(); "{refused}")?;
-    assert_eq!(rt; (line.as_str(), refused.status()), ("mx: 20 Truncated", 1));
     Ok(())
 }
 
+/// Words, and what they ask for.
+struct Line {
+    words: &'static [&'static str],
+    asked: Result<Request<'static>, ErrorKind>,
+}
+
+static LINES: [Line; 9] = [
+    Line {
+        words: &["mx", "one", "sum.out", "4294967295"],
+        asked: Ok(Request::One {
+            file: "sum.out",
+            steps: u32::MAX,
+        }),
+    },
+    Line {
+        words: &["mx", "as", "a.s", "a.out"],
+        asked: Ok(Request::As {
+            text: "a.s",
+            file: "a.out",
+        }),
+    },
+    Line {
+        words: &["mx", "replay", "pair", "log"],
+        asked: Ok(Request::Replay {
+            config: "pair",
+            log: "log",
+        }),
+    },
+    Line {
+        words: &["mx", "db", "pair", "look"],
+        asked: Ok(Request::Db {
+            config: "pair",
+            script: "look",
+        }),
+    },
+    Line {
+        words: &["mx", "one", "sum.out", "4294967296"],
+        asked: Err(ErrorKind::ValueValidation),
+    },
+    Line {
+        words: &["mx", "step", "pair"],
+        asked: Err(ErrorKind::MissingRequiredArgument),
+    },
+    Line {
+        words: &["mx", "two", "sum.out", "9"],
+        asked: Err(ErrorKind::InvalidSubcommand),
+    },
+    Line {
+        words: &["mx"],
+        asked: Err(ErrorKind::MissingSubcommand),
+    },
+    Line {
+        words: &["mx", "db", "--help"],
+        asked: Err(ErrorKind::DisplayHelp),
+    },
+];
+
 #[test]
 fn reads_words(rt: HostRuntime) -> Result<(), Fail> {
-    let file = "sum.out";
-    let last = u32::MAX;
-    let lines = [
-        (
-            ["mx", "one", "sum.out", "0"].as_slice(),
-            Ok(Request::One { file, steps: 0 }),
-        ),
-        (
-            ["mx", "one", "sum.out", "4294967295"].as_slice(),
-            Ok(Request::One { file, steps: last }),
-        ),
-        (
-            ["mx", "one", "sum.out", "4294967296"].as_slice(),
-            Err(ErrorKind::ValueValidation),
-        ),
-        (
-            ["mx", "one", "sum.out", "-1"].as_slice(),
-            Err(ErrorKind::UnknownArgument),
-        ),
-        (
-            ["mx", "one", "sum.out"].as_slice(),
-            Err(ErrorKind::MissingRequiredArgument),
-        ),
-        (
-            ["mx", "two", "sum.out", "9"].as_slice(),
-            Err(ErrorKind::InvalidSubcommand),
-        ),
-        (
-            ["mx", "one", "sum.out", "9", "9"].as_slice(),
-            Err(ErrorKind::UnknownArgument),
-        ),
-        (["mx"].as_slice(), Err(ErrorKind::MissingSubcommand)),
-        (["mx", "--help"].as_slice(), Err(ErrorKind::DisplayHelp)),
-        (
-            ["mx", "one", "--help"].as_slice(),
-            Err(ErrorKind::DisplayHelp),
-        ),
-    ];
-    for (number, (words, wanted)) in lines.iter().enumerate() {
-        let found = command(rt.alloc(), words).map_err(|error| error.kind());
-        assert_eq!(rt; found, *wanted, "line {number}");
+    for line in &LINES {
+        let asked = command(rt.alloc(), line.words).map_err(|error| error.kind());
+        if asked != line.asked {
+            return Err(Fail::from("words"));
+        }
     }
     Ok(())
 }

@@ -1,0 +1,3 @@
+pub mod One
+pub mod Shown
+pub mod Assembling
