@@ -1,9 +1,9 @@
 -- Lines against which nothing stands have their program.
-use Rattle.std.proofs.Common.{◌≡◌, ℕ, ◌+◌, ◌*◌, ◌/◌, ◌<◌, ◌≤◌, ◌^◌, Bool, true, false, List, [], ◌∷◌, length, map, replicate, refl, sym, ◌∙◌, ap, subst, arith, lit<, Option, Some, None, cond}
-use Rattle.std.specs.Prelude.{ℤ, pos, negsuc, ◌||◌, ◌&&◌, not, nat_lt, is_some, unwrap_or}
+use Rattle.std.proofs.Common.{◌≡◌, ℕ, ◌+◌, ◌*◌, ◌<◌, ◌≤◌, ◌^◌, Bool, true, false, List, [], ◌∷◌, length, map, replicate, refl, sym, ◌∙◌, ap, subst, arith, lit<, Option, Some, None, cond}
+use Rattle.std.specs.Prelude.{ℤ, pos, negsuc, ◌||◌, not, nat_lt, is_some, unwrap_or}
 use Rattle.std.specs.List.{list_any, flat_map}
+use Rattle.std.proofs.lemmas.Bool.{ltb-true, ltb-false}
 use Rattle.std.proofs.lemmas.List.{length-map}
-use Rattle.std.proofs.lemmas.Grind.{common_steps}
 use Rattle.mx_word.specs.Word.{modulo, bytes_of, bytes_in}
 use Rattle.mx_insn.specs.declared.insn.Insn.{Insn}
 use Rattle.mx_encode.specs.declared.Wide.{Wide}
@@ -28,11 +28,11 @@ use Rattle.mx_aout.specs.Limits.{rounded, used_of, IsWithin}
 use Rattle.mx_aout.specs.declared.program.Program.{Program}
 use Rattle.mx_asm.specs.declared.sizes.Sizes.{Sizes}
 use Rattle.mx_asm.specs.declared.fault.Problem.{Problem}
-use Rattle.mx_asm.specs.declared.fault.Problem.TheVariants.{Undefined, TooFar, TooLarge}
+use Rattle.mx_asm.specs.declared.fault.Problem.TheVariants.{TooFar, TooLarge}
 use Rattle.mx_asm.specs.declared.fault.Fault.{Fault}
-use Rattle.mx_asm.specs.Branches.{branch_by, branch_marks, branch_length, distance, is_near, is_too_far}
+use Rattle.mx_asm.specs.Branches.{branch_by, branch_marks, branch_length, distance, is_too_far}
 use Rattle.mx_asm.specs.Lengths.{length_of}
-use Rattle.mx_asm.specs.Layout.{Above, start, said, left_by, laid_by, address_of, spot_of, sizes_after, value_under, base_of, counted_from, spot_named}
+use Rattle.mx_asm.specs.Layout.{Above, start, said, left_by, laid_by, address_of, spot_of, sizes_after, value_under, base_of, counted_from}
 use Rattle.mx_asm.specs.Bytes.{put_in, put_under, then_put, named_under, BytesOf, StandsIn, AllStand, contents}
 use Rattle.mx_asm.specs.Faults.{is_undefined, is_undefined_if, undefined_where, undefined_or, problem_at, fault_or, first_problem, total_of, at_least, is_too_large, last_line, too_large_in, first_of, fault_behind}
 use Rattle.mx_asm.specs.Faults as faults
@@ -141,7 +141,7 @@ branch_some law a at k target h =
     let d = distance (at + branch_length k) x in
     let (b, chosen) = law.some (branch_by k d) (branch_marks k) (branch_fits k d (omega arith)) (branch_form k d near) in
     let long : length b ≡ branch_length k = branch_bytes_length k d b near chosen in
-    (b, x, e, subst (λ (n : ℕ). Chosen (branch_by k (distance (at + n) x)) (branch_marks k) b) (sym long) chosen, long)
+    (b, (x, e, subst (λ (n : ℕ). Chosen (branch_by k (distance (at + n) x)) (branch_marks k) b) (sym long) chosen, long))
 
 -- ---- statements
 
@@ -153,7 +153,7 @@ bytes_some : Encodes → (a : Above) (at : ℕ) (t : Statement) → Fitting t �
 bytes_some law a at says.Nothing fits h = ([], refl)
 bytes_some law a at (says.Enter section) fits h = ([], refl)
 bytes_some law a at (says.Data size values) fits h =
-    let (ns, e) = all_values a values (defined (list_any (is_undefined a) values) h) in (flat_map (bytes_of (bytes_in size)) ns, ns, e, refl)
+    let (ns, e) = all_values a values (defined (list_any (is_undefined a) values) h) in (flat_map (bytes_of (bytes_in size)) ns, (ns, e, refl))
 bytes_some law a at (says.Ascii bytes) fits h = (bytes, refl)
 bytes_some law a at (says.Space n) fits h = (replicate n 0, refl)
 bytes_some law a at says.Separate fits h = ([], refl)
@@ -163,7 +163,7 @@ bytes_some law a at (says.Instruction i) fits h =
     let clean = defined (is_undefined_if a i.immediate || is_undefined_if a i.displacement) h in
     let (insn, e, s) = named_sound law a i fits (or_left (is_undefined_if a i.immediate) (is_undefined_if a i.displacement) clean) (or_right (is_undefined_if a i.immediate) (is_undefined_if a i.displacement) clean) in
     let (b, chosen) = law.some insn (marks i) s.0 s.1 in
-    (b, insn, e, chosen)
+    (b, (insn, e, chosen))
 bytes_some law a at (says.Branch k target) fits h = branch_some law a at k target h
 
 stands_some : Encodes → (section : Section) (a : Above) (at : ℕ) (t : Statement) → Fitting t → problem_at a at t ≡ None → (b : List ℕ) × StandsIn section a at t b
@@ -190,7 +190,7 @@ all_some law a s n (l ∷ ls) (fits, more) h =
     let (b, right) = stands_some law s.section a at (said l) fits clean.0 in
     let long : length b ≡ length_of (said l) = stands_length law.keeps s.section a at (said l) b right in
     let (bs, stand) = all_some law a (sizes_after s (said l) (length_of (said l))) (n + 1) ls more clean.1 in
-    (b ∷ bs, right, subst (λ (k : ℕ). AllStand a (sizes_after s (said l) k) ls bs) (sym long) stand)
+    (b ∷ bs, (right, subst (λ (k : ℕ). AllStand a (sizes_after s (said l) k) ls bs) (sym long) stand))
 
 said_fits : Encodes → (t : List ℕ) (l : Line) → IsLine t l → Fitting (said l)
 said_fits law t l line = by_case l.statement (λ i. law.line t l i line)
@@ -222,8 +222,11 @@ small_total n h = by_case (nat_lt (rounded n) 4096) refl h
   where
     by_case : (b : Bool) → nat_lt (rounded n) 4096 ≡ b → nat_lt 4194304 (cond b 4096 (rounded n)) ≡ false
         → (0 < cond b 4096 (rounded n)) × (rounded (cond b 4096 (rounded n)) ≤ 4194304) × (n ≤ rounded (cond b 4096 (rounded n)))
-    by_case true e h = (lit< tt, lit< tt, omega (arith, e))
-    by_case false e h = (omega (arith, e), omega (arith, e, h), omega (arith, e))
+    by_case true e h = let less : rounded n < 4096 = ltb-true (rounded n) 4096 e in (lit< tt, omega arith, omega (arith, less))
+    by_case false e h =
+        let least : 4096 ≤ rounded n = ltb-false (rounded n) 4096 e in
+        let most : rounded n ≤ 4194304 = ltb-false 4194304 (rounded n) h in
+        (omega (arith, least), omega (arith, most), omega (arith, least))
 
 used_same : (sep : Bool) (text init bss : ℕ) → used_of sep text init bss ≡ (cond sep 0 text) + init + bss
 used_same true text init bss = omega arith
@@ -238,7 +241,7 @@ within a h =
     let stack = unwrap_or a.stack 2048 in
     let sized = small_total (faults.used_of a + stack) total in
     let used = used_same a.sep a.sizes.text a.sizes.init a.sizes.bss in
-    (sized.0, omega (arith, text), omega (arith, labels), sized.1, omega (arith, used, sized.2))
+    (sized.0, ltb-false 1048576 a.sizes.text text, ltb-false 262144 (length a.labels * 16) labels, sized.1, omega (arith, used, sized.2))
 
 not_too_large : (b : Bool) (f : Fault) → cond b (Some f) None ≡ None → b ≡ false
 not_too_large true f h = cc
@@ -250,16 +253,17 @@ no_first (Some f) g h = cc
 
 -- ---- the program
 
-made : Encodes → (ls : List Line) → AllFitting ls → fault_behind ls ≡ None → (p : Program) × AreAssembled ls p
-made law ls fits clean =
+-- the program of these bytes
+built : KeepsLength → (ls : List Line) (bs : List (List ℕ)) → fault_behind ls ≡ None → is_too_large (laid_by start ls) ≡ false → AllStand (laid_by start ls) start.sizes ls bs
+    → (p : Program) × AreAssembled ls p
+built law ls bs clean small stand =
     let a = laid_by start ls in
-    let both = no_first (first_problem a start.sizes 1 ls) (too_large_in a ls) clean in
-    let small = not_too_large (is_too_large a) (record { problem = TooLarge; line = last_line ls }) both.1 in
-    let (bs, stand) = all_some law a start.sizes 1 ls fits both.0 in
-    let left : left_by start ls (map length bs) ≡ a = lengths_same law.keeps a start start.sizes ls bs stand in
+    let left : left_by start ls (map length bs) ≡ a = lengths_same law a start start.sizes ls bs stand in
     let back : a ≡ left_by start ls (map length bs) = sym left in
-    let text : a.sizes.text ≡ length (contents Text start.sizes ls bs) = ap (λ (x : Above). x.sizes.text) back ∙ contents_size law.keeps Text (λ b. refl) a start ls bs stand in
-    let init : a.sizes.init ≡ length (contents Data start.sizes ls bs) = ap (λ (x : Above). x.sizes.init) back ∙ contents_size law.keeps Data (λ b. refl) a start ls bs stand in
+    let size = contents_size law Text (λ b. refl) a start ls bs stand in
+    let other = contents_size law Data (λ b. refl) a start ls bs stand in
+    let text : a.sizes.text ≡ length (contents Text start.sizes ls bs) = omega (arith, size, ap (λ (x : Above). x.sizes.text) back) in
+    let init : a.sizes.init ≡ length (contents Data start.sizes ls bs) = omega (arith, other, ap (λ (x : Above). x.sizes.init) back) in
     let symbols : length a.labels ≡ length (map (symbol_under a) a.labels) = sym (length-map a.labels (symbol_under a)) in
     let fit = subst (λ (n : ℕ). IsWithin a.sep (total_of a) (length (contents Text start.sizes ls bs)) (length (contents Data start.sizes ls bs)) a.sizes.bss n) symbols
     (subst (λ (n : ℕ). IsWithin a.sep (total_of a) (length (contents Text start.sizes ls bs)) n a.sizes.bss (length a.labels)) init
@@ -287,6 +291,14 @@ made law ls fits clean =
       symbols = ap (λ (x : Above). map (symbol_under x) x.labels) back;
     })
 
+made : Encodes → (ls : List Line) → AllFitting ls → fault_behind ls ≡ None → (p : Program) × AreAssembled ls p
+made law ls fits clean =
+    let a = laid_by start ls in
+    let both = no_first (first_problem a start.sizes 1 ls) (too_large_in a ls) clean in
+    let small = not_too_large (is_too_large a) (record { problem = TooLarge; line = last_line ls }) both.1 in
+    let (bs, stand) = all_some law a start.sizes 1 ls fits both.0 in
+    built law.keeps ls bs clean small stand
+
 pub lines_have_program : Encodes → (t : List ℕ) (ls : List Line) → AreTaken start (lines t) ls → fault_behind ls ≡ None → (p : Program) × Assembled t p
 lines_have_program law t ls taken clean =
-    let (p, assembled) = made law ls (taken_fit law start (lines t) ls taken) clean in (p, ls, taken, assembled)
+    let (p, assembled) = made law ls (taken_fit law start (lines t) ls taken) clean in (p, (ls, taken, assembled))

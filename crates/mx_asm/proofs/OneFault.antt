@@ -10,7 +10,7 @@ use Rattle.mx_asm.specs.declared.fault.Problem.{Problem}
 use Rattle.mx_asm.specs.declared.fault.Fault.{Fault}
 use Rattle.mx_asm.specs.Layout.{Above, start, reason_of}
 use Rattle.mx_asm.specs.Faults.{fault_behind, problem_of}
-use Rattle.mx_asm.specs.Text.{TellsOf, IsTaken, IsWrong, IsFirstWrong, on_behind, HasFault}
+use Rattle.mx_asm.specs.Text.{TellsOf, IsWrong, IsFirstWrong, on_behind, HasFault}
 use Rattle.mx_asm.proofs.Deciding.{OneLine, NeverBoth, taken_same, taken_right, taken_not_wrong}
 
 abbrev pub OneLexical : Type 0
@@ -36,8 +36,11 @@ wrong_same one never lexical a t p q (inr (l, r, line, stands, is)) (inr (k, s, 
     let reason : r ≡ s = reasons_same (reason_of a l) r s stands (subst (λ (x : Line). reason_of a x ≡ Some s) same stands') in
     is ∙ ap problem_of reason ∙ sym is'
 
+abbrev fault_at : Problem → ℕ → Fault
+fault_at p n = record { problem = p; line = n }
+
 fault_same : (f g : Fault) → f.problem ≡ g.problem → f.line ≡ g.line → f ≡ g
-fault_same f g e h = cc
+fault_same f g e h = ap (λ (p : Problem). fault_at p f.line) e ∙ ap (λ (n : ℕ). fault_at g.problem n) h
 
 first_same : OneLine → NeverBoth → OneLexical → (a : Above) (n : ℕ) (ts : List (List ℕ)) (f g : Fault) → IsFirstWrong a n ts f → IsFirstWrong a n ts g → f ≡ g
 first_same one never lexical a n [] f g x y = absurd x

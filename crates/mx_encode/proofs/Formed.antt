@@ -1,5 +1,5 @@
 -- What has a form has chosen bytes, and numbers put in keep the widths.
-use Rattle.std.proofs.Common.{◌≡◌, ℕ, ◌<◌, ◌^◌, Bool, true, false, List, Option, Some, None, refl, sym, ◌∙◌}
+use Rattle.std.proofs.Common.{◌≡◌, ℕ, ◌<◌, ◌^◌, true, List, Option, Some, None, refl, ◌∙◌}
 use Rattle.mx_insn.specs.declared.insn.Operand.{Operand}
 use Rattle.mx_insn.specs.declared.insn.Operand.TheVariants as operand
 use Rattle.mx_insn.specs.declared.insn.Operands.{Operands}
@@ -17,7 +17,7 @@ use Rattle.mx_encode.specs.Choice.{Choice, choice}
 use Rattle.mx_encode.specs.Chosen.{Chosen, fields_of}
 use Rattle.mx_encode.specs.Filled.{value_with, factor_with, operands_with_value, with_immediate, operand_at, operands_at, with_displacement}
 use Rattle.mx_encode.specs.Given.{OperandFits, ImmediateFits, WideImmediateFits, OperandsFit, Fits}
-use Rattle.mx_encode.proofs.Suits.{Suits, suits_spell}
+use Rattle.mx_encode.proofs.Suits.{suits_spell}
 use Rattle.mx_encode.proofs.Families.{SuitsWhere, choice_suits}
 use Rattle.mx_encode.proofs.Formless.{stands, form_is}
 

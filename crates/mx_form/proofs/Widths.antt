@@ -1,5 +1,5 @@
 -- The numbers of what is stated are as wide as their types.
-use Rattle.std.proofs.Common.{◌≡◌, ℕ, ◌<◌, ◌^◌, Bool, true, false, List, [], ◌∷◌, Option, Some, None, refl, subst, sym, arith, lit<}
+use Rattle.std.proofs.Common.{◌≡◌, ℕ, ◌<◌, ◌^◌, Bool, true, false, List, [], ◌∷◌, Option, Some, None, refl, subst, arith, lit<}
 use Rattle.std.specs.Prelude.{ℤ, pos, negsuc}
 use Rattle.std.proofs.lemmas.Bool.{cond_both}
 use Rattle.mx_word.specs.Word.{width, modulo}
@@ -14,12 +14,9 @@ use Rattle.mx_word.specs.declared.names.Shift.{Shift}
 use Rattle.mx_line.specs.declared.names.Name.{Name}
 use Rattle.mx_insn.specs.declared.insn.Memory.{Memory}
 use Rattle.mx_insn.specs.declared.insn.Operand.TheVariants as operands
-use Rattle.mx_insn.specs.declared.insn.Operands.TheVariants.{ToRegister, ToMemory, Immediate}
 use Rattle.mx_insn.specs.declared.insn.Product.{Product}
 use Rattle.mx_insn.specs.declared.insn.Product.TheVariants.{Mul, Imul, Div, Idiv}
 use Rattle.mx_insn.specs.declared.insn.Loop.{Loop}
-use Rattle.mx_insn.specs.declared.insn.Port.TheVariants as ports
-use Rattle.mx_insn.specs.declared.insn.Count.TheVariants as counts
 use Rattle.mx_insn.specs.declared.insn.OperandSize.TheVariants as operand_sizes
 use Rattle.mx_insn.specs.declared.insn.Repeat.TheVariants as repeats
 use Rattle.mx_insn.specs.declared.insn.Insn.{Insn}
@@ -48,7 +45,7 @@ use Rattle.mx_form.specs.declared.pair.Pair.{Pair}
 use Rattle.mx_form.specs.declared.moves.ExtensionParts.{ExtensionParts}
 use Rattle.mx_form.specs.Numbers.{is_outside, low_bits, number_in, immediate_in, is_same, names_no_other, waiting}
 use Rattle.mx_form.specs.Spots.{says, memory_named, spot_in, spot_of, spot_of_size, spot_beside, not_byte}
-use Rattle.mx_form.specs.Pairs.{from_spot, to_memory, to_spot, operands_of}
+use Rattle.mx_form.specs.Pairs.{to_memory, operands_of}
 use Rattle.mx_form.specs.Operations.{unary, test, sized_factor, factor_of, product, count_of, shift, set_condition}
 use Rattle.mx_form.specs.Moves.{exchange, load_address, extension_of, extension_parts, zero_extend, sign_extend}
 use Rattle.mx_form.specs.Stack.{alone, push, pop, return_of, interrupt, port_of, port_size_of, port_in, port_out}

@@ -1,5 +1,5 @@
 -- The numbers of a line's instruction are as wide as their types.
-use Rattle.std.proofs.Common.{◌≡◌, ℕ, Bool, List, [], ◌∷◌, Option, Some, None, refl, sym, ap, ◌∙◌, subst}
+use Rattle.std.proofs.Common.{◌≡◌, ℕ, Bool, List, [], ◌∷◌, Option, Some, None, sym, ap, ◌∙◌, subst}
 use Rattle.std.specs.List.{slice_split}
 use Rattle.mx_word.specs.declared.size.Size.{Size}
 use Rattle.mx_word.specs.declared.size.Size.TheVariants.{Byte, Word, Dword}
@@ -22,7 +22,7 @@ use Rattle.mx_form.specs.Statements.{stated, repeated}
 use Rattle.mx_reading.specs.declared.items.Begun.{Begun}
 use Rattle.mx_reading.specs.declared.items.Begun.TheVariants as begun
 use Rattle.mx_reading.specs.Items.{behind_label, behind_first}
-use Rattle.mx_reading.specs.Statements.{is_marked, unmarked, behind_mnemonic, behind_prefix, values_in, data_of, standing_alone, text_given, number_alone, space_of, stack_of, entry_of, behind_directive, text_alone, statement_of}
+use Rattle.mx_reading.specs.Statements.{is_marked, unmarked, behind_mnemonic, behind_prefix, values_in, data_of, standing_alone, number_alone, entry_of, behind_directive, text_alone, statement_of}
 use Rattle.mx_reading.specs.Lines.{where_named, IsLine}
 
 -- of the forms
