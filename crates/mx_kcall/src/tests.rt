@@ -12,7 +12,8 @@ use std::process::Abort;
 use std::test::Fail;
 
 /// A kernel call of slot 0, whose mask has these bits: its type and words, the result, p0. Slot 1
-/// owns line 5, slot 2 is on a processor, slot 3 is down, and no slot 4 is used.
+/// owns line 5 and has written a byte to the console, slot 2 is on a processor, slot 3 is down, and
+/// no slot 4 is used.
 #[derive(Clone, Copy)]
 struct Row(u32, [u32; 6], u32, u32);
 
@@ -192,6 +193,7 @@ fn kernel_calls(rt: HostRuntime) -> Result<(), Fail> {
     for (number, row) in ROWS.iter().enumerate() {
         let mut table = new_table(&rt, rt.alloc(), 4, row.0)?;
         make_call(&rt, &mut table, 1, &[0x603, 1, 5, 0, 0, 0]);
+        make_call(&rt, &mut table, 1, &[0x604, 1, 0, 0x42, 0, 0]);
         make_call(&rt, &mut table, 3, &[0x600, 0, 0, 0, 0, 0]);
         send_away(&rt, &mut table, 2);
         let after = make_call(&rt, &mut table, 0, &row.1);
@@ -204,7 +206,7 @@ fn kernel_calls(rt: HostRuntime) -> Result<(), Fail> {
         for (place, wanted) in [(512, 0xFFFF_FFFE), (516, row.2), (520, row.3)] {
             assert!(rt; word_at(&rt, &table, place) == wanted, "row {number}");
         }
-        let written = table.devices().console.get(0);
+        let written = table.devices().console.get(1);
         assert!(rt;
             written
                 == if row.1[0] == 0x604 && row.1[1] == 1 {
