@@ -17,7 +17,7 @@ use std::test::Fail;
 #[derive(Clone, Copy)]
 struct Row(u32, [u32; 6], u32, u32);
 
-const ROWS: [Row; 40] = [
+static ROWS: [Row; 40] = [
     // The type is tried before the mask, and the mask before the call's own reasons.
     Row(0xFF, [0x608, 0, 0, 0, 0, 0], 0xFFFF_FF95, 0),
     Row(0, [0x608, 0, 0, 0, 0, 0], 0xFFFF_FF95, 0),
