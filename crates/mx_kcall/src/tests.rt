@@ -219,24 +219,24 @@ fn kernel_calls(rt: HostRuntime) -> Result<(), Fail> {
     Ok(())
 }
 
-// Within one process: up by one byte and down, out of the caller's own message, onto it, and onto its
-// end and past it.
+/// Copies within one process: from, to, how many bytes; a place, and the number that then stands there.
+/// Up by one byte and down, out of the caller's own message, onto it, and onto its end and past it.
+static COPIES: [(u32, u32, u32, u32, u32); 9] = [
+    (100, 101, 4, 100, 0x0302_0101),
+    (100, 101, 4, 101, 0x0403_0201),
+    (101, 100, 4, 100, 0x0504_0302),
+    (101, 100, 4, 101, 0x0505_0403),
+    (516, 600, 4, 600, 0x605),
+    (100, 520, 4, 520, 0),
+    (100, 512, 36, 512, 0xFFFF_FFFE),
+    (97, 544, 8, 544, 0),
+    (97, 544, 8, 548, 0x0504_0302),
+];
+
 #[test]
 fn copies(rt: HostRuntime) -> Result<(), Fail> {
-    for (number, (from, to, count, place, wanted)) in [
-        (100, 101, 4, 100, 0x0302_0101),
-        (100, 101, 4, 101, 0x0403_0201),
-        (101, 100, 4, 100, 0x0504_0302),
-        (101, 100, 4, 101, 0x0505_0403),
-        (516, 600, 4, 600, 0x605),
-        (100, 520, 4, 520, 0),
-        (100, 512, 36, 512, 0xFFFF_FFFE),
-        (97, 544, 8, 544, 0),
-        (97, 544, 8, 548, 0x0504_0302),
-    ]
-    .into_iter()
-    .enumerate()
-    {
+    for (number, copy) in COPIES.iter().enumerate() {
+        let (from, to, count, place, wanted) = *copy;
         let mut table = new_table(&rt, rt.alloc(), 1, 0xFF)?;
         let after = make_call(&rt, &mut table, 0, &[0x605, 0, from, 0, to, count]);
         assert!(rt; after == After::Reply(0), "copy {number}");
