@@ -58,7 +58,7 @@ const WAITS: Seen = Stays(State::Receiving(Partner::Any));
 
 const SENDS: Seen = Stays(State::Sending);
 
-const STEPS: [Step; 49] = [
+static STEPS: [Step; 49] = [
     // Two that send to each other, one that sends to itself, and three in a ring.
     Step(NEW, 0, SEND, 1, 0, SENDS, 1, Goes(0)),
     Step(ON, 1, SEND, 0, 0, Goes(LOCKED), 0, SENDS),

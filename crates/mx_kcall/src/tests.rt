@@ -12,11 +12,12 @@ use std::process::Abort;
 use std::test::Fail;
 
 /// A kernel call of slot 0, whose mask has these bits: its type and words, the result, p0. Slot 1
-/// owns line 5, slot 2 is on a processor, slot 3 is down, and no slot 4 is used.
+/// owns line 5 and has written a byte to the console, slot 2 is on a processor, slot 3 is down, and
+/// no slot 4 is used.
 #[derive(Clone, Copy)]
 struct Row(u32, [u32; 6], u32, u32);
 
-const ROWS: [Row; 40] = [
+static ROWS: [Row; 40] = [
     // The type is tried before the mask, and the mask before the call's own reasons.
     Row(0xFF, [0x608, 0, 0, 0, 0, 0], 0xFFFF_FF95, 0),
     Row(0, [0x608, 0, 0, 0, 0, 0], 0xFFFF_FF95, 0),
@@ -192,6 +193,7 @@ fn kernel_calls(rt: HostRuntime) -> Result<(), Fail> {
     for (number, row) in ROWS.iter().enumerate() {
         let mut table = new_table(&rt, rt.alloc(), 4, row.0)?;
         make_call(&rt, &mut table, 1, &[0x603, 1, 5, 0, 0, 0]);
+        make_call(&rt, &mut table, 1, &[0x604, 1, 0, 0x42, 0, 0]);
         make_call(&rt, &mut table, 3, &[0x600, 0, 0, 0, 0, 0]);
         send_away(&rt, &mut table, 2);
         let after = make_call(&rt, &mut table, 0, &row.1);
@@ -204,7 +206,7 @@ fn kernel_calls(rt: HostRuntime) -> Result<(), Fail> {
         for (place, wanted) in [(512, 0xFFFF_FFFE), (516, row.2), (520, row.3)] {
             assert!(rt; word_at(&rt, &table, place) == wanted, "row {number}");
         }
-        let written = table.devices().console.get(0);
+        let written = table.devices().console.get(1);
         assert!(rt;
             written
                 == if row.1[0] == 0x604 && row.1[1] == 1 {
@@ -217,24 +219,24 @@ fn kernel_calls(rt: HostRuntime) -> Result<(), Fail> {
     Ok(())
 }
 
-// Within one process: up by one byte and down, out of the caller's own message, onto it, and onto its
-// end and past it.
+/// Copies within one process: from, to, how many bytes; a place, and the number that then stands there.
+/// Up by one byte and down, out of the caller's own message, onto it, and onto its end and past it.
+static COPIES: [(u32, u32, u32, u32, u32); 9] = [
+    (100, 101, 4, 100, 0x0302_0101),
+    (100, 101, 4, 101, 0x0403_0201),
+    (101, 100, 4, 100, 0x0504_0302),
+    (101, 100, 4, 101, 0x0505_0403),
+    (516, 600, 4, 600, 0x605),
+    (100, 520, 4, 520, 0),
+    (100, 512, 36, 512, 0xFFFF_FFFE),
+    (97, 544, 8, 544, 0),
+    (97, 544, 8, 548, 0x0504_0302),
+];
+
 #[test]
 fn copies(rt: HostRuntime) -> Result<(), Fail> {
-    for (number, (from, to, count, place, wanted)) in [
-        (100, 101, 4, 100, 0x0302_0101),
-        (100, 101, 4, 101, 0x0403_0201),
-        (101, 100, 4, 100, 0x0504_0302),
-        (101, 100, 4, 101, 0x0505_0403),
-        (516, 600, 4, 600, 0x605),
-        (100, 520, 4, 520, 0),
-        (100, 512, 36, 512, 0xFFFF_FFFE),
-        (97, 544, 8, 544, 0),
-        (97, 544, 8, 548, 0x0504_0302),
-    ]
-    .into_iter()
-    .enumerate()
-    {
+    for (number, copy) in COPIES.iter().enumerate() {
+        let (from, to, count, place, wanted) = *copy;
         let mut table = new_table(&rt, rt.alloc(), 1, 0xFF)?;
         let after = make_call(&rt, &mut table, 0, &[0x605, 0, from, 0, to, count]);
         assert!(rt; after == After::Reply(0), "copy {number}");
