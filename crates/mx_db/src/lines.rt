@@ -1,5 +1,10 @@
 //! Lines of a debugger's script.
 
+ghost use Rattle.std.specs.Prelude.{◌≡◌, ◌<◌, OnOk};
+ghost use Rattle.mx_machine.specs.Machine.{world_of};
+ghost use Rattle.mx_steps.specs.Lines.{actors};
+ghost use Rattle.mx_db.specs.Lines.{debug_line_made, debug_lines_made};
+
 use crate::going::go;
 use crate::places::{clear_breakpoint, set_breakpoint};
 use crate::refused::Refused;
@@ -60,7 +65,11 @@ fn perform_debug_line(
     other: u8,
     line: &DebugLine,
     text: &mut String,
-) -> Result<(), AllocError> {
+) -> Result<(), AllocError>
+    requires { other < actors (world_of machine.old) }
+    ensures made { OnOk result (debug_line_made other (record { world = world_of machine.old; points = debugger.old }) line.now ≡ record { world = world_of machine.new; points = debugger.new }) }
+    ensures actors { actors (world_of machine.new) ≡ actors (world_of machine.old) }
+{
     match line {
         DebugLine::Plain(line) => {
             let said = perform_line(machine, other, *line);
@@ -97,7 +106,10 @@ pub fn perform_debug_lines(
     other: u8,
     lines: &[DebugLine],
     text: &mut String,
-) -> Result<(), AllocError> {
+) -> Result<(), AllocError>
+    requires { other < actors (world_of machine.old) }
+    ensures { OnOk result (debug_lines_made other (record { world = world_of machine.old; points = debugger.old }) lines.now ≡ record { world = world_of machine.new; points = debugger.new }) }
+{
     for line in lines {
         perform_debug_line(machine, debugger, other, line, text)?;
     }
