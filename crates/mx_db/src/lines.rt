@@ -13,7 +13,7 @@ use mx_debug::{Cause, Debugger, Halt};
 use mx_image::Stop;
 use mx_machine::{Machine, Refusal};
 use mx_script::DebugLine;
-use mx_steps::{Said, perform_line};
+use mx_steps::{Said, actors_stay, perform_line};
 use std::alloc::AllocError;
 use std::fmt::Write;
 
@@ -59,6 +59,7 @@ fn push_gone(
 
 /// Does what a line of a debugger's script says, and appends what is said of it. The lines that name
 /// no actor are the events of `other`.
+#[tactic(auto, using(crate::proofs::Made::plain_made, crate::proofs::Made::broken_made, crate::proofs::Made::cleared_made, crate::proofs::Made::gone_made, crate::proofs::Made::registers_made, crate::proofs::Made::memory_made, crate::proofs::Made::messages_made, crate::proofs::Made::gone_actors))]
 fn perform_debug_line(
     machine: &mut Machine,
     debugger: &mut Debugger,
@@ -70,6 +71,7 @@ fn perform_debug_line(
     ensures made { OnOk result (debug_line_made other (record { world = world_of machine.old; points = debugger.old }) line.now ≡ record { world = world_of machine.new; points = debugger.new }) }
     ensures actors { actors (world_of machine.new) ≡ actors (world_of machine.old) }
 {
+    actors_stay();
     match line {
         DebugLine::Plain(line) => {
             let said = perform_line(machine, other, *line);
@@ -100,6 +102,7 @@ fn perform_debug_line(
 }
 
 /// Does what lines say, and appends what is said of them.
+#[tactic(auto, using(crate::proofs::Made::lines_more))]
 pub fn perform_debug_lines(
     machine: &mut Machine,
     debugger: &mut Debugger,
