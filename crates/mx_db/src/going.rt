@@ -33,9 +33,9 @@ impl<'a> Tool for Resuming<'a> {
     }
 }
 
-#[tactic(auto, using(crate::proofs::Worlds::gone_steps, crate::proofs::Worlds::gone_nothing, crate::proofs::Worlds::gone_no_slot))]
 /// Runs what a processor holds for at most so many steps, up to one of the breakpoints of its slot.
 /// Refused are `CpuEmpty`, and `AtStop` where no step can be made.
+#[tactic(auto, using(crate::proofs::Worlds::gone_steps, crate::proofs::Worlds::gone_nothing, crate::proofs::Worlds::gone_no_slot))]
 pub fn go(machine: &mut Machine, debugger: &Debugger, cpu: u8, steps: u32) -> Result<Halt, Refusal>
     ensures gone { IfOk result (λ halt. HasGone (world_of machine.old) (world_of machine.new) debugger.now cpu steps halt) }
     ensures stuck { IfErr result (λ refusal. IsStuck (world_of machine.old) debugger.now cpu steps refusal × (world_of machine.new ≡ world_of machine.old)) }
