@@ -1,0 +1,2 @@
+pub mod SetupLemmas
+pub mod BootLemmas

@@ -1,2 +1,4 @@
 pub mod Asked
+pub mod Course
+pub mod Named
 pub mod Setup

@@ -22,7 +22,7 @@ IsMissed name q f = (kind : ErrorKind) × (q ≡ missed name kind) × (f ≡ fai
 
 -- its bytes are a text
 abbrev pub IsText : List ℕ → Asked → List ℕ → Type 0
-IsText name q text = (q ≡ given name text) × IsUtf8 text
+IsText name q text = (q ≡ given name text) × ∥ IsUtf8 text ∥₁
 
 -- why they are none
 abbrev pub IsNoText : List ℕ → Asked → Failure → Type 0

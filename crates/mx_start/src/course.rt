@@ -14,7 +14,7 @@ pub trait Course {
     type Line;
 
     /// The lines say this, for the machine of a configuration.
-    ghost IsSaid: { List ℕ → Config → List Line → Type 0 };
+    ghost IsSaid: { List ℕ → Config → List Self.Line → Type 0 };
 
     /// What may be told of a text that isn't one of these; want of memory aside.
     ghost Tells: { List ℕ → Config → BootError → Type 0 };
@@ -29,15 +29,13 @@ pub trait Course {
 pub struct Script;
 
 impl Course for Script {
-    ghost use Rattle.mx_line.specs.Lines.{lines};
-    ghost use Rattle.mx_script.specs.Reading.{AreRead, TellsUnread};
-    ghost use Rattle.mx_script.specs.Script.{script_line};
+    ghost use Rattle.mx_start.specs.Course.{IsScript, TellsScript};
 
     type Line = ScriptLine;
 
-    ghost IsSaid = { λ text _ said. AreRead script_line (lines text) said };
+    ghost IsSaid = { IsScript };
 
-    ghost Tells = { λ text _ e. TellsUnread script_line (lines text) e };
+    ghost Tells = { TellsScript };
 
     fn read(alloc: Global, text: &str, _config: &Config) -> Result<Vec<ScriptLine>, BootError> {
         script(alloc, text)
@@ -48,15 +46,13 @@ impl Course for Script {
 pub struct DebugScript;
 
 impl Course for DebugScript {
-    ghost use Rattle.mx_line.specs.Lines.{lines};
-    ghost use Rattle.mx_script.specs.Reading.{AreRead, TellsUnread};
-    ghost use Rattle.mx_script.specs.Debug.{debug_line};
+    ghost use Rattle.mx_start.specs.Course.{IsDebugScript, TellsDebugScript};
 
     type Line = DebugLine;
 
-    ghost IsSaid = { λ text _ said. AreRead debug_line (lines text) said };
+    ghost IsSaid = { IsDebugScript };
 
-    ghost Tells = { λ text _ e. TellsUnread debug_line (lines text) e };
+    ghost Tells = { TellsDebugScript };
 
     fn read(alloc: Global, text: &str, _config: &Config) -> Result<Vec<DebugLine>, BootError> {
         debug_script(alloc, text)
@@ -67,14 +63,13 @@ impl Course for DebugScript {
 pub struct History;
 
 impl Course for History {
-    ghost use Rattle.std.specs.Prelude.{◌+◌};
-    ghost use Rattle.mx_history.specs.Log.{IsHistory, TellsFault};
+    ghost use Rattle.mx_start.specs.Course.{IsSaved, TellsSaved};
 
     type Line = Record;
 
-    ghost IsSaid = { λ text config records. IsHistory (config.cpus + config.others) text records };
+    ghost IsSaid = { IsSaved };
 
-    ghost Tells = { λ text config e. TellsFault (config.cpus + config.others) text e };
+    ghost Tells = { TellsSaved };
 
     fn read(alloc: Global, text: &str, config: &Config) -> Result<Vec<Record>, BootError> {
         log(alloc, text, config)

@@ -8,7 +8,7 @@ mod noting;
 mod reader;
 mod runtime;
 mod setup;
-mod start;
+mod starting;
 
 pub use course::{Course, DebugScript, History, Script};
 pub use mx_boot::{BootError, Config, DebugLine, ScriptLine};
@@ -17,7 +17,7 @@ pub use mx_machine::{Machine, Record};
 pub use named::{NamedFile, NamedFiles};
 pub use reader::Reader;
 pub use runtime::RuntimeFiles;
-pub use start::{Started, start};
+pub use starting::{Started, start};
 
 #[cfg(test)]
 mod tests;

@@ -1,5 +1,8 @@
 //! Files in memory.
 
+ghost use Rattle.std.specs.Prelude.{◌≡◌, [], None, Some, MatchOption};
+ghost use Rattle.mx_start.specs.Named.{bytes_named};
+
 use crate::noting::{Answers, with_answer};
 use crate::reader::Reader;
 use http_server::Log;
@@ -23,7 +26,10 @@ pub struct NamedFiles<'a> {
 impl<'a> NamedFiles<'a> {
     /// What reads the files of a list, and has been asked for none yet. Of two files with one name it
     /// reads the first.
-    pub fn new(files: &'a [NamedFile<'a>]) -> NamedFiles<'a> {
+    pub fn new(files: &'a [NamedFile<'a>]) -> NamedFiles<'a>
+        ensures files { result.files.now ≡ files.entry.now }
+        ensures answers { result.answers.items ≡ [] }
+    {
         NamedFiles {
             files,
             answers: Log::new(),
@@ -31,7 +37,9 @@ impl<'a> NamedFiles<'a> {
     }
 
     /// The bytes of the first file that has a name.
-    fn find(&self, name: &str) -> Option<&[u8]> {
+    fn find(&self, name: &str) -> Option<&[u8]>
+        ensures { MatchOption result (bytes_named self.now.files.now name.now ≡ None) (λ bytes. bytes_named self.now.files.now name.now ≡ Some bytes.now) }
+    {
         for file in self.files {
             if file.name == name {
                 return Some(file.bytes);

@@ -16,7 +16,7 @@ pub(crate) type Answers = Log<Bytes, Result<Bytes, io::ErrorKind>>;
 
 /// Remembers bytes.
 fn bytes_noted(bytes: &[u8]) -> Bytes
-    ensures { noted result.items ≡ bytes.now }
+    ensures { noted result ≡ bytes.now }
 {
     let mut log = Log::new();
     for byte in bytes {

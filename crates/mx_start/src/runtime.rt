@@ -1,5 +1,7 @@
 //! The files of the runtime.
 
+ghost use Rattle.std.specs.Prelude.{◌≡◌, []};
+
 use crate::noting::{Answers, with_answer};
 use crate::reader::Reader;
 use http_server::Log;
@@ -17,7 +19,9 @@ pub struct RuntimeFiles<'a, R> {
 
 impl<'a, R> RuntimeFiles<'a, R> {
     /// What reads a runtime's files, and has been asked for none yet.
-    pub fn new(rt: &'a R) -> RuntimeFiles<'a, R> {
+    pub fn new(rt: &'a R) -> RuntimeFiles<'a, R>
+        ensures { result.answers.items ≡ [] }
+    {
         RuntimeFiles {
             rt,
             answers: Log::new(),

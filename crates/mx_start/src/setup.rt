@@ -1,8 +1,9 @@
 //! Configurations and programs by the names of their files.
 
-ghost use Rattle.std.specs.Prelude.{◌≡◌, ◌++◌, List, IfOk, IfErr, string_bytes};
+ghost use Rattle.std.specs.Prelude.{◌≡◌, ◌⊎◌, ◌++◌, ◌∷◌, [], List, IfOk, IfErr, string_bytes};
+ghost use Rattle.mx_failure.specs.declared.failure.Failure.TheVariants.{NoMemory};
 ghost use Rattle.mx_start.specs.Asked.{Asked};
-ghost use Rattle.mx_start.specs.Setup.{AreServices, IsServiceBy, IsSetup, IsTextBy, TellsFile, TellsServices, TellsSetup, TellsText};
+ghost use Rattle.mx_start.specs.Setup.{AreRead, IsFirstRefused, IsNoText, IsRead, IsRefused, IsSetup, IsSetupFault, IsText};
 
 use crate::reader::Reader;
 use mx_aout::read;
@@ -17,8 +18,8 @@ pub(crate) fn text_of<R: Reader>(
     reader: &mut R,
     name: &str,
 ) -> Result<String, Failure>
-    ensures text { IfOk result (λ text. (q : Asked) × (R.asked reader.new ≡ R.asked reader.old ++ q ∷ []) × IsTextBy name.now q (string_bytes text)) }
-    ensures fault { IfErr result (λ f. (q : Asked) × (R.asked reader.new ≡ R.asked reader.old ++ q ∷ []) × TellsNoText name.now q f) }
+    ensures text { IfOk result (λ text. (q : Asked) × (R.asked reader.new ≡ R.asked reader.old ++ q ∷ []) × IsText name.now q (string_bytes text)) }
+    ensures fault { IfErr result (λ f. (q : Asked) × (R.asked reader.new ≡ R.asked reader.old ++ q ∷ []) × ((f ≡ NoMemory) ⊎ IsNoText name.now q f)) }
 {
     let bytes = reader.read(alloc, name)?;
     match String::from_utf8(bytes) {
@@ -32,7 +33,10 @@ fn service_of<R: Reader>(
     alloc: Global,
     reader: &mut R,
     line: &ServiceLine,
-) -> Result<Service, Failure> {
+) -> Result<Service, Failure>
+    ensures read { IfOk result (λ v. (q : Asked) × (R.asked reader.new ≡ R.asked reader.old ++ q ∷ []) × IsRead line.now q v) }
+    ensures refused { IfErr result (λ f. (q : Asked) × (R.asked reader.new ≡ R.asked reader.old ++ q ∷ []) × ((f ≡ NoMemory) ⊎ IsRefused line.now q f)) }
+{
     let bytes = reader.read(alloc, line.file.as_str())?;
     let program = read(alloc, bytes.as_slice())?;
     Ok(Service {
@@ -51,7 +55,10 @@ fn services_of<R: Reader>(
     alloc: Global,
     reader: &mut R,
     lines: &[ServiceLine],
-) -> Result<Vec<Service>, Failure> {
+) -> Result<Vec<Service>, Failure>
+    ensures read { IfOk result (λ services. (qs : List Asked) × (R.asked reader.new ≡ R.asked reader.old ++ qs) × AreRead lines.now qs services.items) }
+    ensures refused { IfErr result (λ f. (qs : List Asked) × (R.asked reader.new ≡ R.asked reader.old ++ qs) × ((f ≡ NoMemory) ⊎ IsFirstRefused lines.now qs f)) }
+{
     let mut services = Vec::new(alloc);
     for line in lines {
         let service = service_of(alloc, reader, line)?;
@@ -65,7 +72,10 @@ pub(crate) fn setup_of<R: Reader>(
     alloc: Global,
     reader: &mut R,
     name: &str,
-) -> Result<(Config, Vec<Service>), Failure> {
+) -> Result<(Config, Vec<Service>), Failure>
+    ensures read { IfOk result (λ s. (qs : List Asked) × (R.asked reader.new ≡ R.asked reader.old ++ qs) × IsSetup name.now qs s.0 s.1.items) }
+    ensures fault { IfErr result (λ f. (qs : List Asked) × (R.asked reader.new ≡ R.asked reader.old ++ qs) × ((f ≡ NoMemory) ⊎ IsSetupFault name.now qs f)) }
+{
     let text = text_of(alloc, reader, name)?;
     let config = config(alloc, text.as_str())?;
     let services = services_of(alloc, reader, config.lines.as_slice())?;

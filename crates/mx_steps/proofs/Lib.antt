@@ -1,0 +1,2 @@
+pub mod ActorLemmas
+pub mod SteppingLemmas

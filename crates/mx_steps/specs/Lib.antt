@@ -1,3 +1,4 @@
 pub mod Said
 pub mod Lines
 pub mod Records
+pub mod Telling

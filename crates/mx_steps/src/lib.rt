@@ -1,12 +1,14 @@
 //! `mx step` and `mx replay`: a machine that is driven by a script or by a saved history.
 #![tactic(auto)]
 
+mod laws;
 mod lines;
 mod printing;
 mod records;
 mod said;
 mod stepping;
 
+pub use laws::actors_stay;
 pub use lines::{perform_line, step};
 pub use mx_start::{Failure, Machine, NamedFile, NamedFiles, Reader, RuntimeFiles, ScriptLine};
 pub use printing::{print_report, print_text};

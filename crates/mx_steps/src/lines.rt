@@ -1,8 +1,23 @@
 //! A machine that is driven by a script.
 
-use crate::printing::print_report;
-use crate::said::{Said, said_of};
-use crate::stepping::make_steps;
+ghost use Rattle.std.specs.Prelude.{◌≡◌, ◌<◌, ◌++◌, List, IfErr, OnOk, string_bytes};
+ghost use Rattle.std.specs.Io.KnownBytes.{Appends};
+ghost use Rattle.mx_machine.specs.Machine.{world_of};
+ghost use Rattle.mx_report.specs.Report.{report_text};
+ghost use Rattle.mx_respawn.specs.declared.service.Service.{Service};
+ghost use Rattle.mx_setup.specs.declared.config.Config.{Config};
+ghost use Rattle.mx_script.specs.declared.scripts.ScriptLine.{ScriptLine as Line};
+ghost use Rattle.mx_start.specs.Asked.{Asked};
+ghost use Rattle.mx_start.specs.Course.{IsScript, TellsScript};
+ghost use Rattle.mx_start.specs.Setup.{IsStart};
+ghost use Rattle.mx_world.specs.Boot.{booted};
+ghost use Rattle.mx_steps.specs.Said.{said_lines};
+ghost use Rattle.mx_steps.specs.Lines.{actors, line_made, lines_made};
+ghost use Rattle.mx_steps.specs.Telling.{IsTold};
+
+use crate::printing::{print_report, print_text};
+use crate::said::Said;
+use crate::stepping::{make_event, make_own, make_steps};
 use mx_failure::Failure;
 use mx_machine::{Event, Machine};
 use mx_start::{Reader, Script, ScriptLine, start};
@@ -10,16 +25,21 @@ use std::alloc::{AllocError, Global};
 use std::io::Write;
 
 /// Does what a line of a script says, and answers what is said of it. The lines that name no actor are
-/// the events of `other`, the first actor that is no processor. Takes no memory.
-pub fn perform_line(machine: &mut Machine, other: u8, line: ScriptLine) -> Said {
+/// events of `other`, the first actor that is no processor. Takes no memory.
+#[tactic(auto, unfolding(crate::specs::Lines::line_made))]
+pub fn perform_line(machine: &mut Machine, other: u8, line: ScriptLine) -> Said
+    requires { other < actors (world_of machine.old) }
+    ensures made { line_made (world_of machine.old) other line ≡ (result, world_of machine.new) }
+    ensures actors { actors (world_of machine.new) ≡ actors (world_of machine.old) }
+{
     match line {
         ScriptLine::Step(cpu, steps) => make_steps(machine, cpu, steps),
-        ScriptLine::Take(cpu) => said_of(machine.apply(cpu, Event::Take)),
-        ScriptLine::Back(cpu) => said_of(machine.apply(cpu, Event::Back)),
-        ScriptLine::Line(line) => said_of(machine.apply(other, Event::Line(line))),
-        ScriptLine::Tick => said_of(machine.apply(other, Event::Tick)),
-        ScriptLine::Kill(endpoint) => said_of(machine.apply(other, Event::Kill(endpoint))),
-        ScriptLine::Respawn(slot) => said_of(machine.apply(other, Event::Respawn(slot))),
+        ScriptLine::Take(cpu) => make_own(machine, cpu, Event::Take),
+        ScriptLine::Back(cpu) => make_own(machine, cpu, Event::Back),
+        ScriptLine::Line(line) => make_event(machine, other, Event::Line(line)),
+        ScriptLine::Tick => make_event(machine, other, Event::Tick),
+        ScriptLine::Kill(endpoint) => make_event(machine, other, Event::Kill(endpoint)),
+        ScriptLine::Respawn(slot) => make_event(machine, other, Event::Respawn(slot)),
     }
 }
 
@@ -29,7 +49,11 @@ fn perform_lines(
     other: u8,
     lines: &[ScriptLine],
     text: &mut String,
-) -> Result<(), AllocError> {
+) -> Result<(), AllocError>
+    requires { other < actors (world_of machine.old) }
+    ensures world { OnOk result (world_of machine.new ≡ (lines_made (world_of machine.old) other lines.now).1) }
+    ensures text { OnOk result (string_bytes text.new ≡ string_bytes text.old ++ said_lines (lines_made (world_of machine.old) other lines.now).0) }
+{
     for line in lines {
         let said = perform_line(machine, other, *line);
         write!(text, "{said}\n")?;
@@ -45,7 +69,14 @@ pub fn step<R: Reader, W: Write>(
     config: &str,
     script: &str,
     out: &mut W,
-) -> Result<(), Failure> {
+) -> Result<(), Failure>
+    ensures printed { OnOk result ((qs : List Asked) × (c : Config) × (vs : List Service) × (said : List Line)
+        × (R.asked reader.new ≡ R.asked reader.old ++ qs) × IsStart IsScript config.now script.now qs c vs said
+        × (let m = lines_made (booted c vs) c.cpus said in
+        Appends (W.contents out.old) (W.contents out.new) (said_lines m.0 ++ report_text m.1.table m.1.services))) }
+    ensures fault { IfErr result (λ f. (qs : List Asked)
+        × (R.asked reader.new ≡ R.asked reader.old ++ qs) × IsTold IsScript TellsScript config.now script.now qs f) }
+{
     let mut started = start::<Script, R>(alloc, reader, config, script)?;
     let mut text = String::new(alloc);
     let done = perform_lines(
@@ -54,7 +85,7 @@ pub fn step<R: Reader, W: Write>(
         started.lines.as_slice(),
         &mut text,
     );
-    out.write_all(text.as_bytes())?;
+    print_text(text.as_bytes(), out)?;
     done?;
     print_report(alloc, started.machine.kernel(), out)
 }

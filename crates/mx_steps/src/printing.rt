@@ -1,5 +1,11 @@
 //! What is printed of a machine.
 
+ghost use Rattle.std.specs.Prelude.{IfErr, OnOk};
+ghost use Rattle.std.specs.Io.KnownBytes.{Appends};
+ghost use Rattle.mx_failure.specs.Failure.{IsWanting};
+ghost use Rattle.mx_report.specs.Report.{report_text};
+ghost use Rattle.mx_world.specs.History.{replay};
+
 use mx_boot::report;
 use mx_failure::Failure;
 use mx_kernel::Kernel;
@@ -7,13 +13,19 @@ use std::alloc::Global;
 use std::io::Write;
 
 /// Prints the report on a kernel, and flushes.
-pub fn print_report<W: Write>(alloc: Global, kernel: &Kernel, out: &mut W) -> Result<(), Failure> {
+pub fn print_report<W: Write>(alloc: Global, kernel: &Kernel, out: &mut W) -> Result<(), Failure>
+    ensures err { IfErr result IsWanting }
+    ensures bytes { OnOk result (Appends (W.contents out.old) (W.contents out.new) (report_text (replay kernel.now).table (replay kernel.now).services)) }
+{
     let report = report(alloc, kernel)?;
     print_text(report.as_slice(), out)
 }
 
 /// Prints bytes, and flushes.
-pub fn print_text<W: Write>(text: &[u8], out: &mut W) -> Result<(), Failure> {
+pub fn print_text<W: Write>(text: &[u8], out: &mut W) -> Result<(), Failure>
+    ensures err { IfErr result IsWanting }
+    ensures bytes { OnOk result (Appends (W.contents out.old) (W.contents out.new) text.now) }
+{
     out.write_all(text)?;
     out.flush()?;
     Ok(())

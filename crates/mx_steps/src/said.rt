@@ -1,5 +1,8 @@
 //! What is said of a line.
 
+ghost use Rattle.std.specs.Prelude.{◌≡◌};
+ghost use Rattle.mx_steps.specs.Said.{said_of};
+
 use mx_exec::Outcome;
 use mx_image::Stop;
 use mx_world::{Answer, Refusal};

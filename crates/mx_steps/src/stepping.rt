@@ -1,8 +1,16 @@
 //! Steps of a processor.
 
-use crate::said::Said;
+ghost use Rattle.std.specs.Prelude.{◌≡◌, ◌<◌, Some, false};
+ghost use Rattle.mx_world.specs.Move.{at_stop, move};
+ghost use Rattle.mx_world.specs.Whole.{Lent, held_by};
+ghost use Rattle.mx_kernel.specs.Situation.{is_for_all};
+ghost use Rattle.mx_machine.specs.Machine.{HasWorked, world_of};
+ghost use Rattle.mx_steps.specs.Lines.{actors, event_made, run_made, steps_made};
+
+use crate::laws::actors_stay;
+use crate::said::{Said, said_of};
 use mx_image::Stop;
-use mx_machine::{Held, Machine, Out, Tool};
+use mx_machine::{Event, Held, Machine, Out, Tool};
 use mx_world::Refusal;
 
 /// Makes so many steps, and notes what is said of them.
@@ -41,18 +49,49 @@ impl Tool for Stepper {
     }
 }
 
-/// At most so many steps of a processor, in one run: up to a trap, a fault or the end of the budget.
-/// Where the first of them is refused, the refusal; no steps are none, whatever the processor holds.
-pub fn make_steps(machine: &mut Machine, cpu: u8, steps: u32) -> Said {
+/// One or more steps of a processor, in one run.
+pub(crate) fn work_steps(machine: &mut Machine, cpu: u8, steps: u32) -> Said
+    requires { 0 < steps }
+    ensures made { run_made (world_of machine.old) cpu steps (held_by (world_of machine.old) cpu) ≡ (result, world_of machine.new) }
+    ensures worked { (l : Lent) → held_by (world_of machine.old) cpu ≡ Some l → HasWorked (world_of machine.old) (world_of machine.new) cpu steps l }
+{
     let mut stepper = Stepper {
         steps,
         said: Said::Stepped(0, Stop::Spent),
     };
-    if steps == 0 {
-        return stepper.said;
-    }
     match machine.work(cpu, &mut stepper) {
         Ok(()) => stepper.said,
         Err(refusal) => Said::Refused(refusal),
     }
+}
+
+/// At most so many steps of a processor, in one run: up to a trap, a fault or the end of the budget.
+/// Where the first of them is refused, the refusal; no steps are none, whatever the processor holds.
+pub fn make_steps(machine: &mut Machine, cpu: u8, steps: u32) -> Said
+    ensures made { steps_made (world_of machine.old) cpu steps ≡ (result, world_of machine.new) }
+    ensures actors { actors (world_of machine.new) ≡ actors (world_of machine.old) }
+{
+    actors_stay();
+    if steps == 0 {
+        return Said::Stepped(0, Stop::Spent);
+    }
+    work_steps(machine, cpu, steps)
+}
+
+/// A take or a return of an actor, and what is said of it.
+pub(crate) fn make_own(machine: &mut Machine, actor: u8, event: Event) -> Said
+    requires { is_for_all event ≡ false }
+    ensures made { event_made (move (world_of machine.old) actor event) ≡ (result, world_of machine.new) }
+    ensures actors { actors (world_of machine.new) ≡ actors (world_of machine.old) }
+{
+    said_of(machine.apply(actor, event))
+}
+
+/// One event of an actor of the machine, and what is said of it.
+pub(crate) fn make_event(machine: &mut Machine, actor: u8, event: Event) -> Said
+    requires { actor < actors (world_of machine.old) }
+    ensures made { event_made (move (world_of machine.old) actor event) ≡ (result, world_of machine.new) }
+    ensures actors { actors (world_of machine.new) ≡ actors (world_of machine.old) }
+{
+    said_of(machine.apply(actor, event))
 }

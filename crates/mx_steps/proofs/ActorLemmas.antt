@@ -1,0 +1,60 @@
+-- Events leave how many actors there are.
+use Rattle.std.proofs.Common.{◌≡◌, ◌∙◌, ℕ, ◌+◌, List, [], ◌∷◌, length, Option, Some, None, Result, slice_get, refl, ap, sym}
+use Rattle.std.proofs.lemmas.List.{length-set}
+use Rattle.mx_proc.specs.Queues.{picked}
+use Rattle.mx_respawn.specs.declared.service.Service.{Service}
+use Rattle.mx_kcall.specs.Refusals.{owner_of}
+use Rattle.mx_world.specs.declared.events.Answer.{Answer}
+use Rattle.mx_world.specs.declared.events.Event.{Event}
+use Rattle.mx_world.specs.declared.events.Event.TheVariants.{Step, Take, Back, Line, Tick, Kill, Respawn}
+use Rattle.mx_world.specs.declared.events.Refusal.{Refusal}
+use Rattle.mx_world.specs.History.{after_events}
+use Rattle.mx_world.specs.Move.{after_back, after_event, after_line, after_respawn, after_step, after_take, event_refusal, lent_of, move, moved_by, noted, sent_out, with_held}
+use Rattle.mx_world.specs.Whole.{Whole, Lent, held_by}
+use Rattle.mx_steps.specs.Lines.{actors}
+
+held : (w : Whole) (a : ℕ) (x : Option Lent) → actors (with_held w a x) ≡ actors w
+held w a x = ap (λ n. n + w.others) (length-set w.cpus a x)
+
+by_step : (w : Whole) (a : ℕ) (x : Option Lent) → actors (after_step w a x) ≡ actors w
+by_step w a None = refl
+by_step w a (Some l) = held w a _
+
+by_take : (w : Whole) (a : ℕ) (s : Option ℕ) → actors (after_take w a s) ≡ actors w
+by_take w a None = refl
+by_take w a (Some s) = held (noted w (sent_out w.table s)) a (Some (lent_of w.table s))
+
+by_back : (w : Whole) (a : ℕ) (x : Option Lent) → actors (after_back w a x) ≡ actors w
+by_back w a None = refl
+by_back w a (Some l) = held w a None
+
+by_line : (w : Whole) (l : ℕ) (owner : Option ℕ) → actors (after_line w l owner) ≡ actors w
+by_line w l None = refl
+by_line w l (Some s) = refl
+
+by_respawn : (w : Whole) (s : ℕ) (v : Option Service) → actors (after_respawn w s v) ≡ actors w
+by_respawn w s None = refl
+by_respawn w s (Some v) = refl
+
+pub by_event : (w : Whole) (a : ℕ) (x : Event) → actors (after_event w a x) ≡ actors w
+unfolding after_event
+by_event w a Step = by_step w a (held_by w a)
+by_event w a Take = by_take w a (picked w.table.ready)
+by_event w a Back = by_back w a (held_by w a)
+by_event w a (Line l) = by_line w l (owner_of w.table l)
+by_event w a Tick = refl
+by_event w a (Kill e) = refl
+by_event w a (Respawn s) = by_respawn w s (slice_get w.services s)
+
+pub by_events : (w : Whole) (xs : List (ℕ × Event)) → actors (after_events w xs) ≡ actors w
+by_events w [] = refl
+by_events w (x ∷ xs) = by_events (after_event w x.0 x.1) xs ∙ by_event w x.0 x.1
+
+by_answer : (w : Whole) (a : ℕ) (x : Event) (r : Option Refusal) → actors (moved_by w a x r).1 ≡ actors w
+by_answer w a x (Some r) = refl
+by_answer w a x None = by_event w a x
+
+-- an event that may be refused
+pub by_move : (w u : Whole) (a : ℕ) (x : Event) (r : Result Answer Refusal) → move w a x ≡ (r, u) → actors u ≡ actors w
+unfolding move
+by_move w u a x r h = sym (ap (λ (p : Result Answer Refusal × Whole). actors p.1) h) ∙ by_answer w a x (event_refusal w a x)

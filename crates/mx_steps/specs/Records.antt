@@ -1,0 +1,26 @@
+-- How far a history replays (our own).
+use Rattle.std.specs.Prelude.{◌≡◌, ◌⊎◌, ℕ, ◌+◌, List, [], ◌∷◌, ◌++◌, length, codes, Some, None}
+use Rattle.std.specs.Fmt.{decimal}
+use Rattle.mx_world.specs.declared.events.Event.{Event}
+use Rattle.mx_world.specs.declared.events.Refusal.{Refusal}
+use Rattle.mx_world.specs.declared.history.Record.{Record}
+use Rattle.mx_world.specs.History.{AreAccepted, after_events, events_of, unfolded}
+use Rattle.mx_world.specs.Move.{event_refusal, after_event}
+use Rattle.mx_world.specs.Whole.{Whole}
+use Rattle.mx_steps.specs.Said.{refusal_line}
+
+-- the first of these events that isn't accepted is refused for this
+abbrev pub IsRefused : Whole → List (ℕ × Event) → Refusal → Type 0
+IsRefused w [] r = ⊥
+IsRefused w (x ∷ xs) r = (event_refusal w x.0 x.1 ≡ Some r) ⊎ ((event_refusal w x.0 x.1 ≡ None) × IsRefused (after_event w x.0 x.1) xs r)
+
+-- the record of this number, counted from 1, stands for an event that is refused, and those above it are accepted
+abbrev pub IsRefusedAt : Whole → List Record → ℕ → Refusal → Type 0
+IsRefusedAt w records n r =
+    (above below : List Record) × (x : Record)
+    × (records ≡ above ++ x ∷ below) × AreAccepted w (unfolded above)
+    × IsRefused (after_events w (unfolded above)) (events_of x.actor x.event) r × (n ≡ length above + 1)
+
+-- the line that tells it
+abbrev pub refused_line : ℕ → Refusal → List ℕ
+refused_line n r = codes "line " ++ decimal n ++ codes ": " ++ refusal_line r ++ codes "\n"
