@@ -1,9 +1,22 @@
 //! `mx db`.
 
+ghost use Rattle.std.specs.Prelude.{◌≡◌, ◌++◌, ℕ, List, [], IfErr, OnOk};
+ghost use Rattle.std.specs.Io.KnownBytes.{Appends};
+ghost use Rattle.mx_report.specs.Report.{report_text};
+ghost use Rattle.mx_respawn.specs.declared.service.Service.{Service};
+ghost use Rattle.mx_script.specs.declared.debug.DebugLine.{DebugLine as Line};
+ghost use Rattle.mx_setup.specs.declared.config.Config.{Config};
+ghost use Rattle.mx_start.specs.Asked.{Asked};
+ghost use Rattle.mx_start.specs.Course.{IsDebugScript, TellsDebugScript};
+ghost use Rattle.mx_start.specs.Setup.{IsStart};
+ghost use Rattle.mx_steps.specs.Telling.{IsTold};
+ghost use Rattle.mx_world.specs.Boot.{booted};
+ghost use Rattle.mx_db.specs.Lines.{debug_lines_made};
+
 use crate::lines::perform_debug_lines;
 use mx_debug::Debugger;
 use mx_start::{DebugScript, Failure, Reader, start};
-use mx_steps::print_report;
+use mx_steps::{print_report, print_text};
 use std::alloc::Global;
 use std::io::Write;
 
@@ -15,7 +28,14 @@ pub fn db<R: Reader, W: Write>(
     config: &str,
     script: &str,
     out: &mut W,
-) -> Result<(), Failure> {
+) -> Result<(), Failure>
+    ensures printed { OnOk result ((qs : List Asked) × (c : Config) × (vs : List Service) × (said : List Line) × (text : List ℕ)
+        × (R.asked reader.new ≡ R.asked reader.old ++ qs) × IsStart IsDebugScript config.now script.now qs c vs said
+        × (let d = debug_lines_made c.cpus (record { world = booted c vs; points = [] }) said in
+        Appends (W.contents out.old) (W.contents out.new) (text ++ report_text d.world.table d.world.services))) }
+    ensures fault { IfErr result (λ f. (qs : List Asked)
+        × (R.asked reader.new ≡ R.asked reader.old ++ qs) × IsTold IsDebugScript TellsDebugScript config.now script.now qs f) }
+{
     let mut started = start::<DebugScript, R>(alloc, reader, config, script)?;
     let mut debugger = Debugger::new();
     let mut text = String::new(alloc);
@@ -26,7 +46,7 @@ pub fn db<R: Reader, W: Write>(
         started.lines.as_slice(),
         &mut text,
     );
-    out.write_all(text.as_bytes())?;
+    print_text(text.as_bytes(), out)?;
     done?;
     print_report(alloc, started.machine.kernel(), out)
 }

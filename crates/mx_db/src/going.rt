@@ -2,7 +2,9 @@
 
 ghost use Rattle.std.specs.Prelude.{◌≡◌, IfOk, IfErr};
 ghost use Rattle.mx_machine.specs.Machine.{world_of};
+ghost use Rattle.mx_world.specs.Whole.{held_by};
 ghost use Rattle.mx_db.specs.Going.{HasGone, IsStuck};
+ghost use Rattle.mx_db.specs.Lines.{gone};
 
 use mx_debug::{Cause, Debugger, Halt};
 use mx_machine::{Machine, Out, Refusal, Tool};
@@ -33,14 +35,11 @@ impl<'a> Tool for Resuming<'a> {
 
 /// Runs what a processor holds for at most so many steps, up to one of the breakpoints of its slot.
 /// Refused are `CpuEmpty`, and `AtStop` where no step can be made.
-pub fn go(
-    machine: &mut Machine,
-    debugger: &Debugger,
-    cpu: u8,
-    steps: u32,
-) -> Result<Halt, Refusal>
+#[tactic(auto, using(crate::proofs::Worlds::gone_steps, crate::proofs::Worlds::gone_nothing, crate::proofs::Worlds::gone_no_slot))]
+pub fn go(machine: &mut Machine, debugger: &Debugger, cpu: u8, steps: u32) -> Result<Halt, Refusal>
     ensures gone { IfOk result (λ halt. HasGone (world_of machine.old) (world_of machine.new) debugger.now cpu steps halt) }
     ensures stuck { IfErr result (λ refusal. IsStuck (world_of machine.old) debugger.now cpu steps refusal × (world_of machine.new ≡ world_of machine.old)) }
+    ensures world { gone (world_of machine.old) debugger.now cpu steps (held_by (world_of machine.old) cpu) ≡ world_of machine.new }
     ensures kernel { machine.new.kernel ≡ machine.old.kernel }
 {
     let Some(slot) = machine.slot_on(cpu) else {

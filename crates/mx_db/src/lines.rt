@@ -1,5 +1,10 @@
 //! Lines of a debugger's script.
 
+ghost use Rattle.std.specs.Prelude.{◌≡◌, ◌<◌, OnOk};
+ghost use Rattle.mx_machine.specs.Machine.{world_of};
+ghost use Rattle.mx_steps.specs.Lines.{actors};
+ghost use Rattle.mx_db.specs.Lines.{debug_line_made, debug_lines_made};
+
 use crate::going::go;
 use crate::places::{clear_breakpoint, set_breakpoint};
 use crate::refused::Refused;
@@ -8,7 +13,7 @@ use mx_debug::{Cause, Debugger, Halt};
 use mx_image::Stop;
 use mx_machine::{Machine, Refusal};
 use mx_script::DebugLine;
-use mx_steps::{Said, perform_line};
+use mx_steps::{Said, actors_stay, perform_line};
 use std::alloc::AllocError;
 use std::fmt::Write;
 
@@ -54,23 +59,35 @@ fn push_gone(
 
 /// Does what a line of a debugger's script says, and appends what is said of it. The lines that name
 /// no actor are the events of `other`.
+#[tactic(auto, using(crate::proofs::Made::plain_made, crate::proofs::Made::broken_made, crate::proofs::Made::cleared_made, crate::proofs::Made::gone_made, crate::proofs::Made::registers_made, crate::proofs::Made::memory_made, crate::proofs::Made::messages_made, crate::proofs::Made::gone_actors))]
 fn perform_debug_line(
     machine: &mut Machine,
     debugger: &mut Debugger,
     other: u8,
     line: &DebugLine,
     text: &mut String,
-) -> Result<(), AllocError> {
+) -> Result<(), AllocError>
+    requires { other < actors (world_of machine.old) }
+    ensures made { OnOk result (debug_line_made other (record { world = world_of machine.old; points = debugger.old }) line.now ≡ record { world = world_of machine.new; points = debugger.new }) }
+    ensures actors { actors (world_of machine.new) ≡ actors (world_of machine.old) }
+{
+    actors_stay();
     match line {
         DebugLine::Plain(line) => {
             let said = perform_line(machine, other, *line);
             writeln!(text, "{said}")
         }
         DebugLine::Break(slot, place) => {
-            push_done(text, set_breakpoint(machine.kernel(), debugger, *slot, place))
+            push_done(
+                text,
+                set_breakpoint(machine.kernel(), debugger, *slot, place),
+            )
         }
         DebugLine::Clear(slot, place) => {
-            push_done(text, clear_breakpoint(machine.kernel(), debugger, *slot, place))
+            push_done(
+                text,
+                clear_breakpoint(machine.kernel(), debugger, *slot, place),
+            )
         }
         DebugLine::Go(cpu, steps) => {
             let gone = go(machine, debugger, *cpu, *steps);
@@ -85,13 +102,17 @@ fn perform_debug_line(
 }
 
 /// Does what lines say, and appends what is said of them.
+#[tactic(auto, using(crate::proofs::Made::lines_more))]
 pub fn perform_debug_lines(
     machine: &mut Machine,
     debugger: &mut Debugger,
     other: u8,
     lines: &[DebugLine],
     text: &mut String,
-) -> Result<(), AllocError> {
+) -> Result<(), AllocError>
+    requires { other < actors (world_of machine.old) }
+    ensures { OnOk result (debug_lines_made other (record { world = world_of machine.old; points = debugger.old }) lines.now ≡ record { world = world_of machine.new; points = debugger.new }) }
+{
     for line in lines {
         perform_debug_line(machine, debugger, other, line, text)?;
     }

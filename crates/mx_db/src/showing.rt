@@ -1,6 +1,6 @@
 //! What a debugger shows of a process, and of the messages that were delivered.
 
-ghost use Rattle.std.specs.Prelude.{◌+◌, ◌≤◌, length};
+ghost use Rattle.std.specs.Prelude.{◌+◌, ◌<◌, ◌^◌};
 
 use crate::refused::Refused;
 use mx_debug::{DebugError, message};
@@ -40,7 +40,7 @@ pub fn push_messages(out: &mut String, kernel: &Kernel) -> Result<(), AllocError
 
 /// Appends the line of so many bytes from an address on.
 fn push_row(out: &mut String, image: &Image, from: u32, count: u32) -> Result<(), AllocError>
-    requires { from + count ≤ length image.now.memory }
+    requires { from + count < 2 ^ 32 }
 {
     push_eight_digits(out, from)?;
     for at in from..from + count {
@@ -53,7 +53,7 @@ fn push_row(out: &mut String, image: &Image, from: u32, count: u32) -> Result<()
 
 /// Appends so many bytes of a data segment from an address on, sixteen a line.
 fn push_rows(out: &mut String, image: &Image, from: u32, count: u32) -> Result<(), AllocError>
-    requires { from + count ≤ length image.now.memory }
+    requires { from + count < 2 ^ 32 }
 {
     for row in 0..count / 16 {
         push_row(out, image, from + 16 * row, 16)?;
@@ -81,10 +81,10 @@ pub fn push_memory(
     let Some(image) = image else {
         return push_refused(out, DebugError::NotHere);
     };
-    if image.memory.limit() < from as usize + count as usize {
-        return push_refused(out, DebugError::NotHere);
+    match from.checked_add(count) {
+        Some(end) if end as usize <= image.memory.limit() => push_rows(out, image, from, count),
+        _ => push_refused(out, DebugError::NotHere),
     }
-    push_rows(out, image, from, count)
 }
 
 /// Appends the registers of a process, if there is one.

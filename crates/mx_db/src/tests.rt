@@ -13,21 +13,21 @@ use std::test::Fail;
 
 /// Waits at `top` for anybody, answers who it was, and jumps to `top`; its buffer is `buf`, at 0.
 static DRIVER: [u8; 135] = [
-    1, 3, 0x30, 0x10, 0x20, 0, 0, 0, 0x23, 0, 0, 0, 0x24, 0, 0, 0, 0, 0, 0, 0, 0, 0, 0, 0, 0,
-    0x10, 0, 0, 0x20, 0, 0, 0, 0xB9, 2, 0, 0, 0, 0xB8, 0xCE, 0x7A, 0, 0, 0xBB, 0, 0, 0, 0, 0xCD,
-    0x21, 0x8B, 5, 0, 0, 0, 0, 0xB9, 1, 0, 0, 0, 0xCD, 0x21, 0xE9, 0xDD, 0xFF, 0xFF, 0xFF, 0, 0,
+    1, 3, 0x30, 0x10, 0x20, 0, 0, 0, 0x23, 0, 0, 0, 0x24, 0, 0, 0, 0, 0, 0, 0, 0, 0, 0, 0, 0, 0x10,
+    0, 0, 0x20, 0, 0, 0, 0xB9, 2, 0, 0, 0, 0xB8, 0xCE, 0x7A, 0, 0, 0xBB, 0, 0, 0, 0, 0xCD, 0x21,
+    0x8B, 5, 0, 0, 0, 0, 0xB9, 1, 0, 0, 0, 0xCD, 0x21, 0xE9, 0xDD, 0xFF, 0xFF, 0xFF, 0, 0, 0, 0, 0,
     0, 0, 0, 0, 0, 0, 0, 0, 0, 0, 0, 0, 0, 0, 0, 0, 0, 0, 0, 0, 0, 0, 0, 0, 0, 0, 0, 0, 0, 0, 0,
-    0, 0, 0, 0x62, 0x75, 0x66, 0, 0, 0, 0, 0, 0, 0, 0, 0, 3, 0, 0, 0, 0x74, 0x6F, 0x70, 0, 0, 0,
-    0, 0, 0, 0, 0, 0, 2, 0, 0, 0,
+    0x62, 0x75, 0x66, 0, 0, 0, 0, 0, 0, 0, 0, 0, 3, 0, 0, 0, 0x74, 0x6F, 0x70, 0, 0, 0, 0, 0, 0, 0,
+    0, 0, 2, 0, 0, 0,
 ];
 
 /// Calls the driver, then EXIT.
 static CLIENT: [u8; 123] = [
-    1, 3, 0x30, 0x10, 0x20, 0, 0, 0, 0x27, 0, 0, 0, 0x24, 0, 0, 0, 0, 0, 0, 0, 0, 0, 0, 0, 0,
-    0x10, 0, 0, 0x10, 0, 0, 0, 0xB9, 3, 0, 0, 0, 0xB8, 0, 0, 0, 0, 0xBB, 0, 0, 0, 0, 0xCD, 0x21,
-    0xC7, 5, 4, 0, 0, 0, 0, 6, 0, 0, 0xB9, 3, 0, 0, 0, 0xB8, 0xFE, 0xFF, 0xFF, 0xFF, 0xCD, 0x21,
-    0, 0, 0, 0, 0, 0, 0, 0, 0, 0, 0, 0, 0, 0, 0, 0, 0, 0, 0, 0, 0, 0, 0, 0, 0, 0, 0, 0, 0, 0, 0,
-    0, 0, 0, 0, 0, 0x62, 0x75, 0x66, 0, 0, 0, 0, 0, 0, 0, 0, 0, 3, 0, 0, 0,
+    1, 3, 0x30, 0x10, 0x20, 0, 0, 0, 0x27, 0, 0, 0, 0x24, 0, 0, 0, 0, 0, 0, 0, 0, 0, 0, 0, 0, 0x10,
+    0, 0, 0x10, 0, 0, 0, 0xB9, 3, 0, 0, 0, 0xB8, 0, 0, 0, 0, 0xBB, 0, 0, 0, 0, 0xCD, 0x21, 0xC7, 5,
+    4, 0, 0, 0, 0, 6, 0, 0, 0xB9, 3, 0, 0, 0, 0xB8, 0xFE, 0xFF, 0xFF, 0xFF, 0xCD, 0x21, 0, 0, 0, 0,
+    0, 0, 0, 0, 0, 0, 0, 0, 0, 0, 0, 0, 0, 0, 0, 0, 0, 0, 0, 0, 0, 0, 0, 0, 0, 0, 0, 0, 0, 0, 0, 0,
+    0x62, 0x75, 0x66, 0, 0, 0, 0, 0, 0, 0, 0, 0, 3, 0, 0, 0,
 ];
 
 const CONFIG: &str = "cpus 1\nlog 64\n\
@@ -83,13 +83,20 @@ fn debugs(rt: HostRuntime) -> Result<(), Fail> {
         (TURNS, Ok(()), TURNED),
         (EDGES, Ok(()), REFUSED),
         (many.as_str(), Ok(()), many_said.as_str()),
-        ("tick\nfoo\n", Err(Failure::Misstated(BootError::BadRecord(2))), ""),
+        (
+            "tick\nfoo\n",
+            Err(Failure::Misstated(BootError::BadRecord(2))),
+            "",
+        ),
     ];
     for (script, told, wanted) in rows.iter() {
         let files = files_with(script);
         let mut reader = NamedFiles::new(&files);
         let mut out = Vec::new(alloc);
-        assert!(rt; db(alloc, &mut reader, "config", "script", &mut out) == *told, "{script}");
+        assert!(rt;
+            db(alloc, &mut reader, "config", "script", &mut out) == *told,
+            "{script}"
+        );
         assert_eq!(rt; str::from_utf8(out.as_slice()), Ok(*wanted), "{script}");
     }
     Ok(())
@@ -98,10 +105,22 @@ fn debugs(rt: HostRuntime) -> Result<(), Fail> {
 /// The files of the machine, and a script.
 fn files_with(script: &str) -> [NamedFile<'_>; 4] {
     [
-        NamedFile { name: "config", bytes: CONFIG.as_bytes() },
-        NamedFile { name: "drv.out", bytes: &DRIVER },
-        NamedFile { name: "cli.out", bytes: &CLIENT },
-        NamedFile { name: "script", bytes: script.as_bytes() },
+        NamedFile {
+            name: "config",
+            bytes: CONFIG.as_bytes(),
+        },
+        NamedFile {
+            name: "drv.out",
+            bytes: &DRIVER,
+        },
+        NamedFile {
+            name: "cli.out",
+            bytes: &CLIENT,
+        },
+        NamedFile {
+            name: "script",
+            bytes: script.as_bytes(),
+        },
     ]
 }
 
@@ -109,8 +128,12 @@ fn files_with(script: &str) -> [NamedFile<'_>; 4] {
 fn history(alloc: Global, is_debugged: bool) -> Result<Vec<u8>, Fail> {
     let files = files_with("");
     let mut reader = NamedFiles::new(&files);
-    let mut started = start::<Script, NamedFiles<'_>>(alloc, &mut reader, "config", "script")
-        .map_err(|_| "failed")?;
+    let mut started = start::<Script, NamedFiles<'_>>(
+        alloc,
+        &mut reader,
+        "config",
+        "script",
+    ).map_err(|_| "failed")?;
     let machine = &mut started.machine;
     let mut debugger = Debugger::new();
     let top = Place::Symbol(SymbolName::new(b"top"));

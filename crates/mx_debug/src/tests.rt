@@ -6,7 +6,7 @@ use mx_flags::Flags;
 use mx_image::Stop;
 use mx_mem::Segment;
 use mx_regs::Regs;
-use mx_world::Out;
+use mx_world::{Decoded, Out};
 use std::test::Fail;
 
 /// `inc eax`, `inc eax`, `jmp short` to the first; behind it the trap.
@@ -28,6 +28,7 @@ fn breakpoints(rt: HostRuntime) -> Result<(), Fail> {
         budget: 20,
         count: 0,
         stop: Stop::Spent,
+        decoded: Decoded::nothing(),
     };
     let mut debugger = Debugger::new();
     for address in 1..65 {

@@ -15,11 +15,12 @@ ghost use Rattle.mx_kernel.specs.Agrees.{IsAccepted, IsFresh, IsRefused};
 ghost use Rattle.mx_kernel.specs.Situation.{is_for_all, recorded_as};
 
 use crate::booting::{first_table, no_leases};
+use crate::caches::Caches;
 use crate::present::Present;
 use mx_proc::{Delivery, Slot, Table};
 use mx_respawn::Service;
 use mx_word::NoMemory;
-use mx_world::{Answer, Config, Event, Out, Record, Recorded, Refusal, runs_are_steps};
+use mx_world::{Answer, Config, Decoded, Event, Out, Record, Recorded, Refusal, runs_are_steps};
 use std::alloc::Global;
 use std::marker::Model;
 use std::mem;
@@ -31,6 +32,7 @@ pub struct Kernel {
     present: Present,
     records: Vec<Record>,
     processors: u8,
+    caches: Caches,
 }
 
 impl Model for Kernel {
@@ -87,29 +89,33 @@ impl Kernel {
         let table = first_table(alloc, services.as_slice())?;
         let leases = no_leases(alloc, config.cpus)?;
         let records = Vec::with_capacity(alloc, config.log as usize)?;
+        let caches = Caches::new(alloc, config.cpus)?;
         let entered = mem::replace(services, Vec::new(alloc));
         Ok(Kernel {
             present: Present::new(table, leases, config.others, entered, config.log),
             records,
             processors: config.cpus,
+            caches,
         })
     }
 
-    /// A processor takes the process that is first to run, and is lent its image.
+    /// A processor takes the process that is first to run, and is lent its image, with what the
+    /// processor keeps of decoded instructions.
     pub fn take(&mut self, cpu: u8) -> Result<Out, Refusal>
         ensures ok { OnOk result (IsAccepted self.old self.new cpu events.Take recorded.Take) }
         ensures lent { IfOk result (λ out. (l : Lent) × (held_by (replay self.new) cpu ≡ Some l) × (l.out ≡ out)) }
         ensures err { IfErr result (λ refusal. IsRefused self.old self.new cpu events.Take refusal) }
     {
         self.present.opened();
-        let out = self.present.take(cpu)?;
+        let mut out = self.present.take(cpu)?;
         self.present.opened();
         note(&mut self.records, cpu, Recorded::Take);
+        out.decoded = self.caches.lend(cpu);
         Ok(out)
     }
 
     /// A processor brings back what it was lent, after a run. Answers the steps of the run.
-    pub fn back(&mut self, cpu: u8, out: Out) -> u32
+    pub fn back(&mut self, cpu: u8, mut out: Out) -> u32
         requires { (l : Lent) × (held_by (replay self.old) cpu ≡ Some l) × IsBack l.out out }
         ensures count { result ≡ out.count }
         ensures recorded { self.new ≡ with_record self.old cpu (recorded.Back out.count) }
@@ -117,6 +123,8 @@ impl Kernel {
     {
         runs_are_steps();
         let count = out.count;
+        let decoded = mem::replace(&mut out.decoded, Decoded::nothing());
+        self.caches.take_home(cpu, decoded);
         let Some(lease) = self.present.lease(cpu) else {
             unreachable!()
         };

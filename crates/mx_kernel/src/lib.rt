@@ -2,6 +2,7 @@
 #![tactic(auto)]
 
 mod booting;
+mod caches;
 mod kernel;
 mod present;
 mod serving;

@@ -21,7 +21,7 @@ use mx_kcall::{raise, tick};
 use mx_proc::{Endpoint, Slot, Table};
 use mx_respawn::{Service, is_worn, respawn};
 use mx_sched::pick;
-use mx_world::{Answer, Event, Lease, Out, Refusal};
+use mx_world::{Answer, Decoded, Event, Lease, Out, Refusal};
 use std::marker::Model;
 
 /// A kernel's table, and what it keeps in mind of its processors.
@@ -146,7 +146,7 @@ impl Present {
         }
     }
 
-    /// A processor takes the process that is first to run.
+    /// A processor takes the process that is first to run, with nothing decoded.
     pub(crate) fn take(&mut self, cpu: u8) -> Result<Out, Refusal>
         ensures { Takes self.old self.new cpu result }
     {
@@ -182,6 +182,7 @@ impl Present {
             budget,
             count: 0,
             stop: Stop::Spent,
+            decoded: Decoded::nothing(),
         }
     }
 

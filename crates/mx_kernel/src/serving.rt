@@ -87,6 +87,7 @@ pub(crate) fn come_home(table: &mut Table, slot: Slot, out: Out)
         budget: _,
         count,
         stop,
+        decoded: _,
     } = out;
     table.take_home(slot, image);
     table.spend(slot, count);

@@ -306,21 +306,21 @@ actors_back : (w : Whole) (a : ℕ) (held : Option Lent) → actors (after_back 
 actors_back w a None = refl
 actors_back w a (Some l) = actors_held w a None
 
-actors_after : (w : Whole) (a : ℕ) (x : Event) → actors (after_event w a x) ≡ actors w
+-- an event leaves how many actors there are
+pub actors-after : (w : Whole) (a : ℕ) (x : Event) → actors (after_event w a x) ≡ actors w
 unfolding after_event
-actors_after w a Step = actors_step w a (held_by w a)
-actors_after w a Take = actors_take w a (picked w.table.ready)
-actors_after w a Back = actors_back w a (held_by w a)
-actors_after w a (Line l) = ap (λ n. n + (after_line w l (owner_of w.table l)).others) (ap length (line_cpus w l (owner_of w.table l))) ∙ ap (λ n. length w.cpus + n) (actors_line w l (owner_of w.table l))
-actors_after w a Tick = refl
-actors_after w a (Kill e) = refl
-actors_after w a (Respawn s) = ap (λ n. n + (after_respawn w s (slice_get w.services s)).others) (ap length (respawn_cpus w s (slice_get w.services s))) ∙ ap (λ n. length w.cpus + n) (actors_respawn w s (slice_get w.services s))
+actors-after w a Step = actors_step w a (held_by w a)
+actors-after w a Take = actors_take w a (picked w.table.ready)
+actors-after w a Back = actors_back w a (held_by w a)
+actors-after w a (Line l) = ap (λ n. n + (after_line w l (owner_of w.table l)).others) (ap length (line_cpus w l (owner_of w.table l))) ∙ ap (λ n. length w.cpus + n) (actors_line w l (owner_of w.table l))
+actors-after w a Tick = refl
+actors-after w a (Kill e) = refl
+actors-after w a (Respawn s) = ap (λ n. n + (after_respawn w s (slice_get w.services s)).others) (ap length (respawn_cpus w s (slice_get w.services s))) ∙ ap (λ n. length w.cpus + n) (actors_respawn w s (slice_get w.services s))
 
 actors_by : (w : Whole) (a : ℕ) (x : Event) (r : Option Refusal) → actors (moved_by w a x r).1 ≡ actors w
 actors_by w a x (Some r) = refl
-actors_by w a x None = actors_after w a x
+actors_by w a x None = actors-after w a x
 
--- an event leaves how many actors there are
 pub actors-kept : (w u : Whole) (a : ℕ) (x : Event) (r : Result Answer Refusal) → move w a x ≡ (r, u) → length u.cpus + u.others ≡ length w.cpus + w.others
 unfolding move
 actors-kept w u a x r h = sym (ap (λ (p : Result Answer Refusal × Whole). actors p.1) h) ∙ actors_by w a x (event_refusal w a x)

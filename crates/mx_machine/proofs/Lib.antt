@@ -3,3 +3,5 @@ pub mod MachineLemmas
 pub mod RunLemmas
 pub mod DoneLemmas
 pub mod RunningLemmas
+pub mod SoundLemmas
+pub mod AgainLemmas

@@ -72,6 +72,10 @@ run_counts : (j : ℕ) (o : Out) → Counts o j (held_run j o).0.0 (held_run j o
 unfolding held_run
 run_counts j o = counts_by o.stop j o
 
+-- a run leaves its budget
+pub run-budget : (lent o : Out) → IsRunOf lent o → o.budget ≡ lent.budget
+run-budget lent o h = ap (λ (x : Out). x.budget) (sym h.back.run) ∙ (run_counts o.count lent).budget
+
 -- a run more
 pub run-more : (lent o p : Out) (j : ℕ) → ((a b : ℕ) (x : Out) → held_run (a + b) x ≡ then_held (held_run a x) b) → IsRunOf lent o → p ≡ (held_run j o).1 → lasting p.image ≡ lasting o.image → IsRunOf lent p
 run-more lent o p j join h is lasts =

@@ -5,6 +5,7 @@ use Rattle.mx_world.specs.declared.events.Event.TheVariants.{Step, Take, Back}
 use Rattle.mx_world.specs.Whole.{Whole}
 use Rattle.mx_world.specs.History.{Kept, unfolded, replay}
 use Rattle.mx_world.specs.Move.{move, moves}
+use Rattle.mx_machine.specs.Machine.{IsActor}
 
 -- two events may change places: in both orders each has the same answer, and the world after them is the same
 pub record ChangePlaces (w : Whole) (a : ℕ) (x : Event) (b : ℕ) (y : Event) : Type 0 where
@@ -23,3 +24,9 @@ IsOthers c a _ = Unit {0}
 pub record Replays (k : Kept) : Type 0 where
   pub accepted : All IsOk (moves k.boot (unfolded k.history)).0
   pub world : (moves k.boot (unfolded k.history)).1 ≡ replay k
+
+-- so does a machine that begins where it began: it may run the events that the history stands for, each is accepted, and they lead to the replay
+pub record RunsAgain (w : Whole) (k : Kept) : Type 0 where
+  pub may : All (λ (x : ℕ × Event). IsActor w x.0 x.1) (unfolded k.history)
+  pub accepted : All IsOk (moves w (unfolded k.history)).0
+  pub world : (moves w (unfolded k.history)).1 ≡ replay k

@@ -5,7 +5,11 @@ ghost use Rattle.mx_world.specs.declared.events.Event.{Event};
 ghost use Rattle.mx_world.specs.declared.events.Event.TheVariants as e;
 ghost use Rattle.mx_world.specs.History.{Kept, AreAccepted, unfolded};
 ghost use Rattle.mx_world.specs.Whole.{Whole, Lent, held_by};
-ghost use Rattle.mx_machine.specs.Laws.{ChangePlaces, IsOthers, Replays};
+ghost use Rattle.mx_machine.specs.Laws.{ChangePlaces, IsOthers, Replays, RunsAgain};
+ghost use Rattle.mx_machine.specs.Machine.{world_of};
+
+use crate::machine::Machine;
+use mx_kernel::Kernel;
 
 /// While a processor has a process, its step may change places with any event but its own steps,
 /// takes and returns.
@@ -17,3 +21,12 @@ pub fn steps_change_places()
 pub fn histories_replay()
     ensures { (k : Kept) → AreAccepted k.boot (unfolded k.history) → Replays k }
 {}
+
+/// Law: a machine that stands where a kernel was booted may run the events that the kernel's history
+/// stands for. Each of them is accepted, and they lead to where the kernel stands.
+pub fn runs_again(machine: &Machine, kernel: &Kernel)
+    ensures { world_of machine.now ≡ kernel.now.boot → RunsAgain (world_of machine.now) kernel.now }
+{
+    histories_replay();
+    kernel.opened();
+}

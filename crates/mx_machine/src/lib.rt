@@ -5,7 +5,7 @@ mod laws;
 mod machine;
 mod steps;
 
-pub use laws::{histories_replay, steps_change_places};
+pub use laws::{histories_replay, runs_again, steps_change_places};
 pub use machine::Machine;
 pub use mx_kernel::Kernel;
 pub use mx_world::{

@@ -7,6 +7,7 @@ ghost use Rattle.mx_world.specs.declared.events.Event.TheVariants as events;
 ghost use Rattle.mx_world.specs.declared.events.Refusal.TheVariants.{CpuEmpty};
 ghost use Rattle.mx_world.specs.History.{replay};
 ghost use Rattle.mx_world.specs.Move.{move, moves};
+ghost use Rattle.mx_world.specs.Sound.{IsSound};
 ghost use Rattle.mx_world.specs.Whole.{Lent, held_by, out_count};
 ghost use Rattle.mx_kernel.specs.Situation.{is_for_all};
 ghost use Rattle.mx_machine.specs.Machine.{HasWorked, IsActor, IsRunning, world_of};
@@ -202,6 +203,13 @@ impl Machine {
             add(answers, answer);
         }
         Ok(())
+    }
+
+    /// Law: after each event the machine is sound.
+    pub fn sound(&self)
+        ensures { IsSound (world_of self.now) }
+    {
+        self.kernel.opened();
     }
 
     /// Opens to a proof what always holds of a machine: what a processor holds is what the kernel lent

@@ -7,9 +7,9 @@ use crate::{
     ServiceLines, Tool,
 };
 use mx_aout::{Program, read};
-use mx_exec::Outcome;
-use mx_proc::{Cause, Masks, Partner, State};
-use mx_respawn::{Label, Service};
+use mx_exec::{Image, Outcome};
+use mx_proc::{Cause, Masks, Partner, Process, State};
+use mx_respawn::{Label, Service, is_worn};
 use mx_word::{Register, Size};
 use std::alloc::Global;
 use std::process::Abort;
@@ -32,8 +32,8 @@ struct Row {
     ends: &'static [End],
 }
 
-/// The actor of two processors that is neither.
-const OTHER: u8 = 2;
+/// The actor that is none of the eight processors.
+const OTHER: u8 = 8;
 
 /// Three instructions and a trap; ECX is 0, so it is no call, and then the text ends.
 const SHORT: Made = Made(
@@ -115,7 +115,20 @@ const WORKS: Made = Made(
     1,
 );
 
-static ROWS: [Row; 8] = [
+/// TIMES: the uptime stands at 8 and the steps at 12.
+const COUNTS: Made = Made(
+    &[
+        0xC7, 5, 4, 0, 0, 0, 1, 6, 0, 0, 0xB9, 3, 0, 0, 0, 0xB8, 0xFE, 0xFF, 0xFF, 0xFF, 0xBB, 0,
+        0, 0, 0, 0xCD, 0x21,
+    ],
+    0,
+    2,
+    7,
+    20,
+    0,
+);
+
+static ROWS: [Row; 10] = [
     // A call and its answer.
     Row {
         log: 64,
@@ -256,12 +269,54 @@ static ROWS: [Row; 8] = [
             Turn(OTHER, Event::Kill(0), 1, Ok(Answer::Done)),
             Turn(OTHER, Event::Respawn(0), 1, Err(Refusal::NotDown)),
             Turn(1, Event::Take, 1, Err(Refusal::NoProcess)),
+            Turn(0, Event::Tick, 1, Ok(Answer::Done)),
             Turn(0, Event::Step, 10, Ok(Answer::Went(Outcome::Trap))),
             Turn(0, Event::Back, 1, Ok(Answer::Returned(20))),
         ],
         ends: &[
             End(0, State::Down(Cause::Kill), 4, 0, 24, 19, 0x40, 1),
             End(1, State::Ready, 7, 16, 4, 0xFFFF_FF97, 0, 0),
+        ],
+    },
+    // Each of eight processors has a process, in slot order, and none is left for who asks again.
+    Row {
+        log: 32,
+        services: &[SHORT, SHORT, SHORT, SHORT, SHORT, SHORT, SHORT, SHORT],
+        turns: &[
+            Turn(0, Event::Take, 1, Ok(Answer::Taken(0, 5))),
+            Turn(1, Event::Take, 1, Ok(Answer::Taken(1, 5))),
+            Turn(2, Event::Take, 1, Ok(Answer::Taken(2, 5))),
+            Turn(3, Event::Take, 1, Ok(Answer::Taken(3, 5))),
+            Turn(4, Event::Take, 1, Ok(Answer::Taken(4, 5))),
+            Turn(5, Event::Take, 1, Ok(Answer::Taken(5, 5))),
+            Turn(6, Event::Take, 1, Ok(Answer::Taken(6, 5))),
+            Turn(7, Event::Take, 1, Ok(Answer::Taken(7, 5))),
+            Turn(7, Event::Take, 1, Err(Refusal::CpuBusy)),
+            Turn(7, Event::Step, 3, Ok(Answer::Went(Outcome::Trap))),
+            Turn(7, Event::Back, 1, Ok(Answer::Returned(3))),
+            Turn(6, Event::Back, 1, Ok(Answer::Returned(0))),
+            Turn(7, Event::Take, 1, Ok(Answer::Taken(6, 5))),
+            Turn(6, Event::Take, 1, Ok(Answer::Taken(7, 2))),
+            Turn(6, Event::Back, 1, Ok(Answer::Returned(0))),
+        ],
+        ends: &[End(7, State::Ready, 7, 2, 3, 0xFFFF_FF98, 0, 0)],
+    },
+    // TIMES counts the steps up to its own trap.
+    Row {
+        log: 8,
+        services: &[COUNTS],
+        turns: &[
+            Turn(OTHER, Event::Tick, 1, Ok(Answer::Done)),
+            Turn(0, Event::Take, 1, Ok(Answer::Taken(0, 20))),
+            Turn(0, Event::Step, 2, Ok(Answer::Went(Outcome::Go))),
+            Turn(0, Event::Back, 1, Ok(Answer::Returned(2))),
+            Turn(0, Event::Take, 1, Ok(Answer::Taken(0, 18))),
+            Turn(0, Event::Step, 3, Ok(Answer::Went(Outcome::Trap))),
+            Turn(0, Event::Back, 1, Ok(Answer::Returned(3))),
+        ],
+        ends: &[
+            End(0, State::Ready, 7, 15, 5, 0, 8, 1),
+            End(0, State::Ready, 7, 15, 5, 0, 12, 5),
         ],
     },
 ];
@@ -306,9 +361,9 @@ fn service(rt: &impl Abort, alloc: Global, made: &Made) -> Result<Service, Fail>
     })
 }
 
-/// Two processors and one other actor. The kernel reads nothing of the services' lines.
+/// Eight processors and one other actor. The kernel reads nothing of the services' lines.
 fn config(rt: &impl Abort, alloc: Global, log: u32) -> Result<Config, Fail>
-    ensures { IfOk result (λ config. config.cpus ≡ 2) }
+    ensures { IfOk result (λ config. config.cpus ≡ 8) }
 {
     let line = ServiceLine {
         name: name(rt),
@@ -327,7 +382,7 @@ fn config(rt: &impl Abort, alloc: Global, log: u32) -> Result<Config, Fail>
     lines.push(line)?;
     assert!(rt; 0 < log && log <= 1_048_576);
     Ok(Config {
-        cpus: 2,
+        cpus: 8,
         others: 1,
         log,
         lines: ServiceLines::from_vec(lines),
@@ -350,6 +405,10 @@ impl Tool for Steps {
     }
 }
 
+fn work<T: Tool>(machine: &mut Machine, cpu: u8, tool: &mut T) -> Result<(), Refusal> {
+    machine.work(cpu, tool)
+}
+
 /// A row's machine, as it is booted.
 #[tactic(auto, unfolding(mx_world::specs::History::replay))]
 fn machine_of(rt: &impl Abort, alloc: Global, row: &Row) -> Result<Machine, Fail> {
@@ -364,6 +423,77 @@ fn machine_of(rt: &impl Abort, alloc: Global, row: &Row) -> Result<Machine, Fail
     Ok(Machine::new(kernel))
 }
 
+/// A round of E by the list: a process is taken, steps until it is refused a step, and comes back.
+const ROUND: [(u8, Event); 8] = [
+    (0, Event::Take),
+    (0, Event::Step),
+    (0, Event::Step),
+    (0, Event::Step),
+    (0, Event::Step),
+    (0, Event::Step),
+    (0, Event::Step),
+    (0, Event::Back),
+];
+
+/// E's five rounds, each as one list: whose process it is, its budget and its steps.
+fn rounds(rt: &impl Abort, alloc: Global) -> Result<(), Fail> {
+    let mut machine = machine_of(rt, alloc, &ROWS[0])?;
+    let mut answers = Vec::new(alloc);
+    for round in [(0, 20, 4), (1, 20, 4), (0, 16, 3), (0, 13, 5), (1, 16, 4)] {
+        answers.clear();
+        machine.run(&ROUND, &mut answers)?;
+        let said = answers.as_slice();
+        assert!(rt; said.len() == 8);
+        assert!(rt; said[0] == Ok(Answer::Taken(round.0, round.1)));
+        assert!(rt; said[round.2] == Ok(Answer::Went(Outcome::Trap)));
+        assert!(rt; said[6] == Err(Refusal::AtStop));
+        assert!(rt; said[7] == Ok(Answer::Returned(round.2 as u32)));
+    }
+    Ok(())
+}
+
+/// A tool's run, told once through its bound and once refused.
+fn works(rt: &impl Abort, alloc: Global) -> Result<(), Fail> {
+    let mut machine = machine_of(rt, alloc, &ROWS[1])?;
+    assert!(rt; work(&mut machine, 0, &mut Steps(9)) == Err(Refusal::CpuEmpty));
+    assert!(rt; machine.apply(0, Event::Take) == Ok(Answer::Taken(0, 5)));
+    assert!(rt; work(&mut machine, 0, &mut Steps(2)) == Ok(()));
+    assert!(rt; work(&mut machine, 0, &mut Steps(9)) == Ok(()));
+    assert!(rt; machine.image(0).is_some() && machine.image(1).is_none());
+    assert!(rt; machine.apply(0, Event::Back) == Ok(Answer::Returned(3)));
+    Ok(())
+}
+
+/// The last generation, and the last restart: no event reaches the former in a history's length.
+fn worn(rt: &impl Abort, alloc: Global) -> Result<(), Fail> {
+    let service = service(rt, alloc, &WRITES)?;
+    let rows = [
+        (0, 0, false),
+        (1, 1, true),
+        (1_048_574, 0, false),
+        (1_048_575, 0, true),
+    ];
+    for (generation, restarts, answer) in rows {
+        let process = Process {
+            state: State::Down(Cause::Exit),
+            generation,
+            restarts,
+            masks: service.masks,
+            level: 4,
+            best: 4,
+            quantum: 20,
+            ticks: 20,
+            steps: 0,
+            pending: [false; 34],
+            lines: 0,
+            alarm: None,
+            image: Image::blank(alloc),
+        };
+        assert!(rt; is_worn(&process, &service) == answer);
+    }
+    Ok(())
+}
+
 #[test]
 fn events(rt: HostRuntime) -> Result<(), Fail> {
     for (number, row) in ROWS.iter().enumerate() {
@@ -376,8 +506,7 @@ fn events(rt: HostRuntime) -> Result<(), Fail> {
             assert!(rt; (turn.0 as usize) < machine.actors());
             assert!(rt; machine.apply(turn.0, turn.1) == turn.3, "row {number}");
         }
-        let mut steps = Steps(1);
-        assert!(rt; machine.work(7, &mut steps) == Err(Refusal::CpuEmpty));
+        assert!(rt; work(&mut machine, 8, &mut Steps(1)) == Err(Refusal::CpuEmpty));
         let table = machine.kernel().table();
         for end in row.ends {
             assert!(rt; end.0 < table.used());
@@ -395,5 +524,7 @@ fn events(rt: HostRuntime) -> Result<(), Fail> {
             assert!(rt; process.image.memory.read(end.6, Size::Dword) == Ok(end.7));
         }
     }
-    Ok(())
+    rounds(&rt, rt.alloc())?;
+    works(&rt, rt.alloc())?;
+    worn(&rt, rt.alloc())
 }

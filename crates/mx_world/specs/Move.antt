@@ -93,7 +93,7 @@ sent_out t s = moved_out (unqueued t s) s
 
 -- a process on a processor, that has made no step yet
 abbrev pub lent_of : World → ℕ → Lent
-lent_of t s = let p = process_at t s in record { slot = s; out = record { image = p.image; budget = p.ticks; count = 0; stop = Spent } }
+lent_of t s = let p = process_at t s in record { slot = s; out = record { image = p.image; budget = p.ticks; count = 0; stop = Spent; decoded = tt } }
 
 abbrev pub is_doomed : State → Bool
 is_doomed Doomed = true

@@ -5,18 +5,20 @@ ghost use Rattle.mx_exec.specs.Lasting.{lasting};
 ghost use Rattle.mx_world.specs.declared.holding.Out.{Out};
 ghost use Rattle.mx_world.specs.Held.{held_run};
 
+use crate::decoded::Decoded;
 use mx_exec::Image;
-use mx_image::{Runs, Stop};
+use mx_image::Stop;
 use mx_proc::Slot;
 
 /// A process that is on a processor: its image, how many steps it may make, how many it has made,
-/// and how the last of them ended.
+/// how the last of them ended, and what its processor keeps of decoded instructions.
 #[derive(Drop)]
 pub struct Out {
     pub image: Image,
     pub budget: u32,
     pub count: u32,
     pub stop: Stop,
+    pub decoded: Decoded,
 }
 
 /// What the kernel keeps in mind of a process that is on a processor: its slot, and how many steps it
@@ -50,7 +52,7 @@ impl Held for Out {
         match self.stop {
             Stop::Spent => {
                 let left = self.budget.saturating_sub(self.count);
-                let (made, stop) = self.image.run(k.min(left));
+                let (made, stop) = self.decoded.run(&mut self.image, k.min(left));
                 self.count += made;
                 self.stop = stop;
                 (made, stop)

@@ -2,11 +2,13 @@
 //! processor holds.
 #![tactic(auto)]
 
+mod decoded;
 mod events;
 mod history;
 mod holding;
 mod laws;
 
+pub use decoded::Decoded;
 pub use events::{Answer, Event, Refusal};
 pub use history::{Record, Recorded};
 pub use holding::{Held, Lease, Out};

@@ -9,8 +9,8 @@ use Rattle.mx_kernel.specs.Situation.{Situation}
 use Rattle.mx_kernel.proofs.BootLemmas.{boot_holds, boot_agrees}
 use Rattle.mx_kernel.proofs.kernel.Kernel.new.Goals as goal
 
-pub new-requires-2 : goal.new-requires-2
-new-requires-2 c =
+pub new-requires-3 : goal.new-requires-3
+new-requires-3 c =
     let ss = c.args.services.now.items in
     let config = c.args.config.now in
     let table : c.in_ok-table.table ≡ first_table ss = c.in_ok-table.ensures ∙ ap first_table c.as_slice.ensures.value in
@@ -30,8 +30,8 @@ invariant_of-result c =
     let table : c.in_ok-table.table ≡ first_table ss = c.in_ok-table.ensures ∙ ap first_table c.as_slice.ensures.value in
     let entered : c.replace-entered.result.items ≡ ss = ap (λ v. v.items) c.replace-entered.ensures.value in
     let room : config.log ≤ vec_capacity records = omega (arith, c.in_ok-records.ensures.capacity) in
-    let is : c.new-2.result ≡ record { table = first_table ss; leases = leases; others = config.others; services = ss; records = 0; capacity = config.log } =
-    c.new-2.ensures
+    let is : c.new-3.result ≡ record { table = first_table ss; leases = leases; others = config.others; services = ss; records = 0; capacity = config.log } =
+    c.new-3.ensures
     ∙ ap (λ (w : World). let d : Situation = record { table = w; leases = leases; others = config.others; services = c.replace-entered.result.items; records = 0; capacity = config.log } in d) table
     ∙ ap (λ (x : List Service). let d : Situation = record { table = first_table ss; leases = leases; others = config.others; services = x; records = 0; capacity = config.log } in d) entered in
     subst (λ (d : Situation). Agrees d (vec_capacity records) (record { boot = booted_with d.services config.cpus d.others d.capacity; history = records.items })) (sym is)

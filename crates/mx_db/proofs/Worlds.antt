@@ -1,0 +1,29 @@
+-- The world after steps up to a breakpoint.
+use Rattle.std.proofs.Common.{◌≡◌, ◌∙◌, ℕ, List, Option, Some, None, sym, ap, refl}
+use Rattle.std.specs.Option.{option_map}
+use Rattle.mx_world.specs.History.{after_events}
+use Rattle.mx_world.specs.Held.{held_run}
+use Rattle.mx_world.specs.Steps.{steps_of}
+use Rattle.mx_world.specs.Whole.{Whole, Lent, held_by}
+use Rattle.mx_machine.specs.Machine.{HasWorked}
+use Rattle.mx_debug.specs.declared.halt.Halt.{Halt}
+use Rattle.mx_debug.specs.declared.points.Breakpoint.{Breakpoint}
+use Rattle.mx_debug.specs.Halts.{steps_made}
+use Rattle.mx_db.specs.Going.{HasGone}
+use Rattle.mx_db.specs.Lines.{gone}
+
+pub gone_nothing : (w : Whole) (points : List Breakpoint) (c k : ℕ) → held_by w c ≡ None → gone w points c k (held_by w c) ≡ w
+gone_nothing w points c k h = ap (gone w points c k) h
+
+pub gone_steps : (w u : Whole) (points : List Breakpoint) (c k : ℕ) (h : Halt) → HasGone w u points c k h → gone w points c k (held_by w c) ≡ u
+gone_steps w u points c k h g =
+    ap (gone w points c k) g.worked.held
+    ∙ ap (λ (n : ℕ). after_events w (steps_of c n)) (sym g.halts.count ∙ sym g.halts.made)
+    ∙ sym g.worked.world
+
+none_mapped : (l : Option Lent) → option_map (λ (x : Lent). x.slot) l ≡ None → l ≡ None
+none_mapped None h = refl
+none_mapped (Some l) h = absurd cc
+
+pub gone_no_slot : (w : Whole) (points : List Breakpoint) (c k : ℕ) → option_map (λ (x : Lent). x.slot) (held_by w c) ≡ None → gone w points c k (held_by w c) ≡ w
+gone_no_slot w points c k h = gone_nothing w points c k (none_mapped (held_by w c) h)

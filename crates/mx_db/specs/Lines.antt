@@ -1,0 +1,36 @@
+-- What the lines of a debugger's script do with a machine and with the debugger's breakpoints (our own).
+use Rattle.std.specs.Prelude.{ℕ, List, [], ◌∷◌, Option, Some, None}
+use Rattle.mx_script.specs.declared.debug.DebugLine.{DebugLine}
+use Rattle.mx_script.specs.declared.debug.DebugLine.TheVariants.{Plain, Break, Clear, Go, Registers, Memory, Messages}
+use Rattle.mx_world.specs.History.{after_events}
+use Rattle.mx_world.specs.Steps.{steps_of}
+use Rattle.mx_world.specs.Whole.{Whole, Lent, held_by}
+use Rattle.mx_steps.specs.Lines.{line_made}
+use Rattle.mx_debug.specs.declared.points.Breakpoint.{Breakpoint}
+use Rattle.mx_debug.specs.Halts.{steps_made}
+use Rattle.mx_db.specs.Places.{found, broken, cleared}
+
+-- the world after a processor's steps up to a breakpoint
+abbrev pub gone : Whole → List Breakpoint → ℕ → ℕ → Option Lent → Whole
+gone w points c k None = w
+gone w points c k (Some l) = after_events w (steps_of c (steps_made points l.slot k l.out))
+
+-- A world, and the breakpoints in its processes.
+pub record Debugged : Type 0 where
+  pub world : Whole
+  pub points : List Breakpoint
+
+-- WHAT A LINE DOES, where `other` is the actor of the lines that name none; the lines that only show something do nothing
+unfoldable pub debug_line_made : ℕ → Debugged → DebugLine → Debugged
+debug_line_made other d (Plain l) = record d { world = (line_made d.world other l).1 }
+debug_line_made other d (Break s place) = record d { points = (broken d.points (found d.world.services s place)).1 }
+debug_line_made other d (Clear s place) = record d { points = (cleared d.points (found d.world.services s place)).1 }
+debug_line_made other d (Go c k) = record d { world = gone d.world d.points c k (held_by d.world c) }
+debug_line_made other d (Registers c) = d
+debug_line_made other d (Memory c m n) = d
+debug_line_made other d Messages = d
+
+-- and lines in a row
+abbrev pub debug_lines_made : ℕ → Debugged → List DebugLine → Debugged
+debug_lines_made other d [] = d
+debug_lines_made other d (l ∷ ls) = debug_lines_made other (debug_line_made other d l) ls
