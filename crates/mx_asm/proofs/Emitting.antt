@@ -1,6 +1,5 @@
 -- What the bytes of the lines add up to.
-use Rattle.std.proofs.Common.{◌≡◌, ℕ, ◌+◌, ◌<◌, ◌≤◌, Bool, false, List, [], ◌∷◌, ◌++◌, length, get_or, drop, take, map, refl, sym, ◌∙◌, ap, subst, Option, Some, None, append_assoc, replicate}
-use Rattle.std.specs.Prelude.{if◌then◌else◌}
+use Rattle.std.proofs.Common.{◌≡◌, ℕ, ◌+◌, ◌<◌, ◌≤◌, List, [], ◌∷◌, ◌++◌, length, get_or, drop, take, map, refl, sym, ◌∙◌, ap, subst, Option, Some, append_assoc, replicate}
 use Rattle.std.specs.List.{flat_map}
 use Rattle.std.proofs.lemmas.List.{append-nil, drop_all, take_more, map-append}
 use Rattle.std.proofs.lemmas.Grind.{flat_map-append}
@@ -10,12 +9,9 @@ use Rattle.mx_statement.specs.declared.statement.Section.TheVariants.{Text, Data
 use Rattle.mx_statement.specs.declared.statement.Statement.{Statement}
 use Rattle.mx_statement.specs.declared.line.Line.{Line}
 use Rattle.mx_asm.specs.declared.sizes.Sizes.{Sizes}
-use Rattle.mx_asm.specs.declared.fault.Fault.{Fault}
-use Rattle.mx_asm.specs.declared.fault.Problem.TheVariants.{TooLarge}
 use Rattle.mx_asm.specs.Lengths.{length_of}
 use Rattle.mx_asm.specs.Layout.{Above, start, spot_of, sizes_after, address_of, left_by, laid_by, behind, said}
 use Rattle.mx_asm.specs.Bytes.{AllStand, AreParts, BytesOf, StandsIn, Pushes, contents, put_into}
-use Rattle.mx_asm.specs.Faults.{first_problem, fault_behind, first_of, last_line, is_too_large}
 use Rattle.mx_asm.proofs.Lengths.{KeepsLength, stands_length}
 
 -- with any bytes for the lines that are left, from here on, there are bytes for all
@@ -107,16 +103,6 @@ completed a ls i s text init h before =
 
 pub begun : (a : Above) (ls : List Line) → Completes a ls 0 start.sizes [] []
 begun a ls rest stand = record { bytes = rest; stand = stand; text_is = refl; init_is = refl }
-
-pub no_fault : (lines : List Line) (a : Above) → a ≡ laid_by start lines → first_problem a start.sizes 1 lines ≡ None
-    → is_too_large a ≡ false → fault_behind lines ≡ None
-no_fault lines a same two small =
-    let large : Option Fault = Some (record { problem = TooLarge; line = last_line lines }) in
-    let laid = laid_by start lines in
-    let two' : first_problem laid start.sizes 1 lines ≡ None = subst (λ (x : Above). first_problem x start.sizes 1 lines ≡ None) same two in
-    let small' : is_too_large laid ≡ false = subst (λ (x : Above). is_too_large x ≡ false) same small in
-    ap (λ (x : Option Fault). first_of x (if is_too_large laid then large else None)) two'
-    ∙ ap (λ (x : Bool). if x then large else None) small'
 
 -- ---- the values of a line
 

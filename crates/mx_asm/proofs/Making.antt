@@ -253,6 +253,14 @@ no_first (Some f) g h = cc
 
 -- ---- the program
 
+-- lines with no fault have neither a problem nor a size that is too large
+pub clean_of : (ls : List Line) (a : Above) → a ≡ laid_by start ls → fault_behind ls ≡ None → (first_problem a start.sizes 1 ls ≡ None) × (is_too_large a ≡ false)
+clean_of ls a same clean =
+    let laid = laid_by start ls in
+    let both = no_first (first_problem laid start.sizes 1 ls) (too_large_in laid ls) clean in
+    let small = not_too_large (is_too_large laid) (record { problem = TooLarge; line = last_line ls }) both.1 in
+    (subst (λ (x : Above). first_problem x start.sizes 1 ls ≡ None) (sym same) both.0, subst (λ (x : Above). is_too_large x ≡ false) (sym same) small)
+
 -- the program of these bytes
 built : KeepsLength → (ls : List Line) (bs : List (List ℕ)) → fault_behind ls ≡ None → is_too_large (laid_by start ls) ≡ false → AllStand (laid_by start ls) start.sizes ls bs
     → (p : Program) × AreAssembled ls p
@@ -277,19 +285,21 @@ built law ls bs clean small stand =
       bss = a.sizes.bss;
       symbols = map (symbol_under a) a.labels;
       within = fit;
-    } in
-    (p, record {
-      accepted = clean;
-      bytes = bs;
-      stand = subst (λ (x : Above). AllStand x start.sizes ls bs) back stand;
-      text = refl;
-      init = refl;
-      bss = ap (λ (x : Above). x.sizes.bss) back;
-      sep = ap (λ (x : Above). x.sep) back;
-      entry = ap (λ (x : Above). entry_under x x.entry) back;
-      total = ap total_of back;
-      symbols = ap (λ (x : Above). map (symbol_under x) x.labels) back;
-    })
+    } in (
+      p,
+      record {
+        accepted = clean;
+        bytes = bs;
+        stand = subst (λ (x : Above). AllStand x start.sizes ls bs) back stand;
+        text = refl;
+        init = refl;
+        bss = ap (λ (x : Above). x.sizes.bss) back;
+        sep = ap (λ (x : Above). x.sep) back;
+        entry = ap (λ (x : Above). entry_under x x.entry) back;
+        total = ap total_of back;
+        symbols = ap (λ (x : Above). map (symbol_under x) x.labels) back;
+      },
+    )
 
 made : Encodes → (ls : List Line) → AllFitting ls → fault_behind ls ≡ None → (p : Program) × AreAssembled ls p
 made law ls fits clean =

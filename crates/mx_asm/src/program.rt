@@ -60,6 +60,27 @@ impl Layout {
         Ok(symbols)
     }
 
+    /// What stands against the lines that leave this layout.
+    fn fault_behind(&self, lines: &[Line]) -> Option<Fault>
+        requires laid { above_of self.now ≡ laid_by start lines.now }
+        requires sizes { SizesWithin self.now.sizes (2 ^ 126) }
+        requires labels { AllSpotsWithin (above_of self.now).labels (2 ^ 126) }
+        ensures { result ≡ fault_behind lines.now }
+    {
+        match self.first_problem(lines) {
+            Some(fault) => return Some(fault),
+            None => {}
+        }
+        if self.is_too_large() {
+            let line = lines.len().max(1);
+            return Some(Fault {
+                problem: Problem::TooLarge,
+                line,
+            });
+        }
+        None
+    }
+
     /// The program of bytes and symbols that have their places here.
     fn program(&self, parts: Parts, symbols: Vec<Symbol>) -> Program
         requires sizes { SizesWithin self.now.sizes (2 ^ 126) }
@@ -98,16 +119,9 @@ pub fn program_of(alloc: Global, layout: &Layout, lines: &[Line]) -> Result<Prog
 {
     immediate_keeps_length();
     displacement_keeps_length();
-    match layout.first_problem(lines) {
+    match layout.fault_behind(lines) {
         Some(fault) => return Err(AsmError::At(fault)),
         None => {}
-    }
-    if layout.is_too_large() {
-        let line = lines.len().max(1);
-        return Err(AsmError::At(Fault {
-            problem: Problem::TooLarge,
-            line,
-        }));
     }
     let symbols = layout.symbols(alloc)?;
     let parts = layout.parts(alloc, lines)?;

@@ -6,7 +6,8 @@ use Rattle.mx_asm.specs.Bytes.{AllStand}
 use Rattle.mx_asm.specs.Faults.{total_of}
 use Rattle.mx_asm.specs.Assembled.{symbol_under, entry_under}
 use Rattle.mx_asm.proofs.Lengths.{KeepsLength}
-use Rattle.mx_asm.proofs.Emitting.{lengths_same, no_fault}
+use Rattle.mx_asm.proofs.Emitting.{lengths_same}
+use Rattle.mx_asm.proofs.Making.{clean_of}
 use Rattle.mx_asm.proofs.Fitting.{contents_size}
 use Rattle.mx_asm.proofs.program.program_of.Goals as goal
 
@@ -19,7 +20,7 @@ returns-clause-program c =
     let made = c.program.ensures in
     let back : a ≡ left_by start lines (map length parts.bytes) = c.requires.laid ∙ sym (lengths_same law a start start.sizes lines parts.bytes parts.stand) in
     record {
-      accepted = no_fault lines a c.requires.laid (sym c.in-None.ensures) (sym c.is_too_large.ensures ∙ c.if-is_too_large.false);
+      accepted = sym c.in-None.ensures;
       bytes = parts.bytes;
       stand = subst (λ (x : Above). AllStand x start.sizes lines parts.bytes) back parts.stand;
       text = made.text ∙ parts.text_is;
@@ -50,3 +51,9 @@ program-requires-clause-init c =
     let back : a ≡ left_by start lines (map length parts.bytes) = c.requires.laid ∙ sym (lengths_same law a start start.sizes lines parts.bytes parts.stand) in
     let size = contents_size law Data (λ b. refl) a start lines parts.bytes parts.stand in
     ap length parts.init_is ∙ omega (arith, size, ap (λ (x : Above). x.sizes.init) back)
+
+pub parts-requires-clause-clean : goal.parts-requires-clause-clean
+parts-requires-clause-clean c = (clean_of c.args.lines.now (above_of c.args.layout.now) c.requires.laid (sym c.in-None.ensures)).0
+
+pub program-requires-clause-fits : goal.program-requires-clause-fits
+program-requires-clause-fits c = (clean_of c.args.lines.now (above_of c.args.layout.now) c.requires.laid (sym c.in-None.ensures)).1
