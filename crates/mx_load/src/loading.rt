@@ -65,7 +65,7 @@ pub fn load(alloc: Global, program: &Program) -> Result<Image, NoMemory>
     if program.sep {
         let memory = segment(alloc, limit, init, &[])?;
         let text = segment(alloc, text.len() as u32, text, &[])?;
-        let code = Code::Separate(Text::new(alloc, text)?);
+        let code = Code::Separate(Text::new(text));
         return Ok(image(program.entry, regs, memory, code));
     }
     let memory = segment(alloc, limit, text, init)?;
