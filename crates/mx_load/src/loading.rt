@@ -53,7 +53,7 @@ fn first_registers(top: u32) -> Regs
     regs
 }
 
-/// The image of a program. Takes memory for its segments, and for what its text keeps decoded.
+/// The image of a program. Takes memory for its segments.
 pub fn load(alloc: Global, program: &Program) -> Result<Image, NoMemory>
     ensures image { IfOk result (λ image. image ≡ loaded program.now) }
     ensures from { IfOk result (λ image. IsLoadedFrom image program.now) }
