@@ -91,14 +91,10 @@ impl Image {
 
     /// Puts the instruction at EIP into `insn`, and answers its length.
     #[inline(always)]
-    pub(crate) fn fetch(&mut self, insn: &mut Insn) -> Result<u8, DecodeFault>
-        ensures same { self.new ≡ self.old }
-        ensures fetched { Fetches (front (drop self.old.eip (code_bytes self.old))) result insn.new }
+    pub fn fetch(&self, insn: &mut Insn) -> Result<u8, DecodeFault>
+        ensures { Fetches (front (drop self.now.eip (code_bytes self.now))) result insn.new }
     {
-        match &mut self.code {
-            Code::Separate(text) => text.fetch(self.eip, insn),
-            Code::Shared => decode_at(&self.memory, self.eip, insn),
-        }
+        decode_at(self.code_segment(), self.eip, insn)
     }
 
     /// Jumps, or answers the vector of a target that isn't below the code's limit.

@@ -15,5 +15,5 @@ mod text;
 
 pub use image::{Code, Image, Outcome};
 pub use laws::step_lasts;
-pub use steps::{outcome, perform, step};
+pub use steps::{act, outcome, perform, step};
 pub use text::{Text, decode_at};

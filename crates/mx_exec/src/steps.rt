@@ -1,9 +1,11 @@
 //! One step.
 
-ghost use Rattle.std.specs.Prelude.{◌≡◌, Ok, Err};
-ghost use Rattle.mx_exec.specs.Image.{Performs};
+ghost use Rattle.std.specs.Prelude.{◌≡◌, drop, Ok, Err};
+ghost use Rattle.mx_decode.specs.Decode.{front};
+ghost use Rattle.mx_exec.specs.Image.{code_bytes, Performs};
 ghost use Rattle.mx_exec.specs.Lasting.{lasting};
 ghost use Rattle.mx_exec.specs.Step.{after, outcome_of, one_step};
+ghost use Rattle.mx_exec.specs.Text.{Fetches};
 
 use crate::image::dword_sum;
 use crate::{Image, Outcome, arithmetic, jumps, moves, plain, strings};
@@ -126,6 +128,27 @@ pub fn perform(image: &mut Image, insn: &Insn, next: u32) -> Result<(), u8>
     }
 }
 
+/// Performs what was fetched at EIP, or answers the fault that the fetch found.
+#[inline(always)]
+pub fn act(image: &mut Image, insn: &Insn, fetched: Result<u8, DecodeFault>) -> Outcome
+    requires { Fetches (front (drop image.old.eip (code_bytes image.old))) fetched insn.now }
+    ensures outcome { result ≡ (one_step image.old).0 }
+    ensures image { image.new ≡ (one_step image.old).1 }
+    ensures lasting { lasting image.new ≡ lasting image.old }
+{
+    match fetched {
+        Ok(length) => {
+            let next = dword_sum(image.eip, u32::from(length));
+            match perform(image, insn, next) {
+                Ok(()) => outcome(insn),
+                Err(vector) => Outcome::Fault(vector),
+            }
+        }
+        Err(DecodeFault::Short) => Outcome::Fault(13),
+        Err(DecodeFault::NotInTable) => Outcome::Fault(6),
+    }
+}
+
 /// One step of a process: the instruction at EIP, or one iteration of a repeated string
 /// instruction. A fault changes nothing.
 #[inline(always)]
@@ -135,15 +158,6 @@ pub fn step(image: &mut Image) -> Outcome
     ensures lasting { lasting image.new ≡ lasting image.old }
 {
     let mut insn = Insn::Plain(Plain::Nop);
-    match image.fetch(&mut insn) {
-        Ok(length) => {
-            let next = dword_sum(image.eip, u32::from(length));
-            match perform(image, &insn, next) {
-                Ok(()) => outcome(&insn),
-                Err(vector) => Outcome::Fault(vector),
-            }
-        }
-        Err(DecodeFault::Short) => Outcome::Fault(13),
-        Err(DecodeFault::NotInTable) => Outcome::Fault(6),
-    }
+    let fetched = image.fetch(&mut insn);
+    act(image, &insn, fetched)
 }

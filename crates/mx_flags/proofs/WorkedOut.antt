@@ -1,6 +1,6 @@
 -- Flags worked out from what is kept.
-use Rattle.std.proofs.Common.{ℕ, ◌≡◌, ◌+◌, ◌-◌, ◌*◌, ◌/◌, ◌%◌, ◌^◌, ◌≤◌, ◌<◌, Bool, true, false, ◌==◌, refl, arith, inl, inr, nat_le, nat_lt, pos, ◌+ℤ◌, ◌-ℤ◌, ◌≤ℤ◌, neg_ℤ, ℤ, bit_xor, bit_and}
-use Rattle.std.specs.Int.{from_bool, bit_at}
+use Rattle.std.proofs.Common.{ℕ, ◌≡◌, ◌+◌, ◌-◌, ◌*◌, ◌/◌, ◌%◌, ◌^◌, ◌≤◌, ◌<◌, Bool, true, false, ◌==◌, refl, arith, inl, inr, nat_le, pos, ◌+ℤ◌, ◌-ℤ◌, ◌≤ℤ◌, neg_ℤ, ℤ, bit_xor}
+use Rattle.std.specs.Int.{from_bool}
 use Rattle.std.proofs.lemmas.Nat.Bits.{bit_at_xor}
 use Rattle.std.proofs.lemmas.Bool.{cases_lt}
 use Rattle.mx_word.specs.Word.{has_even_ones, is_negative, differ, leaves_unsigned, leaves_signed, signed, modulo}
@@ -66,9 +66,20 @@ sum_auxiliary x y c n most whole =
     let bits = three_bits x y n 4 in
     grind (arith)
 
-difference_auxiliary : (x y c n : ℕ) → c ≤ 1 → n + y + c ≡ 2 ^ 33 + x → (bit_xor (bit_xor x y) n / 16 % 2 == 1) ≡ leaves_unsigned 4 (pos (x % 16) -ℤ pos (y % 16) -ℤ pos c)
-difference_auxiliary x y c n most whole =
+-- x - y - c as it wraps in 64 bits: below bit 33 it is that of 2 ^ 33 more
+abbrev pub wrapped_difference : ℕ → ℕ → ℕ → ℕ
+wrapped_difference x y c = ((x + (2 ^ 64 - y)) % 2 ^ 64 + (2 ^ 64 - c)) % 2 ^ 64
+
+wraps : (x y c n m : ℕ) → x < 2 ^ 32 → y < 2 ^ 32 → c ≤ 1 → n ≡ wrapped_difference x y c → m + y + c ≡ 2 ^ 33 + x → n % 2 ^ 33 ≡ m % 2 ^ 33
+wraps x y c n m left right most whole other = elim (cases_lt x (y + c)) [
+  | inl borrowed ↦ (let e : n + y + c ≡ 2 ^ 64 + x = omega arith in omega arith)
+  | inr enough ↦ (let e : n + y + c ≡ x = omega arith in omega arith)
+]
+
+difference_auxiliary : (x y c n m : ℕ) → c ≤ 1 → m + y + c ≡ 2 ^ 33 + x → n % 2 ^ 33 ≡ m % 2 ^ 33 → (bit_xor (bit_xor x y) n / 16 % 2 == 1) ≡ leaves_unsigned 4 (pos (x % 16) -ℤ pos (y % 16) -ℤ pos c)
+difference_auxiliary x y c n m most whole low =
     let bits = three_bits x y n 4 in
+    let same_bit : n / 16 % 2 ≡ m / 16 % 2 = omega arith in
     grind (arith)
 
 signed_small : (x : ℕ) → x < 2 ^ 31 → signed 32 x ≡ pos x
@@ -150,18 +161,30 @@ sum_worked_out x y c d f left right most same_direction =
     let n : ℕ = x + y + c in
     rw (leaves_pos 32 n, leaves_pos 4 (x % 16 + y % 16 + c), sum_auxiliary x y c n most refl, sum_bits x y c n _ _ left right most refl (three_bits x y n 32) (three_bits x y n 31), same_direction) refl
 
-difference_left : (x y c : ℕ) → x < 2 ^ 32 → y < 2 ^ 32 → c ≤ 1 → (2 ^ 33 + x - y - c) % 2 ^ 32 ≡ modulo 32 (pos x -ℤ pos y -ℤ pos c)
-difference_left x y c left right most = grind (arith)
+difference_left : (x y c n m : ℕ) → x < 2 ^ 32 → y < 2 ^ 32 → c ≤ 1 → m + y + c ≡ 2 ^ 33 + x → n % 2 ^ 33 ≡ m % 2 ^ 33 → n % 2 ^ 32 ≡ modulo 32 (pos x -ℤ pos y -ℤ pos c)
+difference_left x y c n m left right most whole low =
+    let same_word : n % 2 ^ 32 ≡ m % 2 ^ 32 = omega arith in
+    let least : m ≡ 2 ^ 33 + x - y - c = omega arith in
+    rw (same_word, least) (grind (arith))
 
-difference_borrowed : (x y c : ℕ) → x < 2 ^ 32 → y < 2 ^ 32 → c ≤ 1 → nat_lt (2 ^ 33 + x - y - c) (2 ^ 33) ≡ leaves_unsigned 32 (pos x -ℤ pos y -ℤ pos c)
-difference_borrowed x y c left right most = grind (arith)
+difference_borrowed : (x y c n : ℕ) → x < 2 ^ 32 → y < 2 ^ 32 → c ≤ 1 → n ≡ wrapped_difference x y c → nat_le (2 ^ 32) n ≡ leaves_unsigned 32 (pos x -ℤ pos y -ℤ pos c)
+difference_borrowed x y c n left right most whole = elim (cases_lt x (y + c)) [
+  | inl borrowed ↦ (let e : n + y + c ≡ 2 ^ 64 + x = omega arith in grind (arith))
+  | inr enough ↦ (let e : n + y + c ≡ x = omega arith in grind (arith))
+]
 
 pub difference_worked_out : (x y c : ℕ) (d : Bool) (f : FlagValues) → x < 2 ^ 32 → y < 2 ^ 32 → c ≤ 1 → d ≡ f.direction →
-    worked_out ((2 ^ 33 + x - y - c) % 2 ^ 32) ((2 ^ 33 + x - y - c) % 2 ^ 32) (bit_xor (bit_xor x y) (2 ^ 33 + x - y - c)) (nat_lt (2 ^ 33 + x - y - c) (2 ^ 33)) d ≡ sub_flags 32 x y c f
+    worked_out (wrapped_difference x y c % 2 ^ 32) (wrapped_difference x y c % 2 ^ 32) (bit_xor (bit_xor x y) (wrapped_difference x y c)) (nat_le (2 ^ 32) (wrapped_difference x y c)) d ≡ sub_flags 32 x y c f
 difference_worked_out x y c d f left right most same_direction =
-    let n : ℕ = 2 ^ 33 + x - y - c in
-    let whole : n + y + c ≡ 2 ^ 33 + x = omega arith in
-    rw (difference_left x y c left right most, difference_borrowed x y c left right most, difference_auxiliary x y c n most whole, difference_bits x y c n _ _ left right most whole (three_bits x y n 32) (three_bits x y n 31), same_direction) refl
+    let n : ℕ = wrapped_difference x y c in
+    let m : ℕ = 2 ^ 33 + x - y - c in
+    let whole : m + y + c ≡ 2 ^ 33 + x = omega arith in
+    let low : n % 2 ^ 33 ≡ m % 2 ^ 33 = wraps x y c n m left right most refl whole in
+    let upper_bit : n / 2 ^ 32 % 2 ≡ m / 2 ^ 32 % 2 = omega arith in
+    let lower_bit : n / 2 ^ 31 % 2 ≡ m / 2 ^ 31 % 2 = omega arith in
+    let upper : bit_xor (bit_xor x y) n / 2 ^ 32 % 2 ≡ (x / 2 ^ 32 % 2 + y / 2 ^ 32 % 2 + m / 2 ^ 32 % 2) % 2 = omega (arith, upper_bit, three_bits x y n 32) in
+    let lower : bit_xor (bit_xor x y) n / 2 ^ 31 % 2 ≡ (x / 2 ^ 31 % 2 + y / 2 ^ 31 % 2 + m / 2 ^ 31 % 2) % 2 = omega (arith, lower_bit, three_bits x y n 31) in
+    rw (difference_left x y c n m left right most whole low, difference_borrowed x y c n left right most refl, difference_auxiliary x y c n m most whole low, difference_bits x y c m _ _ left right most whole upper lower, same_direction) refl
 
 pub logic_worked_out : (n k : ℕ) (d : Bool) (f : FlagValues) → (k / 16 % 2 == 1) ≡ f.auxiliary → d ≡ f.direction → worked_out n n (k / 16 % 2 * 16) false d ≡ logic_flags 32 n f
 logic_worked_out n k d f same_auxiliary same_direction =

@@ -353,13 +353,15 @@ impl Flags {
     fn after_difference_of_dwords(&self, x: u32, y: u32, borrow: bool) -> Flags
         ensures { result ≡ sub_flags 32 x y (from_bool borrow) self.now }
     {
-        let whole = 0x2_0000_0000 + u64::from(x) - u64::from(y) - u64::from(borrow);
+        let whole = u64::from(x)
+            .wrapping_sub(u64::from(y))
+            .wrapping_sub(u64::from(borrow));
         let word = (whole % 0x1_0000_0000) as u32;
         Flags {
             zero: word,
             word,
             carries: u64::from(x) ^ u64::from(y) ^ whole,
-            carry: u32::from(whole < 0x2_0000_0000),
+            carry: u32::from(whole >= 0x1_0000_0000),
             direction: self.direction,
         }
     }

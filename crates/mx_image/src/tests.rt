@@ -599,7 +599,7 @@ fn image_of(alloc: Global, row: &Row) -> Result<Image, Fail> {
         memory: segment_of(alloc, LIMIT, row.memory)?,
         code: match row.shared {
             true => Code::Shared,
-            false => Code::Separate(Text::new(alloc, text)?),
+            false => Code::Separate(Text::new(text)),
         },
     })
 }

@@ -53,7 +53,7 @@ fn first_registers(top: u32) -> Regs
     regs
 }
 
-/// The image of a program. Takes memory for its segments, and for what its text keeps decoded.
+/// The image of a program. Takes memory for its segments.
 pub fn load(alloc: Global, program: &Program) -> Result<Image, NoMemory>
     ensures image { IfOk result (λ image. image ≡ loaded program.now) }
     ensures from { IfOk result (λ image. IsLoadedFrom image program.now) }
@@ -65,7 +65,7 @@ pub fn load(alloc: Global, program: &Program) -> Result<Image, NoMemory>
     if program.sep {
         let memory = segment(alloc, limit, init, &[])?;
         let text = segment(alloc, text.len() as u32, text, &[])?;
-        let code = Code::Separate(Text::new(alloc, text)?);
+        let code = Code::Separate(Text::new(text));
         return Ok(image(program.entry, regs, memory, code));
     }
     let memory = segment(alloc, limit, text, init)?;

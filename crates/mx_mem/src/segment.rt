@@ -147,6 +147,17 @@ impl Segment {
         Some(&bytes[at..at + 15])
     }
 
+    /// The number in the eight bytes from a place on.
+    #[inline(always)]
+    fn qword_at(&self, at: usize) -> u64
+        requires { at + 8 ≤ length self.now }
+        ensures value { result ≡ value_at self.now at 8 }
+        ensures bytes { (i : ℕ) → slice_index self.now i < 256 }
+    {
+        let bytes = self.bytes.as_slice();
+        LittleEndian::read_u64(&bytes[at..at + 8])
+    }
+
     /// The number in the eight bytes from a place on, where they lie inside and together.
     #[inline(always)]
     pub fn qword(&self, at: u32) -> Option<u64>
@@ -159,7 +170,26 @@ impl Segment {
         if at + 8 > bytes.len() {
             return None;
         }
-        Some(LittleEndian::read_u64(&bytes[at..at + 8]))
+        Some(self.qword_at(at))
+    }
+
+    /// The number in the eight bytes from a place on, with zeros for those outside: near the end
+    /// the last eight, shifted.
+    #[inline(always)]
+    pub fn padded_qword(&self, at: u32) -> u64
+        ensures value { result ≡ value_at self.now at 8 }
+    {
+        let limit = self.limit();
+        let place = at as usize;
+        let end = place + 8;
+        if end <= limit {
+            return self.qword_at(place);
+        }
+        if limit < 8 || place >= limit {
+            return self.qword_of_bytes(at);
+        }
+        let outside = end - limit;
+        self.qword_at(limit - 8) >> (8 * outside) as u32
     }
 
     /// The byte at a place, or 0 outside.
@@ -173,10 +203,10 @@ impl Segment {
         }
     }
 
-    /// The number in the eight bytes from a place on, with zeros for those outside.
+    /// The same byte by byte.
     #[inline(never)]
-    pub fn padded_qword(&self, at: u32) -> u64
-        ensures value { result ≡ value_at self.now at 8 }
+    fn qword_of_bytes(&self, at: u32) -> u64
+        ensures { result ≡ value_at self.now at 8 }
     {
         let at = at as usize;
         let h = self.byte_or_zero(at + 7);

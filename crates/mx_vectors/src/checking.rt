@@ -135,7 +135,7 @@ fn image_of(alloc: Global, case: &Case<'_>) -> Result<Image, NoMemory>
     ensures fits { OnOk result (length case.now.memory < 2 ^ 32) }
 {
     let code = match &case.code {
-        Some(text) => Code::Separate(Text::new(alloc, segment_of(alloc, text.as_slice())?)?),
+        Some(text) => Code::Separate(Text::new(segment_of(alloc, text.as_slice())?)),
         None => Code::Shared,
     };
     Ok(Image {
