@@ -27,7 +27,7 @@ use Rattle.mx_asm.specs.Layout.{Above, start, said, reason_of, left_by, address_
 use Rattle.mx_asm.specs.Bytes.{AllStand, BytesOf, StandsIn, contents}
 use Rattle.mx_asm.specs.Faults.{fault_behind, problem_of, total_of}
 use Rattle.mx_asm.specs.Assembled.{AreAssembled, SameProgram, symbol_under, entry_under}
-use Rattle.mx_asm.specs.Text.{AreTaken, IsWrong, IsFirstWrong, on_behind, AreAccepted, Assembled, HasFault}
+use Rattle.mx_asm.specs.Text.{IsTaken, AreTaken, IsWrong, IsFirstWrong, on_behind, AreAccepted, Assembled, HasFault}
 use Rattle.mx_asm.proofs.Lengths.{KeepsLength}
 use Rattle.mx_asm.proofs.Emitting.{lengths_same}
 
@@ -49,13 +49,16 @@ not_some : (o : Option Reason) (r : Reason) → o ≡ None → o ≡ Some r → 
 not_some None r e f = cc
 not_some (Some s) r e f = cc
 
-taken_not_wrong : OneLine → NeverBoth → (a : Above) (n : ℕ) (ts : List (List ℕ)) (ls : List Line) (f : Fault) → AreTaken a ts ls → IsFirstWrong a n ts f → ⊥
-taken_not_wrong one never a n [] ls f x wrong = wrong
-taken_not_wrong one never a n (t ∷ ts) [] f x wrong = x
-taken_not_wrong one never a n (t ∷ ts) (l ∷ ls) f ((line, clean), more) (inl (at, inl (e, fault, tells))) = never t l e line fault
-taken_not_wrong one never a n (t ∷ ts) (l ∷ ls) f ((line, clean), more) (inl (at, inr (k, r, other, stands, problem))) =
+pub taken_right : OneLine → NeverBoth → (a : Above) (t : List ℕ) (l : Line) (p : Problem) → IsTaken a t l → IsWrong a t p → ⊥
+taken_right one never a t l p (line, clean) (inl (e, fault, tells)) = never t l e line fault
+taken_right one never a t l p (line, clean) (inr (k, r, other, stands, problem)) =
     let same : k ≡ l = one t k l other line in
     not_some (reason_of a l) r clean (subst (λ (x : Line). reason_of a x ≡ Some r) same stands)
+
+pub taken_not_wrong : OneLine → NeverBoth → (a : Above) (n : ℕ) (ts : List (List ℕ)) (ls : List Line) (f : Fault) → AreTaken a ts ls → IsFirstWrong a n ts f → ⊥
+taken_not_wrong one never a n [] ls f x wrong = wrong
+taken_not_wrong one never a n (t ∷ ts) [] f x wrong = x
+taken_not_wrong one never a n (t ∷ ts) (l ∷ ls) f (taken, more) (inl (at, wrong)) = taken_right one never a t l f.problem taken wrong
 taken_not_wrong one never a n (t ∷ ts) (l ∷ ls) f ((line, clean), more) (inr (k, (other, clean'), wrong)) =
     let same : k ≡ l = one t k l other line in
     taken_not_wrong one never (on_behind a l) (n + 1) ts ls f more (subst (λ (x : Line). IsFirstWrong (on_behind a x) (n + 1) ts f) same wrong)
@@ -100,11 +103,11 @@ taken_or_wrong law a n (t ∷ ts) taken wrong =
     by_reason l line None e again = again (λ ls h. taken (l ∷ ls) ((line, e), h)) (λ f h. wrong f (inr (l, (line, e), h)))
     by_reason l line (Some r) e again = wrong (record { problem = problem_of r; line = n }) (inl (refl, inr (l, r, line, e, refl)))
 
-pub never_neither : NeverNeither → (t : List ℕ) → ((ls : List Line) → AreAccepted t ls → ⊥) → ((f : Fault) → HasFault t f → ⊥) → ⊥
-never_neither law t no_lines no_fault = taken_or_wrong law start 1 _ (λ ls taken. by_fault ls taken (fault_behind ls) refl) (λ f wrong. no_fault f (inl wrong))
+pub never_neither : NeverNeither → ((t : List ℕ) (ls : List Line) → AreAccepted t ls → (p : Program) × Assembled t p) → (t : List ℕ) → ((p : Program) → Assembled t p → ⊥) → ((f : Fault) → HasFault t f → ⊥) → ⊥
+never_neither law have t no_program no_fault = taken_or_wrong law start 1 _ (λ ls taken. by_fault ls taken (fault_behind ls) refl) (λ f wrong. no_fault f (inl wrong))
   where
     by_fault : (ls : List Line) → AreTaken start (lines t) ls → (o : Option Fault) → fault_behind ls ≡ o → ⊥
-    by_fault ls taken None e = no_lines ls (taken, e)
+    by_fault ls taken None e = let (p, made) = have t ls (taken, e) in no_program p made
     by_fault ls taken (Some f) e = no_fault f (inr (ls, taken, e))
 
 -- ---- the bytes of a statement

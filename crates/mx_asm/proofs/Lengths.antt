@@ -28,7 +28,7 @@ use Rattle.mx_encode.specs.Lengths.{spelled_length, chosen_length}
 pub length-chosen : (i : Insn) (wide : Wide) (b : List ℕ) → Chosen i wide b → length b ≡ chosen_length i wide
 length-chosen i wide b x = ap length x.spells.bytes_are ∙ sym (ap (λ c. spelled_length c wide.displacement) x.is_chosen)
 
-is_true : (b : Bool) → not b ≡ false → b ≡ true
+pub is_true : (b : Bool) → not b ≡ false → b ≡ true
 is_true true h = refl
 is_true false h = cc
 

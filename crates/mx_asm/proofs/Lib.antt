@@ -4,3 +4,5 @@ pub mod Emitting
 pub mod Fitting
 pub mod Reading
 pub mod Deciding
+pub mod Making
+pub mod OneFault

@@ -7,17 +7,35 @@ ghost use Rattle.mx_asm.specs.declared.fault.Fault.{Fault};
 ghost use Rattle.mx_asm.specs.Assembled.{SameProgram};
 ghost use Rattle.mx_asm.specs.Text.{AreAccepted, Assembled, HasFault};
 
-use mx_encode::{displacement_keeps_length, immediate_keeps_length, one_chosen};
-use mx_reading::{line_or_fault, one_line};
+use mx_encode::{
+    displacement_keeps_length, filled_fits, immediate_keeps_length, one_chosen, some_chosen,
+};
+use mx_lex::one_fault;
+use mx_reading::{line_fits, line_or_fault, one_line};
 
-/// No text has both a program and a fault; and none has neither a fault nor lines against which
-/// nothing stands.
+/// Lines against which nothing stands have their program. No text has both a program and a fault,
+/// and none has neither.
 pub fn program_or_fault()
+    ensures accepted { (t : List ℕ) (ls : List Line) → AreAccepted t ls → (p : Program) × Assembled t p }
     ensures not_both { (t : List ℕ) (p : Program) (f : Fault) → Assembled t p → HasFault t f → ⊥ }
-    ensures not_neither { (t : List ℕ) → ((ls : List Line) → AreAccepted t ls → ⊥) → ((f : Fault) → HasFault t f → ⊥) → ⊥ }
+    ensures not_neither { (t : List ℕ) → ((p : Program) → Assembled t p → ⊥) → ((f : Fault) → HasFault t f → ⊥) → ⊥ }
 {
     one_line();
     line_or_fault();
+    line_fits();
+    some_chosen();
+    filled_fits();
+    immediate_keeps_length();
+    displacement_keeps_length();
+}
+
+/// A text has one fault at most.
+pub fn fault_is_one()
+    ensures { (t : List ℕ) (f g : Fault) → HasFault t f → HasFault t g → f ≡ g }
+{
+    one_line();
+    line_or_fault();
+    one_fault();
 }
 
 /// At most one program is assembled from a text.

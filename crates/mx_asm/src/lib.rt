@@ -13,4 +13,4 @@ mod sizes;
 
 pub use assembling::assemble;
 pub use fault::{AsmError, Fault, Problem};
-pub use laws::{program_is_one, program_or_fault};
+pub use laws::{fault_is_one, program_is_one, program_or_fault};

@@ -7,3 +7,4 @@ pub mod Answer
 pub mod Spelled
 pub mod Formless
 pub mod Lengths
+pub mod Formed

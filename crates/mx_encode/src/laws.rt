@@ -1,12 +1,13 @@
 //! Laws of the spelling that is chosen.
 
-ghost use Rattle.std.specs.Prelude.{◌≡◌, ℕ, List, IsTrue, length};
+ghost use Rattle.std.specs.Prelude.{◌≡◌, ℕ, ◌<◌, ◌^◌, true, List, IsTrue, length};
 ghost use Rattle.mx_insn.specs.declared.insn.Insn.{Insn};
 ghost use Rattle.mx_insn.specs.Spelling.{Spells};
 ghost use Rattle.mx_encode.specs.declared.Wide.{Wide};
 ghost use Rattle.mx_encode.specs.Forms.{has_form};
 ghost use Rattle.mx_encode.specs.Chosen.{Chosen};
 ghost use Rattle.mx_encode.specs.Lengths.{chosen_length};
+ghost use Rattle.mx_encode.specs.Given.{Fits};
 ghost use Rattle.mx_encode.specs.Filled.{with_immediate, with_displacement, with_target, reaches};
 
 /// What is chosen for an instruction spells it.
@@ -43,4 +44,15 @@ pub fn displacement_keeps_length()
 pub fn target_keeps_length()
     ensures form { (i : Insn) (wide : Wide) (m n : ℕ) → IsTrue (reaches i wide m) → IsTrue (reaches i wide n) → has_form (with_target i n) ≡ has_form (with_target i m) }
     ensures length { (i : Insn) (wide : Wide) (m n : ℕ) (a b : List ℕ) → IsTrue (reaches i wide m) → IsTrue (reaches i wide n) → Chosen (with_target i m) wide a → Chosen (with_target i n) wide b → length b ≡ length a }
+{}
+
+/// What has a form, and numbers as wide as their types, has a spelling that is chosen.
+pub fn some_chosen()
+    ensures { (i : Insn) (wide : Wide) → Fits i → has_form i ≡ true → (bytes : List ℕ) × Chosen i wide bytes }
+{}
+
+/// With a dword as its immediate or displacement its numbers are still as wide as their types.
+pub fn filled_fits()
+    ensures immediate { (i : Insn) (n : ℕ) → n < 2 ^ 32 → Fits i → Fits (with_immediate i n) }
+    ensures displacement { (i : Insn) (n : ℕ) → n < 2 ^ 32 → Fits i → Fits (with_displacement i n) }
 {}

@@ -2,6 +2,7 @@
 #![tactic(auto)]
 
 mod form;
+mod laws;
 mod moves;
 mod number;
 mod operations;
@@ -11,6 +12,7 @@ mod stack;
 mod transfers;
 
 pub use form::{repeated, stated};
+pub use laws::numbers_fit;
 pub use mx_operand::{Address, Argument, Index, Name, Register, Scale, Size, Value};
 pub use mx_statement::{Branch, Instruction, Statement};
 pub use mx_words::{Mnemonic, Prefix, Single};

@@ -38,7 +38,7 @@ end_byte t i h = by_length (eqb_tells i (length t))
     by_length (inl p) = inl (get_or_past t i 0 (omega (arith, p.1)))
     by_length (inr p) = by_feed (eqb_tells (get_or t i 0) 10) p.0
 
-no_end_at : (t : List ℕ) (i n : ℕ) → ends_at t i ≡ true → get_or t i 0 ≡ n → n ≢ 0 → n ≢ 10 → n ≢ 13 → ⊥
+pub no_end_at : (t : List ℕ) (i n : ℕ) → ends_at t i ≡ true → get_or t i 0 ≡ n → n ≢ 0 → n ≢ 10 → n ≢ 13 → ⊥
 no_end_at t i n h e a b c = by_case (end_byte t i h)
   where
     by_case : (get_or t i 0 ≡ 0) ⊎ ((get_or t i 0 ≡ 10) ⊎ (get_or t i 0 ≡ 13)) → ⊥
@@ -46,7 +46,7 @@ no_end_at t i n h e a b c = by_case (end_byte t i h)
     by_case (inr (inl p)) = b (sym e ∙ p)
     by_case (inr (inr p)) = c (sym e ∙ p)
 
-end_no_escape : (t : List ℕ) (i : ℕ) → ends_at t i ≡ true → is_escape (get_or t i 0) ≡ false
+pub end_no_escape : (t : List ℕ) (i : ℕ) → ends_at t i ≡ true → is_escape (get_or t i 0) ≡ false
 end_no_escape t i h = by_case (end_byte t i h)
   where
     by_case : (get_or t i 0 ≡ 0) ⊎ ((get_or t i 0 ≡ 10) ⊎ (get_or t i 0 ≡ 13)) → is_escape (get_or t i 0) ≡ false
@@ -57,7 +57,7 @@ end_no_escape t i h = by_case (end_byte t i h)
 -- ---- a text that ends isn't broken
 
 -- nothing goes on here but a quote: the line ends, or an escape is none
-abbrev IsStuck : List ℕ → ℕ → Type 0
+abbrev pub IsStuck : List ℕ → ℕ → Type 0
 IsStuck t x = (ends_at t x ≡ true) ⊎ ((get_or t x 0 ≡ 92) × (is_escape (get_or t (x + 1) 0) ≡ false))
 
 body_stuck : (t : List ℕ) (s q x : ℕ) → Body t s q → get_or t q 0 ≡ 34 → Body t s x → IsStuck t x → ⊥
@@ -113,7 +113,7 @@ run_same t k n b inside (digit, less, run) longest some whole over within = by_c
     by_case (inr l) (inl m) = absurd (longest b m within (digit, omega arith, λ c p q. whole c (omega (arith, p)) q))
     by_case (inr l) (inr m) = omega arith
 
-token_not_broken : (t : List ℕ) (k : Token) (e : LexError) → IsToken t k → BrokenAt t k.start e → ⊥
+pub token_not_broken : (t : List ℕ) (k : Token) (e : LexError) → IsToken t k → BrokenAt t k.start e → ⊥
 token_not_broken t k (BadByte a) x (inl (e, less, over, nothing, quote)) = nothing k refl x.form
 token_not_broken t k (BadByte a) x (inr (quote, broken)) = quoted_not_broken t k (BadByte a) x quote broken
 token_not_broken t k (OpenText a) x (quote, broken) = quoted_not_broken t k (OpenText a) x quote broken
@@ -151,7 +151,7 @@ quote_place t a h = (
   some_byte t a 34 h (λ p. omega (arith, p)),
 )
 
-broken_place : (t : List ℕ) (a : ℕ) (e : LexError) → BrokenAt t a e → IsOver t a × (a < length t)
+pub broken_place : (t : List ℕ) (a : ℕ) (e : LexError) → BrokenAt t a e → IsOver t a × (a < length t)
 broken_place t a (BadByte b) (inl (e, less, over, nothing, quote)) = (over, less)
 broken_place t a (BadByte b) (inr (quote, broken)) = quote_place t a quote
 broken_place t a (OpenText b) (quote, broken) = quote_place t a quote

@@ -20,3 +20,8 @@ pub fn reading_or_fault()
     ensures not_both { (t : List ℕ) (ks : List Token) (e : LexError) → IsReadAs t ks → IsFault t e → ⊥ }
     ensures not_neither { (t : List ℕ) → ((ks : List Token) → IsReadAs t ks → ⊥) → ((e : LexError) → IsFault t e → ⊥) → ⊥ }
 {}
+
+/// A text has one fault at most.
+pub fn one_fault()
+    ensures { (t : List ℕ) (e f : LexError) → IsFault t e → IsFault t f → e ≡ f }
+{}

@@ -1,5 +1,5 @@
 -- The first comma.
-use Rattle.std.proofs.Common.{◌≡◌, ℕ, ◌<◌, ◌+◌, length, Some, None, Bool, true, false, List, [], ◌∷◌, ◌++◌, ap, ◌∙◌, refl, arith, sym, Option}
+use Rattle.std.proofs.Common.{◌≡◌, ℕ, ◌<◌, ◌+◌, length, Some, None, true, false, List, [], ◌∷◌, ◌++◌, ap, ◌∙◌, refl, arith, sym, Option}
 use Rattle.std.specs.Prelude.{slice_index_or, zero, suc, ◌-◌, take, drop}
 use Rattle.std.proofs.lemmas.List.{take_all, length-drop, append-nil, append_assoc}
 use Rattle.mx_operand.specs.declared.argument.Argument.{Argument}

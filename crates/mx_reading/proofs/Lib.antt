@@ -2,3 +2,4 @@ mod Sorting
 mod Unique
 mod Valuing
 mod Total
+mod Widths

@@ -1,11 +1,15 @@
 //! Laws of lines.
 
-ghost use Rattle.std.specs.Prelude.{◌≡◌, ℕ, List};
+ghost use Rattle.std.specs.Prelude.{◌≡◌, ℕ, List, Some};
+ghost use Rattle.mx_encode.specs.Given.{Fits};
 ghost use Rattle.mx_lex.specs.declared.kinds.LexError.{LexError};
 ghost use Rattle.mx_lex.specs.Tokens.{IsFault};
 ghost use Rattle.mx_statement.specs.declared.line.Line.{Line};
+ghost use Rattle.mx_statement.specs.declared.instruction.Instruction.{Instruction};
+ghost use Rattle.mx_statement.specs.declared.statement.Statement.TheVariants as statements;
 ghost use Rattle.mx_reading.specs.Lines.{IsLine};
 
+use mx_form::numbers_fit;
 use mx_lex::{one_reading, reading_or_fault};
 use mx_words::{one_register_or_size, one_start};
 
@@ -24,4 +28,11 @@ pub fn line_or_fault()
     ensures not_neither { (t : List ℕ) → ((l : Line) → IsLine t l → ⊥) → ((e : LexError) → IsFault t e → ⊥) → ⊥ }
 {
     reading_or_fault();
+}
+
+/// The numbers of a line's instruction are as wide as their types.
+pub fn line_fits()
+    ensures { (t : List ℕ) (l : Line) (i : Instruction) → IsLine t l → l.statement ≡ Some (statements.Instruction i) → Fits i.insn }
+{
+    numbers_fit();
 }

@@ -7,7 +7,7 @@ mod laws;
 mod reading;
 mod statements;
 
-pub use laws::{line_or_fault, one_line};
+pub use laws::{line_fits, line_or_fault, one_line};
 pub use mx_lex::LexError;
 pub use mx_statement::Line;
 pub use reading::read_line;

@@ -4,7 +4,6 @@ use Rattle.std.proofs.lemmas.Bool.{both_ways}
 use Rattle.mx_insn.specs.declared.insn.Insn.{Insn}
 use Rattle.mx_encode.specs.Forms.{has_form}
 use Rattle.mx_statement.specs.declared.value.Value.{Value}
-use Rattle.mx_statement.specs.declared.instruction.Instruction.{Instruction}
 use Rattle.mx_statement.specs.Instructions.{formed}
 use denote.Struct.Props.{props}
 

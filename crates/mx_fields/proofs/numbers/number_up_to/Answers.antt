@@ -1,4 +1,4 @@
-use Rattle.std.proofs.Common.{rules, arith, sym}
+use Rattle.std.proofs.Common.{rules, sym}
 use Rattle.mx_fields.proofs.Spelled.{number_within}
 use Rattle.mx_fields.proofs.numbers.number_up_to.Goals as goal
 

@@ -1,4 +1,4 @@
-use Rattle.std.proofs.Common.{rules, arith, ◌≡◌, ◌<◌, ◌≤◌, length}
+use Rattle.std.proofs.Common.{rules, arith}
 use Rattle.mx_line.proofs.Feeds.{line_at, line_last}
 use Rattle.mx_line.proofs.lines.next_line.Goals as goal
 

@@ -1,4 +1,4 @@
-use Rattle.std.proofs.Common.{ℕ, ◌≤◌, ◌-◌, length}
+use Rattle.std.proofs.Common.{◌≤◌, ◌-◌, length}
 use Rattle.mx_line.proofs.Feeds.{NoneBefore}
 use Rattle.mx_line.proofs.lines.next_line.Given as goal
 

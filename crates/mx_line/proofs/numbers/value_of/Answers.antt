@@ -1,7 +1,6 @@
-use Rattle.std.proofs.Common.{rules, arith, ◌≡◌, ◌⊎◌, ℕ, ◌+◌, ◌*◌, ◌<◌, ◌≤◌, ◌^◌, length, get_or, take, drop, [], refl, sym, ◌∙◌, ap}
-use Rattle.std.proofs.Math.Nat.{mul-le-mul_left}
+use Rattle.std.proofs.Common.{arith, ◌≡◌, ◌+◌, ◌*◌, ◌<◌, ◌≤◌, get_or, take, drop, [], sym, ◌∙◌}
 use Rattle.std.proofs.lemmas.List.{take_all, drop_all}
-use Rattle.std.proofs.lemmas.List.Elements.{All-get_or, All-more}
+use Rattle.std.proofs.lemmas.List.Elements.{All-more}
 use Rattle.mx_line.specs.Bytes.{digit_value}
 use Rattle.mx_line.specs.Numbers.{value_from}
 use Rattle.mx_line.proofs.Digits.{value_grows, value_step, bounded_product}

@@ -1,0 +1,304 @@
+-- Lines against which nothing stands have their program.
+use Rattle.std.proofs.Common.{◌≡◌, ℕ, ◌+◌, ◌*◌, ◌<◌, ◌≤◌, ◌^◌, Bool, true, false, List, [], ◌∷◌, length, map, replicate, refl, sym, ◌∙◌, ap, subst, arith, lit<, Option, Some, None, cond}
+use Rattle.std.specs.Prelude.{ℤ, pos, negsuc, ◌||◌, not, nat_lt, is_some, unwrap_or}
+use Rattle.std.specs.List.{list_any, flat_map}
+use Rattle.std.proofs.lemmas.Bool.{ltb-true, ltb-false}
+use Rattle.std.proofs.lemmas.List.{length-map}
+use Rattle.mx_word.specs.Word.{modulo, bytes_of, bytes_in}
+use Rattle.mx_insn.specs.declared.insn.Insn.{Insn}
+use Rattle.mx_encode.specs.declared.Wide.{Wide}
+use Rattle.mx_encode.specs.Numbers.{is_short}
+use Rattle.mx_encode.specs.Forms.{has_form}
+use Rattle.mx_encode.specs.Chosen.{Chosen}
+use Rattle.mx_encode.specs.Filled.{with_immediate, with_displacement}
+use Rattle.mx_encode.specs.Given.{Fits}
+use Rattle.mx_line.specs.Lines.{lines}
+use Rattle.mx_statement.specs.declared.statement.Section.{Section}
+use Rattle.mx_statement.specs.declared.statement.Section.TheVariants.{Text, Data, Bss}
+use Rattle.mx_statement.specs.declared.statement.Statement.{Statement}
+use Rattle.mx_statement.specs.declared.statement.Statement.TheVariants as says
+use Rattle.mx_statement.specs.declared.instruction.Instruction.{Instruction}
+use Rattle.mx_statement.specs.declared.branch.Branch.{Branch}
+use Rattle.mx_statement.specs.declared.branch.Branch.TheVariants as branches
+use Rattle.mx_statement.specs.declared.value.Value.{Value}
+use Rattle.mx_statement.specs.declared.line.Line.{Line}
+use Rattle.mx_statement.specs.Instructions.{marks}
+use Rattle.mx_reading.specs.Lines.{IsLine}
+use Rattle.mx_aout.specs.Limits.{rounded, used_of, IsWithin}
+use Rattle.mx_aout.specs.declared.program.Program.{Program}
+use Rattle.mx_asm.specs.declared.sizes.Sizes.{Sizes}
+use Rattle.mx_asm.specs.declared.fault.Problem.{Problem}
+use Rattle.mx_asm.specs.declared.fault.Problem.TheVariants.{TooFar, TooLarge}
+use Rattle.mx_asm.specs.declared.fault.Fault.{Fault}
+use Rattle.mx_asm.specs.Branches.{branch_by, branch_marks, branch_length, distance, is_too_far}
+use Rattle.mx_asm.specs.Lengths.{length_of}
+use Rattle.mx_asm.specs.Layout.{Above, start, said, left_by, laid_by, address_of, spot_of, sizes_after, value_under, base_of, counted_from}
+use Rattle.mx_asm.specs.Bytes.{put_in, put_under, then_put, named_under, BytesOf, StandsIn, AllStand, contents}
+use Rattle.mx_asm.specs.Faults.{is_undefined, is_undefined_if, undefined_where, undefined_or, problem_at, fault_or, first_problem, total_of, at_least, is_too_large, last_line, too_large_in, first_of, fault_behind}
+use Rattle.mx_asm.specs.Faults as faults
+use Rattle.mx_asm.specs.Assembled.{AreAssembled, symbol_under, entry_under}
+use Rattle.mx_asm.specs.Text.{AreTaken, on_behind, Assembled}
+use Rattle.mx_asm.proofs.Lengths.{KeepsLength, stands_length, branch_bytes_length, is_true}
+use Rattle.mx_asm.proofs.Emitting.{lengths_same}
+use Rattle.mx_asm.proofs.Fitting.{contents_size}
+
+-- what is known of lines and of the encoder
+pub record Encodes : Type 0 where
+  pub keeps : KeepsLength
+  pub some : (i : Insn) (wide : Wide) → Fits i → has_form i ≡ true → (bytes : List ℕ) × Chosen i wide bytes
+  pub immediate_form : (i : Insn) (n : ℕ) → has_form (with_immediate i n) ≡ has_form i
+  pub displacement_form : (i : Insn) (n : ℕ) → has_form (with_displacement i n) ≡ has_form i
+  pub immediate_fits : (i : Insn) (n : ℕ) → n < 2 ^ 32 → Fits i → Fits (with_immediate i n)
+  pub displacement_fits : (i : Insn) (n : ℕ) → n < 2 ^ 32 → Fits i → Fits (with_displacement i n)
+  pub line : (t : List ℕ) (l : Line) (i : Instruction) → IsLine t l → l.statement ≡ Some (says.Instruction i) → Fits i.insn
+
+-- ---- values
+
+dword_below : (z : ℤ) → modulo 32 z < 2 ^ 32
+dword_below (pos n) = omega arith
+dword_below (negsuc n) = omega arith
+
+-- there is a value, of 32 bits
+abbrev HasValue : Option ℕ → Type 0
+HasValue o = (n : ℕ) × (o ≡ Some n) × (n < 2 ^ 32)
+
+counted : (v : Value) (o : Option ℕ) → not (is_some (counted_from v o)) ≡ false → HasValue (counted_from v o)
+counted v None h = cc
+counted v (Some base) h = (_, refl, dword_below _)
+
+has_value : (a : Above) (v : Value) → is_undefined a v ≡ false → HasValue (value_under a v)
+has_value a v h = counted v (base_of a v.name) h
+
+or_left : (b c : Bool) → (b || c) ≡ false → b ≡ false
+or_left true c h = cc
+or_left false c h = refl
+
+or_right : (b c : Bool) → (b || c) ≡ false → c ≡ false
+or_right true c h = cc
+or_right false c h = h
+
+all_values : (a : Above) (vs : List Value) → list_any (is_undefined a) vs ≡ false → (ns : List ℕ) × (map (value_under a) vs ≡ map Some ns)
+all_values a [] h = ([], refl)
+all_values a (v ∷ vs) h =
+    let (n, e, lt) = has_value a v (or_left (is_undefined a v) (list_any (is_undefined a) vs) h) in
+    let (ns, f) = all_values a vs (or_right (is_undefined a v) (list_any (is_undefined a) vs) h) in
+    (n ∷ ns, ap (λ x. x ∷ map (value_under a) vs) e ∙ ap (λ xs. Some n ∷ xs) f)
+
+defined : (b : Bool) → undefined_where b ≡ None → b ≡ false
+defined true h = cc
+defined false h = refl
+
+-- ---- instructions
+
+abbrev Sound : Insn → Type 0
+Sound i = Fits i × (has_form i ≡ true)
+
+abbrev SoundIf : Option Insn → Type 0
+SoundIf o = (i : Insn) × (o ≡ Some i) × Sound i
+
+sound_put : (a : Above) (put : Insn → ℕ → Insn) (v : Option Value) (i : Insn) → is_undefined_if a v ≡ false → Sound i → ((n : ℕ) → n < 2 ^ 32 → Sound (put i n))
+    → SoundIf (put_under a put v i)
+sound_put a put None i h s k = (i, refl, s)
+sound_put a put (Some v) i h s k =
+    let (n, e, lt) = has_value a v h in
+    (put i n, ap (put_in put i) e, k n lt)
+
+then_sound : Encodes → (a : Above) (v : Option Value) (o : Option Insn) → is_undefined_if a v ≡ false → SoundIf o → SoundIf (then_put a with_displacement v o)
+then_sound law a v o h (i, e, s) =
+    let (x, f, g) = sound_put a with_displacement v i h s (λ n lt. (law.displacement_fits i n lt s.0, law.displacement_form i n ∙ s.1)) in
+    (x, ap (then_put a with_displacement v) e ∙ f, g)
+
+named_sound : Encodes → (a : Above) (i : Instruction) → Fits i.insn → is_undefined_if a i.immediate ≡ false → is_undefined_if a i.displacement ≡ false → SoundIf (named_under a i)
+named_sound law a i fits h k =
+    then_sound law a i.displacement (put_under a with_immediate i.immediate i.insn) k
+    (sound_put a with_immediate i.immediate i.insn h (fits, i.spelled) (λ n lt. (law.immediate_fits i.insn n lt fits, law.immediate_form i.insn n ∙ i.spelled)))
+
+-- ---- jumps
+
+branch_fits : (k : Branch) (d : ℕ) → d < 2 ^ 32 → Fits (branch_by k d)
+branch_fits (branches.Jump short) d lt = lt
+branch_fits (branches.JumpIf c short) d lt = lt
+branch_fits branches.Call d lt = lt
+branch_fits (branches.Loop o) d lt = lt
+
+branch_form : (k : Branch) (d : ℕ) → is_too_far k d ≡ false → has_form (branch_by k d) ≡ true
+branch_form (branches.Jump short) d h = refl
+branch_form (branches.JumpIf c short) d h = refl
+branch_form branches.Call d h = refl
+branch_form (branches.Loop o) d h = is_true (is_short 32 d) h
+
+reached : (o : Option ℕ) (far : ℕ → Bool) → undefined_or o far ≡ None → (x : ℕ) × (o ≡ Some x) × (far x ≡ false)
+reached None far h = cc
+reached (Some x) far h = (x, refl, by_case (far x) h)
+  where
+    by_case : (b : Bool) → cond b (Some TooFar) None ≡ None → b ≡ false
+    by_case true h = cc
+    by_case false h = refl
+
+branch_some : Encodes → (a : Above) (at : ℕ) (k : Branch) (target : Value) → problem_at a at (says.Branch k target) ≡ None → (b : List ℕ) × BytesOf a at (says.Branch k target) b
+branch_some law a at k target h =
+    let (x, e, near) = reached (value_under a target) (λ x. is_too_far k (distance (at + branch_length k) x)) h in
+    let d = distance (at + branch_length k) x in
+    let (b, chosen) = law.some (branch_by k d) (branch_marks k) (branch_fits k d (omega arith)) (branch_form k d near) in
+    let long : length b ≡ branch_length k = branch_bytes_length k d b near chosen in
+    (b, (x, e, subst (λ (n : ℕ). Chosen (branch_by k (distance (at + n) x)) (branch_marks k) b) (sym long) chosen, long))
+
+-- ---- statements
+
+abbrev pub Fitting : Statement → Type 0
+Fitting (says.Instruction i) = Fits i.insn
+Fitting _ = Unit {0}
+
+bytes_some : Encodes → (a : Above) (at : ℕ) (t : Statement) → Fitting t → problem_at a at t ≡ None → (b : List ℕ) × BytesOf a at t b
+bytes_some law a at says.Nothing fits h = ([], refl)
+bytes_some law a at (says.Enter section) fits h = ([], refl)
+bytes_some law a at (says.Data size values) fits h =
+    let (ns, e) = all_values a values (defined (list_any (is_undefined a) values) h) in (flat_map (bytes_of (bytes_in size)) ns, (ns, e, refl))
+bytes_some law a at (says.Ascii bytes) fits h = (bytes, refl)
+bytes_some law a at (says.Space n) fits h = (replicate n 0, refl)
+bytes_some law a at says.Separate fits h = ([], refl)
+bytes_some law a at (says.Entry name) fits h = ([], refl)
+bytes_some law a at (says.Stack n) fits h = ([], refl)
+bytes_some law a at (says.Instruction i) fits h =
+    let clean = defined (is_undefined_if a i.immediate || is_undefined_if a i.displacement) h in
+    let (insn, e, s) = named_sound law a i fits (or_left (is_undefined_if a i.immediate) (is_undefined_if a i.displacement) clean) (or_right (is_undefined_if a i.immediate) (is_undefined_if a i.displacement) clean) in
+    let (b, chosen) = law.some insn (marks i) s.0 s.1 in
+    (b, (insn, e, chosen))
+bytes_some law a at (says.Branch k target) fits h = branch_some law a at k target h
+
+stands_some : Encodes → (section : Section) (a : Above) (at : ℕ) (t : Statement) → Fitting t → problem_at a at t ≡ None → (b : List ℕ) × StandsIn section a at t b
+stands_some law Text a at t fits h = bytes_some law a at t fits h
+stands_some law Data a at t fits h = bytes_some law a at t fits h
+stands_some law Bss a at t fits h = (replicate (length_of t) 0, refl)
+
+-- ---- all lines
+
+abbrev pub AllFitting : List Line → Type 0
+AllFitting [] = Unit {0}
+AllFitting (l ∷ ls) = Fitting (said l) × AllFitting ls
+
+neither : (p : Option Problem) (n : ℕ) (f : Option Fault) → fault_or p n f ≡ None → (p ≡ None) × (f ≡ None)
+neither None n f h = (refl, h)
+neither (Some p) n f h = cc
+
+all_some : Encodes → (a : Above) (s : Sizes) (n : ℕ) (ls : List Line) → AllFitting ls → first_problem a s n ls ≡ None → (bs : List (List ℕ)) × AllStand a s ls bs
+all_some law a s n [] fits h = ([], tt)
+all_some law a s n (l ∷ ls) (fits, more) h =
+    let at = address_of a (spot_of s) in
+    let rest = first_problem a (sizes_after s (said l) (length_of (said l))) (n + 1) ls in
+    let clean = neither (problem_at a at (said l)) n rest h in
+    let (b, right) = stands_some law s.section a at (said l) fits clean.0 in
+    let long : length b ≡ length_of (said l) = stands_length law.keeps s.section a at (said l) b right in
+    let (bs, stand) = all_some law a (sizes_after s (said l) (length_of (said l))) (n + 1) ls more clean.1 in
+    (b ∷ bs, (right, subst (λ (k : ℕ). AllStand a (sizes_after s (said l) k) ls bs) (sym long) stand))
+
+said_fits : Encodes → (t : List ℕ) (l : Line) → IsLine t l → Fitting (said l)
+said_fits law t l line = by_case l.statement (λ i. law.line t l i line)
+  where
+    by_case : (o : Option Statement) → ((i : Instruction) → o ≡ Some (says.Instruction i) → Fits i.insn) → Fitting (unwrap_or o says.Nothing)
+    by_case None k = tt
+    by_case (Some (says.Instruction i)) k = k i refl
+    by_case (Some says.Nothing) k = tt
+    by_case (Some (says.Enter section)) k = tt
+    by_case (Some (says.Data size values)) k = tt
+    by_case (Some (says.Ascii bytes)) k = tt
+    by_case (Some (says.Space n)) k = tt
+    by_case (Some says.Separate) k = tt
+    by_case (Some (says.Entry name)) k = tt
+    by_case (Some (says.Stack n)) k = tt
+    by_case (Some (says.Branch b target)) k = tt
+
+taken_fit : Encodes → (a : Above) (ts : List (List ℕ)) (ls : List Line) → AreTaken a ts ls → AllFitting ls
+taken_fit law a [] [] h = tt
+taken_fit law a [] (l ∷ ls) h = absurd h
+taken_fit law a (t ∷ ts) [] h = absurd h
+taken_fit law a (t ∷ ts) (l ∷ ls) ((line, clean), more) = (said_fits law t l line, taken_fit law (on_behind a l) ts ls more)
+
+-- ---- sizes
+
+small_total : (n : ℕ) → nat_lt 4194304 (at_least 4096 (rounded n)) ≡ false
+    → (0 < at_least 4096 (rounded n)) × (rounded (at_least 4096 (rounded n)) ≤ 4194304) × (n ≤ rounded (at_least 4096 (rounded n)))
+small_total n h = by_case (nat_lt (rounded n) 4096) refl h
+  where
+    by_case : (b : Bool) → nat_lt (rounded n) 4096 ≡ b → nat_lt 4194304 (cond b 4096 (rounded n)) ≡ false
+        → (0 < cond b 4096 (rounded n)) × (rounded (cond b 4096 (rounded n)) ≤ 4194304) × (n ≤ rounded (cond b 4096 (rounded n)))
+    by_case true e h = let less : rounded n < 4096 = ltb-true (rounded n) 4096 e in (lit< tt, omega arith, omega (arith, less))
+    by_case false e h =
+        let least : 4096 ≤ rounded n = ltb-false (rounded n) 4096 e in
+        let most : rounded n ≤ 4194304 = ltb-false 4194304 (rounded n) h in
+        (omega (arith, least), omega (arith, most), omega (arith, least))
+
+used_same : (sep : Bool) (text init bss : ℕ) → used_of sep text init bss ≡ (cond sep 0 text) + init + bss
+used_same true text init bss = omega arith
+used_same false text init bss = refl
+
+within : (a : Above) → is_too_large a ≡ false → IsWithin a.sep (total_of a) a.sizes.text a.sizes.init a.sizes.bss (length a.labels)
+within a h =
+    let texts = or_left (nat_lt 1048576 a.sizes.text || nat_lt 262144 (length a.labels * 16)) (nat_lt 4194304 (total_of a)) h in
+    let total = or_right (nat_lt 1048576 a.sizes.text || nat_lt 262144 (length a.labels * 16)) (nat_lt 4194304 (total_of a)) h in
+    let text = or_left (nat_lt 1048576 a.sizes.text) (nat_lt 262144 (length a.labels * 16)) texts in
+    let labels = or_right (nat_lt 1048576 a.sizes.text) (nat_lt 262144 (length a.labels * 16)) texts in
+    let stack = unwrap_or a.stack 2048 in
+    let sized = small_total (faults.used_of a + stack) total in
+    let used = used_same a.sep a.sizes.text a.sizes.init a.sizes.bss in
+    (sized.0, ltb-false 1048576 a.sizes.text text, ltb-false 262144 (length a.labels * 16) labels, sized.1, omega (arith, used, sized.2))
+
+not_too_large : (b : Bool) (f : Fault) → cond b (Some f) None ≡ None → b ≡ false
+not_too_large true f h = cc
+not_too_large false f h = refl
+
+no_first : (f g : Option Fault) → first_of f g ≡ None → (f ≡ None) × (g ≡ None)
+no_first None g h = (refl, h)
+no_first (Some f) g h = cc
+
+-- ---- the program
+
+-- the program of these bytes
+built : KeepsLength → (ls : List Line) (bs : List (List ℕ)) → fault_behind ls ≡ None → is_too_large (laid_by start ls) ≡ false → AllStand (laid_by start ls) start.sizes ls bs
+    → (p : Program) × AreAssembled ls p
+built law ls bs clean small stand =
+    let a = laid_by start ls in
+    let left : left_by start ls (map length bs) ≡ a = lengths_same law a start start.sizes ls bs stand in
+    let back : a ≡ left_by start ls (map length bs) = sym left in
+    let size = contents_size law Text (λ b. refl) a start ls bs stand in
+    let other = contents_size law Data (λ b. refl) a start ls bs stand in
+    let text : a.sizes.text ≡ length (contents Text start.sizes ls bs) = omega (arith, size, ap (λ (x : Above). x.sizes.text) back) in
+    let init : a.sizes.init ≡ length (contents Data start.sizes ls bs) = omega (arith, other, ap (λ (x : Above). x.sizes.init) back) in
+    let symbols : length a.labels ≡ length (map (symbol_under a) a.labels) = sym (length-map a.labels (symbol_under a)) in
+    let fit = subst (λ (n : ℕ). IsWithin a.sep (total_of a) (length (contents Text start.sizes ls bs)) (length (contents Data start.sizes ls bs)) a.sizes.bss n) symbols
+    (subst (λ (n : ℕ). IsWithin a.sep (total_of a) (length (contents Text start.sizes ls bs)) n a.sizes.bss (length a.labels)) init
+    (subst (λ (n : ℕ). IsWithin a.sep (total_of a) n a.sizes.init a.sizes.bss (length a.labels)) text (within a small))) in
+    let p : Program = record {
+      sep = a.sep;
+      entry = entry_under a a.entry;
+      total = total_of a;
+      text = contents Text start.sizes ls bs;
+      init = contents Data start.sizes ls bs;
+      bss = a.sizes.bss;
+      symbols = map (symbol_under a) a.labels;
+      within = fit;
+    } in
+    (p, record {
+      accepted = clean;
+      bytes = bs;
+      stand = subst (λ (x : Above). AllStand x start.sizes ls bs) back stand;
+      text = refl;
+      init = refl;
+      bss = ap (λ (x : Above). x.sizes.bss) back;
+      sep = ap (λ (x : Above). x.sep) back;
+      entry = ap (λ (x : Above). entry_under x x.entry) back;
+      total = ap total_of back;
+      symbols = ap (λ (x : Above). map (symbol_under x) x.labels) back;
+    })
+
+made : Encodes → (ls : List Line) → AllFitting ls → fault_behind ls ≡ None → (p : Program) × AreAssembled ls p
+made law ls fits clean =
+    let a = laid_by start ls in
+    let both = no_first (first_problem a start.sizes 1 ls) (too_large_in a ls) clean in
+    let small = not_too_large (is_too_large a) (record { problem = TooLarge; line = last_line ls }) both.1 in
+    let (bs, stand) = all_some law a start.sizes 1 ls fits both.0 in
+    built law.keeps ls bs clean small stand
+
+pub lines_have_program : Encodes → (t : List ℕ) (ls : List Line) → AreTaken start (lines t) ls → fault_behind ls ≡ None → (p : Program) × Assembled t p
+lines_have_program law t ls taken clean =
+    let (p, assembled) = made law ls (taken_fit law start (lines t) ls taken) clean in (p, (ls, taken, assembled))
