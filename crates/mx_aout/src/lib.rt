@@ -8,6 +8,3 @@ mod writing;
 pub use file::read;
 pub use program::{FileError, Program, Symbol, Symbols};
 pub use writing::{one_program, read_back, write};
-
-#[cfg(test)]
-mod tests;

@@ -8,6 +8,3 @@ mod laws;
 pub use error::AroundError;
 pub use going::{Journey, around};
 pub use laws::{code_keeps, listing_keeps};
-
-#[cfg(test)]
-mod tests;

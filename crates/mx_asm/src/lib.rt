@@ -14,6 +14,3 @@ mod sizes;
 pub use assembling::assemble;
 pub use fault::{AsmError, Fault, Problem};
 pub use laws::{fault_is_one, program_is_one, program_or_fault};
-
-#[cfg(test)]
-mod tests;

@@ -10,6 +10,3 @@ pub use laws::{lines_join, one_parting, parted_there};
 pub use listing::list;
 pub use part::{Part, first_part};
 pub use symbols::names;
-
-#[cfg(test)]
-mod tests;

@@ -36,6 +36,3 @@ pub struct Wide {
 /// signed byte.
 #[derive(Clone, Copy, Debug, PartialEq, Eq)]
 pub struct NoForm;
-
-#[cfg(test)]
-mod tests;

@@ -17,6 +17,3 @@ pub use mx_operand::{Address, Argument, Index, Name, Register, Scale, Size, Valu
 pub use mx_statement::{Branch, Instruction, Statement};
 pub use mx_words::{Mnemonic, Prefix, Single};
 pub use number::number_in;
-
-#[cfg(test)]
-mod tests;

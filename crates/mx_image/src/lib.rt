@@ -6,6 +6,3 @@ mod runs;
 
 pub use joining::runs_join;
 pub use runs::{Runs, Stop, run_with};
-
-#[cfg(test)]
-mod tests;

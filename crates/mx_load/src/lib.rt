@@ -4,6 +4,3 @@
 mod loading;
 
 pub use loading::{load, refill};
-
-#[cfg(test)]
-mod tests;

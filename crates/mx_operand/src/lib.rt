@@ -16,6 +16,3 @@ pub use mx_lex::Mark;
 pub use mx_line::Name;
 pub use mx_statement::Value;
 pub use value::value_of;
-
-#[cfg(test)]
-mod tests;

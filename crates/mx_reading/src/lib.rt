@@ -11,6 +11,3 @@ pub use laws::{line_fits, line_or_fault, one_line};
 pub use mx_lex::LexError;
 pub use mx_statement::Line;
 pub use reading::read_line;
-
-#[cfg(test)]
-mod tests;

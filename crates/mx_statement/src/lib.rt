@@ -12,6 +12,3 @@ pub use instruction::Instruction;
 pub use line::{Beginning, Line, Reason, refusal};
 pub use statement::{Section, Statement, Values};
 pub use value::Value;
-
-#[cfg(test)]
-mod tests;

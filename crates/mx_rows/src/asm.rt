@@ -1,7 +1,7 @@
 //! Texts with known bytes and faults.
 
-use super::*;
 use mx_aout::Program;
+use mx_asm::{AsmError, assemble};
 use std::alloc::Global;
 
 /// A text of one line for each of some, in turn.

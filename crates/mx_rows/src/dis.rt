@@ -1,5 +1,7 @@
-use super::*;
+//! Lines of texts and of symbols.
+
 use mx_aout::{Program, read};
+use mx_dis::{list, names};
 use std::alloc::Global;
 use std::test::Fail;
 

@@ -1,7 +1,9 @@
-use crate::load;
+//! Images of a program in both kinds.
+
 use mx_aout::{Program, read};
 use mx_exec::Image;
 use mx_image::Runs;
+use mx_load::load;
 use mx_word::Register;
 use std::alloc::Global;
 use std::process::Abort;

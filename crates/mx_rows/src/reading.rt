@@ -1,7 +1,7 @@
 //! Lines of every kind.
 
-use super::*;
-use mx_statement::{Section, Statement, refusal};
+use mx_reading::read_line;
+use mx_statement::{Line, Section, Statement, refusal};
 use std::alloc::Global;
 
 fn told(alloc: Global, text: &[u8]) -> Option<u8> {

@@ -1,6 +1,6 @@
 //! Spellings from the manual's tables.
 
-use super::*;
+use mx_encode::{Wide, encode};
 use mx_insn::{
     Arithmetic, Immediate, Index, Insn, Memory, Operand, Operands, Register, Scale, Size,
 };

@@ -1,7 +1,9 @@
 //! Words of every kind.
 
-use super::*;
 use mx_insn::{Condition, Loop, Register, Size, Transfer};
+use mx_words::{
+    Directive, Mnemonic, Prefix, Single, Start, register_named, size_named, start_named,
+};
 
 #[test]
 fn words(rt: HostRuntime) {

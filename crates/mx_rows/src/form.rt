@@ -1,6 +1,8 @@
 //! Forms that a size decides.
 
-use super::*;
+use mx_form::{
+    Address, Argument, Mnemonic, Name, Prefix, Register, Single, Size, Value, repeated, stated,
+};
 
 const EAX: Argument = Argument::Register(Size::Dword, Register::Eax);
 

@@ -1,8 +1,8 @@
 //! Rows of the manual's pages, worked by hand, and of the machine's own choices.
 
-use crate::{Runs, Stop, run_with, runs_join};
 use mx_exec::{Code, Image, Text};
 use mx_flags::Flags;
+use mx_image::{Runs, Stop, run_with, runs_join};
 use mx_kept::Cache;
 use mx_mem::Segment;
 use mx_regs::Regs;

@@ -1,7 +1,6 @@
 //! Operands of every shape.
 
-use super::*;
-use std::process::Abort;
+use mx_operand::{Argument, Item, Mark, Register, Scale, Size, argument_of};
 
 const EBX: Item = Item::Register(Size::Dword, Register::Ebx);
 

@@ -1,4 +1,6 @@
-use crate::{FileError, Program, one_program, read, read_back, write};
+//! Files of programs, and what is told of others.
+
+use mx_aout::{FileError, Program, one_program, read, read_back, write};
 use std::alloc::Global;
 use std::process::Abort;
 use std::test::Fail;

@@ -1,6 +1,6 @@
 //! The order of the reasons.
 
-use super::*;
+use mx_statement::{Beginning, Line, Reason, Section, Value, refusal};
 
 #[test]
 fn reasons(rt: HostRuntime) {

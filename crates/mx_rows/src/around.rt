@@ -1,4 +1,6 @@
-use super::*;
+//! Texts that go the whole way.
+
+use mx_around::around;
 use mx_image::Runs;
 use std::test::Fail;
 

@@ -1,0 +1,27 @@
+//! Worked rows of the crates below, by their public calls alone.
+#![tactic(auto)]
+
+#[cfg(test)]
+mod aout;
+#[cfg(test)]
+mod around;
+#[cfg(test)]
+mod asm;
+#[cfg(test)]
+mod dis;
+#[cfg(test)]
+mod encode;
+#[cfg(test)]
+mod form;
+#[cfg(test)]
+mod image;
+#[cfg(test)]
+mod load;
+#[cfg(test)]
+mod operand;
+#[cfg(test)]
+mod reading;
+#[cfg(test)]
+mod statement;
+#[cfg(test)]
+mod words;
