@@ -1,10 +1,9 @@
 //! The command line.
 
 ghost use Rattle.std.specs.Prelude.{◌≡◌, ℕ, IfErr, IfOk, codes, false, is_some, map, true};
-ghost use Rattle.clap.specs.Words.{FailsBy, app_of, fault_of, first_of, found_of, kind_of, new_app, rows_of, rule_of};
-ghost use Rattle.clap.specs.Words.{subcommand_of, takes, with_rule, with_subcommand};
-ghost use Rattle.clap.specs.declared.builder.command.Command.TheViews.{out-Command as fields_of};
-ghost use Rattle.mx_command.specs.Words.{Asks, AsksBy, HasNumber, HasText, IsAsked, IsMachineAsked, IsProgramAsked, is_machine, mx_grammar, of_one, of_two, one_shape, program_app, top_app, wanted, wanted_number};
+ghost use Rattle.clap.specs.Words.{FailsBy, app_of, fault_of, first_of, found_of, kind_of, rows_of, rule_of, shape_of};
+ghost use Rattle.clap.specs.Words.{subcommand_of, takes, with_subcommand};
+ghost use Rattle.mx_command.specs.Words.{Asks, AsksBy, HasNumber, HasText, IsAsked, IsMachineAsked, IsProgramAsked, is_machine, mx_grammar, of_one, of_two, one_shape, program_app, top_app, wanted};
 
 use crate::help::{AS_EXAMPLE, CONFIG, DB_EXAMPLE, PROGRAM, REPLAY_EXAMPLE, STEP_EXAMPLE};
 use clap::error::ErrorKind;
@@ -48,63 +47,20 @@ struct Word<'a> {
     help: &'a str,
 }
 
-/// A command with its name and what it is about.
-fn named<'a>(alloc: Global, word: Word<'a>) -> Command<'a>
-    ensures app { app_of result ≡ new_app word.entry.name.now }
-    ensures local { (fields_of result).has_globals ≡ false }
-{
-    Command::new(alloc, word.name).about(word.help)
-}
-
-/// A command with one more text.
-fn with_text<'a>(alloc: Global, command: Command<'a>, text: Word<'a>) -> Result<Command<'a>, Error>
-    ensures app { IfOk result (λ c. app_of c ≡ with_rule (app_of command.entry) (wanted text.entry.name.now)) }
-    ensures local { IfOk result (λ c. (fields_of c).has_globals ≡ (fields_of command.entry).has_globals) }
-    ensures err { IfErr result (λ e. kind_of e ≡ ErrorKind.OutOfMemory) }
-{
-    let wanted = wanted(alloc, text.name, text.help);
-    Ok(command.arg(wanted)?)
-}
-
-/// Adds a subcommand with its last text.
-fn with_last<'a>(
-    alloc: Global,
-    line: Command<'a>,
-    command: Command<'a>,
-    last: Word<'a>,
-) -> Result<Command<'a>, Error>
-    requires { (fields_of command.entry).has_globals ≡ false }
-    ensures app { IfOk result (λ c. app_of c ≡ with_subcommand (app_of line.entry) (with_rule (app_of command.entry) (wanted last.entry.name.now)).top) }
-    ensures err { IfErr result (λ e. kind_of e ≡ ErrorKind.OutOfMemory) }
-{
-    let command = with_text(alloc, command, last)?;
-    Ok(line.subcommand(command)?)
-}
-
-/// How many steps at most.
-fn wanted_steps<'a>(alloc: Global) -> Arg<'a>
-    ensures rule { rule_of result ≡ wanted_number (codes "N") }
-    ensures local { result.global ≡ false }
-{
-    let number = wanted(alloc, "N", "How many steps at most, 0 to 4294967295");
-    number.value_parser(clap::value_parser!(u32))
-}
-
 /// Adds `one FILE N`, with its help.
 fn with_number<'a>(alloc: Global, line: Command<'a>) -> Result<Command<'a>, Error>
     ensures app { IfOk result (λ c. app_of c ≡ with_subcommand (app_of line.entry) one_shape) }
     ensures err { IfErr result (λ e. kind_of e ≡ ErrorKind.OutOfMemory) }
 {
-    let one = Word {
-        name: "one",
-        help: "Runs one program for at most N steps and prints its registers, flags and how it stopped",
-    };
-    let file = Word {
-        name: "FILE",
-        help: PROGRAM,
-    };
-    let command = with_text(alloc, named(alloc, one), file)?;
-    let command = command.arg(wanted_steps(alloc))?;
+    let file = wanted(alloc, "FILE", PROGRAM);
+    let number = wanted(alloc, "N", "How many steps at most, 0 to 4294967295");
+    let steps = number.value_parser(clap::value_parser!(u32));
+    let command = Command::new(alloc, "one")
+        .about(
+            "Runs one program for at most N steps and prints its registers, flags and how it stopped",
+        )
+        .arg(file)?
+        .arg(steps)?;
     Ok(line.subcommand(command)?)
 }
 
@@ -118,7 +74,11 @@ fn with_one<'a>(
     ensures app { IfOk result (λ c. app_of c ≡ with_subcommand (app_of line.entry) (of_one subcommand.entry.name.now first.entry.name.now)) }
     ensures err { IfErr result (λ e. kind_of e ≡ ErrorKind.OutOfMemory) }
 {
-    with_last(alloc, line, named(alloc, subcommand), first)
+    let value = wanted(alloc, first.name, first.help);
+    let command = Command::new(alloc, subcommand.name)
+        .about(subcommand.help)
+        .arg(value)?;
+    Ok(line.subcommand(command)?)
 }
 
 /// Adds a subcommand of two texts, with its help and an example.
@@ -133,9 +93,14 @@ fn with_two<'a>(
     ensures app { IfOk result (λ c. app_of c ≡ with_subcommand (app_of line.entry) (of_two subcommand.entry.name.now first.entry.name.now second.entry.name.now)) }
     ensures err { IfErr result (λ e. kind_of e ≡ ErrorKind.OutOfMemory) }
 {
-    let named = named(alloc, subcommand).after_help(example);
-    let command = with_text(alloc, named, first)?;
-    with_last(alloc, line, command, second)
+    let one = wanted(alloc, first.name, first.help);
+    let other = wanted(alloc, second.name, second.help);
+    let command = Command::new(alloc, subcommand.name)
+        .about(subcommand.help)
+        .after_help(example)
+        .arg(one)?
+        .arg(other)?;
+    Ok(line.subcommand(command)?)
 }
 
 /// The command line before its subcommands.
