@@ -1,3 +1,4 @@
 pub mod ActorLemmas
 pub mod SteppingLemmas
 pub mod StepLemmas
+pub mod RecordLemmas

@@ -13,7 +13,7 @@ use Rattle.mx_machine.specs.Machine.{Running, world_of}
 use Rattle.mx_report.specs.Report.{report_text}
 use Rattle.mx_world.specs.Boot.{booted}
 use Rattle.mx_world.specs.History.{Kept, replay}
-use Rattle.mx_world.specs.Whole.{Lent, Whole}
+use Rattle.mx_world.specs.Whole.{Whole}
 use Rattle.mx_start.specs.Asked.{Asked}
 use Rattle.mx_start.specs.Setup.{IsFirstFault, IsStart}
 use Rattle.mx_steps.specs.Said.{said_lines}
@@ -46,7 +46,8 @@ appends_both (Some xs) (Some ys) (Some zs) s t a b = b ∙ ap (λ v. v ++ t) a �
 -- the first actor that is no processor
 pub other_booted : (w : Whole) (c : Config) (vs : List Service) (other : ℕ) → w ≡ booted c vs → other ≡ c.cpus → other < actors w
 other_booted w c vs other e h =
-    let n : length w.cpus ≡ c.cpus = ap (λ (x : Whole). length x.cpus) e ∙ length-replicate c.cpus (None {A = Lent}) in
+    let as_many : length (booted c vs).cpus ≡ c.cpus = length-replicate c.cpus None in
+    let n : length w.cpus ≡ c.cpus = ap (λ (x : Whole). length x.cpus) e ∙ as_many in
     let o : w.others ≡ c.others = ap (λ (x : Whole). x.others) e in
     omega (arith, n, o, h, c.some_others)
 

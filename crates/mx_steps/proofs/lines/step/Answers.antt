@@ -13,8 +13,8 @@ returns-in_err-started-clause-fault g c =
     let h = c.in_err-started.ensures.fault in
     rw (p.1, p.2) (h.0, h.1, told_first IsScript TellsScript c.args.config.now c.args.script.now h.0 c.in_err-started.field-0.0 h.2)
 
-pub perform_lines-requires : goal.perform_lines-requires
-perform_lines-requires g c =
+pub perform_lines-done-requires : goal.perform_lines-done-requires
+perform_lines-done-requires g c =
     let s = c.in_ok-started.ensures.started in
     other_booted (world_of c.in_ok-started.started.machine) s.1 s.2 c.in_ok-started.started.other s.5 s.6
 
