@@ -1,6 +1,7 @@
 -- A history's events again, from what a machine answers.
-use Rattle.std.proofs.Common.{◌≡◌, ◌≢◌, ◌⊎◌, ◌×◌, ◌∙◌, ◌<◌, ◌≤◌, ℕ, zero, suc, ◌+◌, ◌-◌, ◌||◌, min, cond, nat_le, Bool, true, false, List, [], ◌∷◌, ◌++◌, Option, Some, None, Result, Ok, Err, inl, inr, refl, ap, sym, subst, arith}
+use Rattle.std.proofs.Common.{◌≡◌, ◌≢◌, ◌⊎◌, ◌∙◌, ◌<◌, ◌≤◌, ℕ, zero, suc, ◌+◌, ◌-◌, ◌||◌, min, cond, nat_le, Bool, true, false, List, [], ◌∷◌, ◌++◌, length, take, drop, get_or, append_assoc, Option, Some, None, Result, Ok, Err, inl, inr, refl, ap, sym, subst, arith}
 use Rattle.std.proofs.lemmas.Bool.{le-leb}
+use Rattle.std.proofs.lemmas.List.{append-nil, take_more}
 use Rattle.mx_exec.specs.declared.image.Image.{Image}
 use Rattle.mx_exec.specs.declared.image.Outcome.{Outcome}
 use Rattle.mx_exec.specs.declared.image.Outcome.TheVariants as outcomes
@@ -13,22 +14,23 @@ use Rattle.mx_world.specs.declared.events.Event.{Event}
 use Rattle.mx_world.specs.declared.events.Event.TheVariants.{Step, Back}
 use Rattle.mx_world.specs.declared.events.Refusal.{Refusal}
 use Rattle.mx_world.specs.declared.events.Refusal.TheVariants.{AtStop, CpuEmpty}
+use Rattle.mx_world.specs.declared.history.Record.{Record}
 use Rattle.mx_world.specs.declared.holding.Out.{Out}
 use Rattle.mx_world.specs.Held.{held_run, run_by_stop}
-use Rattle.mx_world.specs.History.{AreAccepted, after_events}
-use Rattle.mx_world.specs.Move.{after_event, at_stop, event_refusal, is_stop, move, moved_by, step_refusal}
+use Rattle.mx_world.specs.History.{AreAccepted, after_events, events_of, unfolded}
+use Rattle.mx_world.specs.Move.{after_event, at_stop, event_answer, event_refusal, is_stop, move, moved_by, step_refusal}
 use Rattle.mx_world.specs.Steps.{steps_of}
 use Rattle.mx_world.specs.Whole.{Whole, Lent, held_by}
 use Rattle.mx_machine.specs.Machine.{HasWorked}
 use Rattle.mx_steps.specs.declared.said.Said.{Said}
 use Rattle.mx_steps.specs.declared.said.Said.TheVariants.{Stepped, Refused}
 use Rattle.mx_steps.specs.Lines.{run_made}
-use Rattle.mx_steps.specs.Records.{IsRefused}
+use Rattle.mx_steps.specs.Records.{IsRefused, IsRefusedAt}
 
 -- ---- one event
 
 ok_by : (w u : Whole) (a : ℕ) (x : Event) (r : Option Refusal) (y : Answer) → moved_by w a x r ≡ (Ok y, u) → (r ≡ None) × (u ≡ after_event w a x)
-ok_by w u a x (Some e) y h = absurd cc
+ok_by w u a x (Some e) y h = let s : Err e ≡ Ok y = ap (λ (p : Result Answer Refusal × Whole). p.0) h in absurd cc
 ok_by w u a x None y h = (refl, sym (ap (λ (p : Result Answer Refusal × Whole). p.1) h))
 
 pub event_ok : (w u : Whole) (a : ℕ) (x : Event) (y : Answer) → move w a x ≡ (Ok y, u) → (event_refusal w a x ≡ None) × (u ≡ after_event w a x)
@@ -36,8 +38,10 @@ unfolding move
 event_ok w u a x y h = ok_by w u a x (event_refusal w a x) y h
 
 err_by : (w u : Whole) (a : ℕ) (x : Event) (r : Option Refusal) (e : Refusal) → moved_by w a x r ≡ (Err e, u) → r ≡ Some e
-err_by w u a x (Some d) e h = let s : d ≡ e = cc in ap (λ (z : Refusal). Some z) s
-err_by w u a x None e h = absurd cc
+err_by w u a x (Some d) e h =
+    let t : Err d ≡ Err e = ap (λ (p : Result Answer Refusal × Whole). p.0) h in
+    let s : d ≡ e = cc in ap (λ (z : Refusal). Some z) s
+err_by w u a x None e h = let s : Ok (event_answer w a x) ≡ Err e = ap (λ (p : Result Answer Refusal × Whole). p.0) h in absurd cc
 
 pub event_err : (w u : Whole) (a : ℕ) (x : Event) (e : Refusal) → move w a x ≡ (Err e, u) → event_refusal w a x ≡ Some e
 unfolding move
@@ -122,7 +126,9 @@ refused_by true n s r h = let e : AtStop ≡ r = cc in ap (λ (z : Refusal). Som
 refused_by false n s r h = absurd cc
 
 refused_now : (w u : Whole) (c k : ℕ) (r : Refusal) (held : Option Lent) → run_made w c k held ≡ (Refused r, u) → step_refusal held ≡ Some r
-refused_now w u c k r None h = let e : CpuEmpty ≡ r = cc in ap (λ (z : Refusal). Some z) e
+refused_now w u c k r None h =
+    let t : Refused CpuEmpty ≡ Refused r = ap (λ (p : Said × Whole). p.0) h in
+    let e : CpuEmpty ≡ r = cc in ap (λ (z : Refusal). Some z) e
 refused_now w u c k r (Some l) h = refused_by (at_stop l.out) (held_run k l.out).0.0 (held_run k l.out).0.1 r (ap (λ (p : Said × Whole). p.0) h)
 
 step_refused : (w : Whole) (c : ℕ) (r : Refusal) → step_refusal (held_by w c) ≡ Some r → event_refusal w c Step ≡ Some r
@@ -139,7 +145,7 @@ count_by false n count s stop h = cc
 
 short_from : (w u : Whole) (c k count : ℕ) (stop : Stop) (held : Option Lent) → held_by w c ≡ held → run_made w c k held ≡ (Stepped count stop, u) → count ≢ k
     → ((l : Lent) → held_by w c ≡ Some l → HasWorked w u c k l) → IsRefused w (steps_of c k) AtStop
-short_from w u c k count stop None is h n worked = absurd cc
+short_from w u c k count stop None is h n worked = let t : Refused CpuEmpty ≡ Stepped count stop = ap (λ (p : Said × Whole). p.0) h in absurd cc
 short_from w u c k count stop (Some l) is h n worked =
     let done = worked l is in
     let made = (held_run k l.out).0.0 in
@@ -167,3 +173,49 @@ module _ (w v u : Whole) (c n : ℕ) (a : AreAccepted w (steps_of c n)) (after :
 
   pub return_err : (r : Refusal) → event_refusal v c Back ≡ Some r → IsRefused w (steps_of c n ++ (c, Back) ∷ []) r
   return_err r h = refused_behind w (steps_of c n) ((c, Back) ∷ []) r a (inl (subst (λ (x : Whole). event_refusal x c Back ≡ Some r) after h))
+
+-- ---- records, one more
+
+unfolded_more : (xs : List Record) (x : Record) → unfolded (xs ++ x ∷ []) ≡ unfolded xs ++ events_of x.actor x.event
+unfolded_more [] x = append-nil (events_of x.actor x.event)
+unfolded_more (y ∷ ys) x =
+    ap (λ (es : List (ℕ × Event)). events_of y.actor y.event ++ es) (unfolded_more ys x)
+    ∙ sym (append_assoc (events_of y.actor y.event) (unfolded ys) (events_of x.actor x.event))
+
+split_there : (records : List Record) (i : ℕ) (d : Record) → i < length records → records ≡ take i records ++ get_or records i d ∷ drop (suc i) records
+split_there [] i d b = absurd (omega arith)
+split_there (k ∷ ks) zero d b = refl
+split_there (k ∷ ks) (suc i) d b = ap (λ (x : List Record). k ∷ x) (split_there ks i d (omega arith))
+
+length_there : (records : List Record) (i : ℕ) → i < length records → length (take i records) ≡ i
+length_there [] i b = absurd (omega arith)
+length_there (k ∷ ks) zero b = refl
+length_there (k ∷ ks) (suc i) b = ap (λ n. suc n) (length_there ks i (omega arith))
+
+module _ (w v : Whole) (records : List Record) (i : ℕ) (d : Record) (b : i < length records) (a : AreAccepted w (unfolded (take i records))) (after : v ≡ after_events w (unfolded (take i records))) where
+  abbrev entry : Record
+  entry = get_or records i d
+
+  more : unfolded (take (i + 1) records) ≡ unfolded (take i records) ++ events_of entry.actor entry.event
+  more = ap (λ (rs : List Record). unfolded rs) (take_more records i d b) ∙ unfolded_more (take i records) entry
+
+  pub next_accepted : AreAccepted v (events_of entry.actor entry.event) → AreAccepted w (unfolded (take (i + 1) records))
+  next_accepted h =
+      subst (λ (es : List (ℕ × Event)). AreAccepted w es) (sym more)
+      (accepted_both w (unfolded (take i records)) (events_of entry.actor entry.event) a (subst (λ (x : Whole). AreAccepted x (events_of entry.actor entry.event)) after h))
+
+  pub next_world : (u : Whole) → u ≡ after_events v (events_of entry.actor entry.event) → u ≡ after_events w (unfolded (take (i + 1) records))
+  next_world u h =
+      h ∙ ap (λ (x : Whole). after_events x (events_of entry.actor entry.event)) after
+      ∙ sym (ap (λ (es : List (ℕ × Event)). after_events w es) more ∙ after_both w (unfolded (take i records)) (events_of entry.actor entry.event))
+
+  pub refused_at : (n : ℕ) (r : Refusal) → n ≡ i + 1 → IsRefused v (events_of entry.actor entry.event) r → IsRefusedAt w records n r
+  refused_at n r e h = (
+    take i records,
+    drop (suc i) records,
+    entry,
+    split_there records i d b,
+    a,
+    subst (λ (x : Whole). IsRefused x (events_of entry.actor entry.event) r) after h,
+    e ∙ ap (λ k. k + 1) (sym (length_there records i b)),
+  )
