@@ -2,3 +2,4 @@ pub mod ActorLemmas
 pub mod SteppingLemmas
 pub mod StepLemmas
 pub mod RecordLemmas
+pub mod ReplayLemmas

@@ -153,7 +153,7 @@ short_from w u c k count stop (Some l) is h n worked =
     let most = held_most k l.out in
     let fewer : made < k = omega (arith, n) in
     let left : event_refusal u c Step ≡ Some AtStop =
-        step_refused u c AtStop (ap step_refusal done.out ∙ ap (λ b. cond b (Some AtStop) None) (held_short k l.out fewer)) in
+    step_refused u c AtStop (ap step_refusal done.out ∙ ap (λ b. cond b (Some AtStop) None) (held_short k l.out fewer)) in
     refused_steps w c made k AtStop fewer done.accepted (subst (λ (v : Whole). event_refusal v c Step ≡ Some AtStop) done.world left)
 
 -- fewer are made

@@ -2,6 +2,7 @@
 
 ghost use Rattle.std.specs.Prelude.{◌≡◌, ◌<◌, ◌++◌, List, All, IfOk, IfErr, OnOk, None, Some};
 ghost use Rattle.std.specs.Io.KnownBytes.{Appends};
+ghost use Rattle.mx_failure.specs.Failure.{IsWanting};
 ghost use Rattle.mx_machine.specs.Machine.{IsActor, world_of};
 ghost use Rattle.mx_report.specs.Report.{report_text};
 ghost use Rattle.mx_respawn.specs.declared.service.Service.{Service};
@@ -16,12 +17,12 @@ ghost use Rattle.mx_world.specs.Move.{after_event, event_refusal};
 ghost use Rattle.mx_world.specs.History.{AreAccepted, after_events, events_of, unfolded};
 ghost use Rattle.mx_world.specs.Steps.{steps_of};
 ghost use Rattle.mx_steps.specs.Lines.{actors};
-ghost use Rattle.mx_steps.specs.Records.{IsPrinted, IsRefused, IsRefusedAt};
+ghost use Rattle.mx_steps.specs.Records.{IsPrinted, IsRefused, IsRefusedAt, refused_line};
 ghost use Rattle.mx_steps.specs.Telling.{IsTold};
 
 use crate::laws::actors_stay;
 use crate::printing::{print_report, print_text};
-use crate::said::{Said, said_of};
+use crate::said::Said;
 use crate::stepping::work_steps;
 use mx_failure::Failure;
 use mx_machine::{Event, Machine, Record, Recorded};
@@ -113,6 +114,21 @@ fn perform_records(machine: &mut Machine, records: &[Record]) -> Result<(), (usi
     Ok(())
 }
 
+/// Prints which record's event is refused, and why.
+fn print_refusal<W: Write>(
+    alloc: Global,
+    number: usize,
+    refusal: Refusal,
+    out: &mut W,
+) -> Result<(), Failure>
+    ensures err { IfErr result IsWanting }
+    ensures bytes { OnOk result (Appends (W.contents out.old) (W.contents out.new) (refused_line number refusal)) }
+{
+    let said = Said::Refused(refusal);
+    let line = format!(in alloc; "line {number}: {said}\n")?;
+    print_text(line.as_bytes(), out)
+}
+
 /// Starts a machine by the names of its configuration and of a saved history, replays the history, and
 /// prints the report. At an event that is refused it prints the number of the record's line and the
 /// refusal instead.
@@ -136,9 +152,7 @@ pub fn replay<R: Reader, W: Write>(
             Ok(Replayed::Whole)
         }
         Err((number, refusal)) => {
-            let said = said_of(Err(refusal));
-            let line = format!(in alloc; "line {number}: {said}\n")?;
-            print_text(line.as_bytes(), out)?;
+            print_refusal(alloc, number, refusal, out)?;
             Ok(Replayed::Refused)
         }
     }
