@@ -8,7 +8,7 @@ use Rattle.mx_proc.specs.declared.deliveries.Delivery.{Delivery}
 use Rattle.mx_proc.proofs.SoundLemmas.{process-same}
 use Rattle.mx_proc.proofs.TableLemmas.{the_process, home_of}
 
--- a list of what f shows, where tally item was replaced by tally that shows the same
+-- a list of what f shows, where one item was replaced by one that shows the same
 map-set : {X Y : Type 0} (f : X → Y) (xs : List X) (i : ℕ) (d p : X) → f p ≡ f (get_or xs i d) → map f (slice_set xs i p) ≡ map f xs
 map-set f [] i d p e = refl
 map-set f (x ∷ xs) zero d p e = ap (λ y. y ∷ map f xs) e

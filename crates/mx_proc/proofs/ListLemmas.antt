@@ -77,7 +77,7 @@ has_room xs s h b z =
     ] in
     omega (arith, length-total 32 xs above, total-lt 32 s xs most b z)
 
--- a list of lists with tally replaced
+-- a list of lists with one replaced
 pub list_at-cases : (lists : List (List ℕ)) (level at : ℕ) (xs : List ℕ) → level < length lists
     → ((at ≡ level) × (list_at (slice_set lists level xs) at ≡ xs)) ⊎ ((at ≢ level) × (list_at (slice_set lists level xs) at ≡ list_at lists at))
 list_at-cases lists level at xs h = elim (cases_eq at level) [

@@ -104,7 +104,7 @@ alone w s p h b o n k = changed w (with_process w s p) s p h (record {
   devices = refl;
 })
 
--- a process, also tally that is new, is put into the list of a level
+-- a process, also one that is new, is put into the list of a level
 placed_at : (w w' : World) (s level : ℕ) (list : List ℕ) (p : Process) → Sound w → process_at w' s ≡ p → ((t : ℕ) → t ≢ s → process_at w' t ≡ process_at w t) → length w.slots ≤ length w'.slots → length w'.slots ≤ 32 → IsAlone (process_at w s).state → level ≤ 14 → p.level ≡ level → p.state ≡ Ready → IsProcess p
     → w'.ready ≡ slice_set w.ready level list → w'.waits ≡ w.waits → w'.devices ≡ w.devices → ((t : ℕ) → times t list ≡ tally (s == t) + times t (list_at w.ready level)) → Sound w'
 placed_at w w' s level list p h same rest grows few o low at st k r v d counts = changed w w' s p h (record {

@@ -1,4 +1,4 @@
--- Endpoints (our choice): generation * 1024 + slot. As a signed number tally that names a slot isn't negative.
+-- Endpoints (our choice): generation * 1024 + slot. As a signed number one that names a slot isn't negative.
 use Rattle.std.specs.Prelude.{ℕ, ◌/◌, ◌%◌, ◌^◌, ◌==◌, ◌&&◌, nat_lt, not, Bool, length, Result, Ok, Err, if◌then◌else◌}
 use Rattle.mx_proc.specs.declared.table.Stale.{Stale}
 use Rattle.mx_proc.specs.World.{World, process_at}

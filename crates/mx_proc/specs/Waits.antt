@@ -29,7 +29,7 @@ abbrev pub IsPair : List (ℕ × ℕ) → ℕ → ℕ → Type 0
 IsPair [] p q = ⊥
 IsPair (e ∷ es) p q = ((e.0 ≡ p) × (e.1 ≡ q)) ⊎ IsPair es p q
 
--- a chain of tally or more pairs leads from p to q
+-- a chain of one or more pairs leads from p to q
 pub data Reaches (pairs : List (ℕ × ℕ)) : ℕ → ℕ → Type 0 where
   one_pair : (p q : ℕ) → IsPair pairs p q → Reaches pairs p q
   and_then : (p q r : ℕ) → IsPair pairs p q → Reaches pairs q r → Reaches pairs p r
@@ -43,7 +43,7 @@ abbrev pub if_some : Option ℕ → (ℕ → Bool) → Bool
 if_some None f = false
 if_some (Some x) f = f x
 
--- whether tally meets q within n pairs from p: where no chain leads back, and with n the number of pairs, a
+-- whether one meets q within n pairs from p: where no chain leads back, and with n the number of pairs, a
 -- public function's contract says that this is Reaches
 abbrev pub walk : ℕ → List (ℕ × ℕ) → ℕ → ℕ → Bool
 walk zero pairs p q = false

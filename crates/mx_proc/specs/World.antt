@@ -143,7 +143,7 @@ source_endpoint w Hardware = 2 ^ 32 - 1
 source_endpoint w Clock = 2 ^ 32 - 3
 source_endpoint w (Slot s) = endpoint_of w s
 
--- a source that is a slot is tally that is used
+-- a source that is a slot is one that is used
 abbrev pub IsUsedSource : World → Source → Type 0
 IsUsedSource w (Slot s) = s < length w.slots
 IsUsedSource w _ = Unit {0}

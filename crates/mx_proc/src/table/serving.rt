@@ -27,7 +27,7 @@ impl Table {
         endpoint < 0x8000_0000 && endpoint % 1024 < self.slots.len() as u32
     }
 
-    /// Clears the bits of a slot.at every process, and gives up its lines.
+    /// Clears the bits of a slot at every process, and gives up its lines.
     pub fn forget(&mut self, slot: Slot)
         requires { slot < length self.old.slots }
         ensures value { self.new ≡ forgotten self.old slot }
