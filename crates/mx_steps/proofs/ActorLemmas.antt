@@ -1,5 +1,5 @@
 -- Events leave how many actors there are.
-use Rattle.std.proofs.Common.{◌≡◌, ◌∙◌, ℕ, ◌+◌, List, [], ◌∷◌, length, Option, Some, None, Result, slice_get, refl, ap, sym}
+use Rattle.std.proofs.Common.{◌≡◌, ◌∙◌, ℕ, ◌+◌, List, [], ◌∷◌, Option, Some, None, Result, slice_get, refl, ap, sym}
 use Rattle.std.proofs.lemmas.List.{length-set}
 use Rattle.mx_proc.specs.Queues.{picked}
 use Rattle.mx_respawn.specs.declared.service.Service.{Service}

@@ -1,5 +1,5 @@
 -- What is told and printed where a script drives a machine, and a history.
-use Rattle.std.proofs.Common.{◌≡◌, ◌⊎◌, ◌∙◌, ◌<◌, ◌+◌, ℕ, List, [], ◌++◌, Option, Some, None, Result, Ok, Err, OnOk, IfErr, length, replicate, append_assoc, inl, inr, refl, ap, sym, subst, arith}
+use Rattle.std.proofs.Common.{◌≡◌, ◌⊎◌, ◌∙◌, ◌<◌, ℕ, List, [], ◌++◌, Option, Some, None, Result, Ok, Err, OnOk, IfErr, length, append_assoc, inl, inr, refl, ap, subst, arith}
 use Rattle.std.proofs.lemmas.List.{length-replicate}
 use Rattle.std.specs.Io.KnownBytes.{Appends}
 use Rattle.mx_fields.specs.declared.error.BootError.{BootError}
@@ -7,7 +7,7 @@ use Rattle.mx_setup.specs.declared.config.Config.{Config}
 use Rattle.mx_respawn.specs.declared.service.Service.{Service}
 use Rattle.mx_script.specs.declared.scripts.ScriptLine.{ScriptLine}
 use Rattle.mx_failure.specs.declared.failure.Failure.{Failure}
-use Rattle.mx_failure.specs.declared.failure.Failure.TheVariants.{File, NoMemory}
+use Rattle.mx_failure.specs.declared.failure.Failure.TheVariants.{NoMemory}
 use Rattle.mx_failure.specs.Failure.{IsWanting}
 use Rattle.mx_machine.specs.Machine.{Running, world_of}
 use Rattle.mx_report.specs.Report.{report_text}
