@@ -1,2 +1,5 @@
 pub mod ActorLemmas
 pub mod SteppingLemmas
+pub mod StepLemmas
+pub mod RecordLemmas
+pub mod ReplayLemmas

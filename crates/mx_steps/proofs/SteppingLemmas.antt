@@ -1,41 +1,46 @@
--- What a line does, from what a machine answers.
-use Rattle.std.proofs.Common.{◌≡◌, ◌≢◌, ◌∙◌, ◌<◌, ℕ, zero, suc, ◌+◌, Bool, false, true, List, [], ◌∷◌, ◌++◌, Option, Some, None, Result, refl, ap, sym, subst, arith}
-use Rattle.mx_world.specs.declared.events.Answer.{Answer}
-use Rattle.mx_world.specs.declared.events.Event.{Event}
-use Rattle.mx_world.specs.declared.events.Refusal.{Refusal}
-use Rattle.mx_world.specs.declared.events.Refusal.TheVariants.{CpuEmpty}
-use Rattle.mx_world.specs.Held.{held_run}
-use Rattle.mx_world.specs.History.{after_events}
-use Rattle.mx_world.specs.Move.{move}
-use Rattle.mx_world.specs.Steps.{steps_of}
-use Rattle.mx_world.specs.Whole.{Whole, Lent, held_by}
-use Rattle.mx_machine.specs.Machine.{HasWorked}
+-- What lines and records do, from what a machine answers.
+use Rattle.std.proofs.Common.{◌≡◌, ◌∙◌, ◌<◌, ℕ, ◌+◌, append_assoc, List, [], ◌∷◌, ◌++◌, length, take, get_or, refl, ap, sym}
+use Rattle.std.proofs.lemmas.List.{append-nil, take_more}
+use Rattle.std.proofs.lemmas.Grind.{flat_map-append}
+use Rattle.std.specs.Prelude.{codes}
+use Rattle.mx_script.specs.declared.scripts.ScriptLine.{ScriptLine}
+use Rattle.mx_world.specs.Whole.{Whole}
 use Rattle.mx_steps.specs.declared.said.Said.{Said}
-use Rattle.mx_steps.specs.declared.said.Said.TheVariants.{Refused}
-use Rattle.mx_steps.specs.Said.{said_of}
-use Rattle.mx_steps.specs.Lines.{actors, event_made, run_made, said_of_run, steps_made}
-use Rattle.mx_steps.proofs.ActorLemmas.{by_events, by_move}
+use Rattle.mx_steps.specs.Said.{said_line, said_lines}
+use Rattle.mx_steps.specs.Lines.{line_made, lines_made}
 
-pair : {A B : Type 0} (a c : A) (b d : B) → a ≡ c → b ≡ d → (a, b) ≡ (c, d)
-pair a c b d e h = ap (λ x. (x, b)) e ∙ ap (λ x. (c, x)) h
+-- ---- lines, one more
 
-pub event_said : (w u : Whole) (a : ℕ) (x : Event) (r : Result Answer Refusal) (s : Said) → move w a x ≡ (r, u) → s ≡ said_of r → event_made (move w a x) ≡ (s, u)
-event_said w u a x r s h e = ap event_made h ∙ pair (said_of r) s u u (sym e) refl
+world_more : (w : Whole) (o : ℕ) (ls : List ScriptLine) (l : ScriptLine) → (lines_made w o (ls ++ l ∷ [])).1 ≡ (line_made (lines_made w o ls).1 o l).1
+world_more w o [] l = refl
+world_more w o (k ∷ ls) l = world_more (line_made w o k).1 o ls l
 
--- a run of what a processor holds
-pub run_worked : (w u : Whole) (c k : ℕ) (l : Lent) (s : Said) → HasWorked w u c k l → s ≡ said_of_run k l.out → run_made w c k (held_by w c) ≡ (s, u)
-run_worked w u c k l s h e = ap (run_made w c k) h.held ∙ pair (said_of_run k l.out) s (after_events w (steps_of c (held_run k l.out).0.0)) u (sym e) (sym h.world)
+said_more : (w : Whole) (o : ℕ) (ls : List ScriptLine) (l : ScriptLine) → (lines_made w o (ls ++ l ∷ [])).0 ≡ (lines_made w o ls).0 ++ (line_made (lines_made w o ls).1 o l).0 ∷ []
+said_more w o [] l = refl
+said_more w o (k ∷ ls) l = ap (λ (x : List Said). (line_made w o k).0 ∷ x) (said_more (line_made w o k).1 o ls l)
 
-pub run_empty : (w u : Whole) (c k : ℕ) (s : Said) → held_by w c ≡ None → s ≡ Refused CpuEmpty → u ≡ w → run_made w c k (held_by w c) ≡ (s, u)
-run_empty w u c k s h e f = ap (run_made w c k) h ∙ pair (Refused CpuEmpty) s w u (sym e) (sym f)
+lines_text_more : (said : List Said) (s : Said) → said_lines (said ++ s ∷ []) ≡ said_lines said ++ (said_line s ++ codes "\n")
+lines_text_more said s = flat_map-append (λ (x : Said). said_line x ++ codes "\n") said (s ∷ []) ∙ ap (λ x. said_lines said ++ x) (append-nil (said_line s ++ codes "\n"))
 
-run_actors : (w : Whole) (c k : ℕ) (l : Option Lent) → actors (run_made w c k l).1 ≡ actors w
-run_actors w c k None = refl
-run_actors w c k (Some l) = by_events w (steps_of c (held_run k l.out).0.0)
+module _ (w : Whole) (o : ℕ) (lines : List ScriptLine) (i : ℕ) (d : ScriptLine) (b : i < length lines) where
+  abbrev so_far : List ScriptLine
+  so_far = take i lines
 
-pub steps_some : (w : Whole) (c k : ℕ) → 0 < k → steps_made w c k ≡ run_made w c k (held_by w c)
-steps_some w c zero h = absurd (omega arith)
-steps_some w c (suc k) h = refl
+  abbrev l : ScriptLine
+  l = get_or lines i d
 
-pub run_leaves : (w u : Whole) (c k : ℕ) (s : Said) → run_made w c k (held_by w c) ≡ (s, u) → actors u ≡ actors w
-run_leaves w u c k s h = sym (ap (λ (p : Said × Whole). actors p.1) h) ∙ run_actors w c k (held_by w c)
+  more : take (i + 1) lines ≡ so_far ++ l ∷ []
+  more = take_more lines i d b
+
+  pub next_world : (m u : Whole) (s : Said) → m ≡ (lines_made w o so_far).1 → line_made m o l ≡ (s, u) → u ≡ (lines_made w o (take (i + 1) lines)).1
+  next_world m u s e h =
+      sym (ap (λ (p : Said × Whole). p.1) h) ∙ ap (λ (x : Whole). (line_made x o l).1) e ∙ sym (world_more w o so_far l) ∙ ap (λ (ls : List ScriptLine). (lines_made w o ls).1) (sym more)
+
+  pub next_text : (m u : Whole) (s : Said) (t x y : List ℕ) → m ≡ (lines_made w o so_far).1 → line_made m o l ≡ (s, u)
+      → x ≡ t ++ said_lines (lines_made w o so_far).0 → y ≡ x ++ (said_line s ++ codes "\n") → y ≡ t ++ said_lines (lines_made w o (take (i + 1) lines)).0
+  next_text m u s t x y e h f g =
+      let said : (lines_made w o (take (i + 1) lines)).0 ≡ (lines_made w o so_far).0 ++ s ∷ [] =
+      ap (λ (ls : List ScriptLine). (lines_made w o ls).0) more ∙ said_more w o so_far l
+      ∙ ap (λ (z : Whole). (lines_made w o so_far).0 ++ (line_made z o l).0 ∷ []) (sym e) ∙ ap (λ (p : Said × Whole). (lines_made w o so_far).0 ++ p.0 ∷ []) h in
+      g ∙ ap (λ (z : List ℕ). z ++ (said_line s ++ codes "\n")) f ∙ append_assoc t (said_lines (lines_made w o so_far).0) (said_line s ++ codes "\n")
+      ∙ ap (λ (z : List ℕ). t ++ z) (sym (ap said_lines said ∙ lines_text_more (lines_made w o so_far).0 s))

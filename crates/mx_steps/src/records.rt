@@ -1,8 +1,29 @@
 //! A machine that is driven by a saved history.
 
+ghost use Rattle.std.specs.Prelude.{◌≡◌, ◌<◌, ◌++◌, List, All, IfOk, IfErr, OnOk, None, Some};
+ghost use Rattle.std.specs.Io.KnownBytes.{Appends};
+ghost use Rattle.mx_failure.specs.Failure.{IsWanting};
+ghost use Rattle.mx_machine.specs.Machine.{IsActor, world_of};
+ghost use Rattle.mx_report.specs.Report.{report_text};
+ghost use Rattle.mx_respawn.specs.declared.service.Service.{Service};
+ghost use Rattle.mx_setup.specs.declared.config.Config.{Config};
+ghost use Rattle.mx_start.specs.Asked.{Asked};
+ghost use Rattle.mx_start.specs.Course.{IsSaved, TellsSaved};
+ghost use Rattle.mx_start.specs.Setup.{IsStart};
+ghost use Rattle.mx_world.specs.declared.history.Record.{Record as Noted};
+ghost use Rattle.mx_world.specs.declared.history.Recorded.TheVariants as recorded;
+ghost use Rattle.mx_world.specs.Boot.{booted};
+ghost use Rattle.mx_world.specs.Move.{after_event, event_refusal};
+ghost use Rattle.mx_world.specs.History.{AreAccepted, after_events, events_of, unfolded};
+ghost use Rattle.mx_world.specs.Steps.{steps_of};
+ghost use Rattle.mx_steps.specs.Lines.{actors};
+ghost use Rattle.mx_steps.specs.Records.{IsPrinted, IsRefused, IsRefusedAt, refused_line};
+ghost use Rattle.mx_steps.specs.Telling.{IsTold};
+
+use crate::laws::actors_stay;
 use crate::printing::{print_report, print_text};
-use crate::said::{Said, said_of};
-use crate::stepping::make_steps;
+use crate::said::Said;
+use crate::stepping::work_steps;
 use mx_failure::Failure;
 use mx_machine::{Event, Machine, Record, Recorded};
 use mx_start::{History, Reader, start};
@@ -19,47 +40,93 @@ pub enum Replayed {
     Refused,
 }
 
-/// The steps that a process made, and its return.
-fn come_back(machine: &mut Machine, cpu: u8, steps: u32) -> Result<(), Refusal> {
-    match make_steps(machine, cpu, steps) {
-        Said::Refused(refusal) => return Err(refusal),
+/// The steps that a process made.
+fn steps_again(machine: &mut Machine, cpu: u8, steps: u32) -> Result<(), Refusal>
+    ensures ok { OnOk result (AreAccepted (world_of machine.old) (steps_of cpu steps) × (world_of machine.new ≡ after_events (world_of machine.old) (steps_of cpu steps))) }
+    ensures err { IfErr result (IsRefused (world_of machine.old) (steps_of cpu steps)) }
+{
+    if steps == 0 {
+        return Ok(());
+    }
+    match work_steps(machine, cpu, steps) {
         Said::Stepped(count, _) => {
-            if count < steps {
-                return Err(Refusal::AtStop);
+            if count == steps {
+                Ok(())
+            } else {
+                Err(Refusal::AtStop)
             }
         }
-        Said::Answered(_) => {}
+        Said::Refused(refusal) => Err(refusal),
+        Said::Answered(_) => unreachable!(),
     }
-    machine.apply(cpu, Event::Back)?;
-    Ok(())
 }
 
-/// The events that a record stands for, up to the first that is refused.
-fn perform_record(machine: &mut Machine, record: Record) -> Result<(), Refusal> {
-    let actor = record.actor;
-    let event = match record.event {
-        Recorded::Back(steps) => return come_back(machine, actor, steps),
-        Recorded::Take => Event::Take,
-        Recorded::Line(line) => Event::Line(line),
-        Recorded::Tick => Event::Tick,
-        Recorded::Kill(endpoint) => Event::Kill(endpoint),
-        Recorded::Respawn(slot) => Event::Respawn(slot),
-    };
+/// One event again.
+fn event_again(machine: &mut Machine, actor: u8, event: Event) -> Result<(), Refusal>
+    requires { IsActor (world_of machine.old) actor event }
+    ensures ok { OnOk result ((event_refusal (world_of machine.old) actor event ≡ None) × (world_of machine.new ≡ after_event (world_of machine.old) actor event)) }
+    ensures err { IfErr result (λ r. event_refusal (world_of machine.old) actor event ≡ Some r) }
+{
     machine.apply(actor, event)?;
     Ok(())
 }
 
+/// The steps that a process made, and its return.
+fn return_again(machine: &mut Machine, cpu: u8, steps: u32) -> Result<(), Refusal>
+    ensures ok { OnOk result (AreAccepted (world_of machine.old) (events_of cpu (recorded.Back steps)) × (world_of machine.new ≡ after_events (world_of machine.old) (events_of cpu (recorded.Back steps)))) }
+    ensures err { IfErr result (IsRefused (world_of machine.old) (events_of cpu (recorded.Back steps))) }
+{
+    steps_again(machine, cpu, steps)?;
+    event_again(machine, cpu, Event::Back)
+}
+
+/// The events that a record stands for, up to the first that is refused.
+fn perform_record(machine: &mut Machine, actor: u8, event: Recorded) -> Result<(), Refusal>
+    requires { actor < actors (world_of machine.old) }
+    ensures ok { OnOk result (AreAccepted (world_of machine.old) (events_of actor event) × (world_of machine.new ≡ after_events (world_of machine.old) (events_of actor event))) }
+    ensures err { IfErr result (IsRefused (world_of machine.old) (events_of actor event)) }
+{
+    match event {
+        Recorded::Take => event_again(machine, actor, Event::Take),
+        Recorded::Back(steps) => return_again(machine, actor, steps),
+        Recorded::Line(line) => event_again(machine, actor, Event::Line(line)),
+        Recorded::Tick => event_again(machine, actor, Event::Tick),
+        Recorded::Kill(endpoint) => event_again(machine, actor, Event::Kill(endpoint)),
+        Recorded::Respawn(slot) => event_again(machine, actor, Event::Respawn(slot)),
+    }
+}
+
 /// The events that records stand for, up to the first that is refused. Answers the number of its
 /// record, the first having the number 1, and why.
-fn perform_records(machine: &mut Machine, records: &[Record]) -> Result<(), (usize, Refusal)> {
+fn perform_records(machine: &mut Machine, records: &[Record]) -> Result<(), (usize, Refusal)>
+    requires { All (λ (x : Noted). x.actor < actors (world_of machine.old)) records.now }
+    ensures ok { OnOk result (AreAccepted (world_of machine.old) (unfolded records.now) × (world_of machine.new ≡ after_events (world_of machine.old) (unfolded records.now))) }
+    ensures err { IfErr result (λ p. IsRefusedAt (world_of machine.old) records.now p.0 p.1) }
+{
+    actors_stay();
     let mut number = 1;
-    for record in records {
-        if let Err(refusal) = perform_record(machine, *record) {
+    for entry in records {
+        if let Err(refusal) = perform_record(machine, entry.actor, entry.event) {
             return Err((number, refusal));
         }
         number += 1;
     }
     Ok(())
+}
+
+/// Prints which record's event is refused, and why.
+fn print_refusal<W: Write>(
+    alloc: Global,
+    number: usize,
+    refusal: Refusal,
+    out: &mut W,
+) -> Result<(), Failure>
+    ensures err { IfErr result IsWanting }
+    ensures bytes { OnOk result (Appends (W.contents out.old) (W.contents out.new) (refused_line number refusal)) }
+{
+    let said = Said::Refused(refusal);
+    let line = format!(in alloc; "line {number}: {said}\n")?;
+    print_text(line.as_bytes(), out)
 }
 
 /// Starts a machine by the names of its configuration and of a saved history, replays the history, and
@@ -71,7 +138,13 @@ pub fn replay<R: Reader, W: Write>(
     config: &str,
     log: &str,
     out: &mut W,
-) -> Result<Replayed, Failure> {
+) -> Result<Replayed, Failure>
+    ensures printed { IfOk result (λ replayed. (qs : List Asked) × (c : Config) × (vs : List Service) × (records : List Noted)
+        × (R.asked reader.new ≡ R.asked reader.old ++ qs) × IsStart IsSaved config.now log.now qs c vs records
+        × IsPrinted (booted c vs) records replayed (λ text. Appends (W.contents out.old) (W.contents out.new) text)) }
+    ensures fault { IfErr result (λ f. (qs : List Asked)
+        × (R.asked reader.new ≡ R.asked reader.old ++ qs) × IsTold IsSaved TellsSaved config.now log.now qs f) }
+{
     let mut started = start::<History, R>(alloc, reader, config, log)?;
     match perform_records(&mut started.machine, started.lines.as_slice()) {
         Ok(()) => {
@@ -79,9 +152,7 @@ pub fn replay<R: Reader, W: Write>(
             Ok(Replayed::Whole)
         }
         Err((number, refusal)) => {
-            let said = said_of(Err(refusal));
-            let line = format!(in alloc; "line {number}: {said}\n")?;
-            print_text(line.as_bytes(), out)?;
+            print_refusal(alloc, number, refusal, out)?;
             Ok(Replayed::Refused)
         }
     }

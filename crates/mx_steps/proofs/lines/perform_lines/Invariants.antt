@@ -1,0 +1,14 @@
+use Rattle.std.proofs.Common.{◌≡◌, ◌++◌, take}
+use Rattle.std.specs.Prelude.{string_bytes}
+use Rattle.mx_machine.specs.Machine.{world_of}
+use Rattle.mx_steps.specs.Said.{said_lines}
+use Rattle.mx_steps.specs.Lines.{actors, lines_made}
+use Rattle.mx_steps.proofs.lines.perform_lines.Given as goal
+
+-- the lines so far are done, and each has its line in the text
+abbrev pub invariant-loop-line : goal.invariant-loop-line
+invariant-loop-line l = record {
+  world : world_of l.machine ≡ (lines_made (world_of l.initial.machine) l.other (take l.line-index l.lines)).1;
+  text : string_bytes l.text ≡ string_bytes l.initial.text ++ said_lines (lines_made (world_of l.initial.machine) l.other (take l.line-index l.lines)).0;
+  actors : actors (world_of l.machine) ≡ actors (world_of l.initial.machine);
+}
