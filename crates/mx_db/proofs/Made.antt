@@ -1,12 +1,12 @@
 -- What a line does, from what its function answers.
-use Rattle.std.proofs.Common.{◌≡◌, ◌∙◌, ◌<◌, ◌+◌, ℕ, suc, List, Option, Some, None, length, get_or, drop, Result, sym, ap, refl, arith}
-use Rattle.std.proofs.Math.Seq.{drop-cons}
+use Rattle.std.proofs.Common.{◌≡◌, ◌∙◌, ◌<◌, ◌+◌, ℕ, List, [], ◌∷◌, ◌++◌, Option, Some, None, length, get_or, take, Result, Ok, Err, OnOk, sym, ap, refl}
+use Rattle.std.proofs.lemmas.List.{take_more}
 use Rattle.mx_script.specs.declared.debug.DebugLine.{DebugLine}
 use Rattle.mx_script.specs.declared.debug.DebugLine.TheVariants.{Plain, Break, Clear, Go, Registers, Memory, Messages}
 use Rattle.mx_script.specs.declared.place.Place.{Place}
 use Rattle.mx_script.specs.declared.scripts.ScriptLine.{ScriptLine}
 use Rattle.mx_world.specs.declared.events.Event.{Event}
-use Rattle.mx_world.specs.History.{after_events, replay}
+use Rattle.mx_world.specs.History.{Kept, after_events, replay}
 use Rattle.mx_world.specs.Steps.{steps_of}
 use Rattle.mx_world.specs.Whole.{Whole, Lent, held_by}
 use Rattle.mx_machine.specs.Machine.{Running, world_of}
@@ -60,12 +60,38 @@ gone_leaves law w points c k (Some l) = law w (steps_of c (steps_made points l.s
 pub gone_actors : ((w : Whole) (xs : List (ℕ × Event)) → actors (after_events w xs) ≡ actors w) → (w u : Whole) (points : List Breakpoint) (c k : ℕ) → gone w points c k (held_by w c) ≡ u → actors u ≡ actors w
 gone_actors law w u points c k h = ap actors (sym h) ∙ gone_leaves law w points c k (held_by w c)
 
--- one line more of a list
-pub lines_more : (other : ℕ) (d e : Debugged) (ls : List DebugLine) (i : ℕ) (x : DebugLine) → i < length ls → x ≡ get_or ls i x → debug_line_made other d x ≡ e
-    → debug_lines_made other d (drop i ls) ≡ debug_lines_made other e (drop (i + 1) ls)
-lines_more other d e ls i x less is made =
-    let next : suc i ≡ i + 1 = omega arith in
-    ap (debug_lines_made other d) (drop-cons ls i x less)
-    ∙ ap (λ (y : DebugLine). debug_lines_made other (debug_line_made other d y) (drop (suc i) ls)) (sym is)
-    ∙ ap (λ (y : Debugged). debug_lines_made other y (drop (suc i) ls)) made
-    ∙ ap (λ (n : ℕ). debug_lines_made other e (drop n ls)) next
+-- ---- by what a match has found
+
+pub plain_of : (other : ℕ) (w u : Whole) (points : List Breakpoint) (p : ScriptLine) (s : Said) (l : DebugLine) → l ≡ Plain p → line_made w other p ≡ (s, u) → debug_line_made other (both w points) l ≡ both u points
+plain_of other w u points p s l is h = ap (debug_line_made other (both w points)) is ∙ plain_made other w u points p s h
+
+pub broken_of : (other : ℕ) (m : Running) (k : Kept) (points new : List Breakpoint) (s : ℕ) (place : Place) (r : Result (Unit {0}) Kind) (l : DebugLine) → l ≡ Break s place → k ≡ m.kernel
+    → broken points (found (replay k).services s place) ≡ (r, new) → debug_line_made other (both (world_of m) points) l ≡ both (world_of m) new
+broken_of other m k points new s place r l is same h =
+    ap (debug_line_made other (both (world_of m) points)) is
+    ∙ broken_made other m points new s place r (ap (λ (x : Kept). broken points (found (replay x).services s place)) (sym same) ∙ h)
+
+pub cleared_of : (other : ℕ) (m : Running) (k : Kept) (points new : List Breakpoint) (s : ℕ) (place : Place) (r : Result (Unit {0}) Kind) (l : DebugLine) → l ≡ Clear s place → k ≡ m.kernel
+    → cleared points (found (replay k).services s place) ≡ (r, new) → debug_line_made other (both (world_of m) points) l ≡ both (world_of m) new
+cleared_of other m k points new s place r l is same h =
+    ap (debug_line_made other (both (world_of m) points)) is
+    ∙ cleared_made other m points new s place r (ap (λ (x : Kept). cleared points (found (replay x).services s place)) (sym same) ∙ h)
+
+pub always : {A E : Type 0} (P : Type 0) (r : Result A E) → P → OnOk r P
+always P (Ok a) h = h
+always P (Err e) h = tt
+
+-- ---- one line more of a list
+
+lines_more : (other : ℕ) (d : Debugged) (ls : List DebugLine) (l : DebugLine) → debug_lines_made other d (ls ++ l ∷ []) ≡ debug_line_made other (debug_lines_made other d ls) l
+lines_more other d [] l = refl
+lines_more other d (k ∷ ls) l = lines_more other (debug_line_made other d k) ls l
+
+pub next_made : (other : ℕ) (d e f : Debugged) (ls : List DebugLine) (i : ℕ) (x : DebugLine) → i < length ls → x ≡ get_or ls i x → debug_lines_made other d (take i ls) ≡ e → debug_line_made other e x ≡ f
+    → debug_lines_made other d (take (i + 1) ls) ≡ f
+next_made other d e f ls i x less is so_far h =
+    ap (debug_lines_made other d) (take_more ls i x less)
+    ∙ lines_more other d (take i ls) (get_or ls i x)
+    ∙ ap (λ (y : Debugged). debug_line_made other y (get_or ls i x)) so_far
+    ∙ ap (debug_line_made other e) (sym is)
+    ∙ h

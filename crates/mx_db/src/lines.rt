@@ -102,7 +102,6 @@ fn perform_debug_line(
 }
 
 /// Does what lines say, and appends what is said of them.
-#[tactic(auto, using(crate::proofs::Made::lines_more))]
 pub fn perform_debug_lines(
     machine: &mut Machine,
     debugger: &mut Debugger,

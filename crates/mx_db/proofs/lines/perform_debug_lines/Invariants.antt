@@ -1,12 +1,13 @@
-use Rattle.std.proofs.Common.{◌≡◌, drop}
+use Rattle.std.proofs.Common.{◌≡◌, take}
 use Rattle.mx_machine.specs.Machine.{world_of}
 use Rattle.mx_steps.specs.Lines.{actors}
 use Rattle.mx_db.specs.Lines.{debug_lines_made}
 use Rattle.mx_db.proofs.Made.{both}
 use Rattle.mx_db.proofs.lines.perform_debug_lines.Given as goal
 
+-- the lines so far are done
 abbrev pub invariant-loop-line : goal.invariant-loop-line
 invariant-loop-line l = record {
-  made : debug_lines_made l.other (both (world_of l.machine) l.debugger) (drop l.line-index l.line-items) ≡ debug_lines_made l.other (both (world_of l.fn.machine) l.fn.debugger) l.line-items;
-  actors : actors (world_of l.machine) ≡ actors (world_of l.fn.machine);
+  made : debug_lines_made l.other (both (world_of l.initial.machine) l.initial.debugger) (take l.line-index l.lines) ≡ both (world_of l.machine) l.debugger;
+  actors : actors (world_of l.machine) ≡ actors (world_of l.initial.machine);
 }
