@@ -1,0 +1,74 @@
+-- What is told of a machine's files never says that the words are no text.
+use Rattle.std.proofs.Common.{◌≡◌, ◌++◌, ℕ, List, Result, Ok, Err, IfErr, sym, subst}
+use Rattle.std.specs.declared.io.ErrorKind.{ErrorKind}
+use Rattle.std.specs.declared.io.ErrorKind.TheVariants as kinds
+use Rattle.mx_aout.specs.declared.program.FileError.{FileError}
+use Rattle.mx_aout.specs.declared.program.FileError.TheVariants as errors
+use Rattle.mx_fields.specs.declared.error.BootError.{BootError}
+use Rattle.mx_fields.specs.declared.error.BootError.TheVariants as lines
+use Rattle.mx_setup.specs.declared.config.Config.{Config}
+use Rattle.mx_failure.specs.declared.failure.Failure.{Failure}
+use Rattle.mx_failure.specs.declared.failure.Failure.TheVariants.{File, NoMemory, NotText}
+use Rattle.mx_failure.specs.Failure.{failure_of, failure_of_kind, failure_of_lines}
+use Rattle.mx_setup.specs.declared.config.ServiceLine.{ServiceLine}
+use Rattle.mx_start.specs.Asked.{Asked}
+use Rattle.mx_start.specs.Setup.{IsFaulty, IsMissed, IsNoText, IsRefused, IsSetupFault}
+use Rattle.mx_steps.specs.Telling.{IsTold}
+
+abbrev IsOther : Failure → Type 0
+IsOther f = f ≡ NotText → ⊥
+
+of_kind : (k : ErrorKind) → IsOther (failure_of_kind k)
+of_kind kinds.OutOfMemory e = cc
+of_kind k e = cc
+
+of_file : (d : FileError) → IsOther (failure_of d)
+of_file errors.NoMemory e = cc
+of_file d e = cc
+
+of_lines : (d : BootError) → IsOther (failure_of_lines d)
+of_lines lines.NoMemory e = cc
+of_lines d e = cc
+
+is_file : (f : Failure) → f ≡ File → IsOther f
+is_file f g e = cc
+
+is_memory : (f : Failure) → f ≡ NoMemory → IsOther f
+is_memory f g e = cc
+
+missed : (name : List ℕ) (q : Asked) (f : Failure) → IsMissed name q f → IsOther f
+missed name q f h = subst IsOther (sym h.2) (of_kind h.0)
+
+no_text : (name : List ℕ) (q : Asked) (f : Failure) → IsNoText name q f → IsOther f
+no_text name q f h = elim h [ inl m ↦ missed name q f m | inr p ↦ is_file f p.3 ]
+
+faulty : (Tells : List ℕ → BootError → Type 0) (name : List ℕ) (q : Asked) (f : Failure) → IsFaulty Tells name q f → IsOther f
+faulty Tells name q f h = subst IsOther (sym h.4) (of_lines h.1)
+
+refused : (line : ServiceLine) (q : Asked) (f : Failure) → IsRefused line q f → IsOther f
+refused line q f h = elim h [ inl m ↦ missed line.file q f m | inr p ↦ subst IsOther (sym p.4) (of_file p.1) ]
+
+setup : (name : List ℕ) (qs : List Asked) (f : Failure) → IsSetupFault name qs f → IsOther f
+setup name qs f h = elim h [
+  | inl p ↦ elim p.2 [ inl n ↦ no_text name p.0 f n | inr d ↦ faulty _ name p.0 f d ]
+  | inr p ↦ refused p.9 p.11 f p.16
+]
+
+-- the failures of a machine's subcommands are others
+pub told_other : {L : Type 0} (Says : List ℕ → Config → List L → Type 0) (Tells : List ℕ → Config → BootError → Type 0) (config name : List ℕ) (qs : List Asked) (f : Failure)
+    → IsTold Says Tells config name qs f → f ≡ NotText → ⊥
+told_other Says Tells config name qs f h = elim h [
+  | inl n ↦ is_memory f n
+  | inr rest ↦ elim rest [
+    | inl fault ↦ elim fault [
+      | inl s ↦ setup config qs f s
+      | inr p ↦ elim p.6 [ inl n ↦ no_text name p.1 f n | inr d ↦ faulty _ name p.1 f d ]
+    ]
+    | inr p ↦ is_file f p.3
+  ]
+]
+
+pub told_other_of : {L T : Type 0} (Says : List ℕ → Config → List L → Type 0) (Tells : List ℕ → Config → BootError → Type 0) (config name : List ℕ) (old new : List Asked) (r : Result T Failure)
+    → IfErr r (λ f. (qs : List Asked) × (new ≡ old ++ qs) × IsTold Says Tells config name qs f) → IfErr r (λ f. f ≡ NotText → ⊥)
+told_other_of Says Tells config name old new (Ok x) h = tt
+told_other_of Says Tells config name old new (Err f) h = told_other Says Tells config name h.0 f h.2
