@@ -12,7 +12,7 @@ use Rattle.mx_failure.specs.declared.failure.Failure.TheVariants.{File, NoMemory
 use Rattle.mx_failure.specs.Failure.{failure_of, failure_of_kind, failure_of_lines}
 use Rattle.mx_setup.specs.declared.config.ServiceLine.{ServiceLine}
 use Rattle.mx_start.specs.Asked.{Asked}
-use Rattle.mx_start.specs.Setup.{IsFaulty, IsMissed, IsNoText, IsRefused, IsSetupFault}
+use Rattle.mx_start.specs.Setup.{IsFaulty, IsFirstRefused, IsMissed, IsNoText, IsRefused, IsSetupFault}
 use Rattle.mx_steps.specs.Telling.{IsTold}
 
 abbrev IsOther : Failure → Type 0
@@ -48,10 +48,13 @@ faulty Tells name q f h = subst IsOther (sym h.4) (of_lines h.1)
 refused : (line : ServiceLine) (q : Asked) (f : Failure) → IsRefused line q f → IsOther f
 refused line q f h = elim h [ inl m ↦ missed line.file q f m | inr p ↦ subst IsOther (sym p.4) (of_file p.1) ]
 
+first_refused : (lines : List ServiceLine) (qs : List Asked) (f : Failure) → IsFirstRefused lines qs f → IsOther f
+first_refused lines qs f h = refused h.2 h.4 f h.9
+
 setup : (name : List ℕ) (qs : List Asked) (f : Failure) → IsSetupFault name qs f → IsOther f
 setup name qs f h = elim h [
   | inl p ↦ elim p.2 [ inl n ↦ no_text name p.0 f n | inr d ↦ faulty _ name p.0 f d ]
-  | inr p ↦ refused p.9 p.11 f p.16
+  | inr p ↦ first_refused p.3.lines p.1 f p.7
 ]
 
 -- the failures of a machine's subcommands are others
