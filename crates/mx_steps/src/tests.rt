@@ -1,20 +1,29 @@
 use crate::{Failure, NamedFile, NamedFiles, Replayed, replay, step};
 use mx_start::BootError;
-use std::alloc::Global;
 use std::test::Fail;
 
-/// A driver that receives from anyone and answers, and a client that asks it and then exits.
-const DRIVER: [u8; 35] = [
-    0xB9, 2, 0, 0, 0, 0xB8, 0xCE, 0x7A, 0, 0, 0xBB, 0, 0, 0, 0, 0xCD, 0x21, 0x8B, 0x05, 0, 0, 0, 0,
-    0xB9, 1, 0, 0, 0, 0xCD, 0x21, 0xE9, 0xDD, 0xFF, 0xFF, 0xFF,
+/// A driver that receives from anyone and answers. Its data are 36 zeros, its total is 4096.
+static DRIVER: [u8; 103] = [
+    1, 3, 0x30, 0x10, 0x20, 0, 0, 0, 0x23, 0, 0, 0, 0x24, 0, 0, 0, 0, 0, 0, 0, 0, 0, 0, 0, 0, 0x10,
+    0, 0, 0, 0, 0, 0, 0xB9, 2, 0, 0, 0, 0xB8, 0xCE, 0x7A, 0, 0, 0xBB, 0, 0, 0, 0, 0xCD, 0x21, 0x8B,
+    5, 0, 0, 0, 0, 0xB9, 1, 0, 0, 0, 0xCD, 0x21, 0xE9, 0xDD, 0xFF, 0xFF, 0xFF, 0, 0, 0, 0, 0, 0, 0,
+    0, 0, 0, 0, 0, 0, 0, 0, 0, 0, 0, 0, 0, 0, 0, 0, 0, 0, 0, 0, 0, 0, 0, 0, 0, 0, 0, 0, 0,
 ];
 
-const CLIENT: [u8; 39] = [
-    0xB9, 3, 0, 0, 0, 0xB8, 0, 0, 0, 0, 0xBB, 0, 0, 0, 0, 0xCD, 0x21, 0xC7, 0x05, 4, 0, 0, 0, 0, 6,
-    0, 0, 0xB9, 3, 0, 0, 0, 0xB8, 0xFE, 0xFF, 0xFF, 0xFF, 0xCD, 0x21,
+/// A client that asks the driver, and then exits.
+static CLIENT: [u8; 107] = [
+    1, 3, 0x30, 0x10, 0x20, 0, 0, 0, 0x27, 0, 0, 0, 0x24, 0, 0, 0, 0, 0, 0, 0, 0, 0, 0, 0, 0, 0x10,
+    0, 0, 0, 0, 0, 0, 0xB9, 3, 0, 0, 0, 0xB8, 0, 0, 0, 0, 0xBB, 0, 0, 0, 0, 0xCD, 0x21, 0xC7, 5, 4,
+    0, 0, 0, 0, 6, 0, 0, 0xB9, 3, 0, 0, 0, 0xB8, 0xFE, 0xFF, 0xFF, 0xFF, 0xCD, 0x21, 0, 0, 0, 0, 0,
+    0, 0, 0, 0, 0, 0, 0, 0, 0, 0, 0, 0, 0, 0, 0, 0, 0, 0, 0, 0, 0, 0, 0, 0, 0, 0, 0, 0, 0, 0, 0,
 ];
+
 /// A sum, and a trap that fails.
-const SUM: [u8; 10] = [0xB8, 5, 0, 0, 0, 0x83, 0xC0, 0x7B, 0xCD, 0x21];
+static SUM: [u8; 78] = [
+    1, 3, 0x30, 0x10, 0x20, 0, 0, 0, 0xA, 0, 0, 0, 0x24, 0, 0, 0, 0, 0, 0, 0, 0, 0, 0, 0, 0, 0x10,
+    0, 0, 0, 0, 0, 0, 0xB8, 5, 0, 0, 0, 0x83, 0xC0, 0x7B, 0xCD, 0x21, 0, 0, 0, 0, 0, 0, 0, 0, 0, 0,
+    0, 0, 0, 0, 0, 0, 0, 0, 0, 0, 0, 0, 0, 0, 0, 0, 0, 0, 0, 0, 0, 0, 0, 0, 0, 0,
+];
 
 const PAIR: &str = "\
 cpus 1
@@ -125,45 +134,37 @@ static ROWS: [Row; 9] = [
     },
 ];
 
-/// A file with a separate text, data of 36 zeros and a total of 4096.
-fn file_of(alloc: Global, text: &[u8]) -> Result<Vec<u8>, Fail> {
-    let size = u8::try_from(text.len()).map_err(|_| "size")?;
-    let mut file = Vec::new(alloc);
-    file.extend_from_slice(&[1, 3, 0x30, 0x10, 0x20, 0, 0, 0, size, 0, 0, 0, 36, 0, 0, 0])?;
-    file.extend_from_slice(&[0, 0, 0, 0, 0, 0, 0, 0, 0, 0x10, 0, 0, 0, 0, 0, 0])?;
-    file.extend_from_slice(text)?;
-    file.extend_from_slice(&[0; 36])?;
-    Ok(file)
+/// The files of a machine, and the text that drives it.
+fn files_with<'a>(config: &'a str, text: &'a str) -> [NamedFile<'a>; 5] {
+    [
+        NamedFile {
+            name: "config",
+            bytes: config.as_bytes(),
+        },
+        NamedFile {
+            name: "text",
+            bytes: text.as_bytes(),
+        },
+        NamedFile {
+            name: "drv.out",
+            bytes: &DRIVER,
+        },
+        NamedFile {
+            name: "cli.out",
+            bytes: &CLIENT,
+        },
+        NamedFile {
+            name: "a.out",
+            bytes: &SUM,
+        },
+    ]
 }
 
 #[test]
 fn drives_machines(rt: HostRuntime) -> Result<(), Fail> {
-    let driver = file_of(rt.alloc(), &DRIVER)?;
-    let client = file_of(rt.alloc(), &CLIENT)?;
-    let sum = file_of(rt.alloc(), &SUM)?;
     for (number, row) in ROWS.iter().enumerate() {
-        let files = [
-            NamedFile {
-                name: "config",
-                bytes: row.config.as_bytes(),
-            },
-            NamedFile {
-                name: "text",
-                bytes: row.script.or(row.history).unwrap_or("").as_bytes(),
-            },
-            NamedFile {
-                name: "drv.out",
-                bytes: driver.as_slice(),
-            },
-            NamedFile {
-                name: "cli.out",
-                bytes: client.as_slice(),
-            },
-            NamedFile {
-                name: "a.out",
-                bytes: sum.as_slice(),
-            },
-        ];
+        let text = row.script.or(row.history).unwrap_or("");
+        let files = files_with(row.config, text);
         let mut reader = NamedFiles::new(&files);
         let mut out = Vec::new(rt.alloc());
         let told = if row.script.is_some() {
