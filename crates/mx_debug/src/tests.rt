@@ -21,7 +21,7 @@ fn breakpoints(rt: HostRuntime) -> Result<(), Fail> {
         eip: 0,
         flags: Flags::from_bits(0),
         memory: Segment::new(rt.alloc(), 16)?,
-        code: Code::Separate(Text::new(rt.alloc(), text)?),
+        code: Code::Separate(Text::new(text)),
     };
     let mut out = Out {
         image,
