@@ -1,8 +1,8 @@
 //! A segment: bytes from 0 up to a limit.
 
-ghost use Rattle.std.specs.Prelude.{◌≡◌, ◌+◌, ◌^◌, ◌<◌, ◌≤◌, Ok, Err, OnOk, OnErr, IfOk, IfSome, [], length, slice_get, ℕ, slice_index, slice_set, replicate, take, drop};
+ghost use Rattle.std.specs.Prelude.{◌≡◌, ◌+◌, ◌^◌, ◌<◌, ◌≤◌, Ok, Err, OnOk, OnErr, IfOk, IfSome, [], length, slice_get, ℕ, slice_index, replicate, take, drop};
 ghost use Rattle.mx_word.specs.Word.{width, bytes_in, value_at};
-ghost use Rattle.mx_mem.specs.Segment.{inside, read_at, written, copied, overwritten};
+ghost use Rattle.mx_mem.specs.Segment.{inside, read_at, with_value, written, copied, overwritten};
 
 mod copies;
 
@@ -16,18 +16,65 @@ use std::marker::Model;
 #[derive(Clone, Copy, Debug, PartialEq, Eq)]
 pub struct OutOfLimit;
 
+/// Zeros behind the limit, so that eight bytes can be read from any place inside.
+const BEHIND: usize = 8;
+
 /// A segment of memory. Its limit never changes.
 #[derive(Drop)]
 pub struct Segment {
+    /// The bytes, and the zeros behind them.
     bytes: Vec<u8>,
+    limit: usize,
 }
 
 impl Model for Segment {
-    ghost use Rattle.std.specs.Prelude.{List, ℕ};
+    ghost use Rattle.std.specs.Prelude.{List, ℕ, take};
+    ghost use Rattle.mx_mem.specs.Segment.{IsPadded};
 
     ghost Value = { List ℕ };
 
-    ghost view = { λ s. s.bytes.items };
+    ghost view = { λ s. take s.limit s.bytes.items };
+
+    ghost invariant = { λ s. IsPadded s.limit s.bytes.items };
+}
+
+/// Writes a number over the bytes from a place on, lowest byte first.
+#[inline(always)]
+fn write_value(bytes: &mut [u8], at: usize, size: Size, value: u32)
+    requires inside { at + bytes_in size ≤ length bytes.old }
+    requires value { value < 2 ^ width size }
+    ensures value { bytes.new ≡ with_value bytes.old at (bytes_in size) value }
+    ensures length { length bytes.new ≡ length bytes.old }
+{
+    bytes[at] = (value % 0x100) as u8;
+    match size {
+        Size::Byte => {}
+        Size::Word => bytes[at + 1] = (value / 0x100) as u8,
+        Size::Dword => {
+            bytes[at + 1] = (value / 0x100 % 0x100) as u8;
+            bytes[at + 2] = (value / 0x100 / 0x100 % 0x100) as u8;
+            bytes[at + 3] = (value / 0x100 / 0x100 / 0x100) as u8;
+        }
+    }
+}
+
+/// Writes bytes over those from a place on.
+#[inline(always)]
+fn overwrite(bytes: &mut [u8], at: usize, source: &[u8])
+    requires { at + length source.now ≤ length bytes.old }
+    ensures { bytes.new ≡ overwritten bytes.old at source.now }
+{
+    bytes[at..at + source.len()].copy_from_slice(source);
+}
+
+/// The number in the eight bytes from a place on.
+#[inline(always)]
+fn qword_at(bytes: &[u8], at: usize) -> u64
+    requires { at + 8 ≤ length bytes.now }
+    ensures value { result ≡ value_at bytes.now at 8 }
+    ensures bytes { (i : ℕ) → slice_index bytes.now i < 256 }
+{
+    LittleEndian::read_u64(&bytes[at..at + 8])
 }
 
 impl Segment {
@@ -35,8 +82,9 @@ impl Segment {
     pub fn new(alloc: Global, limit: u32) -> Result<Segment, NoMemory>
         ensures { IfOk result (λ s. s ≡ replicate limit 0) }
     {
-        let bytes = vec![in alloc; 0; limit as usize]?;
-        Ok(Segment { bytes })
+        let limit = limit as usize;
+        let bytes = vec![in alloc; 0; limit + BEHIND]?;
+        Ok(Segment { bytes, limit })
     }
 
     /// The number of bytes.
@@ -44,14 +92,22 @@ impl Segment {
     pub fn limit(&self) -> usize
         ensures { result ≡ length self.now }
     {
-        self.bytes.len()
+        self.limit
+    }
+
+    /// The bytes up to the limit.
+    #[inline(always)]
+    fn inside(&self) -> &[u8]
+        ensures { result.now ≡ self.now }
+    {
+        &self.bytes[..self.limit]
     }
 
     /// The byte at a place, where it lies inside.
     pub fn get(&self, at: u32) -> Option<u8>
         ensures { result ≡ slice_get self.now at }
     {
-        self.bytes.get(at as usize).copied()
+        self.inside().get(at as usize).copied()
     }
 
     /// The byte at a place inside.
@@ -60,7 +116,7 @@ impl Segment {
         requires { at < length self.now }
         ensures { result ≡ slice_index self.now at }
     {
-        self.bytes[at]
+        self.inside()[at]
     }
 
     /// Whether an access of a size at a place lies inside.
@@ -103,18 +159,7 @@ impl Segment {
         if !self.holds(at, size) {
             return Err(OutOfLimit);
         }
-        let at = at as usize;
-        let bytes = self.bytes.as_mut_slice();
-        bytes[at] = (value % 0x100) as u8;
-        match size {
-            Size::Byte => {}
-            Size::Word => bytes[at + 1] = (value / 0x100) as u8,
-            Size::Dword => {
-                bytes[at + 1] = (value / 0x100 % 0x100) as u8;
-                bytes[at + 2] = (value / 0x100 / 0x100 % 0x100) as u8;
-                bytes[at + 3] = (value / 0x100 / 0x100 / 0x100) as u8;
-            }
-        }
+        write_value(self.bytes.as_mut_slice(), at as usize, size, value);
         Ok(())
     }
 
@@ -123,11 +168,11 @@ impl Segment {
         ensures ok { OnOk result (copied self.old at bytes.now ≡ Ok self.new) }
         ensures err { OnErr result ((copied self.old at bytes.now ≡ Err (record {})) × (self.new ≡ self.old)) }
     {
-        let at = at as usize;
-        if at > self.limit() || bytes.len() > self.limit() - at {
+        let place = at as usize;
+        if place > self.limit() || bytes.len() > self.limit() - place {
             return Err(OutOfLimit);
         }
-        self.bytes[at..at + bytes.len()].copy_from_slice(bytes);
+        self.put(at, bytes);
         Ok(())
     }
 
@@ -136,7 +181,7 @@ impl Segment {
     pub fn front(&self, at: u32) -> Option<&[u8]>
         ensures { IfSome result (λ front. front.now ≡ take 15 (drop at self.now)) }
     {
-        let bytes = self.bytes.as_slice();
+        let bytes = self.inside();
         let at = at as usize;
         if at >= bytes.len() {
             return Some(&[]);
@@ -147,76 +192,27 @@ impl Segment {
         Some(&bytes[at..at + 15])
     }
 
-    /// The number in the eight bytes from a place on.
+    /// The number in the eight bytes from a place inside on, with zeros for those outside.
     #[inline(always)]
-    fn qword_at(&self, at: usize) -> u64
-        requires { at + 8 ≤ length self.now }
+    pub fn qword_from(&self, at: u32) -> u64
+        requires { at < length self.now }
         ensures value { result ≡ value_at self.now at 8 }
         ensures bytes { (i : ℕ) → slice_index self.now i < 256 }
     {
-        let bytes = self.bytes.as_slice();
-        LittleEndian::read_u64(&bytes[at..at + 8])
+        qword_at(self.bytes.as_slice(), at as usize)
     }
 
-    /// The number in the eight bytes from a place on, where they lie inside and together.
-    #[inline(always)]
-    pub fn qword(&self, at: u32) -> Option<u64>
-        ensures inside { IfSome result (λ number. at + 8 ≤ length self.now) }
-        ensures value { IfSome result (λ number. number ≡ value_at self.now at 8) }
-        ensures bytes { (i : ℕ) → slice_index self.now i < 256 }
-    {
-        let bytes = self.bytes.as_slice();
-        let at = at as usize;
-        if at + 8 > bytes.len() {
-            return None;
-        }
-        Some(self.qword_at(at))
-    }
-
-    /// The number in the eight bytes from a place on, with zeros for those outside: near the end
-    /// the last eight, shifted.
+    /// The number in the eight bytes from a place on, with zeros for those outside.
     #[inline(always)]
     pub fn padded_qword(&self, at: u32) -> u64
         ensures value { result ≡ value_at self.now at 8 }
+        ensures bytes { (i : ℕ) → slice_index self.now i < 256 }
     {
-        let limit = self.limit();
-        let place = at as usize;
-        let end = place + 8;
-        if end <= limit {
-            return self.qword_at(place);
+        let inside = self.inside();
+        if at as usize >= inside.len() {
+            return 0;
         }
-        if limit < 8 || place >= limit {
-            return self.qword_of_bytes(at);
-        }
-        let outside = end - limit;
-        self.qword_at(limit - 8) >> (8 * outside) as u32
-    }
-
-    /// The byte at a place, or 0 outside.
-    fn byte_or_zero(&self, at: usize) -> u64
-        ensures value { result ≡ slice_index self.now at }
-        ensures below { result < 256 }
-    {
-        match self.bytes.get(at) {
-            Some(byte) => u64::from(*byte),
-            None => 0,
-        }
-    }
-
-    /// The same byte by byte.
-    #[inline(never)]
-    fn qword_of_bytes(&self, at: u32) -> u64
-        ensures { result ≡ value_at self.now at 8 }
-    {
-        let at = at as usize;
-        let h = self.byte_or_zero(at + 7);
-        let g = self.byte_or_zero(at + 6) + 0x100 * h;
-        let f = self.byte_or_zero(at + 5) + 0x100 * g;
-        let e = self.byte_or_zero(at + 4) + 0x100 * f;
-        let d = self.byte_or_zero(at + 3) + 0x100 * e;
-        let c = self.byte_or_zero(at + 2) + 0x100 * d;
-        let b = self.byte_or_zero(at + 1) + 0x100 * c;
-        self.byte_or_zero(at) + 0x100 * b
+        self.qword_from(at)
     }
 
     /// A copy of the bytes from a place on, at most 15 of them.
@@ -242,6 +238,7 @@ impl Segment {
     {
         Segment {
             bytes: Vec::new(alloc),
+            limit: 0,
         }
     }
 
@@ -252,7 +249,7 @@ impl Segment {
     {
         let at = at as usize;
         let mut message = [0; 36];
-        message.copy_from_slice(&self.bytes[at..at + 36]);
+        message.copy_from_slice(&self.inside()[at..at + 36]);
         message
     }
 
@@ -262,8 +259,6 @@ impl Segment {
         ensures value { self.new ≡ overwritten self.old at bytes.now }
         ensures limit { length self.new ≡ length self.old }
     {
-        let at = at as usize;
-        let end = at + bytes.len();
-        self.bytes[at..end].copy_from_slice(bytes);
+        overwrite(self.bytes.as_mut_slice(), at as usize, bytes);
     }
 }

@@ -5,6 +5,16 @@ ghost use Rattle.mx_mem.specs.Segment.{overwritten, part};
 
 use super::Segment;
 
+/// Copies bytes from one place to another, as if they were all read first.
+#[inline(always)]
+fn move_within(bytes: &mut [u8], from: usize, to: usize, count: usize)
+    requires from { from + count ≤ length bytes.old }
+    requires to { to + count ≤ length bytes.old }
+    ensures { bytes.new ≡ overwritten bytes.old to (part bytes.old from count) }
+{
+    bytes.copy_within(from..from + count, to);
+}
+
 impl Segment {
     /// Copies bytes from one place to another, as if they were all read first: the two may overlap.
     pub fn copy_within(&mut self, from: u32, to: u32, count: u32)
@@ -13,9 +23,12 @@ impl Segment {
         ensures value { self.new ≡ overwritten self.old to (part self.old from count) }
         ensures limit { length self.new ≡ length self.old }
     {
-        let from = from as usize;
-        let end = from + count as usize;
-        self.bytes.copy_within(from..end, to as usize);
+        move_within(
+            self.bytes.as_mut_slice(),
+            from as usize,
+            to as usize,
+            count as usize,
+        );
     }
 
     /// Copies bytes of another segment to a place.
@@ -27,7 +40,7 @@ impl Segment {
     {
         let from = from as usize;
         let end = from + count as usize;
-        self.put(to, &source.bytes[from..end]);
+        self.put(to, &source.inside()[from..end]);
     }
 
     /// Makes every byte zero.
