@@ -28,12 +28,12 @@ pub struct Segment {
 }
 
 impl Model for Segment {
-    ghost use Rattle.std.specs.Prelude.{List, ℕ, take};
-    ghost use Rattle.mx_mem.specs.Segment.{IsPadded};
+    ghost use Rattle.std.specs.Prelude.{List, ℕ};
+    ghost use Rattle.mx_mem.specs.Segment.{up_to, IsPadded};
 
     ghost Value = { List ℕ };
 
-    ghost view = { λ s. take s.limit s.bytes.items };
+    ghost view = { λ s. up_to s.limit s.bytes.items };
 
     ghost invariant = { λ s. IsPadded s.limit s.bytes.items };
 }
@@ -43,8 +43,7 @@ impl Model for Segment {
 fn write_value(bytes: &mut [u8], at: usize, size: Size, value: u32)
     requires inside { at + bytes_in size ≤ length bytes.old }
     requires value { value < 2 ^ width size }
-    ensures value { bytes.new ≡ with_value bytes.old at (bytes_in size) value }
-    ensures length { length bytes.new ≡ length bytes.old }
+    ensures { bytes.new ≡ with_value bytes.old at (bytes_in size) value }
 {
     bytes[at] = (value % 0x100) as u8;
     match size {
@@ -79,6 +78,7 @@ fn qword_at(bytes: &[u8], at: usize) -> u64
 
 impl Segment {
     /// Zeros up to the limit, in bytes.
+    #[tactic(auto, unfolding(crate::specs::Segment::up_to, crate::specs::Segment::IsPadded))]
     pub fn new(alloc: Global, limit: u32) -> Result<Segment, NoMemory>
         ensures { IfOk result (λ s. s ≡ replicate limit 0) }
     {
@@ -88,6 +88,7 @@ impl Segment {
     }
 
     /// The number of bytes.
+    #[tactic(auto, unfolding(crate::specs::Segment::up_to, crate::specs::Segment::IsPadded))]
     #[inline(always)]
     pub fn limit(&self) -> usize
         ensures { result ≡ length self.now }
@@ -96,6 +97,7 @@ impl Segment {
     }
 
     /// The bytes up to the limit.
+    #[tactic(auto, unfolding(crate::specs::Segment::up_to, crate::specs::Segment::IsPadded))]
     #[inline(always)]
     fn inside(&self) -> &[u8]
         ensures { result.now ≡ self.now }
@@ -151,6 +153,7 @@ impl Segment {
     }
 
     /// Writes a number at a place, lowest byte first. A refusal changes nothing.
+    #[tactic(auto, unfolding(crate::specs::Segment::up_to, crate::specs::Segment::IsPadded))]
     pub fn write(&mut self, at: u32, size: Size, value: u32) -> Result<(), OutOfLimit>
         requires { value < 2 ^ width size }
         ensures ok { OnOk result (written self.old at size value ≡ Ok self.new) }
@@ -193,6 +196,7 @@ impl Segment {
     }
 
     /// The number in the eight bytes from a place inside on, with zeros for those outside.
+    #[tactic(auto, unfolding(crate::specs::Segment::up_to, crate::specs::Segment::IsPadded))]
     #[inline(always)]
     pub fn qword_from(&self, at: u32) -> u64
         requires { at < length self.now }
@@ -233,6 +237,7 @@ impl Segment {
 
 impl Segment {
     /// No bytes at all. Takes no memory.
+    #[tactic(auto, unfolding(crate::specs::Segment::up_to, crate::specs::Segment::IsPadded))]
     pub fn empty(alloc: Global) -> Segment
         ensures { result ≡ [] }
     {
@@ -254,6 +259,7 @@ impl Segment {
     }
 
     /// Writes bytes over those from a place on.
+    #[tactic(auto, unfolding(crate::specs::Segment::up_to, crate::specs::Segment::IsPadded))]
     pub fn put(&mut self, at: u32, bytes: &[u8])
         requires { at + length bytes.now ≤ length self.old }
         ensures value { self.new ≡ overwritten self.old at bytes.now }

@@ -17,6 +17,7 @@ fn move_within(bytes: &mut [u8], from: usize, to: usize, count: usize)
 
 impl Segment {
     /// Copies bytes from one place to another, as if they were all read first: the two may overlap.
+    #[tactic(auto, unfolding(crate::specs::Segment::up_to, crate::specs::Segment::IsPadded))]
     pub fn copy_within(&mut self, from: u32, to: u32, count: u32)
         requires from { from + count ≤ length self.old }
         requires to { to + count ≤ length self.old }
