@@ -17,7 +17,8 @@ use std::alloc::Global;
 /// A segment of two lists of bytes and zeros up to a limit.
 fn segment(alloc: Global, limit: u32, first: &[u8], second: &[u8]) -> Result<Segment, NoMemory>
     requires { length first.now + length second.now ≤ limit }
-    ensures { IfOk result (λ s. s ≡ filled_to limit (first.now ++ second.now)) }
+    ensures value { IfOk result (λ s. s ≡ filled_to limit (first.now ++ second.now)) }
+    ensures limit { IfOk result (λ s. length s ≡ limit) }
 {
     let mut segment = Segment::new(alloc, limit)?;
     fill(&mut segment, 0, first);
@@ -28,7 +29,8 @@ fn segment(alloc: Global, limit: u32, first: &[u8], second: &[u8]) -> Result<Seg
 /// Copies bytes to a place where they lie inside.
 fn fill(segment: &mut Segment, at: u32, bytes: &[u8])
     requires { at + length bytes.now ≤ length segment.old }
-    ensures { segment.new ≡ take at segment.old ++ bytes.now ++ drop (at + length bytes.now) segment.old }
+    ensures value { segment.new ≡ take at segment.old ++ bytes.now ++ drop (at + length bytes.now) segment.old }
+    ensures limit { length segment.new ≡ length segment.old }
 {
     match segment.fill_from(at, bytes) {
         Ok(()) => {}
