@@ -1,10 +1,10 @@
 //! Texts.
 
-ghost use Rattle.std.specs.Prelude.{◌≡◌, ◌≤◌, ◌^◌, length, IfOk, IfErr};
+ghost use Rattle.std.specs.Prelude.{◌≡◌, ◌≤◌, ◌^◌, length, OnOk, IfOk, IfErr};
 ghost use Rattle.mx_line.specs.Lines.{lines};
 ghost use Rattle.mx_asm.specs.Lengths.{length_of};
 ghost use Rattle.mx_asm.specs.Layout.{SizesWithin, AllSpotsWithin, start, said, laid_by};
-ghost use Rattle.mx_asm.specs.Text.{IsTaken, AreTaken, on_behind, Assembled, TellsFault, TellsFirst, TellsWrong, TellsLexical};
+ghost use Rattle.mx_asm.specs.Text.{IsTaken, AreTaken, Takes, on_behind, Assembled, TellsFault, TellsFirst, TellsWrong, TellsLexical};
 ghost use Rattle.mx_asm.specs.View.{above_of};
 
 use crate::fault::{AsmError, Fault, Problem, problem_of};
@@ -64,6 +64,19 @@ impl Layout {
     }
 }
 
+impl Read {
+    /// Takes a line in behind those above it, or tells what is wrong with it.
+    fn take(&mut self, alloc: Global, text: &[u8], number: usize) -> Result<(), AsmError>
+        requires { SizesWithin self.old.layout.sizes (2 ^ 126) }
+        ensures taken { OnOk result (Takes (above_of self.old.layout) (above_of self.new.layout) text.now self.old.lines.items self.new.lines.items) }
+        ensures wrong { IfErr result (TellsWrong (above_of self.old.layout) number text.now) }
+    {
+        let line = self.layout.take_line(alloc, text, number)?;
+        self.lines.push(line)?;
+        Ok(())
+    }
+}
+
 /// How many lines there are; that many fit in memory.
 fn count(lines: &[Line]) -> usize
     ensures count { result ≡ length lines.now }
@@ -80,20 +93,18 @@ fn read_lines(alloc: Global, text: &[u8]) -> Result<Read, AsmError>
     ensures labels { IfOk result (λ read. AllSpotsWithin (above_of read.layout).labels (2 ^ 126)) }
     ensures wrong { IfErr result (TellsFirst text.now) }
 {
-    let mut layout = Layout::new(alloc);
-    let mut found = Vec::new(alloc);
+    let mut read = Read {
+        layout: Layout::new(alloc),
+        lines: Vec::new(alloc),
+    };
     let mut rest = text;
     let mut number = 1;
     while let Some((line, more)) = next_line(rest) {
-        let taken = layout.take_line(alloc, line, number)?;
-        found.push(taken)?;
-        number = count(found.as_slice()) + 1;
+        read.take(alloc, line, number)?;
+        number = count(read.lines.as_slice()) + 1;
         rest = more;
     }
-    Ok(Read {
-        layout,
-        lines: found,
-    })
+    Ok(read)
 }
 
 /// The program of a text, or its first fault. Takes memory only for what it answers and for the
