@@ -210,3 +210,10 @@ valued_count (insns.TestImmediate o (immediate.Dword m)) true long n h = ap suc 
 valued_count (insns.MultiplyImmediate to from (wide_immediates.Dword m)) true long n h = ap suc (four_behind (modrm_bytes (place_for (Some (record { reg = register_number to; operand = from })) long)) m n)
 valued_count (insns.PushImmediate m) true long n h = refl
 valued_count i true long n h = refl
+
+whole-length-chosen : (i : Insn) (wide : Wide) (b : List ℕ) → Chosen i wide b → length b ≡ whole_length i wide
+whole-length-chosen i wide b x = ap length x.spells.bytes_are ∙ sym (ap (λ c. spelled_length c wide.displacement) x.is_chosen)
+
+pub valued_length : (i : Insn) (wide : Wide) (n : ℕ) (a b : List ℕ) → IsTrue wide.immediate → Chosen i wide a → Chosen (with_immediate i n) wide b → length b ≡ length a
+valued_length i wide n a b h x y =
+    whole-length-chosen (with_immediate i n) wide b y ∙ valued_count i wide.immediate wide.displacement n h ∙ sym (whole-length-chosen i wide a x)
