@@ -2,7 +2,7 @@
 use Rattle.std.proofs.Common.{Bool, true, false, ◌||◌, add-one, drop-cons, ◌≡◌, ℕ, ◌+◌, ◌<◌, ◌≤◌, List, [], ◌∷◌, ◌++◌, length, get_or, drop, take, map, refl, sym, ◌∙◌, ap, subst, Option, Some, None, append_assoc, replicate}
 use Rattle.std.specs.Prelude.{is_some, not}
 use Rattle.std.specs.List.{flat_map, list_any}
-use Rattle.std.proofs.lemmas.List.{append-nil, drop_all, take_more, map-append}
+use Rattle.std.proofs.lemmas.List.{append-nil, drop_all, take_all, take_more, map-append}
 use Rattle.std.proofs.lemmas.Grind.{flat_map-append}
 use Rattle.mx_statement.specs.declared.value.Value.{Value}
 use Rattle.mx_statement.specs.declared.statement.Section.{Section}
@@ -124,3 +124,9 @@ none_on a vs i v r e h none =
 pub some_is_not_none : (r : Option ℕ) → is_some r ≡ true → r ≡ None → ⊥
 some_is_not_none None some none = cc
 some_is_not_none (Some n) some none = cc
+
+-- with no value left all have their numbers
+pub values_all : (f : Value → Option ℕ) (g : ℕ → List ℕ) (vs : List Value) (i : ℕ) (old out : List ℕ) → length vs ≤ i
+    → (ns : List ℕ) × (map f (take i vs) ≡ map Some ns) × (out ≡ old ++ flat_map g ns)
+    → (b : List ℕ) × ((ns : List ℕ) × (map f vs ≡ map Some ns) × (b ≡ flat_map g ns)) × (out ≡ old ++ b)
+values_all f g vs i old out h (ns, each, e) = (flat_map g ns, (ns, ap (map f) (sym (take_all i vs h)) ∙ each, refl), e)

@@ -5,6 +5,8 @@ ghost use Rattle.mx_line.specs.Lines.{lines};
 ghost use Rattle.mx_asm.specs.Lengths.{length_of};
 ghost use Rattle.mx_asm.specs.Layout.{SizesWithin, AllSpotsWithin, start, said, laid_by};
 ghost use Rattle.mx_asm.specs.Text.{IsTaken, AreTaken, Takes, on_behind, Assembled, TellsFault, TellsFirst, TellsWrong, TellsLexical};
+ghost use Rattle.mx_asm.specs.Faults.{problem_of};
+ghost use Rattle.mx_asm.specs.declared.fault.AsmError.TheVariants.{At};
 ghost use Rattle.mx_asm.specs.View.{above_of};
 
 use crate::fault::{AsmError, Fault, Problem, problem_of};
@@ -14,7 +16,7 @@ use mx_aout::Program;
 use mx_lex::LexError;
 use mx_line::next_line;
 use mx_reading::read_line;
-use mx_statement::Line;
+use mx_statement::{Line, Reason};
 use std::alloc::Global;
 
 /// What is told of a line's bytes.
@@ -37,31 +39,14 @@ struct Read {
     lines: Vec<Line>,
 }
 
-impl Layout {
-    /// Takes a line in behind those above it, or tells what is wrong with it.
-    fn take_line(&mut self, alloc: Global, text: &[u8], number: usize) -> Result<Line, AsmError>
-        requires { SizesWithin self.old.sizes (2 ^ 126) }
-        ensures taken { IfOk result (λ line. IsTaken (above_of self.old) text.now line) }
-        ensures behind { IfOk result (λ line. above_of self.new ≡ on_behind (above_of self.old) line) }
-        ensures small { IfOk result (λ line. length_of (said line) ≤ 2 ^ 64) }
-        ensures wrong { IfErr result (TellsWrong (above_of self.old) number text.now) }
-    {
-        let line = match read_line(alloc, text) {
-            Ok(line) => line,
-            Err(error) => return Err(told_of(error, number)),
-        };
-        match self.reason_of(&line) {
-            Some(reason) => {
-                return Err(AsmError::At(Fault {
-                    problem: problem_of(reason),
-                    line: number,
-                }));
-            }
-            None => {}
-        }
-        self.go_behind(&line)?;
-        Ok(line)
-    }
+/// What is told of a line that is refused.
+fn refused(reason: Reason, line: usize) -> AsmError
+    ensures { result ≡ At (record { problem = problem_of reason; line = line }) }
+{
+    AsmError::At(Fault {
+        problem: problem_of(reason),
+        line,
+    })
 }
 
 impl Read {
@@ -71,7 +56,15 @@ impl Read {
         ensures taken { OnOk result (Takes (above_of self.old.layout) (above_of self.new.layout) text.now self.old.lines.items self.new.lines.items) }
         ensures wrong { IfErr result (TellsWrong (above_of self.old.layout) number text.now) }
     {
-        let line = self.layout.take_line(alloc, text, number)?;
+        let line = match read_line(alloc, text) {
+            Ok(line) => line,
+            Err(error) => return Err(told_of(error, number)),
+        };
+        match self.layout.reason_of(&line) {
+            Some(reason) => return Err(refused(reason, number)),
+            None => {}
+        }
+        self.layout.go_behind(&line)?;
         self.lines.push(line)?;
         Ok(())
     }

@@ -1,11 +1,10 @@
 -- How many bytes are chosen doesn't hang on a displacement that is marked wide.
-use Rattle.std.proofs.Common.{◌≡◌, ℕ, suc, ◌+◌, Bool, true, false, cond, eqb, List, ◌++◌, length, Option, Some, None, refl, sym, ap, ◌∙◌, subst, IsTrue}
+use Rattle.std.proofs.Common.{◌≡◌, ℕ, suc, ◌+◌, Bool, true, false, cond, eqb, List, ◌++◌, length, Option, Some, None, refl, sym, ap, ◌∙◌, IsTrue}
 use Rattle.std.proofs.lemmas.List.{length-append}
 use Rattle.mx_word.specs.declared.size.Size.TheVariants.{Byte, Word, Dword}
 use Rattle.mx_word.specs.declared.names.Register.{Register}
 use Rattle.mx_word.specs.declared.names.Unary.TheVariants.{Inc, Dec, Not, Neg}
 use Rattle.mx_word.specs.Word.{bytes_of}
-use Rattle.mx_insn.specs.declared.insn.Memory.{Memory}
 use Rattle.mx_insn.specs.declared.insn.Index.{Index}
 use Rattle.mx_insn.specs.declared.insn.Operand.{Operand}
 use Rattle.mx_insn.specs.declared.insn.Operand.TheVariants as operand
@@ -27,7 +26,7 @@ use Rattle.mx_encode.specs.Numbers.{number_bytes, is_short, shortens}
 use Rattle.mx_encode.specs.Places.{place_for, sib_of, mode_of, base_number}
 use Rattle.mx_encode.specs.Choice.{Choice, choice, bare}
 use Rattle.mx_encode.specs.Chosen.{Chosen, fields_of}
-use Rattle.mx_encode.specs.Filled.{memory_at, operand_at, with_displacement, with_immediate}
+use Rattle.mx_encode.specs.Filled.{operand_at, with_displacement, with_immediate}
 use Rattle.mx_encode.specs.Lengths.{spelled_length, chosen_length as whole_length}
 use Rattle.mx_encode.specs.Numbers.{arithmetic_number}
 use Rattle.mx_word.specs.Names.{register_number}
