@@ -1,7 +1,8 @@
 -- What the bytes of the lines add up to.
-use Rattle.std.proofs.Common.{◌≡◌, ℕ, ◌+◌, ◌<◌, ◌≤◌, List, [], ◌∷◌, ◌++◌, length, get_or, drop, take, map, refl, sym, ◌∙◌, ap, subst, Option, Some, append_assoc, replicate}
-use Rattle.std.specs.List.{flat_map}
-use Rattle.std.proofs.lemmas.List.{append-nil, drop_all, take_more, map-append}
+use Rattle.std.proofs.Common.{Bool, true, false, ◌||◌, add-one, drop-cons, ◌≡◌, ℕ, ◌+◌, ◌<◌, ◌≤◌, List, [], ◌∷◌, ◌++◌, length, get_or, drop, take, map, refl, sym, ◌∙◌, ap, subst, Option, Some, None, append_assoc, replicate}
+use Rattle.std.specs.Prelude.{is_some, not}
+use Rattle.std.specs.List.{flat_map, list_any}
+use Rattle.std.proofs.lemmas.List.{append-nil, drop_all, take_all, take_more, map-append}
 use Rattle.std.proofs.lemmas.Grind.{flat_map-append}
 use Rattle.mx_statement.specs.declared.value.Value.{Value}
 use Rattle.mx_statement.specs.declared.statement.Section.{Section}
@@ -10,8 +11,9 @@ use Rattle.mx_statement.specs.declared.statement.Statement.{Statement}
 use Rattle.mx_statement.specs.declared.line.Line.{Line}
 use Rattle.mx_asm.specs.declared.sizes.Sizes.{Sizes}
 use Rattle.mx_asm.specs.Lengths.{length_of}
-use Rattle.mx_asm.specs.Layout.{Above, start, spot_of, sizes_after, address_of, left_by, laid_by, behind, said}
-use Rattle.mx_asm.specs.Bytes.{AllStand, AreParts, BytesOf, StandsIn, Pushes, contents, put_into}
+use Rattle.mx_asm.specs.Faults.{is_undefined}
+use Rattle.mx_asm.specs.Layout.{Above, value_under, start, spot_of, sizes_after, address_of, left_by, laid_by, behind, said}
+use Rattle.mx_asm.specs.Bytes.{AllStand, AreParts, BytesOf, StandsIn, Pushes, PutsOut, contents, put_into}
 use Rattle.mx_asm.proofs.Lengths.{KeepsLength, stands_length}
 
 -- with any bytes for the lines that are left, from here on, there are bytes for all
@@ -49,13 +51,6 @@ lengths_same law a b s (l ∷ ls) [] h = absurd h
 lengths_same law a b s (l ∷ ls) (x ∷ bs) (right, more) =
     let n : length x ≡ length_of (said l) = stands_length law s.section a (address_of a (spot_of s)) (said l) x right in
     ap (λ (m : ℕ). left_by (behind b l m) ls (map length bs)) n ∙ lengths_same law a (behind b l (length_of (said l))) (sizes_after s (said l) (length x)) ls bs more
-
--- what one statement puts out
-pub record PutsOut (a : Above) (s : Sizes) (t : Statement) (text init text' init' : List ℕ) : Type 0 where
-  pub bytes : List ℕ
-  pub stand : StandsIn s.section a (address_of a (spot_of s)) t bytes
-  pub text_is : text' ≡ text ++ put_into Text s.section bytes
-  pub init_is : init' ≡ init ++ put_into Data s.section bytes
 
 pub put_text : (a : Above) (s : Sizes) (at : ℕ) (t : Statement) (text init text' init' : List ℕ) → s.section ≡ Text → at ≡ address_of a (spot_of s)
     → Pushes a at t text text' → init' ≡ init → PutsOut a s t text init text' init'
@@ -114,3 +109,24 @@ values_more f g vs i v number old out new h there (ns, each, e) same = (
   ap (map f) (take_more vs i v h) ∙ map-append f (take i vs) (get_or vs i v ∷ []) ∙ ap (λ (x : List (Option ℕ)). x ++ f (get_or vs i v) ∷ []) each ∙ ap (λ (x : Option ℕ). map Some ns ++ x ∷ []) there ∙ sym (map-append Some ns (number ∷ [])),
   same ∙ ap (λ (x : List ℕ). x ++ g number) e ∙ append_assoc old (flat_map g ns) (g number) ∙ ap (λ (x : List ℕ). old ++ (flat_map g ns ++ x)) (sym (append-nil (g number))) ∙ ap (λ (x : List ℕ). old ++ x) (sym (flat_map-append g ns (number ∷ []))),
 )
+
+-- where no value from here on is undefined, the first of them has a number, and none behind it is undefined
+pub none_on : (a : Above) (vs : List Value) (i : ℕ) (v : Value) (r : Option ℕ) → r ≡ value_under a (get_or vs i v) → i < length vs → list_any (is_undefined a) (drop i vs) ≡ false
+    → (is_some r ≡ true) × (list_any (is_undefined a) (drop (i + 1) vs) ≡ false)
+none_on a vs i v r e h none =
+    let next : drop i vs ≡ get_or vs i v ∷ drop (i + 1) vs = rw add-one (drop-cons vs i v h) in
+    rw e (parted (is_some (value_under a (get_or vs i v))) (list_any (is_undefined a) (drop (i + 1) vs)) (sym (ap (list_any (is_undefined a)) next) ∙ none))
+  where
+    parted : (x y : Bool) → (not x || y) ≡ false → (x ≡ true) × (y ≡ false)
+    parted true y e = (refl, e)
+    parted false y e = cc
+
+pub some_is_not_none : (r : Option ℕ) → is_some r ≡ true → r ≡ None → ⊥
+some_is_not_none None some none = cc
+some_is_not_none (Some n) some none = cc
+
+-- with no value left all have their numbers
+pub values_all : (f : Value → Option ℕ) (g : ℕ → List ℕ) (vs : List Value) (i : ℕ) (old out : List ℕ) → length vs ≤ i
+    → (ns : List ℕ) × (map f (take i vs) ≡ map Some ns) × (out ≡ old ++ flat_map g ns)
+    → (b : List ℕ) × ((ns : List ℕ) × (map f vs ≡ map Some ns) × (b ≡ flat_map g ns)) × (out ≡ old ++ b)
+values_all f g vs i old out h (ns, each, e) = (flat_map g ns, (ns, ap (map f) (sym (take_all i vs h)) ∙ each, refl), e)

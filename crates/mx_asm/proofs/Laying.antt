@@ -87,6 +87,20 @@ neither (Some p) n f h = cc
 pub next_item : (i : ℕ) (ls : List Line) (l : Line) → i < length ls → l ≡ get_or ls i l → drop i ls ≡ l ∷ drop (i + 1) ls
 next_item i ls l h e = next_line i ls l h ∙ ap (λ (x : Line). x ∷ drop (i + 1) ls) (sym e)
 
+-- where nothing stands against the next line, the first problem is one behind it
+pub problem_on : (a : Above) (s r : Sizes) (n i : ℕ) (ls : List Line) (l : Line) → drop i ls ≡ l ∷ drop (i + 1) ls → problem_at a (address_of a (spot_of s)) (said l) ≡ None
+    → r ≡ sizes_after s (said l) (length_of (said l)) → first_problem a s n (drop i ls) ≡ first_problem a r (n + 1) (drop (i + 1) ls)
+problem_on a s r n i ls l next none same =
+    let rest : Option Fault = first_problem a (sizes_after s (said l) (length_of (said l))) (n + 1) (drop (i + 1) ls) in
+    ap (first_problem a s n) next ∙ ap (λ (p : Option Problem). fault_or p n rest) none ∙ ap (λ (x : Sizes). first_problem a x (n + 1) (drop (i + 1) ls)) (sym same)
+
+-- nothing stands against the next line
+pub clean_here : (a : Above) (s : Sizes) (n i : ℕ) (ls : List Line) (l : Line) → drop i ls ≡ l ∷ drop (i + 1) ls → first_problem a s n (drop i ls) ≡ None
+    → problem_at a (address_of a (spot_of s)) (said l) ≡ None
+clean_here a s n i ls l next e =
+    let rest : Option Fault = first_problem a (sizes_after s (said l) (length_of (said l))) (n + 1) (drop (i + 1) ls) in
+    (neither (problem_at a (address_of a (spot_of s)) (said l)) n rest (sym (ap (first_problem a s n) next) ∙ e)).0
+
 pub clean_on : (a : Above) (s r : Sizes) (n i : ℕ) (ls : List Line) (l : Line) → drop i ls ≡ l ∷ drop (i + 1) ls → first_problem a s n (drop i ls) ≡ None
     → r ≡ sizes_after s (said l) (length_of (said l))
     → first_problem a r (n + 1) (drop (i + 1) ls) ≡ None

@@ -74,6 +74,13 @@ contents section s (l ∷ ls) (b ∷ bs) = put_into section s.section b ++ conte
 abbrev pub Pushes : Above → ℕ → Statement → List ℕ → List ℕ → Type 0
 Pushes a at t old new = (b : List ℕ) × BytesOf a at t b × (new ≡ old ++ b)
 
+-- what one statement puts out, where it stands: the new text and data are the old ones and its bytes
+pub record PutsOut (a : Above) (s : Sizes) (t : Statement) (text init text' init' : List ℕ) : Type 0 where
+  pub bytes : List ℕ
+  pub stand : StandsIn s.section a (address_of a (spot_of s)) t bytes
+  pub text_is : text' ≡ text ++ put_into Text s.section bytes
+  pub init_is : init' ≡ init ++ put_into Data s.section bytes
+
 -- what is put into text and data
 pub record AreParts (a : Above) (s : Sizes) (lines : List Line) (text init : List ℕ) : Type 0 where
   pub bytes : List (List ℕ)

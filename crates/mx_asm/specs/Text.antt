@@ -1,5 +1,5 @@
 -- The program of a text, or its first fault.
-use Rattle.std.specs.Prelude.{◌≡◌, ℕ, ◌+◌, ◌⊎◌, List, [], ◌∷◌, Some, None, ⊤}
+use Rattle.std.specs.Prelude.{◌≡◌, ℕ, ◌+◌, ◌^◌, ◌≤◌, ◌⊎◌, List, [], ◌∷◌, ◌++◌, Some, None, ⊤}
 use Rattle.mx_line.specs.Lines.{lines}
 use Rattle.mx_lex.specs.Tokens.{IsFault}
 use Rattle.mx_lex.specs.declared.kinds.LexError.{LexError}
@@ -48,6 +48,14 @@ abbrev pub AreTaken : Above → List (List ℕ) → List Line → Type 0
 AreTaken a [] [] = ⊤
 AreTaken a (t ∷ ts) (l ∷ ls) = IsTaken a t l × AreTaken (on_behind a l) ts ls
 AreTaken a _ _ = ⊥
+
+-- one line more is taken
+pub record Takes (a b : Above) (t : List ℕ) (old new : List Line) : Type 0 where
+  pub line : Line
+  pub taken : IsTaken a t line
+  pub behind_is : b ≡ on_behind a line
+  pub small : length_of (said line) ≤ 2 ^ 64
+  pub lines_are : new ≡ old ++ line ∷ []
 
 -- the first line with which something is wrong, the first of these being line n
 abbrev pub IsFirstWrong : Above → ℕ → List (List ℕ) → Fault → Type 0

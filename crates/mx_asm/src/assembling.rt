@@ -1,10 +1,12 @@
 //! Texts.
 
-ghost use Rattle.std.specs.Prelude.{◌≡◌, ◌≤◌, ◌^◌, length, IfOk, IfErr};
+ghost use Rattle.std.specs.Prelude.{◌≡◌, ◌≤◌, ◌^◌, length, OnOk, IfOk, IfErr};
 ghost use Rattle.mx_line.specs.Lines.{lines};
 ghost use Rattle.mx_asm.specs.Lengths.{length_of};
 ghost use Rattle.mx_asm.specs.Layout.{SizesWithin, AllSpotsWithin, start, said, laid_by};
-ghost use Rattle.mx_asm.specs.Text.{IsTaken, AreTaken, on_behind, Assembled, TellsFault, TellsFirst, TellsWrong, TellsLexical};
+ghost use Rattle.mx_asm.specs.Text.{IsTaken, AreTaken, Takes, on_behind, Assembled, TellsFault, TellsFirst, TellsWrong, TellsLexical};
+ghost use Rattle.mx_asm.specs.Faults.{problem_of};
+ghost use Rattle.mx_asm.specs.declared.fault.AsmError.TheVariants.{At};
 ghost use Rattle.mx_asm.specs.View.{above_of};
 
 use crate::fault::{AsmError, Fault, Problem, problem_of};
@@ -14,7 +16,7 @@ use mx_aout::Program;
 use mx_lex::LexError;
 use mx_line::next_line;
 use mx_reading::read_line;
-use mx_statement::Line;
+use mx_statement::{Line, Reason};
 use std::alloc::Global;
 
 /// What is told of a line's bytes.
@@ -37,30 +39,34 @@ struct Read {
     lines: Vec<Line>,
 }
 
-impl Layout {
+/// What is told of a line that is refused.
+fn refused(reason: Reason, line: usize) -> AsmError
+    ensures { result ≡ At (record { problem = problem_of reason; line = line }) }
+{
+    AsmError::At(Fault {
+        problem: problem_of(reason),
+        line,
+    })
+}
+
+impl Read {
     /// Takes a line in behind those above it, or tells what is wrong with it.
-    fn take_line(&mut self, alloc: Global, text: &[u8], number: usize) -> Result<Line, AsmError>
-        requires { SizesWithin self.old.sizes (2 ^ 126) }
-        ensures taken { IfOk result (λ line. IsTaken (above_of self.old) text.now line) }
-        ensures behind { IfOk result (λ line. above_of self.new ≡ on_behind (above_of self.old) line) }
-        ensures small { IfOk result (λ line. length_of (said line) ≤ 2 ^ 64) }
-        ensures wrong { IfErr result (TellsWrong (above_of self.old) number text.now) }
+    fn take(&mut self, alloc: Global, text: &[u8], number: usize) -> Result<(), AsmError>
+        requires { SizesWithin self.old.layout.sizes (2 ^ 126) }
+        ensures taken { OnOk result (Takes (above_of self.old.layout) (above_of self.new.layout) text.now self.old.lines.items self.new.lines.items) }
+        ensures wrong { IfErr result (TellsWrong (above_of self.old.layout) number text.now) }
     {
         let line = match read_line(alloc, text) {
             Ok(line) => line,
             Err(error) => return Err(told_of(error, number)),
         };
-        match self.reason_of(&line) {
-            Some(reason) => {
-                return Err(AsmError::At(Fault {
-                    problem: problem_of(reason),
-                    line: number,
-                }));
-            }
+        match self.layout.reason_of(&line) {
+            Some(reason) => return Err(refused(reason, number)),
             None => {}
         }
-        self.go_behind(&line)?;
-        Ok(line)
+        self.layout.go_behind(&line)?;
+        self.lines.push(line)?;
+        Ok(())
     }
 }
 
@@ -80,20 +86,18 @@ fn read_lines(alloc: Global, text: &[u8]) -> Result<Read, AsmError>
     ensures labels { IfOk result (λ read. AllSpotsWithin (above_of read.layout).labels (2 ^ 126)) }
     ensures wrong { IfErr result (TellsFirst text.now) }
 {
-    let mut layout = Layout::new(alloc);
-    let mut found = Vec::new(alloc);
+    let mut read = Read {
+        layout: Layout::new(alloc),
+        lines: Vec::new(alloc),
+    };
     let mut rest = text;
     let mut number = 1;
     while let Some((line, more)) = next_line(rest) {
-        let taken = layout.take_line(alloc, line, number)?;
-        found.push(taken)?;
-        number = count(found.as_slice()) + 1;
+        read.take(alloc, line, number)?;
+        number = count(read.lines.as_slice()) + 1;
         rest = more;
     }
-    Ok(Read {
-        layout,
-        lines: found,
-    })
+    Ok(read)
 }
 
 /// The program of a text, or its first fault. Takes memory only for what it answers and for the

@@ -4,8 +4,8 @@ ghost use Rattle.std.specs.Prelude.{◌≡◌, ◌≤◌, ◌^◌, ◌++◌, tru
 ghost use Rattle.std.specs.List.{list_any};
 ghost use Rattle.mx_word.specs.Word.{bytes_of, bytes_in};
 ghost use Rattle.mx_encode.specs.Forms.{has_form};
-ghost use Rattle.mx_asm.specs.Layout.{SizesWithin, AllSpotsWithin, start, said};
-ghost use Rattle.mx_asm.specs.Bytes.{named_under, BytesOf, Pushes, AreParts};
+ghost use Rattle.mx_asm.specs.Layout.{SizesWithin, AllSpotsWithin, start, said, spot_of, address_of};
+ghost use Rattle.mx_asm.specs.Bytes.{named_under, BytesOf, Pushes, PutsOut, AreParts};
 ghost use Rattle.mx_asm.specs.Faults.{is_undefined, is_undefined_if, problem_at, first_problem};
 ghost use Rattle.mx_asm.specs.View.{above_of};
 
@@ -121,6 +121,22 @@ impl Layout {
         }
     }
 
+    /// Puts a line's bytes behind those of its section.
+    fn put_line(&self, sizes: Sizes, line: &Line, parts: &mut Parts) -> Result<(), AllocError>
+        requires within { SizesWithin sizes (2 ^ 126) }
+        requires sizes { SizesWithin self.now.sizes (2 ^ 126) }
+        requires labels { AllSpotsWithin (above_of self.now).labels (2 ^ 126) }
+        requires clean { problem_at (above_of self.now) (address_of (above_of self.now) (spot_of sizes)) (said line.now) ≡ None }
+        ensures { OnOk result (PutsOut (above_of self.now) sizes (said line.now) parts.old.text.items parts.old.init.items parts.new.text.items parts.new.init.items) }
+    {
+        let at = self.address_of(sizes.spot());
+        match sizes.section {
+            Section::Text => self.push_line(at, line, &mut parts.text),
+            Section::Data => self.push_line(at, line, &mut parts.init),
+            Section::Bss => Ok(()),
+        }
+    }
+
     /// The bytes of all statements, where nothing stands against a line.
     pub fn parts(&self, alloc: Global, lines: &[Line]) -> Result<Parts, AllocError>
         requires sizes { SizesWithin self.now.sizes (2 ^ 126) }
@@ -130,18 +146,15 @@ impl Layout {
     {
         immediate_keeps_length();
         displacement_keeps_length();
-        let mut text = Vec::new(alloc);
-        let mut init = Vec::new(alloc);
+        let mut parts = Parts {
+            text: Vec::new(alloc),
+            init: Vec::new(alloc),
+        };
         let mut sizes = Sizes::START;
         for line in lines {
-            let at = self.address_of(sizes.spot());
-            match sizes.section {
-                Section::Text => self.push_line(at, line, &mut text)?,
-                Section::Data => self.push_line(at, line, &mut init)?,
-                Section::Bss => {}
-            }
+            self.put_line(sizes, line, &mut parts)?;
             sizes = sizes.after(line);
         }
-        Ok(Parts { text, init })
+        Ok(parts)
     }
 }

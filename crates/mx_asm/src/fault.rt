@@ -51,7 +51,7 @@ pub struct Fault {
 }
 
 /// The first fault, or that memory was wanting.
-#[derive(Clone, Copy, Debug, PartialEq, Eq)]
+#[derive(Clone, Copy)]
 pub enum AsmError {
     At(Fault),
     NoMemory,

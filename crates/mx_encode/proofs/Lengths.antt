@@ -1,11 +1,10 @@
 -- How many bytes are chosen doesn't hang on a displacement that is marked wide.
-use Rattle.std.proofs.Common.{◌≡◌, ℕ, suc, ◌+◌, Bool, true, false, cond, eqb, List, ◌++◌, length, Option, Some, None, refl, sym, ap, ◌∙◌, subst, IsTrue}
+use Rattle.std.proofs.Common.{◌≡◌, ℕ, suc, ◌+◌, Bool, true, false, cond, eqb, List, ◌++◌, length, Option, Some, None, refl, sym, ap, ◌∙◌, IsTrue}
 use Rattle.std.proofs.lemmas.List.{length-append}
 use Rattle.mx_word.specs.declared.size.Size.TheVariants.{Byte, Word, Dword}
 use Rattle.mx_word.specs.declared.names.Register.{Register}
 use Rattle.mx_word.specs.declared.names.Unary.TheVariants.{Inc, Dec, Not, Neg}
 use Rattle.mx_word.specs.Word.{bytes_of}
-use Rattle.mx_insn.specs.declared.insn.Memory.{Memory}
 use Rattle.mx_insn.specs.declared.insn.Index.{Index}
 use Rattle.mx_insn.specs.declared.insn.Operand.{Operand}
 use Rattle.mx_insn.specs.declared.insn.Operand.TheVariants as operand
@@ -27,7 +26,7 @@ use Rattle.mx_encode.specs.Numbers.{number_bytes, is_short, shortens}
 use Rattle.mx_encode.specs.Places.{place_for, sib_of, mode_of, base_number}
 use Rattle.mx_encode.specs.Choice.{Choice, choice, bare}
 use Rattle.mx_encode.specs.Chosen.{Chosen, fields_of}
-use Rattle.mx_encode.specs.Filled.{memory_at, operand_at, with_displacement, with_immediate}
+use Rattle.mx_encode.specs.Filled.{operand_at, with_displacement, with_immediate}
 use Rattle.mx_encode.specs.Lengths.{spelled_length, chosen_length as whole_length}
 use Rattle.mx_encode.specs.Numbers.{arithmetic_number}
 use Rattle.mx_word.specs.Names.{register_number}
@@ -210,3 +209,10 @@ valued_count (insns.TestImmediate o (immediate.Dword m)) true long n h = ap suc 
 valued_count (insns.MultiplyImmediate to from (wide_immediates.Dword m)) true long n h = ap suc (four_behind (modrm_bytes (place_for (Some (record { reg = register_number to; operand = from })) long)) m n)
 valued_count (insns.PushImmediate m) true long n h = refl
 valued_count i true long n h = refl
+
+whole-length-chosen : (i : Insn) (wide : Wide) (b : List ℕ) → Chosen i wide b → length b ≡ whole_length i wide
+whole-length-chosen i wide b x = ap length x.spells.bytes_are ∙ sym (ap (λ c. spelled_length c wide.displacement) x.is_chosen)
+
+pub valued_length : (i : Insn) (wide : Wide) (n : ℕ) (a b : List ℕ) → IsTrue wide.immediate → Chosen i wide a → Chosen (with_immediate i n) wide b → length b ≡ length a
+valued_length i wide n a b h x y =
+    whole-length-chosen (with_immediate i n) wide b y ∙ valued_count i wide.immediate wide.displacement n h ∙ sym (whole-length-chosen i wide a x)

@@ -24,7 +24,7 @@ pub use laws::{
 
 /// What is asked for where a shorter form would do. A mark asks for nothing where an instruction
 /// has nothing to widen.
-#[derive(Clone, Copy, PartialEq, Eq)]
+#[derive(Clone, Copy)]
 pub struct Wide {
     /// An immediate as wide as the operands.
     pub immediate: bool,
@@ -34,5 +34,5 @@ pub struct Wide {
 
 /// No bytes spell the instruction: ESP is an index, or a LOOP or JECXZ goes further than a
 /// signed byte.
-#[derive(Clone, Copy, Debug, PartialEq, Eq)]
+#[derive(Clone, Copy)]
 pub struct NoForm;

@@ -4,7 +4,7 @@ ghost use Rattle.std.specs.Prelude.{◌≡◌, ◌+◌, ◌≤◌, ◌++◌, IfO
 ghost use Rattle.mx_flags.specs.Flags.{values_of};
 ghost use Rattle.mx_aout.specs.Limits.{rounded, IsWithin};
 ghost use Rattle.mx_regs.specs.Regs.{no_words};
-ghost use Rattle.mx_load.specs.Load.{IsLoadedFrom, filled_to, loaded};
+ghost use Rattle.mx_load.specs.Load.{IsLoadedFrom, contents_of, code_of_text, filled_to, loaded};
 
 use mx_aout::Program;
 use mx_exec::{Code, Image, Text};
@@ -55,23 +55,42 @@ fn first_registers(top: u32) -> Regs
     regs
 }
 
+/// The data segment: the text, where it isn't separate, the data, and zeros.
+fn data_segment(alloc: Global, program: &Program, limit: u32) -> Result<Segment, NoMemory>
+    requires { length (contents_of program.now.sep program.now.text program.now.init) ≤ limit }
+    ensures { IfOk result (λ s. s ≡ filled_to limit (contents_of program.now.sep program.now.text program.now.init)) }
+{
+    let init = program.init.as_slice();
+    if program.sep {
+        segment(alloc, limit, init, &[])
+    } else {
+        segment(alloc, limit, program.text.as_slice(), init)
+    }
+}
+
+/// The code: a segment of its own, or what the data segment holds.
+fn code_of(alloc: Global, program: &Program) -> Result<Code, NoMemory>
+    requires { length program.now.text ≤ 1048576 }
+    ensures { IfOk result (λ code. code ≡ code_of_text program.now.sep program.now.text) }
+{
+    if !program.sep {
+        return Ok(Code::Shared);
+    }
+    let bytes = program.text.as_slice();
+    let text = segment(alloc, bytes.len() as u32, bytes, &[])?;
+    Ok(Code::Separate(Text::new(text)))
+}
+
 /// The image of a program. Takes memory for its segments.
 pub fn load(alloc: Global, program: &Program) -> Result<Image, NoMemory>
     ensures image { IfOk result (λ image. image ≡ loaded program.now) }
     ensures from { IfOk result (λ image. IsLoadedFrom image program.now) }
 {
     let limit = limit_of(program);
-    let text = program.text.as_slice();
-    let init = program.init.as_slice();
+    let memory = data_segment(alloc, program, limit)?;
+    let code = code_of(alloc, program)?;
     let regs = first_registers(limit);
-    if program.sep {
-        let memory = segment(alloc, limit, init, &[])?;
-        let text = segment(alloc, text.len() as u32, text, &[])?;
-        let code = Code::Separate(Text::new(text));
-        return Ok(image(program.entry, regs, memory, code));
-    }
-    let memory = segment(alloc, limit, text, init)?;
-    Ok(image(program.entry, regs, memory, Code::Shared))
+    Ok(image(program.entry, regs, memory, code))
 }
 
 /// An image with all flags 0.

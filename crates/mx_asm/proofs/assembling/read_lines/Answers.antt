@@ -9,41 +9,40 @@ use Rattle.mx_asm.proofs.Laying.{behind_within, labels_behind_within}
 use Rattle.mx_asm.proofs.Reading.{takes_more, wrongs_more, laid_more, one_longer, sizes_weaker, spots_weaker}
 use Rattle.mx_asm.proofs.assembling.read_lines.Goals as goal
 
-pub take_line-requires : goal.take_line-requires
-take_line-requires c = sizes_weaker c.loop-line.layout.sizes (length c.loop-line.found.items * 2 ^ 64) (2 ^ 126) c.loop-line.invariant.sizes (omega (arith, c.loop-line.invariant.few))
+pub take-requires : goal.take-requires
+take-requires c = sizes_weaker c.loop-line.read.layout.sizes (length c.loop-line.read.lines.items * 2 ^ 64) (2 ^ 126) c.loop-line.invariant.sizes (omega (arith, c.loop-line.invariant.few))
 
 pub loop-line-preserved : goal.loop-line-preserved
 loop-line-preserved c =
-    let a = above_of c.loop-line.layout in
-    let b = above_of c.take_line.new.self in
-    let l = c.in_ok-taken.taken in
-    let found = c.loop-line.found.items in
+    let a = above_of c.loop-line.read.layout in
+    let b = above_of c.take.new.self.layout in
+    let step = c.in_ok-take.ensures.taken in
+    let l = step.line in
+    let found = c.loop-line.read.lines.items in
     let n = length found in
-    let taken = c.in_ok-taken.ensures.taken in
-    let same = c.in_ok-taken.ensures.behind in
-    let pushed : c.push.new.self.items ≡ found ++ l ∷ [] = c.in_ok-push.ensures.items in
-    let longer : length c.push.new.self.items ≡ n + 1 = ap length pushed ∙ one_longer found l in
-    let counted : c.count-number.result ≡ length c.push.new.self.items = c.count-number.ensures.count ∙ ap length c.as_slice.ensures.value in
+    let now = c.take.new.self.lines.items in
+    let longer : length now ≡ n + 1 = ap length step.lines_are ∙ one_longer found l in
+    let counted : c.count-number.result ≡ length now = c.count-number.ensures.count ∙ ap length c.as_slice.ensures.value in
     let next : lines c.loop-line.rest.now ≡ c.in-Some.line.now ∷ lines c.in-Some.more.now = rw (c.in-Some.line-is, c.in-Some.more-is) at c.in-Some.ensures.line in
     record {
       number = ap (λ (x : ℕ). x + 1) counted;
       few = omega (arith, counted, c.count-number.ensures.small);
-      takes = subst (λ (x : List Line). (ls : List Line) → AreTaken b (lines c.in-Some.more.now) ls → AreTaken start (lines c.args.text.now) (x ++ ls)) (sym pushed)
-          (takes_more a b c.in-Some.line.now (lines c.loop-line.rest.now) (lines c.in-Some.more.now) (lines c.args.text.now) found l c.loop-line.invariant.takes next taken same);
-      wrongs = wrongs_more a b c.loop-line.number (c.count-number.result + 1) c.in-Some.line.now (lines c.loop-line.rest.now) (lines c.in-Some.more.now) (lines c.args.text.now) l c.loop-line.invariant.wrongs next taken same (omega (arith, counted, longer, c.loop-line.invariant.number));
-      laid = rw pushed (laid_more a b found l c.loop-line.invariant.laid same);
-      sizes = behind_within a b l (n * 2 ^ 64) (length c.push.new.self.items * 2 ^ 64) c.loop-line.invariant.sizes (omega (arith, longer, c.in_ok-taken.ensures.small)) same;
-      labels = labels_behind_within a b l _ (n * 2 ^ 64) (length c.push.new.self.items * 2 ^ 64) c.loop-line.invariant.labels c.loop-line.invariant.sizes (omega (arith, longer)) same;
+      takes = subst (λ (x : List Line). (ls : List Line) → AreTaken b (lines c.in-Some.more.now) ls → AreTaken start (lines c.args.text.now) (x ++ ls)) (sym step.lines_are)
+          (takes_more a b c.in-Some.line.now (lines c.loop-line.rest.now) (lines c.in-Some.more.now) (lines c.args.text.now) found l c.loop-line.invariant.takes next step.taken step.behind_is);
+      wrongs = wrongs_more a b c.loop-line.number (c.count-number.result + 1) c.in-Some.line.now (lines c.loop-line.rest.now) (lines c.in-Some.more.now) (lines c.args.text.now) l c.loop-line.invariant.wrongs next step.taken step.behind_is (omega (arith, counted, longer, c.loop-line.invariant.number));
+      laid = rw step.lines_are (laid_more a b found l c.loop-line.invariant.laid step.behind_is);
+      sizes = behind_within a b l (n * 2 ^ 64) (length now * 2 ^ 64) c.loop-line.invariant.sizes (omega (arith, longer, step.small)) step.behind_is;
+      labels = labels_behind_within a b l _ (n * 2 ^ 64) (length now * 2 ^ 64) c.loop-line.invariant.labels c.loop-line.invariant.sizes (omega (arith, longer)) step.behind_is;
     }
 
 pub returns-clause-taken : goal.returns-clause-taken
 returns-clause-taken c =
     let over : lines c.loop-line.rest.now ≡ [] = c.in_default.ensures.line in
-    let whole = c.loop-line.invariant.takes [] (subst (λ (x : List (List ℕ)). AreTaken (above_of c.loop-line.layout) x []) (sym over) tt) in
-    subst (λ (x : List Line). AreTaken start (lines c.args.text.now) x) (append-nil c.loop-line.found.items) whole
+    let whole = c.loop-line.invariant.takes [] (subst (λ (x : List (List ℕ)). AreTaken (above_of c.loop-line.read.layout) x []) (sym over) tt) in
+    subst (λ (x : List Line). AreTaken start (lines c.args.text.now) x) (append-nil c.loop-line.read.lines.items) whole
 
 pub returns-clause-sizes : goal.returns-clause-sizes
-returns-clause-sizes c = sizes_weaker c.loop-line.layout.sizes (length c.loop-line.found.items * 2 ^ 64) (2 ^ 126) c.loop-line.invariant.sizes (omega (arith, c.loop-line.invariant.few))
+returns-clause-sizes c = sizes_weaker c.loop-line.read.layout.sizes (length c.loop-line.read.lines.items * 2 ^ 64) (2 ^ 126) c.loop-line.invariant.sizes (omega (arith, c.loop-line.invariant.few))
 
 pub returns-clause-labels : goal.returns-clause-labels
-returns-clause-labels c = spots_weaker c.loop-line.layout.labels.entries (length c.loop-line.found.items * 2 ^ 64) (2 ^ 126) c.loop-line.invariant.labels (omega (arith, c.loop-line.invariant.few))
+returns-clause-labels c = spots_weaker c.loop-line.read.layout.labels.entries (length c.loop-line.read.lines.items * 2 ^ 64) (2 ^ 126) c.loop-line.invariant.labels (omega (arith, c.loop-line.invariant.few))

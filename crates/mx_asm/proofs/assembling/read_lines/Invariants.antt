@@ -7,13 +7,13 @@ use Rattle.mx_asm.proofs.assembling.read_lines.Given as goal
 
 abbrev pub invariant-loop-line : goal.invariant-loop-line
 invariant-loop-line l = record {
-  number : l.number ≡ length l.found.items + 1;
-  few : length l.found.items ≤ 2 ^ 62;
-  takes : TakesOn (above_of l.layout) (lines l.rest) (lines l.fn.text) l.found.items;
-  wrongs : WrongsOn (above_of l.layout) l.number (lines l.rest) (lines l.fn.text);
-  laid : above_of l.layout ≡ laid_by start l.found.items;
-  sizes : SizesWithin l.layout.sizes (length l.found.items * 2 ^ 64);
-  labels : AllSpotsWithin l.layout.labels.entries (length l.found.items * 2 ^ 64);
+  number : l.number ≡ length l.read.lines.items + 1;
+  few : length l.read.lines.items ≤ 2 ^ 62;
+  takes : TakesOn (above_of l.read.layout) (lines l.rest) (lines l.fn.text) l.read.lines.items;
+  wrongs : WrongsOn (above_of l.read.layout) l.number (lines l.rest) (lines l.fn.text);
+  laid : above_of l.read.layout ≡ laid_by start l.read.lines.items;
+  sizes : SizesWithin l.read.layout.sizes (length l.read.lines.items * 2 ^ 64);
+  labels : AllSpotsWithin l.read.layout.labels.entries (length l.read.lines.items * 2 ^ 64);
 }
 
 abbrev pub decreases-loop-line : goal.decreases-loop-line

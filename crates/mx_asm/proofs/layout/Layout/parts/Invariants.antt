@@ -10,5 +10,5 @@ abbrev pub invariant-loop-line : goal.invariant-loop-line
 invariant-loop-line l = record {
   clean : first_problem (above_of l.self) l.sizes (l.line-index + 1) (drop l.line-index l.lines) ≡ None;
   sizes : SizesWithin l.sizes (l.line-index * 2 ^ 64);
-  completes : Completes (above_of l.self) l.lines l.line-index l.sizes l.text.items l.init.items;
+  completes : Completes (above_of l.self) l.lines l.line-index l.sizes l.parts.text.items l.parts.init.items;
 }
