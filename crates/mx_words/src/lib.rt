@@ -1,13 +1,14 @@
 //! Which word is which.
 #![tactic(auto)]
 
-mod groups;
 mod laws;
 mod mnemonic;
+mod named;
 mod registers;
 mod start;
+mod table;
 
 pub use laws::{one_register_or_size, one_start};
-pub use mnemonic::{Mnemonic, Single, mnemonic_named};
+pub use mnemonic::{Mnemonic, Single};
 pub use registers::{register_named, size_named};
-pub use start::{Directive, Prefix, Start, start_named};
+pub use start::{Directive, Prefix, Start, mnemonic_named, start_named};

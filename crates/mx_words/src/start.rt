@@ -1,12 +1,13 @@
 //! Prefixes and directives, and all that a statement begins with.
 
 ghost use Rattle.std.specs.Prelude.{◌≡◌, ◌≢◌, MatchOption};
-ghost use Rattle.mx_words.specs.declared.start.Prefix.{Prefix};
-ghost use Rattle.mx_words.specs.declared.start.Directive.{Directive};
+ghost use Rattle.mx_words.specs.declared.mnemonic.Mnemonic.{Mnemonic};
 ghost use Rattle.mx_words.specs.declared.start.Start.{Start};
-ghost use Rattle.mx_words.specs.Words.{prefix_word, directive_word, start_word};
+ghost use Rattle.mx_words.specs.Words.{start_word, word_of};
 
-use crate::mnemonic::{Mnemonic, mnemonic_named};
+use crate::mnemonic::Mnemonic;
+use crate::named::found;
+use crate::table::STARTS;
 
 /// What stands before a string instruction.
 #[derive(Clone, Copy, PartialEq, Eq)]
@@ -40,53 +41,20 @@ pub enum Start {
     Directive(Directive),
 }
 
-/// The prefix that a word is.
-pub fn prefix_named(word: &[u8]) -> Option<Prefix>
-    ensures { MatchOption result ((x : Prefix) → word.now ≢ prefix_word x) (λ x. word.now ≡ prefix_word x) }
-{
-    match word {
-        b"rep" => Some(Prefix::Rep),
-        b"repe" => Some(Prefix::Repe),
-        b"repne" => Some(Prefix::Repne),
-        _ => None,
-    }
-}
-
-/// The directive that a word is.
-pub fn directive_named(word: &[u8]) -> Option<Directive>
-    ensures { MatchOption result ((x : Directive) → word.now ≢ directive_word x) (λ x. word.now ≡ directive_word x) }
-{
-    match word {
-        b".text" => Some(Directive::Text),
-        b".data" => Some(Directive::Data),
-        b".bss" => Some(Directive::Bss),
-        b".data1" => Some(Directive::Data1),
-        b".data2" => Some(Directive::Data2),
-        b".data4" => Some(Directive::Data4),
-        b".ascii" => Some(Directive::Ascii),
-        b".space" => Some(Directive::Space),
-        b".sep" => Some(Directive::Sep),
-        b".entry" => Some(Directive::Entry),
-        b".stack" => Some(Directive::Stack),
-        _ => None,
-    }
-}
-
 /// What a word begins a statement as.
-#[tactic(auto, using(crate::proofs::None::no_start))]
 pub fn start_named(word: &[u8]) -> Option<Start>
     ensures { MatchOption result ((x : Start) → word.now ≢ start_word x) (λ x. word.now ≡ start_word x) }
 {
-    match prefix_named(word) {
-        Some(x) => return Some(Start::Repeat(x)),
-        None => {}
-    }
-    match directive_named(word) {
-        Some(x) => return Some(Start::Directive(x)),
-        None => {}
-    }
-    match mnemonic_named(word) {
-        Some(x) => Some(Start::Mnemonic(x)),
-        None => None,
+    found(&STARTS, word)
+}
+
+/// The mnemonic that a word is.
+#[tactic(auto, using(crate::proofs::Inverse::no_start, crate::proofs::Inverse::no_repeat, crate::proofs::Inverse::no_directive))]
+pub fn mnemonic_named(word: &[u8]) -> Option<Mnemonic>
+    ensures { MatchOption result ((m : Mnemonic) → word.now ≢ word_of m) (λ m. word.now ≡ word_of m) }
+{
+    match start_named(word) {
+        Some(Start::Mnemonic(mnemonic)) => Some(mnemonic),
+        Some(Start::Repeat(_) | Start::Directive(_)) | None => None,
     }
 }
