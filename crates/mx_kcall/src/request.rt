@@ -1,9 +1,9 @@
 //! Requests and replies as bytes and as values.
 
-ghost use Rattle.std.specs.Prelude.{◌≡◌, ◌<◌, length};
+ghost use Rattle.std.specs.Prelude.{◌≡◌, ◌+◌, ◌<◌, ◌≤◌, length};
 ghost use Rattle.mx_proc.specs.Sound.{HasBuffer};
 ghost use Rattle.mx_proc.specs.World.{process_at};
-ghost use Rattle.mx_kcall.specs.Requests.{words_of, words_at, request_of, bit_of, no_answer, reply_bytes};
+ghost use Rattle.mx_kcall.specs.Requests.{word_at, words_of, words_at, request_of, bit_of, no_answer, reply_bytes};
 
 use mx_proc::{Endpoint, Slot, Table};
 use mx_word::{Register, read_dword, write_dword};
@@ -83,16 +83,24 @@ pub enum After {
     Died,
 }
 
+/// The word at a place of a message.
+fn word_at(message: &[u8; 36], at: usize) -> u32
+    requires { at + 4 ≤ 36 }
+    ensures { result ≡ word_at message.now at }
+{
+    read_dword(&message[at..])
+}
+
 fn words_of(message: &[u8; 36]) -> Words
     ensures { result ≡ words_of message.now }
 {
     Words {
-        kind: read_dword(&message[4..]),
-        p0: read_dword(&message[8..]),
-        p1: read_dword(&message[12..]),
-        p2: read_dword(&message[16..]),
-        p3: read_dword(&message[20..]),
-        p4: read_dword(&message[24..]),
+        kind: word_at(message, 4),
+        p0: word_at(message, 8),
+        p1: word_at(message, 12),
+        p2: word_at(message, 16),
+        p3: word_at(message, 20),
+        p4: word_at(message, 24),
     }
 }
 

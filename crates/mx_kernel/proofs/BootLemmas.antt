@@ -152,10 +152,3 @@ boot_agrees ss cpus others capacity room leases items eight idle none fits =
       written = All-nil _;
       fresh = λ a l h. let z = none_at Lent cpus a in cc;
     })
-
-more : {X : Type 0} → (n : ℕ) (x : X) → replicate n x ++ x ∷ [] ≡ replicate (suc n) x
-more zero x = refl
-more (suc n) x = ap (λ l. x ∷ l) (more n x)
-
-pub replicate_more : {X : Type 0} → (n : ℕ) (x : X) → replicate (n + 1) x ≡ replicate n x ++ x ∷ []
-replicate_more n x = ap (λ k. replicate k x) (let e : n + 1 ≡ suc n = omega arith in e) ∙ sym (more n x)

@@ -1,5 +1,5 @@
 -- Where a kernel stands, by what it keeps in mind: of what is out it knows slot and budget.
-use Rattle.std.specs.Prelude.{◌≡◌, ◌<◌, ◌≤◌, ℕ, ◌+◌, ◌-◌, ◌*◌, ◌%◌, ◌^◌, Bool, true, false, nat_lt, if◌then◌else◌, List, map, length, Option, Some, None, Result, Ok, Err, slice_get, slice_set}
+use Rattle.std.specs.Prelude.{◌≡◌, ◌<◌, ◌≤◌, ℕ, ◌+◌, ◌-◌, ◌*◌, ◌%◌, ◌^◌, Bool, true, false, nat_lt, if◌then◌else◌, List, map, length, replicate, Option, Some, None, Result, Ok, Err, slice_get, slice_set}
 use Rattle.mx_proc.specs.Endpoints.{is_alive}
 use Rattle.mx_proc.specs.Queues.{picked}
 use Rattle.mx_proc.specs.States.{is_ready, is_down}
@@ -18,6 +18,7 @@ use Rattle.mx_world.specs.declared.history.Recorded.{Recorded}
 use Rattle.mx_world.specs.declared.history.Recorded.TheVariants as recorded
 use Rattle.mx_world.specs.declared.holding.Lease.{Lease}
 use Rattle.mx_world.specs.declared.holding.Out.{Out}
+use Rattle.mx_world.specs.Boot.{first_table}
 use Rattle.mx_world.specs.History.{number_in}
 use Rattle.mx_world.specs.Move.{if_full, line_refusal, kill_refusal, respawn_refusal, take_refusal, sent_out, returned, killed, lent_of}
 use Rattle.mx_world.specs.Sound.{lease_of, lease_at}
@@ -30,6 +31,10 @@ pub record Situation : Type 0 where
   pub services : List Service
   pub records : ℕ
   pub capacity : ℕ
+
+-- where one stands at boot
+abbrev pub first_situation : List Service → ℕ → ℕ → ℕ → Situation
+first_situation services cpus others capacity = record { table = first_table services; leases = replicate cpus None; others = others; services = services; records = 0; capacity = capacity }
 
 -- what a kernel knows of a machine
 abbrev pub situation_of : Whole → Situation

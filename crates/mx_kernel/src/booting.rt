@@ -1,15 +1,18 @@
 //! What a kernel begins with.
 
-ghost use Rattle.std.specs.Prelude.{◌≡◌, ◌≤◌, IfOk, OnOk, None, length, replicate};
+ghost use Rattle.std.specs.Prelude.{◌≡◌, ◌≤◌, [], IfOk, OnOk, OnErr, None, length, replicate};
 ghost use Rattle.mx_proc.specs.World.{no_world};
 ghost use Rattle.mx_world.specs.Boot.{first_table};
+ghost use Rattle.mx_kernel.specs.Situation.{first_situation};
 
+use crate::present::Present;
 use mx_load::load;
 use mx_proc::Table;
 use mx_respawn::Service;
 use mx_word::NoMemory;
-use mx_world::Lease;
+use mx_world::{Config, Lease};
 use std::alloc::Global;
+use std::mem;
 
 /// Gives each service its slot, with its program loaded.
 fn enter(alloc: Global, table: &mut Table, services: &[Service]) -> Result<(), NoMemory>
@@ -32,7 +35,7 @@ fn enter(alloc: Global, table: &mut Table, services: &[Service]) -> Result<(), N
 }
 
 /// The table of services.
-pub(crate) fn first_table(alloc: Global, services: &[Service]) -> Result<Table, NoMemory>
+fn first_table(alloc: Global, services: &[Service]) -> Result<Table, NoMemory>
     requires { length services.now ≤ 32 }
     ensures { IfOk result (λ table. table ≡ first_table services.now) }
 {
@@ -42,16 +45,27 @@ pub(crate) fn first_table(alloc: Global, services: &[Service]) -> Result<Table, 
 }
 
 /// So many processors, each without a process.
-#[tactic(auto, using(crate::proofs::BootLemmas::replicate_more))]
-pub(crate) fn no_leases(alloc: Global, cpus: u8) -> Result<Vec<Option<Lease>>, NoMemory>
+fn no_leases(alloc: Global, cpus: u8) -> Result<Vec<Option<Lease>>, NoMemory>
     ensures { IfOk result (λ leases. leases.items ≡ replicate cpus None) }
 {
-    let mut leases = Vec::with_capacity(alloc, cpus as usize)?;
-    for _cpu in 0..cpus {
-        match leases.push(None) {
-            Ok(()) => {}
-            Err(_) => return Err(NoMemory),
-        }
-    }
-    Ok(leases)
+    Ok(vec![in alloc; None; cpus as usize]?)
+}
+
+/// Where a kernel stands at boot. The services are moved out of the list, which is left empty; for want
+/// of memory they stay.
+pub(crate) fn first_present(
+    alloc: Global,
+    config: &Config,
+    services: &mut Vec<Service>,
+) -> Result<Present, NoMemory>
+    requires { length services.old.items ≤ 32 }
+    ensures booted { IfOk result (λ present. present ≡ first_situation services.old.items config.now.cpus config.now.others config.now.log) }
+    ensures emptied { OnOk result (services.new.items ≡ []) }
+    ensures same { OnErr result (services.new.items ≡ services.old.items) }
+{
+    let table = first_table(alloc, services.as_slice())?;
+    let leases = no_leases(alloc, config.cpus)?;
+    let entered = mem::replace(services, Vec::new(alloc));
+    let present = Present::new(table, leases, config.others, entered, config.log);
+    Ok(present)
 }

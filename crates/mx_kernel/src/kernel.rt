@@ -14,7 +14,7 @@ ghost use Rattle.mx_world.specs.Whole.{Lent, held_by};
 ghost use Rattle.mx_kernel.specs.Agrees.{IsAccepted, IsFresh, IsRefused};
 ghost use Rattle.mx_kernel.specs.Situation.{is_for_all, recorded_as};
 
-use crate::booting::{first_table, no_leases};
+use crate::booting::first_present;
 use crate::caches::Caches;
 use crate::present::Present;
 use mx_proc::{Delivery, Slot, Table};
@@ -86,13 +86,11 @@ impl Kernel {
         ensures emptied { OnOk result (services.new.items ≡ []) }
         ensures same { OnErr result (services.new.items ≡ services.old.items) }
     {
-        let table = first_table(alloc, services.as_slice())?;
-        let leases = no_leases(alloc, config.cpus)?;
         let records = Vec::with_capacity(alloc, config.log as usize)?;
         let caches = Caches::new(alloc, config.cpus)?;
-        let entered = mem::replace(services, Vec::new(alloc));
+        let present = first_present(alloc, config, services)?;
         Ok(Kernel {
-            present: Present::new(table, leases, config.others, entered, config.log),
+            present,
             records,
             processors: config.cpus,
             caches,

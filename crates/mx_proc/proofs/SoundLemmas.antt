@@ -1,5 +1,6 @@
-use Rattle.std.proofs.Common.{suc, ◌≡◌, ◌≢◌, ℕ, ◌+◌, ◌<◌, ◌≤◌, ◌==◌, inl, inr, nat_lt, Bool, true, false, cond, List, [], ◌∷◌, ◌++◌, length, get_or, slice_set, refl, sym, ap, ◌∙◌, arith, subst, zero-add, map, length-set, get_or-set_same, get_or-set_other, Option, Some, None, IfSome, length-append}
+use Rattle.std.proofs.Common.{suc, replicate, lit<, ◌≡◌, ◌≢◌, ℕ, ◌+◌, ◌<◌, ◌≤◌, ◌==◌, inl, inr, nat_lt, Bool, true, false, cond, List, [], ◌∷◌, ◌++◌, length, get_or, slice_set, refl, sym, ap, ◌∙◌, arith, subst, zero-add, map, length-set, get_or-set_same, get_or-set_other, Option, Some, None, IfSome, length-append}
 use Rattle.std.proofs.lemmas.Bool.{cases_Bool, cases_eq, cases_lt, lt-ltb, eq-eqb, ne_eqb}
+use Rattle.std.proofs.lemmas.List.{get_or-replicate, length-replicate}
 use Rattle.std.proofs.Math.ListN.{get_or-eq_default, get_or-append}
 use Rattle.std.proofs.Math.Seq.{get_or-append_seam}
 use Rattle.mx_proc.specs.declared.process.Process.{Process}
@@ -8,7 +9,8 @@ use Rattle.mx_proc.specs.declared.process.State.TheVariants.{Home, Ready, Out, D
 use Rattle.mx_proc.specs.declared.devices.Devices.{Devices}
 use Rattle.mx_proc.specs.Queues.{tally, times, without, list_at, picked, InNoList}
 use Rattle.mx_proc.specs.States.{is_ready, is_sending, is_blocked, IsAlone}
-use Rattle.mx_proc.specs.Waits.{sends_of, without_from, IsPair, Reaches, Acyclic}
+use Rattle.mx_proc.specs.Devices.{no_devices}
+use Rattle.mx_proc.specs.Waits.{sends_of, without_from, IsPair, Reaches, one_pair, and_then, Acyclic}
 use Rattle.mx_proc.specs.World.{World, nobody, process_at, with_process}
 use Rattle.mx_proc.specs.Sound.{Stands, Sound, IsProcess, belongs}
 use Rattle.mx_proc.proofs.ListLemmas.{has_room, tally-same, tally-other, times-push, times-without_same, times-without_other, list_at-cases}
@@ -357,3 +359,37 @@ picked_ready w s h e =
       ],
       ready,
     )
+
+-- ---- a table without processes
+
+-- of equal items each is the item, and so is what stands behind them
+all_same : (X : Type 0) (n i : ℕ) (x : X) → get_or (replicate n x) i x ≡ x
+all_same X n i x = elim (cases_lt i n) [
+  | inl lt ↦ get_or-replicate n i x x lt
+  | inr ge ↦ get_or-eq_default (replicate n x) x (subst (λ k. k ≤ i) (sym (length-replicate n x)) ge)
+]
+
+no_chain : (p q : ℕ) → Reaches [] p q → ⊥
+no_chain _ _ (one_pair p q h) = h
+no_chain _ _ (and_then p q r h g) = h
+
+nobody_is : IsProcess nobody
+nobody_is = record { level = omega arith; best = omega arith; quantum = omega arith; ticks = omega arith; generation = lit< tt; pending = refl; buffer = λ m. cc }
+
+pub founded : (w : World) → w.slots ≡ [] → w.ready ≡ replicate 16 [] → w.waits ≡ [] → w.devices ≡ no_devices → Sound w
+founded w a b d e =
+    let absent : (s : ℕ) → process_at w s ≡ nobody = λ s. get_or-eq_default w.slots nobody (omega (arith, ap length a)) in
+    record {
+      few = omega (arith, ap length a);
+      lists = ap length b;
+      idle = ap (λ l. list_at l 15) b ∙ all_same (List ℕ) 16 15 [];
+      each = λ s. record {
+        listed = λ l. ap (λ x. times s (list_at x l)) b ∙ ap (times s) (all_same (List ℕ) 16 l []) ∙ sym (ap (λ (p : Process). belongs p l) (absent s));
+        waiting = ap (sends_of s) d ∙ sym (ap (λ (p : Process). tally (is_sending p.state)) (absent s));
+        process = subst IsProcess (sym (absent s)) nobody_is;
+      };
+      named = λ p q m. absurd (subst (λ x. IsPair x p q) d m);
+      acyclic = subst Acyclic (sym d) (λ p. no_chain p p);
+      lines = ap (λ (x : Devices). length x.owners) e;
+      owned = λ l. subst (λ (o : Option ℕ). IfSome o (λ s. s < length w.slots)) (sym (ap (λ (x : Devices). get_or x.owners l None) e ∙ all_same (Option ℕ) 16 l None)) _;
+    }

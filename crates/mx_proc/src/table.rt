@@ -58,14 +58,17 @@ impl Table {
     pub fn new(alloc: Global) -> Result<Table, NoMemory>
         ensures { IfOk result (λ table. table ≡ no_world) }
     {
+        let slots = Vec::with_capacity(alloc, 32)?;
+        let devices = Devices::new(alloc)?;
+        let deliveries = Deliveries::new(alloc)?;
         Ok(Table {
-            slots: Vec::with_capacity(alloc, 32)?,
+            slots,
             ready: Ready::new(),
             waits: Waits::new(),
             renewed: None,
             uptime: 0,
-            devices: Devices::new(alloc)?,
-            deliveries: Deliveries::new(alloc)?,
+            devices,
+            deliveries,
         })
     }
 

@@ -127,7 +127,7 @@ impl Table {
     {
         let from = self.source_endpoint(source);
         let to = self.endpoint(slot);
-        let uptime = self.uptime;
+        let uptime = self.uptime();
         let lines = self.clear_pending(slot, source);
         self.receive(slot, &notification(from, uptime, lines));
         self.log(from, to, 4096, DeliveryKind::Notification);
