@@ -10,6 +10,3 @@ pub use mx_program::{assemble_file, one, print_listing, print_names, print_one};
 pub use mx_start::{NamedFile, NamedFiles, Reader};
 pub use mx_steps::{Replayed, replay, step};
 pub use perform::perform_words;
-
-#[cfg(test)]
-mod tests;

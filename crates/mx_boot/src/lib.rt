@@ -10,6 +10,3 @@ pub use mx_fields::BootError;
 pub use mx_history::{Over, SaveFault, Sink, SinkFault, log};
 pub use mx_script::{DebugLine, Place, ScriptLine, SymbolName, debug_script, script};
 pub use mx_setup::{Config, FileName, ServiceLine, ServiceLines};
-
-#[cfg(test)]
-mod tests;

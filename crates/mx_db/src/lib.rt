@@ -13,6 +13,3 @@ pub use going::go;
 pub use mx_start::{BootError, Failure, NamedFile, NamedFiles, Reader};
 pub use places::{clear_breakpoint, set_breakpoint};
 pub use refused::Refused;
-
-#[cfg(test)]
-mod tests;

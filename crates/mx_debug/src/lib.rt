@@ -13,6 +13,3 @@ pub use finding::{address, byte, message};
 pub use halt::{Cause, Halt};
 pub use mx_world::Held;
 pub use points::{Breakpoint, Debugger};
-
-#[cfg(test)]
-mod tests;

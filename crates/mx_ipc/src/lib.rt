@@ -19,10 +19,6 @@ mod calls;
 mod checks;
 
 pub use calls::{Call, Party, TrapAnswer};
-
-#[cfg(test)]
-mod tests;
-
 use checks::check;
 use mx_proc::{Endpoint, Errno, Partner, Slot, Source, State, Table};
 use mx_sched::enqueue;

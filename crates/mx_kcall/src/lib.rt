@@ -9,6 +9,3 @@ mod serving;
 pub use clock::{raise, tick};
 pub use request::{After, Answer, Request};
 pub use serving::call;
-
-#[cfg(test)]
-mod tests;

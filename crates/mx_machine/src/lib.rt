@@ -13,6 +13,3 @@ pub use mx_world::{
     ServiceLines,
 };
 pub use steps::Tool;
-
-#[cfg(test)]
-mod tests;

@@ -18,6 +18,3 @@ pub use named::{NamedFile, NamedFiles};
 pub use reader::Reader;
 pub use runtime::RuntimeFiles;
 pub use starting::{Started, start};
-
-#[cfg(test)]
-mod tests;

@@ -15,6 +15,3 @@ pub use printing::{print_report, print_text};
 pub use records::{Replayed, replay};
 pub use said::Said;
 pub use stepping::make_steps;
-
-#[cfg(test)]
-mod tests;

@@ -2,15 +2,16 @@
 
 ghost use Rattle.std.specs.Prelude.{◌≡◌, IfOk};
 
-use crate::{
-    Answer, Config, Event, FileName, Held, Kernel, Machine, Out, Refusal, ServiceLine,
-    ServiceLines, Tool,
-};
+use crate::files::separate_file;
 use mx_aout::{Program, read};
 use mx_exec::{Image, Outcome};
-use mx_proc::{Cause, Masks, Partner, Process, State};
+use mx_machine::{
+    Answer, Config, Event, FileName, Kernel, Machine, Out, Refusal, ServiceLine, ServiceLines, Tool,
+};
+use mx_proc::{Cause, Masks, Partner, Process, State, Table};
 use mx_respawn::{Label, Service, is_worn};
 use mx_word::{Register, Size};
+use mx_world::Held;
 use std::alloc::Global;
 use std::process::Abort;
 use std::test::Fail;
@@ -27,7 +28,8 @@ struct End(u8, State, u8, u32, u64, u32, u32, u32);
 
 struct Row {
     log: u32,
-    services: &'static [Made],
+    /// The places of its services' programs.
+    services: &'static [usize],
     turns: &'static [Turn],
     ends: &'static [End],
 }
@@ -35,98 +37,110 @@ struct Row {
 /// The actor that is none of the eight processors.
 const OTHER: u8 = 8;
 
-/// Three instructions and a trap; ECX is 0, so it is no call, and then the text ends.
-const SHORT: Made = Made(
-    &[0xB8, 5, 0, 0, 0, 0x83, 0xC0, 0x7B, 0xCD, 0x21],
-    0,
-    0,
-    7,
-    5,
-    0,
-);
+const SHORT: usize = 0;
 
-/// RECEIVE from anybody, then SEND to who it was, in a loop. The buffer is at 0.
-const ANSWERS: Made = Made(
-    &[
-        0xB9, 2, 0, 0, 0, 0xB8, 0xCE, 0x7A, 0, 0, 0xBB, 0, 0, 0, 0, 0xCD, 0x21, 0x8B, 5, 0, 0, 0,
-        0, 0xB9, 1, 0, 0, 0, 0xCD, 0x21, 0xE9, 0xDD, 0xFF, 0xFF, 0xFF,
-    ],
-    2,
-    0,
-    4,
-    20,
-    0,
-);
+const ANSWERS: usize = 1;
 
-/// SENDREC to 0, then EXIT.
-const ASKS: Made = Made(
-    &[
-        0xB9, 3, 0, 0, 0, 0xB8, 0, 0, 0, 0, 0xBB, 0, 0, 0, 0, 0xCD, 0x21, 0xC7, 5, 4, 0, 0, 0, 0,
-        6, 0, 0, 0xB9, 3, 0, 0, 0, 0xB8, 0xFE, 0xFF, 0xFF, 0xFF, 0xCD, 0x21,
-    ],
-    1,
-    1,
-    7,
-    20,
-    0,
-);
+const ASKS: usize = 2;
 
-/// Writes a byte of its data, then RECEIVE from anybody.
-const WRITES: Made = Made(
-    &[
-        0xC6, 5, 0, 0, 0, 0, 7, 0xB9, 2, 0, 0, 0, 0xB8, 0xCE, 0x7A, 0, 0, 0xBB, 0x40, 0, 0, 0,
-        0xCD, 0x21,
-    ],
-    0,
-    0,
-    4,
-    20,
-    1,
-);
+const WRITES: usize = 3;
 
-/// SENDREC to 3, SEND to 3, then WHOIS of slot 3.
-const LOOKS: Made = Made(
-    &[
-        0xB9, 3, 0, 0, 0, 0xB8, 3, 0, 0, 0, 0xBB, 0, 0, 0, 0, 0xCD, 0x21, 0xB9, 1, 0, 0, 0, 0xB8,
-        3, 0, 0, 0, 0xCD, 0x21, 0xC7, 5, 4, 0, 0, 0, 7, 6, 0, 0, 0xC7, 5, 8, 0, 0, 0, 3, 0, 0, 0,
-        0xB9, 3, 0, 0, 0, 0xB8, 0xFE, 0xFF, 0xFF, 0xFF, 0xCD, 0x21,
-    ],
-    8,
-    0x80,
-    7,
-    20,
-    0,
-);
+const LOOKS: usize = 4;
 
-/// Never runs.
-const IDLE: Made = Made(&[0x90], 0, 0, 14, 20, 0);
+const IDLE: usize = 5;
 
-/// RECEIVE from anybody, then nineteen instructions and a trap.
-const WORKS: Made = Made(
-    &[
-        0xB9, 2, 0, 0, 0, 0xB8, 0xCE, 0x7A, 0, 0, 0xBB, 0x40, 0, 0, 0, 0xCD, 0x21, 0x40, 0x40,
-        0x40, 0x40, 0x40, 0x40, 0x40, 0x40, 0x40, 0x40, 0x40, 0x40, 0x40, 0x40, 0x40, 0x40, 0x40,
-        0x40, 0x40, 0xCD, 0x21,
-    ],
-    0,
-    0,
-    4,
-    24,
-    1,
-);
+const WORKS: usize = 6;
 
-/// TIMES: the uptime stands at 8 and the steps at 12.
-const COUNTS: Made = Made(
-    &[
-        0xC7, 5, 4, 0, 0, 0, 1, 6, 0, 0, 0xB9, 3, 0, 0, 0, 0xB8, 0xFE, 0xFF, 0xFF, 0xFF, 0xBB, 0,
-        0, 0, 0, 0xCD, 0x21,
-    ],
-    0,
-    2,
-    7,
-    20,
-    0,
-);
+const COUNTS: usize = 7;
+
+/// The programs of services, with their terms.
+static PROGRAMS: [Made; 8] = [
+    // Three instructions and a trap; ECX is 0, so it is no call, and then the text ends.
+    Made(
+        &[0xB8, 5, 0, 0, 0, 0x83, 0xC0, 0x7B, 0xCD, 0x21],
+        0,
+        0,
+        7,
+        5,
+        0,
+    ),
+    // RECEIVE from anybody, then SEND to who it was, in a loop. The buffer is at 0.
+    Made(
+        &[
+            0xB9, 2, 0, 0, 0, 0xB8, 0xCE, 0x7A, 0, 0, 0xBB, 0, 0, 0, 0, 0xCD, 0x21, 0x8B, 5, 0, 0,
+            0, 0, 0xB9, 1, 0, 0, 0, 0xCD, 0x21, 0xE9, 0xDD, 0xFF, 0xFF, 0xFF,
+        ],
+        2,
+        0,
+        4,
+        20,
+        0,
+    ),
+    // SENDREC to 0, then EXIT.
+    Made(
+        &[
+            0xB9, 3, 0, 0, 0, 0xB8, 0, 0, 0, 0, 0xBB, 0, 0, 0, 0, 0xCD, 0x21, 0xC7, 5, 4, 0, 0, 0,
+            0, 6, 0, 0, 0xB9, 3, 0, 0, 0, 0xB8, 0xFE, 0xFF, 0xFF, 0xFF, 0xCD, 0x21,
+        ],
+        1,
+        1,
+        7,
+        20,
+        0,
+    ),
+    // Writes a byte of its data, then RECEIVE from anybody.
+    Made(
+        &[
+            0xC6, 5, 0, 0, 0, 0, 7, 0xB9, 2, 0, 0, 0, 0xB8, 0xCE, 0x7A, 0, 0, 0xBB, 0x40, 0, 0, 0,
+            0xCD, 0x21,
+        ],
+        0,
+        0,
+        4,
+        20,
+        1,
+    ),
+    // SENDREC to 3, SEND to 3, then WHOIS of slot 3.
+    Made(
+        &[
+            0xB9, 3, 0, 0, 0, 0xB8, 3, 0, 0, 0, 0xBB, 0, 0, 0, 0, 0xCD, 0x21, 0xB9, 1, 0, 0, 0,
+            0xB8, 3, 0, 0, 0, 0xCD, 0x21, 0xC7, 5, 4, 0, 0, 0, 7, 6, 0, 0, 0xC7, 5, 8, 0, 0, 0, 3,
+            0, 0, 0, 0xB9, 3, 0, 0, 0, 0xB8, 0xFE, 0xFF, 0xFF, 0xFF, 0xCD, 0x21,
+        ],
+        8,
+        0x80,
+        7,
+        20,
+        0,
+    ),
+    // Never runs.
+    Made(&[0x90], 0, 0, 14, 20, 0),
+    // RECEIVE from anybody, then nineteen instructions and a trap.
+    Made(
+        &[
+            0xB9, 2, 0, 0, 0, 0xB8, 0xCE, 0x7A, 0, 0, 0xBB, 0x40, 0, 0, 0, 0xCD, 0x21, 0x40, 0x40,
+            0x40, 0x40, 0x40, 0x40, 0x40, 0x40, 0x40, 0x40, 0x40, 0x40, 0x40, 0x40, 0x40, 0x40,
+            0x40, 0x40, 0x40, 0xCD, 0x21,
+        ],
+        0,
+        0,
+        4,
+        24,
+        1,
+    ),
+    // TIMES: the uptime stands at 8 and the steps at 12.
+    Made(
+        &[
+            0xC7, 5, 4, 0, 0, 0, 1, 6, 0, 0, 0xB9, 3, 0, 0, 0, 0xB8, 0xFE, 0xFF, 0xFF, 0xFF, 0xBB,
+            0, 0, 0, 0, 0xCD, 0x21,
+        ],
+        0,
+        2,
+        7,
+        20,
+        0,
+    ),
+];
 
 static ROWS: [Row; 10] = [
     // A call and its answer.
@@ -321,15 +335,8 @@ static ROWS: [Row; 10] = [
     },
 ];
 
-/// The program of a text of its own, with 128 bytes of bss.
 fn program(alloc: Global, text: &[u8]) -> Result<Program, Fail> {
-    let mut file = Vec::with_capacity(alloc, 32 + text.len())?;
-    let length = (text.len() % 256) as u8;
-    file.extend_from_slice(&[
-        0x01, 0x03, 0x30, 0x10, 0x20, 0, 0, 0, length, 0, 0, 0, 0, 0, 0, 0, 0x80, 0, 0, 0, 0, 0, 0,
-        0, 0, 0x10, 0, 0, 0, 0, 0, 0,
-    ])?;
-    file.extend_from_slice(text)?;
+    let file = separate_file(alloc, text, 0)?;
     Ok(read(alloc, file.as_slice()).map_err(|_| "refused")?)
 }
 
@@ -413,7 +420,8 @@ fn work<T: Tool>(machine: &mut Machine, cpu: u8, tool: &mut T) -> Result<(), Ref
 #[tactic(auto, unfolding(mx_world::specs::History::replay))]
 fn machine_of(rt: &impl Abort, alloc: Global, row: &Row) -> Result<Machine, Fail> {
     let mut services = Vec::with_capacity(alloc, row.services.len())?;
-    for made in row.services {
+    for place in row.services {
+        let made = PROGRAMS.get(*place).ok_or("program")?;
         services.push(service(rt, alloc, made)?)?;
     }
     assert!(rt; 0 < services.as_slice().len() && services.as_slice().len() <= 32);
@@ -423,7 +431,60 @@ fn machine_of(rt: &impl Abort, alloc: Global, row: &Row) -> Result<Machine, Fail
     Ok(Machine::new(kernel))
 }
 
-/// A round of E by the list: a process is taken, steps until it is refused a step, and comes back.
+/// So many events of an actor, of which all but the last are steps that go on: how the last is answered.
+fn last_answer(rt: &impl Abort, machine: &mut Machine, turn: &Turn) -> Result<Answer, Refusal> {
+    let Turn(actor, event, count, _) = *turn;
+    for _ in 1..count {
+        assert!(rt; (actor as usize) < machine.actors());
+        assert!(rt; machine.apply(actor, event) == Ok(Answer::Went(Outcome::Go)));
+    }
+    assert!(rt; (actor as usize) < machine.actors());
+    machine.apply(actor, event)
+}
+
+fn are_answered(rt: &impl Abort, machine: &mut Machine, turns: &[Turn]) -> bool {
+    for turn in turns {
+        if last_answer(rt, machine, turn) != turn.3 {
+            return false;
+        }
+    }
+    true
+}
+
+fn has_end(rt: &impl Abort, table: &Table, end: &End) -> bool {
+    let End(slot, state, level, ticks, steps, eax, place, word) = *end;
+    assert!(rt; slot < table.used());
+    let process = table.process(slot);
+    process.state == state
+        && (process.level, process.ticks, process.steps) == (level, ticks, steps)
+        && process.image.register(Register::Eax) == eax
+        && process.image.memory.read(place, Size::Dword) == Ok(word)
+}
+
+fn has_ends(rt: &impl Abort, table: &Table, ends: &[End]) -> bool {
+    for end in ends {
+        if !has_end(rt, table, end) {
+            return false;
+        }
+    }
+    true
+}
+
+fn is_worked(rt: &impl Abort, alloc: Global, row: &Row) -> Result<bool, Fail> {
+    let mut machine = machine_of(rt, alloc, row)?;
+    let answered = are_answered(rt, &mut machine, row.turns);
+    Ok(answered && has_ends(rt, machine.kernel().table(), row.ends))
+}
+
+#[test]
+fn events(rt: HostRuntime) -> Result<(), Fail> {
+    for (number, row) in ROWS.iter().enumerate() {
+        assert!(rt; is_worked(&rt, rt.alloc(), row)?, "row {number}");
+    }
+    Ok(())
+}
+
+/// A round by the list: a process is taken, steps until it is refused a step, and comes back.
 const ROUND: [(u8, Event); 8] = [
     (0, Event::Take),
     (0, Event::Step),
@@ -435,96 +496,84 @@ const ROUND: [(u8, Event); 8] = [
     (0, Event::Back),
 ];
 
-/// E's five rounds, each as one list: whose process it is, its budget and its steps.
-fn rounds(rt: &impl Abort, alloc: Global) -> Result<(), Fail> {
-    let mut machine = machine_of(rt, alloc, &ROWS[0])?;
-    let mut answers = Vec::new(alloc);
-    for round in [(0, 20, 4), (1, 20, 4), (0, 16, 3), (0, 13, 5), (1, 16, 4)] {
+/// Five rounds of who asks and who answers: whose process it is, its budget and its steps.
+static ROUNDS: [(u32, u32, u32); 5] = [(0, 20, 4), (1, 20, 4), (0, 16, 3), (0, 13, 5), (1, 16, 4)];
+
+/// Whether a round's answers are those of so many steps, the last of them a trap.
+fn is_round(answers: &[Result<Answer, Refusal>], round: &(u32, u32, u32)) -> bool {
+    let (named, budget, steps) = *round;
+    answers.len() == 8
+        && answers[0] == Ok(Answer::Taken(named, budget))
+        && answers.get(steps as usize) == Some(&Ok(Answer::Went(Outcome::Trap)))
+        && answers[6] == Err(Refusal::AtStop)
+        && answers[7] == Ok(Answer::Returned(steps))
+}
+
+#[test]
+fn rounds(rt: HostRuntime) -> Result<(), Fail> {
+    let mut machine = machine_of(&rt, rt.alloc(), &ROWS[0])?;
+    let mut answers = Vec::new(rt.alloc());
+    for round in &ROUNDS {
         answers.clear();
         machine.run(&ROUND, &mut answers)?;
-        let said = answers.as_slice();
-        assert!(rt; said.len() == 8);
-        assert!(rt; said[0] == Ok(Answer::Taken(round.0, round.1)));
-        assert!(rt; said[round.2] == Ok(Answer::Went(Outcome::Trap)));
-        assert!(rt; said[6] == Err(Refusal::AtStop));
-        assert!(rt; said[7] == Ok(Answer::Returned(round.2 as u32)));
+        assert!(rt; is_round(answers.as_slice(), round));
     }
     Ok(())
 }
 
-/// A tool's run, told once through its bound and once refused.
-fn works(rt: &impl Abort, alloc: Global) -> Result<(), Fail> {
-    let mut machine = machine_of(rt, alloc, &ROWS[1])?;
-    assert!(rt; work(&mut machine, 0, &mut Steps(9)) == Err(Refusal::CpuEmpty));
-    assert!(rt; machine.apply(0, Event::Take) == Ok(Answer::Taken(0, 5)));
-    assert!(rt; work(&mut machine, 0, &mut Steps(2)) == Ok(()));
-    assert!(rt; work(&mut machine, 0, &mut Steps(9)) == Ok(()));
-    assert!(rt; machine.image(0).is_some() && machine.image(1).is_none());
-    assert!(rt; machine.apply(0, Event::Back) == Ok(Answer::Returned(3)));
+/// Whether a tool's run is told through its bound, and refused where a processor is empty.
+fn is_lent(machine: &mut Machine) -> bool {
+    work(machine, 0, &mut Steps(9)) == Err(Refusal::CpuEmpty)
+        && work(machine, 8, &mut Steps(1)) == Err(Refusal::CpuEmpty)
+        && machine.apply(0, Event::Take) == Ok(Answer::Taken(0, 5))
+        && work(machine, 0, &mut Steps(2)) == Ok(())
+        && work(machine, 0, &mut Steps(9)) == Ok(())
+        && machine.image(0).is_some()
+        && machine.image(1).is_none()
+        && machine.apply(0, Event::Back) == Ok(Answer::Returned(3))
+}
+
+#[test]
+fn tools(rt: HostRuntime) -> Result<(), Fail> {
+    let mut machine = machine_of(&rt, rt.alloc(), &ROWS[1])?;
+    assert!(rt; is_lent(&mut machine));
     Ok(())
 }
 
 /// The last generation, and the last restart: no event reaches the former in a history's length.
-fn worn(rt: &impl Abort, alloc: Global) -> Result<(), Fail> {
-    let service = service(rt, alloc, &WRITES)?;
-    let rows = [
-        (0, 0, false),
-        (1, 1, true),
-        (1_048_574, 0, false),
-        (1_048_575, 0, true),
-    ];
-    for (generation, restarts, answer) in rows {
-        let process = Process {
-            state: State::Down(Cause::Exit),
-            generation,
-            restarts,
-            masks: service.masks,
-            level: 4,
-            best: 4,
-            quantum: 20,
-            ticks: 20,
-            steps: 0,
-            pending: [false; 34],
-            lines: 0,
-            alarm: None,
-            image: Image::blank(alloc),
-        };
-        assert!(rt; is_worn(&process, &service) == answer);
+static WORN: [(u32, u32, bool); 4] = [
+    (0, 0, false),
+    (1, 1, true),
+    (1_048_574, 0, false),
+    (1_048_575, 0, true),
+];
+
+/// A process that is down.
+fn down(alloc: Global, masks: Masks, generation: u32, restarts: u32) -> Process {
+    Process {
+        state: State::Down(Cause::Exit),
+        generation,
+        restarts,
+        masks,
+        level: 4,
+        best: 4,
+        quantum: 20,
+        ticks: 20,
+        steps: 0,
+        pending: [false; 34],
+        lines: 0,
+        alarm: None,
+        image: Image::blank(alloc),
     }
-    Ok(())
 }
 
 #[test]
-fn events(rt: HostRuntime) -> Result<(), Fail> {
-    for (number, row) in ROWS.iter().enumerate() {
-        let mut machine = machine_of(&rt, rt.alloc(), row)?;
-        for turn in row.turns {
-            for _ in 1..turn.2 {
-                assert!(rt; (turn.0 as usize) < machine.actors());
-                assert!(rt; machine.apply(turn.0, turn.1) == Ok(Answer::Went(Outcome::Go)));
-            }
-            assert!(rt; (turn.0 as usize) < machine.actors());
-            assert!(rt; machine.apply(turn.0, turn.1) == turn.3, "row {number}");
-        }
-        assert!(rt; work(&mut machine, 8, &mut Steps(1)) == Err(Refusal::CpuEmpty));
-        let table = machine.kernel().table();
-        for end in row.ends {
-            assert!(rt; end.0 < table.used());
-            let process = table.process(end.0);
-            assert!(rt; process.state == end.1, "row {number}");
-            assert_eq!(rt;
-                (process.level, process.ticks, process.steps),
-                (end.2, end.3, end.4)
-            );
-            assert_eq!(rt;
-                process.image.register(Register::Eax),
-                end.5,
-                "row {number}"
-            );
-            assert!(rt; process.image.memory.read(end.6, Size::Dword) == Ok(end.7));
-        }
+fn worn(rt: HostRuntime) -> Result<(), Fail> {
+    let made = PROGRAMS.get(WRITES).ok_or("program")?;
+    let service = service(&rt, rt.alloc(), made)?;
+    for (generation, restarts, answer) in &WORN {
+        let process = down(rt.alloc(), service.masks, *generation, *restarts);
+        assert!(rt; is_worn(&process, &service) == *answer);
     }
-    rounds(&rt, rt.alloc())?;
-    works(&rt, rt.alloc())?;
-    worn(&rt, rt.alloc())
+    Ok(())
 }

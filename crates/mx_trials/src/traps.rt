@@ -1,16 +1,13 @@
 //! Traps worked by hand after the book's rules and our own.
 
-use crate::{TrapAnswer, trap};
-use mx_exec::Image;
-use mx_mem::Segment;
+use crate::tables::{LIMIT, add_process, word_at};
+use mx_ipc::{TrapAnswer, trap};
 use mx_proc::{Delivery, DeliveryKind, Masks, Partner, Slot, Source, Stale, State, Table};
 use mx_sched::{dequeue, enqueue, pick};
 use mx_word::{Register, Size};
 use std::alloc::Global;
 use std::process::Abort;
 use std::test::Fail;
-
-const LIMIT: u32 = 0x1000;
 
 const SEND: u32 = 1;
 
@@ -210,25 +207,25 @@ static STEPS: [Step; 49] = [
     Step(ON, 0, SEND, 1024, 0, Goes(DEAD), 0, Goes(DEAD)),
 ];
 
-/// Five processes: slot 3 may make no call, slot 4 may send to nobody.
-fn new_table(rt: &impl Abort, alloc: Global) -> Result<Table, Fail> {
+/// The masks of traps and of sends of five processes: slot 3 may make no call, slot 4 may send to
+/// nobody.
+static MASKS: [(u32, u32); 5] = [
+    (0x1E, 0x1F),
+    (0x1E, 0x1F),
+    (0x1E, 0x1F),
+    (0, 0x1F),
+    (0x1E, 0),
+];
+
+fn five_processes(rt: &impl Abort, alloc: Global) -> Result<Table, Fail> {
     let mut table = Table::new(alloc)?;
-    for (traps, sends) in [
-        (0x1E, 0x1F),
-        (0x1E, 0x1F),
-        (0x1E, 0x1F),
-        (0, 0x1F),
-        (0x1E, 0),
-    ] {
-        let mut image = Image::blank(alloc);
-        image.memory = Segment::new(alloc, LIMIT)?;
-        assert!(rt; table.used() < 32);
+    for (traps, sends) in &MASKS {
         let masks = Masks {
-            traps,
-            sends,
+            traps: *traps,
+            sends: *sends,
             calls: 0,
         };
-        table.add(alloc, &mut image, masks, 7, 5, 5)?;
+        add_process(rt, alloc, &mut table, masks, 5)?;
     }
     Ok(table)
 }
@@ -237,20 +234,20 @@ fn new_table(rt: &impl Abort, alloc: Global) -> Result<Table, Fail> {
 fn make_trap(
     rt: &impl Abort,
     table: &mut Table,
-    step: &Step,
+    slot: Slot,
+    words: (u32, u32, u32),
     message: &[u8],
-) -> Result<TrapAnswer, Fail> {
-    let slot = step.1;
+) -> TrapAnswer {
     assert!(rt; slot < table.used());
     assert!(rt; table.process(slot).state.is_ready());
     dequeue(table, slot);
     let mut image = table.lend(slot);
-    image.regs.set(Size::Dword, Register::Ecx, step.2);
-    image.regs.set(Size::Dword, Register::Eax, step.3);
-    image.regs.set(Size::Dword, Register::Ebx, step.4);
-    let _ = image.memory.fill_from(step.4, message);
+    image.regs.set(Size::Dword, Register::Ecx, words.0);
+    image.regs.set(Size::Dword, Register::Eax, words.1);
+    image.regs.set(Size::Dword, Register::Ebx, words.2);
+    let _ = image.memory.fill_from(words.2, message);
     table.take_home(slot, image);
-    Ok(trap(table, slot))
+    trap(table, slot)
 }
 
 fn look_at(rt: &impl Abort, table: &Table, slot: Slot) -> Seen {
@@ -262,109 +259,124 @@ fn look_at(rt: &impl Abort, table: &Table, slot: Slot) -> Seen {
     }
 }
 
+/// Whether a step's slot and the other are then seen as it says, and the answer says whether a call is
+/// left to the kernel.
+fn is_seen(rt: &impl Abort, table: &mut Table, step: &Step) -> bool {
+    let Step(_, slot, call, name, buffer, own, other, seen) = *step;
+    let after = make_trap(rt, table, slot, (call, name, buffer), &[]);
+    let is_left = own == Stays(State::Home);
+    look_at(rt, table, slot) == own
+        && look_at(rt, table, other) == seen
+        && (after == TrapAnswer::Kernel) == is_left
+}
+
 #[test]
 fn traps(rt: HostRuntime) -> Result<(), Fail> {
-    let mut table = new_table(&rt, rt.alloc())?;
+    let mut table = five_processes(&rt, rt.alloc())?;
     for (number, step) in STEPS.iter().enumerate() {
         if step.0 {
-            table = new_table(&rt, rt.alloc())?;
+            table = five_processes(&rt, rt.alloc())?;
         }
-        let after = make_trap(&rt, &mut table, step, &[])?;
-        let own = look_at(&rt, &table, step.1);
-        assert!(rt; own == step.5, "step {number}");
-        assert!(rt;
-            (after == TrapAnswer::Kernel) == (own == Stays(State::Home)),
-            "step {number}"
-        );
-        assert!(rt; look_at(&rt, &table, step.6) == step.7, "step {number}");
+        assert!(rt; is_seen(&rt, &mut table, step), "step {number}");
     }
     Ok(())
 }
 
-// A message from slot 2, whose source the kernel writes; then a notification from slot 0.
-#[test]
-fn messages(rt: HostRuntime) -> Result<(), Fail> {
-    let mut table = new_table(&rt, rt.alloc())?;
-    let sent = [0xAA, 0xBB, 0xCC, 0xDD, 7, 0, 0, 0, 9, 0, 0, 0, 0xFF];
-    for (slot, call, name) in [
-        (1, RECEIVE, ANY),
-        (2, SEND, 1),
-        (1, RECEIVE, 0),
-        (0, NOTIFY, 1),
-    ] {
-        let buffer = if slot == 1 { 512 } else { 0 };
-        let step = Step(ON, slot, call, name, buffer, Goes(0), slot, Goes(0));
-        make_trap(&rt, &mut table, &step, if slot == 2 { &sent } else { &[] })?;
-        let wanted: [u8; 13] = match (slot, call) {
-            (2, _) => [2, 0, 0, 0, 7, 0, 0, 0, 9, 0, 0, 0, 0xFF],
-            (0, _) => [0, 0, 0, 0, 0, 0x10, 0, 0, 0, 0, 0, 0, 0],
-            _ => continue,
-        };
-        assert_eq!(rt;
-            pick(&table),
-            Some(slot),
-            "the caller overtakes its partner"
-        );
-        assert!(rt; table.used() > 1);
-        for (place, byte) in (512..525).zip(wanted) {
-            assert_eq!(rt;
-                table.process(1).image.memory.get(place),
-                Some(byte),
-                "at {place} from {slot}"
-            );
-        }
+/// What slot 2 sends; the kernel writes its source.
+static MESSAGE: [u8; 13] = [0xAA, 0xBB, 0xCC, 0xDD, 7, 0, 0, 0, 9, 0, 0, 0, 0xFF];
+
+/// Whether a message or a notification to slot 1, which waits, stands at 512, and the caller overtakes
+/// its partner.
+fn is_delivered(
+    rt: &impl Abort,
+    table: &mut Table,
+    sender: Slot,
+    call: u32,
+    words: &[u32; 4],
+) -> bool {
+    make_trap(rt, table, 1, (RECEIVE, ANY, 512), &[]);
+    make_trap(rt, table, sender, (call, 1, 0), &MESSAGE);
+    let mut is_there = pick(table) == Some(sender);
+    for (place, word) in (512..528).step_by(4).zip(words.iter()) {
+        is_there = is_there && word_at(rt, table, 1, place) == *word;
     }
+    is_there
+}
+
+/// Whether both deliveries are kept, and the receiver's endpoint is that of its generation alone.
+fn are_kept(table: &Table) -> bool {
     let first = Delivery {
         from: 2,
         to: 1,
         message_type: 7,
         kind: DeliveryKind::Message,
     };
-    assert!(rt; table.delivery(0) == Some(first));
     let second = Delivery {
         from: 0,
         to: 1,
         message_type: 4096,
         kind: DeliveryKind::Notification,
     };
-    assert!(rt; table.delivery(1) == Some(second));
-    assert!(rt; table.look(1) == Ok(1));
-    assert!(rt; table.look(1024 + 1) == Err(Stale));
+    table.delivery(0) == Some(first)
+        && table.delivery(1) == Some(second)
+        && table.look(1) == Ok(1)
+        && table.look(1024 + 1) == Err(Stale)
+}
+
+#[test]
+fn deliveries(rt: HostRuntime) -> Result<(), Fail> {
+    let mut table = five_processes(&rt, rt.alloc())?;
+    assert!(rt; is_delivered(&rt, &mut table, 2, SEND, &[2, 7, 9, 0xFF]));
+    assert!(rt; is_delivered(&rt, &mut table, 0, NOTIFY, &[0, 4096, 0, 0]));
+    assert!(rt; are_kept(&table));
     Ok(())
 }
 
-// Slots that spend a quantum, one after the other, and the level that they come to.
+/// Slots that spend a quantum, one after the other, and the level that they come to.
+static LEVELS: [(Slot, u8); 17] = [
+    (1, 6),
+    (0, 6),
+    (0, 7),
+    (1, 5),
+    (0, 6),
+    (1, 5),
+    (1, 6),
+    (1, 7),
+    (1, 8),
+    (1, 9),
+    (1, 10),
+    (1, 11),
+    (1, 12),
+    (1, 13),
+    (1, 14),
+    (1, 14),
+    (0, 5),
+];
+
+/// The level of a ready process behind a whole quantum.
+fn level_behind(rt: &impl Abort, table: &mut Table, slot: Slot) -> u8 {
+    assert!(rt; slot < table.used());
+    let process = table.process(slot);
+    assert!(rt; process.state.is_ready() && process.steps < 1000 && process.ticks == 5);
+    dequeue(table, slot);
+    table.spend(slot, 5);
+    enqueue(table, slot);
+    table.process(slot).level
+}
+
+/// Whether each slot comes to its level, and slot 0 is picked then.
+fn come_to_levels(rt: &impl Abort, table: &mut Table) -> bool {
+    for (slot, level) in &LEVELS {
+        if level_behind(rt, table, *slot) != *level {
+            return false;
+        }
+    }
+    pick(table) == Some(0)
+}
+
 #[test]
 fn levels(rt: HostRuntime) -> Result<(), Fail> {
-    let mut table = new_table(&rt, rt.alloc())?;
-    for (slot, level) in [
-        (1, 6),
-        (0, 6),
-        (0, 7),
-        (1, 5),
-        (0, 6),
-        (1, 5),
-        (1, 6),
-        (1, 7),
-        (1, 8),
-        (1, 9),
-        (1, 10),
-        (1, 11),
-        (1, 12),
-        (1, 13),
-        (1, 14),
-        (1, 14),
-        (0, 5),
-    ] {
-        assert!(rt; slot < table.used());
-        assert!(rt; table.process(slot).state.is_ready());
-        assert!(rt; table.process(slot).steps < 1000);
-        assert_eq!(rt; table.process(slot).ticks, 5);
-        dequeue(&mut table, slot);
-        table.spend(slot, 5);
-        enqueue(&mut table, slot);
-        assert_eq!(rt; table.process(slot).level, level, "of slot {slot}");
-    }
-    assert_eq!(rt; pick(&table), Some(0));
+    let mut table = five_processes(&rt, rt.alloc())?;
+    assert!(rt; come_to_levels(&rt, &mut table));
     Ok(())
 }

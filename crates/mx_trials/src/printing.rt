@@ -1,17 +1,11 @@
-use crate::{Request, command, print_one};
+//! What is printed of single programs, and what words ask for.
+
+use crate::files::separate_file;
 use clap::error::ErrorKind;
+use mx_command::{Request, command};
+use mx_program::print_one;
 use std::alloc::Global;
 use std::test::Fail;
-
-/// A file with a separate text and an entry.
-fn separate(alloc: Global, text: &[u8], entry: u8) -> Result<Vec<u8>, Fail> {
-    let size = u8::try_from(text.len()).map_err(|_| "size")?;
-    let mut file = Vec::new(alloc);
-    file.extend_from_slice(&[1, 3, 0x30, 0x10, 0x20, 0, 0, 0, size, 0, 0, 0, 0, 0, 0, 0])?;
-    file.extend_from_slice(&[0, 0, 0, 0, entry, 0, 0, 0, 0, 0x10, 0, 0, 0, 0, 0, 0])?;
-    file.extend_from_slice(text)?;
-    Ok(file)
-}
 
 /// A program's text and entry, how many steps are made, and what is printed.
 struct Row {
@@ -82,15 +76,17 @@ static ROWS: [Row; 6] = [
     },
 ];
 
+fn is_printed(alloc: Global, row: &Row) -> Result<bool, Fail> {
+    let file = separate_file(alloc, row.text, row.entry)?;
+    let mut out = Vec::new(alloc);
+    print_one(alloc, file.as_slice(), row.steps, &mut out).map_err(|_| "refused")?;
+    Ok(out.as_slice() == row.printed.as_bytes())
+}
+
 #[test]
-fn prints_steps(rt: HostRuntime) -> Result<(), Fail> {
-    for row in &ROWS {
-        let file = separate(rt.alloc(), row.text, row.entry)?;
-        let mut out = Vec::new(rt.alloc());
-        print_one(rt.alloc(), file.as_slice(), row.steps, &mut out).map_err(|_| "refused")?;
-        if out.as_slice() != row.printed.as_bytes() {
-            return Err(Fail::from(row.printed));
-        }
+fn steps(rt: HostRuntime) -> Result<(), Fail> {
+    for (number, row) in ROWS.iter().enumerate() {
+        assert!(rt; is_printed(rt.alloc(), row)?, "row {number}");
     }
     Ok(())
 }
@@ -152,13 +148,14 @@ static LINES: [Line; 9] = [
     },
 ];
 
+fn is_asked(alloc: Global, line: &Line) -> bool {
+    command(alloc, line.words).map_err(|error| error.kind()) == line.asked
+}
+
 #[test]
-fn reads_words(rt: HostRuntime) -> Result<(), Fail> {
-    for line in &LINES {
-        let asked = command(rt.alloc(), line.words).map_err(|error| error.kind());
-        if asked != line.asked {
-            return Err(Fail::from("words"));
-        }
+fn words(rt: HostRuntime) -> Result<(), Fail> {
+    for (number, line) in LINES.iter().enumerate() {
+        assert!(rt; is_asked(rt.alloc(), line), "line {number}");
     }
     Ok(())
 }

@@ -1,9 +1,8 @@
 //! Kernel calls worked by hand.
 
-use crate::{After, call, raise, tick};
-use mx_exec::Image;
+use crate::tables::{add_process, word_at};
 use mx_ipc::{receive, send};
-use mx_mem::Segment;
+use mx_kcall::{After, call, raise, tick};
 use mx_proc::{Cause, Masks, Slot, State, Table};
 use mx_sched::{dequeue, pick};
 use mx_word::{Register, Size};
@@ -124,21 +123,16 @@ static DEATHS: [Death; 4] = [
     },
 ];
 
-/// Some processes; their buffers are at 512, and at 100 stand five bytes.
-fn new_table(rt: &impl Abort, alloc: Global, used: u8, calls: u32) -> Result<Table, Fail> {
+/// Some processes that may make these kernel calls.
+fn processes(rt: &impl Abort, alloc: Global, used: u8, calls: u32) -> Result<Table, Fail> {
     let mut table = Table::new(alloc)?;
     for _ in 0..used {
-        let mut image = Image::blank(alloc);
-        image.memory = Segment::new(alloc, 4096)?;
-        image.regs.set(Size::Dword, Register::Ebx, 512);
-        let _ = image.memory.fill_from(100, &[1, 2, 3, 4, 5]);
-        assert!(rt; table.used() < 32);
         let masks = Masks {
             traps: 0x1E,
             sends: 0xFFFF_FFFF,
             calls,
         };
-        table.add(alloc, &mut image, masks, 7, 7, 5)?;
+        add_process(rt, alloc, &mut table, masks, 7)?;
     }
     Ok(table)
 }
@@ -179,42 +173,37 @@ fn send_away(rt: &impl Abort, table: &mut Table, slot: Slot) {
     let _image = table.lend(slot);
 }
 
-/// The number at a place of slot 0's memory.
-fn word_at(rt: &impl Abort, table: &Table, place: u32) -> u32 {
+/// The calls before that of slot 0, by which the other slots are as they are.
+fn prepare(rt: &impl Abort, table: &mut Table) {
+    make_call(rt, table, 1, &[0x603, 1, 5, 0, 0, 0]);
+    make_call(rt, table, 1, &[0x604, 1, 0, 0x42, 0, 0]);
+    make_call(rt, table, 3, &[0x600, 0, 0, 0, 0, 0]);
+    send_away(rt, table, 2);
+}
+
+/// Whether slot 0 goes on with 0 in EAX, and a row's reply is at 512; only a write has put a second
+/// byte on the console.
+fn is_left(rt: &impl Abort, table: &Table, row: &Row) -> bool {
     assert!(rt; table.used() > 0);
-    match table.process(0).image.memory.read(place, Size::Dword) {
-        Ok(word) => word,
-        Err(_) => 0,
-    }
+    let is_written = row.1[0] == 0x604 && row.1[1] == 1;
+    table.process(0).image.register(Register::Eax) == 0
+        && word_at(rt, table, 0, 512) == 0xFFFF_FFFE
+        && word_at(rt, table, 0, 516) == row.2
+        && word_at(rt, table, 0, 520) == row.3
+        && (table.devices().console.get(1) == Some(0x41)) == is_written
+}
+
+fn is_replied(rt: &impl Abort, alloc: Global, row: &Row) -> Result<bool, Fail> {
+    let mut table = processes(rt, alloc, 4, row.0)?;
+    prepare(rt, &mut table);
+    let after = make_call(rt, &mut table, 0, &row.1);
+    Ok(after == After::Reply(row.2) && is_left(rt, &table, row))
 }
 
 #[test]
 fn kernel_calls(rt: HostRuntime) -> Result<(), Fail> {
     for (number, row) in ROWS.iter().enumerate() {
-        let mut table = new_table(&rt, rt.alloc(), 4, row.0)?;
-        make_call(&rt, &mut table, 1, &[0x603, 1, 5, 0, 0, 0]);
-        make_call(&rt, &mut table, 1, &[0x604, 1, 0, 0x42, 0, 0]);
-        make_call(&rt, &mut table, 3, &[0x600, 0, 0, 0, 0, 0]);
-        send_away(&rt, &mut table, 2);
-        let after = make_call(&rt, &mut table, 0, &row.1);
-        assert!(rt; after == After::Reply(row.2), "row {number}");
-        assert!(rt; table.used() > 0);
-        assert!(rt;
-            table.process(0).image.register(Register::Eax) == 0,
-            "row {number}"
-        );
-        for (place, wanted) in [(512, 0xFFFF_FFFE), (516, row.2), (520, row.3)] {
-            assert!(rt; word_at(&rt, &table, place) == wanted, "row {number}");
-        }
-        let written = table.devices().console.get(1);
-        assert!(rt;
-            written
-                == if row.1[0] == 0x604 && row.1[1] == 1 {
-                    Some(0x41)
-                } else {
-                    None
-                }
-        );
+        assert!(rt; is_replied(&rt, rt.alloc(), row)?, "row {number}");
     }
     Ok(())
 }
@@ -233,85 +222,122 @@ static COPIES: [(u32, u32, u32, u32, u32); 9] = [
     (97, 544, 8, 548, 0x0504_0302),
 ];
 
+fn is_copied(
+    rt: &impl Abort,
+    alloc: Global,
+    copy: &(u32, u32, u32, u32, u32),
+) -> Result<bool, Fail> {
+    let (from, to, count, place, wanted) = *copy;
+    let mut table = processes(rt, alloc, 1, 0xFF)?;
+    let after = make_call(rt, &mut table, 0, &[0x605, 0, from, 0, to, count]);
+    Ok(after == After::Reply(0) && word_at(rt, &table, 0, place) == wanted)
+}
+
 #[test]
 fn copies(rt: HostRuntime) -> Result<(), Fail> {
     for (number, copy) in COPIES.iter().enumerate() {
-        let (from, to, count, place, wanted) = *copy;
-        let mut table = new_table(&rt, rt.alloc(), 1, 0xFF)?;
-        let after = make_call(&rt, &mut table, 0, &[0x605, 0, from, 0, to, count]);
-        assert!(rt; after == After::Reply(0), "copy {number}");
-        assert!(rt; word_at(&rt, &table, place) == wanted, "copy {number}");
+        assert!(rt; is_copied(&rt, rt.alloc(), copy)?, "copy {number}");
     }
     Ok(())
 }
 
-// Lines 5 and 1 for a ready owner at uptime 9, and a RECEIVE from HARDWARE; an alarm that is
-// cancelled two ticks after it was set for five.
-#[test]
-fn lines_and_clock(rt: HostRuntime) -> Result<(), Fail> {
-    let mut table = new_table(&rt, rt.alloc(), 1, 0xFF)?;
-    for _ in 0..9u8 {
+/// So many ticks.
+fn make_ticks(rt: &impl Abort, table: &mut Table, count: u8) {
+    for _ in 0..count {
         assert!(rt; table.uptime() < 100);
-        tick(&mut table);
+        tick(table);
     }
-    for line in [5, 1] {
-        make_call(&rt, &mut table, 0, &[0x603, 1, line, 0, 0, 0]);
-        assert!(rt; line < 16);
-        assert!(rt; table.devices().owners[line as usize].is_some());
-        raise(&mut table, line as u8);
-    }
-    make_trap(&rt, &mut table, 0, false, 0xFFFF_FFFF);
-    for (place, wanted) in [
-        (512, 0xFFFF_FFFF),
-        (516, 4096),
-        (520, 9),
-        (524, 0x22),
-        (528, 0),
-        (532, 0),
-        (536, 0),
-        (540, 0),
-        (544, 0),
-    ] {
-        assert_eq!(rt; word_at(&rt, &table, place), wanted, "at {place}");
-    }
-    for (delay, left) in [(5, 0), (0, 3)] {
-        make_call(&rt, &mut table, 0, &[0x602, delay, 0, 0, 0, 0]);
-        assert_eq!(rt; word_at(&rt, &table, 520), left);
-        for _ in 0..2u8 {
-            assert!(rt; table.uptime() < 100);
-            tick(&mut table);
+}
+
+/// A process asks for a line, which is raised.
+fn raise_own(rt: &impl Abort, table: &mut Table, line: u8) {
+    make_call(rt, table, 0, &[0x603, 1, u32::from(line), 0, 0, 0]);
+    assert!(rt; line < 16);
+    assert!(rt; table.devices().owners[line as usize].is_some());
+    raise(table, line);
+}
+
+/// What stands in a buffer at 512 behind a RECEIVE from HARDWARE.
+static NOTIFIED: [u32; 9] = [0xFFFF_FFFF, 4096, 9, 0x22, 0, 0, 0, 0, 0];
+
+fn is_notified(rt: &impl Abort, table: &Table) -> bool {
+    for (place, wanted) in (512..548).step_by(4).zip(&NOTIFIED) {
+        if word_at(rt, table, 0, place) != *wanted {
+            return false;
         }
     }
+    true
+}
+
+/// What an alarm's call of slot 0 replies.
+fn alarm_left(rt: &impl Abort, table: &mut Table, delay: u32) -> u32 {
+    make_call(rt, table, 0, &[0x602, delay, 0, 0, 0, 0]);
+    word_at(rt, table, 0, 520)
+}
+
+// Lines 5 and 1 for a ready owner at uptime 9, and a RECEIVE from HARDWARE; an alarm that is cancelled
+// two ticks after it was set for five.
+#[test]
+fn lines_and_clock(rt: HostRuntime) -> Result<(), Fail> {
+    let mut table = processes(&rt, rt.alloc(), 1, 0xFF)?;
+    make_ticks(&rt, &mut table, 9);
+    raise_own(&rt, &mut table, 5);
+    raise_own(&rt, &mut table, 1);
+    make_trap(&rt, &mut table, 0, false, 0xFFFF_FFFF);
+    assert!(rt; is_notified(&rt, &table));
+    assert!(rt; alarm_left(&rt, &mut table, 5) == 0);
+    make_ticks(&rt, &mut table, 2);
+    assert!(rt; alarm_left(&rt, &mut table, 0) == 3);
+    make_ticks(&rt, &mut table, 2);
     Ok(())
+}
+
+/// Slot 0's call, behind those who wait for the process that dies of it: how that is down.
+fn state_of_dead(rt: &impl Abort, table: &mut Table, death: &Death) -> State {
+    for slot in death.senders {
+        make_trap(rt, table, *slot, true, u32::from(death.dead));
+    }
+    for slot in death.receivers {
+        make_trap(rt, table, *slot, false, u32::from(death.dead));
+    }
+    make_call(rt, table, 0, &death.words);
+    assert!(rt; death.dead < table.used());
+    table.process(death.dead).state
+}
+
+/// Who is picked next, and with what in EAX it goes on; it is then out of its list.
+fn next_one(rt: &impl Abort, table: &mut Table) -> Option<(Slot, u32)> {
+    let slot = pick(table)?;
+    assert!(rt; slot < table.used());
+    let process = table.process(slot);
+    let result = process.image.register(Register::Eax);
+    assert!(rt; process.state.is_ready());
+    dequeue(table, slot);
+    Some((slot, result))
+}
+
+/// Whether those who waited go on with EDEADDST, each in its turn, and nobody behind them.
+fn go_on_in_order(rt: &impl Abort, table: &mut Table, death: &Death) -> bool {
+    for slot in death.order {
+        let waited = death.senders.contains(slot) || death.receivers.contains(slot);
+        let wanted = if waited { 0xFFFF_FF97 } else { 0 };
+        if next_one(rt, table) != Some((*slot, wanted)) {
+            return false;
+        }
+    }
+    pick(table) == None
+}
+
+fn dies_so(rt: &impl Abort, alloc: Global, death: &Death) -> Result<bool, Fail> {
+    let mut table = processes(rt, alloc, death.used, 0xFF)?;
+    let state = state_of_dead(rt, &mut table, death);
+    Ok(state == State::Down(death.cause) && go_on_in_order(rt, &mut table, death))
 }
 
 #[test]
 fn deaths(rt: HostRuntime) -> Result<(), Fail> {
     for (number, death) in DEATHS.iter().enumerate() {
-        let mut table = new_table(&rt, rt.alloc(), death.used, 0xFF)?;
-        for slot in death.senders {
-            make_trap(&rt, &mut table, *slot, true, u32::from(death.dead));
-        }
-        for slot in death.receivers {
-            make_trap(&rt, &mut table, *slot, false, u32::from(death.dead));
-        }
-        make_call(&rt, &mut table, 0, &death.words);
-        assert!(rt; death.dead < table.used());
-        assert!(rt;
-            table.process(death.dead).state == State::Down(death.cause),
-            "death {number}"
-        );
-        for slot in death.order {
-            assert_eq!(rt; pick(&table), Some(*slot), "death {number}");
-            assert!(rt; *slot < table.used());
-            let process = table.process(*slot);
-            let waited = death.senders.contains(slot) || death.receivers.contains(slot);
-            let wanted = if waited { 0xFFFF_FF97 } else { 0 };
-            assert_eq!(rt; process.image.register(Register::Eax), wanted);
-            assert!(rt; process.state.is_ready());
-            dequeue(&mut table, *slot);
-        }
-        assert_eq!(rt; pick(&table), None, "death {number}");
+        assert!(rt; dies_so(&rt, rt.alloc(), death)?, "death {number}");
     }
     Ok(())
 }

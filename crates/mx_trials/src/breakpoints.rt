@@ -1,0 +1,138 @@
+//! Breakpoints in a loop of three instructions that counts in EAX, and ends in a trap where EDX is 0.
+
+use mx_debug::{Cause, DebugError, Debugger, Halt, byte};
+use mx_exec::{Code, Image, Text};
+use mx_flags::Flags;
+use mx_image::Stop;
+use mx_mem::Segment;
+use mx_proc::Slot;
+use mx_regs::Regs;
+use mx_world::{Decoded, Held, Out};
+use std::alloc::Global;
+use std::test::Fail;
+
+/// `inc eax`, `inc eax`, `jmp short` to the first; behind it the trap.
+static LOOP: [u8; 6] = *b"\x40\x40\xEB\xFC\xCD\x21";
+
+/// What a processor holds of that loop, at its beginning.
+fn out_of(alloc: Global) -> Result<Out, Fail> {
+    let mut text = Segment::new(alloc, 6)?;
+    text.fill_from(0, &LOOP)?;
+    Ok(Out {
+        image: Image {
+            regs: Regs::new(),
+            eip: 0,
+            flags: Flags::from_bits(0),
+            memory: Segment::new(alloc, 16)?,
+            code: Code::Separate(Text::new(text)),
+        },
+        budget: 20,
+        count: 0,
+        stop: Stop::Spent,
+        decoded: Decoded::nothing(),
+    })
+}
+
+/// 64 breakpoints, the room for which is then full but for those that stand; one is taken away for
+/// another.
+fn is_marked(debugger: &mut Debugger) -> bool {
+    for address in 1..65 {
+        if debugger.add(3, address) != Ok(()) {
+            return false;
+        }
+    }
+    let is_full = debugger.add(2, 0) == Err(DebugError::TooMany) && debugger.add(3, 1) == Ok(());
+    debugger.remove(3, 2);
+    debugger.remove(3, 2);
+    is_full && debugger.add(2, 0) == Ok(())
+}
+
+/// A slot's run of so many steps: how many are made and why they end, and EIP behind them.
+struct Row {
+    slot: Slot,
+    steps: u32,
+    count: u32,
+    cause: Cause,
+    eip: u32,
+}
+
+static ROWS: [Row; 6] = [
+    Row {
+        slot: 3,
+        steps: 9,
+        count: 1,
+        cause: Cause::Breakpoint,
+        eip: 1,
+    },
+    Row {
+        slot: 3,
+        steps: 9,
+        count: 3,
+        cause: Cause::Breakpoint,
+        eip: 1,
+    },
+    Row {
+        slot: 3,
+        steps: 2,
+        count: 2,
+        cause: Cause::Spent,
+        eip: 0,
+    },
+    Row {
+        slot: 2,
+        steps: 9,
+        count: 3,
+        cause: Cause::Breakpoint,
+        eip: 0,
+    },
+    Row {
+        slot: 7,
+        steps: 4,
+        count: 4,
+        cause: Cause::Spent,
+        eip: 1,
+    },
+    Row {
+        slot: 3,
+        steps: 99,
+        count: 3,
+        cause: Cause::Breakpoint,
+        eip: 1,
+    },
+];
+
+fn halts<H: Held>(debugger: &Debugger, held: &mut H, row: &Row) -> bool {
+    let halt = debugger.resume(row.slot, held, row.steps);
+    (halt.count, halt.cause) == (row.count, row.cause) && held.image().eip == row.eip
+}
+
+fn halt_all(debugger: &Debugger, out: &mut Out) -> bool {
+    for row in &ROWS {
+        if !halts(debugger, out, row) {
+            return false;
+        }
+    }
+    true
+}
+
+/// The trap is told before the breakpoint behind it, and again of no step.
+fn is_trapped(debugger: &mut Debugger, out: &mut Out) -> bool {
+    out.image.eip = 4;
+    debugger.remove(3, 3);
+    let added = debugger.add(7, 6);
+    let first = debugger.resume(7, out, 99);
+    let second = debugger.resume(7, out, 99);
+    let cause = Cause::Trap;
+    added == Ok(()) && first == Halt { count: 1, cause } && second == Halt { count: 0, cause }
+}
+
+#[test]
+fn breakpoints(rt: HostRuntime) -> Result<(), Fail> {
+    let mut debugger = Debugger::new();
+    let mut out = out_of(rt.alloc())?;
+    assert!(rt; is_marked(&mut debugger) && halt_all(&debugger, &mut out));
+    assert!(rt; is_trapped(&mut debugger, &mut out));
+    assert!(rt; byte(&out.image, 15) == Ok(0) && byte(&out.image, 16) == Err(DebugError::NotHere));
+    assert!(rt; DebugError::NoSymbol.code() == 60 && DebugError::NoSymbol.name() == "NoSymbol");
+    Ok(())
+}

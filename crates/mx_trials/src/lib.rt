@@ -1,0 +1,26 @@
+//! Worked rows of the process layer, of the texts that drive it and of what is printed, by public calls
+//! alone.
+#![tactic(auto)]
+
+#[cfg(test)]
+mod breakpoints;
+#[cfg(test)]
+mod calls;
+#[cfg(test)]
+mod debugging;
+#[cfg(test)]
+mod driving;
+#[cfg(test)]
+mod events;
+#[cfg(test)]
+mod files;
+#[cfg(test)]
+mod printing;
+#[cfg(test)]
+mod starting;
+#[cfg(test)]
+mod tables;
+#[cfg(test)]
+mod texts;
+#[cfg(test)]
+mod traps;
