@@ -182,22 +182,22 @@ pub fn of_insn(insn: &Insn, next: u32) -> WrittenOperands
     ensures { listed result ≡ written_operands next insn.now }
 {
     match *insn {
-        Insn::Arithmetic { operands, .. } => of_operands(operands),
-        Insn::Move(operands) => of_operands(operands),
+        Insn::Arithmetic { operands, .. } | Insn::Move(operands) => of_operands(operands),
         Insn::Test {
+            size,
+            operand,
+            register,
+        }
+        | Insn::Exchange {
             size,
             operand,
             register,
         } => with_register(size, operand, register),
         Insn::TestImmediate { operand, value } => with_immediate(operand, value),
-        Insn::Exchange {
-            size,
-            operand,
-            register,
-        } => with_register(size, operand, register),
         Insn::LoadAddress { size, to, memory } => of_address(size, to, memory),
-        Insn::Unary { size, operand, .. } => One(of_operand(size, operand)),
-        Insn::Product { size, operand, .. } => One(of_operand(size, operand)),
+        Insn::Unary { size, operand, .. } | Insn::Product { size, operand, .. } => {
+            One(of_operand(size, operand))
+        }
         Insn::Multiply { size, to, from } => to_register(of_size(size), to, from),
         Insn::MultiplyImmediate { to, from, by } => of_product(to, from, by),
         Insn::Shift {
@@ -210,22 +210,22 @@ pub fn of_insn(insn: &Insn, next: u32) -> WrittenOperands
             extension,
             to,
             from,
-        } => of_extension(extension, to, from),
-        Insn::SignExtend {
+        }
+        | Insn::SignExtend {
             extension,
             to,
             from,
         } => of_extension(extension, to, from),
         Insn::SetCondition { operand, .. } => One(of_operand(Size::Byte, operand)),
-        Insn::Push(operand) => One(of_operand(Size::Dword, operand)),
+        Insn::Push(operand) | Insn::JumpTo(operand) | Insn::CallTo(operand) => {
+            One(of_operand(Size::Dword, operand))
+        }
         Insn::PushImmediate(value) => One(Written::Number(value)),
         Insn::Pop(register) => One(Written::Register(Size::Dword, register)),
-        Insn::JumpIf { displacement, .. } => of_target(next, displacement),
-        Insn::Jump(displacement) => of_target(next, displacement),
-        Insn::Call(displacement) => of_target(next, displacement),
-        Insn::JumpTo(operand) => One(of_operand(Size::Dword, operand)),
-        Insn::CallTo(operand) => One(of_operand(Size::Dword, operand)),
-        Insn::Loop { displacement, .. } => of_target(next, displacement),
+        Insn::JumpIf { displacement, .. }
+        | Insn::Jump(displacement)
+        | Insn::Call(displacement)
+        | Insn::Loop { displacement, .. } => of_target(next, displacement),
         Insn::Return(count) => of_return(count),
         Insn::Interrupt(vector) => One(Written::Number(u32::from(vector))),
         Insn::ExtendAccumulator(_) | Insn::SpreadSign(_) => Nothing,
