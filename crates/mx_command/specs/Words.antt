@@ -6,6 +6,8 @@ use Rattle.std.specs.declared.num.ParseIntError.{ParseIntError}
 use Rattle.clap.specs.Words.{App, Row, Rule, Shape, Text, first_of, new_rule, one_of}
 use Rattle.clap.specs.Simple.{new_shape}
 use Rattle.clap.specs.declared.builder.action.ArgAction.TheVariants.{Set}
+use Rattle.clap.specs.declared.builder.command.Command.{Command}
+use Rattle.clap.specs.declared.builder.command.Command.TheViews.{out-Command}
 use Rattle.clap.specs.declared.builder.value_parser.ValueParser.TheVariants.{Signed}
 use Rattle.mx_command.specs.declared.words.Request.{Request}
 use Rattle.mx_command.specs.declared.words.Request.TheVariants.{One, As, Dis, Nm, Step, Replay, Db}
@@ -30,6 +32,14 @@ of_one name first = subcommand name (wanted first ∷ [])
 
 abbrev pub of_two : Text → Text → Text → Shape
 of_two name first second = subcommand name (wanted first ∷ wanted second ∷ [])
+
+-- a command line that is a subcommand's alone
+abbrev pub alone : Shape → App
+alone s = record { top = s; subs = [] }
+
+-- none of its arguments is its subcommands' too
+abbrev pub IsLocal : Command → Type 0
+IsLocal c = (out-Command c).has_globals ≡ false
 
 -- `one FILE N`
 abbrev pub one_shape : Shape

@@ -3,7 +3,7 @@
 ghost use Rattle.std.specs.Prelude.{◌≡◌, ℕ, IfErr, IfOk, codes, false, is_some, map, true};
 ghost use Rattle.clap.specs.Words.{FailsBy, app_of, fault_of, first_of, found_of, kind_of, rows_of, rule_of, shape_of};
 ghost use Rattle.clap.specs.Words.{subcommand_of, takes, with_subcommand};
-ghost use Rattle.mx_command.specs.Words.{Asks, AsksBy, HasNumber, HasText, IsAsked, IsMachineAsked, IsProgramAsked, is_machine, mx_grammar, of_one, of_two, one_shape, program_app, top_app, wanted};
+ghost use Rattle.mx_command.specs.Words.{Asks, AsksBy, HasNumber, HasText, IsAsked, IsLocal, IsMachineAsked, IsProgramAsked, alone, is_machine, mx_grammar, of_one, of_two, one_shape, program_app, top_app, wanted};
 
 use crate::help::{AS_EXAMPLE, CONFIG, DB_EXAMPLE, PROGRAM, REPLAY_EXAMPLE, STEP_EXAMPLE};
 use clap::error::ErrorKind;
@@ -47,21 +47,69 @@ struct Word<'a> {
     help: &'a str,
 }
 
+/// A subcommand of one text, with its help.
+fn of_one<'a>(alloc: Global, subcommand: Word<'a>, first: Word<'a>) -> Result<Command<'a>, Error>
+    ensures app { IfOk result (λ c. app_of c ≡ alone (of_one subcommand.entry.name.now first.entry.name.now)) }
+    ensures local { IfOk result IsLocal }
+    ensures err { IfErr result (λ e. kind_of e ≡ ErrorKind.OutOfMemory) }
+{
+    let value = wanted(alloc, first.name, first.help);
+    let command = Command::new(alloc, subcommand.name).about(subcommand.help);
+    Ok(command.arg(value)?)
+}
+
+/// A subcommand of two texts, with its help and an example.
+fn of_two<'a>(
+    alloc: Global,
+    subcommand: Word<'a>,
+    first: Word<'a>,
+    second: Word<'a>,
+    example: &'a str,
+) -> Result<Command<'a>, Error>
+    ensures app { IfOk result (λ c. app_of c ≡ alone (of_two subcommand.entry.name.now first.entry.name.now second.entry.name.now)) }
+    ensures local { IfOk result IsLocal }
+    ensures err { IfErr result (λ e. kind_of e ≡ ErrorKind.OutOfMemory) }
+{
+    let command = of_one(alloc, subcommand, first)?;
+    let value = wanted(alloc, second.name, second.help);
+    Ok(command.after_help(example).arg(value)?)
+}
+
+/// The subcommand `one FILE N`, with its help.
+fn of_number<'a>(alloc: Global) -> Result<Command<'a>, Error>
+    ensures app { IfOk result (λ c. app_of c ≡ alone one_shape) }
+    ensures local { IfOk result IsLocal }
+    ensures err { IfErr result (λ e. kind_of e ≡ ErrorKind.OutOfMemory) }
+{
+    let one = Word {
+        name: "one",
+        help: "Runs one program for at most N steps and prints its registers, flags and how it stopped",
+    };
+    let file = Word {
+        name: "FILE",
+        help: PROGRAM,
+    };
+    let command = of_one(alloc, one, file)?;
+    let number = wanted(alloc, "N", "How many steps at most, 0 to 4294967295");
+    Ok(command.arg(number.value_parser(clap::value_parser!(u32)))?)
+}
+
+/// Adds a subcommand.
+fn with<'a>(line: Command<'a>, subcommand: Command<'a>) -> Result<Command<'a>, Error>
+    requires { IsLocal subcommand }
+    ensures app { IfOk result (λ c. app_of c ≡ with_subcommand (app_of line.entry) (shape_of subcommand.entry)) }
+    ensures err { IfErr result (λ e. kind_of e ≡ ErrorKind.OutOfMemory) }
+{
+    Ok(line.subcommand(subcommand)?)
+}
+
 /// Adds `one FILE N`, with its help.
 fn with_number<'a>(alloc: Global, line: Command<'a>) -> Result<Command<'a>, Error>
     ensures app { IfOk result (λ c. app_of c ≡ with_subcommand (app_of line.entry) one_shape) }
     ensures err { IfErr result (λ e. kind_of e ≡ ErrorKind.OutOfMemory) }
 {
-    let file = wanted(alloc, "FILE", PROGRAM);
-    let number = wanted(alloc, "N", "How many steps at most, 0 to 4294967295");
-    let steps = number.value_parser(clap::value_parser!(u32));
-    let command = Command::new(alloc, "one")
-        .about(
-            "Runs one program for at most N steps and prints its registers, flags and how it stopped",
-        )
-        .arg(file)?
-        .arg(steps)?;
-    Ok(line.subcommand(command)?)
+    let made = of_number(alloc)?;
+    with(line, made)
 }
 
 /// Adds a subcommand of one text, with its help.
@@ -74,11 +122,8 @@ fn with_one<'a>(
     ensures app { IfOk result (λ c. app_of c ≡ with_subcommand (app_of line.entry) (of_one subcommand.entry.name.now first.entry.name.now)) }
     ensures err { IfErr result (λ e. kind_of e ≡ ErrorKind.OutOfMemory) }
 {
-    let value = wanted(alloc, first.name, first.help);
-    let command = Command::new(alloc, subcommand.name)
-        .about(subcommand.help)
-        .arg(value)?;
-    Ok(line.subcommand(command)?)
+    let made = of_one(alloc, subcommand, first)?;
+    with(line, made)
 }
 
 /// Adds a subcommand of two texts, with its help and an example.
@@ -93,14 +138,8 @@ fn with_two<'a>(
     ensures app { IfOk result (λ c. app_of c ≡ with_subcommand (app_of line.entry) (of_two subcommand.entry.name.now first.entry.name.now second.entry.name.now)) }
     ensures err { IfErr result (λ e. kind_of e ≡ ErrorKind.OutOfMemory) }
 {
-    let one = wanted(alloc, first.name, first.help);
-    let other = wanted(alloc, second.name, second.help);
-    let command = Command::new(alloc, subcommand.name)
-        .about(subcommand.help)
-        .after_help(example)
-        .arg(one)?
-        .arg(other)?;
-    Ok(line.subcommand(command)?)
+    let made = of_two(alloc, subcommand, first, second, example)?;
+    with(line, made)
 }
 
 /// The command line before its subcommands.

@@ -6,10 +6,9 @@ ghost use Rattle.mx_aout.specs.File.{refusal_of};
 ghost use Rattle.mx_failure.specs.Failure.{Tells};
 ghost use Rattle.mx_program.specs.Shown.{HasListing, HasNames, IsShown, Shows};
 
-use crate::report::print_text;
 use mx_aout::{FileError, read};
 use mx_dis::{list, names};
-use mx_failure::Failure;
+use mx_failure::{Failure, print_text};
 use std::alloc::Global;
 use std::io::Write;
 
@@ -35,7 +34,7 @@ pub fn print_listing<W: Write>(alloc: Global, bytes: &[u8], out: &mut W) -> Resu
     ensures shown { OnOk result ((text : List ℕ) × IsShown HasListing bytes.now text × Appends (W.contents out.old) (W.contents out.new) text) }
 {
     let text = listing_of(alloc, bytes)?;
-    print_text(text.as_str(), out)
+    print_text(text.as_bytes(), out)
 }
 
 /// Prints the symbols of a file's program, one a line.
@@ -44,5 +43,5 @@ pub fn print_names<W: Write>(alloc: Global, bytes: &[u8], out: &mut W) -> Result
     ensures shown { OnOk result ((text : List ℕ) × IsShown HasNames bytes.now text × Appends (W.contents out.old) (W.contents out.new) text) }
 {
     let text = names_of(alloc, bytes)?;
-    print_text(text.as_str(), out)
+    print_text(text.as_bytes(), out)
 }

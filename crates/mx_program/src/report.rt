@@ -7,7 +7,7 @@ ghost use Rattle.mx_failure.specs.Failure.{IsWanting, Tells};
 ghost use Rattle.mx_program.specs.One.{IsPrinted, one_text};
 
 use crate::running::one;
-use mx_failure::Failure;
+use mx_failure::{Failure, print_text};
 use mx_image::{Runs, Stop};
 use mx_show::{push_registers, push_stop};
 use std::alloc::{AllocError, Global};
@@ -41,17 +41,7 @@ fn print_steps<R: Runs, W: Write>(
     ensures bytes { OnOk result (Appends (W.contents out.old) (W.contents out.new) (one_text count stop (R.image image.now))) }
 {
     let text = four_lines(alloc, count, stop, image)?;
-    print_text(text.as_str(), out)
-}
-
-/// Writes a text whole.
-pub(crate) fn print_text<W: Write>(text: &str, out: &mut W) -> Result<(), Failure>
-    ensures err { IfErr result IsWanting }
-    ensures bytes { OnOk result (Appends (W.contents out.old) (W.contents out.new) text.now) }
-{
-    out.write_all(text.as_bytes())?;
-    out.flush()?;
-    Ok(())
+    print_text(text.as_bytes(), out)
 }
 
 /// Registers, flags and stop.

@@ -16,4 +16,4 @@ returns-clause-tells g c = tells_written (λ text. string_bytes text) HasListing
 pub returns-clause-shown : goal.returns-clause-shown
 returns-clause-shown g c =
     let shown = text_shown (λ text. string_bytes text) HasListing (refusal_of c.args.bytes.now) c.args.bytes.now c.in_ok-text.text c.in_ok-text.ensures in
-    shown_on HasListing c.args.bytes.now _ _ c.as_str.result.now c.print_text.result (subst (λ (t : List ℕ). IsShown HasListing c.args.bytes.now t) (sym c.as_str.ensures.value) shown) c.print_text.ensures.bytes
+    shown_on HasListing c.args.bytes.now _ _ c.as_bytes.result.now c.print_text.result (subst (λ (t : List ℕ). IsShown HasListing c.args.bytes.now t) (sym c.as_bytes.ensures.value) shown) c.print_text.ensures.bytes
