@@ -1,18 +1,7 @@
-//! Compares single steps with those that a real processor took.
-//!
-//! Standard input has a case a line, thirteen fields parted by ` | `, numbers in hexadecimal: row
-//! and mnemonic; the instruction's bytes; the code, `-` where it stands in the data; the data; the
-//! eight registers; EIP; flags; `go` or `fault-V`; registers, EIP and flags after the step; which
-//! flags to compare; the bytes that changed as `address:byte,..`, or `-`.
+//! Compares single steps with those that a real processor took: standard input has a case a line.
 #![tactic(auto)]
 
-mod case;
-mod checking;
-mod reading;
-
-pub use case::{Case, CaseError, State};
-pub use checking::{Failure, Tally, check_all, check_case};
-pub use reading::parse_case;
+pub use mx_compare::{Failure, Tally, check_all};
 use std::io::{self, BufReader};
 use std::process::ExitCode;
 
@@ -31,6 +20,3 @@ fn main(rt: HostRuntime) -> ExitCode {
         }
     }
 }
-
-#[cfg(test)]
-mod tests;

@@ -1,0 +1,13 @@
+//! Single steps that a real processor took, as lines of a text.
+//!
+//! A line has thirteen fields parted by ` | `, numbers in hexadecimal: row and mnemonic; the
+//! instruction's bytes; the code, `-` where it stands in the data; the data; the eight registers;
+//! EIP; flags; `go` or `fault-V`; registers, EIP and flags after the step; which flags to compare;
+//! the bytes that changed as `address:byte,..`, or `-`.
+#![tactic(auto)]
+
+mod case;
+mod reading;
+
+pub use case::{Case, CaseError, State};
+pub use reading::parse_case;
