@@ -124,6 +124,9 @@ unspelled_given i wide e g = unspelled i wide (not_given (choice i wide) e g)
 pub unspelled_place : (i : Insn) (wide : Wide) (f : Form) → Gives (Ok f) (choice i wide) → has_place f.rm ≡ false → (bytes : List ℕ) → Spells bytes i → ⊥
 unspelled_place i wide f g h = unspelled i wide (no_place (choice i wide) f g h)
 
+pub unformed_place : (i : Insn) (wide : Wide) (f : Form) → Gives (Ok f) (choice i wide) → has_place f.rm ≡ false → has_form i ≡ false
+unformed_place i wide f g h = sym (form_is i wide) ∙ no_place (choice i wide) f g h
+
 pub where_err : {A : Type 0} (r : Result A NoForm) (P : Type 0) → P → IfErr r (λ e. P)
 where_err (Ok x) P p = tt
 where_err (Err e) P p = p

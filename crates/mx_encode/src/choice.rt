@@ -8,11 +8,11 @@ use crate::{NoForm, Wide, accumulator, jumps, operands, single};
 use mx_insn::Insn;
 
 /// The form that is chosen. Only how far LOOP and JECXZ go can rule one out.
-pub fn form_of(insn: &Insn, wide: Wide) -> Result<Form, NoForm>
-    ensures form { Gives result (choice insn.now wide) }
-    ensures fits { Fits insn.now }
+pub fn form_of(insn: Insn, wide: Wide) -> Result<Form, NoForm>
+    ensures form { Gives result (choice insn wide) }
+    ensures fits { Fits insn }
 {
-    match *insn {
+    match insn {
         Insn::Arithmetic {
             operation,
             operands,

@@ -17,7 +17,7 @@ pub fn encode(insn: &Insn, wide: Wide) -> Result<ArrayVec<u8, 15>, NoForm>
     ensures form { IsOk result ↔ IsTrue (has_form insn.now) }
     ensures none { IfErr result (λ _. (bytes : List ℕ) → Spells bytes insn.now → ⊥) }
 {
-    let form = form_of(insn, wide)?;
+    let form = form_of(*insn, wide)?;
     if !has_place(form.rm) {
         return Err(NoForm);
     }

@@ -162,8 +162,9 @@ pub fn multiply_immediate(to: Register, from: Operand, value: WideImmediate, lon
     ensures from_fits { OperandFits from }
     ensures value_fits { WideImmediateFits value }
 {
-    let short_form = Form::with_rm(0x6b, to.number(), from);
-    let long_form = Form::with_rm(0x69, to.number(), from);
+    let reg = to.number();
+    let short_form = Form::with_rm(0x6b, reg, from);
+    let long_form = Form::with_rm(0x69, reg, from);
     match value {
         WideImmediate::Word(n) => {
             if shortens(Size::Word, u32::from(n), long) {

@@ -3,7 +3,7 @@ use Rattle.mx_insn.specs.Spelling.{Spells}
 use Rattle.mx_encode.specs.Chosen.{fields_of}
 use Rattle.mx_encode.proofs.Answer.{reg_fits, chosen_given}
 use Rattle.mx_encode.proofs.Spelled.{spelled_has_form}
-use Rattle.mx_encode.proofs.Formless.{unspelled_given, unspelled_place, where_err}
+use Rattle.mx_encode.proofs.Formless.{unspelled_given, unspelled_place, unformed_place, where_err}
 use Rattle.mx_encode.proofs.encoding.encode.Goals as goal
 
 pub bytes_of_form-requires : goal.bytes_of_form-requires
@@ -23,3 +23,7 @@ returns-in_err-form-clause-none c = where_err c.from_residual.result ((bytes : L
 
 pub returns-then-not-has_place-clause-none : goal.returns-then-not-has_place-clause-none
 returns-then-not-has_place-clause-none c = unspelled_place c.args.insn.now c.args.wide c.in_ok-form.form c.in_ok-form.ensures.form (sym c.has_place.ensures ∙ c.if-not-has_place.true)
+
+pub returns-then-not-has_place-clause-form : goal.returns-then-not-has_place-clause-form
+returns-then-not-has_place-clause-form c =
+    rw (unformed_place c.args.insn.now c.args.wide c.in_ok-form.form c.in_ok-form.ensures.form (sym c.has_place.ensures ∙ c.if-not-has_place.true)) (λ e. e, λ e. e)
