@@ -40,16 +40,16 @@ use Rattle.mx_statement.specs.declared.statement.Statement.TheVariants as statem
 use Rattle.mx_statement.specs.declared.instruction.Instruction.{Instruction}
 use Rattle.mx_statement.specs.Instructions.{formed, instruction_of}
 use Rattle.mx_statement.specs.Values.{whole_of}
-use Rattle.mx_form.specs.declared.spot.Spot.{Spot}
-use Rattle.mx_form.specs.declared.pair.Pair.{Pair}
-use Rattle.mx_form.specs.declared.moves.ExtensionParts.{ExtensionParts}
-use Rattle.mx_form.specs.Numbers.{is_outside, low_bits, number_in, immediate_in, is_same, names_no_other, waiting}
-use Rattle.mx_form.specs.Spots.{says, memory_named, spot_in, spot_of, spot_of_size, spot_beside, not_byte}
-use Rattle.mx_form.specs.Pairs.{to_memory, operands_of}
+use Rattle.mx_spot.specs.declared.spot.Spot.{Spot}
+use Rattle.mx_spot.specs.declared.pair.Pair.{Pair}
+use Rattle.mx_spot.specs.declared.moves.ExtensionParts.{ExtensionParts}
+use Rattle.mx_spot.specs.Numbers.{is_outside, low_bits, number_in, immediate_in, is_same, names_no_other, waiting}
+use Rattle.mx_spot.specs.Spots.{says, memory_named, spot_in, spot_of, spot_of_size, spot_beside, not_byte}
+use Rattle.mx_spot.specs.Pairs.{to_memory, operands_of}
 use Rattle.mx_form.specs.Operations.{unary, test, sized_factor, factor_of, product, count_of, shift, set_condition}
-use Rattle.mx_form.specs.Moves.{exchange, load_address, extension_of, extension_parts, zero_extend, sign_extend}
+use Rattle.mx_spot.specs.Moves.{exchange, load_address, extension_of, extension_parts, zero_extend, sign_extend}
 use Rattle.mx_form.specs.Stack.{alone, push, pop, return_of, interrupt, port_of, port_size_of, port_in, port_out}
-use Rattle.mx_form.specs.Transfers.{jump, jump_if, call, looping}
+use Rattle.mx_spot.specs.Transfers.{jump, jump_if, call, looping}
 use Rattle.mx_form.specs.Statements.{arithmetic, moved, stated_single, stated, repeated}
 
 -- if there is one, it is so

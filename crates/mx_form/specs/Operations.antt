@@ -18,8 +18,8 @@ use Rattle.mx_operand.specs.declared.argument.Argument.TheVariants as arguments
 use Rattle.mx_operand.specs.Items.{◌>>=◌}
 use Rattle.mx_statement.specs.declared.value.Value.{Value}
 use Rattle.mx_statement.specs.declared.statement.Statement.{Statement}
-use Rattle.mx_form.specs.Numbers.{number_in, immediate_in, waiting}
-use Rattle.mx_form.specs.Spots.{says, spot_of, spot_of_size, spot_beside, not_byte}
+use Rattle.mx_spot.specs.Numbers.{number_in, immediate_in, waiting}
+use Rattle.mx_spot.specs.Spots.{says, spot_of, spot_of_size, spot_beside, not_byte}
 
 abbrev pub unary : Unary → List Argument → Option Statement
 unary o (x ∷ []) = do

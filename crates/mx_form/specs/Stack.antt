@@ -12,8 +12,8 @@ use Rattle.mx_operand.specs.declared.argument.Argument.{Argument}
 use Rattle.mx_operand.specs.declared.argument.Argument.TheVariants as arguments
 use Rattle.mx_operand.specs.Items.{◌>>=◌}
 use Rattle.mx_statement.specs.declared.statement.Statement.{Statement}
-use Rattle.mx_form.specs.Numbers.{number_in, waiting}
-use Rattle.mx_form.specs.Spots.{says, spot_of_size}
+use Rattle.mx_spot.specs.Numbers.{number_in, waiting}
+use Rattle.mx_spot.specs.Spots.{says, spot_of_size}
 
 abbrev pub alone : Insn → List Argument → Option Statement
 alone insn [] = says insn None None

@@ -13,12 +13,12 @@ use Rattle.mx_words.specs.declared.start.Prefix.TheVariants.{Rep, Repe, Repne}
 use Rattle.mx_operand.specs.declared.argument.Argument.{Argument}
 use Rattle.mx_operand.specs.Items.{◌>>=◌}
 use Rattle.mx_statement.specs.declared.statement.Statement.{Statement}
-use Rattle.mx_form.specs.Spots.{says}
-use Rattle.mx_form.specs.Pairs.{operands_of}
+use Rattle.mx_spot.specs.Spots.{says}
+use Rattle.mx_spot.specs.Pairs.{operands_of}
 use Rattle.mx_form.specs.Operations.{unary, test, product, shift, set_condition}
-use Rattle.mx_form.specs.Moves.{exchange, load_address, zero_extend, sign_extend}
+use Rattle.mx_spot.specs.Moves.{exchange, load_address, zero_extend, sign_extend}
 use Rattle.mx_form.specs.Stack.{alone, push, pop, return_of, interrupt, port_in, port_out}
-use Rattle.mx_form.specs.Transfers.{jump, jump_if, call, looping}
+use Rattle.mx_spot.specs.Transfers.{jump, jump_if, call, looping}
 
 abbrev pub arithmetic : Arithmetic → List Argument → Option Statement
 arithmetic o xs = do

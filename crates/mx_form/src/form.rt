@@ -3,14 +3,14 @@
 ghost use Rattle.std.specs.Prelude.{◌≡◌};
 ghost use Rattle.mx_form.specs.Statements.{arithmetic, moved, stated_single, stated, repeated};
 
-use crate::moves::{exchange, load_address, sign_extend, zero_extend};
 use crate::operations::{product, set_condition, shift, test, unary};
-use crate::pair::operands_of;
-use crate::spot::says;
 use crate::stack::{alone, interrupt, pop, port_in, port_out, push, return_of};
-use crate::transfers::{call, jump, jump_if, looping};
 use mx_insn::{Arithmetic, Insn, OperandSize, Repeat};
 use mx_operand::Argument;
+use mx_spot::{
+    call, exchange, jump, jump_if, load_address, looping, operands_of, says, sign_extend,
+    zero_extend,
+};
 use mx_statement::Statement;
 use mx_words::{Mnemonic, Prefix, Single};
 

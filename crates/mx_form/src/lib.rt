@@ -3,17 +3,12 @@
 
 mod form;
 mod laws;
-mod moves;
-mod number;
 mod operations;
-mod pair;
-mod spot;
 mod stack;
-mod transfers;
 
 pub use form::{repeated, stated};
 pub use laws::numbers_fit;
 pub use mx_operand::{Address, Argument, Index, Name, Register, Scale, Size, Value};
+pub use mx_spot::number_in;
 pub use mx_statement::{Branch, Instruction, Statement};
 pub use mx_words::{Mnemonic, Prefix, Single};
-pub use number::number_in;

@@ -3,10 +3,11 @@
 ghost use Rattle.std.specs.Prelude.{◌≡◌, ◌∷◌, []};
 ghost use Rattle.mx_form.specs.Operations.{factor_of, unary, test, product, count_of, shift, set_condition};
 
-use crate::number::{immediate_in, number_in, waiting};
-use crate::spot::{not_byte, says, spot_beside, spot_of, spot_of_size};
 use mx_insn::{Condition, Count, Insn, Product, Register, Shift, Size, Unary, WideImmediate};
 use mx_operand::Argument;
+use mx_spot::{
+    immediate_in, not_byte, number_in, says, spot_beside, spot_of, spot_of_size, waiting,
+};
 use mx_statement::{Statement, Value};
 
 /// INC, DEC, NOT, NEG.

@@ -3,10 +3,9 @@
 ghost use Rattle.std.specs.Prelude.{◌≡◌, ◌∷◌, []};
 ghost use Rattle.mx_form.specs.Stack.{alone, push, pop, return_of, interrupt, port_of, port_size_of, port_in, port_out};
 
-use crate::number::{number_in, waiting};
-use crate::spot::{says, spot_of_size};
 use mx_insn::{Insn, Port, PortSize, Register, Size};
 use mx_operand::Argument;
+use mx_spot::{number_in, says, spot_of_size, waiting};
 use mx_statement::Statement;
 
 /// An instruction that stands alone.

@@ -27,7 +27,7 @@ use Rattle.mx_statement.specs.declared.statement.Section.{Section}
 use Rattle.mx_statement.specs.declared.statement.Section.TheVariants as sections
 use Rattle.mx_statement.specs.declared.statement.Statement.{Statement}
 use Rattle.mx_statement.specs.declared.statement.Statement.TheVariants as statements
-use Rattle.mx_form.specs.Numbers.{number_in}
+use Rattle.mx_spot.specs.Numbers.{number_in}
 use Rattle.mx_form.specs.Statements.{stated, repeated}
 use Rattle.mx_reading.specs.declared.items.Begun.{Begun}
 use Rattle.mx_reading.specs.declared.items.Begun.TheVariants as begun

@@ -9,7 +9,7 @@ use Rattle.mx_operand.specs.declared.argument.Argument.TheVariants as arguments
 use Rattle.mx_operand.specs.Items.{◌>>=◌}
 use Rattle.mx_statement.specs.declared.branch.Branch.TheVariants as branches
 use Rattle.mx_statement.specs.declared.statement.Statement.{Statement}
-use Rattle.mx_form.specs.Spots.{says, goes, spot_of_size}
+use Rattle.mx_spot.specs.Spots.{says, goes, spot_of_size}
 
 abbrev pub jump : Bool → List Argument → Option Statement
 jump short (arguments.Value target ∷ []) = goes (branches.Jump short) target

@@ -2,7 +2,7 @@
 
 ghost use Rattle.std.specs.Prelude.{◌≡◌, ◌∷◌, []};
 ghost use Rattle.mx_operand.specs.declared.argument.Argument.TheVariants as arguments;
-ghost use Rattle.mx_form.specs.Pairs.{from_spot, to_memory, to_spot, operands_of};
+ghost use Rattle.mx_spot.specs.Pairs.{from_spot, to_memory, to_spot, operands_of};
 
 use crate::number::{immediate_in, names_no_other, waiting};
 use crate::spot::{Spot, memory_named, spot_beside, spot_of};

@@ -2,7 +2,7 @@
 
 ghost use Rattle.std.specs.Prelude.{◌≡◌, ◌<◌, ◌^◌, IfSome};
 ghost use Rattle.mx_word.specs.Word.{width};
-ghost use Rattle.mx_form.specs.Numbers.{number_in, waiting, immediate_in, names_no_other};
+ghost use Rattle.mx_spot.specs.Numbers.{number_in, waiting, immediate_in, names_no_other};
 
 use mx_insn::{Immediate, Size};
 use mx_statement::Value;

@@ -1,7 +1,7 @@
 //! What moves values as they are, or extends them.
 
 ghost use Rattle.std.specs.Prelude.{◌≡◌, ◌∷◌, []};
-ghost use Rattle.mx_form.specs.Moves.{exchange, load_address, extension_of, extension_parts, zero_extend, sign_extend};
+ghost use Rattle.mx_spot.specs.Moves.{exchange, load_address, extension_of, extension_parts, zero_extend, sign_extend};
 
 use crate::number::waiting;
 use crate::spot::{memory_named, not_byte, says, spot_beside, spot_of};

@@ -16,8 +16,8 @@ use Rattle.mx_statement.specs.declared.branch.Branch.{Branch}
 use Rattle.mx_statement.specs.declared.statement.Statement.{Statement}
 use Rattle.mx_statement.specs.declared.statement.Statement.TheVariants as statements
 use Rattle.mx_statement.specs.Instructions.{instruction_of}
-use Rattle.mx_form.specs.declared.spot.Spot.{Spot}
-use Rattle.mx_form.specs.Numbers.{is_same, names_no_other, number_in, waiting}
+use Rattle.mx_spot.specs.declared.spot.Spot.{Spot}
+use Rattle.mx_spot.specs.Numbers.{is_same, names_no_other, number_in, waiting}
 
 -- an instruction that has a form, and the values that are still to be put in: as its immediate, as its displacement
 abbrev pub says : Insn → Option Value → Option Value → Option Statement

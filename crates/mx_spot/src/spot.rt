@@ -1,7 +1,7 @@
 //! Single operands.
 
 ghost use Rattle.std.specs.Prelude.{◌≡◌};
-ghost use Rattle.mx_form.specs.Spots.{says, goes, memory_named, spot_in, spot_of, spot_of_size, spot_beside, not_byte};
+ghost use Rattle.mx_spot.specs.Spots.{says, goes, memory_named, spot_in, spot_of, spot_of_size, spot_beside, not_byte};
 
 use crate::number::{names_no_other, number_in, waiting};
 use mx_insn::{Insn, Memory, Operand, OperandSize, Size};

@@ -8,10 +8,10 @@ use Rattle.mx_operand.specs.declared.argument.Argument.TheVariants as arguments
 use Rattle.mx_operand.specs.declared.memory.Address.{Address}
 use Rattle.mx_operand.specs.Items.{◌>>=◌}
 use Rattle.mx_statement.specs.declared.value.Value.{Value}
-use Rattle.mx_form.specs.declared.spot.Spot.{Spot}
-use Rattle.mx_form.specs.declared.pair.Pair.{Pair}
-use Rattle.mx_form.specs.Numbers.{names_no_other, immediate_in, waiting}
-use Rattle.mx_form.specs.Spots.{memory_named, spot_of, spot_beside}
+use Rattle.mx_spot.specs.declared.spot.Spot.{Spot}
+use Rattle.mx_spot.specs.declared.pair.Pair.{Pair}
+use Rattle.mx_spot.specs.Numbers.{names_no_other, immediate_in, waiting}
+use Rattle.mx_spot.specs.Spots.{memory_named, spot_of, spot_beside}
 
 -- a register from a register or from memory
 abbrev pub from_spot : Size → Register → Argument → Option Pair

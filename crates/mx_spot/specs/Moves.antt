@@ -9,9 +9,9 @@ use Rattle.mx_operand.specs.declared.argument.Argument.{Argument}
 use Rattle.mx_operand.specs.declared.argument.Argument.TheVariants as arguments
 use Rattle.mx_operand.specs.Items.{◌>>=◌}
 use Rattle.mx_statement.specs.declared.statement.Statement.{Statement}
-use Rattle.mx_form.specs.declared.moves.ExtensionParts.{ExtensionParts}
-use Rattle.mx_form.specs.Numbers.{waiting}
-use Rattle.mx_form.specs.Spots.{says, memory_named, spot_of, spot_beside, not_byte}
+use Rattle.mx_spot.specs.declared.moves.ExtensionParts.{ExtensionParts}
+use Rattle.mx_spot.specs.Numbers.{waiting}
+use Rattle.mx_spot.specs.Spots.{says, memory_named, spot_of, spot_beside, not_byte}
 
 -- a register or memory, and a register
 abbrev pub exchange : List Argument → Option Statement

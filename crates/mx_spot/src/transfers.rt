@@ -1,7 +1,7 @@
 //! Jumps, calls and loops.
 
 ghost use Rattle.std.specs.Prelude.{◌≡◌, ◌∷◌, []};
-ghost use Rattle.mx_form.specs.Transfers.{jump, jump_if, call, looping};
+ghost use Rattle.mx_spot.specs.Transfers.{jump, jump_if, call, looping};
 
 use crate::spot::{goes, says, spot_of_size};
 use mx_insn::{Condition, Insn, Loop, Size};

@@ -1,0 +1,5 @@
+pub mod Numbers
+pub mod Spots
+pub mod Pairs
+pub mod Moves
+pub mod Transfers
