@@ -1,4 +1,3 @@
-pub mod Answers
 pub mod Places
 pub mod Going
 pub mod Lines

@@ -22,7 +22,6 @@ ghost use Rattle.mx_steps.specs.Telling.{IsTold};
 
 use crate::laws::actors_stay;
 use crate::printing::{print_report, print_text};
-use crate::said::Said;
 use crate::stepping::work_steps;
 use mx_failure::Failure;
 use mx_machine::{Event, Machine, Record, Recorded};
