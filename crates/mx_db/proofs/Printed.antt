@@ -1,75 +1,38 @@
--- What is told and printed where a debugger's script drives a machine.
-use Rattle.std.proofs.Common.{◌≡◌, ◌⊎◌, ◌∙◌, ◌<◌, ◌+◌, ℕ, List, [], ◌++◌, Option, Some, None, Result, Ok, Err, OnOk, IfErr, length, replicate, append_assoc, inl, inr, refl, ap, sym, subst, arith}
-use Rattle.std.proofs.lemmas.List.{length-replicate}
+-- What is printed where a debugger's script drives a machine.
+use Rattle.std.proofs.Common.{◌≡◌, ◌∙◌, ℕ, List, [], ◌++◌, Option, ap, sym, subst}
 use Rattle.std.specs.Io.KnownBytes.{Appends}
-use Rattle.mx_fields.specs.declared.error.BootError.{BootError}
 use Rattle.mx_setup.specs.declared.config.Config.{Config}
 use Rattle.mx_respawn.specs.declared.service.Service.{Service}
 use Rattle.mx_script.specs.declared.debug.DebugLine.{DebugLine}
 use Rattle.mx_debug.specs.declared.points.Breakpoint.{Breakpoint}
-use Rattle.mx_failure.specs.declared.failure.Failure.{Failure}
-use Rattle.mx_failure.specs.declared.failure.Failure.TheVariants.{File, NoMemory}
-use Rattle.mx_failure.specs.Failure.{IsWanting}
 use Rattle.mx_machine.specs.Machine.{Running, world_of}
 use Rattle.mx_report.specs.Report.{report_text}
 use Rattle.mx_world.specs.Boot.{booted}
 use Rattle.mx_world.specs.History.{Kept, replay}
 use Rattle.mx_world.specs.Whole.{Whole}
-use Rattle.mx_start.specs.Asked.{Asked}
-use Rattle.mx_start.specs.Setup.{IsFirstFault, IsStart}
-use Rattle.mx_steps.specs.Lines.{actors}
-use Rattle.mx_steps.specs.Telling.{IsTold}
+use Rattle.mx_steps.proofs.StepLemmas.{appends_both, report_of_world}
 use Rattle.mx_db.specs.Lines.{Debugged, debug_lines_made}
 use Rattle.mx_db.proofs.Made.{both}
 
-pub on_ok : {A E : Type 0} (P Q : Type 0) (r : Result A E) → (P → Q) → OnOk r P → OnOk r Q
-on_ok P Q (Ok a) f h = f h
-on_ok P Q (Err e) f h = tt
+-- the report on where lines lead
+abbrev pub report_on : Debugged → List ℕ
+report_on d = report_text d.world.table d.world.services
 
-pub if_err : {A E : Type 0} (P Q : E → Type 0) (r : Result A E) → ((e : E) → P e → Q e) → IfErr r P → IfErr r Q
-if_err P Q (Ok a) f h = tt
-if_err P Q (Err e) f h = f e h
+pub lines_printed : (x y z : Option (List ℕ)) (text : List ℕ) (w : Whole) (other : ℕ) (lines : List DebugLine) (empty points : List Breakpoint) (k : Kept) (m : Running)
+    → Appends x y text → empty ≡ [] → debug_lines_made other (both w empty) lines ≡ both (world_of m) points → k ≡ m.kernel → Appends y z (report_text (replay k).table (replay k).services)
+    → Appends x z (text ++ report_on (debug_lines_made other (both w []) lines))
+lines_printed x y z text w other lines empty points k m a none made kernel b =
+    let world : world_of m ≡ (debug_lines_made other (both w []) lines).world =
+    ap (λ (d : Debugged). d.world) (sym made ∙ ap (λ (v : List Breakpoint). debug_lines_made other (both w v) lines) none) in
+    let reported : report_text (replay k).table (replay k).services ≡ report_on (debug_lines_made other (both w []) lines) =
+    report_of_world k m (debug_lines_made other (both w []) lines).world kernel world in
+    appends_both x y z text (report_on (debug_lines_made other (both w []) lines)) a (subst (λ (t : List ℕ). Appends y z t) reported b)
 
-module _ {L : Type 0} (Says : List ℕ → Config → List L → Type 0) (Tells : List ℕ → Config → BootError → Type 0) (config_name name : List ℕ) (qs : List Asked) where
-  pub told_first : (f : Failure) → (f ≡ NoMemory) ⊎ IsFirstFault Tells config_name name qs f → IsTold Says Tells config_name name qs f
-  told_first f (inl e) = inl e
-  told_first f (inr h) = inr (inl h)
-
-  pub told_wanting : (c : Config) (vs : List Service) (said : List L) (f : Failure) → IsStart Says config_name name qs c vs said → IsWanting f → IsTold Says Tells config_name name qs f
-  told_wanting c vs said f h (inl e) = inr (inr (c, vs, said, e, h))
-  told_wanting c vs said f h (inr e) = inl e
-
-pub appends_both : (x y z : Option (List ℕ)) (s t : List ℕ) → Appends x y s → Appends y z t → Appends x z (s ++ t)
-appends_both None y z s t a b = tt
-appends_both (Some xs) None z s t a b = absurd a
-appends_both (Some xs) (Some ys) None s t a b = absurd b
-appends_both (Some xs) (Some ys) (Some zs) s t a b = b ∙ ap (λ v. v ++ t) a ∙ append_assoc xs s t
-
--- the first actor that is no processor
-pub other_booted : (w : Whole) (c : Config) (vs : List Service) (other : ℕ) → w ≡ booted c vs → other ≡ c.cpus → other < actors w
-other_booted w c vs other e h =
-    let as_many : length (booted c vs).cpus ≡ c.cpus = length-replicate c.cpus None in
-    let n : length w.cpus ≡ c.cpus = ap (λ (x : Whole). length x.cpus) e ∙ as_many in
-    let o : w.others ≡ c.others = ap (λ (x : Whole). x.others) e in
-    omega (arith, n, o, h, c.some_others)
-
-report_same : (m : Running) → report_text (replay m.kernel).table (replay m.kernel).services ≡ report_text (world_of m).table (world_of m).services
-unfolding world_of
-report_same m = refl
-
-pub report_of_world : (k : Kept) (m : Running) (u : Whole) → k ≡ m.kernel → world_of m ≡ u → report_text (replay k).table (replay k).services ≡ report_text u.table u.services
-report_of_world k m u e h =
-    ap (λ (x : Kept). report_text (replay x).table (replay x).services) e ∙ report_same m ∙ ap (λ (x : Whole). report_text x.table x.services) h
-
-pub debug_printed : (x y z : Option (List ℕ)) (slice : List ℕ) (c : Config) (vs : List Service) (w : Whole) (other : ℕ) (said lines : List DebugLine) (empty points : List Breakpoint) (k : Kept) (m : Running)
-    → Appends x y slice → empty ≡ [] → debug_lines_made other (both w empty) lines ≡ both (world_of m) points
-    → w ≡ booted c vs → other ≡ c.cpus → lines ≡ said → k ≡ m.kernel → Appends y z (report_text (replay k).table (replay k).services)
-    → (let d = debug_lines_made c.cpus (both (booted c vs) []) said in Appends x z (slice ++ report_text d.world.table d.world.services))
-debug_printed x y z slice c vs w other said lines empty points k m a none made booting o ls kernel b =
-    let same : debug_lines_made other (both w empty) lines ≡ debug_lines_made c.cpus (both (booted c vs) []) said =
-    ap (λ (v : List Breakpoint). debug_lines_made other (both w v) lines) none ∙ ap (λ (v : Whole). debug_lines_made other (both v []) lines) booting
-    ∙ ap (λ n. debug_lines_made n (both (booted c vs) []) lines) o ∙ ap (λ (v : List DebugLine). debug_lines_made c.cpus (both (booted c vs) []) v) ls in
-    let world : world_of m ≡ (debug_lines_made c.cpus (both (booted c vs) []) said).world = ap (λ (d : Debugged). d.world) (sym made ∙ same) in
-    let reported : report_text (replay k).table (replay k).services ≡ report_text (debug_lines_made c.cpus (both (booted c vs) []) said).world.table (debug_lines_made c.cpus (both (booted c vs) []) said).world.services =
-    report_of_world k m (debug_lines_made c.cpus (both (booted c vs) []) said).world kernel world in
-    appends_both x y z slice (report_text (debug_lines_made c.cpus (both (booted c vs) []) said).world.table (debug_lines_made c.cpus (both (booted c vs) []) said).world.services) a (subst (λ (t : List ℕ). Appends y z t) reported b)
+pub booted_printed : (x z : Option (List ℕ)) (text : List ℕ) (c : Config) (vs : List Service) (w : Whole) (other : ℕ) (said lines : List DebugLine)
+    → w ≡ booted c vs → other ≡ c.cpus → lines ≡ said → Appends x z (text ++ report_on (debug_lines_made other (both w []) lines))
+    → Appends x z (text ++ report_on (debug_lines_made c.cpus (both (booted c vs) []) said))
+booted_printed x z text c vs w other said lines booting o ls h =
+    let same : debug_lines_made other (both w []) lines ≡ debug_lines_made c.cpus (both (booted c vs) []) said =
+    ap (λ (v : Whole). debug_lines_made other (both v []) lines) booting
+    ∙ ap (λ n. debug_lines_made n (both (booted c vs) []) lines) o ∙ ap (debug_lines_made c.cpus (both (booted c vs) [])) ls in
+    subst (λ (d : Debugged). Appends x z (text ++ report_on d)) same h

@@ -8,7 +8,7 @@ use Rattle.mx_world.specs.Whole.{Whole, Lent, held_by}
 use Rattle.mx_machine.specs.Machine.{HasWorked}
 use Rattle.mx_debug.specs.declared.halt.Halt.{Halt}
 use Rattle.mx_debug.specs.declared.points.Breakpoint.{Breakpoint}
-use Rattle.mx_debug.specs.Halts.{steps_made}
+use Rattle.mx_debug.specs.Halts.{steps_to_halt}
 use Rattle.mx_db.specs.Going.{HasGone}
 use Rattle.mx_db.specs.Lines.{gone}
 

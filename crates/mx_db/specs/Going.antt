@@ -6,7 +6,7 @@ use Rattle.mx_world.specs.Whole.{Whole, Lent, held_by}
 use Rattle.mx_machine.specs.Machine.{HasWorked}
 use Rattle.mx_debug.specs.declared.halt.Halt.{Halt}
 use Rattle.mx_debug.specs.declared.points.Breakpoint.{Breakpoint}
-use Rattle.mx_debug.specs.Halts.{Halts, after, steps_made}
+use Rattle.mx_debug.specs.Halts.{Halts, after, steps_to_halt}
 
 -- What a processor holds has made the steps up to where the debugger halts it. Where steps are asked for, one is made.
 pub record HasGone (w u : Whole) (points : List Breakpoint) (a k : ℕ) (h : Halt) : Type 0 where
@@ -18,5 +18,5 @@ pub record HasGone (w u : Whole) (points : List Breakpoint) (a k : ℕ) (h : Hal
 -- it holds nothing; or steps are asked for, and none can be made
 abbrev pub IsStuck : Whole → List Breakpoint → ℕ → ℕ → Refusal → Type 0
 IsStuck w points a k CpuEmpty = held_by w a ≡ None
-IsStuck w points a k AtStop = (l : Lent) × (held_by w a ≡ Some l) × (k ≢ 0) × (steps_made points l.slot k l.out ≡ 0)
+IsStuck w points a k AtStop = (l : Lent) × (held_by w a ≡ Some l) × (k ≢ 0) × (steps_to_halt points l.slot k l.out ≡ 0)
 IsStuck w points a k _ = ⊥

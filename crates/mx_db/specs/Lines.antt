@@ -7,13 +7,13 @@ use Rattle.mx_world.specs.Steps.{steps_of}
 use Rattle.mx_world.specs.Whole.{Whole, Lent, held_by}
 use Rattle.mx_steps.specs.Lines.{line_made}
 use Rattle.mx_debug.specs.declared.points.Breakpoint.{Breakpoint}
-use Rattle.mx_debug.specs.Halts.{steps_made}
+use Rattle.mx_debug.specs.Halts.{steps_to_halt}
 use Rattle.mx_db.specs.Places.{found, broken, cleared}
 
 -- the world after a processor's steps up to a breakpoint
 abbrev pub gone : Whole → List Breakpoint → ℕ → ℕ → Option Lent → Whole
 gone w points c k None = w
-gone w points c k (Some l) = after_events w (steps_of c (steps_made points l.slot k l.out))
+gone w points c k (Some l) = after_events w (steps_of c (steps_to_halt points l.slot k l.out))
 
 -- A world, and the breakpoints in its processes.
 pub record Debugged : Type 0 where

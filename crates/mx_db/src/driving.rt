@@ -1,7 +1,9 @@
 //! `mx db`.
 
-ghost use Rattle.std.specs.Prelude.{◌≡◌, ◌++◌, ℕ, List, [], IfErr, OnOk};
+ghost use Rattle.std.specs.Prelude.{◌≡◌, ◌<◌, ◌++◌, ℕ, List, [], IfErr, OnOk};
 ghost use Rattle.std.specs.Io.KnownBytes.{Appends};
+ghost use Rattle.mx_failure.specs.Failure.{IsWanting};
+ghost use Rattle.mx_machine.specs.Machine.{world_of};
 ghost use Rattle.mx_report.specs.Report.{report_text};
 ghost use Rattle.mx_respawn.specs.declared.service.Service.{Service};
 ghost use Rattle.mx_script.specs.declared.debug.DebugLine.{DebugLine as Line};
@@ -9,16 +11,41 @@ ghost use Rattle.mx_setup.specs.declared.config.Config.{Config};
 ghost use Rattle.mx_start.specs.Asked.{Asked};
 ghost use Rattle.mx_start.specs.Course.{IsDebugScript, TellsDebugScript};
 ghost use Rattle.mx_start.specs.Setup.{IsStart};
+ghost use Rattle.mx_steps.specs.Lines.{actors};
 ghost use Rattle.mx_steps.specs.Telling.{IsTold};
 ghost use Rattle.mx_world.specs.Boot.{booted};
 ghost use Rattle.mx_db.specs.Lines.{debug_lines_made};
 
 use crate::lines::perform_debug_lines;
 use mx_debug::Debugger;
+use mx_machine::Machine;
+use mx_script::DebugLine;
 use mx_start::{DebugScript, Failure, Reader, start};
 use mx_steps::{print_report, print_text};
 use std::alloc::Global;
 use std::io::Write;
+
+/// Does what lines say to a machine with no breakpoints, prints what is said of each, and then the report.
+fn print_lines<W: Write>(
+    alloc: Global,
+    machine: &mut Machine,
+    other: u8,
+    lines: &[DebugLine],
+    out: &mut W,
+) -> Result<(), Failure>
+    requires { other < actors (world_of machine.old) }
+    ensures err { IfErr result IsWanting }
+    ensures printed { OnOk result ((text : List ℕ)
+        × (let d = debug_lines_made other (record { world = world_of machine.old; points = [] }) lines.now in
+        Appends (W.contents out.old) (W.contents out.new) (text ++ report_text d.world.table d.world.services))) }
+{
+    let mut debugger = Debugger::new();
+    let mut text = String::new(alloc);
+    let done = perform_debug_lines(machine, &mut debugger, other, lines, &mut text);
+    print_text(text.as_bytes(), out)?;
+    done?;
+    print_report(alloc, machine.kernel(), out)
+}
 
 /// Starts a machine by the names of its configuration and of a debugger's script, prints what is said of
 /// each line of the script, and then the report. What was said before memory was wanting is printed.
@@ -37,16 +64,6 @@ pub fn db<R: Reader, W: Write>(
         × (R.asked reader.new ≡ R.asked reader.old ++ qs) × IsTold IsDebugScript TellsDebugScript config.now script.now qs f) }
 {
     let mut started = start::<DebugScript, R>(alloc, reader, config, script)?;
-    let mut debugger = Debugger::new();
-    let mut text = String::new(alloc);
-    let done = perform_debug_lines(
-        &mut started.machine,
-        &mut debugger,
-        started.other,
-        started.lines.as_slice(),
-        &mut text,
-    );
-    print_text(text.as_bytes(), out)?;
-    done?;
-    print_report(alloc, started.machine.kernel(), out)
+    let lines = started.lines.as_slice();
+    print_lines(alloc, &mut started.machine, started.other, lines, out)
 }

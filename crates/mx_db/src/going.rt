@@ -22,9 +22,9 @@ struct Resuming<'a> {
 
 impl<'a> Tool for Resuming<'a> {
     ghost use Rattle.std.specs.Prelude.{◌≡◌};
-    ghost use Rattle.mx_debug.specs.Halts.{Halts, after, steps_made};
+    ghost use Rattle.mx_debug.specs.Halts.{Halts, after, steps_to_halt};
 
-    ghost steps = { λ tool out. steps_made tool.debugger.now tool.slot tool.steps out };
+    ghost steps = { λ tool out. steps_to_halt tool.debugger.now tool.slot tool.steps out };
 
     ghost Becomes = { λ tool out u. Halts tool.debugger.now tool.slot tool.steps out u.halt (after u.halt.count out) };
 

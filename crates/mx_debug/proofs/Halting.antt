@@ -12,7 +12,7 @@ use Rattle.mx_debug.specs.declared.halt.Cause.{Cause}
 use Rattle.mx_debug.specs.declared.halt.Cause.TheVariants as cause
 use Rattle.mx_debug.specs.declared.halt.Halt.{Halt}
 use Rattle.mx_debug.specs.Points.{is_at, stands, has_any}
-use Rattle.mx_debug.specs.Halts.{after, is_stop, is_over, is_reached, is_end, is_spent, least_from, steps_made, cause_of, Halts}
+use Rattle.mx_debug.specs.Halts.{after, is_stop, is_over, is_reached, is_end, is_spent, least_from, steps_to_halt, cause_of, Halts}
 use Rattle.mx_debug.proofs.Running.{Joins, run_count, run_stop, run_all, over_none, none_same, before_over, IsFront, run_front}
 
 -- ---- the least number
@@ -36,7 +36,7 @@ least_is test n (suc more) j from to before here = by_order (cases_lt n j) here 
 pub halts_by : (points : List Breakpoint) (slot k : ℕ) (o left : Out) (h : Halt) → h.count ≤ k → ((i : ℕ) → i < h.count → is_end points slot o i ≡ false)
     → (h.count ≡ k) ⊎ (is_end points slot o h.count ≡ true) → (held_run h.count o).0.0 ≡ h.count → after h.count o ≡ left
     → h.cause ≡ cause_of left.stop (is_reached points slot h.count left) → Halts points slot k o h left
-unfolding steps_made
+unfolding steps_to_halt
 halts_by points slot k o left h within before here made is_left told = record {
   count = least_is (is_end points slot o) 0 k h.count (omega arith) (omega (arith, within)) (λ i p q. before i q) (from_0 here);
   made = made;

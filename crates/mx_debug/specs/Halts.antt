@@ -36,8 +36,8 @@ least_from test n zero = n
 least_from test n (suc more) = if test n then n else least_from test (n + 1) more
 
 -- k, or the least number of steps before it that is an end
-unfoldable pub steps_made : List Breakpoint → ℕ → ℕ → Out → ℕ
-steps_made points slot k o = least_from (is_end points slot o) 0 k
+unfoldable pub steps_to_halt : List Breakpoint → ℕ → ℕ → Out → ℕ
+steps_to_halt points slot k o = least_from (is_end points slot o) 0 k
 
 -- a trap or a fault is told before a breakpoint, a breakpoint before a spent budget
 abbrev pub cause_of : Stop → Bool → Cause
@@ -52,7 +52,7 @@ is_spent _ = false
 
 -- how a run of at most k steps of what is lent ends, and what it leaves
 pub record Halts (points : List Breakpoint) (slot k : ℕ) (lent : Out) (h : Halt) (left : Out) : Type 0 where
-  pub count : h.count ≡ steps_made points slot k lent
+  pub count : h.count ≡ steps_to_halt points slot k lent
   -- all of these steps were made
   pub made : (held_run h.count lent).0.0 ≡ h.count
   pub is_left : after h.count lent ≡ left
