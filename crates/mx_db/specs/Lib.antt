@@ -1,3 +1,4 @@
 pub mod Places
 pub mod Going
 pub mod Lines
+pub mod Told

@@ -26,6 +26,7 @@ use crate::stepping::work_steps;
 use mx_failure::Failure;
 use mx_machine::{Event, Machine, Record, Recorded};
 use mx_start::{History, Reader, start};
+use mx_told::Said;
 use mx_world::Refusal;
 use std::alloc::Global;
 use std::io::Write;
