@@ -16,8 +16,8 @@ use Rattle.mx_world.specs.History.{Kept, replay}
 use Rattle.mx_world.specs.Whole.{Whole}
 use Rattle.mx_start.specs.Asked.{Asked}
 use Rattle.mx_start.specs.Setup.{IsFirstFault, IsStart}
-use Rattle.mx_steps.specs.declared.said.Said.{Said}
-use Rattle.mx_steps.specs.Said.{said_lines}
+use Rattle.mx_told.specs.declared.said.Said.{Said}
+use Rattle.mx_told.specs.Said.{said_lines}
 use Rattle.mx_steps.specs.Lines.{actors, lines_made}
 use Rattle.mx_steps.specs.Telling.{IsTold}
 

@@ -12,16 +12,16 @@ ghost use Rattle.mx_start.specs.Asked.{Asked};
 ghost use Rattle.mx_start.specs.Course.{IsScript, TellsScript};
 ghost use Rattle.mx_start.specs.Setup.{IsStart};
 ghost use Rattle.mx_world.specs.Boot.{booted};
-ghost use Rattle.mx_steps.specs.Said.{said_lines};
+ghost use Rattle.mx_told.specs.Said.{said_lines};
 ghost use Rattle.mx_steps.specs.Lines.{actors, line_made, lines_made};
 ghost use Rattle.mx_steps.specs.Telling.{IsTold};
 
 use crate::printing::print_report;
-use crate::said::Said;
 use crate::stepping::{make_event, make_own, make_steps};
 use mx_failure::{Failure, print_text};
 use mx_machine::{Event, Machine};
 use mx_start::{Reader, Script, ScriptLine, start};
+use mx_told::Said;
 use std::alloc::{AllocError, Global};
 use std::io::Write;
 

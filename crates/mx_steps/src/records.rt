@@ -22,11 +22,11 @@ ghost use Rattle.mx_steps.specs.Telling.{IsTold};
 
 use crate::laws::actors_stay;
 use crate::printing::print_report;
-use crate::said::Said;
 use crate::stepping::work_steps;
 use mx_failure::{Failure, print_text};
 use mx_machine::{Event, Machine, Record, Recorded};
 use mx_start::{History, Reader, start};
+use mx_told::Said;
 use mx_world::Refusal;
 use std::alloc::Global;
 use std::io::Write;
