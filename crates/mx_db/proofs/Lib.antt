@@ -1,3 +1,4 @@
 pub mod Worlds
 pub mod Made
 pub mod Printed
+pub mod Told

@@ -10,11 +10,11 @@ use Rattle.mx_world.specs.History.{Kept, after_events, replay}
 use Rattle.mx_world.specs.Steps.{steps_of}
 use Rattle.mx_world.specs.Whole.{Whole, Lent, held_by}
 use Rattle.mx_machine.specs.Machine.{Running, world_of}
-use Rattle.mx_steps.specs.declared.said.Said.{Said}
+use Rattle.mx_told.specs.declared.said.Said.{Said}
 use Rattle.mx_steps.specs.Lines.{actors, line_made}
 use Rattle.mx_debug.specs.declared.points.Breakpoint.{Breakpoint}
 use Rattle.mx_debug.specs.Halts.{steps_to_halt}
-use Rattle.mx_db.specs.declared.refused.Refused.{Refused as Kind}
+use Rattle.mx_told.specs.declared.refused.Refused.{Refused as Kind}
 use Rattle.mx_db.specs.Places.{found, broken, cleared}
 use Rattle.mx_db.specs.Lines.{Debugged, gone, debug_line_made, debug_lines_made}
 

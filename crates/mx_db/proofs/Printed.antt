@@ -12,27 +12,35 @@ use Rattle.mx_world.specs.History.{Kept, replay}
 use Rattle.mx_world.specs.Whole.{Whole}
 use Rattle.mx_steps.proofs.StepLemmas.{appends_both, report_of_world}
 use Rattle.mx_db.specs.Lines.{Debugged, debug_lines_made}
+use Rattle.mx_db.specs.Told.{debug_lines_told}
 use Rattle.mx_db.proofs.Made.{both}
 
 -- the report on where lines lead
 abbrev pub report_on : Debugged → List ℕ
 report_on d = report_text d.world.table d.world.services
 
-pub lines_printed : (x y z : Option (List ℕ)) (text : List ℕ) (w : Whole) (other : ℕ) (lines : List DebugLine) (empty points : List Breakpoint) (k : Kept) (m : Running)
-    → Appends x y text → empty ≡ [] → debug_lines_made other (both w empty) lines ≡ both (world_of m) points → k ≡ m.kernel → Appends y z (report_text (replay k).table (replay k).services)
-    → Appends x z (text ++ report_on (debug_lines_made other (both w []) lines))
-lines_printed x y z text w other lines empty points k m a none made kernel b =
+-- what is told of lines, and the report on where they lead
+abbrev pub text_of : ℕ → Debugged → List DebugLine → List ℕ
+text_of other d lines = debug_lines_told other d lines ++ report_on (debug_lines_made other d lines)
+
+pub lines_printed : (x y z : Option (List ℕ)) (none text slice : List ℕ) (w : Whole) (other : ℕ) (lines : List DebugLine) (empty points : List Breakpoint) (k : Kept) (m : Running)
+    → Appends x y slice → slice ≡ text → none ≡ [] → text ≡ none ++ debug_lines_told other (both w empty) lines
+    → empty ≡ [] → debug_lines_made other (both w empty) lines ≡ both (world_of m) points → k ≡ m.kernel → Appends y z (report_text (replay k).table (replay k).services)
+    → Appends x z (text_of other (both w []) lines)
+lines_printed x y z none text slice w other lines empty points k m a shown nothing told new made kernel b =
     let world : world_of m ≡ (debug_lines_made other (both w []) lines).world =
-    ap (λ (d : Debugged). d.world) (sym made ∙ ap (λ (v : List Breakpoint). debug_lines_made other (both w v) lines) none) in
+    ap (λ (d : Debugged). d.world) (sym made ∙ ap (λ (v : List Breakpoint). debug_lines_made other (both w v) lines) new) in
     let reported : report_text (replay k).table (replay k).services ≡ report_on (debug_lines_made other (both w []) lines) =
     report_of_world k m (debug_lines_made other (both w []) lines).world kernel world in
-    appends_both x y z text (report_on (debug_lines_made other (both w []) lines)) a (subst (λ (t : List ℕ). Appends y z t) reported b)
+    let said : slice ≡ debug_lines_told other (both w []) lines =
+    shown ∙ told ∙ ap (λ (v : List ℕ). v ++ debug_lines_told other (both w empty) lines) nothing
+    ∙ ap (λ (v : List Breakpoint). debug_lines_told other (both w v) lines) new in
+    appends_both x y z (debug_lines_told other (both w []) lines) (report_on (debug_lines_made other (both w []) lines)) (subst (λ (t : List ℕ). Appends x y t) said a) (subst (λ (t : List ℕ). Appends y z t) reported b)
 
-pub booted_printed : (x z : Option (List ℕ)) (text : List ℕ) (c : Config) (vs : List Service) (w : Whole) (other : ℕ) (said lines : List DebugLine)
-    → w ≡ booted c vs → other ≡ c.cpus → lines ≡ said → Appends x z (text ++ report_on (debug_lines_made other (both w []) lines))
-    → Appends x z (text ++ report_on (debug_lines_made c.cpus (both (booted c vs) []) said))
-booted_printed x z text c vs w other said lines booting o ls h =
-    let same : debug_lines_made other (both w []) lines ≡ debug_lines_made c.cpus (both (booted c vs) []) said =
-    ap (λ (v : Whole). debug_lines_made other (both v []) lines) booting
-    ∙ ap (λ n. debug_lines_made n (both (booted c vs) []) lines) o ∙ ap (debug_lines_made c.cpus (both (booted c vs) [])) ls in
-    subst (λ (d : Debugged). Appends x z (text ++ report_on d)) same h
+pub booted_printed : (x z : Option (List ℕ)) (c : Config) (vs : List Service) (w : Whole) (other : ℕ) (said lines : List DebugLine)
+    → w ≡ booted c vs → other ≡ c.cpus → lines ≡ said → Appends x z (text_of other (both w []) lines) → Appends x z (text_of c.cpus (both (booted c vs) []) said)
+booted_printed x z c vs w other said lines booting o ls h =
+    let same : text_of other (both w []) lines ≡ text_of c.cpus (both (booted c vs) []) said =
+    ap (λ (v : Whole). text_of other (both v []) lines) booting
+    ∙ ap (λ n. text_of n (both (booted c vs) []) lines) o ∙ ap (text_of c.cpus (both (booted c vs) [])) ls in
+    subst (λ (t : List ℕ). Appends x z t) same h

@@ -2,13 +2,10 @@
 use Rattle.std.proofs.Common.{◌≡◌, ◌∙◌, ℕ, List, Option, Some, None, sym, ap, refl}
 use Rattle.std.specs.Option.{option_map}
 use Rattle.mx_world.specs.History.{after_events}
-use Rattle.mx_world.specs.Held.{held_run}
 use Rattle.mx_world.specs.Steps.{steps_of}
 use Rattle.mx_world.specs.Whole.{Whole, Lent, held_by}
-use Rattle.mx_machine.specs.Machine.{HasWorked}
 use Rattle.mx_debug.specs.declared.halt.Halt.{Halt}
 use Rattle.mx_debug.specs.declared.points.Breakpoint.{Breakpoint}
-use Rattle.mx_debug.specs.Halts.{steps_to_halt}
 use Rattle.mx_db.specs.Going.{HasGone}
 use Rattle.mx_db.specs.Lines.{gone}
 

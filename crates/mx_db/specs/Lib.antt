@@ -1,4 +1,4 @@
-pub mod Answers
 pub mod Places
 pub mod Going
 pub mod Lines
+pub mod Told

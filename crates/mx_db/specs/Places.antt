@@ -9,8 +9,8 @@ use Rattle.mx_debug.specs.declared.error.DebugError.TheVariants.{NoSymbol, TooMa
 use Rattle.mx_debug.specs.declared.points.Breakpoint.{Breakpoint}
 use Rattle.mx_debug.specs.Finding.{first_named}
 use Rattle.mx_debug.specs.Points.{with_point, without_point}
-use Rattle.mx_db.specs.declared.refused.Refused.{Refused as Kind}
-use Rattle.mx_db.specs.declared.refused.Refused.TheVariants.{ByMachine, ByDebugger}
+use Rattle.mx_told.specs.declared.refused.Refused.{Refused as Kind}
+use Rattle.mx_told.specs.declared.refused.Refused.TheVariants.{ByMachine, ByDebugger}
 
 -- the address of a place: itself, or the value of the first symbol of the name
 abbrev pub address_of : Program → Place → Option ℕ

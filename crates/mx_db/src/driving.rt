@@ -1,6 +1,6 @@
 //! `mx db`.
 
-ghost use Rattle.std.specs.Prelude.{◌≡◌, ◌<◌, ◌++◌, ℕ, List, [], IfErr, OnOk};
+ghost use Rattle.std.specs.Prelude.{◌≡◌, ◌<◌, ◌++◌, List, [], IfErr, OnOk};
 ghost use Rattle.std.specs.Io.KnownBytes.{Appends};
 ghost use Rattle.mx_failure.specs.Failure.{IsWanting};
 ghost use Rattle.mx_machine.specs.Machine.{world_of};
@@ -14,7 +14,8 @@ ghost use Rattle.mx_start.specs.Setup.{IsStart};
 ghost use Rattle.mx_steps.specs.Lines.{actors};
 ghost use Rattle.mx_steps.specs.Telling.{IsTold};
 ghost use Rattle.mx_world.specs.Boot.{booted};
-ghost use Rattle.mx_db.specs.Lines.{debug_lines_made};
+ghost use Rattle.mx_db.specs.Lines.{Debugged, debug_lines_made};
+ghost use Rattle.mx_db.specs.Told.{debug_lines_told};
 
 use crate::lines::perform_debug_lines;
 use mx_debug::Debugger;
@@ -35,9 +36,9 @@ fn print_lines<W: Write>(
 ) -> Result<(), Failure>
     requires { other < actors (world_of machine.old) }
     ensures err { IfErr result IsWanting }
-    ensures printed { OnOk result ((text : List ℕ)
-        × (let d = debug_lines_made other (record { world = world_of machine.old; points = [] }) lines.now in
-        Appends (W.contents out.old) (W.contents out.new) (text ++ report_text d.world.table d.world.services))) }
+    ensures printed { OnOk result (let d : Debugged = record { world = world_of machine.old; points = [] } in
+        let e = debug_lines_made other d lines.now in
+        Appends (W.contents out.old) (W.contents out.new) (debug_lines_told other d lines.now ++ report_text e.world.table e.world.services)) }
 {
     let mut debugger = Debugger::new();
     let mut text = String::new(alloc);
@@ -56,10 +57,11 @@ pub fn db<R: Reader, W: Write>(
     script: &str,
     out: &mut W,
 ) -> Result<(), Failure>
-    ensures printed { OnOk result ((qs : List Asked) × (c : Config) × (vs : List Service) × (said : List Line) × (text : List ℕ)
+    ensures printed { OnOk result ((qs : List Asked) × (c : Config) × (vs : List Service) × (said : List Line)
         × (R.asked reader.new ≡ R.asked reader.old ++ qs) × IsStart IsDebugScript config.now script.now qs c vs said
-        × (let d = debug_lines_made c.cpus (record { world = booted c vs; points = [] }) said in
-        Appends (W.contents out.old) (W.contents out.new) (text ++ report_text d.world.table d.world.services))) }
+        × (let d : Debugged = record { world = booted c vs; points = [] } in
+        let e = debug_lines_made c.cpus d said in
+        Appends (W.contents out.old) (W.contents out.new) (debug_lines_told c.cpus d said ++ report_text e.world.table e.world.services))) }
     ensures fault { IfErr result (λ f. (qs : List Asked)
         × (R.asked reader.new ≡ R.asked reader.old ++ qs) × IsTold IsDebugScript TellsDebugScript config.now script.now qs f) }
 {

@@ -1,60 +1,67 @@
 //! Lines of a debugger's script.
 
-ghost use Rattle.std.specs.Prelude.{◌≡◌, ◌<◌, OnOk};
+ghost use Rattle.std.specs.Prelude.{◌≡◌, ◌<◌, ◌++◌, OnOk, string_bytes};
 ghost use Rattle.mx_machine.specs.Machine.{world_of};
+ghost use Rattle.mx_world.specs.Whole.{held_by};
 ghost use Rattle.mx_steps.specs.Lines.{actors};
-ghost use Rattle.mx_db.specs.Lines.{debug_line_made, debug_lines_made};
+ghost use Rattle.mx_told.specs.Processes.{registers_text, memory_text};
+ghost use Rattle.mx_db.specs.Lines.{gone, debug_line_made, debug_lines_made};
+ghost use Rattle.mx_db.specs.Told.{eip_of, image_of, gone_told, debug_line_told, debug_lines_told};
 
 use crate::going::go;
 use crate::places::{clear_breakpoint, set_breakpoint};
-use crate::refused::Refused;
-use crate::showing::{push_memory, push_messages, push_process};
-use mx_debug::{Cause, Debugger, Halt};
-use mx_image::Stop;
-use mx_machine::{Machine, Refusal};
+use mx_debug::Debugger;
+use mx_machine::Machine;
 use mx_script::DebugLine;
-use mx_steps::{Said, actors_stay, perform_line};
+use mx_steps::{actors_stay, perform_line};
+use mx_told::{push_done, push_memory, push_messages, push_process, push_run};
 use std::alloc::AllocError;
 use std::fmt::Write;
 
-/// Appends what is said of a breakpoint's line.
-fn push_done(text: &mut String, done: Result<(), Refused>) -> Result<(), AllocError> {
-    match done {
-        Ok(()) => text.push_str("done\n"),
-        Err(refused) => writeln!(text, "{refused}"),
+/// Where the process stands that a processor holds.
+fn eip_on(machine: &Machine, cpu: u8) -> u32
+    ensures { result ≡ eip_of (held_by (world_of machine.now) cpu) }
+{
+    match machine.image(cpu) {
+        Some(image) => image.eip,
+        None => 0,
     }
 }
 
-/// How the steps ended of a process that halts at no breakpoint.
-fn stop_of(halt: Halt) -> Stop {
-    if halt.count == 0 {
-        return Stop::Spent;
-    }
-    match halt.cause {
-        Cause::Spent | Cause::Breakpoint => Stop::Spent,
-        Cause::Trap => Stop::Trap,
-        Cause::Fault(vector) => Stop::Fault(vector),
-    }
-}
-
-/// Appends what is said of a run up to a breakpoint, behind which a process stands at an address.
-fn push_gone(
+/// Runs what a processor holds up to a breakpoint, and appends what is said of it.
+fn perform_go(
+    machine: &mut Machine,
+    debugger: &Debugger,
+    cpu: u8,
+    steps: u32,
     text: &mut String,
-    gone: Result<Halt, Refusal>,
-    eip: Option<u32>,
-) -> Result<(), AllocError> {
-    let halt = match gone {
-        Ok(halt) => halt,
-        Err(refusal) => return push_done(text, Err(Refused::ByMachine(refusal))),
-    };
-    let count = halt.count;
-    match (halt.cause, eip) {
-        (Cause::Breakpoint, Some(eip)) => writeln!(text, "stopped at {eip:08x} after {count}"),
-        _ => {
-            let said = Said::Stepped(count, stop_of(halt));
-            writeln!(text, "{said}")
-        }
-    }
+) -> Result<(), AllocError>
+    ensures world { gone (world_of machine.old) debugger.now cpu steps (held_by (world_of machine.old) cpu) ≡ world_of machine.new }
+    ensures told { OnOk result (string_bytes text.new ≡ string_bytes text.old ++ gone_told debugger.now steps (held_by (world_of machine.old) cpu)) }
+{
+    let run = go(machine, debugger, cpu, steps);
+    let eip = eip_on(machine, cpu);
+    push_run(text, run, eip)
+}
+
+/// Appends the registers of the process that a processor holds.
+fn show_registers(machine: &Machine, cpu: u8, text: &mut String) -> Result<(), AllocError>
+    ensures { OnOk result (string_bytes text.new ≡ string_bytes text.old ++ registers_text (image_of (held_by (world_of machine.now) cpu))) }
+{
+    push_process(text, machine.image(cpu))
+}
+
+/// Appends so many bytes, from an address on, of the process that a processor holds.
+fn show_memory(
+    machine: &Machine,
+    cpu: u8,
+    from: u32,
+    count: u32,
+    text: &mut String,
+) -> Result<(), AllocError>
+    ensures { OnOk result (string_bytes text.new ≡ string_bytes text.old ++ memory_text (image_of (held_by (world_of machine.now) cpu)) from count) }
+{
+    push_memory(text, machine.image(cpu), from, count)
 }
 
 /// Does what a line of a debugger's script says, and appends what is said of it. The lines that name
@@ -69,6 +76,7 @@ fn perform_debug_line(
 ) -> Result<(), AllocError>
     requires { other < actors (world_of machine.old) }
     ensures made { OnOk result (debug_line_made other (record { world = world_of machine.old; points = debugger.old }) line.now ≡ record { world = world_of machine.new; points = debugger.new }) }
+    ensures told { OnOk result (string_bytes text.new ≡ string_bytes text.old ++ debug_line_told other (record { world = world_of machine.old; points = debugger.old }) line.now) }
     ensures actors { actors (world_of machine.new) ≡ actors (world_of machine.old) }
 {
     actors_stay();
@@ -89,14 +97,9 @@ fn perform_debug_line(
                 clear_breakpoint(machine.kernel(), debugger, *slot, place),
             )
         }
-        DebugLine::Go(cpu, steps) => {
-            let gone = go(machine, debugger, *cpu, *steps);
-            push_gone(text, gone, machine.image(*cpu).map(|image| image.eip))
-        }
-        DebugLine::Registers(cpu) => push_process(text, machine.image(*cpu)),
-        DebugLine::Memory(cpu, from, count) => {
-            push_memory(text, machine.image(*cpu), *from, *count)
-        }
+        DebugLine::Go(cpu, steps) => perform_go(machine, debugger, *cpu, *steps, text),
+        DebugLine::Registers(cpu) => show_registers(machine, *cpu, text),
+        DebugLine::Memory(cpu, from, count) => show_memory(machine, *cpu, *from, *count, text),
         DebugLine::Messages => push_messages(text, machine.kernel()),
     }
 }
@@ -110,7 +113,8 @@ pub fn perform_debug_lines(
     text: &mut String,
 ) -> Result<(), AllocError>
     requires { other < actors (world_of machine.old) }
-    ensures { OnOk result (debug_lines_made other (record { world = world_of machine.old; points = debugger.old }) lines.now ≡ record { world = world_of machine.new; points = debugger.new }) }
+    ensures made { OnOk result (debug_lines_made other (record { world = world_of machine.old; points = debugger.old }) lines.now ≡ record { world = world_of machine.new; points = debugger.new }) }
+    ensures told { OnOk result (string_bytes text.new ≡ string_bytes text.old ++ debug_lines_told other (record { world = world_of machine.old; points = debugger.old }) lines.now) }
 {
     for line in lines {
         perform_debug_line(machine, debugger, other, line, text)?;

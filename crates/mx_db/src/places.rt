@@ -5,12 +5,12 @@ ghost use Rattle.mx_world.specs.History.{replay};
 ghost use Rattle.mx_debug.specs.declared.error.DebugError.TheVariants as errors;
 ghost use Rattle.mx_db.specs.Places.{address_of, found, broken, cleared};
 
-use crate::refused::Refused;
 use mx_aout::Program;
 use mx_debug::{DebugError, Debugger, address};
 use mx_machine::{Kernel, Refusal};
 use mx_proc::Slot;
 use mx_script::Place;
+use mx_told::Refused;
 
 /// The address of a place in a program.
 fn address_of(program: &Program, place: &Place) -> Result<u32, DebugError>

@@ -22,8 +22,8 @@ use Rattle.mx_world.specs.Move.{after_event, at_stop, event_answer, event_refusa
 use Rattle.mx_world.specs.Steps.{steps_of}
 use Rattle.mx_world.specs.Whole.{Whole, Lent, held_by}
 use Rattle.mx_machine.specs.Machine.{HasWorked}
-use Rattle.mx_steps.specs.declared.said.Said.{Said}
-use Rattle.mx_steps.specs.declared.said.Said.TheVariants.{Stepped, Refused}
+use Rattle.mx_told.specs.declared.said.Said.{Said}
+use Rattle.mx_told.specs.declared.said.Said.TheVariants.{Stepped, Refused}
 use Rattle.mx_steps.specs.Lines.{run_made}
 use Rattle.mx_steps.specs.Records.{IsRefused, IsRefusedAt}
 

@@ -10,7 +10,6 @@ use Rattle.mx_script.specs.Script.{actor_of, after_verb}
 use Rattle.mx_history.specs.Log.{made_by, record_line, record_of, recorded_of}
 use Rattle.mx_machine.specs.Machine.{Running, world_of}
 use Rattle.mx_report.specs.Report.{report_text}
-use Rattle.mx_world.specs.declared.events.Refusal.{Refusal}
 use Rattle.mx_world.specs.declared.history.Record.{Record}
 use Rattle.mx_world.specs.declared.history.Recorded.{Recorded}
 use Rattle.mx_world.specs.Boot.{booted}
@@ -20,7 +19,8 @@ use Rattle.mx_start.specs.Asked.{Asked}
 use Rattle.mx_start.specs.Course.{IsSaved}
 use Rattle.mx_start.specs.Setup.{IsStart}
 use Rattle.mx_steps.specs.Lines.{actors}
-use Rattle.mx_steps.specs.Records.{IsRefusedAt}
+use Rattle.mx_steps.specs.declared.records.Replayed.{Replayed}
+use Rattle.mx_steps.specs.Records.{IsPrinted}
 use Rattle.mx_steps.proofs.StepLemmas.{report_of_world}
 
 -- ---- a saved record is by an actor of the machine
@@ -59,17 +59,12 @@ saved_by_actors config_name name qs c vs records slice w same e h =
 
 -- ---- what is printed
 
-pub whole_printed : (x z : Option (List ℕ)) (c : Config) (vs : List Service) (records slice : List Record) (w : Whole) (k : Kept) (m : Running)
-    → slice ≡ records → w ≡ booted c vs → AreAccepted w (unfolded slice) → world_of m ≡ after_events w (unfolded slice) → k ≡ m.kernel → Appends x z (report_text (replay k).table (replay k).services)
-    → AreAccepted (booted c vs) (unfolded records) × (let u = after_events (booted c vs) (unfolded records) in Appends x z (report_text u.table u.services))
-whole_printed x z c vs records slice w k m same e a world kernel b =
-    let led : after_events w (unfolded slice) ≡ after_events (booted c vs) (unfolded records) =
-    ap (λ (v : Whole). after_events v (unfolded slice)) e ∙ ap (λ (rs : List Record). after_events (booted c vs) (unfolded rs)) same in (
-      subst (λ (v : Whole). AreAccepted v (unfolded records)) e (subst (λ (rs : List Record). AreAccepted w (unfolded rs)) same a),
-      subst (λ (t : List ℕ). Appends x z t) (report_of_world k m (after_events (booted c vs) (unfolded records)) kernel (world ∙ led)) b,
-    )
+pub whole_printed : (x z : Option (List ℕ)) (records : List Record) (w : Whole) (k : Kept) (m : Running)
+    → AreAccepted w (unfolded records) → world_of m ≡ after_events w (unfolded records) → k ≡ m.kernel → Appends x z (report_text (replay k).table (replay k).services)
+    → AreAccepted w (unfolded records) × (let u = after_events w (unfolded records) in Appends x z (report_text u.table u.services))
+whole_printed x z records w k m a world kernel b = (a, subst (λ (t : List ℕ). Appends x z t) (report_of_world k m (after_events w (unfolded records)) kernel world) b)
 
-pub refused_of : (c : Config) (vs : List Service) (records slice : List Record) (w : Whole) (n : ℕ) (r : Refusal)
-    → slice ≡ records → w ≡ booted c vs → IsRefusedAt w slice n r → IsRefusedAt (booted c vs) records n r
-refused_of c vs records slice w n r same e h =
-    subst (λ (v : Whole). IsRefusedAt v records n r) e (subst (λ (rs : List Record). IsRefusedAt w rs n r) same h)
+pub history_printed : (Prints : List ℕ → Type 0) (c : Config) (vs : List Service) (records slice : List Record) (w : Whole) (replayed : Replayed)
+    → slice ≡ records → w ≡ booted c vs → IsPrinted w slice replayed Prints → IsPrinted (booted c vs) records replayed Prints
+history_printed Prints c vs records slice w replayed same e h =
+    subst (λ (v : Whole). IsPrinted v records replayed Prints) e (subst (λ (rs : List Record). IsPrinted w rs replayed Prints) same h)

@@ -1,5 +1,5 @@
 -- What is told and printed where a script drives a machine, and a history.
-use Rattle.std.proofs.Common.{◌≡◌, ◌⊎◌, ◌∙◌, ◌<◌, ℕ, List, [], ◌++◌, Option, Some, None, Result, Ok, Err, OnOk, IfErr, length, append_assoc, inl, inr, refl, ap, subst, arith}
+use Rattle.std.proofs.Common.{◌≡◌, ◌⊎◌, ◌∙◌, ◌<◌, ℕ, List, [], ◌++◌, Option, Some, None, Result, Ok, Err, OnOk, IfOk, IfErr, length, append_assoc, inl, inr, refl, ap, subst, arith}
 use Rattle.std.proofs.lemmas.List.{length-replicate}
 use Rattle.std.specs.Io.KnownBytes.{Appends}
 use Rattle.mx_fields.specs.declared.error.BootError.{BootError}
@@ -16,7 +16,8 @@ use Rattle.mx_world.specs.History.{Kept, replay}
 use Rattle.mx_world.specs.Whole.{Whole}
 use Rattle.mx_start.specs.Asked.{Asked}
 use Rattle.mx_start.specs.Setup.{IsFirstFault, IsStart}
-use Rattle.mx_steps.specs.Said.{said_lines}
+use Rattle.mx_told.specs.declared.said.Said.{Said}
+use Rattle.mx_told.specs.Said.{said_lines}
 use Rattle.mx_steps.specs.Lines.{actors, lines_made}
 use Rattle.mx_steps.specs.Telling.{IsTold}
 
@@ -27,6 +28,10 @@ on_ok P Q (Err e) f h = tt
 pub if_err : {A E : Type 0} (P Q : E → Type 0) (r : Result A E) → ((e : E) → P e → Q e) → IfErr r P → IfErr r Q
 if_err P Q (Ok a) f h = tt
 if_err P Q (Err e) f h = f e h
+
+pub if_ok : {A E : Type 0} (P Q : A → Type 0) (r : Result A E) → ((a : A) → P a → Q a) → IfOk r P → IfOk r Q
+if_ok P Q (Ok a) f h = f a h
+if_ok P Q (Err e) f h = tt
 
 module _ {L : Type 0} (Says : List ℕ → Config → List L → Type 0) (Tells : List ℕ → Config → BootError → Type 0) (config_name name : List ℕ) (qs : List Asked) where
   pub told_first : (f : Failure) → (f ≡ NoMemory) ⊎ IsFirstFault Tells config_name name qs f → IsTold Says Tells config_name name qs f
@@ -59,16 +64,20 @@ pub report_of_world : (k : Kept) (m : Running) (u : Whole) → k ≡ m.kernel �
 report_of_world k m u e h =
     ap (λ (x : Kept). report_text (replay x).table (replay x).services) e ∙ report_same m ∙ ap (λ (x : Whole). report_text x.table x.services) h
 
-pub script_printed : (x y z : Option (List ℕ)) (none text slice : List ℕ) (c : Config) (vs : List Service) (w : Whole) (other : ℕ) (said lines : List ScriptLine) (k : Kept) (m : Running)
+pub lines_printed : (x y z : Option (List ℕ)) (none text slice : List ℕ) (w : Whole) (other : ℕ) (lines : List ScriptLine) (k : Kept) (m : Running)
     → Appends x y slice → slice ≡ text → none ≡ [] → text ≡ none ++ said_lines (lines_made w other lines).0 → world_of m ≡ (lines_made w other lines).1
-    → w ≡ booted c vs → other ≡ c.cpus → lines ≡ said → k ≡ m.kernel → Appends y z (report_text (replay k).table (replay k).services)
+    → k ≡ m.kernel → Appends y z (report_text (replay k).table (replay k).services)
+    → (let u = lines_made w other lines in Appends x z (said_lines u.0 ++ report_text u.1.table u.1.services))
+lines_printed x y z none text slice w other lines k m a is empty text_is world kernel b =
+    let u = lines_made w other lines in
+    let shown : slice ≡ said_lines (lines_made w other lines).0 = is ∙ text_is ∙ ap (λ v. v ++ said_lines (lines_made w other lines).0) empty in
+    appends_both x y z (said_lines u.0) (report_text u.1.table u.1.services) (subst (λ (t : List ℕ). Appends x y t) shown a)
+    (subst (λ (t : List ℕ). Appends y z t) (report_of_world k m u.1 kernel world) b)
+
+pub script_printed : (x z : Option (List ℕ)) (c : Config) (vs : List Service) (w : Whole) (other : ℕ) (said lines : List ScriptLine)
+    → w ≡ booted c vs → other ≡ c.cpus → lines ≡ said → (let u = lines_made w other lines in Appends x z (said_lines u.0 ++ report_text u.1.table u.1.services))
     → (let u = lines_made (booted c vs) c.cpus said in Appends x z (said_lines u.0 ++ report_text u.1.table u.1.services))
-script_printed x y z none text slice c vs w other said lines k m a is empty text_is world booting o ls kernel b =
+script_printed x z c vs w other said lines booting o ls h =
     let same : lines_made w other lines ≡ lines_made (booted c vs) c.cpus said =
     ap (λ (v : Whole). lines_made v other lines) booting ∙ ap (λ n. lines_made (booted c vs) n lines) o ∙ ap (λ (v : List ScriptLine). lines_made (booted c vs) c.cpus v) ls in
-    let shown : slice ≡ said_lines (lines_made (booted c vs) c.cpus said).0 =
-    is ∙ text_is ∙ ap (λ v. v ++ said_lines (lines_made w other lines).0) empty ∙ ap (λ v. said_lines v.0) same in
-    let reported : report_text (replay k).table (replay k).services ≡ report_text (lines_made (booted c vs) c.cpus said).1.table (lines_made (booted c vs) c.cpus said).1.services =
-    report_of_world k m (lines_made (booted c vs) c.cpus said).1 kernel (world ∙ ap (λ v. v.1) same) in
-    appends_both x y z (said_lines (lines_made (booted c vs) c.cpus said).0) (report_text (lines_made (booted c vs) c.cpus said).1.table (lines_made (booted c vs) c.cpus said).1.services)
-    (subst (λ (t : List ℕ). Appends x y t) shown a) (subst (λ (t : List ℕ). Appends y z t) reported b)
+    subst (λ (u : List Said × Whole). Appends x z (said_lines u.0 ++ report_text u.1.table u.1.services)) same h

@@ -5,8 +5,8 @@ use Rattle.std.proofs.lemmas.Grind.{flat_map-append}
 use Rattle.std.specs.Prelude.{codes}
 use Rattle.mx_script.specs.declared.scripts.ScriptLine.{ScriptLine}
 use Rattle.mx_world.specs.Whole.{Whole}
-use Rattle.mx_steps.specs.declared.said.Said.{Said}
-use Rattle.mx_steps.specs.Said.{said_line, said_lines}
+use Rattle.mx_told.specs.declared.said.Said.{Said}
+use Rattle.mx_told.specs.Said.{said_line, said_lines}
 use Rattle.mx_steps.specs.Lines.{line_made, lines_made}
 
 -- ---- lines, one more

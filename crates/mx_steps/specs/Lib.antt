@@ -1,4 +1,3 @@
-pub mod Said
 pub mod Lines
 pub mod Records
 pub mod Telling

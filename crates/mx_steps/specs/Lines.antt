@@ -13,9 +13,9 @@ use Rattle.mx_world.specs.History.{after_events}
 use Rattle.mx_world.specs.Move.{at_stop, move}
 use Rattle.mx_world.specs.Steps.{steps_of}
 use Rattle.mx_world.specs.Whole.{Whole, Lent, held_by}
-use Rattle.mx_steps.specs.declared.said.Said.{Said}
-use Rattle.mx_steps.specs.declared.said.Said.TheVariants.{Stepped, Refused}
-use Rattle.mx_steps.specs.Said.{said_of}
+use Rattle.mx_told.specs.declared.said.Said.{Said}
+use Rattle.mx_told.specs.declared.said.Said.TheVariants.{Stepped, Refused}
+use Rattle.mx_told.specs.Said.{said_of}
 
 -- ---- steps of a processor
 

@@ -10,7 +10,7 @@ use Rattle.mx_world.specs.Move.{event_refusal, after_event}
 use Rattle.mx_world.specs.Whole.{Whole}
 use Rattle.mx_steps.specs.declared.records.Replayed.{Replayed}
 use Rattle.mx_steps.specs.declared.records.Replayed.TheVariants as replayed
-use Rattle.mx_steps.specs.Said.{refusal_line}
+use Rattle.mx_told.specs.Said.{refusal_line}
 
 -- the first of these events that isn't accepted is refused for this
 abbrev pub IsRefused : Whole → List (ℕ × Event) → Refusal → Type 0

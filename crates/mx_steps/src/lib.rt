@@ -5,13 +5,13 @@ mod laws;
 mod lines;
 mod printing;
 mod records;
-mod said;
 mod stepping;
 
 pub use laws::actors_stay;
 pub use lines::{perform_line, step};
+pub use mx_failure::print_text;
 pub use mx_start::{Failure, Machine, NamedFile, NamedFiles, Reader, RuntimeFiles, ScriptLine};
-pub use printing::{print_report, print_text};
+pub use mx_told::Said;
+pub use printing::print_report;
 pub use records::{Replayed, replay};
-pub use said::Said;
 pub use stepping::make_steps;

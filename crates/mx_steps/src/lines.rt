@@ -2,6 +2,7 @@
 
 ghost use Rattle.std.specs.Prelude.{◌≡◌, ◌<◌, ◌++◌, List, IfErr, OnOk, string_bytes};
 ghost use Rattle.std.specs.Io.KnownBytes.{Appends};
+ghost use Rattle.mx_failure.specs.Failure.{IsWanting};
 ghost use Rattle.mx_machine.specs.Machine.{world_of};
 ghost use Rattle.mx_report.specs.Report.{report_text};
 ghost use Rattle.mx_respawn.specs.declared.service.Service.{Service};
@@ -11,16 +12,16 @@ ghost use Rattle.mx_start.specs.Asked.{Asked};
 ghost use Rattle.mx_start.specs.Course.{IsScript, TellsScript};
 ghost use Rattle.mx_start.specs.Setup.{IsStart};
 ghost use Rattle.mx_world.specs.Boot.{booted};
-ghost use Rattle.mx_steps.specs.Said.{said_lines};
+ghost use Rattle.mx_told.specs.Said.{said_lines};
 ghost use Rattle.mx_steps.specs.Lines.{actors, line_made, lines_made};
 ghost use Rattle.mx_steps.specs.Telling.{IsTold};
 
-use crate::printing::{print_report, print_text};
-use crate::said::Said;
+use crate::printing::print_report;
 use crate::stepping::{make_event, make_own, make_steps};
-use mx_failure::Failure;
+use mx_failure::{Failure, print_text};
 use mx_machine::{Event, Machine};
 use mx_start::{Reader, Script, ScriptLine, start};
+use mx_told::Said;
 use std::alloc::{AllocError, Global};
 use std::io::Write;
 
@@ -61,6 +62,27 @@ fn perform_lines(
     Ok(())
 }
 
+/// Does what lines say, prints a line for each, and then the report. What was said before memory was
+/// wanting is printed.
+fn print_lines<W: Write>(
+    alloc: Global,
+    machine: &mut Machine,
+    other: u8,
+    lines: &[ScriptLine],
+    out: &mut W,
+) -> Result<(), Failure>
+    requires { other < actors (world_of machine.old) }
+    ensures err { IfErr result IsWanting }
+    ensures printed { OnOk result (let m = lines_made (world_of machine.old) other lines.now in
+        Appends (W.contents out.old) (W.contents out.new) (said_lines m.0 ++ report_text m.1.table m.1.services)) }
+{
+    let mut text = String::new(alloc);
+    let done = perform_lines(machine, other, lines, &mut text);
+    print_text(text.as_bytes(), out)?;
+    done?;
+    print_report(alloc, machine.kernel(), out)
+}
+
 /// Starts a machine by the names of its configuration and of a script, prints a line for each line of
 /// the script, and then the report. What was said before memory was wanting is printed.
 pub fn step<R: Reader, W: Write>(
@@ -78,14 +100,6 @@ pub fn step<R: Reader, W: Write>(
         × (R.asked reader.new ≡ R.asked reader.old ++ qs) × IsTold IsScript TellsScript config.now script.now qs f) }
 {
     let mut started = start::<Script, R>(alloc, reader, config, script)?;
-    let mut text = String::new(alloc);
-    let done = perform_lines(
-        &mut started.machine,
-        started.other,
-        started.lines.as_slice(),
-        &mut text,
-    );
-    print_text(text.as_bytes(), out)?;
-    done?;
-    print_report(alloc, started.machine.kernel(), out)
+    let lines = started.lines.as_slice();
+    print_lines(alloc, &mut started.machine, started.other, lines, out)
 }

@@ -7,7 +7,7 @@ ghost use Rattle.mx_report.specs.Report.{report_text};
 ghost use Rattle.mx_world.specs.History.{replay};
 
 use mx_boot::report;
-use mx_failure::Failure;
+use mx_failure::{Failure, print_text};
 use mx_kernel::Kernel;
 use std::alloc::Global;
 use std::io::Write;
@@ -19,14 +19,4 @@ pub fn print_report<W: Write>(alloc: Global, kernel: &Kernel, out: &mut W) -> Re
 {
     let report = report(alloc, kernel)?;
     print_text(report.as_slice(), out)
-}
-
-/// Prints bytes, and flushes.
-pub fn print_text<W: Write>(text: &[u8], out: &mut W) -> Result<(), Failure>
-    ensures err { IfErr result IsWanting }
-    ensures bytes { OnOk result (Appends (W.contents out.old) (W.contents out.new) text.now) }
-{
-    out.write_all(text)?;
-    out.flush()?;
-    Ok(())
 }

@@ -21,12 +21,12 @@ ghost use Rattle.mx_steps.specs.Records.{IsPrinted, IsRefused, IsRefusedAt, refu
 ghost use Rattle.mx_steps.specs.Telling.{IsTold};
 
 use crate::laws::actors_stay;
-use crate::printing::{print_report, print_text};
-use crate::said::Said;
+use crate::printing::print_report;
 use crate::stepping::work_steps;
-use mx_failure::Failure;
+use mx_failure::{Failure, print_text};
 use mx_machine::{Event, Machine, Record, Recorded};
 use mx_start::{History, Reader, start};
+use mx_told::Said;
 use mx_world::Refusal;
 use std::alloc::Global;
 use std::io::Write;
@@ -129,6 +129,30 @@ fn print_refusal<W: Write>(
     print_text(line.as_bytes(), out)
 }
 
+/// Replays records, and prints the report. At an event that is refused it prints the number of the
+/// record and the refusal instead.
+fn print_records<W: Write>(
+    alloc: Global,
+    machine: &mut Machine,
+    records: &[Record],
+    out: &mut W,
+) -> Result<Replayed, Failure>
+    requires { All (λ (x : Noted). x.actor < actors (world_of machine.old)) records.now }
+    ensures err { IfErr result IsWanting }
+    ensures printed { IfOk result (λ replayed. IsPrinted (world_of machine.old) records.now replayed (λ text. Appends (W.contents out.old) (W.contents out.new) text)) }
+{
+    match perform_records(machine, records) {
+        Ok(()) => {
+            print_report(alloc, machine.kernel(), out)?;
+            Ok(Replayed::Whole)
+        }
+        Err((number, refusal)) => {
+            print_refusal(alloc, number, refusal, out)?;
+            Ok(Replayed::Refused)
+        }
+    }
+}
+
 /// Starts a machine by the names of its configuration and of a saved history, replays the history, and
 /// prints the report. At an event that is refused it prints the number of the record's line and the
 /// refusal instead.
@@ -146,14 +170,6 @@ pub fn replay<R: Reader, W: Write>(
         × (R.asked reader.new ≡ R.asked reader.old ++ qs) × IsTold IsSaved TellsSaved config.now log.now qs f) }
 {
     let mut started = start::<History, R>(alloc, reader, config, log)?;
-    match perform_records(&mut started.machine, started.lines.as_slice()) {
-        Ok(()) => {
-            print_report(alloc, started.machine.kernel(), out)?;
-            Ok(Replayed::Whole)
-        }
-        Err((number, refusal)) => {
-            print_refusal(alloc, number, refusal, out)?;
-            Ok(Replayed::Refused)
-        }
-    }
+    let records = started.lines.as_slice();
+    print_records(alloc, &mut started.machine, records, out)
 }

@@ -8,9 +8,9 @@ ghost use Rattle.mx_machine.specs.Machine.{HasWorked, world_of};
 ghost use Rattle.mx_steps.specs.Lines.{actors, event_made, run_made, steps_made};
 
 use crate::laws::actors_stay;
-use crate::said::{Said, said_of};
 use mx_image::Stop;
 use mx_machine::{Event, Held, Machine, Out, Tool};
+use mx_told::{Said, said_of};
 use mx_world::Refusal;
 
 /// Makes so many steps, and notes what is said of them.

@@ -1,13 +1,16 @@
-use Rattle.std.proofs.Common.{◌≡◌, take}
+use Rattle.std.proofs.Common.{◌≡◌, ◌++◌, take}
+use Rattle.std.specs.Prelude.{string_bytes}
 use Rattle.mx_machine.specs.Machine.{world_of}
 use Rattle.mx_steps.specs.Lines.{actors}
 use Rattle.mx_db.specs.Lines.{debug_lines_made}
+use Rattle.mx_db.specs.Told.{debug_lines_told}
 use Rattle.mx_db.proofs.Made.{both}
 use Rattle.mx_db.proofs.lines.perform_debug_lines.Given as goal
 
--- the lines so far are done
+-- the lines so far are done, and each is told
 abbrev pub invariant-loop-line : goal.invariant-loop-line
 invariant-loop-line l = record {
   made : debug_lines_made l.other (both (world_of l.initial.machine) l.initial.debugger) (take l.line-index l.lines) ≡ both (world_of l.machine) l.debugger;
+  told : string_bytes l.text ≡ string_bytes l.initial.text ++ debug_lines_told l.other (both (world_of l.initial.machine) l.initial.debugger) (take l.line-index l.lines);
   actors : actors (world_of l.machine) ≡ actors (world_of l.initial.machine);
 }

@@ -1,7 +1,7 @@
 //! What is said of a line.
 
 ghost use Rattle.std.specs.Prelude.{◌≡◌};
-ghost use Rattle.mx_steps.specs.Said.{said_of};
+ghost use Rattle.mx_told.specs.Said.{said_of};
 
 use mx_exec::Outcome;
 use mx_image::Stop;
@@ -9,7 +9,7 @@ use mx_world::{Answer, Refusal};
 use std::fmt;
 
 /// What is said of a line of a script.
-#[derive(Clone, Copy, PartialEq, Eq)]
+#[derive(Clone, Copy)]
 pub enum Said {
     /// How many steps were made, and how they ended.
     Stepped(u32, Stop),
@@ -32,7 +32,7 @@ pub fn said_of(answer: Result<Answer, Refusal>) -> Said
 /// The line that is printed, without its end.
 impl fmt::Display for Said {
     ghost use Rattle.std.specs.Prelude.{Some};
-    ghost use Rattle.mx_steps.specs.Said.{said_line};
+    ghost use Rattle.mx_told.specs.Said.{said_line};
 
     ghost output = { λ said. Some (said_line said) };
 

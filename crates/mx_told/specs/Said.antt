@@ -9,8 +9,8 @@ use Rattle.mx_world.specs.declared.events.Answer.TheVariants.{Went, Taken, Retur
 use Rattle.mx_world.specs.declared.events.Refusal.{Refusal}
 use Rattle.mx_world.specs.Held.{stop_of}
 use Rattle.mx_world.specs.Refusals.{code_of_refusal, name_of_refusal}
-use Rattle.mx_steps.specs.declared.said.Said.{Said}
-use Rattle.mx_steps.specs.declared.said.Said.TheVariants.{Stepped, Answered, Refused}
+use Rattle.mx_told.specs.declared.said.Said.{Said}
+use Rattle.mx_told.specs.declared.said.Said.TheVariants.{Stepped, Answered, Refused}
 
 abbrev pub said_of : Result Answer Refusal → Said
 said_of (Ok answer) = Answered answer

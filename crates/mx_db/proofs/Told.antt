@@ -1,0 +1,136 @@
+-- What is printed of a line, from what its functions answer.
+use Rattle.std.proofs.Common.{◌≡◌, ◌≢◌, ◌∙◌, ◌<◌, ◌+◌, ℕ, zero, suc, List, [], ◌∷◌, ◌++◌, Option, Some, None, length, get_or, take, Result, Ok, Err, OnOk, IfOk, IfErr, append_assoc, sym, ap, refl}
+use Rattle.std.specs.Borrow.{Bor}
+use Rattle.std.specs.Prelude.{codes, MatchOption}
+use Rattle.std.specs.Option.{option_map}
+use Rattle.std.proofs.lemmas.List.{append-nil, take_more}
+use Rattle.mx_exec.specs.declared.image.Image.{Image}
+use Rattle.mx_script.specs.declared.debug.DebugLine.{DebugLine}
+use Rattle.mx_script.specs.declared.debug.DebugLine.TheVariants.{Plain, Break, Clear, Go, Registers, Memory, Messages}
+use Rattle.mx_script.specs.declared.place.Place.{Place}
+use Rattle.mx_script.specs.declared.scripts.ScriptLine.{ScriptLine}
+use Rattle.mx_world.specs.declared.events.Refusal.{Refusal}
+use Rattle.mx_world.specs.declared.events.Refusal.TheVariants.{NotDown, Worn, NoService, CpuBusy, CpuEmpty, LogFull, NoLine, NoProcess, AtStop}
+use Rattle.mx_world.specs.History.{Kept, replay}
+use Rattle.mx_world.specs.Whole.{Whole, Lent, held_by}
+use Rattle.mx_machine.specs.Machine.{Running, world_of}
+use Rattle.mx_steps.specs.Lines.{line_made}
+use Rattle.mx_debug.specs.declared.halt.Cause.{Cause}
+use Rattle.mx_debug.specs.declared.halt.Halt.{Halt}
+use Rattle.mx_debug.specs.declared.points.Breakpoint.{Breakpoint}
+use Rattle.mx_debug.specs.Halts.{after, cause_of, is_reached}
+use Rattle.mx_told.specs.declared.refused.Refused.{Refused as Kind}
+use Rattle.mx_told.specs.declared.said.Said.{Said}
+use Rattle.mx_told.specs.Answers.{done_line}
+use Rattle.mx_told.specs.Messages.{delivery_lines}
+use Rattle.mx_told.specs.Processes.{memory_text, registers_text}
+use Rattle.mx_told.specs.Runs.{halt_line, run_line}
+use Rattle.mx_told.specs.Said.{refusal_line, said_line}
+use Rattle.mx_db.specs.Going.{HasGone, IsStuck}
+use Rattle.mx_db.specs.Lines.{Debugged, debug_line_made, debug_lines_made}
+use Rattle.mx_db.specs.Places.{found, broken, cleared}
+use Rattle.mx_db.specs.Told.{eip_of, image_of, halted_told, gone_told, debug_line_told, debug_lines_told}
+use Rattle.mx_db.proofs.Made.{both}
+
+-- ---- a run up to a breakpoint
+
+made_told : (points : List Breakpoint) (k n : ℕ) (cause : Cause) (eip : ℕ) (l : Lent) → (k ≢ 0 → n ≢ 0)
+    → cause ≡ cause_of (after n l.out).stop (is_reached points l.slot n (after n l.out)) → eip ≡ (after n l.out).image.eip
+    → halt_line n cause eip ++ codes "\n" ≡ halted_told points k n l
+made_told points zero n cause eip l s e f =
+    ap (λ (x : Cause). halt_line n x eip ++ codes "\n") e
+    ∙ ap (λ (x : ℕ). halt_line n (cause_of (after n l.out).stop (is_reached points l.slot n (after n l.out))) x ++ codes "\n") f
+made_told points (suc k) zero cause eip l s e f = absurd (s (λ h. absurd cc) refl)
+made_told points (suc k) (suc n) cause eip l s e f =
+    ap (λ (x : Cause). halt_line (suc n) x eip ++ codes "\n") e
+    ∙ ap (λ (x : ℕ). halt_line (suc n) (cause_of (after (suc n) l.out).stop (is_reached points l.slot (suc n) (after (suc n) l.out))) x ++ codes "\n") f
+
+stuck_told : (points : List Breakpoint) (k : ℕ) (l : Lent) → k ≢ 0 → refusal_line AtStop ++ codes "\n" ≡ halted_told points k 0 l
+stuck_told points zero l n = absurd (n refl)
+stuck_told points (suc k) l n = refl
+
+refused_told : (w : Whole) (points : List Breakpoint) (c k : ℕ) (r : Refusal) (eip : ℕ) → IsStuck w points c k r → run_line (Err r) eip ≡ gone_told points k (held_by w c)
+refused_told w points c k CpuEmpty eip h = ap (gone_told points k) (sym h)
+refused_told w points c k AtStop eip h =
+    stuck_told points k h.0 h.2 ∙ ap (λ (n : ℕ). halted_told points k n h.0) (sym h.3) ∙ ap (gone_told points k) (sym h.1)
+refused_told w points c k NotDown eip h = absurd h
+refused_told w points c k Worn eip h = absurd h
+refused_told w points c k NoService eip h = absurd h
+refused_told w points c k CpuBusy eip h = absurd h
+refused_told w points c k LogFull eip h = absurd h
+refused_told w points c k NoLine eip h = absurd h
+refused_told w points c k NoProcess eip h = absurd h
+
+pub run_told : (w u : Whole) (points : List Breakpoint) (c k : ℕ) (r : Result Halt Refusal) (eip : ℕ) → IfOk r (λ h. HasGone w u points c k h)
+    → IfErr r (λ refusal. IsStuck w points c k refusal × (u ≡ w)) → eip ≡ eip_of (held_by u c) → run_line r eip ≡ gone_told points k (held_by w c)
+run_told w u points c k (Ok h) eip g s e =
+    made_told points k h.count h.cause eip g.lent g.some g.halts.told (e ∙ ap eip_of g.worked.out)
+    ∙ ap (λ (n : ℕ). halted_told points k n g.lent) g.halts.count
+    ∙ ap (gone_told points k) (sym g.worked.held)
+run_told w u points c k (Err r) eip g s e = refused_told w points c k r eip s.0
+
+-- ---- what a processor holds
+
+pub image_told : (r : Option (Bor Image)) (held : Option Lent) → MatchOption r (held ≡ None) (λ i. (l : Lent) × (held ≡ Some l) × (i.now ≡ l.out.image))
+    → option_map (λ i. i.now) r ≡ image_of held
+image_told None held h = ap image_of (sym h)
+image_told (Some i) held h = ap (λ (m : Image). Some m) h.2 ∙ ap image_of (sym h.1)
+
+-- ---- a line
+
+pub plain_told : (other : ℕ) (w u : Whole) (points : List Breakpoint) (l : ScriptLine) (s : Said) → line_made w other l ≡ (s, u) → debug_line_told other (both w points) (Plain l) ≡ said_line s ++ codes "\n"
+unfolding debug_line_told
+plain_told other w u points l s h = ap (λ (p : Said × Whole). said_line p.0 ++ codes "\n") h
+
+pub broken_told : (other : ℕ) (m : Running) (k : Kept) (points new : List Breakpoint) (s : ℕ) (place : Place) (r : Result (Unit {0}) Kind) → k ≡ m.kernel
+    → broken points (found (replay k).services s place) ≡ (r, new) → debug_line_told other (both (world_of m) points) (Break s place) ≡ done_line r
+unfolding debug_line_told world_of
+broken_told other m k points new s place r e h =
+    ap (λ (x : Kept). done_line (broken points (found (replay x).services s place)).0) (sym e) ∙ ap (λ (p : Result (Unit {0}) Kind × List Breakpoint). done_line p.0) h
+
+pub cleared_told : (other : ℕ) (m : Running) (k : Kept) (points new : List Breakpoint) (s : ℕ) (place : Place) (r : Result (Unit {0}) Kind) → k ≡ m.kernel
+    → cleared points (found (replay k).services s place) ≡ (r, new) → debug_line_told other (both (world_of m) points) (Clear s place) ≡ done_line r
+unfolding debug_line_told world_of
+cleared_told other m k points new s place r e h =
+    ap (λ (x : Kept). done_line (cleared points (found (replay x).services s place)).0) (sym e) ∙ ap (λ (p : Result (Unit {0}) Kind × List Breakpoint). done_line p.0) h
+
+pub go_told : (other : ℕ) (d : Debugged) (c k : ℕ) → debug_line_told other d (Go c k) ≡ gone_told d.points k (held_by d.world c)
+unfolding debug_line_told
+go_told other d c k = refl
+
+pub registers_told : (other : ℕ) (d : Debugged) (c : ℕ) → debug_line_told other d (Registers c) ≡ registers_text (image_of (held_by d.world c))
+unfolding debug_line_told
+registers_told other d c = refl
+
+pub memory_told : (other : ℕ) (d : Debugged) (c m n : ℕ) → debug_line_told other d (Memory c m n) ≡ memory_text (image_of (held_by d.world c)) m n
+unfolding debug_line_told
+memory_told other d c m n = refl
+
+pub messages_told : (other : ℕ) (m : Running) (k : Kept) (points : List Breakpoint) → k ≡ m.kernel → debug_line_told other (both (world_of m) points) Messages ≡ delivery_lines (replay k).table.deliveries
+unfolding debug_line_told world_of
+messages_told other m k points e = ap (λ (x : Kept). delivery_lines (replay x).table.deliveries) (sym e)
+
+-- by what a match has found
+pub told_by : {A E : Type 0} (r : Result A E) (other : ℕ) (d : Debugged) (l x : DebugLine) (old new text : List ℕ) → l ≡ x → debug_line_told other d x ≡ text
+    → OnOk r (new ≡ old ++ text) → OnOk r (new ≡ old ++ debug_line_told other d l)
+told_by (Ok a) other d l x old new text is e h = h ∙ ap (λ (t : List ℕ). old ++ t) (sym (ap (debug_line_told other d) is ∙ e))
+told_by (Err f) other d l x old new text is e h = tt
+
+-- ---- one line more of a list
+
+told_more : (other : ℕ) (d : Debugged) (ls : List DebugLine) (l : DebugLine)
+    → debug_lines_told other d (ls ++ l ∷ []) ≡ debug_lines_told other d ls ++ debug_line_told other (debug_lines_made other d ls) l
+told_more other d [] l = append-nil (debug_line_told other d l)
+told_more other d (k ∷ ls) l =
+    ap (λ (t : List ℕ). debug_line_told other d k ++ t) (told_more other (debug_line_made other d k) ls l)
+    ∙ sym (append_assoc (debug_line_told other d k) (debug_lines_told other (debug_line_made other d k) ls) (debug_line_told other (debug_lines_made other (debug_line_made other d k) ls) l))
+
+pub next_told : (other : ℕ) (d e : Debugged) (ls : List DebugLine) (i : ℕ) (x : DebugLine) (t y z : List ℕ) → i < length ls → x ≡ get_or ls i x → debug_lines_made other d (take i ls) ≡ e
+    → y ≡ t ++ debug_lines_told other d (take i ls) → z ≡ y ++ debug_line_told other e x → z ≡ t ++ debug_lines_told other d (take (i + 1) ls)
+next_told other d e ls i x t y z less is so_far h g =
+    let above : List ℕ = debug_lines_told other d (take i ls) in
+    g ∙ ap (λ (v : List ℕ). v ++ debug_line_told other e x) h
+    ∙ append_assoc t above (debug_line_told other e x)
+    ∙ ap (λ (l : DebugLine). t ++ (above ++ debug_line_told other e l)) is
+    ∙ ap (λ (v : Debugged). t ++ (above ++ debug_line_told other v (get_or ls i x))) (sym so_far)
+    ∙ ap (λ (v : List ℕ). t ++ v) (sym (ap (debug_lines_told other d) (take_more ls i x less) ∙ told_more other d (take i ls) (get_or ls i x)))

@@ -1,0 +1,5 @@
+pub mod Said
+pub mod Answers
+pub mod Runs
+pub mod Messages
+pub mod Processes
