@@ -2,7 +2,6 @@
 
 use mx_aout::{FileError, Program, one_program, read, read_back, write};
 use std::alloc::Global;
-use std::process::Abort;
 use std::test::Fail;
 
 /// A file of two bytes of text, `CD 21`, in the data segment, with a total of 4096.
@@ -29,18 +28,16 @@ static LONG: [u8; 74] = [
     9, 9, 9, b's', b't', b'a', b'r', b't', 0, 0, 0, 1, 0, 0, 0, 2, 0, 0, 0,
 ];
 
-fn check_long(rt: &impl Abort, program: &Program) {
-    assert!(rt; program.sep);
-    assert_eq!(rt; (program.entry, program.total, program.bss), (1, 0x1000, 5));
-    assert_eq!(rt; program.text.as_slice(), [0x90, 0x90].as_slice());
-    assert_eq!(rt; program.init.as_slice().len(), 0);
-    match program.symbols.as_slice() {
-        [symbol] => {
-            assert_eq!(rt; symbol.name, *b"start\0\0\0");
-            assert_eq!(rt; (symbol.value, symbol.class), (1, 2));
-        }
-        _ => panic!(rt; "one symbol"),
-    }
+fn is_long(program: &Program) -> bool {
+    let is_symbol = match program.symbols.as_slice() {
+        [symbol] => { symbol.name == *b"start\0\0\0" && (symbol.value, symbol.class) == (1, 2) }
+        _ => false,
+    };
+    is_symbol
+        && program.sep
+        && (program.entry, program.total, program.bss) == (1, 0x1000, 5)
+        && program.text.as_slice() == b"\x90\x90".as_slice()
+        && program.init.as_slice().is_empty()
 }
 
 /// The short form: 12 bytes of text and one symbol.
@@ -50,55 +47,65 @@ static SHORT: [u8; 60] = [
     b't', b'a', b'r', b't', 0, 0, 0, 0, 0, 0, 0, 2, 0, 0, 0,
 ];
 
+fn is_written_again(alloc: Global, file: &[u8]) -> Result<bool, Fail> {
+    let program = read(alloc, file).map_err(|_| "refused")?;
+    let again = read_back(alloc, &program).map_err(|_| "refused")?;
+    let written = write(alloc, &again)?;
+    Ok(written.as_slice() == file)
+}
+
 #[test]
 fn writes_what_it_reads(rt: HostRuntime) -> Result<(), Fail> {
     one_program();
-    for file in [TRAP.as_slice(), SHORT.as_slice()] {
-        let program = read(rt.alloc(), file).map_err(|_| "refused")?;
-        let again = read_back(rt.alloc(), &program).map_err(|_| "refused")?;
-        let written = write(rt.alloc(), &again)?;
-        assert!(rt; written.as_slice() == file);
+    assert!(rt; is_written_again(rt.alloc(), &TRAP)?);
+    assert!(rt; is_written_again(rt.alloc(), &SHORT)?);
+    Ok(())
+}
+
+/// A place of that file, the byte that is put there, and what is then told.
+static CHANGES: [(usize, u8, Option<FileError>); 19] = [
+    (0, 0x02, Some(FileError::BadMagic)),
+    (1, 0x02, Some(FileError::BadMagic)),
+    (3, 0x04, Some(FileError::BadCpu)),
+    (2, 0x12, Some(FileError::BadFlags)),
+    (4, 0x21, Some(FileError::BadHeader)),
+    (4, 0x30, Some(FileError::Truncated)),
+    (25, 0x00, Some(FileError::NoTotal)),
+    (10, 0x11, Some(FileError::TooLarge)),
+    (17, 0x10, Some(FileError::TooLarge)),
+    (26, 0x40, Some(FileError::TooLarge)),
+    (31, 0x01, Some(FileError::TooLarge)),
+    (28, 0x01, Some(FileError::BadSymbols)),
+    (8, 0x03, Some(FileError::Truncated)),
+    (2, 0x04, None),
+    (5, 0xFF, None),
+    (6, 0xFF, None),
+    (7, 0xFF, None),
+    (17, 0x0F, None),
+    (23, 0xFF, None),
+];
+
+#[test]
+fn changed_bytes(rt: HostRuntime) -> Result<(), Fail> {
+    for (place, value, wanted) in &CHANGES {
+        let found = changed(rt.alloc(), *place, *value)?;
+        assert!(rt; found == *wanted, "byte {place} is {value}");
     }
     Ok(())
 }
 
+/// What is told of a file that is cut.
+fn cut(alloc: Global, file: &[u8], length: usize) -> Option<FileError> {
+    read(alloc, file.get(..length)?).err()
+}
+
 #[test]
-fn reads_and_refuses_files(rt: HostRuntime) -> Result<(), Fail> {
-    let rows = [
-        (0, 0x02, Some(FileError::BadMagic)),
-        (1, 0x02, Some(FileError::BadMagic)),
-        (3, 0x04, Some(FileError::BadCpu)),
-        (2, 0x12, Some(FileError::BadFlags)),
-        (4, 0x21, Some(FileError::BadHeader)),
-        (4, 0x30, Some(FileError::Truncated)),
-        (25, 0x00, Some(FileError::NoTotal)),
-        (10, 0x11, Some(FileError::TooLarge)),
-        (17, 0x10, Some(FileError::TooLarge)),
-        (26, 0x40, Some(FileError::TooLarge)),
-        (31, 0x01, Some(FileError::TooLarge)),
-        (28, 0x01, Some(FileError::BadSymbols)),
-        (8, 0x03, Some(FileError::Truncated)),
-        (2, 0x04, None),
-        (5, 0xFF, None),
-        (6, 0xFF, None),
-        (7, 0xFF, None),
-        (17, 0x0F, None),
-        (23, 0xFF, None),
-    ];
-    for (place, value, wanted) in rows {
-        let found = changed(rt.alloc(), place, value)?;
-        assert_eq!(rt; found, wanted, "byte {place} is {value}");
+fn whole_and_cut_files(rt: HostRuntime) -> Result<(), Fail> {
+    for length in [0, 31, 33] {
+        assert!(rt; cut(rt.alloc(), &TRAP, length) == Some(FileError::Truncated));
     }
-    for cut in [0, 31, 33] {
-        let file = TRAP.get(..cut).ok_or("cut")?;
-        let found = read(rt.alloc(), file).err();
-        assert_eq!(rt; found, Some(FileError::Truncated), "{cut} bytes");
-    }
-    match read(rt.alloc(), &LONG) {
-        Ok(program) => check_long(&rt, &program),
-        Err(error) => panic!(rt; "{error:?}"),
-    }
-    let cut = LONG.get(..73).ok_or("cut")?;
-    assert_eq!(rt; read(rt.alloc(), cut).err(), Some(FileError::Truncated));
+    assert!(rt; cut(rt.alloc(), &LONG, 73) == Some(FileError::Truncated));
+    let program = read(rt.alloc(), &LONG).map_err(|_| "refused")?;
+    assert!(rt; is_long(&program));
     Ok(())
 }

@@ -26,43 +26,75 @@ const LABEL: Value = Value {
     number: 0,
 };
 
-fn number(minus: bool, number: u32) -> Argument {
-    Argument::Value(Value {
-        name: None,
-        minus,
-        number,
-    })
+const AT: Argument = Argument::Memory(None, AT_EBX);
+
+const BYTE_AT: Argument = Argument::Memory(Some(Size::Byte), AT_EBX);
+
+const NAMED: Argument = Argument::Value(LABEL);
+
+const ZERO: Value = Value {
+    name: None,
+    minus: false,
+    number: 0,
+};
+
+const ONE: Argument = Argument::Value(Value { number: 1, ..ZERO });
+
+const LAST_BYTE: Argument = Argument::Value(Value {
+    number: 255,
+    ..ZERO
+});
+
+const PAST_BYTE: Argument = Argument::Value(Value {
+    number: 256,
+    ..ZERO
+});
+
+const LEAST_BYTE: Argument = Argument::Value(Value {
+    minus: true,
+    number: 128,
+    ..ZERO
+});
+
+const BELOW_BYTE: Argument = Argument::Value(Value {
+    minus: true,
+    number: 129,
+    ..ZERO
+});
+
+const LEAST_DWORD: Argument = Argument::Value(Value {
+    minus: true,
+    number: 0x8000_0000,
+    ..ZERO
+});
+
+/// What MOV refuses, and what it takes.
+static MOVED: [(&[Argument], bool); 14] = [
+    (&[EAX, BL], false),
+    (&[EAX, BYTE_AT], false),
+    (&[AT, ONE], false),
+    (&[BL, PAST_BYTE], false),
+    (&[BL, BELOW_BYTE], false),
+    (&[BL, NAMED], false),
+    (&[ONE, EAX], false),
+    (&[EAX], false),
+    (&[EAX, AT], true),
+    (&[BYTE_AT, BL], true),
+    (&[BYTE_AT, LAST_BYTE], true),
+    (&[EAX, LEAST_DWORD], true),
+    (&[BL, LEAST_BYTE], true),
+    (&[EAX, NAMED], true),
+];
+
+fn is_moved(arguments: &[Argument]) -> bool {
+    stated(false, Mnemonic::Single(Single::Mov), arguments).is_some()
 }
 
 #[test]
 fn sizes(rt: HostRuntime) {
-    let bare = Argument::Memory(None, AT_EBX);
-    let byte = Argument::Memory(Some(Size::Byte), AT_EBX);
-    let mov = Mnemonic::Single(Single::Mov);
-    let refused: [&[Argument]; 8] = [
-        &[EAX, BL],
-        &[EAX, byte],
-        &[bare, number(false, 1)],
-        &[BL, number(false, 256)],
-        &[BL, number(true, 129)],
-        &[BL, Argument::Value(LABEL)],
-        &[number(false, 1), EAX],
-        &[EAX],
-    ];
-    for arguments in refused {
-        assert!(rt; stated(false, mov, arguments).is_none());
-    }
-    let taken: [&[Argument]; 6] = [
-        &[EAX, bare],
-        &[byte, BL],
-        &[byte, number(false, 255)],
-        &[EAX, number(true, 0x8000_0000)],
-        &[BL, number(true, 128)],
-        &[EAX, Argument::Value(LABEL)],
-    ];
-    for arguments in taken {
-        assert!(rt; stated(false, mov, arguments).is_some());
+    for (number, (arguments, is_taken)) in MOVED.iter().enumerate() {
+        assert!(rt; is_moved(*arguments) == *is_taken, "row {number}");
     }
     assert!(rt; stated(true, Mnemonic::Single(Single::Jmp), &[EAX]).is_none());
-    assert!(rt; repeated(Prefix::Rep, mov).is_none());
+    assert!(rt; repeated(Prefix::Rep, Mnemonic::Single(Single::Mov)).is_none());
 }

@@ -75,8 +75,8 @@ static REGISTERS: [Register; 8] = [
     Register::Edi,
 ];
 
-static ROWS: [Row; 55] = [
-    // arithmetic, shifts, products and extensions
+/// Arithmetic, shifts, products and extensions.
+static ARITHMETIC: [Row; 15] = [
     Row {
         text: b"\x83\xC0\x01",
         words: [0xFFFFFFFF, 0, 0, 0, 0, 0, 0, 0],
@@ -195,7 +195,10 @@ static ROWS: [Row; 55] = [
         eip_after: 3,
         ..ROW
     },
-    // operands in memory and the stack
+];
+
+/// Operands in memory, and the stack.
+static PLACES: [Row; 9] = [
     Row {
         text: b"\x8B\x44\x24\x04",
         words: [0, 0, 0, 0, 0xFFC, 0, 0, 0],
@@ -304,7 +307,10 @@ static ROWS: [Row; 55] = [
         memory_after: &[(0xFFC, 0x03), (0xFFD, 0x02), (0xFFE, 0x00), (0xFFF, 0x00)],
         ..ROW
     },
-    // string instructions, some of them behind a repeat
+];
+
+/// String instructions, some of them behind a repeat.
+static STRINGS: [Row; 5] = [
     Row {
         text: b"\xF3\xA4",
         memory: &[(0x5, 0x07)],
@@ -369,114 +375,35 @@ static ROWS: [Row; 55] = [
         memory_after: &[(0xFFE, 0xAA), (0xFFF, 0xAA)],
         ..ROW
     },
-    // what faults
-    Row {
-        text: b"\xF4",
-        stop: Stop::Fault(13),
-        ..ROW
-    },
-    Row {
-        text: b"\xD6",
-        stop: Stop::Fault(6),
-        ..ROW
-    },
-    Row {
-        text: b"\x66",
-        stop: Stop::Fault(13),
-        ..ROW
-    },
-    Row {
-        text: b"\x66\x66\x40",
-        stop: Stop::Fault(6),
-        ..ROW
-    },
-    Row {
-        text: b"\xF3\x40",
-        stop: Stop::Fault(6),
-        ..ROW
-    },
-    Row {
-        text: b"\x8D\xC0",
-        stop: Stop::Fault(6),
-        ..ROW
-    },
-    Row {
-        text: b"\x66\x50",
-        stop: Stop::Fault(6),
-        ..ROW
-    },
-    Row {
-        text: b"\x66\x0F\xB7\xC1",
-        stop: Stop::Fault(6),
-        ..ROW
-    },
-    Row {
-        text: b"\xCC",
-        stop: Stop::Fault(3),
-        ..ROW
-    },
-    Row {
-        text: b"\xCD\x03",
-        stop: Stop::Fault(3),
-        ..ROW
-    },
-    Row {
-        text: b"\xCD\x04",
-        stop: Stop::Fault(4),
-        ..ROW
-    },
-    Row {
-        text: b"\xCD\x05",
-        stop: Stop::Fault(13),
-        ..ROW
-    },
-    Row {
-        text: b"\xE4\x00",
-        stop: Stop::Fault(13),
-        ..ROW
-    },
-    Row {
-        text: b"\x75\x7F",
-        stop: Stop::Fault(13),
-        ..ROW
-    },
-    Row {
-        text: b"\xCE",
-        flags: OVERFLOW,
-        stop: Stop::Fault(4),
-        flags_after: ONES + OVERFLOW,
-        ..ROW
-    },
-    Row {
-        text: b"\xF3\x0F",
-        stop: Stop::Fault(6),
-        ..ROW
-    },
-    Row {
-        text: b"\xF2\xA4",
-        stop: Stop::Fault(6),
-        ..ROW
-    },
-    Row {
-        text: b"\xC0\xD0",
-        stop: Stop::Fault(6),
-        ..ROW
-    },
-    Row {
-        text: b"\x66\xFF\xD0",
-        stop: Stop::Fault(6),
-        ..ROW
-    },
-    Row {
-        text: b"\x8B\x44\x24",
-        stop: Stop::Fault(13),
-        ..ROW
-    },
-    Row {
-        text: b"\x66\xB8\x01",
-        stop: Stop::Fault(13),
-        ..ROW
-    },
+];
+
+/// What faults at once: a text, the flags, and the vector.
+static FAULTS: [(&[u8], u32, u8); 21] = [
+    (b"\xF4", 0, 13),
+    (b"\xD6", 0, 6),
+    (b"\x66", 0, 13),
+    (b"\x66\x66\x40", 0, 6),
+    (b"\xF3\x40", 0, 6),
+    (b"\x8D\xC0", 0, 6),
+    (b"\x66\x50", 0, 6),
+    (b"\x66\x0F\xB7\xC1", 0, 6),
+    (b"\xCC", 0, 3),
+    (b"\xCD\x03", 0, 3),
+    (b"\xCD\x04", 0, 4),
+    (b"\xCD\x05", 0, 13),
+    (b"\xE4\x00", 0, 13),
+    (b"\x75\x7F", 0, 13),
+    (b"\xCE", OVERFLOW, 4),
+    (b"\xF3\x0F", 0, 6),
+    (b"\xF2\xA4", 0, 6),
+    (b"\xC0\xD0", 0, 6),
+    (b"\x66\xFF\xD0", 0, 6),
+    (b"\x8B\x44\x24", 0, 13),
+    (b"\x66\xB8\x01", 0, 13),
+];
+
+/// Code that is written over while it runs, and code at a limit.
+static PATCHES: [Row; 9] = [
     // MOV byte [7], 42h over the INC EAX that follows makes it INC EDX
     Row {
         shared: true,
@@ -566,12 +493,71 @@ static ROWS: [Row; 55] = [
         memory_after: &[(0, 0x40), (1, 0x40), (0x20, 0x40), (0x21, 0x40)],
         ..ROW
     },
+    // the same over the INC EAX before it, to which a jump goes back
+    Row {
+        shared: true,
+        memory: &[
+            (0, 0x40),
+            (1, 0xC6),
+            (2, 0x05),
+            (7, 0x42),
+            (8, 0xEB),
+            (9, 0xF6),
+        ],
+        budget: 4,
+        count: 4,
+        words_after: [1, 0, 1, 0, 0, 0, 0, 0],
+        eip_after: 1,
+        memory_after: &[
+            (0, 0x42),
+            (1, 0xC6),
+            (2, 0x05),
+            (7, 0x42),
+            (8, 0xEB),
+            (9, 0xF6),
+        ],
+        ..ROW
+    },
     // a loop in the last three bytes of a text
     Row {
         text: b"\x40\xEB\xFD",
         budget: 4,
         count: 4,
         words_after: [2, 0, 0, 0, 0, 0, 0, 0],
+        ..ROW
+    },
+    // a loop in the last two bytes of the data segment
+    Row {
+        shared: true,
+        memory: &[
+            (0, 0xE9),
+            (1, 0xF9),
+            (2, 0x0F),
+            (0xFFE, 0xEB),
+            (0xFFF, 0xFE),
+        ],
+        budget: 4,
+        count: 4,
+        eip_after: 0xFFE,
+        memory_after: &[
+            (0, 0xE9),
+            (1, 0xF9),
+            (2, 0x0F),
+            (0xFFE, 0xEB),
+            (0xFFF, 0xFE),
+        ],
+        ..ROW
+    },
+    // MOV EAX, 5 whole, and then a text that ends inside it
+    Row {
+        text: b"\xB8\x05\x00\x00\x00",
+        words_after: [5, 0, 0, 0, 0, 0, 0, 0],
+        eip_after: 5,
+        ..ROW
+    },
+    Row {
+        text: b"\xB8\x05",
+        stop: Stop::Fault(13),
         ..ROW
     },
 ];
@@ -609,60 +595,88 @@ fn ended<R: Runs>(machine: &mut R, budget: u32) -> (u32, Stop) {
     machine.run(budget)
 }
 
-/// Compares registers, EIP, flags and all of the memory with what a row ends with.
-fn compare(
-    rt: &impl Abort,
-    alloc: Global,
-    number: usize,
-    row: &Row,
-    image: &Image,
-    made: (u32, Stop),
-) -> Result<(), Fail> {
-    assert!(rt; made == (row.count, row.stop), "stop of row {number}");
-    for (register, word) in REGISTERS.iter().zip(&row.words_after) {
-        assert!(rt; image.reg(*register) == *word, "registers of row {number}");
-    }
-    let ends = (image.eip(), image.flags.to_bits());
-    assert!(rt;
-        ends == (row.eip_after, row.flags_after),
-        "EIP or flags of row {number}"
-    );
+/// Whether registers, EIP, flags and all of the memory are what a row ends with.
+fn is_left<R: Runs>(alloc: Global, machine: &R, row: &Row) -> Result<bool, Fail> {
     let memory = segment_of(alloc, LIMIT, row.memory_after)?;
+    let flags = Flags::from_bits(row.flags_after).values();
+    let mut is_same = machine.eip() == row.eip_after && machine.flags() == flags;
+    for (register, word) in REGISTERS.iter().zip(&row.words_after) {
+        is_same = is_same && machine.reg(*register) == *word;
+    }
     for at in 0..=LIMIT {
+        is_same = is_same && machine.byte(at) == memory.get(at);
+    }
+    Ok(is_same)
+}
+
+/// Whether a row's run ends as it says, with or without what is kept of earlier rows at the same
+/// addresses.
+fn is_worked(alloc: Global, cache: Option<&mut Cache>, row: &Row) -> Result<bool, Fail> {
+    let mut image = image_of(alloc, row)?;
+    let made = match cache {
+        Some(cache) => run_with(&mut image, cache, row.budget),
+        None => ended(&mut image, row.budget),
+    };
+    let flags = image.flags.to_bits();
+    Ok(made == (row.count, row.stop) && flags == row.flags_after && is_left(alloc, &image, row)?)
+}
+
+fn work_all(rt: &impl Abort, alloc: Global, cache: &mut Cache, rows: &[Row]) -> Result<(), Fail> {
+    for (number, row) in rows.iter().enumerate() {
+        assert!(rt; is_worked(alloc, None, row)?, "row {number}");
         assert!(rt;
-            image.byte(at) == memory.get(at),
-            "byte {at} of row {number}"
+            is_worked(alloc, Some(&mut *cache), row)?,
+            "row {number}, kept"
         );
     }
     Ok(())
 }
 
-/// Runs each row twice, the second time with a cache that has what earlier rows had at the same
-/// addresses.
+fn fault_all(rt: &impl Abort, alloc: Global, cache: &mut Cache) -> Result<(), Fail> {
+    for (text, flags, vector) in &FAULTS {
+        let row = Row {
+            text: *text,
+            flags: *flags,
+            stop: Stop::Fault(*vector),
+            flags_after: ONES | *flags,
+            ..ROW
+        };
+        work_all(rt, alloc, cache, &[row])?;
+    }
+    Ok(())
+}
+
 #[test]
 fn worked_rows(rt: HostRuntime) -> Result<(), Fail> {
     let mut cache = Cache::new(rt.alloc())?;
-    for (number, row) in ROWS.iter().enumerate() {
-        let mut image = image_of(rt.alloc(), row)?;
-        let made = ended(&mut image, row.budget);
-        compare(&rt, rt.alloc(), number, row, &image, made)?;
-        let mut again = image_of(rt.alloc(), row)?;
-        let made = run_with(&mut again, &mut cache, row.budget);
-        compare(&rt, rt.alloc(), number, row, &again, made)?;
-    }
-    // INC EAX, of which a write from outside makes INC EDX
+    work_all(&rt, rt.alloc(), &mut cache, &ARITHMETIC)?;
+    work_all(&rt, rt.alloc(), &mut cache, &PLACES)?;
+    work_all(&rt, rt.alloc(), &mut cache, &STRINGS)?;
+    fault_all(&rt, rt.alloc(), &mut cache)?;
+    work_all(&rt, rt.alloc(), &mut cache, &PATCHES)?;
+    runs_join();
+    Ok(())
+}
+
+/// EAX and EDX where INC EAX in a loop is INC EDX in the data segment from the fifth step on.
+fn words_around_a_write(alloc: Global, shared: bool) -> Result<(u32, u32), Fail> {
     let row = Row {
-        shared: true,
+        shared,
+        text: b"\x40\xEB\xFD",
         memory: &[(0, 0x40), (1, 0xEB), (2, 0xFD)],
         ..ROW
     };
-    let mut image = image_of(rt.alloc(), &row)?;
-    let first = run_with(&mut image, &mut cache, 4);
+    let mut cache = Cache::new(alloc)?;
+    let mut image = image_of(alloc, &row)?;
+    run_with(&mut image, &mut cache, 4);
     image.memory.write(0, Size::Byte, 0x42)?;
-    let second = run_with(&mut image, &mut cache, 1);
-    assert!(rt; (first.0, second.0) == (4, 1), "steps around a write");
-    let words = (image.reg(Register::Eax), image.reg(Register::Edx));
-    assert!(rt; words == (2, 1), "what stood before a write is performed");
-    runs_join();
+    run_with(&mut image, &mut cache, 1);
+    Ok((image.reg(Register::Eax), image.reg(Register::Edx)))
+}
+
+#[test]
+fn writes_from_outside(rt: HostRuntime) -> Result<(), Fail> {
+    assert!(rt; words_around_a_write(rt.alloc(), true)? == (2, 1));
+    assert!(rt; words_around_a_write(rt.alloc(), false)? == (3, 0));
     Ok(())
 }

@@ -8,6 +8,8 @@ mod around;
 #[cfg(test)]
 mod asm;
 #[cfg(test)]
+mod bytes;
+#[cfg(test)]
 mod dis;
 #[cfg(test)]
 mod encode;

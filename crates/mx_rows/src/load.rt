@@ -1,12 +1,11 @@
 //! Images of a program in both kinds.
 
+use crate::bytes::has_bytes;
 use mx_aout::{Program, read};
-use mx_exec::Image;
 use mx_image::Runs;
 use mx_load::load;
 use mx_word::Register;
 use std::alloc::Global;
-use std::process::Abort;
 use std::test::Fail;
 
 /// Two bytes of text, `CD 21`, in the data segment, four of data, eight of bss, entry 1 and a total
@@ -27,23 +26,31 @@ fn program_of(alloc: Global, flags: u8) -> Result<Program, Fail> {
     Ok(read(alloc, file.as_slice()).map_err(|_| "refused")?)
 }
 
-fn check_image(rt: &impl Abort, image: &Image, bytes: &[(u32, u8)]) {
-    assert_eq!(rt; (image.eip(), image.reg(Register::Esp)), (1, 0x1000));
-    for (at, wanted) in bytes {
-        assert_eq!(rt; image.byte(*at), Some(*wanted), "byte {at}");
-    }
-    assert_eq!(rt; image.byte(4096), None);
+/// The flags of that file, and some bytes of its image.
+static LOADED: [(u8, &[(u32, u8)]); 2] = [
+    (
+        0x10,
+        &[(0, 0xCD), (1, 0x21), (2, 1), (5, 4), (6, 0), (4095, 0)],
+    ),
+    (0x30, &[(0, 1), (3, 4), (4, 0), (4095, 0)]),
+];
+
+fn is_image<R: Runs>(machine: &R, bytes: &[(u32, u8)]) -> bool {
+    (machine.eip(), machine.reg(Register::Esp)) == (1, 0x1000)
+        && machine.byte(4096) == None
+        && has_bytes(machine, bytes)
+}
+
+fn is_loaded(alloc: Global, flags: u8, bytes: &[(u32, u8)]) -> Result<bool, Fail> {
+    let program = program_of(alloc, flags)?;
+    let image = load(alloc, &program)?;
+    Ok(is_image(&image, bytes))
 }
 
 #[test]
 fn loads_text_and_data(rt: HostRuntime) -> Result<(), Fail> {
-    let program = program_of(rt.alloc(), 0x10)?;
-    let image = load(rt.alloc(), &program)?;
-    let wanted = [(0, 0xCD), (1, 0x21), (2, 1), (5, 4), (6, 0), (4095, 0)];
-    check_image(&rt, &image, wanted.as_slice());
-    let program = program_of(rt.alloc(), 0x30)?;
-    let image = load(rt.alloc(), &program)?;
-    let wanted = [(0, 1), (3, 4), (4, 0), (4095, 0)];
-    check_image(&rt, &image, wanted.as_slice());
+    for (flags, bytes) in &LOADED {
+        assert!(rt; is_loaded(rt.alloc(), *flags, *bytes)?, "flags {flags}");
+    }
     Ok(())
 }

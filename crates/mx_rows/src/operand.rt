@@ -16,47 +16,51 @@ const MINUS: Item = Item::Mark(Mark::Minus);
 
 const STAR: Item = Item::Mark(Mark::Star);
 
-fn is_place(items: &[Item], base: bool, scale: Option<Scale>, number: u32) -> bool {
-    match argument_of(items) {
-        Some(Argument::Memory(_, address)) => {
-            address.base.is_some() == base
-                && address.index.map(|index| index.scale) == scale
-                && address.value.number == number
-        }
-        _ => false,
+const FOUR: Item = Item::Number(4);
+
+const BYTE: Item = Item::Size(Size::Byte);
+
+/// Whether a place has a base, the scale of its index, and its number.
+type Shape = (bool, Option<Scale>, u32);
+
+/// Items, and the place that they are, if they are one.
+static SHAPES: [(&[Item], Option<Shape>); 10] = [
+    (
+        &[OPEN, EBX, PLUS, ESI, STAR, FOUR, MINUS, FOUR, CLOSE],
+        Some((true, Some(Scale::Four), 4)),
+    ),
+    (
+        &[BYTE, OPEN, EBX, PLUS, ESI, CLOSE],
+        Some((true, Some(Scale::One), 0)),
+    ),
+    (
+        &[OPEN, ESI, STAR, FOUR, CLOSE],
+        Some((false, Some(Scale::Four), 0)),
+    ),
+    (&[OPEN, FOUR, CLOSE], Some((false, None, 4))),
+    (&[OPEN, CLOSE], None),
+    (&[OPEN, FOUR, PLUS, EBX, CLOSE], None),
+    (&[OPEN, FOUR, STAR, EBX, CLOSE], None),
+    (&[OPEN, EBX, PLUS, MINUS, FOUR, CLOSE], None),
+    (&[OPEN, ESI, STAR, FOUR, PLUS, EBX, CLOSE], None),
+    (&[EBX, EBX], None),
+];
+
+/// The shape of a place; of another operand the shape of none.
+fn shape_of(items: &[Item]) -> Option<Shape> {
+    match argument_of(items)? {
+        Argument::Memory(_, address) => Some((
+            address.base.is_some(),
+            address.index.map(|index| index.scale),
+            address.value.number,
+        )),
+        _ => Some((false, None, 0)),
     }
 }
 
 #[test]
 fn shapes(rt: HostRuntime) {
-    let four = Item::Number(4);
-    assert!(rt;
-        is_place(
-            &[OPEN, EBX, PLUS, ESI, STAR, four, MINUS, four, CLOSE],
-            true,
-            Some(Scale::Four),
-            4
-        )
-    );
-    assert!(rt;
-        is_place(
-            &[Item::Size(Size::Byte), OPEN, EBX, PLUS, ESI, CLOSE],
-            true,
-            Some(Scale::One),
-            0
-        )
-    );
-    assert!(rt; is_place(&[OPEN, ESI, STAR, four, CLOSE], false, Some(Scale::Four), 0));
-    assert!(rt; is_place(&[OPEN, four, CLOSE], false, None, 4));
-    let refused: [&[Item]; 6] = [
-        &[OPEN, CLOSE],
-        &[OPEN, four, PLUS, EBX, CLOSE],
-        &[OPEN, four, STAR, EBX, CLOSE],
-        &[OPEN, EBX, PLUS, MINUS, four, CLOSE],
-        &[OPEN, ESI, STAR, four, PLUS, EBX, CLOSE],
-        &[EBX, EBX],
-    ];
-    for items in refused {
-        assert!(rt; argument_of(items).is_none());
+    for (number, (items, shape)) in SHAPES.iter().enumerate() {
+        assert!(rt; shape_of(*items) == *shape, "row {number}");
     }
 }
