@@ -3,17 +3,18 @@
 ghost use Rattle.std.specs.Prelude.{◌≡◌, ◌↔◌, length, IsTrue, IfOk, IfErr, IsOk, Some};
 ghost use Rattle.mx_decode.specs.Decode.{front};
 ghost use Rattle.mx_encode.specs.Forms.{has_form};
+ghost use Rattle.mx_exec.specs.Step.{one_step};
 ghost use Rattle.mx_compare.specs.Agreement.{Agrees, StepAgrees, length_of};
 ghost use Rattle.mx_compare.specs.Failure.{IsWanting};
 
 use crate::lines::Failure;
-use crate::steps::{Way, image_of, is_end_same, take_step};
 use crate::telling::{tell_decoding, tell_end};
-use mx_case::Case;
+use mx_case::{Case, image_of, is_end_same};
 use mx_decode::decode;
 use mx_encode::{Wide, encode, spelled_has_form};
+use mx_exec::{Image, Outcome, step};
 use mx_insn::Insn;
-use mx_kept::Cache;
+use mx_kept::{Cache, run_down};
 use std::alloc::Global;
 use std::io::Write;
 
@@ -87,6 +88,26 @@ fn is_spelled(case: &Case<'_>) -> bool
     match decode(case.bytes.as_slice()) {
         Ok((insn, _)) => is_always_again(&insn),
         Err(_) => false,
+    }
+}
+
+/// How a step is taken.
+#[derive(Clone, Copy)]
+enum Way {
+    /// As one step, which decodes.
+    Step,
+    /// As the only step of a run, by the instruction that the cache keeps where it keeps it.
+    Run,
+}
+
+/// Takes one step.
+fn take_step(image: &mut Image, cache: &mut Cache, way: Way) -> Outcome
+    ensures outcome { result ≡ (one_step image.old).0 }
+    ensures image { image.new ≡ (one_step image.old).1 }
+{
+    match way {
+        Way::Step => step(image),
+        Way::Run => run_down(image, cache, 1).1,
     }
 }
 

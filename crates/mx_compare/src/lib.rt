@@ -6,7 +6,6 @@
 
 mod checking;
 mod lines;
-mod steps;
 mod telling;
 
 pub use checking::check_case;

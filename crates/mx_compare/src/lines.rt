@@ -15,7 +15,7 @@ use std::fmt;
 use std::io::{self, BufRead, Write};
 
 /// How many cases there were, and how many of them went wrong.
-#[derive(Clone, Copy, Debug, PartialEq, Eq)]
+#[derive(Clone, Copy)]
 pub struct Tally {
     pub cases: u64,
     pub wrong: u64,
@@ -35,7 +35,7 @@ impl Tally {
 }
 
 /// Why the comparison ended early.
-#[derive(Clone, Copy, Debug, PartialEq, Eq)]
+#[derive(Clone, Copy)]
 pub enum Failure {
     /// A line is no case; the first line is 1.
     Line(u64),

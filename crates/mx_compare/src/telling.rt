@@ -1,7 +1,6 @@
 //! Prints what isn't as a case has it.
 
-use crate::steps::{compared_flags, number_of, wanted_flags};
-use mx_case::Case;
+use mx_case::{Case, compared_flags, number_of, wanted_flags};
 use mx_exec::{Image, Outcome};
 use mx_word::Register;
 use std::io::{self, Write};

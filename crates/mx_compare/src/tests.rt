@@ -18,13 +18,13 @@ fn checked(rt: &impl AllocGlobal, lines: &str) -> Result<(String, Result<Tally, 
 fn compares(rt: HostRuntime) -> Result<(), Fail> {
     let (out, tally) = checked(&rt, MOVE)?;
     assert_eq!(rt; out.as_str(), "1 cases, 0 wrong\n");
-    assert_eq!(rt; tally, Ok(Tally { cases: 1, wrong: 0 }));
+    assert!(rt; matches!(tally, Ok(Tally { cases: 1, wrong: 0 })));
     let (out, tally) = checked(&rt, WRONG)?;
     assert_eq!(rt;
         out.as_str(),
         "b8_mov b805000000 EAX wanted 6 found 5\nb8_mov b805000000 flags wanted 1 found 0\nb8_mov b805000000 byte wanted ff found 0\n1 cases, 1 wrong\n"
     );
-    assert_eq!(rt; tally, Ok(Tally { cases: 1, wrong: 1 }));
+    assert!(rt; matches!(tally, Ok(Tally { cases: 1, wrong: 1 })));
     Ok(())
 }
 
@@ -74,7 +74,8 @@ fn tells_each_falsified_field(rt: HostRuntime) -> Result<(), Fail> {
         line.push_str("\n")?;
         let (_, tally) = checked(&rt, line.as_str())?;
         let wrong = u64::from(*place != 0);
-        assert_eq!(rt; tally, Ok(Tally { cases: 1, wrong }), "field {place}");
+        let is_told = matches!(tally, Ok(found) if found.cases == 1 && found.wrong == wrong);
+        assert!(rt; is_told, "field {place}");
     }
     Ok(())
 }
@@ -84,7 +85,7 @@ fn refuses_what_is_no_case(rt: HostRuntime) -> Result<(), Fail> {
     for line in ["", "b8_mov", "a | b | c"] {
         let text = format!(in rt.alloc(); "{MOVE}{line}\n")?;
         let (_, tally) = checked(&rt, text.as_str())?;
-        assert_eq!(rt; tally, Err(Failure::Line(2)), "{line}");
+        assert!(rt; matches!(tally, Err(Failure::Line(2))), "{line}");
     }
     Ok(())
 }

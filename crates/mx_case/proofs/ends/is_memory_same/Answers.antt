@@ -2,8 +2,8 @@ use Rattle.std.proofs.Common.{◌∙◌, ap, ℕ, refl, eq-eqb}
 use Rattle.std.specs.Prelude.{unwrap_or, Option}
 use Rattle.std.proofs.lemmas.Bool.{eqb-true}
 use Rattle.std.proofs.lemmas.Option.{unwrap_or-slice_get}
-use Rattle.mx_compare.proofs.Comparing.{same_none, tested_more, same_all}
-use Rattle.mx_compare.proofs.steps.is_memory_same.Goals as goal
+use Rattle.mx_case.proofs.Comparing.{same_none, tested_more, same_all}
+use Rattle.mx_case.proofs.ends.is_memory_same.Goals as goal
 
 pub loop-at-init : goal.loop-at-init
 loop-at-init c = same_none c.limit.result c.args.memory.now c.args.wanted.now c.limit.ensures

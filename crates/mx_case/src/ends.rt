@@ -1,16 +1,14 @@
-//! The image that a case begins with, and how it is to end.
+//! The image that a case begins with, and whether a step of it ended as the case says.
 
 ghost use Rattle.std.specs.Prelude.{◌≡◌, ◌<◌, ◌^◌, ◌↔◌, length, IsTrue, IfOk, OnOk, List, ℕ};
-ghost use Rattle.mx_exec.specs.Step.{one_step};
 ghost use Rattle.mx_flags.specs.Flags.{bits_of};
 ghost use Rattle.mx_regs.specs.Regs.{register_word};
 ghost use Rattle.mx_regs.specs.Words.{words_of};
-ghost use Rattle.mx_compare.specs.Agreement.{EndsAs, SameBits, compared_flags, image_of, number_of, wanted_flags};
+ghost use Rattle.mx_case.specs.Ends.{EndsAs, SameBits, compared_flags, image_of, number_of, wanted_flags};
 
-use mx_case::Case;
-use mx_exec::{Code, Image, Outcome, Text, step};
+use crate::Case;
+use mx_exec::{Code, Image, Outcome, Text};
 use mx_flags::Flags;
-use mx_kept::{Cache, run_down};
 use mx_mem::Segment;
 use mx_regs::Regs;
 use mx_word::{NoMemory, Register, Size};
@@ -64,26 +62,6 @@ pub fn image_of(alloc: Global, case: &Case<'_>) -> Result<Image, NoMemory>
         memory: segment_of(alloc, case.memory.as_slice())?,
         code,
     })
-}
-
-/// How a step is taken.
-#[derive(Clone, Copy)]
-pub enum Way {
-    /// As one step, which decodes.
-    Step,
-    /// As the only step of a run, by the instruction that the cache keeps where it keeps it.
-    Run,
-}
-
-/// Takes one step.
-pub fn take_step(image: &mut Image, cache: &mut Cache, way: Way) -> Outcome
-    ensures outcome { result ≡ (one_step image.old).0 }
-    ensures image { image.new ≡ (one_step image.old).1 }
-{
-    match way {
-        Way::Step => step(image),
-        Way::Run => run_down(image, cache, 1).1,
-    }
 }
 
 /// The outcome as a number: a fault's vector, or 256 for on and 257 for a trap.

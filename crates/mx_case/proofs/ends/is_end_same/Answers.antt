@@ -1,7 +1,7 @@
 use Rattle.std.proofs.Common.{◌∙◌, sym, eq-eqb}
 use Rattle.std.proofs.lemmas.Bool.{eqb-true}
-use Rattle.mx_compare.proofs.Comparing.{ended}
-use Rattle.mx_compare.proofs.steps.is_end_same.Goals as goal
+use Rattle.mx_case.proofs.Comparing.{ended}
+use Rattle.mx_case.proofs.ends.is_end_same.Goals as goal
 
 pub returns : goal.returns
 returns c =
