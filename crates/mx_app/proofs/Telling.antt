@@ -13,7 +13,7 @@ use Rattle.mx_failure.specs.Failure.{failure_of, failure_of_kind, failure_of_lin
 use Rattle.mx_setup.specs.declared.config.ServiceLine.{ServiceLine}
 use Rattle.mx_start.specs.Asked.{Asked}
 use Rattle.mx_start.specs.Setup.{IsFaulty, IsFirstRefused, IsMissed, IsNoText, IsRefused, IsSetupFault}
-use Rattle.mx_steps.specs.Telling.{IsTold}
+use Rattle.mx_start.specs.Telling.{IsTold}
 
 abbrev IsOther : Failure → Type 0
 IsOther f = f ≡ NotText → ⊥

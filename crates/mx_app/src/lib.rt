@@ -4,9 +4,7 @@
 mod perform;
 
 pub use mx_command::{Request, command};
-pub use mx_db::db;
+pub use mx_db::{NamedFile, NamedFiles, Reader, Replayed, db, replay, step};
 pub use mx_failure::{BootError, Failure, FileError};
 pub use mx_program::{assemble_file, one, print_listing, print_names, print_one};
-pub use mx_start::{NamedFile, NamedFiles, Reader};
-pub use mx_steps::{Replayed, replay, step};
 pub use perform::perform_words;

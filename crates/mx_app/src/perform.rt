@@ -7,11 +7,9 @@ ghost use Rattle.mx_app.specs.Words.{Explains, words_failure_of};
 
 use clap::error::ErrorKind;
 use mx_command::{Request, command};
-use mx_db::db;
+use mx_db::{Replayed, RuntimeFiles, db, replay, step};
 use mx_failure::Failure;
 use mx_program::{assemble_file, print_listing, print_names, print_one};
-use mx_start::RuntimeFiles;
-use mx_steps::{Replayed, replay, step};
 use std::rt::{Env, Files};
 use std::{env, fs, io};
 

@@ -12,7 +12,7 @@ ghost use Rattle.mx_start.specs.Asked.{Asked};
 ghost use Rattle.mx_start.specs.Course.{IsDebugScript, TellsDebugScript};
 ghost use Rattle.mx_start.specs.Setup.{IsStart};
 ghost use Rattle.mx_steps.specs.Lines.{actors};
-ghost use Rattle.mx_steps.specs.Telling.{IsTold};
+ghost use Rattle.mx_start.specs.Telling.{IsTold};
 ghost use Rattle.mx_world.specs.Boot.{booted};
 ghost use Rattle.mx_db.specs.Lines.{Debugged, debug_lines_made};
 ghost use Rattle.mx_db.specs.Told.{debug_lines_told};

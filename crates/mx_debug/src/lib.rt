@@ -11,5 +11,6 @@ mod resuming;
 pub use error::DebugError;
 pub use finding::{address, byte, message};
 pub use halt::{Cause, Halt};
+pub use mx_kernel::Kernel;
 pub use mx_world::Held;
 pub use points::{Breakpoint, Debugger};

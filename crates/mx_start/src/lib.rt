@@ -11,7 +11,7 @@ mod setup;
 mod starting;
 
 pub use course::{Course, DebugScript, History, Script};
-pub use mx_boot::{BootError, Config, DebugLine, ScriptLine};
+pub use mx_boot::{BootError, Config, DebugLine, ScriptLine, report};
 pub use mx_failure::Failure;
 pub use mx_machine::{Machine, Record};
 pub use named::{NamedFile, NamedFiles};

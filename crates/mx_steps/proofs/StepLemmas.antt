@@ -19,7 +19,7 @@ use Rattle.mx_start.specs.Setup.{IsFirstFault, IsStart}
 use Rattle.mx_told.specs.declared.said.Said.{Said}
 use Rattle.mx_told.specs.Said.{said_lines}
 use Rattle.mx_steps.specs.Lines.{actors, lines_made}
-use Rattle.mx_steps.specs.Telling.{IsTold}
+use Rattle.mx_start.specs.Telling.{IsTold}
 
 pub on_ok : {A E : Type 0} (P Q : Type 0) (r : Result A E) → (P → Q) → OnOk r P → OnOk r Q
 on_ok P Q (Ok a) f h = f h

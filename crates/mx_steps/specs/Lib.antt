@@ -1,3 +1,2 @@
 pub mod Lines
 pub mod Records
-pub mod Telling

@@ -14,7 +14,7 @@ ghost use Rattle.mx_start.specs.Setup.{IsStart};
 ghost use Rattle.mx_world.specs.Boot.{booted};
 ghost use Rattle.mx_told.specs.Said.{said_lines};
 ghost use Rattle.mx_steps.specs.Lines.{actors, line_made, lines_made};
-ghost use Rattle.mx_steps.specs.Telling.{IsTold};
+ghost use Rattle.mx_start.specs.Telling.{IsTold};
 
 use crate::printing::print_report;
 use crate::stepping::{make_event, make_own, make_steps};

@@ -6,9 +6,9 @@ ghost use Rattle.mx_failure.specs.Failure.{IsWanting};
 ghost use Rattle.mx_report.specs.Report.{report_text};
 ghost use Rattle.mx_world.specs.History.{replay};
 
-use mx_boot::report;
 use mx_failure::{Failure, print_text};
-use mx_kernel::Kernel;
+use mx_machine::Kernel;
+use mx_start::report;
 use std::alloc::Global;
 use std::io::Write;
 

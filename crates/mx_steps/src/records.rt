@@ -18,7 +18,7 @@ ghost use Rattle.mx_world.specs.History.{AreAccepted, after_events, events_of, u
 ghost use Rattle.mx_world.specs.Steps.{steps_of};
 ghost use Rattle.mx_steps.specs.Lines.{actors};
 ghost use Rattle.mx_steps.specs.Records.{IsPrinted, IsRefused, IsRefusedAt, refused_line};
-ghost use Rattle.mx_steps.specs.Telling.{IsTold};
+ghost use Rattle.mx_start.specs.Telling.{IsTold};
 
 use crate::laws::actors_stay;
 use crate::printing::print_report;

@@ -4,8 +4,7 @@ ghost use Rattle.std.specs.Prelude.{◌≡◌, ◌++◌, OnOk, string_bytes};
 ghost use Rattle.mx_world.specs.History.{replay};
 ghost use Rattle.mx_told.specs.Messages.{kind_word, delivery_line, delivery_lines};
 
-use mx_debug::message;
-use mx_kernel::Kernel;
+use mx_debug::{Kernel, message};
 use mx_proc::{Delivery, DeliveryKind};
 use std::alloc::AllocError;
 use std::fmt::Write;

@@ -2,12 +2,10 @@
 
 use crate::files::reader;
 use mx_boot::{Over, save};
-use mx_db::{BootError, Failure, db, go, set_breakpoint};
+use mx_db::{BootError, Failure, Script, db, go, make_steps, set_breakpoint, start};
 use mx_debug::Debugger;
 use mx_machine::{Event, Machine};
 use mx_script::{Place, SymbolName};
-use mx_start::{Script, start};
-use mx_steps::make_steps;
 use std::alloc::Global;
 use std::test::Fail;
 

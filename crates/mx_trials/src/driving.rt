@@ -1,8 +1,7 @@
 //! Machines that are driven by scripts and by histories, and what is printed of them.
 
 use crate::files::reader;
-use mx_start::BootError;
-use mx_steps::{Failure, Replayed, replay, step};
+use mx_db::{BootError, Failure, Replayed, replay, step};
 use std::alloc::Global;
 use std::test::Fail;
 

@@ -1,6 +1,6 @@
 //! Files in memory: programs, configurations, and the texts that drive their machines.
 
-use mx_start::{NamedFile, NamedFiles};
+use mx_db::{NamedFile, NamedFiles};
 use std::alloc::Global;
 use std::test::Fail;
 

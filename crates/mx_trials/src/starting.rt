@@ -2,7 +2,7 @@
 
 use crate::files::reader;
 use mx_aout::FileError;
-use mx_start::{BootError, Failure, Script, start};
+use mx_db::{BootError, Failure, Script, start};
 use std::alloc::Global;
 use std::test::Fail;
 
