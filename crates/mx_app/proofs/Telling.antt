@@ -61,14 +61,14 @@ setup name qs f h = elim h [
 pub told_other : {L : Type 0} (Says : List ℕ → Config → List L → Type 0) (Tells : List ℕ → Config → BootError → Type 0) (config name : List ℕ) (qs : List Asked) (f : Failure)
     → IsTold Says Tells config name qs f → f ≡ NotText → ⊥
 told_other Says Tells config name qs f h = elim h [
-  | inl n ↦ is_memory f n
-  | inr rest ↦ elim rest [
-    | inl fault ↦ elim fault [
+  | inl start ↦ elim start [
+    | inl n ↦ is_memory f n
+    | inr fault ↦ elim fault [
       | inl s ↦ setup config qs f s
       | inr p ↦ elim p.6 [ inl n ↦ no_text name p.1 f n | inr d ↦ faulty _ name p.1 f d ]
     ]
-    | inr p ↦ is_file f p.3
   ]
+  | inr p ↦ elim p.4 [ inl e ↦ is_file f e | inr n ↦ is_memory f n ]
 ]
 
 pub told_other_of : {L T : Type 0} (Says : List ℕ → Config → List L → Type 0) (Tells : List ℕ → Config → BootError → Type 0) (config name : List ℕ) (old new : List Asked) (r : Result T Failure)

@@ -1,10 +1,11 @@
 //! What is written of a kernel.
 
-ghost use Rattle.std.specs.Prelude.{◌≡◌, ◌+◌, ◌++◌, false, length, OnOk, IfOk};
+ghost use Rattle.std.specs.Prelude.{◌≡◌, ◌+◌, ◌++◌, false, OnOk, IfOk};
 ghost use Rattle.mx_history.specs.Log.{IsHistory};
 ghost use Rattle.mx_history.specs.Text.{history_text};
 ghost use Rattle.mx_report.specs.Report.{report_text};
 ghost use Rattle.mx_world.specs.History.{replay};
+ghost use Rattle.mx_world.specs.Whole.{actors};
 
 use mx_history::{SaveFault, Sink, history_again, save_records};
 use mx_kernel::Kernel;
@@ -25,7 +26,7 @@ pub fn save<S: Sink>(kernel: &Kernel, sink: &mut S) -> Result<(), SaveFault>
 /// What is saved of a kernel is its history again for who reads it, by a configuration with as many
 /// actors.
 pub fn saved_again(kernel: &Kernel, config: &Config)
-    requires { config.now.cpus + config.now.others ≡ length (replay kernel.now).cpus + (replay kernel.now).others }
+    requires { config.now.cpus + config.now.others ≡ actors (replay kernel.now) }
     ensures { IsHistory (config.now.cpus + config.now.others) (history_text kernel.now.history) kernel.now.history }
 {
     kernel.opened();

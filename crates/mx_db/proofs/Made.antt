@@ -5,15 +5,12 @@ use Rattle.mx_script.specs.declared.debug.DebugLine.{DebugLine}
 use Rattle.mx_script.specs.declared.debug.DebugLine.TheVariants.{Plain, Break, Clear, Go, Registers, Memory, Messages}
 use Rattle.mx_script.specs.declared.place.Place.{Place}
 use Rattle.mx_script.specs.declared.scripts.ScriptLine.{ScriptLine}
-use Rattle.mx_world.specs.declared.events.Event.{Event}
-use Rattle.mx_world.specs.History.{Kept, after_events, replay}
-use Rattle.mx_world.specs.Steps.{steps_of}
-use Rattle.mx_world.specs.Whole.{Whole, Lent, held_by}
+use Rattle.mx_world.specs.History.{Kept, replay}
+use Rattle.mx_world.specs.Whole.{Whole, held_by}
 use Rattle.mx_machine.specs.Machine.{Running, world_of}
 use Rattle.mx_told.specs.declared.said.Said.{Said}
-use Rattle.mx_steps.specs.Lines.{actors, line_made}
+use Rattle.mx_steps.specs.Lines.{line_made}
 use Rattle.mx_debug.specs.declared.points.Breakpoint.{Breakpoint}
-use Rattle.mx_debug.specs.Halts.{steps_to_halt}
 use Rattle.mx_told.specs.declared.refused.Refused.{Refused as Kind}
 use Rattle.mx_db.specs.Places.{found, broken, cleared}
 use Rattle.mx_db.specs.Lines.{Debugged, gone, debug_line_made, debug_lines_made}
@@ -51,14 +48,6 @@ memory_made other d c m n = refl
 pub messages_made : (other : ℕ) (d : Debugged) → debug_line_made other d Messages ≡ d
 unfolding debug_line_made
 messages_made other d = refl
-
--- steps leave how many actors there are
-gone_leaves : ((w : Whole) (xs : List (ℕ × Event)) → actors (after_events w xs) ≡ actors w) → (w : Whole) (points : List Breakpoint) (c k : ℕ) (l : Option Lent) → actors (gone w points c k l) ≡ actors w
-gone_leaves law w points c k None = refl
-gone_leaves law w points c k (Some l) = law w (steps_of c (steps_to_halt points l.slot k l.out))
-
-pub gone_actors : ((w : Whole) (xs : List (ℕ × Event)) → actors (after_events w xs) ≡ actors w) → (w u : Whole) (points : List Breakpoint) (c k : ℕ) → gone w points c k (held_by w c) ≡ u → actors u ≡ actors w
-gone_actors law w u points c k h = ap actors (sym h) ∙ gone_leaves law w points c k (held_by w c)
 
 -- ---- by what a match has found
 

@@ -11,9 +11,9 @@ ghost use Rattle.mx_setup.specs.declared.config.Config.{Config};
 ghost use Rattle.mx_start.specs.Asked.{Asked};
 ghost use Rattle.mx_start.specs.Course.{IsDebugScript, TellsDebugScript};
 ghost use Rattle.mx_start.specs.Setup.{IsStart};
-ghost use Rattle.mx_steps.specs.Lines.{actors};
 ghost use Rattle.mx_start.specs.Telling.{IsTold};
 ghost use Rattle.mx_world.specs.Boot.{booted};
+ghost use Rattle.mx_world.specs.Whole.{actors};
 ghost use Rattle.mx_db.specs.Lines.{Debugged, debug_lines_made};
 ghost use Rattle.mx_db.specs.Told.{debug_lines_told};
 
@@ -45,7 +45,7 @@ fn print_lines<W: Write>(
     let done = perform_debug_lines(machine, &mut debugger, other, lines, &mut text);
     print_text(text.as_bytes(), out)?;
     done?;
-    print_report(alloc, machine.kernel(), out)
+    print_report(alloc, machine, out)
 }
 
 /// Starts a machine by the names of its configuration and of a debugger's script, prints what is said of

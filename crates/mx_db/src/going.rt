@@ -2,7 +2,7 @@
 
 ghost use Rattle.std.specs.Prelude.{◌≡◌, IfOk, IfErr};
 ghost use Rattle.mx_machine.specs.Machine.{world_of};
-ghost use Rattle.mx_world.specs.Whole.{held_by};
+ghost use Rattle.mx_world.specs.Whole.{actors, held_by};
 ghost use Rattle.mx_db.specs.Going.{HasGone, IsStuck};
 ghost use Rattle.mx_db.specs.Lines.{gone};
 
@@ -41,6 +41,7 @@ pub fn go(machine: &mut Machine, debugger: &Debugger, cpu: u8, steps: u32) -> Re
     ensures stuck { IfErr result (λ refusal. IsStuck (world_of machine.old) debugger.now cpu steps refusal × (world_of machine.new ≡ world_of machine.old)) }
     ensures world { gone (world_of machine.old) debugger.now cpu steps (held_by (world_of machine.old) cpu) ≡ world_of machine.new }
     ensures kernel { machine.new.kernel ≡ machine.old.kernel }
+    ensures actors { actors (world_of machine.new) ≡ actors (world_of machine.old) }
 {
     let Some(slot) = machine.slot_on(cpu) else {
         return Err(Refusal::CpuEmpty);

@@ -2,8 +2,7 @@
 
 ghost use Rattle.std.specs.Prelude.{◌≡◌, ◌<◌, ◌++◌, OnOk, string_bytes};
 ghost use Rattle.mx_machine.specs.Machine.{world_of};
-ghost use Rattle.mx_world.specs.Whole.{held_by};
-ghost use Rattle.mx_steps.specs.Lines.{actors};
+ghost use Rattle.mx_world.specs.Whole.{actors, held_by};
 ghost use Rattle.mx_told.specs.Processes.{registers_text, memory_text};
 ghost use Rattle.mx_db.specs.Lines.{gone, debug_line_made, debug_lines_made};
 ghost use Rattle.mx_db.specs.Told.{eip_of, image_of, gone_told, debug_line_told, debug_lines_told};
@@ -13,7 +12,7 @@ use crate::places::{clear_breakpoint, set_breakpoint};
 use mx_debug::Debugger;
 use mx_machine::Machine;
 use mx_script::DebugLine;
-use mx_steps::{actors_stay, perform_line};
+use mx_steps::perform_line;
 use mx_told::{push_done, push_memory, push_messages, push_process, push_run};
 use std::alloc::AllocError;
 use std::fmt::Write;
@@ -37,6 +36,7 @@ fn perform_go(
     text: &mut String,
 ) -> Result<(), AllocError>
     ensures world { gone (world_of machine.old) debugger.now cpu steps (held_by (world_of machine.old) cpu) ≡ world_of machine.new }
+    ensures actors { actors (world_of machine.new) ≡ actors (world_of machine.old) }
     ensures told { OnOk result (string_bytes text.new ≡ string_bytes text.old ++ gone_told debugger.now steps (held_by (world_of machine.old) cpu)) }
 {
     let run = go(machine, debugger, cpu, steps);
@@ -66,7 +66,7 @@ fn show_memory(
 
 /// Does what a line of a debugger's script says, and appends what is said of it. The lines that name
 /// no actor are the events of `other`.
-#[tactic(auto, using(crate::proofs::Made::plain_made, crate::proofs::Made::broken_made, crate::proofs::Made::cleared_made, crate::proofs::Made::gone_made, crate::proofs::Made::registers_made, crate::proofs::Made::memory_made, crate::proofs::Made::messages_made, crate::proofs::Made::gone_actors))]
+#[tactic(auto, using(crate::proofs::Made::plain_made, crate::proofs::Made::broken_made, crate::proofs::Made::cleared_made, crate::proofs::Made::gone_made, crate::proofs::Made::registers_made, crate::proofs::Made::memory_made, crate::proofs::Made::messages_made))]
 fn perform_debug_line(
     machine: &mut Machine,
     debugger: &mut Debugger,
@@ -79,7 +79,6 @@ fn perform_debug_line(
     ensures told { OnOk result (string_bytes text.new ≡ string_bytes text.old ++ debug_line_told other (record { world = world_of machine.old; points = debugger.old }) line.now) }
     ensures actors { actors (world_of machine.new) ≡ actors (world_of machine.old) }
 {
-    actors_stay();
     match line {
         DebugLine::Plain(line) => {
             let said = perform_line(machine, other, *line);

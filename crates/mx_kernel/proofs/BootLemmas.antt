@@ -148,7 +148,7 @@ boot_agrees ss cpus others capacity room leases items eight idle none fits =
       space = fits;
       accepted = tt;
       few = omega (arith, length-replicate {A = Option Lent} cpus None);
-      actors = refl;
+      as_many = refl;
       written = All-nil _;
       fresh = λ a l h. let z = none_at Lent cpus a in cc;
     })

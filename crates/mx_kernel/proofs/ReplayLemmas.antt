@@ -30,7 +30,7 @@ use Rattle.mx_world.specs.Move.{event_refusal, event_answer, after_event, after_
 use Rattle.mx_world.specs.Rest.{at_rest, down_are_worn}
 use Rattle.mx_world.specs.Sound.{lease_of, lease_at, IsSound}
 use Rattle.mx_world.specs.Steps.{StepsTo}
-use Rattle.mx_world.specs.Whole.{Whole, Lent, held_by, out_count, free}
+use Rattle.mx_world.specs.Whole.{Whole, Lent, actors, held_by, out_count, free}
 use Rattle.mx_kernel.specs.Agrees.{Agrees, IsFresh, IsAccepted, IsRefused}
 use Rattle.mx_kernel.specs.Situation.{Situation, situation_of, free_records, on_to, with_taken, with_returned, refusal_to_take, HasTaken, HasActed, refusal_to, raised_by, respawned_by, table_after, answer_to, is_for_all, recorded_as}
 use Rattle.mx_kernel.proofs.HoldsLemmas.{holds_in}
@@ -71,15 +71,11 @@ unfolding replay
 accepted-recorded k a x h e = subst (λ l. AreAccepted k.boot l) (sym (unfold-last k.history (record { actor = a; event = x })))
     (accepted-append k.boot (unfolded k.history) (events_of a x ++ []) h (accepted-append (after_events k.boot (unfolded k.history)) (events_of a x) [] e tt))
 
--- how many actors there are
-abbrev pub actors_of : Whole → ℕ
-actors_of w = length w.cpus + w.others
-
 -- THE STEP from one record to the next
 recorded-agrees : (d n : Situation) (room more : ℕ) (k : Kept) (a : ℕ) (x : Recorded) (v : Whole) → Agrees d room k → AreAccepted (replay k) (events_of a x) → after_events (replay k) (events_of a x) ≡ v
-    → n ≡ situation_of v → n.records ≡ d.records + 1 → n.capacity ≡ d.capacity → actors_of v ≡ actors_of (replay k) → IsWritable (actors_of k.boot) (record { actor = a; event = x })
+    → n ≡ situation_of v → n.records ≡ d.records + 1 → n.capacity ≡ d.capacity → actors v ≡ actors (replay k) → IsWritable (actors k.boot) (record { actor = a; event = x })
     → ((b : ℕ) (l : Lent) → held_by v b ≡ Some l → IsFresh v l) → room ≤ more → Agrees n more (with_record k a x)
-recorded-agrees d n room more k a x v h accepted e is records capacity actors written fresh bigger =
+recorded-agrees d n room more k a x v h accepted e is records capacity as_many written fresh bigger =
     let z : replay (with_record k a x) ≡ v = replay-recorded k a x ∙ e in
     record {
       present = is ∙ ap situation_of (sym z);
@@ -87,8 +83,8 @@ recorded-agrees d n room more k a x v h accepted e is records capacity actors wr
       space = omega (arith, capacity, h.space, bigger);
       accepted = accepted-recorded k a x h.accepted accepted;
       few = h.few;
-      actors = ap actors_of z ∙ actors ∙ h.actors;
-      written = all-more (IsWritable (actors_of k.boot)) k.history (record { actor = a; event = x }) h.written written;
+      as_many = ap actors z ∙ as_many ∙ h.as_many;
+      written = all-more (IsWritable (actors k.boot)) k.history (record { actor = a; event = x }) h.written written;
       fresh = subst (λ (w : Whole). (b : ℕ) (l : Lent) → held_by w b ≡ Some l → IsFresh w l) (sym z) fresh;
     }
 
@@ -188,7 +184,7 @@ act_is d room k n m a e v h all is same = subst (λ k. IsAccepted k m a e (recor
     (one-event k m a e (recorded_as e) (events-same a e all) (act_accepted d room k a e h all is) same)
 
 -- such an event leaves what is lent alone
-pub act_agrees : (d n : Situation) (room more : ℕ) (k : Kept) (a : ℕ) (e : Event) (x : Answer) → Agrees d room k → is_for_all e ≡ true → HasActed d n e x → IsWritable (actors_of k.boot) (record { actor = a; event = recorded_as e }) → room ≤ more
+pub act_agrees : (d n : Situation) (room more : ℕ) (k : Kept) (a : ℕ) (e : Event) (x : Answer) → Agrees d room k → is_for_all e ≡ true → HasActed d n e x → IsWritable (actors k.boot) (record { actor = a; event = recorded_as e }) → room ≤ more
     → Agrees n more (with_record k a (recorded_as e))
 act_agrees d n room more k a e x h all acted written bigger =
     let w = replay k in
@@ -237,7 +233,7 @@ take_lent d n room k m a s o h taken same =
 
 -- IsLoadedFrom of each image that is at home comes from what always holds
 pub take_agrees : (d n : Situation) (room more : ℕ) (k : Kept) (a s : ℕ) (o : Out) → Agrees d room k → HasTaken d n a s o → HoldsOf d
-    → IsWritable (actors_of k.boot) (record { actor = a; event = recorded.Take }) → room ≤ more → Agrees n more (with_record k a recorded.Take)
+    → IsWritable (actors k.boot) (record { actor = a; event = recorded.Take }) → room ≤ more → Agrees n more (with_record k a recorded.Take)
 take_agrees d n room more k a s o h taken holds written bigger =
     let loaded : (v : Service) → slice_get d.services s ≡ Some v → IsLoadedFrom (process_at d.table s).image v.program = λ v g. holds.loaded s v g (ready_loan (process_at d.table s) taken.ready) in
     let w = replay k in
@@ -317,7 +313,7 @@ nothing : (m : Lent) → None ≡ Some m → ⊥
 nothing m e = cc
 
 pub back_agrees : (d n : Situation) (room more : ℕ) (k : Kept) (a : ℕ) (l : Lent) (o : Out) (x : Lease) → Agrees d room k → held_by (replay k) a ≡ Some l → StepsTo (replay k) a o.count l o → x.slot ≡ l.slot → n ≡ with_returned d a x.slot o
-    → IsWritable (actors_of k.boot) (record { actor = a; event = recorded.Back o.count }) → room ≤ more → Agrees n more (with_record k a (recorded.Back o.count))
+    → IsWritable (actors k.boot) (record { actor = a; event = recorded.Back o.count }) → room ≤ more → Agrees n more (with_record k a (recorded.Back o.count))
 back_agrees d n room more k a l o x h at s same after written bigger =
     let w = replay k in
     let v : Whole = with_held (noted w (returned w.table (record l { out = o }))) a None in
@@ -366,13 +362,13 @@ pub room_for : (d m : Situation) (room : ℕ) (k : Kept) → Agrees d room k →
 room_for d m room k h holds r c = omega (arith, h.records, h.space, holds.room, r, c)
 
 -- a processor is an actor
-pub is_actor : (d : Situation) (room : ℕ) (k : Kept) (a : ℕ) → Agrees d room k → a < length d.leases → a < actors_of k.boot
+pub is_actor : (d : Situation) (room : ℕ) (k : Kept) (a : ℕ) → Agrees d room k → a < length d.leases → a < actors k.boot
 is_actor d room k a h b =
     let n : length d.leases ≡ length (replay k).cpus = ap (λ (d : Situation). length d.leases) h.present ∙ length-map (replay k).cpus lease_of in
-    omega (arith, b, n, h.actors)
+    omega (arith, b, n, h.as_many)
 
 -- who brings something back is an actor
-pub holder_is_actor : (d : Situation) (room : ℕ) (k : Kept) (a : ℕ) (x : Lease) → Agrees d room k → lease_at d.leases a ≡ Some x → a < actors_of k.boot
+pub holder_is_actor : (d : Situation) (room : ℕ) (k : Kept) (a : ℕ) (x : Lease) → Agrees d room k → lease_at d.leases a ≡ Some x → a < actors k.boot
 holder_is_actor d room k a x h e = is_actor d room k a h (holds_in d.leases a x e)
 
 -- ---- what always holds of a kernel
@@ -388,8 +384,8 @@ opened_sound d room k n v h sound holds = subst (λ k. IsSound (replay k)) v (re
 pub opened_accepted : (d : Situation) (room : ℕ) (k n : Kept) → k ≡ n → Agrees d room k → AreAccepted n.boot (unfolded n.history)
 opened_accepted d room k n v h = subst (λ (k : Kept). AreAccepted k.boot (unfolded k.history)) v h.accepted
 
-pub opened_written : (d : Situation) (room : ℕ) (k n : Kept) → k ≡ n → Agrees d room k → All (IsWritable (actors_of (replay n))) n.history
-opened_written d room k n v h = subst (λ (k : Kept). All (IsWritable (actors_of (replay k))) k.history) v (subst (λ m. All (IsWritable m) k.history) (sym h.actors) h.written)
+pub opened_written : (d : Situation) (room : ℕ) (k n : Kept) → k ≡ n → Agrees d room k → All (IsWritable (actors (replay n))) n.history
+opened_written d room k n v h = subst (λ (k : Kept). All (IsWritable (actors (replay k))) k.history) v (subst (λ m. All (IsWritable m) k.history) (sym h.as_many) h.written)
 
 pub opened_fresh : (d : Situation) (room : ℕ) (k n : Kept) → k ≡ n → Agrees d room k → (a : ℕ) (l : Lent) → held_by (replay n) a ≡ Some l → IsFresh (replay n) l
 opened_fresh d room k n v h = subst (λ (k : Kept). (a : ℕ) (l : Lent) → held_by (replay k) a ≡ Some l → IsFresh (replay k) l) v h.fresh
@@ -397,13 +393,13 @@ opened_fresh d room k n v h = subst (λ (k : Kept). (a : ℕ) (l : Lent) → hel
 pub opened_few : (d : Situation) (room : ℕ) (k n : Kept) → k ≡ n → Agrees d room k → k.boot.others ≡ d.others → length (replay n).cpus ≤ 8
 opened_few d room k n v h same =
     let others : d.others ≡ (replay k).others = ap (λ (x : Situation). x.others) h.present in
-    subst (λ (k : Kept). length (replay k).cpus ≤ 8) v (omega (arith, h.actors, h.few, others, same))
+    subst (λ (k : Kept). length (replay k).cpus ≤ 8) v (omega (arith, h.as_many, h.few, others, same))
 
-pub actors-is : (d : Situation) (room p : ℕ) (k n : Kept) → k ≡ n → Agrees d room k → k.boot.others ≡ d.others → length k.boot.cpus ≡ p → p + d.others ≡ actors_of (replay n)
-actors-is d room p k n v h same cpus = subst (λ (k : Kept). p + d.others ≡ actors_of (replay k)) v (omega (arith, h.actors, same, cpus))
+pub actors-is : (d : Situation) (room p : ℕ) (k n : Kept) → k ≡ n → Agrees d room k → k.boot.others ≡ d.others → length k.boot.cpus ≡ p → p + d.others ≡ actors (replay n)
+actors-is d room p k n v h same cpus = subst (λ (k : Kept). p + d.others ≡ actors (replay k)) v (omega (arith, h.as_many, same, cpus))
 
-pub event_actor : (d : Situation) (room : ℕ) (k n : Kept) (a : ℕ) → k ≡ n → Agrees d room k → a < actors_of (replay n) → a < actors_of k.boot
-event_actor d room k n a v h b = let z : a < actors_of (replay k) = subst (λ (k : Kept). a < actors_of (replay k)) (sym v) b in omega (arith, z, h.actors)
+pub event_actor : (d : Situation) (room : ℕ) (k n : Kept) (a : ℕ) → k ≡ n → Agrees d room k → a < actors (replay n) → a < actors k.boot
+event_actor d room k n a v h b = let z : a < actors (replay k) = subst (λ (k : Kept). a < actors (replay k)) (sym v) b in omega (arith, z, h.as_many)
 
 -- ---- at rest
 

@@ -1,5 +1,5 @@
 -- What a kernel's parts say of its history, and what its calls answer.
-use Rattle.std.specs.Prelude.{◌≡◌, ◌≤◌, ◌+◌, ℕ, All, Option, Some, None, length, slice_get}
+use Rattle.std.specs.Prelude.{◌≡◌, ◌≤◌, ℕ, All, Option, Some, None, length, slice_get}
 use Rattle.mx_image.specs.declared.runs.Stop.TheVariants.{Spent}
 use Rattle.mx_load.specs.Load.{IsLoadedFrom}
 use Rattle.mx_respawn.specs.declared.service.Service.{Service}
@@ -8,7 +8,7 @@ use Rattle.mx_world.specs.declared.events.Refusal.{Refusal}
 use Rattle.mx_world.specs.declared.history.Recorded.{Recorded}
 use Rattle.mx_world.specs.History.{Kept, AreAccepted, IsWritable, unfolded, replay, with_record}
 use Rattle.mx_world.specs.Move.{event_refusal, after_event}
-use Rattle.mx_world.specs.Whole.{Whole, Lent, held_by}
+use Rattle.mx_world.specs.Whole.{Whole, Lent, actors, held_by}
 use Rattle.mx_kernel.specs.Situation.{Situation, situation_of}
 
 -- What a kernel's own replay lends has made no step, and was loaded from its slot's program.
@@ -25,8 +25,8 @@ pub record Agrees (d : Situation) (room : ℕ) (k : Kept) : Type 0 where
   pub accepted : AreAccepted k.boot (unfolded k.history)
   pub few : length k.boot.cpus ≤ 8
   -- by actors of the machine, whose number stays
-  pub actors : length (replay k).cpus + (replay k).others ≡ length k.boot.cpus + k.boot.others
-  pub written : All (IsWritable (length k.boot.cpus + k.boot.others)) k.history
+  pub as_many : actors (replay k) ≡ actors k.boot
+  pub written : All (IsWritable (actors k.boot)) k.history
   pub fresh : (a : ℕ) (l : Lent) → held_by (replay k) a ≡ Some l → IsFresh (replay k) l
 
 -- An event was accepted: its record is one more, and the world is the table's.

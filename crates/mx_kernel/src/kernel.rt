@@ -1,6 +1,6 @@
 //! The kernel, and the history that it keeps.
 
-ghost use Rattle.std.specs.Prelude.{◌≡◌, ℕ, ◌≤◌, ◌<◌, ◌+◌, ◌++◌, ◌∷◌, [], true, Some, None, IfOk, IfErr, OnOk, OnErr, All, length, slice_get, vec_len, vec_capacity};
+ghost use Rattle.std.specs.Prelude.{◌≡◌, ℕ, ◌≤◌, ◌<◌, ◌++◌, ◌∷◌, [], true, Some, None, IfOk, IfErr, OnOk, OnErr, All, length, slice_get, vec_len, vec_capacity};
 ghost use Rattle.std.specs.Option.{option_map};
 ghost use Rattle.mx_world.specs.declared.events.Event.TheVariants as events;
 ghost use Rattle.mx_world.specs.declared.history.Recorded.TheVariants as recorded;
@@ -10,7 +10,7 @@ ghost use Rattle.mx_world.specs.History.{AreAccepted, IsWritable, unfolded, repl
 ghost use Rattle.mx_world.specs.Move.{event_refusal, event_answer, after_event, with_held};
 ghost use Rattle.mx_world.specs.Rest.{at_rest};
 ghost use Rattle.mx_world.specs.Sound.{IsSound, lease_of};
-ghost use Rattle.mx_world.specs.Whole.{Lent, held_by};
+ghost use Rattle.mx_world.specs.Whole.{Lent, actors, held_by};
 ghost use Rattle.mx_kernel.specs.Agrees.{IsAccepted, IsFresh, IsRefused};
 ghost use Rattle.mx_kernel.specs.Situation.{is_for_all, recorded_as};
 
@@ -135,7 +135,7 @@ impl Kernel {
     /// An actor raises a line, lets the clock tick, kills a process or respawns a slot.
     pub fn event(&mut self, actor: u8, event: Event) -> Result<Answer, Refusal>
         requires event { is_for_all event ≡ true }
-        requires actor { actor < length (replay self.old).cpus + (replay self.old).others }
+        requires actor { actor < actors (replay self.old) }
         ensures ok { IfOk result (λ answer. (answer ≡ event_answer (replay self.old) actor event) × IsAccepted self.old self.new actor event (recorded_as event)) }
         ensures err { IfErr result (λ refusal. IsRefused self.old self.new actor event refusal) }
     {
@@ -154,7 +154,7 @@ impl Kernel {
 
     /// How many actors there are: the processors, and the others.
     pub fn actors(&self) -> usize
-        ensures { result ≡ length (replay self.now).cpus + (replay self.now).others }
+        ensures { result ≡ actors (replay self.now) }
     {
         self.processors as usize + self.present.others() as usize
     }
@@ -202,7 +202,7 @@ impl Kernel {
         ensures sound { IsSound (replay self.now) }
         ensures few { length (replay self.now).cpus ≤ 8 }
         ensures accepted { AreAccepted self.now.boot (unfolded self.now.history) }
-        ensures written { All (IsWritable (length (replay self.now).cpus + (replay self.now).others)) self.now.history }
+        ensures written { All (IsWritable (actors (replay self.now))) self.now.history }
         ensures fresh { (a : ℕ) (l : Lent) → held_by (replay self.now) a ≡ Some l → IsFresh (replay self.now) l }
     {
         self.present.opened();

@@ -7,27 +7,19 @@ use Rattle.mx_world.specs.declared.history.Record.{Record}
 use Rattle.mx_world.specs.declared.history.Recorded.{Recorded}
 use Rattle.mx_world.specs.declared.history.Recorded.TheVariants as recorded
 use Rattle.mx_world.specs.History.{Kept, IsWritable, events_of, unfolded, after_events, replay}
-use Rattle.mx_world.specs.Move.{after_event, moves}
-use Rattle.mx_world.specs.Whole.{Whole}
+use Rattle.mx_world.specs.Move.{moves}
+use Rattle.mx_world.specs.Whole.{Whole, actors}
 use Rattle.mx_machine.specs.Laws.{Replays, RunsAgain}
 use Rattle.mx_machine.specs.Machine.{IsActor}
-use Rattle.mx_machine.proofs.DoneLemmas.{actors-after}
-
--- ---- actors
-
--- how many actors there are
-abbrev actors : Whole → ℕ
-actors w = length w.cpus + w.others
-
-actors-events : (w : Whole) (xs : List (ℕ × Event)) → actors (after_events w xs) ≡ actors w
-actors-events w [] = refl
-actors-events w (x ∷ xs) = actors-events (after_event w x.0 x.1) xs ∙ actors-after w x.0 x.1
-
-actors-replay : (k : Kept) → actors (replay k) ≡ actors k.boot
-unfolding replay
-actors-replay k = actors-events k.boot (unfolded k.history)
 
 -- ---- events by actors
+
+abbrev pub Stay : Type 0
+Stay = (w : Whole) (xs : List (ℕ × Event)) → actors (after_events w xs) ≡ actors w
+
+actors-replay : Stay → (k : Kept) → actors (replay k) ≡ actors k.boot
+unfolding replay
+actors-replay stay k = stay k.boot (unfolded k.history)
 
 abbrev ByActor : Whole → ℕ × Event → Type 0
 ByActor w x = IsActor w x.0 x.1
@@ -51,9 +43,9 @@ by-actors w (x ∷ xs) h =
 
 -- ---- the run
 
-pub runs-again : (w : Whole) (k : Kept) → w ≡ k.boot → All (IsWritable (actors (replay k))) k.history → Replays k → RunsAgain w k
-runs-again w k e written r = subst (λ (v : Whole). RunsAgain v k) (sym e) (record {
-  may = by-actors k.boot k.history (subst (λ n. All (IsWritable n) k.history) (actors-replay k) written);
+pub runs-again : Stay → (w : Whole) (k : Kept) → w ≡ k.boot → All (IsWritable (actors (replay k))) k.history → Replays k → RunsAgain w k
+runs-again stay w k e written r = subst (λ (v : Whole). RunsAgain v k) (sym e) (record {
+  may = by-actors k.boot k.history (subst (λ n. All (IsWritable n) k.history) (actors-replay stay k) written);
   accepted = r.accepted;
   world = r.world;
 })

@@ -17,16 +17,14 @@ use Rattle.std.specs.Option.{option_map}
 use Rattle.mx_proc.specs.Queues.{picked}
 use Rattle.mx_proc.specs.Frame.{loan_of}
 use Rattle.mx_proc.specs.World.{nobody, process_at}
-use Rattle.mx_respawn.specs.declared.service.Service.{Service}
-use Rattle.mx_kcall.specs.Refusals.{owner_of}
 use Rattle.mx_kernel.specs.Agrees.{IsAccepted, IsRefused}
 use Rattle.mx_world.specs.declared.history.Recorded.{Recorded}
 use Rattle.mx_world.specs.Sound.{IsSound, lease_of}
-use Rattle.mx_world.specs.Move.{after_back, after_event, after_line, after_respawn, after_step, after_take, at_stop, event_answer, event_refusal, lent_of, move, moved_by, with_held}
+use Rattle.mx_world.specs.Move.{after_back, after_event, after_take, at_stop, event_answer, lent_of, move, with_held}
 use Rattle.mx_world.specs.Steps.{StepsTo}
-use Rattle.mx_world.specs.Whole.{Whole, Lent, held_by, out_count}
+use Rattle.mx_world.specs.Whole.{Whole, Lent, actors, held_by, out_count}
 use Rattle.mx_machine.specs.Machine.{HasWorked, IsHeld, IsRunOf, IsRunning, Running, all_held_now, stepped_held, world_of}
-use Rattle.mx_machine.proofs.MachineLemmas.{IsAnyones, anyones-accepted, anyones-refused, cpus_after, empty-refused, held-now, held_now-length, line_cpus, respawn_cpus, holds_in, none-now, take-refused, with_cpus, world-replaced}
+use Rattle.mx_machine.proofs.MachineLemmas.{IsAnyones, anyones-accepted, anyones-refused, cpus_after, empty-refused, held-now, held_now-length, holds_in, none-now, take-refused, with_cpus, world-replaced}
 use Rattle.mx_machine.proofs.RunLemmas.{held-set, run-more, stepped-run}
 use Rattle.mx_machine.proofs.StepLemmas.{move-step, step_by}
 
@@ -236,9 +234,13 @@ any_default (x ∷ xs) (suc i) d e b = any_default xs i d e (omega arith)
 
 -- ---- actors
 
-pub actors-now : (k : Kept) (os : List (Option Out)) → length (world_of (on k os)).cpus + (world_of (on k os)).others ≡ length (replay k).cpus + (replay k).others
+-- what the processors hold leaves how many there are
+pub actors-now : (m : Running) → actors (world_of m) ≡ actors (replay m.kernel)
 unfolding world_of
-actors-now k os = ap (λ n. n + (replay k).others) (held_now-length (replay k).cpus os)
+actors-now m = ap (λ n. n + (replay m.kernel).others) (held_now-length (replay m.kernel).cpus m.outs)
+
+pub actors-of_kernel : (m n : Running) → n.kernel ≡ m.kernel → actors (world_of n) ≡ actors (world_of m)
+actors-of_kernel m n e = actors-now n ∙ ap (λ (k : Kept). actors (replay k)) e ∙ sym (actors-now m)
 
 -- ---- a line, a tick, a kill or a respawn
 
@@ -277,53 +279,6 @@ slot_of w a s (Some l) h at is =
 
 pub slot-used : (w : Whole) (a s : ℕ) → IsSound w → option_map (λ (l : Lent). l.slot) (held_by w a) ≡ Some s → s < length w.table.slots
 slot-used w a s h is = slot_of w a s (held_by w a) h refl is
-
--- ---- many events
-
-actors_line : (w : Whole) (l : ℕ) (owner : Option ℕ) → (after_line w l owner).others ≡ w.others
-actors_line w l None = refl
-actors_line w l (Some s) = refl
-
-actors_respawn : (w : Whole) (s : ℕ) (v : Option Service) → (after_respawn w s v).others ≡ w.others
-actors_respawn w s None = refl
-actors_respawn w s (Some v) = refl
-
-abbrev actors : Whole → ℕ
-actors w = length w.cpus + w.others
-
-actors_held : (w : Whole) (a : ℕ) (x : Option Lent) → actors (with_held w a x) ≡ actors w
-actors_held w a x = ap (λ n. n + w.others) (length-set w.cpus a x)
-
-actors_step : (w : Whole) (a : ℕ) (held : Option Lent) → actors (after_step w a held) ≡ actors w
-actors_step w a None = refl
-actors_step w a (Some l) = actors_held w a (Some (record l { out = stepped l.out }))
-
-actors_take : (w : Whole) (a : ℕ) (first : Option ℕ) → actors (after_take w a first) ≡ actors w
-actors_take w a None = refl
-actors_take w a (Some s) = actors_held w a (Some (lent_of w.table s))
-
-actors_back : (w : Whole) (a : ℕ) (held : Option Lent) → actors (after_back w a held) ≡ actors w
-actors_back w a None = refl
-actors_back w a (Some l) = actors_held w a None
-
--- an event leaves how many actors there are
-pub actors-after : (w : Whole) (a : ℕ) (x : Event) → actors (after_event w a x) ≡ actors w
-unfolding after_event
-actors-after w a Step = actors_step w a (held_by w a)
-actors-after w a Take = actors_take w a (picked w.table.ready)
-actors-after w a Back = actors_back w a (held_by w a)
-actors-after w a (Line l) = ap (λ n. n + (after_line w l (owner_of w.table l)).others) (ap length (line_cpus w l (owner_of w.table l))) ∙ ap (λ n. length w.cpus + n) (actors_line w l (owner_of w.table l))
-actors-after w a Tick = refl
-actors-after w a (Kill e) = refl
-actors-after w a (Respawn s) = ap (λ n. n + (after_respawn w s (slice_get w.services s)).others) (ap length (respawn_cpus w s (slice_get w.services s))) ∙ ap (λ n. length w.cpus + n) (actors_respawn w s (slice_get w.services s))
-
-actors_by : (w : Whole) (a : ℕ) (x : Event) (r : Option Refusal) → actors (moved_by w a x r).1 ≡ actors w
-actors_by w a x (Some r) = refl
-actors_by w a x None = actors-after w a x
-
-pub actors-kept : (w u : Whole) (a : ℕ) (x : Event) (r : Result Answer Refusal) → move w a x ≡ (r, u) → length u.cpus + u.others ≡ length w.cpus + w.others
-unfolding move
-actors-kept w u a x r h = sym (ap (λ (p : Result Answer Refusal × Whole). actors p.1) h) ∙ actors_by w a x (event_refusal w a x)
 
 -- ---- a take that is refused
 

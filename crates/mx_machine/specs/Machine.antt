@@ -1,12 +1,12 @@
 -- The machine of one thread: a kernel, and what its processors hold.
-use Rattle.std.specs.Prelude.{ℕ, true, ◌+◌, ◌≡◌, ◌<◌, ◌≤◌, List, [], ◌∷◌, Option, Some, None, Result, Ok, Err, length, slice_index_or, if◌then◌else◌}
+use Rattle.std.specs.Prelude.{ℕ, true, ◌≡◌, ◌<◌, ◌≤◌, List, [], ◌∷◌, Option, Some, None, Result, Ok, Err, length, slice_index_or, if◌then◌else◌}
 use Rattle.mx_world.specs.declared.events.Answer.{Answer}
 use Rattle.mx_world.specs.declared.events.Answer.TheVariants.{Went}
 use Rattle.mx_world.specs.declared.events.Event.{Event}
 use Rattle.mx_world.specs.declared.events.Refusal.{Refusal}
 use Rattle.mx_world.specs.declared.events.Refusal.TheVariants.{AtStop, CpuEmpty}
 use Rattle.mx_world.specs.declared.holding.Out.{Out}
-use Rattle.mx_world.specs.Whole.{Whole, Lent, held_by}
+use Rattle.mx_world.specs.Whole.{Whole, Lent, actors, held_by}
 use Rattle.mx_world.specs.Held.{IsBack, held_run, outcome_of_step, stepped}
 use Rattle.mx_world.specs.Move.{at_stop}
 use Rattle.mx_world.specs.History.{Kept, AreAccepted, after_events, replay}
@@ -60,6 +60,6 @@ abbrev pub stepped_held : Option Out → Result Answer Refusal × Option Out
 stepped_held None = (Err CpuEmpty, None)
 stepped_held (Some o) = if at_stop o then (Err AtStop, Some o) else (Ok (Went (outcome_of_step o)), Some (stepped o))
 
--- who raises lines, lets the clock tick, kills and respawns is one of the actors: the processors, then the others
+-- who raises lines, lets the clock tick, kills and respawns is one of the actors
 abbrev pub IsActor : Whole → ℕ → Event → Type 0
-IsActor w a x = is_for_all x ≡ true → a < length w.cpus + w.others
+IsActor w a x = is_for_all x ≡ true → a < actors w

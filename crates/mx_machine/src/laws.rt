@@ -10,6 +10,7 @@ ghost use Rattle.mx_machine.specs.Machine.{world_of};
 
 use crate::machine::Machine;
 use mx_kernel::Kernel;
+use mx_world::actors_stay;
 
 /// While a processor has a process, its step may change places with any event but its own steps,
 /// takes and returns.
@@ -28,5 +29,6 @@ pub fn runs_again(machine: &Machine, kernel: &Kernel)
     ensures { world_of machine.now ≡ kernel.now.boot → RunsAgain (world_of machine.now) kernel.now }
 {
     histories_replay();
+    actors_stay();
     kernel.opened();
 }

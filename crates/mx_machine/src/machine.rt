@@ -1,6 +1,6 @@
 //! A kernel, and what its processors hold.
 
-ghost use Rattle.std.specs.Prelude.{◌≡◌, ℕ, true, ◌+◌, ◌<◌, ◌≤◌, ◌++◌, ◌∷◌, [], All, Ok, None, Some, IsSome, IfSome, IfErr, OnOk, OnErr, MatchOption, length, vec_len, vec_capacity};
+ghost use Rattle.std.specs.Prelude.{◌≡◌, ℕ, true, ◌+◌, ◌<◌, ◌≤◌, ◌++◌, ◌∷◌, [], All, Ok, None, Some, IsSome, IfSome, IfErr, OnOk, OnErr, MatchOption, vec_len, vec_capacity};
 ghost use Rattle.std.specs.Option.{option_map};
 ghost use Rattle.mx_proc.specs.World.{endpoint_of};
 ghost use Rattle.mx_world.specs.declared.events.Event.TheVariants as events;
@@ -8,7 +8,7 @@ ghost use Rattle.mx_world.specs.declared.events.Refusal.TheVariants.{CpuEmpty};
 ghost use Rattle.mx_world.specs.History.{replay};
 ghost use Rattle.mx_world.specs.Move.{move, moves};
 ghost use Rattle.mx_world.specs.Sound.{IsSound};
-ghost use Rattle.mx_world.specs.Whole.{Lent, held_by, out_count};
+ghost use Rattle.mx_world.specs.Whole.{Lent, actors, held_by, out_count};
 ghost use Rattle.mx_kernel.specs.Situation.{is_for_all};
 ghost use Rattle.mx_machine.specs.Machine.{HasWorked, IsActor, IsRunning, world_of};
 
@@ -17,7 +17,7 @@ use mx_exec::Image;
 use mx_kernel::Kernel;
 use mx_proc::{Endpoint, Slot};
 use mx_word::NoMemory;
-use mx_world::{Answer, Event, Out, Refusal, held_runs_join, runs_are_steps};
+use mx_world::{Answer, Event, Out, Refusal, actors_stay, held_runs_join, runs_are_steps};
 use std::marker::Model;
 use std::mem;
 
@@ -86,7 +86,7 @@ impl Machine {
 
     /// How many actors there are: the processors, and the others.
     pub fn actors(&self) -> usize
-        ensures { result ≡ length (world_of self.now).cpus + (world_of self.now).others }
+        ensures { result ≡ actors (world_of self.now) }
     {
         self.kernel.actors()
     }
@@ -117,6 +117,7 @@ impl Machine {
         ensures ok { OnOk result ((l : Lent) × HasWorked (world_of self.old) (world_of self.new) cpu (T.steps tool.old l.out) l × T.Becomes tool.old l.out tool.new) }
         ensures err { IfErr result (λ refusal. (refusal ≡ CpuEmpty) × (held_by (world_of self.old) cpu ≡ None) × (self.new ≡ self.old) × (tool.new ≡ tool.old)) }
         ensures kernel { self.new.kernel ≡ self.old.kernel }
+        ensures actors { actors (world_of self.new) ≡ actors (world_of self.old) }
     {
         held_runs_join();
         runs_are_steps();
@@ -167,7 +168,7 @@ impl Machine {
     /// A line, a tick, a kill or a respawn.
     fn rule(&mut self, actor: u8, event: Event) -> Result<Answer, Refusal>
         requires event { is_for_all event ≡ true }
-        requires actor { actor < length (world_of self.old).cpus + (world_of self.old).others }
+        requires actor { actor < actors (world_of self.old) }
         ensures { move (world_of self.old) actor event ≡ (result, world_of self.new) }
     {
         self.kernel.event(actor, event)
@@ -176,8 +177,10 @@ impl Machine {
     /// One event of an actor: it is refused, and nothing changes, or it is answered.
     pub fn apply(&mut self, actor: u8, event: Event) -> Result<Answer, Refusal>
         requires { IsActor (world_of self.old) actor event }
-        ensures { move (world_of self.old) actor event ≡ (result, world_of self.new) }
+        ensures moved { move (world_of self.old) actor event ≡ (result, world_of self.new) }
+        ensures actors { actors (world_of self.new) ≡ actors (world_of self.old) }
     {
+        actors_stay();
         match event {
             Event::Step => self.step(actor),
             Event::Take => self.take(actor),
@@ -196,6 +199,7 @@ impl Machine {
         requires { All (λ x. IsActor (world_of self.old) x.0 x.1) events.now }
         ensures ok { OnOk result ((answers.new.items ≡ answers.old.items ++ (moves (world_of self.old) events.now).0) × (world_of self.new ≡ (moves (world_of self.old) events.now).1)) }
         ensures err { OnErr result ((answers.new.items ≡ answers.old.items) × (self.new ≡ self.old)) }
+        ensures actors { actors (world_of self.new) ≡ actors (world_of self.old) }
     {
         answers.reserve(events.len())?;
         for pair in events {

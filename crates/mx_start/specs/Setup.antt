@@ -95,3 +95,7 @@ IsFirstFault Tells config_name name qs f =
     ⊎ ((before : List Asked) × (q : Asked) × (config : Config) × (services : List Service)
     × (qs ≡ before ++ q ∷ []) × IsSetup config_name before config services
     × (IsNoText name q f ⊎ IsFaulty (λ text e. Tells text config e) name q f))
+
+-- no machine was started: that fault, want of memory aside
+abbrev pub IsNotStarted : (List ℕ → Config → BootError → Type 0) → List ℕ → List ℕ → List Asked → Failure → Type 0
+IsNotStarted Tells config_name name qs f = (f ≡ NoMemory) ⊎ IsFirstFault Tells config_name name qs f

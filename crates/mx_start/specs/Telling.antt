@@ -1,16 +1,15 @@
 -- What is told where a machine was driven or couldn't be (our own).
-use Rattle.std.specs.Prelude.{◌≡◌, ◌⊎◌, ℕ, List}
+use Rattle.std.specs.Prelude.{◌⊎◌, ℕ, List}
 use Rattle.mx_fields.specs.declared.error.BootError.{BootError}
 use Rattle.mx_setup.specs.declared.config.Config.{Config}
 use Rattle.mx_respawn.specs.declared.service.Service.{Service}
 use Rattle.mx_failure.specs.declared.failure.Failure.{Failure}
-use Rattle.mx_failure.specs.declared.failure.Failure.TheVariants.{File, NoMemory}
+use Rattle.mx_failure.specs.Failure.{IsWanting}
 use Rattle.mx_start.specs.Asked.{Asked}
-use Rattle.mx_start.specs.Setup.{IsFirstFault, IsStart}
+use Rattle.mx_start.specs.Setup.{IsNotStarted, IsStart}
 
 -- the first fault of what was read; or, where there is none, that it can't be printed; want of memory aside
 abbrev pub IsTold : {L : Type 0} → (List ℕ → Config → List L → Type 0) → (List ℕ → Config → BootError → Type 0) → List ℕ → List ℕ → List Asked → Failure → Type 0
 IsTold {L} Says Tells config name qs f =
-    (f ≡ NoMemory)
-    ⊎ (IsFirstFault Tells config name qs f
-    ⊎ ((c : Config) × (services : List Service) × (said : List L) × (f ≡ File) × IsStart Says config name qs c services said))
+    IsNotStarted Tells config name qs f
+    ⊎ ((c : Config) × (services : List Service) × (said : List L) × IsStart Says config name qs c services said × IsWanting f)

@@ -1,13 +1,13 @@
 //! A machine that is started.
 
-ghost use Rattle.std.specs.Prelude.{◌≡◌, ◌<◌, ◌≤◌, ◌⊎◌, ◌++◌, List, length, IfOk, IfErr};
-ghost use Rattle.mx_failure.specs.declared.failure.Failure.TheVariants as failures;
+ghost use Rattle.std.specs.Prelude.{◌≡◌, ◌<◌, ◌≤◌, ◌++◌, List, length, IfOk, IfErr};
 ghost use Rattle.mx_machine.specs.Machine.{world_of};
 ghost use Rattle.mx_respawn.specs.declared.service.Service.{Service as Served};
 ghost use Rattle.mx_setup.specs.declared.config.Config.{Config as Configured};
 ghost use Rattle.mx_world.specs.Boot.{booted};
+ghost use Rattle.mx_world.specs.Whole.{actors};
 ghost use Rattle.mx_start.specs.Asked.{Asked};
-ghost use Rattle.mx_start.specs.Setup.{IsFirstFault, IsStart};
+ghost use Rattle.mx_start.specs.Setup.{IsNotStarted, IsStart};
 
 use crate::course::Course;
 use crate::reader::Reader;
@@ -53,8 +53,9 @@ where
     ensures started { IfOk result (λ s. (qs : List Asked) × (c : Configured) × (vs : List Served)
         × (R.asked reader.new ≡ R.asked reader.old ++ qs) × IsStart C.IsSaid config.now text.now qs c vs s.lines.items
         × (world_of s.machine ≡ booted c vs) × (s.other ≡ c.cpus)) }
+    ensures other { IfOk result (λ s. s.other < actors (world_of s.machine)) }
     ensures fault { IfErr result (λ f. (qs : List Asked)
-        × (R.asked reader.new ≡ R.asked reader.old ++ qs) × ((f ≡ failures.NoMemory) ⊎ IsFirstFault C.Tells config.now text.now qs f)) }
+        × (R.asked reader.new ≡ R.asked reader.old ++ qs) × IsNotStarted C.Tells config.now text.now qs f) }
 {
     let (config, services) = setup_of(alloc, reader, config)?;
     let text = text_of(alloc, reader, text)?;

@@ -1,4 +1,3 @@
-pub mod ActorLemmas
 pub mod SteppingLemmas
 pub mod StepLemmas
 pub mod RecordLemmas

@@ -8,20 +8,17 @@ use Rattle.mx_setup.specs.declared.config.Config.{Config}
 use Rattle.mx_respawn.specs.declared.service.Service.{Service}
 use Rattle.mx_script.specs.Script.{actor_of, after_verb}
 use Rattle.mx_history.specs.Log.{made_by, record_line, record_of, recorded_of}
-use Rattle.mx_machine.specs.Machine.{Running, world_of}
 use Rattle.mx_report.specs.Report.{report_text}
 use Rattle.mx_world.specs.declared.history.Record.{Record}
 use Rattle.mx_world.specs.declared.history.Recorded.{Recorded}
 use Rattle.mx_world.specs.Boot.{booted}
-use Rattle.mx_world.specs.History.{AreAccepted, Kept, after_events, replay, unfolded}
-use Rattle.mx_world.specs.Whole.{Whole}
+use Rattle.mx_world.specs.History.{AreAccepted, after_events, unfolded}
+use Rattle.mx_world.specs.Whole.{Whole, actors}
 use Rattle.mx_start.specs.Asked.{Asked}
 use Rattle.mx_start.specs.Course.{IsSaved}
 use Rattle.mx_start.specs.Setup.{IsStart}
-use Rattle.mx_steps.specs.Lines.{actors}
 use Rattle.mx_steps.specs.declared.records.Replayed.{Replayed}
 use Rattle.mx_steps.specs.Records.{IsPrinted}
-use Rattle.mx_steps.proofs.StepLemmas.{report_of_world}
 
 -- ---- a saved record is by an actor of the machine
 
@@ -59,10 +56,10 @@ saved_by_actors config_name name qs c vs records slice w same e h =
 
 -- ---- what is printed
 
-pub whole_printed : (x z : Option (List ℕ)) (records : List Record) (w : Whole) (k : Kept) (m : Running)
-    → AreAccepted w (unfolded records) → world_of m ≡ after_events w (unfolded records) → k ≡ m.kernel → Appends x z (report_text (replay k).table (replay k).services)
+pub whole_printed : (x z : Option (List ℕ)) (records : List Record) (w v : Whole)
+    → AreAccepted w (unfolded records) → v ≡ after_events w (unfolded records) → Appends x z (report_text v.table v.services)
     → AreAccepted w (unfolded records) × (let u = after_events w (unfolded records) in Appends x z (report_text u.table u.services))
-whole_printed x z records w k m a world kernel b = (a, subst (λ (t : List ℕ). Appends x z t) (report_of_world k m (after_events w (unfolded records)) kernel world) b)
+whole_printed x z records w v a world b = (a, subst (λ (u : Whole). Appends x z (report_text u.table u.services)) world b)
 
 pub history_printed : (Prints : List ℕ → Type 0) (c : Config) (vs : List Service) (records slice : List Record) (w : Whole) (replayed : Replayed)
     → slice ≡ records → w ≡ booted c vs → IsPrinted w slice replayed Prints → IsPrinted (booted c vs) records replayed Prints

@@ -1,5 +1,5 @@
 -- What the lines of a script do with a machine (our own).
-use Rattle.std.specs.Prelude.{ℕ, zero, suc, ◌+◌, List, [], ◌∷◌, length, Option, Some, None, Result, if◌then◌else◌}
+use Rattle.std.specs.Prelude.{ℕ, zero, suc, List, [], ◌∷◌, Option, Some, None, Result, if◌then◌else◌}
 use Rattle.mx_image.specs.declared.runs.Stop.TheVariants.{Spent}
 use Rattle.mx_script.specs.declared.scripts.ScriptLine.{ScriptLine}
 use Rattle.mx_script.specs.declared.scripts.ScriptLine.TheVariants.{Step, Take, Back, Line, Tick, Kill, Respawn}
@@ -52,9 +52,3 @@ line_made w other (Respawn s) = event_made (move w other (events.Respawn s))
 abbrev pub lines_made : Whole → ℕ → List ScriptLine → List Said × Whole
 lines_made w other [] = ([], w)
 lines_made w other (l ∷ ls) = let m = line_made w other l in let r = lines_made m.1 other ls in (m.0 ∷ r.0, r.1)
-
--- ---- actors
-
--- how many there are: the processors, then the others
-abbrev pub actors : Whole → ℕ
-actors w = length w.cpus + w.others

@@ -1,13 +1,11 @@
 //! `mx step` and `mx replay`: a machine that is driven by a script or by a saved history.
 #![tactic(auto)]
 
-mod laws;
 mod lines;
 mod printing;
 mod records;
 mod stepping;
 
-pub use laws::actors_stay;
 pub use lines::{perform_line, step};
 pub use mx_failure::print_text;
 pub use mx_start::{Failure, Machine, NamedFile, NamedFiles, Reader, RuntimeFiles, ScriptLine};

@@ -12,8 +12,9 @@ ghost use Rattle.mx_start.specs.Asked.{Asked};
 ghost use Rattle.mx_start.specs.Course.{IsScript, TellsScript};
 ghost use Rattle.mx_start.specs.Setup.{IsStart};
 ghost use Rattle.mx_world.specs.Boot.{booted};
+ghost use Rattle.mx_world.specs.Whole.{actors};
 ghost use Rattle.mx_told.specs.Said.{said_lines};
-ghost use Rattle.mx_steps.specs.Lines.{actors, line_made, lines_made};
+ghost use Rattle.mx_steps.specs.Lines.{line_made, lines_made};
 ghost use Rattle.mx_start.specs.Telling.{IsTold};
 
 use crate::printing::print_report;
@@ -80,7 +81,7 @@ fn print_lines<W: Write>(
     let done = perform_lines(machine, other, lines, &mut text);
     print_text(text.as_bytes(), out)?;
     done?;
-    print_report(alloc, machine.kernel(), out)
+    print_report(alloc, machine, out)
 }
 
 /// Starts a machine by the names of its configuration and of a script, prints a line for each line of

@@ -16,18 +16,17 @@ ghost use Rattle.mx_world.specs.Boot.{booted};
 ghost use Rattle.mx_world.specs.Move.{after_event, event_refusal};
 ghost use Rattle.mx_world.specs.History.{AreAccepted, after_events, events_of, unfolded};
 ghost use Rattle.mx_world.specs.Steps.{steps_of};
-ghost use Rattle.mx_steps.specs.Lines.{actors};
+ghost use Rattle.mx_world.specs.Whole.{actors};
 ghost use Rattle.mx_steps.specs.Records.{IsPrinted, IsRefused, IsRefusedAt, refused_line};
 ghost use Rattle.mx_start.specs.Telling.{IsTold};
 
-use crate::laws::actors_stay;
 use crate::printing::print_report;
 use crate::stepping::work_steps;
 use mx_failure::{Failure, print_text};
 use mx_machine::{Event, Machine, Record, Recorded};
 use mx_start::{History, Reader, start};
 use mx_told::Said;
-use mx_world::Refusal;
+use mx_world::{Refusal, actors_stay};
 use std::alloc::Global;
 use std::io::Write;
 
@@ -143,7 +142,7 @@ fn print_records<W: Write>(
 {
     match perform_records(machine, records) {
         Ok(()) => {
-            print_report(alloc, machine.kernel(), out)?;
+            print_report(alloc, machine, out)?;
             Ok(Replayed::Whole)
         }
         Err((number, refusal)) => {

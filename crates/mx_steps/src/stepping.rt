@@ -2,12 +2,11 @@
 
 ghost use Rattle.std.specs.Prelude.{◌≡◌, ◌<◌, Some, false};
 ghost use Rattle.mx_world.specs.Move.{at_stop, move};
-ghost use Rattle.mx_world.specs.Whole.{Lent, held_by};
+ghost use Rattle.mx_world.specs.Whole.{Lent, actors, held_by};
 ghost use Rattle.mx_kernel.specs.Situation.{is_for_all};
 ghost use Rattle.mx_machine.specs.Machine.{HasWorked, world_of};
-ghost use Rattle.mx_steps.specs.Lines.{actors, event_made, run_made, steps_made};
+ghost use Rattle.mx_steps.specs.Lines.{event_made, run_made, steps_made};
 
-use crate::laws::actors_stay;
 use mx_image::Stop;
 use mx_machine::{Event, Held, Machine, Out, Tool};
 use mx_told::{Said, said_of};
@@ -53,6 +52,7 @@ impl Tool for Stepper {
 pub(crate) fn work_steps(machine: &mut Machine, cpu: u8, steps: u32) -> Said
     requires { 0 < steps }
     ensures made { run_made (world_of machine.old) cpu steps (held_by (world_of machine.old) cpu) ≡ (result, world_of machine.new) }
+    ensures actors { actors (world_of machine.new) ≡ actors (world_of machine.old) }
     ensures worked { (l : Lent) → held_by (world_of machine.old) cpu ≡ Some l → HasWorked (world_of machine.old) (world_of machine.new) cpu steps l }
 {
     let mut stepper = Stepper {
@@ -71,7 +71,6 @@ pub fn make_steps(machine: &mut Machine, cpu: u8, steps: u32) -> Said
     ensures made { steps_made (world_of machine.old) cpu steps ≡ (result, world_of machine.new) }
     ensures actors { actors (world_of machine.new) ≡ actors (world_of machine.old) }
 {
-    actors_stay();
     if steps == 0 {
         return Said::Stepped(0, Stop::Spent);
     }

@@ -1,3 +1,4 @@
 pub mod RunLemmas
 pub mod JoinLemmas
 pub mod StepLemmas
+pub mod ActorLemmas

@@ -1,5 +1,5 @@
 -- The whole machine: the table of processes and what stands beside it.
-use Rattle.std.specs.Prelude.{ℕ, suc, ◌+◌, ◌-◌, List, [], ◌∷◌, Option, Some, None, slice_index_or}
+use Rattle.std.specs.Prelude.{ℕ, suc, ◌+◌, ◌-◌, List, [], ◌∷◌, Option, Some, None, length, slice_index_or}
 use Rattle.mx_proc.specs.World.{World}
 use Rattle.mx_respawn.specs.declared.service.Service.{Service}
 use Rattle.mx_world.specs.declared.holding.Out.{Out}
@@ -24,6 +24,10 @@ pub record Whole : Type 0 where
 -- what a processor holds, or nothing
 abbrev pub held_by : Whole → ℕ → Option Lent
 held_by w a = slice_index_or w.cpus a None
+
+-- how many actors there are: the processors, then the others
+abbrev pub actors : Whole → ℕ
+actors w = length w.cpus + w.others
 
 -- how many processors hold a process
 abbrev pub out_count : {X : Type 0} → List (Option X) → ℕ

@@ -1,10 +1,13 @@
-//! Laws of runs.
+//! Laws of runs and events.
 
-ghost use Rattle.std.specs.Prelude.{◌≡◌, ◌≤◌, ℕ, ◌+◌, Some};
+ghost use Rattle.std.specs.Prelude.{◌≡◌, ◌≤◌, ℕ, ◌+◌, List, Some};
+ghost use Rattle.mx_world.specs.declared.events.Event.{Event};
 ghost use Rattle.mx_world.specs.declared.holding.Out.{Out};
 ghost use Rattle.mx_world.specs.Held.{held_run, then_held};
+ghost use Rattle.mx_world.specs.History.{after_events};
+ghost use Rattle.mx_world.specs.Move.{move};
 ghost use Rattle.mx_world.specs.Steps.{StepsTo};
-ghost use Rattle.mx_world.specs.Whole.{Whole, Lent, held_by};
+ghost use Rattle.mx_world.specs.Whole.{Whole, Lent, actors, held_by};
 
 use mx_image::runs_join;
 
@@ -19,4 +22,10 @@ pub fn held_runs_join()
 /// which is refused.
 pub fn runs_are_steps()
     ensures { (w : Whole) (a k : ℕ) (l : Lent) → held_by w a ≡ Some l → l.out.count ≤ l.out.budget → StepsTo w a (held_run k l.out).0.0 l (held_run k l.out).1 }
+{}
+
+/// Law: an event, whether it is refused or not, leaves how many actors there are, and so do events in a row.
+pub fn actors_stay()
+    ensures event { (w : Whole) (a : ℕ) (x : Event) → actors (move w a x).1 ≡ actors w }
+    ensures events { (w : Whole) (xs : List (ℕ × Event)) → actors (after_events w xs) ≡ actors w }
 {}

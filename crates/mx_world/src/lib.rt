@@ -12,5 +12,5 @@ pub use decoded::Decoded;
 pub use events::{Answer, Event, Refusal};
 pub use history::{Record, Recorded};
 pub use holding::{Held, Lease, Out};
-pub use laws::{held_runs_join, runs_are_steps};
+pub use laws::{actors_stay, held_runs_join, runs_are_steps};
 pub use mx_setup::{Config, FileName, ServiceLine, ServiceLines};

@@ -1,6 +1,8 @@
 use Rattle.std.proofs.Common.{[], ◌∷◌, ◌++◌, arith, refl}
 use Rattle.std.proofs.lemmas.Result.{err_from_is_err_and}
 use Rattle.std.specs.Prelude.{string_bytes}
+use Rattle.mx_machine.specs.Machine.{world_of}
+use Rattle.mx_start.proofs.BootLemmas.{other_booted}
 use Rattle.mx_start.proofs.SetupLemmas.{as_many_services, asked_on, first_faulty, first_no_text, first_setup, started}
 use Rattle.mx_start.proofs.starting.start.Goals as goal
 
@@ -54,3 +56,6 @@ returns-clause-started g c =
       c.in_ok-machine.ensures,
       refl,
     )
+
+pub returns-clause-other : goal.returns-clause-other
+returns-clause-other g c = other_booted (world_of c.in_ok-machine.machine) c.in_ok-config.config c.in_ok-config.services.items c.in_ok-machine.ensures

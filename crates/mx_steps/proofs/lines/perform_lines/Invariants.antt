@@ -2,7 +2,8 @@ use Rattle.std.proofs.Common.{◌≡◌, ◌++◌, take}
 use Rattle.std.specs.Prelude.{string_bytes}
 use Rattle.mx_machine.specs.Machine.{world_of}
 use Rattle.mx_told.specs.Said.{said_lines}
-use Rattle.mx_steps.specs.Lines.{actors, lines_made}
+use Rattle.mx_world.specs.Whole.{actors}
+use Rattle.mx_steps.specs.Lines.{lines_made}
 use Rattle.mx_steps.proofs.lines.perform_lines.Given as goal
 
 -- the lines so far are done, and each has its line in the text

@@ -1,10 +1,8 @@
-use Rattle.std.proofs.Common.{List, ℕ}
-use Rattle.std.proofs.lemmas.Result.{err_from_is_err_and}
+use Rattle.std.proofs.Common.{List, ℕ, inl, inr}
+use Rattle.std.proofs.lemmas.Result.{IfErr-weaker, IfOk-weaker, err_from_is_err_and}
 use Rattle.std.specs.Io.KnownBytes.{Appends}
 use Rattle.mx_failure.specs.Failure.{IsWanting}
 use Rattle.mx_machine.specs.Machine.{world_of}
-use Rattle.mx_start.specs.Course.{IsSaved, TellsSaved}
-use Rattle.mx_steps.proofs.StepLemmas.{if_err, if_ok, told_first, told_wanting}
 use Rattle.mx_steps.proofs.ReplayLemmas.{history_printed, saved_by_actors}
 use Rattle.mx_steps.proofs.records.replay.Goals as goal
 
@@ -12,7 +10,7 @@ pub returns-in_err-started-clause-fault : goal.returns-in_err-started-clause-fau
 returns-in_err-started-clause-fault g c =
     let p = err_from_is_err_and c.from_residual.result c.from_residual.ensures.1 in
     let h = c.in_err-started.ensures.fault in
-    rw (p.1, p.2) (h.0, h.1, told_first IsSaved TellsSaved c.args.config.now c.args.log.now h.0 c.in_err-started.field-0.0 h.2)
+    rw (p.1, p.2) (h.0, h.1, inl h.2)
 
 pub print_records-requires : goal.print_records-requires
 print_records-requires g c =
@@ -22,7 +20,7 @@ print_records-requires g c =
 pub returns-clause-printed : goal.returns-clause-printed
 returns-clause-printed g c =
     let s = c.in_ok-started.ensures.started in
-    if_ok _ _ c.print_records.result (λ replayed b. (
+    IfOk-weaker c.print_records.result _ _ (λ replayed b. (
       s.0,
       s.1,
       s.2,
@@ -35,5 +33,4 @@ returns-clause-printed g c =
 pub returns-clause-fault : goal.returns-clause-fault
 returns-clause-fault g c =
     let s = c.in_ok-started.ensures.started in
-    if_err IsWanting _ c.print_records.result
-    (λ f h. (s.0, s.3, told_wanting IsSaved TellsSaved c.args.config.now c.args.log.now s.0 s.1 s.2 c.in_ok-started.started.lines.items f s.4 h)) c.print_records.ensures.err
+    IfErr-weaker c.print_records.result IsWanting _ (λ f h. (s.0, s.3, inr (s.1, s.2, c.in_ok-started.started.lines.items, s.4, h))) c.print_records.ensures.err

@@ -1,9 +1,8 @@
 use Rattle.std.proofs.Common.{[], ◌∷◌}
-use Rattle.std.proofs.lemmas.Result.{err_from_is_err_and}
+use Rattle.std.proofs.lemmas.Result.{IfErr-weaker, err_from_is_err_and, on_ok_weaker}
 use Rattle.mx_machine.specs.Machine.{world_of}
 use Rattle.mx_world.specs.declared.events.Event.TheVariants.{Back}
 use Rattle.mx_world.specs.Steps.{steps_of}
-use Rattle.mx_steps.proofs.StepLemmas.{if_err, on_ok}
 use Rattle.mx_steps.proofs.RecordLemmas.{refused_front, return_err, return_ok}
 use Rattle.mx_steps.proofs.records.return_again.Goals as goal
 
@@ -14,10 +13,10 @@ returns-in_err-steps_again-clause-err c =
 
 pub returns-clause-ok : goal.returns-clause-ok
 returns-clause-ok c =
-    on_ok _ _ c.event_again.result
+    on_ok_weaker c.event_again.result
     (return_ok (world_of c.args.machine.now) (world_of c.steps_again.new.machine) (world_of c.event_again.new.machine) c.args.cpu c.args.steps c.in_ok-steps_again.ensures.ok.0 c.in_ok-steps_again.ensures.ok.1) c.event_again.ensures.ok
 
 pub returns-clause-err : goal.returns-clause-err
 returns-clause-err c =
-    if_err _ _ c.event_again.result
+    IfErr-weaker c.event_again.result _ _
     (return_err (world_of c.args.machine.now) (world_of c.steps_again.new.machine) (world_of c.event_again.new.machine) c.args.cpu c.args.steps c.in_ok-steps_again.ensures.ok.0 c.in_ok-steps_again.ensures.ok.1) c.event_again.ensures.err

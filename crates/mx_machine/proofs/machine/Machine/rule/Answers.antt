@@ -1,15 +1,16 @@
 use Rattle.std.proofs.Common.{◌≡◌, ◌∙◌, ◌<◌, ◌≤◌, ◌+◌, ℕ, List, [], ◌∷◌, ◌++◌, length, Option, Some, None, Result, Ok, Err, IfSome, slice_set, take, refl, sym, ap, subst, arith}
 use Rattle.mx_kernel.specs.Situation.{recorded_as}
 use Rattle.mx_world.specs.Move.{move}
+use Rattle.mx_world.specs.Whole.{actors}
 use Rattle.mx_machine.specs.Machine.{Running, world_of}
 use Rattle.mx_machine.proofs.DoneLemmas.{actors-now, on, ruled}
 use Rattle.mx_machine.proofs.machine.Machine.rule.Goals as goal
 
 pub event-requires-clause-actor : goal.event-requires-clause-actor
 event-requires-clause-actor c =
-    let b : c.args.actor < length (world_of (on c.self.inside.kernel c.self.inside.outs)).cpus + (world_of (on c.self.inside.kernel c.self.inside.outs)).others =
-    subst (λ (m : Running). c.args.actor < length (world_of m).cpus + (world_of m).others) (sym c.self.view_is) c.requires.actor in
-    subst (λ n. c.args.actor < n) (actors-now c.self.inside.kernel c.self.inside.outs) b
+    let b : c.args.actor < actors (world_of (on c.self.inside.kernel c.self.inside.outs)) =
+    subst (λ (m : Running). c.args.actor < actors (world_of m)) (sym c.self.view_is) c.requires.actor in
+    subst (λ n. c.args.actor < n) (actors-now (on c.self.inside.kernel c.self.inside.outs)) b
 
 pub invariant_of-self : goal.invariant_of-self
 invariant_of-self c = (ruled c.self.inside.kernel c.event.new.self c.self.inside.outs c.args.actor c.args.event c.event.result (recorded_as c.args.event) c.self.invariant c.requires.event c.event.ensures.ok c.event.ensures.err).running

@@ -1,7 +1,6 @@
 use Rattle.std.proofs.Common.{◌∙◌, ◌+◌, arith}
 use Rattle.std.proofs.lemmas.List.{take_more, length-drop}
 use Rattle.mx_machine.specs.Machine.{world_of}
-use Rattle.mx_machine.proofs.DoneLemmas.{actors-kept}
 use Rattle.mx_machine.proofs.RunningLemmas.{next-answers, next-world}
 use Rattle.mx_machine.proofs.machine.Machine.run.Goals as goal
 
@@ -10,8 +9,8 @@ loop-pair-preserved c =
     let inv = c.loop-pair.invariant in
     let more = take_more c.args.events.now c.loop-pair.pair-index _ c.loop-pair-test.true in
     record {
-      answers = next-answers (world_of c.args.self.now) (world_of c.loop-pair.self) (world_of c.apply-answer.new.self) _ _ _ c.apply-answer.result c.loop-pair.answers.items c.reserve.new.self.items c.add.new.answers.items more inv.world c.apply-answer.ensures inv.answers c.add.ensures.items;
-      world = next-world (world_of c.args.self.now) (world_of c.loop-pair.self) (world_of c.apply-answer.new.self) _ _ _ c.apply-answer.result more inv.world c.apply-answer.ensures;
+      answers = next-answers (world_of c.args.self.now) (world_of c.loop-pair.self) (world_of c.apply-answer.new.self) _ _ _ c.apply-answer.result c.loop-pair.answers.items c.reserve.new.self.items c.add.new.answers.items more inv.world c.apply-answer.ensures.moved inv.answers c.add.ensures.items;
+      world = next-world (world_of c.args.self.now) (world_of c.loop-pair.self) (world_of c.apply-answer.new.self) _ _ _ c.apply-answer.result more inv.world c.apply-answer.ensures.moved;
       room = omega (arith, inv.room, c.add.ensures.len, c.add.ensures.room, c.loop-pair-test.true, length-drop c.loop-pair.pair-index c.args.events.now, length-drop (c.loop-pair.pair-index + 1) c.args.events.now);
-      actors = actors-kept (world_of c.loop-pair.self) (world_of c.apply-answer.new.self) _ _ c.apply-answer.result c.apply-answer.ensures ∙ inv.actors;
+      as_many = c.apply-answer.ensures.actors ∙ inv.as_many;
     }

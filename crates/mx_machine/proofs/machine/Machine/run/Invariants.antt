@@ -1,6 +1,7 @@
 use Rattle.std.proofs.Common.{◌≡◌, ◌+◌, ◌≤◌, ◌++◌, length, take, drop}
 use Rattle.std.specs.Vec.{vec_len, vec_capacity}
 use Rattle.mx_world.specs.Move.{moves}
+use Rattle.mx_world.specs.Whole.{actors}
 use Rattle.mx_machine.specs.Machine.{world_of}
 use Rattle.mx_machine.proofs.machine.Machine.run.Given as goal
 
@@ -10,5 +11,5 @@ invariant-loop-pair l = record {
   answers : l.answers.items ≡ l.initial.answers.items ++ (moves (world_of l.initial.self) (take l.pair-index l.events)).0;
   world : world_of l.self ≡ (moves (world_of l.initial.self) (take l.pair-index l.events)).1;
   room : vec_len l.answers + length (drop l.pair-index l.events) ≤ vec_capacity l.answers;
-  actors : length (world_of l.self).cpus + (world_of l.self).others ≡ length (world_of l.initial.self).cpus + (world_of l.initial.self).others;
+  as_many : actors (world_of l.self) ≡ actors (world_of l.initial.self);
 }

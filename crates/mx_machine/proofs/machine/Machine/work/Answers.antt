@@ -4,7 +4,7 @@ use Rattle.mx_world.specs.declared.events.Refusal.TheVariants.{CpuEmpty}
 use Rattle.mx_world.specs.declared.holding.Out.{Out}
 use Rattle.mx_world.specs.Whole.{Lent, held_by}
 use Rattle.mx_machine.specs.Machine.{HasWorked, Running, world_of}
-use Rattle.mx_machine.proofs.DoneLemmas.{any_default, none_beyond, on, worked}
+use Rattle.mx_machine.proofs.DoneLemmas.{actors-of_kernel, any_default, none_beyond, on, worked}
 use Rattle.mx_machine.proofs.machine.Machine.work.Goals as goal
 
 pub returns-then-cpu-ge8-clause-err : goal.returns-then-cpu-ge8-clause-err
@@ -32,3 +32,7 @@ returns-clause-err g c =
     subst (λ (m : Running). IfErr c.work_held.result (λ e. (e ≡ CpuEmpty) × (held_by (world_of m) c.args.cpu ≡ None) × (on c.self.inside.kernel (slice_set os c.args.cpu c.work_held.new.held) ≡ m) × (c.work_held.new.tool ≡ c.args.tool.now))) c.self.view_is
     (worked c.self.inside.kernel os c.args.cpu (get_or os c.args.cpu c.index-self-cpu.result) c.work_held.new.held c.work_held.result (λ o. g.T.Tool.steps c.args.tool.now o) (λ o. g.T.Tool.Becomes c.args.tool.now o c.work_held.new.tool) (c.work_held.new.tool ≡ c.args.tool.now)
     c.held_runs_join.ensures c.runs_are_steps.ensures below c.self.invariant (any_default os c.args.cpu None c.index-self-cpu.result below) c.work_held.ensures.none c.work_held.ensures.some).err
+
+pub returns-clause-actors : goal.returns-clause-actors
+returns-clause-actors g c =
+    actors-of_kernel c.args.self.now (on c.self.inside.kernel (slice_set c.self.inside.outs c.args.cpu c.work_held.new.held)) (ap (λ (m : Running). m.kernel) c.self.view_is)

@@ -1,17 +1,15 @@
 -- Events leave how many actors there are.
-use Rattle.std.proofs.Common.{◌≡◌, ◌∙◌, ℕ, ◌+◌, List, [], ◌∷◌, Option, Some, None, Result, slice_get, refl, ap, sym}
+use Rattle.std.proofs.Common.{◌≡◌, ◌∙◌, ℕ, ◌+◌, List, [], ◌∷◌, Option, Some, None, slice_get, refl, ap}
 use Rattle.std.proofs.lemmas.List.{length-set}
 use Rattle.mx_proc.specs.Queues.{picked}
 use Rattle.mx_respawn.specs.declared.service.Service.{Service}
 use Rattle.mx_kcall.specs.Refusals.{owner_of}
-use Rattle.mx_world.specs.declared.events.Answer.{Answer}
 use Rattle.mx_world.specs.declared.events.Event.{Event}
 use Rattle.mx_world.specs.declared.events.Event.TheVariants.{Step, Take, Back, Line, Tick, Kill, Respawn}
 use Rattle.mx_world.specs.declared.events.Refusal.{Refusal}
 use Rattle.mx_world.specs.History.{after_events}
 use Rattle.mx_world.specs.Move.{after_back, after_event, after_line, after_respawn, after_step, after_take, event_refusal, lent_of, move, moved_by, noted, sent_out, with_held}
-use Rattle.mx_world.specs.Whole.{Whole, Lent, held_by}
-use Rattle.mx_steps.specs.Lines.{actors}
+use Rattle.mx_world.specs.Whole.{Whole, Lent, actors, held_by}
 
 held : (w : Whole) (a : ℕ) (x : Option Lent) → actors (with_held w a x) ≡ actors w
 held w a x = ap (λ n. n + w.others) (length-set w.cpus a x)
@@ -36,7 +34,7 @@ by_respawn : (w : Whole) (s : ℕ) (v : Option Service) → actors (after_respaw
 by_respawn w s None = refl
 by_respawn w s (Some v) = refl
 
-pub by_event : (w : Whole) (a : ℕ) (x : Event) → actors (after_event w a x) ≡ actors w
+by_event : (w : Whole) (a : ℕ) (x : Event) → actors (after_event w a x) ≡ actors w
 unfolding after_event
 by_event w a Step = by_step w a (held_by w a)
 by_event w a Take = by_take w a (picked w.table.ready)
@@ -55,6 +53,6 @@ by_answer w a x (Some r) = refl
 by_answer w a x None = by_event w a x
 
 -- an event that may be refused
-pub by_move : (w u : Whole) (a : ℕ) (x : Event) (r : Result Answer Refusal) → move w a x ≡ (r, u) → actors u ≡ actors w
+pub by_move : (w : Whole) (a : ℕ) (x : Event) → actors (move w a x).1 ≡ actors w
 unfolding move
-by_move w u a x r h = sym (ap (λ (p : Result Answer Refusal × Whole). actors p.1) h) ∙ by_answer w a x (event_refusal w a x)
+by_move w a x = by_answer w a x (event_refusal w a x)
