@@ -6,14 +6,14 @@ use Rattle.mx_aout.specs.declared.program.FileError.{FileError}
 use Rattle.mx_aout.specs.declared.program.FileError.TheVariants as errors
 use Rattle.mx_fields.specs.declared.error.BootError.{BootError}
 use Rattle.mx_fields.specs.declared.error.BootError.TheVariants as lines
-use Rattle.mx_setup.specs.declared.config.Config.{Config}
+use Rattle.mx_db.specs.Config.{Config}
 use Rattle.mx_failure.specs.declared.failure.Failure.{Failure}
 use Rattle.mx_failure.specs.declared.failure.Failure.TheVariants.{File, NoMemory, NotText}
 use Rattle.mx_failure.specs.Failure.{failure_of, failure_of_kind, failure_of_lines}
-use Rattle.mx_setup.specs.declared.config.ServiceLine.{ServiceLine}
-use Rattle.mx_start.specs.Asked.{Asked}
-use Rattle.mx_start.specs.Setup.{IsFaulty, IsFirstRefused, IsMissed, IsNoText, IsRefused, IsSetupFault}
-use Rattle.mx_start.specs.Telling.{IsTold}
+use Rattle.mx_db.specs.ServiceLine.{ServiceLine}
+use Rattle.mx_db.specs.Asked.{Asked}
+use Rattle.mx_db.specs.Setup.{IsFaulty, IsFirstRefused, IsMissed, IsNoText, IsRefused, IsSetupFault}
+use Rattle.mx_db.specs.Telling.{IsTold}
 
 abbrev IsOther : Failure → Type 0
 IsOther f = f ≡ NotText → ⊥

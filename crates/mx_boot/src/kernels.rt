@@ -4,13 +4,13 @@ ghost use Rattle.std.specs.Prelude.{◌≡◌, ◌+◌, ◌++◌, false, OnOk, I
 ghost use Rattle.mx_history.specs.Log.{IsHistory};
 ghost use Rattle.mx_history.specs.Text.{history_text};
 ghost use Rattle.mx_report.specs.Report.{report_text};
-ghost use Rattle.mx_world.specs.History.{replay};
-ghost use Rattle.mx_world.specs.Whole.{actors};
+ghost use Rattle.mx_kernel.specs.History.{replay};
+ghost use Rattle.mx_kernel.specs.Whole.{actors};
 
+use mx_config::Config;
 use mx_history::{SaveFault, Sink, history_again, save_records};
 use mx_kernel::Kernel;
 use mx_report::report_of;
-use mx_setup::Config;
 use mx_word::NoMemory;
 use std::alloc::Global;
 

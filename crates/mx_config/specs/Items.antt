@@ -3,9 +3,9 @@ use Rattle.std.specs.Prelude.{◌≡◌, ◌≤◌, ⊤, ℕ, Bool, false, ◌==
 use Rattle.std.specs.List.{before_first, list_any}
 use Rattle.std.specs.Str.{IsUtf8}
 use Rattle.mx_line.specs.Names.{name_of}
-use Rattle.mx_respawn.specs.Labels.{IsReserved}
+use Rattle.mx_setup.specs.Labels.{IsReserved}
 use Rattle.mx_fields.specs.Fields.{◌>>=◌, fields, only}
-use Rattle.mx_respawn.specs.declared.label.Label.{Label}
+use Rattle.mx_setup.specs.Label.{Label}
 use Rattle.mx_setup.specs.declared.config.ServiceLine.{ServiceLine}
 use Rattle.mx_config.specs.declared.service.Terms.{Terms}
 use Rattle.mx_config.specs.declared.item.Item.{Item}

@@ -5,7 +5,7 @@ use Rattle.std.specs.Str.{bytes_eq}
 use Rattle.mx_line.specs.Lines.{lines, last_line}
 use Rattle.mx_fields.specs.declared.error.BootError.{BootError}
 use Rattle.mx_fields.specs.declared.error.BootError.TheVariants.{BadLine, TwiceNamed, TooMany, NoMemory}
-use Rattle.mx_respawn.specs.declared.label.Label.{Label}
+use Rattle.mx_setup.specs.Label.{Label}
 use Rattle.mx_setup.specs.declared.config.ServiceLine.{ServiceLine}
 use Rattle.mx_setup.specs.declared.config.Config.{Config}
 use Rattle.mx_config.specs.declared.item.Item.{Item}

@@ -9,8 +9,7 @@ ghost use Rattle.mx_config.specs.Lines.{is_named, is_twice, is_over, reason_of, 
 use crate::item::Item;
 use crate::items::{before_comment, item_at};
 use mx_fields::{BootError, next_field};
-use mx_respawn::Label;
-use mx_setup::{Config, ServiceLine, ServiceLines};
+use mx_setup::{Config, Label, ServiceLine, ServiceLines};
 use std::alloc::Global;
 use std::marker::Model;
 

@@ -3,7 +3,7 @@
 ghost use Rattle.std.specs.Prelude.{◌≡◌, ◌≢◌, ◌≤◌, ◌∷◌, [], ℕ, List, Some, None, MatchOption, IfOk, IfSome, codes, length, take};
 ghost use Rattle.std.specs.List.{before_first, list_any};
 ghost use Rattle.mx_fields.specs.Fields.{fields};
-ghost use Rattle.mx_respawn.specs.declared.label.Label.{Label};
+ghost use Rattle.mx_setup.specs.Label.{Label};
 ghost use Rattle.mx_setup.specs.declared.config.ServiceLine.{ServiceLine};
 ghost use Rattle.mx_config.specs.declared.service.Terms.{Terms};
 ghost use Rattle.mx_config.specs.declared.item.Item.{Item};
@@ -14,8 +14,7 @@ use crate::item::Item;
 use crate::service::Terms;
 use crate::terms::{number_between, terms_of};
 use mx_fields::{next_field, one_field};
-use mx_respawn::Label;
-use mx_setup::{FileName, ServiceLine};
+use mx_setup::{FileName, Label, ServiceLine};
 use std::alloc::{AllocError, Global};
 
 /// How much stands before a comment.

@@ -7,7 +7,7 @@ use Rattle.mx_script.specs.declared.place.Place.{Place}
 use Rattle.mx_script.specs.declared.scripts.ScriptLine.{ScriptLine}
 use Rattle.mx_world.specs.History.{Kept, replay}
 use Rattle.mx_world.specs.Whole.{Whole, held_by}
-use Rattle.mx_machine.specs.Machine.{Running, world_of}
+use Rattle.mx_steps.specs.Machine.{Running, world_of}
 use Rattle.mx_told.specs.declared.said.Said.{Said}
 use Rattle.mx_steps.specs.Lines.{line_made}
 use Rattle.mx_debug.specs.declared.points.Breakpoint.{Breakpoint}

@@ -2,11 +2,11 @@
 use Rattle.std.proofs.Common.{◌≡◌, ◌∙◌, ℕ, List, [], ◌++◌, Option, ap, sym, subst}
 use Rattle.std.proofs.KnownBytes.{Appends-trans}
 use Rattle.std.specs.Io.KnownBytes.{Appends}
-use Rattle.mx_setup.specs.declared.config.Config.{Config}
-use Rattle.mx_respawn.specs.declared.service.Service.{Service}
+use Rattle.mx_steps.specs.Config.{Config}
+use Rattle.mx_steps.specs.Service.{Service}
 use Rattle.mx_script.specs.declared.debug.DebugLine.{DebugLine}
 use Rattle.mx_debug.specs.declared.points.Breakpoint.{Breakpoint}
-use Rattle.mx_report.specs.Report.{report_text}
+use Rattle.mx_steps.specs.Report.{report_text}
 use Rattle.mx_world.specs.Boot.{booted}
 use Rattle.mx_world.specs.Whole.{Whole}
 use Rattle.mx_db.specs.Lines.{Debugged, debug_lines_made}

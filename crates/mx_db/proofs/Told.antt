@@ -13,7 +13,7 @@ use Rattle.mx_world.specs.declared.events.Refusal.{Refusal}
 use Rattle.mx_world.specs.declared.events.Refusal.TheVariants.{NotDown, Worn, NoService, CpuBusy, CpuEmpty, LogFull, NoLine, NoProcess, AtStop}
 use Rattle.mx_world.specs.History.{Kept, replay}
 use Rattle.mx_world.specs.Whole.{Whole, Lent, held_by}
-use Rattle.mx_machine.specs.Machine.{Running, world_of}
+use Rattle.mx_steps.specs.Machine.{Running, world_of}
 use Rattle.mx_steps.specs.Lines.{line_made}
 use Rattle.mx_debug.specs.declared.halt.Cause.{Cause}
 use Rattle.mx_debug.specs.declared.halt.Halt.{Halt}

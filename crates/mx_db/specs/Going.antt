@@ -3,7 +3,7 @@ use Rattle.std.specs.Prelude.{◌≡◌, ◌≢◌, ℕ, List, None, Some}
 use Rattle.mx_world.specs.declared.events.Refusal.{Refusal}
 use Rattle.mx_world.specs.declared.events.Refusal.TheVariants.{AtStop, CpuEmpty}
 use Rattle.mx_world.specs.Whole.{Whole, Lent, held_by}
-use Rattle.mx_machine.specs.Machine.{HasWorked}
+use Rattle.mx_steps.specs.Machine.{HasWorked}
 use Rattle.mx_debug.specs.declared.halt.Halt.{Halt}
 use Rattle.mx_debug.specs.declared.points.Breakpoint.{Breakpoint}
 use Rattle.mx_debug.specs.Halts.{Halts, after, steps_to_halt}

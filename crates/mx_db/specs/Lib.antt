@@ -2,3 +2,9 @@ pub mod Places
 pub mod Going
 pub mod Lines
 pub mod Told
+pub use Rattle.mx_steps.specs.Asked
+pub use Rattle.mx_steps.specs.Setup
+pub use Rattle.mx_steps.specs.Telling
+pub use Rattle.mx_steps.specs.Config
+pub use Rattle.mx_steps.specs.ServiceLine
+pub use Rattle.mx_steps.specs.Course

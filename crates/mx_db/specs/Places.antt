@@ -1,7 +1,7 @@
 -- Breakpoints by slot and place (our own).
 use Rattle.std.specs.Prelude.{ℕ, List, Option, Some, None, Result, Ok, Err, slice_get}
 use Rattle.mx_aout.specs.declared.program.Program.{Program}
-use Rattle.mx_respawn.specs.declared.service.Service.{Service}
+use Rattle.mx_steps.specs.Service.{Service}
 use Rattle.mx_script.specs.declared.place.Place.{Place}
 use Rattle.mx_script.specs.declared.place.Place.TheVariants.{Address, Symbol, NoName}
 use Rattle.mx_world.specs.declared.events.Refusal.TheVariants.{NoService}

@@ -2,16 +2,16 @@
 
 ghost use Rattle.std.specs.Prelude.{◌≡◌, ◌<◌, ◌++◌, List, [], IfErr, OnOk};
 ghost use Rattle.std.specs.Io.KnownBytes.{Appends};
-ghost use Rattle.mx_failure.specs.Failure.{IsWanting};
-ghost use Rattle.mx_machine.specs.Machine.{world_of};
-ghost use Rattle.mx_report.specs.Report.{report_text};
-ghost use Rattle.mx_respawn.specs.declared.service.Service.{Service};
+ghost use Rattle.mx_steps.specs.Failure.{IsWanting};
+ghost use Rattle.mx_steps.specs.Machine.{world_of};
+ghost use Rattle.mx_steps.specs.Report.{report_text};
+ghost use Rattle.mx_steps.specs.Service.{Service};
 ghost use Rattle.mx_script.specs.declared.debug.DebugLine.{DebugLine as Line};
-ghost use Rattle.mx_setup.specs.declared.config.Config.{Config};
-ghost use Rattle.mx_start.specs.Asked.{Asked};
-ghost use Rattle.mx_start.specs.Course.{IsDebugScript, TellsDebugScript};
-ghost use Rattle.mx_start.specs.Setup.{IsStart};
-ghost use Rattle.mx_start.specs.Telling.{IsTold};
+ghost use Rattle.mx_steps.specs.Config.{Config};
+ghost use Rattle.mx_steps.specs.Asked.{Asked};
+ghost use Rattle.mx_steps.specs.Course.{IsDebugScript, TellsDebugScript};
+ghost use Rattle.mx_steps.specs.Setup.{IsStart};
+ghost use Rattle.mx_steps.specs.Telling.{IsTold};
 ghost use Rattle.mx_world.specs.Boot.{booted};
 ghost use Rattle.mx_world.specs.Whole.{actors};
 ghost use Rattle.mx_db.specs.Lines.{Debugged, debug_lines_made};
@@ -19,10 +19,8 @@ ghost use Rattle.mx_db.specs.Told.{debug_lines_told};
 
 use crate::lines::perform_debug_lines;
 use mx_debug::Debugger;
-use mx_machine::Machine;
 use mx_script::DebugLine;
-use mx_start::{DebugScript, Failure, Reader, start};
-use mx_steps::{print_report, print_text};
+use mx_steps::{DebugScript, Failure, Machine, Reader, print_report, print_text, start};
 use std::alloc::Global;
 use std::io::Write;
 

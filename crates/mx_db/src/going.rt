@@ -1,14 +1,15 @@
 //! Steps up to a breakpoint.
 
 ghost use Rattle.std.specs.Prelude.{◌≡◌, IfOk, IfErr};
-ghost use Rattle.mx_machine.specs.Machine.{world_of};
+ghost use Rattle.mx_steps.specs.Machine.{world_of};
 ghost use Rattle.mx_world.specs.Whole.{actors, held_by};
 ghost use Rattle.mx_db.specs.Going.{HasGone, IsStuck};
 ghost use Rattle.mx_db.specs.Lines.{gone};
 
 use mx_debug::{Cause, Debugger, Halt};
-use mx_machine::{Machine, Out, Refusal, Tool};
 use mx_proc::Slot;
+use mx_steps::{Machine, Out, Tool};
+use mx_world::Refusal;
 
 /// A debugger that works with the process of a slot, for at most so many steps.
 #[derive(Drop)]

@@ -1,7 +1,7 @@
 //! Lines of a debugger's script.
 
 ghost use Rattle.std.specs.Prelude.{◌≡◌, ◌<◌, ◌++◌, OnOk, string_bytes};
-ghost use Rattle.mx_machine.specs.Machine.{world_of};
+ghost use Rattle.mx_steps.specs.Machine.{world_of};
 ghost use Rattle.mx_world.specs.Whole.{actors, held_by};
 ghost use Rattle.mx_told.specs.Processes.{registers_text, memory_text};
 ghost use Rattle.mx_db.specs.Lines.{gone, debug_line_made, debug_lines_made};
@@ -10,9 +10,8 @@ ghost use Rattle.mx_db.specs.Told.{eip_of, image_of, gone_told, debug_line_told,
 use crate::going::go;
 use crate::places::{clear_breakpoint, set_breakpoint};
 use mx_debug::Debugger;
-use mx_machine::Machine;
 use mx_script::DebugLine;
-use mx_steps::perform_line;
+use mx_steps::{Machine, perform_line};
 use mx_told::{push_done, push_memory, push_messages, push_process, push_run};
 use std::alloc::AllocError;
 use std::fmt::Write;

@@ -6,11 +6,11 @@ ghost use Rattle.mx_debug.specs.declared.error.DebugError.TheVariants as errors;
 ghost use Rattle.mx_db.specs.Places.{address_of, found, broken, cleared};
 
 use mx_aout::Program;
-use mx_debug::{DebugError, Debugger, address};
-use mx_machine::{Kernel, Refusal};
+use mx_debug::{DebugError, Debugger, Kernel, address};
 use mx_proc::Slot;
 use mx_script::Place;
 use mx_told::Refused;
+use mx_world::Refusal;
 
 /// The address of a place in a program.
 fn address_of(program: &Program, place: &Place) -> Result<u32, DebugError>

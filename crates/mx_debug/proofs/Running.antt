@@ -10,8 +10,8 @@ use Rattle.mx_exec.specs.Step.{one_step}
 use Rattle.mx_image.specs.declared.runs.Stop.{Stop}
 use Rattle.mx_image.specs.declared.runs.Stop.TheVariants as stop
 use Rattle.mx_image.specs.Run.{ran, Ran, went}
-use Rattle.mx_world.specs.declared.holding.Out.{Out}
-use Rattle.mx_world.specs.Held.{held_run, then_held, run_by_stop, after_run}
+use Rattle.mx_kernel.specs.Out.{Out}
+use Rattle.mx_kernel.specs.Held.{held_run, then_held, run_by_stop, after_run}
 use Rattle.mx_debug.specs.Halts.{after, is_stop, is_over}
 
 -- runs of what is held join

@@ -3,7 +3,7 @@
 ghost use Rattle.std.specs.Prelude.{◌≡◌, ℕ, ◌≤◌, Some, None, IfOk, IfErr, OnErr, length, take, slice_get};
 ghost use Rattle.mx_dis.specs.Names.{before_zero};
 ghost use Rattle.mx_debug.specs.Finding.{is_named, first_named};
-ghost use Rattle.mx_world.specs.History.{replay};
+ghost use Rattle.mx_kernel.specs.History.{replay};
 ghost use Rattle.mx_debug.specs.declared.error.DebugError.TheVariants as errors;
 
 use crate::error::DebugError;

@@ -11,6 +11,5 @@ mod resuming;
 pub use error::DebugError;
 pub use finding::{address, byte, message};
 pub use halt::{Cause, Halt};
-pub use mx_kernel::Kernel;
-pub use mx_world::Held;
+pub use mx_kernel::{Held, Kernel};
 pub use points::{Breakpoint, Debugger};

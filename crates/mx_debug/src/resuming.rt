@@ -8,8 +8,8 @@ ghost use Rattle.mx_debug.specs.Halts.{Halts};
 
 use crate::halt::{Cause, Halt, cause_of};
 use crate::points::Debugger;
+use mx_kernel::{Held, held_runs_join};
 use mx_proc::Slot;
-use mx_world::{Held, held_runs_join};
 
 /// All steps at once, where no breakpoint can be reached.
 fn run_on<H: Held>(held: &mut H, k: u32) -> Halt

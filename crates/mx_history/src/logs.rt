@@ -12,8 +12,7 @@ ghost use Rattle.mx_history.specs.Log.{recorded_of, made_by, record_line, is_end
 use crate::laws::{history_again, one_history};
 use mx_fields::{BootError, next_field};
 use mx_script::{ReadsLine, Verb, actor, only_count, read_lines, verb_named};
-use mx_setup::Config;
-use mx_world::{Record, Recorded};
+use mx_world::{Config, Record, Recorded};
 use std::alloc::Global;
 
 /// What was recorded, of a verb and what stands behind it.

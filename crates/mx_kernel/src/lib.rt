@@ -8,3 +8,5 @@ mod present;
 mod serving;
 
 pub use kernel::Kernel;
+pub use mx_respawn::Service;
+pub use mx_world::{Held, held_runs_join};

@@ -1,7 +1,7 @@
 -- The world of a machine is sound.
 use Rattle.std.proofs.Common.{◌≡◌, ◌∙◌, ◌≤◌, ℕ, zero, suc, List, [], ◌∷◌, map, Option, Some, None, get_or, slice_get, refl, sym, ap, subst, arith}
 use Rattle.mx_exec.specs.Lasting.{lasting}
-use Rattle.mx_respawn.specs.declared.service.Service.{Service}
+use Rattle.mx_kernel.specs.Service.{Service}
 use Rattle.mx_world.specs.declared.holding.Lease.{Lease}
 use Rattle.mx_world.specs.declared.holding.Out.{Out}
 use Rattle.mx_world.specs.History.{replay}

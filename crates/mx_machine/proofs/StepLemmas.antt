@@ -6,8 +6,8 @@ use Rattle.mx_proc.specs.Queues.{picked}
 use Rattle.mx_proc.specs.Endpoints.{is_alive}
 use Rattle.mx_proc.specs.World.{World, process_at}
 use Rattle.mx_proc.specs.declared.process.Process.{Process}
-use Rattle.mx_kcall.specs.Refusals.{owner_of}
-use Rattle.mx_respawn.specs.declared.service.Service.{Service}
+use Rattle.mx_kernel.specs.Refusals.{owner_of}
+use Rattle.mx_kernel.specs.Service.{Service}
 use Rattle.mx_world.specs.declared.events.Event.{Event}
 use Rattle.mx_world.specs.declared.events.Event.TheVariants.{Step, Take, Back, Line, Tick, Kill, Respawn}
 use Rattle.mx_world.specs.declared.events.Refusal.{Refusal}

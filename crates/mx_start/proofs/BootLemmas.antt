@@ -1,11 +1,11 @@
 -- A machine before its first event.
 use Rattle.std.proofs.Common.{◌≡◌, ◌∙◌, ◌<◌, ℕ, zero, suc, List, [], None, length, replicate, refl, ap, arith}
 use Rattle.std.proofs.lemmas.List.{length-replicate}
-use Rattle.mx_respawn.specs.declared.service.Service.{Service}
-use Rattle.mx_setup.specs.declared.config.Config.{Config}
-use Rattle.mx_world.specs.Boot.{booted}
-use Rattle.mx_world.specs.History.{Kept, replay}
-use Rattle.mx_world.specs.Whole.{Lent, Whole, actors, out_count}
+use Rattle.mx_machine.specs.Service.{Service}
+use Rattle.mx_boot.specs.Config.{Config}
+use Rattle.mx_machine.specs.Boot.{booted}
+use Rattle.mx_machine.specs.History.{Kept, replay}
+use Rattle.mx_machine.specs.Whole.{Lent, Whole, actors, out_count}
 
 none_out : (X : Type 0) (n : ℕ) → out_count {X = X} (replicate n None) ≡ 0
 none_out X zero = refl

@@ -2,14 +2,14 @@
 use Rattle.std.specs.Prelude.{ℕ, ◌+◌, List}
 use Rattle.mx_line.specs.Lines.{lines}
 use Rattle.mx_fields.specs.declared.error.BootError.{BootError}
-use Rattle.mx_setup.specs.declared.config.Config.{Config}
+use Rattle.mx_boot.specs.Config.{Config}
 use Rattle.mx_script.specs.declared.scripts.ScriptLine.{ScriptLine}
 use Rattle.mx_script.specs.declared.debug.DebugLine.{DebugLine}
 use Rattle.mx_script.specs.Reading.{AreRead, TellsUnread}
 use Rattle.mx_script.specs.Script.{script_line}
 use Rattle.mx_script.specs.Debug.{debug_line}
-use Rattle.mx_world.specs.declared.history.Record.{Record}
-use Rattle.mx_history.specs.Log.{IsHistory, TellsFault}
+use Rattle.mx_machine.specs.Record.{Record}
+use Rattle.mx_boot.specs.Log.{IsHistory, TellsFault}
 
 abbrev pub IsScript : List ℕ → Config → List ScriptLine → Type 0
 IsScript text config said = AreRead script_line (lines text) said

@@ -3,3 +3,11 @@ pub mod Course
 pub mod Named
 pub mod Setup
 pub mod Telling
+pub use Rattle.mx_machine.specs.Machine
+pub use Rattle.mx_boot.specs.Log
+pub use Rattle.mx_boot.specs.Report
+pub use Rattle.mx_boot.specs.Config
+pub use Rattle.mx_machine.specs.Service
+pub use Rattle.mx_failure.specs.Failure
+pub use Rattle.mx_machine.specs.Situation
+pub use Rattle.mx_boot.specs.ServiceLine

@@ -5,10 +5,10 @@ use Rattle.std.specs.declared.io.ErrorKind.{ErrorKind}
 use Rattle.mx_aout.specs.declared.program.FileError.{FileError}
 use Rattle.mx_aout.specs.File.{FileIs, refusal_of}
 use Rattle.mx_fields.specs.declared.error.BootError.{BootError}
-use Rattle.mx_setup.specs.declared.config.Config.{Config}
-use Rattle.mx_setup.specs.declared.config.ServiceLine.{ServiceLine}
-use Rattle.mx_respawn.specs.declared.service.Service.{Service}
-use Rattle.mx_config.specs.Lines.{IsConfig, TellsFault}
+use Rattle.mx_boot.specs.Config.{Config}
+use Rattle.mx_boot.specs.ServiceLine.{ServiceLine}
+use Rattle.mx_machine.specs.Service.{Service}
+use Rattle.mx_boot.specs.Lines.{IsConfig, TellsFault}
 use Rattle.mx_failure.specs.declared.failure.Failure.{Failure}
 use Rattle.mx_failure.specs.declared.failure.Failure.TheVariants.{File, NoMemory}
 use Rattle.mx_failure.specs.Failure.{failure_of, failure_of_kind, failure_of_lines}

@@ -1,8 +1,8 @@
 -- What is told where a machine was driven or couldn't be (our own).
 use Rattle.std.specs.Prelude.{◌⊎◌, ℕ, List}
 use Rattle.mx_fields.specs.declared.error.BootError.{BootError}
-use Rattle.mx_setup.specs.declared.config.Config.{Config}
-use Rattle.mx_respawn.specs.declared.service.Service.{Service}
+use Rattle.mx_boot.specs.Config.{Config}
+use Rattle.mx_machine.specs.Service.{Service}
 use Rattle.mx_failure.specs.declared.failure.Failure.{Failure}
 use Rattle.mx_failure.specs.Failure.{IsWanting}
 use Rattle.mx_start.specs.Asked.{Asked}

@@ -2,7 +2,7 @@
 
 ghost use Rattle.std.specs.Prelude.{List, ℕ, IfOk, IfErr};
 ghost use Rattle.mx_fields.specs.declared.error.BootError.{BootError};
-ghost use Rattle.mx_setup.specs.declared.config.Config.{Config};
+ghost use Rattle.mx_boot.specs.Config.{Config};
 
 use mx_boot::{BootError, Config, DebugLine, ScriptLine, debug_script, log, script};
 use mx_machine::Record;

@@ -12,8 +12,8 @@ mod starting;
 
 pub use course::{Course, DebugScript, History, Script};
 pub use mx_boot::{BootError, Config, DebugLine, ScriptLine, report};
-pub use mx_failure::Failure;
-pub use mx_machine::{Machine, Record};
+pub use mx_failure::{Failure, print_text};
+pub use mx_machine::{Event, Held, Machine, Out, Record, Recorded, Tool};
 pub use named::{NamedFile, NamedFiles};
 pub use reader::Reader;
 pub use runtime::RuntimeFiles;

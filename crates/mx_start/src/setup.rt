@@ -9,7 +9,7 @@ use crate::reader::Reader;
 use mx_aout::read;
 use mx_boot::{Config, ServiceLine, config};
 use mx_failure::Failure;
-use mx_respawn::Service;
+use mx_machine::Service;
 use std::alloc::Global;
 
 /// The text of a file.

@@ -2,20 +2,19 @@
 
 ghost use Rattle.std.specs.Prelude.{◌≡◌, ◌<◌, ◌≤◌, ◌++◌, List, length, IfOk, IfErr};
 ghost use Rattle.mx_machine.specs.Machine.{world_of};
-ghost use Rattle.mx_respawn.specs.declared.service.Service.{Service as Served};
-ghost use Rattle.mx_setup.specs.declared.config.Config.{Config as Configured};
-ghost use Rattle.mx_world.specs.Boot.{booted};
-ghost use Rattle.mx_world.specs.Whole.{actors};
+ghost use Rattle.mx_machine.specs.Service.{Service as Served};
+ghost use Rattle.mx_boot.specs.Config.{Config as Configured};
+ghost use Rattle.mx_machine.specs.Boot.{booted};
+ghost use Rattle.mx_machine.specs.Whole.{actors};
 ghost use Rattle.mx_start.specs.Asked.{Asked};
 ghost use Rattle.mx_start.specs.Setup.{IsNotStarted, IsStart};
 
 use crate::course::Course;
 use crate::reader::Reader;
 use crate::setup::{setup_of, text_of};
+use mx_boot::Config;
 use mx_failure::Failure;
-use mx_machine::{Kernel, Machine};
-use mx_respawn::Service;
-use mx_setup::Config;
+use mx_machine::{Kernel, Machine, Service};
 use mx_word::NoMemory;
 use std::alloc::Global;
 

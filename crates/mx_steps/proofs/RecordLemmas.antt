@@ -21,7 +21,7 @@ use Rattle.mx_world.specs.History.{AreAccepted, after_events, events_of, unfolde
 use Rattle.mx_world.specs.Move.{after_event, at_stop, event_answer, event_refusal, is_stop, move, moved_by, step_refusal}
 use Rattle.mx_world.specs.Steps.{steps_of}
 use Rattle.mx_world.specs.Whole.{Whole, Lent, held_by}
-use Rattle.mx_machine.specs.Machine.{HasWorked}
+use Rattle.mx_start.specs.Machine.{HasWorked}
 use Rattle.mx_told.specs.declared.said.Said.{Said}
 use Rattle.mx_told.specs.declared.said.Said.TheVariants.{Stepped, Refused}
 use Rattle.mx_steps.specs.Lines.{run_made}

@@ -4,11 +4,11 @@ use Rattle.std.proofs.lemmas.Bool.{ltb-true}
 use Rattle.std.proofs.lemmas.List.{length-replicate}
 use Rattle.std.specs.Io.KnownBytes.{Appends}
 use Rattle.mx_fields.specs.Fields.{◌>>=◌, fields}
-use Rattle.mx_setup.specs.declared.config.Config.{Config}
-use Rattle.mx_respawn.specs.declared.service.Service.{Service}
+use Rattle.mx_start.specs.Config.{Config}
+use Rattle.mx_start.specs.Service.{Service}
 use Rattle.mx_script.specs.Script.{actor_of, after_verb}
-use Rattle.mx_history.specs.Log.{made_by, record_line, record_of, recorded_of}
-use Rattle.mx_report.specs.Report.{report_text}
+use Rattle.mx_start.specs.Log.{made_by, record_line, record_of, recorded_of}
+use Rattle.mx_start.specs.Report.{report_text}
 use Rattle.mx_world.specs.declared.history.Record.{Record}
 use Rattle.mx_world.specs.declared.history.Recorded.{Recorded}
 use Rattle.mx_world.specs.Boot.{booted}

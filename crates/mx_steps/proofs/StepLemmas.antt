@@ -2,10 +2,10 @@
 use Rattle.std.proofs.Common.{◌≡◌, ◌∙◌, ℕ, List, [], ◌++◌, Option, ap, subst}
 use Rattle.std.proofs.KnownBytes.{Appends-trans}
 use Rattle.std.specs.Io.KnownBytes.{Appends}
-use Rattle.mx_setup.specs.declared.config.Config.{Config}
-use Rattle.mx_respawn.specs.declared.service.Service.{Service}
+use Rattle.mx_start.specs.Config.{Config}
+use Rattle.mx_start.specs.Service.{Service}
 use Rattle.mx_script.specs.declared.scripts.ScriptLine.{ScriptLine}
-use Rattle.mx_report.specs.Report.{report_text}
+use Rattle.mx_start.specs.Report.{report_text}
 use Rattle.mx_world.specs.Boot.{booted}
 use Rattle.mx_world.specs.Whole.{Whole}
 use Rattle.mx_told.specs.declared.said.Said.{Said}

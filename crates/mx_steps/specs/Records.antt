@@ -1,7 +1,7 @@
 -- How far a history replays (our own).
 use Rattle.std.specs.Prelude.{◌≡◌, ◌⊎◌, ℕ, ◌+◌, List, [], ◌∷◌, ◌++◌, length, codes, Some, None}
 use Rattle.std.specs.Fmt.{decimal}
-use Rattle.mx_report.specs.Report.{report_text}
+use Rattle.mx_start.specs.Report.{report_text}
 use Rattle.mx_world.specs.declared.events.Event.{Event}
 use Rattle.mx_world.specs.declared.events.Refusal.{Refusal}
 use Rattle.mx_world.specs.declared.history.Record.{Record}

@@ -7,8 +7,10 @@ mod records;
 mod stepping;
 
 pub use lines::{perform_line, step};
-pub use mx_failure::print_text;
-pub use mx_start::{Failure, Machine, NamedFile, NamedFiles, Reader, RuntimeFiles, ScriptLine};
+pub use mx_start::{
+    BootError, DebugScript, Failure, Machine, NamedFile, NamedFiles, Out, Reader, RuntimeFiles,
+    Script, ScriptLine, Tool, print_text, start,
+};
 pub use mx_told::Said;
 pub use printing::print_report;
 pub use records::{Replayed, replay};

@@ -2,11 +2,11 @@
 
 ghost use Rattle.std.specs.Prelude.{◌≡◌, ◌<◌, ◌++◌, List, IfErr, OnOk, string_bytes};
 ghost use Rattle.std.specs.Io.KnownBytes.{Appends};
-ghost use Rattle.mx_failure.specs.Failure.{IsWanting};
-ghost use Rattle.mx_machine.specs.Machine.{world_of};
-ghost use Rattle.mx_report.specs.Report.{report_text};
-ghost use Rattle.mx_respawn.specs.declared.service.Service.{Service};
-ghost use Rattle.mx_setup.specs.declared.config.Config.{Config};
+ghost use Rattle.mx_start.specs.Failure.{IsWanting};
+ghost use Rattle.mx_start.specs.Machine.{world_of};
+ghost use Rattle.mx_start.specs.Report.{report_text};
+ghost use Rattle.mx_start.specs.Service.{Service};
+ghost use Rattle.mx_start.specs.Config.{Config};
 ghost use Rattle.mx_script.specs.declared.scripts.ScriptLine.{ScriptLine as Line};
 ghost use Rattle.mx_start.specs.Asked.{Asked};
 ghost use Rattle.mx_start.specs.Course.{IsScript, TellsScript};
@@ -19,9 +19,7 @@ ghost use Rattle.mx_start.specs.Telling.{IsTold};
 
 use crate::printing::print_report;
 use crate::stepping::{make_event, make_own, make_steps};
-use mx_failure::{Failure, print_text};
-use mx_machine::{Event, Machine};
-use mx_start::{Reader, Script, ScriptLine, start};
+use mx_start::{Event, Failure, Machine, Reader, Script, ScriptLine, print_text, start};
 use mx_told::Said;
 use std::alloc::{AllocError, Global};
 use std::io::Write;

@@ -2,18 +2,16 @@
 
 ghost use Rattle.std.specs.Prelude.{IfErr, OnOk};
 ghost use Rattle.std.specs.Io.KnownBytes.{Appends};
-ghost use Rattle.mx_failure.specs.Failure.{IsWanting};
-ghost use Rattle.mx_machine.specs.Machine.{world_of};
-ghost use Rattle.mx_report.specs.Report.{report_text};
+ghost use Rattle.mx_start.specs.Failure.{IsWanting};
+ghost use Rattle.mx_start.specs.Machine.{world_of};
+ghost use Rattle.mx_start.specs.Report.{report_text};
 
-use mx_failure::{Failure, print_text};
-use mx_machine::Machine;
-use mx_start::report;
+use mx_start::{Failure, Machine, print_text, report};
 use std::alloc::Global;
 use std::io::Write;
 
 /// Prints the report on a machine, and flushes.
-#[tactic(auto, unfolding(mx_machine::specs::Machine::world_of))]
+#[tactic(auto, unfolding(mx_start::specs::Machine::world_of))]
 pub fn print_report<W: Write>(alloc: Global, machine: &Machine, out: &mut W) -> Result<(), Failure>
     ensures err { IfErr result IsWanting }
     ensures bytes { OnOk result (Appends (W.contents out.old) (W.contents out.new) (report_text (world_of machine.now).table (world_of machine.now).services)) }

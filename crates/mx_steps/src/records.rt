@@ -2,11 +2,11 @@
 
 ghost use Rattle.std.specs.Prelude.{◌≡◌, ◌<◌, ◌++◌, List, All, IfOk, IfErr, OnOk, None, Some};
 ghost use Rattle.std.specs.Io.KnownBytes.{Appends};
-ghost use Rattle.mx_failure.specs.Failure.{IsWanting};
-ghost use Rattle.mx_machine.specs.Machine.{IsActor, world_of};
-ghost use Rattle.mx_report.specs.Report.{report_text};
-ghost use Rattle.mx_respawn.specs.declared.service.Service.{Service};
-ghost use Rattle.mx_setup.specs.declared.config.Config.{Config};
+ghost use Rattle.mx_start.specs.Failure.{IsWanting};
+ghost use Rattle.mx_start.specs.Machine.{IsActor, world_of};
+ghost use Rattle.mx_start.specs.Report.{report_text};
+ghost use Rattle.mx_start.specs.Service.{Service};
+ghost use Rattle.mx_start.specs.Config.{Config};
 ghost use Rattle.mx_start.specs.Asked.{Asked};
 ghost use Rattle.mx_start.specs.Course.{IsSaved, TellsSaved};
 ghost use Rattle.mx_start.specs.Setup.{IsStart};
@@ -22,9 +22,7 @@ ghost use Rattle.mx_start.specs.Telling.{IsTold};
 
 use crate::printing::print_report;
 use crate::stepping::work_steps;
-use mx_failure::{Failure, print_text};
-use mx_machine::{Event, Machine, Record, Recorded};
-use mx_start::{History, Reader, start};
+use mx_start::{Event, Failure, History, Machine, Reader, Record, Recorded, print_text, start};
 use mx_told::Said;
 use mx_world::{Refusal, actors_stay};
 use std::alloc::Global;

@@ -3,12 +3,12 @@
 ghost use Rattle.std.specs.Prelude.{◌≡◌, ◌<◌, Some, false};
 ghost use Rattle.mx_world.specs.Move.{at_stop, move};
 ghost use Rattle.mx_world.specs.Whole.{Lent, actors, held_by};
-ghost use Rattle.mx_kernel.specs.Situation.{is_for_all};
-ghost use Rattle.mx_machine.specs.Machine.{HasWorked, world_of};
+ghost use Rattle.mx_start.specs.Situation.{is_for_all};
+ghost use Rattle.mx_start.specs.Machine.{HasWorked, world_of};
 ghost use Rattle.mx_steps.specs.Lines.{event_made, run_made, steps_made};
 
 use mx_image::Stop;
-use mx_machine::{Event, Held, Machine, Out, Tool};
+use mx_start::{Event, Held, Machine, Out, Tool};
 use mx_told::{Said, said_of};
 use mx_world::Refusal;
 

@@ -2,7 +2,7 @@
 use Rattle.std.proofs.Common.{◌≡◌, ◌∙◌, ℕ, ◌+◌, List, [], ◌∷◌, Option, Some, None, slice_get, refl, ap}
 use Rattle.std.proofs.lemmas.List.{length-set}
 use Rattle.mx_proc.specs.Queues.{picked}
-use Rattle.mx_respawn.specs.declared.service.Service.{Service}
+use Rattle.mx_kcall.specs.Service.{Service}
 use Rattle.mx_kcall.specs.Refusals.{owner_of}
 use Rattle.mx_world.specs.declared.events.Event.{Event}
 use Rattle.mx_world.specs.declared.events.Event.TheVariants.{Step, Take, Back, Line, Tick, Kill, Respawn}

@@ -5,7 +5,7 @@ use Rattle.std.specs.List.{range_with_len}
 use Rattle.mx_load.specs.Load.{loaded}
 use Rattle.mx_proc.specs.declared.process.Process.{Process}
 use Rattle.mx_proc.specs.World.{World, no_world, new_process}
-use Rattle.mx_respawn.specs.declared.service.Service.{Service}
+use Rattle.mx_kcall.specs.Service.{Service}
 use Rattle.mx_setup.specs.declared.config.Config.{Config}
 use Rattle.mx_world.specs.Whole.{Whole}
 

@@ -14,9 +14,9 @@ use Rattle.mx_sched.specs.Queueing.{queued}
 use Rattle.mx_ipc.specs.declared.calls.TrapAnswer.{TrapAnswer}
 use Rattle.mx_ipc.specs.declared.calls.TrapAnswer.TheVariants as trap_ends
 use Rattle.mx_ipc.specs.Calls.{trapped, trap_answer}
-use Rattle.mx_respawn.specs.declared.service.Service.{Service}
-use Rattle.mx_respawn.specs.Death.{died}
-use Rattle.mx_respawn.specs.Respawn.{is_worn, respawned}
+use Rattle.mx_kcall.specs.Service.{Service}
+use Rattle.mx_kcall.specs.Death.{died}
+use Rattle.mx_kcall.specs.Respawn.{is_worn, respawned}
 use Rattle.mx_kcall.specs.Clock.{raised, ticked}
 use Rattle.mx_kcall.specs.Refusals.{owner_of}
 use Rattle.mx_kcall.specs.Serving.{called}

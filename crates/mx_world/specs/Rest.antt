@@ -3,8 +3,8 @@ use Rattle.std.specs.Prelude.{ℕ, ◌==◌, ◌&&◌, ◌||◌, not, Bool, true
 use Rattle.mx_proc.specs.declared.process.Process.{Process}
 use Rattle.mx_proc.specs.Queues.{picked}
 use Rattle.mx_proc.specs.States.{is_down}
-use Rattle.mx_respawn.specs.declared.service.Service.{Service}
-use Rattle.mx_respawn.specs.Respawn.{is_worn}
+use Rattle.mx_kcall.specs.Service.{Service}
+use Rattle.mx_kcall.specs.Respawn.{is_worn}
 use Rattle.mx_world.specs.Whole.{Whole, out_count}
 
 -- each slot that is down is worn

@@ -5,7 +5,7 @@ use Rattle.mx_proc.specs.declared.process.State.TheVariants.{Home}
 use Rattle.mx_proc.specs.Frame.{loan_of}
 use Rattle.mx_proc.specs.Sound.{Sound}
 use Rattle.mx_proc.specs.World.{World, process_at}
-use Rattle.mx_respawn.specs.declared.service.Service.{Service}
+use Rattle.mx_kcall.specs.Service.{Service}
 use Rattle.mx_world.specs.declared.holding.Lease.{Lease}
 use Rattle.mx_world.specs.Whole.{Whole, Lent, held_by, out_count}
 

@@ -1,7 +1,7 @@
 -- The whole machine: the table of processes and what stands beside it.
 use Rattle.std.specs.Prelude.{ℕ, suc, ◌+◌, ◌-◌, List, [], ◌∷◌, Option, Some, None, length, slice_index_or}
 use Rattle.mx_proc.specs.World.{World}
-use Rattle.mx_respawn.specs.declared.service.Service.{Service}
+use Rattle.mx_kcall.specs.Service.{Service}
 use Rattle.mx_world.specs.declared.holding.Out.{Out}
 
 -- A slot whose process is on a processor, and what that processor holds of it.

@@ -1,7 +1,7 @@
 use Rattle.std.proofs.Common.{inl, inr}
 use Rattle.std.proofs.lemmas.Result.{IfErr-weaker, err_from_is_err_and, on_ok_weaker}
-use Rattle.mx_failure.specs.Failure.{IsWanting}
-use Rattle.mx_machine.specs.Machine.{world_of}
+use Rattle.mx_steps.specs.Failure.{IsWanting}
+use Rattle.mx_steps.specs.Machine.{world_of}
 use Rattle.mx_db.proofs.Printed.{booted_printed}
 use Rattle.mx_db.proofs.driving.db.Goals as goal
 

@@ -1,6 +1,6 @@
 use Rattle.std.specs.Prelude.{string_bytes}
 use Rattle.std.proofs.lemmas.Result.{on_ok_weaker}
-use Rattle.mx_machine.specs.Machine.{world_of}
+use Rattle.mx_steps.specs.Machine.{world_of}
 use Rattle.mx_db.proofs.Printed.{lines_printed}
 use Rattle.mx_db.proofs.driving.print_lines.Goals as goal
 

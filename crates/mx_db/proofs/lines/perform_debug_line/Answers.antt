@@ -1,5 +1,5 @@
 use Rattle.std.specs.Prelude.{string_bytes}
-use Rattle.mx_machine.specs.Machine.{world_of}
+use Rattle.mx_steps.specs.Machine.{world_of}
 use Rattle.mx_db.proofs.Made.{always, both, plain_of, broken_of, cleared_of}
 use Rattle.mx_db.proofs.Told.{told_by, plain_told, broken_told, cleared_told, go_told, registers_told, memory_told, messages_told}
 use Rattle.mx_db.proofs.lines.perform_debug_line.Goals as goal

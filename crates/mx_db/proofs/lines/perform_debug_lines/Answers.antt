@@ -1,6 +1,6 @@
 use Rattle.std.proofs.Common.{◌∙◌}
 use Rattle.std.specs.Prelude.{string_bytes}
-use Rattle.mx_machine.specs.Machine.{world_of}
+use Rattle.mx_steps.specs.Machine.{world_of}
 use Rattle.mx_db.proofs.Made.{both, next_made}
 use Rattle.mx_db.proofs.Told.{next_told}
 use Rattle.mx_db.proofs.lines.perform_debug_lines.Goals as goal

@@ -1,6 +1,6 @@
 use Rattle.std.proofs.Common.{◌≡◌, ◌++◌, take}
 use Rattle.std.specs.Prelude.{string_bytes}
-use Rattle.mx_machine.specs.Machine.{world_of}
+use Rattle.mx_steps.specs.Machine.{world_of}
 use Rattle.mx_world.specs.Whole.{actors}
 use Rattle.mx_db.specs.Lines.{debug_lines_made}
 use Rattle.mx_db.specs.Told.{debug_lines_told}

@@ -1,7 +1,7 @@
 use Rattle.std.proofs.Common.{◌≡◌, ◌++◌, Option, subst, OnOk}
 use Rattle.std.specs.Prelude.{string_bytes}
 use Rattle.mx_exec.specs.declared.image.Image.{Image}
-use Rattle.mx_machine.specs.Machine.{world_of}
+use Rattle.mx_steps.specs.Machine.{world_of}
 use Rattle.mx_world.specs.Whole.{held_by}
 use Rattle.mx_told.specs.Processes.{registers_text}
 use Rattle.mx_db.proofs.Told.{image_told}

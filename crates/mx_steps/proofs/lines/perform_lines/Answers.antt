@@ -1,6 +1,6 @@
 use Rattle.std.proofs.Common.{◌∙◌}
 use Rattle.std.specs.Prelude.{string_bytes}
-use Rattle.mx_machine.specs.Machine.{world_of}
+use Rattle.mx_start.specs.Machine.{world_of}
 use Rattle.mx_steps.proofs.SteppingLemmas.{next_text, next_world}
 use Rattle.mx_steps.proofs.lines.perform_lines.Goals as goal
 

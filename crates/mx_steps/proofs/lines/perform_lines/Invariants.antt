@@ -1,6 +1,6 @@
 use Rattle.std.proofs.Common.{◌≡◌, ◌++◌, take}
 use Rattle.std.specs.Prelude.{string_bytes}
-use Rattle.mx_machine.specs.Machine.{world_of}
+use Rattle.mx_start.specs.Machine.{world_of}
 use Rattle.mx_told.specs.Said.{said_lines}
 use Rattle.mx_world.specs.Whole.{actors}
 use Rattle.mx_steps.specs.Lines.{lines_made}

@@ -1,6 +1,6 @@
 use Rattle.std.specs.Prelude.{string_bytes}
 use Rattle.std.proofs.lemmas.Result.{on_ok_weaker}
-use Rattle.mx_machine.specs.Machine.{world_of}
+use Rattle.mx_start.specs.Machine.{world_of}
 use Rattle.mx_steps.proofs.StepLemmas.{lines_printed}
 use Rattle.mx_steps.proofs.lines.print_lines.Goals as goal
 

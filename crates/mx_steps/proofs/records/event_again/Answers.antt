@@ -1,5 +1,5 @@
 use Rattle.std.proofs.lemmas.Result.{err_from_is_err_and}
-use Rattle.mx_machine.specs.Machine.{world_of}
+use Rattle.mx_start.specs.Machine.{world_of}
 use Rattle.mx_steps.proofs.RecordLemmas.{event_err, event_ok}
 use Rattle.mx_steps.proofs.records.event_again.Goals as goal
 

@@ -1,5 +1,5 @@
 use Rattle.std.proofs.Common.{ap, ◌+◌}
-use Rattle.mx_machine.specs.Machine.{world_of}
+use Rattle.mx_start.specs.Machine.{world_of}
 use Rattle.mx_steps.proofs.RecordLemmas.{next_accepted, next_world, refused_at}
 use Rattle.mx_steps.proofs.records.perform_records.Goals as goal
 

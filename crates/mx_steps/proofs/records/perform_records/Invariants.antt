@@ -1,5 +1,5 @@
 use Rattle.std.proofs.Common.{◌≡◌, ◌+◌, take}
-use Rattle.mx_machine.specs.Machine.{world_of}
+use Rattle.mx_start.specs.Machine.{world_of}
 use Rattle.mx_world.specs.History.{AreAccepted, after_events, unfolded}
 use Rattle.mx_steps.proofs.records.perform_records.Given as goal
 

@@ -1,4 +1,4 @@
-use Rattle.mx_machine.specs.Machine.{world_of}
+use Rattle.mx_start.specs.Machine.{world_of}
 use Rattle.mx_steps.proofs.ReplayLemmas.{whole_printed}
 use Rattle.mx_steps.proofs.records.print_records.Goals as goal
 

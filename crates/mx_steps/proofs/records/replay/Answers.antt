@@ -1,8 +1,8 @@
 use Rattle.std.proofs.Common.{List, ℕ, inl, inr}
 use Rattle.std.proofs.lemmas.Result.{IfErr-weaker, IfOk-weaker, err_from_is_err_and}
 use Rattle.std.specs.Io.KnownBytes.{Appends}
-use Rattle.mx_failure.specs.Failure.{IsWanting}
-use Rattle.mx_machine.specs.Machine.{world_of}
+use Rattle.mx_start.specs.Failure.{IsWanting}
+use Rattle.mx_start.specs.Machine.{world_of}
 use Rattle.mx_steps.proofs.ReplayLemmas.{history_printed, saved_by_actors}
 use Rattle.mx_steps.proofs.records.replay.Goals as goal
 

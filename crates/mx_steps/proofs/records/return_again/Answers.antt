@@ -1,6 +1,6 @@
 use Rattle.std.proofs.Common.{[], ◌∷◌}
 use Rattle.std.proofs.lemmas.Result.{IfErr-weaker, err_from_is_err_and, on_ok_weaker}
-use Rattle.mx_machine.specs.Machine.{world_of}
+use Rattle.mx_start.specs.Machine.{world_of}
 use Rattle.mx_world.specs.declared.events.Event.TheVariants.{Back}
 use Rattle.mx_world.specs.Steps.{steps_of}
 use Rattle.mx_steps.proofs.RecordLemmas.{refused_front, return_err, return_ok}

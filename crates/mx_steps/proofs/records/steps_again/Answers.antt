@@ -1,4 +1,4 @@
-use Rattle.mx_machine.specs.Machine.{world_of}
+use Rattle.mx_start.specs.Machine.{world_of}
 use Rattle.mx_steps.proofs.RecordLemmas.{fewer_again, none_again}
 use Rattle.mx_steps.proofs.records.steps_again.Goals as goal
 

@@ -1,0 +1,2 @@
+pub use Rattle.mx_respawn.specs.Labels
+pub use Rattle.mx_respawn.specs.declared.label.Label
