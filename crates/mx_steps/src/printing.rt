@@ -11,7 +11,6 @@ use std::alloc::Global;
 use std::io::Write;
 
 /// Prints the report on a machine, and flushes.
-#[tactic(auto, unfolding(mx_start::specs::Machine::world_of))]
 pub fn print_report<W: Write>(alloc: Global, machine: &Machine, out: &mut W) -> Result<(), Failure>
     ensures err { IfErr result IsWanting }
     ensures bytes { OnOk result (Appends (W.contents out.old) (W.contents out.new) (report_text (world_of machine.now).table (world_of machine.now).services)) }
