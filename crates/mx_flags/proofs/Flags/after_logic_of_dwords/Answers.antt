@@ -1,6 +1,4 @@
-use Rattle.std.proofs.Common.{rules, arith, ap, ◌≡◌, ◌<◌, ◌^◌, ◌==◌}
-use Rattle.std.specs.Int.{from_bool}
-use Rattle.mx_flags.proofs.Bits.{from_bool_le}
+use Rattle.std.proofs.Common.{ap, ◌==◌}
 use Rattle.mx_flags.proofs.WorkedOut.{logic_worked_out}
 use Rattle.mx_flags.proofs.Flags.after_logic_of_dwords.Goals as goal
 

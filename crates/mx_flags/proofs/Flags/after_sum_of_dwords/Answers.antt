@@ -1,4 +1,4 @@
-use Rattle.std.proofs.Common.{rules, arith, ap, ◌≡◌, ◌<◌, ◌^◌, ◌==◌}
+use Rattle.std.proofs.Common.{arith, ap, ◌==◌}
 use Rattle.std.specs.Int.{from_bool}
 use Rattle.mx_flags.proofs.Bits.{from_bool_le}
 use Rattle.mx_flags.proofs.WorkedOut.{sum_worked_out, one_kept}

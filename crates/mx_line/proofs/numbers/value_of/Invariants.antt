@@ -1,4 +1,4 @@
-use Rattle.std.proofs.Common.{◌≡◌, ◌<◌, ◌-◌, take, drop}
+use Rattle.std.proofs.Common.{◌≡◌, ◌<◌, take, drop}
 use Rattle.mx_line.specs.Numbers.{value_from, AreDigits}
 use Rattle.mx_line.proofs.numbers.value_of.Given as goal
 
