@@ -4,7 +4,7 @@ use Rattle.mx_statement.specs.declared.line.Line.{Line}
 use Rattle.mx_layout.specs.declared.sizes.Sizes.{Sizes}
 use Rattle.mx_layout.specs.declared.fault.Fault.{Fault}
 use Rattle.mx_layout.specs.Lengths.{length_of}
-use Rattle.mx_layout.specs.Layout.{Above, start, behind, said, laid_by, SizesWithin, GrowsWithin}
+use Rattle.mx_layout.specs.Layout.{Above, start, behind, said, laid_by, SizesWithin}
 use Rattle.mx_asm.specs.Text.{IsTaken, AreTaken, on_behind, IsFirstWrong}
 
 -- whatever goes on from here goes on from the start
@@ -36,9 +36,6 @@ laid_more a b found l laid same = same ∙ ap (λ (x : Above). on_behind x l) la
 
 pub one_longer : (found : List Line) (l : Line) → length (found ++ l ∷ []) ≡ length found + 1
 one_longer found l = length-append found (l ∷ [])
-
-pub sizes_longer : (s r : Sizes) (n m : ℕ) → SizesWithin s (n * 2 ^ 64) → GrowsWithin s r (2 ^ 64) → m ≡ n + 1 → SizesWithin r (m * 2 ^ 64)
-sizes_longer s r n m (x, y, z) (u, v, w) e = (omega arith, omega arith, omega arith)
 
 -- that many lines fit in memory
 pub sizes_few : (s : Sizes) (n : ℕ) → SizesWithin s (n * 2 ^ 64) → n ≤ 2 ^ 62 → SizesWithin s (2 ^ 126)

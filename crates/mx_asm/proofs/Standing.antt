@@ -16,8 +16,8 @@ neither (Some p) n f h = cc
 pub next_item : (i : ℕ) (ls : List Line) (l : Line) → i < length ls → l ≡ get_or ls i l → drop i ls ≡ l ∷ drop (i + 1) ls
 next_item i ls l h e = drop_more ls i l h ∙ ap (λ (x : Line). x ∷ drop (i + 1) ls) (sym e)
 
-pub sizes_more : (s r : Sizes) (i : ℕ) → SizesWithin s (i * 2 ^ 64) → GrowsWithin s r (2 ^ 64) → SizesWithin r ((i + 1) * 2 ^ 64)
-sizes_more s r i (x, y, z) (u, v, w) = (omega arith, omega arith, omega arith)
+pub sizes_more : (s r : Sizes) (n m : ℕ) → SizesWithin s (n * 2 ^ 64) → GrowsWithin s r (2 ^ 64) → m ≡ n + 1 → SizesWithin r (m * 2 ^ 64)
+sizes_more s r n m (x, y, z) (u, v, w) e = (omega arith, omega arith, omega arith)
 
 -- nothing stands against the next line
 pub clean_here : (a : Above) (s : Sizes) (n i : ℕ) (ls : List Line) (l : Line) → drop i ls ≡ l ∷ drop (i + 1) ls → first_problem a s n (drop i ls) ≡ None

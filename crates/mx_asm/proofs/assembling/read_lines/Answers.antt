@@ -5,7 +5,8 @@ use Rattle.mx_line.specs.Lines.{lines}
 use Rattle.mx_layout.specs.Layout.{start}
 use Rattle.mx_asm.specs.Text.{AreTaken}
 use Rattle.mx_layout.specs.View.{above_of}
-use Rattle.mx_asm.proofs.Reading.{takes_more, wrongs_more, laid_more, one_longer, sizes_longer, sizes_few}
+use Rattle.mx_asm.proofs.Standing.{sizes_more}
+use Rattle.mx_asm.proofs.Reading.{takes_more, wrongs_more, laid_more, one_longer, sizes_few}
 use Rattle.mx_asm.proofs.assembling.read_lines.Goals as goal
 
 pub take-requires : goal.take-requires
@@ -30,7 +31,7 @@ loop-line-preserved c =
           (takes_more a b c.in-Some.line.now (lines c.loop-line.rest.now) (lines c.in-Some.more.now) (lines c.args.text.now) found l c.loop-line.invariant.takes next step.taken step.behind_is);
       wrongs = wrongs_more a b c.loop-line.number (c.count-number.result + 1) c.in-Some.line.now (lines c.loop-line.rest.now) (lines c.in-Some.more.now) (lines c.args.text.now) l c.loop-line.invariant.wrongs next step.taken step.behind_is (omega (arith, counted, longer, c.loop-line.invariant.number));
       laid = rw step.lines_are (laid_more a b found l c.loop-line.invariant.laid step.behind_is);
-      sizes = sizes_longer c.loop-line.read.layout.sizes c.take.new.self.layout.sizes n (length now) c.loop-line.invariant.sizes c.in_ok-take.ensures.small longer;
+      sizes = sizes_more c.loop-line.read.layout.sizes c.take.new.self.layout.sizes n (length now) c.loop-line.invariant.sizes c.in_ok-take.ensures.small longer;
     }
 
 pub returns-clause-taken : goal.returns-clause-taken

@@ -1,4 +1,4 @@
-use Rattle.std.proofs.Common.{◌+◌}
+use Rattle.std.proofs.Common.{◌+◌, refl}
 use Rattle.mx_layout.specs.View.{above_of}
 use Rattle.mx_asm.proofs.Standing.{next_item, sizes_more, clean_here, clean_on}
 use Rattle.mx_asm.proofs.Lengths.{KeepsLength}
@@ -20,7 +20,7 @@ loop-line-preserved c =
     let law : KeepsLength = record { immediate = c.immediate_keeps_length.ensures.count; displacement = c.displacement_keeps_length.ensures.count } in
     record {
       clean = clean_on a s c.after-sizes.result (i + 1) i c.args.lines.now l next c.loop-line.invariant.clean c.after-sizes.ensures.sizes;
-      sizes = sizes_more s c.after-sizes.result i c.loop-line.invariant.sizes c.after-sizes.ensures.small;
+      sizes = sizes_more s c.after-sizes.result i (i + 1) c.loop-line.invariant.sizes c.after-sizes.ensures.small refl;
       completes = completes_put law a c.args.lines.now i s c.after-sizes.result c.loop-line.parts.text.items c.loop-line.parts.init.items c.put_line.new.parts.text.items c.put_line.new.parts.init.items l next
           c.loop-line.invariant.completes c.in_ok-put_line.ensures c.after-sizes.ensures.sizes;
     }
