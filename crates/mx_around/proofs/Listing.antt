@@ -11,9 +11,9 @@ use Rattle.mx_statement.specs.declared.statement.Statement.TheVariants as says
 use Rattle.mx_statement.specs.declared.line.Line.{Line}
 use Rattle.mx_statement.specs.Instructions.{marks}
 use Rattle.mx_aout.specs.declared.program.Program.{Program}
-use Rattle.mx_asm.specs.declared.sizes.Sizes.{Sizes}
-use Rattle.mx_asm.specs.Branches.{branch_by, branch_marks, distance}
-use Rattle.mx_asm.specs.Layout.{Above, start, sizes_after, size_in, spot_of, address_of, said}
+use Rattle.mx_layout.specs.declared.sizes.Sizes.{Sizes}
+use Rattle.mx_layout.specs.Branches.{branch_by, branch_marks, distance}
+use Rattle.mx_layout.specs.Layout.{Above, start, sizes_after, size_in, spot_of, address_of, said}
 use Rattle.mx_asm.specs.Bytes.{AllStand, StandsIn, contents, put_into}
 use Rattle.mx_asm.specs.Assembled.{AreAssembled}
 use Rattle.mx_dis.specs.declared.part.Part.{Part}

@@ -9,8 +9,8 @@ use Rattle.mx_aout.specs.declared.program.Program.{Program}
 use Rattle.mx_aout.specs.Limits.{rounded}
 use Rattle.mx_exec.specs.Image.{code_bytes, code_in}
 use Rattle.mx_load.specs.Load.{loaded, code_of_text, contents_of, filled_to}
-use Rattle.mx_asm.specs.declared.sizes.Sizes.{Sizes}
-use Rattle.mx_asm.specs.Layout.{Above, start, sizes_after, grown_in, size_in, spot_of, address_of, said}
+use Rattle.mx_layout.specs.declared.sizes.Sizes.{Sizes}
+use Rattle.mx_layout.specs.Layout.{Above, start, sizes_after, grown_in, size_in, spot_of, address_of, said}
 use Rattle.mx_asm.specs.Bytes.{AllStand, StandsIn, contents, put_into}
 use Rattle.mx_asm.specs.Assembled.{AreAssembled}
 use Rattle.mx_around.specs.Around.{StandIfText, AllAtAddress, CodeKeeps, layout_of}

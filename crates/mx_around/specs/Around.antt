@@ -9,9 +9,9 @@ use Rattle.mx_statement.specs.declared.statement.Statement.TheVariants as says
 use Rattle.mx_statement.specs.declared.line.Line.{Line}
 use Rattle.mx_aout.specs.declared.program.Program.{Program}
 use Rattle.mx_aout.specs.File.{FileIs}
-use Rattle.mx_asm.specs.declared.sizes.Sizes.{Sizes}
-use Rattle.mx_asm.specs.Branches.{branch_by, distance}
-use Rattle.mx_asm.specs.Layout.{Above, start, left_by, sizes_after, spot_of, address_of, value_under, said}
+use Rattle.mx_layout.specs.declared.sizes.Sizes.{Sizes}
+use Rattle.mx_layout.specs.Branches.{branch_by, distance}
+use Rattle.mx_layout.specs.Layout.{Above, start, left_by, sizes_after, spot_of, address_of, value_under, said}
 use Rattle.mx_asm.specs.Bytes.{named_under, put_into}
 use Rattle.mx_asm.specs.Assembled.{AreAssembled}
 use Rattle.mx_asm.specs.Text.{Assembled}

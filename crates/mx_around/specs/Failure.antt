@@ -1,7 +1,7 @@
 -- Why a text doesn't go around.
 use Rattle.std.specs.Prelude.{ℕ, List, ⊤}
-use Rattle.mx_asm.specs.declared.fault.AsmError.{AsmError}
-use Rattle.mx_asm.specs.declared.fault.AsmError.TheVariants as assembling
+use Rattle.mx_layout.specs.declared.fault.AsmError.{AsmError}
+use Rattle.mx_layout.specs.declared.fault.AsmError.TheVariants as assembling
 use Rattle.mx_asm.specs.Text.{HasFault}
 use Rattle.mx_around.specs.declared.error.AroundError.{AroundError}
 use Rattle.mx_around.specs.declared.error.AroundError.TheVariants.{Text, NoMemory}

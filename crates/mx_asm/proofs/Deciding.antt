@@ -18,14 +18,14 @@ use Rattle.mx_statement.specs.declared.line.Reason.{Reason}
 use Rattle.mx_statement.specs.Instructions.{marks}
 use Rattle.mx_reading.specs.Lines.{IsLine}
 use Rattle.mx_aout.specs.declared.program.Program.{Program}
-use Rattle.mx_asm.specs.declared.fault.Problem.{Problem}
-use Rattle.mx_asm.specs.declared.fault.Problem.TheVariants.{BadByte, BadNumber, OpenText}
-use Rattle.mx_asm.specs.declared.fault.Fault.{Fault}
-use Rattle.mx_asm.specs.declared.sizes.Sizes.{Sizes}
-use Rattle.mx_asm.specs.Branches.{branch_by, branch_marks, distance}
-use Rattle.mx_asm.specs.Layout.{Above, start, said, reason_of, left_by, address_of, spot_of, sizes_after}
+use Rattle.mx_layout.specs.declared.fault.Problem.{Problem}
+use Rattle.mx_layout.specs.declared.fault.Problem.TheVariants.{BadByte, BadNumber, OpenText}
+use Rattle.mx_layout.specs.declared.fault.Fault.{Fault}
+use Rattle.mx_layout.specs.declared.sizes.Sizes.{Sizes}
+use Rattle.mx_layout.specs.Branches.{branch_by, branch_marks, distance}
+use Rattle.mx_layout.specs.Layout.{Above, start, said, reason_of, left_by, address_of, spot_of, sizes_after}
 use Rattle.mx_asm.specs.Bytes.{AllStand, BytesOf, StandsIn, contents}
-use Rattle.mx_asm.specs.Faults.{fault_behind, problem_of, total_of}
+use Rattle.mx_layout.specs.Faults.{fault_behind, problem_of, total_of}
 use Rattle.mx_asm.specs.Assembled.{AreAssembled, SameProgram, symbol_under, entry_under}
 use Rattle.mx_asm.specs.Text.{IsTaken, AreTaken, IsWrong, IsFirstWrong, on_behind, AreAccepted, Assembled, HasFault}
 use Rattle.mx_asm.proofs.Lengths.{KeepsLength}

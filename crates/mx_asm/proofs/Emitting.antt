@@ -9,10 +9,10 @@ use Rattle.mx_statement.specs.declared.statement.Section.{Section}
 use Rattle.mx_statement.specs.declared.statement.Section.TheVariants.{Text, Data, Bss}
 use Rattle.mx_statement.specs.declared.statement.Statement.{Statement}
 use Rattle.mx_statement.specs.declared.line.Line.{Line}
-use Rattle.mx_asm.specs.declared.sizes.Sizes.{Sizes}
-use Rattle.mx_asm.specs.Lengths.{length_of}
-use Rattle.mx_asm.specs.Faults.{is_undefined}
-use Rattle.mx_asm.specs.Layout.{Above, value_under, start, spot_of, sizes_after, address_of, left_by, laid_by, behind, said}
+use Rattle.mx_layout.specs.declared.sizes.Sizes.{Sizes}
+use Rattle.mx_layout.specs.Lengths.{length_of}
+use Rattle.mx_layout.specs.Faults.{is_undefined}
+use Rattle.mx_layout.specs.Layout.{Above, value_under, start, spot_of, sizes_after, address_of, left_by, laid_by, behind, said}
 use Rattle.mx_asm.specs.Bytes.{AllStand, AreParts, BytesOf, StandsIn, Pushes, PutsOut, contents, put_into}
 use Rattle.mx_asm.proofs.Lengths.{KeepsLength, stands_length}
 

@@ -5,9 +5,9 @@ use Rattle.mx_statement.specs.declared.statement.Section.TheVariants.{Text, Data
 use Rattle.mx_statement.specs.declared.statement.Statement.{Statement}
 use Rattle.mx_statement.specs.declared.statement.Statement.TheVariants as says
 use Rattle.mx_statement.specs.declared.line.Line.{Line}
-use Rattle.mx_asm.specs.declared.sizes.Sizes.{Sizes}
-use Rattle.mx_asm.specs.Lengths.{length_of}
-use Rattle.mx_asm.specs.Layout.{Above, size_in, grown_in, sizes_after, left_by, behind, said, address_of, spot_of}
+use Rattle.mx_layout.specs.declared.sizes.Sizes.{Sizes}
+use Rattle.mx_layout.specs.Lengths.{length_of}
+use Rattle.mx_layout.specs.Layout.{Above, size_in, grown_in, sizes_after, left_by, behind, said, address_of, spot_of}
 use Rattle.mx_asm.specs.Bytes.{AllStand, contents, put_into}
 use Rattle.mx_asm.proofs.Lengths.{KeepsLength, stands_length}
 

@@ -1,5 +1,5 @@
--- How long the chosen bytes are.
-use Rattle.std.proofs.Common.{◌≡◌, ℕ, zero, suc, ◌+◌, ◌*◌, Bool, true, false, List, [], ◌∷◌, ◌++◌, length, refl, sym, ◌∙◌, ap, Option, Some, None, IsTrue, arith}
+-- How long the bytes of statements are.
+use Rattle.std.proofs.Common.{◌≡◌, ℕ, zero, suc, ◌+◌, ◌*◌, List, [], ◌∷◌, ◌++◌, length, refl, sym, ◌∙◌, ap, Option, Some, None, IsTrue, arith}
 use Rattle.std.specs.Prelude.{is_some}
 use Rattle.std.specs.List.{flat_map}
 use Rattle.std.proofs.lemmas.List.{length-append, length-replicate, length-map}
@@ -12,37 +12,16 @@ use Rattle.mx_statement.specs.declared.statement.Statement.TheVariants as says
 use Rattle.mx_statement.specs.declared.instruction.Instruction.{Instruction}
 use Rattle.mx_statement.specs.declared.value.Value.{Value}
 use Rattle.mx_statement.specs.Instructions.{marks}
-use Rattle.mx_asm.specs.Lengths.{length_of}
-use Rattle.mx_asm.specs.Layout.{Above, value_under}
+use Rattle.mx_layout.specs.Lengths.{length_of}
+use Rattle.mx_layout.specs.Layout.{Above, value_under}
 use Rattle.mx_asm.specs.Bytes.{BytesOf, StandsIn, named_under, put_under, put_in, then_put}
 use Rattle.mx_insn.specs.declared.insn.Insn.{Insn}
 use Rattle.mx_encode.specs.declared.Wide.{Wide}
 use Rattle.mx_encode.specs.Chosen.{Chosen}
-use Rattle.mx_encode.specs.Numbers.{is_short}
-use Rattle.std.specs.Prelude.{not}
-use Rattle.mx_statement.specs.declared.branch.Branch.{Branch}
-use Rattle.mx_statement.specs.declared.branch.Branch.TheVariants as branches
-use Rattle.mx_asm.specs.Branches.{branch_by, branch_marks, branch_length, is_too_far}
 use Rattle.mx_encode.specs.Lengths.{spelled_length, chosen_length}
 
-pub length-chosen : (i : Insn) (wide : Wide) (b : List ℕ) → Chosen i wide b → length b ≡ chosen_length i wide
+length-chosen : (i : Insn) (wide : Wide) (b : List ℕ) → Chosen i wide b → length b ≡ chosen_length i wide
 length-chosen i wide b x = ap length x.spells.bytes_are ∙ sym (ap (λ c. spelled_length c wide.displacement) x.is_chosen)
-
-pub is_true : (b : Bool) → not b ≡ false → b ≡ true
-is_true true h = refl
-is_true false h = cc
-
--- a jump that reaches has the length that is asked for
-reached_length : (k : Branch) (d : ℕ) → is_too_far k d ≡ false → chosen_length (branch_by k d) (branch_marks k) ≡ branch_length k
-reached_length (branches.Jump true) d h = rw (is_true (is_short 32 d) h) refl
-reached_length (branches.Jump false) d h = refl
-reached_length (branches.JumpIf c true) d h = rw (is_true (is_short 32 d) h) refl
-reached_length (branches.JumpIf c false) d h = refl
-reached_length branches.Call d h = refl
-reached_length (branches.Loop o) d h = rw (is_true (is_short 32 d) h) refl
-
-pub branch_bytes_length : (k : Branch) (d : ℕ) (b : List ℕ) → is_too_far k d ≡ false → Chosen (branch_by k d) (branch_marks k) b → length b ≡ branch_length k
-branch_bytes_length k d b h x = length-chosen (branch_by k d) (branch_marks k) b x ∙ reached_length k d h
 
 -- ---- values
 
@@ -50,7 +29,7 @@ bytes_of_length : (k n : ℕ) → length (bytes_of k n) ≡ k
 bytes_of_length zero n = refl
 bytes_of_length (suc k) n = ap suc (bytes_of_length k _)
 
-pub flat_length : (k : ℕ) (ns : List ℕ) → length (flat_map (bytes_of k) ns) ≡ k * length ns
+flat_length : (k : ℕ) (ns : List ℕ) → length (flat_map (bytes_of k) ns) ≡ k * length ns
 flat_length k [] = omega arith
 flat_length k (n ∷ ns) =
     let here : length (bytes_of k n) ≡ k = bytes_of_length k n in
@@ -91,7 +70,7 @@ named_length law a i insn e =
 -- ---- statements
 
 -- a statement's bytes have its length, wherever its names stand
-pub bytes_length : KeepsLength → (a : Above) (at : ℕ) (t : Statement) (b : List ℕ) → BytesOf a at t b → length b ≡ length_of t
+bytes_length : KeepsLength → (a : Above) (at : ℕ) (t : Statement) (b : List ℕ) → BytesOf a at t b → length b ≡ length_of t
 bytes_length law a at says.Nothing b h = ap length h
 bytes_length law a at (says.Enter section) b h = ap length h
 bytes_length law a at (says.Data size values) b (numbers, e, h) =

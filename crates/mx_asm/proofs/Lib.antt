@@ -1,5 +1,5 @@
 pub mod Lengths
-pub mod Laying
+pub mod Standing
 pub mod Emitting
 pub mod Fitting
 pub mod Reading

@@ -2,7 +2,7 @@
 use Rattle.std.proofs.Common.{◌≡◌, ℕ, ◌+◌, ◌*◌, ◌<◌, ◌≤◌, ◌^◌, Bool, true, false, List, [], ◌∷◌, length, map, replicate, refl, sym, ◌∙◌, ap, subst, arith, lit<, Option, Some, None, cond}
 use Rattle.std.specs.Prelude.{ℤ, pos, negsuc, ◌||◌, not, nat_lt, is_some, unwrap_or}
 use Rattle.std.specs.List.{list_any, flat_map}
-use Rattle.std.proofs.lemmas.Bool.{ltb-true, ltb-false}
+use Rattle.std.proofs.lemmas.Bool.{not-false, ltb-true, ltb-false}
 use Rattle.std.proofs.lemmas.List.{length-map}
 use Rattle.mx_word.specs.Word.{modulo, bytes_of, bytes_in}
 use Rattle.mx_insn.specs.declared.insn.Insn.{Insn}
@@ -26,19 +26,19 @@ use Rattle.mx_statement.specs.Instructions.{marks}
 use Rattle.mx_reading.specs.Lines.{IsLine}
 use Rattle.mx_aout.specs.Limits.{rounded, used_of, IsWithin}
 use Rattle.mx_aout.specs.declared.program.Program.{Program}
-use Rattle.mx_asm.specs.declared.sizes.Sizes.{Sizes}
-use Rattle.mx_asm.specs.declared.fault.Problem.{Problem}
-use Rattle.mx_asm.specs.declared.fault.Problem.TheVariants.{TooFar, TooLarge}
-use Rattle.mx_asm.specs.declared.fault.Fault.{Fault}
-use Rattle.mx_asm.specs.Branches.{branch_by, branch_marks, branch_length, distance, is_too_far}
-use Rattle.mx_asm.specs.Lengths.{length_of}
-use Rattle.mx_asm.specs.Layout.{Above, start, said, left_by, laid_by, address_of, spot_of, sizes_after, value_under, base_of, counted_from}
+use Rattle.mx_layout.specs.declared.sizes.Sizes.{Sizes}
+use Rattle.mx_layout.specs.declared.fault.Problem.TheVariants.{TooFar, TooLarge}
+use Rattle.mx_layout.specs.declared.fault.Fault.{Fault}
+use Rattle.mx_layout.specs.Branches.{branch_by, branch_marks, branch_length, distance, is_too_far}
+use Rattle.mx_layout.specs.Lengths.{length_of}
+use Rattle.mx_layout.specs.Layout.{Above, start, said, left_by, laid_by, address_of, spot_of, sizes_after, value_under, base_of, counted_from}
 use Rattle.mx_asm.specs.Bytes.{put_in, put_under, then_put, named_under, BytesOf, StandsIn, AllStand, contents}
-use Rattle.mx_asm.specs.Faults.{is_undefined, is_undefined_if, undefined_where, undefined_or, problem_at, fault_or, first_problem, total_of, at_least, is_too_large, last_line, too_large_in, first_of, fault_behind}
-use Rattle.mx_asm.specs.Faults as faults
+use Rattle.mx_layout.specs.Faults.{is_undefined, is_undefined_if, undefined_where, undefined_or, problem_at, fault_or, first_problem, total_of, at_least, is_too_large, last_line, too_large_in, first_of, fault_behind}
+use Rattle.mx_layout.specs.Faults as faults
 use Rattle.mx_asm.specs.Assembled.{AreAssembled, symbol_under, entry_under}
 use Rattle.mx_asm.specs.Text.{AreTaken, on_behind, Assembled}
-use Rattle.mx_asm.proofs.Lengths.{KeepsLength, stands_length, branch_bytes_length, is_true}
+use Rattle.mx_asm.proofs.Lengths.{KeepsLength, stands_length}
+use Rattle.mx_asm.proofs.Standing.{neither}
 use Rattle.mx_asm.proofs.Emitting.{lengths_same}
 use Rattle.mx_asm.proofs.Fitting.{contents_size}
 
@@ -50,6 +50,7 @@ pub record Encodes : Type 0 where
   pub displacement_form : (i : Insn) (n : ℕ) → has_form (with_displacement i n) ≡ has_form i
   pub immediate_fits : (i : Insn) (n : ℕ) → n < 2 ^ 32 → Fits i → Fits (with_immediate i n)
   pub displacement_fits : (i : Insn) (n : ℕ) → n < 2 ^ 32 → Fits i → Fits (with_displacement i n)
+  pub branch : (k : Branch) (d : ℕ) (b : List ℕ) → is_too_far k d ≡ false → Chosen (branch_by k d) (branch_marks k) b → length b ≡ branch_length k
   pub line : (t : List ℕ) (l : Line) (i : Instruction) → IsLine t l → l.statement ≡ Some (says.Instruction i) → Fits i.insn
 
 -- ---- values
@@ -125,7 +126,7 @@ branch_form : (k : Branch) (d : ℕ) → is_too_far k d ≡ false → has_form (
 branch_form (branches.Jump short) d h = refl
 branch_form (branches.JumpIf c short) d h = refl
 branch_form branches.Call d h = refl
-branch_form (branches.Loop o) d h = is_true (is_short 32 d) h
+branch_form (branches.Loop o) d h = not-false (is_short 32 d) h
 
 reached : (o : Option ℕ) (far : ℕ → Bool) → undefined_or o far ≡ None → (x : ℕ) × (o ≡ Some x) × (far x ≡ false)
 reached None far h = cc
@@ -140,7 +141,7 @@ branch_some law a at k target h =
     let (x, e, near) = reached (value_under a target) (λ x. is_too_far k (distance (at + branch_length k) x)) h in
     let d = distance (at + branch_length k) x in
     let (b, chosen) = law.some (branch_by k d) (branch_marks k) (branch_fits k d (omega arith)) (branch_form k d near) in
-    let long : length b ≡ branch_length k = branch_bytes_length k d b near chosen in
+    let long : length b ≡ branch_length k = law.branch k d b near chosen in
     (b, (x, e, subst (λ (n : ℕ). Chosen (branch_by k (distance (at + n) x)) (branch_marks k) b) (sym long) chosen, long))
 
 -- ---- statements
@@ -176,10 +177,6 @@ stands_some law Bss a at t fits h = (replicate (length_of t) 0, refl)
 abbrev pub AllFitting : List Line → Type 0
 AllFitting [] = Unit {0}
 AllFitting (l ∷ ls) = Fitting (said l) × AllFitting ls
-
-neither : (p : Option Problem) (n : ℕ) (f : Option Fault) → fault_or p n f ≡ None → (p ≡ None) × (f ≡ None)
-neither None n f h = (refl, h)
-neither (Some p) n f h = cc
 
 all_some : Encodes → (a : Above) (s : Sizes) (n : ℕ) (ls : List Line) → AllFitting ls → first_problem a s n ls ≡ None → (bs : List (List ℕ)) × AllStand a s ls bs
 all_some law a s n [] fits h = ([], tt)
@@ -252,14 +249,6 @@ no_first None g h = (refl, h)
 no_first (Some f) g h = cc
 
 -- ---- the program
-
--- lines with no fault have neither a problem nor a size that is too large
-pub clean_of : (ls : List Line) (a : Above) → a ≡ laid_by start ls → fault_behind ls ≡ None → (first_problem a start.sizes 1 ls ≡ None) × (is_too_large a ≡ false)
-clean_of ls a same clean =
-    let laid = laid_by start ls in
-    let both = no_first (first_problem laid start.sizes 1 ls) (too_large_in laid ls) clean in
-    let small = not_too_large (is_too_large laid) (record { problem = TooLarge; line = last_line ls }) both.1 in
-    (subst (λ (x : Above). first_problem x start.sizes 1 ls ≡ None) (sym same) both.0, subst (λ (x : Above). is_too_large x ≡ false) (sym same) small)
 
 -- the program of these bytes
 built : KeepsLength → (ls : List Line) (bs : List (List ℕ)) → fault_behind ls ≡ None → is_too_large (laid_by start ls) ≡ false → AllStand (laid_by start ls) start.sizes ls bs

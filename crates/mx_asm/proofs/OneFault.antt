@@ -6,10 +6,10 @@ use Rattle.mx_lex.specs.declared.kinds.LexError.{LexError}
 use Rattle.mx_lex.specs.declared.kinds.LexError.TheVariants as lexical
 use Rattle.mx_statement.specs.declared.line.Line.{Line}
 use Rattle.mx_statement.specs.declared.line.Reason.{Reason}
-use Rattle.mx_asm.specs.declared.fault.Problem.{Problem}
-use Rattle.mx_asm.specs.declared.fault.Fault.{Fault}
-use Rattle.mx_asm.specs.Layout.{Above, start, reason_of}
-use Rattle.mx_asm.specs.Faults.{fault_behind, problem_of}
+use Rattle.mx_layout.specs.declared.fault.Problem.{Problem}
+use Rattle.mx_layout.specs.declared.fault.Fault.{Fault}
+use Rattle.mx_layout.specs.Layout.{Above, start, reason_of}
+use Rattle.mx_layout.specs.Faults.{fault_behind, problem_of}
 use Rattle.mx_asm.specs.Text.{TellsOf, IsWrong, IsFirstWrong, on_behind, HasFault}
 use Rattle.mx_asm.proofs.Deciding.{OneLine, NeverBoth, taken_same, taken_right, taken_not_wrong}
 

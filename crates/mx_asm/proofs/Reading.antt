@@ -1,13 +1,10 @@
 -- The lines of a text, one more at a time.
-use Rattle.std.proofs.Common.{◌≡◌, ℕ, ◌+◌, ◌≤◌, inr, List, [], ◌∷◌, ◌++◌, length, refl, sym, ◌∙◌, ap, subst, arith, append_assoc, length-append}
+use Rattle.std.proofs.Common.{◌≡◌, ℕ, ◌+◌, ◌*◌, ◌≤◌, ◌^◌, inr, List, [], ◌∷◌, ◌++◌, length, refl, sym, ◌∙◌, ap, subst, arith, append_assoc, length-append}
 use Rattle.mx_statement.specs.declared.line.Line.{Line}
-use Rattle.mx_line.specs.declared.names.Name.{Name}
-use Rattle.std.proofs.lemmas.List.Elements.{All-weaker}
-use Rattle.mx_asm.specs.declared.sizes.Sizes.{Sizes}
-use Rattle.mx_asm.specs.declared.sizes.Spot.{Spot}
-use Rattle.mx_asm.specs.declared.fault.Fault.{Fault}
-use Rattle.mx_asm.specs.Lengths.{length_of}
-use Rattle.mx_asm.specs.Layout.{Above, start, behind, said, laid_by, SizesWithin, AllSpotsWithin}
+use Rattle.mx_layout.specs.declared.sizes.Sizes.{Sizes}
+use Rattle.mx_layout.specs.declared.fault.Fault.{Fault}
+use Rattle.mx_layout.specs.Lengths.{length_of}
+use Rattle.mx_layout.specs.Layout.{Above, start, behind, said, laid_by, SizesWithin}
 use Rattle.mx_asm.specs.Text.{IsTaken, AreTaken, on_behind, IsFirstWrong}
 
 -- whatever goes on from here goes on from the start
@@ -40,8 +37,6 @@ laid_more a b found l laid same = same ∙ ap (λ (x : Above). on_behind x l) la
 pub one_longer : (found : List Line) (l : Line) → length (found ++ l ∷ []) ≡ length found + 1
 one_longer found l = length-append found (l ∷ [])
 
-pub sizes_weaker : (s : Sizes) (k m : ℕ) → SizesWithin s k → k ≤ m → SizesWithin s m
-sizes_weaker s k m (x, y, z) le = (omega arith, omega arith, omega arith)
-
-pub spots_weaker : (labels : List (Name × Spot)) (k m : ℕ) → AllSpotsWithin labels k → k ≤ m → AllSpotsWithin labels m
-spots_weaker labels k m h le = All-weaker (λ (e : Name × Spot). e.1.offset ≤ k) (λ (e : Name × Spot). e.1.offset ≤ m) (λ e p. omega (arith, p)) labels h
+-- that many lines fit in memory
+pub sizes_few : (s : Sizes) (n : ℕ) → SizesWithin s (n * 2 ^ 64) → n ≤ 2 ^ 62 → SizesWithin s (2 ^ 126)
+sizes_few s n (x, y, z) h = (omega arith, omega arith, omega arith)

@@ -6,10 +6,10 @@ use Rattle.mx_statement.specs.declared.statement.Section.TheVariants.{Text, Data
 use Rattle.mx_statement.specs.declared.line.Line.{Line}
 use Rattle.mx_aout.specs.declared.program.Symbol.{Symbol}
 use Rattle.mx_aout.specs.declared.program.Program.{Program}
-use Rattle.mx_asm.specs.declared.sizes.Spot.{Spot}
-use Rattle.mx_asm.specs.Layout.{Above, start, left_by, address_of, address_if, spot_named}
+use Rattle.mx_layout.specs.declared.sizes.Spot.{Spot}
+use Rattle.mx_layout.specs.Layout.{Above, start, left_by, address_of, address_if, spot_named}
 use Rattle.mx_asm.specs.Bytes.{AllStand, contents}
-use Rattle.mx_asm.specs.Faults.{total_of, fault_behind}
+use Rattle.mx_layout.specs.Faults.{total_of, fault_behind}
 
 -- a.out.h, n_sclass
 abbrev pub class_of : Section → ℕ

@@ -13,10 +13,10 @@ use Rattle.mx_statement.specs.declared.instruction.Instruction.{Instruction}
 use Rattle.mx_statement.specs.declared.value.Value.{Value}
 use Rattle.mx_statement.specs.declared.line.Line.{Line}
 use Rattle.mx_statement.specs.Instructions.{marks}
-use Rattle.mx_asm.specs.declared.sizes.Sizes.{Sizes}
-use Rattle.mx_asm.specs.Branches.{branch_by, branch_marks, branch_length, distance}
-use Rattle.mx_asm.specs.Lengths.{length_of}
-use Rattle.mx_asm.specs.Layout.{Above, value_under, spot_of, sizes_after, address_of, said}
+use Rattle.mx_layout.specs.declared.sizes.Sizes.{Sizes}
+use Rattle.mx_layout.specs.Branches.{branch_by, branch_marks, branch_length, distance}
+use Rattle.mx_layout.specs.Lengths.{length_of}
+use Rattle.mx_layout.specs.Layout.{Above, value_under, spot_of, sizes_after, address_of, said}
 
 abbrev pub put_in : (Insn → ℕ → Insn) → Insn → Option ℕ → Option Insn
 put_in put i None = None

@@ -1,8 +1,3 @@
-pub mod Branches
-pub mod Lengths
-pub mod Layout
-pub mod View
 pub mod Bytes
-pub mod Faults
 pub mod Assembled
 pub mod Text

@@ -1,5 +1,5 @@
 -- The program of a text, or its first fault.
-use Rattle.std.specs.Prelude.{◌≡◌, ℕ, ◌+◌, ◌^◌, ◌≤◌, ◌⊎◌, List, [], ◌∷◌, ◌++◌, Some, None, ⊤}
+use Rattle.std.specs.Prelude.{◌≡◌, ℕ, ◌+◌, ◌⊎◌, List, [], ◌∷◌, ◌++◌, Some, None, ⊤}
 use Rattle.mx_line.specs.Lines.{lines}
 use Rattle.mx_lex.specs.Tokens.{IsFault}
 use Rattle.mx_lex.specs.declared.kinds.LexError.{LexError}
@@ -8,14 +8,14 @@ use Rattle.mx_statement.specs.declared.line.Line.{Line}
 use Rattle.mx_statement.specs.declared.line.Reason.{Reason}
 use Rattle.mx_reading.specs.Lines.{IsLine}
 use Rattle.mx_aout.specs.declared.program.Program.{Program}
-use Rattle.mx_asm.specs.declared.fault.Problem.{Problem}
-use Rattle.mx_asm.specs.declared.fault.Problem.TheVariants.{BadByte, BadNumber, OpenText}
-use Rattle.mx_asm.specs.declared.fault.Fault.{Fault}
-use Rattle.mx_asm.specs.declared.fault.AsmError.{AsmError}
-use Rattle.mx_asm.specs.declared.fault.AsmError.TheVariants.{At, NoMemory}
-use Rattle.mx_asm.specs.Lengths.{length_of}
-use Rattle.mx_asm.specs.Layout.{Above, start, behind, said, reason_of}
-use Rattle.mx_asm.specs.Faults.{problem_of, fault_behind}
+use Rattle.mx_layout.specs.declared.fault.Problem.{Problem}
+use Rattle.mx_layout.specs.declared.fault.Problem.TheVariants.{BadByte, BadNumber, OpenText}
+use Rattle.mx_layout.specs.declared.fault.Fault.{Fault}
+use Rattle.mx_layout.specs.declared.fault.AsmError.{AsmError}
+use Rattle.mx_layout.specs.declared.fault.AsmError.TheVariants.{At, NoMemory}
+use Rattle.mx_layout.specs.Lengths.{length_of}
+use Rattle.mx_layout.specs.Layout.{Above, start, behind, said, reason_of}
+use Rattle.mx_layout.specs.Faults.{problem_of, fault_behind}
 use Rattle.mx_asm.specs.Assembled.{AreAssembled}
 
 -- what is told of bytes that no tokens are
@@ -54,7 +54,6 @@ pub record Takes (a b : Above) (t : List ℕ) (old new : List Line) : Type 0 whe
   pub line : Line
   pub taken : IsTaken a t line
   pub behind_is : b ≡ on_behind a line
-  pub small : length_of (said line) ≤ 2 ^ 64
   pub lines_are : new ≡ old ++ line ∷ []
 
 -- the first line with which something is wrong, the first of these being line n

@@ -2,17 +2,15 @@
 
 ghost use Rattle.std.specs.Prelude.{◌≡◌, ◌≤◌, ◌^◌, length, OnOk, IfOk, IfErr};
 ghost use Rattle.mx_line.specs.Lines.{lines};
-ghost use Rattle.mx_asm.specs.Lengths.{length_of};
-ghost use Rattle.mx_asm.specs.Layout.{SizesWithin, AllSpotsWithin, start, said, laid_by};
+ghost use Rattle.mx_layout.specs.Layout.{SizesWithin, GrowsWithin, start, laid_by};
+ghost use Rattle.mx_layout.specs.Faults.{problem_of};
+ghost use Rattle.mx_layout.specs.declared.fault.AsmError.TheVariants.{At};
+ghost use Rattle.mx_layout.specs.View.{above_of};
 ghost use Rattle.mx_asm.specs.Text.{IsTaken, AreTaken, Takes, on_behind, Assembled, TellsFault, TellsFirst, TellsWrong, TellsLexical};
-ghost use Rattle.mx_asm.specs.Faults.{problem_of};
-ghost use Rattle.mx_asm.specs.declared.fault.AsmError.TheVariants.{At};
-ghost use Rattle.mx_asm.specs.View.{above_of};
 
-use crate::fault::{AsmError, Fault, Problem, problem_of};
-use crate::layout::Layout;
 use crate::program::program_of;
 use mx_aout::Program;
+use mx_layout::{AsmError, Fault, Layout, Problem, problem_of};
 use mx_lex::LexError;
 use mx_line::next_line;
 use mx_reading::read_line;
@@ -54,6 +52,7 @@ impl Read {
     fn take(&mut self, alloc: Global, text: &[u8], number: usize) -> Result<(), AsmError>
         requires { SizesWithin self.old.layout.sizes (2 ^ 126) }
         ensures taken { OnOk result (Takes (above_of self.old.layout) (above_of self.new.layout) text.now self.old.lines.items self.new.lines.items) }
+        ensures small { OnOk result (GrowsWithin self.old.layout.sizes self.new.layout.sizes (2 ^ 64)) }
         ensures wrong { IfErr result (TellsWrong (above_of self.old.layout) number text.now) }
     {
         let line = match read_line(alloc, text) {
@@ -82,8 +81,6 @@ fn count(lines: &[Line]) -> usize
 fn read_lines(alloc: Global, text: &[u8]) -> Result<Read, AsmError>
     ensures taken { IfOk result (λ read. AreTaken start (lines text.now) read.lines.items) }
     ensures laid { IfOk result (λ read. above_of read.layout ≡ laid_by start read.lines.items) }
-    ensures sizes { IfOk result (λ read. SizesWithin read.layout.sizes (2 ^ 126)) }
-    ensures labels { IfOk result (λ read. AllSpotsWithin (above_of read.layout).labels (2 ^ 126)) }
     ensures wrong { IfErr result (TellsFirst text.now) }
 {
     let mut read = Read {

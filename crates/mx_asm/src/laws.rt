@@ -3,13 +3,14 @@
 ghost use Rattle.std.specs.Prelude.{◌≡◌, ℕ, List};
 ghost use Rattle.mx_aout.specs.declared.program.Program.{Program};
 ghost use Rattle.mx_statement.specs.declared.line.Line.{Line};
-ghost use Rattle.mx_asm.specs.declared.fault.Fault.{Fault};
+ghost use Rattle.mx_layout.specs.declared.fault.Fault.{Fault};
 ghost use Rattle.mx_asm.specs.Assembled.{SameProgram};
 ghost use Rattle.mx_asm.specs.Text.{AreAccepted, Assembled, HasFault};
 
 use mx_encode::{
     displacement_keeps_length, filled_fits, immediate_keeps_length, one_chosen, some_chosen,
 };
+use mx_layout::branch_has_length;
 use mx_lex::one_fault;
 use mx_reading::{line_fits, line_or_fault, one_line};
 
@@ -25,6 +26,7 @@ pub fn program_or_fault()
     line_fits();
     some_chosen();
     filled_fits();
+    branch_has_length();
     immediate_keeps_length();
     displacement_keeps_length();
 }

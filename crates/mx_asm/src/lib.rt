@@ -2,15 +2,10 @@
 #![tactic(auto)]
 
 mod assembling;
-mod branch;
 mod emit;
-mod fault;
 mod laws;
-mod layout;
 mod program;
-mod second;
-mod sizes;
 
 pub use assembling::assemble;
-pub use fault::{AsmError, Fault, Problem};
 pub use laws::{fault_is_one, program_is_one, program_or_fault};
+pub use mx_layout::{AsmError, Fault, Problem};

@@ -6,11 +6,11 @@ use Rattle.std.specs.declared.io.ErrorKind.TheVariants as kinds
 use Rattle.mx_aout.specs.declared.program.FileError.{FileError}
 use Rattle.mx_aout.specs.declared.program.FileError.TheVariants as errors
 use Rattle.mx_aout.specs.Refusals.{refusal_code, refusal_name}
-use Rattle.mx_asm.specs.Faults.{code_of}
-use Rattle.mx_asm.specs.declared.fault.Problem.{Problem}
-use Rattle.mx_asm.specs.declared.fault.Problem.TheVariants as problems
-use Rattle.mx_asm.specs.declared.fault.AsmError.{AsmError}
-use Rattle.mx_asm.specs.declared.fault.AsmError.TheVariants as asm_errors
+use Rattle.mx_layout.specs.Faults.{code_of}
+use Rattle.mx_layout.specs.declared.fault.Problem.{Problem}
+use Rattle.mx_layout.specs.declared.fault.Problem.TheVariants as problems
+use Rattle.mx_layout.specs.declared.fault.AsmError.{AsmError}
+use Rattle.mx_layout.specs.declared.fault.AsmError.TheVariants as asm_errors
 use Rattle.mx_fields.specs.declared.error.BootError.{BootError}
 use Rattle.mx_fields.specs.declared.error.BootError.TheVariants as lines
 use Rattle.mx_failure.specs.declared.failure.Failure.{Failure as Kind}

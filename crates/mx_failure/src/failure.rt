@@ -4,8 +4,8 @@ ghost use Rattle.std.specs.Prelude.{◌≡◌};
 ghost use Rattle.mx_failure.specs.Failure.{problem_name, status_of};
 
 use mx_aout::FileError;
-use mx_asm::{AsmError, Fault, Problem};
 use mx_fields::BootError;
+use mx_layout::{AsmError, Fault, Problem};
 use mx_word::NoMemory;
 use std::alloc::{AllocError, AllocFailed};
 use std::{fmt, io};

@@ -1,16 +1,16 @@
-use Rattle.std.proofs.Common.{arith, ◌≡◌, ◌∙◌, ℕ, ◌+◌, ◌*◌, ◌^◌, List, [], ◌∷◌, ◌++◌, length, sym, ap, subst}
+use Rattle.std.proofs.Common.{arith, ◌≡◌, ◌∙◌, ℕ, ◌+◌, List, [], ◌∷◌, ◌++◌, length, sym, ap, subst}
 use Rattle.std.proofs.lemmas.List.{append-nil}
 use Rattle.mx_statement.specs.declared.line.Line.{Line}
 use Rattle.mx_line.specs.Lines.{lines}
-use Rattle.mx_asm.specs.Layout.{start}
+use Rattle.mx_layout.specs.Layout.{start}
 use Rattle.mx_asm.specs.Text.{AreTaken}
-use Rattle.mx_asm.specs.View.{above_of}
-use Rattle.mx_asm.proofs.Laying.{behind_within, labels_behind_within}
-use Rattle.mx_asm.proofs.Reading.{takes_more, wrongs_more, laid_more, one_longer, sizes_weaker, spots_weaker}
+use Rattle.mx_layout.specs.View.{above_of}
+use Rattle.mx_asm.proofs.Standing.{sizes_more}
+use Rattle.mx_asm.proofs.Reading.{takes_more, wrongs_more, laid_more, one_longer, sizes_few}
 use Rattle.mx_asm.proofs.assembling.read_lines.Goals as goal
 
 pub take-requires : goal.take-requires
-take-requires c = sizes_weaker c.loop-line.read.layout.sizes (length c.loop-line.read.lines.items * 2 ^ 64) (2 ^ 126) c.loop-line.invariant.sizes (omega (arith, c.loop-line.invariant.few))
+take-requires c = sizes_few c.loop-line.read.layout.sizes (length c.loop-line.read.lines.items) c.loop-line.invariant.sizes c.loop-line.invariant.few
 
 pub loop-line-preserved : goal.loop-line-preserved
 loop-line-preserved c =
@@ -31,8 +31,7 @@ loop-line-preserved c =
           (takes_more a b c.in-Some.line.now (lines c.loop-line.rest.now) (lines c.in-Some.more.now) (lines c.args.text.now) found l c.loop-line.invariant.takes next step.taken step.behind_is);
       wrongs = wrongs_more a b c.loop-line.number (c.count-number.result + 1) c.in-Some.line.now (lines c.loop-line.rest.now) (lines c.in-Some.more.now) (lines c.args.text.now) l c.loop-line.invariant.wrongs next step.taken step.behind_is (omega (arith, counted, longer, c.loop-line.invariant.number));
       laid = rw step.lines_are (laid_more a b found l c.loop-line.invariant.laid step.behind_is);
-      sizes = behind_within a b l (n * 2 ^ 64) (length now * 2 ^ 64) c.loop-line.invariant.sizes (omega (arith, longer, step.small)) step.behind_is;
-      labels = labels_behind_within a b l _ (n * 2 ^ 64) (length now * 2 ^ 64) c.loop-line.invariant.labels c.loop-line.invariant.sizes (omega (arith, longer)) step.behind_is;
+      sizes = sizes_more c.loop-line.read.layout.sizes c.take.new.self.layout.sizes n (length now) c.loop-line.invariant.sizes c.in_ok-take.ensures.small longer;
     }
 
 pub returns-clause-taken : goal.returns-clause-taken
@@ -40,9 +39,3 @@ returns-clause-taken c =
     let over : lines c.loop-line.rest.now ≡ [] = c.in_default.ensures.line in
     let whole = c.loop-line.invariant.takes [] (subst (λ (x : List (List ℕ)). AreTaken (above_of c.loop-line.read.layout) x []) (sym over) tt) in
     subst (λ (x : List Line). AreTaken start (lines c.args.text.now) x) (append-nil c.loop-line.read.lines.items) whole
-
-pub returns-clause-sizes : goal.returns-clause-sizes
-returns-clause-sizes c = sizes_weaker c.loop-line.read.layout.sizes (length c.loop-line.read.lines.items * 2 ^ 64) (2 ^ 126) c.loop-line.invariant.sizes (omega (arith, c.loop-line.invariant.few))
-
-pub returns-clause-labels : goal.returns-clause-labels
-returns-clause-labels c = spots_weaker c.loop-line.read.layout.labels.entries (length c.loop-line.read.lines.items * 2 ^ 64) (2 ^ 126) c.loop-line.invariant.labels (omega (arith, c.loop-line.invariant.few))

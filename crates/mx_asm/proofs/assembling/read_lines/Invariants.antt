@@ -1,7 +1,7 @@
 use Rattle.std.proofs.Common.{◌≡◌, ◌+◌, ◌*◌, ◌^◌, ◌≤◌, length}
 use Rattle.mx_line.specs.Lines.{lines}
-use Rattle.mx_asm.specs.Layout.{start, laid_by, SizesWithin, AllSpotsWithin}
-use Rattle.mx_asm.specs.View.{above_of}
+use Rattle.mx_layout.specs.Layout.{start, laid_by, SizesWithin}
+use Rattle.mx_layout.specs.View.{above_of}
 use Rattle.mx_asm.proofs.Reading.{TakesOn, WrongsOn}
 use Rattle.mx_asm.proofs.assembling.read_lines.Given as goal
 
@@ -13,7 +13,6 @@ invariant-loop-line l = record {
   wrongs : WrongsOn (above_of l.read.layout) l.number (lines l.rest) (lines l.fn.text);
   laid : above_of l.read.layout ≡ laid_by start l.read.lines.items;
   sizes : SizesWithin l.read.layout.sizes (length l.read.lines.items * 2 ^ 64);
-  labels : AllSpotsWithin l.read.layout.labels.entries (length l.read.lines.items * 2 ^ 64);
 }
 
 abbrev pub decreases-loop-line : goal.decreases-loop-line

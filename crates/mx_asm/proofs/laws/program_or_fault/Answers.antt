@@ -17,6 +17,7 @@ returns-clause-accepted c t ls accepted =
       displacement_form = c.displacement_keeps_length.ensures.form;
       immediate_fits = c.filled_fits.ensures.immediate;
       displacement_fits = c.filled_fits.ensures.displacement;
+      branch = c.branch_has_length.ensures;
       line = c.line_fits.ensures;
     } in
     lines_have_program law t ls accepted.0 accepted.1

@@ -1,13 +1,12 @@
 use Rattle.std.proofs.Common.{arith, ◌≡◌, ◌∙◌, length, map, sym, ap, subst, refl}
 use Rattle.mx_statement.specs.declared.statement.Section.TheVariants.{Text, Data}
-use Rattle.mx_asm.specs.View.{above_of}
-use Rattle.mx_asm.specs.Layout.{Above, left_by, start}
+use Rattle.mx_layout.specs.View.{above_of}
+use Rattle.mx_layout.specs.Layout.{Above, left_by, start}
 use Rattle.mx_asm.specs.Bytes.{AllStand}
-use Rattle.mx_asm.specs.Faults.{total_of}
+use Rattle.mx_layout.specs.Faults.{total_of}
 use Rattle.mx_asm.specs.Assembled.{symbol_under, entry_under}
 use Rattle.mx_asm.proofs.Lengths.{KeepsLength}
 use Rattle.mx_asm.proofs.Emitting.{lengths_same}
-use Rattle.mx_asm.proofs.Making.{clean_of}
 use Rattle.mx_asm.proofs.Fitting.{contents_size}
 use Rattle.mx_asm.proofs.program.program_of.Goals as goal
 
@@ -17,10 +16,10 @@ returns-clause-program c =
     let a = above_of c.args.layout.now in
     let law : KeepsLength = record { immediate = c.immediate_keeps_length.ensures.count; displacement = c.displacement_keeps_length.ensures.count } in
     let parts = c.in_ok-parts.ensures in
-    let made = c.program.ensures in
-    let back : a ≡ left_by start lines (map length parts.bytes) = c.requires.laid ∙ sym (lengths_same law a start start.sizes lines parts.bytes parts.stand) in
+    let made = c.program_with.ensures in
+    let back : a ≡ left_by start lines (map length parts.bytes) = c.requires ∙ sym (lengths_same law a start start.sizes lines parts.bytes parts.stand) in
     record {
-      accepted = sym c.in-None.ensures;
+      accepted = sym c.fault_behind.ensures.fault ∙ c.in-None.is;
       bytes = parts.bytes;
       stand = subst (λ (x : Above). AllStand x start.sizes lines parts.bytes) back parts.stand;
       text = made.text ∙ parts.text_is;
@@ -32,28 +31,22 @@ returns-clause-program c =
       symbols = made.symbols ∙ ap (λ (x : Above). map (symbol_under x) x.labels) back;
     }
 
-pub program-requires-clause-text : goal.program-requires-clause-text
-program-requires-clause-text c =
+pub program_with-requires-clause-text : goal.program_with-requires-clause-text
+program_with-requires-clause-text c =
     let lines = c.args.lines.now in
     let a = above_of c.args.layout.now in
     let law : KeepsLength = record { immediate = c.immediate_keeps_length.ensures.count; displacement = c.displacement_keeps_length.ensures.count } in
     let parts = c.in_ok-parts.ensures in
-    let back : a ≡ left_by start lines (map length parts.bytes) = c.requires.laid ∙ sym (lengths_same law a start start.sizes lines parts.bytes parts.stand) in
+    let back : a ≡ left_by start lines (map length parts.bytes) = c.requires ∙ sym (lengths_same law a start start.sizes lines parts.bytes parts.stand) in
     let size = contents_size law Text (λ b. refl) a start lines parts.bytes parts.stand in
     ap length parts.text_is ∙ omega (arith, size, ap (λ (x : Above). x.sizes.text) back)
 
-pub program-requires-clause-init : goal.program-requires-clause-init
-program-requires-clause-init c =
+pub program_with-requires-clause-init : goal.program_with-requires-clause-init
+program_with-requires-clause-init c =
     let lines = c.args.lines.now in
     let a = above_of c.args.layout.now in
     let law : KeepsLength = record { immediate = c.immediate_keeps_length.ensures.count; displacement = c.displacement_keeps_length.ensures.count } in
     let parts = c.in_ok-parts.ensures in
-    let back : a ≡ left_by start lines (map length parts.bytes) = c.requires.laid ∙ sym (lengths_same law a start start.sizes lines parts.bytes parts.stand) in
+    let back : a ≡ left_by start lines (map length parts.bytes) = c.requires ∙ sym (lengths_same law a start start.sizes lines parts.bytes parts.stand) in
     let size = contents_size law Data (λ b. refl) a start lines parts.bytes parts.stand in
     ap length parts.init_is ∙ omega (arith, size, ap (λ (x : Above). x.sizes.init) back)
-
-pub parts-requires-clause-clean : goal.parts-requires-clause-clean
-parts-requires-clause-clean c = (clean_of c.args.lines.now (above_of c.args.layout.now) c.requires.laid (sym c.in-None.ensures)).0
-
-pub program-requires-clause-fits : goal.program-requires-clause-fits
-program-requires-clause-fits c = (clean_of c.args.lines.now (above_of c.args.layout.now) c.requires.laid (sym c.in-None.ensures)).1

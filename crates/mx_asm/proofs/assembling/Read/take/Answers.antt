@@ -6,6 +6,5 @@ returns-clause-taken c = record {
   line = c.in-Ok.line;
   taken = (c.in-Ok.ensures.line, sym c.reason_of.ensures ∙ c.in-None.is);
   behind_is = c.in_ok-go_behind.ensures.ok;
-  small = c.in_ok-go_behind.ensures.small;
   lines_are = c.in_ok-push.ensures.items;
 }

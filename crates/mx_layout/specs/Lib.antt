@@ -1,0 +1,5 @@
+pub mod Branches
+pub mod Lengths
+pub mod Layout
+pub mod View
+pub mod Faults
