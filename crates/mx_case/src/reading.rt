@@ -27,19 +27,14 @@ fn parted<'a>(alloc: Global, text: &'a str) -> Result<Vec<&'a str>, AllocError>
 fn eight_numbers(words: &[&str]) -> Result<[u32; 8], CaseError>
     ensures { IfOk result (λ numbers. (length numbers ≡ 8) × AreNumbers (map (λ word. word.now) words.now) numbers) }
 {
-    let [eax, ecx, edx, ebx, esp, ebp, esi, edi] = words else {
+    if words.len() != 8 {
         return Err(CaseError::Malformed);
-    };
-    Ok([
-        read_number(*eax)?,
-        read_number(*ecx)?,
-        read_number(*edx)?,
-        read_number(*ebx)?,
-        read_number(*esp)?,
-        read_number(*ebp)?,
-        read_number(*esi)?,
-        read_number(*edi)?,
-    ])
+    }
+    let mut numbers = [0; 8];
+    for (at, word) in words.iter().enumerate() {
+        numbers[at] = read_number(*word)?;
+    }
+    Ok(numbers)
 }
 
 /// Eight numbers parted by spaces.
@@ -56,8 +51,12 @@ fn read_outcome(text: &str) -> Result<Outcome, CaseError>
     if text == "go" {
         return Ok(Outcome::Go);
     }
-    let vector = text.strip_prefix("fault-").ok_or(CaseError::Malformed)?;
-    let vector = vector.parse::<u8>().map_err(|_| CaseError::Malformed)?;
+    let Some(digits) = text.strip_prefix("fault-") else {
+        return Err(CaseError::Malformed);
+    };
+    let Ok(vector) = digits.parse::<u8>() else {
+        return Err(CaseError::Malformed);
+    };
     Ok(Outcome::Fault(vector))
 }
 
@@ -65,11 +64,15 @@ fn read_outcome(text: &str) -> Result<Outcome, CaseError>
 fn change_byte(bytes: &mut [u8], change: &str) -> Result<(), CaseError>
     ensures { length bytes.new ≡ length bytes.old }
 {
-    let (address, byte) = change.split_once(':').ok_or(CaseError::Malformed)?;
-    let byte = u8::from_str_radix(byte, 16).map_err(|_| CaseError::Malformed)?;
-    let place = bytes
-        .get_mut(read_number(address)? as usize)
-        .ok_or(CaseError::Malformed)?;
+    let Some((address, byte)) = change.split_once(':') else {
+        return Err(CaseError::Malformed);
+    };
+    let Ok(byte) = u8::from_str_radix(byte, 16) else {
+        return Err(CaseError::Malformed);
+    };
+    let Some(place) = bytes.get_mut(read_number(address)? as usize) else {
+        return Err(CaseError::Malformed);
+    };
     *place = byte;
     Ok(())
 }
@@ -178,7 +181,7 @@ pub fn parse_case<'a>(alloc: Global, line: &'a str) -> Result<Case<'a>, CaseErro
     ensures { IfOk result IsSpelled }
 {
     let fields: Vec<&'a str> = line.split(" | ").collect(alloc)?;
-    let [
+    let &[
         row,
         spelling,
         code,
@@ -197,19 +200,19 @@ pub fn parse_case<'a>(alloc: Global, line: &'a str) -> Result<Case<'a>, CaseErro
         return Err(CaseError::Malformed);
     };
     let fields = Fields {
-        row: *row,
-        spelling: *spelling,
-        code: *code,
-        memory: *memory,
-        words: *words,
-        eip: *eip,
-        flags: *flags,
-        ends: *ends,
-        words_after: *words_after,
-        eip_after: *eip_after,
-        flags_after: *flags_after,
-        mask: *mask,
-        changes: *changes,
+        row,
+        spelling,
+        code,
+        memory,
+        words,
+        eip,
+        flags,
+        ends,
+        words_after,
+        eip_after,
+        flags_after,
+        mask,
+        changes,
     };
     case_of(alloc, &fields)
 }

@@ -9,6 +9,5 @@ mod stack;
 pub use form::{repeated, stated};
 pub use laws::numbers_fit;
 pub use mx_operand::{Address, Argument, Index, Name, Register, Scale, Size, Value};
-pub use mx_spot::number_in;
 pub use mx_statement::{Branch, Instruction, Statement};
 pub use mx_words::{Mnemonic, Prefix, Single};

@@ -1,5 +1,5 @@
 -- Which items between brackets are a place in memory.
-use Rattle.std.specs.Prelude.{ℕ, ◌==◌, if◌then◌else◌, List, [], ◌∷◌, Option, Some, None, true, false}
+use Rattle.std.specs.Prelude.{ℕ, ◌==◌, if◌then◌else◌, List, [], ◌∷◌, Option, Some, None, false}
 use Rattle.mx_word.specs.declared.size.Size.TheVariants.{Dword}
 use Rattle.mx_word.specs.declared.names.Register.{Register}
 use Rattle.mx_word.specs.declared.names.Register.TheVariants as registers

@@ -1,6 +1,5 @@
 -- Items, and what follows from one of two possible values.
 use Rattle.std.specs.Prelude.{Option, Some, None, Bool, true, false}
-use Rattle.mx_lex.specs.declared.kinds.Mark.TheVariants as marks
 use Rattle.mx_operand.specs.declared.item.Item.{Item}
 use Rattle.mx_operand.specs.declared.item.Item.TheVariants as items
 

@@ -1,4 +1,5 @@
 pub mod Items
+pub mod Sorting
 pub mod Values
 pub mod Addresses
 pub mod Arguments

@@ -1,5 +1,5 @@
 -- Which items are arguments.
-use Rattle.std.specs.Prelude.{List, [], ◌∷◌, Option, Some, None, Bool, true, false}
+use Rattle.std.specs.Prelude.{List, [], ◌∷◌, Option, Some, Bool, true, false}
 use Rattle.std.specs.List.{slice_split}
 use Rattle.mx_lex.specs.declared.kinds.Mark.TheVariants as marks
 use Rattle.mx_operand.specs.declared.item.Item.{Item}

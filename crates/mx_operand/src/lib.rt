@@ -1,10 +1,12 @@
-//! Arguments: what the items of one operand say, names and all.
+//! Items: what tokens are where an operand stands; and arguments: what the items of one operand say,
+//! names and all.
 #![tactic(auto)]
 
 mod argument;
 mod item;
 mod list;
 mod memory;
+mod sorting;
 mod value;
 
 pub use argument::{Argument, argument_of};
@@ -15,4 +17,5 @@ pub use mx_insn::{Index, Register, Scale, Size};
 pub use mx_lex::Mark;
 pub use mx_line::Name;
 pub use mx_statement::Value;
+pub use sorting::{is_dotted, item_of, items_of, token_bytes};
 pub use value::value_of;

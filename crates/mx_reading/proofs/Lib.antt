@@ -1,5 +1,4 @@
-mod Sorting
+mod Slices
 mod Unique
-mod Valuing
 mod Total
 mod Widths

@@ -18,9 +18,10 @@ use Rattle.mx_words.specs.declared.start.Start.{Start}
 use Rattle.mx_operand.specs.declared.item.Item.{Item}
 use Rattle.mx_operand.specs.declared.item.Item.TheVariants as items
 use Rattle.mx_statement.specs.declared.line.Line.{Line}
-use Rattle.mx_reading.specs.declared.items.Begun.{Begun}
-use Rattle.mx_reading.specs.declared.items.Begun.TheVariants as begun
-use Rattle.mx_reading.specs.Items.{token_bytes, IsOrdinary, IsWord, IsWordItem, IsKindItem, AreItems, IsLabel, Begins, NamesMnemonic, label_of, behind_label, behind_first}
+use Rattle.mx_reading.specs.declared.opening.Begun.{Begun}
+use Rattle.mx_reading.specs.declared.opening.Begun.TheVariants as begun
+use Rattle.mx_operand.specs.Sorting.{token_bytes, IsOrdinary, IsWordItem, IsKindItem, AreItems}
+use Rattle.mx_reading.specs.Opening.{IsWord, IsLabel, Begins, NamesMnemonic, label_of, behind_label, behind_first}
 use Rattle.mx_reading.specs.Statements.{text_alone}
 use Rattle.mx_reading.specs.Lines.{line_of, Says, IsLine}
 

@@ -18,11 +18,12 @@ use Rattle.mx_statement.specs.declared.line.Line.{Line}
 use Rattle.mx_statement.specs.declared.instruction.Instruction.{Instruction}
 use Rattle.mx_statement.specs.declared.statement.Statement.{Statement}
 use Rattle.mx_statement.specs.declared.statement.Statement.TheVariants as statements
+use Rattle.mx_spot.specs.Data.{values_in, data_of}
 use Rattle.mx_form.specs.Statements.{stated, repeated}
-use Rattle.mx_reading.specs.declared.items.Begun.{Begun}
-use Rattle.mx_reading.specs.declared.items.Begun.TheVariants as begun
-use Rattle.mx_reading.specs.Items.{behind_label, behind_first}
-use Rattle.mx_reading.specs.Statements.{is_marked, unmarked, behind_mnemonic, behind_prefix, values_in, data_of, standing_alone, number_alone, entry_of, behind_directive, text_alone, statement_of}
+use Rattle.mx_reading.specs.declared.opening.Begun.{Begun}
+use Rattle.mx_reading.specs.declared.opening.Begun.TheVariants as begun
+use Rattle.mx_reading.specs.Opening.{behind_label, behind_first}
+use Rattle.mx_reading.specs.Statements.{is_marked, unmarked, behind_mnemonic, behind_prefix, standing_alone, number_alone, entry_of, behind_directive, text_alone, statement_of}
 use Rattle.mx_reading.specs.Lines.{where_named, IsLine}
 
 -- of the forms

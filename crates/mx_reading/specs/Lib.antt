@@ -1,3 +1,3 @@
-pub mod Items
+pub mod Opening
 pub mod Statements
 pub mod Lines

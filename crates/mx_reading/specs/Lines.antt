@@ -1,5 +1,5 @@
 -- What a line says.
-use Rattle.std.specs.Prelude.{◌≡◌, ℕ, ◌||◌, Bool, true, false, Option, Some, None, List, [], ◌∷◌}
+use Rattle.std.specs.Prelude.{◌≡◌, ℕ, ◌||◌, Bool, false, Option, Some, None, List, [], ◌∷◌}
 use Rattle.mx_line.specs.declared.names.Name.{Name}
 use Rattle.mx_lex.specs.Tokens.{IsReadAs}
 use Rattle.mx_lex.specs.declared.kinds.Token.{Token}
@@ -14,9 +14,10 @@ use Rattle.mx_statement.specs.declared.line.Beginning.{Beginning}
 use Rattle.mx_statement.specs.declared.line.Beginning.TheVariants as beginnings
 use Rattle.mx_statement.specs.declared.line.Line.{Line}
 use Rattle.mx_statement.specs.declared.statement.Statement.{Statement}
-use Rattle.mx_reading.specs.declared.items.Begun.{Begun}
-use Rattle.mx_reading.specs.declared.items.Begun.TheVariants as begun
-use Rattle.mx_reading.specs.Items.{label_of, behind_label, IsLabel, Begins, behind_first, NamesMnemonic, AreItems}
+use Rattle.mx_reading.specs.declared.opening.Begun.{Begun}
+use Rattle.mx_reading.specs.declared.opening.Begun.TheVariants as begun
+use Rattle.mx_operand.specs.Sorting.{AreItems}
+use Rattle.mx_reading.specs.Opening.{label_of, behind_label, IsLabel, Begins, behind_first, NamesMnemonic}
 use Rattle.mx_reading.specs.Statements.{text_alone, statement_of}
 
 -- ---- names that are too long

@@ -1,8 +1,6 @@
 -- Which statement stands behind what it begins with.
 use Rattle.std.specs.Prelude.{ℕ, ◌&&◌, ◌-◌, ◌+◌, if◌then◌else◌, Bool, true, false, nat_eq, Option, Some, None, List, [], ◌∷◌, slice_range}
-use Rattle.std.specs.List.{slice_split}
 use Rattle.std.specs.Cmp.Lexicographic.{pointwise}
-use Rattle.mx_word.specs.declared.size.Size.{Size}
 use Rattle.mx_word.specs.declared.size.Size.TheVariants as sizes
 use Rattle.mx_line.specs.Names.{padded}
 use Rattle.mx_lex.specs.Bytes.{text_value}
@@ -20,17 +18,14 @@ use Rattle.mx_words.specs.declared.start.Start.TheVariants as starts
 use Rattle.mx_operand.specs.declared.item.Item.{Item}
 use Rattle.mx_operand.specs.declared.item.Item.TheVariants as items
 use Rattle.mx_operand.specs.Items.{◌>>=◌}
-use Rattle.mx_operand.specs.Values.{value_of}
-use Rattle.mx_operand.specs.Lists.{is_comma, arguments_of}
-use Rattle.mx_statement.specs.declared.value.Value.{Value}
-use Rattle.mx_statement.specs.declared.statement.Section.{Section}
+use Rattle.mx_operand.specs.Lists.{arguments_of}
 use Rattle.mx_statement.specs.declared.statement.Section.TheVariants as sections
 use Rattle.mx_statement.specs.declared.statement.Statement.{Statement}
 use Rattle.mx_statement.specs.declared.statement.Statement.TheVariants as statements
-use Rattle.mx_spot.specs.Numbers.{number_in}
+use Rattle.mx_spot.specs.Data.{data_of}
 use Rattle.mx_form.specs.Statements.{stated, repeated}
-use Rattle.mx_reading.specs.declared.items.Begun.{Begun}
-use Rattle.mx_reading.specs.declared.items.Begun.TheVariants as begun
+use Rattle.mx_reading.specs.declared.opening.Begun.{Begun}
+use Rattle.mx_reading.specs.declared.opening.Begun.TheVariants as begun
 
 -- ---- behind a mnemonic
 
@@ -67,26 +62,6 @@ behind_prefix p (Some m) (t ∷ []) = repeated p m
 behind_prefix p _ _ = None
 
 -- ---- behind a directive
-
--- a value that fits
-abbrev pub value_in : Size → List Item → Option Value
-value_in s ts = do
-  v ← value_of ts
-  n ← number_in s v
-  Some v
-
-abbrev pub values_in : Size → List (List Item) → Option (List Value)
-values_in s [] = Some []
-values_in s (part ∷ parts) = do
-  v ← value_in s part
-  vs ← values_in s parts
-  Some (v ∷ vs)
-
--- values with commas
-abbrev pub data_of : Size → List Item → Option Statement
-data_of s ts = do
-  vs ← values_in s (slice_split is_comma ts)
-  Some (statements.Data s vs)
 
 abbrev pub standing_alone : Statement → List Item → Option Statement
 standing_alone s [] = Some s

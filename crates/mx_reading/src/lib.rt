@@ -1,9 +1,8 @@
 //! What a line of an assembler text says.
 #![tactic(auto)]
 
-mod data;
-mod items;
 mod laws;
+mod opening;
 mod reading;
 mod statements;
 

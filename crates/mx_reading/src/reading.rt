@@ -2,15 +2,13 @@
 
 ghost use Rattle.std.specs.Prelude.{◌≡◌, IfOk, IfErr, All};
 ghost use Rattle.mx_lex.specs.Tokens.{IsSlice, TellsFault};
-ghost use Rattle.mx_reading.specs.Lines.{any_long, long_behind, long_label, name_in, where_named, beginning_behind, beginning_of, Says, IsLine};
+ghost use Rattle.mx_reading.specs.Lines.{any_long, long_behind, long_label, name_in, where_named, beginning_of, Says, IsLine};
 
-use crate::items::{
-    Begun, begun_by, behind_first, behind_label, items_of, label_item, label_of, mnemonic_first,
-};
+use crate::opening::{Begun, begun_by, behind_first, behind_label, mnemonic_first};
 use crate::statements::{statement_of, text_alone};
 use mx_lex::{LexError, Token, tokens_in};
 use mx_line::Name;
-use mx_operand::{Item, is_long};
+use mx_operand::{Item, is_long, items_of};
 use mx_statement::{Beginning, Line, Statement};
 use mx_words::{Directive, Start};
 use std::alloc::{AllocError, Global};
@@ -70,31 +68,24 @@ fn where_named(label: Option<Item>, statement: Option<Statement>) -> Option<Stat
     }
 }
 
-fn beginning_behind(directive: Directive) -> Beginning
-    ensures { result ≡ beginning_behind directive }
-{
-    match directive {
-        Directive::Data1 | Directive::Data2 | Directive::Data4 | Directive::Ascii => {
-            Beginning::Data
-        }
-        Directive::Sep => Beginning::Separate,
-        Directive::Entry => Beginning::Entry,
-        Directive::Stack => Beginning::Stack,
-        Directive::Text | Directive::Data | Directive::Bss | Directive::Space => {
-            Beginning::Anywhere
-        }
-    }
-}
-
 fn beginning_of(begun: Begun) -> Beginning
     ensures { result ≡ beginning_of begun }
 {
     match begun {
         Begun::Nothing => Beginning::Nothing,
         Begun::Unknown => Beginning::Unknown,
-        Begun::Known(Start::Mnemonic(_)) => Beginning::Instruction,
-        Begun::Known(Start::Repeat(_)) => Beginning::Instruction,
-        Begun::Known(Start::Directive(directive)) => beginning_behind(directive),
+        Begun::Known(Start::Mnemonic(_) | Start::Repeat(_)) => Beginning::Instruction,
+        Begun::Known(Start::Directive(directive)) => match directive {
+            Directive::Data1 | Directive::Data2 | Directive::Data4 | Directive::Ascii => {
+                Beginning::Data
+            }
+            Directive::Sep => Beginning::Separate,
+            Directive::Entry => Beginning::Entry,
+            Directive::Stack => Beginning::Stack,
+            Directive::Text | Directive::Data | Directive::Bss | Directive::Space => {
+                Beginning::Anywhere
+            }
+        },
     }
 }
 
@@ -103,8 +94,7 @@ fn line_of(alloc: Global, text: &[u8], tokens: &[Token]) -> Result<Line, AllocEr
     requires { All (IsSlice text.now) tokens.now }
     ensures { IfOk result (Says text.now tokens.now) }
 {
-    let label = label_item(text, label_of(text, tokens));
-    let statement = behind_label(text, tokens);
+    let (label, statement) = behind_label(text, tokens);
     let begun = begun_by(text, statement);
     let rest = behind_first(statement);
     let second = mnemonic_first(text, rest);

@@ -2,13 +2,13 @@
 
 ghost use Rattle.std.specs.Prelude.{◌≡◌, ◌+◌, ◌≤◌, IfOk, All};
 ghost use Rattle.mx_lex.specs.Tokens.{IsSlice};
-ghost use Rattle.mx_reading.specs.Statements.{is_short, takes_short, stated_by, is_marked, unmarked, behind_mnemonic, behind_prefix, standing_alone, text_given, number_alone, space_of, stack_of, entry_of, behind_directive, text_alone, statement_of};
+ghost use Rattle.mx_reading.specs.Statements.{is_short, takes_short, stated_by, behind_mnemonic, behind_prefix, standing_alone, text_given, space_of, stack_of, entry_of, behind_directive, text_alone, statement_of};
 
-use crate::data::data_of;
-use crate::items::Begun;
+use crate::opening::Begun;
 use mx_form::{repeated, stated};
 use mx_lex::{Kind, Token, text_bytes};
 use mx_operand::{Item, arguments_of};
+use mx_spot::data_of;
 use mx_statement::{Section, Statement};
 use mx_word::{Bytes, Size};
 use mx_words::{Directive, Mnemonic, Prefix, Single, Start};
@@ -48,33 +48,7 @@ fn stated_by(
     }
 }
 
-/// Whether `short` stands right behind a mnemonic that takes it.
-fn is_marked(mnemonic: Mnemonic, items: &[Item]) -> bool
-    ensures { result ≡ is_marked mnemonic items.now }
-{
-    match items.split_first() {
-        None => false,
-        Some((first, _)) => takes_short(mnemonic) && is_short(*first),
-    }
-}
-
-/// What stands behind a mnemonic and its `short`.
-fn unmarked(mnemonic: Mnemonic, items: &[Item]) -> &[Item]
-    ensures { result.now ≡ unmarked mnemonic items.now }
-{
-    match items.split_first() {
-        None => items,
-        Some((first, rest)) => {
-            if takes_short(mnemonic) && is_short(*first) {
-                rest
-            } else {
-                items
-            }
-        }
-    }
-}
-
-/// The instruction of a mnemonic and what stands behind it.
+/// The instruction of a mnemonic and what stands behind it, first of all its `short`.
 fn behind_mnemonic(
     alloc: Global,
     mnemonic: Mnemonic,
@@ -82,8 +56,14 @@ fn behind_mnemonic(
 ) -> Result<Option<Statement>, AllocError>
     ensures { IfOk result (λ s. s ≡ behind_mnemonic mnemonic items.now) }
 {
-    let short = is_marked(mnemonic, items);
-    stated_by(alloc, short, mnemonic, unmarked(mnemonic, items))
+    let Some((first, rest)) = items.split_first() else {
+        return stated_by(alloc, false, mnemonic, items);
+    };
+    if takes_short(mnemonic) & is_short(*first) {
+        stated_by(alloc, true, mnemonic, rest)
+    } else {
+        stated_by(alloc, false, mnemonic, items)
+    }
 }
 
 fn behind_prefix(prefix: Prefix, second: Option<Mnemonic>, items: &[Item]) -> Option<Statement>
@@ -125,31 +105,28 @@ pub fn text_alone(alloc: Global, text: &[u8], tokens: &[Token]) -> Result<Option
 fn text_given(text: Option<Bytes>) -> Option<Statement>
     ensures { result ≡ text_given text }
 {
-    let bytes = text?;
-    Some(Statement::Ascii(bytes))
-}
-
-fn number_alone(items: &[Item]) -> Option<u32>
-    ensures { result ≡ number_alone items.now }
-{
-    match items {
-        [Item::Number(number)] => Some(*number),
-        _ => None,
+    match text {
+        Some(bytes) => Some(Statement::Ascii(bytes)),
+        None => None,
     }
 }
 
 fn space_of(items: &[Item]) -> Option<Statement>
     ensures { result ≡ space_of items.now }
 {
-    let number = number_alone(items)?;
-    Some(Statement::Space(number))
+    match items {
+        [Item::Number(number)] => Some(Statement::Space(*number)),
+        _ => None,
+    }
 }
 
 fn stack_of(items: &[Item]) -> Option<Statement>
     ensures { result ≡ stack_of items.now }
 {
-    let number = number_alone(items)?;
-    Some(Statement::Stack(number))
+    match items {
+        [Item::Number(number)] => Some(Statement::Stack(*number)),
+        _ => None,
+    }
 }
 
 fn entry_of(items: &[Item]) -> Option<Statement>

@@ -3,3 +3,4 @@ pub mod Spots
 pub mod Pairs
 pub mod Moves
 pub mod Transfers
+pub mod Data

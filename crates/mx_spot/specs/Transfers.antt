@@ -1,5 +1,5 @@
 -- Jumps, calls and loops: to a value, or where a dword of a register or memory says.
-use Rattle.std.specs.Prelude.{Bool, true, false, Option, Some, None, List, [], ◌∷◌}
+use Rattle.std.specs.Prelude.{Bool, false, Option, None, List, [], ◌∷◌}
 use Rattle.mx_word.specs.declared.size.Size.TheVariants.{Dword}
 use Rattle.mx_word.specs.declared.names.Condition.{Condition}
 use Rattle.mx_insn.specs.declared.insn.Loop.{Loop}

@@ -1,14 +1,17 @@
-use Rattle.std.proofs.Common.{refl, List, [], ℕ, Bor}
-use Rattle.mx_case.proofs.Numbers.{numbers_of_eight}
+use Rattle.std.proofs.Common.{arith}
+use Rattle.std.proofs.lemmas.List.{length-set}
+use Rattle.mx_case.proofs.Numbers.{numbers_more, numbers_all}
+use Rattle.mx_case.proofs.reading.eight_numbers.Invariants.{nothing}
 use Rattle.mx_case.proofs.reading.eight_numbers.Goals as goal
 
-abbrev nothing : Bor (List ℕ)
-nothing = record { ref_ptr = (0, 0); now = [] }
+pub loop-at-preserved : goal.loop-at-preserved
+loop-at-preserved c = record {
+  eight = simp length-set c.loop-at.invariant.eight;
+  first = numbers_more c.args.words.now nothing c.loop-at.numbers c.loop-at.at c.in_ok-numbers.field-0 (omega arith) c.in_ok-numbers.ensures c.loop-at.invariant.first;
+}
 
 pub returns : goal.returns
 returns c = (
-  refl,
-  numbers_of_eight c.args.words.now nothing _ _ _ _ _ _ _ _ c.in-len8.len_at_least c.in-len8.len_below
-      c.in_ok-read_number.ensures c.in_ok-read_number-2.ensures c.in_ok-read_number-3.ensures c.in_ok-read_number-4.ensures
-      c.in_ok-read_number-5.ensures c.in_ok-read_number-6.ensures c.in_ok-read_number-7.ensures c.in_ok-read_number-8.ensures,
+  c.loop-at.invariant.eight,
+  numbers_all c.args.words.now nothing c.loop-at.numbers c.loop-at.at (omega arith) (omega arith) c.loop-at.invariant.first,
 )

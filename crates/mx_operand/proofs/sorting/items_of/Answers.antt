@@ -1,6 +1,6 @@
 use Rattle.std.proofs.Common.{rules}
-use Rattle.mx_reading.proofs.Sorting.{goes_on_step, goes_on_stop, slices_behind}
-use Rattle.mx_reading.proofs.items.items_of.Goals as goal
+use Rattle.mx_operand.proofs.Sorted.{goes_on_step, goes_on_stop, slices_behind}
+use Rattle.mx_operand.proofs.sorting.items_of.Goals as goal
 
 pub loop-first-preserved : goal.loop-first-preserved
 loop-first-preserved c = record {

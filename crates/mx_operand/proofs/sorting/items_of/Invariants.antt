@@ -1,7 +1,7 @@
 use Rattle.std.proofs.Common.{All, length}
 use Rattle.mx_lex.specs.Tokens.{IsSlice}
-use Rattle.mx_reading.proofs.Sorting.{GoesOn}
-use Rattle.mx_reading.proofs.items.items_of.Given as goal
+use Rattle.mx_operand.proofs.Sorted.{GoesOn}
+use Rattle.mx_operand.proofs.sorting.items_of.Given as goal
 
 abbrev pub invariant-loop-first : goal.invariant-loop-first
 invariant-loop-first l = record { goes_on : GoesOn l.text l.tokens l.rest l.found.items; slices : All (IsSlice l.text) l.rest }

@@ -1,9 +1,9 @@
 use Rattle.std.proofs.Common.{◌≡◌, length}
 use Rattle.std.specs.List.{slice_split}
 use Rattle.mx_operand.specs.Lists.{is_comma}
-use Rattle.mx_reading.specs.Statements.{values_in}
-use Rattle.mx_reading.proofs.Valuing.{behind}
-use Rattle.mx_reading.proofs.data.values_in.Given as goal
+use Rattle.mx_spot.specs.Data.{values_in}
+use Rattle.mx_spot.proofs.Valuing.{behind}
+use Rattle.mx_spot.proofs.data.data_of.Given as goal
 
 abbrev pub invariant-loop-front : goal.invariant-loop-front
 invariant-loop-front l = values_in l.size (slice_split is_comma l.items) ≡ behind l.found.items (values_in l.size (slice_split is_comma l.rest))

@@ -5,7 +5,7 @@ use Rattle.mx_word.specs.declared.size.Size.{Size}
 use Rattle.mx_statement.specs.declared.value.Value.{Value}
 use Rattle.mx_operand.specs.declared.item.Item.{Item}
 use Rattle.mx_operand.specs.Items.{◌>>=◌}
-use Rattle.mx_reading.specs.Statements.{value_in, values_in}
+use Rattle.mx_spot.specs.Data.{value_in, values_in}
 
 -- what is found, and what the parts say
 abbrev pub behind : List Value → Option (List Value) → Option (List Value)
