@@ -1,13 +1,10 @@
-use Rattle.std.proofs.Common.{◌≡◌, ◌≢◌, ◌∙◌, ◌<◌, ◌≤◌, ◌+◌, ℕ, zero, suc, Bool, true, false, cond, nat_lt, List, [], ◌∷◌, length, drop, get_or, slice_set, refl, ap, sym, arith, Option, Some, None, inl, inr, get_or-set_other}
+use Rattle.std.proofs.Common.{◌≡◌, ◌∙◌, ◌<◌, ◌≤◌, ◌+◌, ℕ, zero, suc, Bool, true, false, cond, nat_lt, List, [], ◌∷◌, length, drop, get_or, slice_set, refl, ap, sym, arith, inl, inr}
 use Rattle.std.proofs.lemmas.Bool.{cases_Bool}
 use Rattle.std.proofs.Math.Seq.{drop-cons}
 use Rattle.std.proofs.Math.ListN.{drop_of_length-le}
 use Rattle.mx_proc.specs.declared.process.Process.{Process}
 use Rattle.mx_proc.specs.declared.process.Source.{Source}
-use Rattle.mx_proc.specs.declared.process.Source.TheVariants.{Clock}
-use Rattle.mx_proc.specs.Partners.{place_of}
-use Rattle.mx_proc.specs.World.{World, process_at, nobody, noticed, with_result, with_pending, with_process, without_pending, to_front, to_end}
-use Rattle.mx_proc.specs.Serving.{with_alarm}
+use Rattle.mx_proc.specs.World.{World, process_at, nobody, noticed, with_result, with_process, without_pending}
 use Rattle.mx_sched.specs.Queueing.{queued, next_level, is_last_renewed}
 use Rattle.mx_ipc.specs.Calls.{goes_on, told, hears}
 use Rattle.mx_kcall.specs.Clock.{is_due, due_slots, rung, all_rung}

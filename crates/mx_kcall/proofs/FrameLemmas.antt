@@ -1,6 +1,5 @@
 use Rattle.std.proofs.Common.{◌≡◌, ◌∙◌, ap, sym, length}
 use Rattle.std.proofs.lemmas.List.{length-map}
-use Rattle.mx_proc.specs.declared.devices.Devices.{Devices}
 use Rattle.mx_proc.specs.Frame.{Frame, frame, fixed_of}
 use Rattle.mx_proc.specs.World.{World}
 

@@ -2,7 +2,7 @@
 use Rattle.std.specs.Prelude.{ℕ, ◌+◌, nat_le, Bool, false, List, [], ◌∷◌, Option, Some, None, if◌then◌else◌}
 use Rattle.mx_proc.specs.declared.process.Process.{Process}
 use Rattle.mx_proc.specs.declared.process.Source.TheVariants.{Hardware, Clock}
-use Rattle.mx_proc.specs.World.{World, process_at}
+use Rattle.mx_proc.specs.World.{World}
 use Rattle.mx_proc.specs.Serving.{with_line, with_alarm, ticked_on}
 use Rattle.mx_ipc.specs.Calls.{told}
 

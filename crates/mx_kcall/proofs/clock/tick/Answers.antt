@@ -1,5 +1,5 @@
-use Rattle.std.proofs.Common.{◌≡◌, ◌≢◌, ◌∙◌, ◌<◌, ℕ, ap, sym, subst, length, arith}
-use Rattle.mx_proc.specs.World.{World, process_at}
+use Rattle.std.proofs.Common.{◌≢◌, ◌∙◌, ◌<◌, ap, sym, subst, length, arith}
+use Rattle.mx_proc.specs.World.{World}
 use Rattle.mx_kcall.specs.Clock.{all_rung, ticked, due_slots}
 use Rattle.mx_kcall.proofs.FrameLemmas.{same_used, same_uptime}
 use Rattle.mx_kcall.proofs.AlarmLemmas.{rung_next, none_due}

@@ -1,4 +1,4 @@
-use Rattle.std.proofs.Common.{◌≡◌, ◌∙◌, ap}
+use Rattle.std.proofs.Common.{◌∙◌, ap}
 use Rattle.mx_proc.specs.World.{received_at}
 use Rattle.mx_ipc.specs.Calls.{goes_on}
 use Rattle.mx_kcall.specs.Serving.{replied}
