@@ -33,10 +33,6 @@ of_one name first = subcommand name (wanted first ∷ [])
 abbrev pub of_two : Text → Text → Text → Shape
 of_two name first second = subcommand name (wanted first ∷ wanted second ∷ [])
 
--- a command line that is a subcommand's alone
-abbrev pub alone : Shape → App
-alone s = record { top = s; subs = [] }
-
 -- none of its arguments is its subcommands' too
 abbrev pub IsLocal : Command → Type 0
 IsLocal c = (out-Command c).has_globals ≡ false

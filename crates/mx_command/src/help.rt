@@ -1,13 +1,32 @@
-//! Texts of the subcommands' help.
+//! The examples that the subcommands' help ends with.
 
-/// What a program's file is.
-pub const PROGRAM: &str = "An a.out file of MINIX 3 for the 80386";
+/// What a subcommand's help ends with.
+#[derive(Clone, Copy)]
+pub enum Example {
+    /// A text that assembles.
+    As,
+    /// A configuration of two services, and a script.
+    Step,
+    /// A history, and what a refused event of it gives.
+    Replay,
+    /// A debugger's script.
+    Db,
+}
 
-/// What a configuration is.
-pub const CONFIG: &str = "The processors, and the services with their programs' files";
+impl Example {
+    /// The lines that are printed.
+    pub fn text(self) -> &'static str {
+        match self {
+            Example::As => AS_EXAMPLE,
+            Example::Step => STEP_EXAMPLE,
+            Example::Replay => REPLAY_EXAMPLE,
+            Example::Db => DB_EXAMPLE,
+        }
+    }
+}
 
 /// A text that assembles.
-pub const AS_EXAMPLE: &str = "A text, which gives 42 in EAX and traps:
+const AS_EXAMPLE: &str = "A text, which gives 42 in EAX and traps:
 
 .sep
 start:  mov ecx, 6      ; turns
@@ -17,7 +36,7 @@ next:   add eax, 7
 .entry start";
 
 /// A configuration of two services, and a script.
-pub const STEP_EXAMPLE: &str = "A configuration, of one processor and two services:
+const STEP_EXAMPLE: &str = "A configuration, of one processor and two services:
 
 cpus 1
 log 64
@@ -40,7 +59,7 @@ kill 1
 respawn 1";
 
 /// A history, and what a refused event of it gives.
-pub const REPLAY_EXAMPLE: &str =
+const REPLAY_EXAMPLE: &str =
     "A history of two processes, which processor 0 took and gave back after 4 and 3
 steps, with a tick by the actor after the processors, here number 1:
 
@@ -54,7 +73,7 @@ An event that the machine refuses is told by its line, and mx ends with status 1
 Of configurations see mx step --help.";
 
 /// A debugger's script.
-pub const DB_EXAMPLE: &str = "A configuration, of one processor and two services:
+const DB_EXAMPLE: &str = "A configuration, of one processor and two services:
 
 cpus 1
 log 64

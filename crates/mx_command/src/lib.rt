@@ -1,6 +1,7 @@
 //! The command line's words: what they ask for.
 #![tactic(auto)]
 
+mod grammar;
 mod help;
 mod words;
 
