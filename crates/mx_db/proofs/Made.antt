@@ -10,7 +10,7 @@ use Rattle.mx_world.specs.Whole.{Whole, held_by}
 use Rattle.mx_steps.specs.Machine.{Running, world_of}
 use Rattle.mx_told.specs.declared.said.Said.{Said}
 use Rattle.mx_steps.specs.Lines.{line_made}
-use Rattle.mx_debug.specs.declared.points.Breakpoint.{Breakpoint}
+use Rattle.mx_told.specs.Breakpoint.{Breakpoint}
 use Rattle.mx_told.specs.declared.refused.Refused.{Refused as Kind}
 use Rattle.mx_db.specs.Places.{found, broken, cleared}
 use Rattle.mx_db.specs.Lines.{Debugged, gone, debug_line_made, debug_lines_made}

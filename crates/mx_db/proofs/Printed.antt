@@ -5,7 +5,7 @@ use Rattle.std.specs.Io.KnownBytes.{Appends}
 use Rattle.mx_steps.specs.Config.{Config}
 use Rattle.mx_steps.specs.Service.{Service}
 use Rattle.mx_script.specs.declared.debug.DebugLine.{DebugLine}
-use Rattle.mx_debug.specs.declared.points.Breakpoint.{Breakpoint}
+use Rattle.mx_told.specs.Breakpoint.{Breakpoint}
 use Rattle.mx_steps.specs.Report.{report_text}
 use Rattle.mx_world.specs.Boot.{booted}
 use Rattle.mx_world.specs.Whole.{Whole}

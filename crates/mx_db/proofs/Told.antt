@@ -15,10 +15,10 @@ use Rattle.mx_world.specs.History.{Kept, replay}
 use Rattle.mx_world.specs.Whole.{Whole, Lent, held_by}
 use Rattle.mx_steps.specs.Machine.{Running, world_of}
 use Rattle.mx_steps.specs.Lines.{line_made}
-use Rattle.mx_debug.specs.declared.halt.Cause.{Cause}
-use Rattle.mx_debug.specs.declared.halt.Halt.{Halt}
-use Rattle.mx_debug.specs.declared.points.Breakpoint.{Breakpoint}
-use Rattle.mx_debug.specs.Halts.{after, cause_of, is_reached}
+use Rattle.mx_told.specs.Cause.{Cause}
+use Rattle.mx_told.specs.Halt.{Halt}
+use Rattle.mx_told.specs.Breakpoint.{Breakpoint}
+use Rattle.mx_told.specs.Halts.{after, cause_of, is_reached}
 use Rattle.mx_told.specs.declared.refused.Refused.{Refused as Kind}
 use Rattle.mx_told.specs.declared.said.Said.{Said}
 use Rattle.mx_told.specs.Answers.{done_line}

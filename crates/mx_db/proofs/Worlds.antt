@@ -4,8 +4,8 @@ use Rattle.std.specs.Option.{option_map}
 use Rattle.mx_world.specs.History.{after_events}
 use Rattle.mx_world.specs.Steps.{steps_of}
 use Rattle.mx_world.specs.Whole.{Whole, Lent, held_by}
-use Rattle.mx_debug.specs.declared.halt.Halt.{Halt}
-use Rattle.mx_debug.specs.declared.points.Breakpoint.{Breakpoint}
+use Rattle.mx_told.specs.Halt.{Halt}
+use Rattle.mx_told.specs.Breakpoint.{Breakpoint}
 use Rattle.mx_db.specs.Going.{HasGone}
 use Rattle.mx_db.specs.Lines.{gone}
 

@@ -4,9 +4,9 @@ use Rattle.mx_world.specs.declared.events.Refusal.{Refusal}
 use Rattle.mx_world.specs.declared.events.Refusal.TheVariants.{AtStop, CpuEmpty}
 use Rattle.mx_world.specs.Whole.{Whole, Lent, held_by}
 use Rattle.mx_steps.specs.Machine.{HasWorked}
-use Rattle.mx_debug.specs.declared.halt.Halt.{Halt}
-use Rattle.mx_debug.specs.declared.points.Breakpoint.{Breakpoint}
-use Rattle.mx_debug.specs.Halts.{Halts, after, steps_to_halt}
+use Rattle.mx_told.specs.Halt.{Halt}
+use Rattle.mx_told.specs.Breakpoint.{Breakpoint}
+use Rattle.mx_told.specs.Halts.{Halts, after, steps_to_halt}
 
 -- What a processor holds has made the steps up to where the debugger halts it. Where steps are asked for, one is made.
 pub record HasGone (w u : Whole) (points : List Breakpoint) (a k : ℕ) (h : Halt) : Type 0 where

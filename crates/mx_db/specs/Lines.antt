@@ -6,8 +6,8 @@ use Rattle.mx_world.specs.History.{after_events}
 use Rattle.mx_world.specs.Steps.{steps_of}
 use Rattle.mx_world.specs.Whole.{Whole, Lent, held_by}
 use Rattle.mx_steps.specs.Lines.{line_made}
-use Rattle.mx_debug.specs.declared.points.Breakpoint.{Breakpoint}
-use Rattle.mx_debug.specs.Halts.{steps_to_halt}
+use Rattle.mx_told.specs.Breakpoint.{Breakpoint}
+use Rattle.mx_told.specs.Halts.{steps_to_halt}
 use Rattle.mx_db.specs.Places.{found, broken, cleared}
 
 -- the world after a processor's steps up to a breakpoint

@@ -5,10 +5,10 @@ use Rattle.mx_steps.specs.Service.{Service}
 use Rattle.mx_script.specs.declared.place.Place.{Place}
 use Rattle.mx_script.specs.declared.place.Place.TheVariants.{Address, Symbol, NoName}
 use Rattle.mx_world.specs.declared.events.Refusal.TheVariants.{NoService}
-use Rattle.mx_debug.specs.declared.error.DebugError.TheVariants.{NoSymbol, TooMany}
-use Rattle.mx_debug.specs.declared.points.Breakpoint.{Breakpoint}
-use Rattle.mx_debug.specs.Finding.{first_named}
-use Rattle.mx_debug.specs.Points.{with_point, without_point}
+use Rattle.mx_told.specs.DebugError.TheVariants.{NoSymbol, TooMany}
+use Rattle.mx_told.specs.Breakpoint.{Breakpoint}
+use Rattle.mx_told.specs.Finding.{first_named}
+use Rattle.mx_told.specs.Points.{with_point, without_point}
 use Rattle.mx_told.specs.declared.refused.Refused.{Refused as Kind}
 use Rattle.mx_told.specs.declared.refused.Refused.TheVariants.{ByMachine, ByDebugger}
 

@@ -7,8 +7,8 @@ use Rattle.mx_script.specs.declared.debug.DebugLine.TheVariants.{Plain, Break, C
 use Rattle.mx_world.specs.declared.events.Refusal.TheVariants.{AtStop, CpuEmpty}
 use Rattle.mx_world.specs.Whole.{Lent, held_by}
 use Rattle.mx_steps.specs.Lines.{line_made}
-use Rattle.mx_debug.specs.declared.points.Breakpoint.{Breakpoint}
-use Rattle.mx_debug.specs.Halts.{after, cause_of, is_reached, steps_to_halt}
+use Rattle.mx_told.specs.Breakpoint.{Breakpoint}
+use Rattle.mx_told.specs.Halts.{after, cause_of, is_reached, steps_to_halt}
 use Rattle.mx_told.specs.Answers.{done_line}
 use Rattle.mx_told.specs.Messages.{delivery_lines}
 use Rattle.mx_told.specs.Processes.{registers_text, memory_text}

@@ -18,9 +18,9 @@ ghost use Rattle.mx_db.specs.Lines.{Debugged, debug_lines_made};
 ghost use Rattle.mx_db.specs.Told.{debug_lines_told};
 
 use crate::lines::perform_debug_lines;
-use mx_debug::Debugger;
 use mx_script::DebugLine;
 use mx_steps::{DebugScript, Failure, Machine, Reader, print_report, print_text, start};
+use mx_told::Debugger;
 use std::alloc::Global;
 use std::io::Write;
 

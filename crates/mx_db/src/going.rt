@@ -6,9 +6,9 @@ ghost use Rattle.mx_world.specs.Whole.{actors, held_by};
 ghost use Rattle.mx_db.specs.Going.{HasGone, IsStuck};
 ghost use Rattle.mx_db.specs.Lines.{gone};
 
-use mx_debug::{Cause, Debugger, Halt};
 use mx_proc::Slot;
 use mx_steps::{Machine, Out, Tool};
+use mx_told::{Cause, Debugger, Halt};
 use mx_world::Refusal;
 
 /// A debugger that works with the process of a slot, for at most so many steps.
@@ -23,7 +23,7 @@ struct Resuming<'a> {
 
 impl<'a> Tool for Resuming<'a> {
     ghost use Rattle.std.specs.Prelude.{◌≡◌};
-    ghost use Rattle.mx_debug.specs.Halts.{Halts, after, steps_to_halt};
+    ghost use Rattle.mx_told.specs.Halts.{Halts, after, steps_to_halt};
 
     ghost steps = { λ tool out. steps_to_halt tool.debugger.now tool.slot tool.steps out };
 

@@ -9,10 +9,9 @@ ghost use Rattle.mx_db.specs.Told.{eip_of, image_of, gone_told, debug_line_told,
 
 use crate::going::go;
 use crate::places::{clear_breakpoint, set_breakpoint};
-use mx_debug::Debugger;
 use mx_script::DebugLine;
 use mx_steps::{Machine, perform_line};
-use mx_told::{push_done, push_memory, push_messages, push_process, push_run};
+use mx_told::{Debugger, push_done, push_memory, push_messages, push_process, push_run};
 use std::alloc::AllocError;
 use std::fmt::Write;
 

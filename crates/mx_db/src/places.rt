@@ -2,14 +2,13 @@
 
 ghost use Rattle.std.specs.Prelude.{◌≡◌, Some, None, MatchResult};
 ghost use Rattle.mx_world.specs.History.{replay};
-ghost use Rattle.mx_debug.specs.declared.error.DebugError.TheVariants as errors;
+ghost use Rattle.mx_told.specs.DebugError.TheVariants as errors;
 ghost use Rattle.mx_db.specs.Places.{address_of, found, broken, cleared};
 
 use mx_aout::Program;
-use mx_debug::{DebugError, Debugger, Kernel, address};
 use mx_proc::Slot;
 use mx_script::Place;
-use mx_told::Refused;
+use mx_told::{DebugError, Debugger, Kernel, Refused, address};
 use mx_world::Refusal;
 
 /// The address of a place in a program.

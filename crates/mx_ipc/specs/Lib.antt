@@ -1,2 +1,3 @@
 pub mod Checks
 pub mod Calls
+pub use Rattle.mx_sched.specs.Queueing

@@ -5,7 +5,7 @@ use Rattle.std.proofs.Math.ListN.{drop_of_length-le}
 use Rattle.mx_proc.specs.declared.process.Process.{Process}
 use Rattle.mx_proc.specs.declared.process.Source.{Source}
 use Rattle.mx_proc.specs.World.{World, process_at, nobody, noticed, with_result, with_process, without_pending}
-use Rattle.mx_sched.specs.Queueing.{queued, next_level, is_last_renewed}
+use Rattle.mx_ipc.specs.Queueing.{queued, next_level, is_last_renewed}
 use Rattle.mx_ipc.specs.Calls.{goes_on, told, hears}
 use Rattle.mx_kcall.specs.Clock.{is_due, due_slots, rung, all_rung}
 use Rattle.mx_kcall.specs.Ringing.{rung_if_due}

@@ -6,3 +6,7 @@ pub mod Ringing
 pub use Rattle.mx_respawn.specs.declared.service.Service
 pub use Rattle.mx_respawn.specs.Death
 pub use Rattle.mx_respawn.specs.Respawn
+pub use Rattle.mx_respawn.specs.Load
+pub use Rattle.mx_ipc.specs.Queueing
+pub use Rattle.mx_ipc.specs.declared.calls.TrapAnswer
+pub use Rattle.mx_ipc.specs.Calls

@@ -15,7 +15,7 @@ use Rattle.mx_proc.specs.States.{is_ready, is_sending, is_out, IsAlone}
 use Rattle.mx_proc.specs.Frame.{Frame, frame}
 use Rattle.mx_proc.specs.World.{World, process_at, nobody, unqueued, unblocked, with_result, to_front, to_end}
 use Rattle.mx_proc.specs.Sound.{Sound}
-use Rattle.mx_sched.specs.Queueing.{queued, next_level, is_last_renewed}
+use Rattle.mx_ipc.specs.Queueing.{queued, next_level, is_last_renewed}
 use Rattle.mx_ipc.specs.Calls.{goes_on}
 use Rattle.std.proofs.lemmas.List.{length-map, get_or-map}
 use Rattle.mx_proc.specs.declared.process.Cause.{Cause}

@@ -2,7 +2,7 @@
 -- is our choice).
 use Rattle.std.specs.Prelude.{ℕ, ◌+◌, ◌==◌, List, [], ◌∷◌, None, map, replicate, if◌then◌else◌}
 use Rattle.std.specs.List.{range_with_len}
-use Rattle.mx_load.specs.Load.{loaded}
+use Rattle.mx_kcall.specs.Load.{loaded}
 use Rattle.mx_proc.specs.declared.process.Process.{Process}
 use Rattle.mx_proc.specs.World.{World, no_world, new_process}
 use Rattle.mx_kcall.specs.Service.{Service}

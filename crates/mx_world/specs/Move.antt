@@ -10,10 +10,10 @@ use Rattle.mx_proc.specs.Endpoints.{is_alive}
 use Rattle.mx_proc.specs.Queues.{picked}
 use Rattle.mx_proc.specs.States.{is_down, is_out}
 use Rattle.mx_proc.specs.World.{World, process_at, with_state, endpoint_of, unqueued, moved_out, moved_home, spent}
-use Rattle.mx_sched.specs.Queueing.{queued}
-use Rattle.mx_ipc.specs.declared.calls.TrapAnswer.{TrapAnswer}
-use Rattle.mx_ipc.specs.declared.calls.TrapAnswer.TheVariants as trap_ends
-use Rattle.mx_ipc.specs.Calls.{trapped, trap_answer}
+use Rattle.mx_kcall.specs.Queueing.{queued}
+use Rattle.mx_kcall.specs.TrapAnswer.{TrapAnswer}
+use Rattle.mx_kcall.specs.TrapAnswer.TheVariants as trap_ends
+use Rattle.mx_kcall.specs.Calls.{trapped, trap_answer}
 use Rattle.mx_kcall.specs.Service.{Service}
 use Rattle.mx_kcall.specs.Death.{died}
 use Rattle.mx_kcall.specs.Respawn.{is_worn, respawned}

@@ -1,6 +1,6 @@
 -- What always holds of a machine.
 use Rattle.std.specs.Prelude.{◌≡◌, ◌≢◌, ◌≤◌, ◌+◌, ◌*◌, ◌^◌, ℕ, List, length, map, Option, Some, None, slice_get, slice_index_or}
-use Rattle.mx_load.specs.Load.{IsLoadedFrom}
+use Rattle.mx_kcall.specs.Load.{IsLoadedFrom}
 use Rattle.mx_proc.specs.declared.process.State.TheVariants.{Home}
 use Rattle.mx_proc.specs.Frame.{loan_of}
 use Rattle.mx_proc.specs.Sound.{Sound}
