@@ -1,5 +1,5 @@
 -- Lines that are read, one more at a time.
-use Rattle.std.proofs.Common.{◌≡◌, ◌≢◌, ◌⊎◌, ◌∙◌, ℕ, suc, ◌+◌, inl, inr, List, [], ◌∷◌, length, refl, sym, subst, ap, arith}
+use Rattle.std.proofs.Common.{◌≡◌, ◌≢◌, ◌∙◌, ℕ, suc, ◌+◌, inl, inr, List, [], ◌∷◌, length, refl, sym, subst, ap, arith}
 use Rattle.mx_line.specs.Lines.{lines, last_line}
 use Rattle.mx_fields.specs.declared.error.BootError.{BootError}
 use Rattle.mx_fields.specs.declared.error.BootError.TheVariants.{BadLine, TwiceNamed, TooMany, BadRecord, NoMemory}

@@ -1,5 +1,5 @@
 -- What a line does, from what its function answers.
-use Rattle.std.proofs.Common.{◌≡◌, ◌∙◌, ◌<◌, ◌+◌, ℕ, List, [], ◌∷◌, ◌++◌, Option, Some, None, length, get_or, take, Result, Ok, Err, OnOk, sym, ap, refl}
+use Rattle.std.proofs.Common.{◌≡◌, ◌∙◌, ◌<◌, ◌+◌, ℕ, List, [], ◌∷◌, ◌++◌, length, get_or, take, Result, Ok, Err, OnOk, sym, ap, refl}
 use Rattle.std.proofs.lemmas.List.{take_more}
 use Rattle.mx_script.specs.declared.debug.DebugLine.{DebugLine}
 use Rattle.mx_script.specs.declared.debug.DebugLine.TheVariants.{Plain, Break, Clear, Go, Registers, Memory, Messages}

@@ -1,5 +1,5 @@
 -- One service more at boot.
-use Rattle.std.proofs.Common.{◌≡◌, ◌≢◌, ◌∙◌, ◌<◌, ◌≤◌, ◌^◌, ℕ, zero, suc, ◌+◌, ◌-◌, ◌*◌, ◌==◌, Bool, true, false, cond, List, [], ◌∷◌, ◌++◌, map, replicate, length, slice_set, slice_get, get_or, Option, Some, None, inl, inr, refl, sym, ap, arith, subst, length-append}
+use Rattle.std.proofs.Common.{◌≡◌, ◌≢◌, ◌∙◌, ◌<◌, ◌≤◌, ◌^◌, ℕ, zero, suc, ◌+◌, ◌-◌, ◌*◌, Bool, true, false, List, [], ◌∷◌, ◌++◌, map, replicate, length, slice_set, slice_get, get_or, Option, Some, None, inl, inr, refl, sym, ap, arith, subst, length-append}
 use Rattle.std.specs.List.{range_with_len}
 use Rattle.std.proofs.lemmas.Bool.{cases_eq, eq-eqb, ne_eqb}
 use Rattle.std.proofs.lemmas.List.{map-append, length-map, length-replicate}
@@ -19,7 +19,7 @@ use Rattle.mx_world.specs.declared.holding.Lease.{Lease}
 use Rattle.mx_world.specs.declared.history.Record.{Record}
 use Rattle.mx_world.specs.Whole.{Lent, out_count}
 use Rattle.mx_world.specs.Boot.{first_process, slots_from, first_table, booted_with}
-use Rattle.mx_world.specs.Sound.{Holds, lease_of, lease_at}
+use Rattle.mx_world.specs.Sound.{Holds, lease_of}
 use Rattle.mx_world.specs.History.{replay}
 use Rattle.mx_kernel.specs.Agrees.{Agrees}
 use Rattle.mx_kernel.specs.Situation.{Situation}

@@ -1,10 +1,10 @@
 -- What frames say of each slot.
-use Rattle.std.proofs.Common.{◌≡◌, ◌≢◌, ◌∙◌, ℕ, zero, suc, ◌+◌, ◌≤◌, List, [], ◌∷◌, map, length, Option, Some, None, get_or, slice_set, get_or-set_other, length-set, refl, ap, sym, arith}
+use Rattle.std.proofs.Common.{◌≡◌, ◌∙◌, ℕ, zero, suc, List, [], ◌∷◌, map, length, None, get_or, slice_set, get_or-set_other, length-set, refl, ap, sym, arith}
 use Rattle.std.proofs.lemmas.List.{length-map}
 use Rattle.mx_proc.specs.declared.process.Process.{Process}
 use Rattle.mx_proc.specs.declared.devices.Devices.{Devices}
 use Rattle.mx_proc.specs.Console.{Written}
-use Rattle.mx_proc.specs.Frame.{Frame, Fixed, fixed_of, loan_of, frame, reframed}
+use Rattle.mx_proc.specs.Frame.{Frame, fixed_of, loan_of, frame, reframed}
 use Rattle.mx_proc.specs.World.{World, nobody, process_at}
 use Rattle.mx_kernel.specs.Serving.{KeepsBut, Keeps, WritesAtMostOne}
 

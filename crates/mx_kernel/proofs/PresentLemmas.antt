@@ -1,5 +1,5 @@
 -- What a kernel keeps in mind, before and after.
-use Rattle.std.proofs.Common.{◌≡◌, ◌≢◌, ◌∙◌, ℕ, zero, suc, ◌+◌, ◌-◌, ◌*◌, ◌<◌, ◌≤◌, ◌^◌, List, [], ◌∷◌, length, drop, Option, Some, None, Bool, true, false, ◌&&◌, ◌||◌, not, get_or, slice_set, slice_get, replicate, ◌++◌, get_or-set_same, inl, inr, refl, ap, sym, subst, arith}
+use Rattle.std.proofs.Common.{◌≡◌, ◌∙◌, ℕ, zero, suc, ◌+◌, ◌-◌, ◌*◌, ◌<◌, ◌≤◌, ◌^◌, List, [], ◌∷◌, length, drop, Option, Some, None, Bool, true, false, ◌&&◌, ◌||◌, not, get_or, slice_set, slice_get, replicate, get_or-set_same, inl, inr, refl, ap, sym, subst, arith}
 use Rattle.std.proofs.lemmas.Bool.{cases_lt}
 use Rattle.std.proofs.lemmas.List.{length-append, length-replicate}
 use Rattle.std.proofs.Math.ListN.{get_or-eq_default}
@@ -24,7 +24,6 @@ use Rattle.mx_world.specs.declared.holding.Lease.{Lease}
 use Rattle.mx_world.specs.declared.holding.Out.{Out as Held}
 use Rattle.mx_world.specs.Rest.{down_are_worn}
 use Rattle.mx_world.specs.Sound.{Holds, lease_at}
-use Rattle.mx_world.specs.Whole.{out_count}
 use Rattle.mx_kernel.specs.Serving.{IsReturned, IsSent, Settled, WritesAtMostOne}
 use Rattle.mx_kernel.specs.Situation.{Situation, free_records, on_to, MayRespawn, HasActed, respawned_by, table_after}
 use Rattle.mx_kernel.proofs.FrameLemmas.{keeps_frame, keeps_but_devices, keeps_but_uptime, keeps_others, same_uptime, same_written, uptime_is, uptime_written}

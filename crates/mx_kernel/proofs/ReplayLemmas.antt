@@ -1,23 +1,20 @@
 -- A kernel and the history that it keeps.
-use Rattle.std.proofs.Common.{◌≡◌, ◌≢◌, ◌∙◌, ℕ, zero, suc, ◌+◌, ◌-◌, ◌*◌, ◌%◌, ◌<◌, ◌≤◌, ◌^◌, ◌++◌, List, [], ◌∷◌, map, replicate, length, Option, Some, None, Bool, true, false, is_none, ◌&&◌, ◌==◌, get_or, slice_set, slice_get, All, get_or-set_same, get_or-set_other, length-set, append_assoc, inl, inr, refl, ap, sym, subst, arith}
-use Rattle.std.proofs.lemmas.Bool.{cases_eq, lt-leb}
+use Rattle.std.proofs.Common.{◌≡◌, ◌∙◌, ℕ, zero, suc, ◌+◌, ◌-◌, ◌<◌, ◌≤◌, ◌++◌, List, [], ◌∷◌, map, replicate, length, Option, Some, None, true, is_none, ◌&&◌, ◌==◌, get_or, slice_set, slice_get, All, get_or-set_same, get_or-set_other, length-set, append_assoc, inl, inr, refl, ap, sym, subst, arith}
+use Rattle.std.proofs.lemmas.Bool.{cases_eq}
 use Rattle.std.proofs.lemmas.List.{length-map}
 use Rattle.std.proofs.lemmas.List.Elements.{All-append}
-use Rattle.mx_image.specs.declared.runs.Stop.{Stop}
-use Rattle.mx_image.specs.declared.runs.Stop.TheVariants.{Spent}
 use Rattle.mx_load.specs.Load.{IsLoadedFrom}
 use Rattle.mx_proc.specs.Endpoints.{is_alive}
 use Rattle.mx_proc.specs.Queues.{picked}
 use Rattle.mx_proc.specs.Sound.{Sound}
 use Rattle.mx_proc.specs.declared.process.Process.{Process}
-use Rattle.mx_proc.specs.World.{World, process_at}
+use Rattle.mx_proc.specs.World.{process_at}
 use Rattle.mx_respawn.specs.declared.service.Service.{Service}
 use Rattle.mx_kcall.specs.Refusals.{owner_of}
 use Rattle.mx_world.specs.declared.events.Answer.{Answer}
 use Rattle.mx_world.specs.declared.events.Event.{Event}
 use Rattle.mx_world.specs.declared.events.Event.TheVariants as events
 use Rattle.mx_world.specs.declared.events.Refusal.{Refusal}
-use Rattle.mx_world.specs.declared.events.Refusal.TheVariants.{CpuBusy}
 use Rattle.mx_world.specs.declared.history.Record.{Record}
 use Rattle.mx_world.specs.declared.history.Recorded.{Recorded}
 use Rattle.mx_world.specs.declared.history.Recorded.TheVariants as recorded
@@ -31,7 +28,7 @@ use Rattle.mx_world.specs.Rest.{at_rest, down_are_worn}
 use Rattle.mx_world.specs.Sound.{lease_of, lease_at, IsSound}
 use Rattle.mx_world.specs.Steps.{StepsTo}
 use Rattle.mx_world.specs.Whole.{Whole, Lent, actors, held_by, out_count, free}
-use Rattle.mx_kernel.specs.Agrees.{Agrees, IsFresh, IsAccepted, IsRefused}
+use Rattle.mx_kernel.specs.Agrees.{Agrees, IsFresh, IsAccepted}
 use Rattle.mx_kernel.specs.Situation.{Situation, situation_of, free_records, on_to, with_taken, with_returned, refusal_to_take, HasTaken, HasActed, refusal_to, raised_by, respawned_by, table_after, answer_to, is_for_all, recorded_as}
 use Rattle.mx_kernel.proofs.HoldsLemmas.{holds_in}
 use Rattle.mx_kernel.proofs.PresentLemmas.{HoldsOf, ready_loan}

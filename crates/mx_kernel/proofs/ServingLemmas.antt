@@ -1,10 +1,8 @@
 -- What events do to one slot, and to the others.
-use Rattle.std.proofs.Common.{◌≡◌, ◌≢◌, ◌∙◌, ℕ, ◌+◌, ◌-◌, ◌<◌, ◌≤◌, length, Some, None, true, false, get_or, slice_set, get_or-set_same, get_or-set_other, length-set, inl, inr, refl, ap, sym, subst, arith}
+use Rattle.std.proofs.Common.{◌≡◌, ◌≢◌, ◌∙◌, ℕ, ◌+◌, ◌-◌, ◌<◌, ◌≤◌, length, Some, get_or-set_same, get_or-set_other, length-set, inl, inr, refl, ap, sym, subst, arith}
 use Rattle.std.proofs.lemmas.Bool.{cases_eq}
-use Rattle.mx_exec.specs.declared.image.Image.{Image}
 use Rattle.mx_exec.specs.Image.{blank}
 use Rattle.mx_exec.specs.Lasting.{lasting}
-use Rattle.mx_image.specs.declared.runs.Stop.{Stop}
 use Rattle.mx_proc.specs.declared.devices.Devices.{Devices}
 use Rattle.mx_proc.specs.declared.process.Process.{Process}
 use Rattle.mx_proc.specs.declared.process.Cause.{Cause}
@@ -12,7 +10,7 @@ use Rattle.mx_proc.specs.declared.process.State.{State}
 use Rattle.mx_proc.specs.declared.process.State.TheVariants.{Home, Out, Doomed, Down}
 use Rattle.mx_proc.specs.Frame.{Frame, Fixed, fixed_of, loan_of, frame}
 use Rattle.mx_proc.specs.Sound.{NoneComesHome}
-use Rattle.mx_proc.specs.World.{World, nobody, process_at, with_process, with_state, unqueued, moved_out, moved_home, spent}
+use Rattle.mx_proc.specs.World.{World, nobody, process_at, with_process, with_state, unqueued, moved_home, spent}
 use Rattle.mx_world.specs.Move.{sent_out, come_home}
 use Rattle.mx_world.specs.Whole.{Lent}
 use Rattle.mx_world.specs.declared.holding.Out.{Out as Held}

@@ -1,5 +1,5 @@
 -- What a kernel's parts say of its history, and what its calls answer.
-use Rattle.std.specs.Prelude.{◌≡◌, ◌≤◌, ℕ, All, Option, Some, None, length, slice_get}
+use Rattle.std.specs.Prelude.{◌≡◌, ◌≤◌, ℕ, All, Some, None, length, slice_get}
 use Rattle.mx_image.specs.declared.runs.Stop.TheVariants.{Spent}
 use Rattle.mx_load.specs.Load.{IsLoadedFrom}
 use Rattle.mx_respawn.specs.declared.service.Service.{Service}

@@ -1,5 +1,5 @@
 -- A kernel's history, run again.
-use Rattle.std.proofs.Common.{◌≡◌, ◌∙◌, ◌<◌, ◌+◌, ◌++◌, ℕ, suc, List, [], ◌∷◌, replicate, length, All, IsOk, refl, sym, ap, subst, arith}
+use Rattle.std.proofs.Common.{◌≡◌, ◌<◌, ℕ, suc, List, [], ◌∷◌, replicate, All, sym, subst, arith}
 use Rattle.std.proofs.lemmas.List.Elements.{All-nil, All-cons, All-append, All-replicate}
 use Rattle.mx_world.specs.declared.events.Event.{Event}
 use Rattle.mx_world.specs.declared.events.Event.TheVariants.{Step, Take, Back, Line, Tick, Kill, Respawn}
@@ -7,7 +7,6 @@ use Rattle.mx_world.specs.declared.history.Record.{Record}
 use Rattle.mx_world.specs.declared.history.Recorded.{Recorded}
 use Rattle.mx_world.specs.declared.history.Recorded.TheVariants as recorded
 use Rattle.mx_world.specs.History.{Kept, IsWritable, events_of, unfolded, after_events, replay}
-use Rattle.mx_world.specs.Move.{moves}
 use Rattle.mx_world.specs.Whole.{Whole, actors}
 use Rattle.mx_machine.specs.Laws.{Replays, RunsAgain}
 use Rattle.mx_machine.specs.Machine.{IsActor}

@@ -1,8 +1,7 @@
 -- What processors hold over what the kernel shows as lent.
-use Rattle.std.proofs.Common.{◌≡◌, ◌≢◌, ◌∙◌, ◌<◌, ◌≤◌, ℕ, zero, suc, ◌+◌, ◌-◌, ◌*◌, ◌%◌, cond, nat_lt, Bool, true, false, List, [], ◌∷◌, ◌++◌, length, Option, Some, None, Result, Ok, Err, slice_get, slice_set, get_or, inl, inr, refl, sym, ap, subst, arith}
+use Rattle.std.proofs.Common.{◌≡◌, ◌∙◌, ◌<◌, ℕ, zero, suc, ◌+◌, ◌-◌, ◌*◌, cond, nat_lt, Bool, true, false, List, [], ◌∷◌, ◌++◌, length, Option, Some, None, Result, Ok, Err, slice_get, slice_set, get_or, refl, sym, ap, arith}
 use Rattle.std.specs.Option.{option_map}
-use Rattle.std.proofs.lemmas.Bool.{cases_eq}
-use Rattle.std.proofs.lemmas.List.{set-get_or, set-set, get_or-set_other, get_or-set_same, length-set}
+use Rattle.std.proofs.lemmas.List.{set-get_or, set-set, get_or-set_same, length-set}
 use Rattle.mx_proc.specs.Queues.{picked}
 use Rattle.mx_proc.specs.Endpoints.{is_alive}
 use Rattle.mx_exec.specs.Image.{blank}
@@ -14,7 +13,7 @@ use Rattle.mx_kernel.specs.Service.{Service}
 use Rattle.mx_world.specs.declared.events.Event.{Event}
 use Rattle.mx_world.specs.declared.events.Event.TheVariants.{Step, Take, Back, Line, Tick, Kill, Respawn}
 use Rattle.mx_world.specs.declared.events.Refusal.{Refusal}
-use Rattle.mx_world.specs.declared.events.Refusal.TheVariants.{LogFull, CpuBusy, NoProcess, AtStop, CpuEmpty}
+use Rattle.mx_world.specs.declared.events.Refusal.TheVariants.{CpuBusy, CpuEmpty}
 use Rattle.mx_world.specs.declared.events.Answer.{Answer}
 use Rattle.mx_world.specs.declared.events.Answer.TheVariants.{Returned, Taken}
 use Rattle.mx_world.specs.declared.holding.Out.{Out}
@@ -22,7 +21,7 @@ use Rattle.mx_world.specs.Whole.{Whole, Lent, held_by, out_count, free}
 use Rattle.mx_world.specs.Move.{if_full, take_refusal, line_refusal, kill_refusal, respawn_refusal, event_refusal, after_event, event_answer, moved_by, move, after_line, after_respawn, after_take, after_back, with_held, noted, returned, lent_of, step_refusal, back_refusal, back_answer, take_answer, sent_out, moves}
 use Rattle.mx_world.specs.History.{Kept, replay}
 use Rattle.mx_kernel.specs.Situation.{is_for_all}
-use Rattle.mx_machine.specs.Machine.{Running, held_now, all_held_now, world_of}
+use Rattle.mx_machine.specs.Machine.{held_now, all_held_now, world_of}
 
 -- ---- lists
 

@@ -1,5 +1,5 @@
 -- Runs of what a processor holds.
-use Rattle.std.proofs.Common.{◌≡◌, ◌≢◌, ◌∙◌, ◌<◌, ◌≤◌, ℕ, zero, suc, ◌+◌, ◌-◌, ◌||◌, nat_le, min, Bool, true, false, List, length, Option, Some, None, slice_set, get_or, inl, inr, refl, sym, ap, subst, arith}
+use Rattle.std.proofs.Common.{◌≡◌, ◌≢◌, ◌∙◌, ◌<◌, ◌≤◌, ℕ, zero, suc, ◌+◌, ◌-◌, ◌||◌, nat_le, min, false, List, length, Option, None, slice_set, get_or, inl, inr, refl, sym, ap, subst, arith}
 use Rattle.std.proofs.lemmas.Bool.{cases_eq, cases_lt, le-leb}
 use Rattle.std.proofs.lemmas.List.{get_or-set_other, get_or-set_same}
 use Rattle.mx_exec.specs.Lasting.{lasting}
@@ -7,11 +7,11 @@ use Rattle.mx_exec.specs.declared.image.Image.{Image}
 use Rattle.mx_exec.specs.declared.image.Outcome.{Outcome}
 use Rattle.mx_exec.specs.declared.image.Outcome.TheVariants.{Go, Trap, Fault}
 use Rattle.mx_exec.specs.Step.{one_step}
-use Rattle.mx_image.specs.Run.{Ran, ran, went, counted}
+use Rattle.mx_image.specs.Run.{ran, went, counted}
 use Rattle.mx_image.specs.declared.runs.Stop.{Stop}
 use Rattle.mx_image.specs.declared.runs.Stop.TheVariants as stop
 use Rattle.mx_world.specs.declared.holding.Out.{Out}
-use Rattle.mx_world.specs.Held.{IsBack, after_run, after_step, held_run, run_by_stop, stepped, then_held}
+use Rattle.mx_world.specs.Held.{after_run, after_step, held_run, run_by_stop, stepped, then_held}
 use Rattle.mx_world.specs.Move.{at_stop, is_stop}
 use Rattle.mx_world.specs.Whole.{Lent}
 use Rattle.mx_machine.specs.Machine.{IsRunOf, IsHeld}

@@ -1,12 +1,10 @@
 -- The world of a machine is sound.
-use Rattle.std.proofs.Common.{◌≡◌, ◌∙◌, ◌≤◌, ℕ, zero, suc, List, [], ◌∷◌, map, Option, Some, None, get_or, slice_get, refl, sym, ap, subst, arith}
-use Rattle.mx_exec.specs.Lasting.{lasting}
-use Rattle.mx_kernel.specs.Service.{Service}
+use Rattle.std.proofs.Common.{◌≡◌, ◌∙◌, ℕ, suc, List, [], ◌∷◌, map, Option, Some, None, get_or, slice_get, refl, sym, ap, subst}
 use Rattle.mx_world.specs.declared.holding.Lease.{Lease}
 use Rattle.mx_world.specs.declared.holding.Out.{Out}
 use Rattle.mx_world.specs.History.{replay}
 use Rattle.mx_world.specs.Sound.{Holds, IsSound, lease_of}
-use Rattle.mx_world.specs.Whole.{Whole, Lent, held_by}
+use Rattle.mx_world.specs.Whole.{Lent, held_by}
 use Rattle.mx_machine.specs.Machine.{IsHeld, IsRunOf, IsRunning, Running, held_now, all_held_now, world_of}
 use Rattle.mx_machine.proofs.MachineLemmas.{held_now-at}
 use Rattle.mx_machine.proofs.RunLemmas.{run-budget}

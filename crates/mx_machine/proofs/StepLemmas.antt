@@ -1,17 +1,15 @@
 -- A step of one processor, and what else happens.
-use Rattle.std.proofs.Common.{◌≡◌, ◌≢◌, ◌∙◌, ℕ, zero, suc, ◌+◌, ◌-◌, ◌%◌, cond, nat_lt, Bool, true, false, List, [], ◌∷◌, length, Option, Some, None, Result, Ok, Err, slice_get, slice_set, get_or, inl, inr, refl, sym, ap}
-use Rattle.std.proofs.lemmas.Bool.{cases_Bool}
+use Rattle.std.proofs.Common.{◌≡◌, ◌≢◌, ◌∙◌, ℕ, zero, suc, ◌+◌, ◌-◌, cond, nat_lt, Bool, true, false, List, [], ◌∷◌, length, Option, Some, None, Result, Ok, Err, slice_get, slice_set, get_or, refl, sym, ap}
 use Rattle.std.proofs.lemmas.List.{set_comm, get_or-set_other, length-set}
 use Rattle.mx_proc.specs.Queues.{picked}
 use Rattle.mx_proc.specs.Endpoints.{is_alive}
-use Rattle.mx_proc.specs.World.{World, process_at}
-use Rattle.mx_proc.specs.declared.process.Process.{Process}
+use Rattle.mx_proc.specs.World.{process_at}
 use Rattle.mx_kernel.specs.Refusals.{owner_of}
 use Rattle.mx_kernel.specs.Service.{Service}
 use Rattle.mx_world.specs.declared.events.Event.{Event}
 use Rattle.mx_world.specs.declared.events.Event.TheVariants.{Step, Take, Back, Line, Tick, Kill, Respawn}
 use Rattle.mx_world.specs.declared.events.Refusal.{Refusal}
-use Rattle.mx_world.specs.declared.events.Refusal.TheVariants.{LogFull, CpuBusy, NoProcess, AtStop}
+use Rattle.mx_world.specs.declared.events.Refusal.TheVariants.{CpuBusy, AtStop}
 use Rattle.mx_world.specs.declared.events.Answer.{Answer}
 use Rattle.mx_world.specs.declared.events.Answer.TheVariants.{Went}
 use Rattle.mx_world.specs.Held.{stepped, outcome_of_step}

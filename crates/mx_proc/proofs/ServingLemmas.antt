@@ -1,14 +1,13 @@
-use Rattle.std.proofs.Common.{◌≡◌, ◌≢◌, ℕ, ◌+◌, ◌-◌, ◌<◌, ◌≤◌, ◌==◌, Bool, true, false, cond, map, List, [], ◌∷◌, ◌++◌, length, get_or, slice_set, slice_index, take, drop, Option, Some, None, IfSome, refl, sym, ap, ◌∙◌, subst, arith, inl, inr, length-set, get_or-set_same, get_or-set_other}
+use Rattle.std.proofs.Common.{◌≡◌, ℕ, ◌+◌, ◌-◌, ◌<◌, ◌≤◌, ◌==◌, Bool, true, false, cond, map, List, [], ◌∷◌, ◌++◌, length, get_or, slice_set, take, drop, Option, Some, None, IfSome, refl, sym, ap, ◌∙◌, subst, arith, inl, inr, length-set, get_or-set_same, get_or-set_other}
 use Rattle.std.proofs.lemmas.List.{length-map, get_or-map, get_or-append_right, set-append_left, set-append_right, length-append, length-take, length-drop}
-use Rattle.std.proofs.lemmas.Bool.{cases_lt, cases_eq, cases_Bool}
+use Rattle.std.proofs.lemmas.Bool.{cases_lt, cases_eq}
 use Rattle.std.proofs.Math.ListN.{get_or-eq_default, get_or-append}
 use Rattle.mx_proc.proofs.ListLemmas.{get_or-any}
 use Rattle.mx_proc.specs.declared.process.Process.{Process}
 use Rattle.mx_proc.specs.declared.devices.Devices.{Devices}
-use Rattle.mx_proc.specs.States.{is_out}
-use Rattle.mx_proc.specs.World.{World, nobody, process_at}
+use Rattle.mx_proc.specs.World.{World, nobody}
 use Rattle.mx_proc.specs.Frame.{Fixed, Frame, fixed_of, loan_of, frame}
-use Rattle.mx_proc.specs.Sound.{Sound, Stands, IsProcess}
+use Rattle.mx_proc.specs.Sound.{Sound, Stands}
 use Rattle.std.proofs.Math.Seq.{take-append_seam}
 use Rattle.mx_mem.specs.Segment.{overwritten, part}
 use Rattle.mx_proc.specs.Serving.{without_bit_of, owner_but, forgotten, copied_to}

@@ -1,21 +1,19 @@
-use Rattle.std.proofs.Common.{◌≡◌, ◌≢◌, ◌^◌, ℕ, zero, suc, ◌+◌, ◌-◌, ◌<◌, ◌≤◌, ◌==◌, ◌&&◌, nat_lt, Bool, true, false, cond, not, List, [], ◌∷◌, ◌++◌, length, drop, map, filter, Option, Some, None, inl, inr, refl, sym, ap, ◌∙◌, arith, subst, get_or, get_or-set_same, get_or-set_other, length-set, slice_set}
+use Rattle.std.proofs.Common.{◌≡◌, ◌≢◌, ℕ, zero, suc, ◌+◌, ◌<◌, ◌≤◌, ◌==◌, ◌&&◌, Bool, true, false, cond, not, List, [], ◌∷◌, ◌++◌, length, drop, map, Some, None, inl, inr, refl, sym, ap, ◌∙◌, arith, subst, get_or, get_or-set_same, get_or-set_other, slice_set}
 use Rattle.std.proofs.lemmas.Bool.{cases_eq, cases_Bool, cases_lt, eq-eqb, ne_eqb}
 use Rattle.std.proofs.Math.Seq.{drop-cons}
 use Rattle.std.proofs.Math.ListN.{drop_of_length-le, get_or-eq_default}
 use Rattle.mx_proc.specs.declared.process.Process.{Process}
 use Rattle.mx_proc.specs.declared.process.State.{State}
 use Rattle.mx_proc.specs.declared.process.State.TheVariants.{Home, Ready, Out, Doomed, Sending, Calling, Receiving, Awaiting, Down}
-use Rattle.mx_proc.specs.declared.process.Partner.TheVariants.{Any, System, Only}
-use Rattle.mx_proc.specs.declared.process.Source.TheVariants.{Hardware, Clock, Slot}
+use Rattle.mx_proc.specs.declared.process.Partner.TheVariants.{Any}
 use Rattle.mx_proc.specs.declared.errors.Errno.TheVariants.{Dead}
 use Rattle.mx_proc.specs.Errors.{bits_of}
 use Rattle.mx_proc.specs.Queues.{tally}
 use Rattle.mx_proc.specs.Waits.{sends_of, without_from, caller_of}
-use Rattle.mx_proc.specs.States.{is_ready, is_sending, is_out, IsAlone}
+use Rattle.mx_proc.specs.States.{is_ready, is_sending, IsAlone}
 use Rattle.mx_proc.specs.Frame.{Frame, frame}
-use Rattle.mx_proc.specs.World.{World, process_at, nobody, unqueued, unblocked, with_result, to_front, to_end}
+use Rattle.mx_proc.specs.World.{World, process_at, nobody, unqueued, unblocked}
 use Rattle.mx_proc.specs.Sound.{Sound}
-use Rattle.mx_ipc.specs.Queueing.{queued, next_level, is_last_renewed}
 use Rattle.mx_ipc.specs.Calls.{goes_on}
 use Rattle.std.proofs.lemmas.List.{length-map, get_or-map}
 use Rattle.mx_proc.specs.declared.process.Cause.{Cause}

@@ -1,5 +1,5 @@
 -- Death (our choice: MINIX 3.1 has no such thing in its kernel).
-use Rattle.std.specs.Prelude.{ℕ, ◌+◌, ◌==◌, ◌&&◌, ◌++◌, Bool, true, false, not, List, [], ◌∷◌, map, filter, if◌then◌else◌}
+use Rattle.std.specs.Prelude.{ℕ, ◌+◌, ◌==◌, ◌&&◌, ◌++◌, Bool, false, not, List, [], ◌∷◌, map, filter, if◌then◌else◌}
 use Rattle.mx_proc.specs.declared.process.Process.{Process}
 use Rattle.mx_proc.specs.declared.process.Cause.{Cause}
 use Rattle.mx_proc.specs.declared.process.State.{State}

@@ -1,7 +1,7 @@
 -- Words that are written with spaces between are read as these words, and lines as these lines.
-use Rattle.std.proofs.Common.{◌≡◌, ℕ, Bool, true, false, cond, not, ◌&&◌, ◌||◌, List, [], ◌∷◌, ◌++◌, refl, sym, ap, ap₂, ◌∙◌, append_assoc}
-use Rattle.std.specs.Prelude.{◌==◌, filter, map, codes}
-use Rattle.std.specs.List.{list_all, flat_map, AllByRecursion, slice_split, onto_first}
+use Rattle.std.proofs.Common.{◌≡◌, ℕ, Bool, true, false, cond, not, ◌&&◌, ◌||◌, List, [], ◌∷◌, ◌++◌, refl, ap, ◌∙◌, append_assoc}
+use Rattle.std.specs.Prelude.{◌==◌, filter, map}
+use Rattle.std.specs.List.{list_all, AllByRecursion, slice_split, onto_first}
 use Rattle.std.proofs.lemmas.List.Splits.{slice_split-cons_yes, slice_split-cons_no}
 use Rattle.std.proofs.lemmas.List.Folds.{list_all-append}
 use Rattle.mx_line.specs.Lines.{lines, begun_by}

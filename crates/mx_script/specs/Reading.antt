@@ -1,7 +1,7 @@
 -- How a text is read of which each line says one thing (our own).
 use Rattle.std.specs.Prelude.{◌≡◌, ℕ, ◌+◌, List, ◌∷◌, ◌++◌, length, map, Option, Some, None, ⊤}
 use Rattle.mx_fields.specs.declared.error.BootError.{BootError}
-use Rattle.mx_fields.specs.declared.error.BootError.TheVariants.{BadLine, TwiceNamed, TooMany, BadRecord, NoMemory}
+use Rattle.mx_fields.specs.declared.error.BootError.TheVariants.{BadRecord, NoMemory}
 
 -- these are what the lines say, where `says` tells what one line says
 abbrev pub AreRead : {T : Type 0} → (List ℕ → Option T) → List (List ℕ) → List T → Type 0

@@ -1,8 +1,6 @@
 -- What is read of files, and the first fault of them.
-use Rattle.std.proofs.Common.{◌≡◌, ◌<◌, ◌⊎◌, ◌∙◌, ℕ, zero, suc, ◌+◌, Bool, true, false, List, [], ◌∷◌, ◌++◌, Option, Some, None, Result, Ok, Err, length, take, drop, get_or, append_assoc, inl, inr, refl, ap, sym, subst, arith}
+use Rattle.std.proofs.Common.{◌≡◌, ◌<◌, ◌⊎◌, ◌∙◌, ℕ, zero, suc, ◌+◌, true, false, List, [], ◌∷◌, ◌++◌, Option, Some, None, Ok, Err, length, take, drop, get_or, append_assoc, inl, inr, refl, ap, sym, subst, arith}
 use Rattle.std.proofs.lemmas.List.{take_more}
-use Rattle.std.specs.Str.{IsUtf8}
-use Rattle.std.specs.declared.io.ErrorKind.{ErrorKind}
 use Rattle.mx_aout.specs.declared.program.Program.{Program}
 use Rattle.mx_aout.specs.declared.program.FileError.{FileError}
 use Rattle.mx_aout.specs.File.{FileIs, Reads, refusal_of}
@@ -13,10 +11,10 @@ use Rattle.mx_boot.specs.ServiceLine.{ServiceLine}
 use Rattle.mx_machine.specs.Service.{Service}
 use Rattle.mx_boot.specs.Lines.{IsConfig, TellsFault}
 use Rattle.mx_failure.specs.declared.failure.Failure.{Failure}
-use Rattle.mx_failure.specs.declared.failure.Failure.TheVariants.{File, NoMemory}
-use Rattle.mx_failure.specs.Failure.{failure_of, failure_of_kind, failure_of_lines}
-use Rattle.mx_start.specs.Asked.{Asked, given, missed}
-use Rattle.mx_start.specs.Setup.{AreRead, IsFaulty, IsFirstFault, IsFirstRefused, IsMissed, IsNoText, IsRead, IsRefused, IsSetup, IsSetupFault, IsStart, IsText}
+use Rattle.mx_failure.specs.declared.failure.Failure.TheVariants.{NoMemory}
+use Rattle.mx_failure.specs.Failure.{failure_of, failure_of_lines}
+use Rattle.mx_start.specs.Asked.{Asked, given}
+use Rattle.mx_start.specs.Setup.{AreRead, IsFaulty, IsFirstFault, IsFirstRefused, IsNoText, IsRead, IsRefused, IsSetup, IsSetupFault, IsStart, IsText}
 
 pub never : false ≡ true → ⊥
 never h = absurd cc

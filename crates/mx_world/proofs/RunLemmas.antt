@@ -1,12 +1,11 @@
 -- Runs, counted.
-use Rattle.std.proofs.Common.{◌≡◌, ◌∙◌, ℕ, zero, suc, ◌+◌, ◌-◌, ◌≤◌, ◌<◌, min, refl, ap, sym, arith}
+use Rattle.std.proofs.Common.{◌≡◌, ℕ, zero, suc, ◌+◌, ◌-◌, ◌≤◌, min, refl, arith}
 use Rattle.mx_exec.specs.declared.image.Image.{Image}
 use Rattle.mx_exec.specs.declared.image.Outcome.{Outcome}
 use Rattle.mx_exec.specs.declared.image.Outcome.TheVariants.{Go, Trap, Fault}
 use Rattle.mx_exec.specs.Step.{one_step}
-use Rattle.mx_image.specs.declared.runs.Stop.{Stop}
 use Rattle.mx_image.specs.declared.runs.Stop.TheVariants as stop
-use Rattle.mx_image.specs.Run.{ran, Ran, went}
+use Rattle.mx_image.specs.Run.{ran, went}
 
 went_count : (k : ℕ) (o : Outcome) (m : Image) → ((m : Image) → (ran k m).count ≤ k) → (went (ran k) (o, m)).count ≤ suc k
 went_count k Go m f = let h = f m in omega arith

@@ -1,20 +1,18 @@
 -- Runs as steps of a processor.
-use Rattle.std.proofs.Common.{◌≡◌, ◌∙◌, ℕ, zero, suc, ◌+◌, ◌-◌, ◌≤◌, ◌<◌, min, List, [], ◌∷◌, replicate, length, Option, Some, None, Bool, true, false, get_or, slice_set, get_or-set_same, refl, ap, sym, subst, arith}
-use Rattle.std.proofs.lemmas.Bool.{le-leb, lt-leb}
+use Rattle.std.proofs.Common.{◌≡◌, ◌∙◌, ℕ, zero, suc, ◌+◌, ◌-◌, ◌≤◌, ◌<◌, min, List, [], ◌∷◌, length, Option, Some, None, get_or, slice_set, get_or-set_same, refl, ap, sym, subst, arith}
+use Rattle.std.proofs.lemmas.Bool.{lt-leb}
 use Rattle.mx_exec.specs.declared.image.Image.{Image}
 use Rattle.mx_exec.specs.declared.image.Outcome.{Outcome}
 use Rattle.mx_exec.specs.declared.image.Outcome.TheVariants.{Go, Trap, Fault}
 use Rattle.mx_exec.specs.Step.{one_step}
 use Rattle.mx_image.specs.declared.runs.Stop.{Stop}
 use Rattle.mx_image.specs.declared.runs.Stop.TheVariants as stop
-use Rattle.mx_image.specs.Run.{ran, Ran, went, counted}
-use Rattle.mx_world.specs.declared.events.Event.{Event}
+use Rattle.mx_image.specs.Run.{ran, Ran, went}
 use Rattle.mx_world.specs.declared.events.Event.TheVariants.{Step}
-use Rattle.mx_world.specs.declared.events.Refusal.TheVariants.{AtStop}
 use Rattle.mx_world.specs.declared.holding.Out.{Out}
-use Rattle.mx_world.specs.Held.{held_run, run_by_stop, after_run, stepped, stop_of}
+use Rattle.mx_world.specs.Held.{held_run, run_by_stop, stepped, stop_of}
 use Rattle.mx_world.specs.History.{AreAccepted, after_events}
-use Rattle.mx_world.specs.Move.{event_refusal, after_event, after_step, step_refusal, at_stop, with_held}
+use Rattle.mx_world.specs.Move.{event_refusal, after_event, after_step, step_refusal, with_held}
 use Rattle.mx_world.specs.Steps.{steps_of, StepsTo}
 use Rattle.mx_world.specs.Whole.{Whole, Lent, held_by}
 

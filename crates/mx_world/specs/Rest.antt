@@ -1,5 +1,5 @@
 -- A machine at rest: nothing can happen any more but ticks and lines.
-use Rattle.std.specs.Prelude.{ℕ, ◌==◌, ◌&&◌, ◌||◌, not, Bool, true, List, [], ◌∷◌, is_none}
+use Rattle.std.specs.Prelude.{◌==◌, ◌&&◌, ◌||◌, not, Bool, true, List, ◌∷◌, is_none}
 use Rattle.mx_proc.specs.declared.process.Process.{Process}
 use Rattle.mx_proc.specs.Queues.{picked}
 use Rattle.mx_proc.specs.States.{is_down}

@@ -1,4 +1,4 @@
-use Rattle.std.proofs.Common.{◌≡◌, ◌-◌, ◌≤◌, length}
+use Rattle.std.proofs.Common.{◌-◌, ◌≤◌, length}
 use Rattle.mx_debug.proofs.Naming.{GoesOn}
 use Rattle.mx_debug.proofs.finding.before_zero.Given as goal
 

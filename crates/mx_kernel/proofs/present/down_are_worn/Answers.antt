@@ -1,7 +1,6 @@
-use Rattle.std.proofs.Common.{◌≡◌, ◌<◌, ◌∙◌, true, length, ap, sym, arith}
+use Rattle.std.proofs.Common.{◌<◌, ◌∙◌, length, ap, sym, arith}
 use Rattle.mx_proc.specs.declared.process.Process.{Process}
 use Rattle.mx_proc.specs.States.{is_down}
-use Rattle.mx_proc.specs.World.{process_at}
 use Rattle.mx_respawn.specs.Respawn.{is_worn}
 use Rattle.mx_kernel.proofs.PresentLemmas.{one_worn, one_not_down, or_true}
 use Rattle.mx_kernel.proofs.present.down_are_worn.Goals.{else-is_down-via-then-is_down+else-not-is_worn, else-is_down-via-else-is_down}

@@ -1,4 +1,4 @@
-use Rattle.std.proofs.Common.{◌≡◌, ◌∙◌, ◌≤◌, ◌+◌, ap, sym, subst}
+use Rattle.std.proofs.Common.{subst}
 use Rattle.mx_proc.specs.World.{World}
 use Rattle.mx_kernel.specs.Serving.{WritesAtMostOne}
 use Rattle.mx_kernel.proofs.FrameLemmas.{kept_frame, same_written}

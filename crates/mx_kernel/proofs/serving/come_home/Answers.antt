@@ -1,5 +1,3 @@
-use Rattle.std.proofs.Common.{◌≡◌, ◌∙◌, ap, sym}
-use Rattle.mx_proc.specs.World.{World, spent}
 use Rattle.mx_kernel.proofs.ServingLemmas.{is_returned, home_as}
 use Rattle.mx_kernel.proofs.serving.come_home.Goals as goal
 

@@ -1,8 +1,3 @@
-use Rattle.std.proofs.Common.{◌≡◌, ◌≢◌, ◌∙◌, ◌≤◌, ◌+◌, ap, sym, arith}
-use Rattle.mx_proc.specs.declared.process.Process.{Process}
-use Rattle.mx_proc.specs.declared.process.State.{State}
-use Rattle.mx_proc.specs.declared.process.State.TheVariants.{Home, Ready, Down}
-use Rattle.mx_proc.specs.Console.{Written}
 use Rattle.mx_kernel.proofs.FrameLemmas.{kept_frame, same_written, same_console}
 use Rattle.mx_kernel.proofs.ServingLemmas.{goes_on_settled, is_down_not_home}
 use Rattle.mx_kernel.proofs.serving.resume.Goals as goal

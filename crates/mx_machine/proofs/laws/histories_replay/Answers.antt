@@ -1,4 +1,4 @@
-use Rattle.std.proofs.Common.{◌≡◌, ◌∙◌, ℕ, All, Option, Some, None, Result, Ok, Err, IsOk, List, [], ◌∷◌, ap, refl, sym, subst, rules}
+use Rattle.std.proofs.Common.{◌≡◌, ◌∙◌, ℕ, All, None, Result, Ok, IsOk, List, [], ◌∷◌, ap, refl, sym, subst, rules}
 use Rattle.std.proofs.lemmas.List.Elements.{All-nil, All-cons}
 use Rattle.mx_world.specs.declared.events.Event.{Event}
 use Rattle.mx_world.specs.declared.events.Refusal.{Refusal}

@@ -1,4 +1,4 @@
-use Rattle.std.proofs.Common.{◌≡◌, ◌≢◌, ◌∙◌, ◌<◌, ℕ, inl, inr, ap, sym, subst, length, length-set}
+use Rattle.std.proofs.Common.{◌≡◌, ◌≢◌, ◌∙◌, ◌<◌, inl, inr, ap, sym, subst, length, length-set}
 use Rattle.std.proofs.lemmas.Bool.{cases_eq}
 use Rattle.mx_proc.specs.declared.process.State.TheVariants.{Home, Down}
 use Rattle.mx_proc.specs.declared.process.Process.{Process}

@@ -1,7 +1,6 @@
-use Rattle.std.proofs.Common.{◌≡◌, ◌≢◌, ◌∙◌, ◌<◌, ◌≤◌, ℕ, ap, sym, subst, length, arith, inl, inr}
+use Rattle.std.proofs.Common.{◌≢◌, ◌∙◌, ◌<◌, ap, sym, length, arith, inl, inr}
 use Rattle.std.proofs.lemmas.Bool.{cases_eq}
-use Rattle.mx_proc.specs.World.{World, process_at}
-use Rattle.mx_proc.specs.declared.process.State.TheVariants.{Home}
+use Rattle.mx_proc.specs.World.{process_at}
 use Rattle.mx_respawn.specs.Death.{all_freed}
 use Rattle.mx_respawn.proofs.DeathLemmas.{woken_next, none_left}
 use Rattle.mx_respawn.proofs.death.wake_receivers.Goals as goal

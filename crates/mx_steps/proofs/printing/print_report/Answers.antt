@@ -1,4 +1,4 @@
-use Rattle.std.proofs.Common.{◌≡◌, ◌∙◌, List, ℕ, OnOk, refl, ap, subst}
+use Rattle.std.proofs.Common.{◌≡◌, ◌∙◌, List, ℕ, OnOk, ap, subst}
 use Rattle.std.specs.Io.KnownBytes.{Appends}
 use Rattle.mx_world.specs.History.{Kept, replay}
 use Rattle.mx_start.specs.Machine.{Running, world_of}

@@ -1,4 +1,4 @@
-use Rattle.std.proofs.Common.{◌≡◌, ◌∙◌, ◌+◌, ◌<◌, ◌%◌, arith, rules, refl, sym, ap, subst, length, get_or, take, Bool, List}
+use Rattle.std.proofs.Common.{◌∙◌, ◌+◌, arith, rules, sym, ap, subst, length, take, Bool, List}
 use Rattle.std.proofs.lemmas.List.{length-set}
 use Rattle.mx_debug.proofs.Marking.{AreMarked, marked_more, marked_same}
 use Rattle.mx_debug.proofs.points.Debugger.marks.Goals as goal

@@ -1,4 +1,4 @@
-use Rattle.std.proofs.Common.{◌≡◌, ◌⊎◌, inl, inr, rules}
+use Rattle.std.proofs.Common.{inl, inr}
 use Rattle.mx_debug.proofs.Halting.{not_any}
 use Rattle.mx_debug.proofs.points.Debugger.resume.Goals as goal
 use Rattle.mx_debug.proofs.points.Debugger.resume.Goals.{then-k-eq0, else-k-eq0}

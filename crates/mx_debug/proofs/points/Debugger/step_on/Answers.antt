@@ -1,4 +1,4 @@
-use Rattle.std.proofs.Common.{◌≡◌, ◌∙◌, ◌<◌, ◌≤◌, arith, rules, refl, sym, ap, subst, ℕ}
+use Rattle.std.proofs.Common.{◌≡◌, ◌∙◌, arith, refl, sym, ap, subst, ℕ}
 use Rattle.mx_exec.specs.declared.image.Image.{Image}
 use Rattle.mx_debug.specs.Points.{stands}
 use Rattle.mx_debug.proofs.Halting.{Stepped, stepped_start, stuck_halts, one_more, step_halts, step_goes, all_halts}

@@ -1,4 +1,4 @@
-use Rattle.std.proofs.Common.{◌≡◌, ◌∙◌, ◌+◌, Option, None, refl, ap}
+use Rattle.std.proofs.Common.{◌∙◌, ◌+◌, Option, None, refl, ap}
 use Rattle.std.proofs.lemmas.List.{length-replicate}
 use Rattle.mx_world.specs.Whole.{Lent}
 use Rattle.mx_kernel.proofs.ReplayLemmas.{actors-is}

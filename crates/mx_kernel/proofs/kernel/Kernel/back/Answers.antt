@@ -1,15 +1,9 @@
-use Rattle.std.proofs.Common.{◌≡◌, ◌∙◌, ◌≤◌, ◌<◌, ◌+◌, Some, ap, sym, subst, arith}
-use Rattle.mx_respawn.specs.declared.service.Service.{Service}
-use Rattle.mx_world.specs.declared.holding.Lease.{Lease}
-use Rattle.mx_world.specs.declared.holding.Out.{Out}
-use Rattle.mx_world.specs.declared.history.Record.{Record}
+use Rattle.std.proofs.Common.{◌≡◌, ◌∙◌, Some, ap, sym, subst, arith}
 use Rattle.mx_world.specs.declared.events.Event.TheVariants as events
-use Rattle.mx_world.specs.History.{Kept, replay}
+use Rattle.mx_world.specs.History.{replay}
 use Rattle.mx_world.specs.Move.{after_event, with_held}
-use Rattle.mx_world.specs.Steps.{StepsTo}
 use Rattle.mx_world.specs.Whole.{Lent, held_by}
 use Rattle.mx_kernel.specs.Agrees.{Agrees}
-use Rattle.mx_kernel.specs.Situation.{Situation}
 use Rattle.std.proofs.Common.{slice_get, vec_capacity}
 use Rattle.mx_kernel.proofs.ReplayLemmas.{kept_of, lease_known, back_steps, back_loaded, back_world, back_agrees, after_returning, holder_is_actor}
 use Rattle.mx_kernel.proofs.kernel.Kernel.back.Goals as goal

@@ -1,15 +1,5 @@
-use Rattle.std.proofs.Common.{◌≡◌, ◌∙◌, ◌≤◌, ◌<◌, ◌+◌, Some, ap, sym, subst, arith}
-use Rattle.mx_respawn.specs.declared.service.Service.{Service}
-use Rattle.mx_world.specs.declared.holding.Lease.{Lease}
-use Rattle.mx_world.specs.declared.holding.Out.{Out}
-use Rattle.mx_world.specs.declared.history.Record.{Record}
-use Rattle.mx_world.specs.declared.events.Event.TheVariants as events
-use Rattle.mx_world.specs.History.{Kept, replay}
-use Rattle.mx_world.specs.Move.{after_event, with_held}
-use Rattle.mx_world.specs.Steps.{StepsTo}
-use Rattle.mx_world.specs.Whole.{Lent, held_by}
+use Rattle.std.proofs.Common.{◌∙◌, ap, sym, subst, arith}
 use Rattle.mx_kernel.specs.Agrees.{Agrees}
-use Rattle.mx_kernel.specs.Situation.{Situation}
 use Rattle.std.proofs.Common.{vec_capacity}
 use Rattle.std.proofs.lemmas.Result.{err_from_is_err_and}
 use Rattle.mx_kernel.proofs.ReplayLemmas.{kept_of, take_refused, take_is, take_lent, take_agrees, after_taking, is_actor}

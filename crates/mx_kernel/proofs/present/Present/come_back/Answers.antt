@@ -1,5 +1,5 @@
-use Rattle.std.proofs.Common.{◌≤◌, ◌<◌, ◌+◌, arith}
-use Rattle.mx_kernel.proofs.PresentLemmas.{IsLeased, leased_known, returned_holds}
+use Rattle.std.proofs.Common.{arith}
+use Rattle.mx_kernel.proofs.PresentLemmas.{leased_known, returned_holds}
 use Rattle.mx_kernel.proofs.present.Present.come_back.Goals as goal
 
 pub come_home-requires-clause-slot : goal.come_home-requires-clause-slot

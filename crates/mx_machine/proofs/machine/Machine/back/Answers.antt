@@ -1,4 +1,4 @@
-use Rattle.std.proofs.Common.{◌≡◌, ◌∙◌, ◌<◌, ◌≤◌, ◌+◌, ℕ, List, [], ◌∷◌, ◌++◌, length, Option, Some, None, Result, Ok, Err, IfSome, slice_set, take, refl, sym, ap, subst, arith}
+use Rattle.std.proofs.Common.{◌≡◌, ◌∙◌, ◌<◌, ℕ, List, length, Option, None, Result, Ok, Err, slice_set, sym, ap, subst, arith}
 use Rattle.mx_world.specs.declared.events.Answer.{Answer}
 use Rattle.mx_world.specs.declared.events.Answer.TheVariants.{Returned}
 use Rattle.mx_world.specs.declared.events.Event.TheVariants.{Back}

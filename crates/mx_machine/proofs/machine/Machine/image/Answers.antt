@@ -1,4 +1,4 @@
-use Rattle.std.proofs.Common.{◌≡◌, ◌∙◌, ◌<◌, ◌≤◌, ◌+◌, ℕ, List, [], ◌∷◌, ◌++◌, length, Option, Some, None, Result, Ok, Err, IfSome, slice_set, take, refl, sym, ap, subst, arith}
+use Rattle.std.proofs.Common.{◌≡◌, ◌∙◌, ◌<◌, length, Some, None, refl, subst, arith}
 use Rattle.mx_world.specs.Whole.{Lent, held_by}
 use Rattle.mx_machine.specs.Machine.{Running, world_of}
 use Rattle.mx_machine.proofs.DoneLemmas.{any_default, lends, lends_none, none_beyond}

@@ -1,4 +1,4 @@
-use Rattle.std.proofs.Common.{◌≡◌, ◌∙◌, ◌<◌, ◌≤◌, ◌+◌, ℕ, List, [], ◌∷◌, ◌++◌, length, Option, Some, None, Result, Ok, Err, IfSome, slice_set, take, refl, sym, ap, subst, arith}
+use Rattle.std.proofs.Common.{refl}
 use Rattle.mx_machine.proofs.DoneLemmas.{new-running, new-world}
 use Rattle.mx_machine.proofs.machine.Machine.new.Goals as goal
 

@@ -1,4 +1,4 @@
-use Rattle.std.proofs.Common.{◌≡◌, get_or, ◌∙◌, ◌<◌, ◌≤◌, ◌+◌, ℕ, List, [], ◌∷◌, ◌++◌, length, Option, Some, None, Result, Ok, Err, IfSome, slice_set, take, refl, sym, ap, subst, arith}
+use Rattle.std.proofs.Common.{◌≡◌, get_or, ◌<◌, length, None, slice_set, subst, arith}
 use Rattle.mx_world.specs.declared.events.Event.TheVariants.{Step}
 use Rattle.mx_world.specs.Move.{move}
 use Rattle.mx_machine.specs.Machine.{Running, world_of}

@@ -1,11 +1,11 @@
-use Rattle.std.proofs.Common.{◌≡◌, ◌∙◌, ◌<◌, ◌≤◌, ◌+◌, ℕ, List, [], ◌∷◌, ◌++◌, length, Option, Some, None, Result, Ok, Err, IfSome, slice_set, take, refl, sym, ap, subst, arith}
+use Rattle.std.proofs.Common.{◌≡◌, ◌∙◌, ◌<◌, length, Option, Some, Result, Ok, IfSome, slice_set, ap, subst, arith}
 use Rattle.std.proofs.lemmas.Result.{err_from_is_err_and}
 use Rattle.mx_proc.specs.World.{endpoint_of}
 use Rattle.mx_world.specs.declared.events.Answer.{Answer}
 use Rattle.mx_world.specs.declared.events.Answer.TheVariants.{Taken}
 use Rattle.mx_world.specs.declared.events.Event.TheVariants.{Take}
 use Rattle.mx_world.specs.declared.events.Refusal.{Refusal}
-use Rattle.mx_world.specs.History.{Kept, replay}
+use Rattle.mx_world.specs.History.{replay}
 use Rattle.mx_world.specs.Move.{move}
 use Rattle.mx_world.specs.Whole.{Lent, Whole}
 use Rattle.mx_machine.specs.Machine.{Running, world_of}

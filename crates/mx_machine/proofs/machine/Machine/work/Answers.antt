@@ -1,7 +1,5 @@
-use Rattle.std.proofs.Common.{◌≡◌, ◌∙◌, ◌<◌, ◌≤◌, ◌+◌, ℕ, List, get_or, length, Option, None, Result, OnOk, IfErr, slice_set, refl, sym, ap, subst, arith}
-use Rattle.mx_world.specs.declared.events.Refusal.{Refusal}
+use Rattle.std.proofs.Common.{◌≡◌, ◌<◌, get_or, length, None, OnOk, IfErr, slice_set, refl, ap, subst, arith}
 use Rattle.mx_world.specs.declared.events.Refusal.TheVariants.{CpuEmpty}
-use Rattle.mx_world.specs.declared.holding.Out.{Out}
 use Rattle.mx_world.specs.Whole.{Lent, held_by}
 use Rattle.mx_machine.specs.Machine.{HasWorked, Running, world_of}
 use Rattle.mx_machine.proofs.DoneLemmas.{actors-of_kernel, any_default, none_beyond, on, worked}
