@@ -10,6 +10,3 @@ mod telling;
 
 pub use checking::check_case;
 pub use lines::{Failure, Tally, check_all};
-
-#[cfg(test)]
-mod tests;

@@ -10,6 +10,8 @@ mod asm;
 #[cfg(test)]
 mod bytes;
 #[cfg(test)]
+mod compare;
+#[cfg(test)]
 mod dis;
 #[cfg(test)]
 mod encode;
