@@ -1,5 +1,6 @@
--- What is told of a machine's files never says that the words are no text.
-use Rattle.std.proofs.Common.{◌≡◌, ◌++◌, ℕ, List, Result, Ok, Err, IfErr, inl, inr, sym, subst}
+-- What is told of files never says that the words are no text.
+use Rattle.std.proofs.Common.{◌≡◌, ◌++◌, ℕ, List, Option, Some, None, Result, Ok, Err, IfErr, inl, inr, sym, subst}
+use Rattle.std.specs.Prelude.{IsErrAnd}
 use Rattle.std.specs.declared.io.ErrorKind.{ErrorKind}
 use Rattle.std.specs.declared.io.ErrorKind.TheVariants as kinds
 use Rattle.mx_aout.specs.declared.program.FileError.{FileError}
@@ -9,7 +10,7 @@ use Rattle.mx_fields.specs.declared.error.BootError.TheVariants as lines
 use Rattle.mx_db.specs.Config.{Config}
 use Rattle.mx_failure.specs.declared.failure.Failure.{Failure}
 use Rattle.mx_failure.specs.declared.failure.Failure.TheVariants.{File, NoMemory, NotText}
-use Rattle.mx_failure.specs.Failure.{failure_of, failure_of_kind, failure_of_lines}
+use Rattle.mx_failure.specs.Failure.{IsWanting, Tells, failure_of, failure_of_kind, failure_of_lines}
 use Rattle.mx_db.specs.ServiceLine.{ServiceLine}
 use Rattle.mx_db.specs.Asked.{Asked}
 use Rattle.mx_db.specs.Setup.{IsFaulty, IsFirstRefused, IsMissed, IsNoText, IsRefused, IsSetupFault}
@@ -35,6 +36,19 @@ is_file f g e = cc
 
 is_memory : (f : Failure) → f ≡ NoMemory → IsOther f
 is_memory f g e = cc
+
+wanting : (f : Failure) → IsWanting f → IsOther f
+wanting f h = elim h [ inl p ↦ is_file f p | inr p ↦ is_memory f p ]
+
+-- what is told of a program's file, and of a file that can't be read
+pub file_other : {A : Type 0} (refusal : Option FileError) (r : Result A Failure) → Tells refusal r → IfErr r (λ f. f ≡ NotText → ⊥)
+file_other {A} (Some d) r h = subst (λ (x : Result A Failure). IfErr x (λ f. f ≡ NotText → ⊥)) (sym h) (of_file d)
+file_other None (Ok x) h = tt
+file_other None (Err f) h = wanting f h
+
+pub read_other : {A : Type 0} (k : ErrorKind) (r : Result A Failure) → IsErrAnd r (λ f. f ≡ failure_of_kind k) → IfErr r (λ f. f ≡ NotText → ⊥)
+read_other k (Ok x) h = absurd h
+read_other k (Err f) h = subst IsOther (sym h) (of_kind k)
 
 missed : (name : List ℕ) (q : Asked) (f : Failure) → IsMissed name q f → IsOther f
 missed name q f h = subst IsOther (sym h.2) (of_kind h.0)

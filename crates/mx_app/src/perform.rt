@@ -93,15 +93,16 @@ fn run(rt: &(impl Files + Print + AllocGlobal), request: Request<'_>) -> Result<
     ensures err { IfErr result (λ failure. failure ≢ Failure.NotText) }
     ensures status { IfOk result (λ status. (status ≡ 0) ⊎ (status ≡ 1)) }
 {
-    match request {
-        Request::One { file, steps } => run_one(rt, file, steps)?,
-        Request::As { text, file } => run_as(rt, text, file)?,
-        Request::Dis { file } => run_dis(rt, file)?,
-        Request::Nm { file } => run_nm(rt, file)?,
-        Request::Step { config, script } => run_step(rt, config, script)?,
+    let done = match request {
+        Request::One { file, steps } => run_one(rt, file, steps),
+        Request::As { text, file } => run_as(rt, text, file),
+        Request::Dis { file } => run_dis(rt, file),
+        Request::Nm { file } => run_nm(rt, file),
+        Request::Step { config, script } => run_step(rt, config, script),
         Request::Replay { config, log } => return run_replay(rt, config, log),
-        Request::Db { config, script } => run_db(rt, config, script)?,
-    }
+        Request::Db { config, script } => run_db(rt, config, script),
+    };
+    done?;
     Ok(0)
 }
 
