@@ -1,1 +1,2 @@
 pub mod Telling
+mod Statuses
