@@ -5,17 +5,8 @@ use mx_asm::{AsmError, assemble};
 use std::alloc::Global;
 use std::test::Fail;
 
-/// A text of one line for each of some, in turn.
-fn repeated(alloc: Global, line: &str, count: u32) -> Result<String, std::alloc::AllocError> {
-    let mut text = String::new(alloc);
-    for _ in 0..count {
-        text.push_str(line)?;
-    }
-    Ok(text)
-}
-
-fn told(answer: &Result<Program, AsmError>) -> (u8, usize) {
-    match answer {
+fn told(alloc: Global, text: &str) -> (u8, usize) {
+    match assemble(alloc, text) {
         Ok(_) => (0, 0),
         Err(AsmError::At(fault)) => (fault.problem.code(), fault.line),
         Err(AsmError::NoMemory) => (90, 0),
@@ -87,7 +78,7 @@ static FAULTS: [(&str, (u8, usize)); 24] = [
 #[test]
 fn faults(rt: HostRuntime) {
     for (text, fault) in &FAULTS {
-        assert!(rt; told(&assemble(rt.alloc(), *text)) == *fault, "{text}");
+        assert!(rt; told(rt.alloc(), *text) == *fault, "{text}");
     }
 }
 
@@ -101,19 +92,27 @@ fn is_whole(program: &Program) -> bool {
         && program.init.as_slice() == b"\x00\x00\x00\x00\x08\x00\x00\x00".as_slice()
 }
 
-#[test]
-fn whole_programs(rt: HostRuntime) -> Result<(), Fail> {
+fn is_assembled(alloc: Global) -> bool {
     let text = ".entry b\n.stack 0\na: nop\n.data\nb: .data4 a, c-1\n.bss\nc: .space 9\n";
-    let program = assemble(rt.alloc(), text).map_err(|_| "refused")?;
-    assert!(rt; is_whole(&program));
-    Ok(())
+    match assemble(alloc, text) {
+        Ok(program) => is_whole(&program),
+        Err(_) => false,
+    }
+}
+
+/// A label, and 1,900 times these lines, whose jumps go back to it.
+fn long_text(alloc: Global) -> Result<String, Fail> {
+    let mut text = String::from_str(alloc, "l: \n")?;
+    for _ in 0..1_900 {
+        text.push_str("jmp short l ; 16\n.space 0   ;    32\n")?;
+    }
+    Ok(text)
 }
 
 #[test]
-fn long_texts(rt: HostRuntime) -> Result<(), Fail> {
-    let lines = repeated(rt.alloc(), "jmp short l ; 16\n.space 0   ;    32\n", 1_900)?;
-    let text = format!(in rt.alloc(); "l: \n{lines}")?;
-    assert!(rt; text.len() > 65_535);
-    assert!(rt; told(&assemble(rt.alloc(), text.as_str())) == (14, 130));
+fn whole_texts(rt: HostRuntime) -> Result<(), Fail> {
+    assert!(rt; is_assembled(rt.alloc()));
+    let text = long_text(rt.alloc())?;
+    assert!(rt; text.len() > 65_535 && told(rt.alloc(), text.as_str()) == (14, 130));
     Ok(())
 }

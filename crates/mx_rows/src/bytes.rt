@@ -1,9 +1,10 @@
 //! What is seen of a machine's memory.
 
+use mx_exec::Image;
 use mx_image::Runs;
 
 /// Whether these bytes stand at their places.
-pub(crate) fn has_bytes<R: Runs>(machine: &R, bytes: &[(u32, u8)]) -> bool {
+pub(crate) fn has_bytes(machine: &Image, bytes: &[(u32, u8)]) -> bool {
     for (at, byte) in bytes {
         if machine.byte(*at) != Some(*byte) {
             return false;

@@ -75,8 +75,8 @@ static REGISTERS: [Register; 8] = [
     Register::Edi,
 ];
 
-/// Arithmetic, shifts, products and extensions.
-static ARITHMETIC: [Row; 15] = [
+static ROWS: [Row; 59] = [
+    // Arithmetic, shifts, products and extensions.
     Row {
         text: b"\x83\xC0\x01",
         words: [0xFFFFFFFF, 0, 0, 0, 0, 0, 0, 0],
@@ -195,10 +195,7 @@ static ARITHMETIC: [Row; 15] = [
         eip_after: 3,
         ..ROW
     },
-];
-
-/// Operands in memory, and the stack.
-static PLACES: [Row; 9] = [
+    // Operands in memory, and the stack.
     Row {
         text: b"\x8B\x44\x24\x04",
         words: [0, 0, 0, 0, 0xFFC, 0, 0, 0],
@@ -307,10 +304,7 @@ static PLACES: [Row; 9] = [
         memory_after: &[(0xFFC, 0x03), (0xFFD, 0x02), (0xFFE, 0x00), (0xFFF, 0x00)],
         ..ROW
     },
-];
-
-/// String instructions, some of them behind a repeat.
-static STRINGS: [Row; 5] = [
+    // String instructions, some of them behind a repeat.
     Row {
         text: b"\xF3\xA4",
         memory: &[(0x5, 0x07)],
@@ -375,35 +369,115 @@ static STRINGS: [Row; 5] = [
         memory_after: &[(0xFFE, 0xAA), (0xFFF, 0xAA)],
         ..ROW
     },
-];
-
-/// What faults at once: a text, the flags, and the vector.
-static FAULTS: [(&[u8], u32, u8); 21] = [
-    (b"\xF4", 0, 13),
-    (b"\xD6", 0, 6),
-    (b"\x66", 0, 13),
-    (b"\x66\x66\x40", 0, 6),
-    (b"\xF3\x40", 0, 6),
-    (b"\x8D\xC0", 0, 6),
-    (b"\x66\x50", 0, 6),
-    (b"\x66\x0F\xB7\xC1", 0, 6),
-    (b"\xCC", 0, 3),
-    (b"\xCD\x03", 0, 3),
-    (b"\xCD\x04", 0, 4),
-    (b"\xCD\x05", 0, 13),
-    (b"\xE4\x00", 0, 13),
-    (b"\x75\x7F", 0, 13),
-    (b"\xCE", OVERFLOW, 4),
-    (b"\xF3\x0F", 0, 6),
-    (b"\xF2\xA4", 0, 6),
-    (b"\xC0\xD0", 0, 6),
-    (b"\x66\xFF\xD0", 0, 6),
-    (b"\x8B\x44\x24", 0, 13),
-    (b"\x66\xB8\x01", 0, 13),
-];
-
-/// Code that is written over while it runs, and code at a limit.
-static PATCHES: [Row; 9] = [
+    // What faults at once.
+    Row {
+        text: b"\xF4",
+        stop: Stop::Fault(13),
+        ..ROW
+    },
+    Row {
+        text: b"\xD6",
+        stop: Stop::Fault(6),
+        ..ROW
+    },
+    Row {
+        text: b"\x66",
+        stop: Stop::Fault(13),
+        ..ROW
+    },
+    Row {
+        text: b"\x66\x66\x40",
+        stop: Stop::Fault(6),
+        ..ROW
+    },
+    Row {
+        text: b"\xF3\x40",
+        stop: Stop::Fault(6),
+        ..ROW
+    },
+    Row {
+        text: b"\x8D\xC0",
+        stop: Stop::Fault(6),
+        ..ROW
+    },
+    Row {
+        text: b"\x66\x50",
+        stop: Stop::Fault(6),
+        ..ROW
+    },
+    Row {
+        text: b"\x66\x0F\xB7\xC1",
+        stop: Stop::Fault(6),
+        ..ROW
+    },
+    Row {
+        text: b"\xCC",
+        stop: Stop::Fault(3),
+        ..ROW
+    },
+    Row {
+        text: b"\xCD\x03",
+        stop: Stop::Fault(3),
+        ..ROW
+    },
+    Row {
+        text: b"\xCD\x04",
+        stop: Stop::Fault(4),
+        ..ROW
+    },
+    Row {
+        text: b"\xCD\x05",
+        stop: Stop::Fault(13),
+        ..ROW
+    },
+    Row {
+        text: b"\xE4\x00",
+        stop: Stop::Fault(13),
+        ..ROW
+    },
+    Row {
+        text: b"\x75\x7F",
+        stop: Stop::Fault(13),
+        ..ROW
+    },
+    Row {
+        text: b"\xCE",
+        flags: OVERFLOW,
+        flags_after: ONES + OVERFLOW,
+        stop: Stop::Fault(4),
+        ..ROW
+    },
+    Row {
+        text: b"\xF3\x0F",
+        stop: Stop::Fault(6),
+        ..ROW
+    },
+    Row {
+        text: b"\xF2\xA4",
+        stop: Stop::Fault(6),
+        ..ROW
+    },
+    Row {
+        text: b"\xC0\xD0",
+        stop: Stop::Fault(6),
+        ..ROW
+    },
+    Row {
+        text: b"\x66\xFF\xD0",
+        stop: Stop::Fault(6),
+        ..ROW
+    },
+    Row {
+        text: b"\x8B\x44\x24",
+        stop: Stop::Fault(13),
+        ..ROW
+    },
+    Row {
+        text: b"\x66\xB8\x01",
+        stop: Stop::Fault(13),
+        ..ROW
+    },
+    // Code that is written over while it runs, and code at a limit.
     // MOV byte [7], 42h over the INC EAX that follows makes it INC EDX
     Row {
         shared: true,
@@ -570,23 +644,33 @@ fn segment_of(alloc: Global, limit: u32, bytes: &[(u32, u8)]) -> Result<Segment,
     Ok(segment)
 }
 
-/// An image at address 0, whose text is in a segment of its own.
-fn image_of(alloc: Global, row: &Row) -> Result<Image, Fail> {
-    let mut text = segment_of(alloc, u32::try_from(row.text.len())?, &[])?;
+/// A row's code: the data segment itself, or a text in a segment of its own.
+fn code_of(alloc: Global, row: &Row) -> Result<Code, Fail> {
+    if row.shared {
+        return Ok(Code::Shared);
+    }
+    let mut text = Segment::new(alloc, u32::try_from(row.text.len())?)?;
     text.fill_from(0, row.text)?;
+    Ok(Code::Separate(Text::new(text)))
+}
+
+fn regs_of(words: &[u32; 8]) -> Regs {
     let mut regs = Regs::new();
-    for (register, word) in REGISTERS.iter().zip(&row.words) {
+    for (register, word) in REGISTERS.iter().zip(words) {
         regs.set(Size::Dword, *register, *word);
     }
+    regs
+}
+
+/// What a row begins with, at address 0.
+fn image_of(alloc: Global, row: &Row) -> Result<Image, Fail> {
+    let memory = segment_of(alloc, LIMIT, row.memory)?;
     Ok(Image {
-        regs,
+        regs: regs_of(&row.words),
         eip: 0,
         flags: Flags::from_bits(row.flags),
-        memory: segment_of(alloc, LIMIT, row.memory)?,
-        code: match row.shared {
-            true => Code::Shared,
-            false => Code::Separate(Text::new(text)),
-        },
+        memory,
+        code: code_of(alloc, row)?,
     })
 }
 
@@ -596,8 +680,7 @@ fn ended<R: Runs>(machine: &mut R, budget: u32) -> (u32, Stop) {
 }
 
 /// Whether registers, EIP, flags and all of the memory are what a row ends with.
-fn is_left<R: Runs>(alloc: Global, machine: &R, row: &Row) -> Result<bool, Fail> {
-    let memory = segment_of(alloc, LIMIT, row.memory_after)?;
+fn is_left<R: Runs>(machine: &R, memory: &Segment, row: &Row) -> bool {
     let flags = Flags::from_bits(row.flags_after).values();
     let mut is_same = machine.eip() == row.eip_after && machine.flags() == flags;
     for (register, word) in REGISTERS.iter().zip(&row.words_after) {
@@ -606,23 +689,27 @@ fn is_left<R: Runs>(alloc: Global, machine: &R, row: &Row) -> Result<bool, Fail>
     for at in 0..=LIMIT {
         is_same = is_same && machine.byte(at) == memory.get(at);
     }
-    Ok(is_same)
+    is_same
 }
 
-/// Whether a row's run ends as it says, with or without what is kept of earlier rows at the same
-/// addresses.
+/// Whether a run takes as many steps and stops as a row says, with or without what is kept of earlier
+/// rows at the same addresses.
+fn is_run(image: &mut Image, cache: Option<&mut Cache>, row: &Row) -> bool {
+    let made = match cache {
+        Some(cache) => run_with(image, cache, row.budget),
+        None => ended(image, row.budget),
+    };
+    made == (row.count, row.stop) && image.flags.to_bits() == row.flags_after
+}
+
 fn is_worked(alloc: Global, cache: Option<&mut Cache>, row: &Row) -> Result<bool, Fail> {
     let mut image = image_of(alloc, row)?;
-    let made = match cache {
-        Some(cache) => run_with(&mut image, cache, row.budget),
-        None => ended(&mut image, row.budget),
-    };
-    let flags = image.flags.to_bits();
-    Ok(made == (row.count, row.stop) && flags == row.flags_after && is_left(alloc, &image, row)?)
+    let memory = segment_of(alloc, LIMIT, row.memory_after)?;
+    Ok(is_run(&mut image, cache, row) && is_left(&image, &memory, row))
 }
 
-fn work_all(rt: &impl Abort, alloc: Global, cache: &mut Cache, rows: &[Row]) -> Result<(), Fail> {
-    for (number, row) in rows.iter().enumerate() {
+fn work_all(rt: &impl Abort, alloc: Global, cache: &mut Cache) -> Result<(), Fail> {
+    for (number, row) in ROWS.iter().enumerate() {
         assert!(rt; is_worked(alloc, None, row)?, "row {number}");
         assert!(rt;
             is_worked(alloc, Some(&mut *cache), row)?,
@@ -632,51 +719,45 @@ fn work_all(rt: &impl Abort, alloc: Global, cache: &mut Cache, rows: &[Row]) -> 
     Ok(())
 }
 
-fn fault_all(rt: &impl Abort, alloc: Global, cache: &mut Cache) -> Result<(), Fail> {
-    for (text, flags, vector) in &FAULTS {
-        let row = Row {
-            text: *text,
-            flags: *flags,
-            stop: Stop::Fault(*vector),
-            flags_after: ONES | *flags,
-            ..ROW
-        };
-        work_all(rt, alloc, cache, &[row])?;
-    }
-    Ok(())
-}
-
 #[test]
 fn worked_rows(rt: HostRuntime) -> Result<(), Fail> {
     let mut cache = Cache::new(rt.alloc())?;
-    work_all(&rt, rt.alloc(), &mut cache, &ARITHMETIC)?;
-    work_all(&rt, rt.alloc(), &mut cache, &PLACES)?;
-    work_all(&rt, rt.alloc(), &mut cache, &STRINGS)?;
-    fault_all(&rt, rt.alloc(), &mut cache)?;
-    work_all(&rt, rt.alloc(), &mut cache, &PATCHES)?;
+    work_all(&rt, rt.alloc(), &mut cache)?;
     runs_join();
     Ok(())
 }
 
-/// EAX and EDX where INC EAX in a loop is INC EDX in the data segment from the fifth step on.
-fn words_around_a_write(alloc: Global, shared: bool) -> Result<(u32, u32), Fail> {
-    let row = Row {
-        shared,
-        text: b"\x40\xEB\xFD",
-        memory: &[(0, 0x40), (1, 0xEB), (2, 0xFD)],
-        ..ROW
-    };
-    let mut cache = Cache::new(alloc)?;
-    let mut image = image_of(alloc, &row)?;
-    run_with(&mut image, &mut cache, 4);
-    image.memory.write(0, Size::Byte, 0x42)?;
-    run_with(&mut image, &mut cache, 1);
-    Ok((image.reg(Register::Eax), image.reg(Register::Edx)))
+const LOOP: Row = Row {
+    text: b"\x40\xEB\xFD",
+    memory: &[(0, 0x40), (1, 0xEB), (2, 0xFD)],
+    ..ROW
+};
+
+/// INC EAX in a loop, and EAX and EDX where it is INC EDX in the data segment from the fifth step on.
+static LOOPS: [(Row, (u32, u32)); 2] = [
+    (
+        Row {
+            shared: true,
+            ..LOOP
+        },
+        (2, 1),
+    ),
+    (LOOP, (3, 0)),
+];
+
+fn words_around_a_write(image: &mut Image, cache: &mut Cache) -> (u32, u32) {
+    run_with(image, cache, 4);
+    let _ = image.memory.write(0, Size::Byte, 0x42);
+    run_with(image, cache, 1);
+    (image.reg(Register::Eax), image.reg(Register::Edx))
 }
 
 #[test]
 fn writes_from_outside(rt: HostRuntime) -> Result<(), Fail> {
-    assert!(rt; words_around_a_write(rt.alloc(), true)? == (2, 1));
-    assert!(rt; words_around_a_write(rt.alloc(), false)? == (3, 0));
+    for (row, words) in &LOOPS {
+        let mut cache = Cache::new(rt.alloc())?;
+        let mut image = image_of(rt.alloc(), row)?;
+        assert!(rt; words_around_a_write(&mut image, &mut cache) == *words);
+    }
     Ok(())
 }

@@ -1,7 +1,7 @@
 //! Lines of every kind.
 
 use mx_reading::read_line;
-use mx_statement::{Line, Section, Statement, refusal};
+use mx_statement::{Section, Statement, refusal};
 use std::alloc::Global;
 
 fn told(alloc: Global, text: &[u8]) -> Option<u8> {
@@ -48,22 +48,20 @@ static LINES: [(&[u8], Option<u8>); 30] = [
     (b"foo abcdefghi", Some(17)),
 ];
 
-#[test]
-fn refusals(rt: HostRuntime) {
-    for (number, (text, code)) in LINES.iter().enumerate() {
-        assert!(rt; told(rt.alloc(), *text) == *code, "line {number}");
+fn is_ascii(alloc: Global) -> bool {
+    match read_line(alloc, b"l: .ascii \"a\\\"b\\n\"") {
+        Ok(line) => match &line.statement {
+            Some(Statement::Ascii(bytes)) => bytes.as_slice() == b"a\"b\n".as_slice(),
+            _ => false,
+        },
+        Err(_) => false,
     }
 }
 
 #[test]
-fn statements(rt: HostRuntime) {
-    match read_line(rt.alloc(), b"l: .ascii \"a\\\"b\\n\"") {
-        Ok(
-            Line {
-                statement: Some(Statement::Ascii(bytes)),
-                ..
-            },
-        ) => assert!(rt; bytes.as_slice() == b"a\"b\n".as_slice()),
-        _ => assert!(rt; false),
+fn lines(rt: HostRuntime) {
+    for (number, (text, code)) in LINES.iter().enumerate() {
+        assert!(rt; told(rt.alloc(), *text) == *code, "line {number}");
     }
+    assert!(rt; is_ascii(rt.alloc()));
 }

@@ -2,6 +2,19 @@
 
 use mx_statement::{Beginning, Line, Reason, Section, Value, refusal};
 
+/// A section, whether a label stands twice, and what is told of an instruction.
+static REASONS: [(Section, bool, Reason); 3] = [
+    (Section::Text, true, Reason::Twice),
+    (Section::Data, false, Reason::WrongSection),
+    (Section::Text, false, Reason::NoForm),
+];
+
+const LESS_TWO: Value = Value {
+    name: None,
+    minus: true,
+    number: 2,
+};
+
 #[test]
 fn reasons(rt: HostRuntime) {
     let line = Line {
@@ -10,14 +23,8 @@ fn reasons(rt: HostRuntime) {
         beginning: Beginning::Instruction,
         statement: None,
     };
-    assert!(rt; refusal(&line, Section::Text, true) == Some(Reason::Twice));
-    assert!(rt; refusal(&line, Section::Data, false) == Some(Reason::WrongSection));
-    assert!(rt; refusal(&line, Section::Text, false) == Some(Reason::NoForm));
-    assert_eq!(rt; Reason::NoForm.code(), 11);
-    let value = Value {
-        name: None,
-        minus: true,
-        number: 2,
-    };
-    assert_eq!(rt; value.whole(), -2);
+    for (section, twice, reason) in &REASONS {
+        assert!(rt; refusal(&line, *section, *twice) == Some(*reason));
+    }
+    assert!(rt; Reason::NoForm.code() == 11 && LESS_TWO.whole() == -2);
 }

@@ -5,34 +5,35 @@ use mx_words::{
     Directive, Mnemonic, Prefix, Single, Start, register_named, size_named, start_named,
 };
 
+/// A word, and what a statement begins with it, if anything.
+static STARTS: [(&[u8], Option<Start>); 12] = [
+    (b"mov", Some(Start::Mnemonic(Mnemonic::Single(Single::Mov)))),
+    (
+        b"setbe",
+        Some(Start::Mnemonic(Mnemonic::SetCondition(Condition::BelowOrEqual))),
+    ),
+    (
+        b"loopne",
+        Some(Start::Mnemonic(Mnemonic::Loop(Loop::Loopne))),
+    ),
+    (
+        b"stosw",
+        Some(Start::Mnemonic(Mnemonic::Transfer(Transfer::Stos, Size::Word))),
+    ),
+    (b"repne", Some(Start::Repeat(Prefix::Repne))),
+    (b".data4", Some(Start::Directive(Directive::Data4))),
+    (b"jne", None),
+    (b"movsx8", None),
+    (b"MOV", None),
+    (b"short", None),
+    (b".word", None),
+    (b"", None),
+];
+
 #[test]
 fn words(rt: HostRuntime) {
-    let starts: [(&[u8], Start); 6] = [
-        (b"mov", Start::Mnemonic(Mnemonic::Single(Single::Mov))),
-        (
-            b"setbe",
-            Start::Mnemonic(Mnemonic::SetCondition(Condition::BelowOrEqual)),
-        ),
-        (b"loopne", Start::Mnemonic(Mnemonic::Loop(Loop::Loopne))),
-        (
-            b"stosw",
-            Start::Mnemonic(Mnemonic::Transfer(Transfer::Stos, Size::Word)),
-        ),
-        (b"repne", Start::Repeat(Prefix::Repne)),
-        (b".data4", Start::Directive(Directive::Data4)),
-    ];
-    for (word, start) in starts {
-        assert!(rt; start_named(word) == Some(start));
-    }
-    for word in [
-        b"jne".as_slice(),
-        b"movsx8",
-        b"MOV",
-        b"short",
-        b".word",
-        b"",
-    ] {
-        assert!(rt; start_named(word).is_none());
+    for (number, (word, start)) in STARTS.iter().enumerate() {
+        assert!(rt; start_named(*word) == *start, "row {number}");
     }
     assert!(rt; register_named(b"bh") == Some((Size::Byte, Register::Edi)));
     assert!(rt; size_named(b"dword") == Some(Size::Dword));
