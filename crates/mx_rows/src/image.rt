@@ -75,8 +75,8 @@ static REGISTERS: [Register; 8] = [
     Register::Edi,
 ];
 
-static ROWS: [Row; 59] = [
-    // Arithmetic, shifts, products and extensions.
+/// Arithmetic, shifts, products and extensions.
+static ARITHMETIC: [Row; 15] = [
     Row {
         text: b"\x83\xC0\x01",
         words: [0xFFFFFFFF, 0, 0, 0, 0, 0, 0, 0],
@@ -195,7 +195,10 @@ static ROWS: [Row; 59] = [
         eip_after: 3,
         ..ROW
     },
-    // Operands in memory, and the stack.
+];
+
+/// Operands in memory, and the stack.
+static PLACES: [Row; 9] = [
     Row {
         text: b"\x8B\x44\x24\x04",
         words: [0, 0, 0, 0, 0xFFC, 0, 0, 0],
@@ -304,7 +307,10 @@ static ROWS: [Row; 59] = [
         memory_after: &[(0xFFC, 0x03), (0xFFD, 0x02), (0xFFE, 0x00), (0xFFF, 0x00)],
         ..ROW
     },
-    // String instructions, some of them behind a repeat.
+];
+
+/// String instructions, some of them behind a repeat.
+static STRINGS: [Row; 5] = [
     Row {
         text: b"\xF3\xA4",
         memory: &[(0x5, 0x07)],
@@ -369,7 +375,10 @@ static ROWS: [Row; 59] = [
         memory_after: &[(0xFFE, 0xAA), (0xFFF, 0xAA)],
         ..ROW
     },
-    // What faults at once.
+];
+
+/// What faults at once.
+static FAULTS: [Row; 21] = [
     Row {
         text: b"\xF4",
         stop: Stop::Fault(13),
@@ -477,7 +486,10 @@ static ROWS: [Row; 59] = [
         stop: Stop::Fault(13),
         ..ROW
     },
-    // Code that is written over while it runs, and code at a limit.
+];
+
+/// Code that is written over while it runs, and code at a limit.
+static PATCHES: [Row; 9] = [
     // MOV byte [7], 42h over the INC EAX that follows makes it INC EDX
     Row {
         shared: true,
@@ -708,8 +720,8 @@ fn is_worked(alloc: Global, cache: Option<&mut Cache>, row: &Row) -> Result<bool
     Ok(is_run(&mut image, cache, row) && is_left(&image, &memory, row))
 }
 
-fn work_all(rt: &impl Abort, alloc: Global, cache: &mut Cache) -> Result<(), Fail> {
-    for (number, row) in ROWS.iter().enumerate() {
+fn work_all(rt: &impl Abort, alloc: Global, cache: &mut Cache, rows: &[Row]) -> Result<(), Fail> {
+    for (number, row) in rows.iter().enumerate() {
         assert!(rt; is_worked(alloc, None, row)?, "row {number}");
         assert!(rt;
             is_worked(alloc, Some(&mut *cache), row)?,
@@ -722,7 +734,11 @@ fn work_all(rt: &impl Abort, alloc: Global, cache: &mut Cache) -> Result<(), Fai
 #[test]
 fn worked_rows(rt: HostRuntime) -> Result<(), Fail> {
     let mut cache = Cache::new(rt.alloc())?;
-    work_all(&rt, rt.alloc(), &mut cache)?;
+    work_all(&rt, rt.alloc(), &mut cache, &ARITHMETIC)?;
+    work_all(&rt, rt.alloc(), &mut cache, &PLACES)?;
+    work_all(&rt, rt.alloc(), &mut cache, &STRINGS)?;
+    work_all(&rt, rt.alloc(), &mut cache, &FAULTS)?;
+    work_all(&rt, rt.alloc(), &mut cache, &PATCHES)?;
     runs_join();
     Ok(())
 }

@@ -7,7 +7,7 @@ use mx_image::Stop;
 use mx_mem::Segment;
 use mx_proc::Slot;
 use mx_regs::Regs;
-use mx_world::{Decoded, Held, Out};
+use mx_world::{Decoded, Out};
 use std::alloc::Global;
 use std::test::Fail;
 
@@ -101,14 +101,11 @@ static ROWS: [Row; 6] = [
     },
 ];
 
-fn halts<H: Held>(debugger: &Debugger, held: &mut H, row: &Row) -> bool {
-    let halt = debugger.resume(row.slot, held, row.steps);
-    (halt.count, halt.cause) == (row.count, row.cause) && held.image().eip == row.eip
-}
-
-fn halt_all(debugger: &Debugger, out: &mut Out) -> bool {
+/// Whether each row's run ends as it says, in turn.
+fn are_halted(debugger: &Debugger, out: &mut Out) -> bool {
     for row in &ROWS {
-        if !halts(debugger, out, row) {
+        let halt = debugger.resume(row.slot, out, row.steps);
+        if (halt.count, halt.cause) != (row.count, row.cause) || out.image.eip != row.eip {
             return false;
         }
     }
@@ -126,13 +123,23 @@ fn is_trapped(debugger: &mut Debugger, out: &mut Out) -> bool {
     added == Ok(()) && first == Halt { count: 1, cause } && second == Halt { count: 0, cause }
 }
 
+/// Whether a byte inside the data is read, and none past them.
+fn is_read(image: &Image) -> bool {
+    byte(image, 15) == Ok(0) && byte(image, 16) == Err(DebugError::NotHere)
+}
+
+fn is_debugged(out: &mut Out) -> bool {
+    let mut debugger = Debugger::new();
+    is_marked(&mut debugger)
+        && are_halted(&debugger, out)
+        && is_trapped(&mut debugger, out)
+        && is_read(&out.image)
+}
+
 #[test]
 fn breakpoints(rt: HostRuntime) -> Result<(), Fail> {
-    let mut debugger = Debugger::new();
     let mut out = out_of(rt.alloc())?;
-    assert!(rt; is_marked(&mut debugger) && halt_all(&debugger, &mut out));
-    assert!(rt; is_trapped(&mut debugger, &mut out));
-    assert!(rt; byte(&out.image, 15) == Ok(0) && byte(&out.image, 16) == Err(DebugError::NotHere));
+    assert!(rt; is_debugged(&mut out));
     assert!(rt; DebugError::NoSymbol.code() == 60 && DebugError::NoSymbol.name() == "NoSymbol");
     Ok(())
 }

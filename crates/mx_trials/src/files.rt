@@ -36,6 +36,62 @@ const TRAP: [u8; 34] = [
     0, 0, 0, 0, 0, 0, 0xCD, 0x21,
 ];
 
+/// Three instructions and a trap; ECX is 0, so it is no call, and then the text ends.
+const SHORT: [u8; 42] = [
+    1, 3, 0x30, 0x10, 0x20, 0, 0, 0, 0xa, 0, 0, 0, 0, 0, 0, 0, 0x80, 0, 0, 0, 0, 0, 0, 0, 0, 0x10,
+    0, 0, 0, 0, 0, 0, 0xB8, 5, 0, 0, 0, 0x83, 0xC0, 0x7B, 0xCD, 0x21,
+];
+
+/// RECEIVE from anybody, then SEND to who it was, in a loop. The buffer is at 0.
+const ANSWERS: [u8; 67] = [
+    1, 3, 0x30, 0x10, 0x20, 0, 0, 0, 0x23, 0, 0, 0, 0, 0, 0, 0, 0x80, 0, 0, 0, 0, 0, 0, 0, 0, 0x10,
+    0, 0, 0, 0, 0, 0, 0xB9, 2, 0, 0, 0, 0xB8, 0xCE, 0x7A, 0, 0, 0xBB, 0, 0, 0, 0, 0xCD, 0x21, 0x8B,
+    5, 0, 0, 0, 0, 0xB9, 1, 0, 0, 0, 0xCD, 0x21, 0xE9, 0xDD, 0xFF, 0xFF, 0xFF,
+];
+
+/// SENDREC to 0, then EXIT.
+const ASKS: [u8; 71] = [
+    1, 3, 0x30, 0x10, 0x20, 0, 0, 0, 0x27, 0, 0, 0, 0, 0, 0, 0, 0x80, 0, 0, 0, 0, 0, 0, 0, 0, 0x10,
+    0, 0, 0, 0, 0, 0, 0xB9, 3, 0, 0, 0, 0xB8, 0, 0, 0, 0, 0xBB, 0, 0, 0, 0, 0xCD, 0x21, 0xC7, 5, 4,
+    0, 0, 0, 0, 6, 0, 0, 0xB9, 3, 0, 0, 0, 0xB8, 0xFE, 0xFF, 0xFF, 0xFF, 0xCD, 0x21,
+];
+
+/// Writes a byte of its data, then RECEIVE from anybody.
+const WRITES: [u8; 56] = [
+    1, 3, 0x30, 0x10, 0x20, 0, 0, 0, 0x18, 0, 0, 0, 0, 0, 0, 0, 0x80, 0, 0, 0, 0, 0, 0, 0, 0, 0x10,
+    0, 0, 0, 0, 0, 0, 0xC6, 5, 0, 0, 0, 0, 7, 0xB9, 2, 0, 0, 0, 0xB8, 0xCE, 0x7A, 0, 0, 0xBB, 0x40,
+    0, 0, 0, 0xCD, 0x21,
+];
+
+/// SENDREC to 3, SEND to 3, then WHOIS of slot 3.
+const LOOKS: [u8; 93] = [
+    1, 3, 0x30, 0x10, 0x20, 0, 0, 0, 0x3d, 0, 0, 0, 0, 0, 0, 0, 0x80, 0, 0, 0, 0, 0, 0, 0, 0, 0x10,
+    0, 0, 0, 0, 0, 0, 0xB9, 3, 0, 0, 0, 0xB8, 3, 0, 0, 0, 0xBB, 0, 0, 0, 0, 0xCD, 0x21, 0xB9, 1, 0,
+    0, 0, 0xB8, 3, 0, 0, 0, 0xCD, 0x21, 0xC7, 5, 4, 0, 0, 0, 7, 6, 0, 0, 0xC7, 5, 8, 0, 0, 0, 3, 0,
+    0, 0, 0xB9, 3, 0, 0, 0, 0xB8, 0xFE, 0xFF, 0xFF, 0xFF, 0xCD, 0x21,
+];
+
+/// Never runs.
+const IDLE: [u8; 33] = [
+    1, 3, 0x30, 0x10, 0x20, 0, 0, 0, 0x1, 0, 0, 0, 0, 0, 0, 0, 0x80, 0, 0, 0, 0, 0, 0, 0, 0, 0x10,
+    0, 0, 0, 0, 0, 0, 0x90,
+];
+
+/// RECEIVE from anybody, then nineteen instructions and a trap.
+const WORKS: [u8; 70] = [
+    1, 3, 0x30, 0x10, 0x20, 0, 0, 0, 0x26, 0, 0, 0, 0, 0, 0, 0, 0x80, 0, 0, 0, 0, 0, 0, 0, 0, 0x10,
+    0, 0, 0, 0, 0, 0, 0xB9, 2, 0, 0, 0, 0xB8, 0xCE, 0x7A, 0, 0, 0xBB, 0x40, 0, 0, 0, 0xCD, 0x21,
+    0x40, 0x40, 0x40, 0x40, 0x40, 0x40, 0x40, 0x40, 0x40, 0x40, 0x40, 0x40, 0x40, 0x40, 0x40, 0x40,
+    0x40, 0x40, 0x40, 0xCD, 0x21,
+];
+
+/// TIMES: the uptime stands at 8 and the steps at 12.
+const COUNTS: [u8; 59] = [
+    1, 3, 0x30, 0x10, 0x20, 0, 0, 0, 0x1b, 0, 0, 0, 0, 0, 0, 0, 0x80, 0, 0, 0, 0, 0, 0, 0, 0, 0x10,
+    0, 0, 0, 0, 0, 0, 0xC7, 5, 4, 0, 0, 0, 1, 6, 0, 0, 0xB9, 3, 0, 0, 0, 0xB8, 0xFE, 0xFF, 0xFF,
+    0xFF, 0xBB, 0, 0, 0, 0, 0xCD, 0x21,
+];
+
 static FILES: [NamedFile<'static>; 29] = [
     NamedFile {
         name: "pair",
@@ -176,9 +232,105 @@ static FILES: [NamedFile<'static>; 29] = [
     },
 ];
 
-/// What reads these files by their names.
+/// What reads the files of machines that texts drive.
 pub(crate) fn reader() -> NamedFiles<'static> {
     NamedFiles::new(&FILES)
+}
+
+static SMALL: [NamedFile<'static>; 17] = [
+    NamedFile {
+        name: "empty",
+        bytes: b"",
+    },
+    NamedFile {
+        name: "asked",
+        bytes: b"cpus 8\nlog 64\n\
+            service a answers.out traps 1e send 2 calls 0 level 4 best 4 quantum 20 restarts 0\n\
+            service b asks.out traps 1e send 1 calls 1 level 7 best 7 quantum 20 restarts 0\n",
+    },
+    NamedFile {
+        name: "short",
+        bytes: b"cpus 8\nlog 8\n\
+            service a short.out traps 1e send 0 calls 0 level 7 best 7 quantum 5 restarts 0\n",
+    },
+    NamedFile {
+        name: "log_of_two",
+        bytes: b"cpus 8\nlog 2\n\
+            service a short.out traps 1e send 0 calls 0 level 7 best 7 quantum 5 restarts 0\n",
+    },
+    NamedFile {
+        name: "log_of_one",
+        bytes: b"cpus 8\nlog 1\n\
+            service a short.out traps 1e send 0 calls 0 level 7 best 7 quantum 5 restarts 0\n",
+    },
+    NamedFile {
+        name: "looks",
+        bytes: b"cpus 8\nlog 64\n\
+            service a looks.out traps 1e send 8 calls 80 level 7 best 7 quantum 20 restarts 0\n\
+            service b idle.out traps 1e send 0 calls 0 level 14 best 14 quantum 20 restarts 0\n\
+            service c idle.out traps 1e send 0 calls 0 level 14 best 14 quantum 20 restarts 0\n\
+            service d writes.out traps 1e send 0 calls 0 level 4 best 4 quantum 20 restarts 1\n",
+    },
+    NamedFile {
+        name: "works",
+        bytes: b"cpus 8\nlog 64\n\
+            service a works.out traps 1e send 0 calls 0 level 4 best 4 quantum 24 restarts 1\n\
+            service b asks.out traps 1e send 1 calls 1 level 7 best 7 quantum 20 restarts 0\n",
+    },
+    NamedFile {
+        name: "eight",
+        bytes: b"cpus 8\nlog 32\n\
+            service a short.out traps 1e send 0 calls 0 level 7 best 7 quantum 5 restarts 0\n\
+            service b short.out traps 1e send 0 calls 0 level 7 best 7 quantum 5 restarts 0\n\
+            service c short.out traps 1e send 0 calls 0 level 7 best 7 quantum 5 restarts 0\n\
+            service d short.out traps 1e send 0 calls 0 level 7 best 7 quantum 5 restarts 0\n\
+            service e short.out traps 1e send 0 calls 0 level 7 best 7 quantum 5 restarts 0\n\
+            service f short.out traps 1e send 0 calls 0 level 7 best 7 quantum 5 restarts 0\n\
+            service g short.out traps 1e send 0 calls 0 level 7 best 7 quantum 5 restarts 0\n\
+            service h short.out traps 1e send 0 calls 0 level 7 best 7 quantum 5 restarts 0\n",
+    },
+    NamedFile {
+        name: "times",
+        bytes: b"cpus 8\nlog 8\n\
+            service a counts.out traps 1e send 0 calls 2 level 7 best 7 quantum 20 restarts 0\n",
+    },
+    NamedFile {
+        name: "short.out",
+        bytes: &SHORT,
+    },
+    NamedFile {
+        name: "answers.out",
+        bytes: &ANSWERS,
+    },
+    NamedFile {
+        name: "asks.out",
+        bytes: &ASKS,
+    },
+    NamedFile {
+        name: "writes.out",
+        bytes: &WRITES,
+    },
+    NamedFile {
+        name: "looks.out",
+        bytes: &LOOKS,
+    },
+    NamedFile {
+        name: "idle.out",
+        bytes: &IDLE,
+    },
+    NamedFile {
+        name: "works.out",
+        bytes: &WORKS,
+    },
+    NamedFile {
+        name: "counts.out",
+        bytes: &COUNTS,
+    },
+];
+
+/// What reads the files of machines that are worked by hand; the text that drives them is "empty".
+pub(crate) fn small_reader() -> NamedFiles<'static> {
+    NamedFiles::new(&SMALL)
 }
 
 /// A file with a separate text and an entry, 128 bytes of bss and a total of 4096.

@@ -76,17 +76,19 @@ static ROWS: [Row; 6] = [
     },
 ];
 
-fn is_printed(alloc: Global, row: &Row) -> Result<bool, Fail> {
-    let file = separate_file(alloc, row.text, row.entry)?;
+fn is_printed(alloc: Global, file: &[u8], row: &Row) -> bool {
     let mut out = Vec::new(alloc);
-    print_one(alloc, file.as_slice(), row.steps, &mut out).map_err(|_| "refused")?;
-    Ok(out.as_slice() == row.printed.as_bytes())
+    print_one(alloc, file, row.steps, &mut out).is_ok() && out.as_slice() == row.printed.as_bytes()
 }
 
 #[test]
 fn steps(rt: HostRuntime) -> Result<(), Fail> {
     for (number, row) in ROWS.iter().enumerate() {
-        assert!(rt; is_printed(rt.alloc(), row)?, "row {number}");
+        let file = separate_file(rt.alloc(), row.text, row.entry)?;
+        assert!(rt;
+            is_printed(rt.alloc(), file.as_slice(), row),
+            "row {number}"
+        );
     }
     Ok(())
 }

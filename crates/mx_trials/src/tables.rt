@@ -11,6 +11,15 @@ use std::test::Fail;
 /// The limit of every process.
 pub(crate) const LIMIT: u32 = 0x1000;
 
+/// An image whose EBX is 512, and at 100 stand five bytes.
+fn image_of(alloc: Global) -> Result<Image, Fail> {
+    let mut image = Image::blank(alloc);
+    image.memory = Segment::new(alloc, LIMIT)?;
+    image.regs.set(Size::Dword, Register::Ebx, 512);
+    let _ = image.memory.fill_from(100, &[1, 2, 3, 4, 5]);
+    Ok(image)
+}
+
 /// Adds a process at level 7 with a quantum of 5: its EBX is 512, and at 100 stand five bytes.
 pub(crate) fn add_process(
     rt: &impl Abort,
@@ -19,10 +28,7 @@ pub(crate) fn add_process(
     masks: Masks,
     best: u8,
 ) -> Result<(), Fail> {
-    let mut image = Image::blank(alloc);
-    image.memory = Segment::new(alloc, LIMIT)?;
-    image.regs.set(Size::Dword, Register::Ebx, 512);
-    let _ = image.memory.fill_from(100, &[1, 2, 3, 4, 5]);
+    let mut image = image_of(alloc)?;
     assert!(rt; table.used() < 32 && best <= 7);
     table.add(alloc, &mut image, masks, 7, best, 5)?;
     Ok(())
@@ -35,4 +41,14 @@ pub(crate) fn word_at(rt: &impl Abort, table: &Table, slot: Slot, place: u32) ->
         Ok(word) => word,
         Err(_) => 0,
     }
+}
+
+/// Whether these words stand at 512 and on in a slot's memory.
+pub(crate) fn has_words(rt: &impl Abort, table: &Table, slot: Slot, words: &[u32]) -> bool {
+    for (place, word) in (512..548).step_by(4).zip(words) {
+        if word_at(rt, table, slot, place) != *word {
+            return false;
+        }
+    }
+    true
 }

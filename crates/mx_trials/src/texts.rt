@@ -7,55 +7,96 @@ use mx_world::{Record, Recorded};
 use std::alloc::Global;
 use std::io;
 use std::io::Write;
+use std::process::Abort;
 use std::test::Fail;
 
-/// A service's line behind its file.
-const TERMS: &str = "traps 1e send 0 calls ff level 7 best 5 quantum 5 restarts 1";
-
-/// A text in which a star stands for a service's line but for its name.
-fn spelled(alloc: Global, pattern: &str) -> Result<String, Fail> {
-    let mut text = String::new(alloc);
-    for part in pattern.split('*') {
-        if !text.is_empty() || pattern.starts_with('*') && !part.is_empty() {
-            text.push_str(" a.out ")?;
-            text.push_str(TERMS)?;
-        }
-        text.push_str(part)?;
-    }
-    Ok(text)
-}
-
-/// A configuration in which a star stands for the rest of a service's line, and what is told.
+/// A configuration, and what is told.
 struct Setup(&'static str, Option<BootError>);
 
-static SETUPS: [Setup; 13] = [
+static SETUPS: [Setup; 14] = [
     Setup("", Some(BootError::BadLine(1))),
     Setup("cpus 1\n# x\n", Some(BootError::BadLine(2))),
-    Setup("service a*\n", None),
-    Setup("  service   a*#x\r\n\n# x\ncpus 08\nlog 1048576", None),
-    Setup("service a* 1", Some(BootError::BadLine(1))),
-    Setup("service a*\r", Some(BootError::BadLine(1))),
-    Setup("service eax*", Some(BootError::BadLine(1))),
-    Setup("cpus 9\nservice a*", Some(BootError::BadLine(1))),
-    Setup("log 0\nservice a*", Some(BootError::BadLine(1))),
+    Setup(
+        "service a a.out traps 1e send 0 calls ff level 7 best 5 quantum 5 restarts 1\n",
+        None,
+    ),
+    Setup(
+        "  service   a a.out traps 1e send 0 calls ff level 7 best 5 quantum 5 restarts 1#x\r\n\n\
+         # x\ncpus 08\nlog 1048576",
+        None,
+    ),
+    Setup(
+        "service a a.out traps 1e send 0 calls ff level 7 best 5 quantum 5 restarts 1 1",
+        Some(BootError::BadLine(1)),
+    ),
+    Setup(
+        "service a a.out traps 1e send 0 calls ff level 7 best 5 quantum 5 restarts 1\r",
+        Some(BootError::BadLine(1)),
+    ),
+    Setup(
+        "service eax a.out traps 1e send 0 calls ff level 7 best 5 quantum 5 restarts 1",
+        Some(BootError::BadLine(1)),
+    ),
+    Setup(
+        "cpus 9\n\
+         service a a.out traps 1e send 0 calls ff level 7 best 5 quantum 5 restarts 1",
+        Some(BootError::BadLine(1)),
+    ),
+    Setup(
+        "log 0\n\
+         service a a.out traps 1e send 0 calls ff level 7 best 5 quantum 5 restarts 1",
+        Some(BootError::BadLine(1)),
+    ),
     Setup("cpus 1\ncpus 1", Some(BootError::TwiceNamed(2))),
     Setup("others 2\nothers 5", Some(BootError::BadLine(2))),
-    Setup("service a*\nservice a*", Some(BootError::TwiceNamed(2))),
-    Setup("service a*\nservice b*", None),
+    Setup(
+        "service a a.out traps 1e send 0 calls ff level 7 best 5 quantum 5 restarts 1\n\
+         service a a.out traps 1e send 0 calls ff level 7 best 5 quantum 5 restarts 1",
+        Some(BootError::TwiceNamed(2)),
+    ),
+    Setup(
+        "service a a.out traps 1e send 0 calls ff level 7 best 5 quantum 5 restarts 1\n\
+         service b a.out traps 1e send 0 calls ff level 7 best 5 quantum 5 restarts 1",
+        None,
+    ),
+    // The 33rd service.
+    Setup(
+        "service n0 a.out traps 1e send 0 calls ff level 7 best 5 quantum 5 restarts 1\n\
+         service n1 a.out traps 1e send 0 calls ff level 7 best 5 quantum 5 restarts 1\n\
+         service n2 a.out traps 1e send 0 calls ff level 7 best 5 quantum 5 restarts 1\n\
+         service n3 a.out traps 1e send 0 calls ff level 7 best 5 quantum 5 restarts 1\n\
+         service n4 a.out traps 1e send 0 calls ff level 7 best 5 quantum 5 restarts 1\n\
+         service n5 a.out traps 1e send 0 calls ff level 7 best 5 quantum 5 restarts 1\n\
+         service n6 a.out traps 1e send 0 calls ff level 7 best 5 quantum 5 restarts 1\n\
+         service n7 a.out traps 1e send 0 calls ff level 7 best 5 quantum 5 restarts 1\n\
+         service n8 a.out traps 1e send 0 calls ff level 7 best 5 quantum 5 restarts 1\n\
+         service n9 a.out traps 1e send 0 calls ff level 7 best 5 quantum 5 restarts 1\n\
+         service n10 a.out traps 1e send 0 calls ff level 7 best 5 quantum 5 restarts 1\n\
+         service n11 a.out traps 1e send 0 calls ff level 7 best 5 quantum 5 restarts 1\n\
+         service n12 a.out traps 1e send 0 calls ff level 7 best 5 quantum 5 restarts 1\n\
+         service n13 a.out traps 1e send 0 calls ff level 7 best 5 quantum 5 restarts 1\n\
+         service n14 a.out traps 1e send 0 calls ff level 7 best 5 quantum 5 restarts 1\n\
+         service n15 a.out traps 1e send 0 calls ff level 7 best 5 quantum 5 restarts 1\n\
+         service n16 a.out traps 1e send 0 calls ff level 7 best 5 quantum 5 restarts 1\n\
+         service n17 a.out traps 1e send 0 calls ff level 7 best 5 quantum 5 restarts 1\n\
+         service n18 a.out traps 1e send 0 calls ff level 7 best 5 quantum 5 restarts 1\n\
+         service n19 a.out traps 1e send 0 calls ff level 7 best 5 quantum 5 restarts 1\n\
+         service n20 a.out traps 1e send 0 calls ff level 7 best 5 quantum 5 restarts 1\n\
+         service n21 a.out traps 1e send 0 calls ff level 7 best 5 quantum 5 restarts 1\n\
+         service n22 a.out traps 1e send 0 calls ff level 7 best 5 quantum 5 restarts 1\n\
+         service n23 a.out traps 1e send 0 calls ff level 7 best 5 quantum 5 restarts 1\n\
+         service n24 a.out traps 1e send 0 calls ff level 7 best 5 quantum 5 restarts 1\n\
+         service n25 a.out traps 1e send 0 calls ff level 7 best 5 quantum 5 restarts 1\n\
+         service n26 a.out traps 1e send 0 calls ff level 7 best 5 quantum 5 restarts 1\n\
+         service n27 a.out traps 1e send 0 calls ff level 7 best 5 quantum 5 restarts 1\n\
+         service n28 a.out traps 1e send 0 calls ff level 7 best 5 quantum 5 restarts 1\n\
+         service n29 a.out traps 1e send 0 calls ff level 7 best 5 quantum 5 restarts 1\n\
+         service n30 a.out traps 1e send 0 calls ff level 7 best 5 quantum 5 restarts 1\n\
+         service n31 a.out traps 1e send 0 calls ff level 7 best 5 quantum 5 restarts 1\n\
+         service n32 a.out traps 1e send 0 calls ff level 7 best 5 quantum 5 restarts 1\n",
+        Some(BootError::TooMany(33)),
+    ),
 ];
-
-fn fault_of(alloc: Global, setup: &Setup) -> Result<Option<BootError>, Fail> {
-    let text = spelled(alloc, setup.0)?;
-    Ok(config(alloc, text.as_str()).err())
-}
-
-#[test]
-fn configurations(rt: HostRuntime) -> Result<(), Fail> {
-    for (number, setup) in SETUPS.iter().enumerate() {
-        assert!(rt; fault_of(rt.alloc(), setup)? == setup.1, "setup {number}");
-    }
-    Ok(())
-}
 
 const WHOLE: &str = "\
 cpus 2 # two
@@ -64,40 +105,35 @@ service drv drv.out traps 1E send 2 calls 0 level 4 best 3 quantum 20 restarts 9
 ";
 
 fn is_whole(found: &Config) -> bool {
-    for line in found.lines.as_slice() {
-        let masks = line.masks;
-        if line.file.as_str() != "drv.out"
-            || (masks.traps, masks.sends, masks.calls) != (0x1E, 2, 0)
-            || (line.level, line.best, line.quantum, line.restarts) != (4, 3, 20, 9)
-        {
-            return false;
+    match found.lines.as_slice() {
+        [line] => {
+            let masks = line.masks;
+            line.file.as_str() == "drv.out"
+                && (masks.traps, masks.sends, masks.calls) == (0x1E, 2, 0)
+                && (line.level, line.best, line.quantum, line.restarts) == (4, 3, 20, 9)
+                && (found.cpus, found.others, found.log) == (2, 1, 64)
         }
+        _ => false,
     }
-    (found.cpus, found.others, found.log) == (2, 1, 64)
+}
+
+fn is_read_whole(alloc: Global) -> bool {
+    match config(alloc, WHOLE) {
+        Ok(found) => is_whole(&found),
+        Err(_) => false,
+    }
+}
+
+fn fault_of(alloc: Global, text: &str) -> Option<BootError> {
+    config(alloc, text).err()
 }
 
 #[test]
-fn whole_configuration(rt: HostRuntime) -> Result<(), Fail> {
-    let found = config(rt.alloc(), WHOLE).map_err(|_| "refused")?;
-    assert!(rt; is_whole(&found));
-    Ok(())
-}
-
-/// A configuration of 33 services.
-fn too_many(alloc: Global) -> Result<String, Fail> {
-    let mut text = String::new(alloc);
-    for number in 0..33 {
-        let line = format!(in alloc; "service n{number} a.out {TERMS}\n")?;
-        text.push_str(line.as_str())?;
+fn configurations(rt: HostRuntime) -> Result<(), Fail> {
+    for (number, setup) in SETUPS.iter().enumerate() {
+        assert!(rt; fault_of(rt.alloc(), setup.0) == setup.1, "setup {number}");
     }
-    Ok(text)
-}
-
-#[test]
-fn thirty_third_service(rt: HostRuntime) -> Result<(), Fail> {
-    let text = too_many(rt.alloc())?;
-    let fault = config(rt.alloc(), text.as_str()).err();
-    assert!(rt; fault == Some(BootError::TooMany(33)));
+    assert!(rt; is_read_whole(rt.alloc()));
     let line = format!(in rt.alloc(); "{}", BootError::TooMany(33))?;
     assert!(rt; line.as_str() == "72 TooMany line 33");
     Ok(())
@@ -112,88 +148,62 @@ fn told<T: Drop>(read: Result<Vec<T>, BootError>) -> Result<usize, (u8, usize)> 
     }
 }
 
-/// A text, and what is told of it.
-struct Text(&'static str, Result<usize, (u8, usize)>);
+enum Kind {
+    Script,
+    DebugScript,
+    History,
+}
 
-static SCRIPTS: [Text; 11] = [
-    Text("tick\n\ntick\n", Err((73, 2))),
-    Text("tick\nfoo", Err((73, 2))),
-    Text("step 0", Err((73, 1))),
-    Text("step 0 0 0", Err((73, 1))),
-    Text("take 256", Err((73, 1))),
-    Text("take 0x0", Err((73, 1))),
-    Text("kill 2147483648", Err((73, 1))),
-    Text("tick # c", Err((73, 1))),
-    Text("tick\r\n", Err((73, 1))),
-    Text("messages", Err((73, 1))),
+use Kind::{DebugScript, History, Script};
+
+/// A text, and what is told of it.
+struct Text(Kind, &'static str, Result<usize, (u8, usize)>);
+
+static TEXTS: [Text; 27] = [
+    Text(Script, "tick\n\ntick\n", Err((73, 2))),
+    Text(Script, "tick\nfoo", Err((73, 2))),
+    Text(Script, "step 0", Err((73, 1))),
+    Text(Script, "step 0 0 0", Err((73, 1))),
+    Text(Script, "take 256", Err((73, 1))),
+    Text(Script, "take 0x0", Err((73, 1))),
+    Text(Script, "kill 2147483648", Err((73, 1))),
+    Text(Script, "tick # c", Err((73, 1))),
+    Text(Script, "tick\r\n", Err((73, 1))),
+    Text(Script, "messages", Err((73, 1))),
     Text(
+        Script,
         "step 255 2147483647\n  take   0  \ntake 9\nback 00\nline 16\nkill 31438\nrespawn 32",
         Ok(7),
     ),
-];
-
-static DEBUG_SCRIPTS: [Text; 6] = [
     Text(
+        DebugScript,
         "break 0 top\nbreak 0 +5\nbreak 0 01\nclear 0 abcdefghijk\ngo 0 9\nregs 1\n\
          mem 0 4096 0\nmessages\ntick\n",
         Ok(9),
     ),
-    Text("mem 0 0", Err((73, 1))),
-    Text("break 0 0x5", Err((73, 1))),
-    Text("break 2147483648 top", Err((73, 1))),
-    Text("go 256 1", Err((73, 1))),
-    Text("messages 1", Err((73, 1))),
+    Text(DebugScript, "mem 0 0", Err((73, 1))),
+    Text(DebugScript, "break 0 0x5", Err((73, 1))),
+    Text(DebugScript, "break 2147483648 top", Err((73, 1))),
+    Text(DebugScript, "go 256 1", Err((73, 1))),
+    Text(DebugScript, "messages 1", Err((73, 1))),
+    Text(History, "", Ok(0)),
+    Text(History, "0 take\n0 back 3\n", Ok(2)),
+    Text(History, "  0   tick  \n01 kill 5\n", Ok(2)),
+    Text(History, "0 take\n0 back 3", Err((73, 2))),
+    Text(History, "2 tick\n", Err((73, 1))),
+    Text(History, "tick\n", Err((73, 1))),
+    Text(History, "0 take 1\n", Err((73, 1))),
+    Text(History, "0 step 1\n", Err((73, 1))),
+    Text(History, "0 tick\n\n", Err((73, 2))),
+    Text(History, "0 tick\r\n", Err((73, 1))),
 ];
 
-static HISTORIES: [Text; 10] = [
-    Text("", Ok(0)),
-    Text("0 take\n0 back 3\n", Ok(2)),
-    Text("  0   tick  \n01 kill 5\n", Ok(2)),
-    Text("0 take\n0 back 3", Err((73, 2))),
-    Text("2 tick\n", Err((73, 1))),
-    Text("tick\n", Err((73, 1))),
-    Text("0 take 1\n", Err((73, 1))),
-    Text("0 step 1\n", Err((73, 1))),
-    Text("0 tick\n\n", Err((73, 2))),
-    Text("0 tick\r\n", Err((73, 1))),
-];
-
-#[test]
-fn scripts(rt: HostRuntime) -> Result<(), Fail> {
-    for (number, text) in SCRIPTS.iter().enumerate() {
-        assert!(rt;
-            told(script(rt.alloc(), text.0)) == text.1,
-            "script {number}"
-        );
+fn told_of(alloc: Global, machine: &Config, text: &Text) -> Result<usize, (u8, usize)> {
+    match text.0 {
+        Script => told(script(alloc, text.1)),
+        DebugScript => told(debug_script(alloc, text.1)),
+        History => told(log(alloc, text.1, machine)),
     }
-    Ok(())
-}
-
-#[test]
-fn debug_scripts(rt: HostRuntime) -> Result<(), Fail> {
-    for (number, text) in DEBUG_SCRIPTS.iter().enumerate() {
-        assert!(rt;
-            told(debug_script(rt.alloc(), text.0)) == text.1,
-            "script {number}"
-        );
-    }
-    Ok(())
-}
-
-/// A machine of one processor and one other actor.
-fn machine(alloc: Global) -> Result<Config, Fail> {
-    let text = spelled(alloc, "service a*\n")?;
-    Ok(config(alloc, text.as_str()).map_err(|_| "config")?)
-}
-
-#[test]
-fn histories(rt: HostRuntime) -> Result<(), Fail> {
-    let machine = machine(rt.alloc())?;
-    for (number, text) in HISTORIES.iter().enumerate() {
-        let read = log(rt.alloc(), text.0, &machine);
-        assert!(rt; told(read) == text.1, "history {number}");
-    }
-    Ok(())
 }
 
 static LINES: [ScriptLine; 3] = [
@@ -202,11 +212,11 @@ static LINES: [ScriptLine; 3] = [
     ScriptLine::Tick,
 ];
 
-#[test]
-fn whole_script(rt: HostRuntime) -> Result<(), Fail> {
-    let read = script(rt.alloc(), "take 0\nstep 0 99\ntick").map_err(|_| "refused")?;
-    assert!(rt; read.as_slice() == LINES.as_slice());
-    Ok(())
+fn is_script_read(alloc: Global) -> bool {
+    match script(alloc, "take 0\nstep 0 99\ntick") {
+        Ok(read) => read.as_slice() == LINES.as_slice(),
+        Err(_) => false,
+    }
 }
 
 /// A writer that takes so many bytes, at most three at a time, and then fails.
@@ -276,14 +286,35 @@ fn is_saved_to(alloc: Global, room: usize) -> bool {
     is_whole == (room >= SAVED.len()) && SAVED.as_bytes().starts_with(sink.writer.bytes.as_slice())
 }
 
+fn is_read_again(alloc: Global, machine: &Config) -> bool {
+    match log(alloc, SAVED, machine) {
+        Ok(again) => again.as_slice() == RECORDS.as_slice(),
+        Err(_) => false,
+    }
+}
+
 #[test]
-fn saves_what_it_reads(rt: HostRuntime) -> Result<(), Fail> {
+fn saves_histories(rt: HostRuntime) {
     for room in 0..SAVED.len() + 2 {
         assert!(rt; is_saved_to(rt.alloc(), room), "room {room}");
     }
-    let machine = machine(rt.alloc())?;
-    let again = log(rt.alloc(), SAVED, &machine).map_err(|_| "log")?;
-    assert!(rt; again.as_slice() == RECORDS.as_slice());
+}
+
+/// A machine of one processor and one other actor.
+const MACHINE: &str =
+    "service a a.out traps 1e send 0 calls ff level 7 best 5 quantum 5 restarts 1";
+
+fn read_all(rt: &impl Abort, alloc: Global, machine: &Config) {
+    for (number, text) in TEXTS.iter().enumerate() {
+        assert!(rt; told_of(alloc, machine, text) == text.2, "text {number}");
+    }
+    assert!(rt; is_script_read(alloc) && is_read_again(alloc, machine));
+}
+
+#[test]
+fn scripts_and_histories(rt: HostRuntime) -> Result<(), Fail> {
+    let machine = config(rt.alloc(), MACHINE)?;
+    read_all(&rt, rt.alloc(), &machine);
     Ok(())
 }
 

@@ -1,6 +1,6 @@
 //! Traps worked by hand after the book's rules and our own.
 
-use crate::tables::{LIMIT, add_process, word_at};
+use crate::tables::{LIMIT, add_process, has_words};
 use mx_ipc::{TrapAnswer, trap};
 use mx_proc::{Delivery, DeliveryKind, Masks, Partner, Slot, Source, Stale, State, Table};
 use mx_sched::{dequeue, enqueue, pick};
@@ -42,169 +42,144 @@ enum Seen {
 
 use Seen::{Goes, Stays};
 
-/// A trap, on a new table or going on: its slot, call, name and buffer; what is then seen of its slot,
-/// and of another.
-#[derive(Clone, Copy)]
-struct Step(bool, Slot, u32, u32, u32, Seen, Slot, Seen);
-
-const NEW: bool = true;
-
-const ON: bool = false;
+/// A trap: its slot, call, name and buffer; what is then seen of its slot, and of another.
+struct Step(Slot, u32, u32, u32, Seen, Slot, Seen);
 
 const WAITS: Seen = Stays(State::Receiving(Partner::Any));
 
 const SENDS: Seen = Stays(State::Sending);
 
-static STEPS: [Step; 49] = [
+/// Traps in turn, each time on a new table.
+static RUNS: [&[Step]; 12] = [
     // Two that send to each other, one that sends to itself, and three in a ring.
-    Step(NEW, 0, SEND, 1, 0, SENDS, 1, Goes(0)),
-    Step(ON, 1, SEND, 0, 0, Goes(LOCKED), 0, SENDS),
-    Step(ON, 2, SEND, 2, 0, Goes(LOCKED), 2, Goes(LOCKED)),
-    Step(NEW, 0, SEND, 1, 0, SENDS, 0, SENDS),
-    Step(ON, 1, SEND, 2, 0, SENDS, 0, SENDS),
-    Step(ON, 2, SEND, 0, 0, Goes(LOCKED), 1, SENDS),
+    &[
+        Step(0, SEND, 1, 0, SENDS, 1, Goes(0)),
+        Step(1, SEND, 0, 0, Goes(LOCKED), 0, SENDS),
+        Step(2, SEND, 2, 0, Goes(LOCKED), 2, Goes(LOCKED)),
+    ],
+    &[
+        Step(0, SEND, 1, 0, SENDS, 0, SENDS),
+        Step(1, SEND, 2, 0, SENDS, 0, SENDS),
+        Step(2, SEND, 0, 0, Goes(LOCKED), 1, SENDS),
+    ],
     // Two notifications are one message.
-    Step(NEW, 0, NOTIFY, 1, 0, Goes(0), 1, Goes(0)),
-    Step(ON, 0, NOTIFY, 1, 0, Goes(0), 1, Goes(0)),
-    Step(ON, 1, RECEIVE, ANY, 0, Goes(0), 0, Goes(0)),
-    Step(ON, 1, RECEIVE, ANY, 0, WAITS, 0, Goes(0)),
+    &[
+        Step(0, NOTIFY, 1, 0, Goes(0), 1, Goes(0)),
+        Step(0, NOTIFY, 1, 0, Goes(0), 1, Goes(0)),
+        Step(1, RECEIVE, ANY, 0, Goes(0), 0, Goes(0)),
+        Step(1, RECEIVE, ANY, 0, WAITS, 0, Goes(0)),
+    ],
     // A notification waits until a SENDREC has its reply.
-    Step(NEW, 1, RECEIVE, ANY, 0, WAITS, 0, Goes(0)),
-    Step(ON, 0, SENDREC, 1, 0, Stays(State::Awaiting(1)), 1, Goes(0)),
-    Step(ON, 2, NOTIFY, 0, 0, Goes(0), 0, Stays(State::Awaiting(1))),
-    Step(ON, 1, SEND, 0, 0, Goes(0), 0, Goes(0)),
-    Step(ON, 0, RECEIVE, 2, 0, Goes(0), 0, Goes(0)),
+    &[
+        Step(1, RECEIVE, ANY, 0, WAITS, 0, Goes(0)),
+        Step(0, SENDREC, 1, 0, Stays(State::Awaiting(1)), 1, Goes(0)),
+        Step(2, NOTIFY, 0, 0, Goes(0), 0, Stays(State::Awaiting(1))),
+        Step(1, SEND, 0, 0, Goes(0), 0, Goes(0)),
+        Step(0, RECEIVE, 2, 0, Goes(0), 0, Goes(0)),
+    ],
     // A SENDREC whose message is taken turns to receiving.
-    Step(NEW, 0, SENDREC, 1, 0, Stays(State::Calling), 1, Goes(0)),
-    Step(
-        ON,
-        1,
-        RECEIVE,
-        ANY,
-        0,
-        Goes(0),
-        0,
-        Stays(State::Awaiting(1)),
-    ),
-    Step(ON, 1, SEND, 0, 0, Goes(0), 0, Goes(0)),
+    &[
+        Step(0, SENDREC, 1, 0, Stays(State::Calling), 1, Goes(0)),
+        Step(1, RECEIVE, ANY, 0, Goes(0), 0, Stays(State::Awaiting(1))),
+        Step(1, SEND, 0, 0, Goes(0), 0, Goes(0)),
+    ],
     // The first caller comes first, and the partner that is named before it.
-    Step(NEW, 1, SEND, 0, 0, SENDS, 0, Goes(0)),
-    Step(ON, 2, SEND, 0, 0, SENDS, 0, Goes(0)),
-    Step(ON, 0, RECEIVE, ANY, 0, Goes(0), 1, Goes(0)),
-    Step(ON, 1, SEND, 0, 0, SENDS, 2, SENDS),
-    Step(ON, 0, RECEIVE, 1, 0, Goes(0), 2, SENDS),
-    Step(ON, 0, RECEIVE, ANY, 0, Goes(0), 2, Goes(0)),
+    &[
+        Step(1, SEND, 0, 0, SENDS, 0, Goes(0)),
+        Step(2, SEND, 0, 0, SENDS, 0, Goes(0)),
+        Step(0, RECEIVE, ANY, 0, Goes(0), 1, Goes(0)),
+        Step(1, SEND, 0, 0, SENDS, 2, SENDS),
+        Step(0, RECEIVE, 1, 0, Goes(0), 2, SENDS),
+        Step(0, RECEIVE, ANY, 0, Goes(0), 2, Goes(0)),
+    ],
     // Pseudo-processes, ANY and stale generations.
-    Step(NEW, 0, SEND, HARDWARE, 0, Goes(DENIED), 0, Goes(DENIED)),
-    Step(
-        ON,
-        0,
-        SENDREC,
-        HARDWARE,
-        0,
-        Goes(BAD_ENDPOINT),
-        0,
-        Goes(BAD_ENDPOINT),
-    ),
-    Step(
-        ON,
-        0,
-        SEND,
-        ANY,
-        0,
-        Goes(BAD_ENDPOINT),
-        0,
-        Goes(BAD_ENDPOINT),
-    ),
-    Step(ON, 0, SEND, 5, 0, Goes(BAD_ENDPOINT), 0, Goes(BAD_ENDPOINT)),
-    Step(ON, 1, SEND, 1024, 0, Goes(DEAD), 1, Goes(DEAD)),
-    Step(ON, 1, RECEIVE, 1024, 0, Goes(DEAD), 1, Goes(DEAD)),
-    Step(ON, 0, 5, 1, 0, Goes(DENIED), 0, Goes(DENIED)),
+    &[
+        Step(0, SEND, HARDWARE, 0, Goes(DENIED), 0, Goes(DENIED)),
+        Step(
+            0,
+            SENDREC,
+            HARDWARE,
+            0,
+            Goes(BAD_ENDPOINT),
+            0,
+            Goes(BAD_ENDPOINT),
+        ),
+        Step(0, SEND, ANY, 0, Goes(BAD_ENDPOINT), 0, Goes(BAD_ENDPOINT)),
+        Step(0, SEND, 5, 0, Goes(BAD_ENDPOINT), 0, Goes(BAD_ENDPOINT)),
+        Step(1, SEND, 1024, 0, Goes(DEAD), 1, Goes(DEAD)),
+        Step(1, RECEIVE, 1024, 0, Goes(DEAD), 1, Goes(DEAD)),
+        Step(0, 5, 1, 0, Goes(DENIED), 0, Goes(DENIED)),
+    ],
     // A buffer one byte too far, and one just inside.
-    Step(
-        NEW,
-        0,
-        RECEIVE,
-        ANY,
-        LIMIT - 35,
-        Goes(BAD_ADDRESS),
-        0,
-        Goes(BAD_ADDRESS),
-    ),
-    Step(ON, 0, RECEIVE, ANY, LIMIT - 36, WAITS, 1, Goes(0)),
+    &[
+        Step(
+            0,
+            RECEIVE,
+            ANY,
+            LIMIT - 35,
+            Goes(BAD_ADDRESS),
+            0,
+            Goes(BAD_ADDRESS),
+        ),
+        Step(0, RECEIVE, ANY, LIMIT - 36, WAITS, 1, Goes(0)),
+    ],
     // NOTIFY asks for no buffer, and RECEIVE for no bit of the send mask.
-    Step(NEW, 0, NOTIFY, 1, LIMIT, Goes(0), 0, Goes(0)),
-    Step(
-        ON,
-        4,
-        RECEIVE,
-        1,
-        0,
-        Stays(State::Receiving(Partner::Only(Source::Slot(1)))),
-        1,
-        Goes(0),
-    ),
+    &[
+        Step(0, NOTIFY, 1, LIMIT, Goes(0), 0, Goes(0)),
+        Step(
+            4,
+            RECEIVE,
+            1,
+            0,
+            Stays(State::Receiving(Partner::Only(Source::Slot(1)))),
+            1,
+            Goes(0),
+        ),
+    ],
     // A SENDREC to SYSTEM is left to the kernel, whatever the send mask says.
-    Step(NEW, 4, SENDREC, SYSTEM, 0, Stays(State::Home), 0, Goes(0)),
+    &[Step(4, SENDREC, SYSTEM, 0, Stays(State::Home), 0, Goes(0))],
     // Calls that fail in two ways: the first check is told.
-    Step(NEW, 3, SEND, ANY, 0, Goes(DENIED), 3, Goes(DENIED)),
-    Step(ON, 0, SEND, SYSTEM, LIMIT, Goes(DENIED), 0, Goes(DENIED)),
-    Step(ON, 3, SEND, 0, LIMIT, Goes(DENIED), 3, Goes(DENIED)),
-    Step(ON, 3, SEND, 1024, 0, Goes(DENIED), 3, Goes(DENIED)),
-    Step(ON, 3, SEND, 3, 0, Goes(DENIED), 3, Goes(DENIED)),
-    Step(
-        ON,
-        0,
-        SEND,
-        ANY,
-        LIMIT,
-        Goes(BAD_ENDPOINT),
-        0,
-        Goes(BAD_ENDPOINT),
-    ),
-    Step(
-        ON,
-        0,
-        SEND,
-        1024 + 9,
-        0,
-        Goes(BAD_ENDPOINT),
-        0,
-        Goes(BAD_ENDPOINT),
-    ),
-    Step(
-        ON,
-        4,
-        SEND,
-        0,
-        LIMIT,
-        Goes(BAD_ADDRESS),
-        4,
-        Goes(BAD_ADDRESS),
-    ),
-    Step(
-        ON,
-        0,
-        SEND,
-        1024 + 1,
-        LIMIT,
-        Goes(BAD_ADDRESS),
-        0,
-        Goes(BAD_ADDRESS),
-    ),
-    Step(
-        ON,
-        0,
-        SEND,
-        0,
-        LIMIT,
-        Goes(BAD_ADDRESS),
-        0,
-        Goes(BAD_ADDRESS),
-    ),
-    Step(NEW, 4, SEND, 1024, 0, Goes(DENIED), 4, Goes(DENIED)),
-    Step(ON, 4, SEND, 4, 0, Goes(DENIED), 4, Goes(DENIED)),
-    Step(ON, 0, SEND, 1024, 0, Goes(DEAD), 0, Goes(DEAD)),
+    &[
+        Step(3, SEND, ANY, 0, Goes(DENIED), 3, Goes(DENIED)),
+        Step(0, SEND, SYSTEM, LIMIT, Goes(DENIED), 0, Goes(DENIED)),
+        Step(3, SEND, 0, LIMIT, Goes(DENIED), 3, Goes(DENIED)),
+        Step(3, SEND, 1024, 0, Goes(DENIED), 3, Goes(DENIED)),
+        Step(3, SEND, 3, 0, Goes(DENIED), 3, Goes(DENIED)),
+        Step(
+            0,
+            SEND,
+            ANY,
+            LIMIT,
+            Goes(BAD_ENDPOINT),
+            0,
+            Goes(BAD_ENDPOINT),
+        ),
+        Step(
+            0,
+            SEND,
+            1024 + 9,
+            0,
+            Goes(BAD_ENDPOINT),
+            0,
+            Goes(BAD_ENDPOINT),
+        ),
+        Step(4, SEND, 0, LIMIT, Goes(BAD_ADDRESS), 4, Goes(BAD_ADDRESS)),
+        Step(
+            0,
+            SEND,
+            1024 + 1,
+            LIMIT,
+            Goes(BAD_ADDRESS),
+            0,
+            Goes(BAD_ADDRESS),
+        ),
+        Step(0, SEND, 0, LIMIT, Goes(BAD_ADDRESS), 0, Goes(BAD_ADDRESS)),
+    ],
+    &[
+        Step(4, SEND, 1024, 0, Goes(DENIED), 4, Goes(DENIED)),
+        Step(4, SEND, 4, 0, Goes(DENIED), 4, Goes(DENIED)),
+        Step(0, SEND, 1024, 0, Goes(DEAD), 0, Goes(DEAD)),
+    ],
 ];
 
 /// The masks of traps and of sends of five processes: slot 3 may make no call, slot 4 may send to
@@ -262,22 +237,25 @@ fn look_at(rt: &impl Abort, table: &Table, slot: Slot) -> Seen {
 /// Whether a step's slot and the other are then seen as it says, and the answer says whether a call is
 /// left to the kernel.
 fn is_seen(rt: &impl Abort, table: &mut Table, step: &Step) -> bool {
-    let Step(_, slot, call, name, buffer, own, other, seen) = *step;
-    let after = make_trap(rt, table, slot, (call, name, buffer), &[]);
-    let is_left = own == Stays(State::Home);
-    look_at(rt, table, slot) == own
-        && look_at(rt, table, other) == seen
+    let Step(slot, call, name, buffer, own, other, seen) = step;
+    let after = make_trap(rt, table, *slot, (*call, *name, *buffer), &[]);
+    let is_left = *own == Stays(State::Home);
+    look_at(rt, table, *slot) == *own
+        && look_at(rt, table, *other) == *seen
         && (after == TrapAnswer::Kernel) == is_left
+}
+
+fn make_all(rt: &impl Abort, table: &mut Table, steps: &[Step]) {
+    for (number, step) in steps.iter().enumerate() {
+        assert!(rt; is_seen(rt, table, step), "step {number}");
+    }
 }
 
 #[test]
 fn traps(rt: HostRuntime) -> Result<(), Fail> {
-    let mut table = five_processes(&rt, rt.alloc())?;
-    for (number, step) in STEPS.iter().enumerate() {
-        if step.0 {
-            table = five_processes(&rt, rt.alloc())?;
-        }
-        assert!(rt; is_seen(&rt, &mut table, step), "step {number}");
+    for steps in &RUNS {
+        let mut table = five_processes(&rt, rt.alloc())?;
+        make_all(&rt, &mut table, *steps);
     }
     Ok(())
 }
@@ -296,11 +274,7 @@ fn is_delivered(
 ) -> bool {
     make_trap(rt, table, 1, (RECEIVE, ANY, 512), &[]);
     make_trap(rt, table, sender, (call, 1, 0), &MESSAGE);
-    let mut is_there = pick(table) == Some(sender);
-    for (place, word) in (512..528).step_by(4).zip(words.iter()) {
-        is_there = is_there && word_at(rt, table, 1, place) == *word;
-    }
-    is_there
+    pick(table) == Some(sender) && has_words(rt, table, 1, words)
 }
 
 /// Whether both deliveries are kept, and the receiver's endpoint is that of its generation alone.
@@ -323,12 +297,16 @@ fn are_kept(table: &Table) -> bool {
         && table.look(1024 + 1) == Err(Stale)
 }
 
+fn are_delivered(rt: &impl Abort, table: &mut Table) -> bool {
+    is_delivered(rt, table, 2, SEND, &[2, 7, 9, 0xFF])
+        && is_delivered(rt, table, 0, NOTIFY, &[0, 4096, 0, 0])
+        && are_kept(table)
+}
+
 #[test]
 fn deliveries(rt: HostRuntime) -> Result<(), Fail> {
     let mut table = five_processes(&rt, rt.alloc())?;
-    assert!(rt; is_delivered(&rt, &mut table, 2, SEND, &[2, 7, 9, 0xFF]));
-    assert!(rt; is_delivered(&rt, &mut table, 0, NOTIFY, &[0, 4096, 0, 0]));
-    assert!(rt; are_kept(&table));
+    assert!(rt; are_delivered(&rt, &mut table));
     Ok(())
 }
 
