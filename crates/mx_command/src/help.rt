@@ -2,7 +2,7 @@
 
 /// What a subcommand's help ends with.
 #[derive(Clone, Copy)]
-pub enum Example {
+pub(crate) enum Example {
     /// A text that assembles.
     As,
     /// A configuration of two services, and a script.
@@ -15,7 +15,7 @@ pub enum Example {
 
 impl Example {
     /// The lines that are printed.
-    pub fn text(self) -> &'static str {
+    pub(crate) fn text(self) -> &'static str {
         match self {
             Example::As => AS_EXAMPLE,
             Example::Step => STEP_EXAMPLE,
