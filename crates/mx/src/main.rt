@@ -1,9 +1,10 @@
-//! The machine for the process layer of MINIX 3.1.
+//! The program `mx`: `main` alone.
 #![tactic(auto)]
 
 pub use mx_app::{
-    BootError, Failure, FileError, NamedFile, NamedFiles, Reader, Replayed, Request, assemble_file,
-    command, db, one, perform_words, print_listing, print_names, print_one, replay, step,
+    BootError, CommandRequest, Failure, FileError, NamedFile, NamedFiles, Reader, Replayed,
+    assemble_file, command, db, one, perform_words, print_listing, print_names, print_one, replay,
+    step,
 };
 use std::process::ExitCode;
 

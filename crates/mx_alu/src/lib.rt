@@ -1,5 +1,5 @@
-//! Arithmetic, logic, shifts, products and quotients on words of 8, 16 and 32 bits: the results,
-//! and the flags after them. No call takes memory.
+//! What arithmetic, logic, shifts, products and quotients give: the result, and the flags after it.
+//! No call takes memory.
 #![tactic(auto)]
 
 ghost use Rattle.std.specs.Prelude.{◌≡◌, ◌^◌, ◌<◌};

@@ -1,4 +1,4 @@
-//! Programs and the files that hold them, in the 80386 layout of MINIX's `a.out.h`.
+//! Program files, in the 80386 layout of MINIX's `a.out.h`: read, checked and written.
 #![tactic(auto)]
 
 mod file;

@@ -1,11 +1,11 @@
-//! The texts of a machine: configurations, scripts, saved histories and reports, and what is told
-//! of them.
+//! Everything that is read or written as text about a machine, in one place: configurations,
+//! scripts, histories, reports.
 #![tactic(auto)]
 
 mod kernels;
 
 pub use kernels::{report, save, saved_again};
-pub use mx_config::{Config, FileName, ServiceLine, ServiceLines, config};
-pub use mx_fields::BootError;
-pub use mx_history::{Over, SaveFault, Sink, SinkFault, log};
-pub use mx_script::{DebugLine, Place, ScriptLine, SymbolName, debug_script, script};
+pub use mx_boot_config::{Config, FileName, ServiceLine, ServiceLines, config};
+pub use mx_boot_history::{Over, SaveFault, Sink, SinkFault, log};
+pub use mx_boot_script::{CodePlace, DebugLine, ScriptLine, SymbolName, debug_script, script};
+pub use mx_text::BootError;

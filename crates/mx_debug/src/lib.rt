@@ -1,5 +1,4 @@
-//! A debugger: breakpoints by slot and address, over whatever holds a process. It writes nothing
-//! into what it looks at.
+//! Breakpoints: a process is run until it halts at one. Nothing is written into its memory.
 #![tactic(auto)]
 
 mod error;
@@ -10,6 +9,6 @@ mod resuming;
 
 pub use error::DebugError;
 pub use finding::{address, byte, message};
-pub use halt::{Cause, Halt};
-pub use mx_kernel::{Held, Kernel};
+pub use halt::{Halt, HaltCause};
+pub use mx_machine_kernel::{Held, Kernel};
 pub use points::{Breakpoint, Debugger};

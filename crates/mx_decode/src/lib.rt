@@ -1,4 +1,4 @@
-//! Bytes to instructions.
+//! From bytes to the instruction that they begin with.
 #![tactic(auto)]
 
 mod fields;

@@ -1,4 +1,4 @@
-//! What a program's text and its symbols look like to a reader.
+//! The listing of a program's instructions, and of its symbols.
 #![tactic(auto)]
 
 mod laws;

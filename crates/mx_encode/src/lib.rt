@@ -1,4 +1,4 @@
-//! Instructions to bytes: of the spellings of an instruction, the one that is chosen.
+//! From an instruction to bytes: of all spellings of it, the chosen one.
 #![tactic(auto)]
 
 mod accumulator;

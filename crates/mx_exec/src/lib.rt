@@ -1,4 +1,4 @@
-//! One instruction of a process.
+//! One step: what one instruction does to a process's registers, flags and memory.
 #![tactic(auto)]
 
 mod arithmetic;
@@ -16,4 +16,4 @@ mod text;
 pub use image::{Code, Image, Outcome};
 pub use laws::step_lasts;
 pub use steps::{act, outcome, perform, step};
-pub use text::{Text, decode_at};
+pub use text::{TextSegment, decode_at};

@@ -1,4 +1,4 @@
-//! The processor's seven flags, and what operations make of them.
+//! The processor's seven flags, what operations make of them, and the conditions that jumps test.
 #![tactic(auto)]
 
 ghost use Rattle.std.specs.Prelude.{◌≡◌, ◌+◌, ◌-◌, ◌^◌, ◌<◌, ◌%◌, ◌/◌};

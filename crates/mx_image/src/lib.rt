@@ -1,4 +1,4 @@
-//! Many steps of a process.
+//! Many steps in a row, counted, and how they end.
 #![tactic(auto)]
 
 mod joining;

@@ -1,4 +1,4 @@
-//! Instructions, and the rows of their table.
+//! An instruction as a value, and the table of rows that says which bytes spell it.
 #![tactic(auto)]
 
 mod insn;
@@ -10,4 +10,4 @@ pub use insn::{
     Operands, Plain, Port, PortSize, Product, Repeat, Scale, Transfer, WideImmediate,
 };
 pub use mx_word::{Arithmetic, Condition, Register, Shift, Size, Unary};
-pub use row::{CountColumn, ImmediateColumn, ModRm, Pattern, Repeats, Row, Sizes};
+pub use row::{CountColumn, ImmediateColumn, ModRm, Pattern, Repeats, Row, SizeMark};

@@ -1,4 +1,4 @@
-//! Kernel calls, interrupt lines and the clock.
+//! Calls to the kernel, interrupt lines, and the clock with its alarms.
 #![tactic(auto)]
 
 mod clock;
@@ -7,5 +7,5 @@ mod request;
 mod serving;
 
 pub use clock::{raise, tick};
-pub use request::{After, Answer, Request};
+pub use request::{After, KernelCall, ReplyWords};
 pub use serving::call;

@@ -1,4 +1,4 @@
-//! Images of programs.
+//! From a program to the image that a process begins with.
 #![tactic(auto)]
 
 mod loading;

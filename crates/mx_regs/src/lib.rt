@@ -1,4 +1,4 @@
-//! The eight registers and their parts.
+//! The eight registers, and their low halves and bytes.
 #![tactic(auto)]
 
 ghost use Rattle.std.specs.Prelude.{◌≡◌, ◌<◌, ◌^◌};
@@ -16,9 +16,9 @@ pub struct Regs {
 }
 
 impl Model for Regs {
-    ghost use Rattle.mx_regs.specs.Words.{Words, words_of};
+    ghost use Rattle.mx_regs.specs.RegisterValues.{RegisterValues, words_of};
 
-    ghost Value = { Words };
+    ghost Value = { RegisterValues };
 
     ghost view = { λ r. words_of r.words };
 }

@@ -1,4 +1,4 @@
-//! Services, the death of a process, and its respawn.
+//! How a process dies, and how its service gets a new one.
 #![tactic(auto)]
 
 mod death;

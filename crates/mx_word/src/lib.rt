@@ -1,4 +1,5 @@
-//! Words of 8, 16 and 32 bits, bytes, and the names that instructions share.
+//! Numbers of 8, 16 and 32 bits: their sums, signs and bytes; and the names of registers,
+//! conditions and operations.
 #![tactic(auto)]
 
 mod bytes;

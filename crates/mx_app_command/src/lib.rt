@@ -1,0 +1,8 @@
+//! The command line: which subcommand is asked for, with which values; and its help.
+#![tactic(auto)]
+
+mod grammar;
+mod help;
+mod words;
+
+pub use words::{CommandRequest, command};

@@ -1,0 +1,19 @@
+//! From files' names to a booted machine: all files are read and checked in order.
+#![tactic(auto)]
+
+mod course;
+mod named;
+mod noting;
+mod reader;
+mod runtime;
+mod setup;
+mod starting;
+
+pub use course::{Course, DebugScript, History, Script};
+pub use mx_app_failure::{Failure, print_text};
+pub use mx_boot::{BootError, Config, DebugLine, ScriptLine, report};
+pub use mx_machine::{Event, Held, Machine, Out, Record, Recorded, Tool};
+pub use named::{NamedFile, NamedFiles};
+pub use reader::Reader;
+pub use runtime::RuntimeFiles;
+pub use starting::{Started, start};

@@ -1,0 +1,10 @@
+//! A text that is assembled, written, read, loaded and listed comes back as it was.
+#![tactic(auto)]
+
+mod error;
+mod going;
+mod laws;
+
+pub use error::AroundError;
+pub use going::{Journey, around};
+pub use laws::{code_keeps, listing_keeps};

@@ -1,0 +1,13 @@
+//! From the text of a configuration to its value, or its first fault.
+#![tactic(auto)]
+
+mod draft;
+mod item;
+mod items;
+mod reading;
+mod service;
+mod terms;
+
+pub use mx_machine_world::{Config, FileName, ServiceLine, ServiceLines};
+pub use mx_text::BootError;
+pub use reading::config;

@@ -1,0 +1,7 @@
+//! The report of a machine: a line for each service, the uptime, the console.
+#![tactic(auto)]
+
+mod fields;
+mod reporting;
+
+pub use reporting::report_of;

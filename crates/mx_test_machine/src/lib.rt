@@ -1,0 +1,25 @@
+//! Tests alone: worked rows of the process layer, the machine, and the texts that drive it.
+#![tactic(auto)]
+
+#[cfg(test)]
+mod breakpoints;
+#[cfg(test)]
+mod calls;
+#[cfg(test)]
+mod debugging;
+#[cfg(test)]
+mod driving;
+#[cfg(test)]
+mod events;
+#[cfg(test)]
+mod files;
+#[cfg(test)]
+mod printing;
+#[cfg(test)]
+mod starting;
+#[cfg(test)]
+mod tables;
+#[cfg(test)]
+mod texts;
+#[cfg(test)]
+mod traps;

@@ -1,0 +1,31 @@
+//! Tests alone: worked rows of instructions, the assembler, files and listings.
+#![tactic(auto)]
+
+#[cfg(test)]
+mod aout;
+#[cfg(test)]
+mod around;
+#[cfg(test)]
+mod asm;
+#[cfg(test)]
+mod bytes;
+#[cfg(test)]
+mod compare;
+#[cfg(test)]
+mod dis;
+#[cfg(test)]
+mod encode;
+#[cfg(test)]
+mod form;
+#[cfg(test)]
+mod image;
+#[cfg(test)]
+mod load;
+#[cfg(test)]
+mod operand;
+#[cfg(test)]
+mod reading;
+#[cfg(test)]
+mod statement;
+#[cfg(test)]
+mod words;
