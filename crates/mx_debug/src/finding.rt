@@ -3,14 +3,14 @@
 ghost use Rattle.std.specs.Prelude.{◌≡◌, ℕ, ◌≤◌, Some, None, IfOk, IfErr, OnErr, length, take, slice_get};
 ghost use Rattle.mx_dis.specs.Names.{before_zero};
 ghost use Rattle.mx_debug.specs.Finding.{is_named, first_named};
-ghost use Rattle.mx_kernel.specs.History.{replay};
+ghost use Rattle.mx_machine_kernel.specs.History.{replay};
 ghost use Rattle.mx_debug.specs.declared.error.DebugError.TheVariants as errors;
 
 use crate::error::DebugError;
 use mx_aout::{Program, Symbol};
 use mx_exec::Image;
 use mx_image::Runs;
-use mx_kernel::Kernel;
+use mx_machine_kernel::Kernel;
 use mx_proc::Delivery;
 
 /// A name's bytes up to the first zero byte.

@@ -6,9 +6,9 @@ ghost use Rattle.mx_debug.specs.declared.points.Breakpoint.{Breakpoint};
 ghost use Rattle.mx_debug.specs.Points.{stands, has_any};
 ghost use Rattle.mx_debug.specs.Halts.{Halts};
 
-use crate::halt::{Cause, Halt, cause_of};
+use crate::halt::{Halt, HaltCause, cause_of};
 use crate::points::Debugger;
-use mx_kernel::{Held, held_runs_join};
+use mx_machine_kernel::{Held, held_runs_join};
 use mx_proc::Slot;
 
 /// All steps at once, where no breakpoint can be reached.
@@ -76,7 +76,7 @@ impl Debugger {
         }
         Halt {
             count: k,
-            cause: Cause::Spent,
+            cause: HaltCause::Spent,
         }
     }
 

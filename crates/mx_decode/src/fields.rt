@@ -6,7 +6,7 @@ ghost use Rattle.mx_insn.specs.Spelling.{register, scale, base_of, index_of, sig
 ghost use Rattle.mx_decode.specs.Given.{Gives, number_at, displacement_at, immediate_at, sib_parts, base_parts, memory_at, operand_at, modrm_at, place_code, immediate_bound};
 
 use crate::DecodeFault;
-use mx_insn::{ImmediateColumn, Index, Memory, ModRm, Operand, Register, Scale, Size, Sizes};
+use mx_insn::{ImmediateColumn, Index, Memory, ModRm, Operand, Register, Scale, Size, SizeMark};
 use mx_word::signed;
 
 #[inline(always)]
@@ -193,13 +193,13 @@ pub fn place(column: ModRm, bytes: &[u8]) -> Result<(u8, Operand, &[u8]), Decode
     }
 }
 
-pub fn row_size(sizes: Sizes, resized: bool) -> Size
+pub fn row_size(sizes: SizeMark, resized: bool) -> Size
     ensures { result ≡ row_size sizes resized }
 {
     match sizes {
-        Sizes::Byte => Size::Byte,
-        Sizes::Variable if resized => Size::Word,
-        Sizes::Variable | Sizes::Dword => Size::Dword,
+        SizeMark::Byte => Size::Byte,
+        SizeMark::Variable if resized => Size::Word,
+        SizeMark::Variable | SizeMark::Dword => Size::Dword,
     }
 }
 

@@ -5,7 +5,7 @@ ghost use Rattle.mx_decode.specs.Map.{part, rows_in};
 
 use mx_insn::{
     Comparison, CountColumn, ImmediateColumn, Loop, ModRm, Pattern, Plain, Product, Repeats, Row,
-    Shift, Sizes, Transfer, Unary,
+    Shift, SizeMark, Transfer, Unary,
 };
 
 macro_rules! row {
@@ -15,7 +15,7 @@ macro_rules! row {
             first: $first,
             step: $step,
             count: $count,
-            sizes: Sizes::$sizes,
+            sizes: SizeMark::$sizes,
             repeats: Repeats::$repeats,
             modrm: $reg,
             immediate: ImmediateColumn::$immediate,

@@ -16,9 +16,9 @@ pub struct Regs {
 }
 
 impl Model for Regs {
-    ghost use Rattle.mx_regs.specs.Words.{Words, words_of};
+    ghost use Rattle.mx_regs.specs.RegisterValues.{RegisterValues, words_of};
 
-    ghost Value = { Words };
+    ghost Value = { RegisterValues };
 
     ghost view = { λ r. words_of r.words };
 }
