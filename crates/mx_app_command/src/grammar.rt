@@ -11,7 +11,7 @@ use std::alloc::{AllocError, Global};
 
 /// An argument of a subcommand, with a line of help.
 #[derive(Clone, Copy)]
-struct Argument<'a> {
+struct CommandArgument<'a> {
     name: &'a str,
     help: &'a str,
     is_number: bool,
@@ -22,61 +22,61 @@ struct Argument<'a> {
 struct Subcommand<'a> {
     name: &'a str,
     help: &'a str,
-    arguments: &'a [Argument<'a>],
+    arguments: &'a [CommandArgument<'a>],
     example: Option<Example>,
 }
 
 /// The program that is run or printed.
-const FILE: Argument<'static> = Argument {
+const FILE: CommandArgument<'static> = CommandArgument {
     name: "FILE",
     help: "An a.out file of MINIX 3 for the 80386",
     is_number: false,
 };
 
 /// How many steps at most.
-const STEPS: Argument<'static> = Argument {
+const STEPS: CommandArgument<'static> = CommandArgument {
     name: "N",
     help: "How many steps at most, 0 to 4294967295",
     is_number: true,
 };
 
 /// The text that is assembled.
-const TEXT: Argument<'static> = Argument {
+const TEXT: CommandArgument<'static> = CommandArgument {
     name: "TEXT",
     help: "A text for the assembler",
     is_number: false,
 };
 
 /// The program that is made.
-const WRITTEN: Argument<'static> = Argument {
+const WRITTEN: CommandArgument<'static> = CommandArgument {
     name: "FILE",
     help: "The a.out file to write",
     is_number: false,
 };
 
 /// The machine that is started.
-const CONFIG: Argument<'static> = Argument {
+const CONFIG: CommandArgument<'static> = CommandArgument {
     name: "CONFIG",
     help: "The processors, and the services with their programs' files",
     is_number: false,
 };
 
 /// What happens to it.
-const SCRIPT: Argument<'static> = Argument {
+const SCRIPT: CommandArgument<'static> = CommandArgument {
     name: "SCRIPT",
     help: "What happens, an event a line",
     is_number: false,
 };
 
 /// What happened to it.
-const LOG: Argument<'static> = Argument {
+const LOG: CommandArgument<'static> = CommandArgument {
     name: "LOG",
     help: "A saved history, a record a line",
     is_number: false,
 };
 
 /// What happens to it, and what is looked at.
-const COMMANDS: Argument<'static> = Argument {
+const COMMANDS: CommandArgument<'static> = CommandArgument {
     name: "SCRIPT",
     help: "Events and what to look at, one a line",
     is_number: false,
@@ -129,7 +129,7 @@ static SUBCOMMANDS: [Subcommand<'static>; 7] = [
 ];
 
 /// An argument that has to be given, once.
-fn wanted<'a>(alloc: Global, argument: &Argument<'a>) -> Arg<'a>
+fn wanted<'a>(alloc: Global, argument: &CommandArgument<'a>) -> Arg<'a>
     ensures rule { rule_of result ≡ rule_of_argument argument.now }
     ensures local { result.global ≡ false }
 {

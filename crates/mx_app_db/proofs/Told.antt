@@ -29,7 +29,7 @@ use Rattle.mx_print_answers.specs.Said.{refusal_line, said_line}
 use Rattle.mx_app_db.specs.Going.{HasGone, IsStuck}
 use Rattle.mx_app_db.specs.Lines.{DebuggedWorld, debug_line_made, debug_lines_made}
 use Rattle.mx_app_db.specs.Places.{place_found, breakpoints_after_break, breakpoints_after_clear}
-use Rattle.mx_app_db.specs.Told.{eip_of, image_of, halt_text, go_text, debug_line_text, debug_lines_text}
+use Rattle.mx_app_db.specs.Told.{eip_of, image_held, halt_text, go_text, debug_line_text, debug_lines_text}
 use Rattle.mx_app_db.proofs.Made.{both}
 
 -- ---- a run up to a breakpoint
@@ -72,9 +72,9 @@ run_told w u points c k (Err r) eip g s e = refused_told w points c k r eip s.0
 -- ---- what a processor holds
 
 pub image_told : (r : Option (Bor Image)) (held : Option HeldProcess) → MatchOption r (held ≡ None) (λ i. (l : HeldProcess) × (held ≡ Some l) × (i.now ≡ l.out.image))
-    → option_map (λ i. i.now) r ≡ image_of held
-image_told None held h = ap image_of (sym h)
-image_told (Some i) held h = ap (λ (m : Image). Some m) h.2 ∙ ap image_of (sym h.1)
+    → option_map (λ i. i.now) r ≡ image_held held
+image_told None held h = ap image_held (sym h)
+image_told (Some i) held h = ap (λ (m : Image). Some m) h.2 ∙ ap image_held (sym h.1)
 
 -- ---- a line
 
@@ -98,11 +98,11 @@ pub go_told : (other : ℕ) (d : DebuggedWorld) (c k : ℕ) → debug_line_text 
 unfolding debug_line_text
 go_told other d c k = refl
 
-pub registers_told : (other : ℕ) (d : DebuggedWorld) (c : ℕ) → debug_line_text other d (Registers c) ≡ registers_text (image_of (held_by d.world c))
+pub registers_told : (other : ℕ) (d : DebuggedWorld) (c : ℕ) → debug_line_text other d (Registers c) ≡ registers_text (image_held (held_by d.world c))
 unfolding debug_line_text
 registers_told other d c = refl
 
-pub memory_told : (other : ℕ) (d : DebuggedWorld) (c m n : ℕ) → debug_line_text other d (Memory c m n) ≡ memory_text (image_of (held_by d.world c)) m n
+pub memory_told : (other : ℕ) (d : DebuggedWorld) (c m n : ℕ) → debug_line_text other d (Memory c m n) ≡ memory_text (image_held (held_by d.world c)) m n
 unfolding debug_line_text
 memory_told other d c m n = refl
 

@@ -13,10 +13,10 @@ use Rattle.mx_print_answers.specs.declared.refused.Refused.{Refused as Kind}
 use Rattle.mx_print_answers.specs.declared.refused.Refused.TheVariants.{ByMachine, ByDebugger}
 
 -- the address of a place: itself, or the value of the first symbol of the name
-abbrev pub address_of : Program → CodePlace → Option ℕ
-address_of p (Address at) = Some at
-address_of p (Symbol name) = first_named p.symbols name
-address_of p NoName = None
+abbrev pub address_of_place : Program → CodePlace → Option ℕ
+address_of_place p (Address at) = Some at
+address_of_place p (Symbol name) = first_named p.symbols name
+address_of_place p NoName = None
 
 abbrev pub at_address : ℕ → Option ℕ → Result (ℕ × ℕ) Kind
 at_address slot None = Err (ByDebugger NoSymbol)
@@ -24,7 +24,7 @@ at_address slot (Some at) = Ok (slot, at)
 
 abbrev pub of_service : Option Service → ℕ → CodePlace → Result (ℕ × ℕ) Kind
 of_service None slot place = Err (ByMachine NoService)
-of_service (Some s) slot place = at_address slot (address_of s.program place)
+of_service (Some s) slot place = at_address slot (address_of_place s.program place)
 
 -- where a place lies in the program of a slot's service: no service is told before no symbol
 abbrev pub place_found : List Service → ℕ → CodePlace → Result (ℕ × ℕ) Kind

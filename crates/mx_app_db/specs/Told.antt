@@ -19,8 +19,8 @@ use Rattle.mx_app_db.specs.Lines.{DebuggedWorld, debug_line_made}
 
 -- ---- of what a processor holds
 
-abbrev pub image_of : Option HeldProcess → Option Image
-image_of held = option_map (λ (l : HeldProcess). l.out.image) held
+abbrev pub image_held : Option HeldProcess → Option Image
+image_held held = option_map (λ (l : HeldProcess). l.out.image) held
 
 abbrev pub eip_of : Option HeldProcess → ℕ
 eip_of None = 0
@@ -46,8 +46,8 @@ debug_line_text other d (Plain l) = said_line (line_made d.world other l).0 ++ c
 debug_line_text other d (Break s place) = done_line (breakpoints_after_break d.points (place_found d.world.services s place)).0
 debug_line_text other d (Clear s place) = done_line (breakpoints_after_clear d.points (place_found d.world.services s place)).0
 debug_line_text other d (Go c k) = go_text d.points k (held_by d.world c)
-debug_line_text other d (Registers c) = registers_text (image_of (held_by d.world c))
-debug_line_text other d (Memory c m n) = memory_text (image_of (held_by d.world c)) m n
+debug_line_text other d (Registers c) = registers_text (image_held (held_by d.world c))
+debug_line_text other d (Memory c m n) = memory_text (image_held (held_by d.world c)) m n
 debug_line_text other d Messages = delivery_lines d.world.table.deliveries
 
 -- and of lines in a row

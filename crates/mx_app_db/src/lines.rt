@@ -5,7 +5,7 @@ ghost use Rattle.mx_app_step.specs.Machine.{world_of};
 ghost use Rattle.mx_machine_world.specs.World.{actors, held_by};
 ghost use Rattle.mx_print_answers.specs.Processes.{registers_text, memory_text};
 ghost use Rattle.mx_app_db.specs.Lines.{world_after_go, debug_line_made, debug_lines_made};
-ghost use Rattle.mx_app_db.specs.Told.{eip_of, image_of, go_text, debug_line_text, debug_lines_text};
+ghost use Rattle.mx_app_db.specs.Told.{eip_of, image_held, go_text, debug_line_text, debug_lines_text};
 
 use crate::going::go;
 use crate::places::{clear_breakpoint, set_breakpoint};
@@ -44,7 +44,7 @@ fn perform_go(
 
 /// Appends the registers of the process that a processor holds.
 fn show_registers(machine: &Machine, cpu: u8, text: &mut String) -> Result<(), AllocError>
-    ensures { OnOk result (string_bytes text.new ≡ string_bytes text.old ++ registers_text (image_of (held_by (world_of machine.now) cpu))) }
+    ensures { OnOk result (string_bytes text.new ≡ string_bytes text.old ++ registers_text (image_held (held_by (world_of machine.now) cpu))) }
 {
     push_process(text, machine.image(cpu))
 }
@@ -57,7 +57,7 @@ fn show_memory(
     count: u32,
     text: &mut String,
 ) -> Result<(), AllocError>
-    ensures { OnOk result (string_bytes text.new ≡ string_bytes text.old ++ memory_text (image_of (held_by (world_of machine.now) cpu)) from count) }
+    ensures { OnOk result (string_bytes text.new ≡ string_bytes text.old ++ memory_text (image_held (held_by (world_of machine.now) cpu)) from count) }
 {
     push_memory(text, machine.image(cpu), from, count)
 }

@@ -3,7 +3,7 @@
 ghost use Rattle.std.specs.Prelude.{◌≡◌, Some, None, MatchResult};
 ghost use Rattle.mx_machine_world.specs.History.{replay};
 ghost use Rattle.mx_print_answers.specs.DebugError.TheVariants as errors;
-ghost use Rattle.mx_app_db.specs.Places.{address_of, place_found, breakpoints_after_break, breakpoints_after_clear};
+ghost use Rattle.mx_app_db.specs.Places.{address_of_place, place_found, breakpoints_after_break, breakpoints_after_clear};
 
 use mx_aout::Program;
 use mx_boot_script::CodePlace;
@@ -13,7 +13,7 @@ use mx_proc::Slot;
 
 /// The address of a place in a program.
 fn address_of(program: &Program, place: &CodePlace) -> Result<u32, DebugError>
-    ensures { MatchResult result (λ at. address_of program.now place.now ≡ Some at) (λ e. (address_of program.now place.now ≡ None) × (e ≡ errors.NoSymbol)) }
+    ensures { MatchResult result (λ at. address_of_place program.now place.now ≡ Some at) (λ e. (address_of_place program.now place.now ≡ None) × (e ≡ errors.NoSymbol)) }
 {
     match place {
         CodePlace::Address(at) => Ok(*at),

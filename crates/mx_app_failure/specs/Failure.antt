@@ -67,13 +67,13 @@ lines_told (lines.BadRecord n) = codes "73 BadRecord line " ++ decimal n
 lines_told lines.NoMemory = codes "90 NoMemory"
 
 -- a failure's line, without its end
-abbrev pub line_of : Kind → List ℕ
-line_of (Refused e) = codes "mx: " ++ decimal (refusal_code e) ++ codes " " ++ refusal_name e
-line_of (Faulty f) = codes "mx: " ++ decimal (problem_code f.problem) ++ codes " " ++ problem_name f.problem ++ codes " line " ++ decimal f.line
-line_of (Misstated e) = codes "mx: " ++ lines_told e
-line_of NotText = codes "mx: a word of the command line isn't text"
-line_of File = codes "mx: 80 File"
-line_of NoMemory = codes "mx: 90 NoMemory"
+abbrev pub failure_line : Kind → List ℕ
+failure_line (Refused e) = codes "mx: " ++ decimal (refusal_code e) ++ codes " " ++ refusal_name e
+failure_line (Faulty f) = codes "mx: " ++ decimal (problem_code f.problem) ++ codes " " ++ problem_name f.problem ++ codes " line " ++ decimal f.line
+failure_line (Misstated e) = codes "mx: " ++ lines_told e
+failure_line NotText = codes "mx: a word of the command line isn't text"
+failure_line File = codes "mx: 80 File"
+failure_line NoMemory = codes "mx: 90 NoMemory"
 
 -- ---- commands
 

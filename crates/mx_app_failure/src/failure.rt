@@ -63,9 +63,9 @@ fn problem_name(problem: Problem) -> &'static str
 /// The line without its end, as `mx: 20 Truncated`: a code and its name.
 impl fmt::Display for Failure {
     ghost use Rattle.std.specs.Prelude.{Some};
-    ghost use Rattle.mx_app_failure.specs.Failure.{line_of};
+    ghost use Rattle.mx_app_failure.specs.Failure.{failure_line};
 
-    ghost output = { λ failure. Some (line_of failure) };
+    ghost output = { λ failure. Some (failure_line failure) };
 
     fn fmt<W: fmt::Write>(&self, f: &mut fmt::Formatter<W>) -> fmt::Result {
         match *self {

@@ -25,7 +25,7 @@ use Rattle.mx_app_start.specs.Machine.{HasWorked}
 use Rattle.mx_print_answers.specs.declared.said.Said.{Said}
 use Rattle.mx_print_answers.specs.declared.said.Said.TheVariants.{Stepped, Refused}
 use Rattle.mx_app_step.specs.Lines.{run_made}
-use Rattle.mx_app_step.specs.Records.{IsFirstRefused, IsRefusedAt}
+use Rattle.mx_app_step.specs.Records.{IsFirstRefusal, IsRefusedAt}
 
 -- ---- one event
 
@@ -49,12 +49,12 @@ event_err w u a x e h = err_by w u a x (event_refusal w a x) e h
 
 -- ---- lists of events
 
-pub refused_front : (w : World) (xs ys : List (ℕ × Event)) (r : Refusal) → IsFirstRefused w xs r → IsFirstRefused w (xs ++ ys) r
+pub refused_front : (w : World) (xs ys : List (ℕ × Event)) (r : Refusal) → IsFirstRefusal w xs r → IsFirstRefusal w (xs ++ ys) r
 refused_front w [] ys r h = absurd h
 refused_front w (x ∷ xs) ys r (inl e) = inl e
 refused_front w (x ∷ xs) ys r (inr p) = inr (p.0, refused_front (world_after_event w x.0 x.1) xs ys r p.1)
 
-pub refused_behind : (w : World) (xs ys : List (ℕ × Event)) (r : Refusal) → AreAccepted w xs → IsFirstRefused (world_after_events w xs) ys r → IsFirstRefused w (xs ++ ys) r
+pub refused_behind : (w : World) (xs ys : List (ℕ × Event)) (r : Refusal) → AreAccepted w xs → IsFirstRefusal (world_after_events w xs) ys r → IsFirstRefusal w (xs ++ ys) r
 refused_behind w [] ys r a h = h
 refused_behind w (x ∷ xs) ys r a h = inr (a.0, refused_behind (world_after_event w x.0 x.1) xs ys r a.1 h)
 
@@ -116,7 +116,7 @@ held_short k o h = short_by o.stop k o refl h
 
 -- ---- steps again
 
-refused_steps : (w : World) (c n k : ℕ) (r : Refusal) → n < k → AreAccepted w (steps_of c n) → event_refusal (world_after_events w (steps_of c n)) c Step ≡ Some r → IsFirstRefused w (steps_of c k) r
+refused_steps : (w : World) (c n k : ℕ) (r : Refusal) → n < k → AreAccepted w (steps_of c n) → event_refusal (world_after_events w (steps_of c n)) c Step ≡ Some r → IsFirstRefusal w (steps_of c k) r
 refused_steps w c n zero r b a e = absurd (omega arith)
 refused_steps w c zero (suc k) r b a e = inl e
 refused_steps w c (suc n) (suc k) r b a e = inr (a.0, refused_steps (world_after_event w c Step) c n k r (omega arith) a.1 e)
@@ -136,7 +136,7 @@ unfolding event_refusal
 step_refused w c r h = h
 
 -- not even the first is made
-pub none_again : (w u : World) (c k : ℕ) (r : Refusal) → k ≢ 0 → run_made w c k (held_by w c) ≡ (Refused r, u) → IsFirstRefused w (steps_of c k) r
+pub none_again : (w u : World) (c k : ℕ) (r : Refusal) → k ≢ 0 → run_made w c k (held_by w c) ≡ (Refused r, u) → IsFirstRefusal w (steps_of c k) r
 none_again w u c k r n h = refused_steps w c 0 k r (omega arith) tt (step_refused w c r (refused_now w u c k r (held_by w c) h))
 
 count_by : (b : Bool) (n count : ℕ) (s stop : Stop) → cond b (Refused AtStop) (Stepped n s) ≡ Stepped count stop → n ≡ count
@@ -144,7 +144,7 @@ count_by true n count s stop h = absurd cc
 count_by false n count s stop h = cc
 
 short_from : (w u : World) (c k count : ℕ) (stop : Stop) (held : Option HeldProcess) → held_by w c ≡ held → run_made w c k held ≡ (Stepped count stop, u) → count ≢ k
-    → ((l : HeldProcess) → held_by w c ≡ Some l → HasWorked w u c k l) → IsFirstRefused w (steps_of c k) AtStop
+    → ((l : HeldProcess) → held_by w c ≡ Some l → HasWorked w u c k l) → IsFirstRefusal w (steps_of c k) AtStop
 short_from w u c k count stop None is h n worked = let t : Refused CpuEmpty ≡ Stepped count stop = ap (λ (p : Said × World). p.0) h in absurd cc
 short_from w u c k count stop (Some l) is h n worked =
     let done = worked l is in
@@ -158,7 +158,7 @@ short_from w u c k count stop (Some l) is h n worked =
 
 -- fewer are made
 pub fewer_again : (w u : World) (c k count : ℕ) (stop : Stop) → run_made w c k (held_by w c) ≡ (Stepped count stop, u) → count ≢ k
-    → ((l : HeldProcess) → held_by w c ≡ Some l → HasWorked w u c k l) → IsFirstRefused w (steps_of c k) AtStop
+    → ((l : HeldProcess) → held_by w c ≡ Some l → HasWorked w u c k l) → IsFirstRefusal w (steps_of c k) AtStop
 fewer_again w u c k count stop h n worked = short_from w u c k count stop (held_by w c) refl h n worked
 
 -- ---- and a return
@@ -171,7 +171,7 @@ module _ (w v u : World) (c n : ℕ) (a : AreAccepted w (steps_of c n)) (after :
     h.1 ∙ ap (λ (x : World). world_after_event x c Back) after ∙ sym (after_both w (steps_of c n) ((c, Back) ∷ [])),
   )
 
-  pub return_err : (r : Refusal) → event_refusal v c Back ≡ Some r → IsFirstRefused w (steps_of c n ++ (c, Back) ∷ []) r
+  pub return_err : (r : Refusal) → event_refusal v c Back ≡ Some r → IsFirstRefusal w (steps_of c n ++ (c, Back) ∷ []) r
   return_err r h = refused_behind w (steps_of c n) ((c, Back) ∷ []) r a (inl (subst (λ (x : World). event_refusal x c Back ≡ Some r) after h))
 
 -- ---- records, one more
@@ -209,13 +209,13 @@ module _ (w v : World) (records : List Record) (i : ℕ) (d : Record) (b : i < l
       h ∙ ap (λ (x : World). world_after_events x (events_of entry.actor entry.event)) after
       ∙ sym (ap (λ (es : List (ℕ × Event)). world_after_events w es) more ∙ after_both w (events_of_history (take i records)) (events_of entry.actor entry.event))
 
-  pub refused_at : (n : ℕ) (r : Refusal) → n ≡ i + 1 → IsFirstRefused v (events_of entry.actor entry.event) r → IsRefusedAt w records n r
+  pub refused_at : (n : ℕ) (r : Refusal) → n ≡ i + 1 → IsFirstRefusal v (events_of entry.actor entry.event) r → IsRefusedAt w records n r
   refused_at n r e h = (
     take i records,
     drop (suc i) records,
     entry,
     split_there records i d b,
     a,
-    subst (λ (x : World). IsFirstRefused x (events_of entry.actor entry.event) r) after h,
+    subst (λ (x : World). IsFirstRefusal x (events_of entry.actor entry.event) r) after h,
     e ∙ ap (λ k. k + 1) (sym (length_there records i b)),
   )

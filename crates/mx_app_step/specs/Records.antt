@@ -13,16 +13,16 @@ use Rattle.mx_app_step.specs.declared.records.Replayed.TheVariants as replayed
 use Rattle.mx_print_answers.specs.Said.{refusal_line}
 
 -- the first of these events that isn't accepted is refused for this
-abbrev pub IsFirstRefused : World → List (ℕ × Event) → Refusal → Type 0
-IsFirstRefused w [] r = ⊥
-IsFirstRefused w (x ∷ xs) r = (event_refusal w x.0 x.1 ≡ Some r) ⊎ ((event_refusal w x.0 x.1 ≡ None) × IsFirstRefused (world_after_event w x.0 x.1) xs r)
+abbrev pub IsFirstRefusal : World → List (ℕ × Event) → Refusal → Type 0
+IsFirstRefusal w [] r = ⊥
+IsFirstRefusal w (x ∷ xs) r = (event_refusal w x.0 x.1 ≡ Some r) ⊎ ((event_refusal w x.0 x.1 ≡ None) × IsFirstRefusal (world_after_event w x.0 x.1) xs r)
 
 -- the record of this number, counted from 1, stands for an event that is refused, and those above it are accepted
 abbrev pub IsRefusedAt : World → List Record → ℕ → Refusal → Type 0
 IsRefusedAt w records n r =
     (above below : List Record) × (x : Record)
     × (records ≡ above ++ x ∷ below) × AreAccepted w (events_of_history above)
-    × IsFirstRefused (world_after_events w (events_of_history above)) (events_of x.actor x.event) r × (n ≡ length above + 1)
+    × IsFirstRefusal (world_after_events w (events_of_history above)) (events_of x.actor x.event) r × (n ≡ length above + 1)
 
 -- the line that tells it
 abbrev pub refused_record_line : ℕ → Refusal → List ℕ

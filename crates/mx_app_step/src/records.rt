@@ -17,7 +17,7 @@ ghost use Rattle.mx_machine_world.specs.Move.{world_after_event, event_refusal};
 ghost use Rattle.mx_machine_world.specs.History.{AreAccepted, world_after_events, events_of, events_of_history};
 ghost use Rattle.mx_machine_world.specs.Steps.{steps_of};
 ghost use Rattle.mx_machine_world.specs.World.{actors};
-ghost use Rattle.mx_app_step.specs.Records.{IsReplayPrinted, IsFirstRefused, IsRefusedAt, refused_record_line};
+ghost use Rattle.mx_app_step.specs.Records.{IsReplayPrinted, IsFirstRefusal, IsRefusedAt, refused_record_line};
 ghost use Rattle.mx_app_start.specs.Telling.{IsTold};
 
 use crate::printing::print_report;
@@ -40,7 +40,7 @@ pub enum Replayed {
 /// The steps that a process made.
 fn steps_again(machine: &mut Machine, cpu: u8, steps: u32) -> Result<(), Refusal>
     ensures ok { OnOk result (AreAccepted (world_of machine.old) (steps_of cpu steps) × (world_of machine.new ≡ world_after_events (world_of machine.old) (steps_of cpu steps))) }
-    ensures err { IfErr result (IsFirstRefused (world_of machine.old) (steps_of cpu steps)) }
+    ensures err { IfErr result (IsFirstRefusal (world_of machine.old) (steps_of cpu steps)) }
 {
     if steps == 0 {
         return Ok(());
@@ -71,7 +71,7 @@ fn event_again(machine: &mut Machine, actor: u8, event: Event) -> Result<(), Ref
 /// The steps that a process made, and its return.
 fn return_again(machine: &mut Machine, cpu: u8, steps: u32) -> Result<(), Refusal>
     ensures ok { OnOk result (AreAccepted (world_of machine.old) (events_of cpu (recorded.Back steps)) × (world_of machine.new ≡ world_after_events (world_of machine.old) (events_of cpu (recorded.Back steps)))) }
-    ensures err { IfErr result (IsFirstRefused (world_of machine.old) (events_of cpu (recorded.Back steps))) }
+    ensures err { IfErr result (IsFirstRefusal (world_of machine.old) (events_of cpu (recorded.Back steps))) }
 {
     steps_again(machine, cpu, steps)?;
     event_again(machine, cpu, Event::Back)
@@ -81,7 +81,7 @@ fn return_again(machine: &mut Machine, cpu: u8, steps: u32) -> Result<(), Refusa
 fn perform_record(machine: &mut Machine, actor: u8, event: Recorded) -> Result<(), Refusal>
     requires { actor < actors (world_of machine.old) }
     ensures ok { OnOk result (AreAccepted (world_of machine.old) (events_of actor event) × (world_of machine.new ≡ world_after_events (world_of machine.old) (events_of actor event))) }
-    ensures err { IfErr result (IsFirstRefused (world_of machine.old) (events_of actor event)) }
+    ensures err { IfErr result (IsFirstRefusal (world_of machine.old) (events_of actor event)) }
 {
     match event {
         Recorded::Take => event_again(machine, actor, Event::Take),

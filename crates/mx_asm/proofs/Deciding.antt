@@ -23,11 +23,11 @@ use Rattle.mx_asm.specs.declared.fault.Problem.TheVariants.{BadByte, BadNumber, 
 use Rattle.mx_asm.specs.declared.fault.Fault.{Fault}
 use Rattle.mx_asm.specs.declared.sizes.SectionSizes.{SectionSizes}
 use Rattle.mx_asm.specs.Branches.{branch_by, branch_marks, distance}
-use Rattle.mx_asm.specs.Layout.{LinesAbove, no_lines_above, statement_said, line_refusal, left_by, address_of, section_offset_of, sizes_after}
+use Rattle.mx_asm.specs.Layout.{LinesAbove, no_lines_above, statement_said, refusal_of_line, left_by, address_of_offset, section_offset_of, sizes_after}
 use Rattle.mx_asm.specs.Bytes.{AllStand, BytesOf, StandsIn, contents}
 use Rattle.mx_asm.specs.Faults.{fault_behind, problem_of, total_of}
 use Rattle.mx_asm.specs.Assembled.{AreAssembled, SameProgram, symbol_under, entry_under}
-use Rattle.mx_asm.specs.Text.{IsLineTaken, AreLinesTaken, IsLineWrong, IsFirstLineWrong, on_behind, AreAccepted, IsAssembled, HasTextFault}
+use Rattle.mx_asm.specs.Text.{IsLineTaken, AreLinesTaken, IsLineWrong, IsFirstLineWrong, on_behind, AreLinesAccepted, IsAssembled, HasTextFault}
 use Rattle.mx_asm.proofs.Lengths.{KeepsLength}
 use Rattle.mx_asm.proofs.Emitting.{lengths_same}
 
@@ -53,7 +53,7 @@ pub taken_right : OneLine → NeverBoth → (a : LinesAbove) (t : List ℕ) (l :
 taken_right one never a t l p (line, clean) (inl (e, fault, tells)) = never t l e line fault
 taken_right one never a t l p (line, clean) (inr (k, r, other, stands, problem)) =
     let same : k ≡ l = one t k l other line in
-    not_some (line_refusal a l) r clean (subst (λ (x : Line). line_refusal a x ≡ Some r) same stands)
+    not_some (refusal_of_line a l) r clean (subst (λ (x : Line). refusal_of_line a x ≡ Some r) same stands)
 
 pub taken_not_wrong : OneLine → NeverBoth → (a : LinesAbove) (n : ℕ) (ts : List (List ℕ)) (ls : List Line) (f : Fault) → AreLinesTaken a ts ls → IsFirstLineWrong a n ts f → ⊥
 taken_not_wrong one never a n [] ls f x wrong = wrong
@@ -95,15 +95,15 @@ wrong_bytes a t lexical.NoMemory (ks, b, c, tokens, gap, broken) k = broken
 taken_or_wrong : NeverNeither → (a : LinesAbove) (n : ℕ) (ts : List (List ℕ)) → ((ls : List Line) → AreLinesTaken a ts ls → ⊥) → ((f : Fault) → IsFirstLineWrong a n ts f → ⊥) → ⊥
 taken_or_wrong law a n [] taken wrong = taken [] tt
 taken_or_wrong law a n (t ∷ ts) taken wrong =
-    law t (λ l line. by_reason l line (line_refusal a l) refl (λ more worse. taken_or_wrong law (on_behind a l) (n + 1) ts more worse))
+    law t (λ l line. by_reason l line (refusal_of_line a l) refl (λ more worse. taken_or_wrong law (on_behind a l) (n + 1) ts more worse))
     (λ e fault. wrong_bytes a t e fault (λ p h. wrong (record { problem = p; line = n }) (inl (refl, h))))
   where
-    by_reason : (l : Line) → IsLine t l → (o : Option Reason) → line_refusal a l ≡ o
+    by_reason : (l : Line) → IsLine t l → (o : Option Reason) → refusal_of_line a l ≡ o
         → (((ls : List Line) → AreLinesTaken (on_behind a l) ts ls → ⊥) → ((f : Fault) → IsFirstLineWrong (on_behind a l) (n + 1) ts f → ⊥) → ⊥) → ⊥
     by_reason l line None e again = again (λ ls h. taken (l ∷ ls) ((line, e), h)) (λ f h. wrong f (inr (l, (line, e), h)))
     by_reason l line (Some r) e again = wrong (record { problem = problem_of r; line = n }) (inl (refl, inr (l, r, line, e, refl)))
 
-pub never_neither : NeverNeither → ((t : List ℕ) (ls : List Line) → AreAccepted t ls → (p : Program) × IsAssembled t p) → (t : List ℕ) → ((p : Program) → IsAssembled t p → ⊥) → ((f : Fault) → HasTextFault t f → ⊥) → ⊥
+pub never_neither : NeverNeither → ((t : List ℕ) (ls : List Line) → AreLinesAccepted t ls → (p : Program) × IsAssembled t p) → (t : List ℕ) → ((p : Program) → IsAssembled t p → ⊥) → ((f : Fault) → HasTextFault t f → ⊥) → ⊥
 never_neither law have t no_program no_fault = taken_or_wrong law no_lines_above 1 _ (λ ls taken. by_fault ls taken (fault_behind ls) refl) (λ f wrong. no_fault f (inl wrong))
   where
     by_fault : (ls : List Line) → AreLinesTaken no_lines_above (lines t) ls → (o : Option Fault) → fault_behind ls ≡ o → ⊥
@@ -148,7 +148,7 @@ all_same one a s [] (b ∷ bs) cs x y = absurd x
 all_same one a s (l ∷ ls) [] cs x y = absurd x
 all_same one a s (l ∷ ls) (b ∷ bs) [] x y = absurd y
 all_same one a s (l ∷ ls) (b ∷ bs) (c ∷ cs) (x, xs) (y, ys) =
-    let same : c ≡ b = stands_same one s.section a (address_of a (section_offset_of s)) (statement_said l) c b y x in
+    let same : c ≡ b = stands_same one s.section a (address_of_offset a (section_offset_of s)) (statement_said l) c b y x in
     let rest : bs ≡ cs = all_same one a (sizes_after s (statement_said l) (length b)) ls bs cs xs (subst (λ (z : List ℕ). AllStand a (sizes_after s (statement_said l) (length z)) ls cs) same ys) in
     cc
 

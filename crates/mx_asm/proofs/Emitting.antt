@@ -12,7 +12,7 @@ use Rattle.mx_asm_statement.specs.declared.line.Line.{Line}
 use Rattle.mx_asm.specs.declared.sizes.SectionSizes.{SectionSizes}
 use Rattle.mx_asm.specs.Lengths.{statement_length}
 use Rattle.mx_asm.specs.Faults.{is_undefined}
-use Rattle.mx_asm.specs.Layout.{LinesAbove, value_under, no_lines_above, section_offset_of, sizes_after, address_of, left_by, laid_by, above_with, statement_said}
+use Rattle.mx_asm.specs.Layout.{LinesAbove, value_under, no_lines_above, section_offset_of, sizes_after, address_of_offset, left_by, laid_by, above_with, statement_said}
 use Rattle.mx_asm.specs.Bytes.{AllStand, AreParts, BytesOf, StandsIn, Pushes, PutsOut, contents, put_into}
 use Rattle.mx_asm.proofs.Lengths.{KeepsLength, stands_length}
 
@@ -24,10 +24,10 @@ Completes a ls i s text init =
 
 -- one line more
 pub completes_more : KeepsLength → (a : LinesAbove) (ls : List Line) (i : ℕ) (s r : SectionSizes) (text init : List ℕ) (l : Line) (b : List ℕ) → Completes a ls i s text init
-    → drop i ls ≡ l ∷ drop (i + 1) ls → StandsIn s.section a (address_of a (section_offset_of s)) (statement_said l) b → r ≡ sizes_after s (statement_said l) (statement_length (statement_said l))
+    → drop i ls ≡ l ∷ drop (i + 1) ls → StandsIn s.section a (address_of_offset a (section_offset_of s)) (statement_said l) b → r ≡ sizes_after s (statement_said l) (statement_length (statement_said l))
     → Completes a ls (i + 1) r (text ++ put_into Text s.section b) (init ++ put_into Data s.section b)
 completes_more law a ls i s r text init l b before next right same rest stand =
-    let n : length b ≡ statement_length (statement_said l) = stands_length law s.section a (address_of a (section_offset_of s)) (statement_said l) b right in
+    let n : length b ≡ statement_length (statement_said l) = stands_length law s.section a (address_of_offset a (section_offset_of s)) (statement_said l) b right in
     let e : r ≡ sizes_after s (statement_said l) (length b) = same ∙ ap (sizes_after s (statement_said l)) (sym n) in
     let stand' : AllStand a (sizes_after s (statement_said l) (length b)) (drop (i + 1) ls) rest = subst (λ (x : SectionSizes). AllStand a x (drop (i + 1) ls) rest) e stand in
     let whole : AllStand a s (drop i ls) (b ∷ rest) = subst (λ (x : List Line). AllStand a s x (b ∷ rest)) (sym next) (right, stand') in
@@ -49,23 +49,23 @@ lengths_same law a b s [] [] h = refl
 lengths_same law a b s [] (x ∷ bs) h = absurd h
 lengths_same law a b s (l ∷ ls) [] h = absurd h
 lengths_same law a b s (l ∷ ls) (x ∷ bs) (right, more) =
-    let n : length x ≡ statement_length (statement_said l) = stands_length law s.section a (address_of a (section_offset_of s)) (statement_said l) x right in
+    let n : length x ≡ statement_length (statement_said l) = stands_length law s.section a (address_of_offset a (section_offset_of s)) (statement_said l) x right in
     ap (λ (m : ℕ). left_by (above_with b l m) ls (map length bs)) n ∙ lengths_same law a (above_with b l (statement_length (statement_said l))) (sizes_after s (statement_said l) (length x)) ls bs more
 
-pub put_text : (a : LinesAbove) (s : SectionSizes) (at : ℕ) (t : Statement) (text init text' init' : List ℕ) → s.section ≡ Text → at ≡ address_of a (section_offset_of s)
+pub put_text : (a : LinesAbove) (s : SectionSizes) (at : ℕ) (t : Statement) (text init text' init' : List ℕ) → s.section ≡ Text → at ≡ address_of_offset a (section_offset_of s)
     → Pushes a at t text text' → init' ≡ init → PutsOut a s t text init text' init'
 put_text a s at t text init text' init' here place (b, right, new) same = record {
   bytes = b;
-  stand = subst (λ (v : Section). StandsIn v a (address_of a (section_offset_of s)) t b) (sym here) (subst (λ (v : ℕ). BytesOf a v t b) place right);
+  stand = subst (λ (v : Section). StandsIn v a (address_of_offset a (section_offset_of s)) t b) (sym here) (subst (λ (v : ℕ). BytesOf a v t b) place right);
   text_is = new ∙ ap (λ (v : Section). text ++ put_into Text v b) (sym here);
   init_is = same ∙ sym (append-nil init) ∙ ap (λ (v : Section). init ++ put_into Data v b) (sym here);
 }
 
-pub put_init : (a : LinesAbove) (s : SectionSizes) (at : ℕ) (t : Statement) (text init text' init' : List ℕ) → s.section ≡ Data → at ≡ address_of a (section_offset_of s)
+pub put_init : (a : LinesAbove) (s : SectionSizes) (at : ℕ) (t : Statement) (text init text' init' : List ℕ) → s.section ≡ Data → at ≡ address_of_offset a (section_offset_of s)
     → Pushes a at t init init' → text' ≡ text → PutsOut a s t text init text' init'
 put_init a s at t text init text' init' here place (b, right, new) same = record {
   bytes = b;
-  stand = subst (λ (v : Section). StandsIn v a (address_of a (section_offset_of s)) t b) (sym here) (subst (λ (v : ℕ). BytesOf a v t b) place right);
+  stand = subst (λ (v : Section). StandsIn v a (address_of_offset a (section_offset_of s)) t b) (sym here) (subst (λ (v : ℕ). BytesOf a v t b) place right);
   text_is = same ∙ sym (append-nil text) ∙ ap (λ (v : Section). text ++ put_into Text v b) (sym here);
   init_is = new ∙ ap (λ (v : Section). init ++ put_into Data v b) (sym here);
 }
@@ -73,7 +73,7 @@ put_init a s at t text init text' init' here place (b, right, new) same = record
 pub put_bss : (a : LinesAbove) (s : SectionSizes) (t : Statement) (text init text' init' : List ℕ) → s.section ≡ Bss → text' ≡ text → init' ≡ init → PutsOut a s t text init text' init'
 put_bss a s t text init text' init' here same same' = record {
   bytes = replicate (statement_length t) 0;
-  stand = subst (λ (v : Section). StandsIn v a (address_of a (section_offset_of s)) t (replicate (statement_length t) 0)) (sym here) refl;
+  stand = subst (λ (v : Section). StandsIn v a (address_of_offset a (section_offset_of s)) t (replicate (statement_length t) 0)) (sym here) refl;
   text_is = same ∙ sym (append-nil text) ∙ ap (λ (v : Section). text ++ put_into Text v (replicate (statement_length t) 0)) (sym here);
   init_is = same' ∙ sym (append-nil init) ∙ ap (λ (v : Section). init ++ put_into Data v (replicate (statement_length t) 0)) (sym here);
 }

@@ -7,7 +7,7 @@ use Rattle.mx_asm_statement.specs.declared.statement.Statement.TheVariants as sa
 use Rattle.mx_asm_statement.specs.declared.line.Line.{Line}
 use Rattle.mx_asm.specs.declared.sizes.SectionSizes.{SectionSizes}
 use Rattle.mx_asm.specs.Lengths.{statement_length}
-use Rattle.mx_asm.specs.Layout.{LinesAbove, size_in, grown_in, sizes_after, left_by, above_with, statement_said, address_of, section_offset_of}
+use Rattle.mx_asm.specs.Layout.{LinesAbove, size_in, grown_in, sizes_after, left_by, above_with, statement_said, address_of_offset, section_offset_of}
 use Rattle.mx_asm.specs.Bytes.{AllStand, contents, put_into}
 use Rattle.mx_asm.proofs.Lengths.{KeepsLength, stands_length}
 
@@ -57,7 +57,7 @@ contents_size law which own a c [] [] h = omega arith
 contents_size law which own a c [] (b ∷ bs) h = absurd h
 contents_size law which own a c (l ∷ ls) [] h = absurd h
 contents_size law which own a c (l ∷ ls) (b ∷ bs) (right, more) =
-    let n : length b ≡ statement_length (statement_said l) = stands_length law c.sizes.section a (address_of a (section_offset_of c.sizes)) (statement_said l) b right in
+    let n : length b ≡ statement_length (statement_said l) = stands_length law c.sizes.section a (address_of_offset a (section_offset_of c.sizes)) (statement_said l) b right in
     let put = put_into which c.sizes.section b in
     let after = contents which (sizes_after c.sizes (statement_said l) (length b)) ls bs in
     let here : size_in (sizes_after c.sizes (statement_said l) (length b)) which ≡ size_in c.sizes which + length put = size_after which c.sizes (statement_said l) b (own b) n in

@@ -9,8 +9,8 @@ use Rattle.mx_asm.specs.declared.sizes.SectionSizes.{SectionSizes}
 use Rattle.mx_asm.specs.declared.fault.Problem.{Problem}
 use Rattle.mx_asm.specs.declared.fault.Fault.{Fault}
 use Rattle.mx_asm.specs.Lengths.{statement_length}
-use Rattle.mx_asm.specs.Layout.{LinesAbove, section_offset_of, sizes_after, address_of, statement_said, SizesWithin, GrowsWithin}
-use Rattle.mx_asm.specs.Faults.{problem_at, first_problem, fault_or, used_of, at_least, total_of, is_too_large}
+use Rattle.mx_asm.specs.Layout.{LinesAbove, section_offset_of, sizes_after, address_of_offset, statement_said, SizesWithin, GrowsWithin}
+use Rattle.mx_asm.specs.Faults.{problem_at, first_problem, fault_or, bytes_used, at_least, total_of, is_program_too_large}
 
 pub none_of : {A : Type 0} (o : Option A) → is_some o ≡ false → o ≡ None
 none_of None h = refl
@@ -25,7 +25,7 @@ pub sizes_more : (s r : SectionSizes) (i : ℕ) → SizesWithin s (i * 2 ^ 64) �
 sizes_more s r i (x, y, z) (u, v, w) = (omega arith, omega arith, omega arith)
 
 -- where nothing stands against the next line, the first problem is one behind it
-pub problem_on : (a : LinesAbove) (s r : SectionSizes) (n i : ℕ) (ls : List Line) (l : Line) → drop i ls ≡ l ∷ drop (i + 1) ls → problem_at a (address_of a (section_offset_of s)) (statement_said l) ≡ None
+pub problem_on : (a : LinesAbove) (s r : SectionSizes) (n i : ℕ) (ls : List Line) (l : Line) → drop i ls ≡ l ∷ drop (i + 1) ls → problem_at a (address_of_offset a (section_offset_of s)) (statement_said l) ≡ None
     → r ≡ sizes_after s (statement_said l) (statement_length (statement_said l)) → first_problem a s n (drop i ls) ≡ first_problem a r (n + 1) (drop (i + 1) ls)
 problem_on a s r n i ls l next none same =
     let rest : Option Fault = first_problem a (sizes_after s (statement_said l) (statement_length (statement_said l))) (n + 1) (drop (i + 1) ls) in
@@ -49,10 +49,10 @@ or_right true c h = cc
 or_right false c h = h
 
 -- what a file may hold is small
-pub small_sizes : (a : LinesAbove) → is_too_large a ≡ false → SizesWithin a.sizes (2 ^ 126)
+pub small_sizes : (a : LinesAbove) → is_program_too_large a ≡ false → SizesWithin a.sizes (2 ^ 126)
 small_sizes a h =
     let texts = or_left (nat_lt 1048576 a.sizes.text || nat_lt 262144 (length a.labels * 16)) (nat_lt 4194304 (total_of a)) h in
     let total = or_right (nat_lt 1048576 a.sizes.text || nat_lt 262144 (length a.labels * 16)) (nat_lt 4194304 (total_of a)) h in
     let text : a.sizes.text ≤ 1048576 = ltb-false 1048576 a.sizes.text (or_left (nat_lt 1048576 a.sizes.text) (nat_lt 262144 (length a.labels * 16)) texts) in
-    let used : used_of a + unwrap_or a.stack 2048 ≤ 4194304 = small_pages (used_of a + unwrap_or a.stack 2048) total in
+    let used : bytes_used a + unwrap_or a.stack 2048 ≤ 4194304 = small_pages (bytes_used a + unwrap_or a.stack 2048) total in
     (omega (arith, text), omega (arith, used), omega (arith, used))

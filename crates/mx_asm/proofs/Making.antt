@@ -31,9 +31,9 @@ use Rattle.mx_asm.specs.declared.fault.Problem.TheVariants.{TooFar, TooLarge}
 use Rattle.mx_asm.specs.declared.fault.Fault.{Fault}
 use Rattle.mx_asm.specs.Branches.{branch_by, branch_marks, branch_length, distance, is_too_far}
 use Rattle.mx_asm.specs.Lengths.{statement_length}
-use Rattle.mx_asm.specs.Layout.{LinesAbove, no_lines_above, statement_said, left_by, laid_by, address_of, section_offset_of, sizes_after, value_under, value_base, counted_from}
+use Rattle.mx_asm.specs.Layout.{LinesAbove, no_lines_above, statement_said, left_by, laid_by, address_of_offset, section_offset_of, sizes_after, value_under, value_base, counted_from}
 use Rattle.mx_asm.specs.Bytes.{put_in, put_under, then_put, named_under, BytesOf, StandsIn, AllStand, contents}
-use Rattle.mx_asm.specs.Faults.{is_undefined, is_undefined_if, undefined_where, undefined_or, problem_at, fault_or, first_problem, total_of, at_least, is_too_large, number_of_last_line, too_large_in, first_of, fault_behind}
+use Rattle.mx_asm.specs.Faults.{is_undefined, is_undefined_if, undefined_where, undefined_or, problem_at, fault_or, first_problem, total_of, at_least, is_program_too_large, number_of_last_line, too_large_in, first_of, fault_behind}
 use Rattle.mx_asm.specs.Faults as faults
 use Rattle.mx_asm.specs.Assembled.{AreAssembled, symbol_under, entry_under}
 use Rattle.mx_asm.specs.Text.{AreLinesTaken, on_behind, IsAssembled}
@@ -181,7 +181,7 @@ AllFitting (l ∷ ls) = Fitting (statement_said l) × AllFitting ls
 all_some : Encodes → (a : LinesAbove) (s : SectionSizes) (n : ℕ) (ls : List Line) → AllFitting ls → first_problem a s n ls ≡ None → (bs : List (List ℕ)) × AllStand a s ls bs
 all_some law a s n [] fits h = ([], tt)
 all_some law a s n (l ∷ ls) (fits, more) h =
-    let at = address_of a (section_offset_of s) in
+    let at = address_of_offset a (section_offset_of s) in
     let rest = first_problem a (sizes_after s (statement_said l) (statement_length (statement_said l))) (n + 1) ls in
     let clean = neither (problem_at a at (statement_said l)) n rest h in
     let (b, right) = stands_some law s.section a at (statement_said l) fits clean.0 in
@@ -229,7 +229,7 @@ used_same : (sep : Bool) (text init bss : ℕ) → used_of sep text init bss ≡
 used_same true text init bss = omega arith
 used_same false text init bss = refl
 
-within : (a : LinesAbove) → is_too_large a ≡ false → IsWithin a.sep (total_of a) a.sizes.text a.sizes.init a.sizes.bss (length a.labels)
+within : (a : LinesAbove) → is_program_too_large a ≡ false → IsWithin a.sep (total_of a) a.sizes.text a.sizes.init a.sizes.bss (length a.labels)
 within a h =
     let texts = or_left (nat_lt 1048576 a.sizes.text || nat_lt 262144 (length a.labels * 16)) (nat_lt 4194304 (total_of a)) h in
     let total = or_right (nat_lt 1048576 a.sizes.text || nat_lt 262144 (length a.labels * 16)) (nat_lt 4194304 (total_of a)) h in
@@ -251,7 +251,7 @@ no_first (Some f) g h = cc
 -- ---- the program
 
 -- the program of these bytes
-built : KeepsLength → (ls : List Line) (bs : List (List ℕ)) → fault_behind ls ≡ None → is_too_large (laid_by no_lines_above ls) ≡ false → AllStand (laid_by no_lines_above ls) no_lines_above.sizes ls bs
+built : KeepsLength → (ls : List Line) (bs : List (List ℕ)) → fault_behind ls ≡ None → is_program_too_large (laid_by no_lines_above ls) ≡ false → AllStand (laid_by no_lines_above ls) no_lines_above.sizes ls bs
     → (p : Program) × AreAssembled ls p
 built law ls bs clean small stand =
     let a = laid_by no_lines_above ls in
@@ -294,7 +294,7 @@ made : Encodes → (ls : List Line) → AllFitting ls → fault_behind ls ≡ No
 made law ls fits clean =
     let a = laid_by no_lines_above ls in
     let both = no_first (first_problem a no_lines_above.sizes 1 ls) (too_large_in a ls) clean in
-    let small = not_too_large (is_too_large a) (record { problem = TooLarge; line = number_of_last_line ls }) both.1 in
+    let small = not_too_large (is_program_too_large a) (record { problem = TooLarge; line = number_of_last_line ls }) both.1 in
     let (bs, stand) = all_some law a no_lines_above.sizes 1 ls fits both.0 in
     built law.keeps ls bs clean small stand
 

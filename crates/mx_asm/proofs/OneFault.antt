@@ -8,7 +8,7 @@ use Rattle.mx_asm_statement.specs.declared.line.Line.{Line}
 use Rattle.mx_asm_statement.specs.declared.line.Reason.{Reason}
 use Rattle.mx_asm.specs.declared.fault.Problem.{Problem}
 use Rattle.mx_asm.specs.declared.fault.Fault.{Fault}
-use Rattle.mx_asm.specs.Layout.{LinesAbove, no_lines_above, line_refusal}
+use Rattle.mx_asm.specs.Layout.{LinesAbove, no_lines_above, refusal_of_line}
 use Rattle.mx_asm.specs.Faults.{fault_behind, problem_of}
 use Rattle.mx_asm.specs.Text.{TellsOf, IsLineWrong, IsFirstLineWrong, on_behind, HasTextFault}
 use Rattle.mx_asm.proofs.Deciding.{OneLine, NeverBoth, taken_same, taken_right, taken_not_wrong}
@@ -33,7 +33,7 @@ wrong_same one never lexical a t p q (inl (e, fault, tells)) (inr (l, r, line, s
 wrong_same one never lexical a t p q (inr (l, r, line, stands, is)) (inl (e, fault, tells)) = absurd (never t l e line fault)
 wrong_same one never lexical a t p q (inr (l, r, line, stands, is)) (inr (k, s, other, stands', is')) =
     let same : k ≡ l = one t k l other line in
-    let reason : r ≡ s = reasons_same (line_refusal a l) r s stands (subst (λ (x : Line). line_refusal a x ≡ Some s) same stands') in
+    let reason : r ≡ s = reasons_same (refusal_of_line a l) r s stands (subst (λ (x : Line). refusal_of_line a x ≡ Some s) same stands') in
     is ∙ ap problem_of reason ∙ sym is'
 
 abbrev fault_at : Problem → ℕ → Fault

@@ -6,7 +6,7 @@ use Rattle.mx_asm.specs.declared.sizes.SectionSizes.{SectionSizes}
 use Rattle.mx_asm.specs.declared.fault.Problem.{Problem}
 use Rattle.mx_asm.specs.declared.fault.Fault.{Fault}
 use Rattle.mx_asm.specs.Lengths.{statement_length}
-use Rattle.mx_asm.specs.Layout.{LinesAbove, section_offset_of, sizes_after, address_of, statement_said, SizesWithin, GrowsWithin}
+use Rattle.mx_asm.specs.Layout.{LinesAbove, section_offset_of, sizes_after, address_of_offset, statement_said, SizesWithin, GrowsWithin}
 use Rattle.mx_asm.specs.Faults.{problem_at, first_problem, fault_or}
 
 pub neither : (p : Option Problem) (n : ℕ) (f : Option Fault) → fault_or p n f ≡ None → (p ≡ None) × (f ≡ None)
@@ -21,10 +21,10 @@ sizes_more s r n m (x, y, z) (u, v, w) e = (omega arith, omega arith, omega arit
 
 -- nothing stands against the next line
 pub clean_here : (a : LinesAbove) (s : SectionSizes) (n i : ℕ) (ls : List Line) (l : Line) → drop i ls ≡ l ∷ drop (i + 1) ls → first_problem a s n (drop i ls) ≡ None
-    → problem_at a (address_of a (section_offset_of s)) (statement_said l) ≡ None
+    → problem_at a (address_of_offset a (section_offset_of s)) (statement_said l) ≡ None
 clean_here a s n i ls l next e =
     let rest : Option Fault = first_problem a (sizes_after s (statement_said l) (statement_length (statement_said l))) (n + 1) (drop (i + 1) ls) in
-    (neither (problem_at a (address_of a (section_offset_of s)) (statement_said l)) n rest (sym (ap (first_problem a s n) next) ∙ e)).0
+    (neither (problem_at a (address_of_offset a (section_offset_of s)) (statement_said l)) n rest (sym (ap (first_problem a s n) next) ∙ e)).0
 
 pub clean_on : (a : LinesAbove) (s r : SectionSizes) (n i : ℕ) (ls : List Line) (l : Line) → drop i ls ≡ l ∷ drop (i + 1) ls → first_problem a s n (drop i ls) ≡ None
     → r ≡ sizes_after s (statement_said l) (statement_length (statement_said l))
@@ -32,5 +32,5 @@ pub clean_on : (a : LinesAbove) (s r : SectionSizes) (n i : ℕ) (ls : List Line
 clean_on a s r n i ls l next e same =
     let step = ap (first_problem a s n) next in
     let rest : Option Fault = first_problem a (sizes_after s (statement_said l) (statement_length (statement_said l))) (n + 1) (drop (i + 1) ls) in
-    let both = neither (problem_at a (address_of a (section_offset_of s)) (statement_said l)) n rest (sym step ∙ e) in
+    let both = neither (problem_at a (address_of_offset a (section_offset_of s)) (statement_said l)) n rest (sym step ∙ e) in
     ap (λ (x : SectionSizes). first_problem a x (n + 1) (drop (i + 1) ls)) same ∙ both.1

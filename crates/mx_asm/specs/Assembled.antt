@@ -7,7 +7,7 @@ use Rattle.mx_asm_statement.specs.declared.line.Line.{Line}
 use Rattle.mx_aout.specs.declared.program.Symbol.{Symbol}
 use Rattle.mx_aout.specs.declared.program.Program.{Program}
 use Rattle.mx_asm.specs.declared.sizes.SectionOffset.{SectionOffset}
-use Rattle.mx_asm.specs.Layout.{LinesAbove, no_lines_above, left_by, address_of, address_of_label, label_named}
+use Rattle.mx_asm.specs.Layout.{LinesAbove, no_lines_above, left_by, address_of_offset, address_of_label, label_named}
 use Rattle.mx_asm.specs.Bytes.{AllStand, contents}
 use Rattle.mx_asm.specs.Faults.{total_of, fault_behind}
 
@@ -18,7 +18,7 @@ class_of Data = 3
 class_of Bss = 4
 
 abbrev pub symbol_under : LinesAbove → (Name × SectionOffset) → Symbol
-symbol_under a e = record { name = e.0.bytes; value = address_of a e.1; class = class_of e.1.section; auxiliary = 0; kind = 0 }
+symbol_under a e = record { name = e.0.bytes; value = address_of_offset a e.1; class = class_of e.1.section; auxiliary = 0; kind = 0 }
 
 -- where .entry says, else 0
 abbrev pub entry_under : LinesAbove → Option Name → ℕ

@@ -16,7 +16,7 @@ use Rattle.mx_asm_statement.specs.Instructions.{marks}
 use Rattle.mx_asm.specs.declared.sizes.SectionSizes.{SectionSizes}
 use Rattle.mx_asm.specs.Branches.{branch_by, branch_marks, branch_length, distance}
 use Rattle.mx_asm.specs.Lengths.{statement_length}
-use Rattle.mx_asm.specs.Layout.{LinesAbove, value_under, section_offset_of, sizes_after, address_of, statement_said}
+use Rattle.mx_asm.specs.Layout.{LinesAbove, value_under, section_offset_of, sizes_after, address_of_offset, statement_said}
 
 abbrev pub put_in : (Insn → ℕ → Insn) → Insn → Option ℕ → Option Insn
 put_in put i None = None
@@ -55,7 +55,7 @@ StandsIn Bss a at t b = b ≡ replicate (statement_length t) 0
 -- all at once: each statement's bytes are right where it stands
 abbrev pub AllStand : LinesAbove → SectionSizes → List Line → List (List ℕ) → Type 0
 AllStand a s [] [] = ⊤
-AllStand a s (l ∷ ls) (b ∷ bs) = StandsIn s.section a (address_of a (section_offset_of s)) (statement_said l) b × AllStand a (sizes_after s (statement_said l) (length b)) ls bs
+AllStand a s (l ∷ ls) (b ∷ bs) = StandsIn s.section a (address_of_offset a (section_offset_of s)) (statement_said l) b × AllStand a (sizes_after s (statement_said l) (length b)) ls bs
 AllStand a s [] (b ∷ bs) = ⊥
 AllStand a s (l ∷ ls) [] = ⊥
 
@@ -77,7 +77,7 @@ Pushes a at t old new = (b : List ℕ) × BytesOf a at t b × (new ≡ old ++ b)
 -- what one statement puts out, where it stands: the new text and data are the old ones and its bytes
 pub record PutsOut (a : LinesAbove) (s : SectionSizes) (t : Statement) (text init text' init' : List ℕ) : Type 0 where
   pub bytes : List ℕ
-  pub stand : StandsIn s.section a (address_of a (section_offset_of s)) t bytes
+  pub stand : StandsIn s.section a (address_of_offset a (section_offset_of s)) t bytes
   pub text_is : text' ≡ text ++ put_into Text s.section bytes
   pub init_is : init' ≡ init ++ put_into Data s.section bytes
 

@@ -16,7 +16,7 @@ use Rattle.mx_asm.specs.declared.fault.AsmError.TheVariants.{At, NoMemory}
 use Rattle.mx_asm.specs.declared.sizes.SectionSizes.{SectionSizes}
 use Rattle.mx_asm.specs.Branches.{branch_length, distance, is_too_far}
 use Rattle.mx_asm.specs.Lengths.{statement_length}
-use Rattle.mx_asm.specs.Layout.{LinesAbove, no_lines_above, laid_by, section_offset_of, sizes_after, address_of, value_under, label_named, statement_said}
+use Rattle.mx_asm.specs.Layout.{LinesAbove, no_lines_above, laid_by, section_offset_of, sizes_after, address_of_offset, value_under, label_named, statement_said}
 
 abbrev pub problem_code : Problem → ℕ
 problem_code BadByte = 1
@@ -70,31 +70,31 @@ fault_or (Some p) n rest = Some (record { problem = p; line = n })
 abbrev pub first_problem : LinesAbove → SectionSizes → ℕ → List Line → Option Fault
 first_problem a s n [] = None
 first_problem a s n (l ∷ ls) =
-    fault_or (problem_at a (address_of a (section_offset_of s)) (statement_said l)) n (first_problem a (sizes_after s (statement_said l) (statement_length (statement_said l))) (n + 1) ls)
+    fault_or (problem_at a (address_of_offset a (section_offset_of s)) (statement_said l)) n (first_problem a (sizes_after s (statement_said l) (statement_length (statement_said l))) (n + 1) ls)
 
 -- ---- sizes
 
 -- the bytes that the data segment holds, without the stack
-abbrev pub used_of : LinesAbove → ℕ
-used_of a = (if a.sep then 0 else a.sizes.text) + a.sizes.init + a.sizes.bss
+abbrev pub bytes_used : LinesAbove → ℕ
+bytes_used a = (if a.sep then 0 else a.sizes.text) + a.sizes.init + a.sizes.bss
 
 abbrev pub at_least : ℕ → ℕ → ℕ
 at_least least n = if nat_lt n least then least else n
 
 -- with the stack, rounded up to whole pages, and one page at least
 abbrev pub total_of : LinesAbove → ℕ
-total_of a = at_least 4096 (rounded_to_pages (used_of a + unwrap_or a.stack 2048))
+total_of a = at_least 4096 (rounded_to_pages (bytes_used a + unwrap_or a.stack 2048))
 
 -- a file's limits; what is used can't pass the total, which holds it
-abbrev pub is_too_large : LinesAbove → Bool
-is_too_large a = nat_lt 1048576 a.sizes.text || nat_lt 262144 (length a.labels * 16) || nat_lt 4194304 (total_of a)
+abbrev pub is_program_too_large : LinesAbove → Bool
+is_program_too_large a = nat_lt 1048576 a.sizes.text || nat_lt 262144 (length a.labels * 16) || nat_lt 4194304 (total_of a)
 
 abbrev pub number_of_last_line : List Line → ℕ
 number_of_last_line [] = 1
 number_of_last_line (l ∷ ls) = length (l ∷ ls)
 
 abbrev pub too_large_in : LinesAbove → List Line → Option Fault
-too_large_in a lines = if is_too_large a then Some (record { problem = TooLarge; line = number_of_last_line lines }) else None
+too_large_in a lines = if is_program_too_large a then Some (record { problem = TooLarge; line = number_of_last_line lines }) else None
 
 abbrev pub first_of : Option Fault → Option Fault → Option Fault
 first_of None g = g

@@ -112,12 +112,12 @@ start_of a Text = 0
 start_of a Data = if a.sep then 0 else a.sizes.text
 start_of a Bss = (if a.sep then 0 else a.sizes.text) + a.sizes.init
 
-abbrev pub address_of : LinesAbove → SectionOffset → ℕ
-address_of a spot = (start_of a spot.section + spot.offset) % 2 ^ 32
+abbrev pub address_of_offset : LinesAbove → SectionOffset → ℕ
+address_of_offset a spot = (start_of a spot.section + spot.offset) % 2 ^ 32
 
 abbrev pub address_of_label : LinesAbove → Option SectionOffset → Option ℕ
 address_of_label a None = None
-address_of_label a (Some spot) = Some (address_of a spot)
+address_of_label a (Some spot) = Some (address_of_offset a spot)
 
 -- a number alone counts from 0
 abbrev pub value_base : LinesAbove → Option Name → Option ℕ
@@ -138,14 +138,14 @@ abbrev pub is_defined : LinesAbove → Option Name → Bool
 is_defined a None = false
 is_defined a (Some name) = is_some (label_named a.labels name)
 
-abbrev pub is_second : LinesAbove → StatementStart → Bool
-is_second a beginnings.Separate = a.sep
-is_second a beginnings.Entry = is_some a.entry
-is_second a beginnings.Stack = is_some a.stack
-is_second a _ = false
+abbrev pub is_defined_twice : LinesAbove → StatementStart → Bool
+is_defined_twice a beginnings.Separate = a.sep
+is_defined_twice a beginnings.Entry = is_some a.entry
+is_defined_twice a beginnings.Stack = is_some a.stack
+is_defined_twice a _ = false
 
-abbrev pub line_refusal : LinesAbove → Line → Option Reason
-line_refusal a l = statement_refusal a.sizes.section (is_defined a l.label || is_second a l.beginning) l
+abbrev pub refusal_of_line : LinesAbove → Line → Option Reason
+refusal_of_line a l = statement_refusal a.sizes.section (is_defined a l.label || is_defined_twice a l.beginning) l
 
 -- ---- bounds
 

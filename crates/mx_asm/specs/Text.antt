@@ -14,7 +14,7 @@ use Rattle.mx_asm.specs.declared.fault.Fault.{Fault}
 use Rattle.mx_asm.specs.declared.fault.AsmError.{AsmError}
 use Rattle.mx_asm.specs.declared.fault.AsmError.TheVariants.{At, NoMemory}
 use Rattle.mx_asm.specs.Lengths.{statement_length}
-use Rattle.mx_asm.specs.Layout.{LinesAbove, no_lines_above, above_with, statement_said, line_refusal}
+use Rattle.mx_asm.specs.Layout.{LinesAbove, no_lines_above, above_with, statement_said, refusal_of_line}
 use Rattle.mx_asm.specs.Faults.{problem_of, fault_behind}
 use Rattle.mx_asm.specs.Assembled.{AreAssembled}
 
@@ -33,11 +33,11 @@ TellsLexical e n (At f) = (f.line ≡ n) × TellsOf e f.problem
 abbrev pub IsLineWrong : LinesAbove → List ℕ → Problem → Type 0
 IsLineWrong a t p =
     ((e : LexError) × IsLexFault t e × TellsOf e p)
-    ⊎ ((l : Line) × (r : Reason) × IsLine t l × (line_refusal a l ≡ Some r) × (p ≡ problem_of r))
+    ⊎ ((l : Line) × (r : Reason) × IsLine t l × (refusal_of_line a l ≡ Some r) × (p ≡ problem_of r))
 
 -- the line says this, and nothing is wrong with it
 abbrev pub IsLineTaken : LinesAbove → List ℕ → Line → Type 0
-IsLineTaken a t l = IsLine t l × (line_refusal a l ≡ None)
+IsLineTaken a t l = IsLine t l × (refusal_of_line a l ≡ None)
 
 -- behind a line that is taken
 abbrev pub on_behind : LinesAbove → Line → LinesAbove
@@ -64,8 +64,8 @@ IsFirstLineWrong a n (t ∷ ts) f =
     ⊎ ((l : Line) × IsLineTaken a t l × IsFirstLineWrong (on_behind a l) (n + 1) ts f)
 
 -- the text's lines say these, and nothing stands against them
-abbrev pub AreAccepted : List ℕ → List Line → Type 0
-AreAccepted t ls = AreLinesTaken no_lines_above (lines t) ls × (fault_behind ls ≡ None)
+abbrev pub AreLinesAccepted : List ℕ → List Line → Type 0
+AreLinesAccepted t ls = AreLinesTaken no_lines_above (lines t) ls × (fault_behind ls ≡ None)
 
 -- the text's lines say these, none is refused, and they make this program
 abbrev pub IsAssembled : List ℕ → Program → Type 0

@@ -4,7 +4,7 @@ ghost use Rattle.std.specs.Prelude.{◌≡◌, ◌++◌, true, false, None, Some
 ghost use Rattle.std.specs.List.{list_any};
 ghost use Rattle.mx_word.specs.Word.{bytes_of, bytes_in};
 ghost use Rattle.mx_encode.specs.Forms.{has_form};
-ghost use Rattle.mx_asm.specs.Layout.{no_lines_above, statement_said, section_offset_of, address_of};
+ghost use Rattle.mx_asm.specs.Layout.{no_lines_above, statement_said, section_offset_of, address_of_offset};
 ghost use Rattle.mx_asm.specs.Faults.{is_undefined, is_undefined_if, problem_at, first_problem};
 ghost use Rattle.mx_asm.specs.View.{above_of};
 ghost use Rattle.mx_asm.specs.Bytes.{named_under, BytesOf, Pushes, PutsOut, AreParts};
@@ -122,7 +122,7 @@ fn put_line(
     line: &Line,
     parts: &mut Parts,
 ) -> Result<(), AllocError>
-    requires { problem_at (above_of layout.now) (address_of (above_of layout.now) (section_offset_of sizes)) (statement_said line.now) ≡ None }
+    requires { problem_at (above_of layout.now) (address_of_offset (above_of layout.now) (section_offset_of sizes)) (statement_said line.now) ≡ None }
     ensures { OnOk result (PutsOut (above_of layout.now) sizes (statement_said line.now) parts.old.text.items parts.old.init.items parts.new.text.items parts.new.init.items) }
 {
     let at = layout.address_of(sizes.spot());

@@ -5,7 +5,7 @@ ghost use Rattle.mx_aout.specs.declared.program.Program.{Program};
 ghost use Rattle.mx_asm_statement.specs.declared.line.Line.{Line};
 ghost use Rattle.mx_asm.specs.declared.fault.Fault.{Fault};
 ghost use Rattle.mx_asm.specs.Assembled.{SameProgram};
-ghost use Rattle.mx_asm.specs.Text.{AreAccepted, IsAssembled, HasTextFault};
+ghost use Rattle.mx_asm.specs.Text.{AreLinesAccepted, IsAssembled, HasTextFault};
 
 use crate::branch_has_length;
 use mx_asm_line::{line_fits, line_or_fault, one_line};
@@ -17,7 +17,7 @@ use mx_lex::one_fault;
 /// Lines against which nothing stands have their program. No text has both a program and a fault,
 /// and none has neither.
 pub fn program_or_fault()
-    ensures accepted { (t : List ℕ) (ls : List Line) → AreAccepted t ls → (p : Program) × IsAssembled t p }
+    ensures accepted { (t : List ℕ) (ls : List Line) → AreLinesAccepted t ls → (p : Program) × IsAssembled t p }
     ensures not_both { (t : List ℕ) (p : Program) (f : Fault) → IsAssembled t p → HasTextFault t f → ⊥ }
     ensures not_neither { (t : List ℕ) → ((p : Program) → IsAssembled t p → ⊥) → ((f : Fault) → HasTextFault t f → ⊥) → ⊥ }
 {

@@ -2,8 +2,8 @@
 
 ghost use Rattle.std.specs.Prelude.{OnOk, ◌≡◌, ◌+◌, ◌%◌, ◌^◌, ◌≤◌, nat_lt, false, None, IfErr};
 ghost use Rattle.mx_asm.specs.Lengths.{statement_length};
-ghost use Rattle.mx_asm.specs.Layout.{section_offset_of, is_defined, is_second, line_refusal, labels_with, no_lines_above, above_with, statement_said, SizesWithin, GrowsWithin, label_named, start_of, address_of, value_under};
-ghost use Rattle.mx_asm.specs.Faults.{total_of, is_too_large};
+ghost use Rattle.mx_asm.specs.Layout.{section_offset_of, is_defined, is_defined_twice, refusal_of_line, labels_with, no_lines_above, above_with, statement_said, SizesWithin, GrowsWithin, label_named, start_of, address_of_offset, value_under};
+ghost use Rattle.mx_asm.specs.Faults.{total_of, is_program_too_large};
 ghost use Rattle.mx_asm.specs.View.{above_of};
 
 use crate::fault::AsmError;
@@ -62,7 +62,7 @@ impl Layout {
     }
 
     fn is_second(&self, beginning: StatementStart) -> bool
-        ensures { result ≡ is_second (above_of self.now) beginning }
+        ensures { result ≡ is_defined_twice (above_of self.now) beginning }
     {
         match beginning {
             StatementStart::Separate => self.sep,
@@ -74,7 +74,7 @@ impl Layout {
 
     /// Why a line is refused behind those above it.
     pub fn reason_of(&self, line: &Line) -> Option<Reason>
-        ensures { result ≡ line_refusal (above_of self.now) line.now }
+        ensures { result ≡ refusal_of_line (above_of self.now) line.now }
     {
         let twice = self.stands(line.label) || self.is_second(line.beginning);
         refusal(line, self.sizes.section, twice)
@@ -126,7 +126,7 @@ impl Layout {
 
     /// The address of a place, modulo 2^32.
     pub fn address_of(&self, spot: SectionOffset) -> u32
-        ensures { result ≡ address_of (above_of self.now) spot }
+        ensures { result ≡ address_of_offset (above_of self.now) spot }
     {
         self.start_of(spot.section).wrapping_add(low(spot.offset))
     }
@@ -155,14 +155,14 @@ impl Layout {
 
     /// Whether no file may hold what the lines make.
     pub fn is_too_large(&self) -> bool
-        ensures { result ≡ is_too_large (above_of self.now) }
+        ensures { result ≡ is_program_too_large (above_of self.now) }
     {
         self.sizes.text > 1_048_576 || self.labels.len() > 16_384 || self.is_total_too_large()
     }
 
     /// The size of the data segment, with the stack, in whole pages.
     pub fn total(&self) -> u32
-        requires { is_too_large (above_of self.now) ≡ false }
+        requires { is_program_too_large (above_of self.now) ≡ false }
         ensures { result ≡ total_of (above_of self.now) }
     {
         self.pages() as u32

@@ -2,7 +2,7 @@
 
 ghost use Rattle.std.specs.Prelude.{◌≡◌, false, length, map, IfOk, IfErr};
 ghost use Rattle.mx_asm.specs.Layout.{no_lines_above, laid_by};
-ghost use Rattle.mx_asm.specs.Faults.{IsFaultOr, fault_behind, total_of, is_too_large};
+ghost use Rattle.mx_asm.specs.Faults.{IsFaultOr, fault_behind, total_of, is_program_too_large};
 ghost use Rattle.mx_asm.specs.View.{above_of};
 ghost use Rattle.mx_asm.specs.Assembled.{class_of, symbol_under, entry_under, AreAssembled};
 
@@ -56,7 +56,7 @@ fn symbols_of(alloc: Global, layout: &Layout) -> Result<Vec<Symbol>, AllocError>
 
 /// The program of bytes and symbols that have their places here.
 fn program_with(layout: &Layout, parts: Parts, symbols: Vec<Symbol>) -> Program
-    requires fits { is_too_large (above_of layout.now) ≡ false }
+    requires fits { is_program_too_large (above_of layout.now) ≡ false }
     requires text { length parts.text.items ≡ layout.now.sizes.text }
     requires init { length parts.init.items ≡ layout.now.sizes.init }
     requires symbols { symbols.items ≡ map (symbol_under (above_of layout.now)) (above_of layout.now).labels }

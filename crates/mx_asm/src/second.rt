@@ -3,7 +3,7 @@
 ghost use Rattle.std.specs.Prelude.{◌≡◌, false, None};
 ghost use Rattle.std.specs.List.{list_any};
 ghost use Rattle.mx_asm.specs.Layout.{no_lines_above, statement_said, laid_by};
-ghost use Rattle.mx_asm.specs.Faults.{is_undefined, is_undefined_if, undefined_where, problem_at, first_problem, fault_behind, is_too_large};
+ghost use Rattle.mx_asm.specs.Faults.{is_undefined, is_undefined_if, undefined_where, problem_at, first_problem, fault_behind, is_program_too_large};
 ghost use Rattle.mx_asm.specs.View.{above_of};
 
 use crate::branch::{branch_length, distance, is_too_far};
@@ -109,7 +109,7 @@ impl Layout {
         requires { above_of self.now ≡ laid_by no_lines_above lines.now }
         ensures fault { result ≡ fault_behind lines.now }
         ensures clean { result ≡ None → first_problem (above_of self.now) no_lines_above.sizes 1 lines.now ≡ None }
-        ensures small { result ≡ None → is_too_large (above_of self.now) ≡ false }
+        ensures small { result ≡ None → is_program_too_large (above_of self.now) ≡ false }
     {
         match self.first_problem(lines) {
             Some(fault) => return Some(fault),

@@ -43,14 +43,14 @@ use Rattle.mx_asm_statement.specs.Values.{whole_of}
 use Rattle.mx_asm_form.specs.declared.sized_operand.SizedOperand.{SizedOperand}
 use Rattle.mx_asm_form.specs.declared.pair.Pair.{Pair}
 use Rattle.mx_asm_form.specs.declared.moves.ExtensionParts.{ExtensionParts}
-use Rattle.mx_asm_form.specs.Numbers.{is_outside, low_bits, number_in, immediate_in, is_same, names_no_other, value_waiting}
+use Rattle.mx_asm_form.specs.Numbers.{is_out_of_range, low_bits, number_in, immediate_in, is_same, names_no_other, value_waiting}
 use Rattle.mx_asm_form.specs.SizedOperands.{statement_of_insn, memory_named, sized_memory, sized_operand_of, operand_of_size, operand_beside, not_byte}
 use Rattle.mx_asm_form.specs.Pairs.{pair_into_memory, operands_of}
-use Rattle.mx_asm_form.specs.Operations.{unary, test, sized_factor, factor_of, product, shift_count_of, shift, set_condition}
-use Rattle.mx_asm_form.specs.Moves.{exchange, load_address, extension_of, extension_parts, zero_extend, sign_extend}
+use Rattle.mx_asm_form.specs.Operations.{unary, test, sized_factor, factor_of, product, shift_count_of, shift, set_condition_statement}
+use Rattle.mx_asm_form.specs.Moves.{exchange, load_address_statement, extension_between, extension_parts, zero_extend, sign_extend}
 use Rattle.mx_asm_form.specs.Stack.{statement_without_arguments, push, pop, return_of, interrupt, port_of, port_size_of, port_in, port_out}
-use Rattle.mx_asm_form.specs.Transfers.{jump, jump_if, call, loop_statement}
-use Rattle.mx_asm_form.specs.Statements.{arithmetic, move_statement, statement_for_single, statement_for, statement_after_prefix}
+use Rattle.mx_asm_form.specs.Transfers.{jump, jump_if_statement, call, loop_statement}
+use Rattle.mx_asm_form.specs.Statements.{arithmetic_statement, move_statement, statement_for_single, statement_for, statement_after_prefix}
 
 -- if there is one, it is so
 abbrev pub If : {A : Type 0} → (A → Type 0) → Option A → Type 0
@@ -99,7 +99,7 @@ abbrev pub Within : Size → ℕ → Type 0
 Within s n = n < 2 ^ width s
 
 bits_fit : (name : Option Name) (s : Size) (z : ℤ) → If (Within s) (low_bits name s z)
-bits_fit None s z = cond_both (is_outside (width s) z) None (Some (modulo (width s) z)) (If (Within s)) (λ h. tt) (λ h. modulo_below s z)
+bits_fit None s z = cond_both (is_out_of_range (width s) z) None (Some (modulo (width s) z)) (If (Within s)) (λ h. tt) (λ h. modulo_below s z)
 bits_fit (Some name) Byte z = tt
 bits_fit (Some name) Word z = tt
 bits_fit (Some name) Dword z = lit< tt
@@ -185,7 +185,7 @@ pair_fits (arguments.Value v ∷ arguments.Register t q ∷ z ∷ zs) = tt
 pair_fits (arguments.Value v ∷ arguments.Memory k b ∷ z ∷ zs) = tt
 pair_fits (arguments.Value v ∷ arguments.Value u ∷ z ∷ zs) = tt
 
-arithmetic_fits : (o : Arithmetic) (xs : List Argument) → If StatementFits (arithmetic o xs)
+arithmetic_fits : (o : Arithmetic) (xs : List Argument) → If StatementFits (arithmetic_statement o xs)
 arithmetic_fits o xs = next PairFits StatementFits (operands_of xs) _ (pair_fits xs) (λ pair h. says_fits (insns.Arithmetic o pair.operands) pair.immediate pair.displacement h)
 
 moved_fits : (xs : List Argument) → If StatementFits (move_statement xs)
@@ -251,7 +251,7 @@ shift_fits o (x ∷ y ∷ []) =
     next CountFits StatementFits (shift_count_of y) _ (count_fits y) (λ count g. says_fits (insns.Shift o spot.size spot.operand count) None spot.displacement (h, g)))
 shift_fits o (x ∷ y ∷ z ∷ zs) = tt
 
-condition_fits : (c : Condition) (xs : List Argument) → If StatementFits (set_condition c xs)
+condition_fits : (c : Condition) (xs : List Argument) → If StatementFits (set_condition_statement c xs)
 condition_fits c [] = tt
 condition_fits c (x ∷ []) = with_spot (operand_of_size Byte x) _ (sized_fits Byte x) (λ spot h. says_fits (insns.SetCondition c spot.operand) None spot.displacement h)
 condition_fits c (x ∷ y ∷ ys) = tt
@@ -266,7 +266,7 @@ exchange_fits (x ∷ arguments.Register s r ∷ z ∷ zs) = tt
 exchange_fits (x ∷ arguments.Value v ∷ zs) = tt
 exchange_fits (x ∷ arguments.Memory n a ∷ zs) = tt
 
-load_fits : (xs : List Argument) → If StatementFits (load_address xs)
+load_fits : (xs : List Argument) → If StatementFits (load_address_statement xs)
 load_fits [] = tt
 load_fits (arguments.Register s r ∷ []) = tt
 load_fits (arguments.Memory n a ∷ []) = tt
@@ -286,7 +286,7 @@ parts_fit (arguments.Register s r ∷ []) = tt
 parts_fit (arguments.Memory n a ∷ []) = tt
 parts_fit (arguments.Value v ∷ []) = tt
 parts_fit (arguments.Register s to ∷ y ∷ []) =
-    next SpotFits PartsFit (sized_operand_of y) _ (spot_fits y) (λ spot h. each PartsFit (extension_of s spot.size) _ (λ e. h))
+    next SpotFits PartsFit (sized_operand_of y) _ (spot_fits y) (λ spot h. each PartsFit (extension_between s spot.size) _ (λ e. h))
 parts_fit (arguments.Register s to ∷ y ∷ z ∷ zs) = tt
 parts_fit (arguments.Memory n a ∷ y ∷ zs) = tt
 parts_fit (arguments.Value v ∷ y ∷ zs) = tt
@@ -383,7 +383,7 @@ jump_fits true (arguments.Value v ∷ y ∷ ys) = tt
 jump_fits true (arguments.Register s r ∷ y ∷ ys) = tt
 jump_fits true (arguments.Memory n a ∷ y ∷ ys) = tt
 
-jump_if_fits : (short : Bool) (c : Condition) (xs : List Argument) → If StatementFits (jump_if short c xs)
+jump_if_fits : (short : Bool) (c : Condition) (xs : List Argument) → If StatementFits (jump_if_statement short c xs)
 jump_if_fits short c [] = tt
 jump_if_fits short c (arguments.Value v ∷ []) = tt
 jump_if_fits short c (arguments.Value v ∷ y ∷ ys) = tt

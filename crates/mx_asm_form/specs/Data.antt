@@ -12,8 +12,8 @@ use Rattle.mx_asm_statement.specs.declared.statement.Statement.TheVariants as st
 use Rattle.mx_asm_form.specs.Numbers.{number_in}
 
 -- a value that fits
-abbrev pub value_in : Size → List Item → Option Value
-value_in s ts = do
+abbrev pub data_value_in : Size → List Item → Option Value
+data_value_in s ts = do
   v ← value_in_items ts
   n ← number_in s v
   Some v
@@ -21,7 +21,7 @@ value_in s ts = do
 abbrev pub values_in : Size → List (List Item) → Option (List Value)
 values_in s [] = Some []
 values_in s (part ∷ parts) = do
-  v ← value_in s part
+  v ← data_value_in s part
   vs ← values_in s parts
   Some (v ∷ vs)
 

@@ -21,24 +21,24 @@ exchange (x ∷ arguments.Register s r ∷ []) = do
 exchange _ = None
 
 -- no size word stands before LEA's brackets
-abbrev pub load_address : List Argument → Option Statement
-load_address (arguments.Register s to ∷ arguments.Memory None a ∷ []) = do
+abbrev pub load_address_statement : List Argument → Option Statement
+load_address_statement (arguments.Register s to ∷ arguments.Memory None a ∷ []) = do
   size ← not_byte s
   m ← memory_named a
   statement_of_insn (insns.LoadAddress size to m) None (value_waiting a.value)
-load_address _ = None
+load_address_statement _ = None
 
-abbrev pub extension_of : Size → Size → Option Extension
-extension_of Word Byte = Some ByteToWord
-extension_of Dword Byte = Some ByteToDword
-extension_of Dword Word = Some WordToDword
-extension_of _ _ = None
+abbrev pub extension_between : Size → Size → Option Extension
+extension_between Word Byte = Some ByteToWord
+extension_between Dword Byte = Some ByteToDword
+extension_between Dword Word = Some WordToDword
+extension_between _ _ = None
 
 -- a register from a register, or from memory behind a size word
 abbrev pub extension_parts : List Argument → Option ExtensionParts
 extension_parts (arguments.Register s to ∷ y ∷ []) = do
   spot ← sized_operand_of y
-  extension ← extension_of s spot.size
+  extension ← extension_between s spot.size
   Some (record { extension = extension; to = to; from = spot.operand; displacement = spot.displacement })
 extension_parts _ = None
 

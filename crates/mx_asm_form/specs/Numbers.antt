@@ -11,13 +11,13 @@ use Rattle.mx_asm_statement.specs.Values.{whole_of}
 use Rattle.mx_asm_statement.specs.Items.{◌>>=◌}
 
 -- z is not one of - 2 ^ (w - 1) to 2 ^ w - 1
-abbrev pub is_outside : ℕ → ℤ → Bool
-is_outside w z = int_lt z (neg_ℤ (pos (2 ^ (w - 1)))) || int_le (pos (2 ^ w)) z
+abbrev pub is_out_of_range : ℕ → ℤ → Bool
+is_out_of_range w z = int_lt z (neg_ℤ (pos (2 ^ (w - 1)))) || int_le (pos (2 ^ w)) z
 
 -- without a name, the low bits of a number in range; with a name a sum modulo 2 ^ 32, whatever the number, so that it
 -- needs 32 bits and has no range: 0 stands for it until its label's address is put in
 abbrev pub low_bits : Option Name → Size → ℤ → Option ℕ
-low_bits None s z = if is_outside (width s) z then None else Some (modulo (width s) z)
+low_bits None s z = if is_out_of_range (width s) z then None else Some (modulo (width s) z)
 low_bits (Some name) Byte z = None
 low_bits (Some name) Word z = None
 low_bits (Some name) Dword z = Some 0

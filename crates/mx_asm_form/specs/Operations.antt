@@ -78,8 +78,8 @@ shift o (x ∷ y ∷ []) = do
   statement_of_insn (insns.Shift o spot.size spot.operand count) None spot.displacement
 shift o _ = None
 
-abbrev pub set_condition : Condition → List Argument → Option Statement
-set_condition c (x ∷ []) = do
+abbrev pub set_condition_statement : Condition → List Argument → Option Statement
+set_condition_statement c (x ∷ []) = do
   spot ← operand_of_size Byte x
   statement_of_insn (insns.SetCondition c spot.operand) None spot.displacement
-set_condition c _ = None
+set_condition_statement c _ = None

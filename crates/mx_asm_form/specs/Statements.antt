@@ -15,13 +15,13 @@ use Rattle.mx_asm_statement.specs.Items.{◌>>=◌}
 use Rattle.mx_asm_statement.specs.declared.statement.Statement.{Statement}
 use Rattle.mx_asm_form.specs.SizedOperands.{statement_of_insn}
 use Rattle.mx_asm_form.specs.Pairs.{operands_of}
-use Rattle.mx_asm_form.specs.Operations.{unary, test, product, shift, set_condition}
-use Rattle.mx_asm_form.specs.Moves.{exchange, load_address, zero_extend, sign_extend}
+use Rattle.mx_asm_form.specs.Operations.{unary, test, product, shift, set_condition_statement}
+use Rattle.mx_asm_form.specs.Moves.{exchange, load_address_statement, zero_extend, sign_extend}
 use Rattle.mx_asm_form.specs.Stack.{statement_without_arguments, push, pop, return_of, interrupt, port_in, port_out}
-use Rattle.mx_asm_form.specs.Transfers.{jump, jump_if, call, loop_statement}
+use Rattle.mx_asm_form.specs.Transfers.{jump, jump_if_statement, call, loop_statement}
 
-abbrev pub arithmetic : Arithmetic → List Argument → Option Statement
-arithmetic o xs = do
+abbrev pub arithmetic_statement : Arithmetic → List Argument → Option Statement
+arithmetic_statement o xs = do
   pair ← operands_of xs
   statement_of_insn (insns.Arithmetic o pair.operands) pair.immediate pair.displacement
 
@@ -34,7 +34,7 @@ abbrev pub statement_for_single : Bool → Single → List Argument → Option S
 statement_for_single short Mov xs = move_statement xs
 statement_for_single short Test xs = test xs
 statement_for_single short Xchg xs = exchange xs
-statement_for_single short Lea xs = load_address xs
+statement_for_single short Lea xs = load_address_statement xs
 statement_for_single short Movzx xs = zero_extend xs
 statement_for_single short Movsx xs = sign_extend xs
 statement_for_single short Push xs = push xs
@@ -52,15 +52,15 @@ statement_for_single short Out xs = port_out xs
 
 -- a mnemonic, with `short` behind it or without, and its arguments
 abbrev pub statement_for : Bool → Mnemonic → List Argument → Option Statement
-statement_for short (mnemonics.Arithmetic o) xs = arithmetic o xs
+statement_for short (mnemonics.Arithmetic o) xs = arithmetic_statement o xs
 statement_for short (mnemonics.Unary o) xs = unary o xs
 statement_for short (mnemonics.Product o) xs = product o xs
 statement_for short (mnemonics.Shift o) xs = shift o xs
 statement_for short (mnemonics.Loop o) xs = loop_statement o xs
 statement_for short (mnemonics.Plain o) xs = statement_without_arguments (insns.Plain o) xs
 statement_for short (mnemonics.Single o) xs = statement_for_single short o xs
-statement_for short (mnemonics.JumpIf c) xs = jump_if short c xs
-statement_for short (mnemonics.SetCondition c) xs = set_condition c xs
+statement_for short (mnemonics.JumpIf c) xs = jump_if_statement short c xs
+statement_for short (mnemonics.SetCondition c) xs = set_condition_statement c xs
 statement_for short (mnemonics.Transfer o s) xs = statement_without_arguments (insns.Transfer o s false) xs
 statement_for short (mnemonics.Compare o s) xs = statement_without_arguments (insns.Compare o s None) xs
 

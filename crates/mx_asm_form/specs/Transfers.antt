@@ -18,9 +18,9 @@ jump false (x ∷ []) = do
   statement_of_insn (insns.JumpTo spot.operand) None spot.displacement
 jump _ _ = None
 
-abbrev pub jump_if : Bool → Condition → List Argument → Option Statement
-jump_if short c (arguments.Value target ∷ []) = statement_of_branch (branches.JumpIf c short) target
-jump_if short c _ = None
+abbrev pub jump_if_statement : Bool → Condition → List Argument → Option Statement
+jump_if_statement short c (arguments.Value target ∷ []) = statement_of_branch (branches.JumpIf c short) target
+jump_if_statement short c _ = None
 
 abbrev pub call : List Argument → Option Statement
 call (arguments.Value target ∷ []) = statement_of_branch branches.Call target

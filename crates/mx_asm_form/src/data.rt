@@ -1,7 +1,7 @@
 //! Values of data.
 
 ghost use Rattle.std.specs.Prelude.{◌≡◌, IfOk};
-ghost use Rattle.mx_asm_form.specs.Data.{value_in, data_of};
+ghost use Rattle.mx_asm_form.specs.Data.{data_value_in, data_of};
 
 use crate::number::number_in;
 use mx_asm_statement::{DataValues, Item, Statement, Value, parted, value_of};
@@ -10,7 +10,7 @@ use std::alloc::{AllocError, Global};
 
 /// The value that items say, where it fits.
 fn value_in(size: Size, items: &[Item]) -> Option<Value>
-    ensures { result ≡ value_in size items.now }
+    ensures { result ≡ data_value_in size items.now }
 {
     let value = value_of(items)?;
     number_in(size, value)?;

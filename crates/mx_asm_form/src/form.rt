@@ -1,7 +1,7 @@
 //! Whole statements.
 
 ghost use Rattle.std.specs.Prelude.{◌≡◌};
-ghost use Rattle.mx_asm_form.specs.Statements.{arithmetic, move_statement, statement_for_single, statement_for, statement_after_prefix};
+ghost use Rattle.mx_asm_form.specs.Statements.{arithmetic_statement, move_statement, statement_for_single, statement_for, statement_after_prefix};
 
 use crate::operations::{product, set_condition, shift, test, unary};
 use crate::stack::{alone, interrupt, pop, port_in, port_out, push, return_of};
@@ -14,7 +14,7 @@ use mx_insn::{Arithmetic, Insn, OperandSize, Repeat};
 use mx_insn_words::{Mnemonic, Prefix, Single};
 
 fn arithmetic(operation: Arithmetic, arguments: &[Argument]) -> Option<Statement>
-    ensures { result ≡ arithmetic operation arguments.now }
+    ensures { result ≡ arithmetic_statement operation arguments.now }
 {
     let pair = operands_of(arguments)?;
     let insn = Insn::Arithmetic {

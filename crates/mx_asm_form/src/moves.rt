@@ -1,7 +1,7 @@
 //! What moves values as they are, or extends them.
 
 ghost use Rattle.std.specs.Prelude.{◌≡◌, ◌∷◌, []};
-ghost use Rattle.mx_asm_form.specs.Moves.{exchange, load_address, extension_of, extension_parts, zero_extend, sign_extend};
+ghost use Rattle.mx_asm_form.specs.Moves.{exchange, load_address_statement, extension_between, extension_parts, zero_extend, sign_extend};
 
 use crate::number::waiting;
 use crate::sized_operand::{memory_named, not_byte, says, spot_beside, spot_of};
@@ -36,7 +36,7 @@ pub fn exchange(arguments: &[Argument]) -> Option<Statement>
 }
 
 fn load_two(first: Argument, second: Argument) -> Option<Statement>
-    ensures { result ≡ load_address (first ∷ second ∷ []) }
+    ensures { result ≡ load_address_statement (first ∷ second ∷ []) }
 {
     match (first, second) {
         (Argument::Register(size, to), Argument::Memory(None, address)) => {
@@ -54,7 +54,7 @@ fn load_two(first: Argument, second: Argument) -> Option<Statement>
 
 /// LEA, which takes no size word.
 pub fn load_address(arguments: &[Argument]) -> Option<Statement>
-    ensures { result ≡ load_address arguments.now }
+    ensures { result ≡ load_address_statement arguments.now }
 {
     match arguments {
         [first, second] => load_two(*first, *second),
@@ -63,7 +63,7 @@ pub fn load_address(arguments: &[Argument]) -> Option<Statement>
 }
 
 fn extension_of(to: Size, from: Size) -> Option<Extension>
-    ensures { result ≡ extension_of to from }
+    ensures { result ≡ extension_between to from }
 {
     match (to, from) {
         (Size::Word, Size::Byte) => Some(Extension::ByteToWord),

@@ -1,7 +1,7 @@
 //! What works on registers and memory.
 
 ghost use Rattle.std.specs.Prelude.{◌≡◌, ◌∷◌, []};
-ghost use Rattle.mx_asm_form.specs.Operations.{factor_of, unary, test, product, shift_count_of, shift, set_condition};
+ghost use Rattle.mx_asm_form.specs.Operations.{factor_of, unary, test, product, shift_count_of, shift, set_condition_statement};
 
 use crate::{immediate_in, not_byte, number_in, says, spot_beside, spot_of, spot_of_size, waiting};
 use mx_asm_statement::{Argument, Statement, Value};
@@ -172,7 +172,7 @@ pub fn shift(operation: Shift, arguments: &[Argument]) -> Option<Statement>
 
 /// SETcc.
 pub fn set_condition(condition: Condition, arguments: &[Argument]) -> Option<Statement>
-    ensures { result ≡ set_condition condition arguments.now }
+    ensures { result ≡ set_condition_statement condition arguments.now }
 {
     match arguments {
         [first] => {

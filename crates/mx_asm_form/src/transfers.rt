@@ -1,7 +1,7 @@
 //! Jumps, calls and loops.
 
 ghost use Rattle.std.specs.Prelude.{◌≡◌, ◌∷◌, []};
-ghost use Rattle.mx_asm_form.specs.Transfers.{jump, jump_if, call, loop_statement};
+ghost use Rattle.mx_asm_form.specs.Transfers.{jump, jump_if_statement, call, loop_statement};
 
 use crate::sized_operand::{goes, says, spot_of_size};
 use mx_asm_statement::{Argument, Branch, Statement};
@@ -32,7 +32,7 @@ pub fn jump(short: bool, arguments: &[Argument]) -> Option<Statement>
 
 /// Jcc.
 pub fn jump_if(short: bool, condition: Condition, arguments: &[Argument]) -> Option<Statement>
-    ensures { result ≡ jump_if short condition arguments.now }
+    ensures { result ≡ jump_if_statement short condition arguments.now }
 {
     match arguments {
         [Argument::Value(target)] => goes(Branch::JumpIf { condition, short }, *target),

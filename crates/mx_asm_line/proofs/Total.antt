@@ -21,9 +21,9 @@ use Rattle.mx_asm_statement.specs.declared.line.Line.{Line}
 use Rattle.mx_asm_line.specs.declared.opening.LineStart.{LineStart}
 use Rattle.mx_asm_line.specs.declared.opening.LineStart.TheVariants as begun
 use Rattle.mx_asm_statement.specs.Sorting.{token_bytes, IsOrdinary, IsWordItem, IsKindItem, AreItems}
-use Rattle.mx_asm_line.specs.Opening.{IsWord, IsLabel, Begins, NamesMnemonic, label_of, behind_label, behind_first}
+use Rattle.mx_asm_line.specs.Opening.{IsWord, IsLabelItem, Begins, NamesMnemonic, label_of, behind_label, behind_first}
 use Rattle.mx_asm_line.specs.Statements.{text_alone}
-use Rattle.mx_asm_line.specs.Lines.{line_of, SaysLine, IsLine}
+use Rattle.mx_asm_line.specs.Lines.{line_of_items, SaysLine, IsLine}
 
 -- where anything that is shown absurd may rest on a case and its contrary
 by_cases : (A : Type 0) → ((A ⊎ (A → ⊥)) → ⊥) → ⊥
@@ -64,7 +64,7 @@ some_items : (t : List ℕ) (ks : List Token) → ((xs : List Item) → AreItems
 some_items t [] k = k [] tt
 some_items t (j ∷ js) k = kind_item (token_bytes t j) j.kind (λ x h. some_items t js (λ xs hs. k (x ∷ xs) (h, hs)))
 
-some_label : (t : List ℕ) (o : Option Token) → ((x : Option Item) → IsLabel t o x → ⊥) → ⊥
+some_label : (t : List ℕ) (o : Option Token) → ((x : Option Item) → IsLabelItem t o x → ⊥) → ⊥
 some_label t None k = k None tt
 some_label t (Some j) k = kind_item (token_bytes t j) j.kind (λ x h. k (Some x) h)
 
@@ -98,7 +98,7 @@ says_something t ks k =
     some_start t rest (λ start begins.
     some_mnemonic t (behind_first rest) (λ second names.
     some_items t (behind_first rest) (λ xs are_items.
-    k (line_of label start second (text_alone t (behind_first rest)) xs) (record {
+    k (line_of_items label start second (text_alone t (behind_first rest)) xs) (record {
       label_item = label;
       is_label = is_label;
       start = start;

@@ -19,9 +19,9 @@ use Rattle.mx_asm_statement.specs.declared.line.Line.{Line}
 use Rattle.mx_asm_line.specs.declared.opening.LineStart.{LineStart}
 use Rattle.mx_asm_line.specs.declared.opening.LineStart.TheVariants as begun
 use Rattle.mx_asm_statement.specs.Sorting.{token_bytes, IsWordItem, IsKindItem, IsItem, AreItems}
-use Rattle.mx_asm_line.specs.Opening.{IsLabel, Begins, NamesMnemonic, label_of, behind_label, behind_first}
+use Rattle.mx_asm_line.specs.Opening.{IsLabelItem, Begins, NamesMnemonic, label_of, behind_label, behind_first}
 use Rattle.mx_asm_line.specs.Statements.{text_alone}
-use Rattle.mx_asm_line.specs.Lines.{line_of, SaysLine, IsLine}
+use Rattle.mx_asm_line.specs.Lines.{line_of_items, SaysLine, IsLine}
 
 -- what is known of the table of words
 pub record Table : Type 0 where
@@ -93,7 +93,7 @@ one_list table t (k ∷ ks) (x ∷ xs) [] e f = absurd f
 one_list table t (k ∷ ks) (x ∷ xs) (y ∷ ys) e f =
     ap (λ z. z ∷ xs) (one_item table t k x y e.0 f.0) ∙ ap (λ zs. y ∷ zs) (one_list table t ks xs ys e.1 f.1)
 
-one_label : Table → (t : List ℕ) (o : Option Token) (a b : Option Item) → IsLabel t o a → IsLabel t o b → a ≡ b
+one_label : Table → (t : List ℕ) (o : Option Token) (a b : Option Item) → IsLabelItem t o a → IsLabelItem t o b → a ≡ b
 one_label table t None None None e f = refl
 one_label table t None None (Some y) e f = absurd f
 one_label table t None (Some x) b e f = absurd e
@@ -128,10 +128,10 @@ one_said : Table → (t : List ℕ) (ks : List Token) (a b : Line) → SaysLine 
 one_said table t ks a b x y =
     let text = text_alone t (behind_first (behind_label t ks)) in
     x.is_line
-    ∙ (ap (λ l. line_of l x.start x.second text x.rest) (one_label table t (label_of t ks) x.label_item y.label_item x.is_label y.is_label)
-    ∙ (ap (λ s. line_of y.label_item s x.second text x.rest) (one_begun table t (behind_label t ks) x.start y.start x.begins y.begins)
-    ∙ (ap (λ m. line_of y.label_item y.start m text x.rest) (one_second table t (behind_first (behind_label t ks)) x.second y.second x.names y.names)
-    ∙ (ap (λ r. line_of y.label_item y.start y.second text r) (one_list table t (behind_first (behind_label t ks)) x.rest y.rest x.are_items y.are_items)
+    ∙ (ap (λ l. line_of_items l x.start x.second text x.rest) (one_label table t (label_of t ks) x.label_item y.label_item x.is_label y.is_label)
+    ∙ (ap (λ s. line_of_items y.label_item s x.second text x.rest) (one_begun table t (behind_label t ks) x.start y.start x.begins y.begins)
+    ∙ (ap (λ m. line_of_items y.label_item y.start m text x.rest) (one_second table t (behind_first (behind_label t ks)) x.second y.second x.names y.names)
+    ∙ (ap (λ r. line_of_items y.label_item y.start y.second text r) (one_list table t (behind_first (behind_label t ks)) x.rest y.rest x.are_items y.are_items)
     ∙ sym y.is_line))))
 
 pub one_line : Table → ((t : List ℕ) (ks js : List Token) → IsReadAs t ks → IsReadAs t js → ks ≡ js) → (t : List ℕ) (a b : Line) → IsLine t a → IsLine t b → a ≡ b

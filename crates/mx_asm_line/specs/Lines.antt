@@ -17,7 +17,7 @@ use Rattle.mx_asm_statement.specs.declared.statement.Statement.{Statement}
 use Rattle.mx_asm_line.specs.declared.opening.LineStart.{LineStart}
 use Rattle.mx_asm_line.specs.declared.opening.LineStart.TheVariants as begun
 use Rattle.mx_asm_statement.specs.Sorting.{AreItems}
-use Rattle.mx_asm_line.specs.Opening.{label_of, behind_label, IsLabel, Begins, behind_first, NamesMnemonic}
+use Rattle.mx_asm_line.specs.Opening.{label_of, behind_label, IsLabelItem, Begins, behind_first, NamesMnemonic}
 use Rattle.mx_asm_line.specs.Statements.{text_alone, statement_of}
 
 -- ---- names that are too long
@@ -69,8 +69,8 @@ beginning_of (begun.Known (starts.Directive d)) = beginning_behind d
 
 -- ---- the line
 
-abbrev pub line_of : Option Item → LineStart → Option Mnemonic → Option (List ℕ) → List Item → Line
-line_of label b second text ts = record {
+abbrev pub line_of_items : Option Item → LineStart → Option Mnemonic → Option (List ℕ) → List Item → Line
+line_of_items label b second text ts = record {
   label = name_in label;
   long = long_label label || long_behind b ts;
   beginning = beginning_of b;
@@ -80,14 +80,14 @@ line_of label b second text ts = record {
 -- the tokens say the line: [label:] [statement]
 pub record SaysLine (t : List ℕ) (ks : List Token) (line : Line) : Type 0 where
   pub label_item : Option Item
-  pub is_label : IsLabel t (label_of t ks) label_item
+  pub is_label : IsLabelItem t (label_of t ks) label_item
   pub start : LineStart
   pub begins : Begins t (behind_label t ks) start
   pub second : Option Mnemonic
   pub names : NamesMnemonic t (behind_first (behind_label t ks)) second
   pub rest : List Item
   pub are_items : AreItems t (behind_first (behind_label t ks)) rest
-  pub is_line : line ≡ line_of label_item start second (text_alone t (behind_first (behind_label t ks))) rest
+  pub is_line : line ≡ line_of_items label_item start second (text_alone t (behind_first (behind_label t ks))) rest
 
 -- what a line of a text says
 abbrev pub IsLine : List ℕ → Line → Type 0

@@ -35,10 +35,10 @@ abbrev pub behind_label : List ℕ → List Token → List Token
 behind_label t (k ∷ c ∷ ks) = if is_label t k c then ks else k ∷ c ∷ ks
 behind_label t ks = ks
 
-abbrev pub IsLabel : List ℕ → Option Token → Option Item → Type 0
-IsLabel t None None = Unit {0}
-IsLabel t (Some k) (Some x) = IsItem t k x
-IsLabel t _ _ = ⊥
+abbrev pub IsLabelItem : List ℕ → Option Token → Option Item → Type 0
+IsLabelItem t None None = Unit {0}
+IsLabelItem t (Some k) (Some x) = IsItem t k x
+IsLabelItem t _ _ = ⊥
 
 -- ---- the statement
 

@@ -30,9 +30,9 @@ use Rattle.mx_asm_line.specs.declared.opening.LineStart.TheVariants as begun
 -- ---- behind a mnemonic
 
 -- the word `short`
-abbrev pub is_short : Item → Bool
-is_short (items.Name w) = pointwise nat_eq w.bytes (padded_name short_word)
-is_short _ = false
+abbrev pub is_short_word : Item → Bool
+is_short_word (items.Name w) = pointwise nat_eq w.bytes (padded_name short_word)
+is_short_word _ = false
 
 abbrev pub takes_short : Mnemonic → Bool
 takes_short (mnemonics.Single Jmp) = true
@@ -47,11 +47,11 @@ statement_by short m ts = do
 -- right behind JMP and Jcc `short` is always the mark, and elsewhere a name
 abbrev pub is_marked : Mnemonic → List Item → Bool
 is_marked m [] = false
-is_marked m (t ∷ ts) = takes_short m && is_short t
+is_marked m (t ∷ ts) = takes_short m && is_short_word t
 
 abbrev pub without_short_mark : Mnemonic → List Item → List Item
 without_short_mark m [] = []
-without_short_mark m (t ∷ ts) = if takes_short m && is_short t then ts else t ∷ ts
+without_short_mark m (t ∷ ts) = if takes_short m && is_short_word t then ts else t ∷ ts
 
 abbrev pub behind_mnemonic : Mnemonic → List Item → Option Statement
 behind_mnemonic m ts = statement_by (is_marked m ts) m (without_short_mark m ts)

@@ -2,7 +2,7 @@
 
 ghost use Rattle.std.specs.Prelude.{◌≡◌, All};
 ghost use Rattle.mx_lex.specs.Tokens.{IsSlice};
-ghost use Rattle.mx_asm_line.specs.Opening.{is_label, label_of, behind_label, IsLabel, Begins, behind_first, NamesMnemonic};
+ghost use Rattle.mx_asm_line.specs.Opening.{is_label, label_of, behind_label, IsLabelItem, Begins, behind_first, NamesMnemonic};
 
 use mx_asm_statement::{Item, is_dotted, item_of, token_bytes};
 use mx_insn_words::{Mnemonic, WordStart, mnemonic_named, start_named};
@@ -31,7 +31,7 @@ fn is_label(text: &[u8], first: Token, second: Token) -> bool
 /// What the label's token is, where there is one, and what stands behind it; or all.
 pub fn behind_label<'a>(text: &[u8], tokens: &'a [Token]) -> (Option<Item>, &'a [Token])
     requires { All (IsSlice text.now) tokens.now }
-    ensures label { IsLabel text.now (label_of text.now tokens.now) result.0 }
+    ensures label { IsLabelItem text.now (label_of text.now tokens.now) result.0 }
     ensures behind { result.1.now ≡ behind_label text.now tokens.now }
 {
     let Some((first, rest)) = tokens.split_first() else {

@@ -2,7 +2,7 @@
 
 ghost use Rattle.std.specs.Prelude.{◌≡◌, ◌+◌, ◌≤◌, IfOk, All};
 ghost use Rattle.mx_lex.specs.Tokens.{IsSlice};
-ghost use Rattle.mx_asm_line.specs.Statements.{is_short, takes_short, statement_by, behind_mnemonic, behind_prefix, standing_alone, text_given, space_of, stack_of, entry_of, behind_directive, text_alone, statement_of};
+ghost use Rattle.mx_asm_line.specs.Statements.{is_short_word, takes_short, statement_by, behind_mnemonic, behind_prefix, standing_alone, text_given, space_of, stack_of, entry_of, behind_directive, text_alone, statement_of};
 
 use crate::opening::LineStart;
 use mx_asm_form::{data_of, repeated, stated};
@@ -24,7 +24,7 @@ fn takes_short(mnemonic: Mnemonic) -> bool
 }
 
 fn is_short(item: Item) -> bool
-    ensures { result ≡ is_short item }
+    ensures { result ≡ is_short_word item }
 {
     match item {
         Item::Name(name) => name.bytes == *b"short\0\0\0",

@@ -13,7 +13,7 @@ use Rattle.mx_asm_statement.specs.Instructions.{marks}
 use Rattle.mx_aout.specs.declared.program.Program.{Program}
 use Rattle.mx_asm.specs.declared.sizes.SectionSizes.{SectionSizes}
 use Rattle.mx_asm.specs.Branches.{branch_by, branch_marks, distance}
-use Rattle.mx_asm.specs.Layout.{LinesAbove, no_lines_above, sizes_after, size_in, section_offset_of, address_of, statement_said}
+use Rattle.mx_asm.specs.Layout.{LinesAbove, no_lines_above, sizes_after, size_in, section_offset_of, address_of_offset, statement_said}
 use Rattle.mx_asm.specs.Bytes.{AllStand, StandsIn, contents, put_into}
 use Rattle.mx_asm.specs.Assembled.{AreAssembled}
 use Rattle.mx_dis.specs.declared.part.Part.{Part}
@@ -76,8 +76,8 @@ text_met chosen spelled a n (says.Entry name) b parts after h on = (tt, λ none.
 text_met chosen spelled a n (says.Stack k) b parts after h on = (tt, λ none. nothing_put parts n b after none on)
 
 met : ChosenSpells → Spelled → (section : Section) (a : LinesAbove) (s : SectionSizes) (t : Statement) (b : List ℕ) (parts : List Part) (after : List ℕ) → s.text < 2 ^ 32
-    → StandsIn section a (address_of a (record { section = section; offset = size_in s section })) t b → GoesOn parts s.text (put_into Text section b ++ after)
-    → Meets section a (address_of a (record { section = section; offset = size_in s section })) s.text t b parts after
+    → StandsIn section a (address_of_offset a (record { section = section; offset = size_in s section })) t b → GoesOn parts s.text (put_into Text section b ++ after)
+    → Meets section a (address_of_offset a (record { section = section; offset = size_in s section })) s.text t b parts after
 met chosen spelled Text a s t b parts after lt h on =
     let at = address_here a s.text lt in
     subst (λ (n : ℕ). Meets Text a n s.text t b parts after) (sym at)
@@ -93,7 +93,7 @@ all_listed chosen spelled a s (l ∷ ls) (b ∷ bs) parts (right, more) lt on =
     let s' = sizes_after s (statement_said l) (length b) in
     let put = put_into Text s.section b in
     let after = contents Text s' ls bs in
-    let n = text_after s a (address_of a (section_offset_of s)) (statement_said l) b right in
+    let n = text_after s a (address_of_offset a (section_offset_of s)) (statement_said l) b right in
     let here = met chosen spelled s.section a s (statement_said l) b parts after (omega (arith, lt)) right on in
     let lt' : s'.text + length after < 2 ^ 32 = omega (arith, length-append put after, lt, n) in
     (here.0, λ none. all_listed chosen spelled a s' ls bs parts more lt' (subst (λ (k : ℕ). GoesOn parts k after) (sym n) (here.1 none)))

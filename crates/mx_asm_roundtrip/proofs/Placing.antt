@@ -10,7 +10,7 @@ use Rattle.mx_aout.specs.Limits.{rounded_to_pages}
 use Rattle.mx_exec.specs.Image.{code_bytes, code_in}
 use Rattle.mx_load.specs.Load.{image_of_program, code_of_text, contents_of, filled_to}
 use Rattle.mx_asm.specs.declared.sizes.SectionSizes.{SectionSizes}
-use Rattle.mx_asm.specs.Layout.{LinesAbove, no_lines_above, sizes_after, grown_in, size_in, section_offset_of, address_of, statement_said}
+use Rattle.mx_asm.specs.Layout.{LinesAbove, no_lines_above, sizes_after, grown_in, size_in, section_offset_of, address_of_offset, statement_said}
 use Rattle.mx_asm.specs.Bytes.{AllStand, StandsIn, contents, put_into}
 use Rattle.mx_asm.specs.Assembled.{AreAssembled}
 use Rattle.mx_asm_roundtrip.specs.Around.{StandIfText, AllAtAddress, CodeKeeps, layout_of}
@@ -39,11 +39,11 @@ text_after s a at (says.Instruction i) b h = grown_text s s.section b
 text_after s a at (says.Branch k target) b h = grown_text s s.section b
 
 -- in a text that isn't too long an address is the place in the text
-pub address_here : (a : LinesAbove) (offset : ℕ) → offset < 2 ^ 32 → address_of a (record { section = Text; offset = offset }) ≡ offset
+pub address_here : (a : LinesAbove) (offset : ℕ) → offset < 2 ^ 32 → address_of_offset a (record { section = Text; offset = offset }) ≡ offset
 address_here a offset lt = omega arith
 
 stand_here : (section : Section) (a : LinesAbove) (s : SectionSizes) (before b after tail : List ℕ) → length before ≡ s.text → s.text < 2 ^ 32
-    → StandIfText section (before ++ ((put_into Text section b ++ after) ++ tail)) (address_of a (record { section = section; offset = size_in s section })) b
+    → StandIfText section (before ++ ((put_into Text section b ++ after) ++ tail)) (address_of_offset a (record { section = section; offset = size_in s section })) b
 stand_here Text a s before b after tail e lt =
     (before, after ++ tail, ap (λ (w : List ℕ). before ++ w) (append_assoc b after tail), e ∙ sym (address_here a s.text lt))
 stand_here Data a s before b after tail e lt = tt
@@ -58,7 +58,7 @@ all_at_address a s (l ∷ ls) (b ∷ bs) before tail (right, more) e lt =
     let s' = sizes_after s (statement_said l) (length b) in
     let put = put_into Text s.section b in
     let after = contents Text s' ls bs in
-    let n = text_after s a (address_of a (section_offset_of s)) (statement_said l) b right in
+    let n = text_after s a (address_of_offset a (section_offset_of s)) (statement_said l) b right in
     let joined = length-append put after in
     let e' : length (before ++ put) ≡ s'.text = omega (arith, length-append before put, n) in
     let rest = all_at_address a s' ls bs (before ++ put) tail more e' (omega (arith, length-append before put, joined, lt)) in

@@ -11,7 +11,7 @@ use Rattle.mx_aout.specs.declared.program.Program.{Program}
 use Rattle.mx_aout.specs.File.{FileIs}
 use Rattle.mx_asm.specs.declared.sizes.SectionSizes.{SectionSizes}
 use Rattle.mx_asm.specs.Branches.{branch_by, distance}
-use Rattle.mx_asm.specs.Layout.{LinesAbove, no_lines_above, left_by, sizes_after, section_offset_of, address_of, value_under, statement_said}
+use Rattle.mx_asm.specs.Layout.{LinesAbove, no_lines_above, left_by, sizes_after, section_offset_of, address_of_offset, value_under, statement_said}
 use Rattle.mx_asm.specs.Bytes.{named_under, put_into}
 use Rattle.mx_asm.specs.Assembled.{AreAssembled}
 use Rattle.mx_asm.specs.Text.{IsAssembled}
@@ -39,7 +39,7 @@ abbrev pub AllAtAddress : List ℕ → LinesAbove → SectionSizes → List Line
 AllAtAddress code a s [] bs = ⊤
 AllAtAddress code a s (l ∷ ls) [] = ⊤
 AllAtAddress code a s (l ∷ ls) (b ∷ bs) =
-    StandIfText s.section code (address_of a (section_offset_of s)) b × AllAtAddress code a (sizes_after s (statement_said l) (length b)) ls bs
+    StandIfText s.section code (address_of_offset a (section_offset_of s)) b × AllAtAddress code a (sizes_after s (statement_said l) (length b)) ls bs
 
 -- ---- instructions in the listing
 
@@ -73,7 +73,7 @@ abbrev pub AllListed : List Part → LinesAbove → SectionSizes → List Line �
 AllListed parts a s [] bs = ⊤
 AllListed parts a s (l ∷ ls) [] = ⊤
 AllListed parts a s (l ∷ ls) (b ∷ bs) =
-    ListedIfText s.section a (address_of a (section_offset_of s)) (statement_said l) b parts
+    ListedIfText s.section a (address_of_offset a (section_offset_of s)) (statement_said l) b parts
     × (put_by_directive s.section (statement_said l) b ≡ [] → AllListed parts a (sizes_after s (statement_said l) (length b)) ls bs)
 
 -- ---- a text that is assembled

@@ -11,7 +11,7 @@ use Rattle.mx_asm_statement.specs.declared.item.Item.TheVariants as items
 use Rattle.mx_asm_statement.specs.declared.memory.Address.{Address}
 use Rattle.mx_asm_statement.specs.declared.value.Value.{Value}
 use Rattle.mx_asm_statement.specs.Items.{◌>>=◌}
-use Rattle.mx_asm_statement.specs.ValueItems.{value_with, value_in_items}
+use Rattle.mx_asm_statement.specs.ValueItems.{value_of_parts, value_in_items}
 
 abbrev pub scale_of_number : ℕ → Option Scale
 scale_of_number n =
@@ -23,7 +23,7 @@ scale_of_number n =
 
 -- the value behind a register: left out, behind a plus and without a sign, or -n
 abbrev pub displacement_after : List Item → Option Value
-displacement_after [] = value_with None false 0
+displacement_after [] = value_of_parts None false 0
 displacement_after (items.Mark Plus ∷ items.Mark Minus ∷ ts) = None
 displacement_after (items.Mark Plus ∷ ts) = value_in_items ts
 displacement_after (items.Mark Minus ∷ ts) = value_in_items (items.Mark Minus ∷ ts)
@@ -45,11 +45,11 @@ address_with_base base ts = do
 
 -- index*scale, base+index*scale, base+index (of scale 1), base, of registers of 32 bits, each with a value behind it or
 -- without; or a value alone
-abbrev pub address_of : List Item → Option Address
-address_of (items.Register Dword i ∷ items.Mark Star ∷ items.Number n ∷ ts) = address_with_index None i (scale_of_number n) ts
-address_of (items.Register Dword b ∷ items.Mark Plus ∷ items.Register Dword i ∷ items.Mark Star ∷ items.Number n ∷ ts) = address_with_index (Some b) i (scale_of_number n) ts
-address_of (items.Register Dword b ∷ items.Mark Plus ∷ items.Register Dword i ∷ ts) = address_with_index (Some b) i (Some scales.One) ts
-address_of (items.Register Dword b ∷ ts) = address_with_base b ts
-address_of ts = do
+abbrev pub address_in_brackets : List Item → Option Address
+address_in_brackets (items.Register Dword i ∷ items.Mark Star ∷ items.Number n ∷ ts) = address_with_index None i (scale_of_number n) ts
+address_in_brackets (items.Register Dword b ∷ items.Mark Plus ∷ items.Register Dword i ∷ items.Mark Star ∷ items.Number n ∷ ts) = address_with_index (Some b) i (scale_of_number n) ts
+address_in_brackets (items.Register Dword b ∷ items.Mark Plus ∷ items.Register Dword i ∷ ts) = address_with_index (Some b) i (Some scales.One) ts
+address_in_brackets (items.Register Dword b ∷ ts) = address_with_base b ts
+address_in_brackets ts = do
   v ← value_in_items ts
   Some (record { base = None; index = None; value = v })

@@ -8,7 +8,7 @@ use Rattle.mx_asm_statement.specs.declared.argument.Argument.{Argument}
 use Rattle.mx_asm_statement.specs.declared.argument.Argument.TheVariants as arguments
 use Rattle.mx_asm_statement.specs.Items.{◌>>=◌}
 use Rattle.mx_asm_statement.specs.ValueItems.{value_in_items}
-use Rattle.mx_asm_statement.specs.Addresses.{address_of}
+use Rattle.mx_asm_statement.specs.Addresses.{address_in_brackets}
 
 abbrev pub is_close : Item → Bool
 is_close (items.Mark marks.Close) = true
@@ -25,7 +25,7 @@ before_close (t ∷ u ∷ ts) = do
 abbrev pub argument_in_brackets : Option Size → List Item → Option Argument
 argument_in_brackets size ts = do
   inside ← before_close ts
-  a ← address_of inside
+  a ← address_in_brackets inside
   Some (arguments.Memory size a)
 
 -- a register; a place in brackets, with a size word before it or without; a value

@@ -4,7 +4,7 @@ ghost use Rattle.std.specs.Prelude.{◌≡◌, ◌∷◌};
 ghost use Rattle.mx_word.specs.declared.size.Size.TheVariants as sizes;
 ghost use Rattle.mx_lex.specs.declared.kinds.Mark.TheVariants as marks;
 ghost use Rattle.mx_asm_statement.specs.declared.item.Item.TheVariants as item;
-ghost use Rattle.mx_asm_statement.specs.Addresses.{scale_of_number, displacement_after, address_with_index, address_with_base, address_of};
+ghost use Rattle.mx_asm_statement.specs.Addresses.{scale_of_number, displacement_after, address_with_index, address_with_base, address_in_brackets};
 
 use crate::Value;
 use crate::item::Item;
@@ -84,7 +84,7 @@ fn based(base: Register, items: &[Item]) -> Option<Address>
 
 /// The place behind a base, a plus and a second register.
 fn behind_two(base: Register, register: Register, items: &[Item]) -> Option<Address>
-    ensures { result ≡ address_of (item.Register sizes.Dword base ∷ item.Mark marks.Plus ∷ item.Register sizes.Dword register ∷ items.now) }
+    ensures { result ≡ address_in_brackets (item.Register sizes.Dword base ∷ item.Mark marks.Plus ∷ item.Register sizes.Dword register ∷ items.now) }
 {
     match items.split_first() {
         Some((Item::Mark(Mark::Star), rest)) => match rest.split_first() {
@@ -99,7 +99,7 @@ fn behind_two(base: Register, register: Register, items: &[Item]) -> Option<Addr
 
 /// The place behind a register, which is an index where `*n` follows, else the base.
 fn behind_register(register: Register, items: &[Item]) -> Option<Address>
-    ensures { result ≡ address_of (item.Register sizes.Dword register ∷ items.now) }
+    ensures { result ≡ address_in_brackets (item.Register sizes.Dword register ∷ items.now) }
 {
     match items.split_first() {
         Some((Item::Mark(Mark::Star), rest)) => match rest.split_first() {
@@ -116,7 +116,7 @@ fn behind_register(register: Register, items: &[Item]) -> Option<Address>
 
 /// The place in memory that items between brackets say.
 pub fn address_of(items: &[Item]) -> Option<Address>
-    ensures { result ≡ address_of items.now }
+    ensures { result ≡ address_in_brackets items.now }
 {
     match items.split_first() {
         Some((Item::Register(Size::Dword, register), rest)) => behind_register(*register, rest),

@@ -56,8 +56,8 @@ abbrev pub SaysNothing : List (List ℕ) → Type 0
 SaysNothing fs = (item : ConfigItem) → SaysItem fs item → ⊥
 
 -- what is said lies within a configuration's limits
-abbrev pub IsWithin : ConfigItem → Type 0
-IsWithin (Cpus n) = (1 ≤ n) × (n ≤ 8)
-IsWithin (Log n) = (1 ≤ n) × (n ≤ 1048576)
-IsWithin (Others n) = (1 ≤ n) × (n ≤ 4)
-IsWithin (Service s) = ⊤
+abbrev pub IsItemWithin : ConfigItem → Type 0
+IsItemWithin (Cpus n) = (1 ≤ n) × (n ≤ 8)
+IsItemWithin (Log n) = (1 ≤ n) × (n ≤ 1048576)
+IsItemWithin (Others n) = (1 ≤ n) × (n ≤ 4)
+IsItemWithin (Service s) = ⊤

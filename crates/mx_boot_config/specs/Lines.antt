@@ -15,24 +15,24 @@ use Rattle.mx_boot_config.specs.Above.{ItemsAbove, nothing_above}
 
 -- ---- what a line may not say below others
 
-abbrev pub is_named : List ServiceLine → Label → Bool
-is_named above label = list_any (λ (t : ServiceLine). bytes_eq t.name.name.bytes label.name.bytes) above
+abbrev pub has_service_name : List ServiceLine → Label → Bool
+has_service_name above label = list_any (λ (t : ServiceLine). bytes_eq t.name.name.bytes label.name.bytes) above
 
 -- an item, or a service's name, that stands above already
 abbrev pub is_twice : ItemsAbove → ConfigItem → Bool
 is_twice a (Cpus n) = is_some a.cpus
 is_twice a (Log n) = is_some a.log
 is_twice a (Others n) = is_some a.others
-is_twice a (Service s) = is_named a.lines s.name
+is_twice a (Service s) = has_service_name a.lines s.name
 
 -- a service below 32 others
-abbrev pub is_over : ItemsAbove → ConfigItem → Bool
-is_over a (Service s) = nat_le 32 (length a.lines)
-is_over a item = false
+abbrev pub is_service_too_many : ItemsAbove → ConfigItem → Bool
+is_service_too_many a (Service s) = nat_le 32 (length a.lines)
+is_service_too_many a item = false
 
 -- the first reason to refuse what line n says
 abbrev pub item_refusal : ℕ → ItemsAbove → ConfigItem → Option BootError
-item_refusal n a item = if is_twice a item then Some (TwiceNamed n) else if is_over a item then Some (TooMany n) else None
+item_refusal n a item = if is_twice a item then Some (TwiceNamed n) else if is_service_too_many a item then Some (TooMany n) else None
 
 abbrev pub items_with : ItemsAbove → ConfigItem → ItemsAbove
 items_with a (Cpus n) = record a { cpus = Some n }

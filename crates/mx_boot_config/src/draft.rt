@@ -3,8 +3,8 @@
 ghost use Rattle.std.specs.Prelude.{◌≡◌, ◌≢◌, [], None, IfOk, IfErr, false};
 ghost use Rattle.mx_text.specs.declared.error.BootError.TheVariants.{BadLine, NoMemory};
 ghost use Rattle.mx_boot_config.specs.Above.{ItemsAbove, nothing_above};
-ghost use Rattle.mx_boot_config.specs.Items.{IsWithin};
-ghost use Rattle.mx_boot_config.specs.Lines.{is_named, is_twice, is_over, item_refusal, items_with, IsItemTaken, TellsItemWrong, IsConfigOf};
+ghost use Rattle.mx_boot_config.specs.Items.{IsItemWithin};
+ghost use Rattle.mx_boot_config.specs.Lines.{has_service_name, is_twice, is_service_too_many, item_refusal, items_with, IsItemTaken, TellsItemWrong, IsConfigOf};
 
 use crate::item::ConfigItem;
 use crate::items::{before_comment, item_at};
@@ -47,7 +47,7 @@ impl Draft {
 
     /// Whether a service has this name.
     fn is_named(&self, name: Label) -> bool
-        ensures { result ≡ is_named self.now.lines name }
+        ensures { result ≡ has_service_name self.now.lines name }
     {
         self.lines.iter().any(|line| line.name == name)
     }
@@ -64,7 +64,7 @@ impl Draft {
     }
 
     fn is_over(&self, item: &ConfigItem) -> bool
-        ensures { result ≡ is_over self.now item.now }
+        ensures { result ≡ is_service_too_many self.now item.now }
     {
         match item {
             ConfigItem::Service(_) => self.lines.len() >= 32,
@@ -87,8 +87,8 @@ impl Draft {
 
     /// Takes an item in.
     fn go_behind(&mut self, item: ConfigItem) -> Result<(), BootError>
-        requires within { IsWithin item }
-        requires room { is_over self.old item ≡ false }
+        requires within { IsItemWithin item }
+        requires room { is_service_too_many self.old item ≡ false }
         ensures behind { IfOk result (λ _. self.new ≡ items_with self.old item) }
         ensures memory { IfErr result (λ e. e ≡ NoMemory) }
     {

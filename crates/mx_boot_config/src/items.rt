@@ -8,7 +8,7 @@ ghost use Rattle.mx_machine_world.specs.declared.config.ServiceLine.{ServiceLine
 ghost use Rattle.mx_boot_config.specs.declared.service.Terms.{Terms};
 ghost use Rattle.mx_boot_config.specs.declared.item.ConfigItem.{ConfigItem};
 ghost use Rattle.mx_boot_config.specs.Terms.{AreWithin};
-ghost use Rattle.mx_boot_config.specs.Items.{is_hash, is_stray, said_in, number_after_word, HasParts, SaysService, SaysItem, IsWithin};
+ghost use Rattle.mx_boot_config.specs.Items.{is_hash, is_stray, said_in, number_after_word, HasParts, SaysService, SaysItem, IsItemWithin};
 
 use crate::item::ConfigItem;
 use crate::service::Terms;
@@ -102,7 +102,7 @@ fn service_of(alloc: Global, line: &[u8]) -> Result<Option<ServiceLine>, AllocEr
 #[tactic(auto, using(crate::proofs::Services::only_service))]
 pub fn item_at(alloc: Global, word: &[u8], line: &[u8]) -> Result<Option<ConfigItem>, AllocError>
     ensures said { IfOk result (λ o. MatchOption o ((i : ConfigItem) → SaysItem (word.now ∷ fields line.now) i → ⊥) (SaysItem (word.now ∷ fields line.now))) }
-    ensures within { IfOk result (λ o. IfSome o IsWithin) }
+    ensures within { IfOk result (λ o. IfSome o IsItemWithin) }
 {
     if word == b"service".as_slice() {
         return match service_of(alloc, line)? {

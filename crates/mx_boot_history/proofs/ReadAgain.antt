@@ -10,7 +10,7 @@ use Rattle.mx_text.specs.NumberFields.{number_up_to}
 use Rattle.mx_boot_script.specs.declared.verb.Verb.{Verb}
 use Rattle.mx_boot_script.specs.declared.verb.Verb.TheVariants as verbs
 use Rattle.mx_boot_script.specs.Verbs.{verb_word, verb_of}
-use Rattle.mx_boot_script.specs.Words.{is_word, AreWords, joined_words, lines_of_words}
+use Rattle.mx_boot_script.specs.Words.{is_field_word, AreWords, joined_words, lines_of_words}
 use Rattle.mx_boot_script.specs.Script.{only_count, after_verb}
 use Rattle.mx_machine_world.specs.declared.history.Record.{Record}
 use Rattle.mx_machine_world.specs.declared.history.Recorded.{Recorded}
@@ -23,9 +23,9 @@ use Rattle.mx_boot_history.specs.Log.{recorded_of, record_by, record_of, record_
 pub record AreReadAgain : Type 0 where
   pub fields_again : (ws : List (List ℕ)) → AreWords ws → fields (joined_words ws) ≡ ws
   pub lines_again : (lists : List (List (List ℕ))) → AllByRecursion AreWords lists → lines (lines_of_words lists) ≡ map joined_words lists
-  pub word_again : (n : ℕ) → n < 2 ^ 64 → is_word (decimal n) ≡ true
+  pub word_again : (n : ℕ) → n < 2 ^ 64 → is_field_word (decimal n) ≡ true
   pub number_again : (limit n : ℕ) → n ≤ limit → n < 2 ^ 64 → number_up_to limit 10 (decimal n) ≡ Some n
-  pub verb_word_again : (v : Verb) → is_word (verb_word v) ≡ true
+  pub verb_word_again : (v : Verb) → is_field_word (verb_word v) ≡ true
   pub verb_again : (v : Verb) → verb_of (verb_word v) ≡ Some v
 
 chosen : {A : Type 0} (c : Bool) (a b : A) → c ≡ true → cond c a b ≡ a

@@ -11,7 +11,7 @@ use Rattle.mx_text.specs.Bytes.{is_between, digit_value}
 use Rattle.mx_text.specs.Numbers.{value_from}
 use Rattle.mx_text.specs.Fields.{has_bytes}
 use Rattle.mx_text.specs.NumberFields.{spells_up_to, number_up_to}
-use Rattle.mx_boot_script.specs.Words.{is_word_byte_of_script, is_word}
+use Rattle.mx_boot_script.specs.Words.{is_word_byte_of_script, is_field_word}
 use Rattle.mx_boot_script.proofs.WrittenWords.{both, and_true}
 
 le_true : (a b : ℕ) → a ≤ b → nat_le a b ≡ true
@@ -45,8 +45,8 @@ bytes_before (d ∷ ds) es h = refl
 all_with : (p : ℕ → Bool) (ds : List ℕ) (d : ℕ) → list_all p ds ≡ true → p d ≡ true → list_all p (ds ++ d ∷ []) ≡ true
 all_with p ds d h g = list_all-append p ds (d ∷ []) ∙ and_true (list_all p ds) (p d && true) h (and_true (p d) true g refl)
 
-pub decimal_is_word : (n : ℕ) → n < 2 ^ 64 → is_word (decimal n) ≡ true
-decimal_is_word = decimal_by_steps (λ n ds. is_word ds ≡ true)
+pub decimal_is_word : (n : ℕ) → n < 2 ^ 64 → is_field_word (decimal n) ≡ true
+decimal_is_word = decimal_by_steps (λ n ds. is_field_word ds ≡ true)
     (λ n h. and_true true (is_word_byte_of_script (48 + n) && true) refl (and_true (is_word_byte_of_script (48 + n)) true (digit_plain n h) refl))
     (λ n ds ge h. let p = both (has_bytes ds) (list_all is_word_byte_of_script ds) h in
     and_true (has_bytes (ds ++ (48 + n % 10) ∷ [])) (list_all is_word_byte_of_script (ds ++ (48 + n % 10) ∷ []))

@@ -9,7 +9,7 @@ use Rattle.mx_text.specs.Fields.{is_space, has_bytes, fields}
 use Rattle.mx_boot_script.specs.declared.verb.Verb.{Verb}
 use Rattle.mx_boot_script.specs.declared.verb.Verb.TheVariants.{Step, Take, Back, Line, Tick, Kill, Respawn, Break, Clear, Go, Registers, Memory, Messages}
 use Rattle.mx_boot_script.specs.Verbs.{verb_word}
-use Rattle.mx_boot_script.specs.Words.{is_word_byte_of_script, is_word, AreWords, joined_words, lines_of_words}
+use Rattle.mx_boot_script.specs.Words.{is_word_byte_of_script, is_field_word, AreWords, joined_words, lines_of_words}
 
 pub both : (a b : Bool) → (a && b) ≡ true → (a ≡ true) × (b ≡ true)
 both true true h = (refl, refl)
@@ -95,7 +95,7 @@ lines_of_written (ws ∷ lists) h =
     ∙ line_ended (joined_words ws) (lines_of_words lists) (feedless_joined ws h.0)
     ∙ ap (λ ls. joined_words ws ∷ ls) (lines_of_written lists h.1)
 
-pub verb_is_word : (v : Verb) → is_word (verb_word v) ≡ true
+pub verb_is_word : (v : Verb) → is_field_word (verb_word v) ≡ true
 verb_is_word Step = refl
 verb_is_word Take = refl
 verb_is_word Back = refl

@@ -8,11 +8,11 @@ abbrev pub is_word_byte_of_script : ℕ → Bool
 is_word_byte_of_script b = not (b == 32 || b == 10)
 
 -- a word that may be a field
-abbrev pub is_word : List ℕ → Bool
-is_word w = has_bytes w && list_all is_word_byte_of_script w
+abbrev pub is_field_word : List ℕ → Bool
+is_field_word w = has_bytes w && list_all is_word_byte_of_script w
 
 abbrev pub AreWords : List (List ℕ) → Type 0
-AreWords ws = AllByRecursion (λ w. is_word w ≡ true) ws
+AreWords ws = AllByRecursion (λ w. is_field_word w ≡ true) ws
 
 -- words with one space between two
 abbrev pub joined_words : List (List ℕ) → List ℕ

@@ -8,7 +8,7 @@ ghost use Rattle.mx_text.specs.Fields.{fields};
 ghost use Rattle.mx_text.specs.NumberFields.{number_up_to};
 ghost use Rattle.mx_boot_script.specs.declared.verb.Verb.{Verb};
 ghost use Rattle.mx_boot_script.specs.Verbs.{verb_word, verb_of};
-ghost use Rattle.mx_boot_script.specs.Words.{is_word, AreWords, joined_words, lines_of_words};
+ghost use Rattle.mx_boot_script.specs.Words.{is_field_word, AreWords, joined_words, lines_of_words};
 
 /// Words that are parted by spaces are the fields of their line, and lines of words that are ended
 /// by line feeds are the lines of their text.
@@ -19,12 +19,12 @@ pub fn words_again()
 
 /// The decimal text of a number is a word that spells it.
 pub fn number_again()
-    ensures word { (n : ℕ) → n < 2 ^ 64 → is_word (decimal n) ≡ true }
+    ensures word { (n : ℕ) → n < 2 ^ 64 → is_field_word (decimal n) ≡ true }
     ensures number { (limit n : ℕ) → n ≤ limit → n < 2 ^ 64 → number_up_to limit 10 (decimal n) ≡ Some n }
 {}
 
 /// The word of a verb is a word, and that verb's.
 pub fn verb_again()
-    ensures word { (v : Verb) → is_word (verb_word v) ≡ true }
+    ensures word { (v : Verb) → is_field_word (verb_word v) ≡ true }
     ensures verb { (v : Verb) → verb_of (verb_word v) ≡ Some v }
 {}

@@ -11,8 +11,8 @@ use Rattle.mx_debug.specs.declared.points.Breakpoint.{Breakpoint}
 use Rattle.mx_debug.specs.declared.halt.HaltCause.{HaltCause}
 use Rattle.mx_debug.specs.declared.halt.HaltCause.TheVariants as cause
 use Rattle.mx_debug.specs.declared.halt.Halt.{Halt}
-use Rattle.mx_debug.specs.Points.{is_at, stands, has_any}
-use Rattle.mx_debug.specs.Halts.{held_after, is_stop, is_over, is_reached, is_end, is_spent, least_from, steps_to_halt, cause_of, Halts}
+use Rattle.mx_debug.specs.Points.{is_at, has_breakpoint, has_any}
+use Rattle.mx_debug.specs.Halts.{held_after, has_stopped, is_over, is_reached, is_end, is_spent, least_from, steps_to_halt, cause_of, Halts}
 use Rattle.mx_debug.proofs.Running.{Joins, run_count, run_stop, run_all, over_none, none_same, before_over, IsFront, run_front}
 
 -- ---- the least number
@@ -64,11 +64,11 @@ or_none false b e = (refl, e)
 and_none : (a b : Bool) → a ≡ false → (a && b) ≡ false
 and_none a b e = ap (λ (x : Bool). x && b) e
 
-none_stands : (points : List Breakpoint) (slot address : ℕ) → has_any points slot ≡ false → stands points slot address ≡ false
+none_stands : (points : List Breakpoint) (slot address : ℕ) → has_any points slot ≡ false → has_breakpoint points slot address ≡ false
 none_stands [] slot address e = refl
 none_stands (p ∷ points) slot address e =
     let both = or_none (p.slot == slot) (has_any points slot) e in
-    or_false (is_at slot address p) (stands points slot address) (and_none (p.slot == slot) (p.address == address) both.0) (none_stands points slot address both.1)
+    or_false (is_at slot address p) (has_breakpoint points slot address) (and_none (p.slot == slot) (p.address == address) both.0) (none_stands points slot address both.1)
 
 and_right : (a b : Bool) → b ≡ false → (a && b) ≡ false
 and_right true b e = e
@@ -77,7 +77,7 @@ and_right false b e = refl
 none_reached : (points : List Breakpoint) (slot n k : ℕ) (o : Out) → n ≤ k → (k ≡ 0) ⊎ (has_any points slot ≡ false) → is_reached points slot n o ≡ false
 none_reached points slot zero k o le h = refl
 none_reached points slot (suc n) k o le (inl e) = absurd (omega (arith, e))
-none_reached points slot (suc n) k o le (inr e) = and_right (nat_lt 0 (suc n)) (stands points slot o.image.eip) (none_stands points slot o.image.eip e)
+none_reached points slot (suc n) k o le (inr e) = and_right (nat_lt 0 (suc n)) (has_breakpoint points slot o.image.eip) (none_stands points slot o.image.eip e)
 
 -- all steps at once
 pub run_halts : Joins → (k n : ℕ) (s : Stop) (o left : Out) (c : HaltCause) → held_run k o ≡ ((n, s), left) → c ≡ cause_of s false
@@ -126,7 +126,7 @@ pub record Stepped (points : List Breakpoint) (slot c : ℕ) (o here : Out) : Ty
   pub here_is : held_after c o ≡ here
   pub before : (i : ℕ) → i < c → is_end points slot o i ≡ false
   pub not_reached : is_reached points slot c here ≡ false
-  pub goes : c ≢ 0 → is_stop here.stop ≡ false
+  pub goes : c ≢ 0 → has_stopped here.stop ≡ false
 
 pub stepped_start : (points : List Breakpoint) (slot : ℕ) (o : Out) → Stepped points slot 0 o o
 stepped_start points slot o =
@@ -196,20 +196,20 @@ one_more law points slot c o here left s n x run some = record {
     by_order i (inl l) p = x.before i l
     by_order i (inr l) p = let e : c ≡ i = omega arith in subst (λ (y : ℕ). is_end points slot o y ≡ false) e here_no_end
 
-reached_by : (points : List Breakpoint) (slot c : ℕ) (o : Out) → is_reached points slot (c + 1) o ≡ stands points slot o.image.eip
+reached_by : (points : List Breakpoint) (slot c : ℕ) (o : Out) → is_reached points slot (c + 1) o ≡ has_breakpoint points slot o.image.eip
 reached_by points slot c o = by_case (leb_tells 1 (c + 1))
   where
-    by_case : ((nat_le 1 (c + 1) ≡ true) × (1 ≤ c + 1)) ⊎ ((nat_le 1 (c + 1) ≡ false) × (c + 1 < 1)) → is_reached points slot (c + 1) o ≡ stands points slot o.image.eip
-    by_case (inl p) = let e : nat_lt 0 (c + 1) ≡ true = p.0 in ap (λ (b : Bool). b && stands points slot o.image.eip) e
+    by_case : ((nat_le 1 (c + 1) ≡ true) × (1 ≤ c + 1)) ⊎ ((nat_le 1 (c + 1) ≡ false) × (c + 1 < 1)) → is_reached points slot (c + 1) o ≡ has_breakpoint points slot o.image.eip
+    by_case (inl p) = let e : nat_lt 0 (c + 1) ≡ true = p.0 in ap (λ (b : Bool). b && has_breakpoint points slot o.image.eip) e
     by_case (inr p) = absurd (omega (arith, p.1))
 
-ends_if : (s : Stop) (reached : Bool) → is_spent (cause_of s reached) ≡ false → (is_stop s ≡ true) ⊎ (reached ≡ true)
+ends_if : (s : Stop) (reached : Bool) → is_spent (cause_of s reached) ≡ false → (has_stopped s ≡ true) ⊎ (reached ≡ true)
 ends_if stop.Trap reached e = inl refl
 ends_if (stop.Fault v) reached e = inl refl
 ends_if stop.Spent true e = inr refl
 ends_if stop.Spent false e = absurd cc
 
-goes_if : (s : Stop) (reached : Bool) → is_spent (cause_of s reached) ≡ true → (is_stop s ≡ false) × (reached ≡ false)
+goes_if : (s : Stop) (reached : Bool) → is_spent (cause_of s reached) ≡ true → (has_stopped s ≡ false) × (reached ≡ false)
 goes_if stop.Trap reached e = absurd cc
 goes_if (stop.Fault v) reached e = absurd cc
 goes_if stop.Spent true e = absurd cc
@@ -217,7 +217,7 @@ goes_if stop.Spent false e = (refl, refl)
 
 -- the step was the last
 pub step_halts : (points : List Breakpoint) (slot k c : ℕ) (o here left : Out) (s : Stop) (n : ℕ) (reached : Bool) (told : HaltCause) → OneMore points slot c o left → c < k
-    → held_run 1 here ≡ ((n, s), left) → reached ≡ stands points slot left.image.eip → told ≡ cause_of s reached → is_spent told ≡ false
+    → held_run 1 here ≡ ((n, s), left) → reached ≡ has_breakpoint points slot left.image.eip → told ≡ cause_of s reached → is_spent told ≡ false
     → Halts points slot k o (record { count = c + 1; cause = told }) left
 step_halts points slot k c o here left s n reached told x less run there t ends =
     halts_by points slot k o left (record { count = c + 1; cause = told }) (omega arith) x.before (inr (by_end (ends_if s reached (sym (ap is_spent t) ∙ ends)))) x.made x.left_is
@@ -229,13 +229,13 @@ step_halts points slot k c o here left s n reached told x less run there t ends 
     reached_is : reached ≡ is_reached points slot (c + 1) left
     reached_is = there ∙ sym (reached_by points slot c left)
 
-    by_end : (is_stop s ≡ true) ⊎ (reached ≡ true) → is_end points slot o (c + 1) ≡ true
-    by_end (inl e) = ap (λ (y : Out). is_over y || is_reached points slot (c + 1) y) x.left_is ∙ or_over (is_over left) (is_reached points slot (c + 1) left) (or_over (is_stop left.stop) (nat_le left.budget left.count) (ap is_stop (sym stop_is) ∙ e))
+    by_end : (has_stopped s ≡ true) ⊎ (reached ≡ true) → is_end points slot o (c + 1) ≡ true
+    by_end (inl e) = ap (λ (y : Out). is_over y || is_reached points slot (c + 1) y) x.left_is ∙ or_over (is_over left) (is_reached points slot (c + 1) left) (or_over (has_stopped left.stop) (nat_le left.budget left.count) (ap has_stopped (sym stop_is) ∙ e))
     by_end (inr e) = ap (λ (y : Out). is_over y || is_reached points slot (c + 1) y) x.left_is ∙ or_reached (is_over left) (is_reached points slot (c + 1) left) (sym reached_is ∙ e)
 
 -- the step wasn't the last
 pub step_goes : (points : List Breakpoint) (slot c : ℕ) (o here left : Out) (s : Stop) (n : ℕ) (reached : Bool) (told : HaltCause) → OneMore points slot c o left
-    → held_run 1 here ≡ ((n, s), left) → reached ≡ stands points slot left.image.eip → told ≡ cause_of s reached → is_spent told ≡ true
+    → held_run 1 here ≡ ((n, s), left) → reached ≡ has_breakpoint points slot left.image.eip → told ≡ cause_of s reached → is_spent told ≡ true
     → Stepped points slot (c + 1) o left
 step_goes points slot c o here left s n reached told x run there t goes =
     let two = goes_if s reached (sym (ap is_spent t) ∙ goes) in
@@ -245,14 +245,14 @@ step_goes points slot c o here left s n reached told x run there t goes =
       here_is = x.left_is;
       before = x.before;
       not_reached = reached_by points slot c left ∙ sym there ∙ two.1;
-      goes = λ _. sym (ap is_stop stop_is) ∙ two.0;
+      goes = λ _. sym (ap has_stopped stop_is) ∙ two.0;
     }
 
 pub not_any : (a b v : Bool) → a ≡ b → v ≡ not a → v ≡ true → b ≡ false
 not_any true b v e f g = let h : true ≡ false = sym g ∙ f in absurd cc
 not_any false b v e f g = sym e
 
-spent_cause : (s : Stop) → is_stop s ≡ false → cause.Spent ≡ cause_of s false
+spent_cause : (s : Stop) → has_stopped s ≡ false → cause.Spent ≡ cause_of s false
 spent_cause stop.Spent e = refl
 spent_cause stop.Trap e = absurd cc
 spent_cause (stop.Fault v) e = absurd cc

@@ -12,7 +12,7 @@ use Rattle.mx_image.specs.declared.runs.Stop.TheVariants as stop
 use Rattle.mx_image.specs.Run.{run_of, RunEnd, run_end_from}
 use Rattle.mx_machine_kernel.specs.Out.{Out}
 use Rattle.mx_machine_kernel.specs.Held.{held_run, then_held, run_by_stop, out_after_run}
-use Rattle.mx_debug.specs.Halts.{held_after, is_stop, is_over}
+use Rattle.mx_debug.specs.Halts.{held_after, has_stopped, is_over}
 
 -- runs of what is held join
 abbrev pub Joins : Type 0
@@ -79,19 +79,19 @@ or_true_right : (a b : Bool) → b ≡ true → (a || b) ≡ true
 or_true_right true b e = refl
 or_true_right false b e = e
 
-stopped_is_over : (o : Out) → is_stop o.stop ≡ true → is_over o ≡ true
-stopped_is_over o e = or_true (is_stop o.stop) (nat_le o.budget o.count) e
+stopped_is_over : (o : Out) → has_stopped o.stop ≡ true → is_over o ≡ true
+stopped_is_over o e = or_true (has_stopped o.stop) (nat_le o.budget o.count) e
 
 spent_is_over : (o : Out) → o.budget ≤ o.count → is_over o ≡ true
-spent_is_over o e = or_true_right (is_stop o.stop) (nat_le o.budget o.count) (by_case (leb_tells o.budget o.count))
+spent_is_over o e = or_true_right (has_stopped o.stop) (nat_le o.budget o.count) (by_case (leb_tells o.budget o.count))
   where
     by_case : ((nat_le o.budget o.count ≡ true) × (o.budget ≤ o.count)) ⊎ ((nat_le o.budget o.count ≡ false) × (o.count < o.budget)) → nat_le o.budget o.count ≡ true
     by_case (inl p) = p.0
     by_case (inr p) = absurd (omega (arith, p.1))
 
 left_by : (k : ℕ) (o : Out) (r : RunEnd) (s : Stop) → r.stop ≡ s → (s ≡ stop.Spent → r.count ≡ min k (o.budget - o.count)) → (r.count ≡ k) ⊎ (is_over (out_after_run o r).1 ≡ true)
-left_by k o r stop.Trap e n = inr (stopped_is_over (out_after_run o r).1 (ap is_stop e))
-left_by k o r (stop.Fault v) e n = inr (stopped_is_over (out_after_run o r).1 (ap is_stop e))
+left_by k o r stop.Trap e n = inr (stopped_is_over (out_after_run o r).1 (ap has_stopped e))
+left_by k o r (stop.Fault v) e n = inr (stopped_is_over (out_after_run o r).1 (ap has_stopped e))
 left_by k o r stop.Spent e n = by_order (cases_lt (o.budget - o.count) k)
   where
     by_order : (o.budget - o.count < k) ⊎ (k ≤ o.budget - o.count) → (r.count ≡ k) ⊎ (is_over (out_after_run o r).1 ≡ true)
@@ -102,8 +102,8 @@ all_by : (k : ℕ) (o : Out) (s : Stop) → o.stop ≡ s → ((held_run k o).0.0
 all_by k o stop.Spent e =
     let r = run_of (min k (o.budget - o.count)) o.image in
     subst (λ (x : (ℕ × Stop) × Out). (x.0.0 ≡ k) ⊎ (is_over x.1 ≡ true)) (sym (by_stop k o stop.Spent e)) (left_by k o r r.stop refl (ran_spent (min k (o.budget - o.count)) o.image))
-all_by k o stop.Trap e = inr (subst (λ (x : (ℕ × Stop) × Out). is_over x.1 ≡ true) (sym (by_stop k o stop.Trap e)) (stopped_is_over o (ap is_stop e)))
-all_by k o (stop.Fault v) e = inr (subst (λ (x : (ℕ × Stop) × Out). is_over x.1 ≡ true) (sym (by_stop k o (stop.Fault v) e)) (stopped_is_over o (ap is_stop e)))
+all_by k o stop.Trap e = inr (subst (λ (x : (ℕ × Stop) × Out). is_over x.1 ≡ true) (sym (by_stop k o stop.Trap e)) (stopped_is_over o (ap has_stopped e)))
+all_by k o (stop.Fault v) e = inr (subst (λ (x : (ℕ × Stop) × Out). is_over x.1 ≡ true) (sym (by_stop k o (stop.Fault v) e)) (stopped_is_over o (ap has_stopped e)))
 
 -- all steps that it may make, or no further one can be made
 pub run_all : (k : ℕ) (o : Out) → ((held_run k o).0.0 ≡ k) ⊎ (is_over (held_after k o) ≡ true)
@@ -116,7 +116,7 @@ over_by : (k : ℕ) (o : Out) (s : Stop) → o.stop ≡ s → is_over o ≡ true
 over_by k o stop.Trap e h = ap (λ (x : (ℕ × Stop) × Out). x.0.0) (by_stop k o stop.Trap e)
 over_by k o (stop.Fault v) e h = ap (λ (x : (ℕ × Stop) × Out). x.0.0) (by_stop k o (stop.Fault v) e)
 over_by k o stop.Spent e h =
-    let t : nat_le o.budget o.count ≡ true = or_left (is_stop o.stop) (nat_le o.budget o.count) (ap is_stop e) h in
+    let t : nat_le o.budget o.count ≡ true = or_left (has_stopped o.stop) (nat_le o.budget o.count) (ap has_stopped e) h in
     let l : o.budget ≤ o.count = by_case (leb_tells o.budget o.count) t in
     let n = ran_count (min k (o.budget - o.count)) o.image in
     let f = ap (λ (x : (ℕ × Stop) × Out). x.0.0) (by_stop k o stop.Spent e) in

@@ -8,24 +8,24 @@ use Rattle.mx_debug.specs.declared.points.Breakpoint.{Breakpoint}
 use Rattle.mx_debug.specs.declared.halt.HaltCause.{HaltCause}
 use Rattle.mx_debug.specs.declared.halt.HaltCause.TheVariants as cause
 use Rattle.mx_debug.specs.declared.halt.Halt.{Halt}
-use Rattle.mx_debug.specs.Points.{stands}
+use Rattle.mx_debug.specs.Points.{has_breakpoint}
 
 -- what is held after so many steps
 abbrev pub held_after : ℕ → Out → Out
 held_after n o = (held_run n o).1
 
-abbrev pub is_stop : Stop → Bool
-is_stop stop.Spent = false
-is_stop stop.Trap = true
-is_stop (stop.Fault v) = true
+abbrev pub has_stopped : Stop → Bool
+has_stopped stop.Spent = false
+has_stopped stop.Trap = true
+has_stopped (stop.Fault v) = true
 
 -- no further step can be made: a trap, a fault, a spent budget
 abbrev pub is_over : Out → Bool
-is_over o = is_stop o.stop || nat_le o.budget o.count
+is_over o = has_stopped o.stop || nat_le o.budget o.count
 
 -- after one step or more, EIP is at a breakpoint
 abbrev pub is_reached : List Breakpoint → ℕ → ℕ → Out → Bool
-is_reached points slot n o = nat_lt 0 n && stands points slot o.image.eip
+is_reached points slot n o = nat_lt 0 n && has_breakpoint points slot o.image.eip
 
 abbrev pub is_end : List Breakpoint → ℕ → Out → ℕ → Bool
 is_end points slot o n = is_over (held_after n o) || is_reached points slot n (held_after n o)

@@ -32,11 +32,11 @@ abbrev pub laid : Choice → Encoding
 laid c = record { resized = c.resized; repeat = c.repeat; escaped = c.row.escaped; opcode = opcode c.row c.number; rm = c.rm; immediate = c.immediate }
 
 -- what a function returned is what was chosen
-abbrev pub Gives : Result Encoding NoForm → Option Choice → Type 0
-Gives (Ok f) (Some c) = f ≡ laid c
-Gives (Ok f) None = ⊥
-Gives (Err e) (Some c) = ⊥
-Gives (Err e) None = Unit {0}
+abbrev pub GivesBytes : Result Encoding NoForm → Option Choice → Type 0
+GivesBytes (Ok f) (Some c) = f ≡ laid c
+GivesBytes (Ok f) None = ⊥
+GivesBytes (Err e) (Some c) = ⊥
+GivesBytes (Err e) None = Unit {0}
 
 -- a reg field has three bits
 abbrev pub RegFits : Option Rm → Type 0

@@ -1,7 +1,7 @@
 //! The form that an instruction and its marks take.
 
 ghost use Rattle.mx_encode.specs.Choice.{choice};
-ghost use Rattle.mx_encode.specs.Given.{Gives, Fits};
+ghost use Rattle.mx_encode.specs.Given.{GivesBytes, Fits};
 
 use crate::forms::Encoding;
 use crate::{NoForm, Wide, accumulator, jumps, operands, single};
@@ -9,7 +9,7 @@ use mx_insn::Insn;
 
 /// The form that is chosen. Only how far LOOP and JECXZ go can rule one out.
 pub fn form_of(insn: Insn, wide: Wide) -> Result<Encoding, NoForm>
-    ensures form { Gives result (choice insn wide) }
+    ensures form { GivesBytes result (choice insn wide) }
     ensures fits { Fits insn }
 {
     match insn {

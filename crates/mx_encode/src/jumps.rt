@@ -3,7 +3,7 @@
 ghost use Rattle.std.specs.Prelude.{◌≡◌};
 ghost use Rattle.mx_insn.specs.Table.{loop_opcode};
 ghost use Rattle.mx_encode.specs.Choice.{jump_if, jump_choice, call_choice, jump_to, call_to, loop_choice, return_choice, interrupt_choice};
-ghost use Rattle.mx_encode.specs.Given.{laid, Gives, OperandFits};
+ghost use Rattle.mx_encode.specs.Given.{laid, GivesBytes, OperandFits};
 
 use crate::NoForm;
 use crate::fields::Number;
@@ -71,7 +71,7 @@ fn loop_opcode(operation: Loop) -> u8
 
 /// LOOPNE, LOOPE, LOOP, JECXZ.
 pub fn looping(operation: Loop, displacement: u32) -> Result<Encoding, NoForm>
-    ensures { Gives result (loop_choice operation displacement) }
+    ensures { GivesBytes result (loop_choice operation displacement) }
 {
     if !is_short(Size::Dword, displacement) {
         return Err(NoForm);

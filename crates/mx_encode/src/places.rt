@@ -5,7 +5,7 @@ ghost use Rattle.mx_word.specs.Word.{bytes_of};
 ghost use Rattle.mx_word.specs.Names.{register_number};
 ghost use Rattle.mx_insn.specs.Spelling.{displacement_length};
 ghost use Rattle.mx_encode.specs.Numbers.{number_bytes};
-ghost use Rattle.mx_encode.specs.Places.{base_number, sib_of, rm_number, mode_behind, mode_of, memory_place, place_of, can_index, can_stand, has_place};
+ghost use Rattle.mx_encode.specs.Places.{base_number, sib_of, rm_number, mode_behind, mode_of, memory_place, place_written, can_index, can_stand, has_place};
 ghost use Rattle.mx_encode.specs.Given.{sib_seen, place_seen};
 
 use crate::fields::{Number, Rm, RmFields, Sib};
@@ -98,7 +98,7 @@ fn memory_place(reg: u8, memory: Memory, long: bool) -> RmFields
 /// Where the operand stands.
 pub fn place_of(rm: Rm, long: bool) -> RmFields
     requires { rm.reg < 8 }
-    ensures { place_seen result ≡ place_of rm.reg rm.operand long }
+    ensures { place_seen result ≡ place_written rm.reg rm.operand long }
 {
     match rm.operand {
         Operand::Register(register) => RmFields {

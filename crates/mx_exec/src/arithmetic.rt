@@ -4,7 +4,7 @@ ghost use Rattle.std.specs.Prelude.{◌≡◌, ◌^◌, ◌<◌, Ok, Err};
 ghost use Rattle.mx_word.specs.Word.{width};
 ghost use Rattle.mx_exec.specs.Image.{Performs};
 ghost use Rattle.mx_exec.specs.Accumulator.{upper_register, with_halves, image_after_multiply, quotient_taken, product_taken};
-ghost use Rattle.mx_exec.specs.Step.{after, image_with_result, image_after_test, image_after_factor, shift_count};
+ghost use Rattle.mx_exec.specs.Step.{after, image_with_result, image_after_test, image_after_factor, count_of_shift};
 
 use crate::Image;
 use crate::operands::{immediate_size, immediate_value, size_of, wide_size, wide_value};
@@ -235,7 +235,7 @@ pub fn unary_operation(
 
 /// How far a shift goes.
 fn count_of(image: &Image, count: Count) -> u32
-    ensures { result ≡ shift_count count image.now }
+    ensures { result ≡ count_of_shift count image.now }
 {
     match count {
         Count::Cl => image.regs.get(Size::Byte, Register::Ecx),

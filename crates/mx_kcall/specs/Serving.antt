@@ -4,7 +4,7 @@ use Rattle.mx_proc.specs.declared.errors.Errno.{Errno}
 use Rattle.mx_proc.specs.declared.process.DeathCause.TheVariants as cause
 use Rattle.mx_proc.specs.Errors.{errno_bits}
 use Rattle.mx_proc.specs.TableState.{TableState, process_at, endpoint_of, with_message}
-use Rattle.mx_proc.specs.Serving.{with_alarm, with_owner, with_register, with_console_byte, with_copy}
+use Rattle.mx_proc.specs.Serving.{with_alarm, with_owner, with_device_register, with_console_byte, with_copy}
 use Rattle.mx_ipc.specs.Calls.{goes_on}
 use Rattle.mx_respawn.specs.Death.{table_after_death}
 use Rattle.mx_kcall.specs.declared.request.ReplyWords.{ReplyWords}
@@ -31,7 +31,7 @@ table_after_change w s Times = w
 table_after_change w s (SetAlarm delay) = with_alarm w s (due_after w.uptime delay)
 table_after_change w s (Irqctl action line) = with_owner w line (if action == 1 then Some s else None)
 -- register 0 is the console
-table_after_change w s (Devio action register value) = if action == 0 then w else if register == 0 then with_console_byte w (value % 256) else with_register w register value
+table_after_change w s (Devio action register value) = if action == 0 then w else if register == 0 then with_console_byte w (value % 256) else with_device_register w register value
 table_after_change w s (Vircopy from at to place count) = with_copy w (from % 1024) at (to % 1024) place count
 table_after_change w s (Kill endpoint) = table_after_death w (endpoint % 1024) cause.Kill
 table_after_change w s (Whois slot) = w

@@ -104,10 +104,10 @@ written_size operand_sizes.Word = Word
 written_size operand_sizes.Dword = Dword
 
 -- a number's size and the number itself, unsigned
-abbrev pub immediate_size : Immediate → Size
-immediate_size (immediates.Byte n) = Byte
-immediate_size (immediates.Word n) = Word
-immediate_size (immediates.Dword n) = Dword
+abbrev pub printed_size : Immediate → Size
+printed_size (immediates.Byte n) = Byte
+printed_size (immediates.Word n) = Word
+printed_size (immediates.Dword n) = Dword
 
 abbrev pub immediate_number : Immediate → ℕ
 immediate_number (immediates.Byte n) = n
@@ -117,7 +117,7 @@ immediate_number (immediates.Dword n) = n
 abbrev pub written_pair : Operands → List Written
 written_pair (operands.ToRegister size to from) = written.Register size to ∷ written_operand size from ∷ []
 written_pair (operands.ToMemory size to from) = written.Memory size to ∷ written.Register size from ∷ []
-written_pair (operands.Immediate to n) = written_operand (immediate_size n) to ∷ written.Number (immediate_number n) ∷ []
+written_pair (operands.Immediate to n) = written_operand (printed_size n) to ∷ written.Number (immediate_number n) ∷ []
 
 -- register, operand and number of an IMUL of three operands
 abbrev pub written_product : Register → Operand → WideImmediate → List Written

@@ -6,7 +6,7 @@ use Rattle.std.specs.Int.{from_bool}
 use Rattle.mx_word.specs.declared.names.Register.{Register}
 use Rattle.mx_word.specs.declared.names.Register.TheVariants.{Eax, Ecx, Edx, Ebx, Esp, Ebp, Esi, Edi}
 use Rattle.mx_flags.specs.declared.FlagValues.{FlagValues}
-use Rattle.mx_regs.specs.Regs.{register_word}
+use Rattle.mx_regs.specs.Regs.{word_of_register}
 use Rattle.mx_regs.specs.RegisterValues.{RegisterValues}
 use Rattle.mx_exec.specs.declared.image.Image.{Image}
 use Rattle.mx_print_insn.specs.Numbers.{eight_digits}
@@ -23,7 +23,7 @@ register_name Edi = codes "EDI"
 
 -- a register's name and its 32 bits
 unfoldable pub register_field : RegisterValues → Register → List ℕ
-register_field w r = register_name r ++ codes " " ++ eight_digits (register_word w r)
+register_field w r = register_name r ++ codes " " ++ eight_digits (word_of_register w r)
 
 -- a line of four registers
 unfoldable pub register_line : RegisterValues → Register → Register → Register → Register → List ℕ

@@ -49,8 +49,8 @@ with_tick w = record w { uptime = w.uptime + 1 }
 
 -- ---- registers, console, copies
 
-abbrev pub with_register : TableState → ℕ → ℕ → TableState
-with_register w register value = record w { devices = record w.devices { registers = slice_set w.devices.registers register value } }
+abbrev pub with_device_register : TableState → ℕ → ℕ → TableState
+with_device_register w register value = record w { devices = record w.devices { registers = slice_set w.devices.registers register value } }
 
 -- one byte more on the console
 abbrev pub with_console_byte : TableState → ℕ → TableState

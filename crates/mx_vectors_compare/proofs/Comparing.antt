@@ -8,7 +8,7 @@ use Rattle.mx_exec.specs.declared.image.Image.{Image}
 use Rattle.mx_exec.specs.declared.image.Outcome.{Outcome}
 use Rattle.mx_exec.specs.Step.{one_step}
 use Rattle.mx_vectors_compare.specs.declared.case.Case.{Case}
-use Rattle.mx_vectors_compare.specs.Ends.{EndsAs, image_of}
+use Rattle.mx_vectors_compare.specs.Ends.{EndsAs, image_of_case}
 use Rattle.mx_vectors_compare.specs.Agreement.{DoesAgree, StepAgrees, decoded_length}
 
 abbrev instruction : Insn → ℕ → Insn × ℕ
@@ -26,7 +26,7 @@ whole (Ok p) k = ((λ h. (p.0, let e : p.1 ≡ k = h.0 in ap (λ (n : ℕ). Ok (
 whole (Err f) k = ((λ h. let bad = h.1 in absurd cc), (λ h. let e = h.1 in absurd cc))
 
 -- the end of the case's image is the end that was compared
-pub stepped : (c : Case) (i m : Image) (o : Outcome) (same : Bool) → i ≡ image_of c → o ≡ (one_step i).0 → m ≡ (one_step i).1
+pub stepped : (c : Case) (i m : Image) (o : Outcome) (same : Bool) → i ≡ image_of_case c → o ≡ (one_step i).0 → m ≡ (one_step i).1
     → IsTrue same ↔ EndsAs c o m → IsTrue same ↔ StepAgrees c
 stepped c i m o same is_i is_o is_m e =
     let first : IsTrue same ↔ EndsAs c (one_step i).0 m = subst (λ (x : Outcome). IsTrue same ↔ EndsAs c x m) is_o e in

@@ -5,7 +5,7 @@ use Rattle.mx_decode.specs.declared.DecodeFault.{DecodeFault}
 use Rattle.mx_decode.specs.Decode.{front}
 use Rattle.mx_exec.specs.Step.{one_step}
 use Rattle.mx_vectors_compare.specs.declared.case.Case.{Case}
-use Rattle.mx_vectors_compare.specs.Ends.{EndsAs, image_of}
+use Rattle.mx_vectors_compare.specs.Ends.{EndsAs, image_of_case}
 use Rattle.mx_vectors_compare.specs.declared.lines.Tally.{Tally}
 
 -- how many bytes the instruction at the front takes, or 0 where there is none
@@ -15,7 +15,7 @@ decoded_length (Err e) = 0
 
 -- the step of the case's image is as the case says
 abbrev pub StepAgrees : Case → Type 0
-StepAgrees c = EndsAs c (one_step (image_of c)).0 (one_step (image_of c)).1
+StepAgrees c = EndsAs c (one_step (image_of_case c)).0 (one_step (image_of_case c)).1
 
 -- the case's bytes, whole, spell an instruction, and the step of its image is as the case says
 pub record DoesAgree (c : Case) : Type 0 where

@@ -17,8 +17,8 @@ code_of_case (Some bytes) = Separate bytes
 code_of_case None = Shared
 
 -- the image that a case begins with
-abbrev pub image_of : Case → Image
-image_of c = record {
+abbrev pub image_of_case : Case → Image
+image_of_case c = record {
   regs = words_of c.before.registers;
   eip = c.before.eip;
   flags = values_of c.before.flags;

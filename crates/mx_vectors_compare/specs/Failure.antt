@@ -9,9 +9,9 @@ use Rattle.mx_vectors_compare.specs.declared.lines.CompareFailure.{CompareFailur
 use Rattle.mx_vectors_compare.specs.declared.lines.CompareFailure.TheVariants.{Line, File, NoMemory}
 
 -- want of memory is no failure of the file
-abbrev pub failure_of_kind : ErrorKind → Kind
-failure_of_kind kinds.OutOfMemory = NoMemory
-failure_of_kind k = File
+abbrev pub case_failure_of_kind : ErrorKind → Kind
+case_failure_of_kind kinds.OutOfMemory = NoMemory
+case_failure_of_kind k = File
 
 -- what the line of this number is told to be
 abbrev pub failure_of_line : ℕ → CaseError → Kind
@@ -25,5 +25,5 @@ text_of File = codes "input or output failed"
 text_of NoMemory = codes "want of memory"
 
 -- a file or memory is wanting
-abbrev pub IsWanting : Kind → Type 0
-IsWanting f = (f ≡ File) ⊎ (f ≡ NoMemory)
+abbrev pub IsCaseWanting : Kind → Type 0
+IsCaseWanting f = (f ≡ File) ⊎ (f ≡ NoMemory)

@@ -18,13 +18,13 @@ ReadsField {A} Spelled (Err Malformed) = (x : A) → Spelled x → ⊥
 ReadsField Spelled (Err NoMemory) = ⊤
 
 -- hexadecimal digits of a number of 32 bits
-abbrev pub IsNumber : List ℕ → ℕ → Type 0
-IsNumber text n = ParsesUnsigned {E = CaseError} 32 16 text (Ok n)
+abbrev pub IsHexNumber : List ℕ → ℕ → Type 0
+IsHexNumber text n = ParsesUnsigned {E = CaseError} 32 16 text (Ok n)
 
 -- each text is the number at its place
 abbrev pub AreNumbers : List (List ℕ) → List ℕ → Type 0
 AreNumbers [] [] = ⊤
-AreNumbers (text ∷ texts) (n ∷ numbers) = IsNumber text n × AreNumbers texts numbers
+AreNumbers (text ∷ texts) (n ∷ numbers) = IsHexNumber text n × AreNumbers texts numbers
 AreNumbers _ _ = ⊥
 
 -- eight numbers parted by spaces
@@ -32,13 +32,13 @@ abbrev pub AreRegisters : List ℕ → List ℕ → Type 0
 AreRegisters text words = (length words ≡ 8) × AreNumbers (slice_split (λ b. b == 32) text) words
 
 -- hexadecimal digits, two a byte
-abbrev pub AreBytes : List ℕ → List ℕ → Type 0
-AreBytes text bytes = decode_of text ≡ Ok bytes
+abbrev pub AreHexBytes : List ℕ → List ℕ → Type 0
+AreHexBytes text bytes = decode_of text ≡ Ok bytes
 
 -- the code's bytes, or `-`
 abbrev pub IsCode : List ℕ → Option (List ℕ) → Type 0
 IsCode text None = text ≡ codes "-"
-IsCode text (Some bytes) = AreBytes text bytes
+IsCode text (Some bytes) = AreHexBytes text bytes
 
 -- `go`, or `fault-` and the vector in decimal digits
 abbrev pub IsOutcome : List ℕ → Outcome → Type 0
@@ -50,22 +50,22 @@ IsOutcome text (Fault vector) =
 -- registers, EIP and flags
 pub record IsState (a b c : List ℕ) (s : StepState) : Type 0 where
   pub registers : AreRegisters a s.registers
-  pub eip : IsNumber b s.eip
-  pub flags : IsNumber c s.flags
+  pub eip : IsHexNumber b s.eip
+  pub flags : IsHexNumber c s.flags
 
 -- each part is what its field spells; of the changes, that there are none
 pub record IsCase (f : Fields) (c : Case) : Type 0 where
   pub row : c.row.now ≡ f.row.now
   pub spelling : c.spelling.now ≡ f.spelling.now
-  pub bytes : AreBytes f.spelling.now c.bytes
+  pub bytes : AreHexBytes f.spelling.now c.bytes
   pub code : IsCode f.code.now c.code
-  pub memory : AreBytes f.memory.now c.memory
+  pub memory : AreHexBytes f.memory.now c.memory
   pub before : IsState f.words.now f.eip.now f.flags.now c.before
   pub outcome : IsOutcome f.ends.now c.outcome
   pub after : IsState f.words_after.now f.eip_after.now f.flags_after.now c.after
-  pub mask : IsNumber f.mask.now c.mask
+  pub mask : IsHexNumber f.mask.now c.mask
   pub unchanged : f.changes.now ≡ codes "-" → c.memory_after ≡ c.memory
 
 -- some line spells the case
-abbrev pub IsSpelled : Case → Type 0
-IsSpelled c = (f : Fields) × IsCase f c
+abbrev pub IsCaseSpelled : Case → Type 0
+IsCaseSpelled c = (f : Fields) × IsCase f c

@@ -5,7 +5,7 @@ ghost use Rattle.mx_decode.specs.Decode.{front};
 ghost use Rattle.mx_encode.specs.Forms.{has_form};
 ghost use Rattle.mx_exec.specs.Step.{one_step};
 ghost use Rattle.mx_vectors_compare.specs.Agreement.{DoesAgree, StepAgrees, decoded_length};
-ghost use Rattle.mx_vectors_compare.specs.Failure.{IsWanting};
+ghost use Rattle.mx_vectors_compare.specs.Failure.{IsCaseWanting};
 
 use crate::lines::CompareFailure;
 use crate::telling::{tell_decoding, tell_end};
@@ -121,7 +121,7 @@ fn is_step_same<W: Write>(
     out: &mut W,
 ) -> Result<bool, CompareFailure>
     ensures same { IfOk result (λ same. IsTrue same ↔ StepAgrees case.now) }
-    ensures err { IfErr result IsWanting }
+    ensures err { IfErr result IsCaseWanting }
 {
     let mut image = image_of(alloc, case)?;
     let outcome = take_step(&mut image, cache, way);
@@ -141,7 +141,7 @@ fn is_step_same_each_way<W: Write>(
     out: &mut W,
 ) -> Result<bool, CompareFailure>
     ensures same { IfOk result (λ same. IsTrue same ↔ StepAgrees case.now) }
-    ensures err { IfErr result IsWanting }
+    ensures err { IfErr result IsCaseWanting }
 {
     Ok(
         is_step_same(alloc, case, cache, Way::Step, out)?
@@ -159,7 +159,7 @@ pub fn check_case<W: Write>(
     out: &mut W,
 ) -> Result<bool, CompareFailure>
     ensures same { IfOk result (λ same. IsTrue same ↔ DoesAgree case.now) }
-    ensures err { IfErr result IsWanting }
+    ensures err { IfErr result IsCaseWanting }
 {
     let whole = is_whole(case);
     let spelled = is_spelled(case);

@@ -2,9 +2,9 @@
 
 ghost use Rattle.std.specs.Prelude.{◌≡◌, ◌<◌, ◌^◌, ◌↔◌, length, IsTrue, IfOk, OnOk, List, ℕ};
 ghost use Rattle.mx_flags.specs.Flags.{bits_of};
-ghost use Rattle.mx_regs.specs.Regs.{register_word};
+ghost use Rattle.mx_regs.specs.Regs.{word_of_register};
 ghost use Rattle.mx_regs.specs.RegisterValues.{words_of};
-ghost use Rattle.mx_vectors_compare.specs.Ends.{EndsAs, SameBits, compared_flags, image_of, number_of, wanted_flags};
+ghost use Rattle.mx_vectors_compare.specs.Ends.{EndsAs, SameBits, compared_flags, image_of_case, number_of, wanted_flags};
 
 use crate::Case;
 use mx_exec::{Code, Image, Outcome, TextSegment};
@@ -48,7 +48,7 @@ fn regs_of(words: &[u32; 8]) -> Regs
 
 /// The image that a case begins with.
 pub fn image_of(alloc: Global, case: &Case<'_>) -> Result<Image, NoMemory>
-    ensures image { IfOk result (λ image. image ≡ image_of case.now) }
+    ensures image { IfOk result (λ image. image ≡ image_of_case case.now) }
     ensures fits { OnOk result (length case.now.memory < 2 ^ 32) }
 {
     let code = match &case.code {
@@ -84,7 +84,7 @@ fn is_outcome_same(found: Outcome, wanted: Outcome) -> bool
 
 /// Whether a register has these bits.
 fn is_register_same(image: &Image, register: Register, wanted: u32) -> bool
-    ensures { IsTrue result ↔ (register_word image.now.regs register ≡ wanted) }
+    ensures { IsTrue result ↔ (word_of_register image.now.regs register ≡ wanted) }
 {
     image.register(register) == wanted
 }

@@ -2,9 +2,9 @@
 
 ghost use Rattle.std.specs.Prelude.{◌≡◌, ◌≤◌, ◌↔◌, ◌⊎◌, Bool, IsTrue, IfOk, IfErr};
 ghost use Rattle.mx_vectors_compare.specs.declared.case.Case.{Case};
-ghost use Rattle.mx_vectors_compare.specs.Line.{IsSpelled};
+ghost use Rattle.mx_vectors_compare.specs.Line.{IsCaseSpelled};
 ghost use Rattle.mx_vectors_compare.specs.Agreement.{DoesAgree, one_more, with_case};
-ghost use Rattle.mx_vectors_compare.specs.Failure.{IsWanting, failure_of_line};
+ghost use Rattle.mx_vectors_compare.specs.Failure.{IsCaseWanting, failure_of_line};
 
 use crate::checking::check_case;
 use crate::{CaseError, parse_case};
@@ -62,9 +62,9 @@ impl fmt::Display for CompareFailure {
 impl From<io::Error> for CompareFailure {
     ghost use Rattle.std.specs.Prelude.{◌≡◌};
     ghost use Rattle.std.specs.IoError.{error_kind};
-    ghost use Rattle.mx_vectors_compare.specs.Failure.{failure_of_kind};
+    ghost use Rattle.mx_vectors_compare.specs.Failure.{case_failure_of_kind};
 
-    ghost from_gives = { λ error failure. failure ≡ failure_of_kind (error_kind error) };
+    ghost from_gives = { λ error failure. failure ≡ case_failure_of_kind (error_kind error) };
 
     fn from(error: io::Error) -> CompareFailure {
         match error.kind() {
@@ -103,9 +103,9 @@ fn check_line<W: Write>(
     cache: &mut Cache,
     out: &mut W,
 ) -> Result<Tally, CompareFailure>
-    ensures counted { IfOk result (λ after. (case : Case) × IsSpelled case
+    ensures counted { IfOk result (λ after. (case : Case) × IsCaseSpelled case
         × ((same : Bool) × (IsTrue same ↔ DoesAgree case) × (after ≡ with_case tally same))) }
-    ensures err { IfErr result (λ failure. (failure ≡ CompareFailure.Line (one_more tally.cases)) ⊎ IsWanting failure) }
+    ensures err { IfErr result (λ failure. (failure ≡ CompareFailure.Line (one_more tally.cases)) ⊎ IsCaseWanting failure) }
 {
     match parse_case(alloc, line) {
         Ok(case) => Ok(tally.with_case(check_case(alloc, &case, cache, out)?)),

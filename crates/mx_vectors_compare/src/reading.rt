@@ -2,7 +2,7 @@
 
 ghost use Rattle.std.specs.Prelude.{◌≡◌, ◌==◌, IfOk, codes, length, map};
 ghost use Rattle.std.specs.List.{slice_split};
-ghost use Rattle.mx_vectors_compare.specs.Line.{ReadsField, IsNumber, AreNumbers, AreRegisters, AreBytes, IsCase, IsCode, IsOutcome, IsSpelled, IsState};
+ghost use Rattle.mx_vectors_compare.specs.Line.{ReadsField, IsHexNumber, AreNumbers, AreRegisters, AreHexBytes, IsCase, IsCode, IsOutcome, IsCaseSpelled, IsState};
 
 use crate::case::{Case, CaseError, StepState};
 use mx_exec::Outcome;
@@ -11,7 +11,7 @@ use std::alloc::{AllocError, Global};
 
 /// A number in hexadecimal digits.
 fn read_number(text: &str) -> Result<u32, CaseError>
-    ensures { ReadsField (IsNumber text.now) result }
+    ensures { ReadsField (IsHexNumber text.now) result }
 {
     u32::from_str_radix(text, 16).map_err(|_| CaseError::Malformed)
 }
@@ -112,7 +112,7 @@ fn read_state(alloc: Global, words: &str, eip: &str, flags: &str) -> Result<Step
 
 /// Bytes in hexadecimal digits.
 fn bytes_of(alloc: Global, text: &str) -> Result<Bytes, CaseError>
-    ensures { ReadsField (AreBytes text.now) result }
+    ensures { ReadsField (AreHexBytes text.now) result }
 {
     Ok(Bytes::from_vec(hex::decode(alloc, text)?))
 }
@@ -178,7 +178,7 @@ fn case_of<'a>(alloc: Global, fields: &Fields<'a>) -> Result<Case<'a>, CaseError
 
 /// Reads a line.
 pub fn parse_case<'a>(alloc: Global, line: &'a str) -> Result<Case<'a>, CaseError>
-    ensures { IfOk result IsSpelled }
+    ensures { IfOk result IsCaseSpelled }
 {
     let fields: Vec<&'a str> = line.split(" | ").collect(alloc)?;
     let &[

@@ -4,7 +4,7 @@ ghost use Rattle.std.specs.Prelude.{◌≡◌, ◌≢◌, ℕ, false, ◌+◌, �
 ghost use Rattle.mx_mem.specs.Segment.{with_bytes_at, part};
 ghost use Rattle.mx_proc.specs.Endpoints.{names_slot};
 ghost use Rattle.mx_proc.specs.Frame.{frame};
-ghost use Rattle.mx_proc.specs.Serving.{without_bit_of, owner_but, table_after_forgetting, table_after_burial, with_alarm, with_line, with_owner, with_tick, with_register, with_console_byte, with_copy, process_after_copy};
+ghost use Rattle.mx_proc.specs.Serving.{without_bit_of, owner_but, table_after_forgetting, table_after_burial, with_alarm, with_line, with_owner, with_tick, with_device_register, with_console_byte, with_copy, process_after_copy};
 ghost use Rattle.mx_proc.specs.States.{IsAlone, is_out};
 ghost use Rattle.mx_proc.specs.TableState.{process_at, memory_at, nobody};
 
@@ -94,7 +94,7 @@ impl Table {
 
     /// Sets a register of the machine.
     pub fn set_register(&mut self, register: u8, value: u32)
-        ensures value { self.new ≡ with_register self.old register value }
+        ensures value { self.new ≡ with_device_register self.old register value }
         ensures frame { frame self.new ≡ record (frame self.old) { devices = self.new.devices } }
     {
         self.devices.registers[register as usize] = value;

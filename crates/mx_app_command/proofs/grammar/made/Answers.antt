@@ -5,7 +5,7 @@ use Rattle.clap.specs.Words.{App, app_of, new_app, with_rule}
 use Rattle.clap.specs.Simple.{app_of_fields}
 use Rattle.mx_app_command.specs.Tables.{rule_of_argument}
 use Rattle.mx_app_command.specs.Words.{IsLocal}
-use Rattle.mx_app_command.specs.declared.grammar.Argument.{Argument}
+use Rattle.mx_app_command.specs.declared.grammar.CommandArgument.{CommandArgument}
 use Rattle.mx_app_command.proofs.Tables.{argument_added}
 use Rattle.mx_app_command.proofs.grammar.made.Goals.{in-Some, in_default}
 use Rattle.mx_app_command.proofs.grammar.made.Goals as goal
@@ -36,7 +36,7 @@ loop-argument-preserved c = record {
 
 pub returns-clause-shape : goal.returns-clause-shape
 returns-clause-shape c =
-    ap (λ (left : List Argument). (fold with_rule (app_of c.loop-argument.command) (map rule_of_argument left)).top)
+    ap (λ (left : List CommandArgument). (fold with_rule (app_of c.loop-argument.command) (map rule_of_argument left)).top)
     (sym (drop_all c.loop-argument.argument-index c.args.subcommand.now.arguments.now c.loop-argument-test.false)) ∙ c.loop-argument.invariant.shape
 
 pub returns-clause-local : goal.returns-clause-local
