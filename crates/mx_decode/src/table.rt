@@ -1,11 +1,11 @@
 //! The rows of the table, by parts of the opcode maps, in the table's order within a part.
 
 ghost use Rattle.std.specs.Prelude.{◌≡◌, ◌≤◌, ◌<◌, true, false};
-ghost use Rattle.mx_decode.specs.Map.{part, rows_in};
+ghost use Rattle.mx_decode.specs.Map.{map_part, rows_in};
 
 use mx_insn::{
     Comparison, CountColumn, ImmediateColumn, Loop, ModRm, Pattern, Plain, Product, Repeats, Row,
-    Shift, Sizes, Transfer, Unary,
+    Shift, SizeMark, Transfer, Unary,
 };
 
 macro_rules! row {
@@ -15,7 +15,7 @@ macro_rules! row {
             first: $first,
             step: $step,
             count: $count,
-            sizes: Sizes::$sizes,
+            sizes: SizeMark::$sizes,
             repeats: Repeats::$repeats,
             modrm: $reg,
             immediate: ImmediateColumn::$immediate,
@@ -27,9 +27,9 @@ macro_rules! row {
 /// Below 40, where the rows are columns of the map.
 #[tactic(auto, unfolding(crate::specs::Map::rows_in, mx_insn::specs::Table::rows))]
 fn column_rows(part: u8) -> &'static [Row]
-    requires least { 8 ≤ part }
-    requires most { part < 16 }
-    ensures { result.now ≡ rows_in false part }
+    requires least { 8 ≤ map_part }
+    requires most { map_part < 16 }
+    ensures { result.now ≡ rows_in false map_part }
 {
     match part {
         8 => &[
@@ -58,9 +58,9 @@ fn column_rows(part: u8) -> &'static [Row]
 /// From 40 on, sixteen opcodes each.
 #[tactic(auto, unfolding(crate::specs::Map::rows_in, mx_insn::specs::Table::rows))]
 fn low_rows(part: u8) -> &'static [Row]
-    requires least { 4 ≤ part }
-    requires most { part < 8 }
-    ensures { result.now ≡ rows_in false part }
+    requires least { 4 ≤ map_part }
+    requires most { map_part < 8 }
+    ensures { result.now ≡ rows_in false map_part }
 {
     match part {
         4 => &[
@@ -88,9 +88,9 @@ fn low_rows(part: u8) -> &'static [Row]
 /// From 80 on, eight opcodes each.
 #[tactic(auto, unfolding(crate::specs::Map::rows_in, mx_insn::specs::Table::rows))]
 fn middle_rows(part: u8) -> &'static [Row]
-    requires least { 16 ≤ part }
-    requires most { part < 24 }
-    ensures { result.now ≡ rows_in false part }
+    requires least { 16 ≤ map_part }
+    requires most { map_part < 24 }
+    ensures { result.now ≡ rows_in false map_part }
 {
     match part {
         16 => &[
@@ -153,9 +153,9 @@ fn middle_rows(part: u8) -> &'static [Row]
 /// From C0 on, eight opcodes each.
 #[tactic(auto, unfolding(crate::specs::Map::rows_in, mx_insn::specs::Table::rows))]
 fn high_rows(part: u8) -> &'static [Row]
-    requires least { 24 ≤ part }
-    requires most { part < 32 }
-    ensures { result.now ≡ rows_in false part }
+    requires least { 24 ≤ map_part }
+    requires most { map_part < 32 }
+    ensures { result.now ≡ rows_in false map_part }
 {
     match part {
         24 => &[
@@ -261,8 +261,8 @@ fn high_rows(part: u8) -> &'static [Row]
 /// Behind 0F, 64 opcodes each.
 #[tactic(auto, unfolding(crate::specs::Map::rows_in, mx_insn::specs::Table::rows))]
 fn escaped_rows(part: u8) -> &'static [Row]
-    requires { part < 4 }
-    ensures { result.now ≡ rows_in true part }
+    requires { map_part < 4 }
+    ensures { result.now ≡ rows_in true map_part }
 {
     match part {
         0 => &[],
@@ -283,7 +283,7 @@ fn escaped_rows(part: u8) -> &'static [Row]
 /// The rows of the map, behind 0F or not, in the part where the opcode stands.
 #[inline(always)]
 pub fn rows_near(escaped: bool, opcode: u8) -> &'static [Row]
-    ensures { result.now ≡ rows_in escaped (part escaped opcode) }
+    ensures { result.now ≡ rows_in escaped (map_part escaped opcode) }
 {
     if escaped {
         escaped_rows(opcode / 64)
