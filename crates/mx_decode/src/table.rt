@@ -27,9 +27,9 @@ macro_rules! row {
 /// Below 40, where the rows are columns of the map.
 #[tactic(auto, unfolding(crate::specs::Map::rows_in, mx_insn::specs::Table::rows))]
 fn column_rows(part: u8) -> &'static [Row]
-    requires least { 8 ≤ map_part }
-    requires most { map_part < 16 }
-    ensures { result.now ≡ rows_in false map_part }
+    requires least { 8 ≤ part }
+    requires most { part < 16 }
+    ensures { result.now ≡ rows_in false part }
 {
     match part {
         8 => &[
@@ -58,9 +58,9 @@ fn column_rows(part: u8) -> &'static [Row]
 /// From 40 on, sixteen opcodes each.
 #[tactic(auto, unfolding(crate::specs::Map::rows_in, mx_insn::specs::Table::rows))]
 fn low_rows(part: u8) -> &'static [Row]
-    requires least { 4 ≤ map_part }
-    requires most { map_part < 8 }
-    ensures { result.now ≡ rows_in false map_part }
+    requires least { 4 ≤ part }
+    requires most { part < 8 }
+    ensures { result.now ≡ rows_in false part }
 {
     match part {
         4 => &[
@@ -88,9 +88,9 @@ fn low_rows(part: u8) -> &'static [Row]
 /// From 80 on, eight opcodes each.
 #[tactic(auto, unfolding(crate::specs::Map::rows_in, mx_insn::specs::Table::rows))]
 fn middle_rows(part: u8) -> &'static [Row]
-    requires least { 16 ≤ map_part }
-    requires most { map_part < 24 }
-    ensures { result.now ≡ rows_in false map_part }
+    requires least { 16 ≤ part }
+    requires most { part < 24 }
+    ensures { result.now ≡ rows_in false part }
 {
     match part {
         16 => &[
@@ -153,9 +153,9 @@ fn middle_rows(part: u8) -> &'static [Row]
 /// From C0 on, eight opcodes each.
 #[tactic(auto, unfolding(crate::specs::Map::rows_in, mx_insn::specs::Table::rows))]
 fn high_rows(part: u8) -> &'static [Row]
-    requires least { 24 ≤ map_part }
-    requires most { map_part < 32 }
-    ensures { result.now ≡ rows_in false map_part }
+    requires least { 24 ≤ part }
+    requires most { part < 32 }
+    ensures { result.now ≡ rows_in false part }
 {
     match part {
         24 => &[
@@ -261,8 +261,8 @@ fn high_rows(part: u8) -> &'static [Row]
 /// Behind 0F, 64 opcodes each.
 #[tactic(auto, unfolding(crate::specs::Map::rows_in, mx_insn::specs::Table::rows))]
 fn escaped_rows(part: u8) -> &'static [Row]
-    requires { map_part < 4 }
-    ensures { result.now ≡ rows_in true map_part }
+    requires { part < 4 }
+    ensures { result.now ≡ rows_in true part }
 {
     match part {
         0 => &[],
