@@ -236,7 +236,7 @@ within a h =
     let text = or_left (nat_lt 1048576 a.sizes.text) (nat_lt 262144 (length a.labels * 16)) texts in
     let labels = or_right (nat_lt 1048576 a.sizes.text) (nat_lt 262144 (length a.labels * 16)) texts in
     let stack = unwrap_or a.stack 2048 in
-    let sized = small_total (faults.used_of a + stack) total in
+    let sized = small_total (faults.bytes_used a + stack) total in
     let used = used_same a.sep a.sizes.text a.sizes.init a.sizes.bss in
     (sized.0, ltb-false 1048576 a.sizes.text text, ltb-false 262144 (length a.labels * 16) labels, sized.1, omega (arith, used, sized.2))
 

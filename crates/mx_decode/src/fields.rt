@@ -119,7 +119,7 @@ fn sib(bytes: &[u8]) -> Result<(u8, Option<Index>, &[u8]), DecodeFault>
 }
 
 /// The field that names the base, and the index.
-#[tactic(auto, unfolding(crate::specs::Given::base_parts))]
+#[tactic(auto, unfolding(crate::specs::Given::base_field_parts))]
 fn base(rm: u8, bytes: &[u8]) -> Result<(u8, Option<Index>, &[u8]), DecodeFault>
     ensures { Gives (λ x. ((x.0, x.1), x.2.now)) result (base_field_parts rm bytes.now) }
 {
@@ -139,7 +139,7 @@ fn base_of(mode: u8, field: u8) -> Option<Register>
     Some(register(field))
 }
 
-#[tactic(auto, unfolding(crate::specs::Given::memory_at))]
+#[tactic(auto, unfolding(crate::specs::Given::memory_field))]
 fn memory(mode: u8, rm: u8, bytes: &[u8]) -> Result<(Memory, &[u8]), DecodeFault>
     requires { mode < 3 }
     ensures { Gives (λ x. (x.0, x.1.now)) result (memory_field mode rm bytes.now) }
@@ -156,7 +156,7 @@ fn memory(mode: u8, rm: u8, bytes: &[u8]) -> Result<(Memory, &[u8]), DecodeFault
     ))
 }
 
-#[tactic(auto, unfolding(crate::specs::Given::operand_at))]
+#[tactic(auto, unfolding(crate::specs::Given::operand_field))]
 fn operand(mode: u8, rm: u8, bytes: &[u8]) -> Result<(Operand, &[u8]), DecodeFault>
     requires { mode < 4 }
     ensures { Gives (λ x. (x.0, x.1.now)) result (operand_field mode rm bytes.now) }

@@ -128,5 +128,5 @@ abbrev pub sib_seen : Option code_sib.Sib → Option Sib
 sib_seen None = None
 sib_seen (Some s) = Some (record { scale = s.scale; index = s.index; base = s.base })
 
-abbrev pub place_seen : code_place.Place → Place
+abbrev pub place_seen : code_place.RmFields → Place
 place_seen p = record { mode = p.mode; reg = p.reg; rm = p.rm; sib = sib_seen p.sib; displacement = number_bytes p.displacement }

@@ -144,7 +144,7 @@ fn check_party(table: &Table, slot: Slot, call: Call, party: Party) -> Result<()
 }
 
 /// The six checks of a call: whom it names, or the error of the first that holds.
-#[tactic(auto, unfolding(crate::specs::Checks::refusal, crate::specs::Checks::party_refusal))]
+#[tactic(auto, unfolding(crate::specs::Checks::call_refusal, crate::specs::Checks::party_refusal))]
 pub(crate) fn check(table: &Table, slot: Slot, call: Call, number: u32) -> Result<Party, Errno>
     requires slot { slot < length table.now.slots }
     ensures party { IfOk result (λ party. party_of table.now number ≡ Some party) }

@@ -69,7 +69,7 @@ fn hears(state: State, source: Source) -> bool
 }
 
 /// SEND that passed the checks.
-#[tactic(auto, unfolding(crate::specs::Calls::sent))]
+#[tactic(auto, unfolding(crate::specs::Calls::table_after_send))]
 fn deliver_or_block(table: &mut Table, slot: Slot, to: Slot)
     requires slot { slot < length table.old.slots }
     requires to { to < length table.old.slots }
@@ -93,7 +93,7 @@ fn deliver_or_block(table: &mut Table, slot: Slot, to: Slot)
 }
 
 /// A caller's message was taken: after a SEND it goes on, in a SENDREC it turns to receiving.
-#[tactic(auto, unfolding(crate::specs::Calls::released))]
+#[tactic(auto, unfolding(crate::specs::Calls::table_after_release))]
 fn release(table: &mut Table, slot: Slot, from: Slot)
     requires slot { slot < length table.old.slots }
     requires from { from < length table.old.slots }
@@ -114,7 +114,7 @@ fn release(table: &mut Table, slot: Slot, from: Slot)
 }
 
 /// Takes the first caller's message, of those that the partner may be, or waits in a state.
-#[tactic(auto, unfolding(crate::specs::Calls::taken))]
+#[tactic(auto, unfolding(crate::specs::Calls::table_after_taking))]
 fn take_or_wait(table: &mut Table, slot: Slot, partner: Partner, state: State)
     requires slot { slot < length table.old.slots }
     requires home { (process_at table.old slot).state ≡ Home }
@@ -138,7 +138,7 @@ fn take_or_wait(table: &mut Table, slot: Slot, partner: Partner, state: State)
 }
 
 /// RECEIVE that passed the checks.
-#[tactic(auto, unfolding(crate::specs::Calls::received))]
+#[tactic(auto, unfolding(crate::specs::Calls::table_after_receive))]
 fn hear_or_take(table: &mut Table, slot: Slot, partner: Partner)
     requires slot { slot < length table.old.slots }
     requires home { (process_at table.old slot).state ≡ Home }
@@ -158,7 +158,7 @@ fn hear_or_take(table: &mut Table, slot: Slot, partner: Partner)
 }
 
 /// SENDREC that passed the checks, to a process.
-#[tactic(auto, unfolding(crate::specs::Calls::called))]
+#[tactic(auto, unfolding(crate::specs::Calls::table_after_sendrec))]
 fn deliver_and_await(table: &mut Table, slot: Slot, to: Slot)
     requires slot { slot < length table.old.slots }
     requires to { to < length table.old.slots }
@@ -187,7 +187,7 @@ fn deliver_and_await(table: &mut Table, slot: Slot, to: Slot)
 }
 
 /// Tells a process of a notification at once, or sets its source's bit.
-#[tactic(auto, unfolding(crate::specs::Calls::told))]
+#[tactic(auto, unfolding(crate::specs::Calls::table_after_notifying))]
 fn tell(table: &mut Table, source: Source, to: Slot)
     requires source { IsUsedSource table.old source }
     requires to { to < length table.old.slots }
@@ -247,7 +247,7 @@ fn act(table: &mut Table, slot: Slot, call: Call, party: Party) -> TrapAnswer
 }
 
 /// A call that names a number: the checks, and what it does where it passes them.
-#[tactic(auto, unfolding(crate::specs::Calls::performed, crate::specs::Calls::answer))]
+#[tactic(auto, unfolding(crate::specs::Calls::table_after_call, crate::specs::Calls::call_answer))]
 fn perform(table: &mut Table, slot: Slot, call: Call, number: u32) -> TrapAnswer
     requires slot { slot < length table.old.slots }
     requires home { (process_at table.old slot).state ≡ Home }
@@ -319,7 +319,7 @@ pub fn notify(table: &mut Table, source: Source, to: Endpoint)
 
 /// A trap of a process that has come home: the call that its registers say. Where a SENDREC to SYSTEM
 /// passes the checks, nothing has changed, and a kernel call is left to make.
-#[tactic(auto, unfolding(crate::specs::Calls::trapped, crate::specs::Calls::trap_answer))]
+#[tactic(auto, unfolding(crate::specs::Calls::table_after_trap, crate::specs::Calls::trap_answer))]
 pub fn trap(table: &mut Table, slot: Slot) -> TrapAnswer
     requires slot { slot < length table.old.slots }
     requires home { (process_at table.old slot).state ≡ Home }

@@ -51,7 +51,7 @@ fn ring(table: &mut Table, slot: Slot)
 }
 
 /// One tick: the uptime is one more, and each alarm that is due rings, in slot order.
-#[tactic(auto, unfolding(crate::specs::Clock::ticked))]
+#[tactic(auto, unfolding(crate::specs::Clock::table_after_tick))]
 pub fn tick(table: &mut Table)
     requires { table.old.uptime + 1 < 2 ^ 32 }
     ensures value { table.new ≡ table_after_tick table.old }

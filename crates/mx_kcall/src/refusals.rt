@@ -130,7 +130,7 @@ fn check_whois(table: &Table, slot: Slot, named: u32) -> Result<(), Errno>
 }
 
 /// A request's own refusals, the first told.
-#[tactic(auto, unfolding(crate::specs::Refusals::request_refusal))]
+#[tactic(auto, unfolding(crate::specs::Refusals::refusal_of_kernel_call))]
 fn check_request(table: &Table, slot: Slot, request: KernelCall) -> Result<(), Errno>
     ensures value { MatchResult result (λ _. refusal_of_kernel_call table.now slot request ≡ None) (λ e. refusal_of_kernel_call table.now slot request ≡ Some e) }
     ensures permitted { IfOk result (λ _. IsPermitted table.now request) }
@@ -162,7 +162,7 @@ fn check_request(table: &Table, slot: Slot, request: KernelCall) -> Result<(), E
 
 /// The request at a process's buffer, unless it is refused: by its type, by the mask of calls, by
 /// its own reasons.
-#[tactic(auto, unfolding(crate::specs::Refusals::request_refusal, crate::specs::Refusals::call_refusal))]
+#[tactic(auto, unfolding(crate::specs::Refusals::refusal_of_kernel_call, crate::specs::Refusals::kernel_call_refusal))]
 pub(crate) fn check(table: &Table, slot: Slot) -> Result<KernelCall, Errno>
     requires slot { slot < length table.now.slots }
     requires inside { HasBuffer (process_at table.now slot) }

@@ -105,7 +105,7 @@ fn words_of(message: &[u8; 36]) -> MessageWords
 }
 
 /// The words of the message at a process's buffer.
-#[tactic(auto, unfolding(crate::specs::Requests::words_at))]
+#[tactic(auto, unfolding(crate::specs::Requests::message_words_at))]
 pub(crate) fn words_at(table: &Table, slot: Slot) -> MessageWords
     requires slot { slot < length table.now.slots }
     requires inside { HasBuffer (process_at table.now slot) }

@@ -139,7 +139,7 @@ fn ends(slot: Slot, request: KernelCall) -> bool
 }
 
 /// A request that isn't refused.
-#[tactic(auto, unfolding(crate::specs::Serving::served))]
+#[tactic(auto, unfolding(crate::specs::Serving::table_after_serving))]
 fn serve(table: &mut Table, slot: Slot, request: KernelCall) -> After
     requires slot { slot < length table.old.slots }
     requires home { (process_at table.old slot).state ≡ Home }
@@ -165,7 +165,7 @@ fn serve(table: &mut Table, slot: Slot, request: KernelCall) -> After
 }
 
 /// The kernel call that the message at a process's buffer asks for.
-#[tactic(auto, unfolding(crate::specs::Serving::called, crate::specs::Serving::after_call))]
+#[tactic(auto, unfolding(crate::specs::Serving::table_after_kernel_call, crate::specs::Serving::answer_of_kernel_call))]
 pub fn call(table: &mut Table, slot: Slot) -> After
     requires slot { slot < length table.old.slots }
     requires home { (process_at table.old slot).state ≡ Home }

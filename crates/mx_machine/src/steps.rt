@@ -51,7 +51,7 @@ fn at_stop(out: &Out) -> bool
 }
 
 /// One step of what a processor holds, unless it is at a stop.
-#[tactic(auto, unfolding(mx_machine_world::specs::Held::stepped, mx_machine_world::specs::Held::outcome_of_step))]
+#[tactic(auto, unfolding(mx_machine_world::specs::Held::out_after_step, mx_machine_world::specs::Held::outcome_of_step))]
 fn step_of(out: &mut Out) -> Result<Answer, Refusal>
     ensures stop { IfErr result (λ refusal. (refusal ≡ AtStop) × (at_stop out.old ≡ true) × (out.new ≡ out.old)) }
     ensures went { IfOk result (λ answer. (answer ≡ Went (outcome_of_step out.old)) × (at_stop out.old ≡ false) × (out.new ≡ out_after_step out.old)) }

@@ -19,7 +19,7 @@ use mx_respawn::die;
 use mx_sched::enqueue;
 
 /// Moves the image of a ready process out.
-#[tactic(auto, unfolding(mx_machine_world::specs::Move::sent_out), using(crate::proofs::ServingLemmas::is_sent))]
+#[tactic(auto, unfolding(mx_machine_world::specs::Move::table_after_sending_out), using(crate::proofs::ServingLemmas::is_sent))]
 pub(crate) fn send_out(table: &mut Table, slot: Slot) -> Image
     requires slot { slot < length table.old.slots }
     requires ready { is_ready (process_at table.old slot).state ≡ true }
@@ -71,7 +71,7 @@ fn resume(table: &mut Table, slot: Slot, doomed: bool, stop: Stop)
 }
 
 /// Moves an image home, counts its steps, and goes on by its stop.
-#[tactic(auto, unfolding(mx_machine_world::specs::Move::come_home, mx_machine_world::specs::Move::returned))]
+#[tactic(auto, unfolding(mx_machine_world::specs::Move::table_after_coming_home, mx_machine_world::specs::Move::table_after_back))]
 pub(crate) fn come_home(table: &mut Table, slot: Slot, out: Out)
     requires slot { slot < length table.old.slots }
     requires out { is_out (process_at table.old slot).state ≡ true }
@@ -95,7 +95,7 @@ pub(crate) fn come_home(table: &mut Table, slot: Slot, out: Out)
 }
 
 /// Kills a process, or dooms it where it is out.
-#[tactic(auto, unfolding(mx_machine_world::specs::Move::killed))]
+#[tactic(auto, unfolding(mx_machine_world::specs::Move::table_after_kill))]
 pub(crate) fn kill(table: &mut Table, slot: Slot)
     requires slot { slot < length table.old.slots }
     ensures value { table.new ≡ table_after_kill table.old slot }

@@ -27,7 +27,7 @@ fn names(state: State, slot: Slot) -> bool
 }
 
 /// Takes a process out of its queue, if it stands in one.
-#[tactic(auto, unfolding(crate::specs::Death::taken_out))]
+#[tactic(auto, unfolding(crate::specs::Death::table_after_taking_out))]
 fn take_out(table: &mut Table, slot: Slot)
     requires slot { slot < length table.old.slots }
     requires home { is_out (process_at table.old slot).state ≡ false }

@@ -49,7 +49,7 @@ fn next_process(dead: &Process, image: Image, service: &Service) -> Process
 
 /// The slot of a dead process gets a new one, from the service that the dead one was loaded from.
 /// Takes no memory.
-#[tactic(auto, unfolding(crate::specs::Respawn::respawned))]
+#[tactic(auto, unfolding(crate::specs::Respawn::table_after_respawn))]
 pub fn respawn(table: &mut Table, slot: Slot, service: &Service)
     requires slot { slot < length table.old.slots }
     requires down { is_down (process_at table.old slot).state ≡ true }

@@ -16,7 +16,7 @@ const LOWEST: u8 = 14;
 
 /// Queues a process that is at home and in no queue: to the front of its list where ticks are left,
 /// else with a new quantum and perhaps on another level to the end of its list.
-#[tactic(auto, unfolding(crate::specs::Queueing::queued))]
+#[tactic(auto, unfolding(crate::specs::Queueing::table_after_queueing))]
 pub fn enqueue(table: &mut Table, slot: Slot)
     requires slot { slot < length table.old.slots }
     requires alone { IsAlone (process_at table.old slot).state }
