@@ -65,7 +65,7 @@ impl Table {
     }
 
     /// Brings the message of one process to another.
-    #[tactic(auto, unfolding(crate::specs::World::table_after_delivery))]
+    #[tactic(auto, unfolding(crate::specs::TableState::table_after_delivery))]
     pub fn deliver(&mut self, from: Slot, to: Slot)
         requires from { from < length self.old.slots }
         requires to { to < length self.old.slots }
@@ -113,7 +113,7 @@ impl Table {
     }
 
     /// Brings a notification to a process, whose pending bit for it is cleared.
-    #[tactic(auto, unfolding(crate::specs::World::table_after_notice))]
+    #[tactic(auto, unfolding(crate::specs::TableState::table_after_notice))]
     pub fn notice(&mut self, slot: Slot, source: Source)
         requires slot { slot < length self.old.slots }
         requires source { IsUsedSource self.old source }
