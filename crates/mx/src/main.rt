@@ -2,8 +2,9 @@
 #![tactic(auto)]
 
 pub use mx_app::{
-    BootError, Failure, FileError, NamedFile, NamedFiles, Reader, Replayed, Request, assemble_file,
-    command, db, one, perform_words, print_listing, print_names, print_one, replay, step,
+    BootError, CommandRequest, Failure, FileError, NamedFile, NamedFiles, Reader, Replayed,
+    assemble_file, command, db, one, perform_words, print_listing, print_names, print_one, replay,
+    step,
 };
 use std::process::ExitCode;
 

@@ -4,7 +4,7 @@ use Rattle.std.proofs.lemmas.Nat.{pow-add, shr_split, shr_high, mod_low, mul-add
 use Rattle.mx_word.specs.Word.{width}
 use Rattle.mx_word.specs.declared.size.Size.{Size}
 use Rattle.mx_word.specs.declared.size.Size.TheVariants.{Byte, Word, Dword}
-use Rattle.mx_alu.specs.Shifts.{rotated}
+use Rattle.mx_alu.specs.Shifts.{rotation_of}
 
 parted : (q r x : ℕ) → x < 2 ^ (q + r) → x * 2 ^ r % 2 ^ (q + r) + x * 2 ^ r / 2 ^ (q + r) < 2 ^ (q + r)
 parted q r x h =
@@ -18,10 +18,10 @@ parted q r x h =
     rw (e, mod_low a (q + r) (b * 2 ^ r) lo, shr_high a (q + r) (b * 2 ^ r) lo) (rw p (let k : b * 2 ^ r + a < 2 ^ r * 2 ^ q = mul-add-lt b (2 ^ r) a (2 ^ q) small high in omega (arith, k)))
 
 -- a word turned to the left is a word
-pub rotated_below : (w x k : ℕ) → k ≤ w → x < 2 ^ w → rotated w x k < 2 ^ w
+pub rotated_below : (w x k : ℕ) → k ≤ w → x < 2 ^ w → rotation_of w x k < 2 ^ w
 rotated_below w x k few h =
     let e : w ≡ (w - k) + k = omega arith in
-    subst (λ (n : ℕ). x < 2 ^ n → rotated n x k < 2 ^ n) (sym e) (parted (w - k) k x) h
+    subst (λ (n : ℕ). x < 2 ^ n → rotation_of n x k < 2 ^ n) (sym e) (parted (w - k) k x) h
 
 pub width_le : (s : Size) → 2 ^ width s ≤ 2 ^ 32
 width_le Byte = omega arith

@@ -2,7 +2,7 @@
 
 ghost use Rattle.std.specs.Prelude.{◌≡◌, ◌^◌, ◌<◌};
 ghost use Rattle.mx_word.specs.Word.{width};
-ghost use Rattle.mx_alu.specs.Extension.{extended, sign_of};
+ghost use Rattle.mx_alu.specs.Extension.{extended_value, sign_of};
 
 use crate::numbers::{Signedness, number, upper};
 use mx_word::{Size, signed};
@@ -11,7 +11,7 @@ use mx_word::{Size, signed};
 /// size is narrower, the number modulo 2 to its bits.
 pub fn extend(kind: Signedness, from: Size, to: Size, x: u32) -> u32
     requires { x < 2 ^ width from }
-    ensures value { result ≡ extended kind (width from) (width to) x }
+    ensures value { result ≡ extended_value kind (width from) (width to) x }
     ensures below { result < 2 ^ width to }
 {
     to.modulo(number(kind, from, x))

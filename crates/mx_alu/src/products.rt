@@ -2,7 +2,7 @@
 
 ghost use Rattle.std.specs.Prelude.{◌≡◌, ◌^◌, ◌<◌};
 ghost use Rattle.mx_word.specs.Word.{width, modulo};
-ghost use Rattle.mx_alu.specs.Products.{product_of, halves_of, multiply_flags, divided, leaves};
+ghost use Rattle.mx_alu.specs.Products.{product_of, halves_of, multiply_flags, division_of, leaves};
 
 use crate::numbers::{Signedness, joined, lifted, quotient, times, upper};
 use mx_flags::Flags;
@@ -101,7 +101,7 @@ pub fn divide(
     requires upper { high < 2 ^ width size }
     requires lower { low < 2 ^ width size }
     requires divisor { divisor < 2 ^ width size }
-    ensures { result ≡ divided kind (width size) high low divisor }
+    ensures { result ≡ division_of kind (width size) high low divisor }
 {
     match kind {
         Signedness::Unsigned => unsigned_quotient(size, high, low, divisor),
@@ -113,7 +113,7 @@ fn unsigned_quotient(size: Size, high: u32, low: u32, divisor: u32) -> Result<Di
     requires upper { high < 2 ^ width size }
     requires lower { low < 2 ^ width size }
     requires divisor { divisor < 2 ^ width size }
-    ensures { result ≡ divided Signedness.Unsigned (width size) high low divisor }
+    ensures { result ≡ division_of Signedness.Unsigned (width size) high low divisor }
 {
     if divisor == 0 {
         return Err(DivideFault);
@@ -133,7 +133,7 @@ fn signed_quotient(size: Size, high: u32, low: u32, divisor: u32) -> Result<Divi
     requires upper { high < 2 ^ width size }
     requires lower { low < 2 ^ width size }
     requires divisor { divisor < 2 ^ width size }
-    ensures { result ≡ divided Signedness.Signed (width size) high low divisor }
+    ensures { result ≡ division_of Signedness.Signed (width size) high low divisor }
 {
     if divisor == 0 {
         return Err(DivideFault);

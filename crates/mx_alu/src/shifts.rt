@@ -2,7 +2,7 @@
 
 ghost use Rattle.std.specs.Prelude.{◌≡◌, ◌^◌, ◌<◌, ◌≤◌};
 ghost use Rattle.mx_word.specs.Word.{width};
-ghost use Rattle.mx_alu.specs.Shifts.{shifted, last_out, turns_over, shift_value, shift_flags, rotated, shown_flags, is_second};
+ghost use Rattle.mx_alu.specs.Shifts.{shift_of, last_out, turns_over, shift_value, shift_flags, rotation_of, shown_flags, is_second};
 
 use crate::numbers::lifted;
 use mx_flags::Flags;
@@ -34,7 +34,7 @@ fn move_by(operation: Shift, size: Size, x: u32, places: u32) -> (u32, bool)
     requires word { x < 2 ^ width size }
     requires some { 0 < places }
     requires few { places < 32 }
-    ensures value { result.0 ≡ shifted operation (width size) x places }
+    ensures value { result.0 ≡ shift_of operation (width size) x places }
     ensures out { result.1 ≡ last_out operation (width size) x places }
     ensures below { result.0 < 2 ^ width size }
 {
@@ -67,7 +67,7 @@ fn move_by(operation: Shift, size: Size, x: u32, places: u32) -> (u32, bool)
 fn rotated(size: Size, x: u32, places: u32) -> u32
     requires word { x < 2 ^ width size }
     requires few { places ≤ width size }
-    ensures value { result ≡ rotated (width size) x places }
+    ensures value { result ≡ rotation_of (width size) x places }
     ensures below { result < 2 ^ width size }
 {
     let lifted = lifted(x, places);
@@ -76,7 +76,7 @@ fn rotated(size: Size, x: u32, places: u32) -> u32
 
 /// Overflow after one place.
 fn turns_over(operation: Shift, size: Size, x: u32, moved: u32, out: bool) -> bool
-    requires value { moved ≡ shifted operation (width size) x 1 }
+    requires value { moved ≡ shift_of operation (width size) x 1 }
     requires out { out ≡ last_out operation (width size) x 1 }
     ensures { result ≡ turns_over operation (width size) x }
 {

@@ -7,7 +7,7 @@ use Rattle.mx_aout.specs.declared.program.Symbol.{Symbol}
 use Rattle.mx_aout.specs.declared.program.Program.{Program}
 use Rattle.mx_aout.specs.declared.program.FileError.{FileError}
 use Rattle.mx_aout.specs.declared.program.FileError.TheVariants.{NoMemory}
-use Rattle.mx_aout.specs.File.{FileIs, Reads}
+use Rattle.mx_aout.specs.File.{FileIs, ReadsFile}
 
 -- a program's parts but for the fact on its sizes, of which there is one proof at most
 abbrev Parts : Type 0
@@ -46,7 +46,7 @@ one_of_file b p q f g =
     p.within
     q.within
 
-pub read_again : (o : Option FileError) (b : List ℕ) (p : Program) (r : Result Program FileError) → o ≡ None → FileIs b p → Reads o b r
+pub read_again : (o : Option FileError) (b : List ℕ) (p : Program) (r : Result Program FileError) → o ≡ None → FileIs b p → ReadsFile o b r
     → MatchResult r (λ again. again ≡ p) (λ e. e ≡ NoMemory)
 read_again (Some d) b p r none f h = absurd cc
 read_again None b p (Ok q) none f h = one_of_file b q p h f

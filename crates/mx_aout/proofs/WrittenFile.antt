@@ -4,12 +4,12 @@ use Rattle.std.specs.Prelude.{bit_and, nat_lt}
 use Rattle.std.specs.List.{AllByRecursion, flat_map}
 use Rattle.std.proofs.lemmas.Bool.{le-ltb, ne_eqb}
 use Rattle.std.proofs.lemmas.List.{take_at, drop_at}
-use Rattle.mx_aout.specs.Limits.{IsWithin, rounded, used_of}
+use Rattle.mx_aout.specs.Limits.{IsWithin, rounded_to_pages, used_of}
 use Rattle.mx_aout.specs.declared.file.Header.{Header}
 use Rattle.mx_aout.specs.declared.program.Program.{Program}
 use Rattle.mx_aout.specs.declared.program.FileError.{FileError}
 use Rattle.mx_aout.specs.declared.program.FileError.TheVariants.{Truncated, BadMagic, BadCpu, BadFlags, BadHeader, NoTotal, TooLarge, BadSymbols}
-use Rattle.mx_aout.specs.File.{FileIs, first_standing, header_of, init_at, reasons_of_sizes, refusal_of, size_reasons, symbols_at, symbols_from}
+use Rattle.mx_aout.specs.File.{FileIs, first_file_error, header_of, init_at, reasons_of_sizes, refusal_of, size_reasons, symbols_at, symbols_from}
 use Rattle.mx_aout.specs.Written.{flags_of, short_file, short_header, symbol_bytes}
 use Rattle.mx_aout.proofs.WrittenSymbols.{IsKept, symbols_again, symbols_length}
 
@@ -47,14 +47,14 @@ same_fields : (a b : Bool) (t u i j s r e f n m k l : ℕ) → a ≡ b → t ≡
     → fields a t i s e n k ≡ fields b u j r f m l
 same_fields a b t u i j s r e f n m k l x1 x2 x3 x4 x5 x6 x7 = cc
 
-passes : (a b : Bool) (rest : List (Bool × FileError)) → a ≡ false → b ≡ false → first_standing rest ≡ None
-    → first_standing ((a, Truncated) ∷ (false, BadMagic) ∷ (false, BadCpu) ∷ (b, BadFlags) ∷ (false, BadHeader) ∷ (false, Truncated) ∷ rest) ≡ None
+passes : (a b : Bool) (rest : List (Bool × FileError)) → a ≡ false → b ≡ false → first_file_error rest ≡ None
+    → first_file_error ((a, Truncated) ∷ (false, BadMagic) ∷ (false, BadCpu) ∷ (b, BadFlags) ∷ (false, BadHeader) ∷ (false, Truncated) ∷ rest) ≡ None
 passes true b rest e f g = cc
 passes false true rest e f g = cc
 passes false false rest e f g = g
 
 four_pass : (a b c d : Bool) → a ≡ false → b ≡ false → c ≡ false → d ≡ false
-    → first_standing ((a, NoTotal) ∷ (b, TooLarge) ∷ (c, BadSymbols) ∷ (d, Truncated) ∷ []) ≡ None
+    → first_file_error ((a, NoTotal) ∷ (b, TooLarge) ∷ (c, BadSymbols) ∷ (d, Truncated) ∷ []) ≡ None
 four_pass true b c d e f g h = cc
 four_pass false true c d e f g h = cc
 four_pass false false true d e f g h = cc
@@ -85,7 +85,7 @@ module _ (p : Program) (within : IsWithin p.sep p.total (length p.text) (length 
 
   header_again : header_of b ≡ fields_of p
   header_again =
-      let parts = used p.sep (length p.text) (length p.init) p.bss (rounded p.total) within.4 in
+      let parts = used p.sep (length p.text) (length p.init) p.bss (rounded_to_pages p.total) within.4 in
       same_fields _ _ _ _ _ _ _ _ _ _ _ _ _ _
       (sep_again p.sep)
       (dword_again (length p.text) (omega arith))
@@ -98,20 +98,20 @@ module _ (p : Program) (within : IsWithin p.sep p.total (length p.text) (length 
   long : length b ≡ 32 + length p.text + length p.init + length p.symbols * 16
   long = omega (arith, length-append (p.text ++ p.init) behind, length-append p.text p.init, symbols_length p.symbols kept)
 
-  fits : first_standing (reasons_of_sizes (fields_of p) (length b)) ≡ None
+  fits : first_file_error (reasons_of_sizes (fields_of p) (length b)) ≡ None
   fits =
       four_pass _ _ _ _
       (ne_eqb p.total 0 (λ e. omega arith))
       (none_of_four _ _ _ _
       (le-ltb 1048576 (length p.text) (omega arith))
       (le-ltb 262144 (length p.symbols * 16) (omega arith))
-      (le-ltb 4194304 (rounded p.total) within.3)
-      (le-ltb (rounded p.total) (used_of p.sep (length p.text) (length p.init) p.bss) within.4))
+      (le-ltb 4194304 (rounded_to_pages p.total) within.3)
+      (le-ltb (rounded_to_pages p.total) (used_of p.sep (length p.text) (length p.init) p.bss) within.4))
       (is_not _ (let e : length p.symbols * 16 % 16 ≡ 0 = omega arith in rw e refl))
       (le-ltb (length b) (symbols_at (fields_of p) + length p.symbols * 16) (omega (arith, long)))
 
-  sizes : first_standing (size_reasons b) ≡ None
-  sizes = ap (λ (h : Header). first_standing (reasons_of_sizes h (length b))) header_again ∙ fits
+  sizes : first_file_error (size_reasons b) ≡ None
+  sizes = ap (λ (h : Header). first_file_error (reasons_of_sizes h (length b))) header_again ∙ fits
 
   accepted : refusal_of b ≡ None
   accepted = passes (nat_lt (length b) 32) (not (bit_and (flags_of p.sep) 0xCB == 0)) (size_reasons b) (le-ltb (length b) 32 (omega (arith, long))) (flags_pass p.sep) sizes

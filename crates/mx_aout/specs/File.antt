@@ -1,7 +1,7 @@
 -- Which bytes are a file of which program (a.out.h, struct exec and struct nlist).
 use Rattle.std.specs.Prelude.{◌≡◌, ℕ, zero, suc, ◌+◌, ◌/◌, ◌%◌, Bool, not, ◌&&◌, ◌||◌, ◌==◌, nat_lt, if◌then◌else◌, List, [], ◌∷◌, length, take, drop, slice_index, Option, Some, None, Result, Ok, Err, bit_and}
 use Rattle.mx_word.specs.Word.{value_at}
-use Rattle.mx_aout.specs.Limits.{rounded, used_of}
+use Rattle.mx_aout.specs.Limits.{rounded_to_pages, used_of}
 use Rattle.mx_aout.specs.declared.program.Symbol.{Symbol}
 use Rattle.mx_aout.specs.declared.program.Program.{Program}
 use Rattle.mx_aout.specs.declared.program.FileError.{FileError}
@@ -40,8 +40,8 @@ symbols_at h = h.length + h.text + h.init + h.text_relocations + h.init_relocati
 -- the parts are too large
 abbrev pub is_too_large : Header → Bool
 is_too_large h =
-    nat_lt 1048576 h.text || nat_lt 262144 h.symbols || nat_lt 4194304 (rounded h.total)
-    || nat_lt (rounded h.total) (used_of h.sep h.text h.init h.bss)
+    nat_lt 1048576 h.text || nat_lt 262144 h.symbols || nat_lt 4194304 (rounded_to_pages h.total)
+    || nat_lt (rounded_to_pages h.total) (used_of h.sep h.text h.init h.bss)
 
 -- the reasons to refuse a file, in order, and whether each stands: those of the header's form, then those of the sizes in it
 abbrev pub reasons_of_sizes : Header → ℕ → List (Bool × FileError)
@@ -55,8 +55,8 @@ reasons_of_sizes h length_of_file =
 abbrev pub size_reasons : List ℕ → List (Bool × FileError)
 size_reasons b = reasons_of_sizes (header_of b) (length b)
 
-abbrev pub reasons : List ℕ → List (Bool × FileError)
-reasons b =
+abbrev pub file_reasons : List ℕ → List (Bool × FileError)
+file_reasons b =
     (nat_lt (length b) 32, Truncated) ∷
     (not (slice_index b 0 == 1 && slice_index b 1 == 3), BadMagic) ∷
     (not (slice_index b 3 == 0x10), BadCpu) ∷
@@ -66,13 +66,13 @@ reasons b =
     (slice_index b 4 == 48 && nat_lt (length b) 48, Truncated) ∷
     size_reasons b
 
-abbrev pub first_standing : List (Bool × FileError) → Option FileError
-first_standing [] = None
-first_standing (r ∷ rest) = if r.0 then Some r.1 else first_standing rest
+abbrev pub first_file_error : List (Bool × FileError) → Option FileError
+first_file_error [] = None
+first_file_error (r ∷ rest) = if r.0 then Some r.1 else first_file_error rest
 
 -- the first reason that stands
 abbrev pub refusal_of : List ℕ → Option FileError
-refusal_of b = first_standing (reasons b)
+refusal_of b = first_file_error (file_reasons b)
 
 -- ---- the program
 
@@ -108,7 +108,7 @@ pub record FileIs (b : List ℕ) (p : Program) : Type 0 where
   pub symbols : p.symbols ≡ symbols_from b (symbols_at (header_of b)) ((header_of b).symbols / 16)
 
 -- what the reader answers: the first refusal that stands, or the program; want of memory aside
-abbrev pub Reads : Option FileError → List ℕ → Result Program FileError → Type 0
-Reads (Some e) b r = r ≡ Err e
-Reads None b (Ok p) = FileIs b p
-Reads None b (Err e) = e ≡ NoMemory
+abbrev pub ReadsFile : Option FileError → List ℕ → Result Program FileError → Type 0
+ReadsFile (Some e) b r = r ≡ Err e
+ReadsFile None b (Ok p) = FileIs b p
+ReadsFile None b (Err e) = e ≡ NoMemory

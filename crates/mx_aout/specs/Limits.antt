@@ -2,8 +2,8 @@
 use Rattle.std.specs.Prelude.{ℕ, ◌+◌, ◌*◌, ◌/◌, ◌<◌, ◌≤◌, Bool, if◌then◌else◌}
 
 -- a size rounded up to whole pages of 4096 bytes
-abbrev pub rounded : ℕ → ℕ
-rounded total = (total + 4095) / 4096 * 4096
+abbrev pub rounded_to_pages : ℕ → ℕ
+rounded_to_pages total = (total + 4095) / 4096 * 4096
 
 -- the bytes that a program's data segment begins with or keeps for bss: the text is among them but where it is separate
 abbrev pub used_of : Bool → ℕ → ℕ → ℕ → ℕ
@@ -12,4 +12,4 @@ used_of sep text init bss = if sep then init + bss else text + init + bss
 -- no refusal for its sizes meets a program: some total, and text, symbols, rounded total and used bytes within their limits
 abbrev pub IsWithin : Bool → ℕ → ℕ → ℕ → ℕ → ℕ → Type 0
 IsWithin sep total text init bss symbols =
-    (0 < total) × (text ≤ 1048576) × (symbols * 16 ≤ 262144) × (rounded total ≤ 4194304) × (used_of sep text init bss ≤ rounded total)
+    (0 < total) × (text ≤ 1048576) × (symbols * 16 ≤ 262144) × (rounded_to_pages total ≤ 4194304) × (used_of sep text init bss ≤ rounded_to_pages total)

@@ -2,8 +2,8 @@
 
 ghost use Rattle.std.specs.Prelude.{◌≡◌, ◌≤◌, ◌+◌, ◌*◌, ◌/◌, None, Some, IfSome, IfNone, IfOk, length, slice_index, take, drop};
 ghost use Rattle.mx_word.specs.Word.{value_at};
-ghost use Rattle.mx_aout.specs.File.{header_of, relocations_at, is_too_large, init_at, symbols_at, refusal_of, first_standing, size_reasons, reasons_of_sizes, symbol_at, symbols_from, Reads};
-ghost use Rattle.mx_aout.specs.Limits.{rounded, used_of, IsWithin};
+ghost use Rattle.mx_aout.specs.File.{header_of, relocations_at, is_too_large, init_at, symbols_at, refusal_of, first_file_error, size_reasons, reasons_of_sizes, symbol_at, symbols_from, ReadsFile};
+ghost use Rattle.mx_aout.specs.Limits.{rounded_to_pages, used_of, IsWithin};
 
 use crate::program::{FileError, Program, Symbol, Symbols};
 use mx_word::{Bytes, read_dword, read_word};
@@ -45,7 +45,7 @@ impl Header {
 
     /// The total, rounded up to 4096.
     fn rounded_total(&self) -> u64
-        ensures { result ≡ rounded self.now.total }
+        ensures { result ≡ rounded_to_pages self.now.total }
     {
         (u64::from(self.total) + 4095) / 4096 * 4096
     }
@@ -116,7 +116,7 @@ fn header_of(bytes: &[u8]) -> Header
 /// The first reason to refuse a file for its header.
 fn header_refusal(bytes: &[u8]) -> Option<FileError>
     ensures stands { IfSome result (λ e. refusal_of bytes.now ≡ Some e) }
-    ensures passes { IfNone result (refusal_of bytes.now ≡ first_standing (size_reasons bytes.now)) }
+    ensures passes { IfNone result (refusal_of bytes.now ≡ first_file_error (size_reasons bytes.now)) }
     ensures header { IfNone result (32 ≤ length bytes.now) }
     ensures long { IfNone result (slice_index bytes.now 4 ≡ 48 → 48 ≤ length bytes.now) }
 {
@@ -142,7 +142,7 @@ fn header_refusal(bytes: &[u8]) -> Option<FileError>
 
 /// The first reason to refuse a file for its sizes.
 fn size_refusal(header: &Header, length: usize) -> Option<FileError>
-    ensures reason { result ≡ first_standing (reasons_of_sizes header.now length) }
+    ensures reason { result ≡ first_file_error (reasons_of_sizes header.now length) }
     ensures within { IfNone result (IsWithin header.now.sep header.now.total header.now.text header.now.init header.now.bss (header.now.symbols / 16)) }
     ensures inside { IfNone result (symbols_at header.now + header.now.symbols ≤ length) }
 {
@@ -210,7 +210,7 @@ fn part(alloc: Global, bytes: &[u8], at: usize, count: u32) -> Result<Bytes, All
 /// The program of a file's bytes, or the first reason to refuse them. Bytes behind the parts,
 /// relocations, the unused byte, the version and the long header's bases are read past.
 pub fn read(alloc: Global, bytes: &[u8]) -> Result<Program, FileError>
-    ensures { Reads (refusal_of bytes.now) bytes.now result }
+    ensures { ReadsFile (refusal_of bytes.now) bytes.now result }
 {
     if let Some(error) = header_refusal(bytes) {
         return Err(error);
@@ -228,7 +228,7 @@ fn read_parts(alloc: Global, bytes: &[u8], header: &Header) -> Result<Program, F
     requires accepted { refusal_of bytes.now ≡ None }
     requires within { IsWithin header.now.sep header.now.total header.now.text header.now.init header.now.bss (header.now.symbols / 16) }
     requires inside { symbols_at header.now + header.now.symbols ≤ length bytes.now }
-    ensures { Reads None bytes.now result }
+    ensures { ReadsFile None bytes.now result }
 {
     let text = part(alloc, bytes, header.length as usize, header.text)?;
     let init = part(alloc, bytes, header.init_at() as usize, header.init)?;

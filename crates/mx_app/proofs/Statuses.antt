@@ -3,8 +3,8 @@ use Rattle.std.proofs.Common.{◌≡◌, ◌⊎◌, ◌≤◌, ℕ, Result, Ok, 
 use Rattle.std.specs.Prelude.{MatchResult}
 use Rattle.clap.specs.declared.error.kind.ErrorKind.{ErrorKind}
 use Rattle.clap.specs.declared.error.kind.ErrorKind.TheVariants as words
-use Rattle.mx_failure.specs.declared.failure.Failure.{Failure}
-use Rattle.mx_failure.specs.Failure.{IsWanting}
+use Rattle.mx_app_failure.specs.declared.failure.Failure.{Failure}
+use Rattle.mx_app_failure.specs.Failure.{IsWanting}
 use Rattle.mx_app.specs.Words.{Explains}
 
 pub run_small : (r : Result ℕ Failure) → IfOk r (λ s. (s ≡ 0) ⊎ (s ≡ 1)) → IfOk r (λ s. s ≤ 2)

@@ -5,16 +5,16 @@ use Rattle.std.specs.declared.io.ErrorKind.{ErrorKind}
 use Rattle.std.specs.declared.io.ErrorKind.TheVariants as kinds
 use Rattle.mx_aout.specs.declared.program.FileError.{FileError}
 use Rattle.mx_aout.specs.declared.program.FileError.TheVariants as errors
-use Rattle.mx_fields.specs.declared.error.BootError.{BootError}
-use Rattle.mx_fields.specs.declared.error.BootError.TheVariants as lines
-use Rattle.mx_db.specs.Config.{Config}
-use Rattle.mx_failure.specs.declared.failure.Failure.{Failure}
-use Rattle.mx_failure.specs.declared.failure.Failure.TheVariants.{File, NoMemory, NotText}
-use Rattle.mx_failure.specs.Failure.{IsWanting, Tells, failure_of, failure_of_kind, failure_of_lines}
-use Rattle.mx_db.specs.ServiceLine.{ServiceLine}
-use Rattle.mx_db.specs.Asked.{Asked}
-use Rattle.mx_db.specs.Setup.{IsFaulty, IsFirstRefused, IsMissed, IsNoText, IsRefused, IsSetupFault}
-use Rattle.mx_db.specs.Telling.{IsTold}
+use Rattle.mx_text.specs.declared.error.BootError.{BootError}
+use Rattle.mx_text.specs.declared.error.BootError.TheVariants as lines
+use Rattle.mx_app_db.specs.Config.{Config}
+use Rattle.mx_app_failure.specs.declared.failure.Failure.{Failure}
+use Rattle.mx_app_failure.specs.declared.failure.Failure.TheVariants.{File, NoMemory, NotText}
+use Rattle.mx_app_failure.specs.Failure.{IsWanting, Tells, failure_of, failure_of_kind, failure_of_lines}
+use Rattle.mx_app_db.specs.ServiceLine.{ServiceLine}
+use Rattle.mx_app_db.specs.Asked.{Asked}
+use Rattle.mx_app_db.specs.Setup.{IsTextFaulty, IsFirstRefused, IsFileMissed, IsNoTextGiven, IsFileRefused, IsSetupFault}
+use Rattle.mx_app_db.specs.Telling.{IsTold}
 
 abbrev IsOther : Failure → Type 0
 IsOther f = f ≡ NotText → ⊥
@@ -50,16 +50,16 @@ pub read_other : {A : Type 0} (k : ErrorKind) (r : Result A Failure) → IsErrAn
 read_other k (Ok x) h = absurd h
 read_other k (Err f) h = subst IsOther (sym h) (of_kind k)
 
-missed : (name : List ℕ) (q : Asked) (f : Failure) → IsMissed name q f → IsOther f
+missed : (name : List ℕ) (q : Asked) (f : Failure) → IsFileMissed name q f → IsOther f
 missed name q f h = subst IsOther (sym h.2) (of_kind h.0)
 
-no_text : (name : List ℕ) (q : Asked) (f : Failure) → IsNoText name q f → IsOther f
+no_text : (name : List ℕ) (q : Asked) (f : Failure) → IsNoTextGiven name q f → IsOther f
 no_text name q f h = elim h [ inl m ↦ missed name q f m | inr p ↦ is_file f p.3 ]
 
-faulty : (Tells : List ℕ → BootError → Type 0) (name : List ℕ) (q : Asked) (f : Failure) → IsFaulty Tells name q f → IsOther f
+faulty : (Tells : List ℕ → BootError → Type 0) (name : List ℕ) (q : Asked) (f : Failure) → IsTextFaulty Tells name q f → IsOther f
 faulty Tells name q f h = subst IsOther (sym h.4) (of_lines h.1)
 
-refused : (line : ServiceLine) (q : Asked) (f : Failure) → IsRefused line q f → IsOther f
+refused : (line : ServiceLine) (q : Asked) (f : Failure) → IsFileRefused line q f → IsOther f
 refused line q f h = elim h [ inl m ↦ missed line.file q f m | inr p ↦ subst IsOther (sym p.4) (of_file p.1) ]
 
 first_refused : (lines : List ServiceLine) (qs : List Asked) (f : Failure) → IsFirstRefused lines qs f → IsOther f

@@ -4,9 +4,9 @@ use Rattle.std.specs.declared.io.ErrorKind.{ErrorKind}
 use Rattle.std.specs.declared.io.ErrorKind.TheVariants as kinds
 use Rattle.clap.specs.declared.error.kind.ErrorKind.{ErrorKind as WordsErrorKind}
 use Rattle.clap.specs.declared.error.kind.ErrorKind.TheVariants as words
-use Rattle.mx_failure.specs.declared.failure.Failure.{Failure as Kind}
-use Rattle.mx_failure.specs.declared.failure.Failure.TheVariants.{NotText, NoMemory}
-use Rattle.mx_failure.specs.Failure.{IsWanting}
+use Rattle.mx_app_failure.specs.declared.failure.Failure.{Failure as Kind}
+use Rattle.mx_app_failure.specs.declared.failure.Failure.TheVariants.{NotText, NoMemory}
+use Rattle.mx_app_failure.specs.Failure.{IsWanting}
 
 -- why they can't be had
 abbrev pub words_failure_of : ErrorKind → Kind

@@ -3,8 +3,8 @@
 
 mod perform;
 
-pub use mx_command::{Request, command};
-pub use mx_db::{NamedFile, NamedFiles, Reader, Replayed, db, replay, step};
-pub use mx_failure::{BootError, Failure, FileError};
-pub use mx_program::{assemble_file, one, print_listing, print_names, print_one};
+pub use mx_app_command::{CommandRequest, command};
+pub use mx_app_db::{NamedFile, NamedFiles, Reader, Replayed, db, replay, step};
+pub use mx_app_failure::{BootError, Failure, FileError};
+pub use mx_app_program::{assemble_file, one, print_listing, print_names, print_one};
 pub use perform::perform_words;

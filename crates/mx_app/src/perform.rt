@@ -6,10 +6,10 @@ ghost use Rattle.clap.specs.Words.{kind_of};
 ghost use Rattle.mx_app.specs.Words.{Explains, words_failure_of};
 
 use clap::error::ErrorKind;
-use mx_command::{Request, command};
-use mx_db::{Replayed, RuntimeFiles, db, replay, step};
-use mx_failure::Failure;
-use mx_program::{assemble_file, print_listing, print_names, print_one};
+use mx_app_command::{CommandRequest, command};
+use mx_app_db::{Replayed, RuntimeFiles, db, replay, step};
+use mx_app_failure::Failure;
+use mx_app_program::{assemble_file, print_listing, print_names, print_one};
 use std::rt::{Env, Files};
 use std::{env, fs, io};
 
@@ -89,18 +89,18 @@ fn run_db(
 }
 
 /// Does what a request asks for, and answers the status to end with.
-fn run(rt: &(impl Files + Print + AllocGlobal), request: Request<'_>) -> Result<u8, Failure>
+fn run(rt: &(impl Files + Print + AllocGlobal), request: CommandRequest<'_>) -> Result<u8, Failure>
     ensures err { IfErr result (λ failure. failure ≢ Failure.NotText) }
     ensures status { IfOk result (λ status. (status ≡ 0) ⊎ (status ≡ 1)) }
 {
     let done = match request {
-        Request::One { file, steps } => run_one(rt, file, steps),
-        Request::As { text, file } => run_as(rt, text, file),
-        Request::Dis { file } => run_dis(rt, file),
-        Request::Nm { file } => run_nm(rt, file),
-        Request::Step { config, script } => run_step(rt, config, script),
-        Request::Replay { config, log } => return run_replay(rt, config, log),
-        Request::Db { config, script } => run_db(rt, config, script),
+        CommandRequest::One { file, steps } => run_one(rt, file, steps),
+        CommandRequest::As { text, file } => run_as(rt, text, file),
+        CommandRequest::Dis { file } => run_dis(rt, file),
+        CommandRequest::Nm { file } => run_nm(rt, file),
+        CommandRequest::Step { config, script } => run_step(rt, config, script),
+        CommandRequest::Replay { config, log } => return run_replay(rt, config, log),
+        CommandRequest::Db { config, script } => run_db(rt, config, script),
     };
     done?;
     Ok(0)

@@ -5,15 +5,15 @@ use Rattle.std.specs.List.{flat_map}
 use Rattle.std.proofs.lemmas.List.{length-append, length-replicate, length-map}
 use Rattle.mx_word.specs.Word.{bytes_of, bytes_in}
 use Rattle.mx_encode.specs.Filled.{with_immediate, with_displacement}
-use Rattle.mx_statement.specs.declared.statement.Section.{Section}
-use Rattle.mx_statement.specs.declared.statement.Section.TheVariants.{Text, Data, Bss}
-use Rattle.mx_statement.specs.declared.statement.Statement.{Statement}
-use Rattle.mx_statement.specs.declared.statement.Statement.TheVariants as says
-use Rattle.mx_statement.specs.declared.instruction.Instruction.{Instruction}
-use Rattle.mx_statement.specs.declared.value.Value.{Value}
-use Rattle.mx_statement.specs.Instructions.{marks}
-use Rattle.mx_layout.specs.Lengths.{length_of}
-use Rattle.mx_layout.specs.Layout.{Above, value_under}
+use Rattle.mx_asm_statement.specs.declared.statement.Section.{Section}
+use Rattle.mx_asm_statement.specs.declared.statement.Section.TheVariants.{Text, Data, Bss}
+use Rattle.mx_asm_statement.specs.declared.statement.Statement.{Statement}
+use Rattle.mx_asm_statement.specs.declared.statement.Statement.TheVariants as says
+use Rattle.mx_asm_statement.specs.declared.instruction.Instruction.{Instruction}
+use Rattle.mx_asm_statement.specs.declared.value.Value.{Value}
+use Rattle.mx_asm_statement.specs.Instructions.{marks}
+use Rattle.mx_asm.specs.Lengths.{statement_length}
+use Rattle.mx_asm.specs.Layout.{LinesAbove, value_under}
 use Rattle.mx_asm.specs.Bytes.{BytesOf, StandsIn, named_under, put_under, put_in, then_put}
 use Rattle.mx_insn.specs.declared.insn.Insn.{Insn}
 use Rattle.mx_encode.specs.declared.Wide.{Wide}
@@ -45,7 +45,7 @@ pub record KeepsLength : Type 0 where
   pub displacement : (i : Insn) (wide : Wide) (n : ℕ) → IsTrue wide.displacement → chosen_length (with_displacement i n) wide ≡ chosen_length i wide
 
 -- a number that is put in keeps whatever putting one in keeps
-put_keeps : (put : Insn → ℕ → Insn) (f : Insn → ℕ) (a : Above) (v : Option Value) (i insn : Insn) → ((n : ℕ) → IsTrue (is_some v) → f (put i n) ≡ f i)
+put_keeps : (put : Insn → ℕ → Insn) (f : Insn → ℕ) (a : LinesAbove) (v : Option Value) (i insn : Insn) → ((n : ℕ) → IsTrue (is_some v) → f (put i n) ≡ f i)
     → put_under a put v i ≡ Some insn → f insn ≡ f i
 put_keeps put f a None i insn keeps e = let same : insn ≡ i = cc in ap f same
 put_keeps put f a (Some v) i insn keeps e = by_case (value_under a v) e
@@ -54,13 +54,13 @@ put_keeps put f a (Some v) i insn keeps e = by_case (value_under a v) e
     by_case None e = cc
     by_case (Some n) e = let same : insn ≡ put i n = cc in ap f same ∙ keeps n refl
 
-then_keeps : (put : Insn → ℕ → Insn) (f : Insn → ℕ) (a : Above) (v : Option Value) (o : Option Insn) (insn : Insn) (k : ℕ)
+then_keeps : (put : Insn → ℕ → Insn) (f : Insn → ℕ) (a : LinesAbove) (v : Option Value) (o : Option Insn) (insn : Insn) (k : ℕ)
     → ((i : Insn) (n : ℕ) → IsTrue (is_some v) → f (put i n) ≡ f i) → ((i : Insn) → o ≡ Some i → f i ≡ k)
     → then_put a put v o ≡ Some insn → f insn ≡ k
 then_keeps put f a v None insn k keeps before e = cc
 then_keeps put f a v (Some i) insn k keeps before e = put_keeps put f a v i insn (keeps i) e ∙ before i refl
 
-named_length : KeepsLength → (a : Above) (i : Instruction) (insn : Insn) → named_under a i ≡ Some insn → chosen_length insn (marks i) ≡ chosen_length i.insn (marks i)
+named_length : KeepsLength → (a : LinesAbove) (i : Instruction) (insn : Insn) → named_under a i ≡ Some insn → chosen_length insn (marks i) ≡ chosen_length i.insn (marks i)
 named_length law a i insn e =
     then_keeps with_displacement (λ x. chosen_length x (marks i)) a i.displacement (put_under a with_immediate i.immediate i.insn) insn (chosen_length i.insn (marks i))
     (λ x n h. law.displacement x (marks i) n h)
@@ -70,7 +70,7 @@ named_length law a i insn e =
 -- ---- statements
 
 -- a statement's bytes have its length, wherever its names stand
-bytes_length : KeepsLength → (a : Above) (at : ℕ) (t : Statement) (b : List ℕ) → BytesOf a at t b → length b ≡ length_of t
+bytes_length : KeepsLength → (a : LinesAbove) (at : ℕ) (t : Statement) (b : List ℕ) → BytesOf a at t b → length b ≡ statement_length t
 bytes_length law a at says.Nothing b h = ap length h
 bytes_length law a at (says.Enter section) b h = ap length h
 bytes_length law a at (says.Data size values) b (numbers, e, h) =
@@ -84,7 +84,7 @@ bytes_length law a at (says.Stack n) b h = ap length h
 bytes_length law a at (says.Instruction i) b (insn, e, x) = length-chosen insn (marks i) b x ∙ named_length law a i insn e
 bytes_length law a at (says.Branch k target) b (x, e, chosen, n) = n
 
-pub stands_length : KeepsLength → (section : Section) (a : Above) (at : ℕ) (t : Statement) (b : List ℕ) → StandsIn section a at t b → length b ≡ length_of t
+pub stands_length : KeepsLength → (section : Section) (a : LinesAbove) (at : ℕ) (t : Statement) (b : List ℕ) → StandsIn section a at t b → length b ≡ statement_length t
 stands_length law Text a at t b h = bytes_length law a at t b h
 stands_length law Data a at t b h = bytes_length law a at t b h
-stands_length law Bss a at t b h = ap length h ∙ length-replicate (length_of t) 0
+stands_length law Bss a at t b h = ap length h ∙ length-replicate (statement_length t) 0

@@ -1,3 +1,5 @@
+pub mod Branching
+pub mod Laying
 pub mod Lengths
 pub mod Standing
 pub mod Emitting

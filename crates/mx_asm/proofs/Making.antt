@@ -12,31 +12,31 @@ use Rattle.mx_encode.specs.Forms.{has_form}
 use Rattle.mx_encode.specs.Chosen.{Chosen}
 use Rattle.mx_encode.specs.Filled.{with_immediate, with_displacement}
 use Rattle.mx_encode.specs.Given.{Fits}
-use Rattle.mx_line.specs.Lines.{lines}
-use Rattle.mx_statement.specs.declared.statement.Section.{Section}
-use Rattle.mx_statement.specs.declared.statement.Section.TheVariants.{Text, Data, Bss}
-use Rattle.mx_statement.specs.declared.statement.Statement.{Statement}
-use Rattle.mx_statement.specs.declared.statement.Statement.TheVariants as says
-use Rattle.mx_statement.specs.declared.instruction.Instruction.{Instruction}
-use Rattle.mx_statement.specs.declared.branch.Branch.{Branch}
-use Rattle.mx_statement.specs.declared.branch.Branch.TheVariants as branches
-use Rattle.mx_statement.specs.declared.value.Value.{Value}
-use Rattle.mx_statement.specs.declared.line.Line.{Line}
-use Rattle.mx_statement.specs.Instructions.{marks}
-use Rattle.mx_reading.specs.Lines.{IsLine}
-use Rattle.mx_aout.specs.Limits.{rounded, used_of, IsWithin}
+use Rattle.mx_text.specs.Lines.{lines}
+use Rattle.mx_asm_statement.specs.declared.statement.Section.{Section}
+use Rattle.mx_asm_statement.specs.declared.statement.Section.TheVariants.{Text, Data, Bss}
+use Rattle.mx_asm_statement.specs.declared.statement.Statement.{Statement}
+use Rattle.mx_asm_statement.specs.declared.statement.Statement.TheVariants as says
+use Rattle.mx_asm_statement.specs.declared.instruction.Instruction.{Instruction}
+use Rattle.mx_asm_statement.specs.declared.branch.Branch.{Branch}
+use Rattle.mx_asm_statement.specs.declared.branch.Branch.TheVariants as branches
+use Rattle.mx_asm_statement.specs.declared.value.Value.{Value}
+use Rattle.mx_asm_statement.specs.declared.line.Line.{Line}
+use Rattle.mx_asm_statement.specs.Instructions.{marks}
+use Rattle.mx_asm_line.specs.Lines.{IsLine}
+use Rattle.mx_aout.specs.Limits.{rounded_to_pages, used_of, IsWithin}
 use Rattle.mx_aout.specs.declared.program.Program.{Program}
-use Rattle.mx_layout.specs.declared.sizes.Sizes.{Sizes}
-use Rattle.mx_layout.specs.declared.fault.Problem.TheVariants.{TooFar, TooLarge}
-use Rattle.mx_layout.specs.declared.fault.Fault.{Fault}
-use Rattle.mx_layout.specs.Branches.{branch_by, branch_marks, branch_length, distance, is_too_far}
-use Rattle.mx_layout.specs.Lengths.{length_of}
-use Rattle.mx_layout.specs.Layout.{Above, start, said, left_by, laid_by, address_of, spot_of, sizes_after, value_under, base_of, counted_from}
+use Rattle.mx_asm.specs.declared.sizes.SectionSizes.{SectionSizes}
+use Rattle.mx_asm.specs.declared.fault.Problem.TheVariants.{TooFar, TooLarge}
+use Rattle.mx_asm.specs.declared.fault.Fault.{Fault}
+use Rattle.mx_asm.specs.Branches.{branch_by, branch_marks, branch_length, distance, is_too_far}
+use Rattle.mx_asm.specs.Lengths.{statement_length}
+use Rattle.mx_asm.specs.Layout.{LinesAbove, no_lines_above, statement_said, left_by, laid_by, address_of_offset, section_offset_of, sizes_after, value_under, value_base, counted_from}
 use Rattle.mx_asm.specs.Bytes.{put_in, put_under, then_put, named_under, BytesOf, StandsIn, AllStand, contents}
-use Rattle.mx_layout.specs.Faults.{is_undefined, is_undefined_if, undefined_where, undefined_or, problem_at, fault_or, first_problem, total_of, at_least, is_too_large, last_line, too_large_in, first_of, fault_behind}
-use Rattle.mx_layout.specs.Faults as faults
+use Rattle.mx_asm.specs.Faults.{is_undefined, is_undefined_if, undefined_where, undefined_or, problem_at, fault_or, first_problem, total_of, at_least, is_program_too_large, number_of_last_line, too_large_in, first_of, fault_behind}
+use Rattle.mx_asm.specs.Faults as faults
 use Rattle.mx_asm.specs.Assembled.{AreAssembled, symbol_under, entry_under}
-use Rattle.mx_asm.specs.Text.{AreTaken, on_behind, Assembled}
+use Rattle.mx_asm.specs.Text.{AreLinesTaken, on_behind, IsAssembled}
 use Rattle.mx_asm.proofs.Lengths.{KeepsLength, stands_length}
 use Rattle.mx_asm.proofs.Standing.{neither}
 use Rattle.mx_asm.proofs.Emitting.{lengths_same}
@@ -67,8 +67,8 @@ counted : (v : Value) (o : Option ℕ) → not (is_some (counted_from v o)) ≡ 
 counted v None h = cc
 counted v (Some base) h = (_, refl, dword_below _)
 
-has_value : (a : Above) (v : Value) → is_undefined a v ≡ false → HasValue (value_under a v)
-has_value a v h = counted v (base_of a v.name) h
+has_value : (a : LinesAbove) (v : Value) → is_undefined a v ≡ false → HasValue (value_under a v)
+has_value a v h = counted v (value_base a v.name) h
 
 or_left : (b c : Bool) → (b || c) ≡ false → b ≡ false
 or_left true c h = cc
@@ -78,7 +78,7 @@ or_right : (b c : Bool) → (b || c) ≡ false → c ≡ false
 or_right true c h = cc
 or_right false c h = h
 
-all_values : (a : Above) (vs : List Value) → list_any (is_undefined a) vs ≡ false → (ns : List ℕ) × (map (value_under a) vs ≡ map Some ns)
+all_values : (a : LinesAbove) (vs : List Value) → list_any (is_undefined a) vs ≡ false → (ns : List ℕ) × (map (value_under a) vs ≡ map Some ns)
 all_values a [] h = ([], refl)
 all_values a (v ∷ vs) h =
     let (n, e, lt) = has_value a v (or_left (is_undefined a v) (list_any (is_undefined a) vs) h) in
@@ -97,19 +97,19 @@ Sound i = Fits i × (has_form i ≡ true)
 abbrev SoundIf : Option Insn → Type 0
 SoundIf o = (i : Insn) × (o ≡ Some i) × Sound i
 
-sound_put : (a : Above) (put : Insn → ℕ → Insn) (v : Option Value) (i : Insn) → is_undefined_if a v ≡ false → Sound i → ((n : ℕ) → n < 2 ^ 32 → Sound (put i n))
+sound_put : (a : LinesAbove) (put : Insn → ℕ → Insn) (v : Option Value) (i : Insn) → is_undefined_if a v ≡ false → Sound i → ((n : ℕ) → n < 2 ^ 32 → Sound (put i n))
     → SoundIf (put_under a put v i)
 sound_put a put None i h s k = (i, refl, s)
 sound_put a put (Some v) i h s k =
     let (n, e, lt) = has_value a v h in
     (put i n, ap (put_in put i) e, k n lt)
 
-then_sound : Encodes → (a : Above) (v : Option Value) (o : Option Insn) → is_undefined_if a v ≡ false → SoundIf o → SoundIf (then_put a with_displacement v o)
+then_sound : Encodes → (a : LinesAbove) (v : Option Value) (o : Option Insn) → is_undefined_if a v ≡ false → SoundIf o → SoundIf (then_put a with_displacement v o)
 then_sound law a v o h (i, e, s) =
     let (x, f, g) = sound_put a with_displacement v i h s (λ n lt. (law.displacement_fits i n lt s.0, law.displacement_form i n ∙ s.1)) in
     (x, ap (then_put a with_displacement v) e ∙ f, g)
 
-named_sound : Encodes → (a : Above) (i : Instruction) → Fits i.insn → is_undefined_if a i.immediate ≡ false → is_undefined_if a i.displacement ≡ false → SoundIf (named_under a i)
+named_sound : Encodes → (a : LinesAbove) (i : Instruction) → Fits i.insn → is_undefined_if a i.immediate ≡ false → is_undefined_if a i.displacement ≡ false → SoundIf (named_under a i)
 named_sound law a i fits h k =
     then_sound law a i.displacement (put_under a with_immediate i.immediate i.insn) k
     (sound_put a with_immediate i.immediate i.insn h (fits, i.spelled) (λ n lt. (law.immediate_fits i.insn n lt fits, law.immediate_form i.insn n ∙ i.spelled)))
@@ -136,7 +136,7 @@ reached (Some x) far h = (x, refl, by_case (far x) h)
     by_case true h = cc
     by_case false h = refl
 
-branch_some : Encodes → (a : Above) (at : ℕ) (k : Branch) (target : Value) → problem_at a at (says.Branch k target) ≡ None → (b : List ℕ) × BytesOf a at (says.Branch k target) b
+branch_some : Encodes → (a : LinesAbove) (at : ℕ) (k : Branch) (target : Value) → problem_at a at (says.Branch k target) ≡ None → (b : List ℕ) × BytesOf a at (says.Branch k target) b
 branch_some law a at k target h =
     let (x, e, near) = reached (value_under a target) (λ x. is_too_far k (distance (at + branch_length k) x)) h in
     let d = distance (at + branch_length k) x in
@@ -150,7 +150,7 @@ abbrev pub Fitting : Statement → Type 0
 Fitting (says.Instruction i) = Fits i.insn
 Fitting _ = Unit {0}
 
-bytes_some : Encodes → (a : Above) (at : ℕ) (t : Statement) → Fitting t → problem_at a at t ≡ None → (b : List ℕ) × BytesOf a at t b
+bytes_some : Encodes → (a : LinesAbove) (at : ℕ) (t : Statement) → Fitting t → problem_at a at t ≡ None → (b : List ℕ) × BytesOf a at t b
 bytes_some law a at says.Nothing fits h = ([], refl)
 bytes_some law a at (says.Enter section) fits h = ([], refl)
 bytes_some law a at (says.Data size values) fits h =
@@ -167,29 +167,29 @@ bytes_some law a at (says.Instruction i) fits h =
     (b, (insn, e, chosen))
 bytes_some law a at (says.Branch k target) fits h = branch_some law a at k target h
 
-stands_some : Encodes → (section : Section) (a : Above) (at : ℕ) (t : Statement) → Fitting t → problem_at a at t ≡ None → (b : List ℕ) × StandsIn section a at t b
+stands_some : Encodes → (section : Section) (a : LinesAbove) (at : ℕ) (t : Statement) → Fitting t → problem_at a at t ≡ None → (b : List ℕ) × StandsIn section a at t b
 stands_some law Text a at t fits h = bytes_some law a at t fits h
 stands_some law Data a at t fits h = bytes_some law a at t fits h
-stands_some law Bss a at t fits h = (replicate (length_of t) 0, refl)
+stands_some law Bss a at t fits h = (replicate (statement_length t) 0, refl)
 
 -- ---- all lines
 
 abbrev pub AllFitting : List Line → Type 0
 AllFitting [] = Unit {0}
-AllFitting (l ∷ ls) = Fitting (said l) × AllFitting ls
+AllFitting (l ∷ ls) = Fitting (statement_said l) × AllFitting ls
 
-all_some : Encodes → (a : Above) (s : Sizes) (n : ℕ) (ls : List Line) → AllFitting ls → first_problem a s n ls ≡ None → (bs : List (List ℕ)) × AllStand a s ls bs
+all_some : Encodes → (a : LinesAbove) (s : SectionSizes) (n : ℕ) (ls : List Line) → AllFitting ls → first_problem a s n ls ≡ None → (bs : List (List ℕ)) × AllStand a s ls bs
 all_some law a s n [] fits h = ([], tt)
 all_some law a s n (l ∷ ls) (fits, more) h =
-    let at = address_of a (spot_of s) in
-    let rest = first_problem a (sizes_after s (said l) (length_of (said l))) (n + 1) ls in
-    let clean = neither (problem_at a at (said l)) n rest h in
-    let (b, right) = stands_some law s.section a at (said l) fits clean.0 in
-    let long : length b ≡ length_of (said l) = stands_length law.keeps s.section a at (said l) b right in
-    let (bs, stand) = all_some law a (sizes_after s (said l) (length_of (said l))) (n + 1) ls more clean.1 in
-    (b ∷ bs, (right, subst (λ (k : ℕ). AllStand a (sizes_after s (said l) k) ls bs) (sym long) stand))
+    let at = address_of_offset a (section_offset_of s) in
+    let rest = first_problem a (sizes_after s (statement_said l) (statement_length (statement_said l))) (n + 1) ls in
+    let clean = neither (problem_at a at (statement_said l)) n rest h in
+    let (b, right) = stands_some law s.section a at (statement_said l) fits clean.0 in
+    let long : length b ≡ statement_length (statement_said l) = stands_length law.keeps s.section a at (statement_said l) b right in
+    let (bs, stand) = all_some law a (sizes_after s (statement_said l) (statement_length (statement_said l))) (n + 1) ls more clean.1 in
+    (b ∷ bs, (right, subst (λ (k : ℕ). AllStand a (sizes_after s (statement_said l) k) ls bs) (sym long) stand))
 
-said_fits : Encodes → (t : List ℕ) (l : Line) → IsLine t l → Fitting (said l)
+said_fits : Encodes → (t : List ℕ) (l : Line) → IsLine t l → Fitting (statement_said l)
 said_fits law t l line = by_case l.statement (λ i. law.line t l i line)
   where
     by_case : (o : Option Statement) → ((i : Instruction) → o ≡ Some (says.Instruction i) → Fits i.insn) → Fitting (unwrap_or o says.Nothing)
@@ -205,7 +205,7 @@ said_fits law t l line = by_case l.statement (λ i. law.line t l i line)
     by_case (Some (says.Stack n)) k = tt
     by_case (Some (says.Branch b target)) k = tt
 
-taken_fit : Encodes → (a : Above) (ts : List (List ℕ)) (ls : List Line) → AreTaken a ts ls → AllFitting ls
+taken_fit : Encodes → (a : LinesAbove) (ts : List (List ℕ)) (ls : List Line) → AreLinesTaken a ts ls → AllFitting ls
 taken_fit law a [] [] h = tt
 taken_fit law a [] (l ∷ ls) h = absurd h
 taken_fit law a (t ∷ ts) [] h = absurd h
@@ -213,30 +213,30 @@ taken_fit law a (t ∷ ts) (l ∷ ls) ((line, clean), more) = (said_fits law t l
 
 -- ---- sizes
 
-small_total : (n : ℕ) → nat_lt 4194304 (at_least 4096 (rounded n)) ≡ false
-    → (0 < at_least 4096 (rounded n)) × (rounded (at_least 4096 (rounded n)) ≤ 4194304) × (n ≤ rounded (at_least 4096 (rounded n)))
-small_total n h = by_case (nat_lt (rounded n) 4096) refl h
+small_total : (n : ℕ) → nat_lt 4194304 (at_least 4096 (rounded_to_pages n)) ≡ false
+    → (0 < at_least 4096 (rounded_to_pages n)) × (rounded_to_pages (at_least 4096 (rounded_to_pages n)) ≤ 4194304) × (n ≤ rounded_to_pages (at_least 4096 (rounded_to_pages n)))
+small_total n h = by_case (nat_lt (rounded_to_pages n) 4096) refl h
   where
-    by_case : (b : Bool) → nat_lt (rounded n) 4096 ≡ b → nat_lt 4194304 (cond b 4096 (rounded n)) ≡ false
-        → (0 < cond b 4096 (rounded n)) × (rounded (cond b 4096 (rounded n)) ≤ 4194304) × (n ≤ rounded (cond b 4096 (rounded n)))
-    by_case true e h = let less : rounded n < 4096 = ltb-true (rounded n) 4096 e in (lit< tt, omega arith, omega (arith, less))
+    by_case : (b : Bool) → nat_lt (rounded_to_pages n) 4096 ≡ b → nat_lt 4194304 (cond b 4096 (rounded_to_pages n)) ≡ false
+        → (0 < cond b 4096 (rounded_to_pages n)) × (rounded_to_pages (cond b 4096 (rounded_to_pages n)) ≤ 4194304) × (n ≤ rounded_to_pages (cond b 4096 (rounded_to_pages n)))
+    by_case true e h = let less : rounded_to_pages n < 4096 = ltb-true (rounded_to_pages n) 4096 e in (lit< tt, omega arith, omega (arith, less))
     by_case false e h =
-        let least : 4096 ≤ rounded n = ltb-false (rounded n) 4096 e in
-        let most : rounded n ≤ 4194304 = ltb-false 4194304 (rounded n) h in
+        let least : 4096 ≤ rounded_to_pages n = ltb-false (rounded_to_pages n) 4096 e in
+        let most : rounded_to_pages n ≤ 4194304 = ltb-false 4194304 (rounded_to_pages n) h in
         (omega (arith, least), omega (arith, most), omega (arith, least))
 
 used_same : (sep : Bool) (text init bss : ℕ) → used_of sep text init bss ≡ (cond sep 0 text) + init + bss
 used_same true text init bss = omega arith
 used_same false text init bss = refl
 
-within : (a : Above) → is_too_large a ≡ false → IsWithin a.sep (total_of a) a.sizes.text a.sizes.init a.sizes.bss (length a.labels)
+within : (a : LinesAbove) → is_program_too_large a ≡ false → IsWithin a.sep (total_of a) a.sizes.text a.sizes.init a.sizes.bss (length a.labels)
 within a h =
     let texts = or_left (nat_lt 1048576 a.sizes.text || nat_lt 262144 (length a.labels * 16)) (nat_lt 4194304 (total_of a)) h in
     let total = or_right (nat_lt 1048576 a.sizes.text || nat_lt 262144 (length a.labels * 16)) (nat_lt 4194304 (total_of a)) h in
     let text = or_left (nat_lt 1048576 a.sizes.text) (nat_lt 262144 (length a.labels * 16)) texts in
     let labels = or_right (nat_lt 1048576 a.sizes.text) (nat_lt 262144 (length a.labels * 16)) texts in
     let stack = unwrap_or a.stack 2048 in
-    let sized = small_total (faults.used_of a + stack) total in
+    let sized = small_total (faults.bytes_used a + stack) total in
     let used = used_same a.sep a.sizes.text a.sizes.init a.sizes.bss in
     (sized.0, ltb-false 1048576 a.sizes.text text, ltb-false 262144 (length a.labels * 16) labels, sized.1, omega (arith, used, sized.2))
 
@@ -251,26 +251,26 @@ no_first (Some f) g h = cc
 -- ---- the program
 
 -- the program of these bytes
-built : KeepsLength → (ls : List Line) (bs : List (List ℕ)) → fault_behind ls ≡ None → is_too_large (laid_by start ls) ≡ false → AllStand (laid_by start ls) start.sizes ls bs
+built : KeepsLength → (ls : List Line) (bs : List (List ℕ)) → fault_behind ls ≡ None → is_program_too_large (laid_by no_lines_above ls) ≡ false → AllStand (laid_by no_lines_above ls) no_lines_above.sizes ls bs
     → (p : Program) × AreAssembled ls p
 built law ls bs clean small stand =
-    let a = laid_by start ls in
-    let left : left_by start ls (map length bs) ≡ a = lengths_same law a start start.sizes ls bs stand in
-    let back : a ≡ left_by start ls (map length bs) = sym left in
-    let size = contents_size law Text (λ b. refl) a start ls bs stand in
-    let other = contents_size law Data (λ b. refl) a start ls bs stand in
-    let text : a.sizes.text ≡ length (contents Text start.sizes ls bs) = omega (arith, size, ap (λ (x : Above). x.sizes.text) back) in
-    let init : a.sizes.init ≡ length (contents Data start.sizes ls bs) = omega (arith, other, ap (λ (x : Above). x.sizes.init) back) in
+    let a = laid_by no_lines_above ls in
+    let left : left_by no_lines_above ls (map length bs) ≡ a = lengths_same law a no_lines_above no_lines_above.sizes ls bs stand in
+    let back : a ≡ left_by no_lines_above ls (map length bs) = sym left in
+    let size = contents_size law Text (λ b. refl) a no_lines_above ls bs stand in
+    let other = contents_size law Data (λ b. refl) a no_lines_above ls bs stand in
+    let text : a.sizes.text ≡ length (contents Text no_lines_above.sizes ls bs) = omega (arith, size, ap (λ (x : LinesAbove). x.sizes.text) back) in
+    let init : a.sizes.init ≡ length (contents Data no_lines_above.sizes ls bs) = omega (arith, other, ap (λ (x : LinesAbove). x.sizes.init) back) in
     let symbols : length a.labels ≡ length (map (symbol_under a) a.labels) = sym (length-map a.labels (symbol_under a)) in
-    let fit = subst (λ (n : ℕ). IsWithin a.sep (total_of a) (length (contents Text start.sizes ls bs)) (length (contents Data start.sizes ls bs)) a.sizes.bss n) symbols
-    (subst (λ (n : ℕ). IsWithin a.sep (total_of a) (length (contents Text start.sizes ls bs)) n a.sizes.bss (length a.labels)) init
+    let fit = subst (λ (n : ℕ). IsWithin a.sep (total_of a) (length (contents Text no_lines_above.sizes ls bs)) (length (contents Data no_lines_above.sizes ls bs)) a.sizes.bss n) symbols
+    (subst (λ (n : ℕ). IsWithin a.sep (total_of a) (length (contents Text no_lines_above.sizes ls bs)) n a.sizes.bss (length a.labels)) init
     (subst (λ (n : ℕ). IsWithin a.sep (total_of a) n a.sizes.init a.sizes.bss (length a.labels)) text (within a small))) in
     let p : Program = record {
       sep = a.sep;
       entry = entry_under a a.entry;
       total = total_of a;
-      text = contents Text start.sizes ls bs;
-      init = contents Data start.sizes ls bs;
+      text = contents Text no_lines_above.sizes ls bs;
+      init = contents Data no_lines_above.sizes ls bs;
       bss = a.sizes.bss;
       symbols = map (symbol_under a) a.labels;
       within = fit;
@@ -279,25 +279,25 @@ built law ls bs clean small stand =
       record {
         accepted = clean;
         bytes = bs;
-        stand = subst (λ (x : Above). AllStand x start.sizes ls bs) back stand;
+        stand = subst (λ (x : LinesAbove). AllStand x no_lines_above.sizes ls bs) back stand;
         text = refl;
         init = refl;
-        bss = ap (λ (x : Above). x.sizes.bss) back;
-        sep = ap (λ (x : Above). x.sep) back;
-        entry = ap (λ (x : Above). entry_under x x.entry) back;
+        bss = ap (λ (x : LinesAbove). x.sizes.bss) back;
+        sep = ap (λ (x : LinesAbove). x.sep) back;
+        entry = ap (λ (x : LinesAbove). entry_under x x.entry) back;
         total = ap total_of back;
-        symbols = ap (λ (x : Above). map (symbol_under x) x.labels) back;
+        symbols = ap (λ (x : LinesAbove). map (symbol_under x) x.labels) back;
       },
     )
 
 made : Encodes → (ls : List Line) → AllFitting ls → fault_behind ls ≡ None → (p : Program) × AreAssembled ls p
 made law ls fits clean =
-    let a = laid_by start ls in
-    let both = no_first (first_problem a start.sizes 1 ls) (too_large_in a ls) clean in
-    let small = not_too_large (is_too_large a) (record { problem = TooLarge; line = last_line ls }) both.1 in
-    let (bs, stand) = all_some law a start.sizes 1 ls fits both.0 in
+    let a = laid_by no_lines_above ls in
+    let both = no_first (first_problem a no_lines_above.sizes 1 ls) (too_large_in a ls) clean in
+    let small = not_too_large (is_program_too_large a) (record { problem = TooLarge; line = number_of_last_line ls }) both.1 in
+    let (bs, stand) = all_some law a no_lines_above.sizes 1 ls fits both.0 in
     built law.keeps ls bs clean small stand
 
-pub lines_have_program : Encodes → (t : List ℕ) (ls : List Line) → AreTaken start (lines t) ls → fault_behind ls ≡ None → (p : Program) × Assembled t p
+pub lines_have_program : Encodes → (t : List ℕ) (ls : List Line) → AreLinesTaken no_lines_above (lines t) ls → fault_behind ls ≡ None → (p : Program) × IsAssembled t p
 lines_have_program law t ls taken clean =
-    let (p, assembled) = made law ls (taken_fit law start (lines t) ls taken) clean in (p, (ls, taken, assembled))
+    let (p, assembled) = made law ls (taken_fit law no_lines_above (lines t) ls taken) clean in (p, (ls, taken, assembled))

@@ -5,38 +5,38 @@ use Rattle.mx_word.specs.Word.{bytes_of, bytes_in}
 use Rattle.mx_insn.specs.declared.insn.Insn.{Insn}
 use Rattle.mx_encode.specs.Chosen.{Chosen}
 use Rattle.mx_encode.specs.Filled.{with_immediate, with_displacement}
-use Rattle.mx_statement.specs.declared.statement.Section.{Section}
-use Rattle.mx_statement.specs.declared.statement.Section.TheVariants.{Text, Data, Bss}
-use Rattle.mx_statement.specs.declared.statement.Statement.{Statement}
-use Rattle.mx_statement.specs.declared.statement.Statement.TheVariants as says
-use Rattle.mx_statement.specs.declared.instruction.Instruction.{Instruction}
-use Rattle.mx_statement.specs.declared.value.Value.{Value}
-use Rattle.mx_statement.specs.declared.line.Line.{Line}
-use Rattle.mx_statement.specs.Instructions.{marks}
-use Rattle.mx_layout.specs.declared.sizes.Sizes.{Sizes}
-use Rattle.mx_layout.specs.Branches.{branch_by, branch_marks, branch_length, distance}
-use Rattle.mx_layout.specs.Lengths.{length_of}
-use Rattle.mx_layout.specs.Layout.{Above, value_under, spot_of, sizes_after, address_of, said}
+use Rattle.mx_asm_statement.specs.declared.statement.Section.{Section}
+use Rattle.mx_asm_statement.specs.declared.statement.Section.TheVariants.{Text, Data, Bss}
+use Rattle.mx_asm_statement.specs.declared.statement.Statement.{Statement}
+use Rattle.mx_asm_statement.specs.declared.statement.Statement.TheVariants as says
+use Rattle.mx_asm_statement.specs.declared.instruction.Instruction.{Instruction}
+use Rattle.mx_asm_statement.specs.declared.value.Value.{Value}
+use Rattle.mx_asm_statement.specs.declared.line.Line.{Line}
+use Rattle.mx_asm_statement.specs.Instructions.{marks}
+use Rattle.mx_asm.specs.declared.sizes.SectionSizes.{SectionSizes}
+use Rattle.mx_asm.specs.Branches.{branch_by, branch_marks, branch_length, distance}
+use Rattle.mx_asm.specs.Lengths.{statement_length}
+use Rattle.mx_asm.specs.Layout.{LinesAbove, value_under, section_offset_of, sizes_after, address_of_offset, statement_said}
 
 abbrev pub put_in : (Insn → ℕ → Insn) → Insn → Option ℕ → Option Insn
 put_in put i None = None
 put_in put i (Some n) = Some (put i n)
 
 -- a number that holds no name stands in the instruction already
-abbrev pub put_under : Above → (Insn → ℕ → Insn) → Option Value → Insn → Option Insn
+abbrev pub put_under : LinesAbove → (Insn → ℕ → Insn) → Option Value → Insn → Option Insn
 put_under a put None i = Some i
 put_under a put (Some v) i = put_in put i (value_under a v)
 
-abbrev pub then_put : Above → (Insn → ℕ → Insn) → Option Value → Option Insn → Option Insn
+abbrev pub then_put : LinesAbove → (Insn → ℕ → Insn) → Option Value → Option Insn → Option Insn
 then_put a put v None = None
 then_put a put v (Some i) = put_under a put v i
 
 -- the instruction that is named: the numbers that hold names are put in
-abbrev pub named_under : Above → Instruction → Option Insn
+abbrev pub named_under : LinesAbove → Instruction → Option Insn
 named_under a i = then_put a with_displacement i.displacement (put_under a with_immediate i.immediate i.insn)
 
 -- the bytes of a statement at an address
-abbrev pub BytesOf : Above → ℕ → Statement → List ℕ → Type 0
+abbrev pub BytesOf : LinesAbove → ℕ → Statement → List ℕ → Type 0
 BytesOf a at (says.Data size values) b =
     (numbers : List ℕ) × (map (value_under a) values ≡ map Some numbers) × (b ≡ flat_map (bytes_of (bytes_in size)) numbers)
 BytesOf a at (says.Ascii bytes) b = b ≡ bytes
@@ -47,15 +47,15 @@ BytesOf a at (says.Branch k target) b =
 BytesOf a at _ b = b ≡ []
 
 -- what a statement puts where it stands; bss takes labels and zeros alone
-abbrev pub StandsIn : Section → Above → ℕ → Statement → List ℕ → Type 0
+abbrev pub StandsIn : Section → LinesAbove → ℕ → Statement → List ℕ → Type 0
 StandsIn Text a at t b = BytesOf a at t b
 StandsIn Data a at t b = BytesOf a at t b
-StandsIn Bss a at t b = b ≡ replicate (length_of t) 0
+StandsIn Bss a at t b = b ≡ replicate (statement_length t) 0
 
 -- all at once: each statement's bytes are right where it stands
-abbrev pub AllStand : Above → Sizes → List Line → List (List ℕ) → Type 0
+abbrev pub AllStand : LinesAbove → SectionSizes → List Line → List (List ℕ) → Type 0
 AllStand a s [] [] = ⊤
-AllStand a s (l ∷ ls) (b ∷ bs) = StandsIn s.section a (address_of a (spot_of s)) (said l) b × AllStand a (sizes_after s (said l) (length b)) ls bs
+AllStand a s (l ∷ ls) (b ∷ bs) = StandsIn s.section a (address_of_offset a (section_offset_of s)) (statement_said l) b × AllStand a (sizes_after s (statement_said l) (length b)) ls bs
 AllStand a s [] (b ∷ bs) = ⊥
 AllStand a s (l ∷ ls) [] = ⊥
 
@@ -65,24 +65,24 @@ put_into Data Data b = b
 put_into _ _ b = []
 
 -- what the statements put into a section
-abbrev pub contents : Section → Sizes → List Line → List (List ℕ) → List ℕ
+abbrev pub contents : Section → SectionSizes → List Line → List (List ℕ) → List ℕ
 contents section s [] bs = []
 contents section s (l ∷ ls) [] = []
-contents section s (l ∷ ls) (b ∷ bs) = put_into section s.section b ++ contents section (sizes_after s (said l) (length b)) ls bs
+contents section s (l ∷ ls) (b ∷ bs) = put_into section s.section b ++ contents section (sizes_after s (statement_said l) (length b)) ls bs
 
 -- the new bytes are the old and those of a statement
-abbrev pub Pushes : Above → ℕ → Statement → List ℕ → List ℕ → Type 0
+abbrev pub Pushes : LinesAbove → ℕ → Statement → List ℕ → List ℕ → Type 0
 Pushes a at t old new = (b : List ℕ) × BytesOf a at t b × (new ≡ old ++ b)
 
 -- what one statement puts out, where it stands: the new text and data are the old ones and its bytes
-pub record PutsOut (a : Above) (s : Sizes) (t : Statement) (text init text' init' : List ℕ) : Type 0 where
+pub record PutsOut (a : LinesAbove) (s : SectionSizes) (t : Statement) (text init text' init' : List ℕ) : Type 0 where
   pub bytes : List ℕ
-  pub stand : StandsIn s.section a (address_of a (spot_of s)) t bytes
+  pub stand : StandsIn s.section a (address_of_offset a (section_offset_of s)) t bytes
   pub text_is : text' ≡ text ++ put_into Text s.section bytes
   pub init_is : init' ≡ init ++ put_into Data s.section bytes
 
 -- what is put into text and data
-pub record AreParts (a : Above) (s : Sizes) (lines : List Line) (text init : List ℕ) : Type 0 where
+pub record AreParts (a : LinesAbove) (s : SectionSizes) (lines : List Line) (text init : List ℕ) : Type 0 where
   pub bytes : List (List ℕ)
   pub stand : AllStand a s lines bytes
   pub text_is : text ≡ contents Text s lines bytes

@@ -1,21 +1,21 @@
 -- The program of a text, or its first fault.
 use Rattle.std.specs.Prelude.{◌≡◌, ℕ, ◌+◌, ◌⊎◌, List, [], ◌∷◌, ◌++◌, Some, None, ⊤}
-use Rattle.mx_line.specs.Lines.{lines}
-use Rattle.mx_lex.specs.Tokens.{IsFault}
+use Rattle.mx_text.specs.Lines.{lines}
+use Rattle.mx_lex.specs.Tokens.{IsLexFault}
 use Rattle.mx_lex.specs.declared.kinds.LexError.{LexError}
 use Rattle.mx_lex.specs.declared.kinds.LexError.TheVariants as lexical
-use Rattle.mx_statement.specs.declared.line.Line.{Line}
-use Rattle.mx_statement.specs.declared.line.Reason.{Reason}
-use Rattle.mx_reading.specs.Lines.{IsLine}
+use Rattle.mx_asm_statement.specs.declared.line.Line.{Line}
+use Rattle.mx_asm_statement.specs.declared.line.Reason.{Reason}
+use Rattle.mx_asm_line.specs.Lines.{IsLine}
 use Rattle.mx_aout.specs.declared.program.Program.{Program}
-use Rattle.mx_layout.specs.declared.fault.Problem.{Problem}
-use Rattle.mx_layout.specs.declared.fault.Problem.TheVariants.{BadByte, BadNumber, OpenText}
-use Rattle.mx_layout.specs.declared.fault.Fault.{Fault}
-use Rattle.mx_layout.specs.declared.fault.AsmError.{AsmError}
-use Rattle.mx_layout.specs.declared.fault.AsmError.TheVariants.{At, NoMemory}
-use Rattle.mx_layout.specs.Lengths.{length_of}
-use Rattle.mx_layout.specs.Layout.{Above, start, behind, said, reason_of}
-use Rattle.mx_layout.specs.Faults.{problem_of, fault_behind}
+use Rattle.mx_asm.specs.declared.fault.Problem.{Problem}
+use Rattle.mx_asm.specs.declared.fault.Problem.TheVariants.{BadByte, BadNumber, OpenText}
+use Rattle.mx_asm.specs.declared.fault.Fault.{Fault}
+use Rattle.mx_asm.specs.declared.fault.AsmError.{AsmError}
+use Rattle.mx_asm.specs.declared.fault.AsmError.TheVariants.{At, NoMemory}
+use Rattle.mx_asm.specs.Lengths.{statement_length}
+use Rattle.mx_asm.specs.Layout.{LinesAbove, no_lines_above, above_with, statement_said, refusal_of_line}
+use Rattle.mx_asm.specs.Faults.{problem_of, fault_behind}
 use Rattle.mx_asm.specs.Assembled.{AreAssembled}
 
 -- what is told of bytes that no tokens are
@@ -30,60 +30,60 @@ TellsLexical e n NoMemory = e ≡ lexical.NoMemory
 TellsLexical e n (At f) = (f.line ≡ n) × TellsOf e f.problem
 
 -- what is wrong with a line for itself and the lines above it: its bytes, else the first reason to refuse what it says
-abbrev pub IsWrong : Above → List ℕ → Problem → Type 0
-IsWrong a t p =
-    ((e : LexError) × IsFault t e × TellsOf e p)
-    ⊎ ((l : Line) × (r : Reason) × IsLine t l × (reason_of a l ≡ Some r) × (p ≡ problem_of r))
+abbrev pub IsLineWrong : LinesAbove → List ℕ → Problem → Type 0
+IsLineWrong a t p =
+    ((e : LexError) × IsLexFault t e × TellsOf e p)
+    ⊎ ((l : Line) × (r : Reason) × IsLine t l × (refusal_of_line a l ≡ Some r) × (p ≡ problem_of r))
 
 -- the line says this, and nothing is wrong with it
-abbrev pub IsTaken : Above → List ℕ → Line → Type 0
-IsTaken a t l = IsLine t l × (reason_of a l ≡ None)
+abbrev pub IsLineTaken : LinesAbove → List ℕ → Line → Type 0
+IsLineTaken a t l = IsLine t l × (refusal_of_line a l ≡ None)
 
 -- behind a line that is taken
-abbrev pub on_behind : Above → Line → Above
-on_behind a l = behind a l (length_of (said l))
+abbrev pub on_behind : LinesAbove → Line → LinesAbove
+on_behind a l = above_with a l (statement_length (statement_said l))
 
 -- the lines say these, and nothing is wrong with them
-abbrev pub AreTaken : Above → List (List ℕ) → List Line → Type 0
-AreTaken a [] [] = ⊤
-AreTaken a (t ∷ ts) (l ∷ ls) = IsTaken a t l × AreTaken (on_behind a l) ts ls
-AreTaken a _ _ = ⊥
+abbrev pub AreLinesTaken : LinesAbove → List (List ℕ) → List Line → Type 0
+AreLinesTaken a [] [] = ⊤
+AreLinesTaken a (t ∷ ts) (l ∷ ls) = IsLineTaken a t l × AreLinesTaken (on_behind a l) ts ls
+AreLinesTaken a _ _ = ⊥
 
 -- one line more is taken
-pub record Takes (a b : Above) (t : List ℕ) (old new : List Line) : Type 0 where
+pub record TakesLine (a b : LinesAbove) (t : List ℕ) (old new : List Line) : Type 0 where
   pub line : Line
-  pub taken : IsTaken a t line
+  pub taken : IsLineTaken a t line
   pub behind_is : b ≡ on_behind a line
   pub lines_are : new ≡ old ++ line ∷ []
 
 -- the first line with which something is wrong, the first of these being line n
-abbrev pub IsFirstWrong : Above → ℕ → List (List ℕ) → Fault → Type 0
-IsFirstWrong a n [] f = ⊥
-IsFirstWrong a n (t ∷ ts) f =
-    ((f.line ≡ n) × IsWrong a t f.problem)
-    ⊎ ((l : Line) × IsTaken a t l × IsFirstWrong (on_behind a l) (n + 1) ts f)
+abbrev pub IsFirstLineWrong : LinesAbove → ℕ → List (List ℕ) → Fault → Type 0
+IsFirstLineWrong a n [] f = ⊥
+IsFirstLineWrong a n (t ∷ ts) f =
+    ((f.line ≡ n) × IsLineWrong a t f.problem)
+    ⊎ ((l : Line) × IsLineTaken a t l × IsFirstLineWrong (on_behind a l) (n + 1) ts f)
 
 -- the text's lines say these, and nothing stands against them
-abbrev pub AreAccepted : List ℕ → List Line → Type 0
-AreAccepted t ls = AreTaken start (lines t) ls × (fault_behind ls ≡ None)
+abbrev pub AreLinesAccepted : List ℕ → List Line → Type 0
+AreLinesAccepted t ls = AreLinesTaken no_lines_above (lines t) ls × (fault_behind ls ≡ None)
 
 -- the text's lines say these, none is refused, and they make this program
-abbrev pub Assembled : List ℕ → Program → Type 0
-Assembled t p = (ls : List Line) × AreTaken start (lines t) ls × AreAssembled ls p
+abbrev pub IsAssembled : List ℕ → Program → Type 0
+IsAssembled t p = (ls : List Line) × AreLinesTaken no_lines_above (lines t) ls × AreAssembled ls p
 
 -- the first line with which something is wrong, else what is told of all lines
-abbrev pub HasFault : List ℕ → Fault → Type 0
-HasFault t f = IsFirstWrong start 1 (lines t) f ⊎ ((ls : List Line) × AreTaken start (lines t) ls × (fault_behind ls ≡ Some f))
+abbrev pub HasTextFault : List ℕ → Fault → Type 0
+HasTextFault t f = IsFirstLineWrong no_lines_above 1 (lines t) f ⊎ ((ls : List Line) × AreLinesTaken no_lines_above (lines t) ls × (fault_behind ls ≡ Some f))
 
 -- want of memory aside
-abbrev pub TellsFault : List ℕ → AsmError → Type 0
-TellsFault t NoMemory = ⊤
-TellsFault t (At f) = HasFault t f
+abbrev pub TellsTextFault : List ℕ → AsmError → Type 0
+TellsTextFault t NoMemory = ⊤
+TellsTextFault t (At f) = HasTextFault t f
 
-abbrev pub TellsFirst : List ℕ → AsmError → Type 0
-TellsFirst t NoMemory = ⊤
-TellsFirst t (At f) = IsFirstWrong start 1 (lines t) f
+abbrev pub TellsFirstLine : List ℕ → AsmError → Type 0
+TellsFirstLine t NoMemory = ⊤
+TellsFirstLine t (At f) = IsFirstLineWrong no_lines_above 1 (lines t) f
 
-abbrev pub TellsWrong : Above → ℕ → List ℕ → AsmError → Type 0
-TellsWrong a n t NoMemory = ⊤
-TellsWrong a n t (At f) = (f.line ≡ n) × IsWrong a t f.problem
+abbrev pub TellsLineWrong : LinesAbove → ℕ → List ℕ → AsmError → Type 0
+TellsLineWrong a n t NoMemory = ⊤
+TellsLineWrong a n t (At f) = (f.line ≡ n) × IsLineWrong a t f.problem

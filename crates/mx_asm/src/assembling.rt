@@ -1,20 +1,20 @@
 //! Texts.
 
 ghost use Rattle.std.specs.Prelude.{◌≡◌, ◌≤◌, ◌^◌, length, OnOk, IfOk, IfErr};
-ghost use Rattle.mx_line.specs.Lines.{lines};
-ghost use Rattle.mx_layout.specs.Layout.{SizesWithin, GrowsWithin, start, laid_by};
-ghost use Rattle.mx_layout.specs.Faults.{problem_of};
-ghost use Rattle.mx_layout.specs.declared.fault.AsmError.TheVariants.{At};
-ghost use Rattle.mx_layout.specs.View.{above_of};
-ghost use Rattle.mx_asm.specs.Text.{IsTaken, AreTaken, Takes, on_behind, Assembled, TellsFault, TellsFirst, TellsWrong, TellsLexical};
+ghost use Rattle.mx_text.specs.Lines.{lines};
+ghost use Rattle.mx_asm.specs.Layout.{SizesWithin, GrowsWithin, no_lines_above, laid_by};
+ghost use Rattle.mx_asm.specs.Faults.{problem_of};
+ghost use Rattle.mx_asm.specs.declared.fault.AsmError.TheVariants.{At};
+ghost use Rattle.mx_asm.specs.View.{above_of};
+ghost use Rattle.mx_asm.specs.Text.{IsLineTaken, AreLinesTaken, TakesLine, on_behind, IsAssembled, TellsTextFault, TellsFirstLine, TellsLineWrong, TellsLexical};
 
 use crate::program::program_of;
+use crate::{AsmError, Fault, Layout, Problem, problem_of};
 use mx_aout::Program;
-use mx_layout::{AsmError, Fault, Layout, Problem, problem_of};
+use mx_asm_line::read_line;
+use mx_asm_statement::{Line, Reason};
 use mx_lex::LexError;
-use mx_line::next_line;
-use mx_reading::read_line;
-use mx_statement::{Line, Reason};
+use mx_text::next_line;
 use std::alloc::Global;
 
 /// What is told of a line's bytes.
@@ -51,9 +51,9 @@ impl Read {
     /// Takes a line in behind those above it, or tells what is wrong with it.
     fn take(&mut self, alloc: Global, text: &[u8], number: usize) -> Result<(), AsmError>
         requires { SizesWithin self.old.layout.sizes (2 ^ 126) }
-        ensures taken { OnOk result (Takes (above_of self.old.layout) (above_of self.new.layout) text.now self.old.lines.items self.new.lines.items) }
+        ensures taken { OnOk result (TakesLine (above_of self.old.layout) (above_of self.new.layout) text.now self.old.lines.items self.new.lines.items) }
         ensures small { OnOk result (GrowsWithin self.old.layout.sizes self.new.layout.sizes (2 ^ 64)) }
-        ensures wrong { IfErr result (TellsWrong (above_of self.old.layout) number text.now) }
+        ensures wrong { IfErr result (TellsLineWrong (above_of self.old.layout) number text.now) }
     {
         let line = match read_line(alloc, text) {
             Ok(line) => line,
@@ -79,9 +79,9 @@ fn count(lines: &[Line]) -> usize
 
 /// The lines of a text, or the first with which something is wrong.
 fn read_lines(alloc: Global, text: &[u8]) -> Result<Read, AsmError>
-    ensures taken { IfOk result (λ read. AreTaken start (lines text.now) read.lines.items) }
-    ensures laid { IfOk result (λ read. above_of read.layout ≡ laid_by start read.lines.items) }
-    ensures wrong { IfErr result (TellsFirst text.now) }
+    ensures taken { IfOk result (λ read. AreLinesTaken no_lines_above (lines text.now) read.lines.items) }
+    ensures laid { IfOk result (λ read. above_of read.layout ≡ laid_by no_lines_above read.lines.items) }
+    ensures wrong { IfErr result (TellsFirstLine text.now) }
 {
     let mut read = Read {
         layout: Layout::new(alloc),
@@ -100,8 +100,8 @@ fn read_lines(alloc: Global, text: &[u8]) -> Result<Read, AsmError>
 /// The program of a text, or its first fault. Takes memory only for what it answers and for the
 /// lines it has read.
 pub fn assemble(alloc: Global, text: &str) -> Result<Program, AsmError>
-    ensures program { IfOk result (Assembled text.now) }
-    ensures fault { IfErr result (TellsFault text.now) }
+    ensures program { IfOk result (IsAssembled text.now) }
+    ensures fault { IfErr result (TellsTextFault text.now) }
 {
     let read = read_lines(alloc, text.as_bytes())?;
     program_of(alloc, &read.layout, read.lines.as_slice())

@@ -4,17 +4,17 @@ ghost use Rattle.std.specs.Prelude.{◌≡◌, ◌++◌, true, false, None, Some
 ghost use Rattle.std.specs.List.{list_any};
 ghost use Rattle.mx_word.specs.Word.{bytes_of, bytes_in};
 ghost use Rattle.mx_encode.specs.Forms.{has_form};
-ghost use Rattle.mx_layout.specs.Layout.{start, said, spot_of, address_of};
-ghost use Rattle.mx_layout.specs.Faults.{is_undefined, is_undefined_if, problem_at, first_problem};
-ghost use Rattle.mx_layout.specs.View.{above_of};
+ghost use Rattle.mx_asm.specs.Layout.{no_lines_above, statement_said, section_offset_of, address_of_offset};
+ghost use Rattle.mx_asm.specs.Faults.{is_undefined, is_undefined_if, problem_at, first_problem};
+ghost use Rattle.mx_asm.specs.View.{above_of};
 ghost use Rattle.mx_asm.specs.Bytes.{named_under, BytesOf, Pushes, PutsOut, AreParts};
 
+use crate::{Layout, SectionSizes, branch_bytes};
+use mx_asm_statement::{Instruction, Line, Section, Statement, Value};
 use mx_encode::{
     displacement_keeps_length, encode, immediate_keeps_length, with_displacement, with_immediate,
 };
 use mx_insn::{ArrayVec, Insn};
-use mx_layout::{Layout, Sizes, branch_bytes};
-use mx_statement::{Instruction, Line, Section, Statement, Value};
 use mx_word::Size;
 use std::alloc::{AllocError, Global};
 
@@ -92,8 +92,8 @@ fn instruction_bytes(layout: &Layout, instruction: &Instruction) -> ArrayVec<u8,
 
 /// The bytes of a line's statement at an address, behind others.
 fn push_line(layout: &Layout, at: u32, line: &Line, out: &mut Vec<u8>) -> Result<(), AllocError>
-    requires { problem_at (above_of layout.now) at (said line.now) ≡ None }
-    ensures { OnOk result (Pushes (above_of layout.now) at (said line.now) out.old.items out.new.items) }
+    requires { problem_at (above_of layout.now) at (statement_said line.now) ≡ None }
+    ensures { OnOk result (Pushes (above_of layout.now) at (statement_said line.now) out.old.items out.new.items) }
 {
     match &line.statement {
         Some(Statement::Data(size, values)) => push_values(layout, *size, values.as_slice(), out),
@@ -116,9 +116,14 @@ fn push_line(layout: &Layout, at: u32, line: &Line, out: &mut Vec<u8>) -> Result
 }
 
 /// Puts a line's bytes behind those of its section.
-fn put_line(layout: &Layout, sizes: Sizes, line: &Line, parts: &mut Parts) -> Result<(), AllocError>
-    requires { problem_at (above_of layout.now) (address_of (above_of layout.now) (spot_of sizes)) (said line.now) ≡ None }
-    ensures { OnOk result (PutsOut (above_of layout.now) sizes (said line.now) parts.old.text.items parts.old.init.items parts.new.text.items parts.new.init.items) }
+fn put_line(
+    layout: &Layout,
+    sizes: SectionSizes,
+    line: &Line,
+    parts: &mut Parts,
+) -> Result<(), AllocError>
+    requires { problem_at (above_of layout.now) (address_of_offset (above_of layout.now) (section_offset_of sizes)) (statement_said line.now) ≡ None }
+    ensures { OnOk result (PutsOut (above_of layout.now) sizes (statement_said line.now) parts.old.text.items parts.old.init.items parts.new.text.items parts.new.init.items) }
 {
     let at = layout.address_of(sizes.spot());
     match sizes.section {
@@ -130,8 +135,8 @@ fn put_line(layout: &Layout, sizes: Sizes, line: &Line, parts: &mut Parts) -> Re
 
 /// The bytes of all statements, where nothing stands against a line.
 pub fn parts_of(alloc: Global, layout: &Layout, lines: &[Line]) -> Result<Parts, AllocError>
-    requires { first_problem (above_of layout.now) start.sizes 1 lines.now ≡ None }
-    ensures { IfOk result (λ parts. AreParts (above_of layout.now) start.sizes lines.now parts.text.items parts.init.items) }
+    requires { first_problem (above_of layout.now) no_lines_above.sizes 1 lines.now ≡ None }
+    ensures { IfOk result (λ parts. AreParts (above_of layout.now) no_lines_above.sizes lines.now parts.text.items parts.init.items) }
 {
     immediate_keeps_length();
     displacement_keeps_length();
@@ -139,7 +144,7 @@ pub fn parts_of(alloc: Global, layout: &Layout, lines: &[Line]) -> Result<Parts,
         text: Vec::new(alloc),
         init: Vec::new(alloc),
     };
-    let mut sizes = Sizes::START;
+    let mut sizes = SectionSizes::START;
     for line in lines {
         put_line(layout, sizes, line, &mut parts)?;
         sizes = sizes.after(line);

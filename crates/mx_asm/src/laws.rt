@@ -2,24 +2,24 @@
 
 ghost use Rattle.std.specs.Prelude.{◌≡◌, ℕ, List};
 ghost use Rattle.mx_aout.specs.declared.program.Program.{Program};
-ghost use Rattle.mx_statement.specs.declared.line.Line.{Line};
-ghost use Rattle.mx_layout.specs.declared.fault.Fault.{Fault};
+ghost use Rattle.mx_asm_statement.specs.declared.line.Line.{Line};
+ghost use Rattle.mx_asm.specs.declared.fault.Fault.{Fault};
 ghost use Rattle.mx_asm.specs.Assembled.{SameProgram};
-ghost use Rattle.mx_asm.specs.Text.{AreAccepted, Assembled, HasFault};
+ghost use Rattle.mx_asm.specs.Text.{AreLinesAccepted, IsAssembled, HasTextFault};
 
+use crate::branch_has_length;
+use mx_asm_line::{line_fits, line_or_fault, one_line};
 use mx_encode::{
     displacement_keeps_length, filled_fits, immediate_keeps_length, one_chosen, some_chosen,
 };
-use mx_layout::branch_has_length;
 use mx_lex::one_fault;
-use mx_reading::{line_fits, line_or_fault, one_line};
 
 /// Lines against which nothing stands have their program. No text has both a program and a fault,
 /// and none has neither.
 pub fn program_or_fault()
-    ensures accepted { (t : List ℕ) (ls : List Line) → AreAccepted t ls → (p : Program) × Assembled t p }
-    ensures not_both { (t : List ℕ) (p : Program) (f : Fault) → Assembled t p → HasFault t f → ⊥ }
-    ensures not_neither { (t : List ℕ) → ((p : Program) → Assembled t p → ⊥) → ((f : Fault) → HasFault t f → ⊥) → ⊥ }
+    ensures accepted { (t : List ℕ) (ls : List Line) → AreLinesAccepted t ls → (p : Program) × IsAssembled t p }
+    ensures not_both { (t : List ℕ) (p : Program) (f : Fault) → IsAssembled t p → HasTextFault t f → ⊥ }
+    ensures not_neither { (t : List ℕ) → ((p : Program) → IsAssembled t p → ⊥) → ((f : Fault) → HasTextFault t f → ⊥) → ⊥ }
 {
     one_line();
     line_or_fault();
@@ -33,7 +33,7 @@ pub fn program_or_fault()
 
 /// A text has one fault at most.
 pub fn fault_is_one()
-    ensures { (t : List ℕ) (f g : Fault) → HasFault t f → HasFault t g → f ≡ g }
+    ensures { (t : List ℕ) (f g : Fault) → HasTextFault t f → HasTextFault t g → f ≡ g }
 {
     one_line();
     line_or_fault();
@@ -42,7 +42,7 @@ pub fn fault_is_one()
 
 /// At most one program is assembled from a text.
 pub fn program_is_one()
-    ensures { (t : List ℕ) (p q : Program) → Assembled t p → Assembled t q → SameProgram p q }
+    ensures { (t : List ℕ) (p q : Program) → IsAssembled t p → IsAssembled t q → SameProgram p q }
 {
     one_line();
     one_chosen();

@@ -2,10 +2,18 @@
 #![tactic(auto)]
 
 mod assembling;
+mod branch;
 mod emit;
+mod fault;
 mod laws;
+mod layout;
 mod program;
+mod second;
+mod sizes;
 
 pub use assembling::assemble;
+pub use branch::{branch_bytes, branch_has_length};
+pub use fault::{AsmError, Fault, Problem, problem_of};
 pub use laws::{fault_is_one, program_is_one, program_or_fault};
-pub use mx_layout::{AsmError, Fault, Problem};
+pub use layout::Layout;
+pub use sizes::{SectionOffset, SectionSizes};

@@ -1,17 +1,17 @@
 //! The program of lines.
 
 ghost use Rattle.std.specs.Prelude.{◌≡◌, false, length, map, IfOk, IfErr};
-ghost use Rattle.mx_layout.specs.Layout.{start, laid_by};
-ghost use Rattle.mx_layout.specs.Faults.{IsFaultOr, fault_behind, total_of, is_too_large};
-ghost use Rattle.mx_layout.specs.View.{above_of};
+ghost use Rattle.mx_asm.specs.Layout.{no_lines_above, laid_by};
+ghost use Rattle.mx_asm.specs.Faults.{IsFaultOr, fault_behind, total_of, is_program_too_large};
+ghost use Rattle.mx_asm.specs.View.{above_of};
 ghost use Rattle.mx_asm.specs.Assembled.{class_of, symbol_under, entry_under, AreAssembled};
 
 use crate::emit::{Parts, parts_of};
+use crate::{AsmError, Layout};
 use mx_aout::{Program, Symbol, Symbols};
+use mx_asm_statement::{Line, Section};
 use mx_encode::{displacement_keeps_length, immediate_keeps_length};
-use mx_layout::{AsmError, Layout};
-use mx_line::Name;
-use mx_statement::{Line, Section};
+use mx_text::Name;
 use mx_word::Bytes;
 use std::alloc::{AllocError, Global};
 
@@ -56,7 +56,7 @@ fn symbols_of(alloc: Global, layout: &Layout) -> Result<Vec<Symbol>, AllocError>
 
 /// The program of bytes and symbols that have their places here.
 fn program_with(layout: &Layout, parts: Parts, symbols: Vec<Symbol>) -> Program
-    requires fits { is_too_large (above_of layout.now) ≡ false }
+    requires fits { is_program_too_large (above_of layout.now) ≡ false }
     requires text { length parts.text.items ≡ layout.now.sizes.text }
     requires init { length parts.init.items ≡ layout.now.sizes.init }
     requires symbols { symbols.items ≡ map (symbol_under (above_of layout.now)) (above_of layout.now).labels }
@@ -81,7 +81,7 @@ fn program_with(layout: &Layout, parts: Parts, symbols: Vec<Symbol>) -> Program
 
 /// The program of lines that leave a layout, or the first fault.
 pub fn program_of(alloc: Global, layout: &Layout, lines: &[Line]) -> Result<Program, AsmError>
-    requires { above_of layout.now ≡ laid_by start lines.now }
+    requires { above_of layout.now ≡ laid_by no_lines_above lines.now }
     ensures program { IfOk result (λ p. AreAssembled lines.now p) }
     ensures fault { IfErr result (λ e. IsFaultOr (fault_behind lines.now) e) }
 {

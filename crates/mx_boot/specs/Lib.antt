@@ -1,5 +1,5 @@
-pub use Rattle.mx_config.specs.Config
-pub use Rattle.mx_config.specs.Lines
-pub use Rattle.mx_config.specs.ServiceLine
-pub use Rattle.mx_history.specs.Log
-pub use Rattle.mx_report.specs.Report
+pub use Rattle.mx_boot_config.specs.Config
+pub use Rattle.mx_boot_config.specs.Lines
+pub use Rattle.mx_boot_config.specs.ServiceLine
+pub use Rattle.mx_boot_history.specs.Log
+pub use Rattle.mx_print_report.specs.Report

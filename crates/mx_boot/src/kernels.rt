@@ -1,16 +1,16 @@
 //! What is written of a kernel.
 
 ghost use Rattle.std.specs.Prelude.{◌≡◌, ◌+◌, ◌++◌, false, OnOk, IfOk};
-ghost use Rattle.mx_history.specs.Log.{IsHistory};
-ghost use Rattle.mx_history.specs.Text.{history_text};
-ghost use Rattle.mx_report.specs.Report.{report_text};
-ghost use Rattle.mx_kernel.specs.History.{replay};
-ghost use Rattle.mx_kernel.specs.Whole.{actors};
+ghost use Rattle.mx_boot_history.specs.Log.{IsHistory};
+ghost use Rattle.mx_boot_history.specs.Text.{history_text};
+ghost use Rattle.mx_print_report.specs.Report.{report_text};
+ghost use Rattle.mx_machine_kernel.specs.History.{replay};
+ghost use Rattle.mx_machine_kernel.specs.World.{actors};
 
-use mx_config::Config;
-use mx_history::{SaveFault, Sink, history_again, save_records};
-use mx_kernel::Kernel;
-use mx_report::report_of;
+use mx_boot_config::Config;
+use mx_boot_history::{SaveFault, Sink, history_again, save_records};
+use mx_machine_kernel::Kernel;
+use mx_print_report::report_of;
 use mx_word::NoMemory;
 use std::alloc::Global;
 

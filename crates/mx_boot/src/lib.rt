@@ -5,7 +5,7 @@
 mod kernels;
 
 pub use kernels::{report, save, saved_again};
-pub use mx_config::{Config, FileName, ServiceLine, ServiceLines, config};
-pub use mx_fields::BootError;
-pub use mx_history::{Over, SaveFault, Sink, SinkFault, log};
-pub use mx_script::{DebugLine, Place, ScriptLine, SymbolName, debug_script, script};
+pub use mx_boot_config::{Config, FileName, ServiceLine, ServiceLines, config};
+pub use mx_boot_history::{Over, SaveFault, Sink, SinkFault, log};
+pub use mx_boot_script::{CodePlace, DebugLine, ScriptLine, SymbolName, debug_script, script};
+pub use mx_text::BootError;

@@ -4,10 +4,10 @@ use Rattle.std.specs.Cmp.Lexicographic.{pointwise}
 use Rattle.mx_aout.specs.declared.program.Symbol.{Symbol}
 use Rattle.mx_dis.specs.Names.{before_zero}
 
-abbrev pub is_named : List ℕ → Symbol → Bool
-is_named name s = pointwise nat_eq (before_zero s.name) name
+abbrev pub has_name : List ℕ → Symbol → Bool
+has_name name s = pointwise nat_eq (before_zero s.name) name
 
 -- the value of the first symbol of that name
 abbrev pub first_named : List Symbol → List ℕ → Option ℕ
 first_named [] name = None
-first_named (s ∷ ss) name = if is_named name s then Some s.value else first_named ss name
+first_named (s ∷ ss) name = if has_name name s then Some s.value else first_named ss name

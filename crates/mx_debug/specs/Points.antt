@@ -7,8 +7,8 @@ use Rattle.mx_debug.specs.declared.points.Breakpoint.{Breakpoint}
 abbrev pub is_at : ℕ → ℕ → Breakpoint → Bool
 is_at slot address p = (p.slot == slot) && (p.address == address)
 
-abbrev pub stands : List Breakpoint → ℕ → ℕ → Bool
-stands points slot address = list_any (is_at slot address) points
+abbrev pub has_breakpoint : List Breakpoint → ℕ → ℕ → Bool
+has_breakpoint points slot address = list_any (is_at slot address) points
 
 -- the slot has one
 abbrev pub has_any : List Breakpoint → ℕ → Bool
@@ -17,7 +17,7 @@ has_any points slot = list_any (λ (p : Breakpoint). p.slot == slot) points
 -- with one more, 64 at most over all slots; one that stands takes no other place
 abbrev pub with_point : List Breakpoint → ℕ → ℕ → Option (List Breakpoint)
 with_point points slot address =
-    if stands points slot address then Some points
+    if has_breakpoint points slot address then Some points
     else if nat_lt (length points) 64 then Some (points ++ record { slot = slot; address = address } ∷ [])
     else None
 

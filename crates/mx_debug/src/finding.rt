@@ -2,15 +2,15 @@
 
 ghost use Rattle.std.specs.Prelude.{◌≡◌, ℕ, ◌≤◌, Some, None, IfOk, IfErr, OnErr, length, take, slice_get};
 ghost use Rattle.mx_dis.specs.Names.{before_zero};
-ghost use Rattle.mx_debug.specs.Finding.{is_named, first_named};
-ghost use Rattle.mx_kernel.specs.History.{replay};
+ghost use Rattle.mx_debug.specs.Finding.{has_name, first_named};
+ghost use Rattle.mx_machine_kernel.specs.History.{replay};
 ghost use Rattle.mx_debug.specs.declared.error.DebugError.TheVariants as errors;
 
 use crate::error::DebugError;
 use mx_aout::{Program, Symbol};
 use mx_exec::Image;
 use mx_image::Runs;
-use mx_kernel::Kernel;
+use mx_machine_kernel::Kernel;
 use mx_proc::Delivery;
 
 /// A name's bytes up to the first zero byte.
@@ -25,7 +25,7 @@ fn before_zero(name: &[u8]) -> &[u8]
 }
 
 fn is_named(symbol: &Symbol, name: &[u8]) -> bool
-    ensures { result ≡ is_named name.now symbol.now }
+    ensures { result ≡ has_name name.now symbol.now }
 {
     before_zero(symbol.name.as_slice()) == name
 }

@@ -7,7 +7,7 @@ use mx_image::Stop;
 
 /// What a process halts for.
 #[derive(Clone, Copy, Debug, PartialEq, Eq)]
-pub enum Cause {
+pub enum HaltCause {
     /// All steps that were asked for, or that the budget leaves, are made.
     Spent,
     /// The next instruction stands at a breakpoint.
@@ -18,14 +18,14 @@ pub enum Cause {
     Fault(u8),
 }
 
-impl Cause {
+impl HaltCause {
     /// Whether neither a stop nor a breakpoint was met.
     pub fn is_spent(self) -> bool
         ensures { result ≡ is_spent self }
     {
         match self {
-            Cause::Spent => true,
-            Cause::Breakpoint | Cause::Trap | Cause::Fault(_) => false,
+            HaltCause::Spent => true,
+            HaltCause::Breakpoint | HaltCause::Trap | HaltCause::Fault(_) => false,
         }
     }
 }
@@ -34,21 +34,21 @@ impl Cause {
 #[derive(Clone, Copy, Debug, PartialEq, Eq)]
 pub struct Halt {
     pub count: u32,
-    pub cause: Cause,
+    pub cause: HaltCause,
 }
 
 /// A trap or a fault is told before a breakpoint, a breakpoint before a spent budget.
-pub fn cause_of(stop: Stop, reached: bool) -> Cause
+pub fn cause_of(stop: Stop, reached: bool) -> HaltCause
     ensures { result ≡ cause_of stop reached }
 {
     match stop {
-        Stop::Trap => Cause::Trap,
-        Stop::Fault(vector) => Cause::Fault(vector),
+        Stop::Trap => HaltCause::Trap,
+        Stop::Fault(vector) => HaltCause::Fault(vector),
         Stop::Spent => {
             if reached {
-                Cause::Breakpoint
+                HaltCause::Breakpoint
             } else {
-                Cause::Spent
+                HaltCause::Spent
             }
         }
     }

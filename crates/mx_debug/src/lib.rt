@@ -10,6 +10,6 @@ mod resuming;
 
 pub use error::DebugError;
 pub use finding::{address, byte, message};
-pub use halt::{Cause, Halt};
-pub use mx_kernel::{Held, Kernel};
+pub use halt::{Halt, HaltCause};
+pub use mx_machine_kernel::{Held, Kernel};
 pub use points::{Breakpoint, Debugger};

@@ -2,7 +2,7 @@
 
 ghost use Rattle.std.specs.Prelude.{◌≡◌, Some, None, OnOk, OnErr, IfErr};
 ghost use Rattle.std.specs.List.{list_any};
-ghost use Rattle.mx_debug.specs.Points.{is_at, stands, has_any, with_point, without_point};
+ghost use Rattle.mx_debug.specs.Points.{is_at, has_breakpoint, has_any, with_point, without_point};
 ghost use Rattle.mx_debug.specs.declared.error.DebugError.TheVariants as errors;
 
 use crate::error::DebugError;
@@ -69,7 +69,7 @@ impl Debugger {
 
     /// Whether a slot has a breakpoint at an address.
     pub fn stands(&self, slot: Slot, address: u32) -> bool
-        ensures { result ≡ stands self.now slot address }
+        ensures { result ≡ has_breakpoint self.now slot address }
     {
         self.points
             .as_slice()

@@ -3,12 +3,12 @@
 ghost use Rattle.std.specs.Prelude.{◌≡◌, ◌≢◌, ◌⊎◌, ℕ, ◌%◌, true, false, List, slice_index_or};
 ghost use Rattle.mx_exec.specs.Lasting.{lasting};
 ghost use Rattle.mx_debug.specs.declared.points.Breakpoint.{Breakpoint};
-ghost use Rattle.mx_debug.specs.Points.{stands, has_any};
+ghost use Rattle.mx_debug.specs.Points.{has_breakpoint, has_any};
 ghost use Rattle.mx_debug.specs.Halts.{Halts};
 
-use crate::halt::{Cause, Halt, cause_of};
+use crate::halt::{Halt, HaltCause, cause_of};
 use crate::points::Debugger;
-use mx_kernel::{Held, held_runs_join};
+use mx_machine_kernel::{Held, held_runs_join};
 use mx_proc::Slot;
 
 /// All steps at once, where no breakpoint can be reached.
@@ -27,7 +27,7 @@ fn run_on<H: Held>(held: &mut H, k: u32) -> Halt
 impl Debugger {
     /// Marks, by address modulo 1,024, where a slot has breakpoints.
     fn marks(&self, slot: Slot) -> [bool; 1024]
-        ensures { (address : ℕ) → stands self.now slot address ≡ true → slice_index_or result (address % 1024) false ≡ true }
+        ensures { (address : ℕ) → has_breakpoint self.now slot address ≡ true → slice_index_or result (address % 1024) false ≡ true }
     {
         let mut marks = [false; 1024];
         for point in self.as_slice() {
@@ -40,8 +40,8 @@ impl Debugger {
 
     /// Whether a slot has a breakpoint at an address, by its marks first.
     fn is_reached(&self, marks: &[bool; 1024], slot: Slot, address: u32) -> bool
-        requires { (a : ℕ) → stands self.now slot a ≡ true → slice_index_or marks.now (a % 1024) false ≡ true }
-        ensures { result ≡ stands self.now slot address }
+        requires { (a : ℕ) → has_breakpoint self.now slot a ≡ true → slice_index_or marks.now (a % 1024) false ≡ true }
+        ensures { result ≡ has_breakpoint self.now slot address }
     {
         if !marks[(address % 1024) as usize] {
             return false;
@@ -76,7 +76,7 @@ impl Debugger {
         }
         Halt {
             count: k,
-            cause: Cause::Spent,
+            cause: HaltCause::Spent,
         }
     }
 

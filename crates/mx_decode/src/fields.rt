@@ -3,10 +3,10 @@
 ghost use Rattle.std.specs.Prelude.{◌≡◌, ◌<◌, ◌^◌, ◌/◌, ◌%◌, IfOk, Some};
 ghost use Rattle.mx_word.specs.Word.{width};
 ghost use Rattle.mx_insn.specs.Spelling.{register, scale, base_of, index_of, sign_extended, row_size};
-ghost use Rattle.mx_decode.specs.Given.{Gives, number_at, displacement_at, immediate_at, sib_parts, base_parts, memory_at, operand_at, modrm_at, place_code, immediate_bound};
+ghost use Rattle.mx_decode.specs.Given.{Gives, number_at, displacement_at, immediate_at, sib_parts, base_field_parts, memory_field, operand_field, modrm_at, place_code, immediate_bound};
 
 use crate::DecodeFault;
-use mx_insn::{ImmediateColumn, Index, Memory, ModRm, Operand, Register, Scale, Size, Sizes};
+use mx_insn::{ImmediateColumn, Index, Memory, ModRm, Operand, Register, Scale, Size, SizeMark};
 use mx_word::signed;
 
 #[inline(always)]
@@ -119,9 +119,9 @@ fn sib(bytes: &[u8]) -> Result<(u8, Option<Index>, &[u8]), DecodeFault>
 }
 
 /// The field that names the base, and the index.
-#[tactic(auto, unfolding(crate::specs::Given::base_parts))]
+#[tactic(auto, unfolding(crate::specs::Given::base_field_parts))]
 fn base(rm: u8, bytes: &[u8]) -> Result<(u8, Option<Index>, &[u8]), DecodeFault>
-    ensures { Gives (λ x. ((x.0, x.1), x.2.now)) result (base_parts rm bytes.now) }
+    ensures { Gives (λ x. ((x.0, x.1), x.2.now)) result (base_field_parts rm bytes.now) }
 {
     if rm == 4 {
         return sib(bytes);
@@ -139,10 +139,10 @@ fn base_of(mode: u8, field: u8) -> Option<Register>
     Some(register(field))
 }
 
-#[tactic(auto, unfolding(crate::specs::Given::memory_at))]
+#[tactic(auto, unfolding(crate::specs::Given::memory_field))]
 fn memory(mode: u8, rm: u8, bytes: &[u8]) -> Result<(Memory, &[u8]), DecodeFault>
     requires { mode < 3 }
-    ensures { Gives (λ x. (x.0, x.1.now)) result (memory_at mode rm bytes.now) }
+    ensures { Gives (λ x. (x.0, x.1.now)) result (memory_field mode rm bytes.now) }
 {
     let (field, index, rest) = base(rm, bytes)?;
     let (displacement, rest) = displacement(mode, field, rest)?;
@@ -156,10 +156,10 @@ fn memory(mode: u8, rm: u8, bytes: &[u8]) -> Result<(Memory, &[u8]), DecodeFault
     ))
 }
 
-#[tactic(auto, unfolding(crate::specs::Given::operand_at))]
+#[tactic(auto, unfolding(crate::specs::Given::operand_field))]
 fn operand(mode: u8, rm: u8, bytes: &[u8]) -> Result<(Operand, &[u8]), DecodeFault>
     requires { mode < 4 }
-    ensures { Gives (λ x. (x.0, x.1.now)) result (operand_at mode rm bytes.now) }
+    ensures { Gives (λ x. (x.0, x.1.now)) result (operand_field mode rm bytes.now) }
 {
     if mode == 3 {
         return Ok((Operand::Register(register(rm)), bytes));
@@ -193,13 +193,13 @@ pub fn place(column: ModRm, bytes: &[u8]) -> Result<(u8, Operand, &[u8]), Decode
     }
 }
 
-pub fn row_size(sizes: Sizes, resized: bool) -> Size
+pub fn row_size(sizes: SizeMark, resized: bool) -> Size
     ensures { result ≡ row_size sizes resized }
 {
     match sizes {
-        Sizes::Byte => Size::Byte,
-        Sizes::Variable if resized => Size::Word,
-        Sizes::Variable | Sizes::Dword => Size::Dword,
+        SizeMark::Byte => Size::Byte,
+        SizeMark::Variable if resized => Size::Word,
+        SizeMark::Variable | SizeMark::Dword => Size::Dword,
     }
 }
 

@@ -13,7 +13,7 @@ use mx_insn::{
 
 /// What stands in an instruction's bytes beside the row.
 #[derive(Clone, Copy)]
-pub struct Values {
+pub struct FieldValues {
     pub resized: bool,
     pub repeat: Option<Repeat>,
     pub number: u8,
@@ -156,12 +156,12 @@ fn shift_count(column: CountColumn, immediate: u32) -> Count
 const ACCUMULATOR: Operand = Operand::Register(Register::Eax);
 
 /// The instruction that a row's instruction column makes.
-pub fn insn_of(pattern: Pattern, size: Size, values: Values) -> Insn
+pub fn insn_of(pattern: Pattern, size: Size, values: FieldValues) -> Insn
     requires narrow { values.immediate < narrow_bound pattern size values.resized }
     requires number { values.number < 255 }
     ensures { result ≡ made pattern size (parts_in values) }
 {
-    let Values {
+    let FieldValues {
         resized,
         rm,
         immediate,

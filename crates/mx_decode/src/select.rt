@@ -9,7 +9,7 @@ ghost use Rattle.mx_decode.specs.Given.{Gives};
 use crate::DecodeFault;
 use crate::head::Head;
 use crate::table::rows_near;
-use mx_insn::{ModRm, Repeat, Repeats, Row, Sizes};
+use mx_insn::{ModRm, Repeat, Repeats, Row, SizeMark};
 
 fn has_opcode(row: &Row, escaped: bool, opcode: u8) -> bool
     ensures { result ≡ has_opcode escaped opcode row.now }
@@ -21,12 +21,12 @@ fn has_opcode(row: &Row, escaped: bool, opcode: u8) -> bool
         && (opcode - row.first) % row.step == 0
 }
 
-fn allows_resized(sizes: Sizes, resized: bool) -> bool
+fn allows_resized(sizes: SizeMark, resized: bool) -> bool
     ensures { result ≡ allows_resized sizes resized }
 {
     match sizes {
-        Sizes::Variable => true,
-        Sizes::Byte | Sizes::Dword => !resized,
+        SizeMark::Variable => true,
+        SizeMark::Byte | SizeMark::Dword => !resized,
     }
 }
 

@@ -10,7 +10,7 @@ ghost use Rattle.mx_decode.specs.Given.{Gives, immediate_bound, narrow_bound, op
 use crate::DecodeFault;
 use crate::fields::{immediate, place, row_size};
 use crate::head::{Head, read_head};
-use crate::meaning::{Values, insn_of};
+use crate::meaning::{FieldValues, insn_of};
 use crate::select::row_of;
 use mx_insn::{Insn, Row};
 
@@ -25,7 +25,7 @@ fn operands<'a>(head: Head, row: &Row, bytes: &'a [u8]) -> Result<(Insn, &'a [u8
     let size = row_size(row.sizes, head.resized);
     let (reg, rm, rest) = place(row.modrm, bytes)?;
     let (immediate, rest) = immediate(row.immediate, size, head.resized, rest)?;
-    let values = Values {
+    let values = FieldValues {
         resized: head.resized,
         repeat: head.repeat,
         number: (head.opcode - row.first) / row.step,

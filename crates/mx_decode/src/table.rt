@@ -1,11 +1,11 @@
 //! The rows of the table, by parts of the opcode maps, in the table's order within a part.
 
 ghost use Rattle.std.specs.Prelude.{◌≡◌, ◌≤◌, ◌<◌, true, false};
-ghost use Rattle.mx_decode.specs.Map.{part, rows_in};
+ghost use Rattle.mx_decode.specs.Map.{map_part, rows_in};
 
 use mx_insn::{
     Comparison, CountColumn, ImmediateColumn, Loop, ModRm, Pattern, Plain, Product, Repeats, Row,
-    Shift, Sizes, Transfer, Unary,
+    Shift, SizeMark, Transfer, Unary,
 };
 
 macro_rules! row {
@@ -15,7 +15,7 @@ macro_rules! row {
             first: $first,
             step: $step,
             count: $count,
-            sizes: Sizes::$sizes,
+            sizes: SizeMark::$sizes,
             repeats: Repeats::$repeats,
             modrm: $reg,
             immediate: ImmediateColumn::$immediate,
@@ -283,7 +283,7 @@ fn escaped_rows(part: u8) -> &'static [Row]
 /// The rows of the map, behind 0F or not, in the part where the opcode stands.
 #[inline(always)]
 pub fn rows_near(escaped: bool, opcode: u8) -> &'static [Row]
-    ensures { result.now ≡ rows_in escaped (part escaped opcode) }
+    ensures { result.now ≡ rows_in escaped (map_part escaped opcode) }
 {
     if escaped {
         escaped_rows(opcode / 64)

@@ -2,7 +2,7 @@
 use Rattle.std.specs.Prelude.{ℕ, ◌%◌, ◌==◌, ◌&&◌, nat_le, if◌then◌else◌, List, [], ◌∷◌, ◌++◌, codes, map}
 use Rattle.std.specs.List.{flat_map}
 use Rattle.mx_aout.specs.declared.program.Symbol.{Symbol}
-use Rattle.mx_print.specs.Numbers.{eight_digits}
+use Rattle.mx_print_insn.specs.Numbers.{eight_digits}
 
 -- the letter of a class: its low three bits say undefined, absolute, text, data or bss
 abbrev pub letter_of : ℕ → List ℕ
@@ -12,8 +12,8 @@ letter_of class =
     else (if kind == 3 then codes "D" else (if kind == 4 then codes "B" else codes "?"))))
 
 -- a byte from 21 to 7E is a visible character; a dot (2E) stands for any other
-abbrev pub shown : ℕ → ℕ
-shown b = if nat_le 0x21 b && nat_le b 0x7E then b else 0x2E
+abbrev pub visible_byte : ℕ → ℕ
+visible_byte b = if nat_le 0x21 b && nat_le b 0x7E then b else 0x2E
 
 -- a name's bytes up to the first zero byte
 abbrev pub before_zero : List ℕ → List ℕ
@@ -21,7 +21,7 @@ before_zero [] = []
 before_zero (b ∷ bytes) = if b == 0 then [] else b ∷ before_zero bytes
 
 abbrev pub name_text : List ℕ → List ℕ
-name_text name = map shown (before_zero name)
+name_text name = map visible_byte (before_zero name)
 
 -- a symbol's line: its value, its letter, its name
 abbrev pub name_line : Symbol → List ℕ

@@ -2,11 +2,11 @@
 
 ghost use Rattle.std.specs.Prelude.{◌≡◌, ◌<◌, ◌≤◌, ◌+◌, ◌^◌, ◌++◌, length, drop, OnOk, IfOk, string_bytes};
 ghost use Rattle.mx_dis.specs.Parting.{part_size};
-ghost use Rattle.mx_dis.specs.Listing.{part_text, line_of, IsListing};
+ghost use Rattle.mx_dis.specs.Listing.{part_text, listing_line, IsListing};
 
 use crate::part::{Part, first_part};
 use mx_aout::Program;
-use mx_print::{push_eight_digits, push_number, push_statement};
+use mx_print_insn::{push_eight_digits, push_number, push_statement};
 use mx_word::NoMemory;
 use std::alloc::{AllocError, Global};
 
@@ -26,7 +26,7 @@ fn push_part(out: &mut String, part: &Part, next: u32) -> Result<(), AllocError>
 /// The line of a part at an address.
 fn push_line(out: &mut String, at: u32, part: &Part) -> Result<(), AllocError>
     requires { at + part_size part.now < 2 ^ 32 }
-    ensures { OnOk result (string_bytes out.new ≡ string_bytes out.old ++ line_of at part.now) }
+    ensures { OnOk result (string_bytes out.new ≡ string_bytes out.old ++ listing_line at part.now) }
 {
     push_eight_digits(out, at)?;
     out.push_str(" ")?;

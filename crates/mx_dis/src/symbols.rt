@@ -1,10 +1,10 @@
 //! Lists symbols.
 
 ghost use Rattle.std.specs.Prelude.{◌≡◌, ◌++◌, OnOk, IfOk, string_bytes};
-ghost use Rattle.mx_dis.specs.Names.{letter_of, shown, name_text, name_line, name_lines};
+ghost use Rattle.mx_dis.specs.Names.{letter_of, visible_byte, name_text, name_line, name_lines};
 
 use mx_aout::{Program, Symbol};
-use mx_print::push_eight_digits;
+use mx_print_insn::push_eight_digits;
 use mx_word::NoMemory;
 use std::alloc::{AllocError, Global};
 
@@ -24,7 +24,7 @@ fn letter(class: u8) -> &'static str
 
 /// A byte of a name, or a dot where it is no visible character of ASCII.
 fn visible(byte: u8) -> u8
-    ensures { result ≡ shown byte }
+    ensures { result ≡ visible_byte byte }
 {
     if byte.is_ascii_graphic() { byte } else { b'.' }
 }

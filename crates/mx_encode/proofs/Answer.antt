@@ -3,32 +3,32 @@ use Rattle.std.proofs.Common.{◌≡◌, ℕ, true, List, Option, Some, None, Ok
 use Rattle.mx_insn.specs.declared.insn.Insn.{Insn}
 use Rattle.mx_insn.specs.Spelling.{SpellsBy, spelling}
 use Rattle.mx_encode.specs.declared.Wide.{Wide}
-use Rattle.mx_encode.specs.declared.forms.Form.{Form}
+use Rattle.mx_encode.specs.declared.forms.Encoding.{Encoding}
 use Rattle.mx_encode.specs.Places.{has_place, place_for}
 use Rattle.mx_encode.specs.Choice.{Choice, choice}
 use Rattle.mx_encode.specs.Chosen.{Chosen, fields_of}
-use Rattle.mx_encode.specs.Given.{Gives, Fits, RegFits, laid, form_bytes}
+use Rattle.mx_encode.specs.Given.{GivesBytes, Fits, RegFits, laid, form_bytes}
 use Rattle.mx_encode.proofs.Suits.{Suits, suits_spell, suits_reg}
 use Rattle.mx_encode.proofs.Families.{SuitsWhere, choice_suits}
 
 -- a form that was given is that of a choice, which suits
-record Given (f : Form) (i : Insn) (wide : Wide) : Type 0 where
+record Given (f : Encoding) (i : Insn) (wide : Wide) : Type 0 where
   chosen : Choice
   is_chosen : choice i wide ≡ Some chosen
   is_laid : f ≡ laid chosen
   suits : Suits chosen i
 
-given_by : (f : Form) (i : Insn) (wide : Wide) → Gives (Ok f) (choice i wide) → Fits i → Given f i wide
+given_by : (f : Encoding) (i : Insn) (wide : Wide) → GivesBytes (Ok f) (choice i wide) → Fits i → Given f i wide
 given_by f i wide gives fits = go (choice i wide) refl gives (choice_suits i wide fits)
   where
-    go : (o : Option Choice) → choice i wide ≡ o → Gives (Ok f) o → SuitsWhere o i → Given f i wide
+    go : (o : Option Choice) → choice i wide ≡ o → GivesBytes (Ok f) o → SuitsWhere o i → Given f i wide
     go None e g s = absurd g
     go (Some c) e g s = record { chosen = c; is_chosen = e; is_laid = g; suits = s }
 
-pub reg_fits : (f : Form) (i : Insn) (wide : Wide) → Gives (Ok f) (choice i wide) → Fits i → RegFits f.rm
+pub reg_fits : (f : Encoding) (i : Insn) (wide : Wide) → GivesBytes (Ok f) (choice i wide) → Fits i → RegFits f.rm
 reg_fits f i wide gives fits =
     let g = given_by f i wide gives fits in
-    subst (λ (z : Form). RegFits z.rm) (sym g.is_laid) (suits_reg g.chosen.row.modrm g.chosen.rm g.suits.rm)
+    subst (λ (z : Encoding). RegFits z.rm) (sym g.is_laid) (suits_reg g.chosen.row.modrm g.chosen.rm g.suits.rm)
 
 chosen_bytes : (c : Choice) (i : Insn) (wide : Wide) (bytes : List ℕ) → choice i wide ≡ Some c → Suits c i → has_place c.rm ≡ true → bytes ≡ spelling c.row (fields_of c wide.displacement) → Chosen i wide bytes
 chosen_bytes c i wide bytes e s h same = record {
@@ -38,7 +38,7 @@ chosen_bytes c i wide bytes e s h same = record {
   spells = subst (λ (z : List ℕ). SpellsBy c.row (fields_of c wide.displacement) z i) (sym same) (suits_spell c i wide.displacement s h);
 }
 
-pub chosen_given : (f : Form) (i : Insn) (wide : Wide) (bytes : List ℕ) → Gives (Ok f) (choice i wide) → Fits i → has_place f.rm ≡ true → bytes ≡ form_bytes f (place_for f.rm wide.displacement) → Chosen i wide bytes
+pub chosen_given : (f : Encoding) (i : Insn) (wide : Wide) (bytes : List ℕ) → GivesBytes (Ok f) (choice i wide) → Fits i → has_place f.rm ≡ true → bytes ≡ form_bytes f (place_for f.rm wide.displacement) → Chosen i wide bytes
 chosen_given f i wide bytes gives fits h same =
     let g = given_by f i wide gives fits in
-    subst (λ (z : Form). has_place z.rm ≡ true → bytes ≡ form_bytes z (place_for z.rm wide.displacement) → Chosen i wide bytes) (sym g.is_laid) (λ p q. chosen_bytes g.chosen i wide bytes g.is_chosen g.suits p q) h same
+    subst (λ (z : Encoding). has_place z.rm ≡ true → bytes ≡ form_bytes z (place_for z.rm wide.displacement) → Chosen i wide bytes) (sym g.is_laid) (λ p q. chosen_bytes g.chosen i wide bytes g.is_chosen g.suits p q) h same

@@ -15,7 +15,7 @@ use Rattle.mx_encode.specs.declared.Wide.{Wide}
 use Rattle.mx_encode.specs.Forms.{has_form}
 use Rattle.mx_encode.specs.Choice.{Choice, choice}
 use Rattle.mx_encode.specs.Chosen.{Chosen, fields_of}
-use Rattle.mx_encode.specs.Filled.{value_with, factor_with, operands_with_value, with_immediate, operand_at, operands_at, with_displacement}
+use Rattle.mx_encode.specs.Filled.{value_with, factor_with, operands_with_value, with_immediate, operand_with_displacement, operands_with_displacement, with_displacement}
 use Rattle.mx_encode.specs.Given.{OperandFits, ImmediateFits, WideImmediateFits, OperandsFit, Fits}
 use Rattle.mx_encode.proofs.Suits.{suits_spell}
 use Rattle.mx_encode.proofs.Families.{SuitsWhere, choice_suits}
@@ -57,11 +57,11 @@ valued_fits _ n lt fits = fits
 
 -- ---- a displacement
 
-operand_fits : (x : Operand) (n : ℕ) → n < 2 ^ 32 → OperandFits (operand_at x n)
+operand_fits : (x : Operand) (n : ℕ) → n < 2 ^ 32 → OperandFits (operand_with_displacement x n)
 operand_fits (operand.Register r) n lt = tt
 operand_fits (operand.Memory m) n lt = lt
 
-displaced_operands : (x : Operands) (n : ℕ) → n < 2 ^ 32 → OperandsFit x → OperandsFit (operands_at x n)
+displaced_operands : (x : Operands) (n : ℕ) → n < 2 ^ 32 → OperandsFit x → OperandsFit (operands_with_displacement x n)
 displaced_operands (operands.ToRegister size to from) n lt fits = operand_fits from n lt
 displaced_operands (operands.ToMemory size to from) n lt fits = lt
 displaced_operands (operands.Immediate to value) n lt fits = (operand_fits to n lt, fits.1)

@@ -26,7 +26,7 @@ use Rattle.mx_encode.specs.Numbers.{number_bytes, is_short, shortens}
 use Rattle.mx_encode.specs.Places.{place_for, sib_of, mode_of, base_number}
 use Rattle.mx_encode.specs.Choice.{Choice, choice, bare}
 use Rattle.mx_encode.specs.Chosen.{Chosen, fields_of}
-use Rattle.mx_encode.specs.Filled.{operand_at, with_displacement, with_immediate}
+use Rattle.mx_encode.specs.Filled.{operand_with_displacement, with_displacement, with_immediate}
 use Rattle.mx_encode.specs.Lengths.{spelled_length, chosen_length as whole_length}
 use Rattle.mx_encode.specs.Numbers.{arithmetic_number}
 use Rattle.mx_word.specs.Names.{register_number}
@@ -65,13 +65,13 @@ memory_length : (base : Option Register) (index : Option Index) (m n : ℕ)
 memory_length None index m n = behind_sib None index m n
 memory_length (Some r) index m n = behind_sib (Some r) index m n
 
-operand_length : (reg : ℕ) (o : Operand) (n : ℕ) → rm_length (Some (record { reg = reg; operand = operand_at o n })) ≡ rm_length (Some (record { reg = reg; operand = o }))
+operand_length : (reg : ℕ) (o : Operand) (n : ℕ) → rm_length (Some (record { reg = reg; operand = operand_with_displacement o n })) ≡ rm_length (Some (record { reg = reg; operand = o }))
 operand_length reg (operand.Register r) n = refl
 operand_length reg (operand.Memory m) n = ap suc (memory_length m.base m.index m.displacement n)
 
 abbrev rm_at : Option Rm → ℕ → Option Rm
 rm_at None n = None
-rm_at (Some rm) n = Some (record { reg = rm.reg; operand = operand_at rm.operand n })
+rm_at (Some rm) n = Some (record { reg = rm.reg; operand = operand_with_displacement rm.operand n })
 
 abbrev choice_at : Choice → ℕ → Choice
 choice_at c n = record c { rm = rm_at c.rm n }

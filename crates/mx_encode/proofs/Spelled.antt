@@ -12,8 +12,8 @@ use Rattle.mx_insn.specs.declared.insn.Operand.{Operand}
 use Rattle.mx_insn.specs.declared.insn.Operand.TheVariants as operand
 use Rattle.mx_insn.specs.declared.insn.Insn.{Insn}
 use Rattle.mx_insn.specs.declared.row.Row.{Row}
-use Rattle.mx_insn.specs.declared.row.Sizes.{Sizes}
-use Rattle.mx_insn.specs.declared.row.Sizes.TheVariants as sizes
+use Rattle.mx_insn.specs.declared.row.SizeMark.{SizeMark}
+use Rattle.mx_insn.specs.declared.row.SizeMark.TheVariants as sizes
 use Rattle.mx_insn.specs.declared.row.ModRm.{ModRm}
 use Rattle.mx_insn.specs.declared.row.ModRm.TheVariants.{Absent, Any, AnyMemory, Only}
 use Rattle.mx_insn.specs.declared.row.ImmediateColumn.{ImmediateColumn}
@@ -65,11 +65,11 @@ abbrev is_signed : ImmediateColumn → Bool
 is_signed columns.SignedByte = true
 is_signed _ = false
 
-abbrev is_dword : Sizes → Bool
+abbrev is_dword : SizeMark → Bool
 is_dword sizes.Dword = true
 is_dword _ = false
 
-abbrev loop_sound : Pattern → ImmediateColumn → Sizes → Bool
+abbrev loop_sound : Pattern → ImmediateColumn → SizeMark → Bool
 loop_sound (patterns.Loop o) column size = is_signed column && is_dword size
 loop_sound _ column size = true
 
@@ -110,7 +110,7 @@ abbrev LoopReads : Pattern → ℕ → Type 0
 LoopReads (patterns.Loop o) n = is_short 32 n ≡ true
 LoopReads _ n = Unit {0}
 
-loop_value : (column : ImmediateColumn) (size : Sizes) (resized : Bool) (bytes : List ℕ) → (is_signed column && is_dword size) ≡ true → length bytes ≡ immediate_length column resized → AreBytes bytes → is_short 32 (immediate_value column (row_size size resized) bytes) ≡ true
+loop_value : (column : ImmediateColumn) (size : SizeMark) (resized : Bool) (bytes : List ℕ) → (is_signed column && is_dword size) ≡ true → length bytes ≡ immediate_length column resized → AreBytes bytes → is_short 32 (immediate_value column (row_size size resized) bytes) ≡ true
 loop_value columns.SignedByte sizes.Dword resized bytes e len small = short_again bytes len small
 loop_value columns.SignedByte sizes.Byte resized bytes e len small = absurd cc
 loop_value columns.SignedByte sizes.Variable resized bytes e len small = absurd cc
@@ -120,7 +120,7 @@ loop_value columns.Word size resized bytes e len small = absurd cc
 loop_value columns.Dword size resized bytes e len small = absurd cc
 loop_value columns.Variable size resized bytes e len small = absurd cc
 
-loop_reads : (pattern : Pattern) (column : ImmediateColumn) (size : Sizes) (resized : Bool) (bytes : List ℕ) → loop_sound pattern column size ≡ true → length bytes ≡ immediate_length column resized → AreBytes bytes → LoopReads pattern (immediate_value column (row_size size resized) bytes)
+loop_reads : (pattern : Pattern) (column : ImmediateColumn) (size : SizeMark) (resized : Bool) (bytes : List ℕ) → loop_sound pattern column size ≡ true → length bytes ≡ immediate_length column resized → AreBytes bytes → LoopReads pattern (immediate_value column (row_size size resized) bytes)
 loop_reads (patterns.Loop o) column size resized bytes e len small = loop_value column size resized bytes e len small
 loop_reads _ column size resized bytes e len small = tt
 

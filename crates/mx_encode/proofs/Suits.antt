@@ -20,7 +20,7 @@ use Rattle.mx_encode.specs.declared.fields.Number.{Number}
 use Rattle.mx_encode.specs.declared.fields.Number.TheVariants as numbers
 use Rattle.mx_encode.specs.declared.fields.Rm.{Rm}
 use Rattle.mx_encode.specs.Numbers.{number_bytes, is_short, short, is_word}
-use Rattle.mx_encode.specs.Places.{has_place, place_for, place_of}
+use Rattle.mx_encode.specs.Places.{has_place, place_for, place_written}
 use Rattle.mx_encode.specs.Choice.{Choice, with_rm}
 use Rattle.mx_encode.specs.Chosen.{fields_of}
 use Rattle.mx_encode.specs.Given.{OperandFits, RegFits}
@@ -73,11 +73,11 @@ RmSuits AnyMemory (Some rm) = (rm.reg < 8) × OperandFits rm.operand × (is_memo
 RmSuits (Only n) None = ⊥
 RmSuits (Only n) (Some rm) = (rm.reg < 8) × OperandFits rm.operand × (n ≡ rm.reg)
 
-reg_kept : (reg : ℕ) (o : Operand) (long : Bool) → (place_of reg o long).reg ≡ reg
+reg_kept : (reg : ℕ) (o : Operand) (long : Bool) → (place_written reg o long).reg ≡ reg
 reg_kept reg (operand.Register r) long = refl
 reg_kept reg (operand.Memory m) long = refl
 
-mode_below : (reg : ℕ) (o : Operand) (long : Bool) → OperandFits o → is_memory o ≡ true → not (eqb (place_of reg o long).mode 3) ≡ true
+mode_below : (reg : ℕ) (o : Operand) (long : Bool) → OperandFits o → is_memory o ≡ true → not (eqb (place_written reg o long).mode 3) ≡ true
 mode_below reg (operand.Register r) long fits h = absurd cc
 mode_below reg (operand.Memory m) long fits h = rw (memory_mode reg m long fits) refl
 
@@ -89,7 +89,7 @@ stands Any (Some rm) long s = (place_fits rm.reg rm.operand long s.0 s.1, refl)
 stands AnyMemory None long s = absurd s
 stands AnyMemory (Some rm) long s = (place_fits rm.reg rm.operand long s.0 s.1, mode_below rm.reg rm.operand long s.1 s.2)
 stands (Only n) None long s = absurd s
-stands (Only n) (Some rm) long s = (place_fits rm.reg rm.operand long s.0 s.1, eq-eqb n (place_of rm.reg rm.operand long).reg (s.2 ∙ sym (reg_kept rm.reg rm.operand long)))
+stands (Only n) (Some rm) long s = (place_fits rm.reg rm.operand long s.0 s.1, eq-eqb n (place_written rm.reg rm.operand long).reg (s.2 ∙ sym (reg_kept rm.reg rm.operand long)))
 
 abbrev pub reg_of : Option Rm → ℕ
 reg_of None = 0

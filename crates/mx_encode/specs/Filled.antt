@@ -41,36 +41,36 @@ with_immediate i n = i
 
 -- ---- a displacement in memory
 
-abbrev pub memory_at : Memory → ℕ → Memory
-memory_at m n = record m { displacement = n }
+abbrev pub memory_with_displacement : Memory → ℕ → Memory
+memory_with_displacement m n = record m { displacement = n }
 
-abbrev pub operand_at : Operand → ℕ → Operand
-operand_at (operand.Register r) n = operand.Register r
-operand_at (operand.Memory m) n = operand.Memory (memory_at m n)
+abbrev pub operand_with_displacement : Operand → ℕ → Operand
+operand_with_displacement (operand.Register r) n = operand.Register r
+operand_with_displacement (operand.Memory m) n = operand.Memory (memory_with_displacement m n)
 
-abbrev pub operands_at : Operands → ℕ → Operands
-operands_at (operands.ToRegister size to from) n = operands.ToRegister size to (operand_at from n)
-operands_at (operands.ToMemory size to from) n = operands.ToMemory size (memory_at to n) from
-operands_at (operands.Immediate to value) n = operands.Immediate (operand_at to n) value
+abbrev pub operands_with_displacement : Operands → ℕ → Operands
+operands_with_displacement (operands.ToRegister size to from) n = operands.ToRegister size to (operand_with_displacement from n)
+operands_with_displacement (operands.ToMemory size to from) n = operands.ToMemory size (memory_with_displacement to n) from
+operands_with_displacement (operands.Immediate to value) n = operands.Immediate (operand_with_displacement to n) value
 
 abbrev pub with_displacement : Insn → ℕ → Insn
-with_displacement (insns.Arithmetic o x) n = insns.Arithmetic o (operands_at x n)
-with_displacement (insns.Move x) n = insns.Move (operands_at x n)
-with_displacement (insns.Test size o r) n = insns.Test size (operand_at o n) r
-with_displacement (insns.TestImmediate o value) n = insns.TestImmediate (operand_at o n) value
-with_displacement (insns.Exchange size o r) n = insns.Exchange size (operand_at o n) r
-with_displacement (insns.LoadAddress size to m) n = insns.LoadAddress size to (memory_at m n)
-with_displacement (insns.Unary o size x) n = insns.Unary o size (operand_at x n)
-with_displacement (insns.Product o size x) n = insns.Product o size (operand_at x n)
-with_displacement (insns.Multiply size to from) n = insns.Multiply size to (operand_at from n)
-with_displacement (insns.MultiplyImmediate to from by) n = insns.MultiplyImmediate to (operand_at from n) by
-with_displacement (insns.Shift o size x count) n = insns.Shift o size (operand_at x n) count
-with_displacement (insns.ZeroExtend e to from) n = insns.ZeroExtend e to (operand_at from n)
-with_displacement (insns.SignExtend e to from) n = insns.SignExtend e to (operand_at from n)
-with_displacement (insns.SetCondition c o) n = insns.SetCondition c (operand_at o n)
-with_displacement (insns.Push o) n = insns.Push (operand_at o n)
-with_displacement (insns.JumpTo o) n = insns.JumpTo (operand_at o n)
-with_displacement (insns.CallTo o) n = insns.CallTo (operand_at o n)
+with_displacement (insns.Arithmetic o x) n = insns.Arithmetic o (operands_with_displacement x n)
+with_displacement (insns.Move x) n = insns.Move (operands_with_displacement x n)
+with_displacement (insns.Test size o r) n = insns.Test size (operand_with_displacement o n) r
+with_displacement (insns.TestImmediate o value) n = insns.TestImmediate (operand_with_displacement o n) value
+with_displacement (insns.Exchange size o r) n = insns.Exchange size (operand_with_displacement o n) r
+with_displacement (insns.LoadAddress size to m) n = insns.LoadAddress size to (memory_with_displacement m n)
+with_displacement (insns.Unary o size x) n = insns.Unary o size (operand_with_displacement x n)
+with_displacement (insns.Product o size x) n = insns.Product o size (operand_with_displacement x n)
+with_displacement (insns.Multiply size to from) n = insns.Multiply size to (operand_with_displacement from n)
+with_displacement (insns.MultiplyImmediate to from by) n = insns.MultiplyImmediate to (operand_with_displacement from n) by
+with_displacement (insns.Shift o size x count) n = insns.Shift o size (operand_with_displacement x n) count
+with_displacement (insns.ZeroExtend e to from) n = insns.ZeroExtend e to (operand_with_displacement from n)
+with_displacement (insns.SignExtend e to from) n = insns.SignExtend e to (operand_with_displacement from n)
+with_displacement (insns.SetCondition c o) n = insns.SetCondition c (operand_with_displacement o n)
+with_displacement (insns.Push o) n = insns.Push (operand_with_displacement o n)
+with_displacement (insns.JumpTo o) n = insns.JumpTo (operand_with_displacement o n)
+with_displacement (insns.CallTo o) n = insns.CallTo (operand_with_displacement o n)
 with_displacement i n = i
 
 -- ---- how far a jump goes

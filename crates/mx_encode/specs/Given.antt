@@ -20,40 +20,40 @@ use Rattle.mx_insn.specs.declared.insn.Insn.TheVariants as insns
 use Rattle.mx_insn.specs.Spelling.{Sib, opcode, Place, prefix_bytes, escape_bytes, modrm_bytes}
 use Rattle.mx_encode.specs.declared.NoForm.{NoForm}
 use Rattle.mx_encode.specs.declared.fields.Sib as code_sib
-use Rattle.mx_encode.specs.declared.fields.Place as code_place
-use Rattle.mx_encode.specs.declared.forms.Form.{Form}
+use Rattle.mx_encode.specs.declared.fields.RmFields as code_place
+use Rattle.mx_encode.specs.declared.forms.Encoding.{Encoding}
 use Rattle.mx_encode.specs.declared.fields.Rm.{Rm}
 use Rattle.mx_encode.specs.declared.fields.Number.TheVariants as numbers
 use Rattle.mx_encode.specs.Numbers.{number_bytes}
 use Rattle.mx_encode.specs.Choice.{Choice}
 
 -- a choice, without its row
-abbrev pub laid : Choice → Form
+abbrev pub laid : Choice → Encoding
 laid c = record { resized = c.resized; repeat = c.repeat; escaped = c.row.escaped; opcode = opcode c.row c.number; rm = c.rm; immediate = c.immediate }
 
 -- what a function returned is what was chosen
-abbrev pub Gives : Result Form NoForm → Option Choice → Type 0
-Gives (Ok f) (Some c) = f ≡ laid c
-Gives (Ok f) None = ⊥
-Gives (Err e) (Some c) = ⊥
-Gives (Err e) None = Unit {0}
+abbrev pub GivesBytes : Result Encoding NoForm → Option Choice → Type 0
+GivesBytes (Ok f) (Some c) = f ≡ laid c
+GivesBytes (Ok f) None = ⊥
+GivesBytes (Err e) (Some c) = ⊥
+GivesBytes (Err e) None = Unit {0}
 
 -- a reg field has three bits
 abbrev pub RegFits : Option Rm → Type 0
 RegFits None = Unit {0}
 RegFits (Some rm) = rm.reg < 8
 
-abbrev pub form_bytes : Form → Option Place → List ℕ
+abbrev pub form_bytes : Encoding → Option Place → List ℕ
 form_bytes f place = prefix_bytes f.resized f.repeat false ++ (escape_bytes f.escaped ++ (f.opcode ∷ (modrm_bytes place ++ number_bytes f.immediate)))
 
 -- a value by an opcode for bytes and the next, for words and dwords, under /0
-abbrev pub value_into : ℕ → Operand → Immediate → Form
+abbrev pub value_into : ℕ → Operand → Immediate → Encoding
 value_into first to (immediate.Byte n) = record { resized = false; repeat = None; escaped = false; opcode = first; rm = Some (record { reg = 0; operand = to }); immediate = numbers.Byte n }
 value_into first to (immediate.Word n) = record { resized = true; repeat = None; escaped = false; opcode = first + 1; rm = Some (record { reg = 0; operand = to }); immediate = numbers.Word n }
 value_into first to (immediate.Dword n) = record { resized = false; repeat = None; escaped = false; opcode = first + 1; rm = Some (record { reg = 0; operand = to }); immediate = numbers.Dword n }
 
 -- INC or DEC, by the opcode for words and dwords in a register or else under /n of FE and FF
-abbrev pub step_form : ℕ → ℕ → Size → Operand → Form
+abbrev pub step_form : ℕ → ℕ → Size → Operand → Encoding
 step_form first n Byte o = record { resized = false; repeat = None; escaped = false; opcode = 0xFE; rm = Some (record { reg = n; operand = o }); immediate = numbers.Nothing }
 step_form first n Word (operand.Register r) = record { resized = true; repeat = None; escaped = false; opcode = first + register_number r; rm = None; immediate = numbers.Nothing }
 step_form first n Dword (operand.Register r) = record { resized = false; repeat = None; escaped = false; opcode = first + register_number r; rm = None; immediate = numbers.Nothing }
@@ -128,5 +128,5 @@ abbrev pub sib_seen : Option code_sib.Sib → Option Sib
 sib_seen None = None
 sib_seen (Some s) = Some (record { scale = s.scale; index = s.index; base = s.base })
 
-abbrev pub place_seen : code_place.Place → Place
+abbrev pub place_seen : code_place.RmFields → Place
 place_seen p = record { mode = p.mode; reg = p.reg; rm = p.rm; sib = sib_seen p.sib; displacement = number_bytes p.displacement }

@@ -49,13 +49,13 @@ memory_place reg m long = record {
 }
 
 -- by the reg field, the operand, and the mark on its displacement
-abbrev pub place_of : ℕ → Operand → Bool → Place
-place_of reg (operand.Register r) long = record { mode = 3; reg = reg; rm = register_number r; sib = None; displacement = [] }
-place_of reg (operand.Memory m) long = memory_place reg m long
+abbrev pub place_written : ℕ → Operand → Bool → Place
+place_written reg (operand.Register r) long = record { mode = 3; reg = reg; rm = register_number r; sib = None; displacement = [] }
+place_written reg (operand.Memory m) long = memory_place reg m long
 
 abbrev pub place_for : Option Rm → Bool → Option Place
 place_for None long = None
-place_for (Some rm) long = Some (place_of rm.reg rm.operand long)
+place_for (Some rm) long = Some (place_written rm.reg rm.operand long)
 
 -- ---- what has no place
 

@@ -6,22 +6,22 @@ ghost use Rattle.mx_encode.specs.Choice.{rep, transfer_choice, compare_choice, e
 ghost use Rattle.mx_encode.specs.Given.{laid, PortFits};
 
 use crate::fields::Number;
-use crate::forms::{Form, is_word, sized_opcode};
+use crate::forms::{Encoding, is_word, sized_opcode};
 use crate::numbers::is_word_size;
 use mx_insn::{Comparison, OperandSize, Plain, Port, PortSize, Repeat, Size, Transfer};
 
 /// CBW or CWDE.
-pub fn extend_accumulator(size: OperandSize) -> Form
+pub fn extend_accumulator(size: OperandSize) -> Encoding
     ensures { result ≡ laid (extend_accumulator size) }
 {
-    Form::bare(0x98).resized(is_word_size(size))
+    Encoding::bare(0x98).resized(is_word_size(size))
 }
 
 /// CWD or CDQ.
-pub fn spread_sign(size: OperandSize) -> Form
+pub fn spread_sign(size: OperandSize) -> Encoding
     ensures { result ≡ laid (spread_sign size) }
 {
-    Form::bare(0x99).resized(is_word_size(size))
+    Encoding::bare(0x99).resized(is_word_size(size))
 }
 
 fn transfer_opcode(operation: Transfer) -> u8
@@ -42,10 +42,10 @@ fn rep(repeated: bool) -> Option<Repeat>
 }
 
 /// MOVS, STOS, LODS.
-pub fn transfer(operation: Transfer, size: Size, repeated: bool) -> Form
+pub fn transfer(operation: Transfer, size: Size, repeated: bool) -> Encoding
     ensures { result ≡ laid (transfer_choice operation size repeated) }
 {
-    Form::bare(sized_opcode(size, transfer_opcode(operation)))
+    Encoding::bare(sized_opcode(size, transfer_opcode(operation)))
         .resized(is_word(size))
         .repeated(rep(repeated))
 }
@@ -61,37 +61,45 @@ fn compare_opcode(operation: Comparison) -> u8
 }
 
 /// CMPS, SCAS.
-pub fn compare(operation: Comparison, size: Size, repeat: Option<Repeat>) -> Form
+pub fn compare(operation: Comparison, size: Size, repeat: Option<Repeat>) -> Encoding
     ensures { result ≡ laid (compare_choice operation size repeat) }
 {
-    Form::bare(sized_opcode(size, compare_opcode(operation)))
+    Encoding::bare(sized_opcode(size, compare_opcode(operation)))
         .resized(is_word(size))
         .repeated(repeat)
 }
 
 /// IN.
-pub fn input(size: PortSize, port: Port) -> Form
+pub fn input(size: PortSize, port: Port) -> Encoding
     ensures form { result ≡ laid (in_choice size port) }
     ensures fits { PortFits port }
 {
     match (port, size) {
-        (Port::Immediate(n), PortSize::Byte) => Form::bare(0xe4).with_immediate(Number::Byte(n)),
-        (Port::Immediate(n), PortSize::Dword) => Form::bare(0xe5).with_immediate(Number::Byte(n)),
-        (Port::Dx, PortSize::Byte) => Form::bare(0xec),
-        (Port::Dx, PortSize::Dword) => Form::bare(0xed),
+        (Port::Immediate(n), PortSize::Byte) => Encoding::bare(0xe4).with_immediate(Number::Byte(
+            n,
+        )),
+        (Port::Immediate(n), PortSize::Dword) => Encoding::bare(0xe5).with_immediate(Number::Byte(
+            n,
+        )),
+        (Port::Dx, PortSize::Byte) => Encoding::bare(0xec),
+        (Port::Dx, PortSize::Dword) => Encoding::bare(0xed),
     }
 }
 
 /// OUT.
-pub fn output(size: PortSize, port: Port) -> Form
+pub fn output(size: PortSize, port: Port) -> Encoding
     ensures form { result ≡ laid (out_choice size port) }
     ensures fits { PortFits port }
 {
     match (port, size) {
-        (Port::Immediate(n), PortSize::Byte) => Form::bare(0xe6).with_immediate(Number::Byte(n)),
-        (Port::Immediate(n), PortSize::Dword) => Form::bare(0xe7).with_immediate(Number::Byte(n)),
-        (Port::Dx, PortSize::Byte) => Form::bare(0xee),
-        (Port::Dx, PortSize::Dword) => Form::bare(0xef),
+        (Port::Immediate(n), PortSize::Byte) => Encoding::bare(0xe6).with_immediate(Number::Byte(
+            n,
+        )),
+        (Port::Immediate(n), PortSize::Dword) => Encoding::bare(0xe7).with_immediate(Number::Byte(
+            n,
+        )),
+        (Port::Dx, PortSize::Byte) => Encoding::bare(0xee),
+        (Port::Dx, PortSize::Dword) => Encoding::bare(0xef),
     }
 }
 
@@ -121,8 +129,8 @@ fn plain_opcode(operation: Plain) -> u8
 }
 
 /// An instruction without operands.
-pub fn plain(operation: Plain) -> Form
+pub fn plain(operation: Plain) -> Encoding
     ensures { result ≡ laid (plain_choice operation) }
 {
-    Form::bare(plain_opcode(operation))
+    Encoding::bare(plain_opcode(operation))
 }

@@ -1,15 +1,15 @@
 //! The form that an instruction and its marks take.
 
 ghost use Rattle.mx_encode.specs.Choice.{choice};
-ghost use Rattle.mx_encode.specs.Given.{Gives, Fits};
+ghost use Rattle.mx_encode.specs.Given.{GivesBytes, Fits};
 
-use crate::forms::Form;
+use crate::forms::Encoding;
 use crate::{NoForm, Wide, accumulator, jumps, operands, single};
 use mx_insn::Insn;
 
 /// The form that is chosen. Only how far LOOP and JECXZ go can rule one out.
-pub fn form_of(insn: Insn, wide: Wide) -> Result<Form, NoForm>
-    ensures form { Gives result (choice insn wide) }
+pub fn form_of(insn: Insn, wide: Wide) -> Result<Encoding, NoForm>
+    ensures form { GivesBytes result (choice insn wide) }
     ensures fits { Fits insn }
 {
     match insn {

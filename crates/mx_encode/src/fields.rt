@@ -33,7 +33,7 @@ pub struct Sib {
 
 /// The fields of a ModRM byte, the SIB byte where there is one, and the displacement.
 #[derive(Clone, Copy)]
-pub struct Place {
+pub struct RmFields {
     pub mode: u8,
     pub reg: u8,
     pub rm: u8,

@@ -1,7 +1,7 @@
 //! Numbers put into an instruction in place of others.
 
 ghost use Rattle.std.specs.Prelude.{◌≡◌};
-ghost use Rattle.mx_encode.specs.Filled.{value_with, factor_with, operands_with_value, with_immediate, memory_at, operand_at, operands_at, with_displacement};
+ghost use Rattle.mx_encode.specs.Filled.{value_with, factor_with, operands_with_value, with_immediate, memory_with_displacement, operand_with_displacement, operands_with_displacement, with_displacement};
 
 use mx_insn::{Immediate, Insn, Memory, Operand, Operands, WideImmediate};
 
@@ -64,7 +64,7 @@ pub fn with_immediate(insn: Insn, number: u32) -> Insn
 }
 
 fn memory_at(memory: Memory, displacement: u32) -> Memory
-    ensures { result ≡ memory_at memory displacement }
+    ensures { result ≡ memory_with_displacement memory displacement }
 {
     Memory {
         displacement,
@@ -73,7 +73,7 @@ fn memory_at(memory: Memory, displacement: u32) -> Memory
 }
 
 fn operand_at(operand: Operand, displacement: u32) -> Operand
-    ensures { result ≡ operand_at operand displacement }
+    ensures { result ≡ operand_with_displacement operand displacement }
 {
     match operand {
         Operand::Register(_) => operand,
@@ -82,7 +82,7 @@ fn operand_at(operand: Operand, displacement: u32) -> Operand
 }
 
 fn operands_at(operands: Operands, displacement: u32) -> Operands
-    ensures { result ≡ operands_at operands displacement }
+    ensures { result ≡ operands_with_displacement operands displacement }
 {
     match operands {
         Operands::ToRegister { size, to, from } => Operands::ToRegister {

@@ -9,7 +9,7 @@ use mx_insn::{Operand, Repeat, Size};
 
 /// An opcode and its prefixes, the operand that mod and rm name, and the immediate.
 #[derive(Clone, Copy)]
-pub struct Form {
+pub struct Encoding {
     /// 66 stands.
     pub resized: bool,
     pub repeat: Option<Repeat>,
@@ -20,12 +20,12 @@ pub struct Form {
     pub immediate: Number,
 }
 
-impl Form {
+impl Encoding {
     /// An opcode alone.
-    pub fn bare(opcode: u8) -> Form
+    pub fn bare(opcode: u8) -> Encoding
         ensures { result ≡ record { resized = false; repeat = None; escaped = false; opcode = opcode; rm = None; immediate = Number.Nothing } }
     {
-        Form {
+        Encoding {
             resized: false,
             repeat: None,
             escaped: false,
@@ -36,10 +36,10 @@ impl Form {
     }
 
     /// An opcode with a reg field and an operand.
-    pub fn with_rm(opcode: u8, reg: u8, operand: Operand) -> Form
+    pub fn with_rm(opcode: u8, reg: u8, operand: Operand) -> Encoding
         ensures { result ≡ record { resized = false; repeat = None; escaped = false; opcode = opcode; rm = Some (record { reg = reg; operand = operand }); immediate = Number.Nothing } }
     {
-        Form {
+        Encoding {
             resized: false,
             repeat: None,
             escaped: false,
@@ -51,42 +51,42 @@ impl Form {
 
     /// Of two opcodes, for bytes and next to it for words and dwords, that of the size, with a reg
     /// field and an operand.
-    pub fn sized(size: Size, opcode: u8, reg: u8, operand: Operand) -> Form
+    pub fn sized(size: Size, opcode: u8, reg: u8, operand: Operand) -> Encoding
         requires { opcode < 255 }
         ensures { result ≡ record { resized = is_word size; repeat = None; escaped = false; opcode = sized_opcode size opcode; rm = Some (record { reg = reg; operand = operand }); immediate = Number.Nothing } }
     {
-        Form::with_rm(sized_opcode(size, opcode), reg, operand).resized(is_word(size))
+        Encoding::with_rm(sized_opcode(size, opcode), reg, operand).resized(is_word(size))
     }
 
     /// With 66, or without.
-    pub fn resized(self, resized: bool) -> Form
+    pub fn resized(self, resized: bool) -> Encoding
         ensures { result ≡ record self { resized = resized } }
     {
-        Form { resized, ..self }
+        Encoding { resized, ..self }
     }
 
     /// Behind 0F.
-    pub fn escaped(self) -> Form
+    pub fn escaped(self) -> Encoding
         ensures { result ≡ record self { escaped = true } }
     {
-        Form {
+        Encoding {
             escaped: true,
             ..self
         }
     }
 
     /// With F3, F2, or neither.
-    pub fn repeated(self, repeat: Option<Repeat>) -> Form
+    pub fn repeated(self, repeat: Option<Repeat>) -> Encoding
         ensures { result ≡ record self { repeat = repeat } }
     {
-        Form { repeat, ..self }
+        Encoding { repeat, ..self }
     }
 
     /// With an immediate.
-    pub fn with_immediate(self, immediate: Number) -> Form
+    pub fn with_immediate(self, immediate: Number) -> Encoding
         ensures { result ≡ record self { immediate = immediate } }
     {
-        Form { immediate, ..self }
+        Encoding { immediate, ..self }
     }
 }
 

@@ -3,59 +3,59 @@
 ghost use Rattle.std.specs.Prelude.{◌≡◌};
 ghost use Rattle.mx_insn.specs.Table.{loop_opcode};
 ghost use Rattle.mx_encode.specs.Choice.{jump_if, jump_choice, call_choice, jump_to, call_to, loop_choice, return_choice, interrupt_choice};
-ghost use Rattle.mx_encode.specs.Given.{laid, Gives, OperandFits};
+ghost use Rattle.mx_encode.specs.Given.{laid, GivesBytes, OperandFits};
 
 use crate::NoForm;
 use crate::fields::Number;
-use crate::forms::Form;
+use crate::forms::Encoding;
 use crate::numbers::{is_short, short, shortens};
 use mx_insn::{Condition, Loop, Operand, Size};
 
 /// Jcc.
-pub fn jump_if(condition: Condition, displacement: u32, long: bool) -> Form
+pub fn jump_if(condition: Condition, displacement: u32, long: bool) -> Encoding
     ensures { result ≡ laid (jump_if condition displacement long) }
 {
     if shortens(Size::Dword, displacement, long) {
-        Form::bare(0x70 + condition.code()).with_immediate(short(displacement))
+        Encoding::bare(0x70 + condition.code()).with_immediate(short(displacement))
     } else {
-        Form::bare(0x80 + condition.code())
+        Encoding::bare(0x80 + condition.code())
             .escaped()
             .with_immediate(Number::Dword(displacement))
     }
 }
 
 /// JMP.
-pub fn jump(displacement: u32, long: bool) -> Form
+pub fn jump(displacement: u32, long: bool) -> Encoding
     ensures { result ≡ laid (jump_choice displacement long) }
 {
     if shortens(Size::Dword, displacement, long) {
-        Form::bare(0xeb).with_immediate(short(displacement))
+        Encoding::bare(0xeb).with_immediate(short(displacement))
     } else {
-        Form::bare(0xe9).with_immediate(Number::Dword(displacement))
+        Encoding::bare(0xe9).with_immediate(Number::Dword(displacement))
     }
 }
 
 /// CALL.
-pub fn call(displacement: u32) -> Form
+pub fn call(displacement: u32) -> Encoding
     ensures { result ≡ laid (call_choice displacement) }
 {
-    Form::bare(0xe8).with_immediate(Number::Dword(displacement))
+    Encoding::bare(0xe8).with_immediate(Number::Dword(displacement))
 }
 
 /// JMP to where an operand says.
-pub fn jump_to(operand: Operand) -> Form
+pub fn jump_to(operand: Operand) -> Encoding
     ensures form { result ≡ laid (jump_to operand) }
     ensures fits { OperandFits operand }
 {
-    Form::with_rm(0xff, 4, operand)
+    Encoding::with_rm(0xff, 4, operand)
 }
 
 /// CALL of where an operand says.
-pub fn call_to(operand: Operand) -> Form
+pub fn call_to(operand: Operand) -> Encoding
     ensures form { result ≡ laid (call_to operand) }
     ensures fits { OperandFits operand }
 {
-    Form::with_rm(0xff, 2, operand)
+    Encoding::with_rm(0xff, 2, operand)
 }
 
 fn loop_opcode(operation: Loop) -> u8
@@ -70,29 +70,29 @@ fn loop_opcode(operation: Loop) -> u8
 }
 
 /// LOOPNE, LOOPE, LOOP, JECXZ.
-pub fn looping(operation: Loop, displacement: u32) -> Result<Form, NoForm>
-    ensures { Gives result (loop_choice operation displacement) }
+pub fn looping(operation: Loop, displacement: u32) -> Result<Encoding, NoForm>
+    ensures { GivesBytes result (loop_choice operation displacement) }
 {
     if !is_short(Size::Dword, displacement) {
         return Err(NoForm);
     }
-    Ok(Form::bare(loop_opcode(operation)).with_immediate(short(displacement)))
+    Ok(Encoding::bare(loop_opcode(operation)).with_immediate(short(displacement)))
 }
 
 /// RET.
-pub fn returning(number: u16) -> Form
+pub fn returning(number: u16) -> Encoding
     ensures { result ≡ laid (return_choice number) }
 {
     if number == 0 {
-        Form::bare(0xc3)
+        Encoding::bare(0xc3)
     } else {
-        Form::bare(0xc2).with_immediate(Number::Word(number))
+        Encoding::bare(0xc2).with_immediate(Number::Word(number))
     }
 }
 
 /// INT.
-pub fn interrupt(number: u8) -> Form
+pub fn interrupt(number: u8) -> Encoding
     ensures { result ≡ laid (interrupt_choice number) }
 {
-    Form::bare(0xcd).with_immediate(Number::Byte(number))
+    Encoding::bare(0xcd).with_immediate(Number::Byte(number))
 }

@@ -5,23 +5,28 @@ ghost use Rattle.mx_encode.specs.Choice.{arithmetic_immediate, arithmetic_choice
 ghost use Rattle.mx_encode.specs.Given.{laid, value_into, OperandFits, OperandsFit, ImmediateFits, WideImmediateFits};
 
 use crate::fields::Number;
-use crate::forms::Form;
+use crate::forms::Encoding;
 use crate::numbers::{arithmetic_number, is_word_size, short, shortens};
 use mx_insn::{
     Arithmetic, Extension, Immediate, Memory, Operand, OperandSize, Operands, Register, Size,
     WideImmediate,
 };
 
-fn arithmetic_immediate(operation: Arithmetic, to: Operand, value: Immediate, long: bool) -> Form
+fn arithmetic_immediate(
+    operation: Arithmetic,
+    to: Operand,
+    value: Immediate,
+    long: bool,
+) -> Encoding
     ensures form { result ≡ laid (arithmetic_immediate operation to value long) }
     ensures to_fits { OperandFits to }
     ensures value_fits { ImmediateFits value }
 {
     let reg = arithmetic_number(operation);
-    let short_form = Form::with_rm(0x83, reg, to);
-    let long_form = Form::with_rm(0x81, reg, to);
+    let short_form = Encoding::with_rm(0x83, reg, to);
+    let long_form = Encoding::with_rm(0x81, reg, to);
     match value {
-        Immediate::Byte(n) => Form::with_rm(0x80, reg, to).with_immediate(Number::Byte(n)),
+        Immediate::Byte(n) => Encoding::with_rm(0x80, reg, to).with_immediate(Number::Byte(n)),
         Immediate::Word(n) => {
             if shortens(Size::Word, u32::from(n), long) {
                 short_form.resized(true).with_immediate(short(u32::from(n)))
@@ -40,7 +45,7 @@ fn arithmetic_immediate(operation: Arithmetic, to: Operand, value: Immediate, lo
 }
 
 /// The operands of ADD and its like.
-pub fn arithmetic(operation: Arithmetic, operands: Operands, long: bool) -> Form
+pub fn arithmetic(operation: Arithmetic, operands: Operands, long: bool) -> Encoding
     ensures form { result ≡ laid (arithmetic_choice operation operands long) }
     ensures fits { OperandsFit operands }
 {
@@ -48,30 +53,32 @@ pub fn arithmetic(operation: Arithmetic, operands: Operands, long: bool) -> Form
     match operands {
         Operands::ToRegister { size, to, from } => match from {
             Operand::Register(from) => {
-                Form::sized(size, group, from.number(), Operand::Register(to))
+                Encoding::sized(size, group, from.number(), Operand::Register(to))
             }
-            Operand::Memory(_) => Form::sized(size, group + 2, to.number(), from),
+            Operand::Memory(_) => Encoding::sized(size, group + 2, to.number(), from),
         },
         Operands::ToMemory { size, to, from } => {
-            Form::sized(size, group, from.number(), Operand::Memory(to))
+            Encoding::sized(size, group, from.number(), Operand::Memory(to))
         }
         Operands::Immediate { to, value } => arithmetic_immediate(operation, to, value, long),
     }
 }
 
-fn move_immediate(to: Operand, value: Immediate) -> Form
+fn move_immediate(to: Operand, value: Immediate) -> Encoding
     ensures form { result ≡ laid (move_immediate to value) }
     ensures to_fits { OperandFits to }
     ensures value_fits { ImmediateFits value }
 {
     match to {
         Operand::Register(to) => match value {
-            Immediate::Byte(n) => { Form::bare(0xb0 + to.number()).with_immediate(Number::Byte(n)) }
-            Immediate::Word(n) => Form::bare(0xb8 + to.number())
+            Immediate::Byte(n) => {
+                Encoding::bare(0xb0 + to.number()).with_immediate(Number::Byte(n))
+            }
+            Immediate::Word(n) => Encoding::bare(0xb8 + to.number())
                 .resized(true)
                 .with_immediate(Number::Word(n)),
             Immediate::Dword(n) => {
-                Form::bare(0xb8 + to.number()).with_immediate(Number::Dword(n))
+                Encoding::bare(0xb8 + to.number()).with_immediate(Number::Dword(n))
             }
         },
         Operand::Memory(_) => value_into(0xc6, to, value),
@@ -79,50 +86,52 @@ fn move_immediate(to: Operand, value: Immediate) -> Form
 }
 
 /// A value by an opcode for bytes and the next, for words and dwords, under /0.
-fn value_into(opcode: u8, to: Operand, value: Immediate) -> Form
+fn value_into(opcode: u8, to: Operand, value: Immediate) -> Encoding
     requires { opcode < 255 }
     ensures form { result ≡ value_into opcode to value }
     ensures to_fits { OperandFits to }
     ensures value_fits { ImmediateFits value }
 {
     match value {
-        Immediate::Byte(n) => Form::with_rm(opcode, 0, to).with_immediate(Number::Byte(n)),
-        Immediate::Word(n) => Form::with_rm(opcode + 1, 0, to)
+        Immediate::Byte(n) => Encoding::with_rm(opcode, 0, to).with_immediate(Number::Byte(n)),
+        Immediate::Word(n) => Encoding::with_rm(opcode + 1, 0, to)
             .resized(true)
             .with_immediate(Number::Word(n)),
-        Immediate::Dword(n) => { Form::with_rm(opcode + 1, 0, to).with_immediate(Number::Dword(n)) }
+        Immediate::Dword(n) => {
+            Encoding::with_rm(opcode + 1, 0, to).with_immediate(Number::Dword(n))
+        }
     }
 }
 
 /// The operands of MOV.
-pub fn movement(operands: Operands) -> Form
+pub fn movement(operands: Operands) -> Encoding
     ensures form { result ≡ laid (move_choice operands) }
     ensures fits { OperandsFit operands }
 {
     match operands {
         Operands::ToRegister { size, to, from } => match from {
             Operand::Register(from) => {
-                Form::sized(size, 0x88, from.number(), Operand::Register(to))
+                Encoding::sized(size, 0x88, from.number(), Operand::Register(to))
             }
-            Operand::Memory(_) => Form::sized(size, 0x8a, to.number(), from),
+            Operand::Memory(_) => Encoding::sized(size, 0x8a, to.number(), from),
         },
         Operands::ToMemory { size, to, from } => {
-            Form::sized(size, 0x88, from.number(), Operand::Memory(to))
+            Encoding::sized(size, 0x88, from.number(), Operand::Memory(to))
         }
         Operands::Immediate { to, value } => move_immediate(to, value),
     }
 }
 
 /// The operands of TEST with a register.
-pub fn test(size: Size, operand: Operand, register: Register) -> Form
+pub fn test(size: Size, operand: Operand, register: Register) -> Encoding
     ensures form { result ≡ laid (test_choice size operand register) }
     ensures fits { OperandFits operand }
 {
-    Form::sized(size, 0x84, register.number(), operand)
+    Encoding::sized(size, 0x84, register.number(), operand)
 }
 
 /// The operands of TEST with an immediate.
-pub fn test_immediate(operand: Operand, value: Immediate) -> Form
+pub fn test_immediate(operand: Operand, value: Immediate) -> Encoding
     ensures form { result ≡ laid (test_immediate operand value) }
     ensures operand_fits { OperandFits operand }
     ensures value_fits { ImmediateFits value }
@@ -131,40 +140,40 @@ pub fn test_immediate(operand: Operand, value: Immediate) -> Form
 }
 
 /// The operands of XCHG.
-pub fn exchange(size: Size, operand: Operand, register: Register) -> Form
+pub fn exchange(size: Size, operand: Operand, register: Register) -> Encoding
     ensures form { result ≡ laid (exchange_choice size operand register) }
     ensures fits { OperandFits operand }
 {
-    Form::sized(size, 0x86, register.number(), operand)
+    Encoding::sized(size, 0x86, register.number(), operand)
 }
 
 /// LEA.
-pub fn load_address(size: OperandSize, to: Register, memory: Memory) -> Form
+pub fn load_address(size: OperandSize, to: Register, memory: Memory) -> Encoding
     ensures form { result ≡ laid (load_address size to memory) }
     ensures fits { memory.displacement < 2 ^ 32 }
 {
-    Form::with_rm(0x8d, to.number(), Operand::Memory(memory)).resized(is_word_size(size))
+    Encoding::with_rm(0x8d, to.number(), Operand::Memory(memory)).resized(is_word_size(size))
 }
 
 /// IMUL with two operands.
-pub fn multiply(size: OperandSize, to: Register, from: Operand) -> Form
+pub fn multiply(size: OperandSize, to: Register, from: Operand) -> Encoding
     ensures form { result ≡ laid (multiply_choice size to from) }
     ensures fits { OperandFits from }
 {
-    Form::with_rm(0xaf, to.number(), from)
+    Encoding::with_rm(0xaf, to.number(), from)
         .escaped()
         .resized(is_word_size(size))
 }
 
 /// IMUL with three operands.
-pub fn multiply_immediate(to: Register, from: Operand, value: WideImmediate, long: bool) -> Form
+pub fn multiply_immediate(to: Register, from: Operand, value: WideImmediate, long: bool) -> Encoding
     ensures form { result ≡ laid (multiply_immediate to from value long) }
     ensures from_fits { OperandFits from }
     ensures value_fits { WideImmediateFits value }
 {
     let reg = to.number();
-    let short_form = Form::with_rm(0x6b, reg, from);
-    let long_form = Form::with_rm(0x69, reg, from);
+    let short_form = Encoding::with_rm(0x6b, reg, from);
+    let long_form = Encoding::with_rm(0x69, reg, from);
     match value {
         WideImmediate::Word(n) => {
             if shortens(Size::Word, u32::from(n), long) {
@@ -184,27 +193,27 @@ pub fn multiply_immediate(to: Register, from: Operand, value: WideImmediate, lon
 }
 
 /// MOVZX.
-pub fn zero_extend(extension: Extension, to: Register, from: Operand) -> Form
+pub fn zero_extend(extension: Extension, to: Register, from: Operand) -> Encoding
     ensures form { result ≡ laid (zero_extension extension to from) }
     ensures fits { OperandFits from }
 {
-    let from_byte = Form::with_rm(0xb6, to.number(), from).escaped();
+    let from_byte = Encoding::with_rm(0xb6, to.number(), from).escaped();
     match extension {
         Extension::ByteToWord => from_byte.resized(true),
         Extension::ByteToDword => from_byte,
-        Extension::WordToDword => Form::with_rm(0xb7, to.number(), from).escaped(),
+        Extension::WordToDword => Encoding::with_rm(0xb7, to.number(), from).escaped(),
     }
 }
 
 /// MOVSX.
-pub fn sign_extend(extension: Extension, to: Register, from: Operand) -> Form
+pub fn sign_extend(extension: Extension, to: Register, from: Operand) -> Encoding
     ensures form { result ≡ laid (sign_extension extension to from) }
     ensures fits { OperandFits from }
 {
-    let from_byte = Form::with_rm(0xbe, to.number(), from).escaped();
+    let from_byte = Encoding::with_rm(0xbe, to.number(), from).escaped();
     match extension {
         Extension::ByteToWord => from_byte.resized(true),
         Extension::ByteToDword => from_byte,
-        Extension::WordToDword => Form::with_rm(0xbf, to.number(), from).escaped(),
+        Extension::WordToDword => Encoding::with_rm(0xbf, to.number(), from).escaped(),
     }
 }

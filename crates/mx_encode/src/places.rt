@@ -5,10 +5,10 @@ ghost use Rattle.mx_word.specs.Word.{bytes_of};
 ghost use Rattle.mx_word.specs.Names.{register_number};
 ghost use Rattle.mx_insn.specs.Spelling.{displacement_length};
 ghost use Rattle.mx_encode.specs.Numbers.{number_bytes};
-ghost use Rattle.mx_encode.specs.Places.{base_number, sib_of, rm_number, mode_behind, mode_of, memory_place, place_of, can_index, can_stand, has_place};
+ghost use Rattle.mx_encode.specs.Places.{base_number, sib_of, rm_number, mode_behind, mode_of, memory_place, place_written, can_index, can_stand, has_place};
 ghost use Rattle.mx_encode.specs.Given.{sib_seen, place_seen};
 
-use crate::fields::{Number, Place, Rm, Sib};
+use crate::fields::{Number, Rm, RmFields, Sib};
 use crate::numbers::{is_short, scale_number};
 use mx_insn::{Index, Memory, Operand, Register, Size};
 
@@ -79,14 +79,14 @@ fn displacement_of(mode: u8, base: u8, displacement: u32) -> Number
     }
 }
 
-fn memory_place(reg: u8, memory: Memory, long: bool) -> Place
+fn memory_place(reg: u8, memory: Memory, long: bool) -> RmFields
     requires { reg < 8 }
     ensures { place_seen result ≡ memory_place reg memory long }
 {
     let mode = mode_of(memory.base, memory.displacement, long);
     let base = base_number(memory.base);
     let sib = sib_of(memory.base, memory.index);
-    Place {
+    RmFields {
         mode,
         reg,
         rm: if sib.is_some() { 4 } else { base },
@@ -96,12 +96,12 @@ fn memory_place(reg: u8, memory: Memory, long: bool) -> Place
 }
 
 /// Where the operand stands.
-pub fn place_of(rm: Rm, long: bool) -> Place
+pub fn place_of(rm: Rm, long: bool) -> RmFields
     requires { rm.reg < 8 }
-    ensures { place_seen result ≡ place_of rm.reg rm.operand long }
+    ensures { place_seen result ≡ place_written rm.reg rm.operand long }
 {
     match rm.operand {
-        Operand::Register(register) => Place {
+        Operand::Register(register) => RmFields {
             mode: 3,
             reg: rm.reg,
             rm: register.number(),

@@ -6,36 +6,36 @@ ghost use Rattle.mx_encode.specs.Choice.{step_choice, unary_choice, product_choi
 ghost use Rattle.mx_encode.specs.Given.{laid, step_form, OperandFits, CountFits};
 
 use crate::fields::Number;
-use crate::forms::{Form, is_word};
+use crate::forms::{Encoding, is_word};
 use crate::numbers::{shift_number, short, shortens};
 use mx_insn::{Condition, Count, Operand, Product, Register, Shift, Size, Unary};
 
 /// INC or DEC, by the opcode for words and dwords in a register or else under /n of FE and FF.
-fn step(opcode: u8, reg: u8, size: Size, operand: Operand) -> Form
+fn step(opcode: u8, reg: u8, size: Size, operand: Operand) -> Encoding
     requires { opcode < 128 }
     ensures form { result ≡ step_form opcode reg size operand }
     ensures fits { OperandFits operand }
 {
     match operand {
         Operand::Register(register) => match size {
-            Size::Byte => Form::with_rm(0xfe, reg, operand),
-            Size::Word => Form::bare(opcode + register.number()).resized(true),
-            Size::Dword => Form::bare(opcode + register.number()),
+            Size::Byte => Encoding::with_rm(0xfe, reg, operand),
+            Size::Word => Encoding::bare(opcode + register.number()).resized(true),
+            Size::Dword => Encoding::bare(opcode + register.number()),
         },
-        Operand::Memory(_) => Form::sized(size, 0xfe, reg, operand),
+        Operand::Memory(_) => Encoding::sized(size, 0xfe, reg, operand),
     }
 }
 
 /// INC, DEC, NOT, NEG.
-pub fn unary(operation: Unary, size: Size, operand: Operand) -> Form
+pub fn unary(operation: Unary, size: Size, operand: Operand) -> Encoding
     ensures form { result ≡ laid (unary_choice operation size operand) }
     ensures fits { OperandFits operand }
 {
     match operation {
         Unary::Inc => step(0x40, 0, size, operand),
         Unary::Dec => step(0x48, 1, size, operand),
-        Unary::Not => Form::sized(size, 0xf6, 2, operand),
-        Unary::Neg => Form::sized(size, 0xf6, 3, operand),
+        Unary::Not => Encoding::sized(size, 0xf6, 2, operand),
+        Unary::Neg => Encoding::sized(size, 0xf6, 3, operand),
     }
 }
 
@@ -52,65 +52,65 @@ fn product_number(operation: Product) -> u8
 }
 
 /// MUL, IMUL, DIV, IDIV.
-pub fn product(operation: Product, size: Size, operand: Operand) -> Form
+pub fn product(operation: Product, size: Size, operand: Operand) -> Encoding
     ensures form { result ≡ laid (product_choice operation size operand) }
     ensures fits { OperandFits operand }
 {
-    Form::sized(size, 0xf6, product_number(operation), operand)
+    Encoding::sized(size, 0xf6, product_number(operation), operand)
 }
 
 /// ROL, ROR, SHL, SHR, SAR.
-pub fn shift(operation: Shift, size: Size, operand: Operand, count: Count) -> Form
+pub fn shift(operation: Shift, size: Size, operand: Operand, count: Count) -> Encoding
     ensures form { result ≡ laid (shift_choice operation size operand count) }
     ensures operand_fits { OperandFits operand }
     ensures count_fits { CountFits count }
 {
     let reg = shift_number(operation);
     match count {
-        Count::Cl => Form::sized(size, 0xd2, reg, operand),
+        Count::Cl => Encoding::sized(size, 0xd2, reg, operand),
         Count::Immediate(n) => {
             if n == 1 {
-                Form::sized(size, 0xd0, reg, operand)
+                Encoding::sized(size, 0xd0, reg, operand)
             } else {
-                Form::sized(size, 0xc0, reg, operand).with_immediate(Number::Byte(n))
+                Encoding::sized(size, 0xc0, reg, operand).with_immediate(Number::Byte(n))
             }
         }
     }
 }
 
 /// SETcc.
-pub fn set_condition(condition: Condition, operand: Operand) -> Form
+pub fn set_condition(condition: Condition, operand: Operand) -> Encoding
     ensures form { result ≡ laid (set_condition condition operand) }
     ensures fits { OperandFits operand }
 {
-    Form::with_rm(0x90 + condition.code(), 0, operand).escaped()
+    Encoding::with_rm(0x90 + condition.code(), 0, operand).escaped()
 }
 
 /// PUSH.
-pub fn push(operand: Operand) -> Form
+pub fn push(operand: Operand) -> Encoding
     ensures form { result ≡ laid (push_choice operand) }
     ensures fits { OperandFits operand }
 {
     match operand {
-        Operand::Register(register) => Form::bare(0x50 + register.number()),
-        Operand::Memory(_) => Form::with_rm(0xff, 6, operand),
+        Operand::Register(register) => Encoding::bare(0x50 + register.number()),
+        Operand::Memory(_) => Encoding::with_rm(0xff, 6, operand),
     }
 }
 
 /// PUSH of an immediate.
-pub fn push_immediate(number: u32, long: bool) -> Form
+pub fn push_immediate(number: u32, long: bool) -> Encoding
     ensures { result ≡ laid (push_immediate number long) }
 {
     if shortens(Size::Dword, number, long) {
-        Form::bare(0x6a).with_immediate(short(number))
+        Encoding::bare(0x6a).with_immediate(short(number))
     } else {
-        Form::bare(0x68).with_immediate(Number::Dword(number))
+        Encoding::bare(0x68).with_immediate(Number::Dword(number))
     }
 }
 
 /// POP.
-pub fn pop(register: Register) -> Form
+pub fn pop(register: Register) -> Encoding
     ensures { result ≡ laid (pop_choice register) }
 {
-    Form::bare(0x58 + register.number())
+    Encoding::bare(0x58 + register.number())
 }

@@ -7,8 +7,8 @@ ghost use Rattle.mx_encode.specs.Numbers.{number_bytes};
 ghost use Rattle.mx_encode.specs.Places.{place_for};
 ghost use Rattle.mx_encode.specs.Given.{RegFits, form_bytes, sib_seen, place_seen};
 
-use crate::fields::{Number, Place, Rm, Sib};
-use crate::forms::Form;
+use crate::fields::{Number, Rm, RmFields, Sib};
+use crate::forms::Encoding;
 use crate::places::place_of;
 use mx_insn::{ArrayVec, Repeat};
 
@@ -86,7 +86,7 @@ fn put_sib(bytes: &mut Bytes, sib: Option<Sib>)
     }
 }
 
-fn put_place(bytes: &mut Bytes, place: Place)
+fn put_place(bytes: &mut Bytes, place: RmFields)
     requires { length bytes.old.items + 6 ≤ 15 }
     ensures bytes { bytes.new.items ≡ bytes.old.items ++ place_bytes (place_seen place) }
     ensures room { length bytes.new.items ≤ length bytes.old.items + 6 }
@@ -108,7 +108,7 @@ fn put_rm(bytes: &mut Bytes, rm: Option<Rm>, long: bool)
 }
 
 /// The bytes of a form.
-pub fn bytes_of_form(form: Form, long: bool) -> Bytes
+pub fn bytes_of_form(form: Encoding, long: bool) -> Bytes
     requires { RegFits form.rm }
     ensures { result.items ≡ form_bytes form (place_for form.rm long) }
 {

@@ -3,8 +3,8 @@
 ghost use Rattle.std.specs.Prelude.{◌≡◌, ◌^◌, ◌<◌, Ok, Err};
 ghost use Rattle.mx_word.specs.Word.{width};
 ghost use Rattle.mx_exec.specs.Image.{Performs};
-ghost use Rattle.mx_exec.specs.Accumulator.{upper_register, with_halves, multiplied, quotient_taken, product_taken};
-ghost use Rattle.mx_exec.specs.Step.{after, kept, tested, factored, count_of};
+ghost use Rattle.mx_exec.specs.Accumulator.{upper_register, with_halves, image_after_multiply, quotient_taken, product_taken};
+ghost use Rattle.mx_exec.specs.Step.{after, image_with_result, image_after_test, image_after_factor, count_of_shift};
 
 use crate::Image;
 use crate::operands::{immediate_size, immediate_value, size_of, wide_size, wide_value};
@@ -23,7 +23,7 @@ fn keep(
     value: u32,
 ) -> Result<(), u8>
     requires { value < 2 ^ width size }
-    ensures { Performs image.old (kept operation operand.now size value image.old) result image.new }
+    ensures { Performs image.old (image_with_result operation operand.now size value image.old) result image.new }
 {
     match operation {
         Arithmetic::Cmp => Ok(()),
@@ -162,7 +162,7 @@ pub fn operate(
 fn test_words(image: &mut Image, size: Size, x: u32, y: u32, next: u32)
     requires left { x < 2 ^ width size }
     requires right { y < 2 ^ width size }
-    ensures { tested size x y next image.old ≡ Ok image.new }
+    ensures { image_after_test size x y next image.old ≡ Ok image.new }
 {
     let (_, flags) = alu(Arithmetic::And, size, x, y, &image.flags);
     image.flags = flags;
@@ -235,7 +235,7 @@ pub fn unary_operation(
 
 /// How far a shift goes.
 fn count_of(image: &Image, count: Count) -> u32
-    ensures { result ≡ count_of count image.now }
+    ensures { result ≡ count_of_shift count image.now }
 {
     match count {
         Count::Cl => image.regs.get(Size::Byte, Register::Ecx),
@@ -285,7 +285,7 @@ fn set_halves(image: &mut Image, size: Size, low: u32, high: u32)
 
 fn multiply_accumulator(image: &mut Image, kind: Signedness, size: Size, y: u32)
     requires { y < 2 ^ width size }
-    ensures { image.new ≡ multiplied kind size y image.old }
+    ensures { image.new ≡ image_after_multiply kind size y image.old }
 {
     let x = image.regs.get(size, Register::Eax);
     let (product, flags) = multiply(kind, size, x, y, &image.flags);
@@ -343,7 +343,7 @@ pub fn product(
 fn set_product(image: &mut Image, size: Size, to: Register, x: u32, y: u32, next: u32)
     requires left { x < 2 ^ width size }
     requires right { y < 2 ^ width size }
-    ensures { factored size to x y next image.old ≡ Ok image.new }
+    ensures { image_after_factor size to x y next image.old ≡ Ok image.new }
 {
     let (product, flags) = multiply_low(size, x, y, &image.flags);
     image.regs.set(size, to, product);

@@ -3,9 +3,9 @@
 ghost use Rattle.std.specs.Prelude.{◌≡◌, ◌<◌, ◌^◌, length, drop, Ok, Err};
 ghost use Rattle.mx_decode.specs.Decode.{front};
 ghost use Rattle.mx_exec.specs.Text.{Fetches};
-ghost use Rattle.mx_exec.specs.Image.{code_bytes, dword_difference, dword_sum, blank, register_of, with_dword, jumped, Performs};
+ghost use Rattle.mx_exec.specs.Image.{code_bytes, dword_difference, dword_sum, blank, register_of, with_dword, image_at_target, Performs};
 
-use crate::text::{Text, decode_at};
+use crate::text::{TextSegment, decode_at};
 use mx_decode::DecodeFault;
 use mx_flags::Flags;
 use mx_insn::Insn;
@@ -18,7 +18,7 @@ use std::alloc::Global;
 #[derive(Drop)]
 pub enum Code {
     /// In a segment of its own, which nothing writes.
-    Separate(Text),
+    Separate(TextSegment),
     /// In the data segment.
     Shared,
 }
@@ -99,7 +99,7 @@ impl Image {
 
     /// Jumps, or answers the vector of a target that isn't below the code's limit.
     pub(crate) fn jump(&mut self, target: u32) -> Result<(), u8>
-        ensures { Performs self.old (jumped target self.old) result self.new }
+        ensures { Performs self.old (image_at_target target self.old) result self.new }
     {
         if target as usize >= self.code_limit() {
             return Err(13);

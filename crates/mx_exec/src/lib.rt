@@ -16,4 +16,4 @@ mod text;
 pub use image::{Code, Image, Outcome};
 pub use laws::step_lasts;
 pub use steps::{act, outcome, perform, step};
-pub use text::{Text, decode_at};
+pub use text::{TextSegment, decode_at};

@@ -1,7 +1,7 @@
 //! Instructions without operands.
 
 ghost use Rattle.std.specs.Prelude.{◌≡◌, Ok, Err};
-ghost use Rattle.mx_exec.specs.Image.{Performs, passed};
+ghost use Rattle.mx_exec.specs.Image.{Performs, image_at_next};
 ghost use Rattle.mx_exec.specs.Stack.{top_of};
 ghost use Rattle.mx_exec.specs.Step.{plain_after, frame_released};
 
@@ -14,7 +14,7 @@ use mx_word::{Register, Size};
 
 /// On to the next instruction.
 fn pass(image: &mut Image, next: u32) -> Result<(), u8>
-    ensures { Performs image.old (passed next image.old) result image.new }
+    ensures { Performs image.old (image_at_next next image.old) result image.new }
 {
     image.eip = next;
     Ok(())
@@ -53,14 +53,14 @@ fn leave(image: &mut Image) -> Result<(), u8>
 }
 
 fn set_carry(image: &mut Image, carry: bool, next: u32) -> Result<(), u8>
-    ensures { Performs image.old (passed next (record image.old { flags = record image.old.flags { carry = carry } })) result image.new }
+    ensures { Performs image.old (image_at_next next (record image.old { flags = record image.old.flags { carry = carry } })) result image.new }
 {
     image.flags = image.flags.with_carry(carry);
     pass(image, next)
 }
 
 fn set_direction(image: &mut Image, direction: bool, next: u32) -> Result<(), u8>
-    ensures { Performs image.old (passed next (record image.old { flags = record image.old.flags { direction = direction } })) result image.new }
+    ensures { Performs image.old (image_at_next next (record image.old { flags = record image.old.flags { direction = direction } })) result image.new }
 {
     image.flags = image.flags.with_direction(direction);
     pass(image, next)

@@ -4,7 +4,7 @@ ghost use Rattle.std.specs.Prelude.{◌≡◌, ◌^◌, ◌<◌, length, Ok, Err
 ghost use Rattle.mx_word.specs.Word.{value_at};
 ghost use Rattle.mx_mem.specs.Segment.{inside, with_value};
 ghost use Rattle.mx_exec.specs.Image.{Performs, dword_difference, dword_sum};
-ghost use Rattle.mx_exec.specs.Stack.{pushed, top_of, dropped, has_room, has_dwords, with_pushed, pushad_words, pushad, popad, popad_words};
+ghost use Rattle.mx_exec.specs.Stack.{image_after_push, top_of, image_after_drop, has_room, has_dwords, with_pushed, pushad_words, pushad, popad, popad_words};
 
 use crate::Image;
 use crate::image::{dword_difference, dword_sum};
@@ -14,7 +14,7 @@ use mx_word::{Register, Size};
 
 /// Pushes a dword.
 pub fn push(image: &mut Image, value: u32) -> Result<(), u8>
-    ensures { Performs image.old (pushed value image.old) result image.new }
+    ensures { Performs image.old (image_after_push value image.old) result image.new }
 {
     let top = dword_difference(image.register(Register::Esp), 4);
     match image.memory.write(top, Size::Dword, value) {
@@ -41,7 +41,7 @@ pub fn top(image: &Image) -> Result<u32, u8>
 
 /// Takes bytes off.
 pub fn drop_bytes(image: &mut Image, count: u32)
-    ensures { image.new ≡ dropped count image.old }
+    ensures { image.new ≡ image_after_drop count image.old }
 {
     let top = dword_sum(image.register(Register::Esp), count);
     image.set_register(Register::Esp, top);

@@ -3,7 +3,7 @@
 ghost use Rattle.std.specs.Prelude.{◌≡◌, ◌^◌, ◌<◌, Ok, Err, IfOk};
 ghost use Rattle.mx_word.specs.Word.{width};
 ghost use Rattle.mx_exec.specs.Image.{Performs};
-ghost use Rattle.mx_exec.specs.Strings.{read_by, written_by, advanced, transferred, compared, counted_down, is_counted_out, ends_repeat, transfer, compare};
+ghost use Rattle.mx_exec.specs.Strings.{read_by, written_by, pointer_after, image_after_transfer, image_after_comparison, counted_down, is_counted_out, ends_repeat, transfer, compare};
 
 use crate::Image;
 use crate::image::{dword_difference, dword_sum};
@@ -35,7 +35,7 @@ fn write_by(image: &mut Image, pointer: Register, size: Size, value: u32) -> Res
 
 /// Moves a pointer by a size, down where the direction flag is set.
 fn advance(image: &mut Image, pointer: Register, size: Size)
-    ensures { image.new ≡ advanced pointer size image.old }
+    ensures { image.new ≡ pointer_after pointer size image.old }
 {
     let from = image.register(pointer);
     let to = if image.flags.direction() {
@@ -48,7 +48,7 @@ fn advance(image: &mut Image, pointer: Register, size: Size)
 
 /// One MOVS, STOS or LODS.
 fn transfer_once(image: &mut Image, operation: Transfer, size: Size) -> Result<(), u8>
-    ensures { Performs image.old (transferred operation size image.old) result image.new }
+    ensures { Performs image.old (image_after_transfer operation size image.old) result image.new }
 {
     match operation {
         Transfer::Movs => {
@@ -75,7 +75,7 @@ fn transfer_once(image: &mut Image, operation: Transfer, size: Size) -> Result<(
 
 /// One CMPS or SCAS.
 fn compare_once(image: &mut Image, operation: Comparison, size: Size) -> Result<(), u8>
-    ensures { Performs image.old (compared operation size image.old) result image.new }
+    ensures { Performs image.old (image_after_comparison operation size image.old) result image.new }
 {
     match operation {
         Comparison::Cmps => {

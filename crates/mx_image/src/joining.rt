@@ -2,10 +2,10 @@
 
 ghost use Rattle.std.specs.Prelude.{◌≡◌, ℕ, ◌+◌};
 ghost use Rattle.mx_exec.specs.declared.image.Image.{Image};
-ghost use Rattle.mx_image.specs.Run.{ran, then_run};
+ghost use Rattle.mx_image.specs.Run.{run_of, then_run};
 
 /// Law: a run of `a` steps and, where nothing stopped it, a run of `b` steps from there are one
 /// run of `a + b` steps.
 pub fn runs_join()
-    ensures { (a b : ℕ) (m : Image) → ran (a + b) m ≡ then_run (ran a m) b }
+    ensures { (a b : ℕ) (m : Image) → run_of (a + b) m ≡ then_run (run_of a m) b }
 {}

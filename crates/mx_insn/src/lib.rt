@@ -10,4 +10,4 @@ pub use insn::{
     Operands, Plain, Port, PortSize, Product, Repeat, Scale, Transfer, WideImmediate,
 };
 pub use mx_word::{Arithmetic, Condition, Register, Shift, Size, Unary};
-pub use row::{CountColumn, ImmediateColumn, ModRm, Pattern, Repeats, Row, Sizes};
+pub use row::{CountColumn, ImmediateColumn, ModRm, Pattern, Repeats, Row, SizeMark};

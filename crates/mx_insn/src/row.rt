@@ -5,7 +5,7 @@ use mx_word::{Shift, Unary};
 
 /// The operand size of a row: b, v (word behind 66, else dword), or d (also where it has no mark).
 #[derive(Clone, Copy)]
-pub enum Sizes {
+pub enum SizeMark {
     Byte,
     Variable,
     Dword,
@@ -117,7 +117,7 @@ pub struct Row {
     pub first: u8,
     pub step: u8,
     pub count: u8,
-    pub sizes: Sizes,
+    pub sizes: SizeMark,
     pub repeats: Repeats,
     pub modrm: ModRm,
     pub immediate: ImmediateColumn,

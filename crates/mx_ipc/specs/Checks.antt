@@ -5,7 +5,7 @@ use Rattle.mx_proc.specs.declared.errors.Errno.TheVariants.{BadAddress, Locked, 
 use Rattle.mx_proc.specs.Endpoints.{names_slot, is_current}
 use Rattle.mx_proc.specs.Sound.{HasBuffer}
 use Rattle.mx_proc.specs.Waits.{leads, Reaches}
-use Rattle.mx_proc.specs.World.{World, process_at, buffer_at, memory_at}
+use Rattle.mx_proc.specs.TableState.{TableState, process_at, buffer_at, memory_at}
 use Rattle.mx_ipc.specs.declared.calls.Call.{Call}
 use Rattle.mx_ipc.specs.declared.calls.Call.TheVariants.{Send, Receive, Sendrec, Notify}
 use Rattle.mx_ipc.specs.declared.calls.Party.{Party}
@@ -22,7 +22,7 @@ call_number Sendrec = 3
 call_number Notify = 4
 
 -- what EAX names: ANY is 31438, HARDWARE -1, SYSTEM -2 and CLOCK -3; a process by its slot and generation
-unfoldable pub party_of : World → ℕ → Option Party
+unfoldable pub party_of : TableState → ℕ → Option Party
 party_of w n =
     if n == 31438 then Some Any else
     if n == 2 ^ 32 - 1 then Some Hardware else
@@ -77,25 +77,25 @@ of_process (Some (Process d g)) f = f d g
 of_process _ f = false
 
 -- the buffer's 36 bytes don't all lie inside the data segment
-abbrev pub is_outside : World → ℕ → Bool
+abbrev pub is_outside : TableState → ℕ → Bool
 is_outside w s = nat_lt (length (memory_at w s)) (buffer_at w s + 36)
 
 -- the send mask of s leaves out d
-abbrev pub is_masked : World → ℕ → ℕ → Bool
+abbrev pub is_masked : TableState → ℕ → ℕ → Bool
 is_masked w s d = not (has_bit (process_at w s).masks.sends d)
 
 -- a process that is named has a slot
-abbrev pub NamesSlot : World → Party → Type 0
-NamesSlot w (Process d g) = d < length w.slots
-NamesSlot w _ = Unit {0}
+abbrev pub HasUsedSlot : TableState → Party → Type 0
+HasUsedSlot w (Process d g) = d < length w.slots
+HasUsedSlot w _ = Unit {0}
 
 -- a process that is named is another, and no chain leads from it to s
-abbrev pub IsFree : World → ℕ → Party → Type 0
-IsFree w s (Process d g) = (s ≢ d) × (Reaches w.waits d s → ⊥)
-IsFree w s _ = Unit {0}
+abbrev pub MayBeSentTo : TableState → ℕ → Party → Type 0
+MayBeSentTo w s (Process d g) = (s ≢ d) × (Reaches w.waits d s → ⊥)
+MayBeSentTo w s _ = Unit {0}
 
 -- THE SIX CHECKS of a call by s, in order, each with the error that is its result where it holds
-abbrev pub checks : World → ℕ → Call → Option Party → List (Bool × Errno)
+abbrev pub checks : TableState → ℕ → Call → Option Party → List (Bool × Errno)
 checks w s call party =
     (not (has_bit (process_at w s).masks.traps (call_number call)) || of_party party (to_pseudo call), Denied)
     ∷ (is_none party || of_party party (out_of_place call), BadEndpoint)
@@ -111,25 +111,25 @@ first_error [] = None
 first_error (check ∷ rest) = if check.0 then Some check.1 else first_error rest
 
 -- those behind the trap mask, for a party
-unfoldable pub party_refusal : World → ℕ → Call → Party → Option Errno
+unfoldable pub party_refusal : TableState → ℕ → Call → Party → Option Errno
 party_refusal w s call party = if to_pseudo call party then Some Denied else first_error (drop 1 (checks w s call (Some party)))
 
 -- the last three, for a process
-unfoldable pub process_refusal : World → ℕ → Call → ℕ → ℕ → Option Errno
+unfoldable pub process_refusal : TableState → ℕ → Call → ℕ → ℕ → Option Errno
 process_refusal w s call d g = first_error (drop 3 (checks w s call (Some (Process d g))))
 
 -- THE REFUSAL of a call, or none
-unfoldable pub refusal : World → ℕ → Call → Option Party → Option Errno
-refusal w s call party = first_error (checks w s call party)
+unfoldable pub call_refusal : TableState → ℕ → Call → Option Party → Option Errno
+call_refusal w s call party = first_error (checks w s call party)
 
 -- what is known of a process that passed the last three
-abbrev pub PassedProcess : World → ℕ → Call → ℕ → Type 0
+abbrev pub PassedProcess : TableState → ℕ → Call → ℕ → Type 0
 PassedProcess w s call d = is_send call ≡ true → (s ≢ d) × (Reaches w.waits d s → ⊥)
 
 -- What is known of a call that passed them all.
-pub record Passed (w : World) (s : ℕ) (call : Call) (party : Party) : Type 0 where
-  pub used : NamesSlot w party
+pub record Passed (w : TableState) (s : ℕ) (call : Call) (party : Party) : Type 0 where
+  pub used : HasUsedSlot w party
   pub buffer : is_notify call ≡ false → HasBuffer (process_at w s)
   pub pseudo : to_pseudo call party ≡ false
   pub place : out_of_place call party ≡ false
-  pub free : is_send call ≡ true → IsFree w s party
+  pub free : is_send call ≡ true → MayBeSentTo w s party

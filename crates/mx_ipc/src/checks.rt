@@ -2,8 +2,8 @@
 
 ghost use Rattle.std.specs.Prelude.{◌≡◌, ℕ, ◌<◌, ◌^◌, length, Some, None, MatchResult, IfOk};
 ghost use Rattle.std.specs.Option.{ForSome};
-ghost use Rattle.mx_proc.specs.World.{process_at};
-ghost use Rattle.mx_ipc.specs.Checks.{party_of, has_bit, to_pseudo, out_of_place, is_send, is_receive, is_notify, is_outside, is_masked, refusal, Passed, NamesSlot, IsFree, PassedProcess, process_refusal, party_refusal};
+ghost use Rattle.mx_proc.specs.TableState.{process_at};
+ghost use Rattle.mx_ipc.specs.Checks.{party_of, has_bit, to_pseudo, out_of_place, is_send, is_receive, is_notify, is_outside, is_masked, call_refusal, Passed, HasUsedSlot, MayBeSentTo, PassedProcess, process_refusal, party_refusal};
 
 use crate::calls::{Call, Party};
 use mx_proc::{Errno, Slot, Table};
@@ -13,7 +13,7 @@ use mx_word::Register;
 #[tactic(auto, unfolding(crate::specs::Checks::party_of))]
 pub(crate) fn party_of(table: &Table, number: u32) -> Option<Party>
     ensures value { result ≡ party_of table.now number }
-    ensures used { ForSome result (λ party. NamesSlot table.now party) }
+    ensures used { ForSome result (λ party. HasUsedSlot table.now party) }
 {
     match number {
         31438 => Some(Party::Any),
@@ -124,7 +124,7 @@ fn check_process(
 #[tactic(auto, unfolding(crate::specs::Checks::party_refusal, crate::specs::Checks::process_refusal))]
 fn check_party(table: &Table, slot: Slot, call: Call, party: Party) -> Result<(), Errno>
     requires slot { slot < length table.now.slots }
-    requires named { NamesSlot table.now party }
+    requires named { HasUsedSlot table.now party }
     ensures value { MatchResult result (λ _. party_refusal table.now slot call party ≡ None) (λ e. party_refusal table.now slot call party ≡ Some e) }
     ensures passed { IfOk result (λ _. Passed table.now slot call party) }
 {
@@ -144,11 +144,11 @@ fn check_party(table: &Table, slot: Slot, call: Call, party: Party) -> Result<()
 }
 
 /// The six checks of a call: whom it names, or the error of the first that holds.
-#[tactic(auto, unfolding(crate::specs::Checks::refusal, crate::specs::Checks::party_refusal))]
+#[tactic(auto, unfolding(crate::specs::Checks::call_refusal, crate::specs::Checks::party_refusal))]
 pub(crate) fn check(table: &Table, slot: Slot, call: Call, number: u32) -> Result<Party, Errno>
     requires slot { slot < length table.now.slots }
     ensures party { IfOk result (λ party. party_of table.now number ≡ Some party) }
-    ensures value { MatchResult result (λ _. refusal table.now slot call (party_of table.now number) ≡ None) (λ e. refusal table.now slot call (party_of table.now number) ≡ Some e) }
+    ensures value { MatchResult result (λ _. call_refusal table.now slot call (party_of table.now number) ≡ None) (λ e. call_refusal table.now slot call (party_of table.now number) ≡ Some e) }
     ensures passed { IfOk result (λ party. Passed table.now slot call party) }
 {
     if !has_bit(table.process(slot).masks.traps, call.number()) {

@@ -6,12 +6,12 @@ ghost use Rattle.mx_proc.specs.Frame.{frame};
 ghost use Rattle.mx_proc.specs.Sound.{HasBuffer, NoneComesHome};
 ghost use Rattle.mx_proc.specs.States.{IsAlone, is_ready, is_sending, is_blocked, is_out};
 ghost use Rattle.mx_proc.specs.Waits.{Reaches, without_from};
-ghost use Rattle.mx_proc.specs.Partners.{place_of};
-ghost use Rattle.mx_proc.specs.World.{process_at, IsUsedSource};
+ghost use Rattle.mx_proc.specs.Partners.{order_of_source};
+ghost use Rattle.mx_proc.specs.TableState.{process_at, IsUsedSource};
 ghost use Rattle.mx_proc.specs.Endpoints.{names_slot};
 ghost use Rattle.mx_proc.specs.declared.process.State.TheVariants.{Home, Ready};
 ghost use Rattle.mx_ipc.specs.Checks.{Passed};
-ghost use Rattle.mx_ipc.specs.Calls.{goes_on, accepts, hears, sent, released, taken, received, called, told, partner_of, acted, performed, answer, trapped, trap_answer, notified, answer_by, MayNotify};
+ghost use Rattle.mx_ipc.specs.Calls.{goes_on, accepts, hears, table_after_send, table_after_release, table_after_taking, table_after_receive, table_after_sendrec, table_after_notifying, partner_of, table_after_checked_call, table_after_call, call_answer, table_after_trap, trap_answer, table_after_notify, call_answer_by, MayNotify};
 ghost use Rattle.mx_ipc.specs.declared.calls.Call.TheVariants as calls;
 ghost use Rattle.mx_ipc.specs.declared.calls.TrapAnswer.TheVariants.{Done, Kernel};
 
@@ -69,7 +69,7 @@ fn hears(state: State, source: Source) -> bool
 }
 
 /// SEND that passed the checks.
-#[tactic(auto, unfolding(crate::specs::Calls::sent))]
+#[tactic(auto, unfolding(crate::specs::Calls::table_after_send))]
 fn deliver_or_block(table: &mut Table, slot: Slot, to: Slot)
     requires slot { slot < length table.old.slots }
     requires to { to < length table.old.slots }
@@ -77,7 +77,7 @@ fn deliver_or_block(table: &mut Table, slot: Slot, to: Slot)
     requires home { (process_at table.old slot).state ≡ Home }
     requires inside { HasBuffer (process_at table.old slot) }
     requires free { Reaches table.old.waits to slot → ⊥ }
-    ensures value { table.new ≡ sent table.old slot to }
+    ensures value { table.new ≡ table_after_send table.old slot to }
     ensures frame { frame table.new ≡ frame table.old }
     ensures settled { NoneComesHome table.old table.new }
     ensures own { (process_at table.new slot).state ≢ Home }
@@ -93,13 +93,13 @@ fn deliver_or_block(table: &mut Table, slot: Slot, to: Slot)
 }
 
 /// A caller's message was taken: after a SEND it goes on, in a SENDREC it turns to receiving.
-#[tactic(auto, unfolding(crate::specs::Calls::released))]
+#[tactic(auto, unfolding(crate::specs::Calls::table_after_release))]
 fn release(table: &mut Table, slot: Slot, from: Slot)
     requires slot { slot < length table.old.slots }
     requires from { from < length table.old.slots }
     requires sending { is_sending (process_at table.old from).state ≡ true }
     requires inside { HasBuffer (process_at table.old from) }
-    ensures value { table.new ≡ released table.old slot from (process_at table.old from).state }
+    ensures value { table.new ≡ table_after_release table.old slot from (process_at table.old from).state }
     ensures frame { frame table.new ≡ frame table.old }
     ensures used { length table.new.slots ≡ length table.old.slots }
     ensures others { (s : ℕ) → s ≢ from → process_at table.new s ≡ process_at table.old s }
@@ -114,7 +114,7 @@ fn release(table: &mut Table, slot: Slot, from: Slot)
 }
 
 /// Takes the first caller's message, of those that the partner may be, or waits in a state.
-#[tactic(auto, unfolding(crate::specs::Calls::taken))]
+#[tactic(auto, unfolding(crate::specs::Calls::table_after_taking))]
 fn take_or_wait(table: &mut Table, slot: Slot, partner: Partner, state: State)
     requires slot { slot < length table.old.slots }
     requires home { (process_at table.old slot).state ≡ Home }
@@ -122,7 +122,7 @@ fn take_or_wait(table: &mut Table, slot: Slot, partner: Partner, state: State)
     requires alone { IsAlone state }
     requires stays { is_out state ≡ false }
     requires waits { state ≢ Home }
-    ensures value { table.new ≡ taken table.old slot partner state }
+    ensures value { table.new ≡ table_after_taking table.old slot partner state }
     ensures frame { frame table.new ≡ frame table.old }
     ensures settled { NoneComesHome table.old table.new }
     ensures own { (process_at table.new slot).state ≢ Home }
@@ -138,12 +138,12 @@ fn take_or_wait(table: &mut Table, slot: Slot, partner: Partner, state: State)
 }
 
 /// RECEIVE that passed the checks.
-#[tactic(auto, unfolding(crate::specs::Calls::received))]
+#[tactic(auto, unfolding(crate::specs::Calls::table_after_receive))]
 fn hear_or_take(table: &mut Table, slot: Slot, partner: Partner)
     requires slot { slot < length table.old.slots }
     requires home { (process_at table.old slot).state ≡ Home }
     requires inside { HasBuffer (process_at table.old slot) }
-    ensures value { table.new ≡ received table.old slot partner }
+    ensures value { table.new ≡ table_after_receive table.old slot partner }
     ensures frame { frame table.new ≡ frame table.old }
     ensures settled { NoneComesHome table.old table.new }
     ensures own { (process_at table.new slot).state ≢ Home }
@@ -158,7 +158,7 @@ fn hear_or_take(table: &mut Table, slot: Slot, partner: Partner)
 }
 
 /// SENDREC that passed the checks, to a process.
-#[tactic(auto, unfolding(crate::specs::Calls::called))]
+#[tactic(auto, unfolding(crate::specs::Calls::table_after_sendrec))]
 fn deliver_and_await(table: &mut Table, slot: Slot, to: Slot)
     requires slot { slot < length table.old.slots }
     requires to { to < length table.old.slots }
@@ -166,7 +166,7 @@ fn deliver_and_await(table: &mut Table, slot: Slot, to: Slot)
     requires home { (process_at table.old slot).state ≡ Home }
     requires inside { HasBuffer (process_at table.old slot) }
     requires free { Reaches table.old.waits to slot → ⊥ }
-    ensures value { table.new ≡ called table.old slot to }
+    ensures value { table.new ≡ table_after_sendrec table.old slot to }
     ensures frame { frame table.new ≡ frame table.old }
     ensures settled { NoneComesHome table.old table.new }
     ensures own { (process_at table.new slot).state ≢ Home }
@@ -187,11 +187,11 @@ fn deliver_and_await(table: &mut Table, slot: Slot, to: Slot)
 }
 
 /// Tells a process of a notification at once, or sets its source's bit.
-#[tactic(auto, unfolding(crate::specs::Calls::told))]
+#[tactic(auto, unfolding(crate::specs::Calls::table_after_notifying))]
 fn tell(table: &mut Table, source: Source, to: Slot)
     requires source { IsUsedSource table.old source }
     requires to { to < length table.old.slots }
-    ensures value { table.new ≡ told table.old source to }
+    ensures value { table.new ≡ table_after_notifying table.old source to }
     ensures frame { frame table.new ≡ frame table.old }
     ensures used { length table.new.slots ≡ length table.old.slots }
     ensures home { (s : ℕ) → (process_at table.old s).state ≡ Home → (process_at table.new s).state ≡ Home }
@@ -224,9 +224,9 @@ fn act(table: &mut Table, slot: Slot, call: Call, party: Party) -> TrapAnswer
     requires slot { slot < length table.old.slots }
     requires home { (process_at table.old slot).state ≡ Home }
     requires passed { Passed table.old slot call party }
-    ensures value { table.new ≡ acted table.old slot call party }
+    ensures value { table.new ≡ table_after_checked_call table.old slot call party }
     ensures frame { frame table.new ≡ frame table.old }
-    ensures answer { result ≡ answer_by call (Some party) None }
+    ensures answer { result ≡ call_answer_by call (Some party) None }
     ensures same { result ≡ Kernel → table.new ≡ table.old }
     ensures settled { NoneComesHome table.old table.new }
     ensures own { result ≡ Done → (process_at table.new slot).state ≢ Home }
@@ -247,13 +247,13 @@ fn act(table: &mut Table, slot: Slot, call: Call, party: Party) -> TrapAnswer
 }
 
 /// A call that names a number: the checks, and what it does where it passes them.
-#[tactic(auto, unfolding(crate::specs::Calls::performed, crate::specs::Calls::answer))]
+#[tactic(auto, unfolding(crate::specs::Calls::table_after_call, crate::specs::Calls::call_answer))]
 fn perform(table: &mut Table, slot: Slot, call: Call, number: u32) -> TrapAnswer
     requires slot { slot < length table.old.slots }
     requires home { (process_at table.old slot).state ≡ Home }
-    ensures value { table.new ≡ performed table.old slot call number }
+    ensures value { table.new ≡ table_after_call table.old slot call number }
     ensures frame { frame table.new ≡ frame table.old }
-    ensures answer { result ≡ answer table.old slot call number }
+    ensures answer { result ≡ call_answer table.old slot call number }
     ensures same { result ≡ Kernel → table.new ≡ table.old }
     ensures settled { NoneComesHome table.old table.new }
     ensures own { result ≡ Done → (process_at table.new slot).state ≢ Home }
@@ -272,7 +272,7 @@ fn perform(table: &mut Table, slot: Slot, call: Call, number: u32) -> TrapAnswer
 pub fn send(table: &mut Table, slot: Slot, to: Endpoint)
     requires slot { slot < length table.old.slots }
     requires home { (process_at table.old slot).state ≡ Home }
-    ensures value { table.new ≡ performed table.old slot calls.Send to }
+    ensures value { table.new ≡ table_after_call table.old slot calls.Send to }
     ensures frame { frame table.new ≡ frame table.old }
 {
     perform(table, slot, Call::Send, to);
@@ -282,7 +282,7 @@ pub fn send(table: &mut Table, slot: Slot, to: Endpoint)
 pub fn receive(table: &mut Table, slot: Slot, from: Endpoint)
     requires slot { slot < length table.old.slots }
     requires home { (process_at table.old slot).state ≡ Home }
-    ensures value { table.new ≡ performed table.old slot calls.Receive from }
+    ensures value { table.new ≡ table_after_call table.old slot calls.Receive from }
     ensures frame { frame table.new ≡ frame table.old }
 {
     perform(table, slot, Call::Receive, from);
@@ -294,7 +294,7 @@ pub fn sendrec(table: &mut Table, slot: Slot, to: Endpoint)
     requires slot { slot < length table.old.slots }
     requires home { (process_at table.old slot).state ≡ Home }
     requires process { to ≢ 2 ^ 32 - 2 }
-    ensures value { table.new ≡ performed table.old slot calls.Sendrec to }
+    ensures value { table.new ≡ table_after_call table.old slot calls.Sendrec to }
     ensures frame { frame table.new ≡ frame table.old }
 {
     perform(table, slot, Call::Sendrec, to);
@@ -303,7 +303,7 @@ pub fn sendrec(table: &mut Table, slot: Slot, to: Endpoint)
 /// NOTIFY: a call by a slot, or the notification alone where HARDWARE or CLOCK makes it.
 pub fn notify(table: &mut Table, source: Source, to: Endpoint)
     requires { MayNotify table.old source to }
-    ensures value { table.new ≡ notified table.old source to }
+    ensures value { table.new ≡ table_after_notify table.old source to }
     ensures frame { frame table.new ≡ frame table.old }
     ensures settled { NoneComesHome table.old table.new }
 {
@@ -319,11 +319,11 @@ pub fn notify(table: &mut Table, source: Source, to: Endpoint)
 
 /// A trap of a process that has come home: the call that its registers say. Where a SENDREC to SYSTEM
 /// passes the checks, nothing has changed, and a kernel call is left to make.
-#[tactic(auto, unfolding(crate::specs::Calls::trapped, crate::specs::Calls::trap_answer))]
+#[tactic(auto, unfolding(crate::specs::Calls::table_after_trap, crate::specs::Calls::trap_answer))]
 pub fn trap(table: &mut Table, slot: Slot) -> TrapAnswer
     requires slot { slot < length table.old.slots }
     requires home { (process_at table.old slot).state ≡ Home }
-    ensures value { table.new ≡ trapped table.old slot }
+    ensures value { table.new ≡ table_after_trap table.old slot }
     ensures frame { frame table.new ≡ frame table.old }
     ensures answer { result ≡ trap_answer table.old slot }
     ensures same { result ≡ Kernel → table.new ≡ table.old }

@@ -5,14 +5,14 @@ use Rattle.mx_proc.specs.declared.errors.Errno.{Errno}
 use Rattle.mx_proc.specs.declared.errors.Errno.TheVariants.{NotPermitted, BadAddress, Invalid, BadEndpoint, Denied, Dead, NotReady, BadRequest}
 use Rattle.mx_proc.specs.Endpoints.{names_slot, is_alive}
 use Rattle.mx_proc.specs.States.{is_down, is_out}
-use Rattle.mx_proc.specs.World.{World, process_at, memory_at}
+use Rattle.mx_proc.specs.TableState.{TableState, process_at, memory_at}
 use Rattle.mx_ipc.specs.Checks.{has_bit, first_error}
-use Rattle.mx_kcall.specs.declared.request.Request.{Request}
-use Rattle.mx_kcall.specs.declared.request.Request.TheVariants.{Exit, Times, SetAlarm, Irqctl, Devio, Vircopy, Kill, Whois}
-use Rattle.mx_kcall.specs.Requests.{request_of, words_at, bit_of}
+use Rattle.mx_kcall.specs.declared.request.KernelCall.{KernelCall}
+use Rattle.mx_kcall.specs.declared.request.KernelCall.TheVariants.{Exit, Times, SetAlarm, Irqctl, Devio, Vircopy, Kill, Whois}
+use Rattle.mx_kcall.specs.Requests.{kernel_call_of, message_words_at, bit_of}
 
 -- who owns a line
-abbrev pub owner_of : World → ℕ → Option ℕ
+abbrev pub owner_of : TableState → ℕ → Option ℕ
 owner_of w line = slice_index_or w.devices.owners line None
 
 abbrev pub is_owned_by : ℕ → Option ℕ → Bool
@@ -24,21 +24,21 @@ is_owned None = false
 is_owned (Some t) = true
 
 -- the process of an endpoint's slot is on a processor
-abbrev pub is_away : World → ℕ → Bool
+abbrev pub is_away : TableState → ℕ → Bool
 is_away w e = is_out (process_at w (e % 1024)).state
 
 -- THE REASONS of each call in order, and whether each holds
-abbrev pub reasons : World → ℕ → Request → List (Bool × Errno)
-reasons w s Exit = []
-reasons w s Times = []
-reasons w s (SetAlarm delay) = []
-reasons w s (Irqctl action line) =
+abbrev pub kernel_call_reasons : TableState → ℕ → KernelCall → List (Bool × Errno)
+kernel_call_reasons w s Exit = []
+kernel_call_reasons w s Times = []
+kernel_call_reasons w s (SetAlarm delay) = []
+kernel_call_reasons w s (Irqctl action line) =
     (nat_lt 1 action || nat_lt 15 line, Invalid)
     -- it is another's, or it is given up and isn't one's own
     ∷ ((is_owned (owner_of w line) || action == 0) && not (is_owned_by s (owner_of w line)), NotPermitted)
     ∷ []
-reasons w s (Devio action register value) = (nat_lt 1 action || nat_lt 255 register, Invalid) ∷ []
-reasons w s (Vircopy from at to place count) =
+kernel_call_reasons w s (Devio action register value) = (nat_lt 1 action || nat_lt 255 register, Invalid) ∷ []
+kernel_call_reasons w s (Vircopy from at to place count) =
     (nat_lt 65536 count, Invalid)
     ∷ (not (names_slot w from), BadEndpoint)
     ∷ (not (is_alive w from), Dead)
@@ -48,30 +48,30 @@ reasons w s (Vircopy from at to place count) =
     ∷ (not (inside (memory_at w (from % 1024)) at count), BadAddress)
     ∷ (not (inside (memory_at w (to % 1024)) place count), BadAddress)
     ∷ []
-reasons w s (Kill endpoint) =
+kernel_call_reasons w s (Kill endpoint) =
     (not (names_slot w endpoint), BadEndpoint)
     ∷ (not (is_alive w endpoint), Dead)
     ∷ (is_away w endpoint, NotReady)
     ∷ []
-reasons w s (Whois slot) =
+kernel_call_reasons w s (Whois slot) =
     (nat_le (length w.slots) slot, Invalid)
     ∷ (is_down (process_at w slot).state, Dead)
     ∷ []
 
 -- the first that holds; before them all comes the mask of calls, and before that the type
-unfoldable pub request_refusal : World → ℕ → Request → Option Errno
-request_refusal w s r = first_error (reasons w s r)
+unfoldable pub refusal_of_kernel_call : TableState → ℕ → KernelCall → Option Errno
+refusal_of_kernel_call w s r = first_error (kernel_call_reasons w s r)
 
-abbrev pub refusal_by : World → ℕ → Option Request → Option Errno
-refusal_by w s None = Some BadRequest
-refusal_by w s (Some r) = first_error ((not (has_bit (process_at w s).masks.calls (bit_of r)), Denied) ∷ reasons w s r)
+abbrev pub kernel_call_refusal_by : TableState → ℕ → Option KernelCall → Option Errno
+kernel_call_refusal_by w s None = Some BadRequest
+kernel_call_refusal_by w s (Some r) = first_error ((not (has_bit (process_at w s).masks.calls (bit_of r)), Denied) ∷ kernel_call_reasons w s r)
 
 -- THE REFUSAL of the call at the buffer of a process, or none
-unfoldable pub call_refusal : World → ℕ → Option Errno
-call_refusal w s = refusal_by w s (request_of (words_at w s))
+unfoldable pub kernel_call_refusal : TableState → ℕ → Option Errno
+kernel_call_refusal w s = kernel_call_refusal_by w s (kernel_call_of (message_words_at w s))
 
 -- What is known of a call that isn't refused.
-abbrev pub IsPermitted : World → Request → Type 0
+abbrev pub IsPermitted : TableState → KernelCall → Type 0
 IsPermitted w Exit = Unit {0}
 IsPermitted w Times = Unit {0}
 IsPermitted w (SetAlarm delay) = Unit {0}

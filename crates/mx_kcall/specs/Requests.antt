@@ -1,27 +1,27 @@
 -- Kernel calls as messages to SYSTEM, and their replies (our choice).
 use Rattle.std.specs.Prelude.{ℕ, ◌-◌, ◌^◌, ◌++◌, ◌==◌, List, drop, take, replicate, Option, Some, None, if◌then◌else◌}
 use Rattle.mx_word.specs.Word.{value_at, bytes_of}
-use Rattle.mx_proc.specs.World.{World, buffer_at, memory_at}
-use Rattle.mx_kcall.specs.declared.request.Words.{Words}
-use Rattle.mx_kcall.specs.declared.request.Answer.{Answer}
-use Rattle.mx_kcall.specs.declared.request.Request.{Request}
-use Rattle.mx_kcall.specs.declared.request.Request.TheVariants.{Exit, Times, SetAlarm, Irqctl, Devio, Vircopy, Kill, Whois}
+use Rattle.mx_proc.specs.TableState.{TableState, buffer_at, memory_at}
+use Rattle.mx_kcall.specs.declared.request.MessageWords.{MessageWords}
+use Rattle.mx_kcall.specs.declared.request.ReplyWords.{ReplyWords}
+use Rattle.mx_kcall.specs.declared.request.KernelCall.{KernelCall}
+use Rattle.mx_kcall.specs.declared.request.KernelCall.TheVariants.{Exit, Times, SetAlarm, Irqctl, Devio, Vircopy, Kill, Whois}
 
 -- the number at a place of a message
 abbrev pub word_at : List ℕ → ℕ → ℕ
 word_at bytes k = value_at (drop k bytes) 0 4
 
 -- the type and the words of a message, behind the four bytes of its source
-abbrev pub words_of : List ℕ → Words
-words_of bytes = record { kind = word_at bytes 4; p0 = word_at bytes 8; p1 = word_at bytes 12; p2 = word_at bytes 16; p3 = word_at bytes 20; p4 = word_at bytes 24 }
+abbrev pub message_words_of : List ℕ → MessageWords
+message_words_of bytes = record { kind = word_at bytes 4; p0 = word_at bytes 8; p1 = word_at bytes 12; p2 = word_at bytes 16; p3 = word_at bytes 20; p4 = word_at bytes 24 }
 
 -- those at the buffer of a process
-unfoldable pub words_at : World → ℕ → Words
-words_at w s = words_of (take 36 (drop (buffer_at w s) (memory_at w s)))
+unfoldable pub message_words_at : TableState → ℕ → MessageWords
+message_words_at w s = message_words_of (take 36 (drop (buffer_at w s) (memory_at w s)))
 
 -- THE EIGHT CALLS by the type, with their words
-abbrev pub request_of : Words → Option Request
-request_of m =
+abbrev pub kernel_call_of : MessageWords → Option KernelCall
+kernel_call_of m =
     if m.kind == 0x600 then Some Exit else
     if m.kind == 0x601 then Some Times else
     -- a delay, 0 cancels
@@ -39,7 +39,7 @@ request_of m =
     None
 
 -- the bit of a call in the mask of calls
-abbrev pub bit_of : Request → ℕ
+abbrev pub bit_of : KernelCall → ℕ
 bit_of Exit = 0
 bit_of Times = 1
 bit_of (SetAlarm delay) = 2
@@ -50,9 +50,9 @@ bit_of (Kill endpoint) = 6
 bit_of (Whois slot) = 7
 
 -- no words
-abbrev pub no_answer : Answer
-no_answer = record { p0 = 0; p1 = 0; p2 = 0 }
+abbrev pub no_reply_words : ReplyWords
+no_reply_words = record { p0 = 0; p1 = 0; p2 = 0 }
 
 -- a reply: from SYSTEM (-2), with the result as its type, then words, zeros else
-abbrev pub reply_bytes : ℕ → Answer → List ℕ
+abbrev pub reply_bytes : ℕ → ReplyWords → List ℕ
 reply_bytes result a = bytes_of 4 (2 ^ 32 - 2) ++ bytes_of 4 result ++ bytes_of 4 a.p0 ++ bytes_of 4 a.p1 ++ bytes_of 4 a.p2 ++ replicate 16 0

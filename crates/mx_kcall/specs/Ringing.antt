@@ -1,7 +1,7 @@
 -- One alarm, as `tick` goes over them.
 use Rattle.std.specs.Prelude.{ℕ, if◌then◌else◌}
-use Rattle.mx_proc.specs.World.{World, process_at}
-use Rattle.mx_kcall.specs.Clock.{is_due, rung}
+use Rattle.mx_proc.specs.TableState.{TableState, process_at}
+use Rattle.mx_kcall.specs.Clock.{is_due, table_after_ring}
 
-abbrev pub rung_if_due : World → ℕ → World
-rung_if_due w s = if is_due w.uptime (process_at w s).alarm then rung w s else w
+abbrev pub table_after_ring_if_due : TableState → ℕ → TableState
+table_after_ring_if_due w s = if is_due w.uptime (process_at w s).alarm then table_after_ring w s else w

@@ -3,10 +3,10 @@
 ghost use Rattle.std.specs.Prelude.{◌≡◌, ◌≢◌, ℕ, ◌+◌, ◌<◌, ◌^◌, IsSome, IfSome, length};
 ghost use Rattle.mx_proc.specs.Frame.{frame};
 ghost use Rattle.mx_proc.specs.Sound.{NoneComesHome};
-ghost use Rattle.mx_proc.specs.World.{process_at};
+ghost use Rattle.mx_proc.specs.TableState.{process_at};
 ghost use Rattle.mx_kcall.specs.Refusals.{owner_of};
-ghost use Rattle.mx_kcall.specs.Clock.{is_due, raised, ticked};
-ghost use Rattle.mx_kcall.specs.Ringing.{rung_if_due};
+ghost use Rattle.mx_kcall.specs.Clock.{is_due, table_after_line, table_after_tick};
+ghost use Rattle.mx_kcall.specs.Ringing.{table_after_ring_if_due};
 
 use mx_ipc::notify;
 use mx_proc::{Slot, Source, Table};
@@ -15,7 +15,7 @@ use mx_proc::{Slot, Source, Table};
 pub fn raise(table: &mut Table, line: u8)
     requires line { line < 16 }
     requires owned { IsSome (owner_of table.old line) }
-    ensures value { IfSome (owner_of table.old line) (λ s. table.new ≡ raised table.old line s) }
+    ensures value { IfSome (owner_of table.old line) (λ s. table.new ≡ table_after_line table.old line s) }
     ensures frame { frame table.new ≡ frame table.old }
     ensures settled { NoneComesHome table.old table.new }
 {
@@ -39,7 +39,7 @@ fn is_due(uptime: u32, alarm: Option<u64>) -> bool
 /// Lets a process's alarm ring, if it is due.
 fn ring(table: &mut Table, slot: Slot)
     requires { slot < length table.old.slots }
-    ensures value { table.new ≡ rung_if_due table.old slot }
+    ensures value { table.new ≡ table_after_ring_if_due table.old slot }
     ensures frame { frame table.new ≡ frame table.old }
     ensures others { (s : ℕ) → s ≢ slot → (process_at table.new s).alarm ≡ (process_at table.old s).alarm }
     ensures settled { NoneComesHome table.old table.new }
@@ -51,10 +51,10 @@ fn ring(table: &mut Table, slot: Slot)
 }
 
 /// One tick: the uptime is one more, and each alarm that is due rings, in slot order.
-#[tactic(auto, unfolding(crate::specs::Clock::ticked))]
+#[tactic(auto, unfolding(crate::specs::Clock::table_after_tick))]
 pub fn tick(table: &mut Table)
     requires { table.old.uptime + 1 < 2 ^ 32 }
-    ensures value { table.new ≡ ticked table.old }
+    ensures value { table.new ≡ table_after_tick table.old }
     ensures frame { frame table.new ≡ record (frame table.old) { uptime = table.old.uptime + 1 } }
     ensures settled { NoneComesHome table.old table.new }
 {

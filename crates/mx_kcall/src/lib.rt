@@ -7,5 +7,5 @@ mod request;
 mod serving;
 
 pub use clock::{raise, tick};
-pub use request::{After, Answer, Request};
+pub use request::{After, KernelCall, ReplyWords};
 pub use serving::call;

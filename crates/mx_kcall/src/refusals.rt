@@ -6,14 +6,14 @@ ghost use Rattle.mx_mem.specs.Segment.{inside};
 ghost use Rattle.mx_proc.specs.Endpoints.{names_slot, is_alive};
 ghost use Rattle.mx_proc.specs.Sound.{HasBuffer};
 ghost use Rattle.mx_proc.specs.States.{is_out};
-ghost use Rattle.mx_proc.specs.World.{process_at, memory_at};
+ghost use Rattle.mx_proc.specs.TableState.{process_at, memory_at};
 ghost use Rattle.mx_proc.specs.declared.errors.Errno.TheVariants.{BadEndpoint, Dead};
 ghost use Rattle.mx_ipc.specs.Checks.{has_bit, first_error};
-ghost use Rattle.mx_kcall.specs.Refusals.{reasons, request_refusal, call_refusal, is_away, IsPermitted};
-ghost use Rattle.mx_kcall.specs.Requests.{request_of, words_at};
-ghost use Rattle.mx_kcall.specs.declared.request.Request.TheVariants as requests;
+ghost use Rattle.mx_kcall.specs.Refusals.{kernel_call_reasons, refusal_of_kernel_call, kernel_call_refusal, is_away, IsPermitted};
+ghost use Rattle.mx_kcall.specs.Requests.{kernel_call_of, message_words_at};
+ghost use Rattle.mx_kcall.specs.declared.request.KernelCall.TheVariants as requests;
 
-use crate::request::{Request, request_of, words_at};
+use crate::request::{KernelCall, request_of, words_at};
 use mx_proc::{Endpoint, Errno, Slot, Stale, State, Table};
 
 /// Whether a mask has a bit.
@@ -59,7 +59,7 @@ fn holds(table: &Table, slot: Slot, at: u32, count: u32) -> bool
 
 /// IRQCTL's refusals.
 fn check_irqctl(table: &Table, slot: Slot, action: u32, line: u32) -> Result<(), Errno>
-    ensures value { MatchResult result (λ _. first_error (reasons table.now slot (requests.Irqctl action line)) ≡ None) (λ e. first_error (reasons table.now slot (requests.Irqctl action line)) ≡ Some e) }
+    ensures value { MatchResult result (λ _. first_error (kernel_call_reasons table.now slot (requests.Irqctl action line)) ≡ None) (λ e. first_error (kernel_call_reasons table.now slot (requests.Irqctl action line)) ≡ Some e) }
     ensures permitted { IfOk result (λ _. line < 16) }
 {
     if action > 1 || line > 15 {
@@ -86,7 +86,7 @@ fn check_vircopy(
     place: u32,
     count: u32,
 ) -> Result<(), Errno>
-    ensures value { MatchResult result (λ _. first_error (reasons table.now slot (requests.Vircopy from at to place count)) ≡ None) (λ e. first_error (reasons table.now slot (requests.Vircopy from at to place count)) ≡ Some e) }
+    ensures value { MatchResult result (λ _. first_error (kernel_call_reasons table.now slot (requests.Vircopy from at to place count)) ≡ None) (λ e. first_error (kernel_call_reasons table.now slot (requests.Vircopy from at to place count)) ≡ Some e) }
     ensures permitted { IfOk result (λ _. IsPermitted table.now (requests.Vircopy from at to place count)) }
 {
     if count > 65_536 {
@@ -105,7 +105,7 @@ fn check_vircopy(
 
 /// KILL's refusals.
 fn check_kill(table: &Table, slot: Slot, endpoint: Endpoint) -> Result<(), Errno>
-    ensures value { MatchResult result (λ _. first_error (reasons table.now slot (requests.Kill endpoint)) ≡ None) (λ e. first_error (reasons table.now slot (requests.Kill endpoint)) ≡ Some e) }
+    ensures value { MatchResult result (λ _. first_error (kernel_call_reasons table.now slot (requests.Kill endpoint)) ≡ None) (λ e. first_error (kernel_call_reasons table.now slot (requests.Kill endpoint)) ≡ Some e) }
     ensures permitted { IfOk result (λ _. IsPermitted table.now (requests.Kill endpoint)) }
 {
     let victim = check_endpoint(table, endpoint)?;
@@ -117,7 +117,7 @@ fn check_kill(table: &Table, slot: Slot, endpoint: Endpoint) -> Result<(), Errno
 
 /// WHOIS's refusals.
 fn check_whois(table: &Table, slot: Slot, named: u32) -> Result<(), Errno>
-    ensures value { MatchResult result (λ _. first_error (reasons table.now slot (requests.Whois named)) ≡ None) (λ e. first_error (reasons table.now slot (requests.Whois named)) ≡ Some e) }
+    ensures value { MatchResult result (λ _. first_error (kernel_call_reasons table.now slot (requests.Whois named)) ≡ None) (λ e. first_error (kernel_call_reasons table.now slot (requests.Whois named)) ≡ Some e) }
     ensures permitted { IfOk result (λ _. named < length table.now.slots) }
 {
     if named >= u32::from(table.used()) {
@@ -130,15 +130,15 @@ fn check_whois(table: &Table, slot: Slot, named: u32) -> Result<(), Errno>
 }
 
 /// A request's own refusals, the first told.
-#[tactic(auto, unfolding(crate::specs::Refusals::request_refusal))]
-fn check_request(table: &Table, slot: Slot, request: Request) -> Result<(), Errno>
-    ensures value { MatchResult result (λ _. request_refusal table.now slot request ≡ None) (λ e. request_refusal table.now slot request ≡ Some e) }
+#[tactic(auto, unfolding(crate::specs::Refusals::refusal_of_kernel_call))]
+fn check_request(table: &Table, slot: Slot, request: KernelCall) -> Result<(), Errno>
+    ensures value { MatchResult result (λ _. refusal_of_kernel_call table.now slot request ≡ None) (λ e. refusal_of_kernel_call table.now slot request ≡ Some e) }
     ensures permitted { IfOk result (λ _. IsPermitted table.now request) }
 {
     match request {
-        Request::Exit | Request::Times | Request::SetAlarm(_) => Ok(()),
-        Request::Irqctl { action, line } => check_irqctl(table, slot, action, line),
-        Request::Devio {
+        KernelCall::Exit | KernelCall::Times | KernelCall::SetAlarm(_) => Ok(()),
+        KernelCall::Irqctl { action, line } => check_irqctl(table, slot, action, line),
+        KernelCall::Devio {
             action,
             register,
             ..
@@ -148,25 +148,25 @@ fn check_request(table: &Table, slot: Slot, request: Request) -> Result<(), Errn
             }
             Ok(())
         }
-        Request::Vircopy {
+        KernelCall::Vircopy {
             from,
             at,
             to,
             place,
             count,
         } => check_vircopy(table, slot, from, at, to, place, count),
-        Request::Kill(endpoint) => check_kill(table, slot, endpoint),
-        Request::Whois(named) => check_whois(table, slot, named),
+        KernelCall::Kill(endpoint) => check_kill(table, slot, endpoint),
+        KernelCall::Whois(named) => check_whois(table, slot, named),
     }
 }
 
 /// The request at a process's buffer, unless it is refused: by its type, by the mask of calls, by
 /// its own reasons.
-#[tactic(auto, unfolding(crate::specs::Refusals::request_refusal, crate::specs::Refusals::call_refusal))]
-pub(crate) fn check(table: &Table, slot: Slot) -> Result<Request, Errno>
+#[tactic(auto, unfolding(crate::specs::Refusals::refusal_of_kernel_call, crate::specs::Refusals::kernel_call_refusal))]
+pub(crate) fn check(table: &Table, slot: Slot) -> Result<KernelCall, Errno>
     requires slot { slot < length table.now.slots }
     requires inside { HasBuffer (process_at table.now slot) }
-    ensures value { MatchResult result (λ r. (request_of (words_at table.now slot) ≡ Some r) × (call_refusal table.now slot ≡ None)) (λ e. call_refusal table.now slot ≡ Some e) }
+    ensures value { MatchResult result (λ r. (kernel_call_of (message_words_at table.now slot) ≡ Some r) × (kernel_call_refusal table.now slot ≡ None)) (λ e. kernel_call_refusal table.now slot ≡ Some e) }
     ensures permitted { IfOk result (λ r. IsPermitted table.now r) }
 {
     let request = match request_of(words_at(table, slot)) {

@@ -2,15 +2,15 @@
 
 ghost use Rattle.std.specs.Prelude.{◌≡◌, ◌+◌, ◌<◌, ◌≤◌, length};
 ghost use Rattle.mx_proc.specs.Sound.{HasBuffer};
-ghost use Rattle.mx_proc.specs.World.{process_at};
-ghost use Rattle.mx_kcall.specs.Requests.{word_at, words_of, words_at, request_of, bit_of, no_answer, reply_bytes};
+ghost use Rattle.mx_proc.specs.TableState.{process_at};
+ghost use Rattle.mx_kcall.specs.Requests.{word_at, message_words_of, message_words_at, kernel_call_of, bit_of, no_reply_words, reply_bytes};
 
 use mx_proc::{Endpoint, Slot, Table};
 use mx_word::{Register, read_dword, write_dword};
 
 /// The type of a message to SYSTEM, and the first of its words.
 #[derive(Clone, Copy)]
-pub struct Words {
+pub struct MessageWords {
     pub kind: u32,
     pub p0: u32,
     pub p1: u32,
@@ -21,7 +21,7 @@ pub struct Words {
 
 /// A kernel call.
 #[derive(Clone, Copy)]
-pub enum Request {
+pub enum KernelCall {
     /// The caller dies.
     Exit,
     /// Tells the uptime and the caller's steps.
@@ -55,18 +55,18 @@ pub enum Request {
 
 /// The words of a reply.
 #[derive(Clone, Copy)]
-pub struct Answer {
+pub struct ReplyWords {
     pub p0: u32,
     pub p1: u32,
     pub p2: u32,
 }
 
-impl Answer {
+impl ReplyWords {
     /// No words.
-    pub fn none() -> Answer
-        ensures { result ≡ no_answer }
+    pub fn none() -> ReplyWords
+        ensures { result ≡ no_reply_words }
     {
-        Answer {
+        ReplyWords {
             p0: 0,
             p1: 0,
             p2: 0,
@@ -91,10 +91,10 @@ fn word_at(message: &[u8; 36], at: usize) -> u32
     read_dword(&message[at..])
 }
 
-fn words_of(message: &[u8; 36]) -> Words
-    ensures { result ≡ words_of message.now }
+fn words_of(message: &[u8; 36]) -> MessageWords
+    ensures { result ≡ message_words_of message.now }
 {
-    Words {
+    MessageWords {
         kind: word_at(message, 4),
         p0: word_at(message, 8),
         p1: word_at(message, 12),
@@ -105,68 +105,68 @@ fn words_of(message: &[u8; 36]) -> Words
 }
 
 /// The words of the message at a process's buffer.
-#[tactic(auto, unfolding(crate::specs::Requests::words_at))]
-pub(crate) fn words_at(table: &Table, slot: Slot) -> Words
+#[tactic(auto, unfolding(crate::specs::Requests::message_words_at))]
+pub(crate) fn words_at(table: &Table, slot: Slot) -> MessageWords
     requires slot { slot < length table.now.slots }
     requires inside { HasBuffer (process_at table.now slot) }
-    ensures { result ≡ words_at table.now slot }
+    ensures { result ≡ message_words_at table.now slot }
 {
     let image = &table.process(slot).image;
     words_of(&image.memory.message(image.register(Register::Ebx)))
 }
 
 /// The request that words make.
-pub(crate) fn request_of(words: Words) -> Option<Request>
-    ensures { result ≡ request_of words }
+pub(crate) fn request_of(words: MessageWords) -> Option<KernelCall>
+    ensures { result ≡ kernel_call_of words }
 {
     let request = match words.kind {
-        0x600 => Request::Exit,
-        0x601 => Request::Times,
-        0x602 => Request::SetAlarm(words.p0),
-        0x603 => Request::Irqctl {
+        0x600 => KernelCall::Exit,
+        0x601 => KernelCall::Times,
+        0x602 => KernelCall::SetAlarm(words.p0),
+        0x603 => KernelCall::Irqctl {
             action: words.p0,
             line: words.p1,
         },
-        0x604 => Request::Devio {
+        0x604 => KernelCall::Devio {
             action: words.p0,
             register: words.p1,
             value: words.p2,
         },
-        0x605 => Request::Vircopy {
+        0x605 => KernelCall::Vircopy {
             from: words.p0,
             at: words.p1,
             to: words.p2,
             place: words.p3,
             count: words.p4,
         },
-        0x606 => Request::Kill(words.p0),
-        0x607 => Request::Whois(words.p0),
+        0x606 => KernelCall::Kill(words.p0),
+        0x607 => KernelCall::Whois(words.p0),
         _ => return None,
     };
     Some(request)
 }
 
-impl Request {
+impl KernelCall {
     /// Its bit in the mask of calls.
     pub(crate) fn bit(self) -> u32
         ensures value { result ≡ bit_of self }
         ensures below { result < 8 }
     {
         match self {
-            Request::Exit => 0,
-            Request::Times => 1,
-            Request::SetAlarm(_) => 2,
-            Request::Irqctl { .. } => 3,
-            Request::Devio { .. } => 4,
-            Request::Vircopy { .. } => 5,
-            Request::Kill(_) => 6,
-            Request::Whois(_) => 7,
+            KernelCall::Exit => 0,
+            KernelCall::Times => 1,
+            KernelCall::SetAlarm(_) => 2,
+            KernelCall::Irqctl { .. } => 3,
+            KernelCall::Devio { .. } => 4,
+            KernelCall::Vircopy { .. } => 5,
+            KernelCall::Kill(_) => 6,
+            KernelCall::Whois(_) => 7,
         }
     }
 }
 
 /// The bytes of a reply.
-pub(crate) fn reply_bytes(outcome: u32, answer: Answer) -> [u8; 36]
+pub(crate) fn reply_bytes(outcome: u32, answer: ReplyWords) -> [u8; 36]
     ensures { result ≡ reply_bytes outcome answer }
 {
     let mut message = [0; 36];

@@ -3,16 +3,16 @@
 ghost use Rattle.std.specs.Prelude.{◌≡◌, ◌≢◌, ℕ, ◌+◌, ◌<◌, ◌≤◌, ◌^◌, ◌==◌, false, Some, None, length};
 ghost use Rattle.mx_proc.specs.Frame.{frame};
 ghost use Rattle.mx_proc.specs.Sound.{HasBuffer, NoneComesHome};
-ghost use Rattle.mx_proc.specs.World.{process_at};
+ghost use Rattle.mx_proc.specs.TableState.{process_at};
 ghost use Rattle.mx_proc.specs.declared.process.State.TheVariants.{Home};
 ghost use Rattle.mx_kcall.specs.Refusals.{IsPermitted};
-ghost use Rattle.mx_kcall.specs.Requests.{no_answer};
-ghost use Rattle.mx_kcall.specs.Serving.{due_after, ticks_left, changed, answered, ends, replied, served, after_served, called, after_call};
+ghost use Rattle.mx_kcall.specs.Requests.{no_reply_words};
+ghost use Rattle.mx_kcall.specs.Serving.{due_after, ticks_left, table_after_change, words_of_reply, ends_caller, table_after_reply, table_after_serving, answer_of_serving, table_after_kernel_call, answer_of_kernel_call};
 
 use crate::refusals::check;
-use crate::request::{After, Answer, Request, reply_bytes};
+use crate::request::{After, KernelCall, ReplyWords, reply_bytes};
 use mx_ipc::go_on;
-use mx_proc::{Cause, Slot, Table};
+use mx_proc::{DeathCause, Slot, Table};
 use mx_respawn::die;
 
 /// When an alarm rings that is set for a delay; never where that is 0.
@@ -37,43 +37,43 @@ fn ticks_left(uptime: u32, alarm: Option<u64>) -> u32
 }
 
 /// The words of a request's reply.
-fn answer(table: &Table, slot: Slot, request: Request) -> Answer
+fn answer(table: &Table, slot: Slot, request: KernelCall) -> ReplyWords
     requires slot { slot < length table.now.slots }
     requires permitted { IsPermitted table.now request }
-    ensures { result ≡ answered table.now slot request }
+    ensures { result ≡ words_of_reply table.now slot request }
 {
     // So few that a slot fits a byte.
     let _used = table.used();
     let p0 = match request {
-        Request::Times => {
+        KernelCall::Times => {
             let steps = table.process(slot).steps;
-            return Answer {
+            return ReplyWords {
                 p0: table.uptime(),
                 p1: (steps % 0x1_0000_0000) as u32,
                 p2: (steps / 0x1_0000_0000) as u32,
             };
         }
-        Request::SetAlarm(_) => ticks_left(table.uptime(), table.process(slot).alarm),
-        Request::Devio {
+        KernelCall::SetAlarm(_) => ticks_left(table.uptime(), table.process(slot).alarm),
+        KernelCall::Devio {
             action: 0,
             register,
             ..
         } if register != 0 => table.devices().registers[register as usize],
-        Request::Whois(named) => table.endpoint(named as u8),
+        KernelCall::Whois(named) => table.endpoint(named as u8),
         _ => 0,
     };
-    Answer { p0, p1: 0, p2: 0 }
+    ReplyWords { p0, p1: 0, p2: 0 }
 }
 
 /// Does what a request asks of a table.
-fn change(table: &mut Table, slot: Slot, request: Request)
+fn change(table: &mut Table, slot: Slot, request: KernelCall)
     requires slot { slot < length table.old.slots }
     requires home { (process_at table.old slot).state ≡ Home }
     requires inside { HasBuffer (process_at table.old slot) }
     requires room { table.old.devices.console.count + 1 < 2 ^ 32 }
     requires permitted { IsPermitted table.old request }
-    requires stays { ends slot request ≡ false }
-    ensures value { table.new ≡ changed table.old slot request }
+    requires stays { ends_caller slot request ≡ false }
+    ensures value { table.new ≡ table_after_change table.old slot request }
     ensures frame { frame table.new ≡ record (frame table.old) { devices = table.new.devices } }
     ensures used { length table.new.slots ≡ length table.old.slots }
     ensures home { (process_at table.new slot).state ≡ Home }
@@ -84,12 +84,12 @@ fn change(table: &mut Table, slot: Slot, request: Request)
     // So few that a slot fits a byte.
     let _used = table.used();
     match request {
-        Request::Exit | Request::Times | Request::Whois(_) => {}
-        Request::SetAlarm(delay) => table.set_alarm(slot, due_after(table.uptime(), delay)),
-        Request::Irqctl { action, line } => {
+        KernelCall::Exit | KernelCall::Times | KernelCall::Whois(_) => {}
+        KernelCall::SetAlarm(delay) => table.set_alarm(slot, due_after(table.uptime(), delay)),
+        KernelCall::Irqctl { action, line } => {
             table.set_owner(line as u8, if action == 1 { Some(slot) } else { None });
         }
-        Request::Devio {
+        KernelCall::Devio {
             action,
             register,
             value,
@@ -100,23 +100,23 @@ fn change(table: &mut Table, slot: Slot, request: Request)
                 table.set_register(register as u8, value);
             }
         }
-        Request::Vircopy {
+        KernelCall::Vircopy {
             from,
             at,
             to,
             place,
             count,
         } => table.copy((from % 1024) as u8, at, (to % 1024) as u8, place, count),
-        Request::Kill(endpoint) => die(table, (endpoint % 1024) as u8, Cause::Kill),
+        KernelCall::Kill(endpoint) => die(table, (endpoint % 1024) as u8, DeathCause::Kill),
     }
 }
 
 /// Writes the reply to the caller's buffer, and the caller goes on.
-fn reply(table: &mut Table, slot: Slot, outcome: u32, answer: Answer)
+fn reply(table: &mut Table, slot: Slot, outcome: u32, answer: ReplyWords)
     requires slot { slot < length table.old.slots }
     requires home { (process_at table.old slot).state ≡ Home }
     requires inside { HasBuffer (process_at table.old slot) }
-    ensures value { table.new ≡ replied table.old slot outcome answer }
+    ensures value { table.new ≡ table_after_reply table.old slot outcome answer }
     ensures frame { frame table.new ≡ frame table.old }
     ensures used { length table.new.slots ≡ length table.old.slots }
     ensures devices { table.new.devices ≡ table.old.devices }
@@ -128,26 +128,26 @@ fn reply(table: &mut Table, slot: Slot, outcome: u32, answer: Answer)
 }
 
 /// Whether the caller of a request dies by it.
-fn ends(slot: Slot, request: Request) -> bool
-    ensures { result ≡ ends slot request }
+fn ends(slot: Slot, request: KernelCall) -> bool
+    ensures { result ≡ ends_caller slot request }
 {
     match request {
-        Request::Exit => true,
-        Request::Kill(endpoint) => endpoint % 1024 == u32::from(slot),
+        KernelCall::Exit => true,
+        KernelCall::Kill(endpoint) => endpoint % 1024 == u32::from(slot),
         _ => false,
     }
 }
 
 /// A request that isn't refused.
-#[tactic(auto, unfolding(crate::specs::Serving::served))]
-fn serve(table: &mut Table, slot: Slot, request: Request) -> After
+#[tactic(auto, unfolding(crate::specs::Serving::table_after_serving))]
+fn serve(table: &mut Table, slot: Slot, request: KernelCall) -> After
     requires slot { slot < length table.old.slots }
     requires home { (process_at table.old slot).state ≡ Home }
     requires inside { HasBuffer (process_at table.old slot) }
     requires room { table.old.devices.console.count + 1 < 2 ^ 32 }
     requires permitted { IsPermitted table.old request }
-    ensures value { table.new ≡ served table.old slot request }
-    ensures after { result ≡ after_served slot request }
+    ensures value { table.new ≡ table_after_serving table.old slot request }
+    ensures after { result ≡ answer_of_serving slot request }
     ensures frame { frame table.new ≡ record (frame table.old) { devices = table.new.devices } }
     ensures used { length table.new.slots ≡ length table.old.slots }
     ensures settled { NoneComesHome table.old table.new }
@@ -155,7 +155,7 @@ fn serve(table: &mut Table, slot: Slot, request: Request) -> After
     ensures console { table.new.devices.console.count ≤ table.old.devices.console.count + 1 }
 {
     if ends(slot, request) {
-        die(table, slot, Cause::Exit);
+        die(table, slot, DeathCause::Exit);
         return After::Died;
     }
     let words = answer(table, slot, request);
@@ -165,14 +165,14 @@ fn serve(table: &mut Table, slot: Slot, request: Request) -> After
 }
 
 /// The kernel call that the message at a process's buffer asks for.
-#[tactic(auto, unfolding(crate::specs::Serving::called, crate::specs::Serving::after_call))]
+#[tactic(auto, unfolding(crate::specs::Serving::table_after_kernel_call, crate::specs::Serving::answer_of_kernel_call))]
 pub fn call(table: &mut Table, slot: Slot) -> After
     requires slot { slot < length table.old.slots }
     requires home { (process_at table.old slot).state ≡ Home }
     requires inside { HasBuffer (process_at table.old slot) }
     requires room { table.old.devices.console.count + 1 < 2 ^ 32 }
-    ensures value { table.new ≡ called table.old slot }
-    ensures after { result ≡ after_call table.old slot }
+    ensures value { table.new ≡ table_after_kernel_call table.old slot }
+    ensures after { result ≡ answer_of_kernel_call table.old slot }
     ensures frame { frame table.new ≡ record (frame table.old) { devices = table.new.devices } }
     ensures used { length table.new.slots ≡ length table.old.slots }
     ensures settled { NoneComesHome table.old table.new }
@@ -182,7 +182,7 @@ pub fn call(table: &mut Table, slot: Slot) -> After
     match check(table, slot) {
         Ok(request) => serve(table, slot, request),
         Err(refusal) => {
-            reply(table, slot, refusal.bits(), Answer::none());
+            reply(table, slot, refusal.bits(), ReplyWords::none());
             After::Reply(refusal.bits())
         }
     }

@@ -5,14 +5,14 @@ use Rattle.std.proofs.lemmas.Bool.{cases_lt}
 use Rattle.std.proofs.lemmas.Bool.Decides.{eqb_tells}
 use Rattle.std.proofs.lemmas.Grind.{common_steps}
 use Rattle.std.proofs.lemmas.List.{get_or_past}
-use Rattle.mx_line.specs.Bytes.{is_digit, is_word_byte}
-use Rattle.mx_line.specs.Numbers.{IsNumber}
+use Rattle.mx_text.specs.Bytes.{is_digit, is_word_byte}
+use Rattle.mx_text.specs.Numbers.{IsNumber}
 use Rattle.mx_lex.specs.Bytes.{AllFrom, ends_at, is_escape}
-use Rattle.mx_lex.specs.Tokens.{Body, ends, plain, escape, Gap, IsToken, AreTokens, HasForm, IsOver, IsBrokenText, BrokenAt, IsReadAs, IsFault, IsMeant}
+use Rattle.mx_lex.specs.Tokens.{Body, ends, plain, escape, Gap, IsToken, AreTokens, HasForm, IsOver, IsBrokenText, BrokenAt, IsReadAs, IsLexFault, IsMeant}
 use Rattle.mx_lex.specs.declared.kinds.LexError.{LexError}
 use Rattle.mx_lex.specs.declared.kinds.LexError.TheVariants.{BadByte, BadNumber, OpenText, NoMemory}
-use Rattle.mx_lex.specs.declared.kinds.Kind.{Kind}
-use Rattle.mx_lex.specs.declared.kinds.Kind.TheVariants as kinds
+use Rattle.mx_lex.specs.declared.kinds.TokenKind.{TokenKind}
+use Rattle.mx_lex.specs.declared.kinds.TokenKind.TheVariants as kinds
 use Rattle.mx_lex.specs.declared.kinds.Token.{Token}
 use Rattle.mx_lex.proofs.Unique.{gap_same}
 use Rattle.mx_lex.proofs.Lexing.{form_lt}
@@ -87,7 +87,7 @@ text_not_broken t s q NoMemory body quote h = h
 quoted_not_broken : (t : List ℕ) (k : Token) (e : LexError) → IsToken t k → get_or t k.start 0 ≡ 34 → IsBrokenText t (k.start + 1) e → ⊥
 quoted_not_broken t k e x quote broken = by_kind k.kind k.end x.form
   where
-    by_kind : (kind : Kind) (b : ℕ) → HasForm t kind k.start b → ⊥
+    by_kind : (kind : TokenKind) (b : ℕ) → HasForm t kind k.start b → ⊥
     by_kind kinds.LineFeed b f = omega (arith, f.0, quote)
     by_kind (kinds.Mark m) b f = mark_or (get_or t k.start 0) 34 m (inr refl) quote f.0
     by_kind kinds.Word b f = let h : false ≡ true = no_word (get_or t k.start 0) (get_or t (k.start + 1) 0) 34 f.0 quote in cc
@@ -119,7 +119,7 @@ token_not_broken t k (BadByte a) x (inr (quote, broken)) = quoted_not_broken t k
 token_not_broken t k (OpenText a) x (quote, broken) = quoted_not_broken t k (OpenText a) x quote broken
 token_not_broken t k (BadNumber a) x (e, digit, (b, some, run, over, within, wrong)) = by_kind k.kind x.form x.longest x.meant
   where
-    by_kind : (kind : Kind) → HasForm t kind k.start k.end → ((c : ℕ) → k.end < c → c ≤ length t → HasForm t kind k.start c → ⊥) → IsMeant (slice_range t k.start k.end) kind → ⊥
+    by_kind : (kind : TokenKind) → HasForm t kind k.start k.end → ((c : ℕ) → k.end < c → c ≤ length t → HasForm t kind k.start c → ⊥) → IsMeant (slice_range t k.start k.end) kind → ⊥
     by_kind kinds.LineFeed f longest meant = let h : false ≡ true = no_digit (get_or t k.start 0) 10 digit f.0 in cc
     by_kind (kinds.Mark m) f longest meant = digit_or_mark (get_or t k.start 0) m digit f.0
     by_kind kinds.Word f longest meant = word_or_digit (get_or t k.start 0) (get_or t (k.start + 1) 0) f.0 digit
@@ -184,5 +184,5 @@ read_or_broken t a b c d (k ∷ ks) (j ∷ js) e (x, z, xs) g (y, w, ys) h broke
     let ys' : AreTokens t k.end js c = subst (λ (i : Token). AreTokens t i.end js c) (sym same) ys in
     read_or_broken t k.end b c d ks js e xs g ys' h broken
 
-pub never_both : (t : List ℕ) (ks : List Token) (e : LexError) → IsReadAs t ks → IsFault t e → ⊥
+pub never_both : (t : List ℕ) (ks : List Token) (e : LexError) → IsReadAs t ks → IsLexFault t e → ⊥
 never_both t ks e (b, x, g) (js, c, d, y, h, broken) = read_or_broken t 0 b c d ks js e x g y h broken

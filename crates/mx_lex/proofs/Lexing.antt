@@ -1,13 +1,13 @@
 -- What the lexer's loops add up to.
 use Rattle.std.proofs.Common.{◌≡◌, ◌≢◌, ℕ, ◌+◌, ◌<◌, ◌≤◌, ◌⊎◌, inl, inr, true, false, List, [], ◌∷◌, ◌++◌, length, get_or, refl, sym, subst, arith, IsTrue, rules}
-use Rattle.mx_line.specs.Bytes.{is_word_byte, is_digit}
+use Rattle.mx_text.specs.Bytes.{is_word_byte, is_digit}
 use Rattle.mx_lex.specs.Bytes.{AllFrom, begins_word}
-use Rattle.mx_lex.specs.Tokens.{Body, ends, plain, escape, Gap, none, blank, carriage_return, comment, IsToken, AreTokens, HasForm, mark_byte, BrokenAt, TellsFault, IsSlice, least}
+use Rattle.mx_lex.specs.Tokens.{Body, ends, plain, escape, Gap, none, blank, carriage_return, comment, IsToken, AreTokens, HasForm, mark_byte, BrokenAt, TellsLexFault, IsSlice, least}
 use Rattle.mx_lex.specs.declared.kinds.LexError.{LexError}
 use Rattle.mx_lex.specs.declared.kinds.LexError.TheVariants.{BadByte, BadNumber, OpenText, NoMemory}
 use Rattle.mx_lex.specs.declared.kinds.Mark.{Mark}
-use Rattle.mx_lex.specs.declared.kinds.Kind.{Kind}
-use Rattle.mx_lex.specs.declared.kinds.Kind.TheVariants as kinds
+use Rattle.mx_lex.specs.declared.kinds.TokenKind.{TokenKind}
+use Rattle.mx_lex.specs.declared.kinds.TokenKind.TheVariants as kinds
 use Rattle.mx_lex.specs.declared.kinds.Token.{Token}
 
 pub either : {A B C : Type 0} → A ⊎ (C × B) → A ⊎ B
@@ -41,7 +41,7 @@ body_over t a b c (escape p' q' less) quote (escape p q more) = body_over t (a +
 -- ---- no token
 
 pub no_form : (t : List ℕ) (a : ℕ) → get_or t a 0 ≢ 10 → ((m : Mark) → get_or t a 0 ≢ mark_byte m) → get_or t a 0 ≢ 34
-    → is_digit (get_or t a 0) ≡ false → begins_word t a ≡ false → (k : Kind) (b : ℕ) → HasForm t k a b → ⊥
+    → is_digit (get_or t a 0) ≡ false → begins_word t a ≡ false → (k : TokenKind) (b : ℕ) → HasForm t k a b → ⊥
 no_form t a line mark quote digit word kinds.LineFeed b f = line f.0
 no_form t a line mark quote digit word (kinds.Mark m) b f = mark m f.0
 no_form t a line mark quote digit word kinds.Word b f = let h : begins_word t a ≡ true = f.0 in cc
@@ -55,7 +55,7 @@ pub AreTokens-snoc : (t : List ℕ) (a b : ℕ) (ks : List Token) (k : Token) �
 AreTokens-snoc t a b [] k same g x = let g' : Gap t a k.start = subst (λ (v : ℕ). Gap t v k.start) (sym same) g in (g', x, refl)
 AreTokens-snoc t a b (j ∷ ks) k (g', x', rest) g x = (g', x', AreTokens-snoc t j.end b ks k rest g x)
 
-pub form_lt : (t : List ℕ) (k : Kind) (a b : ℕ) → HasForm t k a b → a < b
+pub form_lt : (t : List ℕ) (k : TokenKind) (a b : ℕ) → HasForm t k a b → a < b
 form_lt t kinds.LineFeed a b f = omega (arith, f.1)
 form_lt t (kinds.Mark m) a b f = omega (arith, f.1)
 form_lt t kinds.Word a b f = f.1
@@ -64,7 +64,7 @@ form_lt t kinds.Text a b (q, e, body, r, s) = omega (arith, body_le t (a + 1) e 
 
 -- ---- faults
 
-pub fault_of : (t : List ℕ) (e : LexError) (ks : List Token) (b a : ℕ) → AreTokens t 0 ks b → Gap t b a → BrokenAt t a e → TellsFault t e
+pub fault_of : (t : List ℕ) (e : LexError) (ks : List Token) (b a : ℕ) → AreTokens t 0 ks b → Gap t b a → BrokenAt t a e → TellsLexFault t e
 fault_of t (BadByte x) ks b a ts g broken = (ks, b, a, ts, g, broken)
 fault_of t (BadNumber x) ks b a ts g broken = (ks, b, a, ts, g, broken)
 fault_of t (OpenText x) ks b a ts g broken = (ks, b, a, ts, g, broken)
@@ -79,7 +79,7 @@ gap_le t a b (comment {c = c} p lt q r more) = let h : c ≤ b = gap_le t c b mo
 pub slice_of : (t : List ℕ) (k : Token) → IsToken t k → IsSlice t k
 slice_of t k x = (long k.kind k.end x.form, x.within)
   where
-    long : (kind : Kind) (end : ℕ) → HasForm t kind k.start end → k.start + least kind ≤ end
+    long : (kind : TokenKind) (end : ℕ) → HasForm t kind k.start end → k.start + least kind ≤ end
     long kinds.LineFeed end f = omega (arith, f.1)
     long (kinds.Mark m) end f = omega (arith, f.1)
     long kinds.Word end f = omega (arith, f.1)

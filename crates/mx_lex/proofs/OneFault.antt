@@ -1,11 +1,11 @@
 -- A text has one fault at most.
 use Rattle.std.proofs.Common.{◌≡◌, ◌≢◌, ℕ, ◌+◌, ◌<◌, ◌≤◌, inl, inr, true, false, List, [], ◌∷◌, length, get_or, refl, sym, ◌∙◌, ap, subst, arith}
-use Rattle.mx_line.specs.Bytes.{is_digit}
+use Rattle.mx_text.specs.Bytes.{is_digit}
 use Rattle.mx_lex.specs.Bytes.{ends_at, is_escape}
-use Rattle.mx_lex.specs.Tokens.{Body, ends, plain, escape, Gap, AreTokens, IsBrokenText, NoToken, BrokenAt, IsFault}
+use Rattle.mx_lex.specs.Tokens.{Body, ends, plain, escape, Gap, AreTokens, IsBrokenText, NoToken, BrokenAt, IsLexFault}
 use Rattle.mx_lex.specs.declared.kinds.LexError.{LexError}
 use Rattle.mx_lex.specs.declared.kinds.LexError.TheVariants.{BadByte, BadNumber, OpenText, NoMemory}
-use Rattle.mx_lex.specs.declared.kinds.Kind.TheVariants as kinds
+use Rattle.mx_lex.specs.declared.kinds.TokenKind.TheVariants as kinds
 use Rattle.mx_lex.specs.declared.kinds.Token.{Token}
 use Rattle.mx_lex.proofs.Unique.{gap_same}
 use Rattle.mx_lex.proofs.Lexing.{form_lt}
@@ -127,5 +127,5 @@ faults_same t a b c d i (k ∷ ks) (j ∷ js) e f (x, z, xs) g broken (y, w, ys)
     let ys' : AreTokens t k.end js c = subst (λ (n : Token). AreTokens t n.end js c) (sym same) ys in
     faults_same t k.end b c d i ks js e f xs g broken ys' h broken'
 
-pub one_fault : (t : List ℕ) (e f : LexError) → IsFault t e → IsFault t f → e ≡ f
+pub one_fault : (t : List ℕ) (e f : LexError) → IsLexFault t e → IsLexFault t f → e ≡ f
 one_fault t e f (ks, b, d, x, g, broken) (js, c, i, y, h, broken') = faults_same t 0 b c d i ks js e f x g broken y h broken'

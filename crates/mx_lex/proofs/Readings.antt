@@ -4,13 +4,13 @@ use Rattle.std.specs.Prelude.{◌&&◌, ◌||◌, ◌==◌, slice_range}
 use Rattle.std.proofs.lemmas.Bool.{cases_lt}
 use Rattle.std.proofs.lemmas.Grind.{common_steps}
 use Rattle.std.proofs.lemmas.List.Elements.{All-head, All-tail}
-use Rattle.mx_line.specs.Bytes.{is_digit, begins_name, is_letter, digit_value}
-use Rattle.mx_line.specs.Numbers.{IsNumber, AreDigits, value_from}
+use Rattle.mx_text.specs.Bytes.{is_digit, begins_name, is_letter, digit_value}
+use Rattle.mx_text.specs.Numbers.{IsNumber, AreDigits, value_from}
 use Rattle.mx_lex.specs.Tokens.{Gap, none, blank, carriage_return, comment, IsToken, AreTokens, HasForm, IsOver, IsMeant, IsReadAs, mark_byte}
 use Rattle.mx_lex.specs.declared.kinds.Mark.{Mark}
 use Rattle.mx_lex.specs.declared.kinds.Mark.TheVariants.{Open, Close, Plus, Minus, Star, Comma, Colon}
-use Rattle.mx_lex.specs.declared.kinds.Kind.{Kind}
-use Rattle.mx_lex.specs.declared.kinds.Kind.TheVariants as kinds
+use Rattle.mx_lex.specs.declared.kinds.TokenKind.{TokenKind}
+use Rattle.mx_lex.specs.declared.kinds.TokenKind.TheVariants as kinds
 use Rattle.mx_lex.specs.declared.kinds.Token.{Token}
 use Rattle.mx_lex.proofs.Lexing.{form_lt}
 use Rattle.mx_lex.proofs.Unique.{gap_same}
@@ -43,7 +43,7 @@ mark_over t a Star h = over_by t a (λ p. omega (arith, h, p)) (λ p. omega (ari
 mark_over t a Comma h = over_by t a (λ p. omega (arith, h, p)) (λ p. omega (arith, h, p)) (λ p. omega (arith, h, p)) (λ p. omega (arith, h, p))
 mark_over t a Colon h = over_by t a (λ p. omega (arith, h, p)) (λ p. omega (arith, h, p)) (λ p. omega (arith, h, p)) (λ p. omega (arith, h, p))
 
-form_over : (t : List ℕ) (k : Kind) (a b : ℕ) → HasForm t k a b → IsOver t a
+form_over : (t : List ℕ) (k : TokenKind) (a b : ℕ) → HasForm t k a b → IsOver t a
 form_over t kinds.LineFeed a b (h, e) = over_by t a (λ p. omega (arith, h, p)) (λ p. omega (arith, h, p)) (λ p. omega (arith, h, p)) (λ p. omega (arith, h, p))
 form_over t (kinds.Mark m) a b (h, e) = mark_over t a m h
 form_over t kinds.Word a b (h, l, r) = over_by t a (λ p. let f : false ≡ true = no_word (get_or t a 0) (get_or t (a + 1) 0) 32 h p in cc) (λ p. let f : false ≡ true = no_word (get_or t a 0) (get_or t (a + 1) 0) 9 h p in cc) (λ p. let f : false ≡ true = no_word (get_or t a 0) (get_or t (a + 1) 0) 13 h p in cc) (λ p. let f : false ≡ true = no_word (get_or t a 0) (get_or t (a + 1) 0) 59 h p in cc)
@@ -75,7 +75,7 @@ marks_same Colon Colon e = refl
 marks_same m n e = absurd (omega (arith, e))
 
 -- a number beside the kind: which byte a mark is
-abbrev AreAlike : Kind → Kind → Type 0
+abbrev AreAlike : TokenKind → TokenKind → Type 0
 AreAlike kinds.LineFeed kinds.LineFeed = Unit {0}
 AreAlike (kinds.Mark m) (kinds.Mark n) = m ≡ n
 AreAlike kinds.Word kinds.Word = Unit {0}
@@ -120,7 +120,7 @@ mark_or b n Colon (inr e) p q = omega (arith, e, p, q)
 pub word_or_digit : (b c : ℕ) → begins b c ≡ true → is_digit b ≡ true → ⊥
 word_or_digit b c h p = grind (arith, common_steps, h, p)
 
-pub kinds_alike : (t : List ℕ) (p q : Kind) (a b c : ℕ) → HasForm t p a b → HasForm t q a c → AreAlike p q
+pub kinds_alike : (t : List ℕ) (p q : TokenKind) (a b c : ℕ) → HasForm t p a b → HasForm t q a c → AreAlike p q
 kinds_alike t kinds.LineFeed kinds.LineFeed a b c f g = tt
 kinds_alike t (kinds.Mark m) (kinds.Mark n) a b c f g = marks_same m n (sym f.0 ∙ g.0)
 kinds_alike t kinds.Word kinds.Word a b c f g = tt
@@ -164,7 +164,7 @@ one_number bs m n (inr (digits, e, x)) (inr (digits', e', y)) =
 
 -- ---- one token
 
-alike_form : (t : List ℕ) (p q : Kind) (a b : ℕ) → AreAlike p q → HasForm t q a b → HasForm t p a b
+alike_form : (t : List ℕ) (p q : TokenKind) (a b : ℕ) → AreAlike p q → HasForm t q a b → HasForm t p a b
 alike_form t kinds.LineFeed kinds.LineFeed a b e f = f
 alike_form t (kinds.Mark m) (kinds.Mark n) a b e f = subst (λ (x : Mark). HasForm t (kinds.Mark x) a b) (sym e) f
 alike_form t kinds.Word kinds.Word a b e f = f
@@ -172,7 +172,7 @@ alike_form t (kinds.Number m) (kinds.Number n) a b e f = f
 alike_form t kinds.Text kinds.Text a b e f = f
 alike_form t p q a b e f = absurd e
 
-alike_turned : (p q : Kind) → AreAlike p q → AreAlike q p
+alike_turned : (p q : TokenKind) → AreAlike p q → AreAlike q p
 alike_turned kinds.LineFeed kinds.LineFeed e = tt
 alike_turned (kinds.Mark m) (kinds.Mark n) e = sym e
 alike_turned kinds.Word kinds.Word e = tt
@@ -180,7 +180,7 @@ alike_turned (kinds.Number m) (kinds.Number n) e = tt
 alike_turned kinds.Text kinds.Text e = tt
 alike_turned p q e = absurd e
 
-alike_meant : (bs : List ℕ) (p q : Kind) → AreAlike p q → IsMeant bs p → IsMeant bs q → p ≡ q
+alike_meant : (bs : List ℕ) (p q : TokenKind) → AreAlike p q → IsMeant bs p → IsMeant bs q → p ≡ q
 alike_meant bs kinds.LineFeed kinds.LineFeed e x y = refl
 alike_meant bs (kinds.Mark m) (kinds.Mark n) e x y = ap kinds.Mark e
 alike_meant bs kinds.Word kinds.Word e x y = refl
@@ -188,7 +188,7 @@ alike_meant bs (kinds.Number m) (kinds.Number n) e x y = ap kinds.Number (one_nu
 alike_meant bs kinds.Text kinds.Text e x y = refl
 alike_meant bs p q e x y = absurd e
 
-abbrev token_of : Kind → ℕ → ℕ → Token
+abbrev token_of : TokenKind → ℕ → ℕ → Token
 token_of p a b = record { kind = p; start = a; end = b }
 
 pub token_same : (t : List ℕ) (j k : Token) → IsToken t j → IsToken t k → j.start ≡ k.start → j ≡ k
@@ -221,7 +221,7 @@ token_same t j k x y e = same
     kind = alike_meant (slice_range t j.start j.end) j.kind k.kind alike x.meant meant
 
     same : j ≡ k
-    same = ap (λ (p : Kind). token_of p j.start j.end) kind ∙ ap (λ (a : ℕ). token_of k.kind a j.end) e ∙ ap (λ (b : ℕ). token_of k.kind k.start b) end
+    same = ap (λ (p : TokenKind). token_of p j.start j.end) kind ∙ ap (λ (a : ℕ). token_of k.kind a j.end) e ∙ ap (λ (b : ℕ). token_of k.kind k.start b) end
 
 pub start_same : (t : List ℕ) (a : ℕ) (j k : Token) → Gap t a j.start → Gap t a k.start → IsToken t j → IsToken t k → j.start ≡ k.start
 start_same t a j k g h x y =

@@ -3,15 +3,15 @@ use Rattle.std.proofs.Common.{◌≡◌, ◌≢◌, ℕ, zero, suc, ◌+◌, ◌
 use Rattle.std.specs.Prelude.{◌==◌, slice_range}
 use Rattle.std.proofs.lemmas.Bool.{cases_lt}
 use Rattle.std.proofs.lemmas.Bool.Decides.{eqb_tells}
-use Rattle.mx_line.specs.Bytes.{is_word_byte, is_digit}
-use Rattle.mx_line.specs.Numbers.{IsNumber}
+use Rattle.mx_text.specs.Bytes.{is_word_byte, is_digit}
+use Rattle.mx_text.specs.Numbers.{IsNumber}
 use Rattle.mx_lex.specs.Bytes.{AllFrom, begins_word, ends_at, is_escape}
-use Rattle.mx_lex.specs.Tokens.{Body, ends, plain, escape, Gap, none, blank, carriage_return, comment, IsToken, AreTokens, HasForm, IsOver, mark_byte, IsBrokenText, BrokenAt, IsMeant, IsReadAs, IsFault}
+use Rattle.mx_lex.specs.Tokens.{Body, ends, plain, escape, Gap, none, blank, carriage_return, comment, IsToken, AreTokens, HasForm, IsOver, mark_byte, IsBrokenText, BrokenAt, IsMeant, IsReadAs, IsLexFault}
 use Rattle.mx_lex.specs.declared.kinds.LexError.{LexError}
 use Rattle.mx_lex.specs.declared.kinds.LexError.TheVariants.{BadByte, BadNumber, OpenText, NoMemory}
 use Rattle.mx_lex.specs.declared.kinds.Mark.{Mark}
-use Rattle.mx_lex.specs.declared.kinds.Kind.{Kind}
-use Rattle.mx_lex.specs.declared.kinds.Kind.TheVariants as kinds
+use Rattle.mx_lex.specs.declared.kinds.TokenKind.{TokenKind}
+use Rattle.mx_lex.specs.declared.kinds.TokenKind.TheVariants as kinds
 use Rattle.mx_lex.specs.declared.kinds.Token.{Token}
 use Rattle.mx_lex.proofs.Lexing.{run_over, body_over, no_form, AreTokens-snoc, form_lt, gap_le}
 use Rattle.mx_lex.proofs.Readings.{end_over}
@@ -124,14 +124,14 @@ body_out t (suc n) s x fuel le on = by_end (λ y f w more. body_out t n s y f w 
 
 -- ---- tokens
 
-abbrev token_of : Kind → ℕ → ℕ → Token
+abbrev token_of : TokenKind → ℕ → ℕ → Token
 token_of k a b = record { kind = k; start = a; end = b }
 
 abbrev Begins : List ℕ → ℕ → Type 0
 Begins t a = (k : Token) × (k.start ≡ a) × IsToken t k
 
 -- one byte is the longest of its kind
-one_byte : (t : List ℕ) (k : Kind) (a : ℕ) → a < length t → HasForm t k a (a + 1) → ((c : ℕ) → HasForm t k a c → c ≡ a + 1) → IsMeant (slice_range t a (a + 1)) k → Begins t a
+one_byte : (t : List ℕ) (k : TokenKind) (a : ℕ) → a < length t → HasForm t k a (a + 1) → ((c : ℕ) → HasForm t k a c → c ≡ a + 1) → IsMeant (slice_range t a (a + 1)) k → Begins t a
 one_byte t k a less form one meant = (token_of k a (a + 1), refl, record { form = form; within = omega arith; longest = λ c more within f. omega (arith, one c f, more); meant = meant })
 
 text_token : (t : List ℕ) (a e : ℕ) → get_or t a 0 ≡ 34 → Body t (a + 1) e → get_or t e 0 ≡ 34 → e < length t → Begins t a
@@ -215,7 +215,7 @@ begins_or_broken t a less over begins broken =
 -- ---- the whole text
 
 read_on : (t : List ℕ) (n a : ℕ) (ks : List Token) → length t ≤ a + n → a ≤ length t → AreTokens t 0 ks a
-    → ((ks : List Token) → IsReadAs t ks → ⊥) → ((e : LexError) → IsFault t e → ⊥) → ⊥
+    → ((ks : List Token) → IsReadAs t ks → ⊥) → ((e : LexError) → IsLexFault t e → ⊥) → ⊥
 read_on t zero a ks fuel le tokens no_reading no_fault = let e : a ≡ length t = omega arith in no_reading ks (a, tokens, subst (λ (i : ℕ). Gap t a i) e none)
 read_on t (suc n) a ks fuel le tokens no_reading no_fault =
     gap_out t (length t) a (omega arith) le (λ g gap over within. by_end (λ b js f w h. read_on t n b js f w h no_reading no_fault) g gap over (cases_lt g (length t)) within)
@@ -231,5 +231,5 @@ read_on t (suc n) a ks fuel le tokens no_reading no_fault =
     by_end again g gap over (inr l) within = let e : g ≡ length t = omega arith in no_reading ks (a, tokens, subst (λ (i : ℕ). Gap t a i) e gap)
     by_end again g gap over (inl l) within = begins_or_broken t g l over (by_token again g gap) (λ e broken. no_fault e (ks, a, g, tokens, gap, broken))
 
-pub neither : (t : List ℕ) → ((ks : List Token) → IsReadAs t ks → ⊥) → ((e : LexError) → IsFault t e → ⊥) → ⊥
+pub neither : (t : List ℕ) → ((ks : List Token) → IsReadAs t ks → ⊥) → ((e : LexError) → IsLexFault t e → ⊥) → ⊥
 neither t no_reading no_fault = read_on t (length t) 0 [] (omega arith) (omega arith) refl no_reading no_fault

@@ -1,6 +1,6 @@
 -- What single bytes of an assembler text are, and what a text between quotes stands for (our own notation).
 use Rattle.std.specs.Prelude.{ℕ, ◌+◌, ◌<◌, ◌≤◌, Bool, ◌&&◌, ◌||◌, ◌==◌, if◌then◌else◌, List, [], ◌∷◌, length, slice_index, IsTrue}
-use Rattle.mx_line.specs.Bytes.{is_letter, begins_name}
+use Rattle.mx_text.specs.Bytes.{is_letter, begins_name}
 
 -- what may stand behind a backslash: n, 0, a quote, a backslash
 abbrev pub is_escape : ℕ → Bool
@@ -21,11 +21,11 @@ abbrev pub begins_word : List ℕ → ℕ → Bool
 begins_word t i = begins_name (slice_index t i) || (slice_index t i == 46 && is_letter (slice_index t (i + 1)))
 
 -- \n is a line feed, \0 a zero byte; a quote and a backslash are themselves
-abbrev pub escaped : ℕ → ℕ
-escaped b = if b == 110 then 10 else if b == 48 then 0 else b
+abbrev pub escape_value : ℕ → ℕ
+escape_value b = if b == 110 then 10 else if b == 48 then 0 else b
 
 -- the bytes that a text stands for, of what stands between its quotes
 abbrev pub text_value : List ℕ → List ℕ
 text_value [] = []
 text_value (b ∷ []) = b ∷ []
-text_value (b ∷ c ∷ bs) = if b == 92 then escaped c ∷ text_value bs else b ∷ text_value (c ∷ bs)
+text_value (b ∷ c ∷ bs) = if b == 92 then escape_value c ∷ text_value bs else b ∷ text_value (c ∷ bs)

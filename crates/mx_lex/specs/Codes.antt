@@ -3,8 +3,8 @@ use Rattle.std.specs.Prelude.{ℕ}
 use Rattle.mx_lex.specs.declared.kinds.LexError.{LexError}
 use Rattle.mx_lex.specs.declared.kinds.LexError.TheVariants.{BadByte, BadNumber, OpenText, NoMemory}
 
-abbrev pub code_of : LexError → ℕ
-code_of (BadByte at) = 1
-code_of (BadNumber at) = 2
-code_of (OpenText at) = 3
-code_of NoMemory = 90
+abbrev pub lex_error_code : LexError → ℕ
+lex_error_code (BadByte at) = 1
+lex_error_code (BadNumber at) = 2
+lex_error_code (OpenText at) = 3
+lex_error_code NoMemory = 90

@@ -1,12 +1,12 @@
 -- Which tokens an assembler text is made of (our own notation).
 use Rattle.std.specs.Prelude.{◌≡◌, ◌≢◌, ℕ, ◌+◌, ◌<◌, ◌≤◌, ◌⊎◌, true, false, List, [], ◌∷◌, length, slice_index, slice_range, ⊤}
-use Rattle.mx_line.specs.Bytes.{is_digit, is_word_byte}
-use Rattle.mx_line.specs.Numbers.{IsNumber}
+use Rattle.mx_text.specs.Bytes.{is_digit, is_word_byte}
+use Rattle.mx_text.specs.Numbers.{IsNumber}
 use Rattle.mx_lex.specs.Bytes.{is_escape, ends_at, AllFrom, begins_word}
 use Rattle.mx_lex.specs.declared.kinds.Mark.{Mark}
 use Rattle.mx_lex.specs.declared.kinds.Mark.TheVariants.{Open, Close, Plus, Minus, Star, Comma, Colon}
-use Rattle.mx_lex.specs.declared.kinds.Kind.{Kind}
-use Rattle.mx_lex.specs.declared.kinds.Kind.TheVariants as kinds
+use Rattle.mx_lex.specs.declared.kinds.TokenKind.{TokenKind}
+use Rattle.mx_lex.specs.declared.kinds.TokenKind.TheVariants as kinds
 use Rattle.mx_lex.specs.declared.kinds.Token.{Token}
 use Rattle.mx_lex.specs.declared.kinds.LexError.{LexError}
 use Rattle.mx_lex.specs.declared.kinds.LexError.TheVariants.{BadByte, BadNumber, OpenText, NoMemory}
@@ -31,7 +31,7 @@ mark_byte Comma = 44
 mark_byte Colon = 58
 
 -- the bytes from a up to b have the form of a kind: what begins with a digit runs on over letters, digits and _
-abbrev pub HasForm : List ℕ → Kind → ℕ → ℕ → Type 0
+abbrev pub HasForm : List ℕ → TokenKind → ℕ → ℕ → Type 0
 HasForm t kinds.LineFeed a b = (slice_index t a ≡ 10) × (b ≡ a + 1)
 HasForm t (kinds.Mark m) a b = (slice_index t a ≡ mark_byte m) × (b ≡ a + 1)
 HasForm t kinds.Word a b = (begins_word t a ≡ true) × (a < b) × AllFrom is_word_byte t (a + 1) b
@@ -39,7 +39,7 @@ HasForm t (kinds.Number n) a b = (is_digit (slice_index t a) ≡ true) × (a < b
 HasForm t kinds.Text a b = (slice_index t a ≡ 34) × (e : ℕ) × Body t (a + 1) e × (slice_index t e ≡ 34) × (b ≡ e + 1)
 
 -- a number is what its bytes spell
-abbrev pub IsMeant : List ℕ → Kind → Type 0
+abbrev pub IsMeant : List ℕ → TokenKind → Type 0
 IsMeant bytes (kinds.Number n) = IsNumber bytes n
 IsMeant bytes _ = ⊤
 
@@ -95,16 +95,16 @@ abbrev pub IsReadAs : List ℕ → List Token → Type 0
 IsReadAs t ks = (b : ℕ) × AreTokens t 0 ks b × Gap t b (length t)
 
 -- the first fault: before it stand tokens and a gap
-abbrev pub IsFault : List ℕ → LexError → Type 0
-IsFault t e = (ks : List Token) × (b a : ℕ) × AreTokens t 0 ks b × Gap t b a × BrokenAt t a e
+abbrev pub IsLexFault : List ℕ → LexError → Type 0
+IsLexFault t e = (ks : List Token) × (b a : ℕ) × AreTokens t 0 ks b × Gap t b a × BrokenAt t a e
 
 -- the same, want of memory aside
-abbrev pub TellsFault : List ℕ → LexError → Type 0
-TellsFault t NoMemory = ⊤
-TellsFault t e = IsFault t e
+abbrev pub TellsLexFault : List ℕ → LexError → Type 0
+TellsLexFault t NoMemory = ⊤
+TellsLexFault t e = IsLexFault t e
 
 -- a text has two quotes, another token a byte at least
-abbrev pub least : Kind → ℕ
+abbrev pub least : TokenKind → ℕ
 least kinds.Text = 2
 least _ = 1
 

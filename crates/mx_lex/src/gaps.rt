@@ -1,11 +1,11 @@
 //! Blanks, comments and the ends of lines.
 
 ghost use Rattle.std.specs.Prelude.{◌≡◌, ◌≢◌, ◌⊎◌, ℕ, ◌<◌, ◌≤◌, length, slice_index, false};
-ghost use Rattle.mx_line.specs.Bytes.{is_word_byte};
+ghost use Rattle.mx_text.specs.Bytes.{is_word_byte};
 ghost use Rattle.mx_lex.specs.Bytes.{ends_at, AllFrom};
 ghost use Rattle.mx_lex.specs.Tokens.{Gap, IsOver};
 
-use mx_line::is_word_byte;
+use mx_text::is_word_byte;
 
 /// Whether a line ends at a place: the text's end or a line feed stands there, or a carriage
 /// return before one of these.

@@ -1,7 +1,7 @@
 //! What a token is, and what is told of a text that isn't made of tokens.
 
 ghost use Rattle.std.specs.Prelude.{◌≡◌};
-ghost use Rattle.mx_lex.specs.Codes.{code_of};
+ghost use Rattle.mx_lex.specs.Codes.{lex_error_code};
 
 use std::alloc::{AllocError, AllocFailed};
 
@@ -19,7 +19,7 @@ pub enum Mark {
 
 /// What a token is. A word begins with a letter, an underscore, or a dot before a letter.
 #[derive(Clone, Copy, Debug, PartialEq, Eq)]
-pub enum Kind {
+pub enum TokenKind {
     LineFeed,
     Mark(Mark),
     Word,
@@ -31,7 +31,7 @@ pub enum Kind {
 /// A slice of the text, from one offset up to another.
 #[derive(Clone, Copy, Debug, PartialEq, Eq)]
 pub struct Token {
-    pub kind: Kind,
+    pub kind: TokenKind,
     pub start: usize,
     pub end: usize,
 }
@@ -51,7 +51,7 @@ pub enum LexError {
 impl LexError {
     /// The number that messages tell.
     pub fn code(self) -> u8
-        ensures { result ≡ code_of self }
+        ensures { result ≡ lex_error_code self }
     {
         match self {
             LexError::BadByte(_) => 1,

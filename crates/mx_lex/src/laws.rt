@@ -3,7 +3,7 @@
 ghost use Rattle.std.specs.Prelude.{◌≡◌, ◌≤◌, ℕ, List, length};
 ghost use Rattle.mx_lex.specs.declared.kinds.LexError.{LexError};
 ghost use Rattle.mx_lex.specs.declared.kinds.Token.{Token};
-ghost use Rattle.mx_lex.specs.Tokens.{Gap, IsOver, IsReadAs, IsFault};
+ghost use Rattle.mx_lex.specs.Tokens.{Gap, IsOver, IsReadAs, IsLexFault};
 
 /// A gap that ends where no other begins has one end.
 pub fn gap_has_one_end()
@@ -17,11 +17,11 @@ pub fn one_reading()
 
 /// A text has a reading or a fault, and not both: none has neither.
 pub fn reading_or_fault()
-    ensures not_both { (t : List ℕ) (ks : List Token) (e : LexError) → IsReadAs t ks → IsFault t e → ⊥ }
-    ensures not_neither { (t : List ℕ) → ((ks : List Token) → IsReadAs t ks → ⊥) → ((e : LexError) → IsFault t e → ⊥) → ⊥ }
+    ensures not_both { (t : List ℕ) (ks : List Token) (e : LexError) → IsReadAs t ks → IsLexFault t e → ⊥ }
+    ensures not_neither { (t : List ℕ) → ((ks : List Token) → IsReadAs t ks → ⊥) → ((e : LexError) → IsLexFault t e → ⊥) → ⊥ }
 {}
 
 /// A text has one fault at most.
 pub fn one_fault()
-    ensures { (t : List ℕ) (e f : LexError) → IsFault t e → IsFault t f → e ≡ f }
+    ensures { (t : List ℕ) (e f : LexError) → IsLexFault t e → IsLexFault t f → e ≡ f }
 {}

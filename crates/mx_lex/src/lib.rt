@@ -8,7 +8,7 @@ mod reading;
 mod scan;
 mod text;
 
-pub use kinds::{Kind, LexError, Mark, Token};
+pub use kinds::{LexError, Mark, Token, TokenKind};
 pub use laws::{gap_has_one_end, one_fault, one_reading, reading_or_fault};
 pub use reading::{tokens, tokens_in};
 pub use text::text_bytes;

@@ -1,7 +1,7 @@
 //! The tokens of a text.
 
 ghost use Rattle.std.specs.Prelude.{IfOk, IfErr, All};
-ghost use Rattle.mx_lex.specs.Tokens.{IsReadAs, IsSlice, TellsFault};
+ghost use Rattle.mx_lex.specs.Tokens.{IsReadAs, IsSlice, TellsLexFault};
 
 use crate::gaps::gap_end;
 use crate::kinds::{LexError, Token};
@@ -12,7 +12,7 @@ use std::alloc::Global;
 pub fn tokens_in(alloc: Global, bytes: &[u8]) -> Result<Vec<Token>, LexError>
     ensures tokens { IfOk result (λ found. IsReadAs bytes.now found.items) }
     ensures slices { IfOk result (λ found. All (IsSlice bytes.now) found.items) }
-    ensures fault { IfErr result (λ e. TellsFault bytes.now e) }
+    ensures fault { IfErr result (λ e. TellsLexFault bytes.now e) }
 {
     let mut found = Vec::new(alloc);
     let mut at = gap_end(bytes, 0);
@@ -28,7 +28,7 @@ pub fn tokens_in(alloc: Global, bytes: &[u8]) -> Result<Vec<Token>, LexError>
 /// elsewhere a byte that isn't ASCII begins no token.
 pub fn tokens(alloc: Global, text: &str) -> Result<Vec<Token>, LexError>
     ensures tokens { IfOk result (λ found. IsReadAs text.now found.items) }
-    ensures fault { IfErr result (λ e. TellsFault text.now e) }
+    ensures fault { IfErr result (λ e. TellsLexFault text.now e) }
 {
     tokens_in(alloc, text.as_bytes())
 }

@@ -1,14 +1,14 @@
 //! One token.
 
 ghost use Rattle.std.specs.Prelude.{◌≡◌, ◌≢◌, ◌<◌, length, slice_index, true, MatchOption, IfOk, IfErr};
-ghost use Rattle.mx_line.specs.Bytes.{is_digit};
+ghost use Rattle.mx_text.specs.Bytes.{is_digit};
 ghost use Rattle.mx_lex.specs.Bytes.{begins_word};
 ghost use Rattle.mx_lex.specs.Tokens.{IsOver, IsToken, BrokenAt, mark_byte};
 
 use crate::gaps::run_end;
-use crate::kinds::{Kind, LexError, Mark, Token};
+use crate::kinds::{LexError, Mark, Token, TokenKind};
 use crate::text::quote_at;
-use mx_line::{begins_name, is_digit, is_letter, number_of};
+use mx_text::{begins_name, is_digit, is_letter, number_of};
 
 fn mark_of(byte: u8) -> Option<Mark>
     ensures { MatchOption result ((m : Mark) → byte ≢ mark_byte m) (λ m. byte ≡ mark_byte m) }
@@ -45,7 +45,7 @@ fn number_at(bytes: &[u8], start: usize) -> Result<Token, LexError>
     match number_of(&bytes[start..end]) {
         None => Err(LexError::BadNumber(start)),
         Some(number) => Ok(Token {
-            kind: Kind::Number(number),
+            kind: TokenKind::Number(number),
             start,
             end,
         }),
@@ -62,7 +62,7 @@ fn text_at(bytes: &[u8], start: usize) -> Result<Token, LexError>
 {
     let end = quote_at(bytes, start + 1)? + 1;
     Ok(Token {
-        kind: Kind::Text,
+        kind: TokenKind::Text,
         start,
         end,
     })
@@ -79,14 +79,14 @@ pub fn token_at(bytes: &[u8], start: usize) -> Result<Token, LexError>
     let byte = bytes[start];
     if byte == b'\n' {
         return Ok(Token {
-            kind: Kind::LineFeed,
+            kind: TokenKind::LineFeed,
             start,
             end: start + 1,
         });
     }
     if let Some(mark) = mark_of(byte) {
         return Ok(Token {
-            kind: Kind::Mark(mark),
+            kind: TokenKind::Mark(mark),
             start,
             end: start + 1,
         });
@@ -102,7 +102,7 @@ pub fn token_at(bytes: &[u8], start: usize) -> Result<Token, LexError>
     }
     let end = run_end(bytes, start + 1);
     Ok(Token {
-        kind: Kind::Word,
+        kind: TokenKind::Word,
         start,
         end,
     })

@@ -1,7 +1,7 @@
 //! Texts between quotes.
 
 ghost use Rattle.std.specs.Prelude.{◌≡◌, ◌<◌, ◌≤◌, length, slice_index, IfOk, IfErr};
-ghost use Rattle.mx_lex.specs.Bytes.{ends_at, is_escape, escaped, text_value};
+ghost use Rattle.mx_lex.specs.Bytes.{ends_at, is_escape, escape_value, text_value};
 ghost use Rattle.mx_lex.specs.Tokens.{Body, IsBrokenText};
 
 use crate::gaps::ends_at;
@@ -42,7 +42,7 @@ pub fn quote_at(bytes: &[u8], start: usize) -> Result<usize, LexError>
 }
 
 fn escaped(byte: u8) -> u8
-    ensures { result ≡ escaped byte }
+    ensures { result ≡ escape_value byte }
 {
     match byte {
         b'n' => b'\n',

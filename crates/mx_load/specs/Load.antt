@@ -6,7 +6,7 @@ use Rattle.mx_exec.specs.declared.image.Code.{Code}
 use Rattle.mx_exec.specs.declared.image.Code.TheVariants.{Separate, Shared}
 use Rattle.mx_exec.specs.declared.image.Image.{Image}
 use Rattle.mx_exec.specs.Lasting.{lasting}
-use Rattle.mx_aout.specs.Limits.{rounded}
+use Rattle.mx_aout.specs.Limits.{rounded_to_pages}
 use Rattle.mx_aout.specs.declared.program.Program.{Program}
 
 -- what the data segment begins with: the text, where it isn't separate, and the data
@@ -21,15 +21,15 @@ abbrev pub code_of_text : Bool → List ℕ → Code
 code_of_text sep text = if sep then Separate text else Shared
 
 -- the data segment ends at the rounded total, where ESP begins; EIP is the entry, all else is 0
-abbrev pub loaded : Program → Image
-loaded p = record {
-  regs = record no_words { esp = rounded p.total };
+abbrev pub image_of_program : Program → Image
+image_of_program p = record {
+  regs = record no_words { esp = rounded_to_pages p.total };
   eip = p.entry;
   flags = values_of 0;
-  memory = filled_to (rounded p.total) (contents_of p.sep p.text p.init);
+  memory = filled_to (rounded_to_pages p.total) (contents_of p.sep p.text p.init);
   code = code_of_text p.sep p.text;
 }
 
 -- the image was loaded from the program, whatever it did since: what no step changes is that of the program
 abbrev pub IsLoadedFrom : Image → Program → Type 0
-IsLoadedFrom m p = lasting m ≡ (code_of_text p.sep p.text, rounded p.total)
+IsLoadedFrom m p = lasting m ≡ (code_of_text p.sep p.text, rounded_to_pages p.total)

@@ -2,12 +2,12 @@
 
 ghost use Rattle.std.specs.Prelude.{◌≡◌, ◌+◌, ◌≤◌, ◌++◌, IfOk, length, take, drop};
 ghost use Rattle.mx_flags.specs.Flags.{values_of};
-ghost use Rattle.mx_aout.specs.Limits.{rounded, IsWithin};
+ghost use Rattle.mx_aout.specs.Limits.{rounded_to_pages, IsWithin};
 ghost use Rattle.mx_regs.specs.Regs.{no_words};
-ghost use Rattle.mx_load.specs.Load.{IsLoadedFrom, contents_of, code_of_text, filled_to, loaded};
+ghost use Rattle.mx_load.specs.Load.{IsLoadedFrom, contents_of, code_of_text, filled_to, image_of_program};
 
 use mx_aout::Program;
-use mx_exec::{Code, Image, Text};
+use mx_exec::{Code, Image, TextSegment};
 use mx_flags::Flags;
 use mx_mem::Segment;
 use mx_regs::Regs;
@@ -40,7 +40,7 @@ fn fill(segment: &mut Segment, at: u32, bytes: &[u8])
 
 /// The data segment's limit.
 fn limit_of(program: &Program) -> u32
-    ensures value { result ≡ rounded program.now.total }
+    ensures value { result ≡ rounded_to_pages program.now.total }
     ensures within { IsWithin program.now.sep program.now.total (length program.now.text) (length program.now.init) program.now.bss (length program.now.symbols) }
 {
     ((u64::from(program.total) + 4095) / 4096 * 4096) as u32
@@ -78,12 +78,12 @@ fn code_of(alloc: Global, program: &Program) -> Result<Code, NoMemory>
     }
     let bytes = program.text.as_slice();
     let text = segment(alloc, bytes.len() as u32, bytes, &[])?;
-    Ok(Code::Separate(Text::new(text)))
+    Ok(Code::Separate(TextSegment::new(text)))
 }
 
 /// The image of a program. Takes memory for its segments.
 pub fn load(alloc: Global, program: &Program) -> Result<Image, NoMemory>
-    ensures image { IfOk result (λ image. image ≡ loaded program.now) }
+    ensures image { IfOk result (λ image. image ≡ image_of_program program.now) }
     ensures from { IfOk result (λ image. IsLoadedFrom image program.now) }
 {
     let limit = limit_of(program);
@@ -110,7 +110,7 @@ fn image(eip: u32, regs: Regs, memory: Segment, code: Code) -> Image
 /// since. Takes no memory.
 pub fn refill(image: &mut Image, program: &Program)
     requires { IsLoadedFrom image.old program.now }
-    ensures image { image.new ≡ loaded program.now }
+    ensures image { image.new ≡ image_of_program program.now }
     ensures from { IsLoadedFrom image.new program.now }
 {
     refill_memory(&mut image.memory, program);
@@ -121,8 +121,8 @@ pub fn refill(image: &mut Image, program: &Program)
 
 /// Writes what the data segment begins with, and zeros behind it.
 fn refill_memory(memory: &mut Segment, program: &Program)
-    requires { length memory.old ≡ rounded program.now.total }
-    ensures { memory.new ≡ (loaded program.now).memory }
+    requires { length memory.old ≡ rounded_to_pages program.now.total }
+    ensures { memory.new ≡ (image_of_program program.now).memory }
 {
     memory.clear();
     let init = program.init.as_slice();

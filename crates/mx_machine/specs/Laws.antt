@@ -1,14 +1,14 @@
 -- Laws of events.
 use Rattle.std.specs.Prelude.{ℕ, ◌≡◌, ◌≢◌, All, IsOk}
-use Rattle.mx_world.specs.declared.events.Event.{Event}
-use Rattle.mx_world.specs.declared.events.Event.TheVariants.{Step, Take, Back}
-use Rattle.mx_world.specs.Whole.{Whole}
-use Rattle.mx_world.specs.History.{Kept, unfolded, replay}
-use Rattle.mx_world.specs.Move.{move, moves}
+use Rattle.mx_machine_world.specs.declared.events.Event.{Event}
+use Rattle.mx_machine_world.specs.declared.events.Event.TheVariants.{Step, Take, Back}
+use Rattle.mx_machine_world.specs.World.{World}
+use Rattle.mx_machine_world.specs.History.{BootAndHistory, events_of_history, replay}
+use Rattle.mx_machine_world.specs.Move.{move, moves}
 use Rattle.mx_machine.specs.Machine.{IsActor}
 
 -- two events may change places: in both orders each has the same answer, and the world after them is the same
-pub record ChangePlaces (w : Whole) (a : ℕ) (x : Event) (b : ℕ) (y : Event) : Type 0 where
+pub record ChangePlaces (w : World) (a : ℕ) (x : Event) (b : ℕ) (y : Event) : Type 0 where
   pub first : (move (move w b y).1 a x).0 ≡ (move w a x).0
   pub second : (move (move w a x).1 b y).0 ≡ (move w b y).0
   pub world : (move (move w a x).1 b y).1 ≡ (move (move w b y).1 a x).1
@@ -21,12 +21,12 @@ IsOthers c a Back = a ≢ c
 IsOthers c a _ = Unit {0}
 
 -- a history replays: each event that it stands for is accepted, and they lead to its replay
-pub record Replays (k : Kept) : Type 0 where
-  pub accepted : All IsOk (moves k.boot (unfolded k.history)).0
-  pub world : (moves k.boot (unfolded k.history)).1 ≡ replay k
+pub record Replays (k : BootAndHistory) : Type 0 where
+  pub accepted : All IsOk (moves k.boot (events_of_history k.history)).0
+  pub world : (moves k.boot (events_of_history k.history)).1 ≡ replay k
 
 -- so does a machine that begins where it began: it may run the events that the history stands for, each is accepted, and they lead to the replay
-pub record RunsAgain (w : Whole) (k : Kept) : Type 0 where
-  pub may : All (λ (x : ℕ × Event). IsActor w x.0 x.1) (unfolded k.history)
-  pub accepted : All IsOk (moves w (unfolded k.history)).0
-  pub world : (moves w (unfolded k.history)).1 ≡ replay k
+pub record RunsAgain (w : World) (k : BootAndHistory) : Type 0 where
+  pub may : All (λ (x : ℕ × Event). IsActor w x.0 x.1) (events_of_history k.history)
+  pub accepted : All IsOk (moves w (events_of_history k.history)).0
+  pub world : (moves w (events_of_history k.history)).1 ≡ replay k

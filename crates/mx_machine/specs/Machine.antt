@@ -1,34 +1,34 @@
 -- The machine of one thread: a kernel, and what its processors hold.
 use Rattle.std.specs.Prelude.{ℕ, true, ◌≡◌, ◌<◌, ◌≤◌, List, ◌∷◌, Option, Some, None, Result, Ok, Err, length, slice_index_or, if◌then◌else◌}
-use Rattle.mx_world.specs.declared.events.Answer.{Answer}
-use Rattle.mx_world.specs.declared.events.Answer.TheVariants.{Went}
-use Rattle.mx_world.specs.declared.events.Event.{Event}
-use Rattle.mx_world.specs.declared.events.Refusal.{Refusal}
-use Rattle.mx_world.specs.declared.events.Refusal.TheVariants.{AtStop, CpuEmpty}
-use Rattle.mx_world.specs.declared.holding.Out.{Out}
-use Rattle.mx_world.specs.Whole.{Whole, Lent, actors, held_by}
-use Rattle.mx_world.specs.Held.{IsBack, held_run, outcome_of_step, stepped}
-use Rattle.mx_world.specs.Move.{at_stop}
-use Rattle.mx_world.specs.History.{Kept, AreAccepted, after_events, replay}
-use Rattle.mx_world.specs.Steps.{steps_of}
-use Rattle.mx_kernel.specs.Situation.{is_for_all}
+use Rattle.mx_machine_world.specs.declared.events.Answer.{Answer}
+use Rattle.mx_machine_world.specs.declared.events.Answer.TheVariants.{Went}
+use Rattle.mx_machine_world.specs.declared.events.Event.{Event}
+use Rattle.mx_machine_world.specs.declared.events.Refusal.{Refusal}
+use Rattle.mx_machine_world.specs.declared.events.Refusal.TheVariants.{AtStop, CpuEmpty}
+use Rattle.mx_machine_world.specs.declared.holding.Out.{Out}
+use Rattle.mx_machine_world.specs.World.{World, HeldProcess, actors, held_by}
+use Rattle.mx_machine_world.specs.Held.{IsBack, held_run, outcome_of_step, out_after_step}
+use Rattle.mx_machine_world.specs.Move.{at_stop}
+use Rattle.mx_machine_world.specs.History.{BootAndHistory, AreAccepted, world_after_events, replay}
+use Rattle.mx_machine_world.specs.Steps.{steps_of}
+use Rattle.mx_machine_kernel.specs.KernelState.{is_for_all}
 
 -- What a machine is seen as: its kernel, and what each processor holds.
-pub record Running : Type 0 where
-  pub kernel : Kept
+pub record MachineState : Type 0 where
+  pub kernel : BootAndHistory
   pub outs : List (Option Out)
 
 -- what the kernel shows as lent, as the processor holds it now
-abbrev pub held_now : Option Lent → Option Out → Option Lent
+abbrev pub held_now : Option HeldProcess → Option Out → Option HeldProcess
 held_now (Some l) (Some o) = Some (record l { out = o })
 held_now lent _ = lent
 
-abbrev pub all_held_now : List (Option Lent) → List (Option Out) → List (Option Lent)
+abbrev pub all_held_now : List (Option HeldProcess) → List (Option Out) → List (Option HeldProcess)
 all_held_now (l ∷ ls) (o ∷ os) = held_now l o ∷ all_held_now ls os
 all_held_now ls _ = ls
 
 -- THE WORLD of a machine: its kernel's, but that a processor's process stands where the processor has brought it
-unfoldable pub world_of : Running → Whole
+unfoldable pub world_of : MachineState → World
 world_of m = let w = replay m.kernel in record w { cpus = all_held_now w.cpus m.outs }
 
 -- What a processor holds is what it was lent, after a run of the steps that it counts.
@@ -37,29 +37,29 @@ pub record IsRunOf (lent out : Out) : Type 0 where
   pub within : out.count ≤ out.budget
 
 -- a processor holds something exactly where it was lent something
-abbrev pub IsHeld : Option Lent → Option Out → Type 0
+abbrev pub IsHeld : Option HeldProcess → Option Out → Type 0
 IsHeld (Some l) (Some o) = IsRunOf l.out o
 IsHeld None None = Unit {0}
 IsHeld _ _ = ⊥
 
 -- What always holds of a machine.
-pub record IsRunning (m : Running) : Type 0 where
+pub record IsMachineState (m : MachineState) : Type 0 where
   pub few : length (replay m.kernel).cpus ≤ 8
   pub places : length m.outs ≡ 8
   pub each : (a : ℕ) → IsHeld (held_by (replay m.kernel) a) (slice_index_or m.outs a None)
 
 -- A tool has worked with what a processor holds: the world is that after the steps of its run, none of which is refused.
-pub record HasWorked (w u : Whole) (a j : ℕ) (l : Lent) : Type 0 where
+pub record HasWorked (w u : World) (a j : ℕ) (l : HeldProcess) : Type 0 where
   pub held : held_by w a ≡ Some l
   pub accepted : AreAccepted w (steps_of a (held_run j l.out).0.0)
-  pub world : u ≡ after_events w (steps_of a (held_run j l.out).0.0)
+  pub world : u ≡ world_after_events w (steps_of a (held_run j l.out).0.0)
   pub out : held_by u a ≡ Some (record l { out = (held_run j l.out).1 })
 
 -- one step of what a processor holds
-abbrev pub stepped_held : Option Out → Result Answer Refusal × Option Out
-stepped_held None = (Err CpuEmpty, None)
-stepped_held (Some o) = if at_stop o then (Err AtStop, Some o) else (Ok (Went (outcome_of_step o)), Some (stepped o))
+abbrev pub hold_after_step : Option Out → Result Answer Refusal × Option Out
+hold_after_step None = (Err CpuEmpty, None)
+hold_after_step (Some o) = if at_stop o then (Err AtStop, Some o) else (Ok (Went (outcome_of_step o)), Some (out_after_step o))
 
 -- who raises lines, lets the clock tick, kills and respawns is one of the actors
-abbrev pub IsActor : Whole → ℕ → Event → Type 0
+abbrev pub IsActor : World → ℕ → Event → Type 0
 IsActor w a x = is_for_all x ≡ true → a < actors w

@@ -7,8 +7,8 @@ mod steps;
 
 pub use laws::{histories_replay, runs_again, steps_change_places};
 pub use machine::Machine;
-pub use mx_kernel::{Kernel, Service};
-pub use mx_world::{
+pub use mx_machine_kernel::{Kernel, Service};
+pub use mx_machine_world::{
     Answer, Config, Event, FileName, Held, Out, Record, Recorded, Refusal, ServiceLine,
     ServiceLines,
 };

@@ -2,22 +2,22 @@
 
 ghost use Rattle.std.specs.Prelude.{◌≡◌, ℕ, true, ◌+◌, ◌<◌, ◌≤◌, ◌++◌, ◌∷◌, [], All, Ok, None, Some, IsSome, IfSome, IfErr, OnOk, OnErr, MatchOption, vec_len, vec_capacity};
 ghost use Rattle.std.specs.Option.{option_map};
-ghost use Rattle.mx_proc.specs.World.{endpoint_of};
-ghost use Rattle.mx_world.specs.declared.events.Event.TheVariants as events;
-ghost use Rattle.mx_world.specs.declared.events.Refusal.TheVariants.{CpuEmpty};
-ghost use Rattle.mx_world.specs.History.{replay};
-ghost use Rattle.mx_world.specs.Move.{move, moves};
-ghost use Rattle.mx_world.specs.Sound.{IsSound};
-ghost use Rattle.mx_world.specs.Whole.{Lent, actors, held_by, out_count};
-ghost use Rattle.mx_kernel.specs.Situation.{is_for_all};
-ghost use Rattle.mx_machine.specs.Machine.{HasWorked, IsActor, IsRunning, world_of};
+ghost use Rattle.mx_proc.specs.TableState.{endpoint_of};
+ghost use Rattle.mx_machine_world.specs.declared.events.Event.TheVariants as events;
+ghost use Rattle.mx_machine_world.specs.declared.events.Refusal.TheVariants.{CpuEmpty};
+ghost use Rattle.mx_machine_world.specs.History.{replay};
+ghost use Rattle.mx_machine_world.specs.Move.{move, moves};
+ghost use Rattle.mx_machine_world.specs.Sound.{IsSound};
+ghost use Rattle.mx_machine_world.specs.World.{HeldProcess, actors, held_by, out_count};
+ghost use Rattle.mx_machine_kernel.specs.KernelState.{is_for_all};
+ghost use Rattle.mx_machine.specs.Machine.{HasWorked, IsActor, IsMachineState, world_of};
 
 use crate::steps::{Tool, step_held, work_held};
 use mx_exec::Image;
-use mx_kernel::Kernel;
+use mx_machine_kernel::Kernel;
+use mx_machine_world::{Answer, Event, Out, Refusal, actors_stay, held_runs_join, runs_are_steps};
 use mx_proc::{Endpoint, Slot};
 use mx_word::NoMemory;
-use mx_world::{Answer, Event, Out, Refusal, actors_stay, held_runs_join, runs_are_steps};
 use std::marker::Model;
 use std::mem;
 
@@ -29,13 +29,13 @@ pub struct Machine {
 }
 
 impl Model for Machine {
-    ghost use Rattle.mx_machine.specs.Machine.{Running, IsRunning};
+    ghost use Rattle.mx_machine.specs.Machine.{MachineState, IsMachineState};
 
-    ghost Value = { Running };
+    ghost Value = { MachineState };
 
     ghost view = { λ m. record { kernel = m.kernel; outs = m.outs } };
 
-    ghost invariant = { λ m. IsRunning (record { kernel = m.kernel; outs = m.outs }) };
+    ghost invariant = { λ m. IsMachineState (record { kernel = m.kernel; outs = m.outs }) };
 }
 
 /// The endpoint of the process that is on a processor.
@@ -93,7 +93,7 @@ impl Machine {
 
     /// The image that a processor holds, as it is now.
     pub fn image(&self, cpu: u8) -> Option<&Image>
-        ensures { MatchOption result (held_by (world_of self.now) cpu ≡ None) (λ image. (l : Lent) × (held_by (world_of self.now) cpu ≡ Some l) × (image.now ≡ l.out.image)) }
+        ensures { MatchOption result (held_by (world_of self.now) cpu ≡ None) (λ image. (l : HeldProcess) × (held_by (world_of self.now) cpu ≡ Some l) × (image.now ≡ l.out.image)) }
     {
         self.opened();
         if cpu as usize >= self.outs.len() {
@@ -107,14 +107,14 @@ impl Machine {
 
     /// The slot whose process a processor holds.
     pub fn slot_on(&self, cpu: u8) -> Option<Slot>
-        ensures { result ≡ option_map (λ (l : Lent). l.slot) (held_by (world_of self.now) cpu) }
+        ensures { result ≡ option_map (λ (l : HeldProcess). l.slot) (held_by (world_of self.now) cpu) }
     {
         self.kernel.slot_on(cpu)
     }
 
     /// Lends what a processor holds to a tool.
     pub fn work<T: Tool>(&mut self, cpu: u8, tool: &mut T) -> Result<(), Refusal>
-        ensures ok { OnOk result ((l : Lent) × HasWorked (world_of self.old) (world_of self.new) cpu (T.steps tool.old l.out) l × T.Becomes tool.old l.out tool.new) }
+        ensures ok { OnOk result ((l : HeldProcess) × HasWorked (world_of self.old) (world_of self.new) cpu (T.steps tool.old l.out) l × T.Becomes tool.old l.out tool.new) }
         ensures err { IfErr result (λ refusal. (refusal ≡ CpuEmpty) × (held_by (world_of self.old) cpu ≡ None) × (self.new ≡ self.old) × (tool.new ≡ tool.old)) }
         ensures kernel { self.new.kernel ≡ self.old.kernel }
         ensures actors { actors (world_of self.new) ≡ actors (world_of self.old) }
@@ -219,7 +219,7 @@ impl Machine {
     /// Opens to a proof what always holds of a machine: what a processor holds is what the kernel lent
     /// it, after a run.
     pub fn opened(&self)
-        ensures { IsRunning self.now }
+        ensures { IsMachineState self.now }
     {
         let _kernel = &self.kernel;
     }

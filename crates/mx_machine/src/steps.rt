@@ -2,16 +2,16 @@
 
 ghost use Rattle.std.specs.Prelude.{◌≡◌, ℕ, ◌+◌, ◌<◌, ◌^◌, true, false, IfOk, IfErr, IfSome, OnOk, None, Some};
 ghost use Rattle.mx_exec.specs.Lasting.{lasting};
-ghost use Rattle.mx_world.specs.declared.events.Answer.TheVariants.{Went};
-ghost use Rattle.mx_world.specs.declared.events.Refusal.TheVariants.{AtStop, CpuEmpty};
-ghost use Rattle.mx_world.specs.declared.holding.Out.{Out};
-ghost use Rattle.mx_world.specs.Held.{held_run, outcome_of_step, stepped, stop_of};
-ghost use Rattle.mx_world.specs.Move.{at_stop};
-ghost use Rattle.mx_machine.specs.Machine.{stepped_held};
+ghost use Rattle.mx_machine_world.specs.declared.events.Answer.TheVariants.{Went};
+ghost use Rattle.mx_machine_world.specs.declared.events.Refusal.TheVariants.{AtStop, CpuEmpty};
+ghost use Rattle.mx_machine_world.specs.declared.holding.Out.{Out};
+ghost use Rattle.mx_machine_world.specs.Held.{held_run, outcome_of_step, out_after_step, stop_of_outcome};
+ghost use Rattle.mx_machine_world.specs.Move.{at_stop};
+ghost use Rattle.mx_machine.specs.Machine.{hold_after_step};
 
 use mx_exec::{Outcome, step};
 use mx_image::Stop;
-use mx_world::{Answer, Out, Refusal};
+use mx_machine_world::{Answer, Out, Refusal};
 
 /// What makes steps with what a processor holds, as a debugger does.
 pub trait Tool {
@@ -30,7 +30,7 @@ pub trait Tool {
 
 /// How a step that ended so leaves its process.
 fn stop_of(outcome: Outcome) -> Stop
-    ensures { result ≡ stop_of outcome }
+    ensures { result ≡ stop_of_outcome outcome }
 {
     match outcome {
         Outcome::Go => Stop::Spent,
@@ -51,10 +51,10 @@ fn at_stop(out: &Out) -> bool
 }
 
 /// One step of what a processor holds, unless it is at a stop.
-#[tactic(auto, unfolding(mx_world::specs::Held::stepped, mx_world::specs::Held::outcome_of_step))]
+#[tactic(auto, unfolding(mx_machine_world::specs::Held::out_after_step, mx_machine_world::specs::Held::outcome_of_step))]
 fn step_of(out: &mut Out) -> Result<Answer, Refusal>
     ensures stop { IfErr result (λ refusal. (refusal ≡ AtStop) × (at_stop out.old ≡ true) × (out.new ≡ out.old)) }
-    ensures went { IfOk result (λ answer. (answer ≡ Went (outcome_of_step out.old)) × (at_stop out.old ≡ false) × (out.new ≡ stepped out.old)) }
+    ensures went { IfOk result (λ answer. (answer ≡ Went (outcome_of_step out.old)) × (at_stop out.old ≡ false) × (out.new ≡ out_after_step out.old)) }
     ensures lasting { lasting out.new.image ≡ lasting out.old.image }
 {
     if at_stop(out) {
@@ -68,7 +68,7 @@ fn step_of(out: &mut Out) -> Result<Answer, Refusal>
 
 /// One step of what a processor holds, if it holds anything.
 pub(crate) fn step_held(held: &mut Option<Out>) -> Result<Answer, Refusal>
-    ensures value { stepped_held held.old ≡ (result, held.new) }
+    ensures value { hold_after_step held.old ≡ (result, held.new) }
     ensures lasting { IfSome held.old (λ o. IfSome held.new (λ p. lasting p.image ≡ lasting o.image)) }
 {
     match held {

@@ -2,7 +2,7 @@
 
 ghost use Rattle.std.specs.Prelude.{◌≡◌, ◌+◌, ◌^◌, ◌<◌, ◌≤◌, Ok, Err, OnOk, OnErr, IfOk, IfSome, [], length, slice_get, ℕ, slice_index, replicate, take, drop};
 ghost use Rattle.mx_word.specs.Word.{width, bytes_in, value_at};
-ghost use Rattle.mx_mem.specs.Segment.{inside, read_at, with_value, written, copied, overwritten};
+ghost use Rattle.mx_mem.specs.Segment.{inside, read_at, with_value, bytes_after_write, bytes_after_copy, with_bytes_at};
 
 mod copies;
 
@@ -61,7 +61,7 @@ fn write_value(bytes: &mut [u8], at: usize, size: Size, value: u32)
 #[inline(always)]
 fn overwrite(bytes: &mut [u8], at: usize, source: &[u8])
     requires { at + length source.now ≤ length bytes.old }
-    ensures { bytes.new ≡ overwritten bytes.old at source.now }
+    ensures { bytes.new ≡ with_bytes_at bytes.old at source.now }
 {
     bytes[at..at + source.len()].copy_from_slice(source);
 }
@@ -156,8 +156,8 @@ impl Segment {
     #[tactic(auto, unfolding(crate::specs::Segment::up_to, crate::specs::Segment::IsPadded))]
     pub fn write(&mut self, at: u32, size: Size, value: u32) -> Result<(), OutOfLimit>
         requires { value < 2 ^ width size }
-        ensures ok { OnOk result (written self.old at size value ≡ Ok self.new) }
-        ensures err { OnErr result ((written self.old at size value ≡ Err (record {})) × (self.new ≡ self.old)) }
+        ensures ok { OnOk result (bytes_after_write self.old at size value ≡ Ok self.new) }
+        ensures err { OnErr result ((bytes_after_write self.old at size value ≡ Err (record {})) × (self.new ≡ self.old)) }
     {
         if !self.holds(at, size) {
             return Err(OutOfLimit);
@@ -168,8 +168,8 @@ impl Segment {
 
     /// Copies bytes to a place. A refusal changes nothing.
     pub fn fill_from(&mut self, at: u32, bytes: &[u8]) -> Result<(), OutOfLimit>
-        ensures ok { OnOk result (copied self.old at bytes.now ≡ Ok self.new) }
-        ensures err { OnErr result ((copied self.old at bytes.now ≡ Err (record {})) × (self.new ≡ self.old)) }
+        ensures ok { OnOk result (bytes_after_copy self.old at bytes.now ≡ Ok self.new) }
+        ensures err { OnErr result ((bytes_after_copy self.old at bytes.now ≡ Err (record {})) × (self.new ≡ self.old)) }
     {
         let place = at as usize;
         if place > self.limit() || bytes.len() > self.limit() - place {
@@ -262,7 +262,7 @@ impl Segment {
     #[tactic(auto, unfolding(crate::specs::Segment::up_to, crate::specs::Segment::IsPadded))]
     pub fn put(&mut self, at: u32, bytes: &[u8])
         requires { at + length bytes.now ≤ length self.old }
-        ensures value { self.new ≡ overwritten self.old at bytes.now }
+        ensures value { self.new ≡ with_bytes_at self.old at bytes.now }
         ensures limit { length self.new ≡ length self.old }
     {
         overwrite(self.bytes.as_mut_slice(), at as usize, bytes);

@@ -5,30 +5,30 @@ use Rattle.std.proofs.Math.ListN.{get_or-eq_default, get_or-append}
 use Rattle.mx_proc.proofs.ListLemmas.{get_or-any}
 use Rattle.mx_proc.specs.declared.process.Process.{Process}
 use Rattle.mx_proc.specs.declared.devices.Devices.{Devices}
-use Rattle.mx_proc.specs.World.{World, nobody}
-use Rattle.mx_proc.specs.Frame.{Fixed, Frame, fixed_of, loan_of, frame}
+use Rattle.mx_proc.specs.TableState.{TableState, nobody}
+use Rattle.mx_proc.specs.Frame.{FixedOfProcess, Frame, fixed_of, loan_of, frame}
 use Rattle.mx_proc.specs.Sound.{Sound, Stands}
 use Rattle.std.proofs.Math.Seq.{take-append_seam}
-use Rattle.mx_mem.specs.Segment.{overwritten, part}
-use Rattle.mx_proc.specs.Serving.{without_bit_of, owner_but, forgotten, copied_to}
+use Rattle.mx_mem.specs.Segment.{with_bytes_at, part}
+use Rattle.mx_proc.specs.Serving.{without_bit_of, owner_but, table_after_forgetting, process_after_copy}
 use Rattle.mx_proc.proofs.TableLemmas.{alike}
 use Rattle.mx_proc.proofs.FrameLemmas.{framed}
 
 -- what the frame of a table with other devices is
-pub reframed : (w n : World) (d : Devices) → w ≡ n → frame (record w { devices = d }) ≡ record (frame n) { devices = d }
+pub reframed : (w n : TableState) (d : Devices) → w ≡ n → frame (record w { devices = d }) ≡ record (frame n) { devices = d }
 unfolding frame
-reframed w n d v = ap (λ (x : World). let f : Frame = record (frame x) { devices = d } in f) v
+reframed w n d v = ap (λ (x : TableState). let f : Frame = record (frame x) { devices = d } in f) v
 
 -- and with another uptime
-pub clocked : (w n : World) (t : ℕ) → w ≡ n → frame (record w { uptime = t }) ≡ record (frame n) { uptime = t }
+pub clocked : (w n : TableState) (t : ℕ) → w ≡ n → frame (record w { uptime = t }) ≡ record (frame n) { uptime = t }
 unfolding frame
-clocked w n t v = ap (λ (x : World). let f : Frame = record (frame x) { uptime = t } in f) v
+clocked w n t v = ap (λ (x : TableState). let f : Frame = record (frame x) { uptime = t } in f) v
 
 -- other devices, whose lines' owners have slots
-pub redeviced : (w : World) (d : Devices) → Sound w → length d.owners ≡ 16 → ((line : ℕ) → IfSome (get_or d.owners line None) (λ s. s < length w.slots)) → Sound (record w { devices = d })
+pub redeviced : (w : TableState) (d : Devices) → Sound w → length d.owners ≡ 16 → ((line : ℕ) → IfSome (get_or d.owners line None) (λ s. s < length w.slots)) → Sound (record w { devices = d })
 redeviced w d h n o = record { few = h.few; lists = h.lists; idle = h.idle; each = h.each; named = h.named; acyclic = h.acyclic; lines = n; owned = o }
 
-pub reclocked : (w : World) (t : ℕ) → Sound w → Sound (record w { uptime = t })
+pub reclocked : (w : TableState) (t : ℕ) → Sound w → Sound (record w { uptime = t })
 reclocked w t h = record { few = h.few; lists = h.lists; idle = h.idle; each = h.each; named = h.named; acyclic = h.acyclic; lines = h.lines; owned = h.owned }
 
 -- a line's owner is another
@@ -58,7 +58,7 @@ owned_but owners s n k l = elim (cases_lt l (length owners)) [
 ]
 
 -- nobody has the bits of a slot
-pub forgotten_sound : (w : World) (s : ℕ) → Sound w → Sound (forgotten w s)
+pub forgotten_sound : (w : TableState) (s : ℕ) → Sound w → Sound (table_after_forgetting w s)
 forgotten_sound w s h = let used : length (map (without_bit_of s) w.slots) ≡ length w.slots = length-map w.slots (without_bit_of s) in record {
   few = omega (arith, h.few, used);
   lists = h.lists;
@@ -115,33 +115,33 @@ changed_earlier f ps low high from to p q e n lt b =
 pub whole : {X : Type 0} (new old : List X) (n : ℕ) → length new ≡ n → take n (new ++ drop (length new) old) ≡ new
 whole new old n e = subst (λ k. take k (new ++ drop (length new) old) ≡ new) e (rw take-append_seam refl)
 
-pub forgotten_is : (w : World) (s : ℕ) (ps : List Process) (owners : List (Option ℕ)) → ps ≡ map (without_bit_of s) w.slots → owners ≡ map (owner_but s) w.devices.owners
-    → (let r : World = record w { slots = ps; devices = record w.devices { owners = owners } } in r) ≡ forgotten w s
-forgotten_is w s ps owners e f = ap (λ x. let r : World = record w { slots = x; devices = record w.devices { owners = owners } } in r) e
-    ∙ ap (λ x. let r : World = record w { slots = map (without_bit_of s) w.slots; devices = record w.devices { owners = x } } in r) f
+pub forgotten_is : (w : TableState) (s : ℕ) (ps : List Process) (owners : List (Option ℕ)) → ps ≡ map (without_bit_of s) w.slots → owners ≡ map (owner_but s) w.devices.owners
+    → (let r : TableState = record w { slots = ps; devices = record w.devices { owners = owners } } in r) ≡ table_after_forgetting w s
+forgotten_is w s ps owners e f = ap (λ x. let r : TableState = record w { slots = x; devices = record w.devices { owners = owners } } in r) e
+    ∙ ap (λ x. let r : TableState = record w { slots = map (without_bit_of s) w.slots; devices = record w.devices { owners = x } } in r) f
 
-pub forgotten_framed : (w n : World) (s : ℕ) (ps : List Process) (d : Devices) → w ≡ n → ps ≡ map (without_bit_of s) w.slots → frame (record w { slots = ps; devices = d }) ≡ record (frame n) { devices = d }
+pub forgotten_framed : (w n : TableState) (s : ℕ) (ps : List Process) (d : Devices) → w ≡ n → ps ≡ map (without_bit_of s) w.slots → frame (record w { slots = ps; devices = d }) ≡ record (frame n) { devices = d }
 unfolding frame
 forgotten_framed w n s ps d v e = same (map fixed_of ps) (map fixed_of w.slots) (map loan_of ps) (map loan_of w.slots)
     (ap (map fixed_of) e ∙ map_same fixed_of (without_bit_of s) (λ p. refl) w.slots) (ap (map loan_of) e ∙ map_same loan_of (without_bit_of s) (λ p. refl) w.slots)
-    ∙ ap (λ (x : World). let f : Frame = record (frame x) { devices = d } in f) v
+    ∙ ap (λ (x : TableState). let f : Frame = record (frame x) { devices = d } in f) v
   where
-    same : (a b : List Fixed) (c e : List (Option ℕ)) → a ≡ b → c ≡ e → (let f : Frame = record { fixed = a; loans = c; uptime = w.uptime; devices = d } in f) ≡ record { fixed = b; loans = e; uptime = w.uptime; devices = d }
+    same : (a b : List FixedOfProcess) (c e : List (Option ℕ)) → a ≡ b → c ≡ e → (let f : Frame = record { fixed = a; loans = c; uptime = w.uptime; devices = d } in f) ≡ record { fixed = b; loans = e; uptime = w.uptime; devices = d }
     same a b c e x y = cc
 
 pub length-part : (bytes : List ℕ) (at count : ℕ) → at + count ≤ length bytes → length (part bytes at count) ≡ count
 length-part bytes at count h = omega (arith, length-take count (drop at bytes), length-drop at bytes)
 
-pub length-overwritten : (bytes : List ℕ) (at : ℕ) (source : List ℕ) → at + length source ≤ length bytes → length (overwritten bytes at source) ≡ length bytes
+pub length-overwritten : (bytes : List ℕ) (at : ℕ) (source : List ℕ) → at + length source ≤ length bytes → length (with_bytes_at bytes at source) ≡ length bytes
 length-overwritten bytes at source h = omega (arith, length-append (take at bytes) (source ++ drop (at + length source) bytes), length-append source (drop (at + length source) bytes), length-append (take at bytes ++ source) (drop (at + length source) bytes), length-append (take at bytes) source, length-take at bytes, length-drop (at + length source) bytes)
 
 -- a process with bytes copied to it
-pub copied_sound : (w n : World) (s at : ℕ) (bytes : List ℕ) (ps : List Process) → w ≡ n → Sound w → s < length n.slots → at + length bytes ≤ length (get_or w.slots s nobody).image.memory
-    → ps ≡ slice_set w.slots s (copied_to (get_or w.slots s nobody) at bytes) → Sound (record w { slots = ps })
+pub copied_sound : (w n : TableState) (s at : ℕ) (bytes : List ℕ) (ps : List Process) → w ≡ n → Sound w → s < length n.slots → at + length bytes ≤ length (get_or w.slots s nobody).image.memory
+    → ps ≡ slice_set w.slots s (process_after_copy (get_or w.slots s nobody) at bytes) → Sound (record w { slots = ps })
 copied_sound w n s at bytes ps v h b room e =
     let q = get_or w.slots s nobody in
-    let used : s < length w.slots = subst (λ (x : World). s < length x.slots) (sym v) b in
-    subst (λ l. Sound (record w { slots = l })) (sym e) (alike w n s q (copied_to q at bytes) v h b (get_or-any w.slots s nobody q used) (record {
+    let used : s < length w.slots = subst (λ (x : TableState). s < length x.slots) (sym v) b in
+    subst (λ l. Sound (record w { slots = l })) (sym e) (alike w n s q (process_after_copy q at bytes) v h b (get_or-any w.slots s nobody q used) (record {
       state = refl;
       level = refl;
       best = refl;
@@ -153,9 +153,9 @@ copied_sound w n s at bytes ps v h b room e =
       memory = length-overwritten q.image.memory at bytes room;
     }))
 
-pub copied_framed : (w n : World) (s at : ℕ) (bytes : List ℕ) (ps : List Process) → w ≡ n → s < length n.slots → at + length bytes ≤ length (get_or w.slots s nobody).image.memory
-    → ps ≡ slice_set w.slots s (copied_to (get_or w.slots s nobody) at bytes) → frame (record w { slots = ps }) ≡ frame n
+pub copied_framed : (w n : TableState) (s at : ℕ) (bytes : List ℕ) (ps : List Process) → w ≡ n → s < length n.slots → at + length bytes ≤ length (get_or w.slots s nobody).image.memory
+    → ps ≡ slice_set w.slots s (process_after_copy (get_or w.slots s nobody) at bytes) → frame (record w { slots = ps }) ≡ frame n
 copied_framed w n s at bytes ps v b room e =
     let q = get_or w.slots s nobody in
-    let used : s < length w.slots = subst (λ (x : World). s < length x.slots) (sym v) b in
-    ap (λ l. frame (record w { slots = l })) e ∙ framed w n s q (copied_to q at bytes) w.ready w.waits w.renewed w.deliveries v (get_or-any w.slots s nobody q used) (ap (λ k. record (fixed_of q) { lasting = (q.image.code, k) }) (length-overwritten q.image.memory at bytes room)) refl
+    let used : s < length w.slots = subst (λ (x : TableState). s < length x.slots) (sym v) b in
+    ap (λ l. frame (record w { slots = l })) e ∙ framed w n s q (process_after_copy q at bytes) w.ready w.waits w.renewed w.deliveries v (get_or-any w.slots s nobody q used) (ap (λ k. record (fixed_of q) { lasting = (q.image.code, k) }) (length-overwritten q.image.memory at bytes room)) refl

@@ -7,23 +7,23 @@ use Rattle.mx_proc.specs.declared.process.Process.{Process}
 use Rattle.mx_proc.specs.declared.process.State.{State}
 use Rattle.mx_proc.specs.declared.process.State.TheVariants.{Home, Ready, Out, Doomed, Sending, Calling, Receiving, Awaiting, Down}
 use Rattle.mx_proc.specs.declared.devices.Devices.{Devices}
-use Rattle.mx_proc.specs.Queues.{tally, times, without, list_at, picked, InNoList}
+use Rattle.mx_proc.specs.Queues.{tally, times, without, list_at, first_ready, InNoList}
 use Rattle.mx_proc.specs.States.{is_ready, is_sending, is_blocked, IsAlone}
 use Rattle.mx_proc.specs.Devices.{no_devices}
 use Rattle.mx_proc.specs.Waits.{sends_of, without_from, IsPair, Reaches, one_pair, and_then, Acyclic}
-use Rattle.mx_proc.specs.World.{World, nobody, process_at, with_process}
+use Rattle.mx_proc.specs.TableState.{TableState, nobody, process_at, with_process}
 use Rattle.mx_proc.specs.Sound.{Stands, Sound, IsProcess, belongs}
 use Rattle.mx_proc.proofs.ListLemmas.{has_room, tally-same, tally-other, times-push, times-without_same, times-without_other, list_at-cases}
 use Rattle.mx_proc.proofs.WaitLemmas.{acyclic_push, acyclic_without, pair_push, pair_without}
 
-pub process-same : (w w' : World) (s : ℕ) (p : Process) → s < length w.slots → w'.slots ≡ slice_set w.slots s p → process_at w' s ≡ p
+pub process-same : (w w' : TableState) (s : ℕ) (p : Process) → s < length w.slots → w'.slots ≡ slice_set w.slots s p → process_at w' s ≡ p
 process-same w w' s p b e = ap (λ x. get_or x s nobody) e ∙ get_or-set_same w.slots s p nobody b
 
-pub process-other : (w w' : World) (s t : ℕ) (p : Process) → t ≢ s → w'.slots ≡ slice_set w.slots s p → process_at w' t ≡ process_at w t
+pub process-other : (w w' : TableState) (s t : ℕ) (p : Process) → t ≢ s → w'.slots ≡ slice_set w.slots s p → process_at w' t ≡ process_at w t
 process-other w w' s t p n e = ap (λ x. get_or x t nobody) e ∙ get_or-set_other w.slots s t p nobody n
 
 -- What a change of one process asks for.
-pub record Change (w w' : World) (s : ℕ) (p : Process) : Type 0 where
+pub record Change (w w' : TableState) (s : ℕ) (p : Process) : Type 0 where
   pub same : process_at w' s ≡ p
   pub rest : (t : ℕ) → t ≢ s → process_at w' t ≡ process_at w t
   pub grows : length w.slots ≤ length w'.slots
@@ -44,7 +44,7 @@ owned-more None n m b h = _
 owned-more (Some s) n m b h = omega (arith, h)
 
 -- one process is changed, and all is sound
-pub changed : (w w' : World) (s : ℕ) (p : Process) → Sound w → Change w w' s p → Sound w'
+pub changed : (w w' : TableState) (s : ℕ) (p : Process) → Sound w → Change w w' s p → Sound w'
 changed w w' s p h c = record {
   few = c.few;
   lists = c.lists;
@@ -62,7 +62,7 @@ changed w w' s p h c = record {
 }
 
 -- a change of a process that stays where it stands
-pub stays : (w : World) (s : ℕ) (p : Process) → Sound w → s < length w.slots → p.state ≡ (process_at w s).state → p.level ≡ (process_at w s).level → IsProcess p → Sound (with_process w s p)
+pub stays : (w : TableState) (s : ℕ) (p : Process) → Sound w → s < length w.slots → p.state ≡ (process_at w s).state → p.level ≡ (process_at w s).level → IsProcess p → Sound (with_process w s p)
 stays w s p h b st lv k = changed w (with_process w s p) s p h (record {
   same = process-same w (with_process w s p) s p b refl;
   rest = λ t n. process-other w (with_process w s p) s t p n refl;
@@ -81,14 +81,14 @@ stays w s p h b st lv k = changed w (with_process w s p) s p h (record {
 })
 
 -- a process that is in no queue stands in none
-pub alone_listed : (w : World) (s : ℕ) → Sound w → is_ready (process_at w s).state ≡ false → InNoList w.ready s
+pub alone_listed : (w : TableState) (s : ℕ) → Sound w → is_ready (process_at w s).state ≡ false → InNoList w.ready s
 alone_listed w s h r l = (h.each s).listed l ∙ ap (λ b. cond b (tally ((process_at w s).level == l)) 0) r
 
-pub alone_waiting : (w : World) (s : ℕ) → Sound w → is_sending (process_at w s).state ≡ false → sends_of s w.waits ≡ 0
+pub alone_waiting : (w : TableState) (s : ℕ) → Sound w → is_sending (process_at w s).state ≡ false → sends_of s w.waits ≡ 0
 alone_waiting w s h q = (h.each s).waiting ∙ ap tally q
 
 -- a change of a process that is in no queue, and stays in none
-pub alone : (w : World) (s : ℕ) (p : Process) → Sound w → s < length w.slots → IsAlone (process_at w s).state → IsAlone p.state → IsProcess p → Sound (with_process w s p)
+pub alone : (w : TableState) (s : ℕ) (p : Process) → Sound w → s < length w.slots → IsAlone (process_at w s).state → IsAlone p.state → IsProcess p → Sound (with_process w s p)
 alone w s p h b o n k = changed w (with_process w s p) s p h (record {
   same = process-same w (with_process w s p) s p b refl;
   rest = λ t n. process-other w (with_process w s p) s t p n refl;
@@ -107,7 +107,7 @@ alone w s p h b o n k = changed w (with_process w s p) s p h (record {
 })
 
 -- a process, also one that is new, is put into the list of a level
-placed_at : (w w' : World) (s level : ℕ) (list : List ℕ) (p : Process) → Sound w → process_at w' s ≡ p → ((t : ℕ) → t ≢ s → process_at w' t ≡ process_at w t) → length w.slots ≤ length w'.slots → length w'.slots ≤ 32 → IsAlone (process_at w s).state → level ≤ 14 → p.level ≡ level → p.state ≡ Ready → IsProcess p
+placed_at : (w w' : TableState) (s level : ℕ) (list : List ℕ) (p : Process) → Sound w → process_at w' s ≡ p → ((t : ℕ) → t ≢ s → process_at w' t ≡ process_at w t) → length w.slots ≤ length w'.slots → length w'.slots ≤ 32 → IsAlone (process_at w s).state → level ≤ 14 → p.level ≡ level → p.state ≡ Ready → IsProcess p
     → w'.ready ≡ slice_set w.ready level list → w'.waits ≡ w.waits → w'.devices ≡ w.devices → ((t : ℕ) → times t list ≡ tally (s == t) + times t (list_at w.ready level)) → Sound w'
 placed_at w w' s level list p h same rest grows few o low at st k r v d counts = changed w w' s p h (record {
   same = same;
@@ -142,16 +142,16 @@ placed_at w w' s level list p h same rest grows few o low at st k r v d counts =
     there l x = ap (λ st. cond (is_ready st) (tally (p.level == l)) 0) st ∙ tally-other p.level l (λ e. x (sym e ∙ at))
 
 -- a process that is in no queue is put into the list of a level
-pub placed : (w w' : World) (s level : ℕ) (list : List ℕ) (p : Process) → Sound w → s < length w.slots → IsAlone (process_at w s).state → level ≤ 14 → p.level ≡ level → p.state ≡ Ready → IsProcess p
+pub placed : (w w' : TableState) (s level : ℕ) (list : List ℕ) (p : Process) → Sound w → s < length w.slots → IsAlone (process_at w s).state → level ≤ 14 → p.level ≡ level → p.state ≡ Ready → IsProcess p
     → w'.slots ≡ slice_set w.slots s p → w'.ready ≡ slice_set w.ready level list → w'.waits ≡ w.waits → w'.devices ≡ w.devices → ((t : ℕ) → times t list ≡ tally (s == t) + times t (list_at w.ready level)) → Sound w'
 placed w w' s level list p h b o low at st k e r v d counts =
     placed_at w w' s level list p h (process-same w w' s p b e) (λ t n. process-other w w' s t p n e) (omega (arith, ap length e, length-set w.slots s p)) (omega (arith, ap length e, length-set w.slots s p, h.few)) o low at st k r v d counts
 
-nobody_alone : (w : World) (s : ℕ) → length w.slots ≤ s → IsAlone (process_at w s).state
+nobody_alone : (w : TableState) (s : ℕ) → length w.slots ≤ s → IsAlone (process_at w s).state
 nobody_alone w s b = subst (λ (p : Process). IsAlone p.state) (sym (get_or-eq_default w.slots nobody b)) (refl, refl)
 
 -- one slot more, in the list of a level
-pub grown : (w w' : World) (level : ℕ) (p : Process) → Sound w → length w.slots < 32 → level ≤ 14 → p.level ≡ level → p.state ≡ Ready → IsProcess p
+pub grown : (w w' : TableState) (level : ℕ) (p : Process) → Sound w → length w.slots < 32 → level ≤ 14 → p.level ≡ level → p.state ≡ Ready → IsProcess p
     → w'.slots ≡ w.slots ++ p ∷ [] → w'.ready ≡ slice_set w.ready level (list_at w.ready level ++ length w.slots ∷ []) → w'.waits ≡ w.waits → w'.devices ≡ w.devices → Sound w'
 grown w w' level p h b low at st k e r v d =
     let s = length w.slots in
@@ -166,11 +166,11 @@ grown w w' level p h b low at st k e r v d =
     ]
 
 -- a new slot stands in no list yet
-pub nobody_listed : (w : World) (level : ℕ) → Sound w → times (length w.slots) (list_at w.ready level) ≡ 0
+pub nobody_listed : (w : TableState) (level : ℕ) → Sound w → times (length w.slots) (list_at w.ready level) ≡ 0
 nobody_listed w level h = alone_listed w (length w.slots) h (nobody_alone w (length w.slots) (omega arith)).0 level
 
 -- a ready process leaves its list
-pub left : (w w' : World) (s : ℕ) (p : Process) → Sound w → s < length w.slots → is_ready (process_at w s).state ≡ true → p.state ≡ Home → IsProcess p
+pub left : (w w' : TableState) (s : ℕ) (p : Process) → Sound w → s < length w.slots → is_ready (process_at w s).state ≡ true → p.state ≡ Home → IsProcess p
     → w'.slots ≡ slice_set w.slots s p → w'.ready ≡ slice_set w.ready (process_at w s).level (without s (list_at w.ready (process_at w s).level)) → w'.waits ≡ w.waits → w'.devices ≡ w.devices → Sound w'
 left w w' s p h b y st k e r v d =
     let level = (process_at w s).level in
@@ -256,7 +256,7 @@ sending_ready (Awaiting x) h = cc
 sending_ready (Down x) h = cc
 
 -- a sender leaves the blocked sends
-pub freed : (w w' : World) (s : ℕ) (p : Process) → Sound w → s < length w.slots → is_sending (process_at w s).state ≡ true → p.state ≡ Home → IsProcess p
+pub freed : (w w' : TableState) (s : ℕ) (p : Process) → Sound w → s < length w.slots → is_sending (process_at w s).state ≡ true → p.state ≡ Home → IsProcess p
     → w'.slots ≡ slice_set w.slots s p → w'.ready ≡ w.ready → w'.waits ≡ without_from s w.waits → w'.devices ≡ w.devices → Sound w'
 freed w w' s p h b y st k e r v d = changed w w' s p h (record {
   same = process-same w w' s p b e;
@@ -276,7 +276,7 @@ freed w w' s p h b y st k e r v d = changed w w' s p h (record {
 })
 
 -- a process that is in no queue waits behind another
-pub waits_for : (w w' : World) (s d : ℕ) (p : Process) → Sound w → s < length w.slots → d < length w.slots → s ≢ d → (Reaches w.waits d s → ⊥) → IsAlone (process_at w s).state → is_ready p.state ≡ false → is_sending p.state ≡ true → IsProcess p
+pub waits_for : (w w' : TableState) (s d : ℕ) (p : Process) → Sound w → s < length w.slots → d < length w.slots → s ≢ d → (Reaches w.waits d s → ⊥) → IsAlone (process_at w s).state → is_ready p.state ≡ false → is_sending p.state ≡ true → IsProcess p
     → w'.slots ≡ slice_set w.slots s p → w'.ready ≡ w.ready → w'.waits ≡ w.waits ++ (s, d) ∷ [] → w'.devices ≡ w.devices → Sound w'
 waits_for w w' s d p h b i apart free o still sends k e r v f = changed w w' s p h (record {
   same = process-same w w' s p b e;
@@ -308,7 +308,7 @@ tally-le true = omega arith
 tally-le false = omega arith
 
 -- no slot stands twice among the blocked sends
-pub sends_once : (w : World) → Sound w → (t : ℕ) → sends_of t w.waits ≤ 1
+pub sends_once : (w : TableState) → Sound w → (t : ℕ) → sends_of t w.waits ≤ 1
 sends_once w h t = omega (arith, (h.each t).waiting, tally-le (is_sending (process_at w t).state))
 
 tally_true : (b : Bool) → 1 ≤ tally b → b ≡ true
@@ -316,7 +316,7 @@ tally_true true h = refl
 tally_true false h = absurd (omega arith)
 
 -- who stands among the blocked sends is sending, and used
-pub sender_known : (w : World) (p : ℕ) → Sound w → 1 ≤ sends_of p w.waits → (p < length w.slots) × (is_sending (process_at w p).state ≡ true)
+pub sender_known : (w : TableState) (p : ℕ) → Sound w → 1 ≤ sends_of p w.waits → (p < length w.slots) × (is_sending (process_at w p).state ≡ true)
 sender_known w p h m =
     let sending : is_sending (process_at w p).state ≡ true = tally_true (is_sending (process_at w p).state) (omega (arith, (h.each p).waiting)) in (
       elim (cases_lt p (length w.slots)) [
@@ -327,7 +327,7 @@ sender_known w p h m =
     )
 
 -- room for one more blocked send
-pub waits_room : (w : World) (s : ℕ) → Sound w → s < length w.slots → is_sending (process_at w s).state ≡ false → length w.waits < 32
+pub waits_room : (w : TableState) (s : ℕ) → Sound w → s < length w.slots → is_sending (process_at w s).state ≡ false → length w.waits < 32
 waits_room w s h b q =
     let from : List ℕ = map (λ (p : ℕ × ℕ). p.0) w.waits in
     let most : (t : ℕ) → times t from ≤ tally (nat_lt t 32) = λ t. elim (cases_lt t 32) [
@@ -340,13 +340,13 @@ waits_room w s h b q =
     omega (arith, length-from w.waits)
 
 -- who is picked stands in a list
-picked_listed : (lists : List (List ℕ)) (s : ℕ) → picked lists ≡ Some s → (level : ℕ) × (1 ≤ times s (list_at lists level))
+picked_listed : (lists : List (List ℕ)) (s : ℕ) → first_ready lists ≡ Some s → (level : ℕ) × (1 ≤ times s (list_at lists level))
 picked_listed [] s e = cc
 picked_listed ([] ∷ lists) s e = let k = picked_listed lists s e in (suc k.0, k.1)
 picked_listed ((x ∷ xs) ∷ lists) s e = let is : x ≡ s = cc in (0, omega (arith, tally-same x s is))
 
 -- so it is ready, and used
-pub picked_ready : (w : World) (s : ℕ) → Sound w → picked w.ready ≡ Some s → (s < length w.slots) × (is_ready (process_at w s).state ≡ true)
+pub picked_ready : (w : TableState) (s : ℕ) → Sound w → first_ready w.ready ≡ Some s → (s < length w.slots) × (is_ready (process_at w s).state ≡ true)
 picked_ready w s h e =
     let k : (level : ℕ) × (1 ≤ times s (list_at w.ready level)) = picked_listed w.ready s e in
     let ready : is_ready (process_at w s).state ≡ true = elim (cases_Bool (is_ready (process_at w s).state)) [
@@ -376,7 +376,7 @@ no_chain _ _ (and_then p q r h g) = h
 nobody_is : IsProcess nobody
 nobody_is = record { level = omega arith; best = omega arith; quantum = omega arith; ticks = omega arith; generation = lit< tt; pending = refl; buffer = λ m. cc }
 
-pub founded : (w : World) → w.slots ≡ [] → w.ready ≡ replicate 16 [] → w.waits ≡ [] → w.devices ≡ no_devices → Sound w
+pub founded : (w : TableState) → w.slots ≡ [] → w.ready ≡ replicate 16 [] → w.waits ≡ [] → w.devices ≡ no_devices → Sound w
 founded w a b d e =
     let absent : (s : ℕ) → process_at w s ≡ nobody = λ s. get_or-eq_default w.slots nobody (omega (arith, ap length a)) in
     record {

@@ -6,22 +6,22 @@ use Rattle.mx_proc.specs.declared.process.State.TheVariants.{Home, Ready, Out, D
 use Rattle.mx_proc.specs.Queues.{tally, times, without, list_at}
 use Rattle.mx_proc.specs.States.{IsAlone, is_ready, is_sending, is_blocked, is_down, is_out}
 use Rattle.mx_proc.specs.Waits.{without_from, Reaches}
-use Rattle.mx_proc.specs.World.{World, nobody, process_at, with_process}
+use Rattle.mx_proc.specs.TableState.{TableState, nobody, process_at, with_process}
 use Rattle.mx_proc.specs.Sound.{Sound, IsProcess, HasBuffer}
 use Rattle.mx_proc.proofs.ListLemmas.{get_or-any}
 use Rattle.mx_proc.proofs.SoundLemmas.{process-same, process-other, alone, stays, placed, left, freed, waits_for}
 
-pub the_process : (w n : World) (s : ℕ) (q : Process) → w ≡ n → s < length n.slots → q ≡ get_or w.slots s q → q ≡ process_at n s
-the_process w n s q v b e = e ∙ get_or-any w.slots s q nobody (subst (λ (x : World). s < length x.slots) (sym v) b) ∙ ap (λ x. process_at x s) v
+pub the_process : (w n : TableState) (s : ℕ) (q : Process) → w ≡ n → s < length n.slots → q ≡ get_or w.slots s q → q ≡ process_at n s
+the_process w n s q v b e = e ∙ get_or-any w.slots s q nobody (subst (λ (x : TableState). s < length x.slots) (sym v) b) ∙ ap (λ x. process_at x s) v
 
-pub is_process : (w n : World) (s : ℕ) (q : Process) → w ≡ n → Sound w → q ≡ process_at n s → IsProcess q
+pub is_process : (w n : TableState) (s : ℕ) (q : Process) → w ≡ n → Sound w → q ≡ process_at n s → IsProcess q
 is_process w n s q v h e = subst IsProcess (sym e) ((subst Sound v h).each s).process
 
 -- the same table by another name
-pub renamed : (w n : World) (s : ℕ) (p : Process) → w ≡ n → Sound (with_process n s p) → Sound (with_process w s p)
+pub renamed : (w n : TableState) (s : ℕ) (p : Process) → w ≡ n → Sound (with_process n s p) → Sound (with_process w s p)
 renamed w n s p v h = subst (λ x. Sound (with_process x s p)) (sym v) h
 
-pub state_set : (w n : World) (s : ℕ) (q : Process) (st : State) → w ≡ n → Sound w → s < length n.slots → q ≡ get_or w.slots s q
+pub state_set : (w n : TableState) (s : ℕ) (q : Process) (st : State) → w ≡ n → Sound w → s < length n.slots → q ≡ get_or w.slots s q
     → IsAlone (process_at n s).state → IsAlone st → (is_blocked st ≡ true → HasBuffer (process_at n s)) → Sound (with_process w s (record q { state = st }))
 state_set w n s q st v h b e o still room =
     let is = the_process w n s q v b e in
@@ -48,7 +48,7 @@ pub record Alike (q p : Process) : Type 0 where
   pub buffer : p.image.regs.ebx ≡ q.image.regs.ebx
   pub memory : length p.image.memory ≡ length q.image.memory
 
-pub alike : (w n : World) (s : ℕ) (q p : Process) → w ≡ n → Sound w → s < length n.slots → q ≡ get_or w.slots s q → Alike q p → Sound (with_process w s p)
+pub alike : (w n : TableState) (s : ℕ) (q p : Process) → w ≡ n → Sound w → s < length n.slots → q ≡ get_or w.slots s q → Alike q p → Sound (with_process w s p)
 alike w n s q p v h b e a =
     let is = the_process w n s q v b e in
     let k = is_process w n s q v h is in
@@ -63,13 +63,13 @@ alike w n s q p v h b e a =
     }))
 
 -- ready, in the list of a level
-pub listed : (w n w' : World) (s level : ℕ) (list : List ℕ) (q p : Process) → w ≡ n → Sound w → s < length n.slots → q ≡ get_or w.slots s q → IsAlone (process_at n s).state
+pub listed : (w n w' : TableState) (s level : ℕ) (list : List ℕ) (q p : Process) → w ≡ n → Sound w → s < length n.slots → q ≡ get_or w.slots s q → IsAlone (process_at n s).state
     → level ≤ 14 → p.level ≡ level → p.state ≡ Ready → p.best ≡ q.best → q.best ≤ level → p.quantum ≡ q.quantum → p.generation ≡ q.generation → p.ticks ≤ 65535 → p.pending ≡ q.pending
     → w'.slots ≡ slice_set w.slots s p → w'.ready ≡ slice_set w.ready level list → w'.waits ≡ w.waits → w'.devices ≡ w.devices → ((t : ℕ) → times t list ≡ tally (s == t) + times t (list_at w.ready level)) → Sound w'
 listed w n w' s level list q p v h b e o low at st best high quantum generation ticks notes slots r u f counts =
     let is = the_process w n s q v b e in
     let k = is_process w n s q v h is in
-    placed w w' s level list p h (subst (λ (x : World). s < length x.slots) (sym v) b) (subst (λ x. IsAlone (process_at x s).state) (sym v) o) low at st (record {
+    placed w w' s level list p h (subst (λ (x : TableState). s < length x.slots) (sym v) b) (subst (λ x. IsAlone (process_at x s).state) (sym v) o) low at st (record {
       level = omega (arith, at, low);
       best = omega (arith, at, best, high);
       quantum = omega (arith, quantum, k.quantum);
@@ -82,27 +82,27 @@ listed w n w' s level list q p v h b e o low at st best high quantum generation 
 homed : (q : Process) → IsProcess q → IsProcess (record q { state = Home })
 homed q k = record { level = k.level; best = k.best; quantum = k.quantum; generation = k.generation; ticks = k.ticks; pending = k.pending; buffer = λ m. cc }
 
-pub unlisted : (w n w' : World) (s : ℕ) (q : Process) → w ≡ n → Sound w → s < length n.slots → q ≡ get_or w.slots s q → is_ready (process_at n s).state ≡ true
+pub unlisted : (w n w' : TableState) (s : ℕ) (q : Process) → w ≡ n → Sound w → s < length n.slots → q ≡ get_or w.slots s q → is_ready (process_at n s).state ≡ true
     → w'.slots ≡ slice_set w.slots s (record q { state = Home }) → w'.ready ≡ slice_set w.ready q.level (without s (list_at w.ready q.level)) → w'.waits ≡ w.waits → w'.devices ≡ w.devices → Sound w'
 unlisted w n w' s q v h b e y slots r u f =
     let is = the_process w n s q v b e in
     let same : q ≡ process_at w s = is ∙ ap (λ x. process_at x s) (sym v) in
-    left w w' s (record q { state = Home }) h (subst (λ (x : World). s < length x.slots) (sym v) b) (subst (λ x. is_ready (process_at x s).state ≡ true) (sym v) y) refl (homed q (is_process w n s q v h is)) slots
+    left w w' s (record q { state = Home }) h (subst (λ (x : TableState). s < length x.slots) (sym v) b) (subst (λ x. is_ready (process_at x s).state ≡ true) (sym v) y) refl (homed q (is_process w n s q v h is)) slots
     (r ∙ ap (λ (p : Process). slice_set w.ready p.level (without s (list_at w.ready p.level))) same) u f
 
-pub unwaiting : (w n w' : World) (s : ℕ) (q : Process) → w ≡ n → Sound w → s < length n.slots → q ≡ get_or w.slots s q → is_sending (process_at n s).state ≡ true
+pub unwaiting : (w n w' : TableState) (s : ℕ) (q : Process) → w ≡ n → Sound w → s < length n.slots → q ≡ get_or w.slots s q → is_sending (process_at n s).state ≡ true
     → w'.slots ≡ slice_set w.slots s (record q { state = Home }) → w'.ready ≡ w.ready → w'.waits ≡ without_from s w.waits → w'.devices ≡ w.devices → Sound w'
 unwaiting w n w' s q v h b e y slots r u f =
     let is = the_process w n s q v b e in
-    freed w w' s (record q { state = Home }) h (subst (λ (x : World). s < length x.slots) (sym v) b) (subst (λ x. is_sending (process_at x s).state ≡ true) (sym v) y) refl (homed q (is_process w n s q v h is)) slots r u f
+    freed w w' s (record q { state = Home }) h (subst (λ (x : TableState). s < length x.slots) (sym v) b) (subst (λ x. is_sending (process_at x s).state ≡ true) (sym v) y) refl (homed q (is_process w n s q v h is)) slots r u f
 
-pub waiting : (w n w' : World) (s d : ℕ) (q : Process) (st : State) → w ≡ n → Sound w → s < length n.slots → q ≡ get_or w.slots s q → d < length n.slots → s ≢ d → (Reaches n.waits d s → ⊥)
+pub waiting : (w n w' : TableState) (s d : ℕ) (q : Process) (st : State) → w ≡ n → Sound w → s < length n.slots → q ≡ get_or w.slots s q → d < length n.slots → s ≢ d → (Reaches n.waits d s → ⊥)
     → IsAlone (process_at n s).state → is_ready st ≡ false → is_sending st ≡ true → HasBuffer (process_at n s)
     → w'.slots ≡ slice_set w.slots s (record q { state = st }) → w'.ready ≡ w.ready → w'.waits ≡ w.waits ++ (s, d) ∷ [] → w'.devices ≡ w.devices → Sound w'
 waiting w n w' s d q st v h b e i apart free o still sends room slots r u g =
     let is = the_process w n s q v b e in
     let k = is_process w n s q v h is in
-    waits_for w w' s d (record q { state = st }) h (subst (λ (x : World). s < length x.slots) (sym v) b) (subst (λ (x : World). d < length x.slots) (sym v) i) apart (λ m. free (subst (λ (x : World). Reaches x.waits d s) v m))
+    waits_for w w' s d (record q { state = st }) h (subst (λ (x : TableState). s < length x.slots) (sym v) b) (subst (λ (x : TableState). d < length x.slots) (sym v) i) apart (λ m. free (subst (λ (x : TableState). Reaches x.waits d s) v m))
     (subst (λ x. IsAlone (process_at x s).state) (sym v) o) still sends (record {
       level = k.level;
       best = k.best;
@@ -114,7 +114,7 @@ waiting w n w' s d q st v h b e i apart free o still sends room slots r u g =
     }) slots r u g
 
 -- a change of a process that is in no queue, and stays in none
-pub alone_changed : (w n : World) (s : ℕ) (q p : Process) → w ≡ n → Sound w → s < length n.slots → q ≡ get_or w.slots s q → IsAlone (process_at n s).state → IsAlone p.state → (IsProcess q → IsProcess p) → Sound (with_process w s p)
+pub alone_changed : (w n : TableState) (s : ℕ) (q p : Process) → w ≡ n → Sound w → s < length n.slots → q ≡ get_or w.slots s q → IsAlone (process_at n s).state → IsAlone p.state → (IsProcess q → IsProcess p) → Sound (with_process w s p)
 alone_changed w n s q p v h b e o still f =
     let is = the_process w n s q v b e in
     renamed w n s p v (alone n s p (subst Sound v h) b o still (f (is_process w n s q v h is)))
@@ -153,15 +153,15 @@ down_idle (Receiving x) h b = h
 down_idle (Awaiting x) h b = h
 
 -- a change of a process that keeps its state
-pub kept_states : (w w' : World) (d : ℕ) (p : Process) → d < length w.slots → w'.slots ≡ slice_set w.slots d p → p.state ≡ (process_at w d).state → (s : ℕ) → (process_at w' s).state ≡ (process_at w s).state
+pub kept_states : (w w' : TableState) (d : ℕ) (p : Process) → d < length w.slots → w'.slots ≡ slice_set w.slots d p → p.state ≡ (process_at w d).state → (s : ℕ) → (process_at w' s).state ≡ (process_at w s).state
 kept_states w w' d p b e k s = elim (cases_eq s d) [
   | inl m ↦ subst (λ x. (process_at w' x).state ≡ (process_at w x).state) (sym m) (ap (λ (p : Process). p.state) (process-same w w' d p b e) ∙ k)
   | inr n ↦ ap (λ (p : Process). p.state) (process-other w w' d s p n e)
 ]
 
-pub kept_at : (w n : World) (d : ℕ) (q p : Process) → w ≡ n → d < length n.slots → q ≡ get_or w.slots d q → p.state ≡ q.state → (s : ℕ) → (process_at (with_process w d p) s).state ≡ (process_at n s).state
+pub kept_at : (w n : TableState) (d : ℕ) (q p : Process) → w ≡ n → d < length n.slots → q ≡ get_or w.slots d q → p.state ≡ q.state → (s : ℕ) → (process_at (with_process w d p) s).state ≡ (process_at n s).state
 kept_at w n d q p v b e st s =
-    kept_states w (with_process w d p) d p (subst (λ (x : World). d < length x.slots) (sym v) b) refl (st ∙ ap (λ (x : Process). x.state) (the_process w n d q v b e ∙ ap (λ x. process_at x d) (sym v))) s
+    kept_states w (with_process w d p) d p (subst (λ (x : TableState). d < length x.slots) (sym v) b) refl (st ∙ ap (λ (x : Process). x.state) (the_process w n d q v b e ∙ ap (λ x. process_at x d) (sym v))) s
     ∙ ap (λ x. (process_at x s).state) v
 
 pub ready_home : (st : State) → is_ready st ≡ true → is_out st ≡ false
@@ -186,5 +186,5 @@ sending_home (Receiving x) h = refl
 sending_home (Awaiting x) h = refl
 sending_home (Down x) h = refl
 
-pub home_of : (w n : World) (s : ℕ) (q : Process) → w ≡ n → s < length n.slots → q ≡ get_or w.slots s q → is_out (process_at n s).state ≡ false → is_out q.state ≡ false
+pub home_of : (w n : TableState) (s : ℕ) (q : Process) → w ≡ n → s < length n.slots → q ≡ get_or w.slots s q → is_out (process_at n s).state ≡ false → is_out q.state ≡ false
 home_of w n s q v b e h = ap (λ (p : Process). is_out p.state) (the_process w n s q v b e) ∙ h

@@ -1,9 +1,9 @@
 -- The console: what it keeps, and the count of all that was written.
 use Rattle.std.specs.Prelude.{ℕ, List, []}
 
-pub record Written : Type 0 where
+pub record ConsoleState : Type 0 where
   pub kept : List ℕ
   pub count : ℕ
 
-abbrev pub nothing_written : Written
-nothing_written = record { kept = []; count = 0 }
+abbrev pub empty_console : ConsoleState
+empty_console = record { kept = []; count = 0 }

@@ -6,12 +6,12 @@ use Rattle.mx_proc.specs.declared.process.Process.{Process}
 use Rattle.mx_proc.specs.declared.process.Masks.{Masks}
 use Rattle.mx_proc.specs.declared.devices.Devices.{Devices}
 use Rattle.mx_proc.specs.States.{is_out}
-use Rattle.mx_proc.specs.World.{World}
+use Rattle.mx_proc.specs.TableState.{TableState}
 
 -- Of a process.
-pub record Fixed : Type 0 where
+pub record FixedOfProcess : Type 0 where
   pub generation : ℕ
-  pub restarts : ℕ
+  pub restarts_used : ℕ
   pub steps : ℕ
   pub masks : Masks
   pub best : ℕ
@@ -21,21 +21,21 @@ pub record Fixed : Type 0 where
 
 -- Of a table.
 pub record Frame : Type 0 where
-  pub fixed : List Fixed
+  pub fixed : List FixedOfProcess
   -- which slots are on processors, and with how many ticks
   pub loans : List (Option ℕ)
   pub uptime : ℕ
   pub devices : Devices
 
-abbrev pub fixed_of : Process → Fixed
-fixed_of p = record { generation = p.generation; restarts = p.restarts; steps = p.steps; masks = p.masks; best = p.best; quantum = p.quantum; lasting = lasting p.image }
+abbrev pub fixed_of : Process → FixedOfProcess
+fixed_of p = record { generation = p.generation; restarts_used = p.restarts_used; steps = p.steps; masks = p.masks; best = p.best; quantum = p.quantum; lasting = lasting p.image }
 
 abbrev pub loan_of : Process → Option ℕ
 loan_of p = if is_out p.state then Some p.ticks else None
 
-unfoldable pub frame : World → Frame
+unfoldable pub frame : TableState → Frame
 frame w = record { fixed = map fixed_of w.slots; loans = map loan_of w.slots; uptime = w.uptime; devices = w.devices }
 
 -- of one slot all is this process's, of the others what it was
-abbrev pub reframed : Frame → ℕ → Process → Frame
-reframed f s p = record f { fixed = slice_set f.fixed s (fixed_of p); loans = slice_set f.loans s (loan_of p) }
+abbrev pub frame_with_process : Frame → ℕ → Process → Frame
+frame_with_process f s p = record f { fixed = slice_set f.fixed s (fixed_of p); loans = slice_set f.loans s (loan_of p) }

@@ -6,7 +6,7 @@ pub mod Console
 pub mod Devices
 pub mod Messages
 pub mod States
-pub mod World
+pub mod TableState
 pub mod Endpoints
 pub mod Sound
 pub mod Frame

@@ -11,10 +11,10 @@ abbrev pub list_at : List (List ℕ) → ℕ → List ℕ
 list_at lists level = slice_index_or lists level []
 
 -- the front of the lowest list that isn't empty
-abbrev pub picked : List (List ℕ) → Option ℕ
-picked [] = None
-picked ([] ∷ lists) = picked lists
-picked ((slot ∷ slots) ∷ lists) = Some slot
+abbrev pub first_ready : List (List ℕ) → Option ℕ
+first_ready [] = None
+first_ready ([] ∷ lists) = first_ready lists
+first_ready ((slot ∷ slots) ∷ lists) = Some slot
 
 -- 1 for true
 abbrev pub tally : Bool → ℕ

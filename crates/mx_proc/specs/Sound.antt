@@ -5,7 +5,7 @@ use Rattle.mx_proc.specs.declared.process.State.TheVariants.{Home}
 use Rattle.mx_proc.specs.Queues.{tally, times, list_at}
 use Rattle.mx_proc.specs.States.{is_ready, is_sending, is_blocked}
 use Rattle.mx_proc.specs.Waits.{sends_of, IsPair, Acyclic}
-use Rattle.mx_proc.specs.World.{World, process_at}
+use Rattle.mx_proc.specs.TableState.{TableState, process_at}
 
 -- how often a process belongs in the list of a level
 abbrev pub belongs : Process → ℕ → ℕ
@@ -35,7 +35,7 @@ pub record Stands (p : Process) (ready : List (List ℕ)) (waits : List (ℕ × 
   pub process : IsProcess p
 
 -- The table is sound.
-pub record Sound (w : World) : Type 0 where
+pub record Sound (w : TableState) : Type 0 where
   pub few : length w.slots ≤ 32
   pub lists : length w.ready ≡ 16
   pub idle : list_at w.ready 15 ≡ []
@@ -48,5 +48,5 @@ pub record Sound (w : World) : Type 0 where
   pub owned : (line : ℕ) → IfSome (slice_index_or w.devices.owners line None) (λ s. s < length w.slots)
 
 -- who is at home was so before
-abbrev pub NoneComesHome : World → World → Type 0
+abbrev pub NoneComesHome : TableState → TableState → Type 0
 NoneComesHome w n = (s : ℕ) → (process_at w s).state ≢ Home → (process_at n s).state ≢ Home

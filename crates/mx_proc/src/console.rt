@@ -2,7 +2,7 @@
 
 ghost use Rattle.std.specs.Prelude.{◌≡◌, ◌+◌, ◌^◌, ◌<◌, ◌++◌, ◌∷◌, [], IfOk, slice_get};
 ghost use Rattle.circular_buffer.specs.Buffer.{keep_last};
-ghost use Rattle.mx_proc.specs.Console.{nothing_written};
+ghost use Rattle.mx_proc.specs.Console.{empty_console};
 
 use circular_buffer::HeapCircularBuffer;
 use mx_word::NoMemory;
@@ -18,9 +18,9 @@ pub struct Console {
 
 impl Model for Console {
     ghost use Rattle.std.specs.Prelude.{◌≡◌};
-    ghost use Rattle.mx_proc.specs.Console.{Written};
+    ghost use Rattle.mx_proc.specs.Console.{ConsoleState};
 
-    ghost Value = { Written };
+    ghost Value = { ConsoleState };
 
     ghost view = { λ c. record { kept = c.kept.items; count = c.count } };
 
@@ -30,7 +30,7 @@ impl Model for Console {
 impl Console {
     /// Nothing written yet, with room for all that is kept.
     pub fn new(alloc: Global) -> Result<Console, NoMemory>
-        ensures { IfOk result (λ console. console ≡ nothing_written) }
+        ensures { IfOk result (λ console. console ≡ empty_console) }
     {
         let kept = HeapCircularBuffer::with_capacity(alloc, 4096)?;
         Ok(Console { kept, count: 0 })

@@ -1,7 +1,7 @@
 //! Results of calls.
 
 ghost use Rattle.std.specs.Prelude.{◌≡◌};
-ghost use Rattle.mx_proc.specs.Errors.{bits_of};
+ghost use Rattle.mx_proc.specs.Errors.{errno_bits};
 
 /// Why a call is refused, with the name that C programs have for it.
 #[derive(Clone, Copy, PartialEq, Eq)]
@@ -29,7 +29,7 @@ pub enum Errno {
 impl Errno {
     /// The number as a process finds it in a register: a negative number of 32 bits.
     pub fn bits(self) -> u32
-        ensures { result ≡ bits_of self }
+        ensures { result ≡ errno_bits self }
     {
         match self {
             Errno::NotPermitted => 0xFFFF_FFFF,

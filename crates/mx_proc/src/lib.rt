@@ -15,5 +15,5 @@ pub use console::Console;
 pub use deliveries::{Deliveries, Delivery, DeliveryKind};
 pub use devices::Devices;
 pub use errors::Errno;
-pub use process::{Cause, Endpoint, Masks, Partner, Process, Slot, Source, State};
+pub use process::{DeathCause, Endpoint, Masks, Partner, Process, Slot, Source, State};
 pub use table::{Stale, Table};

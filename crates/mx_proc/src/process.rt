@@ -1,7 +1,7 @@
 //! What a slot holds.
 
 ghost use Rattle.std.specs.Prelude.{◌≡◌, ◌<◌, ◌≤◌, length, IfSome};
-ghost use Rattle.mx_proc.specs.Partners.{place_of, source_of, lines_told, may_be, first_pending};
+ghost use Rattle.mx_proc.specs.Partners.{order_of_source, source_in_order, lines_in_notification, may_be, first_pending};
 ghost use Rattle.mx_proc.specs.States.{is_ready, is_down};
 
 use mx_exec::Image;
@@ -27,7 +27,7 @@ pub enum Source {
 impl Source {
     /// Its place among the pending bits: HARDWARE, CLOCK, slot 0 and up.
     pub fn place(self) -> u32
-        ensures { result ≡ place_of self }
+        ensures { result ≡ order_of_source self }
     {
         match self {
             Source::Hardware => 0,
@@ -38,7 +38,7 @@ impl Source {
 
     /// Of the lines that were raised those that its notification tells.
     pub fn lines_told(self, lines: u32) -> u32
-        ensures value { result ≡ lines_told self lines }
+        ensures value { result ≡ lines_in_notification self lines }
         ensures below { result ≤ lines }
     {
         match self {
@@ -50,7 +50,7 @@ impl Source {
     /// The source that has a place.
     pub fn of_place(place: u32) -> Source
         requires { place < 258 }
-        ensures { result ≡ source_of place }
+        ensures { result ≡ source_in_order place }
     {
         match place {
             0 => Source::Hardware,
@@ -101,7 +101,7 @@ impl Partner {
 
 /// Why a process died.
 #[derive(Clone, Copy, PartialEq, Eq)]
-pub enum Cause {
+pub enum DeathCause {
     /// By its own EXIT.
     Exit,
     /// Killed.
@@ -130,7 +130,7 @@ pub enum State {
     /// Its SENDREC waits for the reply of a slot.
     Awaiting(u8),
     /// Dead.
-    Down(Cause),
+    Down(DeathCause),
 }
 
 /// What a process may do: bit n of `traps` is call n, bit s of `sends` is slot s, bit i of `calls`
@@ -148,7 +148,7 @@ pub struct Process {
     pub state: State,
     pub generation: u32,
     /// The restarts that are used up.
-    pub restarts: u32,
+    pub restarts_used: u32,
     pub masks: Masks,
     /// Its ready list, 0 to 14, and the highest that it may rise to.
     pub level: u8,

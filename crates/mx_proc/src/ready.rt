@@ -1,7 +1,7 @@
 //! The sixteen ready lists.
 
 ghost use Rattle.std.specs.Prelude.{◌≡◌, ◌<◌, [], ◌∷◌, ◌++◌, slice_set, replicate};
-ghost use Rattle.mx_proc.specs.Queues.{without, list_at, picked, times};
+ghost use Rattle.mx_proc.specs.Queues.{without, list_at, first_ready, times};
 
 use crate::queue::Queue;
 use std::marker::Model;
@@ -83,7 +83,7 @@ impl Ready {
 
     /// The front of the lowest list that isn't empty.
     pub fn pick(&self) -> Option<u8>
-        ensures { result ≡ picked self.now }
+        ensures { result ≡ first_ready self.now }
     {
         for list in &self.lists {
             if let Some(slot) = list.first() {

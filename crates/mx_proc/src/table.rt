@@ -2,7 +2,7 @@
 
 ghost use Rattle.std.specs.Prelude.{◌≡◌, ℕ, ◌+◌, ◌*◌, ◌<◌, ◌≤◌, ◌^◌, true, IfOk, IfErr, OnErr, OnOk, IsOk, MatchResult, length, slice_get};
 ghost use Rattle.mx_exec.specs.Image.{blank};
-ghost use Rattle.mx_proc.specs.Endpoints.{looked_up};
+ghost use Rattle.mx_proc.specs.Endpoints.{slot_of_endpoint};
 ghost use Rattle.mx_proc.specs.Sound.{Sound, HasBuffer};
 ghost use Rattle.mx_proc.specs.States.{is_blocked, is_down};
 
@@ -40,10 +40,10 @@ pub struct Table {
 }
 
 impl Model for Table {
-    ghost use Rattle.mx_proc.specs.World.{World};
+    ghost use Rattle.mx_proc.specs.TableState.{TableState};
     ghost use Rattle.mx_proc.specs.Sound.{Sound};
 
-    ghost Value = { World };
+    ghost Value = { TableState };
 
     ghost view = { λ t. record { slots = t.slots.items; ready = t.ready; waits = t.waits; renewed = t.renewed; uptime = t.uptime; devices = t.devices; deliveries = t.deliveries } };
 
@@ -51,12 +51,12 @@ impl Model for Table {
 }
 
 impl Table {
-    ghost use Rattle.mx_proc.specs.World.{no_world, added, process_at, endpoint_of};
+    ghost use Rattle.mx_proc.specs.TableState.{empty_table, table_after_add, process_at, endpoint_of};
     ghost use Rattle.mx_proc.specs.Endpoints.{is_current};
 
     /// A table without processes, with room for all that it keeps.
     pub fn new(alloc: Global) -> Result<Table, NoMemory>
-        ensures { IfOk result (λ table. table ≡ no_world) }
+        ensures { IfOk result (λ table. table ≡ empty_table) }
     {
         let slots = Vec::with_capacity(alloc, 32)?;
         let devices = Devices::new(alloc)?;
@@ -89,14 +89,14 @@ impl Table {
         requires some { 0 < quantum }
         requires quantum { quantum ≤ 65535 }
         ensures slot { IfOk result (λ slot. slot ≡ length self.old.slots) }
-        ensures ok { OnOk result ((self.new ≡ added self.old image.old masks level best quantum) × (image.new ≡ blank)) }
+        ensures ok { OnOk result ((self.new ≡ table_after_add self.old image.old masks level best quantum) × (image.new ≡ blank)) }
         ensures err { OnErr result ((self.new ≡ self.old) × (image.new ≡ image.old)) }
     {
         let slot = self.slots.as_slice().len() as u8;
         let process = Process {
             state: State::Ready,
             generation: 0,
-            restarts: 0,
+            restarts_used: 0,
             masks,
             level,
             best,
@@ -122,7 +122,7 @@ impl Table {
 
     /// The slot of an endpoint, where its process is alive.
     pub fn look(&self, endpoint: Endpoint) -> Result<Slot, Stale>
-        ensures { result ≡ looked_up self.now endpoint }
+        ensures { result ≡ slot_of_endpoint self.now endpoint }
     {
         if endpoint >= 0x8000_0000 {
             return Err(Stale);

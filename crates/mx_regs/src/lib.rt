@@ -3,7 +3,7 @@
 
 ghost use Rattle.std.specs.Prelude.{◌≡◌, ◌<◌, ◌^◌};
 ghost use Rattle.mx_word.specs.Word.{width};
-ghost use Rattle.mx_regs.specs.Regs.{register_word, with_word, register_at, with_register, byte_home, is_second_byte, no_words};
+ghost use Rattle.mx_regs.specs.Regs.{word_of_register, with_word, register_at, with_register, byte_home, is_second_byte, no_words};
 
 use mx_word::{Register, Size};
 use std::marker::Model;
@@ -16,9 +16,9 @@ pub struct Regs {
 }
 
 impl Model for Regs {
-    ghost use Rattle.mx_regs.specs.Words.{Words, words_of};
+    ghost use Rattle.mx_regs.specs.RegisterValues.{RegisterValues, words_of};
 
-    ghost Value = { Words };
+    ghost Value = { RegisterValues };
 
     ghost view = { λ r. words_of r.words };
 }
@@ -33,7 +33,7 @@ impl Regs {
 
     #[inline(always)]
     fn word(&self, register: Register) -> u32
-        ensures { result ≡ register_word self.now register }
+        ensures { result ≡ word_of_register self.now register }
     {
         self.words[register.number() as usize]
     }

@@ -7,20 +7,20 @@ use Rattle.mx_proc.specs.declared.process.State.{State}
 use Rattle.mx_proc.specs.declared.process.State.TheVariants.{Home, Ready, Out, Doomed, Sending, Calling, Receiving, Awaiting, Down}
 use Rattle.mx_proc.specs.declared.process.Partner.TheVariants.{Any}
 use Rattle.mx_proc.specs.declared.errors.Errno.TheVariants.{Dead}
-use Rattle.mx_proc.specs.Errors.{bits_of}
+use Rattle.mx_proc.specs.Errors.{errno_bits}
 use Rattle.mx_proc.specs.Queues.{tally}
 use Rattle.mx_proc.specs.Waits.{sends_of, without_from, caller_of}
 use Rattle.mx_proc.specs.States.{is_ready, is_sending, IsAlone}
 use Rattle.mx_proc.specs.Frame.{Frame, frame}
-use Rattle.mx_proc.specs.World.{World, process_at, nobody, unqueued, unblocked}
+use Rattle.mx_proc.specs.TableState.{TableState, process_at, nobody, table_after_dequeue, table_after_unblock}
 use Rattle.mx_proc.specs.Sound.{Sound}
 use Rattle.mx_ipc.specs.Calls.{goes_on}
 use Rattle.std.proofs.lemmas.List.{length-map, get_or-map}
-use Rattle.mx_proc.specs.declared.process.Cause.{Cause}
-use Rattle.mx_proc.specs.declared.process.Cause.TheVariants.{Exit}
-use Rattle.mx_proc.specs.Serving.{without_bit_of, forgotten, buried}
-use Rattle.mx_respawn.specs.Death.{callers, receivers, names, taken_out, freed, all_freed, waiting_for, died}
-use Rattle.mx_respawn.specs.Waking.{woken}
+use Rattle.mx_proc.specs.declared.process.DeathCause.{DeathCause}
+use Rattle.mx_proc.specs.declared.process.DeathCause.TheVariants.{Exit}
+use Rattle.mx_proc.specs.Serving.{without_bit_of, table_after_forgetting, table_after_burial}
+use Rattle.mx_respawn.specs.Death.{callers, receivers, receives_from_alone, table_after_taking_out, table_after_freeing, table_after_freeing_all, waiting_for, table_after_death}
+use Rattle.mx_respawn.specs.Waking.{table_after_waking}
 
 -- ---- states
 
@@ -35,7 +35,7 @@ sending_ready (Receiving x) h = refl
 sending_ready (Awaiting x) h = refl
 sending_ready (Down x) h = refl
 
-pub sending_names : (st : State) (s : ℕ) → is_sending st ≡ true → names st s ≡ false
+pub sending_names : (st : State) (s : ℕ) → is_sending st ≡ true → receives_from_alone st s ≡ false
 sending_names Sending s h = refl
 sending_names Calling s h = refl
 sending_names Home s h = refl
@@ -54,12 +54,12 @@ apart_at ps s t p n = get_or-set_other ps s t p nobody n
 chosen : {A : Type 0} (st : State) (a b c : A) → is_sending st ≡ true → cond (is_ready st) a (cond (is_sending st) b c) ≡ b
 chosen st a b c h = rw (sending_ready st h) (rw h refl)
 
-pub taken_out-sending : (w : World) (s : ℕ) → is_sending (process_at w s).state ≡ true → taken_out w s ≡ unblocked w s
-unfolding taken_out
-taken_out-sending w s h = chosen (process_at w s).state (unqueued w s) (unblocked w s) w h
+pub taken_out-sending : (w : TableState) (s : ℕ) → is_sending (process_at w s).state ≡ true → table_after_taking_out w s ≡ table_after_unblock w s
+unfolding table_after_taking_out
+taken_out-sending w s h = chosen (process_at w s).state (table_after_dequeue w s) (table_after_unblock w s) w h
 
-pub taken_out-alone : (w : World) (s : ℕ) → IsAlone (process_at w s).state → taken_out w s ≡ w
-unfolding taken_out
+pub taken_out-alone : (w : TableState) (s : ℕ) → IsAlone (process_at w s).state → table_after_taking_out w s ≡ w
+unfolding table_after_taking_out
 taken_out-alone w s h = rw (h.0) (rw (h.1) refl)
 
 -- ---- callers
@@ -118,86 +118,86 @@ tally-le true = omega arith
 tally-le false = omega arith
 
 -- once the first is freed, the others are left
-pub freed_next : (w v u : World) (s p : ℕ) → Sound w → caller_of s Any w.waits ≡ Some p → is_sending (process_at w p).state ≡ true → v ≡ unblocked w p → u ≡ goes_on v p (bits_of Dead) → u.waits ≡ v.waits
-    → all_freed u (callers s u.waits) ≡ all_freed w (callers s w.waits)
+pub freed_next : (w v u : TableState) (s p : ℕ) → Sound w → caller_of s Any w.waits ≡ Some p → is_sending (process_at w p).state ≡ true → v ≡ table_after_unblock w p → u ≡ goes_on v p (errno_bits Dead) → u.waits ≡ v.waits
+    → table_after_freeing_all u (callers s u.waits) ≡ table_after_freeing_all w (callers s w.waits)
 freed_next w v u s p h e y f g k =
-    let left : u.waits ≡ without_from p w.waits = k ∙ ap (λ (x : World). x.waits) f in
-    let is : u ≡ freed w p = g ∙ ap (λ x. goes_on x p (bits_of Dead)) (f ∙ sym (taken_out-sending w p y)) in
+    let left : u.waits ≡ without_from p w.waits = k ∙ ap (λ (x : TableState). x.waits) f in
+    let is : u ≡ table_after_freeing w p = g ∙ ap (λ x. goes_on x p (errno_bits Dead)) (f ∙ sym (taken_out-sending w p y)) in
     let once : sends_of p w.waits ≤ 1 = omega (arith, (h.each p).waiting, tally-le (is_sending (process_at w p).state)) in
-    ap (λ l. all_freed u (callers s l)) left ∙ ap (λ x. all_freed x (callers s (without_from p w.waits))) is ∙ ap (all_freed w) (sym (first_caller s p w.waits e once))
+    ap (λ l. table_after_freeing_all u (callers s l)) left ∙ ap (λ x. table_after_freeing_all x (callers s (without_from p w.waits))) is ∙ ap (table_after_freeing_all w) (sym (first_caller s p w.waits e once))
 
-pub fewer_wait : (w v u : World) (p : ℕ) → Sound w → is_sending (process_at w p).state ≡ true → v ≡ unblocked w p → u.waits ≡ v.waits → length u.waits < length w.waits
+pub fewer_wait : (w v u : TableState) (p : ℕ) → Sound w → is_sending (process_at w p).state ≡ true → v ≡ table_after_unblock w p → u.waits ≡ v.waits → length u.waits < length w.waits
 fewer_wait w v u p h y f k =
-    let left : length u.waits ≡ length (without_from p w.waits) = ap length (k ∙ ap (λ (x : World). x.waits) f) in
+    let left : length u.waits ≡ length (without_from p w.waits) = ap length (k ∙ ap (λ (x : TableState). x.waits) f) in
     let some : 0 < sends_of p w.waits = omega (arith, (h.each p).waiting, ap tally y) in
     let less : length (without_from p w.waits) < length w.waits = fewer p w.waits some in
     omega arith
 
-pub all_freed-append : (w : World) (ps qs : List ℕ) → all_freed w (ps ++ qs) ≡ all_freed (all_freed w ps) qs
+pub all_freed-append : (w : TableState) (ps qs : List ℕ) → table_after_freeing_all w (ps ++ qs) ≡ table_after_freeing_all (table_after_freeing_all w ps) qs
 all_freed-append w [] qs = refl
-all_freed-append w (p ∷ ps) qs = all_freed-append (freed w p) ps qs
+all_freed-append w (p ∷ ps) qs = all_freed-append (table_after_freeing w p) ps qs
 
 -- ---- receivers
 
 -- who receives from a slot depends on the states
-pub receivers-same : (s n : ℕ) (ps qs : List Process) → length ps ≡ length qs → ((t : ℕ) → names (get_or ps t nobody).state s ≡ names (get_or qs t nobody).state s) → receivers s n ps ≡ receivers s n qs
+pub receivers-same : (s n : ℕ) (ps qs : List Process) → length ps ≡ length qs → ((t : ℕ) → receives_from_alone (get_or ps t nobody).state s ≡ receives_from_alone (get_or qs t nobody).state s) → receivers s n ps ≡ receivers s n qs
 receivers-same s n [] [] e h = refl
 receivers-same s n [] (q ∷ qs) e h = absurd (omega arith)
 receivers-same s n (p ∷ ps) [] e h = absurd (omega arith)
 receivers-same s n (p ∷ ps) (q ∷ qs) e h =
     let later : receivers s (n + 1) ps ≡ receivers s (n + 1) qs = receivers-same s (n + 1) ps qs (omega arith) (λ t. h (suc t)) in
     ap (λ b. cond (not (n == s) && b) (n ∷ receivers s (n + 1) ps) (receivers s (n + 1) ps)) (h 0)
-    ∙ ap (λ l. cond (not (n == s) && names q.state s) (n ∷ l) l) later
+    ∙ ap (λ l. cond (not (n == s) && receives_from_alone q.state s) (n ∷ l) l) later
 
 receivers_next : (s t : ℕ) (ps : List Process) → t < length ps
-    → receivers s t (drop t ps) ≡ cond (not (t == s) && names (get_or ps t nobody).state s) (t ∷ receivers s (t + 1) (drop (t + 1) ps)) (receivers s (t + 1) (drop (t + 1) ps))
+    → receivers s t (drop t ps) ≡ cond (not (t == s) && receives_from_alone (get_or ps t nobody).state s) (t ∷ receivers s (t + 1) (drop (t + 1) ps)) (receivers s (t + 1) (drop (t + 1) ps))
 receivers_next s t ps h = let k : suc t ≡ t + 1 = omega arith in ap (receivers s t) (drop-cons ps t nobody h)
-    ∙ ap (λ i. cond (not (t == s) && names (get_or ps t nobody).state s) (t ∷ receivers s (t + 1) (drop i ps)) (receivers s (t + 1) (drop i ps))) k
+    ∙ ap (λ i. cond (not (t == s) && receives_from_alone (get_or ps t nobody).state s) (t ∷ receivers s (t + 1) (drop i ps)) (receivers s (t + 1) (drop i ps))) k
 
 -- a process goes on where it receives from a slot alone
-pub woken_is : (w : World) (s t : ℕ) → IsAlone (process_at w t).state → goes_on w t (bits_of Dead) ≡ freed w t
-woken_is w s t h = ap (λ x. goes_on x t (bits_of Dead)) (sym (taken_out-alone w t h))
+pub woken_is : (w : TableState) (s t : ℕ) → IsAlone (process_at w t).state → goes_on w t (errno_bits Dead) ≡ table_after_freeing w t
+woken_is w s t h = ap (λ x. goes_on x t (errno_bits Dead)) (sym (taken_out-alone w t h))
 
 pub none_left : (s t : ℕ) (ps : List Process) → length ps ≤ t → receivers s t (drop t ps) ≡ []
 none_left s t ps h = ap (receivers s t) (drop_of_length-le ps h)
 
-pub freed_all : (w : World) (s : ℕ) → caller_of s Any w.waits ≡ None → all_freed w (callers s w.waits) ≡ w
-freed_all w s e = ap (all_freed w) (no_caller s w.waits e)
+pub freed_all : (w : TableState) (s : ℕ) → caller_of s Any w.waits ≡ None → table_after_freeing_all w (callers s w.waits) ≡ w
+freed_all w s e = ap (table_after_freeing_all w) (no_caller s w.waits e)
 
 pub home_sending : (st : State) → st ≡ Home → is_sending st ≡ false
 home_sending st h = ap is_sending h
 
-pub home_names : (st : State) (s : ℕ) → st ≡ Home → names st s ≡ false
-home_names st s h = ap (λ x. names x s) h
+pub home_names : (st : State) (s : ℕ) → st ≡ Home → receives_from_alone st s ≡ false
+home_names st s h = ap (λ x. receives_from_alone x s) h
 
 -- once one is looked at, the later ones are left
-pub woken_next : (w u : World) (s t : ℕ) (ps : List Process) → t < length ps → process_at w t ≡ get_or ps t nobody → u ≡ woken w s t
-    → all_freed u (receivers s (t + 1) (drop (t + 1) ps)) ≡ all_freed w (receivers s t (drop t ps))
+pub woken_next : (w u : TableState) (s t : ℕ) (ps : List Process) → t < length ps → process_at w t ≡ get_or ps t nobody → u ≡ table_after_waking w s t
+    → table_after_freeing_all u (receivers s (t + 1) (drop (t + 1) ps)) ≡ table_after_freeing_all w (receivers s t (drop t ps))
 woken_next w u s t ps h same e =
     let rest = receivers s (t + 1) (drop (t + 1) ps) in
-    let b = not (t == s) && names (process_at w t).state s in
-    ap (λ x. all_freed x rest) e ∙ both w t rest b ∙ ap (λ (p : Process). all_freed w (cond (not (t == s) && names p.state s) (t ∷ rest) rest)) same ∙ ap (all_freed w) (sym (receivers_next s t ps h))
+    let b = not (t == s) && receives_from_alone (process_at w t).state s in
+    ap (λ x. table_after_freeing_all x rest) e ∙ both w t rest b ∙ ap (λ (p : Process). table_after_freeing_all w (cond (not (t == s) && receives_from_alone p.state s) (t ∷ rest) rest)) same ∙ ap (table_after_freeing_all w) (sym (receivers_next s t ps h))
   where
-    both : (w : World) (t : ℕ) (rest : List ℕ) (b : Bool) → all_freed (cond b (freed w t) w) rest ≡ all_freed w (cond b (t ∷ rest) rest)
+    both : (w : TableState) (t : ℕ) (rest : List ℕ) (b : Bool) → table_after_freeing_all (cond b (table_after_freeing w t) w) rest ≡ table_after_freeing_all w (cond b (t ∷ rest) rest)
     both w t rest true = refl
     both w t rest false = refl
 
 -- who receives from the slot alone goes on
-pub woken_goes : (w u : World) (s t v : ℕ) → t ≢ s → names (process_at w t).state s ≡ true → IsAlone (process_at w t).state → u ≡ goes_on w t v → v ≡ bits_of Dead → u ≡ woken w s t
+pub woken_goes : (w u : TableState) (s t v : ℕ) → t ≢ s → receives_from_alone (process_at w t).state s ≡ true → IsAlone (process_at w t).state → u ≡ goes_on w t v → v ≡ errno_bits Dead → u ≡ table_after_waking w s t
 woken_goes w u s t v n y a e is = rw (ne_eqb t s n) (rw y (e ∙ ap (goes_on w t) is ∙ woken_is w s t a))
 
 -- ---- the whole
 
-pub home_used : (w : World) (t : ℕ) → (process_at w t).state ≡ Home → t < length w.slots
+pub home_used : (w : TableState) (t : ℕ) → (process_at w t).state ≡ Home → t < length w.slots
 home_used w t h = elim (cases_lt t (length w.slots)) [
   | inl lt ↦ lt
   | inr ge ↦ let e : (process_at w t).state ≡ Down Exit = ap (λ (p : Process). p.state) (get_or-eq_default w.slots nobody ge) in absurd (let f : Down Exit ≡ Home = sym e ∙ h in cc)
 ]
 
-pub forgotten-at : (w : World) (s t : ℕ) → t < length w.slots → process_at (forgotten w s) t ≡ without_bit_of s (process_at w t)
+pub forgotten-at : (w : TableState) (s t : ℕ) → t < length w.slots → process_at (table_after_forgetting w s) t ≡ without_bit_of s (process_at w t)
 forgotten-at w s t b = get_or-map (without_bit_of s) w.slots t nobody nobody b
 
-pub forgotten-used : (w : World) (s : ℕ) → length (forgotten w s).slots ≡ length w.slots
+pub forgotten-used : (w : TableState) (s : ℕ) → length (table_after_forgetting w s).slots ≡ length w.slots
 forgotten-used w s = length-map w.slots (without_bit_of s)
 
 pub forgotten-state : (s : ℕ) (ps : List Process) (t : ℕ) → (get_or (map (without_bit_of s) ps) t nobody).state ≡ (get_or ps t nobody).state
@@ -205,17 +205,17 @@ forgotten-state s [] t = refl
 forgotten-state s (p ∷ ps) zero = refl
 forgotten-state s (p ∷ ps) (suc t) = forgotten-state s ps t
 
-pub buried-state : (w : World) (s : ℕ) (cause : Cause) → s < length w.slots → (process_at (buried w s cause) s).state ≡ Down cause
+pub buried-state : (w : TableState) (s : ℕ) (cause : DeathCause) → s < length w.slots → (process_at (table_after_burial w s cause) s).state ≡ Down cause
 buried-state w s cause b = ap (λ (p : Process). p.state) (get_or-set_same w.slots s _ nobody b)
 
-pub same_devices : (w n : World) → frame w ≡ frame n → w.devices ≡ n.devices
+pub same_devices : (w n : TableState) → frame w ≡ frame n → w.devices ≡ n.devices
 unfolding frame
 same_devices w n e = ap (λ (f : Frame). f.devices) e
 
 -- the steps of a death
-pub died_is : (w left fc wr f b : World) (s : ℕ) (cause : Cause) → left ≡ taken_out w s → fc ≡ all_freed left (callers s left.waits) → wr ≡ all_freed fc (receivers s 0 fc.slots)
-    → receivers s 0 fc.slots ≡ receivers s 0 left.slots → f ≡ forgotten wr s → b ≡ buried f s cause → b ≡ died w s cause
-unfolding died
+pub died_is : (w left fc wr f b : TableState) (s : ℕ) (cause : DeathCause) → left ≡ table_after_taking_out w s → fc ≡ table_after_freeing_all left (callers s left.waits) → wr ≡ table_after_freeing_all fc (receivers s 0 fc.slots)
+    → receivers s 0 fc.slots ≡ receivers s 0 left.slots → f ≡ table_after_forgetting wr s → b ≡ table_after_burial f s cause → b ≡ table_after_death w s cause
+unfolding table_after_death
 died_is w left fc wr f b s cause e1 e2 e3 e4 e5 e6 =
-    let told : wr ≡ all_freed left (waiting_for left s) = e3 ∙ ap (all_freed fc) e4 ∙ ap (λ x. all_freed x (receivers s 0 left.slots)) e2 ∙ sym (all_freed-append left (callers s left.waits) (receivers s 0 left.slots)) in
-    e6 ∙ ap (λ x. buried x s cause) (e5 ∙ ap (λ x. forgotten x s) (told ∙ ap (λ x. all_freed x (waiting_for x s)) e1))
+    let told : wr ≡ table_after_freeing_all left (waiting_for left s) = e3 ∙ ap (table_after_freeing_all fc) e4 ∙ ap (λ x. table_after_freeing_all x (receivers s 0 left.slots)) e2 ∙ sym (all_freed-append left (callers s left.waits) (receivers s 0 left.slots)) in
+    e6 ∙ ap (λ x. table_after_burial x s cause) (e5 ∙ ap (λ x. table_after_forgetting x s) (told ∙ ap (λ x. table_after_freeing_all x (waiting_for x s)) e1))

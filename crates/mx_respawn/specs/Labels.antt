@@ -2,9 +2,9 @@
 use Rattle.std.specs.Prelude.{◌≡◌, ◌⊎◌, ℕ, List, Some}
 use Rattle.mx_word.specs.declared.size.Size.{Size}
 use Rattle.mx_word.specs.declared.names.Register.{Register}
-use Rattle.mx_line.specs.declared.names.Name.{Name}
-use Rattle.mx_line.specs.Names.{name_of}
-use Rattle.mx_words.specs.Registers.{register_word, size_word}
+use Rattle.mx_text.specs.declared.names.Name.{Name}
+use Rattle.mx_text.specs.Names.{name_of}
+use Rattle.mx_insn_words.specs.Registers.{register_word, size_word}
 
 -- a word is a register or names a size
 abbrev pub IsReserved : List ℕ → Type 0

@@ -3,20 +3,20 @@ use Rattle.std.specs.Prelude.{ℕ, ◌+◌, ◌-◌, ◌^◌, ◌++◌, ◌∷�
 use Rattle.mx_proc.specs.declared.process.Process.{Process}
 use Rattle.mx_proc.specs.declared.process.State.TheVariants.{Ready}
 use Rattle.mx_proc.specs.Queues.{list_at}
-use Rattle.mx_proc.specs.World.{World, process_at}
-use Rattle.mx_load.specs.Load.{loaded}
+use Rattle.mx_proc.specs.TableState.{TableState, process_at}
+use Rattle.mx_load.specs.Load.{image_of_program}
 use Rattle.mx_respawn.specs.declared.service.Service.{Service}
 
 -- its restarts are used up, or its generation is the last one
 abbrev pub is_worn : Process → Service → Bool
-is_worn p v = nat_le v.restarts p.restarts || nat_le (2 ^ 20 - 1) p.generation
+is_worn p v = nat_le v.restarts p.restarts_used || nat_le (2 ^ 20 - 1) p.generation
 
 -- the process after a dead one: nothing of that is left but its generation and its restarts, each one more
 abbrev pub next_process : Process → Service → Process
 next_process p v = record {
   state = Ready;
   generation = p.generation + 1;
-  restarts = p.restarts + 1;
+  restarts_used = p.restarts_used + 1;
   masks = v.masks;
   level = v.level;
   best = v.best;
@@ -26,12 +26,12 @@ next_process p v = record {
   pending = replicate 34 false;
   lines = 0;
   alarm = None;
-  image = loaded v.program;
+  image = image_of_program v.program;
 }
 
 -- A RESPAWN: it is ready, at the end of the list of the service's level
-unfoldable pub respawned : World → ℕ → Service → World
-respawned w s v = record w {
+unfoldable pub table_after_respawn : TableState → ℕ → Service → TableState
+table_after_respawn w s v = record w {
   slots = slice_set w.slots s (next_process (process_at w s) v);
   ready = slice_set w.ready v.level (list_at w.ready v.level ++ s ∷ []);
 }

@@ -1,8 +1,8 @@
 -- One receiver, as `die` goes over them.
 use Rattle.std.specs.Prelude.{ℕ, ◌==◌, ◌&&◌, not, if◌then◌else◌}
-use Rattle.mx_proc.specs.World.{World, process_at}
-use Rattle.mx_respawn.specs.Death.{names, freed}
+use Rattle.mx_proc.specs.TableState.{TableState, process_at}
+use Rattle.mx_respawn.specs.Death.{receives_from_alone, table_after_freeing}
 
 -- a process goes on where it receives from a slot alone
-abbrev pub woken : World → ℕ → ℕ → World
-woken w s t = if not (t == s) && names (process_at w t).state s then freed w t else w
+abbrev pub table_after_waking : TableState → ℕ → ℕ → TableState
+table_after_waking w s t = if not (t == s) && receives_from_alone (process_at w t).state s then table_after_freeing w t else w

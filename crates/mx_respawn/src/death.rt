@@ -5,17 +5,17 @@ ghost use Rattle.mx_proc.specs.Frame.{frame};
 ghost use Rattle.mx_proc.specs.Serving.{without_bit_of};
 ghost use Rattle.mx_proc.specs.Sound.{NoneComesHome};
 ghost use Rattle.mx_proc.specs.States.{IsAlone, is_out, is_ready, is_sending};
-ghost use Rattle.mx_proc.specs.World.{process_at};
+ghost use Rattle.mx_proc.specs.TableState.{process_at};
 ghost use Rattle.mx_proc.specs.declared.process.State.TheVariants.{Home, Down};
-ghost use Rattle.mx_respawn.specs.Death.{names, taken_out, callers, receivers, all_freed, died};
-ghost use Rattle.mx_respawn.specs.Waking.{woken};
+ghost use Rattle.mx_respawn.specs.Death.{receives_from_alone, table_after_taking_out, callers, receivers, table_after_freeing_all, table_after_death};
+ghost use Rattle.mx_respawn.specs.Waking.{table_after_waking};
 
 use mx_ipc::go_on;
-use mx_proc::{Cause, Errno, Partner, Slot, Source, State, Table};
+use mx_proc::{DeathCause, Errno, Partner, Slot, Source, State, Table};
 
 /// Whether a process in this state receives from a slot alone.
 fn names(state: State, slot: Slot) -> bool
-    ensures value { result ≡ names state slot }
+    ensures value { result ≡ receives_from_alone state slot }
     ensures alone { result ≡ true → IsAlone state }
     ensures home { result ≡ true → is_out state ≡ false }
 {
@@ -27,11 +27,11 @@ fn names(state: State, slot: Slot) -> bool
 }
 
 /// Takes a process out of its queue, if it stands in one.
-#[tactic(auto, unfolding(crate::specs::Death::taken_out))]
+#[tactic(auto, unfolding(crate::specs::Death::table_after_taking_out))]
 fn take_out(table: &mut Table, slot: Slot)
     requires slot { slot < length table.old.slots }
     requires home { is_out (process_at table.old slot).state ≡ false }
-    ensures value { table.new ≡ taken_out table.old slot }
+    ensures value { table.new ≡ table_after_taking_out table.old slot }
     ensures frame { frame table.new ≡ frame table.old }
     ensures alone { IsAlone (process_at table.new slot).state }
     ensures home { is_out (process_at table.new slot).state ≡ false }
@@ -49,7 +49,7 @@ fn take_out(table: &mut Table, slot: Slot)
 fn free_callers(table: &mut Table, slot: Slot)
     requires slot { slot < length table.old.slots }
     requires alone { IsAlone (process_at table.old slot).state }
-    ensures value { table.new ≡ all_freed table.old (callers slot table.old.waits) }
+    ensures value { table.new ≡ table_after_freeing_all table.old (callers slot table.old.waits) }
     ensures frame { frame table.new ≡ frame table.old }
     ensures own { process_at table.new slot ≡ process_at table.old slot }
     ensures used { length table.new.slots ≡ length table.old.slots }
@@ -67,7 +67,7 @@ fn free_callers(table: &mut Table, slot: Slot)
 /// A process goes on where it receives from a slot alone.
 fn wake(table: &mut Table, slot: Slot, other: Slot)
     requires slot { other < length table.old.slots }
-    ensures value { table.new ≡ woken table.old slot other }
+    ensures value { table.new ≡ table_after_waking table.old slot other }
     ensures frame { frame table.new ≡ frame table.old }
     ensures own { process_at table.new slot ≡ process_at table.old slot }
     ensures others { (s : ℕ) → s ≢ other → process_at table.new s ≡ process_at table.old s }
@@ -83,7 +83,7 @@ fn wake(table: &mut Table, slot: Slot, other: Slot)
 
 /// Those that receive from a slot alone go on, in slot order.
 fn wake_receivers(table: &mut Table, slot: Slot)
-    ensures value { table.new ≡ all_freed table.old (receivers slot 0 table.old.slots) }
+    ensures value { table.new ≡ table_after_freeing_all table.old (receivers slot 0 table.old.slots) }
     ensures frame { frame table.new ≡ frame table.old }
     ensures own { process_at table.new slot ≡ process_at table.old slot }
     ensures others { (s : ℕ) → (process_at table.old s).state ≡ Home → process_at table.new s ≡ process_at table.old s }
@@ -96,10 +96,10 @@ fn wake_receivers(table: &mut Table, slot: Slot)
 }
 
 /// The process of a slot dies. It is at home, wherever it stands.
-pub fn die(table: &mut Table, slot: Slot, cause: Cause)
+pub fn die(table: &mut Table, slot: Slot, cause: DeathCause)
     requires slot { slot < length table.old.slots }
     requires home { is_out (process_at table.old slot).state ≡ false }
-    ensures value { table.new ≡ died table.old slot cause }
+    ensures value { table.new ≡ table_after_death table.old slot cause }
     ensures frame { frame table.new ≡ record (frame table.old) { devices = table.new.devices } }
     ensures used { length table.new.slots ≡ length table.old.slots }
     ensures home { (s : ℕ) → s ≢ slot → (process_at table.old s).state ≡ Home → process_at table.new s ≡ without_bit_of slot (process_at table.old s) }

@@ -1,12 +1,12 @@
 //! Names of services.
 
 ghost use Rattle.std.specs.Prelude.{◌≡◌, Some, MatchOption};
-ghost use Rattle.mx_line.specs.declared.names.Name.{Name};
-ghost use Rattle.mx_line.specs.Names.{name_of};
+ghost use Rattle.mx_text.specs.declared.names.Name.{Name};
+ghost use Rattle.mx_text.specs.Names.{name_of};
 ghost use Rattle.mx_respawn.specs.Labels.{IsReserved, IsLabel};
 
-use mx_line::{Name, name_of};
-use mx_words::{register_named, size_named};
+use mx_insn_words::{register_named, size_named};
+use mx_text::{Name, name_of};
 
 /// A name that a label may have: no register's and no size's.
 #[derive(Clone, Copy, PartialEq, Eq)]

@@ -2,11 +2,11 @@
 
 ghost use Rattle.std.specs.Prelude.{◌≡◌, ◌<◌, true, false, length};
 ghost use Rattle.mx_load.specs.Load.{IsLoadedFrom};
-ghost use Rattle.mx_proc.specs.Frame.{frame, reframed};
+ghost use Rattle.mx_proc.specs.Frame.{frame, frame_with_process};
 ghost use Rattle.mx_proc.specs.Sound.{NoneComesHome};
 ghost use Rattle.mx_proc.specs.States.{is_down};
-ghost use Rattle.mx_proc.specs.World.{process_at};
-ghost use Rattle.mx_respawn.specs.Respawn.{is_worn, next_process, respawned};
+ghost use Rattle.mx_proc.specs.TableState.{process_at};
+ghost use Rattle.mx_respawn.specs.Respawn.{is_worn, next_process, table_after_respawn};
 
 use crate::service::Service;
 use mx_exec::Image;
@@ -18,7 +18,7 @@ use mx_proc::{Process, Slot, State, Table};
 pub fn is_worn(process: &Process, service: &Service) -> bool
     ensures { result ≡ is_worn process.now service.now }
 {
-    service.restarts <= process.restarts || process.generation >= 0xF_FFFF
+    service.restarts <= process.restarts_used || process.generation >= 0xF_FFFF
 }
 
 /// The process after a dead one, from that one's own image.
@@ -33,7 +33,7 @@ fn next_process(dead: &Process, image: Image, service: &Service) -> Process
     Process {
         state: State::Ready,
         generation: dead.generation + 1,
-        restarts: dead.restarts + 1,
+        restarts_used: dead.restarts_used + 1,
         masks: service.masks,
         level: service.level,
         best: service.best,
@@ -49,14 +49,14 @@ fn next_process(dead: &Process, image: Image, service: &Service) -> Process
 
 /// The slot of a dead process gets a new one, from the service that the dead one was loaded from.
 /// Takes no memory.
-#[tactic(auto, unfolding(crate::specs::Respawn::respawned))]
+#[tactic(auto, unfolding(crate::specs::Respawn::table_after_respawn))]
 pub fn respawn(table: &mut Table, slot: Slot, service: &Service)
     requires slot { slot < length table.old.slots }
     requires down { is_down (process_at table.old slot).state ≡ true }
     requires fresh { is_worn (process_at table.old slot) service.now ≡ false }
     requires from { IsLoadedFrom (process_at table.old slot).image service.now.program }
-    ensures value { table.new ≡ respawned table.old slot service.now }
-    ensures frame { frame table.new ≡ reframed (frame table.old) slot (next_process (process_at table.old slot) service.now) }
+    ensures value { table.new ≡ table_after_respawn table.old slot service.now }
+    ensures frame { frame table.new ≡ frame_with_process (frame table.old) slot (next_process (process_at table.old slot) service.now) }
     ensures from { IsLoadedFrom (process_at table.new slot).image service.now.program }
     ensures used { length table.new.slots ≡ length table.old.slots }
     ensures settled { NoneComesHome table.old table.new }

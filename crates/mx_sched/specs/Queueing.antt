@@ -1,9 +1,9 @@
 -- How a process is queued (our choice, after the book's 2.6).
 use Rattle.std.specs.Prelude.{ℕ, ◌+◌, ◌-◌, ◌==◌, nat_lt, Bool, false, Option, Some, None, if◌then◌else◌}
 use Rattle.mx_proc.specs.declared.process.Process.{Process}
-use Rattle.mx_proc.specs.World.{World, process_at, to_front, to_end}
+use Rattle.mx_proc.specs.TableState.{TableState, process_at, table_with_first, table_with_last}
 
-abbrev pub is_last_renewed : World → ℕ → Bool
+abbrev pub is_last_renewed : TableState → ℕ → Bool
 is_last_renewed w s = is_slot w.renewed
   where
     is_slot : Option ℕ → Bool
@@ -15,5 +15,5 @@ abbrev pub next_level : Process → Bool → ℕ
 next_level p again = if again then (if nat_lt p.level 14 then p.level + 1 else 14) else (if nat_lt p.best p.level then p.level - 1 else p.best)
 
 -- with ticks left, to the front of its list; else with a new quantum, to the end of the list of the next level
-unfoldable pub queued : World → ℕ → World
-queued w s = let p = process_at w s in if nat_lt 0 p.ticks then to_front w s else to_end w s (next_level p (is_last_renewed w s))
+unfoldable pub table_after_queueing : TableState → ℕ → TableState
+table_after_queueing w s = let p = process_at w s in if nat_lt 0 p.ticks then table_with_first w s else table_with_last w s (next_level p (is_last_renewed w s))

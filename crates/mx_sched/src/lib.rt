@@ -2,12 +2,12 @@
 #![tactic(auto)]
 
 ghost use Rattle.std.specs.Prelude.{◌≡◌, ◌≢◌, ℕ, ◌<◌, true, false, length, IfSome};
-ghost use Rattle.mx_proc.specs.Queues.{picked};
+ghost use Rattle.mx_proc.specs.Queues.{first_ready};
 ghost use Rattle.mx_proc.specs.Frame.{frame};
 ghost use Rattle.mx_proc.specs.States.{IsAlone, is_ready, is_out};
-ghost use Rattle.mx_proc.specs.World.{process_at, unqueued};
+ghost use Rattle.mx_proc.specs.TableState.{process_at, table_after_dequeue};
 ghost use Rattle.mx_proc.specs.declared.process.State.TheVariants.{Ready};
-ghost use Rattle.mx_sched.specs.Queueing.{queued};
+ghost use Rattle.mx_sched.specs.Queueing.{table_after_queueing};
 
 use mx_proc::{Slot, Table};
 
@@ -16,12 +16,12 @@ const LOWEST: u8 = 14;
 
 /// Queues a process that is at home and in no queue: to the front of its list where ticks are left,
 /// else with a new quantum and perhaps on another level to the end of its list.
-#[tactic(auto, unfolding(crate::specs::Queueing::queued))]
+#[tactic(auto, unfolding(crate::specs::Queueing::table_after_queueing))]
 pub fn enqueue(table: &mut Table, slot: Slot)
     requires slot { slot < length table.old.slots }
     requires alone { IsAlone (process_at table.old slot).state }
     requires home { is_out (process_at table.old slot).state ≡ false }
-    ensures value { table.new ≡ queued table.old slot }
+    ensures value { table.new ≡ table_after_queueing table.old slot }
     ensures frame { frame table.new ≡ frame table.old }
     ensures used { length table.new.slots ≡ length table.old.slots }
     ensures waits { table.new.waits ≡ table.old.waits }
@@ -52,7 +52,7 @@ pub fn enqueue(table: &mut Table, slot: Slot)
 pub fn dequeue(table: &mut Table, slot: Slot)
     requires slot { slot < length table.old.slots }
     requires ready { is_ready (process_at table.old slot).state ≡ true }
-    ensures value { table.new ≡ unqueued table.old slot }
+    ensures value { table.new ≡ table_after_dequeue table.old slot }
     ensures frame { frame table.new ≡ frame table.old }
 {
     table.unqueue(slot);
@@ -60,7 +60,7 @@ pub fn dequeue(table: &mut Table, slot: Slot)
 
 /// The front of the lowest list that isn't empty: it is ready.
 pub fn pick(table: &Table) -> Option<Slot>
-    ensures value { result ≡ picked table.now.ready }
+    ensures value { result ≡ first_ready table.now.ready }
     ensures used { IfSome result (λ s. s < length table.now.slots) }
     ensures ready { IfSome result (λ s. is_ready (process_at table.now s).state ≡ true) }
 {

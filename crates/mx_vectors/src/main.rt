@@ -1,11 +1,11 @@
 //! Compares single steps with those that a real processor took: standard input has a case a line.
 #![tactic(auto)]
 
-pub use mx_compare::{Failure, Tally, check_all};
+pub use mx_vectors_compare::{CompareFailure, Tally, check_all};
 use std::io::{self, BufReader};
 use std::process::ExitCode;
 
-fn compare(rt: &(impl Input + Print + AllocGlobal)) -> Result<Tally, Failure> {
+fn compare(rt: &(impl Input + Print + AllocGlobal)) -> Result<Tally, CompareFailure> {
     let lines = BufReader::new(rt.alloc(), rt.reader())?;
     let mut out = io::writer(rt);
     check_all(rt.alloc(), lines, &mut out)

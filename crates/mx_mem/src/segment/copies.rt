@@ -1,7 +1,7 @@
 //! Copies of bytes within a segment and from one to another, and a segment's clearing.
 
 ghost use Rattle.std.specs.Prelude.{◌≡◌, ◌+◌, ◌≤◌, length, replicate};
-ghost use Rattle.mx_mem.specs.Segment.{overwritten, part};
+ghost use Rattle.mx_mem.specs.Segment.{with_bytes_at, part};
 
 use super::Segment;
 
@@ -10,7 +10,7 @@ use super::Segment;
 fn move_within(bytes: &mut [u8], from: usize, to: usize, count: usize)
     requires from { from + count ≤ length bytes.old }
     requires to { to + count ≤ length bytes.old }
-    ensures { bytes.new ≡ overwritten bytes.old to (part bytes.old from count) }
+    ensures { bytes.new ≡ with_bytes_at bytes.old to (part bytes.old from count) }
 {
     bytes.copy_within(from..from + count, to);
 }
@@ -21,7 +21,7 @@ impl Segment {
     pub fn copy_within(&mut self, from: u32, to: u32, count: u32)
         requires from { from + count ≤ length self.old }
         requires to { to + count ≤ length self.old }
-        ensures value { self.new ≡ overwritten self.old to (part self.old from count) }
+        ensures value { self.new ≡ with_bytes_at self.old to (part self.old from count) }
         ensures limit { length self.new ≡ length self.old }
     {
         move_within(
@@ -36,7 +36,7 @@ impl Segment {
     pub fn copy_from(&mut self, source: &Segment, from: u32, to: u32, count: u32)
         requires from { from + count ≤ length source.now }
         requires to { to + count ≤ length self.old }
-        ensures value { self.new ≡ overwritten self.old to (part source.now from count) }
+        ensures value { self.new ≡ with_bytes_at self.old to (part source.now from count) }
         ensures limit { length self.new ≡ length self.old }
     {
         let from = from as usize;

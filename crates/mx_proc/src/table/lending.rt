@@ -2,9 +2,9 @@
 
 ghost use Rattle.std.specs.Prelude.{◌≡◌, false, true, ◌+◌, ◌<◌, ◌≤◌, ◌^◌, length};
 ghost use Rattle.mx_exec.specs.Image.{blank};
-ghost use Rattle.mx_proc.specs.Frame.{frame, reframed};
+ghost use Rattle.mx_proc.specs.Frame.{frame, frame_with_process};
 ghost use Rattle.mx_proc.specs.States.{IsAlone, is_out, is_down};
-ghost use Rattle.mx_proc.specs.World.{process_at, with_state, moved_out, moved_home, spent, with_image, revived};
+ghost use Rattle.mx_proc.specs.TableState.{process_at, with_state, table_after_move_out, table_after_move_home, table_after_steps, with_image, table_after_revival};
 ghost use Rattle.mx_proc.specs.declared.process.State.TheVariants.{Home, Ready, Out, Doomed};
 
 use super::Table;
@@ -17,9 +17,9 @@ impl Table {
     pub fn lend(&mut self, slot: Slot) -> Image
         requires slot { slot < length self.old.slots }
         requires home { (process_at self.old slot).state ≡ Home }
-        ensures value { self.new ≡ moved_out self.old slot }
+        ensures value { self.new ≡ table_after_move_out self.old slot }
         ensures image { result ≡ (process_at self.old slot).image }
-        ensures frame { frame self.new ≡ reframed (frame self.old) slot (process_at self.new slot) }
+        ensures frame { frame self.new ≡ frame_with_process (frame self.old) slot (process_at self.new slot) }
     {
         let blank = Image::blank(*self.slots.allocator());
         let process = &mut self.slots[slot as usize];
@@ -31,8 +31,8 @@ impl Table {
     pub fn take_home(&mut self, slot: Slot, image: Image)
         requires slot { slot < length self.old.slots }
         requires out { is_out (process_at self.old slot).state ≡ true }
-        ensures value { self.new ≡ moved_home self.old slot image }
-        ensures frame { frame self.new ≡ reframed (frame self.old) slot (process_at self.new slot) }
+        ensures value { self.new ≡ table_after_move_home self.old slot image }
+        ensures frame { frame self.new ≡ frame_with_process (frame self.old) slot (process_at self.new slot) }
     {
         let process = &mut self.slots[slot as usize];
         process.state = State::Home;
@@ -45,8 +45,8 @@ impl Table {
         requires home { (process_at self.old slot).state ≡ Home }
         requires ticks { steps ≤ (process_at self.old slot).ticks }
         requires room { (process_at self.old slot).steps + steps < 2 ^ 64 }
-        ensures value { self.new ≡ spent self.old slot steps }
-        ensures frame { frame self.new ≡ reframed (frame self.old) slot (process_at self.new slot) }
+        ensures value { self.new ≡ table_after_steps self.old slot steps }
+        ensures frame { frame self.new ≡ frame_with_process (frame self.old) slot (process_at self.new slot) }
     {
         let process = &mut self.slots[slot as usize];
         process.ticks -= steps;
@@ -69,7 +69,7 @@ impl Table {
         requires down { is_down (process_at self.old slot).state ≡ true }
         ensures value { self.new ≡ with_image self.old slot blank }
         ensures image { result ≡ (process_at self.old slot).image }
-        ensures frame { frame self.new ≡ reframed (frame self.old) slot (process_at self.new slot) }
+        ensures frame { frame self.new ≡ frame_with_process (frame self.old) slot (process_at self.new slot) }
     {
         let blank = Image::blank(*self.slots.allocator());
         let process = &mut self.slots[slot as usize];
@@ -88,8 +88,8 @@ impl Table {
         requires best { process.best ≤ process.level }
         requires quantum { process.quantum ≤ 65535 }
         requires ticks { process.ticks ≤ 65535 }
-        ensures value { self.new ≡ revived self.old slot process }
-        ensures frame { frame self.new ≡ reframed (frame self.old) slot process }
+        ensures value { self.new ≡ table_after_revival self.old slot process }
+        ensures frame { frame self.new ≡ frame_with_process (frame self.old) slot process }
     {
         let level = process.level;
         self.slots[slot as usize] = process;

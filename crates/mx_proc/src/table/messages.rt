@@ -4,9 +4,9 @@ ghost use Rattle.std.specs.Prelude.{◌≡◌, ◌≢◌, ℕ, ◌+◌, ◌<◌,
 ghost use Rattle.std.specs.Option.{ForSome};
 ghost use Rattle.mx_proc.specs.Frame.{frame};
 ghost use Rattle.mx_proc.specs.Messages.{notification, type_of};
-ghost use Rattle.mx_proc.specs.Partners.{place_of, lines_told};
+ghost use Rattle.mx_proc.specs.Partners.{order_of_source, lines_in_notification};
 ghost use Rattle.mx_proc.specs.Sound.{HasBuffer};
-ghost use Rattle.mx_proc.specs.World.{process_at, endpoint_of, buffer_at, memory_at, with_result, received_at, delivered, noticed, with_pending, source_endpoint, logged, without_pending, message_of, with_process, IsUsedSource, pending_source};
+ghost use Rattle.mx_proc.specs.TableState.{process_at, endpoint_of, buffer_at, memory_at, with_result, with_message, table_after_delivery, table_after_notice, with_pending, source_endpoint, with_delivery_kept, without_pending, message_of, with_process, IsUsedSource, pending_source};
 
 use super::Table;
 use crate::deliveries::{Delivery, DeliveryKind};
@@ -30,7 +30,7 @@ impl Table {
     pub fn receive(&mut self, slot: Slot, message: &[u8; 36])
         requires slot { slot < length self.old.slots }
         requires inside { HasBuffer (process_at self.old slot) }
-        ensures value { self.new ≡ received_at self.old slot message.now }
+        ensures value { self.new ≡ with_message self.old slot message.now }
         ensures frame { frame self.new ≡ frame self.old }
     {
         let process = &mut self.slots[slot as usize];
@@ -40,7 +40,7 @@ impl Table {
 
     /// Keeps a delivery; the oldest past 1,024 goes.
     fn log(&mut self, from: u32, to: u32, message_type: u32, kind: DeliveryKind)
-        ensures value { self.new ≡ logged self.old from to message_type kind }
+        ensures value { self.new ≡ with_delivery_kept self.old from to message_type kind }
         ensures frame { frame self.new ≡ frame self.old }
     {
         self.deliveries.push(Delivery {
@@ -65,13 +65,13 @@ impl Table {
     }
 
     /// Brings the message of one process to another.
-    #[tactic(auto, unfolding(crate::specs::World::delivered))]
+    #[tactic(auto, unfolding(crate::specs::TableState::table_after_delivery))]
     pub fn deliver(&mut self, from: Slot, to: Slot)
         requires from { from < length self.old.slots }
         requires to { to < length self.old.slots }
         requires readable { HasBuffer (process_at self.old from) }
         requires writable { HasBuffer (process_at self.old to) }
-        ensures value { self.new ≡ delivered self.old from to }
+        ensures value { self.new ≡ table_after_delivery self.old from to }
         ensures frame { frame self.new ≡ frame self.old }
         ensures others { (s : ℕ) → s ≢ to → process_at self.new s ≡ process_at self.old s }
         ensures states { (s : ℕ) → (process_at self.new s).state ≡ (process_at self.old s).state }
@@ -102,7 +102,7 @@ impl Table {
         requires slot { slot < length self.old.slots }
         requires source { IsUsedSource self.old source }
         ensures value { self.new ≡ with_process self.old slot (without_pending (process_at self.old slot) source) }
-        ensures lines { result ≡ lines_told source (process_at self.old slot).lines }
+        ensures lines { result ≡ lines_in_notification source (process_at self.old slot).lines }
         ensures frame { frame self.new ≡ frame self.old }
     {
         let process = &mut self.slots[slot as usize];
@@ -113,12 +113,12 @@ impl Table {
     }
 
     /// Brings a notification to a process, whose pending bit for it is cleared.
-    #[tactic(auto, unfolding(crate::specs::World::noticed))]
+    #[tactic(auto, unfolding(crate::specs::TableState::table_after_notice))]
     pub fn notice(&mut self, slot: Slot, source: Source)
         requires slot { slot < length self.old.slots }
         requires source { IsUsedSource self.old source }
         requires inside { HasBuffer (process_at self.old slot) }
-        ensures value { self.new ≡ noticed self.old slot source }
+        ensures value { self.new ≡ table_after_notice self.old slot source }
         ensures frame { frame self.new ≡ frame self.old }
         ensures others { (s : ℕ) → s ≢ slot → process_at self.new s ≡ process_at self.old s }
         ensures states { (s : ℕ) → (process_at self.new s).state ≡ (process_at self.old s).state }
@@ -137,7 +137,7 @@ impl Table {
     pub fn set_pending(&mut self, slot: Slot, source: Source)
         requires slot { slot < length self.old.slots }
         requires source { IsUsedSource self.old source }
-        ensures value { self.new ≡ with_pending self.old slot (place_of source) true }
+        ensures value { self.new ≡ with_pending self.old slot (order_of_source source) true }
         ensures frame { frame self.new ≡ frame self.old }
         ensures states { (s : ℕ) → (process_at self.new s).state ≡ (process_at self.old s).state }
         ensures used { length self.new.slots ≡ length self.old.slots }

@@ -1,12 +1,12 @@
 //! Moves between states and queues. Each leaves a sound table.
 
 ghost use Rattle.std.specs.Prelude.{◌≡◌, ◌≢◌, ℕ, false, true, ◌<◌, ◌≤◌, ◌↔◌, IsTrue, IfSome, length};
-ghost use Rattle.mx_proc.specs.Queues.{picked};
+ghost use Rattle.mx_proc.specs.Queues.{first_ready};
 ghost use Rattle.mx_proc.specs.Frame.{frame};
 ghost use Rattle.mx_proc.specs.Sound.{HasBuffer};
 ghost use Rattle.mx_proc.specs.States.{IsAlone, is_ready, is_sending, is_blocked, is_out};
 ghost use Rattle.mx_proc.specs.Waits.{caller_of, next_of, leads, Reaches};
-ghost use Rattle.mx_proc.specs.World.{process_at, with_state, to_front as front_of, to_end as end_of, unqueued, unblocked, blocked};
+ghost use Rattle.mx_proc.specs.TableState.{process_at, with_state, table_with_first as front_of, table_with_last as end_of, table_after_dequeue, table_after_unblock, table_after_block};
 
 use super::Table;
 use crate::process::{Partner, Slot, State};
@@ -63,7 +63,7 @@ impl Table {
     pub fn unqueue(&mut self, slot: Slot)
         requires slot { slot < length self.old.slots }
         requires ready { is_ready (process_at self.old slot).state ≡ true }
-        ensures value { self.new ≡ unqueued self.old slot }
+        ensures value { self.new ≡ table_after_dequeue self.old slot }
         ensures frame { frame self.new ≡ frame self.old }
     {
         let process = &mut self.slots[slot as usize];
@@ -74,7 +74,7 @@ impl Table {
 
     /// The front of the lowest list that isn't empty.
     pub fn pick(&self) -> Option<Slot>
-        ensures value { result ≡ picked self.now.ready }
+        ensures value { result ≡ first_ready self.now.ready }
         ensures used { IfSome result (λ s. s < length self.now.slots) }
         ensures ready { IfSome result (λ s. is_ready (process_at self.now s).state ≡ true) }
     {
@@ -93,7 +93,7 @@ impl Table {
         requires still { is_ready state ≡ false }
         requires sends { is_sending state ≡ true }
         requires inside { HasBuffer (process_at self.old from) }
-        ensures value { self.new ≡ blocked self.old from to state }
+        ensures value { self.new ≡ table_after_block self.old from to state }
         ensures frame { frame self.new ≡ frame self.old }
     {
         let process = &mut self.slots[from as usize];
@@ -105,7 +105,7 @@ impl Table {
     pub fn unblock(&mut self, from: Slot)
         requires slot { from < length self.old.slots }
         requires sends { is_sending (process_at self.old from).state ≡ true }
-        ensures value { self.new ≡ unblocked self.old from }
+        ensures value { self.new ≡ table_after_unblock self.old from }
         ensures frame { frame self.new ≡ frame self.old }
     {
         let process = &mut self.slots[from as usize];

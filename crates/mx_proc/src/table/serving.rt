@@ -1,16 +1,16 @@
 //! What death, kernel calls, interrupt lines and the clock change.
 
 ghost use Rattle.std.specs.Prelude.{◌≡◌, ◌≢◌, ℕ, false, ◌+◌, ◌<◌, ◌≤◌, ◌^◌, ◌==◌, Some, None, IfSome, length, map, slice_set, slice_index_or, bit_or};
-ghost use Rattle.mx_mem.specs.Segment.{overwritten, part};
+ghost use Rattle.mx_mem.specs.Segment.{with_bytes_at, part};
 ghost use Rattle.mx_proc.specs.Endpoints.{names_slot};
 ghost use Rattle.mx_proc.specs.Frame.{frame};
-ghost use Rattle.mx_proc.specs.Serving.{without_bit_of, owner_but, forgotten, buried, with_alarm, with_line, with_owner, ticked_on, with_register, with_written, with_copy, copied_to};
+ghost use Rattle.mx_proc.specs.Serving.{without_bit_of, owner_but, table_after_forgetting, table_after_burial, with_alarm, with_line, with_owner, with_tick, with_device_register, with_console_byte, with_copy, process_after_copy};
 ghost use Rattle.mx_proc.specs.States.{IsAlone, is_out};
-ghost use Rattle.mx_proc.specs.World.{process_at, memory_at, nobody};
+ghost use Rattle.mx_proc.specs.TableState.{process_at, memory_at, nobody};
 
 use super::Table;
 use crate::devices::Devices;
-use crate::process::{Cause, Endpoint, Process, Slot, State};
+use crate::process::{DeathCause, Endpoint, Process, Slot, State};
 
 impl Table {
     /// Lines, registers and console.
@@ -30,7 +30,7 @@ impl Table {
     /// Clears the bits of a slot at every process, and gives up its lines.
     pub fn forget(&mut self, slot: Slot)
         requires { slot < length self.old.slots }
-        ensures value { self.new ≡ forgotten self.old slot }
+        ensures value { self.new ≡ table_after_forgetting self.old slot }
         ensures frame { frame self.new ≡ record (frame self.old) { devices = self.new.devices } }
     {
         clear_bits(self.slots.as_mut_slice(), slot);
@@ -38,11 +38,11 @@ impl Table {
     }
 
     /// A process that is at home and in no queue is down, with nothing pending.
-    pub fn bury(&mut self, slot: Slot, cause: Cause)
+    pub fn bury(&mut self, slot: Slot, cause: DeathCause)
         requires slot { slot < length self.old.slots }
         requires alone { IsAlone (process_at self.old slot).state }
         requires home { is_out (process_at self.old slot).state ≡ false }
-        ensures value { self.new ≡ buried self.old slot cause }
+        ensures value { self.new ≡ table_after_burial self.old slot cause }
         ensures frame { frame self.new ≡ frame self.old }
     {
         let process = &mut self.slots[slot as usize];
@@ -76,7 +76,7 @@ impl Table {
     /// One tick more.
     pub fn advance(&mut self)
         requires { self.old.uptime + 1 < 2 ^ 32 }
-        ensures value { self.new ≡ ticked_on self.old }
+        ensures value { self.new ≡ with_tick self.old }
         ensures frame { frame self.new ≡ record (frame self.old) { uptime = self.old.uptime + 1 } }
     {
         self.uptime += 1;
@@ -94,7 +94,7 @@ impl Table {
 
     /// Sets a register of the machine.
     pub fn set_register(&mut self, register: u8, value: u32)
-        ensures value { self.new ≡ with_register self.old register value }
+        ensures value { self.new ≡ with_device_register self.old register value }
         ensures frame { frame self.new ≡ record (frame self.old) { devices = self.new.devices } }
     {
         self.devices.registers[register as usize] = value;
@@ -103,7 +103,7 @@ impl Table {
     /// Writes a byte to the console; of those that are kept the oldest past 4,096 goes.
     pub fn write_console(&mut self, byte: u8)
         requires { self.old.devices.console.count + 1 < 2 ^ 32 }
-        ensures value { self.new ≡ with_written self.old byte }
+        ensures value { self.new ≡ with_console_byte self.old byte }
         ensures frame { frame self.new ≡ record (frame self.old) { devices = self.new.devices } }
     {
         self.devices.console.push(byte);
@@ -162,7 +162,7 @@ fn give_up(owners: &mut [Option<Slot>], slot: Slot)
 fn copy_across(source: &Process, at: u32, target: &mut Process, place: u32, count: u32)
     requires source { at + count ≤ length source.now.image.memory }
     requires destination { place + count ≤ length target.old.image.memory }
-    ensures { target.new ≡ copied_to target.old place (part source.now.image.memory at count) }
+    ensures { target.new ≡ process_after_copy target.old place (part source.now.image.memory at count) }
 {
     target
         .image
@@ -176,7 +176,7 @@ fn copy_between(processes: &mut [Process], from: usize, at: u32, to: usize, plac
     requires to { to < length processes.old }
     requires source { at + count ≤ length (slice_index_or processes.old from nobody).image.memory }
     requires destination { place + count ≤ length (slice_index_or processes.old to nobody).image.memory }
-    ensures { processes.new ≡ slice_set processes.old to (copied_to (slice_index_or processes.old to nobody) place (part (slice_index_or processes.old from nobody).image.memory at count)) }
+    ensures { processes.new ≡ slice_set processes.old to (process_after_copy (slice_index_or processes.old to nobody) place (part (slice_index_or processes.old from nobody).image.memory at count)) }
 {
     if from == to {
         processes[to].image.memory.copy_within(at, place, count);

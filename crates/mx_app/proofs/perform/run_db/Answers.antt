@@ -1,4 +1,4 @@
-use Rattle.mx_db.specs.Course.{IsDebugScript, TellsDebugScript}
+use Rattle.mx_app_db.specs.Course.{IsDebugScript, TellsDebugScript}
 use Rattle.mx_app.proofs.Telling.{told_other_of}
 use Rattle.mx_app.proofs.perform.run_db.Goals as goal
 

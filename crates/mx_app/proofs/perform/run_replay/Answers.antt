@@ -1,7 +1,7 @@
 use Rattle.std.proofs.Common.{◌≢◌}
 use Rattle.clap.proofs.TakesLemmas.{passed_up}
-use Rattle.mx_failure.specs.declared.failure.Failure.TheVariants.{NotText}
-use Rattle.mx_db.specs.Course.{IsSaved, TellsSaved}
+use Rattle.mx_app_failure.specs.declared.failure.Failure.TheVariants.{NotText}
+use Rattle.mx_app_db.specs.Course.{IsSaved, TellsSaved}
 use Rattle.mx_app.proofs.Telling.{told_other}
 use Rattle.mx_app.proofs.perform.run_replay.Goals as goal
 

@@ -1,7 +1,7 @@
 use Rattle.std.proofs.Common.{◌≡◌, ◌+◌, ◌*◌, ◌^◌, ◌≤◌, length}
-use Rattle.mx_line.specs.Lines.{lines}
-use Rattle.mx_layout.specs.Layout.{start, laid_by, SizesWithin}
-use Rattle.mx_layout.specs.View.{above_of}
+use Rattle.mx_text.specs.Lines.{lines}
+use Rattle.mx_asm.specs.Layout.{no_lines_above, laid_by, SizesWithin}
+use Rattle.mx_asm.specs.View.{above_of}
 use Rattle.mx_asm.proofs.Reading.{TakesOn, WrongsOn}
 use Rattle.mx_asm.proofs.assembling.read_lines.Given as goal
 
@@ -11,7 +11,7 @@ invariant-loop-line l = record {
   few : length l.read.lines.items ≤ 2 ^ 62;
   takes : TakesOn (above_of l.read.layout) (lines l.rest) (lines l.fn.text) l.read.lines.items;
   wrongs : WrongsOn (above_of l.read.layout) l.number (lines l.rest) (lines l.fn.text);
-  laid : above_of l.read.layout ≡ laid_by start l.read.lines.items;
+  laid : above_of l.read.layout ≡ laid_by no_lines_above l.read.lines.items;
   sizes : SizesWithin l.read.layout.sizes (length l.read.lines.items * 2 ^ 64);
 }
 

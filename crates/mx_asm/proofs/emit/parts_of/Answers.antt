@@ -1,5 +1,5 @@
 use Rattle.std.proofs.Common.{◌+◌, refl}
-use Rattle.mx_layout.specs.View.{above_of}
+use Rattle.mx_asm.specs.View.{above_of}
 use Rattle.mx_asm.proofs.Standing.{next_item, sizes_more, clean_here, clean_on}
 use Rattle.mx_asm.proofs.Lengths.{KeepsLength}
 use Rattle.mx_asm.proofs.Emitting.{completes_put, completed}

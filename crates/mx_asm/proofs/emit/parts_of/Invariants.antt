@@ -1,7 +1,7 @@
 use Rattle.std.proofs.Common.{◌≡◌, ◌+◌, ◌*◌, ◌^◌, drop, None}
-use Rattle.mx_layout.specs.Layout.{SizesWithin}
-use Rattle.mx_layout.specs.Faults.{first_problem}
-use Rattle.mx_layout.specs.View.{above_of}
+use Rattle.mx_asm.specs.Layout.{SizesWithin}
+use Rattle.mx_asm.specs.Faults.{first_problem}
+use Rattle.mx_asm.specs.View.{above_of}
 use Rattle.mx_asm.proofs.Emitting.{Completes}
 use Rattle.mx_asm.proofs.emit.parts_of.Given as goal
 

@@ -1,8 +1,8 @@
 use Rattle.std.proofs.lemmas.List.{append-nil}
 use Rattle.std.proofs.Common.{[], refl, ◌∙◌, sym}
 use Rattle.mx_word.specs.Word.{bytes_of, bytes_in}
-use Rattle.mx_layout.specs.Layout.{value_under}
-use Rattle.mx_layout.specs.View.{above_of}
+use Rattle.mx_asm.specs.Layout.{value_under}
+use Rattle.mx_asm.specs.View.{above_of}
 use Rattle.mx_asm.proofs.Emitting.{values_more, values_all, none_on, some_is_not_none}
 use Rattle.mx_asm.proofs.emit.push_values.Goals as goal
 

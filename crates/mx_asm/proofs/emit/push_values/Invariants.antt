@@ -1,9 +1,9 @@
 use Rattle.std.proofs.Common.{◌≡◌, ℕ, List, ◌++◌, map, drop, take, false, Some}
 use Rattle.std.specs.List.{list_any, flat_map}
 use Rattle.mx_word.specs.Word.{bytes_of, bytes_in}
-use Rattle.mx_layout.specs.Layout.{value_under}
-use Rattle.mx_layout.specs.Faults.{is_undefined}
-use Rattle.mx_layout.specs.View.{above_of}
+use Rattle.mx_asm.specs.Layout.{value_under}
+use Rattle.mx_asm.specs.Faults.{is_undefined}
+use Rattle.mx_asm.specs.View.{above_of}
 use Rattle.mx_asm.proofs.emit.push_values.Given as goal
 
 abbrev pub invariant-loop-value : goal.invariant-loop-value

@@ -1,7 +1,7 @@
 use Rattle.std.proofs.Common.{ℕ, List}
-use Rattle.mx_statement.specs.declared.line.Line.{Line}
+use Rattle.mx_asm_statement.specs.declared.line.Line.{Line}
 use Rattle.mx_aout.specs.declared.program.Program.{Program}
-use Rattle.mx_asm.specs.Text.{AreAccepted, Assembled}
+use Rattle.mx_asm.specs.Text.{AreLinesAccepted, IsAssembled}
 use Rattle.mx_asm.proofs.Lengths.{KeepsLength}
 use Rattle.mx_asm.proofs.Deciding.{never_program_and_fault, never_neither}
 use Rattle.mx_asm.proofs.Making.{Encodes, lines_have_program}
@@ -27,5 +27,5 @@ returns-clause-not_both c = never_program_and_fault c.one_line.ensures c.line_or
 
 pub returns-clause-not_neither : goal.returns-clause-not_neither
 returns-clause-not_neither c =
-    let have : (t : List ℕ) (ls : List Line) → AreAccepted t ls → (p : Program) × Assembled t p = returns-clause-accepted c in
+    let have : (t : List ℕ) (ls : List Line) → AreLinesAccepted t ls → (p : Program) × IsAssembled t p = returns-clause-accepted c in
     never_neither c.line_or_fault.ensures.not_neither have

@@ -1,9 +1,9 @@
 use Rattle.std.proofs.Common.{arith, ◌≡◌, ◌∙◌, length, map, sym, ap, subst, refl}
-use Rattle.mx_statement.specs.declared.statement.Section.TheVariants.{Text, Data}
-use Rattle.mx_layout.specs.View.{above_of}
-use Rattle.mx_layout.specs.Layout.{Above, left_by, start}
+use Rattle.mx_asm_statement.specs.declared.statement.Section.TheVariants.{Text, Data}
+use Rattle.mx_asm.specs.View.{above_of}
+use Rattle.mx_asm.specs.Layout.{LinesAbove, left_by, no_lines_above}
 use Rattle.mx_asm.specs.Bytes.{AllStand}
-use Rattle.mx_layout.specs.Faults.{total_of}
+use Rattle.mx_asm.specs.Faults.{total_of}
 use Rattle.mx_asm.specs.Assembled.{symbol_under, entry_under}
 use Rattle.mx_asm.proofs.Lengths.{KeepsLength}
 use Rattle.mx_asm.proofs.Emitting.{lengths_same}
@@ -17,18 +17,18 @@ returns-clause-program c =
     let law : KeepsLength = record { immediate = c.immediate_keeps_length.ensures.count; displacement = c.displacement_keeps_length.ensures.count } in
     let parts = c.in_ok-parts.ensures in
     let made = c.program_with.ensures in
-    let back : a ≡ left_by start lines (map length parts.bytes) = c.requires ∙ sym (lengths_same law a start start.sizes lines parts.bytes parts.stand) in
+    let back : a ≡ left_by no_lines_above lines (map length parts.bytes) = c.requires ∙ sym (lengths_same law a no_lines_above no_lines_above.sizes lines parts.bytes parts.stand) in
     record {
       accepted = sym c.fault_behind.ensures.fault ∙ c.in-None.is;
       bytes = parts.bytes;
-      stand = subst (λ (x : Above). AllStand x start.sizes lines parts.bytes) back parts.stand;
+      stand = subst (λ (x : LinesAbove). AllStand x no_lines_above.sizes lines parts.bytes) back parts.stand;
       text = made.text ∙ parts.text_is;
       init = made.init ∙ parts.init_is;
-      bss = made.bss ∙ ap (λ (x : Above). x.sizes.bss) back;
-      sep = made.sep ∙ ap (λ (x : Above). x.sep) back;
-      entry = made.entry ∙ ap (λ (x : Above). entry_under x x.entry) back;
+      bss = made.bss ∙ ap (λ (x : LinesAbove). x.sizes.bss) back;
+      sep = made.sep ∙ ap (λ (x : LinesAbove). x.sep) back;
+      entry = made.entry ∙ ap (λ (x : LinesAbove). entry_under x x.entry) back;
       total = made.total ∙ ap total_of back;
-      symbols = made.symbols ∙ ap (λ (x : Above). map (symbol_under x) x.labels) back;
+      symbols = made.symbols ∙ ap (λ (x : LinesAbove). map (symbol_under x) x.labels) back;
     }
 
 pub program_with-requires-clause-text : goal.program_with-requires-clause-text
@@ -37,9 +37,9 @@ program_with-requires-clause-text c =
     let a = above_of c.args.layout.now in
     let law : KeepsLength = record { immediate = c.immediate_keeps_length.ensures.count; displacement = c.displacement_keeps_length.ensures.count } in
     let parts = c.in_ok-parts.ensures in
-    let back : a ≡ left_by start lines (map length parts.bytes) = c.requires ∙ sym (lengths_same law a start start.sizes lines parts.bytes parts.stand) in
-    let size = contents_size law Text (λ b. refl) a start lines parts.bytes parts.stand in
-    ap length parts.text_is ∙ omega (arith, size, ap (λ (x : Above). x.sizes.text) back)
+    let back : a ≡ left_by no_lines_above lines (map length parts.bytes) = c.requires ∙ sym (lengths_same law a no_lines_above no_lines_above.sizes lines parts.bytes parts.stand) in
+    let size = contents_size law Text (λ b. refl) a no_lines_above lines parts.bytes parts.stand in
+    ap length parts.text_is ∙ omega (arith, size, ap (λ (x : LinesAbove). x.sizes.text) back)
 
 pub program_with-requires-clause-init : goal.program_with-requires-clause-init
 program_with-requires-clause-init c =
@@ -47,6 +47,6 @@ program_with-requires-clause-init c =
     let a = above_of c.args.layout.now in
     let law : KeepsLength = record { immediate = c.immediate_keeps_length.ensures.count; displacement = c.displacement_keeps_length.ensures.count } in
     let parts = c.in_ok-parts.ensures in
-    let back : a ≡ left_by start lines (map length parts.bytes) = c.requires ∙ sym (lengths_same law a start start.sizes lines parts.bytes parts.stand) in
-    let size = contents_size law Data (λ b. refl) a start lines parts.bytes parts.stand in
-    ap length parts.init_is ∙ omega (arith, size, ap (λ (x : Above). x.sizes.init) back)
+    let back : a ≡ left_by no_lines_above lines (map length parts.bytes) = c.requires ∙ sym (lengths_same law a no_lines_above no_lines_above.sizes lines parts.bytes parts.stand) in
+    let size = contents_size law Data (λ b. refl) a no_lines_above lines parts.bytes parts.stand in
+    ap length parts.init_is ∙ omega (arith, size, ap (λ (x : LinesAbove). x.sizes.init) back)

@@ -1,6 +1,6 @@
 use Rattle.std.proofs.Common.{◌≡◌, ◌++◌, map}
 use Rattle.mx_asm.specs.Assembled.{symbol_under}
-use Rattle.mx_layout.specs.View.{above_of}
+use Rattle.mx_asm.specs.View.{above_of}
 use Rattle.mx_asm.proofs.program.symbols_of.Given as goal
 
 abbrev pub invariant-loop-name : goal.invariant-loop-name

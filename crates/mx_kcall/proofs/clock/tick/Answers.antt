@@ -1,6 +1,6 @@
 use Rattle.std.proofs.Common.{◌≢◌, ◌∙◌, ◌<◌, ap, sym, subst, length, arith}
-use Rattle.mx_proc.specs.World.{World}
-use Rattle.mx_kcall.specs.Clock.{all_rung, ticked, due_slots}
+use Rattle.mx_proc.specs.TableState.{TableState}
+use Rattle.mx_kcall.specs.Clock.{table_after_rings, table_after_tick, due_slots}
 use Rattle.mx_kcall.proofs.FrameLemmas.{same_used, same_uptime}
 use Rattle.mx_kcall.proofs.AlarmLemmas.{rung_next, none_due}
 use Rattle.mx_kcall.proofs.clock.tick.Goals as goal
@@ -21,10 +21,10 @@ loop-slot-preserved c =
     }
 
 pub returns-clause-value : goal.returns-clause-value
-unfolding ticked
+unfolding table_after_tick
 returns-clause-value c =
-    sym (ap (all_rung c.loop-slot.table) (none_due c.advance.new.self.uptime c.loop-slot.slot c.advance.new.self.slots (omega (arith, c.loop-slot-test.false, c.loop-slot.invariant.end)))) ∙ c.loop-slot.invariant.told
-    ∙ ap (λ (w : World). all_rung w (due_slots w.uptime 0 w.slots)) c.advance.ensures.value
+    sym (ap (table_after_rings c.loop-slot.table) (none_due c.advance.new.self.uptime c.loop-slot.slot c.advance.new.self.slots (omega (arith, c.loop-slot-test.false, c.loop-slot.invariant.end)))) ∙ c.loop-slot.invariant.told
+    ∙ ap (λ (w : TableState). table_after_rings w (due_slots w.uptime 0 w.slots)) c.advance.ensures.value
 
 pub returns-clause-frame : goal.returns-clause-frame
 returns-clause-frame c = c.loop-slot.invariant.frame ∙ c.advance.ensures.frame

@@ -1,5 +1,5 @@
 use Rattle.std.proofs.Common.{◌≤◌, ◌-◌, length}
-use Rattle.mx_line.specs.Bytes.{is_word_byte}
+use Rattle.mx_text.specs.Bytes.{is_word_byte}
 use Rattle.mx_lex.specs.Bytes.{AllFrom}
 use Rattle.mx_lex.proofs.gaps.run_end.Given as goal
 

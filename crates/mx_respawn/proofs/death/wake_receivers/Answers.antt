@@ -1,7 +1,7 @@
 use Rattle.std.proofs.Common.{◌≢◌, ◌∙◌, ◌<◌, ap, sym, length, arith, inl, inr}
 use Rattle.std.proofs.lemmas.Bool.{cases_eq}
-use Rattle.mx_proc.specs.World.{process_at}
-use Rattle.mx_respawn.specs.Death.{all_freed}
+use Rattle.mx_proc.specs.TableState.{process_at}
+use Rattle.mx_respawn.specs.Death.{table_after_freeing_all}
 use Rattle.mx_respawn.proofs.DeathLemmas.{woken_next, none_left}
 use Rattle.mx_respawn.proofs.death.wake_receivers.Goals as goal
 
@@ -24,4 +24,4 @@ loop-other-preserved c =
     }
 
 pub returns-clause-value : goal.returns-clause-value
-returns-clause-value c = sym (ap (all_freed c.loop-other.table) (none_left c.args.slot c.loop-other.other c.args.table.now.slots (omega (arith, c.loop-other-test.false, c.loop-other.invariant.end)))) ∙ c.loop-other.invariant.told
+returns-clause-value c = sym (ap (table_after_freeing_all c.loop-other.table) (none_left c.args.slot c.loop-other.other c.args.table.now.slots (omega (arith, c.loop-other-test.false, c.loop-other.invariant.end)))) ∙ c.loop-other.invariant.told

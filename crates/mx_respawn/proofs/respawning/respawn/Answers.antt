@@ -1,8 +1,8 @@
 use Rattle.std.proofs.Common.{◌≡◌, ◌∙◌, ap, sym, subst}
 use Rattle.mx_load.specs.Load.{IsLoadedFrom}
 use Rattle.mx_proc.specs.declared.process.Process.{Process}
-use Rattle.mx_proc.specs.Frame.{frame, reframed}
-use Rattle.mx_proc.specs.World.{process_at}
+use Rattle.mx_proc.specs.Frame.{frame, frame_with_process}
+use Rattle.mx_proc.specs.TableState.{process_at}
 use Rattle.mx_respawn.specs.Respawn.{next_process}
 use Rattle.mx_respawn.proofs.RespawnLemmas.{next_is, respawned_is, reframed_twice, stands}
 use Rattle.mx_respawn.proofs.respawning.respawn.Goals as goal
@@ -15,8 +15,8 @@ returns-clause-value c = respawned_is c.args.table.now c.take_image-image.new.se
     c.take_image-image.ensures.value c.revive.ensures.value (the_next c)
 
 pub returns-clause-frame : goal.returns-clause-frame
-returns-clause-frame c = c.revive.ensures.frame ∙ ap (λ f. reframed f c.args.slot c.next_process-process.result) c.take_image-image.ensures.frame
-    ∙ reframed_twice (frame c.args.table.now) c.args.slot (process_at c.take_image-image.new.self c.args.slot) c.next_process-process.result ∙ ap (reframed (frame c.args.table.now) c.args.slot) (the_next c)
+returns-clause-frame c = c.revive.ensures.frame ∙ ap (λ f. frame_with_process f c.args.slot c.next_process-process.result) c.take_image-image.ensures.frame
+    ∙ reframed_twice (frame c.args.table.now) c.args.slot (process_at c.take_image-image.new.self c.args.slot) c.next_process-process.result ∙ ap (frame_with_process (frame c.args.table.now) c.args.slot) (the_next c)
 
 pub returns-clause-from : goal.returns-clause-from
 returns-clause-from c = subst (λ (p : Process). IsLoadedFrom p.image c.args.service.now.program)

@@ -1,15 +1,15 @@
 use Rattle.std.proofs.Common.{◌≡◌, ◌<◌, sym, subst}
-use Rattle.mx_kernel.specs.Situation.{recorded_as}
-use Rattle.mx_world.specs.Move.{move}
-use Rattle.mx_world.specs.Whole.{actors}
-use Rattle.mx_machine.specs.Machine.{Running, world_of}
+use Rattle.mx_machine_kernel.specs.KernelState.{recorded_as}
+use Rattle.mx_machine_world.specs.Move.{move}
+use Rattle.mx_machine_world.specs.World.{actors}
+use Rattle.mx_machine.specs.Machine.{MachineState, world_of}
 use Rattle.mx_machine.proofs.DoneLemmas.{actors-now, on, ruled}
 use Rattle.mx_machine.proofs.machine.Machine.rule.Goals as goal
 
 pub event-requires-clause-actor : goal.event-requires-clause-actor
 event-requires-clause-actor c =
     let b : c.args.actor < actors (world_of (on c.self.inside.kernel c.self.inside.outs)) =
-    subst (λ (m : Running). c.args.actor < actors (world_of m)) (sym c.self.view_is) c.requires.actor in
+    subst (λ (m : MachineState). c.args.actor < actors (world_of m)) (sym c.self.view_is) c.requires.actor in
     subst (λ n. c.args.actor < n) (actors-now (on c.self.inside.kernel c.self.inside.outs)) b
 
 pub invariant_of-self : goal.invariant_of-self
@@ -18,4 +18,4 @@ invariant_of-self c = (ruled c.self.inside.kernel c.event.new.self c.self.inside
 pub returns : goal.returns
 returns c =
     let r = ruled c.self.inside.kernel c.event.new.self c.self.inside.outs c.args.actor c.args.event c.event.result (recorded_as c.args.event) c.self.invariant c.requires.event c.event.ensures.ok c.event.ensures.err in
-    subst (λ (m : Running). move (world_of m) c.args.actor c.args.event ≡ (c.event.result, world_of (on c.event.new.self c.self.inside.outs))) c.self.view_is r.world
+    subst (λ (m : MachineState). move (world_of m) c.args.actor c.args.event ≡ (c.event.result, world_of (on c.event.new.self c.self.inside.outs))) c.self.view_is r.world

@@ -1,7 +1,7 @@
 use Rattle.std.proofs.Common.{◌≡◌, get_or, ◌<◌, length, None, slice_set, subst, arith}
-use Rattle.mx_world.specs.declared.events.Event.TheVariants.{Step}
-use Rattle.mx_world.specs.Move.{move}
-use Rattle.mx_machine.specs.Machine.{Running, world_of}
+use Rattle.mx_machine_world.specs.declared.events.Event.TheVariants.{Step}
+use Rattle.mx_machine_world.specs.Move.{move}
+use Rattle.mx_machine.specs.Machine.{MachineState, world_of}
 use Rattle.mx_machine.proofs.DoneLemmas.{any_default, none_beyond, on, step-done}
 use Rattle.mx_machine.proofs.MachineLemmas.{empty-refused}
 use Rattle.mx_machine.proofs.machine.Machine.step.Goals as goal
@@ -22,4 +22,4 @@ returns c =
     let below : c.args.cpu < length os = omega (arith, c.self.invariant.places) in
     let at = any_default os c.args.cpu None c.index-self-cpu.result below in
     let d = step-done c.self.inside.kernel os c.args.cpu (get_or os c.args.cpu c.index-self-cpu.result) c.step_held.new.held c.step_held.result c.held_runs_join.ensures below c.self.invariant at c.step_held.ensures.value c.step_held.ensures.lasting in
-    subst (λ (m : Running). move (world_of m) c.args.cpu Step ≡ (c.step_held.result, world_of (on c.self.inside.kernel (slice_set os c.args.cpu c.step_held.new.held)))) c.self.view_is d.world
+    subst (λ (m : MachineState). move (world_of m) c.args.cpu Step ≡ (c.step_held.result, world_of (on c.self.inside.kernel (slice_set os c.args.cpu c.step_held.new.held)))) c.self.view_is d.world

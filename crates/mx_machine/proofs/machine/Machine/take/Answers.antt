@@ -1,14 +1,14 @@
 use Rattle.std.proofs.Common.{◌≡◌, ◌∙◌, ◌<◌, length, Option, Some, Result, Ok, IfSome, slice_set, ap, subst, arith}
 use Rattle.std.proofs.lemmas.Result.{err_from_is_err_and}
-use Rattle.mx_proc.specs.World.{endpoint_of}
-use Rattle.mx_world.specs.declared.events.Answer.{Answer}
-use Rattle.mx_world.specs.declared.events.Answer.TheVariants.{Taken}
-use Rattle.mx_world.specs.declared.events.Event.TheVariants.{Take}
-use Rattle.mx_world.specs.declared.events.Refusal.{Refusal}
-use Rattle.mx_world.specs.History.{replay}
-use Rattle.mx_world.specs.Move.{move}
-use Rattle.mx_world.specs.Whole.{Lent, Whole}
-use Rattle.mx_machine.specs.Machine.{Running, world_of}
+use Rattle.mx_proc.specs.TableState.{endpoint_of}
+use Rattle.mx_machine_world.specs.declared.events.Answer.{Answer}
+use Rattle.mx_machine_world.specs.declared.events.Answer.TheVariants.{Taken}
+use Rattle.mx_machine_world.specs.declared.events.Event.TheVariants.{Take}
+use Rattle.mx_machine_world.specs.declared.events.Refusal.{Refusal}
+use Rattle.mx_machine_world.specs.History.{replay}
+use Rattle.mx_machine_world.specs.Move.{move}
+use Rattle.mx_machine_world.specs.World.{HeldProcess, World}
+use Rattle.mx_machine.specs.Machine.{MachineState, world_of}
 use Rattle.mx_machine.proofs.DoneLemmas.{on, take-err, take-running, took-below}
 use Rattle.mx_machine.proofs.MachineLemmas.{take-accepted, taken-answer}
 use Rattle.mx_machine.proofs.RunLemmas.{run-none}
@@ -36,8 +36,8 @@ returns c =
     let l = c.in_ok-out.ensures.lent in
     let below : c.args.cpu < length os = omega (arith, c.self.invariant.places, took-below k n os c.args.cpu l.0 c.opened.ensures.few l.1) in
     let endpoint : c.endpoint_on.result ≡ endpoint_of (replay n).table l.0.slot =
-    subst (λ (x : Option Lent). IfSome x (λ (y : Lent). c.endpoint_on.result ≡ endpoint_of (replay n).table y.slot)) l.1 c.endpoint_on.ensures in
+    subst (λ (x : Option HeldProcess). IfSome x (λ (y : HeldProcess). c.endpoint_on.result ≡ endpoint_of (replay n).table y.slot)) l.1 c.endpoint_on.ensures in
     let answer = taken-answer k n c.args.cpu c.endpoint_on.result l.0 out ok.accepted ok.world l.1 l.2 endpoint in
-    subst (λ (m : Running). move (world_of m) c.args.cpu Take ≡ (Ok (Taken c.endpoint_on.result out.budget), world_of (on n (slice_set os c.args.cpu (Some out))))) c.self.view_is
+    subst (λ (m : MachineState). move (world_of m) c.args.cpu Take ≡ (Ok (Taken c.endpoint_on.result out.budget), world_of (on n (slice_set os c.args.cpu (Some out))))) c.self.view_is
     (take-accepted k n os c.args.cpu l.0 out below ok.accepted ok.world l.1 l.2
-    ∙ ap (λ (y : Answer). let p : Result Answer Refusal × Whole = (Ok y, world_of (on n (slice_set os c.args.cpu (Some out)))) in p) answer)
+    ∙ ap (λ (y : Answer). let p : Result Answer Refusal × World = (Ok y, world_of (on n (slice_set os c.args.cpu (Some out)))) in p) answer)

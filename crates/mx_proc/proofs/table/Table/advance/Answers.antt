@@ -1,8 +1,8 @@
 use Rattle.std.proofs.Common.{◌+◌, ◌∙◌, ap}
 use Rattle.mx_proc.specs.Frame.{Frame, frame}
-use Rattle.mx_proc.specs.World.{World}
+use Rattle.mx_proc.specs.TableState.{TableState}
 use Rattle.mx_proc.proofs.ServingLemmas.{clocked}
 use Rattle.mx_proc.proofs.table.Table.advance.Goals as goal
 
 pub returns-clause-frame : goal.returns-clause-frame
-returns-clause-frame c = clocked _ _ _ c.self.view_is ∙ ap (λ (w : World). let f : Frame = record (frame c.args.self.now) { uptime = w.uptime + 1 } in f) c.self.view_is
+returns-clause-frame c = clocked _ _ _ c.self.view_is ∙ ap (λ (w : TableState). let f : Frame = record (frame c.args.self.now) { uptime = w.uptime + 1 } in f) c.self.view_is

@@ -1,6 +1,6 @@
 use Rattle.std.proofs.Common.{◌≡◌, refl, ap, sym, subst, length, true, false, ◌<◌, ◌∙◌}
 use Rattle.mx_proc.specs.States.{IsAlone, is_blocked}
-use Rattle.mx_proc.specs.World.{World, process_at}
+use Rattle.mx_proc.specs.TableState.{TableState, process_at}
 use Rattle.mx_proc.proofs.TableLemmas.{down_alone}
 use Rattle.mx_proc.proofs.SoundLemmas.{placed}
 use Rattle.mx_proc.proofs.ListLemmas.{times-push}
@@ -9,8 +9,8 @@ use Rattle.mx_proc.proofs.table.Table.revive.Goals as goal
 
 pub invariant_of-self : goal.invariant_of-self
 invariant_of-self c =
-    placed _ _ c.args.slot c.args.process.level _ c.args.process c.self.invariant (subst (λ (x : World). c.args.slot < length x.slots) (sym c.self.view_is) c.requires.slot)
-    (subst (λ (x : World). IsAlone (process_at x c.args.slot).state) (sym c.self.view_is) (down_alone _ c.requires.down)) c.requires.level refl c.requires.ready
+    placed _ _ c.args.slot c.args.process.level _ c.args.process c.self.invariant (subst (λ (x : TableState). c.args.slot < length x.slots) (sym c.self.view_is) c.requires.slot)
+    (subst (λ (x : TableState). IsAlone (process_at x c.args.slot).state) (sym c.self.view_is) (down_alone _ c.requires.down)) c.requires.level refl c.requires.ready
     (record { level = c.requires.level; best = c.requires.best; quantum = c.requires.quantum; ticks = c.requires.ticks; generation = c.requires.generation; pending = c.requires.pending; buffer = λ m. let f : false ≡ true = ap is_blocked (sym c.requires.ready) ∙ m in cc })
     refl c.push_back.ensures refl refl (λ t. times-push t c.args.slot _)
 

@@ -1,5 +1,5 @@
 use Rattle.std.proofs.Common.{refl, ap}
-use Rattle.mx_regs.specs.Words.{Words}
+use Rattle.mx_regs.specs.RegisterValues.{RegisterValues}
 use Rattle.mx_proc.proofs.TableLemmas.{alike, kept_at}
 use Rattle.mx_proc.proofs.FrameLemmas.{framed}
 use Rattle.mx_proc.proofs.table.Table.set_result.Goals as goal
@@ -13,7 +13,7 @@ invariant_of-self c = alike _ _ c.args.slot c.index_mut-process.result.now _ c.s
   generation = refl;
   ticks = refl;
   pending = refl;
-  buffer = ap (λ (r : Words). r.ebx) c.set.ensures;
+  buffer = ap (λ (r : RegisterValues). r.ebx) c.set.ensures;
   memory = refl;
 })
 

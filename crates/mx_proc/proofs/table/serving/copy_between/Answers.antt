@@ -1,7 +1,7 @@
 use Rattle.std.proofs.Common.{◌<◌, ◌≢◌, ◌++◌, ◌∙◌, ap, arith, slice_set}
 use Rattle.mx_mem.specs.Segment.{part}
 use Rattle.mx_proc.specs.declared.process.Process.{Process}
-use Rattle.mx_proc.specs.Serving.{copied_to}
+use Rattle.mx_proc.specs.Serving.{process_after_copy}
 use Rattle.mx_proc.proofs.ServingLemmas.{changed_later, changed_earlier}
 use Rattle.mx_proc.proofs.table.serving.copy_between.Goals as goal
 
@@ -10,7 +10,7 @@ returns-then-from-to-2 c =
     let low = c.split_at_mut-low.result.0.now in
     let high = c.split_at_mut-low.result.1.now in
     let e = c.split_at_mut-low.ensures in
-    let f = λ (p : Process) (q : Process). copied_to q c.args.place (part p.image.memory c.args.at c.args.count) in
+    let f = λ (p : Process) (q : Process). process_after_copy q c.args.place (part p.image.memory c.args.at c.args.count) in
     ap (λ x. low ++ slice_set high 0 x) c.copy_across.ensures
     ∙ changed_later f c.args.processes.now low high c.args.from c.args.to _ _ e.value e.front_len c.if-from-to-2.true c.requires.to
 
@@ -19,7 +19,7 @@ returns-else-from-to-2 c =
     let low = c.split_at_mut-low-else-from-to-2.result.0.now in
     let high = c.split_at_mut-low-else-from-to-2.result.1.now in
     let e = c.split_at_mut-low-else-from-to-2.ensures in
-    let f = λ (p : Process) (q : Process). copied_to q c.args.place (part p.image.memory c.args.at c.args.count) in
+    let f = λ (p : Process) (q : Process). process_after_copy q c.args.place (part p.image.memory c.args.at c.args.count) in
     let apart : c.args.from ≢ c.args.to = c.if-from-to.false in
     let less : c.args.to < c.args.from = omega (arith, c.if-from-to-2.false) in
     ap (λ x. slice_set low c.args.to x ++ high) c.copy_across-else-from-to-2.ensures

@@ -1,0 +1,188 @@
+-- What the words of a subcommand have, where the grammar finds no fault with them.
+use Rattle.std.proofs.Common.{◌≡◌, ◌∙◌, ◌<◌, ◌==◌, ℕ, Bool, true, false, cond, is_some, IfSome, refl, sym, ap, subst, arith, inl, inr, codes, drop, List, [], ◌∷◌, Option, Some, None, true≢false}
+use Rattle.std.specs.Prelude.{Ok, find, option_map, pos, unwrap_or}
+use Rattle.std.specs.List.{AllByRecursion}
+use Rattle.std.specs.Str.{bytes_eq}
+use Rattle.std.specs.Option.{option_map_or}
+use Rattle.std.specs.declared.num.ParseIntError.{ParseIntError}
+use Rattle.std.specs.Str.Parse.{IsNumeral, ParsesUnsigned, digits_value, starts_with_minus, without_leading_plus}
+use Rattle.std.proofs.lemmas.Bool.{ne_eqb}
+use Rattle.std.proofs.lemmas.Int.{ints}
+use Rattle.std.proofs.lemmas.Str.Parse.{digit_from_value}
+use Rattle.clap.specs.Words.{App, IsSignedIn, Row, Rule, Shape, Text, built, fault_of, subcommand_of, without_minus}
+use Rattle.clap.specs.Simple.{argument_words, built_leaf, entered, filled, inherited, label_of, marked_built, names_of, rows_at, with_index, with_leaf_noted}
+use Rattle.clap.specs.Faults.{defaults_fault, entered_fault, level_fault, settle_fault, walk_fault}
+use Rattle.clap.specs.Walk.{answers_to, finished, nothing_held, rows_after, settled, stop_after, walk, walk_from}
+use Rattle.clap.specs.declared.builder.value_parser.ValueParser.TheVariants.{Signed}
+use Rattle.clap.proofs.ValueTestLemmas.{accepts-Accepts}
+use Rattle.mx_app_command.specs.Words.{HasNumber, IsAsked, IsGiven, mx_grammar, of_one, of_two, one_shape, wanted, wanted_number}
+use Rattle.mx_app_command.proofs.Given.{IsOnly, SetsValue, all_found, has_wanted, no_fault, value_given}
+
+-- the grammar as a parse sees it: with the help flag, and each argument's place
+abbrev whole : App
+whole = built mx_grammar
+
+-- a subcommand as a parse sees it
+abbrev whole_of : Shape → Shape
+whole_of s = built_leaf (inherited (with_leaf_noted (marked_built mx_grammar.top)) s)
+
+without_minus-cond : (t : Text) → without_minus t ≡ cond (starts_with_minus t) (drop 1 t) t
+without_minus-cond [] = refl
+without_minus-cond (x ∷ xs) = go (x == 45)
+  where
+    go : (b : Bool) → unwrap_or (cond b (Some xs) None) (x ∷ xs) ≡ cond b xs (x ∷ xs)
+    go true = refl
+    go false = refl
+
+no_plus : (ds : Text) → IsNumeral 10 ds → without_leading_plus ds ≡ ds
+no_plus [] h = refl
+no_plus (d ∷ ds) h =
+    let plus : (d == 43) ≡ false = ne_eqb _ _ (λ e. omega (arith, digit_from_value d h.1.0)) in
+    ap (λ (b : Bool). drop (cond b 1 0) (d ∷ ds)) plus
+
+abbrev ReadsNumber : Text → Type 0
+ReadsNumber u = IsNumeral 10 (without_leading_plus u) × (digits_value 10 (without_leading_plus u) < 4294967296)
+
+-- a text that the grammar takes for N is a number of 32 bits
+number_of : (t : Text) → IsSignedIn (pos 0) (pos 4294967295) t → (n : ℕ) × ParsesUnsigned {E = ParseIntError} 32 10 (without_minus t) (Ok n)
+number_of t passed =
+    let reads : ReadsNumber (without_minus t) = subst ReadsNumber (sym (without_minus-cond t)) (go (starts_with_minus t) refl) in
+    (digits_value 10 (without_leading_plus (without_minus t)), (reads, refl))
+  where
+    go : (b : Bool) → starts_with_minus t ≡ b → ReadsNumber (cond (starts_with_minus t) (drop 1 t) t)
+    go true minus =
+        let low_ok = rw minus at passed.2 in
+        let numeral : IsNumeral 10 (drop 1 t) = rw minus at passed.0 in
+        let small : digits_value 10 (drop 1 t) < 4294967296 = omega (arith, ints) in
+        rw minus (rw (no_plus (drop 1 t) numeral) (numeral, small))
+    go false minus =
+        let low_ok = rw minus at passed.2 in
+        let high_ok = rw minus at passed.3 in
+        let numeral : IsNumeral 10 (without_leading_plus t) = rw minus at passed.0 in
+        let small : digits_value 10 (without_leading_plus t) < 4294967296 = omega (arith, ints) in
+        rw minus (numeral, small)
+
+-- ---- the subcommands of texts
+
+wanted_sets : (id : Text) (n : ℕ) → SetsValue (with_index n (filled (wanted id)))
+wanted_sets id n = record { set = refl; least = omega arith; defaults = refl; required = refl }
+
+-- a text's name is none that the help flag has
+abbrev IsOwn : Text → Type 0
+IsOwn id = bytes_eq (codes "help") id ≡ false
+
+one_text_given : (name first : Text) → IsOwn first → (words : List Text)
+    → level_fault (whole_of (of_one name first)) [] nothing_held words false [] ≡ []
+    → IsGiven first (rows_after (whole_of (of_one name first)).rules [] words)
+one_text_given name first own words fine =
+    let only : IsOnly (with_index 1 (filled (wanted first))) (whole_of (of_one name first)).rules =
+    ((λ e. refl), ((λ e. absurd (true≢false (sym e ∙ own))), tt)) in
+    ap is_some (value_given (with_index 1 (filled (wanted first))) (wanted_sets first 1) (whole_of (of_one name first)) only words (inl refl) refl fine).1
+
+two_texts_given : (name first second : Text) → IsOwn first → IsOwn second → bytes_eq second first ≡ false → bytes_eq first second ≡ false
+    → (words : List Text) → level_fault (whole_of (of_two name first second)) [] nothing_held words false [] ≡ []
+    → IsGiven first (rows_after (whole_of (of_two name first second)).rules [] words)
+    × IsGiven second (rows_after (whole_of (of_two name first second)).rules [] words)
+two_texts_given name first second own other apart back words fine =
+    let s = whole_of (of_two name first second) in
+    let a = with_index 1 (filled (wanted first)) in
+    let b = with_index 2 (filled (wanted second)) in
+    let only_a : IsOnly a s.rules = ((λ e. refl), ((λ e. absurd (true≢false (sym e ∙ apart))), ((λ e. absurd (true≢false (sym e ∙ own))), tt))) in
+    let only_b : IsOnly b s.rules = ((λ e. absurd (true≢false (sym e ∙ back))), ((λ e. refl), ((λ e. absurd (true≢false (sym e ∙ other))), tt))) in
+    (ap is_some (value_given a (wanted_sets first 1) s only_a words (inl refl) refl fine).1, ap is_some (value_given b (wanted_sets second 2) s only_b words (inr (inl refl)) refl fine).1)
+
+-- ---- `one`
+
+abbrev one_whole : Shape
+one_whole = whole_of one_shape
+
+abbrev file_rule : Rule
+file_rule = with_index 1 (filled (wanted (codes "FILE")))
+
+abbrev steps_rule : Rule
+steps_rule = with_index 2 (filled (wanted_number (codes "N")))
+
+steps_sets : SetsValue steps_rule
+steps_sets = record { set = refl; least = omega arith; defaults = refl; required = refl }
+
+only_file : IsOnly file_rule one_whole.rules
+only_file = ((λ e. refl), ((λ e. cc), ((λ e. cc), tt)))
+
+only_steps : IsOnly steps_rule one_whole.rules
+only_steps = ((λ e. cc), ((λ e. refl), ((λ e. cc), tt)))
+
+one_values : (words : List Text) → level_fault one_whole [] nothing_held words false [] ≡ []
+    → IsGiven (codes "FILE") (rows_after one_whole.rules [] words) × ((n : ℕ) × HasNumber (codes "N") (rows_after one_whole.rules [] words) n)
+one_values words fine =
+    let file = value_given file_rule (wanted_sets (codes "FILE") 1) one_whole only_file words (inl refl) refl fine in
+    let steps = value_given steps_rule steps_sets one_whole only_steps words (inr (inl refl)) refl fine in
+    let number = number_of steps.0 (accepts-Accepts steps_rule.ignore_case (Signed (pos 0) (pos 4294967295)) steps.0 steps.3) in
+    (ap is_some file.1, (number.0, (without_minus steps.0, steps.2, number.1)))
+
+-- ---- each subcommand
+
+-- the words after the subcommand's name, with which it finds no fault, have what it asks for
+abbrev Fits : Shape → Type 0
+Fits s = (words : List Text) → level_fault s [] nothing_held words false [] ≡ [] → IsAsked s.name (rows_after s.rules [] words)
+
+one_fits : Fits one_whole
+one_fits words fine = let given = one_values words fine in
+    ((λ e. absurd (true≢false (sym e))), (λ e. (given.0, inl (refl, given.1))))
+
+as_fits : Fits (whole_of (of_two (codes "as") (codes "TEXT") (codes "FILE")))
+as_fits words fine = let given = two_texts_given (codes "as") (codes "TEXT") (codes "FILE") refl refl refl refl words fine in
+    ((λ e. absurd (true≢false (sym e))), (λ e. (given.1, inr (inl (refl, given.0)))))
+
+dis_fits : Fits (whole_of (of_one (codes "dis") (codes "FILE")))
+dis_fits words fine = let given = one_text_given (codes "dis") (codes "FILE") refl words fine in
+    ((λ e. absurd (true≢false (sym e))), (λ e. (given, inr (inr (inl refl)))))
+
+nm_fits : Fits (whole_of (of_one (codes "nm") (codes "FILE")))
+nm_fits words fine = let given = one_text_given (codes "nm") (codes "FILE") refl words fine in
+    ((λ e. absurd (true≢false (sym e))), (λ e. (given, inr (inr (inr refl)))))
+
+step_fits : Fits (whole_of (of_two (codes "step") (codes "CONFIG") (codes "SCRIPT")))
+step_fits words fine = let given = two_texts_given (codes "step") (codes "CONFIG") (codes "SCRIPT") refl refl refl refl words fine in
+    ((λ e. (given.0, inl (refl, given.1))), (λ e. absurd (true≢false e)))
+
+replay_fits : Fits (whole_of (of_two (codes "replay") (codes "CONFIG") (codes "LOG")))
+replay_fits words fine = let given = two_texts_given (codes "replay") (codes "CONFIG") (codes "LOG") refl refl refl refl words fine in
+    ((λ e. (given.0, inr (inl (refl, given.1)))), (λ e. absurd (true≢false e)))
+
+db_fits : Fits (whole_of (of_two (codes "db") (codes "CONFIG") (codes "SCRIPT")))
+db_fits words fine = let given = two_texts_given (codes "db") (codes "CONFIG") (codes "SCRIPT") refl refl refl refl words fine in
+    ((λ e. (given.0, inr (inr (refl, given.1)))), (λ e. absurd (true≢false e)))
+
+all_fit : AllByRecursion Fits whole.subs
+all_fit = (one_fits, (as_fits, (dis_fits, (nm_fits, (step_fits, (replay_fits, (db_fits, tt)))))))
+
+-- ---- the words of a command line
+
+-- what a subcommand's name and rows are where there is one that fits
+abbrev Met : Option (Text × List Row) → Type 0
+Met found = (name : Text) × (rows : List Row) × (found ≡ Some (name, rows)) × IsAsked name rows
+
+found_asked : (found : Option Shape) (words : List Text) → IfSome found Fits
+    → option_map_or (λ (s : Shape). level_fault s [] nothing_held words false []) found [] ≡ []
+    → is_some (option_map (λ (s : Shape). rows_at s words) found) ≡ true
+    → Met (option_map (λ (s : Shape). rows_at s words) found)
+found_asked None words fits e there = absurd (true≢false (sym there))
+found_asked (Some s) words fits e there = (s.name, rows_after s.rules [] words, refl, fits words e)
+
+-- the words enter a subcommand, which finds no fault with those after its name
+entered_asked : (stop : Option (Text × List Text)) → entered_fault whole stop ≡ [] → is_some (entered whole stop) ≡ true → Met (entered whole stop)
+entered_asked None e there = absurd (true≢false (sym there))
+entered_asked (Some p) e there =
+    found_asked (find (λ (s : Shape). answers_to p.0 (label_of s)) whole.subs) p.1 (all_found Fits (λ (s : Shape). answers_to p.0 (label_of s)) whole.subs all_fit) e there
+
+pub words_asked : (words : List Text) → fault_of mx_grammar words ≡ [] → Met (subcommand_of mx_grammar words)
+words_asked words e =
+    let ws = argument_words mx_grammar words in
+    let stop = stop_after whole.top.rules (names_of whole) ws in
+    let walked_fine = no_fault (walk_fault whole.top (names_of whole) (walk_from nothing_held) ws) _ e in
+    let entered_fine = no_fault (entered_fault whole stop) _ walked_fine.1 in
+    let end = (walk whole.top.rules (names_of whole) nothing_held ws).held in
+    let settled_fine = no_fault (settle_fault whole.top.rules whole.top.args_override_self end) _ entered_fine.1 in
+    let defaults_fine = no_fault (defaults_fault (settled whole.top.rules end).rows whole.top.rules) _ settled_fine.1 in
+    let met : is_some (entered whole stop) ≡ true = has_wanted whole.top (finished whole.top.rules end) _ refl defaults_fine.1 in
+    entered_asked stop entered_fine.0 met

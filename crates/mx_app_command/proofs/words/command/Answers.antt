@@ -1,0 +1,55 @@
+use Rattle.std.proofs.Common.{◌≡◌, ◌∙◌, ap, map, subst, sym, List, refl}
+use Rattle.std.specs.Prelude.{None, Option, Some, option_map, unwrap_or}
+use Rattle.clap.specs.Words.{Row, Text, found_of, rows_of, subcommand_name_of, subcommand_rows_of}
+use Rattle.clap.specs.declared.parser.matches.ArgMatches.{ArgMatches}
+use Rattle.clap.specs.declared.parser.matches.ArgMatches.TheViews.{out-ArgMatches}
+use Rattle.mx_app_command.specs.Words.{Asks, AsksBy, IsAsked}
+use Rattle.mx_app_command.proofs.AskedWords.{words_asked}
+use Rattle.mx_app_command.proofs.words.command.Goals as goal
+
+firsts : {X A B : Type 0} (f : X → A) (g : X → B) (o : Option X) → option_map f o ≡ option_map (λ (q : A × B). q.0) (option_map (λ x. (f x, g x)) o)
+firsts f g None = refl
+firsts f g (Some x) = refl
+
+-- the name of the subcommand stands with its rows
+name_of_rows : (m : ArgMatches) (p : Text × List Row) → subcommand_rows_of m ≡ Some p → subcommand_name_of m ≡ Some p.0
+name_of_rows m p e = firsts _ _ (out-ArgMatches m).subcommand ∙ ap (option_map (λ (q : Text × List Row). q.0)) e
+
+-- a name and rows that a parse found are those that the words name
+module _ (m : ArgMatches) (p : Text × List Row) (entered : subcommand_rows_of m ≡ Some p) (name : Text) (rows : List Row)
+    (named : Some name ≡ subcommand_name_of m) (rowed : Some rows ≡ option_map (λ (q : Text × List Row). q.1) (subcommand_rows_of m)) where
+  name_is : name ≡ p.0
+  name_is = ap (λ (o : Option Text). unwrap_or o p.0) (named ∙ name_of_rows m p entered)
+
+  rows_is : rows ≡ p.1
+  rows_is = ap (λ (o : Option (List Row)). unwrap_or o p.1) (rowed ∙ ap (option_map (λ (q : Text × List Row). q.1)) entered)
+
+pub request_of-requires : goal.request_of-requires
+request_of-requires c =
+    let words : List Text = map (λ s. s.now) c.args.words.now in
+    let asked = words_asked words c.in_ok-matches.ensures.kinds in
+    let entered : subcommand_rows_of c.in_ok-matches.matches ≡ Some (asked.0, asked.1) = (c.in_ok-matches.ensures.matches refl).1 ∙ asked.2 in
+    let rows = rows_of (found_of c.in-Some.found.now) in
+    let name_same = name_is c.in_ok-matches.matches (asked.0, asked.1) entered c.in-Some.name.now rows c.in-Some.ensures.name c.in-Some.ensures.rows in
+    let rows_same = rows_is c.in_ok-matches.matches (asked.0, asked.1) entered c.in-Some.name.now rows c.in-Some.ensures.name c.in-Some.ensures.rows in
+    subst (λ (n : Text). IsAsked n rows) (sym name_same) (subst (λ (r : List Row). IsAsked asked.0 r) (sym rows_same) asked.3)
+
+pub returns-clause-asks : goal.returns-clause-asks
+returns-clause-asks c =
+    let words : List Text = map (λ s. s.now) c.args.words.now in
+    let asked = words_asked words c.in_ok-matches.ensures.kinds in
+    let entered : subcommand_rows_of c.in_ok-matches.matches ≡ Some (asked.0, asked.1) = (c.in_ok-matches.ensures.matches refl).1 ∙ asked.2 in
+    let rows = rows_of (found_of c.in-Some.found.now) in
+    let name_same = name_is c.in_ok-matches.matches (asked.0, asked.1) entered c.in-Some.name.now rows c.in-Some.ensures.name c.in-Some.ensures.rows in
+    let rows_same = rows_is c.in_ok-matches.matches (asked.0, asked.1) entered c.in-Some.name.now rows c.in-Some.ensures.name c.in-Some.ensures.rows in
+    let by : AsksBy c.request_of.result asked.0 asked.1 =
+    subst (λ (r : List Row). AsksBy c.request_of.result asked.0 r) rows_same (subst (λ (n : Text). AsksBy c.request_of.result n rows) name_same c.request_of.ensures) in
+    subst (Asks c.request_of.result) (sym asked.2) by
+
+pub unreachable-requires : goal.unreachable-requires
+unreachable-requires c =
+    let words : List Text = map (λ s. s.now) c.args.words.now in
+    let asked = words_asked words c.in_ok-matches.ensures.kinds in
+    let entered : subcommand_rows_of c.in_ok-matches.matches ≡ Some (asked.0, asked.1) = (c.in_ok-matches.ensures.matches refl).1 ∙ asked.2 in
+    let met : None ≡ Some asked.1 = c.in-None.ensures.rows ∙ ap (option_map (λ (q : Text × List Row). q.1)) entered in
+    cc

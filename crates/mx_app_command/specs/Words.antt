@@ -1,0 +1,131 @@
+-- The command line's grammar, and what a request says of its words.
+use Rattle.std.specs.Prelude.{◌≡◌, ◌⊎◌, ◌||◌, ◌++◌, is_some, Bool, ℕ, true, false, List, [], ◌∷◌, Option, Some, None, Ok, codes, pos}
+use Rattle.std.specs.Str.{bytes_eq}
+use Rattle.std.specs.Str.Parse.{ParsesUnsigned}
+use Rattle.std.specs.declared.num.ParseIntError.{ParseIntError}
+use Rattle.clap.specs.Words.{App, Row, Rule, Shape, Text, first_of, new_rule, one_of}
+use Rattle.clap.specs.Simple.{new_shape}
+use Rattle.clap.specs.declared.builder.action.ArgAction.TheVariants.{Set}
+use Rattle.clap.specs.declared.builder.command.Command.{Command}
+use Rattle.clap.specs.declared.builder.command.Command.TheViews.{out-Command}
+use Rattle.clap.specs.declared.builder.value_parser.ValueParser.TheVariants.{Signed}
+use Rattle.mx_app_command.specs.declared.words.CommandRequest.{CommandRequest}
+use Rattle.mx_app_command.specs.declared.words.CommandRequest.TheVariants.{One, As, Dis, Nm, Step, Replay, Db}
+
+-- ---- the grammar
+
+-- an argument that has to be given, once
+abbrev pub wanted : Text → Rule
+wanted id = record (new_rule id) { required = true; action = Some Set }
+
+-- the same, where the text is a number of 32 bits
+abbrev pub wanted_number : Text → Rule
+wanted_number id = record (wanted id) { parser = Some (Signed (pos 0) (pos 4294967295)) }
+
+-- a subcommand, by its name and its arguments
+abbrev pub subcommand : Text → List Rule → Shape
+subcommand name arguments = record (new_shape name) { rules = arguments }
+
+-- a subcommand of one text, and of two, by its name and theirs
+abbrev pub of_one : Text → Text → Shape
+of_one name first = subcommand name (wanted first ∷ [])
+
+abbrev pub of_two : Text → Text → Text → Shape
+of_two name first second = subcommand name (wanted first ∷ wanted second ∷ [])
+
+-- none of its arguments is its subcommands' too
+abbrev pub IsLocal : Command → Type 0
+IsLocal c = (out-Command c).has_globals ≡ false
+
+-- `one FILE N`
+abbrev pub one_shape : Shape
+one_shape = subcommand (codes "one") (wanted (codes "FILE") ∷ wanted_number (codes "N") ∷ [])
+
+-- one of the subcommands is wanted
+abbrev pub top_app : App
+top_app = record {
+  top = record (new_shape (codes "mx")) { subcommand_required = true; disable_help_subcommand = true };
+  subs = [];
+}
+
+-- the subcommands that work on one program
+abbrev pub program_shapes : List Shape
+program_shapes = one_shape
+    ∷ of_two (codes "as") (codes "TEXT") (codes "FILE")
+    ∷ of_one (codes "dis") (codes "FILE")
+    ∷ of_one (codes "nm") (codes "FILE")
+    ∷ []
+
+abbrev pub program_app : App
+program_app = record { top = record top_app.top { is_leaf = false }; subs = program_shapes }
+
+-- those, and the subcommands that work on a machine
+abbrev pub mx_grammar : App
+mx_grammar = record {
+  top = program_app.top;
+  subs = program_shapes
+      ++ of_two (codes "step") (codes "CONFIG") (codes "SCRIPT")
+      ∷ of_two (codes "replay") (codes "CONFIG") (codes "LOG")
+      ∷ of_two (codes "db") (codes "CONFIG") (codes "SCRIPT")
+      ∷ [];
+}
+
+-- ---- requests
+
+-- the argument's text is the number, as `u32` reads it
+abbrev pub HasNumber : Text → List Row → ℕ → Type 0
+HasNumber id rows n =
+    (text : Text) × (one_of id rows ≡ Some text)
+    × ParsesUnsigned {E = ParseIntError} 32 10 text (Ok n)
+
+-- the argument's text is this one
+abbrev pub HasText : Text → List Row → Text → Type 0
+HasText id rows text = first_of id rows ≡ Some text
+
+-- the request is what the subcommand of this name and its values ask for
+abbrev pub AsksBy : CommandRequest → Text → List Row → Type 0
+AsksBy (One file steps) name rows =
+    (name ≡ codes "one") × HasText (codes "FILE") rows file.now × HasNumber (codes "N") rows steps
+AsksBy (As text file) name rows =
+    (name ≡ codes "as") × HasText (codes "TEXT") rows text.now × HasText (codes "FILE") rows file.now
+AsksBy (Dis file) name rows = (name ≡ codes "dis") × HasText (codes "FILE") rows file.now
+AsksBy (Nm file) name rows = (name ≡ codes "nm") × HasText (codes "FILE") rows file.now
+AsksBy (Step config script) name rows =
+    (name ≡ codes "step") × HasText (codes "CONFIG") rows config.now × HasText (codes "SCRIPT") rows script.now
+AsksBy (Replay config log) name rows =
+    (name ≡ codes "replay") × HasText (codes "CONFIG") rows config.now × HasText (codes "LOG") rows log.now
+AsksBy (Db config script) name rows =
+    (name ≡ codes "db") × HasText (codes "CONFIG") rows config.now × HasText (codes "SCRIPT") rows script.now
+
+abbrev pub Asks : CommandRequest → Option (Text × List Row) → Type 0
+Asks request (Some found) = AsksBy request found.0 found.1
+Asks request None = ⊥
+
+-- ---- what a subcommand's words have
+
+-- the argument has a value
+abbrev pub IsGiven : Text → List Row → Type 0
+IsGiven id rows = is_some (first_of id rows) ≡ true
+
+-- the subcommands that work on one program: each has a file, `one` a number and `as` a text too
+abbrev pub IsProgramAsked : Text → List Row → Type 0
+IsProgramAsked name rows =
+    IsGiven (codes "FILE") rows
+    × (((name ≡ codes "one") × ((n : ℕ) × HasNumber (codes "N") rows n))
+    ⊎ (((name ≡ codes "as") × IsGiven (codes "TEXT") rows)
+    ⊎ ((name ≡ codes "dis") ⊎ (name ≡ codes "nm"))))
+
+-- those that work on a machine: each has a configuration, and a script or a history
+abbrev pub IsMachineAsked : Text → List Row → Type 0
+IsMachineAsked name rows =
+    IsGiven (codes "CONFIG") rows
+    × (((name ≡ codes "step") × IsGiven (codes "SCRIPT") rows)
+    ⊎ (((name ≡ codes "replay") × IsGiven (codes "LOG") rows)
+    ⊎ ((name ≡ codes "db") × IsGiven (codes "SCRIPT") rows)))
+
+abbrev pub is_machine : Text → Bool
+is_machine name = bytes_eq name (codes "step") || (bytes_eq name (codes "replay") || bytes_eq name (codes "db"))
+
+abbrev pub IsAsked : Text → List Row → Type 0
+IsAsked name rows =
+    (is_machine name ≡ true → IsMachineAsked name rows) × (is_machine name ≡ false → IsProgramAsked name rows)

@@ -1,0 +1,185 @@
+//! The command line's grammar, with its help.
+
+ghost use Rattle.std.specs.Prelude.{◌≡◌, IfOk, false, fold, map};
+ghost use Rattle.clap.specs.Words.{app_of, rule_of, shape_of, with_subcommand};
+ghost use Rattle.mx_app_command.specs.Words.{IsLocal, mx_grammar};
+ghost use Rattle.mx_app_command.specs.Tables.{rule_of_argument, shape_of_subcommand};
+
+use crate::help::Example;
+use clap::{Arg, ArgAction, Command};
+use std::alloc::{AllocError, Global};
+
+/// An argument of a subcommand, with a line of help.
+#[derive(Clone, Copy)]
+struct CommandArgument<'a> {
+    name: &'a str,
+    help: &'a str,
+    is_number: bool,
+}
+
+/// A subcommand, with a line of help and an example.
+#[derive(Clone, Copy)]
+struct Subcommand<'a> {
+    name: &'a str,
+    help: &'a str,
+    arguments: &'a [CommandArgument<'a>],
+    example: Option<Example>,
+}
+
+/// The program that is run or printed.
+const FILE: CommandArgument<'static> = CommandArgument {
+    name: "FILE",
+    help: "An a.out file of MINIX 3 for the 80386",
+    is_number: false,
+};
+
+/// How many steps at most.
+const STEPS: CommandArgument<'static> = CommandArgument {
+    name: "N",
+    help: "How many steps at most, 0 to 4294967295",
+    is_number: true,
+};
+
+/// The text that is assembled.
+const TEXT: CommandArgument<'static> = CommandArgument {
+    name: "TEXT",
+    help: "A text for the assembler",
+    is_number: false,
+};
+
+/// The program that is made.
+const WRITTEN: CommandArgument<'static> = CommandArgument {
+    name: "FILE",
+    help: "The a.out file to write",
+    is_number: false,
+};
+
+/// The machine that is started.
+const CONFIG: CommandArgument<'static> = CommandArgument {
+    name: "CONFIG",
+    help: "The processors, and the services with their programs' files",
+    is_number: false,
+};
+
+/// What happens to it.
+const SCRIPT: CommandArgument<'static> = CommandArgument {
+    name: "SCRIPT",
+    help: "What happens, an event a line",
+    is_number: false,
+};
+
+/// What happened to it.
+const LOG: CommandArgument<'static> = CommandArgument {
+    name: "LOG",
+    help: "A saved history, a record a line",
+    is_number: false,
+};
+
+/// What happens to it, and what is looked at.
+const COMMANDS: CommandArgument<'static> = CommandArgument {
+    name: "SCRIPT",
+    help: "Events and what to look at, one a line",
+    is_number: false,
+};
+
+/// The subcommands, those that work on one program first.
+static SUBCOMMANDS: [Subcommand<'static>; 7] = [
+    Subcommand {
+        name: "one",
+        help: "Runs one program for at most N steps and prints its registers, flags and how it stopped",
+        arguments: &[FILE, STEPS],
+        example: None,
+    },
+    Subcommand {
+        name: "as",
+        help: "Assembles a text to a program",
+        arguments: &[TEXT, WRITTEN],
+        example: Some(Example::As),
+    },
+    Subcommand {
+        name: "dis",
+        help: "Prints the instructions of a program, one a line",
+        arguments: &[FILE],
+        example: None,
+    },
+    Subcommand {
+        name: "nm",
+        help: "Prints the symbols of a program, one a line",
+        arguments: &[FILE],
+        example: None,
+    },
+    Subcommand {
+        name: "step",
+        help: "Runs a machine by a script and prints its answers and a report",
+        arguments: &[CONFIG, SCRIPT],
+        example: Some(Example::Step),
+    },
+    Subcommand {
+        name: "replay",
+        help: "Runs a saved history again and prints the report",
+        arguments: &[CONFIG, LOG],
+        example: Some(Example::Replay),
+    },
+    Subcommand {
+        name: "db",
+        help: "Runs a machine by a script with breakpoints, and looks into it",
+        arguments: &[CONFIG, COMMANDS],
+        example: Some(Example::Db),
+    },
+];
+
+/// An argument that has to be given, once.
+fn wanted<'a>(alloc: Global, argument: &CommandArgument<'a>) -> Arg<'a>
+    ensures rule { rule_of result ≡ rule_of_argument argument.now }
+    ensures local { result.global ≡ false }
+{
+    let arg = Arg::new(alloc, argument.name)
+        .required(true)
+        .action(ArgAction::Set)
+        .help(argument.help);
+    if argument.is_number {
+        arg.value_parser(clap::value_parser!(u32))
+    } else {
+        arg
+    }
+}
+
+/// A subcommand with its arguments and its help.
+fn made<'a>(alloc: Global, subcommand: &Subcommand<'a>) -> Result<Command<'a>, AllocError>
+    ensures shape { IfOk result (λ c. shape_of c ≡ shape_of_subcommand subcommand.now) }
+    ensures local { IfOk result IsLocal }
+{
+    let mut command = Command::new(alloc, subcommand.name).about(subcommand.help);
+    if let Some(example) = subcommand.example {
+        command = command.after_help(example.text());
+    }
+    for argument in subcommand.arguments {
+        command = command.arg(wanted(alloc, argument))?;
+    }
+    Ok(command)
+}
+
+/// Adds subcommands in turn.
+fn with_all<'a>(
+    alloc: Global,
+    mut line: Command<'a>,
+    subcommands: &[Subcommand<'a>],
+) -> Result<Command<'a>, AllocError>
+    ensures app { IfOk result (λ c. app_of c ≡ fold with_subcommand (app_of line.entry) (map shape_of_subcommand subcommands.now)) }
+{
+    for subcommand in subcommands {
+        line = line.subcommand(made(alloc, subcommand)?)?;
+    }
+    Ok(line)
+}
+
+/// The command line's grammar, with its help.
+pub fn grammar<'a>(alloc: Global) -> Result<Command<'a>, AllocError>
+    ensures app { IfOk result (λ c. app_of c ≡ mx_grammar) }
+{
+    let line = Command::new(alloc, "mx")
+        .about("A machine for the process layer of MINIX 3.1")
+        .subcommand_required(true)
+        .disable_help_subcommand(true);
+    with_all(alloc, line, &SUBCOMMANDS)
+}

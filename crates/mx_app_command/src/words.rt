@@ -1,0 +1,125 @@
+//! The command line.
+
+ghost use Rattle.std.specs.Prelude.{◌≡◌, ℕ, IfErr, IfOk, codes, false, is_some, map, true};
+ghost use Rattle.clap.specs.Words.{FailsBy, HasMatchesOf, fault_of, first_of, found_of, kind_of, rows_of, subcommand_of, takes};
+ghost use Rattle.mx_app_command.specs.Words.{Asks, AsksBy, HasNumber, HasText, IsAsked, IsMachineAsked, IsProgramAsked, is_machine, mx_grammar};
+
+use crate::grammar::grammar;
+use clap::error::ErrorKind;
+use clap::{ArgMatches, Error};
+use std::alloc::Global;
+
+/// What the words of a command line ask for.
+#[derive(Clone, Copy, Debug, PartialEq, Eq)]
+pub enum CommandRequest<'a> {
+    /// `one FILE N`.
+    One { file: &'a str, steps: u32 },
+    /// `as TEXT FILE`.
+    As { text: &'a str, file: &'a str },
+    /// `dis FILE`.
+    Dis { file: &'a str },
+    /// `nm FILE`.
+    Nm { file: &'a str },
+    /// `step CONFIG SCRIPT`.
+    Step { config: &'a str, script: &'a str },
+    /// `replay CONFIG LOG`.
+    Replay { config: &'a str, log: &'a str },
+    /// `db CONFIG SCRIPT`.
+    Db { config: &'a str, script: &'a str },
+}
+
+/// The value that an argument has, which is there.
+fn value_asked<'a>(matches: &ArgMatches<'a>, id: &str) -> &'a str
+    requires { is_some (first_of id.now (rows_of (found_of matches.now))) ≡ true }
+    ensures { HasText id.now (rows_of (found_of matches.now)) result.now }
+{
+    matches.get_str(id).unwrap()
+}
+
+/// The number that an argument has, which is there.
+fn number_asked(matches: &ArgMatches<'_>, id: &str) -> u32
+    requires { (n : ℕ) × HasNumber id.now (rows_of (found_of matches.now)) n }
+    ensures { HasNumber id.now (rows_of (found_of matches.now)) result }
+{
+    matches.get_one::<u32>(id).unwrap()
+}
+
+/// What the words of a subcommand on one program ask for.
+fn program_request<'a>(name: &str, matches: &ArgMatches<'a>) -> CommandRequest<'a>
+    requires { IsProgramAsked name.now (rows_of (found_of matches.now)) }
+    ensures { AsksBy result name.now (rows_of (found_of matches.now)) }
+{
+    let file = value_asked(matches, "FILE");
+    if name == "one" {
+        let steps = number_asked(matches, "N");
+        CommandRequest::One { file, steps }
+    } else if name == "as" {
+        let text = value_asked(matches, "TEXT");
+        CommandRequest::As { text, file }
+    } else if name == "dis" {
+        CommandRequest::Dis { file }
+    } else {
+        CommandRequest::Nm { file }
+    }
+}
+
+/// What the words of a subcommand on a machine ask for.
+fn machine_request<'a>(name: &str, matches: &ArgMatches<'a>) -> CommandRequest<'a>
+    requires { IsMachineAsked name.now (rows_of (found_of matches.now)) }
+    ensures { AsksBy result name.now (rows_of (found_of matches.now)) }
+{
+    let config = value_asked(matches, "CONFIG");
+    if name == "replay" {
+        let log = value_asked(matches, "LOG");
+        return CommandRequest::Replay { config, log };
+    }
+    let script = value_asked(matches, "SCRIPT");
+    if name == "step" {
+        CommandRequest::Step { config, script }
+    } else {
+        CommandRequest::Db { config, script }
+    }
+}
+
+/// Whether the subcommand of this name works on a machine.
+fn is_machine(name: &str) -> bool
+    ensures { result ≡ is_machine name.now }
+{
+    name == "step" || name == "replay" || name == "db"
+}
+
+/// What a subcommand's words ask for.
+fn request_of<'a>(name: &str, matches: &ArgMatches<'a>) -> CommandRequest<'a>
+    requires { IsAsked name.now (rows_of (found_of matches.now)) }
+    ensures { AsksBy result name.now (rows_of (found_of matches.now)) }
+{
+    if is_machine(name) {
+        machine_request(name, matches)
+    } else {
+        program_request(name, matches)
+    }
+}
+
+/// What clap finds in the words of a command line.
+fn matches_of<'a>(alloc: Global, words: &'a [&'a str]) -> Result<ArgMatches<'a>, Error>
+    ensures matches { IfOk result (λ m. HasMatchesOf mx_grammar (map (λ s. s.now) words.now) m) }
+    ensures passes { IfErr result (λ e. takes mx_grammar (map (λ s. s.now) words.now) ≡ true
+        → kind_of e ≡ ErrorKind.OutOfMemory) }
+    ensures kinds { FailsBy (fault_of mx_grammar (map (λ s. s.now) words.now)) result }
+{
+    grammar(alloc)?.try_get_matches_from(words)
+}
+
+/// Reads the words of a command line, the program's own name first.
+pub fn command<'a>(alloc: Global, words: &'a [&'a str]) -> Result<CommandRequest<'a>, Error>
+    ensures asks { IfOk result (λ r. Asks r (subcommand_of mx_grammar (map (λ s. s.now) words.now))) }
+    ensures passes { IfErr result (λ e. takes mx_grammar (map (λ s. s.now) words.now) ≡ true
+        → kind_of e ≡ ErrorKind.OutOfMemory) }
+    ensures kinds { FailsBy (fault_of mx_grammar (map (λ s. s.now) words.now)) result }
+{
+    let matches = matches_of(alloc, words)?;
+    match matches.subcommand() {
+        Some((name, found)) => Ok(request_of(name, found)),
+        None => unreachable!(),
+    }
+}

@@ -1,0 +1,52 @@
+use Rattle.std.specs.Prelude.{string_bytes}
+use Rattle.mx_app_step.specs.Machine.{world_of}
+use Rattle.mx_app_db.proofs.Made.{always, both, plain_of, broken_of, cleared_of}
+use Rattle.mx_app_db.proofs.Told.{told_by, plain_told, broken_told, cleared_told, go_told, registers_told, memory_told, messages_told}
+use Rattle.mx_app_db.proofs.lines.perform_debug_line.Goals as goal
+
+pub returns-in-Plain-clause-made : goal.returns-in-Plain-clause-made
+returns-in-Plain-clause-made c =
+    always _ c.writeln.result (plain_of c.args.other (world_of c.args.machine.now) (world_of c.perform_line-said.new.machine) c.args.debugger.now _ c.perform_line-said.result c.args.line.now c.in-Plain.is c.perform_line-said.ensures.made)
+
+pub returns-in-Break-clause-made : goal.returns-in-Break-clause-made
+returns-in-Break-clause-made c =
+    always _ c.push_done.result (broken_of c.args.other c.args.machine.now c.kernel.result.now c.args.debugger.now c.set_breakpoint.new.debugger _ _ c.set_breakpoint.result c.args.line.now c.in-Break.is c.kernel.ensures c.set_breakpoint.ensures)
+
+pub returns-in-Clear-clause-made : goal.returns-in-Clear-clause-made
+returns-in-Clear-clause-made c =
+    always _ c.push_done-in-Clear.result (cleared_of c.args.other c.args.machine.now c.kernel-in-Clear.result.now c.args.debugger.now c.clear_breakpoint.new.debugger _ _ c.clear_breakpoint.result c.args.line.now c.in-Clear.is c.kernel-in-Clear.ensures c.clear_breakpoint.ensures)
+
+pub returns-in-Plain-clause-told : goal.returns-in-Plain-clause-told
+returns-in-Plain-clause-told c =
+    told_by c.writeln.result c.args.other (both (world_of c.args.machine.now) c.args.debugger.now) c.args.line.now _ (string_bytes c.args.text.now) (string_bytes c.writeln.new.self) _ c.in-Plain.is
+    (plain_told c.args.other (world_of c.args.machine.now) (world_of c.perform_line-said.new.machine) c.args.debugger.now _ c.perform_line-said.result c.perform_line-said.ensures.made) c.writeln.ensures.bytes
+
+pub returns-in-Break-clause-told : goal.returns-in-Break-clause-told
+returns-in-Break-clause-told c =
+    told_by c.push_done.result c.args.other (both (world_of c.args.machine.now) c.args.debugger.now) c.args.line.now _ (string_bytes c.args.text.now) (string_bytes c.push_done.new.text) _ c.in-Break.is
+    (broken_told c.args.other c.args.machine.now c.kernel.result.now c.args.debugger.now c.set_breakpoint.new.debugger _ _ c.set_breakpoint.result c.kernel.ensures c.set_breakpoint.ensures) c.push_done.ensures
+
+pub returns-in-Clear-clause-told : goal.returns-in-Clear-clause-told
+returns-in-Clear-clause-told c =
+    told_by c.push_done-in-Clear.result c.args.other (both (world_of c.args.machine.now) c.args.debugger.now) c.args.line.now _ (string_bytes c.args.text.now) (string_bytes c.push_done-in-Clear.new.text) _ c.in-Clear.is
+    (cleared_told c.args.other c.args.machine.now c.kernel-in-Clear.result.now c.args.debugger.now c.clear_breakpoint.new.debugger _ _ c.clear_breakpoint.result c.kernel-in-Clear.ensures c.clear_breakpoint.ensures) c.push_done-in-Clear.ensures
+
+pub returns-in-Go-clause-told : goal.returns-in-Go-clause-told
+returns-in-Go-clause-told c =
+    told_by c.perform_go.result c.args.other (both (world_of c.args.machine.now) c.args.debugger.now) c.args.line.now _ (string_bytes c.args.text.now) (string_bytes c.perform_go.new.text) _ c.in-Go.is
+    (go_told c.args.other (both (world_of c.args.machine.now) c.args.debugger.now) _ _) c.perform_go.ensures.told
+
+pub returns-in-Registers-clause-told : goal.returns-in-Registers-clause-told
+returns-in-Registers-clause-told c =
+    told_by c.show_registers.result c.args.other (both (world_of c.args.machine.now) c.args.debugger.now) c.args.line.now _ (string_bytes c.args.text.now) (string_bytes c.show_registers.new.text) _ c.in-Registers.is
+    (registers_told c.args.other (both (world_of c.args.machine.now) c.args.debugger.now) _) c.show_registers.ensures
+
+pub returns-in-Memory-clause-told : goal.returns-in-Memory-clause-told
+returns-in-Memory-clause-told c =
+    told_by c.show_memory.result c.args.other (both (world_of c.args.machine.now) c.args.debugger.now) c.args.line.now _ (string_bytes c.args.text.now) (string_bytes c.show_memory.new.text) _ c.in-Memory.is
+    (memory_told c.args.other (both (world_of c.args.machine.now) c.args.debugger.now) _ _ _) c.show_memory.ensures
+
+pub returns-in-Messages-clause-told : goal.returns-in-Messages-clause-told
+returns-in-Messages-clause-told c =
+    told_by c.push_messages.result c.args.other (both (world_of c.args.machine.now) c.args.debugger.now) c.args.line.now _ (string_bytes c.args.text.now) (string_bytes c.push_messages.new.out) _ c.in-Messages.is
+    (messages_told c.args.other c.args.machine.now c.kernel-in-Messages.result.now c.args.debugger.now c.kernel-in-Messages.ensures) c.push_messages.ensures

@@ -1,0 +1,13 @@
+use Rattle.std.proofs.Common.{◌≡◌, ◌++◌, Option, subst, OnOk}
+use Rattle.std.specs.Prelude.{string_bytes}
+use Rattle.mx_exec.specs.declared.image.Image.{Image}
+use Rattle.mx_app_step.specs.Machine.{world_of}
+use Rattle.mx_machine_world.specs.World.{held_by}
+use Rattle.mx_print_answers.specs.Processes.{memory_text}
+use Rattle.mx_app_db.proofs.Told.{image_told}
+use Rattle.mx_app_db.proofs.lines.show_memory.Goals as goal
+
+pub returns : goal.returns
+returns c =
+    subst (λ (x : Option Image). OnOk c.push_memory.result (string_bytes c.push_memory.new.out ≡ string_bytes c.args.text.now ++ memory_text x c.args.from c.args.count))
+    (image_told c.image.result (held_by (world_of c.args.machine.now) c.args.cpu) c.image.ensures) c.push_memory.ensures

@@ -1,0 +1,10 @@
+pub mod Places
+pub mod Going
+pub mod Lines
+pub mod Told
+pub use Rattle.mx_app_step.specs.Asked
+pub use Rattle.mx_app_step.specs.Setup
+pub use Rattle.mx_app_step.specs.Telling
+pub use Rattle.mx_app_step.specs.Config
+pub use Rattle.mx_app_step.specs.ServiceLine
+pub use Rattle.mx_app_step.specs.Course

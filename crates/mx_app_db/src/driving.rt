@@ -1,0 +1,69 @@
+//! `mx db`.
+
+ghost use Rattle.std.specs.Prelude.{◌≡◌, ◌<◌, ◌++◌, List, [], IfErr, OnOk};
+ghost use Rattle.std.specs.Io.KnownBytes.{Appends};
+ghost use Rattle.mx_app_step.specs.Failure.{IsWanting};
+ghost use Rattle.mx_app_step.specs.Machine.{world_of};
+ghost use Rattle.mx_app_step.specs.Report.{report_text};
+ghost use Rattle.mx_app_step.specs.Service.{Service};
+ghost use Rattle.mx_boot_script.specs.declared.debug.DebugLine.{DebugLine as Line};
+ghost use Rattle.mx_app_step.specs.Config.{Config};
+ghost use Rattle.mx_app_step.specs.Asked.{Asked};
+ghost use Rattle.mx_app_step.specs.Course.{IsDebugScript, TellsDebugScript};
+ghost use Rattle.mx_app_step.specs.Setup.{IsStart};
+ghost use Rattle.mx_app_step.specs.Telling.{IsTold};
+ghost use Rattle.mx_machine_world.specs.Boot.{world_at_boot};
+ghost use Rattle.mx_machine_world.specs.World.{actors};
+ghost use Rattle.mx_app_db.specs.Lines.{DebuggedWorld, debug_lines_made};
+ghost use Rattle.mx_app_db.specs.Told.{debug_lines_text};
+
+use crate::lines::perform_debug_lines;
+use mx_app_step::{DebugScript, Failure, Machine, Reader, print_report, print_text, start};
+use mx_boot_script::DebugLine;
+use mx_print_answers::Debugger;
+use std::alloc::Global;
+use std::io::Write;
+
+/// Does what lines say to a machine with no breakpoints, prints what is said of each, and then the report.
+fn print_lines<W: Write>(
+    alloc: Global,
+    machine: &mut Machine,
+    other: u8,
+    lines: &[DebugLine],
+    out: &mut W,
+) -> Result<(), Failure>
+    requires { other < actors (world_of machine.old) }
+    ensures err { IfErr result IsWanting }
+    ensures printed { OnOk result (let d : DebuggedWorld = record { world = world_of machine.old; points = [] } in
+        let e = debug_lines_made other d lines.now in
+        Appends (W.contents out.old) (W.contents out.new) (debug_lines_text other d lines.now ++ report_text e.world.table e.world.services)) }
+{
+    let mut debugger = Debugger::new();
+    let mut text = String::new(alloc);
+    let done = perform_debug_lines(machine, &mut debugger, other, lines, &mut text);
+    print_text(text.as_bytes(), out)?;
+    done?;
+    print_report(alloc, machine, out)
+}
+
+/// Starts a machine by the names of its configuration and of a debugger's script, prints what is said of
+/// each line of the script, and then the report. What was said before memory was wanting is printed.
+pub fn db<R: Reader, W: Write>(
+    alloc: Global,
+    reader: &mut R,
+    config: &str,
+    script: &str,
+    out: &mut W,
+) -> Result<(), Failure>
+    ensures printed { OnOk result ((qs : List Asked) × (c : Config) × (vs : List Service) × (said : List Line)
+        × (R.asked reader.new ≡ R.asked reader.old ++ qs) × IsStart IsDebugScript config.now script.now qs c vs said
+        × (let d : DebuggedWorld = record { world = world_at_boot c vs; points = [] } in
+        let e = debug_lines_made c.cpus d said in
+        Appends (W.contents out.old) (W.contents out.new) (debug_lines_text c.cpus d said ++ report_text e.world.table e.world.services))) }
+    ensures fault { IfErr result (λ f. (qs : List Asked)
+        × (R.asked reader.new ≡ R.asked reader.old ++ qs) × IsTold IsDebugScript TellsDebugScript config.now script.now qs f) }
+{
+    let mut started = start::<DebugScript, R>(alloc, reader, config, script)?;
+    let lines = started.lines.as_slice();
+    print_lines(alloc, &mut started.machine, started.other, lines, out)
+}

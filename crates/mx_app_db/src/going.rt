@@ -1,0 +1,64 @@
+//! Steps up to a breakpoint.
+
+ghost use Rattle.std.specs.Prelude.{◌≡◌, IfOk, IfErr};
+ghost use Rattle.mx_app_step.specs.Machine.{world_of};
+ghost use Rattle.mx_machine_world.specs.World.{actors, held_by};
+ghost use Rattle.mx_app_db.specs.Going.{HasGone, IsStuck};
+ghost use Rattle.mx_app_db.specs.Lines.{world_after_go};
+
+use mx_app_step::{Machine, Out, Tool};
+use mx_machine_world::Refusal;
+use mx_print_answers::{Debugger, Halt, HaltCause};
+use mx_proc::Slot;
+
+/// A debugger that works with the process of a slot, for at most so many steps.
+#[derive(Drop)]
+struct Resuming<'a> {
+    debugger: &'a Debugger,
+    slot: Slot,
+    steps: u32,
+    /// How it halted.
+    halt: Halt,
+}
+
+impl<'a> Tool for Resuming<'a> {
+    ghost use Rattle.std.specs.Prelude.{◌≡◌};
+    ghost use Rattle.mx_print_answers.specs.Halts.{Halts, held_after, steps_to_halt};
+
+    ghost steps = { λ tool out. steps_to_halt tool.debugger.now tool.slot tool.steps out };
+
+    ghost Becomes = { λ tool out u. Halts tool.debugger.now tool.slot tool.steps out u.halt (held_after u.halt.count out) };
+
+    fn work(&mut self, out: &mut Out) {
+        self.halt = self.debugger.resume(self.slot, out, self.steps);
+    }
+}
+
+/// Runs what a processor holds for at most so many steps, up to one of the breakpoints of its slot.
+/// Refused are `CpuEmpty`, and `AtStop` where no step can be made.
+#[tactic(auto, using(crate::proofs::Worlds::gone_steps, crate::proofs::Worlds::gone_nothing, crate::proofs::Worlds::gone_no_slot))]
+pub fn go(machine: &mut Machine, debugger: &Debugger, cpu: u8, steps: u32) -> Result<Halt, Refusal>
+    ensures gone { IfOk result (λ halt. HasGone (world_of machine.old) (world_of machine.new) debugger.now cpu steps halt) }
+    ensures stuck { IfErr result (λ refusal. IsStuck (world_of machine.old) debugger.now cpu steps refusal × (world_of machine.new ≡ world_of machine.old)) }
+    ensures world { world_after_go (world_of machine.old) debugger.now cpu steps (held_by (world_of machine.old) cpu) ≡ world_of machine.new }
+    ensures kernel { machine.new.kernel ≡ machine.old.kernel }
+    ensures actors { actors (world_of machine.new) ≡ actors (world_of machine.old) }
+{
+    let Some(slot) = machine.slot_on(cpu) else {
+        return Err(Refusal::CpuEmpty);
+    };
+    let mut tool = Resuming {
+        debugger,
+        slot,
+        steps,
+        halt: Halt {
+            count: 0,
+            cause: HaltCause::Spent,
+        },
+    };
+    machine.work(cpu, &mut tool)?;
+    if steps != 0 && tool.halt.count == 0 {
+        return Err(Refusal::AtStop);
+    }
+    Ok(tool.halt)
+}

@@ -1,0 +1,120 @@
+//! Lines of a debugger's script.
+
+ghost use Rattle.std.specs.Prelude.{◌≡◌, ◌<◌, ◌++◌, OnOk, string_bytes};
+ghost use Rattle.mx_app_step.specs.Machine.{world_of};
+ghost use Rattle.mx_machine_world.specs.World.{actors, held_by};
+ghost use Rattle.mx_print_answers.specs.Processes.{registers_text, memory_text};
+ghost use Rattle.mx_app_db.specs.Lines.{world_after_go, debug_line_made, debug_lines_made};
+ghost use Rattle.mx_app_db.specs.Told.{eip_of, image_held, go_text, debug_line_text, debug_lines_text};
+
+use crate::going::go;
+use crate::places::{clear_breakpoint, set_breakpoint};
+use mx_app_step::{Machine, perform_line};
+use mx_boot_script::DebugLine;
+use mx_print_answers::{Debugger, push_done, push_memory, push_messages, push_process, push_run};
+use std::alloc::AllocError;
+use std::fmt::Write;
+
+/// Where the process stands that a processor holds.
+fn eip_on(machine: &Machine, cpu: u8) -> u32
+    ensures { result ≡ eip_of (held_by (world_of machine.now) cpu) }
+{
+    match machine.image(cpu) {
+        Some(image) => image.eip,
+        None => 0,
+    }
+}
+
+/// Runs what a processor holds up to a breakpoint, and appends what is said of it.
+fn perform_go(
+    machine: &mut Machine,
+    debugger: &Debugger,
+    cpu: u8,
+    steps: u32,
+    text: &mut String,
+) -> Result<(), AllocError>
+    ensures world { world_after_go (world_of machine.old) debugger.now cpu steps (held_by (world_of machine.old) cpu) ≡ world_of machine.new }
+    ensures actors { actors (world_of machine.new) ≡ actors (world_of machine.old) }
+    ensures told { OnOk result (string_bytes text.new ≡ string_bytes text.old ++ go_text debugger.now steps (held_by (world_of machine.old) cpu)) }
+{
+    let run = go(machine, debugger, cpu, steps);
+    let eip = eip_on(machine, cpu);
+    push_run(text, run, eip)
+}
+
+/// Appends the registers of the process that a processor holds.
+fn show_registers(machine: &Machine, cpu: u8, text: &mut String) -> Result<(), AllocError>
+    ensures { OnOk result (string_bytes text.new ≡ string_bytes text.old ++ registers_text (image_held (held_by (world_of machine.now) cpu))) }
+{
+    push_process(text, machine.image(cpu))
+}
+
+/// Appends so many bytes, from an address on, of the process that a processor holds.
+fn show_memory(
+    machine: &Machine,
+    cpu: u8,
+    from: u32,
+    count: u32,
+    text: &mut String,
+) -> Result<(), AllocError>
+    ensures { OnOk result (string_bytes text.new ≡ string_bytes text.old ++ memory_text (image_held (held_by (world_of machine.now) cpu)) from count) }
+{
+    push_memory(text, machine.image(cpu), from, count)
+}
+
+/// Does what a line of a debugger's script says, and appends what is said of it. The lines that name
+/// no actor are the events of `other`.
+#[tactic(auto, using(crate::proofs::Made::plain_made, crate::proofs::Made::broken_made, crate::proofs::Made::cleared_made, crate::proofs::Made::gone_made, crate::proofs::Made::registers_made, crate::proofs::Made::memory_made, crate::proofs::Made::messages_made))]
+fn perform_debug_line(
+    machine: &mut Machine,
+    debugger: &mut Debugger,
+    other: u8,
+    line: &DebugLine,
+    text: &mut String,
+) -> Result<(), AllocError>
+    requires { other < actors (world_of machine.old) }
+    ensures made { OnOk result (debug_line_made other (record { world = world_of machine.old; points = debugger.old }) line.now ≡ record { world = world_of machine.new; points = debugger.new }) }
+    ensures told { OnOk result (string_bytes text.new ≡ string_bytes text.old ++ debug_line_text other (record { world = world_of machine.old; points = debugger.old }) line.now) }
+    ensures actors { actors (world_of machine.new) ≡ actors (world_of machine.old) }
+{
+    match line {
+        DebugLine::Plain(line) => {
+            let said = perform_line(machine, other, *line);
+            writeln!(text, "{said}")
+        }
+        DebugLine::Break(slot, place) => {
+            push_done(
+                text,
+                set_breakpoint(machine.kernel(), debugger, *slot, place),
+            )
+        }
+        DebugLine::Clear(slot, place) => {
+            push_done(
+                text,
+                clear_breakpoint(machine.kernel(), debugger, *slot, place),
+            )
+        }
+        DebugLine::Go(cpu, steps) => perform_go(machine, debugger, *cpu, *steps, text),
+        DebugLine::Registers(cpu) => show_registers(machine, *cpu, text),
+        DebugLine::Memory(cpu, from, count) => show_memory(machine, *cpu, *from, *count, text),
+        DebugLine::Messages => push_messages(text, machine.kernel()),
+    }
+}
+
+/// Does what lines say, and appends what is said of them.
+pub fn perform_debug_lines(
+    machine: &mut Machine,
+    debugger: &mut Debugger,
+    other: u8,
+    lines: &[DebugLine],
+    text: &mut String,
+) -> Result<(), AllocError>
+    requires { other < actors (world_of machine.old) }
+    ensures made { OnOk result (debug_lines_made other (record { world = world_of machine.old; points = debugger.old }) lines.now ≡ record { world = world_of machine.new; points = debugger.new }) }
+    ensures told { OnOk result (string_bytes text.new ≡ string_bytes text.old ++ debug_lines_text other (record { world = world_of machine.old; points = debugger.old }) lines.now) }
+{
+    for line in lines {
+        perform_debug_line(machine, debugger, other, line, text)?;
+    }
+    Ok(())
+}

@@ -1,0 +1,63 @@
+//! Breakpoints by the slots of services and the names of their programs.
+
+ghost use Rattle.std.specs.Prelude.{◌≡◌, Some, None, MatchResult};
+ghost use Rattle.mx_machine_world.specs.History.{replay};
+ghost use Rattle.mx_print_answers.specs.DebugError.TheVariants as errors;
+ghost use Rattle.mx_app_db.specs.Places.{address_of_place, place_found, breakpoints_after_break, breakpoints_after_clear};
+
+use mx_aout::Program;
+use mx_boot_script::CodePlace;
+use mx_machine_world::Refusal;
+use mx_print_answers::{DebugError, Debugger, Kernel, Refused, address};
+use mx_proc::Slot;
+
+/// The address of a place in a program.
+fn address_of(program: &Program, place: &CodePlace) -> Result<u32, DebugError>
+    ensures { MatchResult result (λ at. address_of_place program.now place.now ≡ Some at) (λ e. (address_of_place program.now place.now ≡ None) × (e ≡ errors.NoSymbol)) }
+{
+    match place {
+        CodePlace::Address(at) => Ok(*at),
+        CodePlace::Symbol(name) => address(program, name.as_slice()),
+        CodePlace::NoName => Err(DebugError::NoSymbol),
+    }
+}
+
+/// The slot and the address that a line names.
+fn found(kernel: &Kernel, slot: u32, place: &CodePlace) -> Result<(Slot, u32), Refused>
+    ensures { result ≡ place_found (replay kernel.now).services slot place.now }
+{
+    kernel.opened();
+    let Some(service) = kernel.services().get(slot as usize) else {
+        return Err(Refused::ByMachine(Refusal::NoService));
+    };
+    let at = address_of(&service.program, place)?;
+    Ok((slot as Slot, at))
+}
+
+/// Sets a breakpoint in the process of a slot.
+pub fn set_breakpoint(
+    kernel: &Kernel,
+    debugger: &mut Debugger,
+    slot: u32,
+    place: &CodePlace,
+) -> Result<(), Refused>
+    ensures { breakpoints_after_break debugger.old (place_found (replay kernel.now).services slot place.now) ≡ (result, debugger.new) }
+{
+    let (slot, at) = found(kernel, slot, place)?;
+    debugger.add(slot, at)?;
+    Ok(())
+}
+
+/// Removes a slot's breakpoint, if one stands there.
+pub fn clear_breakpoint(
+    kernel: &Kernel,
+    debugger: &mut Debugger,
+    slot: u32,
+    place: &CodePlace,
+) -> Result<(), Refused>
+    ensures { breakpoints_after_clear debugger.old (place_found (replay kernel.now).services slot place.now) ≡ (result, debugger.new) }
+{
+    let (slot, at) = found(kernel, slot, place)?;
+    debugger.remove(slot, at);
+    Ok(())
+}

@@ -1,0 +1,27 @@
+-- What is told of a file, from what is answered of it.
+use Rattle.std.proofs.Common.{◌≡◌, ℕ, List, Option, Some, None, Result, Ok, Err, IfErr, OnOk, inr, ap, sym, subst, refl}
+use Rattle.std.specs.Io.KnownBytes.{Appends}
+use Rattle.mx_exec.specs.declared.image.Image.{Image}
+use Rattle.mx_image.specs.declared.runs.Stop.{Stop}
+use Rattle.mx_image.specs.Run.{RunEnd}
+use Rattle.mx_aout.specs.declared.program.FileError.{FileError}
+use Rattle.mx_app_failure.specs.declared.failure.Failure.{Failure as Kind}
+use Rattle.mx_app_program.specs.One.{Answers, IsPrinted, one_text}
+use Rattle.mx_app_failure.specs.Failure.{IsWanting, Tells, failure_of}
+
+-- a refusal, or want of memory
+pub tells_refusal : (o : Option FileError) (b : List ℕ) (n : ℕ) (e : FileError) → Answers o b n (Err e) → Tells o {A = Unit {0}} (Err (failure_of e))
+tells_refusal (Some d) b n e h = let s : e ≡ d = cc in ap (λ (x : FileError). Err (failure_of x)) s
+tells_refusal None b n e h = subst (λ (x : FileError). IsWanting (failure_of x)) (sym h) (inr refl)
+
+-- what is wanting where it is printed
+pub tells_printed : (o : Option FileError) (b : List ℕ) (n : ℕ) (p : ℕ × Stop × Image) (r : Result (Unit {0}) Kind) → Answers o b n (Ok p) → IfErr r IsWanting → Tells o r
+tells_printed (Some d) b n p r h w = absurd cc
+tells_printed None b n p r h w = w
+
+-- what is printed where it is
+pub printed_on : (o : Option FileError) (b : List ℕ) (n : ℕ) (p : ℕ × Stop × Image) (x y : Option (List ℕ)) (r : Result (Unit {0}) Kind) → Answers o b n (Ok p)
+    → OnOk r (Appends x y (one_text p.0 p.1 p.2)) → OnOk r ((text : List ℕ) × IsPrinted b n text × Appends x y text)
+printed_on (Some d) b n p x y r h w = absurd cc
+printed_on None b n p x y (Ok u) h w = (one_text p.0 p.1 p.2, (h.0, h.1, ap (λ (m : RunEnd). one_text m.count m.stop m.image) (sym h.2)), w)
+printed_on None b n p x y (Err e) h w = tt

@@ -1,0 +1,32 @@
+-- What a reader was asked for (our own).
+use Rattle.std.specs.Prelude.{ℕ, List, map, Result, Ok, Err}
+use Rattle.std.specs.declared.io.ErrorKind.{ErrorKind}
+use Rattle.http_server.specs.declared.log.Log.{Log}
+
+-- A file's name, and the bytes that were answered, or why there are none.
+pub record Asked : Type 0 where
+  pub name : List ℕ
+  pub answer : Result (List ℕ) ErrorKind
+
+-- a file's bytes were given
+abbrev pub file_given : List ℕ → List ℕ → Asked
+file_given name bytes = record { name = name; answer = Ok bytes }
+
+-- or it is missed
+abbrev pub file_missed : List ℕ → ErrorKind → Asked
+file_missed name kind = record { name = name; answer = Err kind }
+
+-- ---- what is remembered, byte by byte
+
+abbrev pub logged_bytes : Log ℕ (Unit {0}) → List ℕ
+logged_bytes log = map (λ (p : ℕ × Unit {0}). p.0) log.items
+
+abbrev pub answer_of : Result (Log ℕ (Unit {0})) ErrorKind → Result (List ℕ) ErrorKind
+answer_of (Ok bytes) = Ok (logged_bytes bytes)
+answer_of (Err kind) = Err kind
+
+abbrev pub asked_of : Log ℕ (Unit {0}) × Result (Log ℕ (Unit {0})) ErrorKind → Asked
+asked_of p = record { name = logged_bytes p.0; answer = answer_of p.1 }
+
+abbrev pub asked_in : List (Log ℕ (Unit {0}) × Result (Log ℕ (Unit {0})) ErrorKind) → List Asked
+asked_in answers = map asked_of answers

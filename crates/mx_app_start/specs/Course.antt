@@ -1,0 +1,31 @@
+-- The texts that drive a machine, and what is told of others (our own).
+use Rattle.std.specs.Prelude.{ℕ, ◌+◌, List}
+use Rattle.mx_text.specs.Lines.{lines}
+use Rattle.mx_text.specs.declared.error.BootError.{BootError}
+use Rattle.mx_boot.specs.Config.{Config}
+use Rattle.mx_boot_script.specs.declared.scripts.ScriptLine.{ScriptLine}
+use Rattle.mx_boot_script.specs.declared.debug.DebugLine.{DebugLine}
+use Rattle.mx_boot_script.specs.Reading.{AreLinesRead, TellsUnread}
+use Rattle.mx_boot_script.specs.Script.{script_line}
+use Rattle.mx_boot_script.specs.Debug.{debug_line}
+use Rattle.mx_machine.specs.Record.{Record}
+use Rattle.mx_boot.specs.Log.{IsHistory, TellsHistoryFault}
+
+abbrev pub IsScript : List ℕ → Config → List ScriptLine → Type 0
+IsScript text config said = AreLinesRead script_line (lines text) said
+
+abbrev pub TellsScript : List ℕ → Config → BootError → Type 0
+TellsScript text config e = TellsUnread script_line (lines text) e
+
+abbrev pub IsDebugScript : List ℕ → Config → List DebugLine → Type 0
+IsDebugScript text config said = AreLinesRead debug_line (lines text) said
+
+abbrev pub TellsDebugScript : List ℕ → Config → BootError → Type 0
+TellsDebugScript text config e = TellsUnread debug_line (lines text) e
+
+-- by the machine's actors
+abbrev pub IsSaved : List ℕ → Config → List Record → Type 0
+IsSaved text config records = IsHistory (config.cpus + config.others) text records
+
+abbrev pub TellsSaved : List ℕ → Config → BootError → Type 0
+TellsSaved text config e = TellsHistoryFault (config.cpus + config.others) text e

@@ -1,0 +1,13 @@
+pub mod Asked
+pub mod Course
+pub mod Named
+pub mod Setup
+pub mod Telling
+pub use Rattle.mx_machine.specs.Machine
+pub use Rattle.mx_boot.specs.Log
+pub use Rattle.mx_boot.specs.Report
+pub use Rattle.mx_boot.specs.Config
+pub use Rattle.mx_machine.specs.Service
+pub use Rattle.mx_app_failure.specs.Failure
+pub use Rattle.mx_machine.specs.KernelState
+pub use Rattle.mx_boot.specs.ServiceLine

@@ -1,0 +1,77 @@
+//! The texts that drive a machine.
+
+ghost use Rattle.std.specs.Prelude.{List, ℕ, IfOk, IfErr};
+ghost use Rattle.mx_text.specs.declared.error.BootError.{BootError};
+ghost use Rattle.mx_boot.specs.Config.{Config};
+
+use mx_boot::{BootError, Config, DebugLine, ScriptLine, debug_script, log, script};
+use mx_machine::Record;
+use std::alloc::Global;
+
+/// A grammar of texts that drive a machine.
+pub trait Course {
+    /// What a line says.
+    type Line;
+
+    /// The lines say this, for the machine of a configuration.
+    ghost IsSaid: { List ℕ → Config → List Self.Line → Type 0 };
+
+    /// What may be told of a text that isn't one of these; want of memory aside.
+    ghost Tells: { List ℕ → Config → BootError → Type 0 };
+
+    /// What the lines of a text say, or the first line at fault.
+    fn read(alloc: Global, text: &str, config: &Config) -> Result<Vec<Self::Line>, BootError>
+        ensures said { IfOk result (λ lines. IsSaid text.now config.now lines.items) }
+        ensures fault { IfErr result (λ e. Tells text.now config.now e) };
+}
+
+/// The lines of a script.
+pub struct Script;
+
+impl Course for Script {
+    ghost use Rattle.mx_app_start.specs.Course.{IsScript, TellsScript};
+
+    type Line = ScriptLine;
+
+    ghost IsSaid = { IsScript };
+
+    ghost Tells = { TellsScript };
+
+    fn read(alloc: Global, text: &str, _config: &Config) -> Result<Vec<ScriptLine>, BootError> {
+        script(alloc, text)
+    }
+}
+
+/// The lines of a debugger's script.
+pub struct DebugScript;
+
+impl Course for DebugScript {
+    ghost use Rattle.mx_app_start.specs.Course.{IsDebugScript, TellsDebugScript};
+
+    type Line = DebugLine;
+
+    ghost IsSaid = { IsDebugScript };
+
+    ghost Tells = { TellsDebugScript };
+
+    fn read(alloc: Global, text: &str, _config: &Config) -> Result<Vec<DebugLine>, BootError> {
+        debug_script(alloc, text)
+    }
+}
+
+/// The records of a saved history.
+pub struct History;
+
+impl Course for History {
+    ghost use Rattle.mx_app_start.specs.Course.{IsSaved, TellsSaved};
+
+    type Line = Record;
+
+    ghost IsSaid = { IsSaved };
+
+    ghost Tells = { TellsSaved };
+
+    fn read(alloc: Global, text: &str, config: &Config) -> Result<Vec<Record>, BootError> {
+        log(alloc, text, config)
+    }
+}

@@ -1,0 +1,68 @@
+//! Files in memory.
+
+ghost use Rattle.std.specs.Prelude.{◌≡◌, [], None, Some, MatchOption};
+ghost use Rattle.mx_app_start.specs.Named.{bytes_named};
+
+use crate::noting::{Answers, with_answer};
+use crate::reader::Reader;
+use http_server::Log;
+use std::alloc::Global;
+use std::io;
+
+/// A file in memory, with its name.
+#[derive(Clone, Copy)]
+pub struct NamedFile<'a> {
+    pub name: &'a str,
+    pub bytes: &'a [u8],
+}
+
+/// Reads the files of a list. A name that isn't in the list is `NotFound`.
+#[derive(Drop)]
+pub struct NamedFiles<'a> {
+    files: &'a [NamedFile<'a>],
+    answers: Answers,
+}
+
+impl<'a> NamedFiles<'a> {
+    /// What reads the files of a list, and has been asked for none yet. Of two files with one name it
+    /// reads the first.
+    pub fn new(files: &'a [NamedFile<'a>]) -> NamedFiles<'a>
+        ensures files { result.files.now ≡ files.entry.now }
+        ensures answers { result.answers.items ≡ [] }
+    {
+        NamedFiles {
+            files,
+            answers: Log::new(),
+        }
+    }
+
+    /// The bytes of the first file that has a name.
+    fn find(&self, name: &str) -> Option<&[u8]>
+        ensures { MatchOption result (bytes_named self.now.files.now name.now ≡ None) (λ bytes. bytes_named self.now.files.now name.now ≡ Some bytes.now) }
+    {
+        for file in self.files {
+            if file.name == name {
+                return Some(file.bytes);
+            }
+        }
+        None
+    }
+}
+
+impl<'a> Reader for NamedFiles<'a> {
+    ghost use Rattle.mx_app_start.specs.Asked.{asked_in};
+
+    ghost asked = { λ files. asked_in files.answers.items };
+
+    fn read(&mut self, alloc: Global, name: &str) -> io::Result<Vec<u8>> {
+        let answer = match self.find(name) {
+            Some(bytes) => match bytes.to_vec(alloc) {
+                Ok(bytes) => Ok(bytes),
+                Err(_) => Err(io::Error::from(io::ErrorKind::OutOfMemory)),
+            },
+            None => Err(io::Error::from(io::ErrorKind::NotFound)),
+        };
+        self.answers = with_answer(&self.answers, name, &answer);
+        answer
+    }
+}

@@ -1,0 +1,39 @@
+//! What a reader's contract remembers of its answers. It takes no memory, and nothing is done for it
+//! at run time.
+
+ghost use Rattle.std.specs.Prelude.{◌≡◌, ◌++◌, ◌∷◌, [], List, Ok, Err, IfOk, IfErr};
+ghost use Rattle.std.specs.IoError.{error_kind};
+ghost use Rattle.mx_app_start.specs.Asked.{Asked, asked_in, logged_bytes};
+
+use http_server::Log;
+use std::io;
+
+/// Bytes that a contract remembers.
+type Bytes = Log<u8, ()>;
+
+/// The names that a reader was asked for, and its answers.
+pub(crate) type Answers = Log<Bytes, Result<Bytes, io::ErrorKind>>;
+
+/// Remembers bytes.
+fn bytes_noted(bytes: &[u8]) -> Bytes
+    ensures { logged_bytes result ≡ bytes.now }
+{
+    let mut log = Log::new();
+    for byte in bytes {
+        log = log.and(byte, &());
+    }
+    log
+}
+
+/// Remembers an answer behind others.
+pub(crate) fn with_answer(answers: &Answers, name: &str, answer: &io::Result<Vec<u8>>) -> Answers
+    ensures given { IfOk answer.now (λ bytes. asked_in result.items ≡ asked_in answers.now.items ++ record { name = name.now; answer = Ok bytes.items } ∷ []) }
+    ensures missed { IfErr answer.now (λ e. asked_in result.items ≡ asked_in answers.now.items ++ record { name = name.now; answer = Err (error_kind e) } ∷ []) }
+{
+    let name = bytes_noted(name.as_bytes());
+    let answer = match answer {
+        Ok(bytes) => Ok(bytes_noted(bytes.as_slice())),
+        Err(error) => Err(error.kind()),
+    };
+    answers.and(&name, &answer)
+}

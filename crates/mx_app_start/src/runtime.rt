@@ -1,0 +1,42 @@
+//! The files of the runtime.
+
+ghost use Rattle.std.specs.Prelude.{◌≡◌, []};
+
+use crate::noting::{Answers, with_answer};
+use crate::reader::Reader;
+use http_server::Log;
+use std::alloc::Global;
+use std::rt::Files;
+use std::{fs, io};
+
+/// Reads the files of the runtime. A name is a path, relative to the directory that the program runs
+/// in.
+#[derive(Drop)]
+pub struct RuntimeFiles<'a, R> {
+    rt: &'a R,
+    answers: Answers,
+}
+
+impl<'a, R> RuntimeFiles<'a, R> {
+    /// What reads a runtime's files, and has been asked for none yet.
+    pub fn new(rt: &'a R) -> RuntimeFiles<'a, R>
+        ensures { result.answers.items ≡ [] }
+    {
+        RuntimeFiles {
+            rt,
+            answers: Log::new(),
+        }
+    }
+}
+
+impl<'a, R: Files + AllocGlobal> Reader for RuntimeFiles<'a, R> {
+    ghost use Rattle.mx_app_start.specs.Asked.{asked_in};
+
+    ghost asked = { λ files. asked_in files.answers.items };
+
+    fn read(&mut self, _alloc: Global, name: &str) -> io::Result<Vec<u8>> {
+        let answer = fs::read(self.rt, name);
+        self.answers = with_answer(&self.answers, name, &answer);
+        answer
+    }
+}

@@ -1,0 +1,83 @@
+//! Configurations and programs by the names of their files.
+
+ghost use Rattle.std.specs.Prelude.{◌≡◌, ◌⊎◌, ◌++◌, ◌∷◌, [], List, IfOk, IfErr, string_bytes};
+ghost use Rattle.mx_app_failure.specs.declared.failure.Failure.TheVariants.{NoMemory};
+ghost use Rattle.mx_app_start.specs.Asked.{Asked};
+ghost use Rattle.mx_app_start.specs.Setup.{AreServicesRead, IsFirstRefused, IsNoTextGiven, IsServiceRead, IsFileRefused, IsSetup, IsSetupFault, IsTextGiven};
+
+use crate::reader::Reader;
+use mx_aout::read;
+use mx_app_failure::Failure;
+use mx_boot::{Config, ServiceLine, config};
+use mx_machine::Service;
+use std::alloc::Global;
+
+/// The text of a file.
+pub(crate) fn text_of<R: Reader>(
+    alloc: Global,
+    reader: &mut R,
+    name: &str,
+) -> Result<String, Failure>
+    ensures text { IfOk result (λ text. (q : Asked) × (R.asked reader.new ≡ R.asked reader.old ++ q ∷ []) × IsTextGiven name.now q (string_bytes text)) }
+    ensures fault { IfErr result (λ f. (q : Asked) × (R.asked reader.new ≡ R.asked reader.old ++ q ∷ []) × ((f ≡ NoMemory) ⊎ IsNoTextGiven name.now q f)) }
+{
+    let bytes = reader.read(alloc, name)?;
+    match String::from_utf8(bytes) {
+        Ok(text) => Ok(text),
+        Err(_) => Err(Failure::File),
+    }
+}
+
+/// The service of a line, whose program is that of the file that the line names.
+fn service_of<R: Reader>(
+    alloc: Global,
+    reader: &mut R,
+    line: &ServiceLine,
+) -> Result<Service, Failure>
+    ensures read { IfOk result (λ v. (q : Asked) × (R.asked reader.new ≡ R.asked reader.old ++ q ∷ []) × IsServiceRead line.now q v) }
+    ensures refused { IfErr result (λ f. (q : Asked) × (R.asked reader.new ≡ R.asked reader.old ++ q ∷ []) × ((f ≡ NoMemory) ⊎ IsFileRefused line.now q f)) }
+{
+    let bytes = reader.read(alloc, line.file.as_str())?;
+    let program = read(alloc, bytes.as_slice())?;
+    Ok(Service {
+        name: line.name,
+        program,
+        masks: line.masks,
+        level: line.level,
+        best: line.best,
+        quantum: line.quantum,
+        restarts: line.restarts,
+    })
+}
+
+/// The services of lines, in order.
+fn services_of<R: Reader>(
+    alloc: Global,
+    reader: &mut R,
+    lines: &[ServiceLine],
+) -> Result<Vec<Service>, Failure>
+    ensures read { IfOk result (λ services. (qs : List Asked) × (R.asked reader.new ≡ R.asked reader.old ++ qs) × AreServicesRead lines.now qs services.items) }
+    ensures refused { IfErr result (λ f. (qs : List Asked) × (R.asked reader.new ≡ R.asked reader.old ++ qs) × ((f ≡ NoMemory) ⊎ IsFirstRefused lines.now qs f)) }
+{
+    let mut services = Vec::new(alloc);
+    for line in lines {
+        let service = service_of(alloc, reader, line)?;
+        services.push(service)?;
+    }
+    Ok(services)
+}
+
+/// The configuration of a file, and the services of its lines.
+pub(crate) fn setup_of<R: Reader>(
+    alloc: Global,
+    reader: &mut R,
+    name: &str,
+) -> Result<(Config, Vec<Service>), Failure>
+    ensures read { IfOk result (λ s. (qs : List Asked) × (R.asked reader.new ≡ R.asked reader.old ++ qs) × IsSetup name.now qs s.0 s.1.items) }
+    ensures fault { IfErr result (λ f. (qs : List Asked) × (R.asked reader.new ≡ R.asked reader.old ++ qs) × ((f ≡ NoMemory) ⊎ IsSetupFault name.now qs f)) }
+{
+    let text = text_of(alloc, reader, name)?;
+    let config = config(alloc, text.as_str())?;
+    let services = services_of(alloc, reader, config.lines.as_slice())?;
+    Ok((config, services))
+}

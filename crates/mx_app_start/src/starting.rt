@@ -1,0 +1,68 @@
+//! A machine that is started.
+
+ghost use Rattle.std.specs.Prelude.{◌≡◌, ◌<◌, ◌≤◌, ◌++◌, List, length, IfOk, IfErr};
+ghost use Rattle.mx_machine.specs.Machine.{world_of};
+ghost use Rattle.mx_machine.specs.Service.{Service as Served};
+ghost use Rattle.mx_boot.specs.Config.{Config as Configured};
+ghost use Rattle.mx_machine.specs.Boot.{world_at_boot};
+ghost use Rattle.mx_machine.specs.World.{actors};
+ghost use Rattle.mx_app_start.specs.Asked.{Asked};
+ghost use Rattle.mx_app_start.specs.Setup.{IsNotStarted, IsStart};
+
+use crate::course::Course;
+use crate::reader::Reader;
+use crate::setup::{setup_of, text_of};
+use mx_app_failure::Failure;
+use mx_boot::Config;
+use mx_machine::{Kernel, Machine, Service};
+use mx_word::NoMemory;
+use std::alloc::Global;
+
+/// A machine before its first event, and what drives it.
+#[derive(Drop)]
+pub struct Started<L: Drop> {
+    pub machine: Machine,
+    /// The first actor that is no processor.
+    pub other: u8,
+    /// What the lines of the text that drives it say.
+    pub lines: Vec<L>,
+}
+
+/// The machine of a configuration and its services.
+fn boot(alloc: Global, config: &Config, services: Vec<Service>) -> Result<Machine, NoMemory>
+    requires some { 0 < length services.items }
+    requires few { length services.items ≤ 32 }
+    ensures { IfOk result (λ machine. world_of machine ≡ world_at_boot config.now services.items) }
+{
+    let mut services = services;
+    let kernel = Kernel::new(alloc, config, &mut services)?;
+    Ok(Machine::new(kernel))
+}
+
+/// Reads a configuration, the programs of its services in the order of their lines, and the text that
+/// drives the machine, each checked before the next is read; then boots the machine.
+pub fn start<C: Course, R: Reader>(
+    alloc: Global,
+    reader: &mut R,
+    config: &str,
+    text: &str,
+) -> Result<Started<C::Line>, Failure>
+where
+    C::Line: Drop,
+    ensures started { IfOk result (λ s. (qs : List Asked) × (c : Configured) × (vs : List Served)
+        × (R.asked reader.new ≡ R.asked reader.old ++ qs) × IsStart C.IsSaid config.now text.now qs c vs s.lines.items
+        × (world_of s.machine ≡ world_at_boot c vs) × (s.other ≡ c.cpus)) }
+    ensures other { IfOk result (λ s. s.other < actors (world_of s.machine)) }
+    ensures fault { IfErr result (λ f. (qs : List Asked)
+        × (R.asked reader.new ≡ R.asked reader.old ++ qs) × IsNotStarted C.Tells config.now text.now qs f) }
+{
+    let (config, services) = setup_of(alloc, reader, config)?;
+    let text = text_of(alloc, reader, text)?;
+    let lines = C::read(alloc, text.as_str(), &config)?;
+    let machine = boot(alloc, &config, services)?;
+    Ok(Started {
+        machine,
+        other: config.cpus,
+        lines,
+    })
+}

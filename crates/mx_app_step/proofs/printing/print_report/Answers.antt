@@ -1,0 +1,16 @@
+use Rattle.std.proofs.Common.{◌≡◌, ◌∙◌, List, ℕ, OnOk, ap, subst}
+use Rattle.std.specs.Io.KnownBytes.{Appends}
+use Rattle.mx_machine_world.specs.History.{BootAndHistory, replay}
+use Rattle.mx_app_start.specs.Machine.{MachineState, world_of}
+use Rattle.mx_app_start.specs.Report.{report_text}
+use Rattle.mx_app_step.proofs.printing.print_report.Goals as goal
+
+-- the world of a machine has its kernel's table and services
+report_same : (k : BootAndHistory) (m : MachineState) → k ≡ m.kernel → report_text (replay k).table (replay k).services ≡ report_text (world_of m).table (world_of m).services
+unfolding world_of
+report_same k m e = ap (λ (x : BootAndHistory). report_text (replay x).table (replay x).services) e
+
+pub returns-clause-bytes : goal.returns-clause-bytes
+returns-clause-bytes g c =
+    let text = c.as_slice.ensures.value ∙ c.in_ok-report.ensures ∙ report_same c.kernel.result.now c.args.machine.now c.kernel.ensures in
+    subst (λ (t : List ℕ). OnOk c.print_text.result (Appends (g.W.Write.contents c.args.out.now) (g.W.Write.contents c.print_text.new.out) t)) text c.print_text.ensures.bytes

@@ -1,0 +1,12 @@
+pub mod Lines
+pub mod Records
+pub use Rattle.mx_app_start.specs.Machine
+pub use Rattle.mx_app_start.specs.Report
+pub use Rattle.mx_app_start.specs.Config
+pub use Rattle.mx_app_start.specs.Service
+pub use Rattle.mx_app_start.specs.Failure
+pub use Rattle.mx_app_start.specs.Asked
+pub use Rattle.mx_app_start.specs.Course
+pub use Rattle.mx_app_start.specs.Setup
+pub use Rattle.mx_app_start.specs.Telling
+pub use Rattle.mx_app_start.specs.ServiceLine

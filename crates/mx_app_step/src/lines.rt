@@ -1,0 +1,104 @@
+//! A machine that is driven by a script.
+
+ghost use Rattle.std.specs.Prelude.{◌≡◌, ◌<◌, ◌++◌, List, IfErr, OnOk, string_bytes};
+ghost use Rattle.std.specs.Io.KnownBytes.{Appends};
+ghost use Rattle.mx_app_start.specs.Failure.{IsWanting};
+ghost use Rattle.mx_app_start.specs.Machine.{world_of};
+ghost use Rattle.mx_app_start.specs.Report.{report_text};
+ghost use Rattle.mx_app_start.specs.Service.{Service};
+ghost use Rattle.mx_app_start.specs.Config.{Config};
+ghost use Rattle.mx_boot_script.specs.declared.scripts.ScriptLine.{ScriptLine as Line};
+ghost use Rattle.mx_app_start.specs.Asked.{Asked};
+ghost use Rattle.mx_app_start.specs.Course.{IsScript, TellsScript};
+ghost use Rattle.mx_app_start.specs.Setup.{IsStart};
+ghost use Rattle.mx_machine_world.specs.Boot.{world_at_boot};
+ghost use Rattle.mx_machine_world.specs.World.{actors};
+ghost use Rattle.mx_print_answers.specs.Said.{said_lines};
+ghost use Rattle.mx_app_step.specs.Lines.{line_made, lines_made};
+ghost use Rattle.mx_app_start.specs.Telling.{IsTold};
+
+use crate::printing::print_report;
+use crate::stepping::{make_event, make_own, make_steps};
+use mx_app_start::{Event, Failure, Machine, Reader, Script, ScriptLine, print_text, start};
+use mx_print_answers::Said;
+use std::alloc::{AllocError, Global};
+use std::io::Write;
+
+/// Does what a line of a script says, and answers what is said of it. The lines that name no actor are
+/// events of `other`, the first actor that is no processor. Takes no memory.
+#[tactic(auto, unfolding(crate::specs::Lines::line_made))]
+pub fn perform_line(machine: &mut Machine, other: u8, line: ScriptLine) -> Said
+    requires { other < actors (world_of machine.old) }
+    ensures made { line_made (world_of machine.old) other line ≡ (result, world_of machine.new) }
+    ensures actors { actors (world_of machine.new) ≡ actors (world_of machine.old) }
+{
+    match line {
+        ScriptLine::Step(cpu, steps) => make_steps(machine, cpu, steps),
+        ScriptLine::Take(cpu) => make_own(machine, cpu, Event::Take),
+        ScriptLine::Back(cpu) => make_own(machine, cpu, Event::Back),
+        ScriptLine::Line(line) => make_event(machine, other, Event::Line(line)),
+        ScriptLine::Tick => make_event(machine, other, Event::Tick),
+        ScriptLine::Kill(endpoint) => make_event(machine, other, Event::Kill(endpoint)),
+        ScriptLine::Respawn(slot) => make_event(machine, other, Event::Respawn(slot)),
+    }
+}
+
+/// Does what lines say, and adds a line for each to a text.
+fn perform_lines(
+    machine: &mut Machine,
+    other: u8,
+    lines: &[ScriptLine],
+    text: &mut String,
+) -> Result<(), AllocError>
+    requires { other < actors (world_of machine.old) }
+    ensures world { OnOk result (world_of machine.new ≡ (lines_made (world_of machine.old) other lines.now).1) }
+    ensures text { OnOk result (string_bytes text.new ≡ string_bytes text.old ++ said_lines (lines_made (world_of machine.old) other lines.now).0) }
+{
+    for line in lines {
+        let said = perform_line(machine, other, *line);
+        write!(text, "{said}\n")?;
+    }
+    Ok(())
+}
+
+/// Does what lines say, prints a line for each, and then the report. What was said before memory was
+/// wanting is printed.
+fn print_lines<W: Write>(
+    alloc: Global,
+    machine: &mut Machine,
+    other: u8,
+    lines: &[ScriptLine],
+    out: &mut W,
+) -> Result<(), Failure>
+    requires { other < actors (world_of machine.old) }
+    ensures err { IfErr result IsWanting }
+    ensures printed { OnOk result (let m = lines_made (world_of machine.old) other lines.now in
+        Appends (W.contents out.old) (W.contents out.new) (said_lines m.0 ++ report_text m.1.table m.1.services)) }
+{
+    let mut text = String::new(alloc);
+    let done = perform_lines(machine, other, lines, &mut text);
+    print_text(text.as_bytes(), out)?;
+    done?;
+    print_report(alloc, machine, out)
+}
+
+/// Starts a machine by the names of its configuration and of a script, prints a line for each line of
+/// the script, and then the report. What was said before memory was wanting is printed.
+pub fn step<R: Reader, W: Write>(
+    alloc: Global,
+    reader: &mut R,
+    config: &str,
+    script: &str,
+    out: &mut W,
+) -> Result<(), Failure>
+    ensures printed { OnOk result ((qs : List Asked) × (c : Config) × (vs : List Service) × (said : List Line)
+        × (R.asked reader.new ≡ R.asked reader.old ++ qs) × IsStart IsScript config.now script.now qs c vs said
+        × (let m = lines_made (world_at_boot c vs) c.cpus said in
+        Appends (W.contents out.old) (W.contents out.new) (said_lines m.0 ++ report_text m.1.table m.1.services))) }
+    ensures fault { IfErr result (λ f. (qs : List Asked)
+        × (R.asked reader.new ≡ R.asked reader.old ++ qs) × IsTold IsScript TellsScript config.now script.now qs f) }
+{
+    let mut started = start::<Script, R>(alloc, reader, config, script)?;
+    let lines = started.lines.as_slice();
+    print_lines(alloc, &mut started.machine, started.other, lines, out)
+}

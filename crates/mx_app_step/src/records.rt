@@ -1,0 +1,172 @@
+//! A machine that is driven by a saved history.
+
+ghost use Rattle.std.specs.Prelude.{◌≡◌, ◌<◌, ◌++◌, List, All, IfOk, IfErr, OnOk, None, Some};
+ghost use Rattle.std.specs.Io.KnownBytes.{Appends};
+ghost use Rattle.mx_app_start.specs.Failure.{IsWanting};
+ghost use Rattle.mx_app_start.specs.Machine.{IsActor, world_of};
+ghost use Rattle.mx_app_start.specs.Report.{report_text};
+ghost use Rattle.mx_app_start.specs.Service.{Service};
+ghost use Rattle.mx_app_start.specs.Config.{Config};
+ghost use Rattle.mx_app_start.specs.Asked.{Asked};
+ghost use Rattle.mx_app_start.specs.Course.{IsSaved, TellsSaved};
+ghost use Rattle.mx_app_start.specs.Setup.{IsStart};
+ghost use Rattle.mx_machine_world.specs.declared.history.Record.{Record as Noted};
+ghost use Rattle.mx_machine_world.specs.declared.history.Recorded.TheVariants as recorded;
+ghost use Rattle.mx_machine_world.specs.Boot.{world_at_boot};
+ghost use Rattle.mx_machine_world.specs.Move.{world_after_event, event_refusal};
+ghost use Rattle.mx_machine_world.specs.History.{AreAccepted, world_after_events, events_of, events_of_history};
+ghost use Rattle.mx_machine_world.specs.Steps.{steps_of};
+ghost use Rattle.mx_machine_world.specs.World.{actors};
+ghost use Rattle.mx_app_step.specs.Records.{IsReplayPrinted, IsFirstRefusal, IsRefusedAt, refused_record_line};
+ghost use Rattle.mx_app_start.specs.Telling.{IsTold};
+
+use crate::printing::print_report;
+use crate::stepping::work_steps;
+use mx_app_start::{Event, Failure, History, Machine, Reader, Record, Recorded, print_text, start};
+use mx_machine_world::{Refusal, actors_stay};
+use mx_print_answers::Said;
+use std::alloc::Global;
+use std::io::Write;
+
+/// How a history was replayed.
+#[derive(Clone, Copy, Debug, PartialEq, Eq)]
+pub enum Replayed {
+    /// Each event of it was accepted.
+    Whole,
+    /// An event was refused.
+    Refused,
+}
+
+/// The steps that a process made.
+fn steps_again(machine: &mut Machine, cpu: u8, steps: u32) -> Result<(), Refusal>
+    ensures ok { OnOk result (AreAccepted (world_of machine.old) (steps_of cpu steps) × (world_of machine.new ≡ world_after_events (world_of machine.old) (steps_of cpu steps))) }
+    ensures err { IfErr result (IsFirstRefusal (world_of machine.old) (steps_of cpu steps)) }
+{
+    if steps == 0 {
+        return Ok(());
+    }
+    match work_steps(machine, cpu, steps) {
+        Said::Stepped(count, _) => {
+            if count == steps {
+                Ok(())
+            } else {
+                Err(Refusal::AtStop)
+            }
+        }
+        Said::Refused(refusal) => Err(refusal),
+        Said::Answered(_) => unreachable!(),
+    }
+}
+
+/// One event again.
+fn event_again(machine: &mut Machine, actor: u8, event: Event) -> Result<(), Refusal>
+    requires { IsActor (world_of machine.old) actor event }
+    ensures ok { OnOk result ((event_refusal (world_of machine.old) actor event ≡ None) × (world_of machine.new ≡ world_after_event (world_of machine.old) actor event)) }
+    ensures err { IfErr result (λ r. event_refusal (world_of machine.old) actor event ≡ Some r) }
+{
+    machine.apply(actor, event)?;
+    Ok(())
+}
+
+/// The steps that a process made, and its return.
+fn return_again(machine: &mut Machine, cpu: u8, steps: u32) -> Result<(), Refusal>
+    ensures ok { OnOk result (AreAccepted (world_of machine.old) (events_of cpu (recorded.Back steps)) × (world_of machine.new ≡ world_after_events (world_of machine.old) (events_of cpu (recorded.Back steps)))) }
+    ensures err { IfErr result (IsFirstRefusal (world_of machine.old) (events_of cpu (recorded.Back steps))) }
+{
+    steps_again(machine, cpu, steps)?;
+    event_again(machine, cpu, Event::Back)
+}
+
+/// The events that a record stands for, up to the first that is refused.
+fn perform_record(machine: &mut Machine, actor: u8, event: Recorded) -> Result<(), Refusal>
+    requires { actor < actors (world_of machine.old) }
+    ensures ok { OnOk result (AreAccepted (world_of machine.old) (events_of actor event) × (world_of machine.new ≡ world_after_events (world_of machine.old) (events_of actor event))) }
+    ensures err { IfErr result (IsFirstRefusal (world_of machine.old) (events_of actor event)) }
+{
+    match event {
+        Recorded::Take => event_again(machine, actor, Event::Take),
+        Recorded::Back(steps) => return_again(machine, actor, steps),
+        Recorded::Line(line) => event_again(machine, actor, Event::Line(line)),
+        Recorded::Tick => event_again(machine, actor, Event::Tick),
+        Recorded::Kill(endpoint) => event_again(machine, actor, Event::Kill(endpoint)),
+        Recorded::Respawn(slot) => event_again(machine, actor, Event::Respawn(slot)),
+    }
+}
+
+/// The events that records stand for, up to the first that is refused. Answers the number of its
+/// record, the first having the number 1, and why.
+fn perform_records(machine: &mut Machine, records: &[Record]) -> Result<(), (usize, Refusal)>
+    requires { All (λ (x : Noted). x.actor < actors (world_of machine.old)) records.now }
+    ensures ok { OnOk result (AreAccepted (world_of machine.old) (events_of_history records.now) × (world_of machine.new ≡ world_after_events (world_of machine.old) (events_of_history records.now))) }
+    ensures err { IfErr result (λ p. IsRefusedAt (world_of machine.old) records.now p.0 p.1) }
+{
+    actors_stay();
+    let mut number = 1;
+    for entry in records {
+        if let Err(refusal) = perform_record(machine, entry.actor, entry.event) {
+            return Err((number, refusal));
+        }
+        number += 1;
+    }
+    Ok(())
+}
+
+/// Prints which record's event is refused, and why.
+fn print_refusal<W: Write>(
+    alloc: Global,
+    number: usize,
+    refusal: Refusal,
+    out: &mut W,
+) -> Result<(), Failure>
+    ensures err { IfErr result IsWanting }
+    ensures bytes { OnOk result (Appends (W.contents out.old) (W.contents out.new) (refused_record_line number refusal)) }
+{
+    let said = Said::Refused(refusal);
+    let line = format!(in alloc; "line {number}: {said}\n")?;
+    print_text(line.as_bytes(), out)
+}
+
+/// Replays records, and prints the report. At an event that is refused it prints the number of the
+/// record and the refusal instead.
+fn print_records<W: Write>(
+    alloc: Global,
+    machine: &mut Machine,
+    records: &[Record],
+    out: &mut W,
+) -> Result<Replayed, Failure>
+    requires { All (λ (x : Noted). x.actor < actors (world_of machine.old)) records.now }
+    ensures err { IfErr result IsWanting }
+    ensures printed { IfOk result (λ replayed. IsReplayPrinted (world_of machine.old) records.now replayed (λ text. Appends (W.contents out.old) (W.contents out.new) text)) }
+{
+    match perform_records(machine, records) {
+        Ok(()) => {
+            print_report(alloc, machine, out)?;
+            Ok(Replayed::Whole)
+        }
+        Err((number, refusal)) => {
+            print_refusal(alloc, number, refusal, out)?;
+            Ok(Replayed::Refused)
+        }
+    }
+}
+
+/// Starts a machine by the names of its configuration and of a saved history, replays the history, and
+/// prints the report. At an event that is refused it prints the number of the record's line and the
+/// refusal instead.
+pub fn replay<R: Reader, W: Write>(
+    alloc: Global,
+    reader: &mut R,
+    config: &str,
+    log: &str,
+    out: &mut W,
+) -> Result<Replayed, Failure>
+    ensures printed { IfOk result (λ replayed. (qs : List Asked) × (c : Config) × (vs : List Service) × (records : List Noted)
+        × (R.asked reader.new ≡ R.asked reader.old ++ qs) × IsStart IsSaved config.now log.now qs c vs records
+        × IsReplayPrinted (world_at_boot c vs) records replayed (λ text. Appends (W.contents out.old) (W.contents out.new) text)) }
+    ensures fault { IfErr result (λ f. (qs : List Asked)
+        × (R.asked reader.new ≡ R.asked reader.old ++ qs) × IsTold IsSaved TellsSaved config.now log.now qs f) }
+{
+    let mut started = start::<History, R>(alloc, reader, config, log)?;
+    let records = started.lines.as_slice();
+    print_records(alloc, &mut started.machine, records, out)
+}

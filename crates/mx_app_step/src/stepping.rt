@@ -1,0 +1,96 @@
+//! Steps of a processor.
+
+ghost use Rattle.std.specs.Prelude.{◌≡◌, ◌<◌, Some, false};
+ghost use Rattle.mx_machine_world.specs.Move.{at_stop, move};
+ghost use Rattle.mx_machine_world.specs.World.{HeldProcess, actors, held_by};
+ghost use Rattle.mx_app_start.specs.KernelState.{is_for_all};
+ghost use Rattle.mx_app_start.specs.Machine.{HasWorked, world_of};
+ghost use Rattle.mx_app_step.specs.Lines.{event_made, run_made, steps_made};
+
+use mx_app_start::{Event, Held, Machine, Out, Tool};
+use mx_image::Stop;
+use mx_machine_world::Refusal;
+use mx_print_answers::{Said, said_of};
+
+/// Makes so many steps, and notes what is said of them.
+#[derive(Drop)]
+struct Stepper {
+    steps: u32,
+    said: Said,
+}
+
+/// Whether no further step can be made.
+fn at_stop(out: &Out) -> bool
+    ensures { result ≡ at_stop out.now }
+{
+    match out.stop {
+        Stop::Spent => out.budget <= out.count,
+        Stop::Trap | Stop::Fault(_) => true,
+    }
+}
+
+impl Tool for Stepper {
+    ghost use Rattle.std.specs.Prelude.{◌≡◌};
+    ghost use Rattle.mx_app_step.specs.Lines.{said_of_run};
+
+    ghost steps = { λ tool _. tool.steps };
+
+    ghost Becomes = { λ old out new. new ≡ record old { said = said_of_run old.steps out } };
+
+    fn work(&mut self, out: &mut Out) {
+        let stopped = at_stop(out);
+        let (count, stop) = out.run(self.steps);
+        self.said = if stopped {
+            Said::Refused(Refusal::AtStop)
+        } else {
+            Said::Stepped(count, stop)
+        };
+    }
+}
+
+/// One or more steps of a processor, in one run.
+pub(crate) fn work_steps(machine: &mut Machine, cpu: u8, steps: u32) -> Said
+    requires { 0 < steps }
+    ensures made { run_made (world_of machine.old) cpu steps (held_by (world_of machine.old) cpu) ≡ (result, world_of machine.new) }
+    ensures actors { actors (world_of machine.new) ≡ actors (world_of machine.old) }
+    ensures worked { (l : HeldProcess) → held_by (world_of machine.old) cpu ≡ Some l → HasWorked (world_of machine.old) (world_of machine.new) cpu steps l }
+{
+    let mut stepper = Stepper {
+        steps,
+        said: Said::Stepped(0, Stop::Spent),
+    };
+    match machine.work(cpu, &mut stepper) {
+        Ok(()) => stepper.said,
+        Err(refusal) => Said::Refused(refusal),
+    }
+}
+
+/// At most so many steps of a processor, in one run: up to a trap, a fault or the end of the budget.
+/// Where the first of them is refused, the refusal; no steps are none, whatever the processor holds.
+pub fn make_steps(machine: &mut Machine, cpu: u8, steps: u32) -> Said
+    ensures made { steps_made (world_of machine.old) cpu steps ≡ (result, world_of machine.new) }
+    ensures actors { actors (world_of machine.new) ≡ actors (world_of machine.old) }
+{
+    if steps == 0 {
+        return Said::Stepped(0, Stop::Spent);
+    }
+    work_steps(machine, cpu, steps)
+}
+
+/// A take or a return of an actor, and what is said of it.
+pub(crate) fn make_own(machine: &mut Machine, actor: u8, event: Event) -> Said
+    requires { is_for_all event ≡ false }
+    ensures made { event_made (move (world_of machine.old) actor event) ≡ (result, world_of machine.new) }
+    ensures actors { actors (world_of machine.new) ≡ actors (world_of machine.old) }
+{
+    said_of(machine.apply(actor, event))
+}
+
+/// One event of an actor of the machine, and what is said of it.
+pub(crate) fn make_event(machine: &mut Machine, actor: u8, event: Event) -> Said
+    requires { actor < actors (world_of machine.old) }
+    ensures made { event_made (move (world_of machine.old) actor event) ≡ (result, world_of machine.new) }
+    ensures actors { actors (world_of machine.new) ≡ actors (world_of machine.old) }
+{
+    said_of(machine.apply(actor, event))
+}

@@ -1,0 +1,94 @@
+//! Jumps, calls and loops.
+
+ghost use Rattle.std.specs.Prelude.{◌≡◌, ℕ, ◌+◌, ◌≤◌, List, false, length};
+ghost use Rattle.mx_encode.specs.Chosen.{Chosen};
+ghost use Rattle.mx_encode.specs.Numbers.{is_short};
+ghost use Rattle.mx_asm_statement.specs.declared.branch.Branch.{Branch};
+ghost use Rattle.mx_asm.specs.Branches.{is_near, branch_by, branch_marks, branch_length, distance, is_too_far};
+
+use mx_asm_statement::Branch;
+use mx_encode::{Wide, encode};
+use mx_insn::{ArrayVec, Insn};
+
+fn is_near(branch: Branch) -> bool
+    ensures { result ≡ is_near branch }
+{
+    match branch {
+        Branch::Jump { short } | Branch::JumpIf { short, .. } => short,
+        Branch::Call => false,
+        Branch::Loop(_) => true,
+    }
+}
+
+fn branch_by(branch: Branch, displacement: u32) -> Insn
+    ensures { result ≡ branch_by branch displacement }
+{
+    match branch {
+        Branch::Jump { .. } => Insn::Jump(displacement),
+        Branch::JumpIf { condition, .. } => Insn::JumpIf {
+            condition,
+            displacement,
+        },
+        Branch::Call => Insn::Call(displacement),
+        Branch::Loop(operation) => Insn::Loop {
+            operation,
+            displacement,
+        },
+    }
+}
+
+/// How many bytes a jump takes, wherever its target stands.
+pub fn branch_length(branch: Branch) -> u8
+    ensures length { result ≡ branch_length branch }
+    ensures small { result ≤ 6 }
+{
+    if is_near(branch) {
+        return 2;
+    }
+    match branch {
+        Branch::JumpIf { .. } => 6,
+        _ => 5,
+    }
+}
+
+/// How far a target is from the next instruction, behind one of so many bytes.
+pub fn distance(at: u32, length: u8, target: u32) -> u32
+    ensures { result ≡ distance (at + length) target }
+{
+    target.wrapping_sub(at.wrapping_add(u32::from(length)))
+}
+
+fn is_short(displacement: u32) -> bool
+    ensures { result ≡ is_short 32 displacement }
+{
+    displacement < 0x80 || displacement >= 0xFFFF_FF80
+}
+
+/// Whether 8 bits are asked for and don't reach.
+pub fn is_too_far(branch: Branch, displacement: u32) -> bool
+    ensures { result ≡ is_too_far branch displacement }
+{
+    is_near(branch) && !is_short(displacement)
+}
+
+/// A jump that reaches has the length that its line asks for.
+pub fn branch_has_length()
+    ensures { (branch : Branch) (displacement : ℕ) (bytes : List ℕ) → is_too_far branch displacement ≡ false → Chosen (branch_by branch displacement) (branch_marks branch) bytes → length bytes ≡ branch_length branch }
+{}
+
+/// The bytes of a jump at an address.
+pub fn branch_bytes(branch: Branch, at: u32, target: u32) -> ArrayVec<u8, 15>
+    requires { is_too_far branch (distance (at + branch_length branch) target) ≡ false }
+    ensures bytes { Chosen (branch_by branch (distance (at + length result.items) target)) (branch_marks branch) result.items }
+    ensures length { length result.items ≡ branch_length branch }
+{
+    let marks = Wide {
+        immediate: false,
+        displacement: !is_near(branch),
+    };
+    let displacement = distance(at, branch_length(branch), target);
+    match encode(&branch_by(branch, displacement), marks) {
+        Ok(bytes) => bytes,
+        Err(_) => unreachable!(),
+    }
+}

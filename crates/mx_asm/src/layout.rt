@@ -1,0 +1,184 @@
+//! What the lines above leave, and addresses.
+
+ghost use Rattle.std.specs.Prelude.{OnOk, ◌≡◌, ◌+◌, ◌%◌, ◌^◌, ◌≤◌, nat_lt, false, None, IfErr};
+ghost use Rattle.mx_asm.specs.Lengths.{statement_length};
+ghost use Rattle.mx_asm.specs.Layout.{section_offset_of, is_defined, is_defined_twice, refusal_of_line, labels_with, no_lines_above, above_with, statement_said, SizesWithin, GrowsWithin, label_named, start_of, address_of_offset, value_under};
+ghost use Rattle.mx_asm.specs.Faults.{total_of, is_program_too_large};
+ghost use Rattle.mx_asm.specs.View.{above_of};
+
+use crate::fault::AsmError;
+use crate::sizes::{SectionOffset, SectionSizes};
+use indexmap::IndexMap;
+use mx_asm_statement::{Line, Reason, Section, Statement, StatementStart, Value, refusal};
+use mx_text::Name;
+use mx_word::Size;
+use std::alloc::Global;
+
+/// The sizes of the sections, the labels in order, and what `.sep`, `.entry` and `.stack` said.
+#[derive(Drop)]
+pub struct Layout {
+    pub sizes: SectionSizes,
+    pub labels: IndexMap<Name, SectionOffset>,
+    pub sep: bool,
+    pub entry: Option<Name>,
+    pub stack: Option<u32>,
+}
+
+/// The low 32 bits.
+fn low(count: u128) -> u32
+    ensures { result ≡ count % 2 ^ 32 }
+{
+    (count % 0x1_0000_0000) as u32
+}
+
+impl Layout {
+    /// Behind no line yet.
+    pub fn new(alloc: Global) -> Layout
+        ensures { above_of result ≡ no_lines_above }
+    {
+        Layout {
+            sizes: SectionSizes::START,
+            labels: IndexMap::new(alloc),
+            sep: false,
+            entry: None,
+            stack: None,
+        }
+    }
+
+    /// Where a label stands.
+    pub fn spot_named(&self, name: &Name) -> Option<SectionOffset>
+        ensures { result ≡ label_named (above_of self.now).labels name.now }
+    {
+        self.labels.get(name).copied()
+    }
+
+    fn stands(&self, label: Option<Name>) -> bool
+        ensures { result ≡ is_defined (above_of self.now) label }
+    {
+        match label {
+            None => false,
+            Some(name) => self.spot_named(&name).is_some(),
+        }
+    }
+
+    fn is_second(&self, beginning: StatementStart) -> bool
+        ensures { result ≡ is_defined_twice (above_of self.now) beginning }
+    {
+        match beginning {
+            StatementStart::Separate => self.sep,
+            StatementStart::Entry => self.entry.is_some(),
+            StatementStart::Stack => self.stack.is_some(),
+            _ => false,
+        }
+    }
+
+    /// Why a line is refused behind those above it.
+    pub fn reason_of(&self, line: &Line) -> Option<Reason>
+        ensures { result ≡ refusal_of_line (above_of self.now) line.now }
+    {
+        let twice = self.stands(line.label) || self.is_second(line.beginning);
+        refusal(line, self.sizes.section, twice)
+    }
+
+    /// A label that stands here.
+    fn place_label(&mut self, label: Option<Name>) -> Result<(), AsmError>
+        requires { is_defined (above_of self.old) label ≡ false }
+        ensures ok { OnOk result (above_of self.new ≡ record (above_of self.old) { labels = labels_with (above_of self.old).labels label (section_offset_of self.old.sizes) }) }
+        ensures err { IfErr result (λ e. e ≡ AsmError.NoMemory) }
+    {
+        if let Some(name) = label {
+            let spot = self.sizes.spot();
+            self.labels.insert(name, spot)?;
+        }
+        Ok(())
+    }
+
+    /// Goes on behind a line that isn't refused.
+    pub fn go_behind(&mut self, line: &Line) -> Result<(), AsmError>
+        requires room { SizesWithin self.old.sizes (2 ^ 126) }
+        requires new { is_defined (above_of self.old) line.now.label ≡ false }
+        ensures ok { OnOk result (above_of self.new ≡ above_with (above_of self.old) line.now (statement_length (statement_said line.now))) }
+        ensures small { OnOk result (GrowsWithin self.old.sizes self.new.sizes (2 ^ 64)) }
+        ensures err { IfErr result (λ e. e ≡ AsmError.NoMemory) }
+    {
+        self.place_label(line.label)?;
+        self.sizes = self.sizes.after(line);
+        match &line.statement {
+            Some(Statement::Separate) => self.sep = true,
+            Some(Statement::Entry(name)) => self.entry = Some(*name),
+            Some(Statement::Stack(size)) => self.stack = Some(*size),
+            _ => {}
+        }
+        Ok(())
+    }
+
+    /// Where a section begins, modulo 2^32.
+    fn start_of(&self, section: Section) -> u32
+        ensures { result ≡ start_of (above_of self.now) section % 2 ^ 32 }
+    {
+        let before = if self.sep { 0 } else { low(self.sizes.text) };
+        match section {
+            Section::Text => 0,
+            Section::Data => before,
+            Section::Bss => before.wrapping_add(low(self.sizes.init)),
+        }
+    }
+
+    /// The address of a place, modulo 2^32.
+    pub fn address_of(&self, spot: SectionOffset) -> u32
+        ensures { result ≡ address_of_offset (above_of self.now) spot }
+    {
+        self.start_of(spot.section).wrapping_add(low(spot.offset))
+    }
+
+    /// The size of the data segment, with the stack, in whole pages.
+    fn pages(&self) -> u128
+        requires { SizesWithin self.now.sizes (2 ^ 126) }
+        ensures { result ≡ total_of (above_of self.now) }
+    {
+        let text = if self.sep { 0 } else { self.sizes.text };
+        let stack = u128::from(self.stack.unwrap_or(2048));
+        let used = text + self.sizes.init + self.sizes.bss;
+        ((used + stack + 4095) / 4096 * 4096).max(4096)
+    }
+
+    /// Whether the data segment is too large, where the text isn't by itself.
+    fn is_total_too_large(&self) -> bool
+        requires { self.now.sizes.text ≤ 1048576 }
+        ensures { result ≡ nat_lt 4194304 (total_of (above_of self.now)) }
+    {
+        if self.sizes.init > 4_194_304 || self.sizes.bss > 4_194_304 {
+            return true;
+        }
+        self.pages() > 4_194_304
+    }
+
+    /// Whether no file may hold what the lines make.
+    pub fn is_too_large(&self) -> bool
+        ensures { result ≡ is_program_too_large (above_of self.now) }
+    {
+        self.sizes.text > 1_048_576 || self.labels.len() > 16_384 || self.is_total_too_large()
+    }
+
+    /// The size of the data segment, with the stack, in whole pages.
+    pub fn total(&self) -> u32
+        requires { is_program_too_large (above_of self.now) ≡ false }
+        ensures { result ≡ total_of (above_of self.now) }
+    {
+        self.pages() as u32
+    }
+
+    /// A value, where its name stands.
+    pub fn value(&self, value: Value) -> Option<u32>
+        ensures { result ≡ value_under (above_of self.now) value }
+    {
+        let base = match value.name {
+            None => 0,
+            Some(name) => {
+                let spot = self.spot_named(&name)?;
+                self.address_of(spot)
+            }
+        };
+        Some(Size::Dword.modulo(i64::from(base) + value.whole()))
+    }
+}

@@ -1,0 +1,127 @@
+//! What stands against lines once all labels stand.
+
+ghost use Rattle.std.specs.Prelude.{◌≡◌, false, None};
+ghost use Rattle.std.specs.List.{list_any};
+ghost use Rattle.mx_asm.specs.Layout.{no_lines_above, statement_said, laid_by};
+ghost use Rattle.mx_asm.specs.Faults.{is_undefined, is_undefined_if, undefined_where, problem_at, first_problem, fault_behind, is_program_too_large};
+ghost use Rattle.mx_asm.specs.View.{above_of};
+
+use crate::branch::{branch_length, distance, is_too_far};
+use crate::fault::{Fault, Problem};
+use crate::layout::Layout;
+use crate::sizes::SectionSizes;
+use mx_asm_statement::{Branch, Line, Statement, Value};
+
+fn undefined_where(undefined: bool) -> Option<Problem>
+    ensures { result ≡ undefined_where undefined }
+{
+    if undefined {
+        Some(Problem::Undefined)
+    } else {
+        None
+    }
+}
+
+impl Layout {
+    fn is_undefined(&self, value: Value) -> bool
+        ensures { result ≡ is_undefined (above_of self.now) value }
+    {
+        self.value(value).is_none()
+    }
+
+    fn is_undefined_if(&self, value: Option<Value>) -> bool
+        ensures { result ≡ is_undefined_if (above_of self.now) value }
+    {
+        match value {
+            None => false,
+            Some(value) => self.is_undefined(value),
+        }
+    }
+
+    fn any_undefined(&self, values: &[Value]) -> bool
+        ensures { result ≡ list_any (is_undefined (above_of self.now)) values.now }
+    {
+        for value in values {
+            if self.is_undefined(*value) {
+                return true;
+            }
+        }
+        false
+    }
+
+    fn branch_problem(&self, at: u32, branch: Branch, target: Value) -> Option<Problem>
+        ensures { result ≡ problem_at (above_of self.now) at (Statement.Branch branch target) }
+    {
+        match self.value(target) {
+            None => Some(Problem::Undefined),
+            Some(target) => {
+                if is_too_far(branch, distance(at, branch_length(branch), target)) {
+                    Some(Problem::TooFar)
+                } else {
+                    None
+                }
+            }
+        }
+    }
+
+    /// What stands against a line's statement at an address.
+    fn problem_at(&self, at: u32, line: &Line) -> Option<Problem>
+        ensures { result ≡ problem_at (above_of self.now) at (statement_said line.now) }
+    {
+        match &line.statement {
+            Some(Statement::Data(_, values)) => {
+                undefined_where(self.any_undefined(values.as_slice()))
+            }
+            Some(Statement::Entry(name)) => undefined_where(self.spot_named(name).is_none()),
+            Some(Statement::Instruction(instruction)) => undefined_where(
+                self.is_undefined_if(instruction.immediate)
+                    || self.is_undefined_if(instruction.displacement),
+            ),
+            Some(Statement::Branch(branch, target)) => self.branch_problem(at, *branch, *target),
+            _ => None,
+        }
+    }
+
+    /// The first line that something stands against.
+    fn first_problem(&self, lines: &[Line]) -> Option<Fault>
+        ensures { result ≡ first_problem (above_of self.now) no_lines_above.sizes 1 lines.now }
+    {
+        let mut sizes = SectionSizes::START;
+        for (index, line) in lines.iter().enumerate() {
+            let at = self.address_of(sizes.spot());
+            match self.problem_at(at, line) {
+                Some(problem) => {
+                    return Some(Fault {
+                        problem,
+                        line: index + 1,
+                    });
+                }
+                None => {}
+            }
+            sizes = sizes.after(line);
+        }
+        None
+    }
+
+    /// What stands against the lines that leave this layout: against one of them, or against all for
+    /// their size.
+    pub fn fault_behind(&self, lines: &[Line]) -> Option<Fault>
+        requires { above_of self.now ≡ laid_by no_lines_above lines.now }
+        ensures fault { result ≡ fault_behind lines.now }
+        ensures clean { result ≡ None → first_problem (above_of self.now) no_lines_above.sizes 1 lines.now ≡ None }
+        ensures small { result ≡ None → is_program_too_large (above_of self.now) ≡ false }
+    {
+        match self.first_problem(lines) {
+            Some(fault) => return Some(fault),
+            None => {}
+        }
+        if self.is_too_large() {
+            let line = lines.len().max(1);
+            return Some(Fault {
+                problem: Problem::TooLarge,
+                line,
+            });
+        }
+        None
+    }
+}

@@ -1,0 +1,2 @@
+mod Valuing
+pub mod Widths

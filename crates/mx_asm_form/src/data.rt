@@ -1,0 +1,38 @@
+//! Values of data.
+
+ghost use Rattle.std.specs.Prelude.{◌≡◌, IfOk};
+ghost use Rattle.mx_asm_form.specs.Data.{data_value_in, data_of};
+
+use crate::number::number_in;
+use mx_asm_statement::{DataValues, Item, Statement, Value, parted, value_of};
+use mx_insn::Size;
+use std::alloc::{AllocError, Global};
+
+/// The value that items say, where it fits.
+fn value_in(size: Size, items: &[Item]) -> Option<Value>
+    ensures { result ≡ data_value_in size items.now }
+{
+    let value = value_of(items)?;
+    number_in(size, value)?;
+    Some(value)
+}
+
+/// Data of a size: the values that commas part, where each fits.
+pub fn data_of(alloc: Global, size: Size, items: &[Item]) -> Result<Option<Statement>, AllocError>
+    ensures { IfOk result (λ s. s ≡ data_of size items.now) }
+{
+    let mut found = Vec::new(alloc);
+    let mut rest = items;
+    while let Some((front, more)) = parted(rest) {
+        match value_in(size, front) {
+            Some(value) => found.push(value)?,
+            None => return Ok(None),
+        }
+        rest = more;
+    }
+    match value_in(size, rest) {
+        Some(value) => found.push(value)?,
+        None => return Ok(None),
+    }
+    Ok(Some(Statement::Data(size, DataValues::from_vec(found))))
+}

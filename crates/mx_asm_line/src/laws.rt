@@ -1,0 +1,38 @@
+//! Laws of lines.
+
+ghost use Rattle.std.specs.Prelude.{◌≡◌, ℕ, List, Some};
+ghost use Rattle.mx_encode.specs.Given.{Fits};
+ghost use Rattle.mx_lex.specs.declared.kinds.LexError.{LexError};
+ghost use Rattle.mx_lex.specs.Tokens.{IsLexFault};
+ghost use Rattle.mx_asm_statement.specs.declared.line.Line.{Line};
+ghost use Rattle.mx_asm_statement.specs.declared.instruction.Instruction.{Instruction};
+ghost use Rattle.mx_asm_statement.specs.declared.statement.Statement.TheVariants as statements;
+ghost use Rattle.mx_asm_line.specs.Lines.{IsLine};
+
+use mx_asm_form::numbers_fit;
+use mx_insn_words::{one_register_or_size, one_start};
+use mx_lex::{one_reading, reading_or_fault};
+
+/// A line of a text says one thing at most.
+pub fn one_line()
+    ensures { (t : List ℕ) (a b : Line) → IsLine t a → IsLine t b → a ≡ b }
+{
+    one_start();
+    one_register_or_size();
+    one_reading();
+}
+
+/// A line of a text says something or has a fault, and not both: none has neither.
+pub fn line_or_fault()
+    ensures not_both { (t : List ℕ) (l : Line) (e : LexError) → IsLine t l → IsLexFault t e → ⊥ }
+    ensures not_neither { (t : List ℕ) → ((l : Line) → IsLine t l → ⊥) → ((e : LexError) → IsLexFault t e → ⊥) → ⊥ }
+{
+    reading_or_fault();
+}
+
+/// The numbers of a line's instruction are as wide as their types.
+pub fn line_fits()
+    ensures { (t : List ℕ) (l : Line) (i : Instruction) → IsLine t l → l.statement ≡ Some (statements.Instruction i) → Fits i.insn }
+{
+    numbers_fit();
+}

@@ -1,0 +1,12 @@
+//! What a line of an assembler text says.
+#![tactic(auto)]
+
+mod laws;
+mod opening;
+mod reading;
+mod statements;
+
+pub use laws::{line_fits, line_or_fault, one_line};
+pub use mx_asm_statement::Line;
+pub use mx_lex::LexError;
+pub use reading::read_line;

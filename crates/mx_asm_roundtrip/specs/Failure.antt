@@ -1,0 +1,16 @@
+-- Why a text doesn't go around.
+use Rattle.std.specs.Prelude.{ℕ, List, ⊤}
+use Rattle.mx_asm.specs.declared.fault.AsmError.{AsmError}
+use Rattle.mx_asm.specs.declared.fault.AsmError.TheVariants as assembling
+use Rattle.mx_asm.specs.Text.{HasTextFault}
+use Rattle.mx_asm_roundtrip.specs.declared.error.AroundError.{AroundError}
+use Rattle.mx_asm_roundtrip.specs.declared.error.AroundError.TheVariants.{Text, NoMemory}
+
+abbrev pub error_of : AsmError → AroundError
+error_of (assembling.At f) = Text f
+error_of assembling.NoMemory = NoMemory
+
+-- a text is told its first fault, and nothing else, want of memory aside
+abbrev pub TellsWhy : List ℕ → AroundError → Type 0
+TellsWhy t NoMemory = ⊤
+TellsWhy t (Text f) = HasTextFault t f

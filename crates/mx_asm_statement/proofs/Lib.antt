@@ -1,0 +1,4 @@
+mod Spelled
+mod Closing
+mod Parting
+mod Sorted

@@ -1,0 +1,9 @@
+pub mod Values
+pub mod Instructions
+pub mod Reasons
+pub mod Items
+pub mod Sorting
+pub mod ValueItems
+pub mod Addresses
+pub mod Arguments
+pub mod Lists

@@ -1,0 +1,33 @@
+//! What a statement is made of, once its words are sorted.
+
+ghost use Rattle.std.specs.Prelude.{◌≡◌};
+ghost use Rattle.mx_asm_statement.specs.Items.{is_long};
+
+use mx_insn::{Register, Size};
+use mx_lex::Mark;
+use mx_text::Name;
+
+/// A token, and what it is where an operand stands.
+#[derive(Clone, Copy)]
+pub enum Item {
+    Mark(Mark),
+    Register(Size, Register),
+    /// `byte`, `word`, `dword`.
+    Size(Size),
+    Name(Name),
+    Number(u32),
+    /// A word that is too long for a name.
+    Long,
+    /// A text, or a word that begins with a dot.
+    Other,
+}
+
+/// Whether an item is a name that is too long.
+pub fn is_long(item: Item) -> bool
+    ensures { result ≡ is_long item }
+{
+    match item {
+        Item::Long => true,
+        _ => false,
+    }
+}

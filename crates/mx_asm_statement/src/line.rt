@@ -1,0 +1,106 @@
+//! Lines, and the reasons to refuse one.
+
+ghost use Rattle.std.specs.Prelude.{◌≡◌};
+ghost use Rattle.mx_asm_statement.specs.Reasons.{reason_code, is_unknown, is_misplaced, statement_refusal};
+
+use crate::statement::{Section, Statement};
+use mx_text::Name;
+
+/// What a statement begins with.
+#[derive(Clone, Copy, PartialEq, Eq)]
+pub enum StatementStart {
+    Nothing,
+    /// Neither a mnemonic nor a repeat nor a directive.
+    Unknown,
+    /// A mnemonic or a repeat.
+    Instruction,
+    /// `.data1`, `.data2`, `.data4`, `.ascii`.
+    Data,
+    /// `.sep`.
+    Separate,
+    /// `.entry`.
+    Entry,
+    /// `.stack`.
+    Stack,
+    /// `.text`, `.data`, `.bss`, `.space`.
+    Anywhere,
+}
+
+/// What a line's tokens say, whatever stands above it.
+#[derive(Drop)]
+pub struct Line {
+    /// Nothing too where what stands before the colon is no name.
+    pub label: Option<Name>,
+    /// A name of more than eight bytes stands as the label or in an operand.
+    pub long: bool,
+    pub beginning: StatementStart,
+    /// Nothing where the statement fits no form, or the label is no name.
+    pub statement: Option<Statement>,
+}
+
+/// Why a line is refused, in the order in which it is told.
+#[derive(Clone, Copy, PartialEq, Eq)]
+pub enum Reason {
+    LongName,
+    Twice,
+    Unknown,
+    WrongSection,
+    NoForm,
+}
+
+impl Reason {
+    /// The number that messages tell.
+    pub fn code(self) -> u8
+        ensures { result ≡ reason_code self }
+    {
+        match self {
+            Reason::LongName => 17,
+            Reason::Twice => 12,
+            Reason::Unknown => 10,
+            Reason::WrongSection => 15,
+            Reason::NoForm => 11,
+        }
+    }
+}
+
+fn is_unknown(beginning: StatementStart) -> bool
+    ensures { result ≡ is_unknown beginning }
+{
+    match beginning {
+        StatementStart::Unknown => true,
+        _ => false,
+    }
+}
+
+fn is_misplaced(section: Section, beginning: StatementStart) -> bool
+    ensures { result ≡ is_misplaced section beginning }
+{
+    match (section, beginning) {
+        (Section::Data | Section::Bss, StatementStart::Instruction) => true,
+        (Section::Bss, StatementStart::Data) => true,
+        _ => false,
+    }
+}
+
+/// The first reason to refuse a line, where it stands in a section. Twice: its label stands above
+/// it already, or it is a second `.sep`, `.entry` or `.stack`.
+pub fn refusal(line: &Line, section: Section, twice: bool) -> Option<Reason>
+    ensures { result ≡ statement_refusal section twice line.now }
+{
+    if line.long {
+        return Some(Reason::LongName);
+    }
+    if twice {
+        return Some(Reason::Twice);
+    }
+    if is_unknown(line.beginning) {
+        return Some(Reason::Unknown);
+    }
+    if is_misplaced(section, line.beginning) {
+        return Some(Reason::WrongSection);
+    }
+    if line.statement.is_none() {
+        return Some(Reason::NoForm);
+    }
+    None
+}

@@ -1,0 +1,132 @@
+//! What stands between brackets.
+
+ghost use Rattle.std.specs.Prelude.{◌≡◌, ◌∷◌};
+ghost use Rattle.mx_word.specs.declared.size.Size.TheVariants as sizes;
+ghost use Rattle.mx_lex.specs.declared.kinds.Mark.TheVariants as marks;
+ghost use Rattle.mx_asm_statement.specs.declared.item.Item.TheVariants as item;
+ghost use Rattle.mx_asm_statement.specs.Addresses.{scale_of_number, displacement_after, address_with_index, address_with_base, address_in_brackets};
+
+use crate::Value;
+use crate::item::Item;
+use crate::value_items::value_of;
+use mx_insn::{Index, Register, Scale, Size};
+use mx_lex::Mark;
+
+/// A place in memory: base + index * scale + value.
+#[derive(Clone, Copy)]
+pub struct Address {
+    pub base: Option<Register>,
+    pub index: Option<Index>,
+    pub value: Value,
+}
+
+fn scale_of(number: u32) -> Option<Scale>
+    ensures { result ≡ scale_of_number number }
+{
+    match number {
+        1 => Some(Scale::One),
+        2 => Some(Scale::Two),
+        4 => Some(Scale::Four),
+        8 => Some(Scale::Eight),
+        _ => None,
+    }
+}
+
+/// The value behind a register.
+fn displaced(items: &[Item]) -> Option<Value>
+    ensures { result ≡ displacement_after items.now }
+{
+    match items.split_first() {
+        None => Some(Value {
+            name: None,
+            minus: false,
+            number: 0,
+        }),
+        Some((Item::Mark(Mark::Minus), _)) => value_of(items),
+        Some((Item::Mark(Mark::Plus), rest)) => match rest.split_first() {
+            Some((Item::Mark(Mark::Minus), _)) => None,
+            _ => value_of(rest),
+        },
+        _ => None,
+    }
+}
+
+fn indexed(
+    base: Option<Register>,
+    register: Register,
+    scale: Option<Scale>,
+    rest: &[Item],
+) -> Option<Address>
+    ensures { result ≡ address_with_index base register scale rest.now }
+{
+    if register == Register::Esp {
+        return None;
+    }
+    let scale = scale?;
+    let value = displaced(rest)?;
+    Some(Address {
+        base,
+        index: Some(Index { register, scale }),
+        value,
+    })
+}
+
+fn based(base: Register, items: &[Item]) -> Option<Address>
+    ensures { result ≡ address_with_base base items.now }
+{
+    let value = displaced(items)?;
+    Some(Address {
+        base: Some(base),
+        index: None,
+        value,
+    })
+}
+
+/// The place behind a base, a plus and a second register.
+fn behind_two(base: Register, register: Register, items: &[Item]) -> Option<Address>
+    ensures { result ≡ address_in_brackets (item.Register sizes.Dword base ∷ item.Mark marks.Plus ∷ item.Register sizes.Dword register ∷ items.now) }
+{
+    match items.split_first() {
+        Some((Item::Mark(Mark::Star), rest)) => match rest.split_first() {
+            Some((Item::Number(number), rest)) => {
+                indexed(Some(base), register, scale_of(*number), rest)
+            }
+            _ => indexed(Some(base), register, Some(Scale::One), items),
+        },
+        _ => indexed(Some(base), register, Some(Scale::One), items),
+    }
+}
+
+/// The place behind a register, which is an index where `*n` follows, else the base.
+fn behind_register(register: Register, items: &[Item]) -> Option<Address>
+    ensures { result ≡ address_in_brackets (item.Register sizes.Dword register ∷ items.now) }
+{
+    match items.split_first() {
+        Some((Item::Mark(Mark::Star), rest)) => match rest.split_first() {
+            Some((Item::Number(number), rest)) => indexed(None, register, scale_of(*number), rest),
+            _ => based(register, items),
+        },
+        Some((Item::Mark(Mark::Plus), rest)) => match rest.split_first() {
+            Some((Item::Register(Size::Dword, index), rest)) => behind_two(register, *index, rest),
+            _ => based(register, items),
+        },
+        _ => based(register, items),
+    }
+}
+
+/// The place in memory that items between brackets say.
+pub fn address_of(items: &[Item]) -> Option<Address>
+    ensures { result ≡ address_in_brackets items.now }
+{
+    match items.split_first() {
+        Some((Item::Register(Size::Dword, register), rest)) => behind_register(*register, rest),
+        _ => {
+            let value = value_of(items)?;
+            Some(Address {
+                base: None,
+                index: None,
+                value,
+            })
+        }
+    }
+}

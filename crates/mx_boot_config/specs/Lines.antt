@@ -1,0 +1,95 @@
+-- The lines of a configuration, and what is told of them (our own notation; the codes are our choice).
+use Rattle.std.specs.Prelude.{◌≡◌, ◌≢◌, ◌⊎◌, ℕ, ◌+◌, Bool, false, nat_le, if◌then◌else◌, List, [], ◌∷◌, ◌++◌, length, Option, Some, None, is_some, unwrap_or, ⊤}
+use Rattle.std.specs.List.{list_any}
+use Rattle.std.specs.Str.{bytes_eq}
+use Rattle.mx_text.specs.Lines.{lines, last_line}
+use Rattle.mx_text.specs.declared.error.BootError.{BootError}
+use Rattle.mx_text.specs.declared.error.BootError.TheVariants.{BadLine, TwiceNamed, TooMany, NoMemory}
+use Rattle.mx_machine_world.specs.Label.{Label}
+use Rattle.mx_machine_world.specs.declared.config.ServiceLine.{ServiceLine}
+use Rattle.mx_machine_world.specs.declared.config.Config.{Config}
+use Rattle.mx_boot_config.specs.declared.item.ConfigItem.{ConfigItem}
+use Rattle.mx_boot_config.specs.declared.item.ConfigItem.TheVariants.{Cpus, Log, Others, Service}
+use Rattle.mx_boot_config.specs.Items.{said_in, SaysItem, SaysNothing}
+use Rattle.mx_boot_config.specs.Above.{ItemsAbove, nothing_above}
+
+-- ---- what a line may not say below others
+
+abbrev pub has_service_name : List ServiceLine → Label → Bool
+has_service_name above label = list_any (λ (t : ServiceLine). bytes_eq t.name.name.bytes label.name.bytes) above
+
+-- an item, or a service's name, that stands above already
+abbrev pub is_twice : ItemsAbove → ConfigItem → Bool
+is_twice a (Cpus n) = is_some a.cpus
+is_twice a (Log n) = is_some a.log
+is_twice a (Others n) = is_some a.others
+is_twice a (Service s) = has_service_name a.lines s.name
+
+-- a service below 32 others
+abbrev pub is_service_too_many : ItemsAbove → ConfigItem → Bool
+is_service_too_many a (Service s) = nat_le 32 (length a.lines)
+is_service_too_many a item = false
+
+-- the first reason to refuse what line n says
+abbrev pub item_refusal : ℕ → ItemsAbove → ConfigItem → Option BootError
+item_refusal n a item = if is_twice a item then Some (TwiceNamed n) else if is_service_too_many a item then Some (TooMany n) else None
+
+abbrev pub items_with : ItemsAbove → ConfigItem → ItemsAbove
+items_with a (Cpus n) = record a { cpus = Some n }
+items_with a (Log n) = record a { log = Some n }
+items_with a (Others n) = record a { others = Some n }
+items_with a (Service s) = record a { lines = a.lines ++ s ∷ [] }
+
+-- ---- lines
+
+-- a line of which nothing is left but a comment, or one that says what may stand there
+abbrev pub IsItemTaken : ItemsAbove → ℕ → List ℕ → ItemsAbove → Type 0
+IsItemTaken a n line b =
+    ((said_in line ≡ []) × (b ≡ a))
+    ⊎ ((item : ConfigItem) × SaysItem (said_in line) item × (item_refusal n a item ≡ None) × (b ≡ items_with a item))
+
+-- what is told of line n
+abbrev pub IsItemWrong : ItemsAbove → ℕ → List ℕ → BootError → Type 0
+IsItemWrong a n line e =
+    ((said_in line ≢ []) × SaysNothing (said_in line) × (e ≡ BadLine n))
+    ⊎ ((item : ConfigItem) × SaysItem (said_in line) item × (item_refusal n a item ≡ Some e))
+
+-- the first of these lines is line n
+abbrev pub AreItemsTaken : ItemsAbove → ℕ → List (List ℕ) → ItemsAbove → Type 0
+AreItemsTaken a n [] c = c ≡ a
+AreItemsTaken a n (l ∷ ls) c = (b : ItemsAbove) × IsItemTaken a n l b × AreItemsTaken b (n + 1) ls c
+
+abbrev pub IsFirstItemWrong : ItemsAbove → ℕ → List (List ℕ) → BootError → Type 0
+IsFirstItemWrong a n [] e = ⊥
+IsFirstItemWrong a n (l ∷ ls) e = IsItemWrong a n l e ⊎ ((b : ItemsAbove) × IsItemTaken a n l b × IsFirstItemWrong b (n + 1) ls e)
+
+-- ---- configurations
+
+-- what isn't said is 1 processor, room for 65,536 records and 1 other
+pub record IsConfigOf (a : ItemsAbove) (config : Config) : Type 0 where
+  pub cpus : config.cpus ≡ unwrap_or a.cpus 1
+  pub others : config.others ≡ unwrap_or a.others 1
+  pub log : config.log ≡ unwrap_or a.log 65536
+  pub lines : config.lines ≡ a.lines
+
+abbrev pub IsConfig : List ℕ → Config → Type 0
+IsConfig text config = (a : ItemsAbove) × AreItemsTaken nothing_above 1 (lines text) a × (a.lines ≢ []) × IsConfigOf a config
+
+-- the first line at fault, else the last line, where there is no service
+abbrev pub HasConfigFault : List ℕ → BootError → Type 0
+HasConfigFault text e =
+    IsFirstItemWrong nothing_above 1 (lines text) e
+    ⊎ ((a : ItemsAbove) × AreItemsTaken nothing_above 1 (lines text) a × (a.lines ≡ []) × (e ≡ BadLine (last_line (lines text))))
+
+-- want of memory aside
+abbrev pub TellsItemWrong : ItemsAbove → ℕ → List ℕ → BootError → Type 0
+TellsItemWrong a n line NoMemory = ⊤
+TellsItemWrong a n line e = IsItemWrong a n line e
+
+abbrev pub TellsFirstItem : List ℕ → BootError → Type 0
+TellsFirstItem text NoMemory = ⊤
+TellsFirstItem text e = IsFirstItemWrong nothing_above 1 (lines text) e
+
+abbrev pub TellsConfigFault : List ℕ → BootError → Type 0
+TellsConfigFault text NoMemory = ⊤
+TellsConfigFault text e = HasConfigFault text e

@@ -1,0 +1,117 @@
+//! Reads the text of a history.
+
+ghost use Rattle.std.specs.Prelude.{◌≡◌, ◌+◌, List, All, IfOk, IfErr, MatchResult};
+ghost use Rattle.mx_text.specs.declared.error.BootError.TheVariants.{NoMemory};
+ghost use Rattle.mx_machine_world.specs.declared.history.Record.{Record};
+ghost use Rattle.mx_machine_world.specs.History.{IsWritable};
+ghost use Rattle.mx_boot_history.specs.Text.{history_text};
+ghost use Rattle.mx_text.specs.Fields.{fields};
+ghost use Rattle.mx_boot_script.specs.Script.{after_verb};
+ghost use Rattle.mx_boot_history.specs.Log.{recorded_of, record_by, record_line, is_ended, IsHistory, TellsHistoryFault};
+
+use crate::laws::{history_again, one_history};
+use mx_boot_script::{ReadsLine, Verb, actor, only_count, read_lines, verb_named};
+use mx_machine_world::{Config, Record, Recorded};
+use mx_text::{BootError, next_field};
+use std::alloc::Global;
+
+/// What was recorded, of a verb and what stands behind it.
+fn recorded_of(verb: Verb, rest: &[u8]) -> Option<Recorded>
+    ensures { result ≡ recorded_of verb (fields rest.now) }
+{
+    match verb {
+        Verb::Take => match next_field(rest) {
+            None => Some(Recorded::Take),
+            Some(_) => None,
+        },
+        Verb::Back => Some(Recorded::Back(only_count(rest)?)),
+        Verb::Line => Some(Recorded::Line(only_count(rest)?)),
+        Verb::Tick => match next_field(rest) {
+            None => Some(Recorded::Tick),
+            Some(_) => None,
+        },
+        Verb::Kill => Some(Recorded::Kill(only_count(rest)?)),
+        Verb::Respawn => Some(Recorded::Respawn(only_count(rest)?)),
+        _ => None,
+    }
+}
+
+/// What a line says behind its actor.
+fn recorded(line: &[u8]) -> Option<Recorded>
+    ensures { result ≡ after_verb recorded_of (fields line.now) }
+{
+    let (word, rest) = next_field(line)?;
+    let verb = verb_named(word)?;
+    recorded_of(verb, rest)
+}
+
+/// A record, where the actor is one of so many.
+fn made_by(actors: u8, actor: u8, event: Recorded) -> Option<Record>
+    ensures { result ≡ record_by actors actor event }
+{
+    if actor < actors {
+        Some(Record { actor, event })
+    } else {
+        None
+    }
+}
+
+/// Reads the records of so many actors.
+#[derive(Drop)]
+struct RecordReader {
+    actors: u8,
+}
+
+impl ReadsLine for RecordReader {
+    ghost use Rattle.mx_boot_history.specs.Log.{record_line};
+
+    type Said = Record;
+
+    ghost says = { λ reader line. record_line reader.actors line };
+
+    fn read(&self, line: &[u8]) -> Option<Record> {
+        let (word, rest) = next_field(line)?;
+        let actor = actor(word)?;
+        let event = recorded(rest)?;
+        made_by(self.actors, actor, event)
+    }
+}
+
+/// Whether each line of a text is ended by a line feed.
+fn is_ended(text: &[u8]) -> bool
+    ensures { result ≡ is_ended text.now }
+{
+    match text.last() {
+        None => true,
+        Some(byte) => *byte == b'\n',
+    }
+}
+
+/// The records of a text, or its first line at fault.
+fn read_log(alloc: Global, text: &str, actors: u8) -> Result<Vec<Record>, BootError>
+    ensures history { IfOk result (λ records. IsHistory actors text.now records.items) }
+    ensures fault { IfErr result (λ e. TellsHistoryFault actors text.now e) }
+{
+    let records = read_lines(alloc, &RecordReader { actors }, text.as_bytes())?;
+    if is_ended(text.as_bytes()) {
+        Ok(records)
+    } else {
+        Err(BootError::BadRecord(records.len()))
+    }
+}
+
+/// The history that a text is, one record a line: `A take`, `A back N`, `A line L`, `A tick`,
+/// `A kill E`, `A respawn S`, A the actor; each line is ended by a line feed. The numbers are
+/// decimal; A is below the count of the configuration's processors and others, the other numbers at
+/// most 2,147,483,647. Else `BadRecord` with the first line at fault. So the text of a history is
+/// read as that history.
+pub fn log(alloc: Global, text: &str, config: &Config) -> Result<Vec<Record>, BootError>
+    ensures history { IfOk result (λ records. IsHistory (config.now.cpus + config.now.others) text.now records.items) }
+    ensures fault { IfErr result (λ e. TellsHistoryFault (config.now.cpus + config.now.others) text.now e) }
+    ensures saved { (records : List Record) → All (IsWritable (config.now.cpus + config.now.others)) records → text.now ≡ history_text records
+        → MatchResult result (λ found. found.items ≡ records) (λ e. e ≡ NoMemory) }
+{
+    one_history();
+    history_again();
+    read_log(alloc, text, config.cpus + config.others)
+}

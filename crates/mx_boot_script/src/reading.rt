@@ -1,0 +1,44 @@
+//! Texts of which each line says one thing.
+
+ghost use Rattle.std.specs.Prelude.{◌≡◌, ℕ, List, Option, IfOk, IfErr};
+ghost use Rattle.mx_text.specs.Lines.{lines};
+ghost use Rattle.mx_boot_script.specs.Reading.{AreLinesRead, TellsUnread};
+
+use mx_text::{BootError, next_line};
+use std::alloc::Global;
+
+/// Tells what one line says.
+pub trait ReadsLine {
+    type Said;
+
+    ghost says: { Self → List ℕ → Option Self.Said };
+
+    /// What a line says, if it says anything. Takes no memory.
+    fn read(&self, line: &[u8]) -> Option<Self::Said>
+        ensures { result ≡ says self.now line.now };
+}
+
+/// What the lines of a text say, or `BadRecord` with the first line that says nothing.
+pub fn read_lines<R: ReadsLine>(
+    alloc: Global,
+    reader: &R,
+    text: &[u8],
+) -> Result<Vec<R::Said>, BootError>
+where
+    R::Said: Drop,
+    ensures read { IfOk result (λ found. AreLinesRead (R.says reader.now) (lines text.now) found.items) }
+    ensures unread { IfErr result (λ e. TellsUnread (R.says reader.now) (lines text.now) e) }
+{
+    let mut found = Vec::new(alloc);
+    let mut rest = text;
+    let mut number = 1;
+    while let Some((line, below)) = next_line(rest) {
+        match reader.read(line) {
+            Some(said) => found.push(said)?,
+            None => return Err(BootError::BadRecord(number)),
+        }
+        rest = below;
+        number += 1;
+    }
+    Ok(found)
+}

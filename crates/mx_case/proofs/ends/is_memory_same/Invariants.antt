@@ -1,6 +1,0 @@
-use Rattle.std.proofs.Common.{◌↔◌, IsTrue}
-use Rattle.mx_case.proofs.Comparing.{SameFirst}
-use Rattle.mx_case.proofs.ends.is_memory_same.Given as goal
-
-abbrev pub invariant-loop-at : goal.invariant-loop-at
-invariant-loop-at l = IsTrue l.same ↔ SameFirst l.at l.memory l.wanted

@@ -1,2 +1,0 @@
-pub mod Failure
-pub mod Agreement

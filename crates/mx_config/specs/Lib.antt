@@ -1,6 +1,0 @@
-pub mod Terms
-pub mod Items
-pub mod Above
-pub mod Lines
-pub use Rattle.mx_setup.specs.declared.config.Config
-pub use Rattle.mx_setup.specs.declared.config.ServiceLine

@@ -1,0 +1,21 @@
+//! Tables of words.
+
+ghost use Rattle.std.specs.Prelude.{◌≡◌, true};
+ghost use Rattle.mx_insn_words.specs.Named.{lookup, is_sorted};
+
+/// A word and what it names, a row of a table.
+pub struct Named<T> {
+    pub word: &'static [u8],
+    pub value: T,
+}
+
+/// What a word names in a table that is sorted by its words.
+pub fn found<T: Copy>(table: &'static [Named<T>], word: &[u8]) -> Option<T>
+    requires { is_sorted table.now ≡ true }
+    ensures { result ≡ lookup table.now word.now }
+{
+    match table.binary_search_by(|row| row.word.cmp(word)) {
+        Ok(at) => Some(table[at].value),
+        Err(_) => None,
+    }
+}

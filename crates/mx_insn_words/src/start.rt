@@ -1,0 +1,60 @@
+//! Prefixes and directives, and all that a statement begins with.
+
+ghost use Rattle.std.specs.Prelude.{◌≡◌, ◌≢◌, MatchOption};
+ghost use Rattle.mx_insn_words.specs.declared.mnemonic.Mnemonic.{Mnemonic};
+ghost use Rattle.mx_insn_words.specs.declared.start.WordStart.{WordStart};
+ghost use Rattle.mx_insn_words.specs.Words.{start_word, word_of};
+
+use crate::mnemonic::Mnemonic;
+use crate::named::found;
+use crate::table::STARTS;
+
+/// What stands before a string instruction.
+#[derive(Clone, Copy, PartialEq, Eq)]
+pub enum Prefix {
+    Rep,
+    Repe,
+    Repne,
+}
+
+/// What begins with a dot.
+#[derive(Clone, Copy, PartialEq, Eq)]
+pub enum Directive {
+    Text,
+    Data,
+    Bss,
+    Data1,
+    Data2,
+    Data4,
+    Ascii,
+    Space,
+    Sep,
+    Entry,
+    Stack,
+}
+
+/// What a statement begins with.
+#[derive(Clone, Copy, PartialEq, Eq)]
+pub enum WordStart {
+    Mnemonic(Mnemonic),
+    Repeat(Prefix),
+    Directive(Directive),
+}
+
+/// What a word begins a statement as.
+pub fn start_named(word: &[u8]) -> Option<WordStart>
+    ensures { MatchOption result ((x : WordStart) → word.now ≢ start_word x) (λ x. word.now ≡ start_word x) }
+{
+    found(&STARTS, word)
+}
+
+/// The mnemonic that a word is.
+#[tactic(auto, using(crate::proofs::Inverse::no_start, crate::proofs::Inverse::no_repeat, crate::proofs::Inverse::no_directive))]
+pub fn mnemonic_named(word: &[u8]) -> Option<Mnemonic>
+    ensures { MatchOption result ((m : Mnemonic) → word.now ≢ word_of m) (λ m. word.now ≡ word_of m) }
+{
+    match start_named(word) {
+        Some(WordStart::Mnemonic(mnemonic)) => Some(mnemonic),
+        Some(WordStart::Repeat(_) | WordStart::Directive(_)) | None => None,
+    }
+}

@@ -1,6 +1,0 @@
-pub mod BootLemmas
-pub mod FrameLemmas
-pub mod ServingLemmas
-pub mod HoldsLemmas
-pub mod PresentLemmas
-pub mod ReplayLemmas

@@ -1,9 +1,0 @@
-pub mod Serving
-pub mod Situation
-pub mod Agrees
-pub use Rattle.mx_respawn.specs.declared.service.Service
-pub use Rattle.mx_kcall.specs.Refusals
-pub use Rattle.mx_world.specs.declared.holding.Out
-pub use Rattle.mx_world.specs.Held
-pub use Rattle.mx_world.specs.History
-pub use Rattle.mx_world.specs.Whole

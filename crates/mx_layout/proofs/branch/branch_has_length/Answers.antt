@@ -1,5 +1,0 @@
-use Rattle.mx_layout.proofs.Branching.{branch_bytes_length}
-use Rattle.mx_layout.proofs.branch.branch_has_length.Goals as goal
-
-pub returns : goal.returns
-returns c = branch_bytes_length

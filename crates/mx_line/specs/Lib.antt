@@ -1,4 +1,0 @@
-pub mod Bytes
-pub mod Numbers
-pub mod Names
-pub mod Lines

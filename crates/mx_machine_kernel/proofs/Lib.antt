@@ -1,0 +1,6 @@
+pub mod BootLemmas
+pub mod FrameLemmas
+pub mod ServingLemmas
+pub mod HoldsLemmas
+pub mod CurrentLemmas
+pub mod ReplayLemmas

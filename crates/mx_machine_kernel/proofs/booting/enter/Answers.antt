@@ -1,0 +1,29 @@
+use Rattle.std.proofs.Common.{◌∙◌, ◌<◌, [], ◌∷◌, ◌++◌, length, take, sym, ap, subst, arith}
+use Rattle.std.proofs.lemmas.List.{take_more, length-take-le}
+use Rattle.mx_exec.specs.declared.image.Image.{Image}
+use Rattle.mx_proc.specs.TableState.{TableState, table_after_add}
+use Rattle.mx_load.specs.Load.{image_of_program}
+use Rattle.mx_machine_world.specs.Boot.{first_table}
+use Rattle.mx_machine_kernel.proofs.BootLemmas.{first-empty, first-more, first-used}
+use Rattle.mx_machine_kernel.proofs.booting.enter.Goals as goal
+
+pub loop-service-init : goal.loop-service-init
+loop-service-init c = c.requires.empty ∙ sym first-empty
+
+pub add-requires-clause-room : goal.add-requires-clause-room
+add-requires-clause-room c =
+    let so_far = take c.loop-service.service-index c.args.services.now in
+    subst (λ (w : TableState). length w.slots < 32) (sym c.loop-service.invariant)
+    (omega (arith, first-used so_far, length-take-le c.loop-service.service-index c.args.services.now (omega arith)))
+
+pub loop-service-preserved : goal.loop-service-preserved
+loop-service-preserved c =
+    let s = c.service-item.result in
+    let n = c.loop-service.service-index in
+    let so_far = take n c.args.services.now in
+    c.in_ok-add.ensures.ok.0
+    ∙ ap (λ (m : Image). table_after_add c.loop-service.table m s.masks s.level s.best s.quantum) c.in_ok-image.ensures.image
+    ∙ ap (λ (w : TableState). table_after_add w (image_of_program s.program) s.masks s.level s.best s.quantum) c.loop-service.invariant
+    ∙ sym (first-more so_far s s.lowest)
+    ∙ ap (λ x. first_table (so_far ++ x ∷ [])) c.service-item.is
+    ∙ ap first_table (sym (take_more c.args.services.now n s (omega arith)))

@@ -1,0 +1,36 @@
+use Rattle.std.proofs.Common.{◌≡◌, ◌∙◌, Some, ap, sym, subst, arith}
+use Rattle.mx_machine_world.specs.declared.events.Event.TheVariants as events
+use Rattle.mx_machine_world.specs.History.{replay}
+use Rattle.mx_machine_world.specs.Move.{world_after_event, with_held}
+use Rattle.mx_machine_world.specs.World.{HeldProcess, held_by}
+use Rattle.mx_machine_kernel.specs.Agrees.{IsAtReplay}
+use Rattle.std.proofs.Common.{slice_get, vec_capacity}
+use Rattle.mx_machine_kernel.proofs.ReplayLemmas.{kept_of, lease_known, back_steps, back_loaded, back_world, back_agrees, after_returning, holder_is_actor}
+use Rattle.mx_machine_kernel.proofs.kernel.Kernel.back.Goals as goal
+
+pub come_back-requires-clause-count : goal.come_back-requires-clause-count
+come_back-requires-clause-count c =
+    let k = lease_known _ _ _ _ c.args.cpu c.requires.0 c.in-Some.lease c.self.view_is c.self.invariant c.requires.1 (sym c.lease.ensures ∙ c.in-Some.is) in
+    let s = back_steps _ _ _ _ c.args.cpu c.requires.0 c.args.out c.runs_are_steps.ensures c.self.view_is c.self.invariant c.requires.1 c.requires.2 in
+    omega (arith, k.1, s.within)
+
+pub come_back-requires-clause-loaded : goal.come_back-requires-clause-loaded
+come_back-requires-clause-loaded c =
+    let k = lease_known _ _ _ _ c.args.cpu c.requires.0 c.in-Some.lease c.self.view_is c.self.invariant c.requires.1 (sym c.lease.ensures ∙ c.in-Some.is) in
+    λ v g. back_loaded _ _ _ _ c.args.cpu c.requires.0 c.args.out v c.self.view_is c.self.invariant c.requires.1 c.requires.2 (ap (λ s. slice_get c.self.inside.present.services s) (sym k.0) ∙ g)
+
+pub invariant_of-self : goal.invariant_of-self
+invariant_of-self c =
+    let at = sym c.lease.ensures ∙ c.in-Some.is in
+    let k = lease_known _ _ _ _ c.args.cpu c.requires.0 c.in-Some.lease c.self.view_is c.self.invariant c.requires.1 at in
+    let s = back_steps _ _ _ _ c.args.cpu c.requires.0 c.args.out c.runs_are_steps.ensures c.self.view_is c.self.invariant c.requires.1 c.requires.2 in
+    subst (λ k. IsAtReplay c.come_back.new.self (vec_capacity c.note.new.records) k) (sym (after_returning _ _ c.self.inside.processors c.args.cpu c.in-Some.lease.slot _ _ c.args.out c.come_back.ensures.value c.note.ensures.items))
+    (back_agrees _ _ _ _ _ c.args.cpu c.requires.0 c.args.out c.in-Some.lease c.self.invariant (ap (λ k. held_by (replay k) c.args.cpu) c.self.view_is ∙ c.requires.1) s k.0 c.come_back.ensures.value
+    (record { actor = holder_is_actor _ _ _ c.args.cpu c.in-Some.lease c.self.invariant at; number = omega (arith, c.come_back.ensures.few) }) c.note.ensures.room)
+
+pub returns-clause-world : goal.returns-clause-world
+returns-clause-world c =
+    let s = back_steps _ _ _ _ c.args.cpu c.requires.0 c.args.out c.runs_are_steps.ensures c.self.view_is c.self.invariant c.requires.1 c.requires.2 in
+    λ l h. let z : Some c.requires.0 ≡ Some l = sym c.requires.1 ∙ h in let same : c.requires.0 ≡ l = cc in
+    subst (λ (l : HeldProcess). replay (kept_of c.come_back.new.self c.self.inside.processors c.note.new.records.items) ≡ world_after_event (with_held (replay c.args.self.now) c.args.cpu (Some (record l { out = c.args.out }))) c.args.cpu events.Back) same
+    (back_world _ _ _ _ _ c.args.cpu c.requires.0 c.args.out c.self.view_is c.self.invariant c.requires.1 s (after_returning _ _ c.self.inside.processors c.args.cpu c.in-Some.lease.slot _ _ c.args.out c.come_back.ensures.value c.note.ensures.items))

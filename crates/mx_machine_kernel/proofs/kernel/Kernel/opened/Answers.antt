@@ -1,0 +1,18 @@
+use Rattle.std.proofs.Common.{refl}
+use Rattle.mx_machine_kernel.proofs.ReplayLemmas.{opened_sound, opened_accepted, opened_written, opened_fresh, opened_few}
+use Rattle.mx_machine_kernel.proofs.kernel.Kernel.opened.Goals as goal
+
+pub returns-clause-sound : goal.returns-clause-sound
+returns-clause-sound c = opened_sound _ _ _ _ c.self.view_is c.self.invariant c.opened.ensures.sound c.opened.ensures.holds
+
+pub returns-clause-accepted : goal.returns-clause-accepted
+returns-clause-accepted c = opened_accepted _ _ _ _ c.self.view_is c.self.invariant
+
+pub returns-clause-written : goal.returns-clause-written
+returns-clause-written c = opened_written _ _ _ _ c.self.view_is c.self.invariant
+
+pub returns-clause-fresh : goal.returns-clause-fresh
+returns-clause-fresh c = opened_fresh _ _ _ _ c.self.view_is c.self.invariant
+
+pub returns-clause-few : goal.returns-clause-few
+returns-clause-few c = opened_few _ _ _ _ c.self.view_is c.self.invariant refl

@@ -1,0 +1,71 @@
+//! What a kernel begins with.
+
+ghost use Rattle.std.specs.Prelude.{◌≡◌, ◌≤◌, [], IfOk, OnOk, OnErr, None, length, replicate};
+ghost use Rattle.mx_proc.specs.TableState.{empty_table};
+ghost use Rattle.mx_machine_world.specs.Boot.{first_table};
+ghost use Rattle.mx_machine_kernel.specs.KernelState.{kernel_state_at_boot};
+
+use crate::current::CurrentState;
+use mx_load::load;
+use mx_machine_world::{Config, Lease};
+use mx_proc::Table;
+use mx_respawn::Service;
+use mx_word::NoMemory;
+use std::alloc::Global;
+use std::mem;
+
+/// Gives each service its slot, with its program loaded.
+fn enter(alloc: Global, table: &mut Table, services: &[Service]) -> Result<(), NoMemory>
+    requires empty { table.old ≡ empty_table }
+    requires few { length services.now ≤ 32 }
+    ensures { OnOk result (table.new ≡ first_table services.now) }
+{
+    for service in services {
+        let mut image = load(alloc, &service.program)?;
+        table.add(
+            alloc,
+            &mut image,
+            service.masks,
+            service.level,
+            service.best,
+            service.quantum,
+        )?;
+    }
+    Ok(())
+}
+
+/// The table of services.
+fn first_table(alloc: Global, services: &[Service]) -> Result<Table, NoMemory>
+    requires { length services.now ≤ 32 }
+    ensures { IfOk result (λ table. table ≡ first_table services.now) }
+{
+    let mut table = Table::new(alloc)?;
+    enter(alloc, &mut table, services)?;
+    Ok(table)
+}
+
+/// So many processors, each without a process.
+fn no_leases(alloc: Global, cpus: u8) -> Result<Vec<Option<Lease>>, NoMemory>
+    ensures { IfOk result (λ leases. leases.items ≡ replicate cpus None) }
+{
+    Ok(vec![in alloc; None; cpus as usize]?)
+}
+
+/// Where a kernel stands at boot. The services are moved out of the list, which is left empty; for want
+/// of memory they stay.
+pub(crate) fn first_present(
+    alloc: Global,
+    config: &Config,
+    services: &mut Vec<Service>,
+) -> Result<CurrentState, NoMemory>
+    requires { length services.old.items ≤ 32 }
+    ensures booted { IfOk result (λ present. present ≡ kernel_state_at_boot services.old.items config.now.cpus config.now.others config.now.log) }
+    ensures emptied { OnOk result (services.new.items ≡ []) }
+    ensures same { OnErr result (services.new.items ≡ services.old.items) }
+{
+    let table = first_table(alloc, services.as_slice())?;
+    let leases = no_leases(alloc, config.cpus)?;
+    let entered = mem::replace(services, Vec::new(alloc));
+    let present = CurrentState::new(table, leases, config.others, entered, config.log);
+    Ok(present)
+}

@@ -1,0 +1,12 @@
+//! The kernel: a table of processes, and the history of what happened to it.
+#![tactic(auto)]
+
+mod booting;
+mod caches;
+mod current;
+mod kernel;
+mod serving;
+
+pub use kernel::Kernel;
+pub use mx_machine_world::{Held, held_runs_join};
+pub use mx_respawn::Service;

@@ -1,0 +1,11 @@
+pub use Rattle.mx_respawn.specs.Labels
+pub use Rattle.mx_respawn.specs.declared.label.Label
+pub mod Refusals
+pub mod Held
+pub mod World
+pub mod Sound
+pub mod Boot
+pub mod Move
+pub mod History
+pub mod Rest
+pub mod Steps

@@ -1,0 +1,21 @@
+-- A run as the steps of a processor.
+use Rattle.std.specs.Prelude.{◌≡◌, ◌≤◌, ◌+◌, ℕ, List, replicate, Some}
+use Rattle.mx_machine_world.specs.declared.events.Event.{Event}
+use Rattle.mx_machine_world.specs.declared.events.Event.TheVariants.{Step}
+use Rattle.mx_machine_world.specs.declared.holding.Out.{Out}
+use Rattle.mx_machine_world.specs.History.{AreAccepted, world_after_events}
+use Rattle.mx_machine_world.specs.Move.{with_held}
+use Rattle.mx_machine_world.specs.World.{World, HeldProcess}
+
+-- so many steps of a processor
+abbrev pub steps_of : ℕ → ℕ → List (ℕ × Event)
+steps_of a n = replicate n (a, Step)
+
+-- Each of so many steps of a processor is accepted, and after them it holds this of the same slot.
+pub record StepsTo (w : World) (a n : ℕ) (l : HeldProcess) (out : Out) : Type 0 where
+  pub accepted : AreAccepted w (steps_of a n)
+  pub after : world_after_events w (steps_of a n) ≡ with_held w a (Some (record l { out = out }))
+  -- they are counted, within the budget
+  pub count : out.count ≡ l.out.count + n
+  pub within : out.count ≤ l.out.budget
+  pub budget : out.budget ≡ l.out.budget

@@ -1,0 +1,40 @@
+-- The whole machine: the table of processes and what stands beside it.
+use Rattle.std.specs.Prelude.{ℕ, suc, ◌+◌, ◌-◌, List, [], ◌∷◌, Option, Some, None, length, slice_index_or}
+use Rattle.mx_proc.specs.TableState.{TableState}
+use Rattle.mx_kcall.specs.Service.{Service}
+use Rattle.mx_machine_world.specs.declared.holding.Out.{Out}
+
+-- A slot whose process is on a processor, and what that processor holds of it.
+pub record HeldProcess : Type 0 where
+  pub slot : ℕ
+  pub out : Out
+
+pub record World : Type 0 where
+  pub table : TableState
+  -- what each processor holds
+  pub cpus : List (Option HeldProcess)
+  -- how many actors there are that aren't processors
+  pub others : ℕ
+  -- what each slot is made from
+  pub services : List Service
+  -- how many records there are, and how many there may be
+  pub records : ℕ
+  pub capacity : ℕ
+
+-- what a processor holds, or nothing
+abbrev pub held_by : World → ℕ → Option HeldProcess
+held_by w a = slice_index_or w.cpus a None
+
+-- how many actors there are: the processors, then the others
+abbrev pub actors : World → ℕ
+actors w = length w.cpus + w.others
+
+-- how many processors hold a process
+abbrev pub out_count : {X : Type 0} → List (Option X) → ℕ
+out_count [] = 0
+out_count (None ∷ xs) = out_count xs
+out_count (Some x ∷ xs) = suc (out_count xs)
+
+-- the free records: each process that is out has one of its own for when it comes back
+abbrev pub free_records : World → ℕ
+free_records w = w.capacity - (w.records + out_count w.cpus)

@@ -1,0 +1,19 @@
+//! The whole machine: what it is booted from, what happens to it, what is kept of that, and what a
+//! processor holds.
+#![tactic(auto)]
+
+mod config;
+mod decoded;
+mod events;
+mod history;
+mod holding;
+mod laws;
+
+pub use config::{Config, FileName, ServiceLine, ServiceLines};
+pub use decoded::Decoded;
+pub use events::{Answer, Event, Refusal};
+pub use history::{Record, Recorded};
+pub use holding::{Held, Lease, Out};
+pub use laws::{actors_stay, held_runs_join, runs_are_steps};
+pub use mx_proc::Masks;
+pub use mx_respawn::Label;

@@ -1,0 +1,12 @@
+pub mod Said
+pub mod Answers
+pub mod Runs
+pub mod Messages
+pub mod Processes
+pub use Rattle.mx_debug.specs.declared.points.Breakpoint
+pub use Rattle.mx_debug.specs.declared.halt.HaltCause
+pub use Rattle.mx_debug.specs.declared.halt.Halt
+pub use Rattle.mx_debug.specs.Halts
+pub use Rattle.mx_debug.specs.declared.error.DebugError
+pub use Rattle.mx_debug.specs.Finding
+pub use Rattle.mx_debug.specs.Points

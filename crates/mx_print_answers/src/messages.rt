@@ -1,0 +1,43 @@
+//! Messages that were delivered.
+
+ghost use Rattle.std.specs.Prelude.{◌≡◌, ◌++◌, OnOk, string_bytes};
+ghost use Rattle.mx_machine_world.specs.History.{replay};
+ghost use Rattle.mx_print_answers.specs.Messages.{kind_word, delivery_line, delivery_lines};
+
+use mx_debug::{Kernel, message};
+use mx_proc::{Delivery, DeliveryKind};
+use std::alloc::AllocError;
+use std::fmt::Write;
+
+fn kind_word(kind: DeliveryKind) -> &'static str
+    ensures { result.now ≡ kind_word kind }
+{
+    match kind {
+        DeliveryKind::Message => "message",
+        DeliveryKind::Notification => "notify",
+    }
+}
+
+/// Appends the line of a delivery: the endpoints of sender and receiver, the type, and its kind.
+#[tactic(auto, unfolding(crate::specs::Messages::delivery_line))]
+fn push_delivery(out: &mut String, delivery: Delivery) -> Result<(), AllocError>
+    ensures { OnOk result (string_bytes out.new ≡ string_bytes out.old ++ delivery_line delivery) }
+{
+    let from = delivery.from.cast_signed();
+    let to = delivery.to.cast_signed();
+    let message_type = delivery.message_type;
+    let kind = kind_word(delivery.kind);
+    writeln!(out, "{from} {to} {message_type} {kind}")
+}
+
+/// Appends the lines of the deliveries that are kept, the oldest first: `1 0 0 message`.
+pub fn push_messages(out: &mut String, kernel: &Kernel) -> Result<(), AllocError>
+    ensures { OnOk result (string_bytes out.new ≡ string_bytes out.old ++ delivery_lines (replay kernel.now).table.deliveries) }
+{
+    let mut index = 0;
+    while let Some(delivery) = message(kernel, index) {
+        push_delivery(out, delivery)?;
+        index += 1;
+    }
+    Ok(())
+}

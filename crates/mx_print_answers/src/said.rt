@@ -1,0 +1,67 @@
+//! What is said of a line.
+
+ghost use Rattle.std.specs.Prelude.{◌≡◌};
+ghost use Rattle.mx_print_answers.specs.Said.{said_of_answer};
+
+use mx_exec::Outcome;
+use mx_image::Stop;
+use mx_machine_world::{Answer, Refusal};
+use std::fmt;
+
+/// What is said of a line of a script.
+#[derive(Clone, Copy)]
+pub enum Said {
+    /// How many steps were made, and how they ended.
+    Stepped(u32, Stop),
+    /// How an event was answered.
+    Answered(Answer),
+    /// Why it was refused.
+    Refused(Refusal),
+}
+
+/// What is said of an event.
+pub fn said_of(answer: Result<Answer, Refusal>) -> Said
+    ensures { result ≡ said_of_answer answer }
+{
+    match answer {
+        Ok(answer) => Said::Answered(answer),
+        Err(refusal) => Said::Refused(refusal),
+    }
+}
+
+/// The line that is printed, without its end.
+impl fmt::Display for Said {
+    ghost use Rattle.std.specs.Prelude.{Some};
+    ghost use Rattle.mx_print_answers.specs.Said.{said_line};
+
+    ghost output = { λ said. Some (said_line said) };
+
+    fn fmt<W: fmt::Write>(&self, f: &mut fmt::Formatter<W>) -> fmt::Result {
+        match *self {
+            Said::Stepped(count, Stop::Spent) => write!(f, "stepped {count} go"),
+            Said::Stepped(count, Stop::Trap) => write!(f, "stepped {count} trap"),
+            Said::Stepped(count, Stop::Fault(vector)) => write!(
+                f,
+                "stepped {count} fault {vector}"
+            ),
+            Said::Answered(Answer::Went(Outcome::Go)) => write!(f, "stepped 1 go"),
+            Said::Answered(Answer::Went(Outcome::Trap)) => write!(f, "stepped 1 trap"),
+            Said::Answered(Answer::Went(Outcome::Fault(vector))) => write!(
+                f,
+                "stepped 1 fault {vector}"
+            ),
+            Said::Answered(Answer::Taken(endpoint, budget)) => write!(
+                f,
+                "taken {endpoint} budget {budget}"
+            ),
+            Said::Answered(Answer::Returned(count)) => write!(f, "returned {count}"),
+            Said::Answered(Answer::Done) => write!(f, "done"),
+            Said::Answered(Answer::Respawned(endpoint)) => write!(f, "respawned {endpoint}"),
+            Said::Refused(refusal) => {
+                let code = refusal.code();
+                let name = refusal.name();
+                write!(f, "refused {code} {name}")
+            }
+        }
+    }
+}

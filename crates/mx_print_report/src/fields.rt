@@ -1,0 +1,138 @@
+//! The fields of a slot's line.
+
+ghost use Rattle.std.specs.Prelude.{◌≡◌, ◌<◌, ◌++◌, ◌∷◌, OnOk, codes, length};
+ghost use Rattle.std.specs.Fmt.{decimal};
+ghost use Rattle.mx_proc.specs.TableState.{endpoint_of};
+ghost use Rattle.mx_print_report.specs.Report.{spaced_fields, partner_word, cause_words, receiver_word, state_words, name_bytes};
+
+use itoa::Buffer;
+use mx_proc::{DeathCause, Partner, Slot, Source, State, Table};
+use std::alloc::AllocError;
+
+/// Appends a number.
+pub fn push_decimal(out: &mut Vec<u8>, number: u32) -> Result<(), AllocError>
+    ensures { OnOk result (out.new.items ≡ out.old.items ++ decimal number) }
+{
+    out.extend_from_slice(Buffer::new().format(number).as_bytes())
+}
+
+/// Appends a field, behind a space.
+pub fn push_field(out: &mut Vec<u8>, word: &[u8]) -> Result<(), AllocError>
+    ensures { OnOk result (out.new.items ≡ out.old.items ++ 32 ∷ word.now) }
+{
+    out.push(b' ')?;
+    out.extend_from_slice(word)
+}
+
+/// Appends a number as a field.
+pub fn push_number(out: &mut Vec<u8>, number: u32) -> Result<(), AllocError>
+    ensures { OnOk result (out.new.items ≡ out.old.items ++ 32 ∷ decimal number) }
+{
+    out.push(b' ')?;
+    push_decimal(out, number)
+}
+
+/// Appends a name without the zero bytes that pad it.
+fn push_name(out: &mut Vec<u8>, name: &[u8]) -> Result<(), AllocError>
+    ensures { OnOk result (out.new.items ≡ out.old.items ++ name_bytes name.now) }
+{
+    for byte in name {
+        if *byte == 0 {
+            return Ok(());
+        }
+        out.push(*byte)?;
+    }
+    Ok(())
+}
+
+/// Appends a name as a field.
+pub fn push_label(out: &mut Vec<u8>, name: &[u8]) -> Result<(), AllocError>
+    ensures { OnOk result (out.new.items ≡ out.old.items ++ 32 ∷ name_bytes name.now) }
+{
+    out.push(b' ')?;
+    push_name(out, name)
+}
+
+/// The endpoint of a slot's process; where no process ever was its generation counts as 0.
+pub fn endpoint_of(table: &Table, slot: Slot) -> u32
+    ensures { result ≡ endpoint_of table.now slot }
+{
+    if slot < table.used() {
+        table.endpoint(slot)
+    } else {
+        u32::from(slot)
+    }
+}
+
+#[tactic(auto, unfolding(crate::specs::Report::partner_word))]
+fn push_partner(out: &mut Vec<u8>, table: &Table, partner: Partner) -> Result<(), AllocError>
+    ensures { OnOk result (out.new.items ≡ out.old.items ++ 32 ∷ partner_word table.now partner) }
+{
+    match partner {
+        Partner::Any => push_field(out, b"any"),
+        Partner::System => push_field(out, b"-2"),
+        Partner::Only(Source::Hardware) => push_field(out, b"-1"),
+        Partner::Only(Source::Clock) => push_field(out, b"-3"),
+        Partner::Only(Source::Slot(slot)) => push_number(out, endpoint_of(table, slot)),
+    }
+}
+
+#[tactic(auto, unfolding(crate::specs::Report::cause_words))]
+fn push_cause(out: &mut Vec<u8>, cause: DeathCause) -> Result<(), AllocError>
+    ensures { OnOk result (out.new.items ≡ out.old.items ++ spaced_fields (cause_words cause)) }
+{
+    match cause {
+        DeathCause::Exit => push_field(out, b"exit"),
+        DeathCause::Kill => push_field(out, b"kill"),
+        DeathCause::Fault(vector) => {
+            push_field(out, b"fault")?;
+            push_number(out, u32::from(vector))
+        }
+    }
+}
+
+/// Appends whom a blocked send is for.
+#[tactic(auto, unfolding(crate::specs::Report::receiver_word))]
+fn push_receiver(out: &mut Vec<u8>, table: &Table, slot: Slot) -> Result<(), AllocError>
+    ensures { OnOk result (out.new.items ≡ out.old.items ++ 32 ∷ receiver_word table.now slot) }
+{
+    let receiver = table.next(slot).unwrap_or(slot);
+    push_number(out, endpoint_of(table, receiver))
+}
+
+/// Appends what the process of a slot does.
+pub fn push_state(
+    out: &mut Vec<u8>,
+    table: &Table,
+    slot: Slot,
+    state: State,
+) -> Result<(), AllocError>
+    ensures { OnOk result (out.new.items ≡ out.old.items ++ spaced_fields (state_words table.now slot state)) }
+{
+    match state {
+        State::Home => push_field(out, b"home"),
+        State::Ready => push_field(out, b"ready"),
+        State::Out => push_field(out, b"out"),
+        State::Doomed => push_field(out, b"doomed"),
+        State::Sending => {
+            push_field(out, b"sending")?;
+            push_receiver(out, table, slot)
+        }
+        State::Calling => {
+            push_field(out, b"calling")?;
+            push_receiver(out, table, slot)
+        }
+        State::Receiving(partner) => {
+            push_field(out, b"receiving")?;
+            push_partner(out, table, partner)
+        }
+        State::Awaiting(from) => {
+            push_field(out, b"awaiting")?;
+            push_number(out, endpoint_of(table, from))
+        }
+        State::Down(cause) => {
+            push_field(out, b"down")?;
+            push_cause(out, cause)
+        }
+    }
+}

@@ -1,0 +1,78 @@
+//! The report.
+
+ghost use Rattle.std.specs.Prelude.{◌≡◌, ◌<◌, ◌++◌, OnOk, IfOk, codes, length};
+ghost use Rattle.std.specs.Fmt.{decimal};
+ghost use Rattle.mx_print_report.specs.Report.{slot_line, slot_lines, report_text};
+
+use crate::fields::{endpoint_of, push_decimal, push_label, push_number, push_state};
+use mx_proc::{Console, Slot, Table};
+use mx_respawn::Service;
+use mx_word::NoMemory;
+use std::alloc::{AllocError, Global};
+
+/// Appends the line of a slot whose service has a name.
+fn push_slot(out: &mut Vec<u8>, table: &Table, slot: Slot, name: &[u8]) -> Result<(), AllocError>
+    requires { slot < length table.now.slots }
+    ensures { OnOk result (out.new.items ≡ out.old.items ++ slot_line table.now slot name.now) }
+{
+    let process = table.process(slot);
+    push_decimal(out, u32::from(slot))?;
+    push_label(out, name)?;
+    push_number(out, endpoint_of(table, slot))?;
+    push_state(out, table, slot, process.state)?;
+    push_number(out, u32::from(process.level))?;
+    push_number(out, process.ticks)?;
+    out.push(b'\n')?;
+    Ok(())
+}
+
+/// Appends the lines of services.
+#[tactic(auto, using(crate::proofs::Steps::slot_lines_more))]
+fn push_slots(out: &mut Vec<u8>, table: &Table, services: &[Service]) -> Result<(), AllocError>
+    requires { length services.now ≡ length table.now.slots }
+    ensures { OnOk result (out.new.items ≡ out.old.items ++ slot_lines table.now 0 services.now) }
+{
+    for slot in 0..table.used() {
+        push_slot(out, table, slot, &services[slot as usize].name.name.bytes)?;
+    }
+    Ok(())
+}
+
+/// Appends a line that counts something.
+fn push_count(out: &mut Vec<u8>, word: &[u8], count: u32) -> Result<(), AllocError>
+    ensures { OnOk result (out.new.items ≡ out.old.items ++ (word.now ++ decimal count ++ codes "\n")) }
+{
+    out.extend_from_slice(word)?;
+    push_decimal(out, count)?;
+    out.push(b'\n')?;
+    Ok(())
+}
+
+/// Appends the bytes of the console that are kept.
+fn push_console(out: &mut Vec<u8>, console: &Console) -> Result<(), AllocError>
+    ensures { OnOk result (out.new.items ≡ out.old.items ++ console.now.kept) }
+{
+    let mut index = 0;
+    while let Some(byte) = console.get(index) {
+        out.push(byte)?;
+        index += 1;
+    }
+    Ok(())
+}
+
+/// The report on a table of processes: for each service in slot order its slot, name, endpoint,
+/// state, level and ticks left; the ticks since boot; how many bytes were written to the console,
+/// and of these those that are kept, as they are.
+#[tactic(auto, unfolding(crate::specs::Report::report_text))]
+pub fn report_of(alloc: Global, table: &Table, services: &[Service]) -> Result<Vec<u8>, NoMemory>
+    requires { length services.now ≡ length table.now.slots }
+    ensures { IfOk result (λ report. report.items ≡ report_text table.now services.now) }
+{
+    let mut out = Vec::new(alloc);
+    push_slots(&mut out, table, services)?;
+    push_count(&mut out, b"uptime ", table.uptime())?;
+    let console = &table.devices().console;
+    push_count(&mut out, b"console ", console.count())?;
+    push_console(&mut out, console)?;
+    Ok(out)
+}

@@ -1,2 +1,0 @@
-pub use Rattle.mx_respawn.specs.Labels
-pub use Rattle.mx_respawn.specs.declared.label.Label

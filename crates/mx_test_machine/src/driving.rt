@@ -1,0 +1,174 @@
+//! Machines that are driven by scripts, by histories and under a debugger, and what is printed of them.
+
+use crate::files::reader;
+use mx_app_db::{BootError, Failure, Replayed, db, replay, step};
+use std::alloc::Global;
+use std::test::Fail;
+
+enum By {
+    Script,
+    Debugger,
+    History,
+}
+
+/// A configuration, what drives its machine, and what is printed.
+struct Row {
+    config: &'static str,
+    text: &'static str,
+    by: By,
+    told: Result<Replayed, Failure>,
+    printed: &'static str,
+}
+
+const DONE: Result<Replayed, Failure> = Ok(Replayed::Whole);
+
+static ROWS: [Row; 13] = [
+    Row {
+        config: "pair",
+        text: "turns",
+        by: By::Script,
+        told: DONE,
+        printed: "taken 0 budget 20\nstepped 4 trap\nreturned 4\n\
+                  taken 1 budget 20\nstepped 4 trap\nreturned 4\n\
+                  taken 0 budget 16\nstepped 3 trap\nreturned 3\n\
+                  taken 0 budget 13\nstepped 5 trap\nreturned 5\n\
+                  taken 1 budget 16\nstepped 4 trap\nreturned 4\n\
+                  0 drv 0 receiving any 4 8\n1 cli 1 down exit 7 12\nuptime 0\nconsole 0\n",
+    },
+    Row {
+        config: "one",
+        text: "sums",
+        by: By::Script,
+        told: DONE,
+        printed: "taken 0 budget 5\nstepped 3 trap\nreturned 3\n\
+                  taken 0 budget 2\nstepped 1 fault 13\nreturned 1\nrefused 54 NoProcess\n\
+                  0 a 0 down fault 13 7 1\nuptime 0\nconsole 0\n",
+    },
+    Row {
+        config: "one",
+        text: "kills",
+        by: By::Script,
+        told: DONE,
+        printed: "done\ndone\nrefused 54 NoProcess\nrefused 41 Worn\nrefused 53 NoLine\n\
+                  refused 42 NoService\n0 a 0 down kill 7 5\nuptime 1\nconsole 0\n",
+    },
+    Row {
+        config: "again",
+        text: "kills",
+        by: By::Script,
+        told: DONE,
+        printed: "done\ndone\nrefused 54 NoProcess\nrespawned 1024\nrefused 53 NoLine\n\
+                  refused 42 NoService\n0 a 1024 ready 7 5\nuptime 1\nconsole 0\n",
+    },
+    Row {
+        config: "one",
+        text: "edges",
+        by: By::Script,
+        told: DONE,
+        printed: "refused 50 CpuBusy\nstepped 0 go\nrefused 51 CpuEmpty\ntaken 0 budget 5\n\
+                  stepped 1 go\nstepped 2 trap\nrefused 55 AtStop\nrefused 51 CpuEmpty\n\
+                  0 a 0 out 7 5\nuptime 0\nconsole 0\n",
+    },
+    Row {
+        config: "one",
+        text: "tock",
+        by: By::Script,
+        told: Err(Failure::Misstated(BootError::BadRecord(2))),
+        printed: "",
+    },
+    Row {
+        config: "one",
+        text: "whole",
+        by: By::History,
+        told: DONE,
+        printed: "0 a 0 down fault 13 7 1\nuptime 0\nconsole 0\n",
+    },
+    Row {
+        config: "one",
+        text: "early",
+        by: By::History,
+        told: Ok(Replayed::Refused),
+        printed: "line 1: refused 51 CpuEmpty\n",
+    },
+    Row {
+        config: "one",
+        text: "long",
+        by: By::History,
+        told: Ok(Replayed::Refused),
+        printed: "line 2: refused 55 AtStop\n",
+    },
+    // Turns of both up to the breakpoint at `top`.
+    Row {
+        config: "pair",
+        text: "breaks",
+        by: By::Debugger,
+        told: DONE,
+        printed: "done\ntaken 0 budget 20\nstepped 4 trap\nreturned 4\ntaken 1 budget 20\n\
+    stepped 4 trap\nreturned 4\ntaken 0 budget 16\n00000000 01 00 00 00\n\
+    EAX 00000000 ECX 00000002 EDX 00000000 EBX 00000000\n\
+    ESP 00001000 EBP 00000000 ESI 00000000 EDI 00000000\n\
+    EIP 00000011 CF 0 PF 0 AF 0 ZF 0 SF 0 DF 0 OF 0\n\
+    stepped 3 trap\nreturned 3\ntaken 0 budget 13\nstopped at 00000000 after 1\nstepped 4 trap\n\
+    returned 5\ntaken 1 budget 16\nstepped 4 trap\nreturned 4\n1 0 0 message\n0 1 0 message\n\
+    0 drv 0 receiving any 4 8\n1 cli 1 down exit 7 12\nuptime 0\nconsole 0\n",
+    },
+    // What is refused, and what prints nothing.
+    Row {
+        config: "pair",
+        text: "refusals",
+        by: By::Debugger,
+        told: DONE,
+        printed: "refused 42 NoService\nrefused 60 NoSymbol\nrefused 60 NoSymbol\ndone\n\
+    refused 51 CpuEmpty\nrefused 61 NotHere\nrefused 61 NotHere\ntaken 0 budget 20\nstepped 4 trap\n\
+    refused 55 AtStop\nstepped 0 go\nrefused 61 NotHere\n\
+    00000fef 00 00 00 00 00 00 00 00 00 00 00 00 00 00 00 00\n00000fff 00\nrefused 61 NotHere\n\
+    0 drv 0 out 4 20\n1 cli 1 ready 7 20\nuptime 0\nconsole 0\n",
+    },
+    // 65 breakpoints, of which one stands.
+    Row {
+        config: "pair",
+        text: "many",
+        by: By::Debugger,
+        told: DONE,
+        printed: "done\ndone\ndone\ndone\ndone\ndone\ndone\ndone\ndone\ndone\ndone\ndone\ndone\ndone\n\
+    done\ndone\ndone\ndone\ndone\ndone\ndone\ndone\ndone\ndone\ndone\ndone\ndone\ndone\n\
+    done\ndone\ndone\ndone\ndone\ndone\ndone\ndone\ndone\ndone\ndone\ndone\ndone\ndone\n\
+    done\ndone\ndone\ndone\ndone\ndone\ndone\ndone\ndone\ndone\ndone\ndone\ndone\ndone\n\
+    done\ndone\ndone\ndone\ndone\ndone\ndone\ndone\nrefused 62 TooMany\ndone\ndone\n\
+    done\nrefused 62 TooMany\n0 drv 0 ready 4 20\n1 cli 1 ready 7 20\nuptime 0\n\
+    console 0\n",
+    },
+    // A line that is no command.
+    Row {
+        config: "pair",
+        text: "foo",
+        by: By::Debugger,
+        told: Err(Failure::Misstated(BootError::BadRecord(2))),
+        printed: "",
+    },
+];
+
+fn drive(alloc: Global, row: &Row, out: &mut Vec<u8>) -> Result<Replayed, Failure> {
+    let made = match row.by {
+        By::Script => step(alloc, &mut reader(), row.config, row.text, out),
+        By::Debugger => db(alloc, &mut reader(), row.config, row.text, out),
+        By::History => return replay(alloc, &mut reader(), row.config, row.text, out),
+    };
+    match made {
+        Ok(()) => DONE,
+        Err(failure) => Err(failure),
+    }
+}
+
+fn is_driven(alloc: Global, row: &Row) -> bool {
+    let mut out = Vec::new(alloc);
+    drive(alloc, row, &mut out) == row.told && out.as_slice() == row.printed.as_bytes()
+}
+
+#[test]
+fn machines(rt: HostRuntime) -> Result<(), Fail> {
+    for (number, row) in ROWS.iter().enumerate() {
+        assert!(rt; is_driven(rt.alloc(), row), "row {number}");
+    }
+    Ok(())
+}

@@ -1,0 +1,347 @@
+//! Files in memory: programs, configurations, and the texts that drive their machines.
+
+use mx_app_db::{NamedFile, NamedFiles};
+use std::alloc::Global;
+use std::test::Fail;
+
+/// Waits at `top` for anybody, answers who it was, and jumps to `top`; its buffer is `buf`, at 0.
+const DRIVER: [u8; 135] = [
+    1, 3, 0x30, 0x10, 0x20, 0, 0, 0, 0x23, 0, 0, 0, 0x24, 0, 0, 0, 0, 0, 0, 0, 0, 0, 0, 0, 0, 0x10,
+    0, 0, 0x20, 0, 0, 0, 0xB9, 2, 0, 0, 0, 0xB8, 0xCE, 0x7A, 0, 0, 0xBB, 0, 0, 0, 0, 0xCD, 0x21,
+    0x8B, 5, 0, 0, 0, 0, 0xB9, 1, 0, 0, 0, 0xCD, 0x21, 0xE9, 0xDD, 0xFF, 0xFF, 0xFF, 0, 0, 0, 0, 0,
+    0, 0, 0, 0, 0, 0, 0, 0, 0, 0, 0, 0, 0, 0, 0, 0, 0, 0, 0, 0, 0, 0, 0, 0, 0, 0, 0, 0, 0, 0, 0,
+    0x62, 0x75, 0x66, 0, 0, 0, 0, 0, 0, 0, 0, 0, 3, 0, 0, 0, 0x74, 0x6F, 0x70, 0, 0, 0, 0, 0, 0, 0,
+    0, 0, 2, 0, 0, 0,
+];
+
+/// Calls the driver, then EXIT.
+const CLIENT: [u8; 123] = [
+    1, 3, 0x30, 0x10, 0x20, 0, 0, 0, 0x27, 0, 0, 0, 0x24, 0, 0, 0, 0, 0, 0, 0, 0, 0, 0, 0, 0, 0x10,
+    0, 0, 0x10, 0, 0, 0, 0xB9, 3, 0, 0, 0, 0xB8, 0, 0, 0, 0, 0xBB, 0, 0, 0, 0, 0xCD, 0x21, 0xC7, 5,
+    4, 0, 0, 0, 0, 6, 0, 0, 0xB9, 3, 0, 0, 0, 0xB8, 0xFE, 0xFF, 0xFF, 0xFF, 0xCD, 0x21, 0, 0, 0, 0,
+    0, 0, 0, 0, 0, 0, 0, 0, 0, 0, 0, 0, 0, 0, 0, 0, 0, 0, 0, 0, 0, 0, 0, 0, 0, 0, 0, 0, 0, 0, 0, 0,
+    0x62, 0x75, 0x66, 0, 0, 0, 0, 0, 0, 0, 0, 0, 3, 0, 0, 0,
+];
+
+/// A sum, and a trap that fails.
+const SUM: [u8; 78] = [
+    1, 3, 0x30, 0x10, 0x20, 0, 0, 0, 0xA, 0, 0, 0, 0x24, 0, 0, 0, 0, 0, 0, 0, 0, 0, 0, 0, 0, 0x10,
+    0, 0, 0, 0, 0, 0, 0xB8, 5, 0, 0, 0, 0x83, 0xC0, 0x7B, 0xCD, 0x21, 0, 0, 0, 0, 0, 0, 0, 0, 0, 0,
+    0, 0, 0, 0, 0, 0, 0, 0, 0, 0, 0, 0, 0, 0, 0, 0, 0, 0, 0, 0, 0, 0, 0, 0, 0, 0,
+];
+
+/// A file with a separate text of two bytes, INT 33, and a total of 4096.
+const TRAP: [u8; 34] = [
+    0x01, 0x03, 0x30, 0x10, 0x20, 0, 0, 0, 2, 0, 0, 0, 0, 0, 0, 0, 0, 0, 0, 0, 0, 0, 0, 0, 0, 0x10,
+    0, 0, 0, 0, 0, 0, 0xCD, 0x21,
+];
+
+/// Three instructions and a trap; ECX is 0, so it is no call, and then the text ends.
+const SHORT: [u8; 42] = [
+    1, 3, 0x30, 0x10, 0x20, 0, 0, 0, 0xa, 0, 0, 0, 0, 0, 0, 0, 0x80, 0, 0, 0, 0, 0, 0, 0, 0, 0x10,
+    0, 0, 0, 0, 0, 0, 0xB8, 5, 0, 0, 0, 0x83, 0xC0, 0x7B, 0xCD, 0x21,
+];
+
+/// RECEIVE from anybody, then SEND to who it was, in a loop. The buffer is at 0.
+const ANSWERS: [u8; 67] = [
+    1, 3, 0x30, 0x10, 0x20, 0, 0, 0, 0x23, 0, 0, 0, 0, 0, 0, 0, 0x80, 0, 0, 0, 0, 0, 0, 0, 0, 0x10,
+    0, 0, 0, 0, 0, 0, 0xB9, 2, 0, 0, 0, 0xB8, 0xCE, 0x7A, 0, 0, 0xBB, 0, 0, 0, 0, 0xCD, 0x21, 0x8B,
+    5, 0, 0, 0, 0, 0xB9, 1, 0, 0, 0, 0xCD, 0x21, 0xE9, 0xDD, 0xFF, 0xFF, 0xFF,
+];
+
+/// SENDREC to 0, then EXIT.
+const ASKS: [u8; 71] = [
+    1, 3, 0x30, 0x10, 0x20, 0, 0, 0, 0x27, 0, 0, 0, 0, 0, 0, 0, 0x80, 0, 0, 0, 0, 0, 0, 0, 0, 0x10,
+    0, 0, 0, 0, 0, 0, 0xB9, 3, 0, 0, 0, 0xB8, 0, 0, 0, 0, 0xBB, 0, 0, 0, 0, 0xCD, 0x21, 0xC7, 5, 4,
+    0, 0, 0, 0, 6, 0, 0, 0xB9, 3, 0, 0, 0, 0xB8, 0xFE, 0xFF, 0xFF, 0xFF, 0xCD, 0x21,
+];
+
+/// Writes a byte of its data, then RECEIVE from anybody.
+const WRITES: [u8; 56] = [
+    1, 3, 0x30, 0x10, 0x20, 0, 0, 0, 0x18, 0, 0, 0, 0, 0, 0, 0, 0x80, 0, 0, 0, 0, 0, 0, 0, 0, 0x10,
+    0, 0, 0, 0, 0, 0, 0xC6, 5, 0, 0, 0, 0, 7, 0xB9, 2, 0, 0, 0, 0xB8, 0xCE, 0x7A, 0, 0, 0xBB, 0x40,
+    0, 0, 0, 0xCD, 0x21,
+];
+
+/// SENDREC to 3, SEND to 3, then WHOIS of slot 3.
+const LOOKS: [u8; 93] = [
+    1, 3, 0x30, 0x10, 0x20, 0, 0, 0, 0x3d, 0, 0, 0, 0, 0, 0, 0, 0x80, 0, 0, 0, 0, 0, 0, 0, 0, 0x10,
+    0, 0, 0, 0, 0, 0, 0xB9, 3, 0, 0, 0, 0xB8, 3, 0, 0, 0, 0xBB, 0, 0, 0, 0, 0xCD, 0x21, 0xB9, 1, 0,
+    0, 0, 0xB8, 3, 0, 0, 0, 0xCD, 0x21, 0xC7, 5, 4, 0, 0, 0, 7, 6, 0, 0, 0xC7, 5, 8, 0, 0, 0, 3, 0,
+    0, 0, 0xB9, 3, 0, 0, 0, 0xB8, 0xFE, 0xFF, 0xFF, 0xFF, 0xCD, 0x21,
+];
+
+/// Never runs.
+const IDLE: [u8; 33] = [
+    1, 3, 0x30, 0x10, 0x20, 0, 0, 0, 0x1, 0, 0, 0, 0, 0, 0, 0, 0x80, 0, 0, 0, 0, 0, 0, 0, 0, 0x10,
+    0, 0, 0, 0, 0, 0, 0x90,
+];
+
+/// RECEIVE from anybody, then nineteen instructions and a trap.
+const WORKS: [u8; 70] = [
+    1, 3, 0x30, 0x10, 0x20, 0, 0, 0, 0x26, 0, 0, 0, 0, 0, 0, 0, 0x80, 0, 0, 0, 0, 0, 0, 0, 0, 0x10,
+    0, 0, 0, 0, 0, 0, 0xB9, 2, 0, 0, 0, 0xB8, 0xCE, 0x7A, 0, 0, 0xBB, 0x40, 0, 0, 0, 0xCD, 0x21,
+    0x40, 0x40, 0x40, 0x40, 0x40, 0x40, 0x40, 0x40, 0x40, 0x40, 0x40, 0x40, 0x40, 0x40, 0x40, 0x40,
+    0x40, 0x40, 0x40, 0xCD, 0x21,
+];
+
+/// TIMES: the uptime stands at 8 and the steps at 12.
+const COUNTS: [u8; 59] = [
+    1, 3, 0x30, 0x10, 0x20, 0, 0, 0, 0x1b, 0, 0, 0, 0, 0, 0, 0, 0x80, 0, 0, 0, 0, 0, 0, 0, 0, 0x10,
+    0, 0, 0, 0, 0, 0, 0xC7, 5, 4, 0, 0, 0, 1, 6, 0, 0, 0xB9, 3, 0, 0, 0, 0xB8, 0xFE, 0xFF, 0xFF,
+    0xFF, 0xBB, 0, 0, 0, 0, 0xCD, 0x21,
+];
+
+static FILES: [NamedFile<'static>; 29] = [
+    NamedFile {
+        name: "pair",
+        bytes: b"cpus 1\nlog 64\n\
+            service drv drv.out traps 1e send 2 calls 0 level 4 best 4 quantum 20 restarts 0\n\
+            service cli cli.out traps 1e send 1 calls 1 level 7 best 7 quantum 20 restarts 0\n",
+    },
+    NamedFile {
+        name: "one",
+        bytes: b"cpus 1\nlog 8\n\
+            service a a.out traps 1e send 0 calls 0 level 7 best 5 quantum 5 restarts 0\n",
+    },
+    NamedFile {
+        name: "again",
+        bytes: b"log 8\n\
+            service a a.out traps 1e send 0 calls 0 level 7 best 5 quantum 5 restarts 1\n",
+    },
+    NamedFile {
+        name: "good_first",
+        bytes: b"service a good traps 1e send 0 calls 0 level 7 best 5 quantum 5 restarts 0\n\
+            service b more traps 1e send 0 calls 0 level 7 best 5 quantum 5 restarts 0\n",
+    },
+    NamedFile {
+        name: "cut_first",
+        bytes: b"service a cut traps 1e send 0 calls 0 level 7 best 5 quantum 5 restarts 0\n\
+            service b none traps 1e send 0 calls 0 level 7 best 5 quantum 5 restarts 0\n",
+    },
+    NamedFile {
+        name: "none_first",
+        bytes: b"service a none traps 1e send 0 calls 0 level 7 best 5 quantum 5 restarts 0\n\
+            service b cut traps 1e send 0 calls 0 level 7 best 5 quantum 5 restarts 0\n",
+    },
+    NamedFile {
+        name: "bad",
+        bytes: b"cpus 1\ncpus 9\nservice",
+    },
+    NamedFile {
+        name: "no_text",
+        bytes: b"cpus 9 \xFF",
+    },
+    NamedFile {
+        name: "drv.out",
+        bytes: &DRIVER,
+    },
+    NamedFile {
+        name: "cli.out",
+        bytes: &CLIENT,
+    },
+    NamedFile {
+        name: "a.out",
+        bytes: &SUM,
+    },
+    NamedFile {
+        name: "good",
+        bytes: &TRAP,
+    },
+    NamedFile {
+        name: "more",
+        bytes: &TRAP,
+    },
+    NamedFile {
+        name: "cut",
+        bytes: &[1, 3],
+    },
+    NamedFile {
+        name: "script",
+        bytes: b"take 0\ntick\n",
+    },
+    NamedFile {
+        name: "bad_script",
+        bytes: b"take 0\nfoo\n",
+    },
+    NamedFile {
+        name: "turns",
+        bytes: b"take 0\nstep 0 99\nback 0\ntake 0\nstep 0 99\nback 0\ntake 0\nstep 0 99\nback 0\n\
+            take 0\nstep 0 99\nback 0\ntake 0\nstep 0 99\nback 0\n",
+    },
+    NamedFile {
+        name: "sums",
+        bytes: b"take 0\nstep 0 9\nback 0\ntake 0\nstep 0 9\nback 0\ntake 0",
+    },
+    NamedFile {
+        name: "kills",
+        bytes: b"tick\nkill 0\nkill 0\nrespawn 0\nline 3\nrespawn 5",
+    },
+    NamedFile {
+        name: "edges",
+        bytes: b"take 9\nstep 9 0\nstep 9 1\ntake 0\nstep 0 1\nstep 0 9\nstep 0 1\nback 9",
+    },
+    NamedFile {
+        name: "tock",
+        bytes: b"tick\ntock",
+    },
+    NamedFile {
+        name: "whole",
+        bytes: b"0 take\n0 back 3\n0 take\n0 back 1\n",
+    },
+    NamedFile {
+        name: "early",
+        bytes: b"0 back 1\n",
+    },
+    NamedFile {
+        name: "long",
+        bytes: b"0 take\n0 back 4\n",
+    },
+    NamedFile {
+        name: "breaks",
+        bytes: b"break 0 top\ntake 0\ngo 0 99\nback 0\ntake 0\ngo 0 99\nback 0\ntake 0\n\
+            mem 0 0 4\nregs 0\ngo 0 99\nback 0\ntake 0\ngo 0 99\ngo 0 99\nback 0\ntake 0\ngo 0 99\n\
+            back 0\nmessages\n",
+    },
+    NamedFile {
+        name: "refusals",
+        bytes: b"break 2 top\nbreak 0 nope\nclear 0 abcdefghijk\nclear 0 5\ngo 0 0\nregs 0\n\
+            mem 0 0 0\ntake 0\ngo 0 4\ngo 0 1\ngo 0 0\nmem 0 4096 0\nmem 0 4090 7\nmem 0 4079 17\n\
+            regs 1\n",
+    },
+    NamedFile {
+        name: "many",
+        bytes: b"break 0 0\nbreak 0 1\nbreak 0 2\nbreak 0 3\nbreak 0 4\nbreak 0 5\nbreak 0 6\n\
+            break 0 7\nbreak 0 8\nbreak 0 9\nbreak 0 10\nbreak 0 11\nbreak 0 12\nbreak 0 13\n\
+            break 0 14\nbreak 0 15\nbreak 0 16\nbreak 0 17\nbreak 0 18\nbreak 0 19\nbreak 0 20\n\
+            break 0 21\nbreak 0 22\nbreak 0 23\nbreak 0 24\nbreak 0 25\nbreak 0 26\nbreak 0 27\n\
+            break 0 28\nbreak 0 29\nbreak 0 30\nbreak 0 31\nbreak 0 32\nbreak 0 33\nbreak 0 34\n\
+            break 0 35\nbreak 0 36\nbreak 0 37\nbreak 0 38\nbreak 0 39\nbreak 0 40\nbreak 0 41\n\
+            break 0 42\nbreak 0 43\nbreak 0 44\nbreak 0 45\nbreak 0 46\nbreak 0 47\nbreak 0 48\n\
+            break 0 49\nbreak 0 50\nbreak 0 51\nbreak 0 52\nbreak 0 53\nbreak 0 54\nbreak 0 55\n\
+            break 0 56\nbreak 0 57\nbreak 0 58\nbreak 0 59\nbreak 0 60\nbreak 0 61\nbreak 0 62\n\
+            break 0 63\nbreak 0 64\nbreak 0 3\nclear 0 3\nbreak 1 64\nbreak 1 65\n",
+    },
+    NamedFile {
+        name: "foo",
+        bytes: b"tick\nfoo\n",
+    },
+    NamedFile {
+        name: "empty",
+        bytes: b"",
+    },
+];
+
+/// What reads the files of machines that texts drive.
+pub(crate) fn reader() -> NamedFiles<'static> {
+    NamedFiles::new(&FILES)
+}
+
+static SMALL: [NamedFile<'static>; 17] = [
+    NamedFile {
+        name: "empty",
+        bytes: b"",
+    },
+    NamedFile {
+        name: "asked",
+        bytes: b"cpus 8\nlog 64\n\
+            service a answers.out traps 1e send 2 calls 0 level 4 best 4 quantum 20 restarts 0\n\
+            service b asks.out traps 1e send 1 calls 1 level 7 best 7 quantum 20 restarts 0\n",
+    },
+    NamedFile {
+        name: "short",
+        bytes: b"cpus 8\nlog 8\n\
+            service a short.out traps 1e send 0 calls 0 level 7 best 7 quantum 5 restarts 0\n",
+    },
+    NamedFile {
+        name: "log_of_two",
+        bytes: b"cpus 8\nlog 2\n\
+            service a short.out traps 1e send 0 calls 0 level 7 best 7 quantum 5 restarts 0\n",
+    },
+    NamedFile {
+        name: "log_of_one",
+        bytes: b"cpus 8\nlog 1\n\
+            service a short.out traps 1e send 0 calls 0 level 7 best 7 quantum 5 restarts 0\n",
+    },
+    NamedFile {
+        name: "looks",
+        bytes: b"cpus 8\nlog 64\n\
+            service a looks.out traps 1e send 8 calls 80 level 7 best 7 quantum 20 restarts 0\n\
+            service b idle.out traps 1e send 0 calls 0 level 14 best 14 quantum 20 restarts 0\n\
+            service c idle.out traps 1e send 0 calls 0 level 14 best 14 quantum 20 restarts 0\n\
+            service d writes.out traps 1e send 0 calls 0 level 4 best 4 quantum 20 restarts 1\n",
+    },
+    NamedFile {
+        name: "works",
+        bytes: b"cpus 8\nlog 64\n\
+            service a works.out traps 1e send 0 calls 0 level 4 best 4 quantum 24 restarts 1\n\
+            service b asks.out traps 1e send 1 calls 1 level 7 best 7 quantum 20 restarts 0\n",
+    },
+    NamedFile {
+        name: "eight",
+        bytes: b"cpus 8\nlog 32\n\
+            service a short.out traps 1e send 0 calls 0 level 7 best 7 quantum 5 restarts 0\n\
+            service b short.out traps 1e send 0 calls 0 level 7 best 7 quantum 5 restarts 0\n\
+            service c short.out traps 1e send 0 calls 0 level 7 best 7 quantum 5 restarts 0\n\
+            service d short.out traps 1e send 0 calls 0 level 7 best 7 quantum 5 restarts 0\n\
+            service e short.out traps 1e send 0 calls 0 level 7 best 7 quantum 5 restarts 0\n\
+            service f short.out traps 1e send 0 calls 0 level 7 best 7 quantum 5 restarts 0\n\
+            service g short.out traps 1e send 0 calls 0 level 7 best 7 quantum 5 restarts 0\n\
+            service h short.out traps 1e send 0 calls 0 level 7 best 7 quantum 5 restarts 0\n",
+    },
+    NamedFile {
+        name: "times",
+        bytes: b"cpus 8\nlog 8\n\
+            service a counts.out traps 1e send 0 calls 2 level 7 best 7 quantum 20 restarts 0\n",
+    },
+    NamedFile {
+        name: "short.out",
+        bytes: &SHORT,
+    },
+    NamedFile {
+        name: "answers.out",
+        bytes: &ANSWERS,
+    },
+    NamedFile {
+        name: "asks.out",
+        bytes: &ASKS,
+    },
+    NamedFile {
+        name: "writes.out",
+        bytes: &WRITES,
+    },
+    NamedFile {
+        name: "looks.out",
+        bytes: &LOOKS,
+    },
+    NamedFile {
+        name: "idle.out",
+        bytes: &IDLE,
+    },
+    NamedFile {
+        name: "works.out",
+        bytes: &WORKS,
+    },
+    NamedFile {
+        name: "counts.out",
+        bytes: &COUNTS,
+    },
+];
+
+/// What reads the files of machines that are worked by hand; the text that drives them is "empty".
+pub(crate) fn small_reader() -> NamedFiles<'static> {
+    NamedFiles::new(&SMALL)
+}
+
+/// A file with a separate text and an entry, 128 bytes of bss and a total of 4096.
+pub(crate) fn separate_file(alloc: Global, text: &[u8], entry: u8) -> Result<Vec<u8>, Fail> {
+    let size = u8::try_from(text.len()).map_err(|_| "size")?;
+    let header = [
+        1, 3, 0x30, 0x10, 0x20, 0, 0, 0, size, 0, 0, 0, 0, 0, 0, 0, 0x80, 0, 0, 0, entry, 0, 0, 0,
+        0, 0x10, 0, 0, 0, 0, 0, 0,
+    ];
+    let mut file = Vec::new(alloc);
+    file.extend_from_slice(&header)?;
+    file.extend_from_slice(text)?;
+    Ok(file)
+}

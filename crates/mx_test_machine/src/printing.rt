@@ -1,0 +1,163 @@
+//! What is printed of single programs, and what words ask for.
+
+use crate::files::separate_file;
+use clap::error::ErrorKind;
+use mx_app_command::{CommandRequest, command};
+use mx_app_program::print_one;
+use std::alloc::Global;
+use std::test::Fail;
+
+/// A program's text and entry, how many steps are made, and what is printed.
+struct Row {
+    text: &'static [u8],
+    entry: u8,
+    steps: u32,
+    printed: &'static str,
+}
+
+const COUNT: [u8; 15] = [
+    0xB9, 0x03, 0, 0, 0, 0x83, 0xC0, 0x05, 0x83, 0xE9, 0x01, 0x75, 0xF8, 0xCD, 0x21,
+];
+
+static ROWS: [Row; 6] = [
+    Row {
+        text: &[0xB8, 0x05, 0, 0, 0, 0x83, 0xC0, 0x7B, 0xCD, 0x21],
+        entry: 0,
+        steps: 9,
+        printed: "EAX 00000080 ECX 00000000 EDX 00000000 EBX 00000000\n\
+                  ESP 00001000 EBP 00000000 ESI 00000000 EDI 00000000\n\
+                  EIP 0000000a CF 0 PF 0 AF 1 ZF 0 SF 0 DF 0 OF 0\n\
+                  stop trap after 3\n",
+    },
+    Row {
+        text: &COUNT,
+        entry: 0,
+        steps: 99,
+        printed: "EAX 0000000f ECX 00000000 EDX 00000000 EBX 00000000\n\
+                  ESP 00001000 EBP 00000000 ESI 00000000 EDI 00000000\n\
+                  EIP 0000000f CF 0 PF 1 AF 0 ZF 1 SF 0 DF 0 OF 0\n\
+                  stop trap after 11\n",
+    },
+    Row {
+        text: &COUNT,
+        entry: 0,
+        steps: 5,
+        printed: "EAX 0000000a ECX 00000002 EDX 00000000 EBX 00000000\n\
+                  ESP 00001000 EBP 00000000 ESI 00000000 EDI 00000000\n\
+                  EIP 00000008 CF 0 PF 1 AF 0 ZF 0 SF 0 DF 0 OF 0\n\
+                  stop spent after 5\n",
+    },
+    Row {
+        text: &COUNT,
+        entry: 0,
+        steps: 0,
+        printed: "EAX 00000000 ECX 00000000 EDX 00000000 EBX 00000000\n\
+                  ESP 00001000 EBP 00000000 ESI 00000000 EDI 00000000\n\
+                  EIP 00000000 CF 0 PF 0 AF 0 ZF 0 SF 0 DF 0 OF 0\n\
+                  stop spent after 0\n",
+    },
+    Row {
+        text: &[0x75, 0x7F],
+        entry: 0,
+        steps: 9,
+        printed: "EAX 00000000 ECX 00000000 EDX 00000000 EBX 00000000\n\
+                  ESP 00001000 EBP 00000000 ESI 00000000 EDI 00000000\n\
+                  EIP 00000000 CF 0 PF 0 AF 0 ZF 0 SF 0 DF 0 OF 0\n\
+                  stop fault 13 after 1\n",
+    },
+    Row {
+        text: &[0xCD, 0x21],
+        entry: 2,
+        steps: 1,
+        printed: "EAX 00000000 ECX 00000000 EDX 00000000 EBX 00000000\n\
+                  ESP 00001000 EBP 00000000 ESI 00000000 EDI 00000000\n\
+                  EIP 00000002 CF 0 PF 0 AF 0 ZF 0 SF 0 DF 0 OF 0\n\
+                  stop fault 13 after 1\n",
+    },
+];
+
+fn is_printed(alloc: Global, file: &[u8], row: &Row) -> bool {
+    let mut out = Vec::new(alloc);
+    print_one(alloc, file, row.steps, &mut out).is_ok() && out.as_slice() == row.printed.as_bytes()
+}
+
+#[test]
+fn steps(rt: HostRuntime) -> Result<(), Fail> {
+    for (number, row) in ROWS.iter().enumerate() {
+        let file = separate_file(rt.alloc(), row.text, row.entry)?;
+        assert!(rt;
+            is_printed(rt.alloc(), file.as_slice(), row),
+            "row {number}"
+        );
+    }
+    Ok(())
+}
+
+/// Words, and what they ask for.
+struct Line {
+    words: &'static [&'static str],
+    asked: Result<CommandRequest<'static>, ErrorKind>,
+}
+
+static LINES: [Line; 9] = [
+    Line {
+        words: &["mx", "one", "sum.out", "4294967295"],
+        asked: Ok(CommandRequest::One {
+            file: "sum.out",
+            steps: u32::MAX,
+        }),
+    },
+    Line {
+        words: &["mx", "as", "a.s", "a.out"],
+        asked: Ok(CommandRequest::As {
+            text: "a.s",
+            file: "a.out",
+        }),
+    },
+    Line {
+        words: &["mx", "replay", "pair", "log"],
+        asked: Ok(CommandRequest::Replay {
+            config: "pair",
+            log: "log",
+        }),
+    },
+    Line {
+        words: &["mx", "db", "pair", "look"],
+        asked: Ok(CommandRequest::Db {
+            config: "pair",
+            script: "look",
+        }),
+    },
+    Line {
+        words: &["mx", "one", "sum.out", "4294967296"],
+        asked: Err(ErrorKind::ValueValidation),
+    },
+    Line {
+        words: &["mx", "step", "pair"],
+        asked: Err(ErrorKind::MissingRequiredArgument),
+    },
+    Line {
+        words: &["mx", "two", "sum.out", "9"],
+        asked: Err(ErrorKind::InvalidSubcommand),
+    },
+    Line {
+        words: &["mx"],
+        asked: Err(ErrorKind::MissingSubcommand),
+    },
+    Line {
+        words: &["mx", "db", "--help"],
+        asked: Err(ErrorKind::DisplayHelp),
+    },
+];
+
+fn is_asked(alloc: Global, line: &Line) -> bool {
+    command(alloc, line.words).map_err(|error| error.kind()) == line.asked
+}
+
+#[test]
+fn words(rt: HostRuntime) -> Result<(), Fail> {
+    for (number, line) in LINES.iter().enumerate() {
+        assert!(rt; is_asked(rt.alloc(), line), "line {number}");
+    }
+    Ok(())
+}

@@ -1,0 +1,105 @@
+//! Forms that a size decides.
+
+use mx_asm_form::{
+    Address, Argument, Mnemonic, Name, Prefix, Register, Single, Size, Value, repeated, stated,
+};
+
+const EAX: Argument = Argument::Register(Size::Dword, Register::Eax);
+
+const BL: Argument = Argument::Register(Size::Byte, Register::Ebx);
+
+const AT_EBX: Address = Address {
+    base: Some(Register::Ebx),
+    index: None,
+    value: Value {
+        name: None,
+        minus: false,
+        number: 0,
+    },
+};
+
+const LABEL: Value = Value {
+    name: Some(Name {
+        bytes: *b"l\0\0\0\0\0\0\0",
+    }),
+    minus: false,
+    number: 0,
+};
+
+const AT: Argument = Argument::Memory(None, AT_EBX);
+
+const BYTE_AT: Argument = Argument::Memory(Some(Size::Byte), AT_EBX);
+
+const NAMED: Argument = Argument::Value(LABEL);
+
+const ZERO: Value = Value {
+    name: None,
+    minus: false,
+    number: 0,
+};
+
+const ONE: Argument = Argument::Value(Value { number: 1, ..ZERO });
+
+const LAST_BYTE: Argument = Argument::Value(Value {
+    number: 255,
+    ..ZERO
+});
+
+const PAST_BYTE: Argument = Argument::Value(Value {
+    number: 256,
+    ..ZERO
+});
+
+const LEAST_BYTE: Argument = Argument::Value(Value {
+    minus: true,
+    number: 128,
+    ..ZERO
+});
+
+const BELOW_BYTE: Argument = Argument::Value(Value {
+    minus: true,
+    number: 129,
+    ..ZERO
+});
+
+const LEAST_DWORD: Argument = Argument::Value(Value {
+    minus: true,
+    number: 0x8000_0000,
+    ..ZERO
+});
+
+/// What MOV refuses, and what it takes.
+static MOVED: [(&[Argument], bool); 14] = [
+    (&[EAX, BL], false),
+    (&[EAX, BYTE_AT], false),
+    (&[AT, ONE], false),
+    (&[BL, PAST_BYTE], false),
+    (&[BL, BELOW_BYTE], false),
+    (&[BL, NAMED], false),
+    (&[ONE, EAX], false),
+    (&[EAX], false),
+    (&[EAX, AT], true),
+    (&[BYTE_AT, BL], true),
+    (&[BYTE_AT, LAST_BYTE], true),
+    (&[EAX, LEAST_DWORD], true),
+    (&[BL, LEAST_BYTE], true),
+    (&[EAX, NAMED], true),
+];
+
+fn is_moved(arguments: &[Argument]) -> bool {
+    stated(false, Mnemonic::Single(Single::Mov), arguments).is_some()
+}
+
+fn is_long_refused() -> bool {
+    stated(true, Mnemonic::Single(Single::Jmp), &[EAX]).is_none()
+}
+
+#[test]
+fn sizes(rt: HostRuntime) {
+    for (number, (arguments, is_taken)) in MOVED.iter().enumerate() {
+        assert!(rt; is_moved(*arguments) == *is_taken, "row {number}");
+    }
+    assert!(rt;
+        is_long_refused() && repeated(Prefix::Rep, Mnemonic::Single(Single::Mov)).is_none()
+    );
+}

@@ -1,0 +1,779 @@
+//! Rows of the manual's pages, worked by hand, and of the machine's own choices.
+
+use mx_exec::{Code, Image, TextSegment};
+use mx_exec_cache::Cache;
+use mx_flags::Flags;
+use mx_image::{Runs, Stop, run_with, runs_join};
+use mx_mem::Segment;
+use mx_regs::Regs;
+use mx_word::{Register, Size};
+use std::alloc::Global;
+use std::process::Abort;
+use std::test::Fail;
+
+/// What a run begins with: text of its own, zeros but for some bytes, and the registers EAX, ECX,
+/// EDX, EBX, ESP, EBP, ESI, EDI; and what it ends with.
+#[derive(Drop)]
+struct Row {
+    /// The code is the data segment itself.
+    shared: bool,
+    text: &'static [u8],
+    memory: &'static [(u32, u8)],
+    words: [u32; 8],
+    flags: u32,
+    budget: u32,
+    count: u32,
+    stop: Stop,
+    words_after: [u32; 8],
+    eip_after: u32,
+    flags_after: u32,
+    memory_after: &'static [(u32, u8)],
+}
+
+const CARRY: u32 = 0x001;
+
+const PARITY: u32 = 0x004;
+
+const AUXILIARY: u32 = 0x010;
+
+const ZERO: u32 = 0x040;
+
+const SIGN: u32 = 0x080;
+
+const DOWN: u32 = 0x400;
+
+const OVERFLOW: u32 = 0x800;
+/// Bits 1 and 9, which always read one.
+const ONES: u32 = 0x202;
+
+const LIMIT: u32 = 0x1000;
+
+/// A row that begins with zeros and makes one step without a fault.
+const ROW: Row = Row {
+    shared: false,
+    text: b"",
+    memory: &[],
+    words: [0; 8],
+    flags: 0,
+    budget: 1,
+    count: 1,
+    stop: Stop::Spent,
+    words_after: [0; 8],
+    eip_after: 0,
+    flags_after: ONES,
+    memory_after: &[],
+};
+
+static REGISTERS: [Register; 8] = [
+    Register::Eax,
+    Register::Ecx,
+    Register::Edx,
+    Register::Ebx,
+    Register::Esp,
+    Register::Ebp,
+    Register::Esi,
+    Register::Edi,
+];
+
+/// Arithmetic, shifts, products and extensions.
+static ARITHMETIC: [Row; 15] = [
+    Row {
+        text: b"\x83\xC0\x01",
+        words: [0xFFFFFFFF, 0, 0, 0, 0, 0, 0, 0],
+        words_after: [0, 0, 0, 0, 0, 0, 0, 0],
+        eip_after: 3,
+        flags_after: ONES + CARRY + PARITY + AUXILIARY + ZERO,
+        ..ROW
+    },
+    Row {
+        text: b"\x2C\x80",
+        words: [0x7F, 0, 0, 0, 0, 0, 0, 0],
+        words_after: [0xFF, 0, 0, 0, 0, 0, 0, 0],
+        eip_after: 2,
+        flags_after: ONES + CARRY + PARITY + SIGN + OVERFLOW,
+        ..ROW
+    },
+    Row {
+        text: b"\x40",
+        words: [0x7FFFFFFF, 0, 0, 0, 0, 0, 0, 0],
+        flags: CARRY,
+        words_after: [0x80000000, 0, 0, 0, 0, 0, 0, 0],
+        eip_after: 1,
+        flags_after: ONES + CARRY + PARITY + AUXILIARY + SIGN + OVERFLOW,
+        ..ROW
+    },
+    Row {
+        text: b"\xF7\xF9",
+        words: [0x80000000, 0xFFFFFFFF, 0xFFFFFFFF, 0, 0, 0, 0, 0],
+        stop: Stop::Fault(0),
+        words_after: [0x80000000, 0xFFFFFFFF, 0xFFFFFFFF, 0, 0, 0, 0, 0],
+        ..ROW
+    },
+    Row {
+        text: b"\xC1\xE0\x20",
+        words: [5, 0, 0, 0, 0, 0, 0, 0],
+        flags: CARRY + AUXILIARY + OVERFLOW,
+        words_after: [5, 0, 0, 0, 0, 0, 0, 0],
+        eip_after: 3,
+        flags_after: ONES + CARRY + AUXILIARY + OVERFLOW,
+        ..ROW
+    },
+    Row {
+        text: b"\xC0\xE8\x09",
+        words: [0xFF, 0, 0, 0, 0, 0, 0, 0],
+        flags: CARRY + AUXILIARY + SIGN + OVERFLOW,
+        words_after: [0, 0, 0, 0, 0, 0, 0, 0],
+        eip_after: 3,
+        flags_after: ONES + PARITY + AUXILIARY + ZERO + OVERFLOW,
+        ..ROW
+    },
+    Row {
+        text: b"\xC0\xF8\x09",
+        words: [0x80, 0, 0, 0, 0, 0, 0, 0],
+        flags: ZERO,
+        words_after: [0xFF, 0, 0, 0, 0, 0, 0, 0],
+        eip_after: 3,
+        flags_after: ONES + CARRY + PARITY + SIGN,
+        ..ROW
+    },
+    Row {
+        text: b"\xD1\xE0",
+        words: [0x40000000, 0, 0, 0, 0, 0, 0, 0],
+        flags: CARRY + ZERO,
+        words_after: [0x80000000, 0, 0, 0, 0, 0, 0, 0],
+        eip_after: 2,
+        flags_after: ONES + PARITY + SIGN + OVERFLOW,
+        ..ROW
+    },
+    Row {
+        text: b"\xF6\xF1",
+        words: [0xFF, 2, 0, 0, 0, 0, 0, 0],
+        words_after: [0x17F, 2, 0, 0, 0, 0, 0, 0],
+        eip_after: 2,
+        ..ROW
+    },
+    Row {
+        text: b"\xF6\xF1",
+        words: [0x100, 1, 0, 0, 0, 0, 0, 0],
+        stop: Stop::Fault(0),
+        words_after: [0x100, 1, 0, 0, 0, 0, 0, 0],
+        ..ROW
+    },
+    Row {
+        text: b"\xF6\xF9",
+        words: [0xFFF9, 2, 0, 0, 0, 0, 0, 0],
+        words_after: [0xFFFD, 2, 0, 0, 0, 0, 0, 0],
+        eip_after: 2,
+        ..ROW
+    },
+    Row {
+        text: b"\x6B\xC0\xFE",
+        words: [0x40000000, 0, 0, 0, 0, 0, 0, 0],
+        flags: CARRY + OVERFLOW,
+        words_after: [0x80000000, 0, 0, 0, 0, 0, 0, 0],
+        eip_after: 3,
+        ..ROW
+    },
+    Row {
+        text: b"\x6B\xC0\xFE",
+        words: [0x40000001, 0, 0, 0, 0, 0, 0, 0],
+        words_after: [0x7FFFFFFE, 0, 0, 0, 0, 0, 0, 0],
+        eip_after: 3,
+        flags_after: ONES + CARRY + OVERFLOW,
+        ..ROW
+    },
+    Row {
+        text: b"\x9F",
+        words_after: [0x200, 0, 0, 0, 0, 0, 0, 0],
+        eip_after: 1,
+        ..ROW
+    },
+    Row {
+        text: b"\x0F\xBE\xC1",
+        words: [0, 0x80, 0, 0, 0, 0, 0, 0],
+        words_after: [0xFFFFFF80, 0x80, 0, 0, 0, 0, 0, 0],
+        eip_after: 3,
+        ..ROW
+    },
+];
+
+/// Operands in memory, and the stack.
+static PLACES: [Row; 9] = [
+    Row {
+        text: b"\x8B\x44\x24\x04",
+        words: [0, 0, 0, 0, 0xFFC, 0, 0, 0],
+        stop: Stop::Fault(12),
+        words_after: [0, 0, 0, 0, 0xFFC, 0, 0, 0],
+        ..ROW
+    },
+    Row {
+        text: b"\x8B\x04\x25\x10\x00\x00\x00",
+        memory: &[(0x10, 0x01), (0x11, 0x02), (0x12, 0x03), (0x13, 0x04)],
+        words_after: [0x4030201, 0, 0, 0, 0, 0, 0, 0],
+        eip_after: 7,
+        memory_after: &[(0x10, 0x01), (0x11, 0x02), (0x12, 0x03), (0x13, 0x04)],
+        ..ROW
+    },
+    Row {
+        text: b"\x8B\x44\x25\x04",
+        memory: &[(0x14, 0x01), (0x15, 0x02), (0x16, 0x03), (0x17, 0x04)],
+        words: [0, 0, 0, 0, 0, 0x10, 0, 0],
+        words_after: [0x4030201, 0, 0, 0, 0, 0x10, 0, 0],
+        eip_after: 4,
+        memory_after: &[(0x14, 0x01), (0x15, 0x02), (0x16, 0x03), (0x17, 0x04)],
+        ..ROW
+    },
+    Row {
+        text: b"\x60",
+        memory: &[
+            (0x0, 0x09),
+            (0x1, 0x09),
+            (0x2, 0x09),
+            (0x3, 0x09),
+            (0x4, 0x09),
+            (0x5, 0x09),
+            (0x6, 0x09),
+            (0x7, 0x09),
+            (0x8, 0x09),
+            (0x9, 0x09),
+            (0xA, 0x09),
+            (0xB, 0x09),
+            (0xC, 0x09),
+            (0xD, 0x09),
+            (0xE, 0x09),
+            (0xF, 0x09),
+        ],
+        words: [1, 0, 0, 0, 0x10, 0, 0, 8],
+        stop: Stop::Fault(12),
+        words_after: [1, 0, 0, 0, 0x10, 0, 0, 8],
+        memory_after: &[
+            (0x0, 0x09),
+            (0x1, 0x09),
+            (0x2, 0x09),
+            (0x3, 0x09),
+            (0x4, 0x09),
+            (0x5, 0x09),
+            (0x6, 0x09),
+            (0x7, 0x09),
+            (0x8, 0x09),
+            (0x9, 0x09),
+            (0xA, 0x09),
+            (0xB, 0x09),
+            (0xC, 0x09),
+            (0xD, 0x09),
+            (0xE, 0x09),
+            (0xF, 0x09),
+        ],
+        ..ROW
+    },
+    Row {
+        text: b"\x54",
+        words: [0, 0, 0, 0, 0x100, 0, 0, 0],
+        words_after: [0, 0, 0, 0, 0xFC, 0, 0, 0],
+        eip_after: 1,
+        memory_after: &[(0xFC, 0x00), (0xFD, 0x01), (0xFE, 0x00), (0xFF, 0x00)],
+        ..ROW
+    },
+    Row {
+        text: b"\xE8\x00\x00\x00\x00",
+        words: [0, 0, 0, 0, 0x1000, 0, 0, 0],
+        stop: Stop::Fault(13),
+        words_after: [0, 0, 0, 0, 0x1000, 0, 0, 0],
+        ..ROW
+    },
+    Row {
+        text: b"\xA3\xFC\x0F\x00\x00",
+        words: [0x4030201, 0, 0, 0, 0, 0, 0, 0],
+        words_after: [0x4030201, 0, 0, 0, 0, 0, 0, 0],
+        eip_after: 5,
+        memory_after: &[(0xFFC, 0x01), (0xFFD, 0x02), (0xFFE, 0x03), (0xFFF, 0x04)],
+        ..ROW
+    },
+    Row {
+        text: b"\xA3\xFD\x0F\x00\x00",
+        words: [0x4030201, 0, 0, 0, 0, 0, 0, 0],
+        stop: Stop::Fault(13),
+        words_after: [0x4030201, 0, 0, 0, 0, 0, 0, 0],
+        ..ROW
+    },
+    Row {
+        text: b"\x83\xC0\x01\x40\x9C",
+        words: [0xFFFFFFFF, 0, 0, 0, 0x1000, 0, 0, 0],
+        budget: 3,
+        count: 3,
+        words_after: [1, 0, 0, 0, 0xFFC, 0, 0, 0],
+        eip_after: 5,
+        flags_after: ONES + CARRY,
+        memory_after: &[(0xFFC, 0x03), (0xFFD, 0x02), (0xFFE, 0x00), (0xFFF, 0x00)],
+        ..ROW
+    },
+];
+
+/// String instructions, some of them behind a repeat.
+static STRINGS: [Row; 5] = [
+    Row {
+        text: b"\xF3\xA4",
+        memory: &[(0x5, 0x07)],
+        words: [0, 0, 0, 0, 0, 0, 5, 9],
+        words_after: [0, 0, 0, 0, 0, 0, 5, 9],
+        eip_after: 2,
+        memory_after: &[(0x5, 0x07)],
+        ..ROW
+    },
+    Row {
+        text: b"\xF3\xA4",
+        memory: &[(0x0, 0x2A)],
+        words: [0, 2, 0, 0, 0, 0, 0, 0x10],
+        words_after: [0, 1, 0, 0, 0, 0, 1, 0x11],
+        memory_after: &[(0x0, 0x2A), (0x10, 0x2A)],
+        ..ROW
+    },
+    Row {
+        text: b"\xA4",
+        memory: &[(0x5, 0x2A)],
+        words: [0, 0, 0, 0, 0, 0, 5, 9],
+        flags: DOWN,
+        words_after: [0, 0, 0, 0, 0, 0, 4, 8],
+        eip_after: 1,
+        flags_after: ONES + DOWN,
+        memory_after: &[(0x5, 0x2A), (0x9, 0x2A)],
+        ..ROW
+    },
+    Row {
+        text: b"\xF3\xA6",
+        memory: &[
+            (0x10, 0x01),
+            (0x11, 0x02),
+            (0x12, 0x03),
+            (0x20, 0x01),
+            (0x21, 0x05),
+            (0x22, 0x03),
+        ],
+        words: [0, 3, 0, 0, 0, 0, 0x10, 0x20],
+        budget: 2,
+        count: 2,
+        words_after: [0, 1, 0, 0, 0, 0, 0x12, 0x22],
+        eip_after: 2,
+        flags_after: ONES + CARRY + AUXILIARY + SIGN,
+        memory_after: &[
+            (0x10, 0x01),
+            (0x11, 0x02),
+            (0x12, 0x03),
+            (0x20, 0x01),
+            (0x21, 0x05),
+            (0x22, 0x03),
+        ],
+        ..ROW
+    },
+    Row {
+        text: b"\xF3\xAA",
+        words: [0xAA, 5, 0, 0, 0, 0, 0, 0xFFE],
+        budget: 99,
+        count: 3,
+        stop: Stop::Fault(13),
+        words_after: [0xAA, 3, 0, 0, 0, 0, 0, 0x1000],
+        memory_after: &[(0xFFE, 0xAA), (0xFFF, 0xAA)],
+        ..ROW
+    },
+];
+
+/// What faults at once.
+static FAULTS: [Row; 21] = [
+    Row {
+        text: b"\xF4",
+        stop: Stop::Fault(13),
+        ..ROW
+    },
+    Row {
+        text: b"\xD6",
+        stop: Stop::Fault(6),
+        ..ROW
+    },
+    Row {
+        text: b"\x66",
+        stop: Stop::Fault(13),
+        ..ROW
+    },
+    Row {
+        text: b"\x66\x66\x40",
+        stop: Stop::Fault(6),
+        ..ROW
+    },
+    Row {
+        text: b"\xF3\x40",
+        stop: Stop::Fault(6),
+        ..ROW
+    },
+    Row {
+        text: b"\x8D\xC0",
+        stop: Stop::Fault(6),
+        ..ROW
+    },
+    Row {
+        text: b"\x66\x50",
+        stop: Stop::Fault(6),
+        ..ROW
+    },
+    Row {
+        text: b"\x66\x0F\xB7\xC1",
+        stop: Stop::Fault(6),
+        ..ROW
+    },
+    Row {
+        text: b"\xCC",
+        stop: Stop::Fault(3),
+        ..ROW
+    },
+    Row {
+        text: b"\xCD\x03",
+        stop: Stop::Fault(3),
+        ..ROW
+    },
+    Row {
+        text: b"\xCD\x04",
+        stop: Stop::Fault(4),
+        ..ROW
+    },
+    Row {
+        text: b"\xCD\x05",
+        stop: Stop::Fault(13),
+        ..ROW
+    },
+    Row {
+        text: b"\xE4\x00",
+        stop: Stop::Fault(13),
+        ..ROW
+    },
+    Row {
+        text: b"\x75\x7F",
+        stop: Stop::Fault(13),
+        ..ROW
+    },
+    Row {
+        text: b"\xCE",
+        flags: OVERFLOW,
+        flags_after: ONES + OVERFLOW,
+        stop: Stop::Fault(4),
+        ..ROW
+    },
+    Row {
+        text: b"\xF3\x0F",
+        stop: Stop::Fault(6),
+        ..ROW
+    },
+    Row {
+        text: b"\xF2\xA4",
+        stop: Stop::Fault(6),
+        ..ROW
+    },
+    Row {
+        text: b"\xC0\xD0",
+        stop: Stop::Fault(6),
+        ..ROW
+    },
+    Row {
+        text: b"\x66\xFF\xD0",
+        stop: Stop::Fault(6),
+        ..ROW
+    },
+    Row {
+        text: b"\x8B\x44\x24",
+        stop: Stop::Fault(13),
+        ..ROW
+    },
+    Row {
+        text: b"\x66\xB8\x01",
+        stop: Stop::Fault(13),
+        ..ROW
+    },
+];
+
+/// Code that is written over while it runs, and code at a limit.
+static PATCHES: [Row; 9] = [
+    // MOV byte [7], 42h over the INC EAX that follows makes it INC EDX
+    Row {
+        shared: true,
+        memory: &[
+            (0, 0xC6),
+            (1, 0x05),
+            (2, 0x07),
+            (3, 0x00),
+            (4, 0x00),
+            (5, 0x00),
+            (6, 0x42),
+            (7, 0x40),
+        ],
+        budget: 2,
+        count: 2,
+        words_after: [0, 0, 1, 0, 0, 0, 0, 0],
+        eip_after: 8,
+        memory_after: &[
+            (0, 0xC6),
+            (1, 0x05),
+            (2, 0x07),
+            (3, 0x00),
+            (4, 0x00),
+            (5, 0x00),
+            (6, 0x42),
+            (7, 0x42),
+        ],
+        ..ROW
+    },
+    // ADD EAX, 1 in a loop that counts its immediate up
+    Row {
+        shared: true,
+        memory: &[
+            (0, 0x83),
+            (1, 0xC0),
+            (2, 0x01),
+            (3, 0xFE),
+            (4, 0x05),
+            (5, 0x02),
+            (9, 0xEB),
+            (10, 0xF5),
+        ],
+        budget: 6,
+        count: 6,
+        words_after: [3, 0, 0, 0, 0, 0, 0, 0],
+        flags_after: ONES + PARITY,
+        memory_after: &[
+            (0, 0x83),
+            (1, 0xC0),
+            (2, 0x03),
+            (3, 0xFE),
+            (4, 0x05),
+            (5, 0x02),
+            (9, 0xEB),
+            (10, 0xF5),
+        ],
+        ..ROW
+    },
+    // MOV [5], AL over the highest byte of its own displacement
+    Row {
+        shared: true,
+        memory: &[(0, 0x88), (1, 0x05), (2, 0x05), (6, 0xEB), (7, 0xF8)],
+        words: [1, 0, 0, 0, 0, 0, 0, 0],
+        budget: 9,
+        count: 3,
+        stop: Stop::Fault(13),
+        words_after: [1, 0, 0, 0, 0, 0, 0, 0],
+        memory_after: &[
+            (0, 0x88),
+            (1, 0x05),
+            (2, 0x05),
+            (5, 0x01),
+            (6, 0xEB),
+            (7, 0xF8),
+        ],
+        ..ROW
+    },
+    // REP MOVSB over itself: INC EAX and MOVSB stand there then
+    Row {
+        shared: true,
+        memory: &[(0, 0xF3), (1, 0xA4), (0x20, 0x40), (0x21, 0x40)],
+        words: [0, 4, 0, 0, 0, 0, 0x20, 0],
+        budget: 3,
+        count: 3,
+        words_after: [1, 3, 0, 0, 0, 0, 0x22, 2],
+        eip_after: 2,
+        memory_after: &[(0, 0x40), (1, 0x40), (0x20, 0x40), (0x21, 0x40)],
+        ..ROW
+    },
+    // the same over the INC EAX before it, to which a jump goes back
+    Row {
+        shared: true,
+        memory: &[
+            (0, 0x40),
+            (1, 0xC6),
+            (2, 0x05),
+            (7, 0x42),
+            (8, 0xEB),
+            (9, 0xF6),
+        ],
+        budget: 4,
+        count: 4,
+        words_after: [1, 0, 1, 0, 0, 0, 0, 0],
+        eip_after: 1,
+        memory_after: &[
+            (0, 0x42),
+            (1, 0xC6),
+            (2, 0x05),
+            (7, 0x42),
+            (8, 0xEB),
+            (9, 0xF6),
+        ],
+        ..ROW
+    },
+    // a loop in the last three bytes of a text
+    Row {
+        text: b"\x40\xEB\xFD",
+        budget: 4,
+        count: 4,
+        words_after: [2, 0, 0, 0, 0, 0, 0, 0],
+        ..ROW
+    },
+    // a loop in the last two bytes of the data segment
+    Row {
+        shared: true,
+        memory: &[
+            (0, 0xE9),
+            (1, 0xF9),
+            (2, 0x0F),
+            (0xFFE, 0xEB),
+            (0xFFF, 0xFE),
+        ],
+        budget: 4,
+        count: 4,
+        eip_after: 0xFFE,
+        memory_after: &[
+            (0, 0xE9),
+            (1, 0xF9),
+            (2, 0x0F),
+            (0xFFE, 0xEB),
+            (0xFFF, 0xFE),
+        ],
+        ..ROW
+    },
+    // MOV EAX, 5 whole, and then a text that ends inside it
+    Row {
+        text: b"\xB8\x05\x00\x00\x00",
+        words_after: [5, 0, 0, 0, 0, 0, 0, 0],
+        eip_after: 5,
+        ..ROW
+    },
+    Row {
+        text: b"\xB8\x05",
+        stop: Stop::Fault(13),
+        ..ROW
+    },
+];
+
+fn segment_of(alloc: Global, limit: u32, bytes: &[(u32, u8)]) -> Result<Segment, Fail> {
+    let mut segment = Segment::new(alloc, limit)?;
+    for (at, byte) in bytes {
+        segment.write(*at, Size::Byte, u32::from(*byte))?;
+    }
+    Ok(segment)
+}
+
+/// A row's code: the data segment itself, or a text in a segment of its own.
+fn code_of(alloc: Global, row: &Row) -> Result<Code, Fail> {
+    if row.shared {
+        return Ok(Code::Shared);
+    }
+    let mut text = Segment::new(alloc, u32::try_from(row.text.len())?)?;
+    text.fill_from(0, row.text)?;
+    Ok(Code::Separate(TextSegment::new(text)))
+}
+
+fn regs_of(words: &[u32; 8]) -> Regs {
+    let mut regs = Regs::new();
+    for (register, word) in REGISTERS.iter().zip(words) {
+        regs.set(Size::Dword, *register, *word);
+    }
+    regs
+}
+
+/// What a row begins with, at address 0.
+fn image_of(alloc: Global, row: &Row) -> Result<Image, Fail> {
+    let memory = segment_of(alloc, LIMIT, row.memory)?;
+    Ok(Image {
+        regs: regs_of(&row.words),
+        eip: 0,
+        flags: Flags::from_bits(row.flags),
+        memory,
+        code: code_of(alloc, row)?,
+    })
+}
+
+/// A run by the trait's bound alone.
+fn ended<R: Runs>(machine: &mut R, budget: u32) -> (u32, Stop) {
+    machine.run(budget)
+}
+
+/// Whether registers, EIP, flags and all of the memory are what a row ends with.
+fn is_left<R: Runs>(machine: &R, memory: &Segment, row: &Row) -> bool {
+    let flags = Flags::from_bits(row.flags_after).values();
+    let mut is_same = machine.eip() == row.eip_after && machine.flags() == flags;
+    for (register, word) in REGISTERS.iter().zip(&row.words_after) {
+        is_same = is_same && machine.reg(*register) == *word;
+    }
+    for at in 0..=LIMIT {
+        is_same = is_same && machine.byte(at) == memory.get(at);
+    }
+    is_same
+}
+
+/// Whether a run takes as many steps and stops as a row says, with or without what is kept of earlier
+/// rows at the same addresses.
+fn is_run(image: &mut Image, cache: Option<&mut Cache>, row: &Row) -> bool {
+    let made = match cache {
+        Some(cache) => run_with(image, cache, row.budget),
+        None => ended(image, row.budget),
+    };
+    made == (row.count, row.stop) && image.flags.to_bits() == row.flags_after
+}
+
+fn is_worked(alloc: Global, cache: Option<&mut Cache>, row: &Row) -> Result<bool, Fail> {
+    let mut image = image_of(alloc, row)?;
+    let memory = segment_of(alloc, LIMIT, row.memory_after)?;
+    Ok(is_run(&mut image, cache, row) && is_left(&image, &memory, row))
+}
+
+fn work_all(rt: &impl Abort, alloc: Global, cache: &mut Cache, rows: &[Row]) -> Result<(), Fail> {
+    for (number, row) in rows.iter().enumerate() {
+        assert!(rt; is_worked(alloc, None, row)?, "row {number}");
+        assert!(rt;
+            is_worked(alloc, Some(&mut *cache), row)?,
+            "row {number}, kept"
+        );
+    }
+    Ok(())
+}
+
+#[test]
+fn worked_rows(rt: HostRuntime) -> Result<(), Fail> {
+    let mut cache = Cache::new(rt.alloc())?;
+    work_all(&rt, rt.alloc(), &mut cache, &ARITHMETIC)?;
+    work_all(&rt, rt.alloc(), &mut cache, &PLACES)?;
+    work_all(&rt, rt.alloc(), &mut cache, &STRINGS)?;
+    work_all(&rt, rt.alloc(), &mut cache, &FAULTS)?;
+    work_all(&rt, rt.alloc(), &mut cache, &PATCHES)?;
+    runs_join();
+    Ok(())
+}
+
+const LOOP: Row = Row {
+    text: b"\x40\xEB\xFD",
+    memory: &[(0, 0x40), (1, 0xEB), (2, 0xFD)],
+    ..ROW
+};
+
+/// INC EAX in a loop, and EAX and EDX where it is INC EDX in the data segment from the fifth step on.
+static LOOPS: [(Row, (u32, u32)); 2] = [
+    (
+        Row {
+            shared: true,
+            ..LOOP
+        },
+        (2, 1),
+    ),
+    (LOOP, (3, 0)),
+];
+
+fn words_around_a_write(image: &mut Image, cache: &mut Cache) -> (u32, u32) {
+    run_with(image, cache, 4);
+    let _ = image.memory.write(0, Size::Byte, 0x42);
+    run_with(image, cache, 1);
+    (image.reg(Register::Eax), image.reg(Register::Edx))
+}
+
+#[test]
+fn writes_from_outside(rt: HostRuntime) -> Result<(), Fail> {
+    for (row, words) in &LOOPS {
+        let mut cache = Cache::new(rt.alloc())?;
+        let mut image = image_of(rt.alloc(), row)?;
+        assert!(rt; words_around_a_write(&mut image, &mut cache) == *words);
+    }
+    Ok(())
+}

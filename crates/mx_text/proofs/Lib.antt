@@ -1,0 +1,4 @@
+pub mod Parting
+pub mod Spelled
+pub mod Digits
+pub mod Feeds

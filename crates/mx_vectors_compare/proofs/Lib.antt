@@ -1,0 +1,5 @@
+pub mod EndComparing
+pub mod Numbers
+pub mod Again
+pub mod Comparing
+pub mod Once

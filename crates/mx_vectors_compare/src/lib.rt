@@ -1,0 +1,18 @@
+//! Compares single steps with those that a real processor took.
+//!
+//! Each is taken three times: as one step, as the only step of a run that decodes it, and again of
+//! one that finds it kept.
+#![tactic(auto)]
+
+mod case;
+mod checking;
+mod ends;
+mod lines;
+mod reading;
+mod telling;
+
+pub use case::{Case, CaseError, StepState};
+pub use checking::check_case;
+pub use ends::{compared_flags, image_of, is_end_same, number_of, wanted_flags};
+pub use lines::{CompareFailure, Tally, check_all};
+pub use reading::parse_case;

@@ -1,9 +1,0 @@
-pub mod Refusals
-pub mod Held
-pub mod Whole
-pub mod Sound
-pub mod Boot
-pub mod Move
-pub mod History
-pub mod Rest
-pub mod Steps
