@@ -1,10 +1,11 @@
 //! Makes the image that a program begins with.
 
-ghost use Rattle.std.specs.Prelude.{◌≡◌, ◌+◌, ◌≤◌, ◌++◌, IfOk, length, take, drop};
+ghost use Rattle.std.specs.Prelude.{◌≡◌, ◌+◌, ◌≤◌, ◌++◌, IfOk, length, replicate, take, drop};
 ghost use Rattle.mx_flags.specs.Flags.{values_of};
 ghost use Rattle.mx_aout.specs.Limits.{rounded_to_pages, IsWithin};
 ghost use Rattle.mx_regs.specs.Regs.{no_words};
-ghost use Rattle.mx_load.specs.Load.{IsLoadedFrom, contents_of, code_of_text, filled_to, image_of_program};
+ghost use Rattle.mx_load.specs.Load.{IsLoadedFrom, code_of_text, image_of_program};
+ghost use Rattle.mx_load.specs.Room.{room_for_text};
 
 use mx_aout::Program;
 use mx_exec::{Code, Image, TextSegment};
@@ -13,18 +14,6 @@ use mx_mem::Segment;
 use mx_regs::Regs;
 use mx_word::{NoMemory, Register, Size};
 use std::alloc::Global;
-
-/// A segment of two lists of bytes and zeros up to a limit.
-fn segment(alloc: Global, limit: u32, first: &[u8], second: &[u8]) -> Result<Segment, NoMemory>
-    requires { length first.now + length second.now ≤ limit }
-    ensures value { IfOk result (λ s. s ≡ filled_to limit (first.now ++ second.now)) }
-    ensures limit { IfOk result (λ s. length s ≡ limit) }
-{
-    let mut segment = Segment::new(alloc, limit)?;
-    fill(&mut segment, 0, first);
-    fill(&mut segment, first.len() as u32, second);
-    Ok(segment)
-}
 
 /// Copies bytes to a place where they lie inside.
 fn fill(segment: &mut Segment, at: u32, bytes: &[u8])
@@ -55,41 +44,64 @@ fn first_registers(top: u32) -> Regs
     regs
 }
 
-/// The data segment: the text, where it isn't separate, the data, and zeros.
-fn data_segment(alloc: Global, program: &Program, limit: u32) -> Result<Segment, NoMemory>
-    requires { length (contents_of program.now.sep program.now.text program.now.init) ≤ limit }
-    ensures { IfOk result (λ s. s ≡ filled_to limit (contents_of program.now.sep program.now.text program.now.init)) }
+/// The segments of a program's image, all zeros.
+struct Room {
+    memory: Segment,
+    /// For a text in a segment of its own.
+    text: Option<Segment>,
+}
+
+/// Takes all pages that a program's image needs, and writes none of them.
+fn room_for(alloc: Global, program: &Program) -> Result<Room, NoMemory>
+    ensures memory { IfOk result (λ room. room.memory ≡ replicate (rounded_to_pages program.now.total) 0) }
+    ensures text { IfOk result (λ room. room.text ≡ room_for_text program.now.sep program.now.text) }
 {
+    let memory = Segment::new(alloc, limit_of(program))?;
+    let text = if program.sep {
+        Some(Segment::new(alloc, program.text.as_slice().len() as u32)?)
+    } else {
+        None
+    };
+    Ok(Room { memory, text })
+}
+
+/// Writes what the data segment begins with over zeros: the text, where it isn't separate, and the data.
+fn write_contents(memory: &mut Segment, program: &Program)
+    requires { memory.old ≡ replicate (rounded_to_pages program.now.total) 0 }
+    ensures { memory.new ≡ (image_of_program program.now).memory }
+{
+    let _limit = limit_of(program);
     let init = program.init.as_slice();
     if program.sep {
-        segment(alloc, limit, init, &[])
+        fill(memory, 0, init);
     } else {
-        segment(alloc, limit, program.text.as_slice(), init)
+        let text = program.text.as_slice();
+        fill(memory, 0, text);
+        fill(memory, text.len() as u32, init);
     }
 }
 
-/// The code: a segment of its own, or what the data segment holds.
-fn code_of(alloc: Global, program: &Program) -> Result<Code, NoMemory>
-    requires { length program.now.text ≤ 1048576 }
-    ensures { IfOk result (λ code. code ≡ code_of_text program.now.sep program.now.text) }
+/// The code: a text over the zeros of its own segment, or what the data segment holds.
+fn code_of(text: Option<Segment>, program: &Program) -> Code
+    requires { text ≡ room_for_text program.now.sep program.now.text }
+    ensures { result ≡ code_of_text program.now.sep program.now.text }
 {
-    if !program.sep {
-        return Ok(Code::Shared);
-    }
-    let bytes = program.text.as_slice();
-    let text = segment(alloc, bytes.len() as u32, bytes, &[])?;
-    Ok(Code::Separate(TextSegment::new(text)))
+    let Some(mut text) = text else {
+        return Code::Shared;
+    };
+    fill(&mut text, 0, program.text.as_slice());
+    Code::Separate(TextSegment::new(text))
 }
 
-/// The image of a program. Takes memory for its segments.
+/// The image of a program. Takes all pages for its segments before it writes one.
 pub fn load(alloc: Global, program: &Program) -> Result<Image, NoMemory>
     ensures image { IfOk result (λ image. image ≡ image_of_program program.now) }
     ensures from { IfOk result (λ image. IsLoadedFrom image program.now) }
 {
-    let limit = limit_of(program);
-    let memory = data_segment(alloc, program, limit)?;
-    let code = code_of(alloc, program)?;
-    let regs = first_registers(limit);
+    let Room { mut memory, text } = room_for(alloc, program)?;
+    write_contents(&mut memory, program);
+    let code = code_of(text, program);
+    let regs = first_registers(limit_of(program));
     Ok(image(program.entry, regs, memory, code))
 }
 
@@ -107,30 +119,15 @@ fn image(eip: u32, regs: Regs, memory: Segment, code: Code) -> Image
 }
 
 /// Makes an image that was loaded from a program what it was when it was loaded, whatever it did
-/// since. Takes no memory.
+/// since. Writes into the pages that stand: takes none, and gives up none.
 pub fn refill(image: &mut Image, program: &Program)
     requires { IsLoadedFrom image.old program.now }
     ensures image { image.new ≡ image_of_program program.now }
     ensures from { IsLoadedFrom image.new program.now }
 {
-    refill_memory(&mut image.memory, program);
+    image.memory.clear();
+    write_contents(&mut image.memory, program);
     image.regs = first_registers(limit_of(program));
     image.eip = program.entry;
     image.flags = Flags::from_bits(0);
-}
-
-/// Writes what the data segment begins with, and zeros behind it.
-fn refill_memory(memory: &mut Segment, program: &Program)
-    requires { length memory.old ≡ rounded_to_pages program.now.total }
-    ensures { memory.new ≡ (image_of_program program.now).memory }
-{
-    memory.clear();
-    let init = program.init.as_slice();
-    if program.sep {
-        fill(memory, 0, init);
-    } else {
-        let text = program.text.as_slice();
-        fill(memory, 0, text);
-        fill(memory, text.len() as u32, init);
-    }
 }

@@ -1,14 +1,15 @@
 //! A segment: bytes from 0 up to a limit.
 
-ghost use Rattle.std.specs.Prelude.{◌≡◌, ◌+◌, ◌^◌, ◌<◌, ◌≤◌, Ok, Err, OnOk, OnErr, IfOk, IfSome, [], length, slice_get, ℕ, slice_index, replicate, take, drop};
+ghost use Rattle.std.specs.Prelude.{◌≡◌, ◌+◌, ◌%◌, ◌^◌, ◌<◌, ◌≤◌, Ok, Err, OnOk, OnErr, IfOk, IfSome, [], length, slice_get, ℕ, slice_index, slice_set, replicate, take, drop};
 ghost use Rattle.mx_word.specs.Word.{width, bytes_in, value_at};
-ghost use Rattle.mx_mem.specs.Segment.{inside, read_at, with_value, bytes_after_write, bytes_after_copy, with_bytes_at};
+ghost use Rattle.mx_mem.specs.Segment.{inside, read_at, with_value, bytes_after_write, bytes_after_copy, with_bytes_at, part, zero_page};
 
 mod copies;
+mod page;
 
-use byteorder::{ByteOrder, LittleEndian};
 use mx_insn::ArrayVec;
 use mx_word::{NoMemory, Size};
+use page::{PAGE, Page, qword_at, value_in};
 use std::alloc::Global;
 use std::marker::Model;
 
@@ -16,79 +17,63 @@ use std::marker::Model;
 #[derive(Clone, Copy, Debug, PartialEq, Eq)]
 pub struct OutOfLimit;
 
-/// Zeros behind the limit, so that eight bytes can be read from any place inside.
-const BEHIND: usize = 8;
-
-/// A segment of memory. Its limit never changes.
+/// A segment of memory. Its limit never changes, and neither do the pages that it owns: as many as
+/// the limit needs.
 #[derive(Drop)]
 pub struct Segment {
-    /// The bytes, and the zeros behind them.
-    bytes: Vec<u8>,
+    /// The bytes, and zeros after the limit up to the last page's end.
+    pages: Vec<Page>,
     limit: usize,
 }
 
 impl Model for Segment {
     ghost use Rattle.std.specs.Prelude.{List, ℕ};
-    ghost use Rattle.mx_mem.specs.Segment.{up_to, IsPadded};
+    ghost use Rattle.mx_mem.specs.Segment.{up_to, IsPaged};
 
     ghost Value = { List ℕ };
 
-    ghost view = { λ s. up_to s.limit s.bytes.items };
+    ghost view = { λ s. up_to s.limit s.pages.items };
 
-    ghost invariant = { λ s. IsPadded s.limit s.bytes.items };
+    ghost invariant = { λ s. IsPaged s.limit s.pages.items };
 }
 
-/// Writes a number over the bytes from a place on, lowest byte first.
-#[inline(always)]
-fn write_value(bytes: &mut [u8], at: usize, size: Size, value: u32)
-    requires inside { at + bytes_in size ≤ length bytes.old }
-    requires value { value < 2 ^ width size }
-    ensures { bytes.new ≡ with_value bytes.old at (bytes_in size) value }
+/// A number of pages of zeros. A refusal gives up what was taken.
+fn zero_pages(alloc: Global, count: usize) -> Result<Vec<Page>, NoMemory>
+    ensures { IfOk result (λ pages. pages.items ≡ replicate count zero_page) }
 {
-    bytes[at] = (value % 0x100) as u8;
-    match size {
-        Size::Byte => {}
-        Size::Word => bytes[at + 1] = (value / 0x100) as u8,
-        Size::Dword => {
-            bytes[at + 1] = (value / 0x100 % 0x100) as u8;
-            bytes[at + 2] = (value / 0x100 / 0x100 % 0x100) as u8;
-            bytes[at + 3] = (value / 0x100 / 0x100 / 0x100) as u8;
-        }
+    let mut pages = Vec::with_capacity(alloc, count)?;
+    for _ in 0..count {
+        let Ok(()) = pages.push(Page::zeros(alloc)?) else {
+            return Err(NoMemory);
+        };
     }
+    Ok(pages)
 }
 
-/// Writes bytes over those from a place on.
-#[inline(always)]
-fn overwrite(bytes: &mut [u8], at: usize, source: &[u8])
-    requires { at + length source.now ≤ length bytes.old }
-    ensures { bytes.new ≡ with_bytes_at bytes.old at source.now }
+/// How many of the bytes from a place on, at least one of them, lie in its page.
+fn piece(at: usize, count: usize) -> usize
+    requires { 0 < count }
+    ensures some { 0 < result }
+    ensures most { result ≤ count }
+    ensures page { at % 4096 + result ≤ 4096 }
 {
-    bytes[at..at + source.len()].copy_from_slice(source);
-}
-
-/// The number in the eight bytes from a place on.
-#[inline(always)]
-fn qword_at(bytes: &[u8], at: usize) -> u64
-    requires { at + 8 ≤ length bytes.now }
-    ensures value { result ≡ value_at bytes.now at 8 }
-    ensures bytes { (i : ℕ) → slice_index bytes.now i < 256 }
-{
-    LittleEndian::read_u64(&bytes[at..at + 8])
+    let room = PAGE - at % PAGE;
+    if count < room { count } else { room }
 }
 
 impl Segment {
     /// Zeros up to the limit, in bytes.
-    #[tactic(auto, unfolding(crate::specs::Segment::up_to, crate::specs::Segment::IsPadded))]
+    #[tactic(auto, unfolding(crate::specs::Segment::up_to, crate::specs::Segment::IsPaged))]
     pub fn new(alloc: Global, limit: u32) -> Result<Segment, NoMemory>
         ensures { IfOk result (λ s. s ≡ replicate limit 0) }
     {
         let limit = limit as usize;
-        let bytes = vec![in alloc; 0; limit + BEHIND]?;
-        Ok(Segment { bytes, limit })
+        let pages = zero_pages(alloc, (limit + (PAGE - 1)) / PAGE)?;
+        Ok(Segment { pages, limit })
     }
 
     /// The number of bytes.
-    #[tactic(auto, unfolding(crate::specs::Segment::up_to, crate::specs::Segment::IsPadded))]
+    #[tactic(auto, unfolding(crate::specs::Segment::up_to, crate::specs::Segment::IsPaged))]
     #[inline(always)]
     pub fn limit(&self) -> usize
         ensures { result ≡ length self.now }
@@ -96,29 +81,43 @@ impl Segment {
         self.limit
     }
 
-    /// The bytes up to the limit.
-    #[tactic(auto, unfolding(crate::specs::Segment::up_to, crate::specs::Segment::IsPadded))]
-    #[inline(always)]
-    fn inside(&self) -> &[u8]
-        ensures { result.now ≡ self.now }
-    {
-        &self.bytes[..self.limit]
-    }
-
     /// The byte at a place, where it lies inside.
     pub fn get(&self, at: u32) -> Option<u8>
         ensures { result ≡ slice_get self.now at }
     {
-        self.inside().get(at as usize).copied()
+        let at = at as usize;
+        if at < self.limit() {
+            Some(self.byte(at))
+        } else {
+            None
+        }
     }
 
     /// The byte at a place inside.
+    #[tactic(auto, unfolding(crate::specs::Segment::up_to, crate::specs::Segment::IsPaged))]
     #[inline(always)]
     fn byte(&self, at: usize) -> u8
         requires { at < length self.now }
         ensures { result ≡ slice_index self.now at }
     {
-        self.inside()[at]
+        self.pages[at / PAGE].bytes()[at % PAGE]
+    }
+
+    /// The byte at a place, or zero outside.
+    fn byte_or_zero(&self, at: usize) -> u8
+        ensures { result ≡ slice_index self.now at }
+    {
+        if at < self.limit() { self.byte(at) } else { 0 }
+    }
+
+    /// Writes the byte at a place inside.
+    #[tactic(auto, unfolding(crate::specs::Segment::up_to, crate::specs::Segment::IsPaged))]
+    fn set_byte(&mut self, at: usize, byte: u8)
+        requires { at < length self.old }
+        ensures value { self.new ≡ slice_set self.old at byte }
+        ensures limit { length self.new ≡ length self.old }
+    {
+        self.pages[at / PAGE].set(at % PAGE, byte);
     }
 
     /// Whether an access of a size at a place lies inside.
@@ -129,16 +128,28 @@ impl Segment {
         at as usize + size.bytes() as usize <= self.limit()
     }
 
-    /// The number at a place, lowest byte first.
-    pub fn read(&self, at: u32, size: Size) -> Result<u32, OutOfLimit>
-        ensures value { result ≡ read_at self.now at size }
-        ensures below { IfOk result (λ v. v < 2 ^ width size) }
+    /// The number at a place, where its bytes lie in one page.
+    #[tactic(auto, unfolding(crate::specs::Segment::up_to, crate::specs::Segment::IsPaged))]
+    #[inline(always)]
+    fn read_in_page(&self, at: usize, size: Size) -> u32
+        requires inside { at + bytes_in size ≤ length self.now }
+        requires page { at % 4096 + bytes_in size ≤ 4096 }
+        ensures value { result ≡ value_at self.now at (bytes_in size) }
+        ensures below { result < 2 ^ width size }
     {
-        if !self.holds(at, size) {
-            return Err(OutOfLimit);
-        }
+        value_in(self.pages[at / PAGE].bytes(), at % PAGE, size)
+    }
+
+    /// The number at a place, byte for byte.
+    #[cold]
+    #[inline(never)]
+    fn read_across(&self, at: u32, size: Size) -> u32
+        requires { at + bytes_in size ≤ length self.now }
+        ensures value { result ≡ value_at self.now at (bytes_in size) }
+        ensures below { result < 2 ^ width size }
+    {
         let at = at as usize;
-        Ok(match size {
+        match size {
             Size::Byte => u32::from(self.byte(at)),
             Size::Word => u32::from(self.byte(at)) + 0x100 * u32::from(self.byte(at + 1)),
             Size::Dword => {
@@ -149,11 +160,59 @@ impl Segment {
                                 * (u32::from(self.byte(at + 2))
                                     + 0x100 * u32::from(self.byte(at + 3))))
             }
+        }
+    }
+
+    /// The number at a place, lowest byte first.
+    pub fn read(&self, at: u32, size: Size) -> Result<u32, OutOfLimit>
+        ensures value { result ≡ read_at self.now at size }
+        ensures below { IfOk result (λ v. v < 2 ^ width size) }
+    {
+        if !self.holds(at, size) {
+            return Err(OutOfLimit);
+        }
+        let place = at as usize;
+        Ok(if place % PAGE + size.bytes() as usize <= PAGE {
+            self.read_in_page(place, size)
+        } else {
+            self.read_across(at, size)
         })
     }
 
+    /// Writes a number at a place, where its bytes lie in one page.
+    #[tactic(auto, unfolding(crate::specs::Segment::up_to, crate::specs::Segment::IsPaged))]
+    #[inline(always)]
+    fn write_in_page(&mut self, at: usize, size: Size, value: u32)
+        requires inside { at + bytes_in size ≤ length self.old }
+        requires page { at % 4096 + bytes_in size ≤ 4096 }
+        requires value { value < 2 ^ width size }
+        ensures { self.new ≡ with_value self.old at (bytes_in size) value }
+    {
+        self.pages[at / PAGE].write(at % PAGE, size, value);
+    }
+
+    /// Writes a number at a place, byte for byte.
+    #[cold]
+    #[inline(never)]
+    fn write_across(&mut self, at: u32, size: Size, value: u32)
+        requires inside { at + bytes_in size ≤ length self.old }
+        requires value { value < 2 ^ width size }
+        ensures { self.new ≡ with_value self.old at (bytes_in size) value }
+    {
+        let at = at as usize;
+        self.set_byte(at, (value % 0x100) as u8);
+        match size {
+            Size::Byte => {}
+            Size::Word => self.set_byte(at + 1, (value / 0x100) as u8),
+            Size::Dword => {
+                self.set_byte(at + 1, (value / 0x100 % 0x100) as u8);
+                self.set_byte(at + 2, (value / 0x100 / 0x100 % 0x100) as u8);
+                self.set_byte(at + 3, (value / 0x100 / 0x100 / 0x100) as u8);
+            }
+        }
+    }
+
     /// Writes a number at a place, lowest byte first. A refusal changes nothing.
-    #[tactic(auto, unfolding(crate::specs::Segment::up_to, crate::specs::Segment::IsPadded))]
     pub fn write(&mut self, at: u32, size: Size, value: u32) -> Result<(), OutOfLimit>
         requires { value < 2 ^ width size }
         ensures ok { OnOk result (bytes_after_write self.old at size value ≡ Ok self.new) }
@@ -162,7 +221,12 @@ impl Segment {
         if !self.holds(at, size) {
             return Err(OutOfLimit);
         }
-        write_value(self.bytes.as_mut_slice(), at as usize, size, value);
+        let place = at as usize;
+        if place % PAGE + size.bytes() as usize <= PAGE {
+            self.write_in_page(place, size, value);
+        } else {
+            self.write_across(at, size, value);
+        }
         Ok(())
     }
 
@@ -179,31 +243,91 @@ impl Segment {
         Ok(())
     }
 
+    /// Some bytes from a place on that lie in one page.
+    #[tactic(auto, unfolding(crate::specs::Segment::up_to, crate::specs::Segment::IsPaged))]
+    #[inline(always)]
+    fn part_of_page(&self, at: usize, count: usize) -> &[u8]
+        requires some { 0 < count }
+        requires inside { at + count ≤ length self.now }
+        requires page { at % 4096 + count ≤ 4096 }
+        ensures { result.now ≡ part self.now at count }
+    {
+        let start = at % PAGE;
+        &self.pages[at / PAGE].bytes()[start..start + count]
+    }
+
     /// The bytes from a place on, at most 15 of them, where they lie together.
     #[inline(always)]
     pub fn front(&self, at: u32) -> Option<&[u8]>
         ensures { IfSome result (λ front. front.now ≡ take 15 (drop at self.now)) }
     {
-        let bytes = self.inside();
+        let limit = self.limit();
         let at = at as usize;
-        if at >= bytes.len() {
+        if at >= limit {
             return Some(&[]);
         }
-        if bytes.len() - at < 15 {
-            return Some(&bytes[at..]);
+        let count = if limit - at < 15 { limit - at } else { 15 };
+        if at % PAGE + count > PAGE {
+            return None;
         }
-        Some(&bytes[at..at + 15])
+        Some(self.part_of_page(at, count))
+    }
+
+    /// The number in the eight bytes from a place inside on, with zeros for those outside, where they
+    /// lie in one page.
+    #[tactic(auto, unfolding(crate::specs::Segment::up_to, crate::specs::Segment::IsPaged))]
+    #[inline(always)]
+    fn qword_in_page(&self, at: usize) -> u64
+        requires inside { at < length self.now }
+        requires page { at % 4096 + 8 ≤ 4096 }
+        ensures { result ≡ value_at self.now at 8 }
+    {
+        qword_at(self.pages[at / PAGE].bytes(), at % PAGE)
+    }
+
+    /// The number in the eight bytes from a place on, with zeros for those outside, byte for byte.
+    #[cold]
+    #[inline(never)]
+    fn qword_across(&self, at: u32) -> u64
+        ensures { result ≡ value_at self.now at 8 }
+    {
+        let at = at as usize;
+        let bytes = [
+            self.byte_or_zero(at),
+            self.byte_or_zero(at + 1),
+            self.byte_or_zero(at + 2),
+            self.byte_or_zero(at + 3),
+            self.byte_or_zero(at + 4),
+            self.byte_or_zero(at + 5),
+            self.byte_or_zero(at + 6),
+            self.byte_or_zero(at + 7),
+        ];
+        qword_at(&bytes[..], 0)
+    }
+
+    /// Each byte is below 256. A fact for callers, and no code.
+    #[tactic(auto, unfolding(crate::specs::Segment::up_to, crate::specs::Segment::IsPaged))]
+    #[inline(always)]
+    fn are_bytes(&self)
+        ensures { (i : ℕ) → slice_index self.now i < 256 }
+    {
+        let _limit = self.limit;
     }
 
     /// The number in the eight bytes from a place inside on, with zeros for those outside.
-    #[tactic(auto, unfolding(crate::specs::Segment::up_to, crate::specs::Segment::IsPadded))]
     #[inline(always)]
     pub fn qword_from(&self, at: u32) -> u64
         requires { at < length self.now }
         ensures value { result ≡ value_at self.now at 8 }
         ensures bytes { (i : ℕ) → slice_index self.now i < 256 }
     {
-        qword_at(self.bytes.as_slice(), at as usize)
+        self.are_bytes();
+        let place = at as usize;
+        if place % PAGE + 8 <= PAGE {
+            self.qword_in_page(place)
+        } else {
+            self.qword_across(at)
+        }
     }
 
     /// The number in the eight bytes from a place on, with zeros for those outside.
@@ -212,8 +336,8 @@ impl Segment {
         ensures value { result ≡ value_at self.now at 8 }
         ensures bytes { (i : ℕ) → slice_index self.now i < 256 }
     {
-        let inside = self.inside();
-        if at as usize >= inside.len() {
+        self.are_bytes();
+        if at as usize >= self.limit() {
             return 0;
         }
         self.qword_from(at)
@@ -237,14 +361,29 @@ impl Segment {
 
 impl Segment {
     /// No bytes at all. Takes no memory.
-    #[tactic(auto, unfolding(crate::specs::Segment::up_to, crate::specs::Segment::IsPadded))]
+    #[tactic(auto, unfolding(crate::specs::Segment::up_to, crate::specs::Segment::IsPaged))]
     pub fn empty(alloc: Global) -> Segment
         ensures { result ≡ [] }
     {
         Segment {
-            bytes: Vec::new(alloc),
+            pages: Vec::new(alloc),
             limit: 0,
         }
+    }
+
+    /// A copy of the 36 bytes from a place on, byte for byte.
+    #[cold]
+    #[inline(never)]
+    fn message_across(&self, at: u32) -> [u8; 36]
+        requires { at + 36 ≤ length self.now }
+        ensures { result ≡ take 36 (drop at self.now) }
+    {
+        let at = at as usize;
+        let mut message = [0; 36];
+        for k in 0..36usize {
+            message[k] = self.byte(at + k);
+        }
+        message
     }
 
     /// A copy of the 36 bytes from a place on.
@@ -252,19 +391,53 @@ impl Segment {
         requires { at + 36 ≤ length self.now }
         ensures { result ≡ take 36 (drop at self.now) }
     {
-        let at = at as usize;
+        let place = at as usize;
+        if place % PAGE + 36 > PAGE {
+            return self.message_across(at);
+        }
         let mut message = [0; 36];
-        message.copy_from_slice(&self.inside()[at..at + 36]);
+        message.copy_from_slice(self.part_of_page(place, 36));
         message
     }
 
+    /// Writes some bytes over those from a place on, which lie in one page.
+    #[tactic(auto, unfolding(crate::specs::Segment::up_to, crate::specs::Segment::IsPaged))]
+    fn put_in_page(&mut self, at: usize, bytes: &[u8])
+        requires some { 0 < length bytes.now }
+        requires inside { at + length bytes.now ≤ length self.old }
+        requires page { at % 4096 + length bytes.now ≤ 4096 }
+        ensures { self.new ≡ with_bytes_at self.old at bytes.now }
+    {
+        self.pages[at / PAGE].put(at % PAGE, bytes);
+    }
+
+    /// Writes bytes over those from a place on, page after page.
+    #[cold]
+    #[inline(never)]
+    fn put_across(&mut self, at: u32, bytes: &[u8])
+        requires { at + length bytes.now ≤ length self.old }
+        ensures { self.new ≡ with_bytes_at self.old at bytes.now }
+    {
+        let at = at as usize;
+        let mut done = 0;
+        while done < bytes.len() {
+            let count = piece(at + done, bytes.len() - done);
+            self.put_in_page(at + done, &bytes[done..done + count]);
+            done += count;
+        }
+    }
+
     /// Writes bytes over those from a place on.
-    #[tactic(auto, unfolding(crate::specs::Segment::up_to, crate::specs::Segment::IsPadded))]
     pub fn put(&mut self, at: u32, bytes: &[u8])
         requires { at + length bytes.now ≤ length self.old }
         ensures value { self.new ≡ with_bytes_at self.old at bytes.now }
         ensures limit { length self.new ≡ length self.old }
     {
-        overwrite(self.bytes.as_mut_slice(), at as usize, bytes);
+        let place = at as usize;
+        if !bytes.is_empty() && bytes.len() <= PAGE - place % PAGE {
+            self.put_in_page(place, bytes);
+        } else {
+            self.put_across(at, bytes);
+        }
     }
 }

@@ -159,13 +159,15 @@ fn processes(rt: &impl Abort, alloc: Global, used: u8, calls: u32) -> Result<Tab
 }
 
 fn write_words(image: &mut Image, words: &[u32; 6]) {
-    for (place, word) in (516..540).step_by(4).zip(words.iter()) {
+    let buffer = image.register(Register::Ebx);
+    let places = buffer.saturating_add(4)..buffer.saturating_add(28);
+    for (place, word) in places.step_by(4).zip(words.iter()) {
         let _ = image.memory.write(place, Size::Dword, *word);
     }
 }
 
-/// A ready process makes a kernel call.
-fn make_call(rt: &impl Abort, table: &mut Table, slot: Slot, words: &[u32; 6]) -> After {
+/// A ready process makes a kernel call by the buffer that its EBX names.
+pub(crate) fn make_call(rt: &impl Abort, table: &mut Table, slot: Slot, words: &[u32; 6]) -> After {
     assert!(rt; slot < table.used());
     assert!(rt; table.process(slot).state.is_ready());
     dequeue(table, slot);
@@ -179,7 +181,7 @@ fn make_call(rt: &impl Abort, table: &mut Table, slot: Slot, words: &[u32; 6]) -
 }
 
 /// A ready process sends to an endpoint, or receives from it.
-fn make_trap(rt: &impl Abort, table: &mut Table, slot: Slot, sends: bool, named: u32) {
+pub(crate) fn make_trap(rt: &impl Abort, table: &mut Table, slot: Slot, sends: bool, named: u32) {
     assert!(rt; slot < table.used());
     assert!(rt; table.process(slot).state.is_ready());
     dequeue(table, slot);

@@ -14,6 +14,8 @@ mod events;
 #[cfg(test)]
 mod files;
 #[cfg(test)]
+mod pages;
+#[cfg(test)]
 mod printing;
 #[cfg(test)]
 mod starting;

@@ -17,7 +17,11 @@ use std::test::Fail;
 struct Row {
     /// The code is the data segment itself.
     shared: bool,
+    /// Where the run begins, and the text of its own too.
+    eip: u32,
     text: &'static [u8],
+    /// The data segment's limit.
+    limit: u32,
     memory: &'static [(u32, u8)],
     words: [u32; 8],
     flags: u32,
@@ -51,7 +55,9 @@ const LIMIT: u32 = 0x1000;
 /// A row that begins with zeros and makes one step without a fault.
 const ROW: Row = Row {
     shared: false,
+    eip: 0,
     text: b"",
+    limit: LIMIT,
     memory: &[],
     words: [0; 8],
     flags: 0,
@@ -648,6 +654,148 @@ static PATCHES: [Row; 9] = [
     },
 ];
 
+/// A row whose data has three pages.
+const PAGES: Row = Row {
+    limit: 0x3000,
+    ..ROW
+};
+
+/// REP MOVSD of three dwords at FFA to 1FF9.
+const DWORDS: Row = Row {
+    text: b"\xF3\xA5",
+    limit: 0x3000,
+    memory: &[
+        (0xFFA, 1),
+        (0xFFB, 2),
+        (0xFFC, 3),
+        (0xFFD, 4),
+        (0xFFE, 5),
+        (0xFFF, 6),
+        (0x1000, 7),
+        (0x1001, 8),
+        (0x1002, 9),
+        (0x1003, 10),
+        (0x1004, 11),
+        (0x1005, 12),
+    ],
+    budget: 3,
+    count: 3,
+    eip_after: 2,
+    memory_after: &[
+        (0xFFA, 1),
+        (0xFFB, 2),
+        (0xFFC, 3),
+        (0xFFD, 4),
+        (0xFFE, 5),
+        (0xFFF, 6),
+        (0x1000, 7),
+        (0x1001, 8),
+        (0x1002, 9),
+        (0x1003, 10),
+        (0x1004, 11),
+        (0x1005, 12),
+        (0x1FF9, 1),
+        (0x1FFA, 2),
+        (0x1FFB, 3),
+        (0x1FFC, 4),
+        (0x1FFD, 5),
+        (0x1FFE, 6),
+        (0x1FFF, 7),
+        (0x2000, 8),
+        (0x2001, 9),
+        (0x2002, 10),
+        (0x2003, 11),
+        (0x2004, 12),
+    ],
+    ..ROW
+};
+
+/// Data and code on both sides of a page's end.
+static BOUNDARIES: [Row; 7] = [
+    Row {
+        text: b"\xA3\xFE\x0F\x00\x00",
+        words: [0x4030201, 0, 0, 0, 0, 0, 0, 0],
+        words_after: [0x4030201, 0, 0, 0, 0, 0, 0, 0],
+        eip_after: 5,
+        memory_after: &[(0xFFE, 1), (0xFFF, 2), (0x1000, 3), (0x1001, 4)],
+        ..PAGES
+    },
+    // the same where the page's end is the limit
+    Row {
+        text: b"\xA3\xFE\x0F\x00\x00",
+        words: [0x4030201, 0, 0, 0, 0, 0, 0, 0],
+        stop: Stop::Fault(13),
+        words_after: [0x4030201, 0, 0, 0, 0, 0, 0, 0],
+        ..ROW
+    },
+    // PUSH EAX and POP ECX
+    Row {
+        text: b"\x50\x59",
+        words: [0x4030201, 0, 0, 0, 0x1003, 0, 0, 0],
+        budget: 2,
+        count: 2,
+        words_after: [0x4030201, 0x4030201, 0, 0, 0x1003, 0, 0, 0],
+        eip_after: 2,
+        memory_after: &[(0xFFF, 1), (0x1000, 2), (0x1001, 3), (0x1002, 4)],
+        ..PAGES
+    },
+    // REP MOVSD of three, up and down
+    Row {
+        words: [0, 3, 0, 0, 0, 0, 0xFFA, 0x1FF9],
+        words_after: [0, 0, 0, 0, 0, 0, 0x1006, 0x2005],
+        ..DWORDS
+    },
+    Row {
+        words: [0, 3, 0, 0, 0, 0, 0x1002, 0x2001],
+        flags: DOWN,
+        words_after: [0, 0, 0, 0, 0, 0, 0xFF6, 0x1FF5],
+        flags_after: ONES + DOWN,
+        ..DWORDS
+    },
+    // MOV EAX, 5 over the end, INC EAX and a jump back, twice
+    Row {
+        eip: 0xFFE,
+        text: b"\xB8\x05\x00\x00\x00\x40\xEB\xF8",
+        budget: 6,
+        count: 6,
+        words_after: [6, 0, 0, 0, 0, 0, 0, 0],
+        eip_after: 0xFFE,
+        flags_after: ONES + PARITY,
+        ..ROW
+    },
+    // MOV EAX, 5 over the end, MOV BYTE [1000], 7 and a jump back, after which it is MOV EAX, 705
+    Row {
+        shared: true,
+        eip: 0xFFE,
+        memory: &[
+            (0xFFE, 0xB8),
+            (0xFFF, 0x05),
+            (0x1003, 0xC6),
+            (0x1004, 0x05),
+            (0x1006, 0x10),
+            (0x1009, 0x07),
+            (0x100A, 0xEB),
+            (0x100B, 0xF2),
+        ],
+        budget: 4,
+        count: 4,
+        words_after: [0x705, 0, 0, 0, 0, 0, 0, 0],
+        eip_after: 0x1003,
+        memory_after: &[
+            (0xFFE, 0xB8),
+            (0xFFF, 0x05),
+            (0x1000, 0x07),
+            (0x1003, 0xC6),
+            (0x1004, 0x05),
+            (0x1006, 0x10),
+            (0x1009, 0x07),
+            (0x100A, 0xEB),
+            (0x100B, 0xF2),
+        ],
+        ..PAGES
+    },
+];
+
 fn segment_of(alloc: Global, limit: u32, bytes: &[(u32, u8)]) -> Result<Segment, Fail> {
     let mut segment = Segment::new(alloc, limit)?;
     for (at, byte) in bytes {
@@ -661,8 +809,9 @@ fn code_of(alloc: Global, row: &Row) -> Result<Code, Fail> {
     if row.shared {
         return Ok(Code::Shared);
     }
-    let mut text = Segment::new(alloc, u32::try_from(row.text.len())?)?;
-    text.fill_from(0, row.text)?;
+    let limit = row.eip.saturating_add(u32::try_from(row.text.len())?);
+    let mut text = Segment::new(alloc, limit)?;
+    text.fill_from(row.eip, row.text)?;
     Ok(Code::Separate(TextSegment::new(text)))
 }
 
@@ -674,12 +823,12 @@ fn regs_of(words: &[u32; 8]) -> Regs {
     regs
 }
 
-/// What a row begins with, at address 0.
+/// What a row begins with.
 fn image_of(alloc: Global, row: &Row) -> Result<Image, Fail> {
-    let memory = segment_of(alloc, LIMIT, row.memory)?;
+    let memory = segment_of(alloc, row.limit, row.memory)?;
     Ok(Image {
         regs: regs_of(&row.words),
-        eip: 0,
+        eip: row.eip,
         flags: Flags::from_bits(row.flags),
         memory,
         code: code_of(alloc, row)?,
@@ -698,7 +847,7 @@ fn is_left<R: Runs>(machine: &R, memory: &Segment, row: &Row) -> bool {
     for (register, word) in REGISTERS.iter().zip(&row.words_after) {
         is_same = is_same && machine.reg(*register) == *word;
     }
-    for at in 0..=LIMIT {
+    for at in 0..=row.limit {
         is_same = is_same && machine.byte(at) == memory.get(at);
     }
     is_same
@@ -716,7 +865,7 @@ fn is_run(image: &mut Image, cache: Option<&mut Cache>, row: &Row) -> bool {
 
 fn is_worked(alloc: Global, cache: Option<&mut Cache>, row: &Row) -> Result<bool, Fail> {
     let mut image = image_of(alloc, row)?;
-    let memory = segment_of(alloc, LIMIT, row.memory_after)?;
+    let memory = segment_of(alloc, row.limit, row.memory_after)?;
     Ok(is_run(&mut image, cache, row) && is_left(&image, &memory, row))
 }
 
@@ -739,6 +888,7 @@ fn worked_rows(rt: HostRuntime) -> Result<(), Fail> {
     work_all(&rt, rt.alloc(), &mut cache, &STRINGS)?;
     work_all(&rt, rt.alloc(), &mut cache, &FAULTS)?;
     work_all(&rt, rt.alloc(), &mut cache, &PATCHES)?;
+    work_all(&rt, rt.alloc(), &mut cache, &BOUNDARIES)?;
     runs_join();
     Ok(())
 }

@@ -26,6 +26,8 @@ mod operand;
 #[cfg(test)]
 mod reading;
 #[cfg(test)]
+mod segment;
+#[cfg(test)]
 mod statement;
 #[cfg(test)]
 mod words;
