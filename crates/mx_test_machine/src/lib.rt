@@ -17,6 +17,8 @@ mod files;
 #[cfg(test)]
 mod printing;
 #[cfg(test)]
+mod queues;
+#[cfg(test)]
 mod starting;
 #[cfg(test)]
 mod tables;
