@@ -22,7 +22,7 @@ due_after uptime delay = if delay == 0 then None else Some (uptime + delay)
 -- the ticks that an alarm has left, 0 where none stands
 abbrev pub ticks_left : ℕ → Option ℕ → ℕ
 ticks_left uptime None = 0
-ticks_left uptime (Some due) = (due - uptime) % 2 ^ 32
+ticks_left uptime (Some due) = due - uptime
 
 -- WHAT EACH CALL CHANGES
 abbrev pub table_after_change : TableState → ℕ → KernelCall → TableState

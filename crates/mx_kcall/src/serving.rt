@@ -1,6 +1,6 @@
 //! What kernel calls do.
 
-ghost use Rattle.std.specs.Prelude.{◌≡◌, ◌≢◌, ℕ, ◌+◌, ◌<◌, ◌≤◌, ◌^◌, ◌==◌, false, Some, None, length};
+ghost use Rattle.std.specs.Prelude.{◌≡◌, ◌≢◌, ℕ, ◌+◌, ◌<◌, ◌≤◌, ◌^◌, ◌==◌, false, Some, None, IfSome, length};
 ghost use Rattle.mx_proc.specs.Frame.{frame};
 ghost use Rattle.mx_proc.specs.Sound.{HasBuffer, NoneComesHome};
 ghost use Rattle.mx_proc.specs.TableState.{process_at};
@@ -17,7 +17,8 @@ use mx_respawn::die;
 
 /// When an alarm rings that is set for a delay; never where that is 0.
 fn due_after(uptime: u32, delay: u32) -> Option<u64>
-    ensures { result ≡ due_after uptime delay }
+    ensures value { result ≡ due_after uptime delay }
+    ensures bound { IfSome result (λ due. due < uptime + 2 ^ 32) }
 {
     if delay == 0 {
         None
@@ -28,10 +29,11 @@ fn due_after(uptime: u32, delay: u32) -> Option<u64>
 
 /// The ticks that an alarm has left, 0 where none stands.
 fn ticks_left(uptime: u32, alarm: Option<u64>) -> u32
+    requires { IfSome alarm (λ due. due < uptime + 2 ^ 32) }
     ensures { result ≡ ticks_left uptime alarm }
 {
     match alarm {
-        Some(due) => (due.saturating_sub(u64::from(uptime)) % 0x1_0000_0000) as u32,
+        Some(due) => due.saturating_sub(u64::from(uptime)) as u32,
         None => 0,
     }
 }

@@ -1,5 +1,9 @@
 pub mod ListLemmas
 pub mod WaitLemmas
+pub mod ChainLemmas
+pub mod LinkLemmas
+pub mod ReadyLemmas
+pub mod CallerLemmas
 pub mod SoundLemmas
 pub mod TableLemmas
 pub mod FrameLemmas

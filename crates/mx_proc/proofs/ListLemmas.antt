@@ -1,6 +1,8 @@
-use Rattle.std.proofs.Common.{◌≡◌, ◌≢◌, ℕ, zero, suc, ◌+◌, ◌<◌, ◌≤◌, ◌==◌, ◌⊎◌, inl, inr, nat_lt, Bool, true, List, [], ◌∷◌, ◌++◌, length, get_or, slice_set, refl, sym, ap, ◌∙◌, arith, zero-add, get_or-set_same, get_or-set_other, subst}
+use Rattle.std.proofs.Common.{◌≡◌, ◌≢◌, ℕ, zero, suc, ◌+◌, ◌<◌, ◌≤◌, ◌==◌, ◌⊎◌, inl, inr, nat_lt, List, [], ◌∷◌, ◌++◌, length, get_or, slice_set, replicate, refl, sym, ap, ◌∙◌, arith, zero-add, get_or-set_same, get_or-set_other, subst}
+use Rattle.std.proofs.lemmas.List.{get_or-replicate, length-replicate}
+use Rattle.std.proofs.Math.ListN.{get_or-eq_default}
 use Rattle.std.proofs.lemmas.Bool.{cases_eq, cases_lt, eq-eqb, ne_eqb, lt-ltb, le-ltb}
-use Rattle.mx_proc.specs.Queues.{tally, times, without, list_at, AreSlots}
+use Rattle.mx_proc.specs.Queues.{tally, times, without, list_at}
 
 pub tally-same : (a b : ℕ) → a ≡ b → tally (a == b) ≡ 1
 tally-same a b e = ap tally (eq-eqb a b e)
@@ -91,27 +93,9 @@ get_or-any [] i d e h = absurd (omega arith)
 get_or-any (x ∷ xs) zero d e h = refl
 get_or-any (x ∷ xs) (suc i) d e h = get_or-any xs i d e (omega arith)
 
-pub AreSlots-set : (lists : List (List ℕ)) (level : ℕ) (xs : List ℕ) → AreSlots lists → level < length lists → ((t : ℕ) → times t xs ≤ tally (nat_lt t 32)) → AreSlots (slice_set lists level xs)
-AreSlots-set lists level xs h b new t at = elim (list_at-cases lists level at xs b) [
-  | inl e ↦ subst (λ l. times t l ≤ tally (nat_lt t 32)) (sym e.1) (new t)
-  | inr e ↦ subst (λ l. times t l ≤ tally (nat_lt t 32)) (sym e.1) (h t at)
-]
-
-one_more : (b c : Bool) (s t n : ℕ) → n ≤ tally (nat_lt t 32) → s < 32 → (s ≡ t → n ≡ 0) → tally (s == t) + n ≤ tally (nat_lt t 32)
-one_more b c s t n h b' z = elim (cases_eq s t) [
-  | inl e ↦ let lt : t < 32 = omega arith in let k = lt-ltb t 32 lt in omega (arith, tally-same s t e, z e, ap tally k)
-  | inr m ↦ omega (arith, tally-other s t m)
-]
-
--- one more slot that wasn't there
-pub below_front : (s : ℕ) (xs : List ℕ) → ((t : ℕ) → times t xs ≤ tally (nat_lt t 32)) → s < 32 → times s xs ≡ 0 → (t : ℕ) → times t (s ∷ xs) ≤ tally (nat_lt t 32)
-below_front s xs h b z t = one_more true true s t (times t xs) (h t) b (λ e. subst (λ k. times k xs ≡ 0) e z)
-
-pub below_end : (s : ℕ) (xs : List ℕ) → ((t : ℕ) → times t xs ≤ tally (nat_lt t 32)) → s < 32 → times s xs ≡ 0 → (t : ℕ) → times t (xs ++ s ∷ []) ≤ tally (nat_lt t 32)
-below_end s xs h b z t = subst (λ n. n ≤ tally (nat_lt t 32)) (sym (times-push t s xs)) (below_front s xs h b z t)
-
-pub below_without : (s : ℕ) (xs : List ℕ) → ((t : ℕ) → times t xs ≤ tally (nat_lt t 32)) → (t : ℕ) → times t (without s xs) ≤ tally (nat_lt t 32)
-below_without s xs h t = elim (cases_eq t s) [
-  | inl e ↦ subst (λ k. times k (without s xs) ≤ tally (nat_lt k 32)) (sym e) (omega (arith, times-without_same s xs))
-  | inr m ↦ subst (λ n. n ≤ tally (nat_lt t 32)) (sym (times-without_other s t xs m)) (h t)
+-- of equal items each is the item, and so is what stands behind them
+pub all_same : (X : Type 0) (n i : ℕ) (x : X) → get_or (replicate n x) i x ≡ x
+all_same X n i x = elim (cases_lt i n) [
+  | inl lt ↦ get_or-replicate n i x x lt
+  | inr ge ↦ get_or-eq_default (replicate n x) x (subst (λ k. k ≤ i) (sym (length-replicate n x)) ge)
 ]

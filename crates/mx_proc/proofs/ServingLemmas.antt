@@ -1,11 +1,11 @@
-use Rattle.std.proofs.Common.{◌≡◌, ℕ, ◌+◌, ◌-◌, ◌<◌, ◌≤◌, ◌==◌, Bool, true, false, cond, map, List, [], ◌∷◌, ◌++◌, length, get_or, slice_set, take, drop, Option, Some, None, IfSome, refl, sym, ap, ◌∙◌, subst, arith, inl, inr, length-set, get_or-set_same, get_or-set_other}
+use Rattle.std.proofs.Common.{◌≡◌, ℕ, ◌+◌, ◌-◌, ◌^◌, ◌<◌, ◌≤◌, ◌==◌, Bool, true, false, cond, map, List, [], ◌∷◌, ◌++◌, length, get_or, slice_set, take, drop, Option, Some, None, IfSome, refl, sym, ap, ◌∙◌, subst, arith, inl, inr, length-set, get_or-set_same, get_or-set_other}
 use Rattle.std.proofs.lemmas.List.{length-map, get_or-map, get_or-append_right, set-append_left, set-append_right, length-append, length-take, length-drop}
 use Rattle.std.proofs.lemmas.Bool.{cases_lt, cases_eq}
 use Rattle.std.proofs.Math.ListN.{get_or-eq_default, get_or-append}
 use Rattle.mx_proc.proofs.ListLemmas.{get_or-any}
 use Rattle.mx_proc.specs.declared.process.Process.{Process}
 use Rattle.mx_proc.specs.declared.devices.Devices.{Devices}
-use Rattle.mx_proc.specs.TableState.{TableState, nobody}
+use Rattle.mx_proc.specs.TableState.{TableState, nobody, process_at}
 use Rattle.mx_proc.specs.Frame.{FixedOfProcess, Frame, fixed_of, loan_of, frame}
 use Rattle.mx_proc.specs.Sound.{Sound, Stands}
 use Rattle.std.proofs.Math.Seq.{take-append_seam}
@@ -28,8 +28,35 @@ clocked w n t v = ap (λ (x : TableState). let f : Frame = record (frame x) { up
 pub redeviced : (w : TableState) (d : Devices) → Sound w → length d.owners ≡ 16 → ((line : ℕ) → IfSome (get_or d.owners line None) (λ s. s < length w.slots)) → Sound (record w { devices = d })
 redeviced w d h n o = record { few = h.few; lists = h.lists; idle = h.idle; each = h.each; named = h.named; acyclic = h.acyclic; lines = n; owned = o }
 
-pub reclocked : (w : TableState) (t : ℕ) → Sound w → Sound (record w { uptime = t })
-reclocked w t h = record { few = h.few; lists = h.lists; idle = h.idle; each = h.each; named = h.named; acyclic = h.acyclic; lines = h.lines; owned = h.owned }
+-- what rings before a time rings before a later one
+due_before : (o : Option ℕ) (t u n : ℕ) → t ≤ u → IfSome o (λ due. due < t + n) → IfSome o (λ due. due < u + n)
+due_before None t u n b h = _
+due_before (Some due) t u n b h = omega (arith, h)
+
+pub reclocked : (w : TableState) (t : ℕ) → w.uptime ≤ t → Sound w → Sound (record w { uptime = t })
+reclocked w t b h = record {
+  few = h.few;
+  lists = h.lists;
+  idle = h.idle;
+  each = λ s. let k = h.each s in record {
+    listed = k.listed;
+    waiting = k.waiting;
+    process = record {
+      level = k.process.level;
+      best = k.process.best;
+      quantum = k.process.quantum;
+      ticks = k.process.ticks;
+      generation = k.process.generation;
+      pending = k.process.pending;
+      alarm = due_before (process_at w s).alarm w.uptime t (2 ^ 32) b k.process.alarm;
+      buffer = k.process.buffer;
+    };
+  };
+  named = h.named;
+  acyclic = h.acyclic;
+  lines = h.lines;
+  owned = h.owned;
+}
 
 -- a line's owner is another
 pub owned_by : (owners : List (Option ℕ)) (line n : ℕ) (o : Option ℕ) → IfSome o (λ s. s < n) → ((l : ℕ) → IfSome (get_or owners l None) (λ s. s < n)) → (l : ℕ) → IfSome (get_or (slice_set owners line o) l None) (λ s. s < n)
@@ -68,7 +95,7 @@ forgotten_sound w s h = let used : length (map (without_bit_of s) w.slots) ≡ l
   lines = length-map w.devices.owners (owner_but s) ∙ h.lines;
   owned = λ l. subst (λ n. IfSome (get_or (map (owner_but s) w.devices.owners) l None) (λ t. t < n)) (sym used) (owned_but w.devices.owners s (length w.slots) h.owned l);
   each = λ t. elim (cases_lt t (length w.slots)) [
-    | inl lt ↦ let k = h.each t in subst (λ q. Stands q w.ready w.waits t) (sym (get_or-map (without_bit_of s) w.slots t nobody nobody lt)) (record {
+    | inl lt ↦ let k = h.each t in subst (λ q. Stands q w.ready w.waits w.uptime t) (sym (get_or-map (without_bit_of s) w.slots t nobody nobody lt)) (record {
       listed = k.listed;
       waiting = k.waiting;
       process = record {
@@ -78,10 +105,11 @@ forgotten_sound w s h = let used : length (map (without_bit_of s) w.slots) ≡ l
         generation = k.process.generation;
         ticks = k.process.ticks;
         pending = length-set _ _ _ ∙ k.process.pending;
+        alarm = k.process.alarm;
         buffer = k.process.buffer;
       };
     })
-    | inr ge ↦ subst (λ q. Stands q w.ready w.waits t) (get_or-eq_default w.slots nobody ge ∙ sym (get_or-eq_default (map (without_bit_of s) w.slots) nobody (omega (arith, used)))) (h.each t)
+    | inr ge ↦ subst (λ q. Stands q w.ready w.waits w.uptime t) (get_or-eq_default w.slots nobody ge ∙ sym (get_or-eq_default (map (without_bit_of s) w.slots) nobody (omega (arith, used)))) (h.each t)
   ];
 }
 
@@ -149,6 +177,7 @@ copied_sound w n s at bytes ps v h b room e =
       generation = refl;
       ticks = refl;
       pending = refl;
+      alarm = refl;
       buffer = refl;
       memory = length-overwritten q.image.memory at bytes room;
     }))

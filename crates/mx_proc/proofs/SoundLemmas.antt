@@ -1,6 +1,5 @@
-use Rattle.std.proofs.Common.{suc, replicate, lit<, ◌≡◌, ◌≢◌, ℕ, ◌+◌, ◌<◌, ◌≤◌, ◌==◌, inl, inr, nat_lt, Bool, true, false, cond, List, [], ◌∷◌, ◌++◌, length, get_or, slice_set, refl, sym, ap, ◌∙◌, arith, subst, zero-add, map, length-set, get_or-set_same, get_or-set_other, Option, Some, None, IfSome, length-append}
-use Rattle.std.proofs.lemmas.Bool.{cases_Bool, cases_eq, cases_lt, lt-ltb, eq-eqb, ne_eqb}
-use Rattle.std.proofs.lemmas.List.{get_or-replicate, length-replicate}
+use Rattle.std.proofs.Common.{suc, replicate, lit<, ◌≡◌, ◌≢◌, ℕ, ◌+◌, ◌<◌, ◌≤◌, ◌==◌, inl, inr, Bool, true, false, cond, List, [], ◌∷◌, ◌++◌, length, get_or, slice_set, refl, sym, ap, ◌∙◌, arith, subst, length-set, get_or-set_same, get_or-set_other, Option, Some, None, IfSome, length-append}
+use Rattle.std.proofs.lemmas.Bool.{cases_Bool, cases_eq, cases_lt}
 use Rattle.std.proofs.Math.ListN.{get_or-eq_default, get_or-append}
 use Rattle.std.proofs.Math.Seq.{get_or-append_seam}
 use Rattle.mx_proc.specs.declared.process.Process.{Process}
@@ -13,8 +12,8 @@ use Rattle.mx_proc.specs.Devices.{no_devices}
 use Rattle.mx_proc.specs.Waits.{sends_of, without_from, IsPair, Reaches, one_pair, and_then, Acyclic}
 use Rattle.mx_proc.specs.TableState.{TableState, nobody, process_at, with_process}
 use Rattle.mx_proc.specs.Sound.{Stands, Sound, IsProcess, belongs}
-use Rattle.mx_proc.proofs.ListLemmas.{has_room, tally-same, tally-other, times-push, times-without_same, times-without_other, list_at-cases}
-use Rattle.mx_proc.proofs.WaitLemmas.{acyclic_push, acyclic_without, pair_push, pair_without}
+use Rattle.mx_proc.proofs.ListLemmas.{all_same, tally-same, tally-other, times-push, times-without_same, times-without_other, list_at-cases}
+use Rattle.mx_proc.proofs.WaitLemmas.{acyclic_push, acyclic_without, pair_push, pair_without, sends-push, sends-without_same, sends-without_other}
 
 pub process-same : (w w' : TableState) (s : ℕ) (p : Process) → s < length w.slots → w'.slots ≡ slice_set w.slots s p → process_at w' s ≡ p
 process-same w w' s p b e = ap (λ x. get_or x s nobody) e ∙ get_or-set_same w.slots s p nobody b
@@ -28,7 +27,7 @@ pub record Change (w w' : TableState) (s : ℕ) (p : Process) : Type 0 where
   pub rest : (t : ℕ) → t ≢ s → process_at w' t ≡ process_at w t
   pub grows : length w.slots ≤ length w'.slots
   pub few : length w'.slots ≤ 32
-  pub process : IsProcess p
+  pub process : IsProcess w.uptime p
   pub lists : length w'.ready ≡ 16
   pub idle : list_at w'.ready 15 ≡ []
   pub listed : (l : ℕ) → times s (list_at w'.ready l) ≡ belongs p l
@@ -38,6 +37,7 @@ pub record Change (w w' : TableState) (s : ℕ) (p : Process) : Type 0 where
   pub named : (p q : ℕ) → IsPair w'.waits p q → q < length w.slots
   pub acyclic : Acyclic w'.waits
   pub devices : w'.devices ≡ w.devices
+  pub uptime : w'.uptime ≡ w.uptime
 
 owned-more : (o : Option ℕ) (n m : ℕ) → n ≤ m → IfSome o (λ s. s < n) → IfSome o (λ s. s < m)
 owned-more None n m b h = _
@@ -54,15 +54,15 @@ changed w w' s p h c = record {
   lines = ap (λ (d : Devices). length d.owners) c.devices ∙ h.lines;
   owned = λ l. owned-more (get_or w'.devices.owners l None) (length w.slots) (length w'.slots) c.grows (subst (λ (d : Devices). IfSome (get_or d.owners l None) (λ s. s < length w.slots)) (sym c.devices) (h.owned l));
   each = λ t. elim (cases_eq t s) [
-    | inl e ↦ subst (λ x. Stands (process_at w' x) w'.ready w'.waits x) (sym e) (subst (λ q. Stands q w'.ready w'.waits s) (sym c.same)
-        (record { listed = c.listed; waiting = c.waiting; process = c.process }))
-    | inr n ↦ let k = h.each t in subst (λ q. Stands q w'.ready w'.waits t) (sym (c.rest t n))
-        (record { listed = λ l. c.others t l n ∙ k.listed l; waiting = c.waits t n ∙ k.waiting; process = k.process })
+    | inl e ↦ subst (λ x. Stands (process_at w' x) w'.ready w'.waits w'.uptime x) (sym e) (subst (λ q. Stands q w'.ready w'.waits w'.uptime s) (sym c.same)
+        (record { listed = c.listed; waiting = c.waiting; process = subst (λ u. IsProcess u p) (sym c.uptime) c.process }))
+    | inr n ↦ let k = h.each t in subst (λ q. Stands q w'.ready w'.waits w'.uptime t) (sym (c.rest t n))
+        (record { listed = λ l. c.others t l n ∙ k.listed l; waiting = c.waits t n ∙ k.waiting; process = subst (λ u. IsProcess u (process_at w t)) (sym c.uptime) k.process })
   ];
 }
 
 -- a change of a process that stays where it stands
-pub stays : (w : TableState) (s : ℕ) (p : Process) → Sound w → s < length w.slots → p.state ≡ (process_at w s).state → p.level ≡ (process_at w s).level → IsProcess p → Sound (with_process w s p)
+pub stays : (w : TableState) (s : ℕ) (p : Process) → Sound w → s < length w.slots → p.state ≡ (process_at w s).state → p.level ≡ (process_at w s).level → IsProcess w.uptime p → Sound (with_process w s p)
 stays w s p h b st lv k = changed w (with_process w s p) s p h (record {
   same = process-same w (with_process w s p) s p b refl;
   rest = λ t n. process-other w (with_process w s p) s t p n refl;
@@ -78,6 +78,7 @@ stays w s p h b st lv k = changed w (with_process w s p) s p h (record {
   named = h.named;
   acyclic = h.acyclic;
   devices = refl;
+  uptime = refl;
 })
 
 -- a process that is in no queue stands in none
@@ -88,7 +89,7 @@ pub alone_waiting : (w : TableState) (s : ℕ) → Sound w → is_sending (proce
 alone_waiting w s h q = (h.each s).waiting ∙ ap tally q
 
 -- a change of a process that is in no queue, and stays in none
-pub alone : (w : TableState) (s : ℕ) (p : Process) → Sound w → s < length w.slots → IsAlone (process_at w s).state → IsAlone p.state → IsProcess p → Sound (with_process w s p)
+pub alone : (w : TableState) (s : ℕ) (p : Process) → Sound w → s < length w.slots → IsAlone (process_at w s).state → IsAlone p.state → IsProcess w.uptime p → Sound (with_process w s p)
 alone w s p h b o n k = changed w (with_process w s p) s p h (record {
   same = process-same w (with_process w s p) s p b refl;
   rest = λ t n. process-other w (with_process w s p) s t p n refl;
@@ -104,12 +105,13 @@ alone w s p h b o n k = changed w (with_process w s p) s p h (record {
   named = h.named;
   acyclic = h.acyclic;
   devices = refl;
+  uptime = refl;
 })
 
 -- a process, also one that is new, is put into the list of a level
-placed_at : (w w' : TableState) (s level : ℕ) (list : List ℕ) (p : Process) → Sound w → process_at w' s ≡ p → ((t : ℕ) → t ≢ s → process_at w' t ≡ process_at w t) → length w.slots ≤ length w'.slots → length w'.slots ≤ 32 → IsAlone (process_at w s).state → level ≤ 14 → p.level ≡ level → p.state ≡ Ready → IsProcess p
-    → w'.ready ≡ slice_set w.ready level list → w'.waits ≡ w.waits → w'.devices ≡ w.devices → ((t : ℕ) → times t list ≡ tally (s == t) + times t (list_at w.ready level)) → Sound w'
-placed_at w w' s level list p h same rest grows few o low at st k r v d counts = changed w w' s p h (record {
+placed_at : (w w' : TableState) (s level : ℕ) (list : List ℕ) (p : Process) → Sound w → process_at w' s ≡ p → ((t : ℕ) → t ≢ s → process_at w' t ≡ process_at w t) → length w.slots ≤ length w'.slots → length w'.slots ≤ 32 → IsAlone (process_at w s).state → level ≤ 14 → p.level ≡ level → p.state ≡ Ready → IsProcess w.uptime p
+    → w'.ready ≡ slice_set w.ready level list → w'.waits ≡ w.waits → w'.devices ≡ w.devices → w'.uptime ≡ w.uptime → ((t : ℕ) → times t list ≡ tally (s == t) + times t (list_at w.ready level)) → Sound w'
+placed_at w w' s level list p h same rest grows few o low at st k r v d u counts = changed w w' s p h (record {
   same = same;
   rest = rest;
   grows = grows;
@@ -133,6 +135,7 @@ placed_at w w' s level list p h same rest grows few o low at st k r v d counts =
   named = λ p q m. h.named p q (subst (λ x. IsPair x p q) v m);
   acyclic = subst Acyclic (sym v) h.acyclic;
   devices = d;
+  uptime = u;
 })
   where
     here : (l : ℕ) → l ≡ level → belongs p l ≡ 1
@@ -142,22 +145,22 @@ placed_at w w' s level list p h same rest grows few o low at st k r v d counts =
     there l x = ap (λ st. cond (is_ready st) (tally (p.level == l)) 0) st ∙ tally-other p.level l (λ e. x (sym e ∙ at))
 
 -- a process that is in no queue is put into the list of a level
-pub placed : (w w' : TableState) (s level : ℕ) (list : List ℕ) (p : Process) → Sound w → s < length w.slots → IsAlone (process_at w s).state → level ≤ 14 → p.level ≡ level → p.state ≡ Ready → IsProcess p
-    → w'.slots ≡ slice_set w.slots s p → w'.ready ≡ slice_set w.ready level list → w'.waits ≡ w.waits → w'.devices ≡ w.devices → ((t : ℕ) → times t list ≡ tally (s == t) + times t (list_at w.ready level)) → Sound w'
-placed w w' s level list p h b o low at st k e r v d counts =
-    placed_at w w' s level list p h (process-same w w' s p b e) (λ t n. process-other w w' s t p n e) (omega (arith, ap length e, length-set w.slots s p)) (omega (arith, ap length e, length-set w.slots s p, h.few)) o low at st k r v d counts
+pub placed : (w w' : TableState) (s level : ℕ) (list : List ℕ) (p : Process) → Sound w → s < length w.slots → IsAlone (process_at w s).state → level ≤ 14 → p.level ≡ level → p.state ≡ Ready → IsProcess w.uptime p
+    → w'.slots ≡ slice_set w.slots s p → w'.ready ≡ slice_set w.ready level list → w'.waits ≡ w.waits → w'.devices ≡ w.devices → w'.uptime ≡ w.uptime → ((t : ℕ) → times t list ≡ tally (s == t) + times t (list_at w.ready level)) → Sound w'
+placed w w' s level list p h b o low at st k e r v d u counts =
+    placed_at w w' s level list p h (process-same w w' s p b e) (λ t n. process-other w w' s t p n e) (omega (arith, ap length e, length-set w.slots s p)) (omega (arith, ap length e, length-set w.slots s p, h.few)) o low at st k r v d u counts
 
 nobody_alone : (w : TableState) (s : ℕ) → length w.slots ≤ s → IsAlone (process_at w s).state
 nobody_alone w s b = subst (λ (p : Process). IsAlone p.state) (sym (get_or-eq_default w.slots nobody b)) (refl, refl)
 
 -- one slot more, in the list of a level
-pub grown : (w w' : TableState) (level : ℕ) (p : Process) → Sound w → length w.slots < 32 → level ≤ 14 → p.level ≡ level → p.state ≡ Ready → IsProcess p
-    → w'.slots ≡ w.slots ++ p ∷ [] → w'.ready ≡ slice_set w.ready level (list_at w.ready level ++ length w.slots ∷ []) → w'.waits ≡ w.waits → w'.devices ≡ w.devices → Sound w'
-grown w w' level p h b low at st k e r v d =
+pub grown : (w w' : TableState) (level : ℕ) (p : Process) → Sound w → length w.slots < 32 → level ≤ 14 → p.level ≡ level → p.state ≡ Ready → IsProcess w.uptime p
+    → w'.slots ≡ w.slots ++ p ∷ [] → w'.ready ≡ slice_set w.ready level (list_at w.ready level ++ length w.slots ∷ []) → w'.waits ≡ w.waits → w'.devices ≡ w.devices → w'.uptime ≡ w.uptime → Sound w'
+grown w w' level p h b low at st k e r v d u =
     let s = length w.slots in
     let more : length w'.slots ≡ s + 1 = ap length e ∙ length-append w.slots (p ∷ []) in
     placed_at w w' s level (list_at w.ready level ++ s ∷ []) p h (ap (λ x. get_or x s nobody) e ∙ get_or-append_seam w.slots p [] nobody) rest (omega arith) (omega arith)
-    (nobody_alone w s (omega arith)) low at st k r v d (λ t. times-push t s (list_at w.ready level))
+    (nobody_alone w s (omega arith)) low at st k r v d u (λ t. times-push t s (list_at w.ready level))
   where
     rest : (t : ℕ) → t ≢ length w.slots → process_at w' t ≡ process_at w t
     rest t n = elim (cases_lt t (length w.slots)) [
@@ -166,13 +169,13 @@ grown w w' level p h b low at st k e r v d =
     ]
 
 -- a new slot stands in no list yet
-pub nobody_listed : (w : TableState) (level : ℕ) → Sound w → times (length w.slots) (list_at w.ready level) ≡ 0
-nobody_listed w level h = alone_listed w (length w.slots) h (nobody_alone w (length w.slots) (omega arith)).0 level
+pub nobody_listed : (w : TableState) → Sound w → InNoList w.ready (length w.slots)
+nobody_listed w h = alone_listed w (length w.slots) h (nobody_alone w (length w.slots) (omega arith)).0
 
 -- a ready process leaves its list
-pub left : (w w' : TableState) (s : ℕ) (p : Process) → Sound w → s < length w.slots → is_ready (process_at w s).state ≡ true → p.state ≡ Home → IsProcess p
-    → w'.slots ≡ slice_set w.slots s p → w'.ready ≡ slice_set w.ready (process_at w s).level (without s (list_at w.ready (process_at w s).level)) → w'.waits ≡ w.waits → w'.devices ≡ w.devices → Sound w'
-left w w' s p h b y st k e r v d =
+pub left : (w w' : TableState) (s : ℕ) (p : Process) → Sound w → s < length w.slots → is_ready (process_at w s).state ≡ true → p.state ≡ Home → IsProcess w.uptime p
+    → w'.slots ≡ slice_set w.slots s p → w'.ready ≡ slice_set w.ready (process_at w s).level (without s (list_at w.ready (process_at w s).level)) → w'.waits ≡ w.waits → w'.devices ≡ w.devices → w'.uptime ≡ w.uptime → Sound w'
+left w w' s p h b y st k e r v d u =
     let level = (process_at w s).level in
     let list = without s (list_at w.ready level) in
     let low : level ≤ 14 = (h.each s).process.level in changed w w' s p h (record {
@@ -199,6 +202,7 @@ left w w' s p h b y st k e r v d =
       named = λ p q m. h.named p q (subst (λ x. IsPair x p q) v m);
       acyclic = subst Acyclic (sym v) h.acyclic;
       devices = d;
+      uptime = u;
     })
   where
     nowhere : (l : ℕ) → belongs p l ≡ 0
@@ -214,24 +218,6 @@ left w w' s p h b y st k e r v d =
     ready_quiet (Receiving x) h = cc
     ready_quiet (Awaiting x) h = cc
     ready_quiet (Down x) h = cc
-
-sends-without_same : (s : ℕ) (ps : List (ℕ × ℕ)) → sends_of s (without_from s ps) ≡ 0
-sends-without_same s [] = refl
-sends-without_same s (x ∷ xs) = elim (cases_eq x.0 s) [
-  | inl e ↦ rw (eq-eqb x.0 s e) (sends-without_same s xs)
-  | inr n ↦ rw (ne_eqb x.0 s n) (rw (ne_eqb x.0 s n) (zero-add _ ∙ sends-without_same s xs))
-]
-
-sends-without_other : (s t : ℕ) (ps : List (ℕ × ℕ)) → t ≢ s → sends_of t (without_from s ps) ≡ sends_of t ps
-sends-without_other s t [] n = refl
-sends-without_other s t (x ∷ xs) n = elim (cases_eq x.0 s) [
-  | inl e ↦ let m : x.0 ≢ t = λ f. n (sym f ∙ e) in rw (eq-eqb x.0 s e) (rw (ne_eqb x.0 t m) (sends-without_other s t xs n ∙ sym (zero-add _)))
-  | inr m ↦ rw (ne_eqb x.0 s m) (ap (λ k. tally (x.0 == t) + k) (sends-without_other s t xs n))
-]
-
-sends-push : (t s d : ℕ) (ps : List (ℕ × ℕ)) → sends_of t (ps ++ (s, d) ∷ []) ≡ tally (s == t) + sends_of t ps
-sends-push t s d [] = refl
-sends-push t s d (x ∷ xs) = omega (arith, sends-push t s d xs)
 
 pub sending_blocked : (st : State) → is_sending st ≡ true → is_blocked st ≡ true
 sending_blocked Sending h = refl
@@ -256,9 +242,9 @@ sending_ready (Awaiting x) h = cc
 sending_ready (Down x) h = cc
 
 -- a sender leaves the blocked sends
-pub freed : (w w' : TableState) (s : ℕ) (p : Process) → Sound w → s < length w.slots → is_sending (process_at w s).state ≡ true → p.state ≡ Home → IsProcess p
-    → w'.slots ≡ slice_set w.slots s p → w'.ready ≡ w.ready → w'.waits ≡ without_from s w.waits → w'.devices ≡ w.devices → Sound w'
-freed w w' s p h b y st k e r v d = changed w w' s p h (record {
+pub freed : (w w' : TableState) (s : ℕ) (p : Process) → Sound w → s < length w.slots → is_sending (process_at w s).state ≡ true → p.state ≡ Home → IsProcess w.uptime p
+    → w'.slots ≡ slice_set w.slots s p → w'.ready ≡ w.ready → w'.waits ≡ without_from s w.waits → w'.devices ≡ w.devices → w'.uptime ≡ w.uptime → Sound w'
+freed w w' s p h b y st k e r v d u = changed w w' s p h (record {
   same = process-same w w' s p b e;
   rest = λ t n. process-other w w' s t p n e;
   grows = omega (arith, ap length e, length-set w.slots s p);
@@ -273,12 +259,13 @@ freed w w' s p h b y st k e r v d = changed w w' s p h (record {
   named = λ p q m. h.named p q (pair_without w.waits s p q (subst (λ x. IsPair x p q) v m));
   acyclic = subst Acyclic (sym v) (acyclic_without w.waits s h.acyclic);
   devices = d;
+  uptime = u;
 })
 
 -- a process that is in no queue waits behind another
-pub waits_for : (w w' : TableState) (s d : ℕ) (p : Process) → Sound w → s < length w.slots → d < length w.slots → s ≢ d → (Reaches w.waits d s → ⊥) → IsAlone (process_at w s).state → is_ready p.state ≡ false → is_sending p.state ≡ true → IsProcess p
-    → w'.slots ≡ slice_set w.slots s p → w'.ready ≡ w.ready → w'.waits ≡ w.waits ++ (s, d) ∷ [] → w'.devices ≡ w.devices → Sound w'
-waits_for w w' s d p h b i apart free o still sends k e r v f = changed w w' s p h (record {
+pub waits_for : (w w' : TableState) (s d : ℕ) (p : Process) → Sound w → s < length w.slots → d < length w.slots → s ≢ d → (Reaches w.waits d s → ⊥) → IsAlone (process_at w s).state → is_ready p.state ≡ false → is_sending p.state ≡ true → IsProcess w.uptime p
+    → w'.slots ≡ slice_set w.slots s p → w'.ready ≡ w.ready → w'.waits ≡ w.waits ++ (s, d) ∷ [] → w'.devices ≡ w.devices → w'.uptime ≡ w.uptime → Sound w'
+waits_for w w' s d p h b i apart free o still sends k e r v f g = changed w w' s p h (record {
   same = process-same w w' s p b e;
   rest = λ t n. process-other w w' s t p n e;
   grows = omega (arith, ap length e, length-set w.slots s p);
@@ -293,15 +280,8 @@ waits_for w w' s d p h b i apart free o still sends k e r v f = changed w w' s p
   named = λ p q m. elim (pair_push w.waits s d p q (subst (λ x. IsPair x p q) v m)) [ inl x ↦ h.named p q x | inr x ↦ subst (λ y. y < length w.slots) x.1 i ];
   acyclic = subst Acyclic (sym v) (acyclic_push w.waits s d h.acyclic (λ u. elim u [ inl e ↦ apart (sym e) | inr x ↦ free x ]));
   devices = f;
+  uptime = g;
 })
-
-sends-times : (t : ℕ) (ps : List (ℕ × ℕ)) → times t (map (λ (p : ℕ × ℕ). p.0) ps) ≡ sends_of t ps
-sends-times t [] = refl
-sends-times t (p ∷ ps) = ap (λ n. tally (p.0 == t) + n) (sends-times t ps)
-
-length-from : (ps : List (ℕ × ℕ)) → length (map (λ (p : ℕ × ℕ). p.0) ps) ≡ length ps
-length-from [] = refl
-length-from (p ∷ ps) = omega (arith, length-from ps)
 
 tally-le : (b : Bool) → tally b ≤ 1
 tally-le true = omega arith
@@ -326,19 +306,6 @@ sender_known w p h m =
       sending,
     )
 
--- room for one more blocked send
-pub waits_room : (w : TableState) (s : ℕ) → Sound w → s < length w.slots → is_sending (process_at w s).state ≡ false → length w.waits < 32
-waits_room w s h b q =
-    let from : List ℕ = map (λ (p : ℕ × ℕ). p.0) w.waits in
-    let most : (t : ℕ) → times t from ≤ tally (nat_lt t 32) = λ t. elim (cases_lt t 32) [
-      | inl lt ↦ rw (lt-ltb t 32 lt) (omega (arith, sends-times t w.waits, sends_once w h t))
-      | inr ge ↦ let e : process_at w t ≡ nobody = get_or-eq_default w.slots nobody (omega (arith, h.few)) in
-          let z : sends_of t w.waits ≡ 0 = (h.each t).waiting ∙ ap (λ p. tally (is_sending p.state)) e in
-          omega (arith, sends-times t w.waits)
-    ] in
-    let shorter : length from < 32 = has_room from s most (omega (arith, h.few)) (sends-times s w.waits ∙ alone_waiting w s h q) in
-    omega (arith, length-from w.waits)
-
 -- who is picked stands in a list
 picked_listed : (lists : List (List ℕ)) (s : ℕ) → first_ready lists ≡ Some s → (level : ℕ) × (1 ≤ times s (list_at lists level))
 picked_listed [] s e = cc
@@ -362,19 +329,12 @@ picked_ready w s h e =
 
 -- ---- a table without processes
 
--- of equal items each is the item, and so is what stands behind them
-all_same : (X : Type 0) (n i : ℕ) (x : X) → get_or (replicate n x) i x ≡ x
-all_same X n i x = elim (cases_lt i n) [
-  | inl lt ↦ get_or-replicate n i x x lt
-  | inr ge ↦ get_or-eq_default (replicate n x) x (subst (λ k. k ≤ i) (sym (length-replicate n x)) ge)
-]
-
 no_chain : (p q : ℕ) → Reaches [] p q → ⊥
 no_chain _ _ (one_pair p q h) = h
 no_chain _ _ (and_then p q r h g) = h
 
-nobody_is : IsProcess nobody
-nobody_is = record { level = omega arith; best = omega arith; quantum = omega arith; ticks = omega arith; generation = lit< tt; pending = refl; buffer = λ m. cc }
+nobody_is : (uptime : ℕ) → IsProcess uptime nobody
+nobody_is uptime = record { level = omega arith; best = omega arith; quantum = omega arith; ticks = omega arith; generation = lit< tt; pending = refl; alarm = _; buffer = λ m. cc }
 
 pub founded : (w : TableState) → w.slots ≡ [] → w.ready ≡ replicate 16 [] → w.waits ≡ [] → w.devices ≡ no_devices → Sound w
 founded w a b d e =
@@ -386,7 +346,7 @@ founded w a b d e =
       each = λ s. record {
         listed = λ l. ap (λ x. times s (list_at x l)) b ∙ ap (times s) (all_same (List ℕ) 16 l []) ∙ sym (ap (λ (p : Process). belongs p l) (absent s));
         waiting = ap (sends_of s) d ∙ sym (ap (λ (p : Process). tally (is_sending p.state)) (absent s));
-        process = subst IsProcess (sym (absent s)) nobody_is;
+        process = subst (IsProcess w.uptime) (sym (absent s)) (nobody_is w.uptime);
       };
       named = λ p q m. absurd (subst (λ x. IsPair x p q) d m);
       acyclic = subst Acyclic (sym d) (λ p. no_chain p p);

@@ -1,21 +1,25 @@
-use Rattle.std.proofs.Common.{◌≡◌, ◌≢◌, ℕ, ◌+◌, ◌^◌, ◌<◌, ◌≤◌, ◌==◌, true, false, List, [], ◌∷◌, ◌++◌, length, get_or, slice_set, refl, sym, ap, ◌∙◌, arith, subst, inl, inr}
+use Rattle.std.proofs.Common.{◌≡◌, ◌≢◌, ℕ, ◌+◌, ◌^◌, ◌<◌, ◌≤◌, ◌==◌, true, false, cond, List, [], ◌∷◌, ◌++◌, length, get_or, slice_set, refl, sym, ap, ◌∙◌, arith, subst, inl, inr, Option, IfSome}
 use Rattle.std.proofs.lemmas.Bool.{cases_eq}
 use Rattle.mx_proc.specs.declared.process.Process.{Process}
 use Rattle.mx_proc.specs.declared.process.State.{State}
 use Rattle.mx_proc.specs.declared.process.State.TheVariants.{Home, Ready, Out, Doomed, Sending, Calling, Receiving, Awaiting, Down}
 use Rattle.mx_proc.specs.Queues.{tally, times, without, list_at}
 use Rattle.mx_proc.specs.States.{IsAlone, is_ready, is_sending, is_blocked, is_down, is_out}
-use Rattle.mx_proc.specs.Waits.{without_from, Reaches}
+use Rattle.mx_proc.specs.Waits.{sends_of, without_from, Reaches}
 use Rattle.mx_proc.specs.TableState.{TableState, nobody, process_at, with_process}
-use Rattle.mx_proc.specs.Sound.{Sound, IsProcess, HasBuffer}
-use Rattle.mx_proc.proofs.ListLemmas.{get_or-any}
+use Rattle.mx_proc.specs.Sound.{Sound, IsProcess, HasBuffer, belongs}
+use Rattle.mx_proc.proofs.ListLemmas.{get_or-any, tally-same}
 use Rattle.mx_proc.proofs.SoundLemmas.{process-same, process-other, alone, stays, placed, left, freed, waits_for}
 
 pub the_process : (w n : TableState) (s : ℕ) (q : Process) → w ≡ n → s < length n.slots → q ≡ get_or w.slots s q → q ≡ process_at n s
 the_process w n s q v b e = e ∙ get_or-any w.slots s q nobody (subst (λ (x : TableState). s < length x.slots) (sym v) b) ∙ ap (λ x. process_at x s) v
 
-pub is_process : (w n : TableState) (s : ℕ) (q : Process) → w ≡ n → Sound w → q ≡ process_at n s → IsProcess q
-is_process w n s q v h e = subst IsProcess (sym e) ((subst Sound v h).each s).process
+pub is_process : (w n : TableState) (s : ℕ) (q : Process) → w ≡ n → Sound w → q ≡ process_at n s → IsProcess n.uptime q
+is_process w n s q v h e = subst (IsProcess n.uptime) (sym e) ((subst Sound v h).each s).process
+
+-- the same at the table's own uptime
+pub is_process_here : (w n : TableState) (s : ℕ) (q : Process) → w ≡ n → Sound w → q ≡ process_at n s → IsProcess w.uptime q
+is_process_here w n s q v h e = subst (λ (x : TableState). IsProcess x.uptime q) (sym v) (is_process w n s q v h e)
 
 -- the same table by another name
 pub renamed : (w n : TableState) (s : ℕ) (p : Process) → w ≡ n → Sound (with_process n s p) → Sound (with_process w s p)
@@ -33,6 +37,7 @@ state_set w n s q st v h b e o still room =
       generation = k.generation;
       ticks = k.ticks;
       pending = k.pending;
+      alarm = k.alarm;
       buffer = λ m. subst (λ p. HasBuffer p) (sym is) (room m);
     }))
 
@@ -45,6 +50,7 @@ pub record Alike (q p : Process) : Type 0 where
   pub generation : p.generation ≡ q.generation
   pub ticks : p.ticks ≡ q.ticks
   pub pending : length p.pending ≡ length q.pending
+  pub alarm : p.alarm ≡ q.alarm
   pub buffer : p.image.regs.ebx ≡ q.image.regs.ebx
   pub memory : length p.image.memory ≡ length q.image.memory
 
@@ -59,16 +65,39 @@ alike w n s q p v h b e a =
       generation = subst (λ g. g < 2 ^ 20) (sym a.generation) k.generation;
       ticks = omega (arith, k.ticks, a.ticks);
       pending = a.pending ∙ k.pending;
+      alarm = subst (λ o. IfSome o (λ due. due < n.uptime + 2 ^ 32)) (sym a.alarm) k.alarm;
       buffer = λ m. let r : HasBuffer q = k.buffer (ap is_blocked (sym a.state) ∙ m) in omega (arith, r, a.buffer, a.memory);
     }))
 
--- ready, in the list of a level
-pub listed : (w n w' : TableState) (s level : ℕ) (list : List ℕ) (q p : Process) → w ≡ n → Sound w → s < length n.slots → q ≡ get_or w.slots s q → IsAlone (process_at n s).state
-    → level ≤ 14 → p.level ≡ level → p.state ≡ Ready → p.best ≡ q.best → q.best ≤ level → p.quantum ≡ q.quantum → p.generation ≡ q.generation → p.ticks ≤ 65535 → p.pending ≡ q.pending
-    → w'.slots ≡ slice_set w.slots s p → w'.ready ≡ slice_set w.ready level list → w'.waits ≡ w.waits → w'.devices ≡ w.devices → ((t : ℕ) → times t list ≡ tally (s == t) + times t (list_at w.ready level)) → Sound w'
-listed w n w' s level list q p v h b e o low at st best high quantum generation ticks notes slots r u f counts =
+-- an alarm is set, or cleared
+pub alarm_set : (w n : TableState) (s : ℕ) (q : Process) (due : Option ℕ) → w ≡ n → Sound w → s < length n.slots → q ≡ get_or w.slots s q → IfSome due (λ d. d < n.uptime + 2 ^ 32) → Sound (with_process w s (record q { alarm = due }))
+alarm_set w n s q due v h b e bound =
     let is = the_process w n s q v b e in
     let k = is_process w n s q v h is in
+    renamed w n s (record q { alarm = due }) v (stays n s (record q { alarm = due }) (subst Sound v h) b (ap (λ (p : Process). p.state) is) (ap (λ (p : Process). p.level) is)
+    (record { level = k.level; best = k.best; quantum = k.quantum; ticks = k.ticks; generation = k.generation; pending = k.pending; alarm = bound; buffer = k.buffer }))
+
+-- who is ready stands in the list of its level
+pub ready_listed : (w n : TableState) (s : ℕ) (q : Process) → w ≡ n → Sound w → s < length n.slots → q ≡ get_or w.slots s q → is_ready (process_at n s).state ≡ true → 1 ≤ times s (list_at w.ready q.level)
+ready_listed w n s q v h b e y =
+    let same : q ≡ process_at w s = the_process w n s q v b e ∙ ap (λ x. process_at x s) (sym v) in
+    let ready : is_ready q.state ≡ true = ap (λ (p : Process). is_ready p.state) same ∙ subst (λ x. is_ready (process_at x s).state ≡ true) (sym v) y in
+    let once : belongs q q.level ≡ 1 = ap (λ r. cond r (tally (q.level == q.level)) 0) ready ∙ tally-same q.level q.level refl in
+    omega (arith, (h.each s).listed q.level, once, ap (λ p. belongs p q.level) same)
+
+-- who is sending stands among the blocked sends
+pub sending_waits : (w n : TableState) (s : ℕ) → w ≡ n → Sound w → is_sending (process_at n s).state ≡ true → 1 ≤ sends_of s w.waits
+sending_waits w n s v h y =
+    let sends : is_sending (process_at w s).state ≡ true = subst (λ x. is_sending (process_at x s).state ≡ true) (sym v) y in
+    omega (arith, (h.each s).waiting, ap tally sends)
+
+-- ready, in the list of a level
+pub listed : (w n w' : TableState) (s level : ℕ) (list : List ℕ) (q p : Process) → w ≡ n → Sound w → s < length n.slots → q ≡ get_or w.slots s q → IsAlone (process_at n s).state
+    → level ≤ 14 → p.level ≡ level → p.state ≡ Ready → p.best ≡ q.best → q.best ≤ level → p.quantum ≡ q.quantum → p.generation ≡ q.generation → p.ticks ≤ 65535 → p.pending ≡ q.pending → p.alarm ≡ q.alarm
+    → w'.slots ≡ slice_set w.slots s p → w'.ready ≡ slice_set w.ready level list → w'.waits ≡ w.waits → w'.devices ≡ w.devices → w'.uptime ≡ w.uptime → ((t : ℕ) → times t list ≡ tally (s == t) + times t (list_at w.ready level)) → Sound w'
+listed w n w' s level list q p v h b e o low at st best high quantum generation ticks notes alarm slots r u f g counts =
+    let is = the_process w n s q v b e in
+    let k = is_process_here w n s q v h is in
     placed w w' s level list p h (subst (λ (x : TableState). s < length x.slots) (sym v) b) (subst (λ x. IsAlone (process_at x s).state) (sym v) o) low at st (record {
       level = omega (arith, at, low);
       best = omega (arith, at, best, high);
@@ -76,32 +105,33 @@ listed w n w' s level list q p v h b e o low at st best high quantum generation 
       generation = subst (λ g. g < 2 ^ 20) (sym generation) k.generation;
       ticks = ticks;
       pending = ap length notes ∙ k.pending;
+      alarm = subst (λ o. IfSome o (λ due. due < w.uptime + 2 ^ 32)) (sym alarm) k.alarm;
       buffer = λ m. let f : false ≡ true = ap is_blocked (sym st) ∙ m in cc;
-    }) slots r u f counts
+    }) slots r u f g counts
 
-homed : (q : Process) → IsProcess q → IsProcess (record q { state = Home })
-homed q k = record { level = k.level; best = k.best; quantum = k.quantum; generation = k.generation; ticks = k.ticks; pending = k.pending; buffer = λ m. cc }
+homed : (uptime : ℕ) (q : Process) → IsProcess uptime q → IsProcess uptime (record q { state = Home })
+homed uptime q k = record { level = k.level; best = k.best; quantum = k.quantum; generation = k.generation; ticks = k.ticks; pending = k.pending; alarm = k.alarm; buffer = λ m. cc }
 
 pub unlisted : (w n w' : TableState) (s : ℕ) (q : Process) → w ≡ n → Sound w → s < length n.slots → q ≡ get_or w.slots s q → is_ready (process_at n s).state ≡ true
-    → w'.slots ≡ slice_set w.slots s (record q { state = Home }) → w'.ready ≡ slice_set w.ready q.level (without s (list_at w.ready q.level)) → w'.waits ≡ w.waits → w'.devices ≡ w.devices → Sound w'
-unlisted w n w' s q v h b e y slots r u f =
+    → w'.slots ≡ slice_set w.slots s (record q { state = Home }) → w'.ready ≡ slice_set w.ready q.level (without s (list_at w.ready q.level)) → w'.waits ≡ w.waits → w'.devices ≡ w.devices → w'.uptime ≡ w.uptime → Sound w'
+unlisted w n w' s q v h b e y slots r u f g =
     let is = the_process w n s q v b e in
     let same : q ≡ process_at w s = is ∙ ap (λ x. process_at x s) (sym v) in
-    left w w' s (record q { state = Home }) h (subst (λ (x : TableState). s < length x.slots) (sym v) b) (subst (λ x. is_ready (process_at x s).state ≡ true) (sym v) y) refl (homed q (is_process w n s q v h is)) slots
-    (r ∙ ap (λ (p : Process). slice_set w.ready p.level (without s (list_at w.ready p.level))) same) u f
+    left w w' s (record q { state = Home }) h (subst (λ (x : TableState). s < length x.slots) (sym v) b) (subst (λ x. is_ready (process_at x s).state ≡ true) (sym v) y) refl (homed w.uptime q (is_process_here w n s q v h is)) slots
+    (r ∙ ap (λ (p : Process). slice_set w.ready p.level (without s (list_at w.ready p.level))) same) u f g
 
 pub unwaiting : (w n w' : TableState) (s : ℕ) (q : Process) → w ≡ n → Sound w → s < length n.slots → q ≡ get_or w.slots s q → is_sending (process_at n s).state ≡ true
-    → w'.slots ≡ slice_set w.slots s (record q { state = Home }) → w'.ready ≡ w.ready → w'.waits ≡ without_from s w.waits → w'.devices ≡ w.devices → Sound w'
-unwaiting w n w' s q v h b e y slots r u f =
+    → w'.slots ≡ slice_set w.slots s (record q { state = Home }) → w'.ready ≡ w.ready → w'.waits ≡ without_from s w.waits → w'.devices ≡ w.devices → w'.uptime ≡ w.uptime → Sound w'
+unwaiting w n w' s q v h b e y slots r u f g =
     let is = the_process w n s q v b e in
-    freed w w' s (record q { state = Home }) h (subst (λ (x : TableState). s < length x.slots) (sym v) b) (subst (λ x. is_sending (process_at x s).state ≡ true) (sym v) y) refl (homed q (is_process w n s q v h is)) slots r u f
+    freed w w' s (record q { state = Home }) h (subst (λ (x : TableState). s < length x.slots) (sym v) b) (subst (λ x. is_sending (process_at x s).state ≡ true) (sym v) y) refl (homed w.uptime q (is_process_here w n s q v h is)) slots r u f g
 
 pub waiting : (w n w' : TableState) (s d : ℕ) (q : Process) (st : State) → w ≡ n → Sound w → s < length n.slots → q ≡ get_or w.slots s q → d < length n.slots → s ≢ d → (Reaches n.waits d s → ⊥)
     → IsAlone (process_at n s).state → is_ready st ≡ false → is_sending st ≡ true → HasBuffer (process_at n s)
-    → w'.slots ≡ slice_set w.slots s (record q { state = st }) → w'.ready ≡ w.ready → w'.waits ≡ w.waits ++ (s, d) ∷ [] → w'.devices ≡ w.devices → Sound w'
-waiting w n w' s d q st v h b e i apart free o still sends room slots r u g =
+    → w'.slots ≡ slice_set w.slots s (record q { state = st }) → w'.ready ≡ w.ready → w'.waits ≡ w.waits ++ (s, d) ∷ [] → w'.devices ≡ w.devices → w'.uptime ≡ w.uptime → Sound w'
+waiting w n w' s d q st v h b e i apart free o still sends room slots r u g same =
     let is = the_process w n s q v b e in
-    let k = is_process w n s q v h is in
+    let k = is_process_here w n s q v h is in
     waits_for w w' s d (record q { state = st }) h (subst (λ (x : TableState). s < length x.slots) (sym v) b) (subst (λ (x : TableState). d < length x.slots) (sym v) i) apart (λ m. free (subst (λ (x : TableState). Reaches x.waits d s) v m))
     (subst (λ x. IsAlone (process_at x s).state) (sym v) o) still sends (record {
       level = k.level;
@@ -110,11 +140,12 @@ waiting w n w' s d q st v h b e i apart free o still sends room slots r u g =
       generation = k.generation;
       ticks = k.ticks;
       pending = k.pending;
+      alarm = k.alarm;
       buffer = λ m. subst (λ p. HasBuffer p) (sym is) room;
-    }) slots r u g
+    }) slots r u g same
 
 -- a change of a process that is in no queue, and stays in none
-pub alone_changed : (w n : TableState) (s : ℕ) (q p : Process) → w ≡ n → Sound w → s < length n.slots → q ≡ get_or w.slots s q → IsAlone (process_at n s).state → IsAlone p.state → (IsProcess q → IsProcess p) → Sound (with_process w s p)
+pub alone_changed : (w n : TableState) (s : ℕ) (q p : Process) → w ≡ n → Sound w → s < length n.slots → q ≡ get_or w.slots s q → IsAlone (process_at n s).state → IsAlone p.state → (IsProcess n.uptime q → IsProcess n.uptime p) → Sound (with_process w s p)
 alone_changed w n s q p v h b e o still f =
     let is = the_process w n s q v b e in
     renamed w n s p v (alone n s p (subst Sound v h) b o still (f (is_process w n s q v h is)))

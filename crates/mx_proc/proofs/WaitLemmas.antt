@@ -1,4 +1,4 @@
-use Rattle.std.proofs.Common.{◌≡◌, ◌≢◌, ℕ, zero, suc, ◌+◌, ◌≤◌, ◌==◌, ◌||◌, ◌&&◌, ◌⊎◌, inl, inr, true, cond, not, List, [], ◌∷◌, ◌++◌, length, Option, Some, None, refl, sym, ap, ◌∙◌, arith, subst}
+use Rattle.std.proofs.Common.{◌≡◌, ◌≢◌, ℕ, zero, suc, ◌+◌, ◌≤◌, ◌==◌, zero-add, ◌||◌, ◌&&◌, ◌⊎◌, inl, inr, true, cond, not, List, [], ◌∷◌, ◌++◌, length, Option, Some, None, refl, sym, ap, ◌∙◌, arith, subst}
 use Rattle.std.proofs.lemmas.Bool.{cases_eq, eq-eqb, ne_eqb, eqb-true, cases_Bool, and_parts, or_cases, or_left, or_right}
 use Rattle.mx_proc.specs.declared.process.Partner.{Partner}
 use Rattle.mx_proc.specs.Partners.{may_be}
@@ -158,3 +158,23 @@ pair_caller (e ∷ es) s p partner h = elim (cases_Bool ((e.1 == s) && may_be pa
       inl (cc, eqb-true e.1 s (and_parts (e.1 == s) (may_be partner (2 + e.0)) y).0)
   | inr n ↦ inr (pair_caller es s p partner (subst (λ b. cond b (Some e.0) (caller_of s partner es) ≡ Some p) n h))
 ]
+
+-- ---- how many pairs are from a slot
+
+pub sends-without_same : (s : ℕ) (ps : List (ℕ × ℕ)) → sends_of s (without_from s ps) ≡ 0
+sends-without_same s [] = refl
+sends-without_same s (x ∷ xs) = elim (cases_eq x.0 s) [
+  | inl e ↦ rw (eq-eqb x.0 s e) (sends-without_same s xs)
+  | inr n ↦ rw (ne_eqb x.0 s n) (rw (ne_eqb x.0 s n) (zero-add _ ∙ sends-without_same s xs))
+]
+
+pub sends-without_other : (s t : ℕ) (ps : List (ℕ × ℕ)) → t ≢ s → sends_of t (without_from s ps) ≡ sends_of t ps
+sends-without_other s t [] n = refl
+sends-without_other s t (x ∷ xs) n = elim (cases_eq x.0 s) [
+  | inl e ↦ let m : x.0 ≢ t = λ f. n (sym f ∙ e) in rw (eq-eqb x.0 s e) (rw (ne_eqb x.0 t m) (sends-without_other s t xs n ∙ sym (zero-add _)))
+  | inr m ↦ rw (ne_eqb x.0 s m) (ap (λ k. tally (x.0 == t) + k) (sends-without_other s t xs n))
+]
+
+pub sends-push : (t s d : ℕ) (ps : List (ℕ × ℕ)) → sends_of t (ps ++ (s, d) ∷ []) ≡ tally (s == t) + sends_of t ps
+sends-push t s d [] = refl
+sends-push t s d (x ∷ xs) = omega (arith, sends-push t s d xs)

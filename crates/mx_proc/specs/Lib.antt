@@ -2,6 +2,8 @@ pub mod Errors
 pub mod Partners
 pub mod Queues
 pub mod Waits
+pub mod Callers
+pub mod Chains
 pub mod Console
 pub mod Devices
 pub mod Messages

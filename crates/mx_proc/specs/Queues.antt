@@ -1,5 +1,6 @@
 -- The sixteen ready lists (book, 2.6): 0 is the highest, and the last one is the idle list.
-use Rattle.std.specs.Prelude.{ℕ, ◌+◌, ◌≡◌, ◌≤◌, nat_lt, Bool, true, false, ◌==◌, List, [], ◌∷◌, filter, slice_index_or, Option, Some, None}
+use Rattle.std.specs.Prelude.{ℕ, ◌+◌, ◌<◌, ◌≡◌, length, Bool, true, false, ◌==◌, List, [], ◌∷◌, filter, slice_index_or, Option, Some, None}
+use Rattle.std.specs.Int.{bit_at}
 use Rattle.std.proofs.Common.{not}
 
 -- the list without this slot, the others in order
@@ -30,6 +31,12 @@ times slot (x ∷ slots) = tally (x == slot) + times slot slots
 abbrev pub InNoList : List (List ℕ) → ℕ → Type 0
 InNoList lists slot = (level : ℕ) → times slot (list_at lists level) ≡ 0
 
--- each list has slots below 32, each at most once
-abbrev pub AreSlots : List (List ℕ) → Type 0
-AreSlots lists = (slot level : ℕ) → times slot (list_at lists level) ≤ tally (nat_lt slot 32)
+-- 1 where a list isn't empty
+abbrev pub some_in : List ℕ → ℕ
+some_in [] = 0
+some_in (slot ∷ slots) = 1
+
+-- Sixteen lists; bit l of a word is 1 where list l isn't empty.
+pub record AreFilled (filled : ℕ) (lists : List (List ℕ)) : Type 0 where
+  pub long : length lists ≡ 16
+  pub bits : (level : ℕ) → level < 16 → bit_at filled level ≡ some_in (list_at lists level)

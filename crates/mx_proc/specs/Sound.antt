@@ -15,31 +15,33 @@ belongs p level = if is_ready p.state then tally (p.level == level) else 0
 abbrev pub HasBuffer : Process → Type 0
 HasBuffer p = p.image.regs.ebx + 36 ≤ length p.image.memory
 
--- What holds of each process by itself.
-pub record IsProcess (p : Process) : Type 0 where
+-- What holds of each process by itself, at an uptime.
+pub record IsProcess (uptime : ℕ) (p : Process) : Type 0 where
   pub level : p.level ≤ 14
   pub best : p.best ≤ p.level
   pub quantum : p.quantum ≤ 65535
   pub ticks : p.ticks ≤ 65535
   pub generation : p.generation < 2 ^ 20
   pub pending : length p.pending ≡ 34
+  -- an alarm rings in fewer than 2^32 ticks
+  pub alarm : IfSome p.alarm (λ due. due < uptime + 2 ^ 32)
   -- who sends or receives has its buffer inside
   pub buffer : is_blocked p.state ≡ true → HasBuffer p
 
 -- What holds of a slot and the queues.
-pub record Stands (p : Process) (ready : List (List ℕ)) (waits : List (ℕ × ℕ)) (slot : ℕ) : Type 0 where
+pub record Stands (p : Process) (ready : List (List ℕ)) (waits : List (ℕ × ℕ)) (uptime slot : ℕ) : Type 0 where
   -- a ready process stands once, in the list of its level, and no other in any
   pub listed : (level : ℕ) → times slot (list_at ready level) ≡ belongs p level
   -- a sending or calling process stands once among the blocked sends, and no other
   pub waiting : sends_of slot waits ≡ tally (is_sending p.state)
-  pub process : IsProcess p
+  pub process : IsProcess uptime p
 
 -- The table is sound.
 pub record Sound (w : TableState) : Type 0 where
   pub few : length w.slots ≤ 32
   pub lists : length w.ready ≡ 16
   pub idle : list_at w.ready 15 ≡ []
-  pub each : (slot : ℕ) → Stands (process_at w slot) w.ready w.waits slot
+  pub each : (slot : ℕ) → Stands (process_at w slot) w.ready w.waits w.uptime slot
   -- who is sent to has a slot, and no chain of blocked sends leads back
   pub named : (p q : ℕ) → IsPair w.waits p q → q < length w.slots
   pub acyclic : Acyclic w.waits

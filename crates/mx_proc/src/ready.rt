@@ -1,26 +1,28 @@
 //! The sixteen ready lists.
 
-ghost use Rattle.std.specs.Prelude.{◌≡◌, ◌<◌, [], ◌∷◌, ◌++◌, slice_set, replicate};
-ghost use Rattle.mx_proc.specs.Queues.{without, list_at, first_ready, times};
+ghost use Rattle.std.specs.Prelude.{◌≡◌, ◌<◌, ◌≤◌, [], ◌∷◌, ◌++◌, slice_set, replicate};
+ghost use Rattle.mx_proc.specs.Queues.{InNoList, without, list_at, first_ready, times};
 
-use crate::queue::Queue;
+use crate::links::Links;
 use std::marker::Model;
 
-/// The ready lists, the highest level first.
+/// The ready lists, the highest level first, linked by index; and a word whose bit l says that list l
+/// isn't empty. Each call takes as many steps however many slots there are.
 #[derive(Drop)]
 pub struct Ready {
-    lists: [Queue; 16],
+    lists: Links<16>,
+    filled: u16,
 }
 
 impl Model for Ready {
-    ghost use Rattle.std.specs.Prelude.{List, ℕ, length, ◌≡◌};
-    ghost use Rattle.mx_proc.specs.Queues.{AreSlots};
+    ghost use Rattle.std.specs.Prelude.{List, ℕ};
+    ghost use Rattle.mx_proc.specs.Queues.{AreFilled};
 
     ghost Value = { List (List ℕ) };
 
     ghost view = { λ r. r.lists };
 
-    ghost invariant = { λ r. (length r.lists ≡ 16) × AreSlots r.lists };
+    ghost invariant = { λ r. AreFilled r.filled r.lists };
 }
 
 impl Ready {
@@ -29,67 +31,53 @@ impl Ready {
         ensures { result ≡ replicate 16 [] }
     {
         Ready {
-            lists: [
-                Queue::new(),
-                Queue::new(),
-                Queue::new(),
-                Queue::new(),
-                Queue::new(),
-                Queue::new(),
-                Queue::new(),
-                Queue::new(),
-                Queue::new(),
-                Queue::new(),
-                Queue::new(),
-                Queue::new(),
-                Queue::new(),
-                Queue::new(),
-                Queue::new(),
-                Queue::new(),
-            ],
+            lists: Links::new(),
+            filled: 0,
         }
     }
 
-    /// Puts a slot that the list doesn't have to the front of a list.
+    /// Puts a slot that stands in no list to the front of a list.
     pub fn push_front(&mut self, level: u8, slot: u8)
         requires level { level < 16 }
         requires slot { slot < 32 }
-        requires absent { times slot (list_at self.old level) ≡ 0 }
+        requires absent { InNoList self.old slot }
         ensures { self.new ≡ slice_set self.old level (slot ∷ list_at self.old level) }
     {
-        let list = &mut self.lists[level as usize];
-        list.push_front(slot);
+        self.lists.push_front(level as usize, slot);
+        self.filled |= 1 << level;
     }
 
-    /// Puts a slot that the list doesn't have to the end of a list.
+    /// Puts a slot that stands in no list to the end of a list.
     pub fn push_back(&mut self, level: u8, slot: u8)
         requires level { level < 16 }
         requires slot { slot < 32 }
-        requires absent { times slot (list_at self.old level) ≡ 0 }
+        requires absent { InNoList self.old slot }
         ensures { self.new ≡ slice_set self.old level (list_at self.old level ++ slot ∷ []) }
     {
-        let list = &mut self.lists[level as usize];
-        list.push_back(slot);
+        self.lists.push_back(level as usize, slot);
+        self.filled |= 1 << level;
     }
 
-    /// Takes a slot out of a list.
+    /// Takes a slot that stands in a list out of it.
     pub fn remove(&mut self, level: u8, slot: u8)
         requires level { level < 16 }
+        requires there { 1 ≤ times slot (list_at self.old level) }
         ensures { self.new ≡ slice_set self.old level (without slot (list_at self.old level)) }
     {
-        let list = &mut self.lists[level as usize];
-        list.remove(slot);
+        self.lists.remove(level as usize, slot);
+        if self.lists.first(level as usize).is_none() {
+            self.filled &= !(1 << level);
+        }
     }
 
     /// The front of the lowest list that isn't empty.
     pub fn pick(&self) -> Option<u8>
         ensures { result ≡ first_ready self.now }
     {
-        for list in &self.lists {
-            if let Some(slot) = list.first() {
-                return Some(slot);
-            }
+        let filled = self.filled;
+        if filled == 0 {
+            return None;
         }
-        None
+        self.lists.first(filled.trailing_zeros() as usize)
     }
 }

@@ -1,6 +1,6 @@
 //! The table.
 
-ghost use Rattle.std.specs.Prelude.{◌≡◌, ℕ, ◌+◌, ◌*◌, ◌<◌, ◌≤◌, ◌^◌, true, IfOk, IfErr, OnErr, OnOk, IsOk, MatchResult, length, slice_get};
+ghost use Rattle.std.specs.Prelude.{◌≡◌, ℕ, ◌+◌, ◌*◌, ◌<◌, ◌≤◌, ◌^◌, true, IfSome, IfOk, IfErr, OnErr, OnOk, IsOk, MatchResult, length, slice_get};
 ghost use Rattle.mx_exec.specs.Image.{blank};
 ghost use Rattle.mx_proc.specs.Endpoints.{slot_of_endpoint};
 ghost use Rattle.mx_proc.specs.Sound.{Sound, HasBuffer};
@@ -153,6 +153,7 @@ impl Table {
         ensures generation { (process_at self.now slot).generation < 2 ^ 20 }
         ensures level { (process_at self.now slot).level ≤ 14 }
         ensures best { (process_at self.now slot).best ≤ (process_at self.now slot).level }
+        ensures alarm { IfSome (process_at self.now slot).alarm (λ due. due < self.now.uptime + 2 ^ 32) }
     {
         &self.slots[slot as usize]
     }

@@ -1,25 +1,38 @@
 //! The blocked sends.
 
-ghost use Rattle.std.specs.Prelude.{◌≡◌, ◌<◌, [], ◌∷◌, ◌++◌, length};
-ghost use Rattle.mx_proc.specs.Waits.{without_from, next_of, caller_of, walk};
+ghost use Rattle.std.specs.Prelude.{◌≡◌, ◌<◌, ◌≤◌, [], ◌∷◌, ◌++◌, length};
+ghost use Rattle.mx_proc.specs.declared.process.Partner.TheVariants.{Any, Only};
+ghost use Rattle.mx_proc.specs.Waits.{sends_of, without_from, next_of, caller_of, walk};
 
-use crate::process::Partner;
-use arrayvec::ArrayVec;
+use crate::links::Links;
+use crate::process::{Partner, Source};
 use std::marker::Model;
 
-/// The blocked sends: who sends and to whom, in order of blocking. Those to one slot are its
-/// caller queue.
+/// Stands where a slot sends to nobody.
+const NOBODY: u8 = 255;
+
+/// The blocked sends: who sends, in order of blocking, and to whom; and the caller queue of each slot,
+/// those that send to it. All are linked by index, so each call but `reaches` takes as many steps
+/// however many sends there are.
 #[derive(Drop)]
 pub struct Waits {
-    pairs: ArrayVec<(u8, u8), 32>,
+    /// One list: all that send.
+    order: Links<1>,
+    callers: Links<32>,
+    to: [u8; 32],
+    count: u8,
 }
 
 impl Model for Waits {
     ghost use Rattle.std.specs.Prelude.{List, ℕ};
+    ghost use Rattle.mx_proc.specs.Queues.{list_at};
+    ghost use Rattle.mx_proc.specs.Callers.{pairs_of, AreCallers};
 
     ghost Value = { List (ℕ × ℕ) };
 
-    ghost view = { λ q. q.pairs.items };
+    ghost view = { λ q. pairs_of q.to (list_at q.order 0) };
+
+    ghost invariant = { λ q. AreCallers q.to q.order q.callers q.count };
 }
 
 impl Waits {
@@ -28,47 +41,86 @@ impl Waits {
         ensures { result ≡ [] }
     {
         Waits {
-            pairs: ArrayVec::new(),
+            order: Links::new(),
+            callers: Links::new(),
+            to: [NOBODY; 32],
+            count: 0,
         }
     }
 
-    /// One more waits, behind the others.
+    /// A slot that sends to nobody waits for another, behind the others.
     pub fn push(&mut self, from: u8, to: u8)
-        requires { length self.old < 32 }
+        requires from { from < 32 }
+        requires to { to < 32 }
+        requires absent { sends_of from self.old ≡ 0 }
         ensures { self.new ≡ self.old ++ (from, to) ∷ [] }
     {
-        self.pairs.push((from, to));
+        self.order.push_back(0, from);
+        self.callers.push_back(to as usize, from);
+        self.to[from as usize] = to;
+        self.count += 1;
     }
 
-    /// One waits no more; the others stay in order.
+    /// A slot that waits does so no more; the others stay in order.
     pub fn remove(&mut self, from: u8)
+        requires { 1 ≤ sends_of from self.old }
         ensures { self.new ≡ without_from from self.old }
     {
-        self.pairs.retain(|pair| pair.0 != from);
+        let to = self.to[from as usize];
+        self.order.remove(0, from);
+        self.callers.remove(to as usize, from);
+        self.to[from as usize] = NOBODY;
+        self.count -= 1;
     }
 
     /// For whom a slot waits.
     pub fn next(&self, from: u8) -> Option<u8>
         ensures { result ≡ next_of from self.now }
     {
-        for pair in self.pairs.as_slice() {
-            if pair.0 == from {
-                return Some(pair.1);
-            }
+        let receivers = &self.to;
+        if from >= 32 {
+            return None;
         }
-        None
+        let to = receivers[from as usize];
+        if to == NOBODY { None } else { Some(to) }
+    }
+
+    /// The first of the caller queue of a slot.
+    fn first_caller(&self, to: u8) -> Option<u8>
+        ensures { result ≡ caller_of to Any self.now }
+    {
+        if to < 32 {
+            self.callers.first(to as usize)
+        } else {
+            None
+        }
+    }
+
+    /// The slot that is this source, if it waits for a slot.
+    fn caller_from(&self, to: u8, source: Source) -> Option<u8>
+        ensures { result ≡ caller_of to (Only source) self.now }
+    {
+        // Here no slot waits twice.
+        let _order = &self.order;
+        match source {
+            Source::Hardware => None,
+            Source::Clock => None,
+            Source::Slot(from) => match self.next(from) {
+                Some(other) => { if other == to { Some(from) } else { None } }
+                None => None,
+            },
+        }
     }
 
     /// Of those that the partner may be, the first that waits for a slot.
     pub fn caller(&self, to: u8, partner: Partner) -> Option<u8>
         ensures { result ≡ caller_of to partner self.now }
     {
-        for pair in self.pairs.as_slice() {
-            if pair.1 == to && partner.may_be(2 + u32::from(pair.0)) {
-                return Some(pair.0);
-            }
+        match partner {
+            Partner::Any => self.first_caller(to),
+            Partner::System => None,
+            Partner::Only(source) => self.caller_from(to, source),
         }
-        None
     }
 
     /// Whether the pairs lead from one slot to another.
@@ -76,7 +128,7 @@ impl Waits {
         ensures { result ≡ walk (length self.now) self.now from to }
     {
         let mut at = from;
-        for _step in 0..self.pairs.len() {
+        for _step in 0..self.count {
             match self.next(at) {
                 Some(next) => {
                     if next == to {

@@ -18,6 +18,8 @@ mod pages;
 #[cfg(test)]
 mod printing;
 #[cfg(test)]
+mod queues;
+#[cfg(test)]
 mod starting;
 #[cfg(test)]
 mod tables;

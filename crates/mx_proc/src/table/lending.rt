@@ -1,6 +1,6 @@
 //! Images out and home.
 
-ghost use Rattle.std.specs.Prelude.{◌≡◌, false, true, ◌+◌, ◌<◌, ◌≤◌, ◌^◌, length};
+ghost use Rattle.std.specs.Prelude.{◌≡◌, false, true, ◌+◌, ◌<◌, ◌≤◌, ◌^◌, IfSome, length};
 ghost use Rattle.mx_exec.specs.Image.{blank};
 ghost use Rattle.mx_proc.specs.Frame.{frame, frame_with_process};
 ghost use Rattle.mx_proc.specs.States.{IsAlone, is_out, is_down};
@@ -88,6 +88,7 @@ impl Table {
         requires best { process.best ≤ process.level }
         requires quantum { process.quantum ≤ 65535 }
         requires ticks { process.ticks ≤ 65535 }
+        requires alarm { IfSome process.alarm (λ due. due < self.old.uptime + 2 ^ 32) }
         ensures value { self.new ≡ table_after_revival self.old slot process }
         ensures frame { frame self.new ≡ frame_with_process (frame self.old) slot process }
     {

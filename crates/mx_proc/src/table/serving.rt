@@ -52,9 +52,11 @@ impl Table {
         process.alarm = None;
     }
 
-    /// Sets the uptime at which the alarm of a process rings, or clears it.
+    /// Sets the uptime at which the alarm of a process rings, fewer than 2^32 ticks from now, or clears
+    /// it.
     pub fn set_alarm(&mut self, slot: Slot, due: Option<u64>)
         requires slot { slot < length self.old.slots }
+        requires due { IfSome due (λ d. d < self.old.uptime + 2 ^ 32) }
         ensures value { self.new ≡ with_alarm self.old slot due }
         ensures frame { frame self.new ≡ frame self.old }
     {

@@ -1,14 +1,14 @@
-use Rattle.std.proofs.Common.{◌≡◌, ◌∙◌, ◌<◌, [], ◌∷◌, ◌++◌, length, slice_set, refl, ap, sym, subst}
+use Rattle.std.proofs.Common.{◌∙◌, ◌<◌, [], ◌∷◌, ◌++◌, length, slice_set, refl, ap, sym, subst}
 use Rattle.std.proofs.Common.{lit<}
 use Rattle.mx_proc.specs.TableState.{TableState}
-use Rattle.mx_proc.specs.Queues.{times, list_at}
+use Rattle.mx_proc.specs.Queues.{list_at, InNoList}
 use Rattle.mx_proc.proofs.SoundLemmas.{grown, nobody_listed}
 use Rattle.mx_proc.proofs.table.Table.add.Goals as goal
 
 pub push_back-requires-clause-absent : goal.push_back-requires-clause-absent
-push_back-requires-clause-absent c = subst (λ s. times s (list_at c.self.inside.ready c.args.level) ≡ 0) (sym (ap length c.as_slice.ensures.value)) (nobody_listed _ c.args.level c.self.invariant)
+push_back-requires-clause-absent c = subst (InNoList c.self.inside.ready) (sym (ap length c.as_slice.ensures.value)) (nobody_listed _ c.self.invariant)
 
 pub invariant_of-self : goal.invariant_of-self
 invariant_of-self c = grown _ _ c.args.level _ c.self.invariant (subst (λ (w : TableState). length w.slots < 32) (sym c.self.view_is) c.requires.room) c.requires.level refl refl
-    (record { level = c.requires.level; best = c.requires.best; quantum = c.requires.quantum; ticks = c.requires.quantum; generation = lit< tt; pending = refl; buffer = λ m. cc })
-    c.in-Ok.ensures.items (c.push_back.ensures ∙ ap (λ s. slice_set c.self.inside.ready c.args.level (list_at c.self.inside.ready c.args.level ++ s ∷ [])) (ap length c.as_slice.ensures.value)) refl refl
+    (record { level = c.requires.level; best = c.requires.best; quantum = c.requires.quantum; ticks = c.requires.quantum; generation = lit< tt; pending = refl; alarm = _; buffer = λ m. cc })
+    c.in-Ok.ensures.items (c.push_back.ensures ∙ ap (λ s. slice_set c.self.inside.ready c.args.level (list_at c.self.inside.ready c.args.level ++ s ∷ [])) (ap length c.as_slice.ensures.value)) refl refl refl

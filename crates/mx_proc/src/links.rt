@@ -1,0 +1,133 @@
+//! Lists of slots, linked by index both ways.
+
+ghost use Rattle.std.specs.Prelude.{◌≡◌, ◌≢◌, ◌<◌, ◌≤◌, [], ◌∷◌, ◌++◌, replicate, slice_get, slice_index, slice_set};
+ghost use Rattle.mx_proc.specs.Chains.{firsts_with, nexts_with};
+ghost use Rattle.mx_proc.specs.Queues.{without, list_at, times, InNoList};
+
+use std::marker::Model;
+
+/// Stands where no slot is.
+const NONE: u8 = 255;
+
+/// One way through the lists: the slot that each begins with, and the next of each slot.
+#[derive(Drop)]
+struct Way<const LISTS: usize> {
+    firsts: [u8; LISTS],
+    nexts: [u8; 32],
+}
+
+impl<const LISTS: usize> Way<LISTS> {
+    /// Empty lists.
+    fn new() -> Way<LISTS>
+        ensures firsts { result.firsts ≡ replicate LISTS 255 }
+        ensures nexts { result.nexts ≡ replicate 32 255 }
+    {
+        Way {
+            firsts: [NONE; LISTS],
+            nexts: [NONE; 32],
+        }
+    }
+
+    /// The slot `after` comes behind `before`; if that is none, the list begins with `after`.
+    fn lead(&mut self, list: usize, before: u8, after: u8)
+        requires list { list < LISTS }
+        requires before { before ≢ 255 → before < 32 }
+        ensures firsts { self.new.firsts ≡ firsts_with self.old.firsts list before after }
+        ensures nexts { self.new.nexts ≡ nexts_with self.old.nexts before after }
+    {
+        if before == NONE {
+            self.firsts[list] = after;
+        } else {
+            self.nexts[before as usize] = after;
+        }
+    }
+}
+
+/// Puts a slot to the near end of a list.
+fn push<const LISTS: usize>(near: &mut Way<LISTS>, far: &mut Way<LISTS>, list: usize, slot: u8)
+    requires list { list < LISTS }
+    requires slot { slot < 32 }
+    requires first { slice_index near.old.firsts list ≢ 255 → slice_index near.old.firsts list < 32 }
+    ensures firsts { near.new.firsts ≡ slice_set near.old.firsts list slot }
+    ensures nexts { near.new.nexts ≡ slice_set near.old.nexts slot (slice_index near.old.firsts list) }
+    ensures lasts { far.new.firsts ≡ firsts_with far.old.firsts list (slice_index near.old.firsts list) slot }
+    ensures prevs { far.new.nexts ≡ nexts_with (slice_set far.old.nexts slot 255) (slice_index near.old.firsts list) slot }
+{
+    let first = near.firsts[list];
+    near.nexts[slot as usize] = first;
+    near.firsts[list] = slot;
+    far.nexts[slot as usize] = NONE;
+    far.lead(list, first, slot);
+}
+
+/// Lists of slots; a slot stands in one of them, or in none. Each change takes as many steps however
+/// long the lists are.
+#[derive(Drop)]
+pub struct Links<const LISTS: usize> {
+    forward: Way<LISTS>,
+    backward: Way<LISTS>,
+}
+
+impl<const LISTS: usize> Model for Links<LISTS> {
+    ghost use Rattle.std.specs.Prelude.{List, ℕ};
+    ghost use Rattle.mx_proc.specs.Chains.{chains, Linked};
+
+    ghost Value = { List (List ℕ) };
+
+    ghost view = { λ l. chains l.forward.nexts l.forward.firsts };
+
+    ghost invariant = { λ l. Linked LISTS l.forward.nexts l.backward.nexts l.forward.firsts l.backward.firsts (chains l.forward.nexts l.forward.firsts) };
+}
+
+impl<const LISTS: usize> Links<LISTS> {
+    /// Empty lists.
+    pub fn new() -> Links<LISTS>
+        ensures { result ≡ replicate LISTS [] }
+    {
+        Links {
+            forward: Way::new(),
+            backward: Way::new(),
+        }
+    }
+
+    /// The front of a list.
+    pub fn first(&self, list: usize) -> Option<u8>
+        requires { list < LISTS }
+        ensures { result ≡ slice_get (list_at self.now list) 0 }
+    {
+        let first = self.forward.firsts[list];
+        if first == NONE { None } else { Some(first) }
+    }
+
+    /// Puts a slot that stands in no list to the front of a list.
+    pub fn push_front(&mut self, list: usize, slot: u8)
+        requires list { list < LISTS }
+        requires slot { slot < 32 }
+        requires absent { InNoList self.old slot }
+        ensures { self.new ≡ slice_set self.old list (slot ∷ list_at self.old list) }
+    {
+        push(&mut self.forward, &mut self.backward, list, slot);
+    }
+
+    /// Puts a slot that stands in no list to the end of a list.
+    pub fn push_back(&mut self, list: usize, slot: u8)
+        requires list { list < LISTS }
+        requires slot { slot < 32 }
+        requires absent { InNoList self.old slot }
+        ensures { self.new ≡ slice_set self.old list (list_at self.old list ++ slot ∷ []) }
+    {
+        push(&mut self.backward, &mut self.forward, list, slot);
+    }
+
+    /// Takes a slot that stands in a list out of it.
+    pub fn remove(&mut self, list: usize, slot: u8)
+        requires list { list < LISTS }
+        requires there { 1 ≤ times slot (list_at self.old list) }
+        ensures { self.new ≡ slice_set self.old list (without slot (list_at self.old list)) }
+    {
+        let before = self.backward.nexts[slot as usize];
+        let after = self.forward.nexts[slot as usize];
+        self.forward.lead(list, before, after);
+        self.backward.lead(list, after, before);
+    }
+}
