@@ -1,7 +1,8 @@
 //! What is written of a kernel.
 
-ghost use Rattle.std.specs.Prelude.{◌≡◌, ◌+◌, ◌++◌, false, OnOk, IfOk};
+ghost use Rattle.std.specs.Prelude.{◌≡◌, ◌+◌, ◌++◌, ℕ, List, true, false, OnOk, OnErr, IfOk};
 ghost use Rattle.mx_boot_history.specs.Log.{IsHistory};
+ghost use Rattle.mx_boot_history.specs.Taking.{IsTakenBut};
 ghost use Rattle.mx_boot_history.specs.Text.{history_text};
 ghost use Rattle.mx_print_report.specs.Report.{report_text};
 ghost use Rattle.mx_machine_kernel.specs.History.{replay};
@@ -14,11 +15,14 @@ use mx_print_report::report_of;
 use mx_word::NoMemory;
 use std::alloc::Global;
 
-/// Writes the text of a kernel's history to a sink that hasn't failed. Takes no memory.
+/// Writes the text of a kernel's history to a sink that hasn't failed. Where that is an error, the
+/// sink has failed, and what it took is a front of the text. Takes no memory.
 pub fn save<S: Sink>(kernel: &Kernel, sink: &mut S) -> Result<(), SaveFault>
     requires { S.has_failed sink.old ≡ false }
     ensures taken { OnOk result (S.taken sink.new ≡ S.taken sink.old ++ history_text kernel.now.history) }
     ensures whole { OnOk result (S.has_failed sink.new ≡ false) }
+    ensures front { OnErr result ((rest : List ℕ) × IsTakenBut (S.taken sink.old) (S.taken sink.new) (history_text kernel.now.history) rest) }
+    ensures failed { OnErr result (S.has_failed sink.new ≡ true) }
 {
     save_records(kernel.history(), sink)
 }

@@ -1,3 +1,4 @@
 mod Ended
 mod ReadAgain
 mod OneHistory
+mod Fronts

@@ -10,3 +10,9 @@ SinkTakes before after failed bytes (Err e) = (after ≡ before) × (failed ≡ 
 -- the bytes of a log
 abbrev pub bytes_put : List (ℕ × Unit {0}) → List ℕ
 bytes_put items = map (λ (p : ℕ × Unit {0}). p.0) items
+
+-- Of these bytes all but the rest were taken, from their front on.
+pub record IsTakenBut (before after bytes rest : List ℕ) : Type 0 where
+  pub front : List ℕ
+  pub parts : bytes ≡ front ++ rest
+  pub taken : after ≡ before ++ front

@@ -1,9 +1,10 @@
 //! Writes the text of a history.
 
-ghost use Rattle.std.specs.Prelude.{◌≡◌, ◌≤◌, ◌<◌, ◌+◌, ◌++◌, ◌∷◌, false, length, OnOk, codes};
+ghost use Rattle.std.specs.Prelude.{◌≡◌, ◌≤◌, ◌<◌, ◌+◌, ◌++◌, ◌∷◌, ℕ, List, true, false, length, OnOk, OnErr, codes};
 ghost use Rattle.std.specs.Fmt.{decimal};
 ghost use Rattle.arrayvec.specs.ArrayVec.{array_vec_len};
 ghost use Rattle.mx_boot_script.specs.Words.{joined_words};
+ghost use Rattle.mx_boot_history.specs.Taking.{IsTakenBut};
 ghost use Rattle.mx_boot_history.specs.Text.{event_words, record_words, history_text};
 
 use crate::sink::{Sink, SinkFault};
@@ -83,6 +84,8 @@ fn put_all<S: Sink>(sink: &mut S, bytes: &[u8]) -> Result<(), SaveFault>
     requires { S.has_failed sink.old ≡ false }
     ensures taken { OnOk result (S.taken sink.new ≡ S.taken sink.old ++ bytes.now) }
     ensures whole { OnOk result (S.has_failed sink.new ≡ false) }
+    ensures front { OnErr result ((rest : List ℕ) × IsTakenBut (S.taken sink.old) (S.taken sink.new) bytes.now rest) }
+    ensures failed { OnErr result (S.has_failed sink.new ≡ true) }
 {
     let mut rest = bytes;
     while !rest.is_empty() {
@@ -95,11 +98,14 @@ fn put_all<S: Sink>(sink: &mut S, bytes: &[u8]) -> Result<(), SaveFault>
     Ok(())
 }
 
-/// Writes the text of a history to a sink that hasn't failed. Takes no memory.
+/// Writes the text of a history to a sink that hasn't failed. Where that is an error, the sink has
+/// failed, and what it took is a front of the text. Takes no memory.
 pub fn save_records<S: Sink>(records: &[Record], sink: &mut S) -> Result<(), SaveFault>
     requires { S.has_failed sink.old ≡ false }
     ensures taken { OnOk result (S.taken sink.new ≡ S.taken sink.old ++ history_text records.now) }
     ensures whole { OnOk result (S.has_failed sink.new ≡ false) }
+    ensures front { OnErr result ((rest : List ℕ) × IsTakenBut (S.taken sink.old) (S.taken sink.new) (history_text records.now) rest) }
+    ensures failed { OnErr result (S.has_failed sink.new ≡ true) }
 {
     for entry in records {
         put_all(sink, line_of(*entry).as_slice())?;

@@ -1,7 +1,6 @@
 //! Steps up to a breakpoint.
 
 ghost use Rattle.std.specs.Prelude.{◌≡◌, ◌≢◌, ◌⊎◌, ℕ, ◌%◌, true, false, List, slice_index_or};
-ghost use Rattle.mx_exec.specs.Lasting.{lasting};
 ghost use Rattle.mx_debug.specs.declared.points.Breakpoint.{Breakpoint};
 ghost use Rattle.mx_debug.specs.Points.{has_breakpoint, has_any};
 ghost use Rattle.mx_debug.specs.Halts.{Halts};
@@ -14,7 +13,7 @@ use mx_proc::Slot;
 /// All steps at once, where no breakpoint can be reached.
 fn run_on<H: Held>(held: &mut H, k: u32) -> Halt
     ensures halts { (points : List Breakpoint) (slot : ℕ) → (k ≡ 0) ⊎ (has_any points slot ≡ false) → Halts points slot k (H.out held.old) result (H.out held.new) }
-    ensures lasting { lasting (H.out held.new).image ≡ lasting (H.out held.old).image }
+    ensures loan { H.loan held.new ≡ H.loan held.old }
 {
     held_runs_join();
     let (count, stop) = held.run(k);
@@ -53,7 +52,7 @@ impl Debugger {
     fn step_on<H: Held>(&self, slot: Slot, held: &mut H, k: u32) -> Halt
         requires { k ≢ 0 }
         ensures halts { Halts self.now slot k (H.out held.old) result (H.out held.new) }
-        ensures lasting { lasting (H.out held.new).image ≡ lasting (H.out held.old).image }
+        ensures loan { H.loan held.new ≡ H.loan held.old }
     {
         held_runs_join();
         let marks = self.marks(slot);
@@ -84,7 +83,7 @@ impl Debugger {
     /// the slot's breakpoints, which isn't made; but the first step always is. Takes no memory.
     pub fn resume<H: Held>(&self, slot: Slot, held: &mut H, k: u32) -> Halt
         ensures halts { Halts self.now slot k (H.out held.old) result (H.out held.new) }
-        ensures lasting { lasting (H.out held.new).image ≡ lasting (H.out held.old).image }
+        ensures loan { H.loan held.new ≡ H.loan held.old }
     {
         if k == 0 || !self.has_any(slot) {
             run_on(held, k)

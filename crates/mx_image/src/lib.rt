@@ -2,7 +2,9 @@
 #![tactic(auto)]
 
 mod joining;
+mod lasting;
 mod runs;
 
 pub use joining::runs_join;
+pub use lasting::runs_last;
 pub use runs::{Runs, Stop, run_with};

@@ -117,7 +117,8 @@ table_after_trap w s = let regs = (process_at w s).image.regs in table_after_tra
 unfoldable pub trap_answer : TableState → ℕ → TrapAnswer
 trap_answer w s = let regs = (process_at w s).image.regs in trap_answer_by w s (call_of regs.ecx) regs.eax
 
--- NOTIFY: of a slot it is a call by it; of HARDWARE and CLOCK it is the notification alone
+-- NOTIFY: of a slot it is a call by it; of HARDWARE and CLOCK it is the notification alone, to the process that the slot
+-- has now
 abbrev pub table_after_notify : TableState → Source → ℕ → TableState
 table_after_notify w (source.Slot s) n = table_after_call w s call.Notify n
 table_after_notify w source.Hardware n = table_after_notifying w source.Hardware (n % 1024)

@@ -300,7 +300,9 @@ pub fn sendrec(table: &mut Table, slot: Slot, to: Endpoint)
     perform(table, slot, Call::Sendrec, to);
 }
 
-/// NOTIFY: a call by a slot, or the notification alone where HARDWARE or CLOCK makes it.
+/// NOTIFY: a call by a slot, or the notification alone where HARDWARE or CLOCK makes it. Of the
+/// endpoint that these two name only the slot counts: one whose process is gone reaches the process
+/// that its slot has now.
 pub fn notify(table: &mut Table, source: Source, to: Endpoint)
     requires { MayNotify table.old source to }
     ensures value { table.new ≡ table_after_notify table.old source to }

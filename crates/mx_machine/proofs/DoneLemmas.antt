@@ -1,31 +1,33 @@
 -- What the machine's calls do, from what the calls below them do.
-use Rattle.std.proofs.Common.{◌≡◌, ◌≢◌, ◌∙◌, ◌<◌, ◌≤◌, ℕ, zero, suc, ◌+◌, cond, Bool, true, false, List, [], ◌∷◌, length, Option, Some, None, Result, Ok, Err, IfSome, IfOk, IfErr, OnOk, map, slice_set, get_or, inl, inr, refl, sym, ap, subst, arith}
+use Rattle.std.proofs.Common.{◌≡◌, ◌≢◌, ◌∙◌, ◌<◌, ◌≤◌, ℕ, zero, suc, ◌+◌, cond, Bool, true, false, List, [], ◌∷◌, length, Option, Some, None, Result, Ok, Err, IfOk, IfErr, OnOk, map, slice_set, get_or, inl, inr, refl, sym, ap, subst, arith}
 use Rattle.std.proofs.lemmas.Bool.{cases_lt}
 use Rattle.std.proofs.lemmas.List.{set-get_or, set-set, get_or-set_same, get_or-set_other, length-set}
 use Rattle.std.proofs.Math.ListN.{get_or-eq_default}
-use Rattle.mx_exec.specs.Lasting.{lasting}
 use Rattle.mx_machine_world.specs.declared.events.Event.{Event}
-use Rattle.mx_machine_world.specs.declared.events.Event.TheVariants.{Step, Take, Back}
+use Rattle.mx_machine_world.specs.declared.events.Event.TheVariants.{Step, Take, Back, Line, Tick, Kill, Respawn}
 use Rattle.mx_machine_world.specs.declared.events.Refusal.{Refusal}
 use Rattle.mx_machine_world.specs.declared.events.Refusal.TheVariants.{AtStop, CpuEmpty}
 use Rattle.mx_machine_world.specs.declared.events.Answer.{Answer}
 use Rattle.mx_machine_world.specs.declared.events.Answer.TheVariants.{Went}
 use Rattle.mx_machine_world.specs.declared.holding.Out.{Out}
 use Rattle.mx_machine_world.specs.Held.{held_run, outcome_of_step, out_after_step, then_held}
-use Rattle.mx_machine_world.specs.History.{BootAndHistory, replay}
+use Rattle.mx_machine_world.specs.History.{BootAndHistory, replay, with_record}
 use Rattle.std.specs.Option.{option_map}
 use Rattle.mx_proc.specs.Queues.{first_ready}
 use Rattle.mx_proc.specs.Frame.{loan_of}
 use Rattle.mx_proc.specs.TableState.{nobody, process_at}
 use Rattle.mx_machine_kernel.specs.Agrees.{IsEventAccepted, IsEventRefused}
+use Rattle.mx_machine_kernel.specs.KernelState.{recorded_as}
 use Rattle.mx_machine_world.specs.declared.history.Recorded.{Recorded}
 use Rattle.mx_machine_world.specs.Sound.{IsSound, lease_of}
 use Rattle.mx_machine_world.specs.Move.{world_after_back, world_after_event, world_after_take, at_stop, event_answer, held_at_take, move, with_held}
 use Rattle.mx_machine_world.specs.Steps.{StepsTo}
 use Rattle.mx_machine_world.specs.World.{World, HeldProcess, actors, held_by, out_count}
-use Rattle.mx_machine.specs.Machine.{HasWorked, IsHeld, IsRunOf, IsMachineState, MachineState, all_held_now, hold_after_step, world_of}
-use Rattle.mx_machine.proofs.MachineLemmas.{IsAnyones, anyones-accepted, anyones-refused, cpus_after, empty-refused, held-now, held_now-length, holds_in, none-now, take-refused, with_cpus, world-replaced}
-use Rattle.mx_machine.proofs.RunLemmas.{held-set, run-more, stepped-run}
+use Rattle.mx_machine_world.proofs.LentLemmas.{run_more}
+use Rattle.mx_machine_world.proofs.ProcessorLemmas.{cpus_after}
+use Rattle.mx_machine.specs.Machine.{HasWorked, IsHeld, IsRunOf, IsMachineState, MachineState, all_held_now, kept_after, record_of, hold_after_step, with_records, world_of}
+use Rattle.mx_machine.proofs.MachineLemmas.{IsAnyones, anyones-accepted, anyones-refused, empty-refused, held-now, held_now-length, holds_in, none-now, take-refused, with_cpus, world-replaced}
+use Rattle.mx_machine.proofs.RunLemmas.{held-set, stepped-run}
 use Rattle.mx_machine.proofs.StepLemmas.{move-step, step_by}
 
 abbrev pub on : BootAndHistory → List (Option Out) → MachineState
@@ -102,13 +104,13 @@ refused-done : (k : BootAndHistory) (os : List (Option Out)) (a : ℕ) (x : Opti
 refused-done k os a x e h g m = subst (λ (ps : List (Option Out)). IsDone k os ps a (Err e)) (sym (same_set os a x g)) (record { running = h; world = m })
 
 went-done : (k : BootAndHistory) (os : List (Option Out)) (a : ℕ) (o p : Out) → ((a b : ℕ) (x : Out) → held_run (a + b) x ≡ then_held (held_run a x) b) → a < length os → IsMachineState (on k os) → get_or os a None ≡ Some o
-    → at_stop o ≡ false → p ≡ out_after_step o → lasting p.image ≡ lasting o.image → IsDone k os (slice_set os a (Some p)) a (Ok (Went (outcome_of_step o)))
-went-done k os a o p join b h g goes is lasts =
+    → at_stop o ≡ false → p ≡ out_after_step o → IsDone k os (slice_set os a (Some p)) a (Ok (Went (outcome_of_step o)))
+went-done k os a o p join b h g goes is =
     let l = lends k os a o h g in
     let m : HeldProcess = record l.lent { out = o } in
     let w = world_of (on k os) in
     record {
-      running = running-replaced k os a l.lent p b h l.is (run-more l.lent.out o p 1 join l.runs (is ∙ stepped-run o goes) lasts);
+      running = running-replaced k os a l.lent p b h l.is (run_more l.lent.out o p 1 join l.runs (is ∙ stepped-run o goes));
       world = move-step w a m (held-now k os a l.lent o l.is g) ∙ ap (step_by w a m) goes
           ∙ ap (λ (x : Out). let r : Result Answer Refusal × World = (Ok (Went (outcome_of_step o)), with_held w a (Some (record l.lent { out = x }))) in r) (sym is)
           ∙ ap (λ (v : World). let r : Result Answer Refusal × World = (Ok (Went (outcome_of_step o)), v) in r) (sym (world-replaced k os a l.lent p b l.is));
@@ -123,39 +125,43 @@ stop-done k os a o h g stops =
 some-done : (k : BootAndHistory) (os : List (Option Out)) (a : ℕ) (o : Out) (p : Option Out) (r : Result Answer Refusal) (stops : Bool) → ((a b : ℕ) (x : Out) → held_run (a + b) x ≡ then_held (held_run a x) b) → a < length os
     → IsMachineState (on k os) → get_or os a None ≡ Some o → at_stop o ≡ stops
     → cond stops (let q : Result Answer Refusal × Option Out = (Err AtStop, Some o) in q) (Ok (Went (outcome_of_step o)), Some (out_after_step o)) ≡ (r, p)
-    → IfSome p (λ q. lasting q.image ≡ lasting o.image) → IsDone k os (slice_set os a p) a r
-some-done k os a o p r true join b h g s e lasts =
+    → IsDone k os (slice_set os a p) a r
+some-done k os a o p r true join b h g s e =
     let re : Err AtStop ≡ r = ap (λ (q : Result Answer Refusal × Option Out). q.0) e in
     let pe : Some o ≡ p = ap (λ (q : Result Answer Refusal × Option Out). q.1) e in
     subst (λ (x : Result Answer Refusal). IsDone k os (slice_set os a p) a x) re (subst (λ (x : Option Out). IsDone k os (slice_set os a x) a (Err AtStop)) pe (stop-done k os a o h g s))
-some-done k os a o p r false join b h g s e lasts =
+some-done k os a o p r false join b h g s e =
     let re : Ok (Went (outcome_of_step o)) ≡ r = ap (λ (q : Result Answer Refusal × Option Out). q.0) e in
     let pe : Some (out_after_step o) ≡ p = ap (λ (q : Result Answer Refusal × Option Out). q.1) e in
-    let still : IfSome (Some (out_after_step o)) (λ (q : Out). lasting q.image ≡ lasting o.image) = subst (λ (x : Option Out). IfSome x (λ (q : Out). lasting q.image ≡ lasting o.image)) (sym pe) lasts in
-    subst (λ (x : Result Answer Refusal). IsDone k os (slice_set os a p) a x) re (subst (λ (x : Option Out). IsDone k os (slice_set os a x) a (Ok (Went (outcome_of_step o)))) pe (went-done k os a o (out_after_step o) join b h g s refl still))
+    subst (λ (x : Result Answer Refusal). IsDone k os (slice_set os a p) a x) re (subst (λ (x : Option Out). IsDone k os (slice_set os a x) a (Ok (Went (outcome_of_step o)))) pe (went-done k os a o (out_after_step o) join b h g s refl))
 
 pub step-done : (k : BootAndHistory) (os : List (Option Out)) (a : ℕ) (x p : Option Out) (r : Result Answer Refusal) → ((a b : ℕ) (x : Out) → held_run (a + b) x ≡ then_held (held_run a x) b) → a < length os → IsMachineState (on k os)
-    → get_or os a None ≡ x → hold_after_step x ≡ (r, p) → IfSome x (λ o. IfSome p (λ q. lasting q.image ≡ lasting o.image)) → IsDone k os (slice_set os a p) a r
-step-done k os a None p r join b h g e lasts =
+    → get_or os a None ≡ x → hold_after_step x ≡ (r, p) → IsDone k os (slice_set os a p) a r
+step-done k os a None p r join b h g e =
     let re : Err CpuEmpty ≡ r = ap (λ (q : Result Answer Refusal × Option Out). q.0) e in
     let pe : None ≡ p = ap (λ (q : Result Answer Refusal × Option Out). q.1) e in
     subst (λ (x : Result Answer Refusal). IsDone k os (slice_set os a p) a x) re (subst (λ (x : Option Out). IsDone k os (slice_set os a x) a (Err CpuEmpty)) pe
     (refused-done k os a None CpuEmpty h g (empty-refused (world_of (on k os)) a Step tt (lends_none k os a h g))))
-step-done k os a (Some o) p r join b h g e lasts = some-done k os a o p r (at_stop o) join b h g refl e lasts
+step-done k os a (Some o) p r join b h g e = some-done k os a o p r (at_stop o) join b h g refl e
+
+-- a step is not recorded
+pub step-kept : (k : BootAndHistory) (a : ℕ) (r : Result Answer Refusal) → k ≡ kept_after k a Step r
+step-kept k a (Ok y) = refl
+step-kept k a (Err e) = refl
 
 -- ---- a tool's work
 
 pub work-done : (k : BootAndHistory) (os : List (Option Out)) (a j : ℕ) (o p : Out) → ((a b : ℕ) (x : Out) → held_run (a + b) x ≡ then_held (held_run a x) b)
     → ((w : World) (a k : ℕ) (l : HeldProcess) → held_by w a ≡ Some l → l.out.count ≤ l.out.budget → StepsTo w a (held_run k l.out).0.0 l (held_run k l.out).1)
-    → a < length os → IsMachineState (on k os) → get_or os a None ≡ Some o → p ≡ (held_run j o).1 → lasting p.image ≡ lasting o.image
+    → a < length os → IsMachineState (on k os) → get_or os a None ≡ Some o → p ≡ (held_run j o).1
     → IsMachineState (on k (slice_set os a (Some p))) × (l : HeldProcess) × (l.out ≡ o) × HasWorked (world_of (on k os)) (world_of (on k (slice_set os a (Some p)))) a j l
-work-done k os a j o p join steps b h g is lasts =
+work-done k os a j o p join steps b h g is =
     let l = lends k os a o h g in
     let m : HeldProcess = record l.lent { out = o } in
     let w = world_of (on k os) in
     let held : held_by w a ≡ Some m = held-now k os a l.lent o l.is g in
     let s : StepsTo w a (held_run j o).0.0 m (held_run j o).1 = steps w a j m held l.runs.within in
-    let run : IsRunOf l.lent.out p = run-more l.lent.out o p j join l.runs is lasts in
+    let run : IsRunOf l.lent.out p = run_more l.lent.out o p j join l.runs is in
     let at : get_or (slice_set os a (Some p)) a None ≡ Some p = get_or-set_same os a (Some p) None b in
     let same : Some (record l.lent { out = p }) ≡ Some (record m { out = (held_run j o).1 }) = ap (λ (x : Out). let y : Option HeldProcess = Some (record l.lent { out = x }) in y) is in (
       running-replaced k os a l.lent p b h l.is run,
@@ -259,6 +265,22 @@ ruled k n os a x (Err y) e h i ok err = record {
   world = anyones-refused k os a x y i err.0 ∙ ap (λ (m : BootAndHistory). let p : Result Answer Refusal × World = (Err y, world_of (on m os)) in p) (sym err.1);
 }
 
+-- ---- what is recorded of it
+
+recorded_all : (k : BootAndHistory) (a : ℕ) (x : Event) (y : Answer) → IsAnyones x → with_record k a (recorded_as x) ≡ with_records k a (record_of x y)
+recorded_all k a Step y i = cc
+recorded_all k a Take y i = cc
+recorded_all k a Back y i = cc
+recorded_all k a (Line l) y i = refl
+recorded_all k a Tick y i = refl
+recorded_all k a (Kill e) y i = refl
+recorded_all k a (Respawn s) y i = refl
+
+pub ruled-kept : (k n : BootAndHistory) (a : ℕ) (x : Event) (r : Result Answer Refusal) → IsAnyones x
+    → IfOk r (λ y. (y ≡ event_answer (replay k) a x) × IsEventAccepted k n a x (recorded_as x)) → IfErr r (λ y. IsEventRefused k n a x y) → n ≡ kept_after k a x r
+ruled-kept k n a x (Ok y) i ok err = ok.1.recorded ∙ recorded_all k a x y i
+ruled-kept k n a x (Err y) i ok err = err.1
+
 -- ---- the slot on a processor
 
 lease-at : (ls : List (Option HeldProcess)) (a : ℕ) → get_or (map lease_of ls) a None ≡ lease_of (get_or ls a None)
@@ -288,8 +310,8 @@ take-err k n os a e m is refused = subst (λ (m : MachineState). move (world_of 
 
 -- ---- a tool's call
 
-abbrev pub Lasts : Option Out → Option Out → (Out → ℕ) → (Out → Type 0) → Type 0
-Lasts held new j B = (o : Out) × (p : Out) × (held ≡ Some o) × (new ≡ Some p) × (p ≡ (held_run (j o) o).1) × (lasting p.image ≡ lasting o.image) × B o
+abbrev pub HasRun : Option Out → Option Out → (Out → ℕ) → (Out → Type 0) → Type 0
+HasRun held new j B = (o : Out) × (p : Out) × (held ≡ Some o) × (new ≡ Some p) × (p ≡ (held_run (j o) o).1) × B o
 
 -- What a tool's call leaves.
 pub record IsWorked (k : BootAndHistory) (os : List (Option Out)) (a : ℕ) (new : Option Out) (r : Result (Unit {0}) Refusal) (j : Out → ℕ) (B : Out → Type 0) (Same : Type 0) : Type 0 where
@@ -301,14 +323,14 @@ pub worked : (k : BootAndHistory) (os : List (Option Out)) (a : ℕ) (held new :
     → ((a b : ℕ) (x : Out) → held_run (a + b) x ≡ then_held (held_run a x) b)
     → ((w : World) (a k : ℕ) (l : HeldProcess) → held_by w a ≡ Some l → l.out.count ≤ l.out.budget → StepsTo w a (held_run k l.out).0.0 l (held_run k l.out).1)
     → a < length os → IsMachineState (on k os) → get_or os a None ≡ held
-    → IfErr r (λ e. (e ≡ CpuEmpty) × (held ≡ None) × (new ≡ None) × Same) → OnOk r (Lasts held new j B) → IsWorked k os a new r j B Same
+    → IfErr r (λ e. (e ≡ CpuEmpty) × (held ≡ None) × (new ≡ None) × Same) → OnOk r (HasRun held new j B) → IsWorked k os a new r j B Same
 worked k os a held new (Ok u) j B Same join steps b h at none some =
     let o = some.0 in
     let p = some.1 in
-    let d = work-done k os a (j o) o p join steps b h (at ∙ some.2) some.4 some.5 in
+    let d = work-done k os a (j o) o p join steps b h (at ∙ some.2) some.4 in
     subst (λ (x : Option Out). IsWorked k os a x (Ok u) j B Same) (sym some.3) (record {
       running = d.0;
-      ok = (d.1, subst (λ (x : Out). HasWorked (world_of (on k os)) (world_of (on k (slice_set os a (Some p)))) a (j x) d.1) (sym d.2) d.3, subst B (sym d.2) some.6);
+      ok = (d.1, subst (λ (x : Out). HasWorked (world_of (on k os)) (world_of (on k (slice_set os a (Some p)))) a (j x) d.1) (sym d.2) d.3, subst B (sym d.2) some.5);
       err = tt;
     })
 worked k os a held new (Err e) j B Same join steps b h at none some =

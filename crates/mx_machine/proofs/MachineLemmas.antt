@@ -20,6 +20,7 @@ use Rattle.mx_machine_world.specs.declared.holding.Out.{Out}
 use Rattle.mx_machine_world.specs.World.{World, HeldProcess, held_by, out_count, free_records}
 use Rattle.mx_machine_world.specs.Move.{if_full, take_refusal, line_refusal, kill_refusal, respawn_refusal, event_refusal, world_after_event, event_answer, move_by, move, world_after_line, world_after_respawn, world_after_take, world_after_back, with_held, world_with_record, table_after_back, held_at_take, step_refusal, back_refusal, back_answer, take_answer, table_after_sending_out, moves}
 use Rattle.mx_machine_world.specs.History.{BootAndHistory, replay}
+use Rattle.mx_machine_world.proofs.ProcessorLemmas.{cpus_after}
 use Rattle.mx_machine_kernel.specs.KernelState.{is_for_all}
 use Rattle.mx_machine.specs.Machine.{held_now, all_held_now, world_of}
 
@@ -110,25 +111,6 @@ after_now w cs a (Line l) i = after_line_now w cs l (owner_of w.table l)
 after_now w cs a Tick i = refl
 after_now w cs a (Kill e) i = refl
 after_now w cs a (Respawn s) i = after_respawn_now w cs s (slice_get w.services s)
-
-pub line_cpus : (w : World) (l : ℕ) (owner : Option ℕ) → (world_after_line w l owner).cpus ≡ w.cpus
-line_cpus w l None = refl
-line_cpus w l (Some s) = refl
-
-pub respawn_cpus : (w : World) (s : ℕ) (v : Option Service) → (world_after_respawn w s v).cpus ≡ w.cpus
-respawn_cpus w s None = refl
-respawn_cpus w s (Some v) = refl
-
--- such an event leaves what processors hold
-pub cpus_after : (w : World) (a : ℕ) (x : Event) → IsAnyones x → (world_after_event w a x).cpus ≡ w.cpus
-unfolding world_after_event
-cpus_after w a Step i = cc
-cpus_after w a Take i = cc
-cpus_after w a Back i = cc
-cpus_after w a (Line l) i = line_cpus w l (owner_of w.table l)
-cpus_after w a Tick i = refl
-cpus_after w a (Kill e) i = refl
-cpus_after w a (Respawn s) i = respawn_cpus w s (slice_get w.services s)
 
 -- ---- events of a machine
 

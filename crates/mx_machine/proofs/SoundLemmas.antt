@@ -5,9 +5,9 @@ use Rattle.mx_machine_world.specs.declared.holding.Out.{Out}
 use Rattle.mx_machine_world.specs.History.{replay}
 use Rattle.mx_machine_world.specs.Sound.{IsConsistent, IsSound, lease_of}
 use Rattle.mx_machine_world.specs.World.{HeldProcess, held_by}
+use Rattle.mx_machine_world.proofs.LentLemmas.{back_lasts, run_budget}
 use Rattle.mx_machine.specs.Machine.{IsHeld, IsRunOf, IsMachineState, MachineState, held_now, all_held_now, world_of}
 use Rattle.mx_machine.proofs.MachineLemmas.{held_now-at}
-use Rattle.mx_machine.proofs.RunLemmas.{run-budget}
 
 -- ---- leases
 
@@ -15,7 +15,7 @@ lease_now : (l : Option HeldProcess) (o : Option Out) → IsHeld l o → lease_o
 lease_now None None h = refl
 lease_now None (Some o) h = absurd h
 lease_now (Some l) None h = absurd h
-lease_now (Some l) (Some o) h = ap (λ (n : ℕ). let x : Option Lease = Some (record { slot = l.slot; budget = n }) in x) (run-budget l.out o h)
+lease_now (Some l) (Some o) h = ap (λ (n : ℕ). let x : Option Lease = Some (record { slot = l.slot; budget = n }) in x) (run_budget l.out o h)
 
 leases_now : (ls : List (Option HeldProcess)) (os : List (Option Out)) → ((a : ℕ) → IsHeld (get_or ls a None) (get_or os a None)) → map lease_of (all_held_now ls os) ≡ map lease_of ls
 leases_now [] os h = refl
@@ -56,5 +56,5 @@ is-sound m h s =
       table = s.table;
       holds = subst (λ (x : List (Option Lease)). IsConsistent w.table x w.services w.records w.capacity) (sym (leases_now w.cpus m.outs h.each)) s.holds;
       counts = λ a l e. (of a l e).runs.within;
-      loaded = λ a l v e g. let i = of a l e in i.runs.back.lasting ∙ s.loaded a i.was v i.is (ap (λ n. slice_get w.services n) (sym i.slot) ∙ g);
+      loaded = λ a l v e g. let i = of a l e in back_lasts i.was.out l.out i.runs.back ∙ s.loaded a i.was v i.is (ap (λ n. slice_get w.services n) (sym i.slot) ∙ g);
     }

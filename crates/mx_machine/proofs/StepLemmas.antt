@@ -15,6 +15,7 @@ use Rattle.mx_machine_world.specs.declared.events.Answer.TheVariants.{Went}
 use Rattle.mx_machine_world.specs.Held.{out_after_step, outcome_of_step}
 use Rattle.mx_machine_world.specs.World.{World, HeldProcess, held_by, out_count, free_records}
 use Rattle.mx_machine_world.specs.Move.{if_full, at_stop, step_refusal, back_refusal, take_refusal, line_refusal, kill_refusal, respawn_refusal, event_refusal, world_after_event, event_answer, move_by, move, with_held, world_with_record, world_after_step, world_after_take, world_after_back, world_after_line, world_after_respawn, step_answer, back_answer, held_at_take, table_after_sending_out, table_after_back}
+use Rattle.mx_machine_world.proofs.ProcessorLemmas.{held_after, held_by_any}
 use Rattle.mx_machine.specs.Laws.{ChangePlaces, IsOthers}
 
 -- ---- what a processor has is replaced
@@ -92,36 +93,15 @@ after_over w c a Tick m n = refl
 after_over w c a (Kill e) m n = refl
 after_over w c a (Respawn s) m n = respawn_over w c s m (slice_get w.services s)
 
-step_held : (w : World) (c a : ℕ) (held : Option HeldProcess) → a ≢ c → held_by (world_after_step w a held) c ≡ held_by w c
-step_held w c a None n = refl
-step_held w c a (Some l) n = get_or-set_other w.cpus a c (Some (record l { out = out_after_step l.out })) None (λ e. n (sym e))
-
-take_held : (w : World) (c a : ℕ) (first : Option ℕ) → a ≢ c → held_by (world_after_take w a first) c ≡ held_by w c
-take_held w c a None n = refl
-take_held w c a (Some s) n = get_or-set_other w.cpus a c (Some (held_at_take w.table s)) None (λ e. n (sym e))
-
-back_held : (w : World) (c a : ℕ) (held : Option HeldProcess) → a ≢ c → held_by (world_after_back w a held) c ≡ held_by w c
-back_held w c a None n = refl
-back_held w c a (Some l) n = get_or-set_other w.cpus a c None None (λ e. n (sym e))
-
-line_held : (w : World) (c i : ℕ) (owner : Option ℕ) → held_by (world_after_line w i owner) c ≡ held_by w c
-line_held w c i None = refl
-line_held w c i (Some s) = refl
-
-respawn_held : (w : World) (c s : ℕ) (v : Option Service) → held_by (world_after_respawn w s v) c ≡ held_by w c
-respawn_held w c s None = refl
-respawn_held w c s (Some v) = refl
-
 -- what a processor has stays, whatever else happens
 held_over : (w : World) (c a : ℕ) (x : Event) → IsOthers c a x → held_by (world_after_event w a x) c ≡ held_by w c
-unfolding world_after_event
-held_over w c a Step n = step_held w c a (held_by w a) n
-held_over w c a Take n = take_held w c a (first_ready w.table.ready) n
-held_over w c a Back n = back_held w c a (held_by w a) n
-held_over w c a (Line i) n = line_held w c i (owner_of w.table i)
-held_over w c a Tick n = refl
-held_over w c a (Kill e) n = refl
-held_over w c a (Respawn s) n = respawn_held w c s (slice_get w.services s)
+held_over w c a Step n = held_after w a c Step n
+held_over w c a Take n = held_after w a c Take n
+held_over w c a Back n = held_after w a c Back n
+held_over w c a (Line i) n = held_by_any w a c (Line i) refl
+held_over w c a Tick n = held_by_any w a c Tick refl
+held_over w c a (Kill e) n = held_by_any w a c (Kill e) refl
+held_over w c a (Respawn s) n = held_by_any w a c (Respawn s) refl
 
 -- ---- events
 
@@ -159,9 +139,9 @@ world_over : (w : World) (c a : ℕ) (x : Event) (l m : HeldProcess) → held_by
 unfolding move
 world_over w c a x l m h n = ap (λ r. (move_by (with_held w c (Some m)) a x r).1) (refusal_kept w c a x l m h n) ∙ world_by w c a x m (event_refusal w a x) n
 
-held_after : (w : World) (c a : ℕ) (x : Event) → IsOthers c a x → held_by (move w a x).1 c ≡ held_by w c
+held_after_move : (w : World) (c a : ℕ) (x : Event) → IsOthers c a x → held_by (move w a x).1 c ≡ held_by w c
 unfolding move
-held_after w c a x n = held_by_it w c a x (event_refusal w a x) n
+held_after_move w c a x n = held_by_it w c a x (event_refusal w a x) n
 
 step_answers : (u w : World) (c : ℕ) (l : HeldProcess) (b : Bool) → (step_by u c l b).0 ≡ (step_by w c l b).0
 step_answers u w c l true = refl
@@ -181,7 +161,7 @@ step-changes w c a x l h n =
     let b = at_stop l.out in
     let u = (move w a x).1 in
     let now : move w c Step ≡ step_by w c l b = move-step w c l h in
-    let later : move u c Step ≡ step_by u c l b = move-step u c l (held_after w c a x n ∙ h) in
+    let later : move u c Step ≡ step_by u c l b = move-step u c l (held_after_move w c a x n ∙ h) in
     record {
       first = ap (λ p. p.0) later ∙ step_answers u w c l b ∙ sym (ap (λ p. p.0) now);
       second = ap (λ (p : Result Answer Refusal × World). (move p.1 a x).0) now ∙ second_answer w c a x l b h n;

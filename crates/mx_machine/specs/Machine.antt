@@ -1,17 +1,21 @@
 -- The machine of one thread: a kernel, and what its processors hold.
-use Rattle.std.specs.Prelude.{ℕ, true, ◌≡◌, ◌<◌, ◌≤◌, List, ◌∷◌, Option, Some, None, Result, Ok, Err, length, slice_index_or, if◌then◌else◌}
+use Rattle.std.specs.Prelude.{ℕ, true, ◌≡◌, ◌<◌, ◌≤◌, List, [], ◌∷◌, Option, Some, None, Result, Ok, Err, length, slice_index_or, if◌then◌else◌}
 use Rattle.mx_machine_world.specs.declared.events.Answer.{Answer}
-use Rattle.mx_machine_world.specs.declared.events.Answer.TheVariants.{Went}
+use Rattle.mx_machine_world.specs.declared.events.Answer.TheVariants.{Went, Returned}
 use Rattle.mx_machine_world.specs.declared.events.Event.{Event}
+use Rattle.mx_machine_world.specs.declared.events.Event.TheVariants.{Step, Take, Back}
 use Rattle.mx_machine_world.specs.declared.events.Refusal.{Refusal}
 use Rattle.mx_machine_world.specs.declared.events.Refusal.TheVariants.{AtStop, CpuEmpty}
+use Rattle.mx_machine_world.specs.declared.history.Recorded.{Recorded}
+use Rattle.mx_machine_world.specs.declared.history.Recorded.TheVariants as recorded
 use Rattle.mx_machine_world.specs.declared.holding.Out.{Out}
 use Rattle.mx_machine_world.specs.World.{World, HeldProcess, actors, held_by}
-use Rattle.mx_machine_world.specs.Held.{IsBack, held_run, outcome_of_step, out_after_step}
+pub use Rattle.mx_machine_world.specs.Held.{IsRunOf}
+use Rattle.mx_machine_world.specs.Held.{held_run, outcome_of_step, out_after_step}
 use Rattle.mx_machine_world.specs.Move.{at_stop}
-use Rattle.mx_machine_world.specs.History.{BootAndHistory, AreAccepted, world_after_events, replay}
+use Rattle.mx_machine_world.specs.History.{BootAndHistory, AreAccepted, world_after_events, replay, with_record}
 use Rattle.mx_machine_world.specs.Steps.{steps_of}
-use Rattle.mx_machine_kernel.specs.KernelState.{is_for_all}
+use Rattle.mx_machine_kernel.specs.KernelState.{is_for_all, recorded_as}
 
 -- What a machine is seen as: its kernel, and what each processor holds.
 pub record MachineState : Type 0 where
@@ -30,11 +34,6 @@ all_held_now ls _ = ls
 -- THE WORLD of a machine: its kernel's, but that a processor's process stands where the processor has brought it
 unfoldable pub world_of : MachineState → World
 world_of m = let w = replay m.kernel in record w { cpus = all_held_now w.cpus m.outs }
-
--- What a processor holds is what it was lent, after a run of the steps that it counts.
-pub record IsRunOf (lent out : Out) : Type 0 where
-  pub back : IsBack lent out
-  pub within : out.count ≤ out.budget
 
 -- a processor holds something exactly where it was lent something
 abbrev pub IsHeld : Option HeldProcess → Option Out → Type 0
@@ -63,3 +62,31 @@ hold_after_step (Some o) = if at_stop o then (Err AtStop, Some o) else (Ok (Went
 -- who raises lines, lets the clock tick, kills and respawns is one of the actors
 abbrev pub IsActor : World → ℕ → Event → Type 0
 IsActor w a x = is_for_all x ≡ true → a < actors w
+
+-- ---- what is recorded
+
+abbrev pub steps_in : Answer → ℕ
+steps_in (Returned n) = n
+steps_in _ = 0
+
+-- THE RECORD of an accepted event, by its answer: a step has none, and a return counts its steps
+abbrev pub record_of : Event → Answer → Option Recorded
+record_of Step y = None
+record_of Take y = Some recorded.Take
+record_of Back y = Some (recorded.Back (steps_in y))
+record_of x y = Some (recorded_as x)
+
+abbrev pub with_records : BootAndHistory → ℕ → Option Recorded → BootAndHistory
+with_records k a None = k
+with_records k a (Some e) = with_record k a e
+
+-- the kernel after an event that was answered so: a refusal leaves it
+abbrev pub kept_after : BootAndHistory → ℕ → Event → Result Answer Refusal → BootAndHistory
+kept_after k a x (Err r) = k
+kept_after k a x (Ok y) = with_records k a (record_of x y)
+
+-- and after events in a row, each with its answer
+abbrev pub kept_along : BootAndHistory → List (ℕ × Event) → List (Result Answer Refusal) → BootAndHistory
+kept_along k [] rs = k
+kept_along k (x ∷ xs) [] = k
+kept_along k (x ∷ xs) (r ∷ rs) = kept_along (kept_after k x.0 x.1 r) xs rs

@@ -10,7 +10,7 @@ ghost use Rattle.mx_machine_world.specs.Move.{move, moves};
 ghost use Rattle.mx_machine_world.specs.Sound.{IsSound};
 ghost use Rattle.mx_machine_world.specs.World.{HeldProcess, actors, held_by, out_count};
 ghost use Rattle.mx_machine_kernel.specs.KernelState.{is_for_all};
-ghost use Rattle.mx_machine.specs.Machine.{HasWorked, IsActor, IsMachineState, world_of};
+ghost use Rattle.mx_machine.specs.Machine.{HasWorked, IsActor, IsMachineState, kept_after, kept_along, world_of};
 
 use crate::steps::{Tool, step_held, work_held};
 use mx_exec::Image;
@@ -130,7 +130,8 @@ impl Machine {
 
     /// A step of a processor.
     fn step(&mut self, cpu: u8) -> Result<Answer, Refusal>
-        ensures { move (world_of self.old) cpu events.Step ≡ (result, world_of self.new) }
+        ensures moved { move (world_of self.old) cpu events.Step ≡ (result, world_of self.new) }
+        ensures recorded { self.new.kernel ≡ kept_after self.old.kernel cpu events.Step result }
     {
         held_runs_join();
         self.opened();
@@ -142,7 +143,8 @@ impl Machine {
 
     /// A processor takes the process that is first to run.
     fn take(&mut self, cpu: u8) -> Result<Answer, Refusal>
-        ensures { move (world_of self.old) cpu events.Take ≡ (result, world_of self.new) }
+        ensures moved { move (world_of self.old) cpu events.Take ≡ (result, world_of self.new) }
+        ensures recorded { self.new.kernel ≡ kept_after self.old.kernel cpu events.Take result }
     {
         let out = self.kernel.take(cpu)?;
         self.kernel.opened();
@@ -153,7 +155,8 @@ impl Machine {
 
     /// A processor's process comes back.
     fn back(&mut self, cpu: u8) -> Result<Answer, Refusal>
-        ensures { move (world_of self.old) cpu events.Back ≡ (result, world_of self.new) }
+        ensures moved { move (world_of self.old) cpu events.Back ≡ (result, world_of self.new) }
+        ensures recorded { self.new.kernel ≡ kept_after self.old.kernel cpu events.Back result }
     {
         self.opened();
         if cpu as usize >= self.outs.len() {
@@ -169,15 +172,18 @@ impl Machine {
     fn rule(&mut self, actor: u8, event: Event) -> Result<Answer, Refusal>
         requires event { is_for_all event ≡ true }
         requires actor { actor < actors (world_of self.old) }
-        ensures { move (world_of self.old) actor event ≡ (result, world_of self.new) }
+        ensures moved { move (world_of self.old) actor event ≡ (result, world_of self.new) }
+        ensures recorded { self.new.kernel ≡ kept_after self.old.kernel actor event result }
     {
         self.kernel.event(actor, event)
     }
 
-    /// One event of an actor: it is refused, and nothing changes, or it is answered.
+    /// One event of an actor: it is refused, and nothing changes, or it is answered. But for a step
+    /// the history then has one record more.
     pub fn apply(&mut self, actor: u8, event: Event) -> Result<Answer, Refusal>
         requires { IsActor (world_of self.old) actor event }
         ensures moved { move (world_of self.old) actor event ≡ (result, world_of self.new) }
+        ensures recorded { self.new.kernel ≡ kept_after self.old.kernel actor event result }
         ensures actors { actors (world_of self.new) ≡ actors (world_of self.old) }
     {
         actors_stay();
@@ -198,6 +204,7 @@ impl Machine {
     ) -> Result<(), NoMemory>
         requires { All (λ x. IsActor (world_of self.old) x.0 x.1) events.now }
         ensures ok { OnOk result ((answers.new.items ≡ answers.old.items ++ (moves (world_of self.old) events.now).0) × (world_of self.new ≡ (moves (world_of self.old) events.now).1)) }
+        ensures recorded { OnOk result (self.new.kernel ≡ kept_along self.old.kernel events.now (moves (world_of self.old) events.now).0) }
         ensures err { OnErr result ((answers.new.items ≡ answers.old.items) × (self.new ≡ self.old)) }
         ensures actors { actors (world_of self.new) ≡ actors (world_of self.old) }
     {

@@ -1,7 +1,6 @@
 //! What is done with what a processor holds.
 
-ghost use Rattle.std.specs.Prelude.{◌≡◌, ℕ, ◌+◌, ◌<◌, ◌^◌, true, false, IfOk, IfErr, IfSome, OnOk, None, Some};
-ghost use Rattle.mx_exec.specs.Lasting.{lasting};
+ghost use Rattle.std.specs.Prelude.{◌≡◌, ℕ, ◌+◌, ◌<◌, ◌^◌, true, false, IfOk, IfErr, OnOk, None, Some};
 ghost use Rattle.mx_machine_world.specs.declared.events.Answer.TheVariants.{Went};
 ghost use Rattle.mx_machine_world.specs.declared.events.Refusal.TheVariants.{AtStop, CpuEmpty};
 ghost use Rattle.mx_machine_world.specs.declared.holding.Out.{Out};
@@ -24,7 +23,6 @@ pub trait Tool {
     /// Makes its one run with what it is lent.
     fn work(&mut self, out: &mut Out)
         ensures ran { out.new ≡ (held_run (steps self.old out.old) out.old).1 }
-        ensures lasting { lasting out.new.image ≡ lasting out.old.image }
         ensures becomes { Becomes self.old out.old self.new };
 }
 
@@ -55,7 +53,6 @@ fn at_stop(out: &Out) -> bool
 fn step_of(out: &mut Out) -> Result<Answer, Refusal>
     ensures stop { IfErr result (λ refusal. (refusal ≡ AtStop) × (at_stop out.old ≡ true) × (out.new ≡ out.old)) }
     ensures went { IfOk result (λ answer. (answer ≡ Went (outcome_of_step out.old)) × (at_stop out.old ≡ false) × (out.new ≡ out_after_step out.old)) }
-    ensures lasting { lasting out.new.image ≡ lasting out.old.image }
 {
     if at_stop(out) {
         return Err(Refusal::AtStop);
@@ -68,8 +65,7 @@ fn step_of(out: &mut Out) -> Result<Answer, Refusal>
 
 /// One step of what a processor holds, if it holds anything.
 pub(crate) fn step_held(held: &mut Option<Out>) -> Result<Answer, Refusal>
-    ensures value { hold_after_step held.old ≡ (result, held.new) }
-    ensures lasting { IfSome held.old (λ o. IfSome held.new (λ p. lasting p.image ≡ lasting o.image)) }
+    ensures { hold_after_step held.old ≡ (result, held.new) }
 {
     match held {
         Some(out) => step_of(out),
@@ -80,7 +76,7 @@ pub(crate) fn step_held(held: &mut Option<Out>) -> Result<Answer, Refusal>
 /// Lends what a processor holds to a tool, if it holds anything.
 pub(crate) fn work_held<T: Tool>(tool: &mut T, held: &mut Option<Out>) -> Result<(), Refusal>
     ensures none { IfErr result (λ refusal. (refusal ≡ CpuEmpty) × (held.old ≡ None) × (held.new ≡ None) × (tool.new ≡ tool.old)) }
-    ensures some { OnOk result ((o : Out) × (p : Out) × (held.old ≡ Some o) × (held.new ≡ Some p) × (p ≡ (held_run (T.steps tool.old o) o).1) × (lasting p.image ≡ lasting o.image) × T.Becomes tool.old o tool.new) }
+    ensures some { OnOk result ((o : Out) × (p : Out) × (held.old ≡ Some o) × (held.new ≡ Some p) × (p ≡ (held_run (T.steps tool.old o) o).1) × T.Becomes tool.old o tool.new) }
 {
     match held {
         Some(out) => {

@@ -28,6 +28,8 @@ use Rattle.mx_machine_world.specs.Rest.{at_rest, down_are_worn}
 use Rattle.mx_machine_world.specs.Sound.{lease_of, lease_at, IsSound}
 use Rattle.mx_machine_world.specs.Steps.{StepsTo}
 use Rattle.mx_machine_world.specs.World.{World, HeldProcess, actors, held_by, out_count, free_records}
+use Rattle.mx_machine_world.proofs.LentLemmas.{back_lasts}
+use Rattle.mx_machine_world.proofs.StepLemmas.{set_twice}
 use Rattle.mx_machine_kernel.specs.Agrees.{IsAtReplay, IsFresh, IsEventAccepted}
 use Rattle.mx_machine_kernel.specs.KernelState.{KernelState, kernel_state_of, records_left, state_with_record, state_after_take, state_after_back, refusal_to_take, HasTaken, HasAccepted, refusal_to, table_after_line_by, table_after_respawn_by, table_after, answer_to, is_for_all, recorded_as}
 use Rattle.mx_machine_kernel.proofs.HoldsLemmas.{holds_in}
@@ -35,17 +37,26 @@ use Rattle.mx_machine_kernel.proofs.CurrentLemmas.{HoldsOf, ready_loan}
 
 -- ---- one record more
 
-unfold-last : (xs : List Record) (x : Record) → events_of_history (xs ++ x ∷ []) ≡ events_of_history xs ++ (events_of x.actor x.event ++ [])
-unfold-last [] x = refl
-unfold-last (y ∷ ys) x = ap (λ l. events_of y.actor y.event ++ l) (unfold-last ys x) ∙ sym (append_assoc (events_of y.actor y.event) (events_of_history ys) (events_of x.actor x.event ++ []))
+pub unfold_last : (xs : List Record) (x : Record) → events_of_history (xs ++ x ∷ []) ≡ events_of_history xs ++ (events_of x.actor x.event ++ [])
+unfold_last [] x = refl
+unfold_last (y ∷ ys) x = ap (λ l. events_of y.actor y.event ++ l) (unfold_last ys x) ∙ sym (append_assoc (events_of y.actor y.event) (events_of_history ys) (events_of x.actor x.event ++ []))
 
-after-append : (w : World) (xs ys : List (ℕ × Event)) → world_after_events w (xs ++ ys) ≡ world_after_events (world_after_events w xs) ys
-after-append w [] ys = refl
-after-append w (x ∷ xs) ys = after-append (world_after_event w x.0 x.1) xs ys
+pub after_append : (w : World) (xs ys : List (ℕ × Event)) → world_after_events w (xs ++ ys) ≡ world_after_events (world_after_events w xs) ys
+after_append w [] ys = refl
+after_append w (x ∷ xs) ys = after_append (world_after_event w x.0 x.1) xs ys
 
-accepted-append : (w : World) (xs ys : List (ℕ × Event)) → AreAccepted w xs → AreAccepted (world_after_events w xs) ys → AreAccepted w (xs ++ ys)
-accepted-append w [] ys a b = b
-accepted-append w (x ∷ xs) ys a b = (a.0, accepted-append (world_after_event w x.0 x.1) xs ys a.1 b)
+pub accepted_append : (w : World) (xs ys : List (ℕ × Event)) → AreAccepted w xs → AreAccepted (world_after_events w xs) ys → AreAccepted w (xs ++ ys)
+accepted_append w [] ys a b = b
+accepted_append w (x ∷ xs) ys a b = (a.0, accepted_append (world_after_event w x.0 x.1) xs ys a.1 b)
+
+-- and the other way round
+accepted_front : (w : World) (xs ys : List (ℕ × Event)) → AreAccepted w (xs ++ ys) → AreAccepted w xs
+accepted_front w [] ys h = tt
+accepted_front w (x ∷ xs) ys h = (h.0, accepted_front (world_after_event w x.0 x.1) xs ys h.1)
+
+accepted_rest : (w : World) (xs ys : List (ℕ × Event)) → AreAccepted w (xs ++ ys) → AreAccepted (world_after_events w xs) ys
+accepted_rest w [] ys h = h
+accepted_rest w (x ∷ xs) ys h = accepted_rest (world_after_event w x.0 x.1) xs ys h.1
 
 all-one : {X : Type 0} (P : X → Type 0) (x : X) → P x → All P (x ∷ [])
 all-one P x h zero d b = h
@@ -60,13 +71,21 @@ length-more (y ∷ ys) x = omega (arith, length-more ys x)
 
 pub replay-recorded : (k : BootAndHistory) (a : ℕ) (x : Recorded) → replay (with_record k a x) ≡ world_after_events (replay k) (events_of a x)
 unfolding replay
-replay-recorded k a x = ap (world_after_events k.boot) (unfold-last k.history (record { actor = a; event = x })) ∙ after-append k.boot (events_of_history k.history) (events_of a x ++ [])
-    ∙ after-append (world_after_events k.boot (events_of_history k.history)) (events_of a x) []
+replay-recorded k a x = ap (world_after_events k.boot) (unfold_last k.history (record { actor = a; event = x })) ∙ after_append k.boot (events_of_history k.history) (events_of a x ++ [])
+    ∙ after_append (world_after_events k.boot (events_of_history k.history)) (events_of a x) []
 
 accepted-recorded : (k : BootAndHistory) (a : ℕ) (x : Recorded) → AreAccepted k.boot (events_of_history k.history) → AreAccepted (replay k) (events_of a x) → AreAccepted k.boot (events_of_history (with_record k a x).history)
 unfolding replay
-accepted-recorded k a x h e = subst (λ l. AreAccepted k.boot l) (sym (unfold-last k.history (record { actor = a; event = x })))
-    (accepted-append k.boot (events_of_history k.history) (events_of a x ++ []) h (accepted-append (world_after_events k.boot (events_of_history k.history)) (events_of a x) [] e tt))
+accepted-recorded k a x h e = subst (λ l. AreAccepted k.boot l) (sym (unfold_last k.history (record { actor = a; event = x })))
+    (accepted_append k.boot (events_of_history k.history) (events_of a x ++ []) h (accepted_append (world_after_events k.boot (events_of_history k.history)) (events_of a x) [] e tt))
+
+-- where all events of a history are accepted, those of its last record are accepted where the others lead
+pub last_accepted : (k n : BootAndHistory) (a : ℕ) (x : Recorded) → n ≡ with_record k a x → AreAccepted n.boot (events_of_history n.history) → AreAccepted (replay k) (events_of a x)
+unfolding replay
+last_accepted k n a x is h =
+    let all : AreAccepted k.boot (events_of_history (with_record k a x).history) = subst (λ (m : BootAndHistory). AreAccepted m.boot (events_of_history m.history)) is h in
+    let parted = subst (AreAccepted k.boot) (unfold_last k.history (record { actor = a; event = x })) all in
+    accepted_front (replay k) (events_of a x) [] (accepted_rest k.boot (events_of_history k.history) (events_of a x ++ []) parted)
 
 -- THE STEP from one record to the next
 recorded-agrees : (d n : KernelState) (room more : ℕ) (k : BootAndHistory) (a : ℕ) (x : Recorded) (v : World) → IsAtReplay d room k → AreAccepted (replay k) (events_of a x) → world_after_events (replay k) (events_of a x) ≡ v
@@ -108,15 +127,10 @@ lease-same [] a = refl
 lease-same (x ∷ xs) zero = refl
 lease-same (x ∷ xs) (suc a) = lease-same xs a
 
-set-twice : {X : Type 0} (xs : List X) (i : ℕ) (y z : X) → slice_set (slice_set xs i y) i z ≡ slice_set xs i z
-set-twice [] i y z = refl
-set-twice (x ∷ xs) zero y z = refl
-set-twice (x ∷ xs) (suc i) y z = ap (λ l. x ∷ l) (set-twice xs i y z)
-
-map-put : {X Y : Type 0} (f : X → Y) (xs : List X) (i : ℕ) (p : X) → map f (slice_set xs i p) ≡ slice_set (map f xs) i (f p)
-map-put f [] i p = refl
-map-put f (x ∷ xs) zero p = refl
-map-put f (x ∷ xs) (suc i) p = ap (λ l. f x ∷ l) (map-put f xs i p)
+pub map_put : {X Y : Type 0} (f : X → Y) (xs : List X) (i : ℕ) (p : X) → map f (slice_set xs i p) ≡ slice_set (map f xs) i (f p)
+map_put f [] i p = refl
+map_put f (x ∷ xs) zero p = refl
+map_put f (x ∷ xs) (suc i) p = ap (λ l. f x ∷ l) (map_put f xs i p)
 
 -- ---- the events that any actor may do
 
@@ -239,7 +253,7 @@ take_agrees d n room more k a s o h taken holds written bigger =
     let v : World = with_held (world_with_record w (table_after_sending_out w.table s)) a (Some l) in
     let below : a < length w.cpus = omega (arith, taken.processor, ap (λ (d : KernelState). length d.leases) h.present, length-map w.cpus lease_of) in
     recorded-agrees d n room more k a recorded.Take v h (take_accepted d room k a h taken.accepted, tt) (after_take-is w a s first)
-    (taken.after ∙ ap (λ d. state_after_take d a s) h.present ∙ ap (λ x. let y : KernelState = record (kernel_state_of w) { table = table_after_sending_out w.table s; records = w.records + 1; leases = x } in y) (sym (map-put lease_of w.cpus a (Some l))))
+    (taken.after ∙ ap (λ d. state_after_take d a s) h.present ∙ ap (λ x. let y : KernelState = record (kernel_state_of w) { table = table_after_sending_out w.table s; records = w.records + 1; leases = x } in y) (sym (map_put lease_of w.cpus a (Some l))))
     (ap (λ (d : KernelState). d.records) taken.after) (ap (λ (d : KernelState). d.capacity) taken.after)
     (ap (λ n. n + w.others) (length-set w.cpus a (Some l))) written
     (λ b m e. elim (cases_eq b a) [
@@ -271,7 +285,7 @@ lease_there d room k n a l v h at = ap (λ (d : KernelState). lease_at d.leases 
 
 -- its image was loaded from the program of its slot
 pub back_loaded : (d : KernelState) (room : ℕ) (k n : BootAndHistory) (a : ℕ) (l : HeldProcess) (o : Out) (v : Service) → k ≡ n → IsAtReplay d room k → held_by (replay n) a ≡ Some l → IsBack l.out o → slice_get d.services l.slot ≡ Some v → IsLoadedFrom o.image v.program
-back_loaded d room k n a l o v e h at b g = b.lasting ∙ (h.fresh a l (ap (λ k. held_by (replay k) a) e ∙ at)).loaded v (ap (λ (d : KernelState). slice_get d.services l.slot) (sym h.present) ∙ g)
+back_loaded d room k n a l o v e h at b g = back_lasts l.out o b ∙ (h.fresh a l (ap (λ k. held_by (replay k) a) e ∙ at)).loaded v (ap (λ (d : KernelState). slice_get d.services l.slot) (sym h.present) ∙ g)
 
 -- a run of what is lent is so many steps
 abbrev RunsAreSteps : Type 0
@@ -293,7 +307,7 @@ after_back-is w v a l o h e =
     let u : World = with_held w a (Some m) in
     ap (λ v. world_after_event v a events.Back) e
     ∙ ap (world_after_back u a) (get_or-set_same w.cpus a (Some m) None (holds_in w.cpus a l h))
-    ∙ ap (λ c. let x : World = record w { table = table_after_back w.table m; records = w.records + 1; cpus = c } in x) (set-twice w.cpus a (Some m) None)
+    ∙ ap (λ c. let x : World = record w { table = table_after_back w.table m; records = w.records + 1; cpus = c } in x) (set_twice w.cpus a (Some m) None)
 
 back-refusal : (w v : World) (a : ℕ) (l : HeldProcess) (o : Out) → held_by w a ≡ Some l → v ≡ with_held w a (Some (record l { out = o })) → event_refusal v a events.Back ≡ None
 unfolding event_refusal
@@ -303,7 +317,7 @@ back-refusal w v a l o h e = let m : HeldProcess = record l { out = o } in
 pub back_world : (d : KernelState) (room : ℕ) (k n m : BootAndHistory) (a : ℕ) (l : HeldProcess) (o : Out) → k ≡ n → IsAtReplay d room k → held_by (replay n) a ≡ Some l → StepsTo (replay k) a o.count l o → m ≡ with_record k a (recorded.Back o.count)
     → replay m ≡ world_after_event (with_held (replay n) a (Some (record l { out = o }))) a events.Back
 back_world d room k n m a l o v h at s same =
-    ap replay same ∙ replay-recorded k a (recorded.Back o.count) ∙ after-append (replay k) (replicate o.count (a, events.Step)) ((a, events.Back) ∷ [])
+    ap replay same ∙ replay-recorded k a (recorded.Back o.count) ∙ after_append (replay k) (replicate o.count (a, events.Step)) ((a, events.Back) ∷ [])
     ∙ ap (λ w. world_after_event w a events.Back) s.after ∙ ap (λ k. world_after_event (with_held (replay k) a (Some (record l { out = o }))) a events.Back) v
 
 nothing : (m : HeldProcess) → None ≡ Some m → ⊥
@@ -316,10 +330,10 @@ back_agrees d n room more k a l o x h at s same after written bigger =
     let v : World = with_held (world_with_record w (table_after_back w.table (record l { out = o }))) a None in
     let steps = replicate o.count (a, events.Step) in
     recorded-agrees d n room more k a (recorded.Back o.count) v h
-    (accepted-append w steps ((a, events.Back) ∷ []) s.accepted (back-refusal w (world_after_events w steps) a l o at s.after, tt))
-    (after-append w steps ((a, events.Back) ∷ []) ∙ after_back-is w (world_after_events w steps) a l o at s.after)
+    (accepted_append w steps ((a, events.Back) ∷ []) s.accepted (back-refusal w (world_after_events w steps) a l o at s.after, tt))
+    (after_append w steps ((a, events.Back) ∷ []) ∙ after_back-is w (world_after_events w steps) a l o at s.after)
     (after ∙ ap (λ q. state_after_back d a q o) same ∙ ap (λ d. state_after_back d a l.slot o) h.present
-    ∙ ap (λ y. let z : KernelState = record (kernel_state_of w) { table = table_after_back w.table (record l { out = o }); records = w.records + 1; leases = y } in z) (sym (map-put lease_of w.cpus a None)))
+    ∙ ap (λ y. let z : KernelState = record (kernel_state_of w) { table = table_after_back w.table (record l { out = o }); records = w.records + 1; leases = y } in z) (sym (map_put lease_of w.cpus a None)))
     (ap (λ (d : KernelState). d.records) after) (ap (λ (d : KernelState). d.capacity) after)
     (ap (λ n. n + w.others) (length-set w.cpus a None)) written
     (λ b m e. elim (cases_eq b a) [
@@ -394,6 +408,11 @@ opened_few d room k n v h same =
 
 pub actors-is : (d : KernelState) (room p : ℕ) (k n : BootAndHistory) → k ≡ n → IsAtReplay d room k → k.boot.others ≡ d.others → length k.boot.cpus ≡ p → p + d.others ≡ actors (replay n)
 actors-is d room p k n v h same cpus = subst (λ (k : BootAndHistory). p + d.others ≡ actors (replay k)) v (omega (arith, h.as_many, same, cpus))
+
+pub cpus-is : (d : KernelState) (room p : ℕ) (k n : BootAndHistory) → k ≡ n → IsAtReplay d room k → k.boot.others ≡ d.others → length k.boot.cpus ≡ p → p ≡ length (replay n).cpus
+cpus-is d room p k n v h same cpus =
+    let others : d.others ≡ (replay k).others = ap (λ (x : KernelState). x.others) h.present in
+    subst (λ (k : BootAndHistory). p ≡ length (replay k).cpus) v (omega (arith, h.as_many, same, cpus, others))
 
 pub event_actor : (d : KernelState) (room : ℕ) (k n : BootAndHistory) (a : ℕ) → k ≡ n → IsAtReplay d room k → a < actors (replay n) → a < actors k.boot
 event_actor d room k n a v h b = let z : a < actors (replay k) = subst (λ (k : BootAndHistory). a < actors (replay k)) (sym v) b in omega (arith, z, h.as_many)

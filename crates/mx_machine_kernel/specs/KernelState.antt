@@ -1,5 +1,5 @@
 -- Where a kernel stands, by what it keeps in mind: of what is out it knows slot and budget.
-use Rattle.std.specs.Prelude.{◌≡◌, ◌<◌, ◌≤◌, ℕ, ◌+◌, ◌-◌, ◌*◌, ◌%◌, ◌^◌, Bool, true, false, nat_lt, if◌then◌else◌, List, map, length, replicate, Option, Some, None, Result, Ok, Err, slice_get, slice_set}
+use Rattle.std.specs.Prelude.{◌≡◌, ◌<◌, ◌≤◌, ℕ, ◌+◌, ◌-◌, ◌*◌, ◌%◌, ◌^◌, true, false, nat_lt, if◌then◌else◌, List, map, length, replicate, Option, Some, None, Result, Ok, Err, slice_get, slice_set}
 use Rattle.mx_proc.specs.Endpoints.{is_alive}
 use Rattle.mx_proc.specs.Queues.{first_ready}
 use Rattle.mx_proc.specs.States.{is_ready, is_down}
@@ -20,6 +20,7 @@ use Rattle.mx_machine_world.specs.declared.holding.Lease.{Lease}
 use Rattle.mx_machine_world.specs.declared.holding.Out.{Out}
 use Rattle.mx_machine_world.specs.Boot.{first_table}
 use Rattle.mx_machine_world.specs.History.{number_of_record}
+pub use Rattle.mx_machine_world.specs.Move.{is_for_all}
 use Rattle.mx_machine_world.specs.Move.{if_full, line_refusal, kill_refusal, respawn_refusal, take_refusal, table_after_sending_out, table_after_back, table_after_kill, held_at_take}
 use Rattle.mx_machine_world.specs.Sound.{lease_of, lease_at}
 use Rattle.mx_machine_world.specs.World.{World, out_count}
@@ -104,13 +105,6 @@ table_after d _ = d.table
 abbrev pub answer_to : KernelState → Event → Answer
 answer_to d (Respawn s) = Respawned (((process_at d.table s).generation + 1) * 1024 + s)
 answer_to d _ = Done
-
--- the events that any actor may do
-abbrev pub is_for_all : Event → Bool
-is_for_all Step = false
-is_for_all Take = false
-is_for_all Back = false
-is_for_all _ = true
 
 -- how each of them is recorded
 abbrev pub recorded_as : Event → Recorded

@@ -127,6 +127,21 @@ impl CurrentState {
         self.services.as_slice()
     }
 
+    /// What each slot was made from; all else is let go.
+    pub(crate) fn into_services(self) -> Vec<Service>
+        ensures { result.items ≡ self.services }
+    {
+        let CurrentState {
+            table: _,
+            leases: _,
+            others: _,
+            services,
+            records: _,
+            capacity: _,
+        } = self;
+        services
+    }
+
     /// The free records.
     fn free(&self) -> usize
         ensures { result ≡ records_left self.now }

@@ -62,8 +62,8 @@ fn note(records: &mut Vec<Record>, actor: u8, event: Recorded)
     }
 }
 
-/// How an event that any actor may do is recorded.
-fn recorded_as(event: Event) -> Recorded
+/// How an event that any actor may do is recorded; any other as a tick.
+pub fn recorded_as(event: Event) -> Recorded
     ensures { result ≡ recorded_as event }
 {
     match event {
@@ -161,6 +161,13 @@ impl Kernel {
         self.processors as usize + self.present.others() as usize
     }
 
+    /// How many processors there are.
+    pub fn cpus(&self) -> u8
+        ensures { result ≡ length (replay self.now).cpus }
+    {
+        self.processors
+    }
+
     /// Where the processes stand.
     pub fn table(&self) -> &Table
         ensures { result.now ≡ (replay self.now).table }
@@ -180,6 +187,19 @@ impl Kernel {
         ensures { result.now ≡ (replay self.now).services }
     {
         self.present.services()
+    }
+
+    /// Ends the kernel, and hands back what its slots were made from. Takes no memory.
+    pub fn into_services(self) -> Vec<Service>
+        ensures { result.items ≡ self.boot.services }
+    {
+        let Kernel {
+            present,
+            records: _,
+            processors: _,
+            caches: _,
+        } = self;
+        present.into_services()
     }
 
     /// The slot whose process is on a processor.

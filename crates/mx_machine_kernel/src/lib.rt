@@ -7,6 +7,6 @@ mod current;
 mod kernel;
 mod serving;
 
-pub use kernel::Kernel;
+pub use kernel::{Kernel, recorded_as};
 pub use mx_machine_world::{Held, held_runs_join};
 pub use mx_respawn::Service;

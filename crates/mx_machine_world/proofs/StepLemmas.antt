@@ -28,10 +28,10 @@ set-own [] i d y e = refl
 set-own (x ∷ xs) zero d y e = ap (λ z. z ∷ xs) (sym e)
 set-own (x ∷ xs) (suc i) d y e = ap (λ l. x ∷ l) (set-own xs i d y e)
 
-pub set-twice : {X : Type 0} (xs : List X) (i : ℕ) (y z : X) → slice_set (slice_set xs i y) i z ≡ slice_set xs i z
-set-twice [] i y z = refl
-set-twice (x ∷ xs) zero y z = refl
-set-twice (x ∷ xs) (suc i) y z = ap (λ l. x ∷ l) (set-twice xs i y z)
+pub set_twice : {X : Type 0} (xs : List X) (i : ℕ) (y z : X) → slice_set (slice_set xs i y) i z ≡ slice_set xs i z
+set_twice [] i y z = refl
+set_twice (x ∷ xs) zero y z = refl
+set_twice (x ∷ xs) (suc i) y z = ap (λ l. x ∷ l) (set_twice xs i y z)
 
 -- ---- one step
 
@@ -81,7 +81,7 @@ more_made w a n l m i t h s b e rest =
     subst (λ (j : ℕ). StepsTo w a j l (record l.out { image = i; count = l.out.count + (1 + n); stop = t })) q (record {
       accepted = (step-accepted w a l h s b, subst (λ (u : World). AreAccepted u (steps_of a n)) (sym first) r.accepted);
       after = ap (λ (u : World). world_after_events u (steps_of a n)) first ∙ r.after
-          ∙ ap (λ c. let u : World = record w { cpus = c } in u) (set-twice w.cpus a (Some x) (Some (with_out l i (l.out.count + 1 + n) t)))
+          ∙ ap (λ c. let u : World = record w { cpus = c } in u) (set_twice w.cpus a (Some x) (Some (with_out l i (l.out.count + 1 + n) t)))
           ∙ ap (λ (j : ℕ). with_held w a (Some (with_out l i j t))) k;
       count = let z : l.out.count + (1 + n) ≡ l.out.count + suc n = omega arith in z;
       within = omega (arith, r.within);

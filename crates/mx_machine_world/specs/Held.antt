@@ -1,9 +1,8 @@
 -- Steps of a process that is on a processor.
-use Rattle.std.specs.Prelude.{◌≡◌, ℕ, zero, suc, ◌+◌, ◌-◌, min}
+use Rattle.std.specs.Prelude.{◌≡◌, ◌≤◌, ℕ, zero, suc, ◌+◌, ◌-◌, min}
 use Rattle.mx_exec.specs.declared.image.Image.{Image}
 use Rattle.mx_exec.specs.declared.image.Outcome.{Outcome}
 use Rattle.mx_exec.specs.declared.image.Outcome.TheVariants.{Go, Trap, Fault}
-use Rattle.mx_exec.specs.Lasting.{lasting}
 use Rattle.mx_exec.specs.Step.{one_step}
 use Rattle.mx_image.specs.declared.runs.Stop.{Stop}
 use Rattle.mx_image.specs.declared.runs.Stop.TheVariants as stop
@@ -31,8 +30,11 @@ then_held first k = let second = held_run k first.1 in ((first.0.0 + second.0.0,
 -- What came back is what was lent, after a run of the steps that it counts.
 pub record IsBack (lent out : Out) : Type 0 where
   pub run : (held_run out.count lent).1 ≡ out
-  -- no step changes what the image lasts with
-  pub lasting : lasting out.image ≡ lasting lent.image
+
+-- What a processor holds is what it was lent, after a run of the steps that it counts.
+pub record IsRunOf (lent out : Out) : Type 0 where
+  pub back : IsBack lent out
+  pub within : out.count ≤ out.budget
 
 -- ---- one step
 

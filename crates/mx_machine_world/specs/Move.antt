@@ -30,6 +30,15 @@ use Rattle.mx_machine_world.specs.declared.events.Answer.TheVariants.{Went, Take
 use Rattle.mx_machine_world.specs.Held.{out_after_step, outcome_of_step}
 use Rattle.mx_machine_world.specs.World.{World, HeldProcess, held_by, free_records}
 
+-- ---- kinds of events
+
+-- the events that any actor may do
+abbrev pub is_for_all : Event → Bool
+is_for_all Step = false
+is_for_all Take = false
+is_for_all Back = false
+is_for_all _ = true
+
 -- ---- refusals
 
 -- fewer records are free than an event needs

@@ -1,7 +1,6 @@
 //! What a processor holds.
 
-ghost use Rattle.std.specs.Prelude.{◌≡◌};
-ghost use Rattle.mx_exec.specs.Lasting.{lasting};
+ghost use Rattle.std.specs.Prelude.{◌≡◌, ℕ, Option};
 ghost use Rattle.mx_machine_world.specs.declared.holding.Out.{Out};
 ghost use Rattle.mx_machine_world.specs.Held.{held_run};
 
@@ -33,11 +32,14 @@ pub struct Lease {
 pub trait Held {
     ghost out: { Self → Out };
 
+    /// The actor that it was lent to and what was lent, where it keeps both.
+    ghost loan: { Self → Option (ℕ × Out) };
+
     /// Makes at most `k` steps within the budget, and none after a trap or a fault. Answers how many
     /// it made and how they ended; after a trap or a fault, none and that stop. Takes no memory.
     fn run(&mut self, k: u32) -> (u32, Stop)
         ensures ran { held_run k (out self.old) ≡ (result, out self.new) }
-        ensures lasting { lasting (out self.new).image ≡ lasting (out self.old).image };
+        ensures loan { loan self.new ≡ loan self.old };
 
     /// The image as it is.
     fn image(&self) -> &Image
@@ -45,7 +47,11 @@ pub trait Held {
 }
 
 impl Held for Out {
+    ghost use Rattle.std.specs.Prelude.{None};
+
     ghost out = { λ o. o };
+
+    ghost loan = { λ _. None };
 
     #[tactic(auto, unfolding(crate::specs::Held::held_run), using(crate::proofs::RunLemmas::ran_within))]
     fn run(&mut self, k: u32) -> (u32, Stop) {

@@ -14,6 +14,8 @@ pub use decoded::Decoded;
 pub use events::{Answer, Event, Refusal};
 pub use history::{Record, Recorded};
 pub use holding::{Held, Lease, Out};
-pub use laws::{actors_stay, held_runs_join, runs_are_steps};
+pub use laws::{
+    actors_stay, back_empties, held_runs_join, others_keep, parts_join, runs_are_steps,
+};
 pub use mx_proc::Masks;
 pub use mx_respawn::Label;

@@ -36,11 +36,15 @@ enum Case {
     Copies(Copied),
     Kills(Death),
     Clock,
+    Alarm,
+    OwnLine,
+    Registers,
+    Console,
 }
 
-use Case::{Call, Clock, Copies, Kills};
+use Case::{Alarm, Call, Clock, Console, Copies, Kills, OwnLine, Registers};
 
-static CASES: [Case; 54] = [
+static CASES: [Case; 58] = [
     // The type is tried before the mask, and the mask before the call's own reasons.
     Call(Row(0xFF, [0x608, 0, 0, 0, 0, 0], 0xFFFF_FF95, 0)),
     Call(Row(0, [0x608, 0, 0, 0, 0, 0], 0xFFFF_FF95, 0)),
@@ -142,6 +146,10 @@ static CASES: [Case; 54] = [
         order: &[1],
     }),
     Clock,
+    Alarm,
+    OwnLine,
+    Registers,
+    Console,
 ];
 
 /// Some processes that may make these kernel calls.
@@ -176,7 +184,7 @@ pub(crate) fn make_call(rt: &impl Abort, table: &mut Table, slot: Slot, words: &
     table.take_home(slot, image);
     let image = &table.process(slot).image;
     assert!(rt; image.register(Register::Ebx) as usize + 36 <= image.memory.limit());
-    assert!(rt; table.devices().console.count() < 4096);
+    assert!(rt; table.devices().console.count() < 10_000);
     call(table, slot)
 }
 
@@ -269,6 +277,66 @@ fn is_timed(rt: &impl Abort, table: &mut Table) -> bool {
     is_notified && is_set
 }
 
+/// What stands in the buffer of who waits for anybody, after its alarm rang at uptime 14.
+static RUNG: [u32; 9] = [0xFFFF_FFFD, 4096, 14, 0, 0, 0, 0, 0, 0];
+
+/// An alarm that is set for five ticks at uptime 9, by a process that then waits: silent for four, it
+/// rings at the fifth.
+fn rings(rt: &impl Abort, table: &mut Table) -> bool {
+    make_ticks(rt, table, 9);
+    let had_none = alarm_left(rt, table, 5) == 0;
+    make_trap(rt, table, 0, false, 0x7ACE);
+    make_ticks(rt, table, 4);
+    let is_silent = pick(table).is_none();
+    make_ticks(rt, table, 1);
+    had_none && is_silent && has_words(rt, table, 0, &RUNG) && next_one(rt, table) == Some((0, 0))
+}
+
+/// Takes line 5.
+static TAKES: [u32; 6] = [0x603, 1, 5, 0, 0, 0];
+
+/// A line that is one's own already.
+fn is_taken_again(rt: &impl Abort, table: &mut Table) -> bool {
+    let first = make_call(rt, table, 0, &TAKES);
+    let second = make_call(rt, table, 0, &TAKES);
+    first == After::Reply(0)
+        && second == After::Reply(0)
+        && table.devices().owners[5] == Some(0)
+        && table.devices().owners[4].is_none()
+}
+
+/// What is written into a register of the machine.
+fn word_of(register: u32) -> u32 {
+    register.wrapping_mul(0x0101_0101)
+}
+
+/// Whether each register but the console keeps a word of its own.
+fn keep_words(rt: &impl Abort, table: &mut Table) -> bool {
+    for register in 1..256 {
+        make_call(rt, table, 0, &[0x604, 1, register, word_of(register), 0, 0]);
+    }
+    for register in 1..256 {
+        make_call(rt, table, 0, &[0x604, 0, register, 0, 0, 0]);
+        if word_at(rt, table, 0, 520) != word_of(register) {
+            return false;
+        }
+    }
+    table.devices().console.count() == 0
+}
+
+/// Whether of one byte more than the console keeps the first is gone, and all are counted.
+fn keeps_last_bytes(rt: &impl Abort, table: &mut Table) -> bool {
+    for number in 0..4097 {
+        make_call(rt, table, 0, &[0x604, 1, 0, number, 0, 0]);
+    }
+    let console = &table.devices().console;
+    console.count() == 4097
+        && console.get(0) == Some(1)
+        && console.get(4094) == Some(0xFF)
+        && console.get(4095) == Some(0)
+        && console.get(4096).is_none()
+}
+
 /// Slot 0's call, behind those who wait for the process that dies of it: how that is down.
 fn state_of_dead(rt: &impl Abort, table: &mut Table, death: &Death) -> State {
     for slot in death.senders {
@@ -324,6 +392,10 @@ fn is_right(rt: &impl Abort, table: &mut Table, case: &Case) -> bool {
         Copies(copy) => is_copied(rt, table, copy),
         Kills(death) => dies_so(rt, table, death),
         Clock => is_timed(rt, table),
+        Alarm => rings(rt, table),
+        OwnLine => is_taken_again(rt, table),
+        Registers => keep_words(rt, table),
+        Console => keeps_last_bytes(rt, table),
     }
 }
 

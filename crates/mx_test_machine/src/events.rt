@@ -36,7 +36,7 @@ enum Task {
 /// The actor that is none of the eight processors.
 const OTHER: u8 = 8;
 
-static ROWS: [Row; 13] = [
+static ROWS: [Row; 14] = [
     // A call and its answer.
     Row {
         config: "asked",
@@ -155,6 +155,27 @@ static ROWS: [Row; 13] = [
                 End(0, State::Ready, 7, 16, 4, 0xFFFF_FF97, 0, 0),
                 End(3, State::Down(DeathCause::Kill), 4, 15, 5, 0, 0, 7),
             ],
+        ),
+    },
+    // The driver is respawned, and a SEND to its old endpoint is told so.
+    Row {
+        config: "looks",
+        task: Task::Turns(
+            &[
+                Turn(0, Event::Take, 1, Ok(Answer::Taken(3, 20))),
+                Turn(0, Event::Step, 5, Ok(Answer::Went(Outcome::Trap))),
+                Turn(0, Event::Back, 1, Ok(Answer::Returned(5))),
+                Turn(0, Event::Take, 1, Ok(Answer::Taken(0, 20))),
+                Turn(0, Event::Step, 4, Ok(Answer::Went(Outcome::Trap))),
+                Turn(0, Event::Back, 1, Ok(Answer::Returned(4))),
+                Turn(OTHER, Event::Kill(3), 1, Ok(Answer::Done)),
+                Turn(OTHER, Event::Respawn(3), 1, Ok(Answer::Respawned(1027))),
+                Turn(0, Event::Take, 1, Ok(Answer::Taken(1027, 20))),
+                Turn(1, Event::Take, 1, Ok(Answer::Taken(0, 16))),
+                Turn(1, Event::Step, 3, Ok(Answer::Went(Outcome::Trap))),
+                Turn(1, Event::Back, 1, Ok(Answer::Returned(3))),
+            ],
+            &[End(0, State::Ready, 7, 13, 7, 0xFFFF_FF97, 8, 0)],
         ),
     },
     // The driver is respawned: its data are the file's, and its old endpoint is dead.

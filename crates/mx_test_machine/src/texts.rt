@@ -275,7 +275,7 @@ const SAVED: &str = "\
 1 respawn 0
 ";
 
-/// Whether a writer that fails behind so many bytes got the text's first ones, and all if it has room.
+/// Whether a writer that fails after so many bytes got just these of the text, or all if it has room.
 fn is_saved_to(alloc: Global, room: usize) -> bool {
     let narrow = Narrow {
         bytes: Vec::new(alloc),
@@ -283,7 +283,9 @@ fn is_saved_to(alloc: Global, room: usize) -> bool {
     };
     let mut sink = Over::new(narrow);
     let is_whole = save_records(&RECORDS, &mut sink).is_ok();
-    is_whole == (room >= SAVED.len()) && SAVED.as_bytes().starts_with(sink.writer.bytes.as_slice())
+    let text = SAVED.as_bytes();
+    let front = &text[..room.min(text.len())];
+    is_whole == (room >= text.len()) && sink.writer.bytes.as_slice() == front
 }
 
 fn is_read_again(alloc: Global, machine: &Config) -> bool {

@@ -4,7 +4,7 @@ use crate::tables::{LIMIT, add_process, has_words};
 use mx_ipc::{TrapAnswer, trap};
 use mx_proc::{Delivery, DeliveryKind, Masks, Partner, Slot, Source, Stale, State, Table};
 use mx_sched::{dequeue, enqueue, pick};
-use mx_word::{Register, Size};
+use mx_word::{Register, Size, write_dword};
 use std::alloc::Global;
 use std::process::Abort;
 use std::test::Fail;
@@ -261,20 +261,32 @@ fn traps(rt: HostRuntime) -> Result<(), Fail> {
 }
 
 /// What slot 2 sends; the kernel writes its source.
-static MESSAGE: [u8; 13] = [0xAA, 0xBB, 0xCC, 0xDD, 7, 0, 0, 0, 9, 0, 0, 0, 0xFF];
+static MESSAGE: [u8; 36] = [
+    0xAA, 0xBB, 0xCC, 0xDD, 7, 0, 0, 0, 9, 0, 0, 0, 0xFF, 0, 0, 0, 1, 0, 0, 0x80, 2, 0, 0, 0, 3, 0,
+    0, 0, 4, 0, 0, 0, 5, 0, 0, 0x7F,
+];
 
-/// Whether a message or a notification to slot 1, which waits, stands at 512, and the caller overtakes
-/// its partner.
+/// What then stands in the buffer of slot 1, and what of a notification by slot 0.
+static DELIVERED: [[u32; 9]; 2] = [
+    [2, 7, 9, 0xFF, 0x8000_0001, 2, 3, 4, 0x7F00_0005],
+    [0, 4096, 0, 0, 0, 0, 0, 0, 0],
+];
+
+/// Whether a message or a notification to slot 1, which waits, stands at 512, both go on with 0, and
+/// the caller overtakes its partner.
 fn is_delivered(
     rt: &impl Abort,
     table: &mut Table,
     sender: Slot,
     call: u32,
-    words: &[u32; 4],
+    words: &[u32; 9],
 ) -> bool {
     make_trap(rt, table, 1, (RECEIVE, ANY, 512), &[]);
     make_trap(rt, table, sender, (call, 1, 0), &MESSAGE);
-    pick(table) == Some(sender) && has_words(rt, table, 1, words)
+    pick(table) == Some(sender)
+        && has_words(rt, table, 1, words)
+        && look_at(rt, table, sender) == Goes(0)
+        && look_at(rt, table, 1) == Goes(0)
 }
 
 /// Whether both deliveries are kept, and the receiver's endpoint is that of its generation alone.
@@ -298,8 +310,8 @@ fn are_kept(table: &Table) -> bool {
 }
 
 fn are_delivered(rt: &impl Abort, table: &mut Table) -> bool {
-    is_delivered(rt, table, 2, SEND, &[2, 7, 9, 0xFF])
-        && is_delivered(rt, table, 0, NOTIFY, &[0, 4096, 0, 0])
+    is_delivered(rt, table, 2, SEND, &DELIVERED[0])
+        && is_delivered(rt, table, 0, NOTIFY, &DELIVERED[1])
         && are_kept(table)
 }
 
@@ -307,6 +319,36 @@ fn are_delivered(rt: &impl Abort, table: &mut Table) -> bool {
 fn deliveries(rt: HostRuntime) -> Result<(), Fail> {
     let mut table = five_processes(&rt, rt.alloc())?;
     assert!(rt; are_delivered(&rt, &mut table));
+    Ok(())
+}
+
+/// The delivery of a message from slot 2 to slot 1.
+fn delivery_of(message_type: u32) -> Delivery {
+    Delivery {
+        from: 2,
+        to: 1,
+        message_type,
+        kind: DeliveryKind::Message,
+    }
+}
+
+/// Whether of one message more than are kept, each of the next type, the first is gone.
+fn are_last_kept(rt: &impl Abort, table: &mut Table) -> bool {
+    let mut message = [0; 8];
+    for number in 0..1025 {
+        write_dword(&mut message[4..], number);
+        make_trap(rt, table, 1, (RECEIVE, ANY, 512), &[]);
+        make_trap(rt, table, 2, (SEND, 1, 0), &message);
+    }
+    table.delivery(0) == Some(delivery_of(1))
+        && table.delivery(1023) == Some(delivery_of(1024))
+        && table.delivery(1024).is_none()
+}
+
+#[test]
+fn last_deliveries(rt: HostRuntime) -> Result<(), Fail> {
+    let mut table = five_processes(&rt, rt.alloc())?;
+    assert!(rt; are_last_kept(&rt, &mut table));
     Ok(())
 }
 

@@ -5,7 +5,7 @@ use Rattle.mx_debug.proofs.Halting.{Stepped, stepped_start, stuck_halts, one_mor
 use Rattle.mx_debug.proofs.points.Debugger.step_on.Goals as goal
 
 pub loop-count-init : goal.loop-count-init
-loop-count-init g c = record { stepped = stepped_start c.args.self.now c.args.slot (g.H.Held.out c.args.held.now); lasting = refl }
+loop-count-init g c = record { stepped = stepped_start c.args.self.now c.args.slot (g.H.Held.out c.args.held.now); loan = refl }
 
 pub returns-then-made-eq0-clause-halts : goal.returns-then-made-eq0-clause-halts
 returns-then-made-eq0-clause-halts g c =
@@ -24,7 +24,7 @@ loop-count-preserved g c =
     record {
       stepped = step_goes c.args.self.now c.args.slot c.loop-count.count (g.H.Held.out c.args.held.now) (g.H.Held.out c.loop-count.held) (g.H.Held.out c.run-made.new.self) c.run-made.result.1 c.run-made.result.0 c.is_reached-reached.result c.cause_of-cause.result
           more c.run-made.ensures.ran (c.is_reached-reached.ensures ∙ ap (λ (m : Image). has_breakpoint c.args.self.now c.args.slot m.eip) c.image.ensures) c.cause_of-cause.ensures (sym c.is_spent.ensures ∙ c.if-not-is_spent.false);
-      lasting = c.run-made.ensures.lasting ∙ c.loop-count.invariant.lasting;
+      loan = c.run-made.ensures.loan ∙ c.loop-count.invariant.loan;
     }
 
 pub returns-clause-halts : goal.returns-clause-halts

@@ -5,6 +5,8 @@ use Rattle.mx_machine_world.specs.declared.events.Event.TheVariants.{Back}
 use Rattle.mx_machine_world.specs.declared.events.Refusal.{Refusal}
 use Rattle.mx_machine_world.specs.declared.events.Refusal.TheVariants.{CpuEmpty}
 use Rattle.mx_machine_world.specs.declared.holding.Out.{Out}
+use Rattle.mx_machine_world.specs.declared.history.Recorded.TheVariants as recorded
+use Rattle.mx_machine_world.specs.History.{with_record}
 use Rattle.mx_machine_world.specs.Move.{move}
 use Rattle.mx_machine_world.specs.World.{World}
 use Rattle.mx_machine.specs.Machine.{IsMachineState, MachineState, world_of}
@@ -12,8 +14,8 @@ use Rattle.mx_machine.proofs.DoneLemmas.{any_default, back-running, lends, lends
 use Rattle.mx_machine.proofs.MachineLemmas.{back-accepted, empty-refused}
 use Rattle.mx_machine.proofs.machine.Machine.back.Goals as goal
 
-pub returns-then-cpu-ge8 : goal.returns-then-cpu-ge8
-returns-then-cpu-ge8 c = empty-refused (world_of c.args.self.now) c.args.cpu Back tt (none_beyond c.args.self.now.kernel c.args.self.now.outs c.args.cpu c.opened.ensures (omega arith))
+pub returns-then-cpu-ge8-clause-moved : goal.returns-then-cpu-ge8-clause-moved
+returns-then-cpu-ge8-clause-moved c = empty-refused (world_of c.args.self.now) c.args.cpu Back tt (none_beyond c.args.self.now.kernel c.args.self.now.outs c.args.cpu c.opened.ensures (omega arith))
 
 pub invariant_of-self : goal.invariant_of-self
 invariant_of-self c =
@@ -26,8 +28,8 @@ invariant_of-self c =
     subst (λ (x : Option Out). IsMachineState (on c.back.new.self (slice_set os a x))) (sym c.replace.ensures.after)
     (back-running k c.back.new.self os a l.lent c.in-Some.out below c.self.invariant l.is (c.back.ensures.world l.lent l.is))
 
-pub returns-in-Some : goal.returns-in-Some
-returns-in-Some c =
+pub returns-in-Some-clause-moved : goal.returns-in-Some-clause-moved
+returns-in-Some-clause-moved c =
     let k = c.self.inside.kernel in
     let os = c.self.inside.outs in
     let a = c.args.cpu in
@@ -39,8 +41,8 @@ returns-in-Some c =
     ∙ ap (λ (n : ℕ). let p : Result Answer Refusal × World = (Ok (Returned n), world_of (on c.back.new.self (slice_set os a None))) in p) (sym c.back.ensures.count)
     ∙ ap (λ (x : Option Out). let p : Result Answer Refusal × World = (Ok (Returned c.back.result), world_of (on c.back.new.self (slice_set os a x))) in p) (sym c.replace.ensures.after))
 
-pub returns-in-None : goal.returns-in-None
-returns-in-None c =
+pub returns-in-None-clause-moved : goal.returns-in-None-clause-moved
+returns-in-None-clause-moved c =
     let k = c.self.inside.kernel in
     let os = c.self.inside.outs in
     let a = c.args.cpu in
@@ -49,3 +51,8 @@ returns-in-None c =
     subst (λ (m : MachineState). move (world_of m) a Back ≡ (Err CpuEmpty, world_of (on k (slice_set os a c.replace.new.dest)))) c.self.view_is
     (empty-refused (world_of (on k os)) a Back tt (lends_none k os a c.self.invariant at)
     ∙ ap (λ (x : List (Option Out)). let p : Result Answer Refusal × World = (Err CpuEmpty, world_of (on k x)) in p) (sym (ap (slice_set os a) c.replace.ensures.after ∙ same_set os a None at)))
+
+pub returns-in-Some-clause-recorded : goal.returns-in-Some-clause-recorded
+returns-in-Some-clause-recorded c =
+    c.back.ensures.recorded ∙ ap (λ (m : MachineState). with_record m.kernel c.args.cpu (recorded.Back c.in-Some.out.count)) c.self.view_is
+    ∙ ap (λ (n : ℕ). with_record c.args.self.now.kernel c.args.cpu (recorded.Back n)) (sym c.back.ensures.count)

@@ -5,17 +5,18 @@ use Rattle.mx_machine_world.specs.declared.events.Answer.{Answer}
 use Rattle.mx_machine_world.specs.declared.events.Answer.TheVariants.{Taken}
 use Rattle.mx_machine_world.specs.declared.events.Event.TheVariants.{Take}
 use Rattle.mx_machine_world.specs.declared.events.Refusal.{Refusal}
-use Rattle.mx_machine_world.specs.History.{replay}
+use Rattle.mx_machine_world.specs.declared.history.Recorded.TheVariants.{Take as Taking}
+use Rattle.mx_machine_world.specs.History.{replay, with_record}
 use Rattle.mx_machine_world.specs.Move.{move}
 use Rattle.mx_machine_world.specs.World.{HeldProcess, World}
+use Rattle.mx_machine_world.proofs.LentLemmas.{run_none}
 use Rattle.mx_machine.specs.Machine.{MachineState, world_of}
 use Rattle.mx_machine.proofs.DoneLemmas.{on, take-err, take-running, took-below}
 use Rattle.mx_machine.proofs.MachineLemmas.{take-accepted, taken-answer}
-use Rattle.mx_machine.proofs.RunLemmas.{run-none}
 use Rattle.mx_machine.proofs.machine.Machine.take.Goals as goal
 
-pub returns-in_err-out : goal.returns-in_err-out
-returns-in_err-out c =
+pub returns-in_err-out-clause-moved : goal.returns-in_err-out-clause-moved
+returns-in_err-out-clause-moved c =
     let p = err_from_is_err_and c.from_residual.result c.from_residual.ensures.1 in
     rw (p.1, p.2) (take-err c.self.inside.kernel c.take.new.self c.self.inside.outs c.args.cpu _ c.args.self.now c.self.view_is c.in_err-out.ensures.err)
 
@@ -24,10 +25,10 @@ invariant_of-self-2 c =
     let l = c.in_ok-out.ensures.lent in
     let below : c.args.cpu < length c.self.inside.outs = omega (arith, c.self.invariant.places, took-below c.self.inside.kernel c.take.new.self c.self.inside.outs c.args.cpu l.0 c.opened.ensures.few l.1) in
     let fresh = c.opened.ensures.fresh c.args.cpu l.0 l.1 in
-    take-running c.self.inside.kernel c.take.new.self c.self.inside.outs c.args.cpu l.0 c.in_ok-out.out below c.self.invariant c.in_ok-out.ensures.ok.world l.1 (run-none l.0.out c.in_ok-out.out l.2 fresh.count fresh.stop)
+    take-running c.self.inside.kernel c.take.new.self c.self.inside.outs c.args.cpu l.0 c.in_ok-out.out below c.self.invariant c.in_ok-out.ensures.ok.world l.1 (run_none l.0.out c.in_ok-out.out l.2 fresh.count fresh.stop)
 
-pub returns : goal.returns
-returns c =
+pub returns-clause-moved : goal.returns-clause-moved
+returns-clause-moved c =
     let k = c.self.inside.kernel in
     let n = c.take.new.self in
     let os = c.self.inside.outs in
@@ -41,3 +42,9 @@ returns c =
     subst (λ (m : MachineState). move (world_of m) c.args.cpu Take ≡ (Ok (Taken c.endpoint_on.result out.budget), world_of (on n (slice_set os c.args.cpu (Some out))))) c.self.view_is
     (take-accepted k n os c.args.cpu l.0 out below ok.accepted ok.world l.1 l.2
     ∙ ap (λ (y : Answer). let p : Result Answer Refusal × World = (Ok y, world_of (on n (slice_set os c.args.cpu (Some out)))) in p) answer)
+
+pub returns-in_err-out-clause-recorded : goal.returns-in_err-out-clause-recorded
+returns-in_err-out-clause-recorded c = c.in_err-out.ensures.err.1 ∙ ap (λ (m : MachineState). m.kernel) c.self.view_is
+
+pub returns-clause-recorded : goal.returns-clause-recorded
+returns-clause-recorded c = c.in_ok-out.ensures.ok.recorded ∙ ap (λ (m : MachineState). with_record m.kernel c.args.cpu Taking) c.self.view_is
