@@ -8,6 +8,7 @@ use Rattle.mx_aout.specs.declared.program.Program.{Program}
 use Rattle.mx_aout.specs.declared.program.FileError.{FileError}
 use Rattle.mx_aout.specs.declared.program.FileError.TheVariants.{NoMemory}
 use Rattle.mx_aout.specs.File.{FileIs, ReadsFile}
+use Rattle.mx_aout.specs.Alike.{AreAlike}
 
 -- a program's parts but for the fact on its sizes, of which there is one proof at most
 abbrev Parts : Type 0
@@ -32,19 +33,24 @@ same_parts : (a b : Bool) (e f t u : ℕ) (x y i j : List ℕ) (s r : ℕ) (k l 
     → (let p : Parts = (a, e, t, x, i, s, k) in p) ≡ (b, f, u, y, j, r, l)
 same_parts a b e f t u x y i j s r k l h1 h2 h3 h4 h5 h6 h7 = cc
 
-pub one_of_file : (b : List ℕ) (p q : Program) → FileIs b p → FileIs b q → p ≡ q
-one_of_file b p q f g =
+pub alike_same : (p q : Program) → AreAlike p q → p ≡ q
+alike_same p q h =
     same_program (parts_of p) (parts_of q)
     (same_parts p.sep q.sep p.entry q.entry p.total q.total p.text q.text p.init q.init p.bss q.bss p.symbols q.symbols
-    (f.sep ∙ sym g.sep)
-    (f.entry ∙ sym g.entry)
-    (f.total ∙ sym g.total)
-    (f.text ∙ sym g.text)
-    (f.init ∙ sym g.init)
-    (f.bss ∙ sym g.bss)
-    (f.symbols ∙ sym g.symbols))
+    h.sep h.entry h.total h.text h.init h.bss h.symbols)
     p.within
     q.within
+
+pub one_of_file : (b : List ℕ) (p q : Program) → FileIs b p → FileIs b q → p ≡ q
+one_of_file b p q f g = alike_same p q (record {
+  sep = f.sep ∙ sym g.sep;
+  entry = f.entry ∙ sym g.entry;
+  total = f.total ∙ sym g.total;
+  text = f.text ∙ sym g.text;
+  init = f.init ∙ sym g.init;
+  bss = f.bss ∙ sym g.bss;
+  symbols = f.symbols ∙ sym g.symbols;
+})
 
 pub read_again : (o : Option FileError) (b : List ℕ) (p : Program) (r : Result Program FileError) → o ≡ None → FileIs b p → ReadsFile o b r
     → MatchResult r (λ again. again ≡ p) (λ e. e ≡ NoMemory)

@@ -7,4 +7,4 @@ mod writing;
 
 pub use file::read;
 pub use program::{FileError, Program, Symbol, Symbols};
-pub use writing::{one_program, read_back, write};
+pub use writing::{alike_is_same, one_program, read_back, write};

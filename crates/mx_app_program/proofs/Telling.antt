@@ -1,13 +1,18 @@
 -- What is told of a file, from what is answered of it.
 use Rattle.std.proofs.Common.{◌≡◌, ℕ, List, Option, Some, None, Result, Ok, Err, IfErr, OnOk, inr, ap, sym, subst, refl}
 use Rattle.std.specs.Io.KnownBytes.{Appends}
+use Rattle.std.specs.Str.{IsUtf8}
+use Rattle.mx_asm.specs.declared.fault.AsmError.{AsmError}
+use Rattle.mx_asm.specs.declared.fault.AsmError.TheVariants.{At, NoMemory}
+use Rattle.mx_asm.specs.Text.{HasTextFault, TellsTextFault}
 use Rattle.mx_exec.specs.declared.image.Image.{Image}
 use Rattle.mx_image.specs.declared.runs.Stop.{Stop}
 use Rattle.mx_image.specs.Run.{RunEnd}
 use Rattle.mx_aout.specs.declared.program.FileError.{FileError}
 use Rattle.mx_app_failure.specs.declared.failure.Failure.{Failure as Kind}
+use Rattle.mx_app_program.specs.Assembling.{TellsText}
 use Rattle.mx_app_program.specs.One.{Answers, IsPrinted, one_text}
-use Rattle.mx_app_failure.specs.Failure.{IsWanting, Tells, failure_of}
+use Rattle.mx_app_failure.specs.Failure.{IsWanting, Tells, failure_of, failure_of_text}
 
 -- a refusal, or want of memory
 pub tells_refusal : (o : Option FileError) (b : List ℕ) (n : ℕ) (e : FileError) → Answers o b n (Err e) → Tells o {A = Unit {0}} (Err (failure_of e))
@@ -25,3 +30,8 @@ pub printed_on : (o : Option FileError) (b : List ℕ) (n : ℕ) (p : ℕ × Sto
 printed_on (Some d) b n p x y r h w = absurd cc
 printed_on None b n p x y (Ok u) h w = (one_text p.0 p.1 p.2, (h.0, h.1, ap (λ (m : RunEnd). one_text m.count m.stop m.image) (sym h.2)), w)
 printed_on None b n p x y (Err e) h w = tt
+
+-- what is told of a text that is UTF-8
+pub tells_text : (text slice : List ℕ) (e : AsmError) → slice ≡ text → IsUtf8 text → TellsTextFault slice e → TellsText text (failure_of_text e)
+tells_text text slice NoMemory of utf8 h = utf8
+tells_text text slice (At f) of utf8 h = subst (λ (t : List ℕ). HasTextFault t f) of h

@@ -1,19 +1,20 @@
 -- What is answered of a text for the assembler.
-use Rattle.std.specs.Prelude.{ℕ, List, ⊤}
+use Rattle.std.specs.Prelude.{◌≡◌, ℕ, List}
 use Rattle.std.specs.Str.{IsUtf8}
 use Rattle.mx_aout.specs.declared.program.Program.{Program}
 use Rattle.mx_aout.specs.File.{FileIs}
+use Rattle.mx_aout.specs.Written.{short_file}
 use Rattle.mx_asm.specs.Text.{IsAssembled, HasTextFault}
 use Rattle.mx_app_failure.specs.declared.failure.Failure.{Failure as Kind}
 use Rattle.mx_app_failure.specs.declared.failure.Failure.TheVariants.{Faulty, File, NoMemory}
 
--- the bytes are a file of the program that the text is assembled to
+-- the bytes are the short form of a file of the program that the text is assembled to
 abbrev pub IsAssembledFile : List ℕ → List ℕ → Type 0
-IsAssembledFile text bytes = (p : Program) × IsAssembled text p × FileIs bytes p
+IsAssembledFile text bytes = (p : Program) × IsAssembled text p × FileIs bytes p × (bytes ≡ short_file p)
 
--- the text's first fault, or that it is no UTF-8; want of memory aside
+-- the text's first fault, or that it is no UTF-8; memory is only wanting where it is
 abbrev pub TellsText : List ℕ → Kind → Type 0
 TellsText text (Faulty f) = HasTextFault text f
 TellsText text File = ¬ (IsUtf8 text)
-TellsText text NoMemory = ⊤
+TellsText text NoMemory = IsUtf8 text
 TellsText text _ = ⊥

@@ -18,16 +18,17 @@ use Rattle.mx_asm_statement.specs.declared.line.Reason.{Reason}
 use Rattle.mx_asm_statement.specs.Instructions.{marks}
 use Rattle.mx_asm_line.specs.Lines.{IsLine}
 use Rattle.mx_aout.specs.declared.program.Program.{Program}
+use Rattle.mx_aout.specs.Alike.{AreAlike}
 use Rattle.mx_asm.specs.declared.fault.Problem.{Problem}
 use Rattle.mx_asm.specs.declared.fault.Problem.TheVariants.{BadByte, BadNumber, OpenText}
 use Rattle.mx_asm.specs.declared.fault.Fault.{Fault}
 use Rattle.mx_asm.specs.declared.sizes.SectionSizes.{SectionSizes}
 use Rattle.mx_asm.specs.Branches.{branch_by, branch_marks, distance}
-use Rattle.mx_asm.specs.Layout.{LinesAbove, no_lines_above, statement_said, refusal_of_line, left_by, address_of_offset, section_offset_of, sizes_after}
+use Rattle.mx_asm.specs.Layout.{LinesAbove, Seen, no_lines_above, unseen, seen_with, statement_said, refusal_of_line, left_by, address_of_offset, section_offset_of, sizes_after}
 use Rattle.mx_asm.specs.Bytes.{AllStand, BytesOf, StandsIn, contents}
 use Rattle.mx_asm.specs.Faults.{fault_behind, problem_of, total_of}
-use Rattle.mx_asm.specs.Assembled.{AreAssembled, SameProgram, symbol_under, entry_under}
-use Rattle.mx_asm.specs.Text.{IsLineTaken, AreLinesTaken, IsLineWrong, IsFirstLineWrong, on_behind, AreLinesAccepted, IsAssembled, HasTextFault}
+use Rattle.mx_asm.specs.Assembled.{AreAssembled, symbol_under, entry_under}
+use Rattle.mx_asm.specs.Text.{IsLineTaken, AreLinesTaken, IsLineWrong, IsFirstLineWrong, AreLinesAccepted, IsAssembled, HasTextFault}
 use Rattle.mx_asm.proofs.Lengths.{KeepsLength}
 use Rattle.mx_asm.proofs.Emitting.{lengths_same}
 
@@ -49,64 +50,64 @@ not_some : (o : Option Reason) (r : Reason) → o ≡ None → o ≡ Some r → 
 not_some None r e f = cc
 not_some (Some s) r e f = cc
 
-pub taken_right : OneLine → NeverBoth → (a : LinesAbove) (t : List ℕ) (l : Line) (p : Problem) → IsLineTaken a t l → IsLineWrong a t p → ⊥
-taken_right one never a t l p (line, clean) (inl (e, fault, tells)) = never t l e line fault
-taken_right one never a t l p (line, clean) (inr (k, r, other, stands, problem)) =
+pub taken_right : OneLine → NeverBoth → (s : Seen) (t : List ℕ) (l : Line) (p : Problem) → IsLineTaken s t l → IsLineWrong s t p → ⊥
+taken_right one never s t l p (line, clean) (inl (e, fault, tells)) = never t l e line fault
+taken_right one never s t l p (line, clean) (inr (k, r, other, stands, problem)) =
     let same : k ≡ l = one t k l other line in
-    not_some (refusal_of_line a l) r clean (subst (λ (x : Line). refusal_of_line a x ≡ Some r) same stands)
+    not_some (refusal_of_line s l) r clean (subst (λ (x : Line). refusal_of_line s x ≡ Some r) same stands)
 
-pub taken_not_wrong : OneLine → NeverBoth → (a : LinesAbove) (n : ℕ) (ts : List (List ℕ)) (ls : List Line) (f : Fault) → AreLinesTaken a ts ls → IsFirstLineWrong a n ts f → ⊥
-taken_not_wrong one never a n [] ls f x wrong = wrong
-taken_not_wrong one never a n (t ∷ ts) [] f x wrong = x
-taken_not_wrong one never a n (t ∷ ts) (l ∷ ls) f (taken, more) (inl (at, wrong)) = taken_right one never a t l f.problem taken wrong
-taken_not_wrong one never a n (t ∷ ts) (l ∷ ls) f ((line, clean), more) (inr (k, (other, clean'), wrong)) =
+pub taken_not_wrong : OneLine → NeverBoth → (s : Seen) (n : ℕ) (ts : List (List ℕ)) (ls : List Line) (f : Fault) → AreLinesTaken s ts ls → IsFirstLineWrong s n ts f → ⊥
+taken_not_wrong one never s n [] ls f x wrong = wrong
+taken_not_wrong one never s n (t ∷ ts) [] f x wrong = x
+taken_not_wrong one never s n (t ∷ ts) (l ∷ ls) f (taken, more) (inl (at, wrong)) = taken_right one never s t l f.problem taken wrong
+taken_not_wrong one never s n (t ∷ ts) (l ∷ ls) f ((line, clean), more) (inr (k, (other, clean'), wrong)) =
     let same : k ≡ l = one t k l other line in
-    taken_not_wrong one never (on_behind a l) (n + 1) ts ls f more (subst (λ (x : Line). IsFirstLineWrong (on_behind a x) (n + 1) ts f) same wrong)
+    taken_not_wrong one never (seen_with s l) (n + 1) ts ls f more (subst (λ (x : Line). IsFirstLineWrong (seen_with s x) (n + 1) ts f) same wrong)
 
-pub taken_same : OneLine → (a : LinesAbove) (ts : List (List ℕ)) (ls ks : List Line) → AreLinesTaken a ts ls → AreLinesTaken a ts ks → ls ≡ ks
-taken_same one a [] [] [] x y = refl
-taken_same one a [] [] (k ∷ ks) x y = absurd y
-taken_same one a [] (l ∷ ls) ks x y = absurd x
-taken_same one a (t ∷ ts) [] ks x y = absurd x
-taken_same one a (t ∷ ts) (l ∷ ls) [] x y = absurd y
-taken_same one a (t ∷ ts) (l ∷ ls) (k ∷ ks) ((line, clean), more) ((other, clean'), more') =
+pub taken_same : OneLine → (s : Seen) (ts : List (List ℕ)) (ls ks : List Line) → AreLinesTaken s ts ls → AreLinesTaken s ts ks → ls ≡ ks
+taken_same one s [] [] [] x y = refl
+taken_same one s [] [] (k ∷ ks) x y = absurd y
+taken_same one s [] (l ∷ ls) ks x y = absurd x
+taken_same one s (t ∷ ts) [] ks x y = absurd x
+taken_same one s (t ∷ ts) (l ∷ ls) [] x y = absurd y
+taken_same one s (t ∷ ts) (l ∷ ls) (k ∷ ks) ((line, clean), more) ((other, clean'), more') =
     let same : k ≡ l = one t k l other line in
-    let rest : ls ≡ ks = taken_same one (on_behind a l) ts ls ks more (subst (λ (x : Line). AreLinesTaken (on_behind a x) ts ks) same more') in
+    let rest : ls ≡ ks = taken_same one (seen_with s l) ts ls ks more (subst (λ (x : Line). AreLinesTaken (seen_with s x) ts ks) same more') in
     cc
 
-no_fault_left : (o : Option Fault) (f : Fault) → o ≡ None → o ≡ Some f → ⊥
-no_fault_left None f e g = cc
-no_fault_left (Some h) f e g = cc
+-- no program is made of lines that something stands against
+abbrev pub NoneMade : Type 0
+NoneMade = (t : List ℕ) (ls : List Line) (p : Program) (f : Fault) → AreLinesTaken unseen (lines t) ls → AreAssembled ls p → fault_behind ls ≡ Some f → ⊥
 
-pub never_program_and_fault : OneLine → NeverBoth → (t : List ℕ) (p : Program) (f : Fault) → IsAssembled t p → HasTextFault t f → ⊥
-never_program_and_fault one never t p f (ls, taken, made) (inl wrong) = taken_not_wrong one never no_lines_above 1 _ ls f taken wrong
-never_program_and_fault one never t p f (ls, taken, made) (inr (ks, taken', told)) =
-    let same : ks ≡ ls = taken_same one no_lines_above _ ks ls taken' taken in
-    no_fault_left (fault_behind ls) f made.accepted (subst (λ (x : List Line). fault_behind x ≡ Some f) same told)
+pub never_program_and_fault : OneLine → NeverBoth → NoneMade → (t : List ℕ) (p : Program) (f : Fault) → IsAssembled t p → HasTextFault t f → ⊥
+never_program_and_fault one never none t p f (ls, taken, made) (inl wrong) = taken_not_wrong one never unseen 1 _ ls f taken wrong
+never_program_and_fault one never none t p f (ls, taken, made) (inr (ks, taken', told)) =
+    let same : ks ≡ ls = taken_same one unseen _ ks ls taken' taken in
+    none t ls p f taken made (subst (λ (x : List Line). fault_behind x ≡ Some f) same told)
 
 -- ---- all lines are taken, or one is the first that is wrong
 
-wrong_bytes : (a : LinesAbove) (t : List ℕ) (e : LexError) → IsLexFault t e → ((p : Problem) → IsLineWrong a t p → ⊥) → ⊥
-wrong_bytes a t (lexical.BadByte at) h k = k BadByte (inl (lexical.BadByte at, h, refl))
-wrong_bytes a t (lexical.BadNumber at) h k = k BadNumber (inl (lexical.BadNumber at, h, refl))
-wrong_bytes a t (lexical.OpenText at) h k = k OpenText (inl (lexical.OpenText at, h, refl))
-wrong_bytes a t lexical.NoMemory (ks, b, c, tokens, gap, broken) k = broken
+wrong_bytes : (s : Seen) (t : List ℕ) (e : LexError) → IsLexFault t e → ((p : Problem) → IsLineWrong s t p → ⊥) → ⊥
+wrong_bytes s t (lexical.BadByte at) h k = k BadByte (inl (lexical.BadByte at, h, refl))
+wrong_bytes s t (lexical.BadNumber at) h k = k BadNumber (inl (lexical.BadNumber at, h, refl))
+wrong_bytes s t (lexical.OpenText at) h k = k OpenText (inl (lexical.OpenText at, h, refl))
+wrong_bytes s t lexical.NoMemory (ks, b, c, tokens, gap, broken) k = broken
 
-taken_or_wrong : NeverNeither → (a : LinesAbove) (n : ℕ) (ts : List (List ℕ)) → ((ls : List Line) → AreLinesTaken a ts ls → ⊥) → ((f : Fault) → IsFirstLineWrong a n ts f → ⊥) → ⊥
-taken_or_wrong law a n [] taken wrong = taken [] tt
-taken_or_wrong law a n (t ∷ ts) taken wrong =
-    law t (λ l line. by_reason l line (refusal_of_line a l) refl (λ more worse. taken_or_wrong law (on_behind a l) (n + 1) ts more worse))
-    (λ e fault. wrong_bytes a t e fault (λ p h. wrong (record { problem = p; line = n }) (inl (refl, h))))
+taken_or_wrong : NeverNeither → (s : Seen) (n : ℕ) (ts : List (List ℕ)) → ((ls : List Line) → AreLinesTaken s ts ls → ⊥) → ((f : Fault) → IsFirstLineWrong s n ts f → ⊥) → ⊥
+taken_or_wrong law s n [] taken wrong = taken [] tt
+taken_or_wrong law s n (t ∷ ts) taken wrong =
+    law t (λ l line. by_reason l line (refusal_of_line s l) refl (λ more worse. taken_or_wrong law (seen_with s l) (n + 1) ts more worse))
+    (λ e fault. wrong_bytes s t e fault (λ p h. wrong (record { problem = p; line = n }) (inl (refl, h))))
   where
-    by_reason : (l : Line) → IsLine t l → (o : Option Reason) → refusal_of_line a l ≡ o
-        → (((ls : List Line) → AreLinesTaken (on_behind a l) ts ls → ⊥) → ((f : Fault) → IsFirstLineWrong (on_behind a l) (n + 1) ts f → ⊥) → ⊥) → ⊥
+    by_reason : (l : Line) → IsLine t l → (o : Option Reason) → refusal_of_line s l ≡ o
+        → (((ls : List Line) → AreLinesTaken (seen_with s l) ts ls → ⊥) → ((f : Fault) → IsFirstLineWrong (seen_with s l) (n + 1) ts f → ⊥) → ⊥) → ⊥
     by_reason l line None e again = again (λ ls h. taken (l ∷ ls) ((line, e), h)) (λ f h. wrong f (inr (l, (line, e), h)))
     by_reason l line (Some r) e again = wrong (record { problem = problem_of r; line = n }) (inl (refl, inr (l, r, line, e, refl)))
 
 pub never_neither : NeverNeither → ((t : List ℕ) (ls : List Line) → AreLinesAccepted t ls → (p : Program) × IsAssembled t p) → (t : List ℕ) → ((p : Program) → IsAssembled t p → ⊥) → ((f : Fault) → HasTextFault t f → ⊥) → ⊥
-never_neither law have t no_program no_fault = taken_or_wrong law no_lines_above 1 _ (λ ls taken. by_fault ls taken (fault_behind ls) refl) (λ f wrong. no_fault f (inl wrong))
+never_neither law have t no_program no_fault = taken_or_wrong law unseen 1 _ (λ ls taken. by_fault ls taken (fault_behind ls) refl) (λ f wrong. no_fault f (inl wrong))
   where
-    by_fault : (ls : List Line) → AreLinesTaken no_lines_above (lines t) ls → (o : Option Fault) → fault_behind ls ≡ o → ⊥
+    by_fault : (ls : List Line) → AreLinesTaken unseen (lines t) ls → (o : Option Fault) → fault_behind ls ≡ o → ⊥
     by_fault ls taken None e = let (p, made) = have t ls (taken, e) in no_program p made
     by_fault ls taken (Some f) e = no_fault f (inr (ls, taken, e))
 
@@ -154,7 +155,10 @@ all_same one a s (l ∷ ls) (b ∷ bs) (c ∷ cs) (x, xs) (y, ys) =
 
 -- ---- one program
 
-lines_program : KeepsLength → OneChosen → (ls : List Line) (p q : Program) → AreAssembled ls p → AreAssembled ls q → SameProgram p q
+some_same : (x y : ℕ) → Some x ≡ Some y → x ≡ y
+some_same x y e = cc
+
+lines_program : KeepsLength → OneChosen → (ls : List Line) (p q : Program) → AreAssembled ls p → AreAssembled ls q → AreAlike p q
 lines_program law one ls p q x y =
     let a = left_by no_lines_above ls (map length x.bytes) in
     let left : left_by no_lines_above ls (map length y.bytes) ≡ a = lengths_same law _ no_lines_above no_lines_above.sizes ls y.bytes y.stand ∙ sym (lengths_same law a no_lines_above no_lines_above.sizes ls x.bytes x.stand) in
@@ -163,7 +167,7 @@ lines_program law one ls p q x y =
     let back : a ≡ left_by no_lines_above ls (map length y.bytes) = sym left in
     record {
       sep = x.sep ∙ ap (λ (z : LinesAbove). z.sep) back ∙ sym y.sep;
-      entry = x.entry ∙ ap (λ (z : LinesAbove). entry_under z z.entry) back ∙ sym y.entry;
+      entry = some_same p.entry q.entry (sym x.entry ∙ ap (λ (z : LinesAbove). entry_under z z.entry) back ∙ y.entry);
       total = x.total ∙ ap total_of back ∙ sym y.total;
       text = x.text ∙ ap (contents Text no_lines_above.sizes ls) bytes ∙ sym y.text;
       init = x.init ∙ ap (contents Data no_lines_above.sizes ls) bytes ∙ sym y.init;
@@ -171,7 +175,7 @@ lines_program law one ls p q x y =
       symbols = x.symbols ∙ ap (λ (z : LinesAbove). map (symbol_under z) z.labels) back ∙ sym y.symbols;
     }
 
-pub one_program : OneLine → KeepsLength → OneChosen → (t : List ℕ) (p q : Program) → IsAssembled t p → IsAssembled t q → SameProgram p q
+pub one_program : OneLine → KeepsLength → OneChosen → (t : List ℕ) (p q : Program) → IsAssembled t p → IsAssembled t q → AreAlike p q
 one_program one law chosen t p q (ls, taken, made) (ks, taken', made') =
-    let same : ks ≡ ls = taken_same one no_lines_above _ ks ls taken' taken in
+    let same : ks ≡ ls = taken_same one unseen _ ks ls taken' taken in
     lines_program law chosen ls p q made (subst (λ (x : List Line). AreAssembled x q) same made')

@@ -4,7 +4,10 @@ pub mod Lengths
 pub mod Standing
 pub mod Emitting
 pub mod Fitting
+pub mod Seeing
 pub mod Reading
 pub mod Deciding
+pub mod Entering
 pub mod Making
+pub mod Refuting
 pub mod OneFault

@@ -31,15 +31,16 @@ use Rattle.mx_asm.specs.declared.fault.Problem.TheVariants.{TooFar, TooLarge}
 use Rattle.mx_asm.specs.declared.fault.Fault.{Fault}
 use Rattle.mx_asm.specs.Branches.{branch_by, branch_marks, branch_length, distance, is_too_far}
 use Rattle.mx_asm.specs.Lengths.{statement_length}
-use Rattle.mx_asm.specs.Layout.{LinesAbove, no_lines_above, statement_said, left_by, laid_by, address_of_offset, section_offset_of, sizes_after, value_under, value_base, counted_from}
+use Rattle.mx_asm.specs.Layout.{LinesAbove, Seen, no_lines_above, unseen, seen_with, statement_said, left_by, laid_by, address_of_offset, section_offset_of, sizes_after, value_under, value_base, counted_from}
 use Rattle.mx_asm.specs.Bytes.{put_in, put_under, then_put, named_under, BytesOf, StandsIn, AllStand, contents}
 use Rattle.mx_asm.specs.Faults.{is_undefined, is_undefined_if, undefined_where, undefined_or, problem_at, fault_or, first_problem, total_of, at_least, is_program_too_large, number_of_last_line, too_large_in, first_of, fault_behind}
 use Rattle.mx_asm.specs.Faults as faults
 use Rattle.mx_asm.specs.Assembled.{AreAssembled, symbol_under, entry_under}
-use Rattle.mx_asm.specs.Text.{AreLinesTaken, on_behind, IsAssembled}
+use Rattle.mx_asm.specs.Text.{AreLinesTaken, IsAssembled}
 use Rattle.mx_asm.proofs.Lengths.{KeepsLength, stands_length}
 use Rattle.mx_asm.proofs.Standing.{neither}
 use Rattle.mx_asm.proofs.Emitting.{lengths_same}
+use Rattle.mx_asm.proofs.Entering.{entry_there}
 use Rattle.mx_asm.proofs.Fitting.{contents_size}
 
 -- what is known of lines and of the encoder
@@ -205,11 +206,11 @@ said_fits law t l line = by_case l.statement (λ i. law.line t l i line)
     by_case (Some (says.Stack n)) k = tt
     by_case (Some (says.Branch b target)) k = tt
 
-taken_fit : Encodes → (a : LinesAbove) (ts : List (List ℕ)) (ls : List Line) → AreLinesTaken a ts ls → AllFitting ls
-taken_fit law a [] [] h = tt
-taken_fit law a [] (l ∷ ls) h = absurd h
-taken_fit law a (t ∷ ts) [] h = absurd h
-taken_fit law a (t ∷ ts) (l ∷ ls) ((line, clean), more) = (said_fits law t l line, taken_fit law (on_behind a l) ts ls more)
+taken_fit : Encodes → (s : Seen) (ts : List (List ℕ)) (ls : List Line) → AreLinesTaken s ts ls → AllFitting ls
+taken_fit law s [] [] h = tt
+taken_fit law s [] (l ∷ ls) h = absurd h
+taken_fit law s (t ∷ ts) [] h = absurd h
+taken_fit law s (t ∷ ts) (l ∷ ls) ((line, clean), more) = (said_fits law t l line, taken_fit law (seen_with s l) ts ls more)
 
 -- ---- sizes
 
@@ -251,7 +252,7 @@ no_first (Some f) g h = cc
 -- ---- the program
 
 -- the program of these bytes
-built : KeepsLength → (ls : List Line) (bs : List (List ℕ)) → fault_behind ls ≡ None → is_program_too_large (laid_by no_lines_above ls) ≡ false → AllStand (laid_by no_lines_above ls) no_lines_above.sizes ls bs
+built : KeepsLength → (ls : List Line) (bs : List (List ℕ)) → first_problem (laid_by no_lines_above ls) no_lines_above.sizes 1 ls ≡ None → is_program_too_large (laid_by no_lines_above ls) ≡ false → AllStand (laid_by no_lines_above ls) no_lines_above.sizes ls bs
     → (p : Program) × AreAssembled ls p
 built law ls bs clean small stand =
     let a = laid_by no_lines_above ls in
@@ -265,9 +266,10 @@ built law ls bs clean small stand =
     let fit = subst (λ (n : ℕ). IsWithin a.sep (total_of a) (length (contents Text no_lines_above.sizes ls bs)) (length (contents Data no_lines_above.sizes ls bs)) a.sizes.bss n) symbols
     (subst (λ (n : ℕ). IsWithin a.sep (total_of a) (length (contents Text no_lines_above.sizes ls bs)) n a.sizes.bss (length a.labels)) init
     (subst (λ (n : ℕ). IsWithin a.sep (total_of a) n a.sizes.init a.sizes.bss (length a.labels)) text (within a small))) in
+    let (n, entry) = entry_there ls clean in
     let p : Program = record {
       sep = a.sep;
-      entry = entry_under a a.entry;
+      entry = n;
       total = total_of a;
       text = contents Text no_lines_above.sizes ls bs;
       init = contents Data no_lines_above.sizes ls bs;
@@ -277,14 +279,13 @@ built law ls bs clean small stand =
     } in (
       p,
       record {
-        accepted = clean;
         bytes = bs;
         stand = subst (λ (x : LinesAbove). AllStand x no_lines_above.sizes ls bs) back stand;
         text = refl;
         init = refl;
         bss = ap (λ (x : LinesAbove). x.sizes.bss) back;
         sep = ap (λ (x : LinesAbove). x.sep) back;
-        entry = ap (λ (x : LinesAbove). entry_under x x.entry) back;
+        entry = subst (λ (x : LinesAbove). entry_under x x.entry ≡ Some n) back entry;
         total = ap total_of back;
         symbols = ap (λ (x : LinesAbove). map (symbol_under x) x.labels) back;
       },
@@ -296,8 +297,8 @@ made law ls fits clean =
     let both = no_first (first_problem a no_lines_above.sizes 1 ls) (too_large_in a ls) clean in
     let small = not_too_large (is_program_too_large a) (record { problem = TooLarge; line = number_of_last_line ls }) both.1 in
     let (bs, stand) = all_some law a no_lines_above.sizes 1 ls fits both.0 in
-    built law.keeps ls bs clean small stand
+    built law.keeps ls bs both.0 small stand
 
-pub lines_have_program : Encodes → (t : List ℕ) (ls : List Line) → AreLinesTaken no_lines_above (lines t) ls → fault_behind ls ≡ None → (p : Program) × IsAssembled t p
+pub lines_have_program : Encodes → (t : List ℕ) (ls : List Line) → AreLinesTaken unseen (lines t) ls → fault_behind ls ≡ None → (p : Program) × IsAssembled t p
 lines_have_program law t ls taken clean =
-    let (p, assembled) = made law ls (taken_fit law no_lines_above (lines t) ls taken) clean in (p, (ls, taken, assembled))
+    let (p, assembled) = made law ls (taken_fit law unseen (lines t) ls taken) clean in (p, (ls, taken, assembled))

@@ -4,28 +4,37 @@ use Rattle.mx_asm_statement.specs.declared.line.Line.{Line}
 use Rattle.mx_asm.specs.declared.sizes.SectionSizes.{SectionSizes}
 use Rattle.mx_asm.specs.declared.fault.Fault.{Fault}
 use Rattle.mx_asm.specs.Lengths.{statement_length}
-use Rattle.mx_asm.specs.Layout.{LinesAbove, no_lines_above, above_with, statement_said, laid_by, SizesWithin}
-use Rattle.mx_asm.specs.Text.{IsLineTaken, AreLinesTaken, on_behind, IsFirstLineWrong}
+use Rattle.mx_asm.specs.Layout.{LinesAbove, Seen, no_lines_above, unseen, seen_of, seen_with, above_with, statement_said, laid_by, SizesWithin}
+use Rattle.mx_asm.proofs.Seeing.{seen_behind}
+use Rattle.mx_asm.specs.declared.fault.AsmError.{AsmError}
+use Rattle.mx_asm.specs.declared.fault.AsmError.TheVariants.{At, NoMemory}
+use Rattle.mx_asm_line.specs.Lines.{IsLine}
+use Rattle.mx_asm.specs.Text.{IsLineTaken, AreLinesTaken, on_behind, IsFirstLineWrong, TellsRefusal, TellsLineWrong}
+
+-- one line more is seen
+seen_on : (a b : LinesAbove) (l : Line) → b ≡ on_behind a l → seen_of b ≡ seen_with (seen_of a) l
+seen_on a b l same = ap seen_of same ∙ seen_behind a l (statement_length (statement_said l))
 
 -- whatever goes on from here goes on from the start
 abbrev pub TakesOn : LinesAbove → List (List ℕ) → List (List ℕ) → List Line → Type 0
-TakesOn a left all found = (ls : List Line) → AreLinesTaken a left ls → AreLinesTaken no_lines_above all (found ++ ls)
+TakesOn a left all found = (ls : List Line) → AreLinesTaken (seen_of a) left ls → AreLinesTaken unseen all (found ++ ls)
 
 abbrev pub WrongsOn : LinesAbove → ℕ → List (List ℕ) → List (List ℕ) → Type 0
-WrongsOn a n left all = (f : Fault) → IsFirstLineWrong a n left f → IsFirstLineWrong no_lines_above 1 all f
+WrongsOn a n left all = (f : Fault) → IsFirstLineWrong (seen_of a) n left f → IsFirstLineWrong unseen 1 all f
 
-pub takes_more : (a b : LinesAbove) (t : List ℕ) (left more all : List (List ℕ)) (found : List Line) (l : Line) → TakesOn a left all found → left ≡ t ∷ more → IsLineTaken a t l → b ≡ on_behind a l
+pub takes_more : (a b : LinesAbove) (t : List ℕ) (left more all : List (List ℕ)) (found : List Line) (l : Line) → TakesOn a left all found → left ≡ t ∷ more → IsLineTaken (seen_of a) t l → b ≡ on_behind a l
     → TakesOn b more all (found ++ l ∷ [])
 takes_more a b t left more all found l before next taken same ls rest =
-    let rest' : AreLinesTaken (on_behind a l) more ls = subst (λ (x : LinesAbove). AreLinesTaken x more ls) same rest in
-    let whole : AreLinesTaken a left (l ∷ ls) = subst (λ (x : List (List ℕ)). AreLinesTaken a x (l ∷ ls)) (sym next) (taken, rest') in
-    subst (λ (x : List Line). AreLinesTaken no_lines_above all x) (sym (append_assoc found (l ∷ []) ls)) (before (l ∷ ls) whole)
+    let rest' : AreLinesTaken (seen_with (seen_of a) l) more ls = subst (λ (x : Seen). AreLinesTaken x more ls) (seen_on a b l same) rest in
+    let whole : AreLinesTaken (seen_of a) left (l ∷ ls) = subst (λ (x : List (List ℕ)). AreLinesTaken (seen_of a) x (l ∷ ls)) (sym next) (taken, rest') in
+    subst (λ (x : List Line). AreLinesTaken unseen all x) (sym (append_assoc found (l ∷ []) ls)) (before (l ∷ ls) whole)
 
-pub wrongs_more : (a b : LinesAbove) (n m : ℕ) (t : List ℕ) (left more all : List (List ℕ)) (l : Line) → WrongsOn a n left all → left ≡ t ∷ more → IsLineTaken a t l → b ≡ on_behind a l → m ≡ n + 1
+pub wrongs_more : (a b : LinesAbove) (n m : ℕ) (t : List ℕ) (left more all : List (List ℕ)) (l : Line) → WrongsOn a n left all → left ≡ t ∷ more → IsLineTaken (seen_of a) t l → b ≡ on_behind a l → m ≡ n + 1
     → WrongsOn b m more all
 wrongs_more a b n m t left more all l before next taken same one f rest =
-    let rest' : IsFirstLineWrong (on_behind a l) (n + 1) more f = subst (λ (x : LinesAbove). IsFirstLineWrong x (n + 1) more f) same (subst (λ (x : ℕ). IsFirstLineWrong b x more f) one rest) in
-    before f (subst (λ (x : List (List ℕ)). IsFirstLineWrong a n x f) (sym next) (inr (l, taken, rest')))
+    let rest' : IsFirstLineWrong (seen_with (seen_of a) l) (n + 1) more f =
+    subst (λ (x : Seen). IsFirstLineWrong x (n + 1) more f) (seen_on a b l same) (subst (λ (x : ℕ). IsFirstLineWrong (seen_of b) x more f) one rest) in
+    before f (subst (λ (x : List (List ℕ)). IsFirstLineWrong (seen_of a) n x f) (sym next) (inr (l, taken, rest')))
 
 laid_snoc : (a : LinesAbove) (found : List Line) (l : Line) → laid_by a (found ++ l ∷ []) ≡ on_behind (laid_by a found) l
 laid_snoc a [] l = refl
@@ -40,3 +49,8 @@ one_longer found l = length-append found (l ∷ [])
 -- that many lines fit in memory
 pub sizes_few : (s : SectionSizes) (n : ℕ) → SizesWithin s (n * 2 ^ 64) → n ≤ 2 ^ 62 → SizesWithin s (2 ^ 126)
 sizes_few s n (x, y, z) h = (omega arith, omega arith, omega arith)
+
+-- a line that is refused is wrong
+pub told_refusal : (s : Seen) (n : ℕ) (t : List ℕ) (l : Line) (e : AsmError) → IsLine t l → TellsRefusal s n l e → TellsLineWrong s n t e
+told_refusal s n t l NoMemory line h = tt
+told_refusal s n t l (At f) line (at, (r, stands, is)) = (at, inr (l, r, line, stands, is))

@@ -31,6 +31,10 @@ problem_code WrongSection = 15
 problem_code TooLarge = 16
 problem_code LongName = 17
 
+abbrev pub error_code : AsmError → ℕ
+error_code (At f) = problem_code f.problem
+error_code NoMemory = 90
+
 abbrev pub problem_of : Reason → Problem
 problem_of reasons.LongName = LongName
 problem_of reasons.Twice = Twice

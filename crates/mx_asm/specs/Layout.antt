@@ -1,6 +1,7 @@
 -- Where the statements and labels of a text stand (our own; the sections are those of a.out.h).
 use Rattle.std.specs.Prelude.{ℕ, ◌+◌, ◌%◌, ◌^◌, ◌≤◌, Bool, true, false, ◌||◌, nat_eq, if◌then◌else◌, List, [], ◌∷◌, ◌++◌, Option, Some, None, is_some, unwrap_or, pos, ◌+ℤ◌}
-use Rattle.std.specs.Map.{lookup}
+use Rattle.std.specs.List.{list_any}
+use Rattle.std.specs.Map.{lookup, keys_of}
 use Rattle.std.specs.Cmp.Lexicographic.{pointwise}
 use Rattle.mx_word.specs.Word.{modulo}
 use Rattle.mx_text.specs.declared.names.Name.{Name}
@@ -134,18 +135,61 @@ value_under a v = counted_from v (value_base a v.name)
 
 -- ---- reasons to refuse a line for the lines above
 
-abbrev pub is_defined : LinesAbove → Option Name → Bool
-is_defined a None = false
-is_defined a (Some name) = is_some (label_named a.labels name)
+-- what the reasons hang on: the section in force, the names that stand as labels, and whether .sep, .entry and .stack
+-- stood above
+pub record Seen : Type 0 where
+  pub section : Section
+  pub names : List Name
+  pub sep : Bool
+  pub entry : Bool
+  pub stack : Bool
 
-abbrev pub is_defined_twice : LinesAbove → StatementStart → Bool
-is_defined_twice a beginnings.Separate = a.sep
-is_defined_twice a beginnings.Entry = is_some a.entry
-is_defined_twice a beginnings.Stack = is_some a.stack
-is_defined_twice a _ = false
+-- above the first line
+abbrev pub unseen : Seen
+unseen = record { section = Text; names = []; sep = false; entry = false; stack = false }
 
-abbrev pub refusal_of_line : LinesAbove → Line → Option Reason
-refusal_of_line a l = statement_refusal a.sizes.section (is_defined a l.label || is_defined_twice a l.beginning) l
+abbrev pub section_with : Section → Statement → Section
+section_with section (says.Enter other) = other
+section_with section _ = section
+
+abbrev pub names_with : List Name → Option Name → List Name
+names_with names None = names
+names_with names (Some name) = names ++ name ∷ []
+
+abbrev pub names_entry : Statement → Bool
+names_entry (says.Entry name) = true
+names_entry _ = false
+
+abbrev pub sets_stack : Statement → Bool
+sets_stack (says.Stack n) = true
+sets_stack _ = false
+
+-- with one line more; how long it is decides nothing
+abbrev pub seen_with : Seen → Line → Seen
+seen_with s l = record {
+  section = section_with s.section (statement_said l);
+  names = names_with s.names l.label;
+  sep = s.sep || separates (statement_said l);
+  entry = names_entry (statement_said l) || s.entry;
+  stack = sets_stack (statement_said l) || s.stack;
+}
+
+-- what of the lines above the reasons hang on
+abbrev pub seen_of : LinesAbove → Seen
+seen_of a = record { section = a.sizes.section; names = keys_of a.labels; sep = a.sep; entry = is_some a.entry; stack = is_some a.stack }
+
+abbrev pub is_defined : List Name → Option Name → Bool
+is_defined names None = false
+is_defined names (Some name) = list_any (is_same_label name) names
+
+abbrev pub is_defined_twice : Seen → StatementStart → Bool
+is_defined_twice s beginnings.Separate = s.sep
+is_defined_twice s beginnings.Entry = s.entry
+is_defined_twice s beginnings.Stack = s.stack
+is_defined_twice s _ = false
+
+abbrev pub refusal_of_line : Seen → Line → Option Reason
+refusal_of_line s l = statement_refusal s.section (is_defined s.names l.label || is_defined_twice s l.beginning) l
 
 -- ---- bounds
 

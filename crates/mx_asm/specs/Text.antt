@@ -14,7 +14,7 @@ use Rattle.mx_asm.specs.declared.fault.Fault.{Fault}
 use Rattle.mx_asm.specs.declared.fault.AsmError.{AsmError}
 use Rattle.mx_asm.specs.declared.fault.AsmError.TheVariants.{At, NoMemory}
 use Rattle.mx_asm.specs.Lengths.{statement_length}
-use Rattle.mx_asm.specs.Layout.{LinesAbove, no_lines_above, above_with, statement_said, refusal_of_line}
+use Rattle.mx_asm.specs.Layout.{LinesAbove, Seen, unseen, seen_with, seen_of, above_with, statement_said, refusal_of_line}
 use Rattle.mx_asm.specs.Faults.{problem_of, fault_behind}
 use Rattle.mx_asm.specs.Assembled.{AreAssembled}
 
@@ -30,50 +30,54 @@ TellsLexical e n NoMemory = e ≡ lexical.NoMemory
 TellsLexical e n (At f) = (f.line ≡ n) × TellsOf e f.problem
 
 -- what is wrong with a line for itself and the lines above it: its bytes, else the first reason to refuse what it says
-abbrev pub IsLineWrong : LinesAbove → List ℕ → Problem → Type 0
-IsLineWrong a t p =
+abbrev pub IsLineWrong : Seen → List ℕ → Problem → Type 0
+IsLineWrong s t p =
     ((e : LexError) × IsLexFault t e × TellsOf e p)
-    ⊎ ((l : Line) × (r : Reason) × IsLine t l × (refusal_of_line a l ≡ Some r) × (p ≡ problem_of r))
+    ⊎ ((l : Line) × (r : Reason) × IsLine t l × (refusal_of_line s l ≡ Some r) × (p ≡ problem_of r))
 
 -- the line says this, and nothing is wrong with it
-abbrev pub IsLineTaken : LinesAbove → List ℕ → Line → Type 0
-IsLineTaken a t l = IsLine t l × (refusal_of_line a l ≡ None)
+abbrev pub IsLineTaken : Seen → List ℕ → Line → Type 0
+IsLineTaken s t l = IsLine t l × (refusal_of_line s l ≡ None)
 
 -- behind a line that is taken
 abbrev pub on_behind : LinesAbove → Line → LinesAbove
 on_behind a l = above_with a l (statement_length (statement_said l))
 
 -- the lines say these, and nothing is wrong with them
-abbrev pub AreLinesTaken : LinesAbove → List (List ℕ) → List Line → Type 0
-AreLinesTaken a [] [] = ⊤
-AreLinesTaken a (t ∷ ts) (l ∷ ls) = IsLineTaken a t l × AreLinesTaken (on_behind a l) ts ls
-AreLinesTaken a _ _ = ⊥
+abbrev pub AreLinesTaken : Seen → List (List ℕ) → List Line → Type 0
+AreLinesTaken s [] [] = ⊤
+AreLinesTaken s (t ∷ ts) (l ∷ ls) = IsLineTaken s t l × AreLinesTaken (seen_with s l) ts ls
+AreLinesTaken s _ _ = ⊥
+
+-- one line more isn't refused
+abbrev pub Accepts : LinesAbove → LinesAbove → Line → List Line → List Line → Type 0
+Accepts a b l old new = (refusal_of_line (seen_of a) l ≡ None) × (b ≡ on_behind a l) × (new ≡ old ++ l ∷ [])
 
 -- one line more is taken
 pub record TakesLine (a b : LinesAbove) (t : List ℕ) (old new : List Line) : Type 0 where
   pub line : Line
-  pub taken : IsLineTaken a t line
+  pub taken : IsLineTaken (seen_of a) t line
   pub behind_is : b ≡ on_behind a line
   pub lines_are : new ≡ old ++ line ∷ []
 
 -- the first line with which something is wrong, the first of these being line n
-abbrev pub IsFirstLineWrong : LinesAbove → ℕ → List (List ℕ) → Fault → Type 0
-IsFirstLineWrong a n [] f = ⊥
-IsFirstLineWrong a n (t ∷ ts) f =
-    ((f.line ≡ n) × IsLineWrong a t f.problem)
-    ⊎ ((l : Line) × IsLineTaken a t l × IsFirstLineWrong (on_behind a l) (n + 1) ts f)
+abbrev pub IsFirstLineWrong : Seen → ℕ → List (List ℕ) → Fault → Type 0
+IsFirstLineWrong s n [] f = ⊥
+IsFirstLineWrong s n (t ∷ ts) f =
+    ((f.line ≡ n) × IsLineWrong s t f.problem)
+    ⊎ ((l : Line) × IsLineTaken s t l × IsFirstLineWrong (seen_with s l) (n + 1) ts f)
 
 -- the text's lines say these, and nothing stands against them
 abbrev pub AreLinesAccepted : List ℕ → List Line → Type 0
-AreLinesAccepted t ls = AreLinesTaken no_lines_above (lines t) ls × (fault_behind ls ≡ None)
+AreLinesAccepted t ls = AreLinesTaken unseen (lines t) ls × (fault_behind ls ≡ None)
 
 -- the text's lines say these, none is refused, and they make this program
 abbrev pub IsAssembled : List ℕ → Program → Type 0
-IsAssembled t p = (ls : List Line) × AreLinesTaken no_lines_above (lines t) ls × AreAssembled ls p
+IsAssembled t p = (ls : List Line) × AreLinesTaken unseen (lines t) ls × AreAssembled ls p
 
 -- the first line with which something is wrong, else what is told of all lines
 abbrev pub HasTextFault : List ℕ → Fault → Type 0
-HasTextFault t f = IsFirstLineWrong no_lines_above 1 (lines t) f ⊎ ((ls : List Line) × AreLinesTaken no_lines_above (lines t) ls × (fault_behind ls ≡ Some f))
+HasTextFault t f = IsFirstLineWrong unseen 1 (lines t) f ⊎ ((ls : List Line) × AreLinesTaken unseen (lines t) ls × (fault_behind ls ≡ Some f))
 
 -- want of memory aside
 abbrev pub TellsTextFault : List ℕ → AsmError → Type 0
@@ -82,8 +86,13 @@ TellsTextFault t (At f) = HasTextFault t f
 
 abbrev pub TellsFirstLine : List ℕ → AsmError → Type 0
 TellsFirstLine t NoMemory = ⊤
-TellsFirstLine t (At f) = IsFirstLineWrong no_lines_above 1 (lines t) f
+TellsFirstLine t (At f) = IsFirstLineWrong unseen 1 (lines t) f
 
-abbrev pub TellsLineWrong : LinesAbove → ℕ → List ℕ → AsmError → Type 0
-TellsLineWrong a n t NoMemory = ⊤
-TellsLineWrong a n t (At f) = (f.line ≡ n) × IsLineWrong a t f.problem
+-- of a line that says this; memory is only wanting where it isn't refused
+abbrev pub TellsRefusal : Seen → ℕ → Line → AsmError → Type 0
+TellsRefusal s n l NoMemory = refusal_of_line s l ≡ None
+TellsRefusal s n l (At f) = (f.line ≡ n) × ((r : Reason) × (refusal_of_line s l ≡ Some r) × (f.problem ≡ problem_of r))
+
+abbrev pub TellsLineWrong : Seen → ℕ → List ℕ → AsmError → Type 0
+TellsLineWrong s n t NoMemory = ⊤
+TellsLineWrong s n t (At f) = (f.line ≡ n) × IsLineWrong s t f.problem

@@ -2,11 +2,11 @@
 
 ghost use Rattle.std.specs.Prelude.{◌≡◌, ◌≤◌, ◌^◌, length, OnOk, IfOk, IfErr};
 ghost use Rattle.mx_text.specs.Lines.{lines};
-ghost use Rattle.mx_asm.specs.Layout.{SizesWithin, GrowsWithin, no_lines_above, laid_by};
+ghost use Rattle.mx_asm.specs.Layout.{SizesWithin, GrowsWithin, no_lines_above, unseen, seen_of, laid_by};
 ghost use Rattle.mx_asm.specs.Faults.{problem_of};
 ghost use Rattle.mx_asm.specs.declared.fault.AsmError.TheVariants.{At};
 ghost use Rattle.mx_asm.specs.View.{above_of};
-ghost use Rattle.mx_asm.specs.Text.{IsLineTaken, AreLinesTaken, TakesLine, on_behind, IsAssembled, TellsTextFault, TellsFirstLine, TellsLineWrong, TellsLexical};
+ghost use Rattle.mx_asm.specs.Text.{AreLinesTaken, Accepts, TakesLine, IsAssembled, TellsTextFault, TellsFirstLine, TellsRefusal, TellsLineWrong, TellsLexical};
 
 use crate::program::program_of;
 use crate::{AsmError, Fault, Layout, Problem, problem_of};
@@ -48,17 +48,14 @@ fn refused(reason: Reason, line: usize) -> AsmError
 }
 
 impl Read {
-    /// Takes a line in behind those above it, or tells what is wrong with it.
-    fn take(&mut self, alloc: Global, text: &[u8], number: usize) -> Result<(), AsmError>
+    /// Takes in what a line says, behind those above it, or tells why it is refused. Memory is only
+    /// wanting where it isn't.
+    fn accept(&mut self, line: Line, number: usize) -> Result<(), AsmError>
         requires { SizesWithin self.old.layout.sizes (2 ^ 126) }
-        ensures taken { OnOk result (TakesLine (above_of self.old.layout) (above_of self.new.layout) text.now self.old.lines.items self.new.lines.items) }
+        ensures accepted { OnOk result (Accepts (above_of self.old.layout) (above_of self.new.layout) line self.old.lines.items self.new.lines.items) }
         ensures small { OnOk result (GrowsWithin self.old.layout.sizes self.new.layout.sizes (2 ^ 64)) }
-        ensures wrong { IfErr result (TellsLineWrong (above_of self.old.layout) number text.now) }
+        ensures refused { IfErr result (TellsRefusal (seen_of (above_of self.old.layout)) number line) }
     {
-        let line = match read_line(alloc, text) {
-            Ok(line) => line,
-            Err(error) => return Err(told_of(error, number)),
-        };
         match self.layout.reason_of(&line) {
             Some(reason) => return Err(refused(reason, number)),
             None => {}
@@ -66,6 +63,19 @@ impl Read {
         self.layout.go_behind(&line)?;
         self.lines.push(line)?;
         Ok(())
+    }
+
+    /// Reads a line and takes it in, or tells what is wrong with it.
+    fn take(&mut self, alloc: Global, text: &[u8], number: usize) -> Result<(), AsmError>
+        requires { SizesWithin self.old.layout.sizes (2 ^ 126) }
+        ensures taken { OnOk result (TakesLine (above_of self.old.layout) (above_of self.new.layout) text.now self.old.lines.items self.new.lines.items) }
+        ensures small { OnOk result (GrowsWithin self.old.layout.sizes self.new.layout.sizes (2 ^ 64)) }
+        ensures wrong { IfErr result (TellsLineWrong (seen_of (above_of self.old.layout)) number text.now) }
+    {
+        match read_line(alloc, text) {
+            Ok(line) => self.accept(line, number),
+            Err(error) => Err(told_of(error, number)),
+        }
     }
 }
 
@@ -79,7 +89,7 @@ fn count(lines: &[Line]) -> usize
 
 /// The lines of a text, or the first with which something is wrong.
 fn read_lines(alloc: Global, text: &[u8]) -> Result<Read, AsmError>
-    ensures taken { IfOk result (λ read. AreLinesTaken no_lines_above (lines text.now) read.lines.items) }
+    ensures taken { IfOk result (λ read. AreLinesTaken unseen (lines text.now) read.lines.items) }
     ensures laid { IfOk result (λ read. above_of read.layout ≡ laid_by no_lines_above read.lines.items) }
     ensures wrong { IfErr result (TellsFirstLine text.now) }
 {

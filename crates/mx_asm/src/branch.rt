@@ -71,9 +71,10 @@ pub fn is_too_far(branch: Branch, displacement: u32) -> bool
     is_near(branch) && !is_short(displacement)
 }
 
-/// A jump that reaches has the length that its line asks for.
+/// A jump that reaches has the length that its line asks for, and one of that length reaches.
 pub fn branch_has_length()
-    ensures { (branch : Branch) (displacement : ℕ) (bytes : List ℕ) → is_too_far branch displacement ≡ false → Chosen (branch_by branch displacement) (branch_marks branch) bytes → length bytes ≡ branch_length branch }
+    ensures length { (branch : Branch) (n : ℕ) (bytes : List ℕ) → is_too_far branch n ≡ false → Chosen (branch_by branch n) (branch_marks branch) bytes → length bytes ≡ branch_length branch }
+    ensures reaches { (branch : Branch) (n : ℕ) (bytes : List ℕ) → Chosen (branch_by branch n) (branch_marks branch) bytes → length bytes ≡ branch_length branch → is_too_far branch n ≡ false }
 {}
 
 /// The bytes of a jump at an address.

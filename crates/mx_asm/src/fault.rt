@@ -1,7 +1,7 @@
 //! What is told of a text that makes no program.
 
 ghost use Rattle.std.specs.Prelude.{◌≡◌};
-ghost use Rattle.mx_asm.specs.Faults.{problem_code, problem_of};
+ghost use Rattle.mx_asm.specs.Faults.{problem_code, error_code, problem_of};
 
 use mx_asm_statement::Reason;
 use std::alloc::{AllocError, AllocFailed};
@@ -51,10 +51,22 @@ pub struct Fault {
 }
 
 /// The first fault, or that memory was wanting.
-#[derive(Clone, Copy)]
+#[derive(Clone, Copy, Debug, PartialEq, Eq)]
 pub enum AsmError {
     At(Fault),
     NoMemory,
+}
+
+impl AsmError {
+    /// The number that messages tell.
+    pub fn code(self) -> u8
+        ensures { result ≡ error_code self }
+    {
+        match self {
+            AsmError::At(fault) => fault.problem.code(),
+            AsmError::NoMemory => 90,
+        }
+    }
 }
 
 /// What a line is refused for.

@@ -4,11 +4,11 @@ ghost use Rattle.std.specs.Prelude.{◌≡◌, ℕ, List};
 ghost use Rattle.mx_aout.specs.declared.program.Program.{Program};
 ghost use Rattle.mx_asm_statement.specs.declared.line.Line.{Line};
 ghost use Rattle.mx_asm.specs.declared.fault.Fault.{Fault};
-ghost use Rattle.mx_asm.specs.Assembled.{SameProgram};
 ghost use Rattle.mx_asm.specs.Text.{AreLinesAccepted, IsAssembled, HasTextFault};
 
 use crate::branch_has_length;
-use mx_asm_line::{line_fits, line_or_fault, one_line};
+use mx_aout::alike_is_same;
+use mx_asm_line::{line_begins, line_fits, line_or_fault, one_line};
 use mx_encode::{
     displacement_keeps_length, filled_fits, immediate_keeps_length, one_chosen, some_chosen,
 };
@@ -26,6 +26,7 @@ pub fn program_or_fault()
     line_fits();
     some_chosen();
     filled_fits();
+    line_begins();
     branch_has_length();
     immediate_keeps_length();
     displacement_keeps_length();
@@ -42,10 +43,11 @@ pub fn fault_is_one()
 
 /// At most one program is assembled from a text.
 pub fn program_is_one()
-    ensures { (t : List ℕ) (p q : Program) → IsAssembled t p → IsAssembled t q → SameProgram p q }
+    ensures { (t : List ℕ) (p q : Program) → IsAssembled t p → IsAssembled t q → p ≡ q }
 {
     one_line();
     one_chosen();
+    alike_is_same();
     immediate_keeps_length();
     displacement_keeps_length();
 }

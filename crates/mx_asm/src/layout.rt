@@ -2,7 +2,7 @@
 
 ghost use Rattle.std.specs.Prelude.{OnOk, ◌≡◌, ◌+◌, ◌%◌, ◌^◌, ◌≤◌, nat_lt, false, None, IfErr};
 ghost use Rattle.mx_asm.specs.Lengths.{statement_length};
-ghost use Rattle.mx_asm.specs.Layout.{section_offset_of, is_defined, is_defined_twice, refusal_of_line, labels_with, no_lines_above, above_with, statement_said, SizesWithin, GrowsWithin, label_named, start_of, address_of_offset, value_under};
+ghost use Rattle.mx_asm.specs.Layout.{section_offset_of, seen_of, is_defined, is_defined_twice, refusal_of_line, labels_with, no_lines_above, above_with, statement_said, SizesWithin, GrowsWithin, label_named, start_of, address_of_offset, value_under};
 ghost use Rattle.mx_asm.specs.Faults.{total_of, is_program_too_large};
 ghost use Rattle.mx_asm.specs.View.{above_of};
 
@@ -53,7 +53,7 @@ impl Layout {
     }
 
     fn stands(&self, label: Option<Name>) -> bool
-        ensures { result ≡ is_defined (above_of self.now) label }
+        ensures { result ≡ is_defined (seen_of (above_of self.now)).names label }
     {
         match label {
             None => false,
@@ -62,7 +62,7 @@ impl Layout {
     }
 
     fn is_second(&self, beginning: StatementStart) -> bool
-        ensures { result ≡ is_defined_twice (above_of self.now) beginning }
+        ensures { result ≡ is_defined_twice (seen_of (above_of self.now)) beginning }
     {
         match beginning {
             StatementStart::Separate => self.sep,
@@ -74,7 +74,7 @@ impl Layout {
 
     /// Why a line is refused behind those above it.
     pub fn reason_of(&self, line: &Line) -> Option<Reason>
-        ensures { result ≡ refusal_of_line (above_of self.now) line.now }
+        ensures { result ≡ refusal_of_line (seen_of (above_of self.now)) line.now }
     {
         let twice = self.stands(line.label) || self.is_second(line.beginning);
         refusal(line, self.sizes.section, twice)
@@ -82,7 +82,7 @@ impl Layout {
 
     /// A label that stands here.
     fn place_label(&mut self, label: Option<Name>) -> Result<(), AsmError>
-        requires { is_defined (above_of self.old) label ≡ false }
+        requires { is_defined (seen_of (above_of self.old)).names label ≡ false }
         ensures ok { OnOk result (above_of self.new ≡ record (above_of self.old) { labels = labels_with (above_of self.old).labels label (section_offset_of self.old.sizes) }) }
         ensures err { IfErr result (λ e. e ≡ AsmError.NoMemory) }
     {
@@ -96,7 +96,7 @@ impl Layout {
     /// Goes on behind a line that isn't refused.
     pub fn go_behind(&mut self, line: &Line) -> Result<(), AsmError>
         requires room { SizesWithin self.old.sizes (2 ^ 126) }
-        requires new { is_defined (above_of self.old) line.now.label ≡ false }
+        requires new { is_defined (seen_of (above_of self.old)).names line.now.label ≡ false }
         ensures ok { OnOk result (above_of self.new ≡ above_with (above_of self.old) line.now (statement_length (statement_said line.now))) }
         ensures small { OnOk result (GrowsWithin self.old.sizes self.new.sizes (2 ^ 64)) }
         ensures err { IfErr result (λ e. e ≡ AsmError.NoMemory) }

@@ -1,6 +1,6 @@
 //! The program of lines.
 
-ghost use Rattle.std.specs.Prelude.{◌≡◌, false, length, map, IfOk, IfErr};
+ghost use Rattle.std.specs.Prelude.{◌≡◌, false, length, map, IfOk, IfErr, IsSome};
 ghost use Rattle.mx_asm.specs.Layout.{no_lines_above, laid_by};
 ghost use Rattle.mx_asm.specs.Faults.{IsFaultOr, fault_behind, total_of, is_program_too_large};
 ghost use Rattle.mx_asm.specs.View.{above_of};
@@ -25,15 +25,17 @@ fn class_of(section: Section) -> u8
     }
 }
 
-fn entry_address(layout: &Layout, entry: Option<Name>) -> u32
-    ensures { result ≡ entry_under (above_of layout.now) entry }
+/// Where the program begins, where the label stands that `.entry` names.
+fn entry_address(layout: &Layout) -> u32
+    requires { IsSome (entry_under (above_of layout.now) layout.now.entry) }
+    ensures { entry_under (above_of layout.now) layout.now.entry ≡ Some result }
 {
-    match entry {
-        None => 0,
-        Some(name) => match layout.spot_named(&name) {
-            None => 0,
-            Some(spot) => layout.address_of(spot),
-        },
+    let Some(name) = layout.entry else {
+        return 0;
+    };
+    match layout.spot_named(&name) {
+        Some(spot) => layout.address_of(spot),
+        None => unreachable!(),
     }
 }
 
@@ -57,11 +59,12 @@ fn symbols_of(alloc: Global, layout: &Layout) -> Result<Vec<Symbol>, AllocError>
 /// The program of bytes and symbols that have their places here.
 fn program_with(layout: &Layout, parts: Parts, symbols: Vec<Symbol>) -> Program
     requires fits { is_program_too_large (above_of layout.now) ≡ false }
+    requires begins { IsSome (entry_under (above_of layout.now) layout.now.entry) }
     requires text { length parts.text.items ≡ layout.now.sizes.text }
     requires init { length parts.init.items ≡ layout.now.sizes.init }
     requires symbols { symbols.items ≡ map (symbol_under (above_of layout.now)) (above_of layout.now).labels }
     ensures sep { result.sep ≡ layout.now.sep }
-    ensures entry { result.entry ≡ entry_under (above_of layout.now) layout.now.entry }
+    ensures entry { entry_under (above_of layout.now) layout.now.entry ≡ Some result.entry }
     ensures total { result.total ≡ total_of (above_of layout.now) }
     ensures text { result.text ≡ parts.text.items }
     ensures init { result.init ≡ parts.init.items }
@@ -70,7 +73,7 @@ fn program_with(layout: &Layout, parts: Parts, symbols: Vec<Symbol>) -> Program
 {
     Program {
         sep: layout.sep,
-        entry: entry_address(layout, layout.entry),
+        entry: entry_address(layout),
         total: layout.total(),
         text: Bytes::from_vec(parts.text),
         init: Bytes::from_vec(parts.init),

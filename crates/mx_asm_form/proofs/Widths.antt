@@ -50,7 +50,7 @@ use Rattle.mx_asm_form.specs.Operations.{unary, test, sized_factor, factor_of, p
 use Rattle.mx_asm_form.specs.Moves.{exchange, load_address_statement, extension_between, extension_parts, zero_extend, sign_extend}
 use Rattle.mx_asm_form.specs.Stack.{statement_without_arguments, push, pop, return_of, interrupt, port_of, port_size_of, port_in, port_out}
 use Rattle.mx_asm_form.specs.Transfers.{jump, jump_if_statement, call, loop_statement}
-use Rattle.mx_asm_form.specs.Statements.{arithmetic_statement, move_statement, statement_for_single, statement_for, statement_after_prefix}
+use Rattle.mx_asm_form.specs.Statements.{IsCode, arithmetic_statement, move_statement, statement_for_single, statement_for, statement_after_prefix}
 
 -- if there is one, it is so
 abbrev pub If : {A : Type 0} → (A → Type 0) → Option A → Type 0
@@ -66,9 +66,11 @@ each : {A B : Type 0} (Q : B → Type 0) (o : Option A) (f : A → Option B) →
 each Q None f k = tt
 each Q (Some a) f k = k a
 
+-- an instruction whose numbers are as wide as their types, or a jump; no directive
 abbrev pub StatementFits : Statement → Type 0
 StatementFits (statements.Instruction i) = Fits i.insn
-StatementFits _ = Unit {0}
+StatementFits (statements.Branch k target) = Unit {0}
+StatementFits _ = ⊥
 
 abbrev pub SpotFits : SizedOperand → Type 0
 SpotFits spot = OperandFits spot.operand
@@ -84,6 +86,21 @@ PartsFit parts = OperandFits parts.from
 
 pub fits_where : (o : Option Statement) (i : Instruction) → If StatementFits o → o ≡ Some (statements.Instruction i) → Fits i.insn
 fits_where o i h e = subst (If StatementFits) e h
+
+pub code_where : (o : Option Statement) (s : Statement) → If StatementFits o → o ≡ Some s → IsCode s
+code_where o s h e = code s (subst (If StatementFits) e h)
+  where
+    code : (s : Statement) → StatementFits s → IsCode s
+    code (statements.Instruction i) h = tt
+    code (statements.Branch k target) h = tt
+    code statements.Nothing h = absurd h
+    code (statements.Enter section) h = absurd h
+    code (statements.Data size values) h = absurd h
+    code (statements.Ascii bytes) h = absurd h
+    code (statements.Space n) h = absurd h
+    code statements.Separate h = absurd h
+    code (statements.Entry name) h = absurd h
+    code (statements.Stack n) h = absurd h
 
 -- ---- numbers
 

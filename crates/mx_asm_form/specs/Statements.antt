@@ -1,5 +1,5 @@
 -- Which statement a mnemonic and its arguments are.
-use Rattle.std.specs.Prelude.{Bool, true, false, Option, Some, None, List}
+use Rattle.std.specs.Prelude.{Bool, true, false, Option, Some, None, List, ⊤}
 use Rattle.mx_word.specs.declared.names.Arithmetic.{Arithmetic}
 use Rattle.mx_insn.specs.declared.insn.OperandSize.TheVariants.{Word, Dword}
 use Rattle.mx_insn.specs.declared.insn.Repeat.TheVariants as repeats
@@ -13,12 +13,19 @@ use Rattle.mx_insn_words.specs.declared.start.Prefix.TheVariants.{Rep, Repe, Rep
 use Rattle.mx_asm_statement.specs.declared.argument.Argument.{Argument}
 use Rattle.mx_asm_statement.specs.Items.{◌>>=◌}
 use Rattle.mx_asm_statement.specs.declared.statement.Statement.{Statement}
+use Rattle.mx_asm_statement.specs.declared.statement.Statement.TheVariants as statements
 use Rattle.mx_asm_form.specs.SizedOperands.{statement_of_insn}
 use Rattle.mx_asm_form.specs.Pairs.{operands_of}
 use Rattle.mx_asm_form.specs.Operations.{unary, test, product, shift, set_condition_statement}
 use Rattle.mx_asm_form.specs.Moves.{exchange, load_address_statement, zero_extend, sign_extend}
 use Rattle.mx_asm_form.specs.Stack.{statement_without_arguments, push, pop, return_of, interrupt, port_in, port_out}
 use Rattle.mx_asm_form.specs.Transfers.{jump, jump_if_statement, call, loop_statement}
+
+-- an instruction or a jump, and no directive
+abbrev pub IsCode : Statement → Type 0
+IsCode (statements.Instruction i) = ⊤
+IsCode (statements.Branch k target) = ⊤
+IsCode _ = ⊥
 
 abbrev pub arithmetic_statement : Arithmetic → List Argument → Option Statement
 arithmetic_statement o xs = do

@@ -15,7 +15,7 @@ mod transfers;
 
 pub use data::data_of;
 pub use form::{repeated, stated};
-pub use laws::numbers_fit;
+pub use laws::{code_is_stated, numbers_fit};
 pub use moves::{exchange, load_address, sign_extend, zero_extend};
 pub use mx_asm_statement::{
     Address, Argument, Branch, Index, Instruction, Name, Register, Scale, Size, Statement, Value,

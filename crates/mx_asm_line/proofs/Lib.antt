@@ -2,3 +2,4 @@ mod Slices
 mod Unique
 mod Total
 mod Widths
+pub mod Beginnings

@@ -1,3 +1,4 @@
 pub mod Opening
 pub mod Statements
 pub mod Lines
+pub mod Beginnings

@@ -6,10 +6,12 @@ ghost use Rattle.mx_lex.specs.declared.kinds.LexError.{LexError};
 ghost use Rattle.mx_lex.specs.Tokens.{IsLexFault};
 ghost use Rattle.mx_asm_statement.specs.declared.line.Line.{Line};
 ghost use Rattle.mx_asm_statement.specs.declared.instruction.Instruction.{Instruction};
+ghost use Rattle.mx_asm_statement.specs.declared.statement.Statement.{Statement};
 ghost use Rattle.mx_asm_statement.specs.declared.statement.Statement.TheVariants as statements;
+ghost use Rattle.mx_asm_line.specs.Beginnings.{begins_with};
 ghost use Rattle.mx_asm_line.specs.Lines.{IsLine};
 
-use mx_asm_form::numbers_fit;
+use mx_asm_form::{code_is_stated, numbers_fit};
 use mx_insn_words::{one_register_or_size, one_start};
 use mx_lex::{one_reading, reading_or_fault};
 
@@ -35,4 +37,11 @@ pub fn line_fits()
     ensures { (t : List ℕ) (l : Line) (i : Instruction) → IsLine t l → l.statement ≡ Some (statements.Instruction i) → Fits i.insn }
 {
     numbers_fit();
+}
+
+/// A line begins with what its statement begins with.
+pub fn line_begins()
+    ensures { (t : List ℕ) (l : Line) (s : Statement) → IsLine t l → l.statement ≡ Some s → l.beginning ≡ begins_with s }
+{
+    code_is_stated();
 }

@@ -6,7 +6,7 @@ mod opening;
 mod reading;
 mod statements;
 
-pub use laws::{line_fits, line_or_fault, one_line};
+pub use laws::{line_begins, line_fits, line_or_fault, one_line};
 pub use mx_asm_statement::Line;
 pub use mx_lex::LexError;
 pub use reading::read_line;

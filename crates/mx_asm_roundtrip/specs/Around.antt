@@ -9,6 +9,7 @@ use Rattle.mx_asm_statement.specs.declared.statement.Statement.TheVariants as sa
 use Rattle.mx_asm_statement.specs.declared.line.Line.{Line}
 use Rattle.mx_aout.specs.declared.program.Program.{Program}
 use Rattle.mx_aout.specs.File.{FileIs}
+use Rattle.mx_aout.specs.Written.{short_file}
 use Rattle.mx_asm.specs.declared.sizes.SectionSizes.{SectionSizes}
 use Rattle.mx_asm.specs.Branches.{branch_by, distance}
 use Rattle.mx_asm.specs.Layout.{LinesAbove, no_lines_above, left_by, sizes_after, section_offset_of, address_of_offset, value_under, statement_said}
@@ -90,12 +91,13 @@ CodeKeeps lines p made code = AllAtAddress code (layout_of made) no_lines_above.
 abbrev pub PartsKeep : (lines : List Line) (p : Program) → AreAssembled lines p → List Part → Type 0
 PartsKeep lines p made parts = AllListed parts (layout_of made) no_lines_above.sizes lines made.bytes
 
--- a text went around: its program's file, of which it is the only program; the image of that program, whose code
+-- a text went around: its program's file in the short form, of which it is the only program; the image of that program, whose code
 -- has each statement's bytes at its address; and the listing, whose parts have each instruction there
 pub record GoesAround (text : List ℕ) (way : Journey) : Type 0 where
   pub program : Program
   pub assembled : IsAssembled text program
   pub file : FileIs way.file program
+  pub short : way.file ≡ short_file program
   pub only : (other : Program) → FileIs way.file other → other ≡ program
   pub image : way.image ≡ image_of_program program
   pub code : CodeKeeps assembled.0 program assembled.2 (code_bytes way.image)

@@ -1,5 +1,5 @@
 -- How a text is read of which each line says one thing (our own).
-use Rattle.std.specs.Prelude.{◌≡◌, ℕ, ◌+◌, List, ◌∷◌, ◌++◌, length, map, Option, Some, None, ⊤}
+use Rattle.std.specs.Prelude.{◌≡◌, ℕ, ◌+◌, List, ◌∷◌, ◌++◌, length, map, Option, Some, None}
 use Rattle.mx_text.specs.declared.error.BootError.{BootError}
 use Rattle.mx_text.specs.declared.error.BootError.TheVariants.{BadRecord, NoMemory}
 
@@ -13,8 +13,9 @@ IsFirstUnread {T} says lines n =
     (above below : List (List ℕ)) × (line : List ℕ) × (xs : List T) × (lines ≡ above ++ line ∷ below)
     × AreLinesRead says above xs × (says line ≡ None) × (n ≡ length above + 1)
 
--- what is told where the lines can't all be read; want of memory may come anywhere
+-- what is told where nothing is answered: the first line that says nothing, and want of memory only where each line says
+-- something
 abbrev pub TellsUnread : {T : Type 0} → (List ℕ → Option T) → List (List ℕ) → BootError → Type 0
 TellsUnread says lines (BadRecord n) = IsFirstUnread says lines n
-TellsUnread says lines NoMemory = ⊤
+TellsUnread {T} says lines NoMemory = (xs : List T) × AreLinesRead says lines xs
 TellsUnread says lines _ = ⊥

@@ -1,6 +1,6 @@
 //! Texts of which each line says one thing.
 
-ghost use Rattle.std.specs.Prelude.{◌≡◌, ℕ, List, Option, IfOk, IfErr};
+ghost use Rattle.std.specs.Prelude.{◌≡◌, ◌++◌, ◌∷◌, [], false, ℕ, List, Option, IfOk, IfErr};
 ghost use Rattle.mx_text.specs.Lines.{lines};
 ghost use Rattle.mx_boot_script.specs.Reading.{AreLinesRead, TellsUnread};
 
@@ -18,7 +18,16 @@ pub trait ReadsLine {
         ensures { result ≡ says self.now line.now };
 }
 
-/// What the lines of a text say, or `BadRecord` with the first line that says nothing.
+/// Keeps what a line says, and answers whether it is lost, for want of memory.
+fn is_lost<T: Drop>(found: &mut Vec<T>, said: T) -> bool
+    ensures { result ≡ false → found.new.items ≡ found.old.items ++ said ∷ [] }
+{
+    found.push(said).is_err()
+}
+
+/// What the lines of a text say, or `BadRecord` with the first line that says nothing. Want of memory
+/// is told after all lines are judged, so that a line at fault is told whatever memory there is.
+#[tactic(auto, using(crate::proofs::ReadSoFar::more))]
 pub fn read_lines<R: ReadsLine>(
     alloc: Global,
     reader: &R,
@@ -30,15 +39,22 @@ where
     ensures unread { IfErr result (λ e. TellsUnread (R.says reader.now) (lines text.now) e) }
 {
     let mut found = Vec::new(alloc);
+    let mut is_wanting = false;
     let mut rest = text;
     let mut number = 1;
     while let Some((line, below)) = next_line(rest) {
         match reader.read(line) {
-            Some(said) => found.push(said)?,
+            Some(said) => {
+                let is_lost = is_lost(&mut found, said);
+                is_wanting = is_wanting | is_lost;
+            }
             None => return Err(BootError::BadRecord(number)),
         }
         rest = below;
         number += 1;
+    }
+    if is_wanting {
+        return Err(BootError::NoMemory);
     }
     Ok(found)
 }

@@ -11,6 +11,11 @@ IsParting t [] = t ≡ []
 IsParting t (Instruction i k ∷ parts) = SpellsFirst t k i × IsParting (drop k t) parts
 IsParting t (Byte b ∷ parts) = (rest : List ℕ) × (t ≡ b ∷ rest) × NoneFirst t × IsParting rest parts
 
+-- a text begins with this part: an instruction that a front spells, or its first byte, where none does
+abbrev pub IsFirstPart : List ℕ → Part → Type 0
+IsFirstPart t (Instruction i k) = SpellsFirst t k i
+IsFirstPart t (Byte b) = (rest : List ℕ) × (t ≡ b ∷ rest) × NoneFirst t
+
 -- how many bytes a part takes
 abbrev pub part_size : Part → ℕ
 part_size (Instruction i k) = k

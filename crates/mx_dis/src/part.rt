@@ -2,7 +2,7 @@
 
 ghost use Rattle.std.specs.Prelude.{◌≡◌, ◌<◌, ◌≤◌, ◌∷◌, List, length, drop};
 ghost use Rattle.mx_dis.specs.declared.part.Part.{Part};
-ghost use Rattle.mx_dis.specs.Parting.{IsParting, part_size};
+ghost use Rattle.mx_dis.specs.Parting.{IsFirstPart, IsParting, part_size};
 
 use crate::laws::takes_bytes;
 use mx_decode::decode;
@@ -29,9 +29,10 @@ impl Part {
     }
 }
 
-/// The part that bytes begin with.
+/// The part that bytes begin with. Whatever the rest is parted into follows it.
 pub fn first_part(bytes: &[u8]) -> Part
     requires { 0 < length bytes.now }
+    ensures part { IsFirstPart bytes.now result }
     ensures parting { (rest : List Part) → IsParting (drop (part_size result) bytes.now) rest → IsParting bytes.now (result ∷ rest) }
     ensures least { 1 ≤ part_size result }
     ensures within { part_size result ≤ length bytes.now }

@@ -7,4 +7,5 @@ returns-clause-file c = (
   c.in_ok-program.program,
   subst (λ (t : List ℕ). IsAssembled t c.in_ok-program.program) c.in-Ok.ensures.cases.0 c.in_ok-program.ensures.program,
   c.in_ok-write.ensures.file,
+  c.in_ok-write.ensures.form,
 )

@@ -2,7 +2,7 @@ use Rattle.std.proofs.Common.{arith, ◌≡◌, ◌∙◌, ℕ, ◌+◌, List, [
 use Rattle.std.proofs.lemmas.List.{append-nil}
 use Rattle.mx_asm_statement.specs.declared.line.Line.{Line}
 use Rattle.mx_text.specs.Lines.{lines}
-use Rattle.mx_asm.specs.Layout.{no_lines_above}
+use Rattle.mx_asm.specs.Layout.{unseen, seen_of}
 use Rattle.mx_asm.specs.Text.{AreLinesTaken}
 use Rattle.mx_asm.specs.View.{above_of}
 use Rattle.mx_asm.proofs.Standing.{sizes_more}
@@ -27,7 +27,7 @@ loop-line-preserved c =
     record {
       number = ap (λ (x : ℕ). x + 1) counted;
       few = omega (arith, counted, c.count-number.ensures.small);
-      takes = subst (λ (x : List Line). (ls : List Line) → AreLinesTaken b (lines c.in-Some.more.now) ls → AreLinesTaken no_lines_above (lines c.args.text.now) (x ++ ls)) (sym step.lines_are)
+      takes = subst (λ (x : List Line). (ls : List Line) → AreLinesTaken (seen_of b) (lines c.in-Some.more.now) ls → AreLinesTaken unseen (lines c.args.text.now) (x ++ ls)) (sym step.lines_are)
           (takes_more a b c.in-Some.line.now (lines c.loop-line.rest.now) (lines c.in-Some.more.now) (lines c.args.text.now) found l c.loop-line.invariant.takes next step.taken step.behind_is);
       wrongs = wrongs_more a b c.loop-line.number (c.count-number.result + 1) c.in-Some.line.now (lines c.loop-line.rest.now) (lines c.in-Some.more.now) (lines c.args.text.now) l c.loop-line.invariant.wrongs next step.taken step.behind_is (omega (arith, counted, longer, c.loop-line.invariant.number));
       laid = rw step.lines_are (laid_more a b found l c.loop-line.invariant.laid step.behind_is);
@@ -37,5 +37,5 @@ loop-line-preserved c =
 pub returns-clause-taken : goal.returns-clause-taken
 returns-clause-taken c =
     let over : lines c.loop-line.rest.now ≡ [] = c.in_default.ensures.line in
-    let whole = c.loop-line.invariant.takes [] (subst (λ (x : List (List ℕ)). AreLinesTaken (above_of c.loop-line.read.layout) x []) (sym over) tt) in
-    subst (λ (x : List Line). AreLinesTaken no_lines_above (lines c.args.text.now) x) (append-nil c.loop-line.read.lines.items) whole
+    let whole = c.loop-line.invariant.takes [] (subst (λ (x : List (List ℕ)). AreLinesTaken (seen_of (above_of c.loop-line.read.layout)) x []) (sym over) tt) in
+    subst (λ (x : List Line). AreLinesTaken unseen (lines c.args.text.now) x) (append-nil c.loop-line.read.lines.items) whole

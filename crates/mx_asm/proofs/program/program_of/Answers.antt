@@ -1,4 +1,4 @@
-use Rattle.std.proofs.Common.{arith, ◌≡◌, ◌∙◌, length, map, sym, ap, subst, refl}
+use Rattle.std.proofs.Common.{arith, Some, ◌≡◌, ◌∙◌, length, map, sym, ap, subst, refl}
 use Rattle.mx_asm_statement.specs.declared.statement.Section.TheVariants.{Text, Data}
 use Rattle.mx_asm.specs.View.{above_of}
 use Rattle.mx_asm.specs.Layout.{LinesAbove, left_by, no_lines_above}
@@ -7,6 +7,7 @@ use Rattle.mx_asm.specs.Faults.{total_of}
 use Rattle.mx_asm.specs.Assembled.{symbol_under, entry_under}
 use Rattle.mx_asm.proofs.Lengths.{KeepsLength}
 use Rattle.mx_asm.proofs.Emitting.{lengths_same}
+use Rattle.mx_asm.proofs.Entering.{begins_somewhere}
 use Rattle.mx_asm.proofs.Fitting.{contents_size}
 use Rattle.mx_asm.proofs.program.program_of.Goals as goal
 
@@ -19,14 +20,13 @@ returns-clause-program c =
     let made = c.program_with.ensures in
     let back : a ≡ left_by no_lines_above lines (map length parts.bytes) = c.requires ∙ sym (lengths_same law a no_lines_above no_lines_above.sizes lines parts.bytes parts.stand) in
     record {
-      accepted = sym c.fault_behind.ensures.fault ∙ c.in-None.is;
       bytes = parts.bytes;
       stand = subst (λ (x : LinesAbove). AllStand x no_lines_above.sizes lines parts.bytes) back parts.stand;
       text = made.text ∙ parts.text_is;
       init = made.init ∙ parts.init_is;
       bss = made.bss ∙ ap (λ (x : LinesAbove). x.sizes.bss) back;
       sep = made.sep ∙ ap (λ (x : LinesAbove). x.sep) back;
-      entry = made.entry ∙ ap (λ (x : LinesAbove). entry_under x x.entry) back;
+      entry = subst (λ (x : LinesAbove). entry_under x x.entry ≡ Some c.program_with.result.entry) back made.entry;
       total = made.total ∙ ap total_of back;
       symbols = made.symbols ∙ ap (λ (x : LinesAbove). map (symbol_under x) x.labels) back;
     }
@@ -50,3 +50,7 @@ program_with-requires-clause-init c =
     let back : a ≡ left_by no_lines_above lines (map length parts.bytes) = c.requires ∙ sym (lengths_same law a no_lines_above no_lines_above.sizes lines parts.bytes parts.stand) in
     let size = contents_size law Data (λ b. refl) a no_lines_above lines parts.bytes parts.stand in
     ap length parts.init_is ∙ omega (arith, size, ap (λ (x : LinesAbove). x.sizes.init) back)
+
+pub program_with-requires-clause-begins : goal.program_with-requires-clause-begins
+program_with-requires-clause-begins c =
+    begins_somewhere (above_of c.args.layout.now) c.args.lines.now c.requires (c.fault_behind.ensures.clean c.in-None.is)

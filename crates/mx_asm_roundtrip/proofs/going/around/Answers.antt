@@ -20,6 +20,7 @@ returns-clause-around c =
       program = p;
       assembled = assembled;
       file = file;
+      short = c.from_vec.ensures ∙ c.in_ok-file.ensures.form;
       only = λ other is. c.one_program.ensures c.from_vec.result other p is file;
       image = image;
       code = subst (λ (m : Image). CodeKeeps assembled.0 p assembled.2 (code_bytes m)) (sym image) (c.code_keeps.ensures assembled.0 p assembled.2 c.text_is_short.ensures);

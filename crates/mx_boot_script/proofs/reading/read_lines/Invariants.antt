@@ -6,4 +6,4 @@ abbrev pub decreases-loop-line : goal.decreases-loop-line
 decreases-loop-line g l = length l.rest
 
 abbrev pub invariant-loop-line : goal.invariant-loop-line
-invariant-loop-line g l = ReadSoFar (g.R.ReadsLine.says l.reader) l.text l.rest l.found.items l.number
+invariant-loop-line g l = ReadSoFar (g.R.ReadsLine.says l.reader) l.text l.rest l.found.items l.is_wanting l.number

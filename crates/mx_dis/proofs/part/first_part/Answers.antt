@@ -14,3 +14,10 @@ returns-in-Ok-clause-within c = ((c.in-Ok.ensures.ok c.in-Ok.insn c.in-Ok.size).
 pub returns-in-Err-clause-parting : goal.returns-in-Err-clause-parting
 returns-in-Err-clause-parting c rest more =
     (drop 1 c.args.bytes.now, cut_one c.args.bytes.now c.requires, none_first c.in-Err.field-0 c.in-Err.ensures.not_in_table c.in-Err.ensures.short, more)
+
+pub returns-in-Ok-clause-part : goal.returns-in-Ok-clause-part
+returns-in-Ok-clause-part c = (c.in-Ok.ensures.ok c.in-Ok.insn c.in-Ok.size).0 refl
+
+pub returns-in-Err-clause-part : goal.returns-in-Err-clause-part
+returns-in-Err-clause-part c =
+    (drop 1 c.args.bytes.now, cut_one c.args.bytes.now c.requires, none_first c.in-Err.field-0 c.in-Err.ensures.not_in_table c.in-Err.ensures.short)
