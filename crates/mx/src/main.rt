@@ -2,18 +2,13 @@
 #![tactic(auto)]
 
 pub use mx_app::{
-    BootError, CommandRequest, Failure, FileError, NamedFile, NamedFiles, Reader, Replayed,
-    assemble_file, command, db, one, perform_words, print_listing, print_names, print_one, replay,
-    step,
+    BootError, Channels, CommandRequest, Complaint, Failure, FileError, FileWriter, KeptFile,
+    MemoryWriter, NamedFile, NamedFiles, Reader, Replayed, as_named, assemble_file, command, db,
+    dis_named, nm_named, one, one_named, perform, perform_words, print_listing, print_names,
+    print_one, replay, run_program, step,
 };
 use std::process::ExitCode;
 
 fn main(rt: HostRuntime) -> ExitCode {
-    match perform_words(&rt) {
-        Ok(status) => ExitCode::from(status),
-        Err(failure) => {
-            let _ = eprintln!(rt; "{failure}");
-            ExitCode::from(failure.status())
-        }
-    }
+    ExitCode::from(run_program(&rt))
 }

@@ -1,2 +1,3 @@
-pub mod Telling
-mod Statuses
+mod Shown
+mod Done
+mod Explained

@@ -1,10 +1,21 @@
 //! All subcommands of `mx`: what the words of a command line do, from files to status.
 #![tactic(auto)]
 
+mod channels;
+mod complaint;
+mod named;
 mod perform;
+mod program;
+mod words;
 
+pub use channels::Channels;
+pub use complaint::Complaint;
 pub use mx_app_command::{CommandRequest, command};
 pub use mx_app_db::{NamedFile, NamedFiles, Reader, Replayed, db, replay, step};
 pub use mx_app_failure::{BootError, Failure, FileError};
 pub use mx_app_program::{assemble_file, one, print_listing, print_names, print_one};
-pub use perform::perform_words;
+pub use mx_app_start::{FileWriter, KeptFile, MemoryWriter};
+pub use named::{as_named, dis_named, nm_named, one_named};
+pub use perform::perform;
+pub use program::run_program;
+pub use words::perform_words;

@@ -47,7 +47,7 @@ fn print_lines<W: Write>(
 }
 
 /// Starts a machine by the names of its configuration and of a debugger's script, prints what is said of
-/// each line of the script, and then the report. What was said before memory was wanting is printed.
+/// each line of the script, and then the report. What stands printed after a failure isn't promised.
 pub fn db<R: Reader, W: Write>(
     alloc: Global,
     reader: &mut R,

@@ -16,9 +16,12 @@ use Rattle.mx_text.specs.declared.error.BootError.TheVariants as lines
 use Rattle.mx_app_failure.specs.declared.failure.Failure.{Failure as Kind}
 use Rattle.mx_app_failure.specs.declared.failure.Failure.TheVariants.{Refused, Faulty, Misstated, NotText, File, NoMemory}
 
+-- want of memory is told with the status 4, also by a failure that holds it as a refusal
 abbrev pub status_of : Kind → ℕ
+status_of (Refused errors.NoMemory) = 4
 status_of (Refused e) = 1
 status_of (Faulty f) = 1
+status_of (Misstated lines.NoMemory) = 4
 status_of (Misstated e) = 1
 status_of NotText = 2
 status_of File = 3

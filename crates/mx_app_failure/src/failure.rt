@@ -33,10 +33,12 @@ impl Failure {
         ensures { result ≡ status_of self }
     {
         match self {
+            Failure::Refused(FileError::NoMemory)
+            | Failure::Misstated(BootError::NoMemory)
+            | Failure::NoMemory => 4,
             Failure::Refused(_) | Failure::Faulty(_) | Failure::Misstated(_) => 1,
             Failure::NotText => 2,
             Failure::File => 3,
-            Failure::NoMemory => 4,
         }
     }
 }

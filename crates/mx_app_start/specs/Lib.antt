@@ -3,6 +3,7 @@ pub mod Course
 pub mod Named
 pub mod Setup
 pub mod Telling
+pub mod Written
 pub use Rattle.mx_machine.specs.Machine
 pub use Rattle.mx_boot.specs.Log
 pub use Rattle.mx_boot.specs.Report

@@ -2,18 +2,23 @@
 #![tactic(auto)]
 
 mod course;
+mod memory;
 mod named;
 mod noting;
 mod reader;
 mod runtime;
 mod setup;
 mod starting;
+mod writer;
 
 pub use course::{Course, DebugScript, History, Script};
+pub use memory::{KeptFile, MemoryWriter};
 pub use mx_app_failure::{Failure, print_text};
 pub use mx_boot::{BootError, Config, DebugLine, ScriptLine, report};
 pub use mx_machine::{Event, Held, Machine, Out, Record, Recorded, Tool};
 pub use named::{NamedFile, NamedFiles};
 pub use reader::Reader;
-pub use runtime::RuntimeFiles;
+pub use runtime::{RuntimeFiles, RuntimeWriter};
+pub use setup::setup_of;
 pub use starting::{Started, start};
+pub use writer::FileWriter;

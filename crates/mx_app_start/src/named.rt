@@ -1,7 +1,9 @@
 //! Files in memory.
 
-ghost use Rattle.std.specs.Prelude.{◌≡◌, [], None, Some, MatchOption};
-ghost use Rattle.mx_app_start.specs.Named.{bytes_named};
+ghost use Rattle.std.specs.Prelude.{◌≡◌, ◌++◌, ◌∷◌, [], Err, IfErr, IfOk, MatchOption, None, Ok, Some};
+ghost use Rattle.std.specs.IoError.{error_kind};
+ghost use Rattle.mx_app_start.specs.Asked.{asked_in};
+ghost use Rattle.mx_app_start.specs.Named.{IsAbsent, bytes_named};
 
 use crate::noting::{Answers, with_answer};
 use crate::reader::Reader;
@@ -50,11 +52,17 @@ impl<'a> NamedFiles<'a> {
 }
 
 impl<'a> Reader for NamedFiles<'a> {
-    ghost use Rattle.mx_app_start.specs.Asked.{asked_in};
-
     ghost asked = { λ files. asked_in files.answers.items };
 
-    fn read(&mut self, alloc: Global, name: &str) -> io::Result<Vec<u8>> {
+    /// Answers the bytes that the list has; it is refused where the list has none of this name, or for
+    /// want of memory.
+    fn read(&mut self, alloc: Global, name: &str) -> io::Result<Vec<u8>>
+        ensures given { IfOk result (λ bytes. asked_in self.new.answers.items ≡ asked_in self.old.answers.items ++ record { name = name.now; answer = Ok bytes.items } ∷ []) }
+        ensures missed { IfErr result (λ e. asked_in self.new.answers.items ≡ asked_in self.old.answers.items ++ record { name = name.now; answer = Err (error_kind e) } ∷ []) }
+        ensures found { IfOk result (λ bytes. bytes_named self.old.files.now name.now ≡ Some bytes.items) }
+        ensures absent { IfErr result (λ e. IsAbsent (bytes_named self.old.files.now name.now) (error_kind e)) }
+        ensures files { self.new.files ≡ self.old.files }
+    {
         let answer = match self.find(name) {
             Some(bytes) => match bytes.to_vec(alloc) {
                 Ok(bytes) => Ok(bytes),

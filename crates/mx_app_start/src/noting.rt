@@ -4,6 +4,7 @@
 ghost use Rattle.std.specs.Prelude.{◌≡◌, ◌++◌, ◌∷◌, [], List, Ok, Err, IfOk, IfErr};
 ghost use Rattle.std.specs.IoError.{error_kind};
 ghost use Rattle.mx_app_start.specs.Asked.{Asked, asked_in, logged_bytes};
+ghost use Rattle.mx_app_start.specs.Written.{kept, unkept, written_in};
 
 use http_server::Log;
 use std::io;
@@ -13,6 +14,9 @@ type Bytes = Log<u8, ()>;
 
 /// The names that a reader was asked for, and its answers.
 pub(crate) type Answers = Log<Bytes, Result<Bytes, io::ErrorKind>>;
+
+/// The names and the bytes that a writer was given, and what came of them.
+pub(crate) type Writes = Log<(Bytes, Bytes), Result<(), io::ErrorKind>>;
 
 /// Remembers bytes.
 fn bytes_noted(bytes: &[u8]) -> Bytes
@@ -36,4 +40,22 @@ pub(crate) fn with_answer(answers: &Answers, name: &str, answer: &io::Result<Vec
         Err(error) => Err(error.kind()),
     };
     answers.and(&name, &answer)
+}
+
+/// Remembers what came of a write behind others.
+pub(crate) fn with_write(
+    writes: &Writes,
+    name: &str,
+    bytes: &[u8],
+    answer: &io::Result<()>,
+) -> Writes
+    ensures kept { IfOk answer.now (λ _. written_in result.items ≡ written_in writes.now.items ++ kept name.now bytes.now ∷ []) }
+    ensures unkept { IfErr answer.now (λ e. written_in result.items ≡ written_in writes.now.items ++ unkept name.now bytes.now (error_kind e) ∷ []) }
+{
+    let file = (bytes_noted(name.as_bytes()), bytes_noted(bytes));
+    let answer = match answer {
+        Ok(()) => Ok(()),
+        Err(error) => Err(error.kind()),
+    };
+    writes.and(&file, &answer)
 }

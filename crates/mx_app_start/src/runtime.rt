@@ -1,9 +1,10 @@
-//! The files of the runtime.
+//! The files of the runtime, read and written.
 
 ghost use Rattle.std.specs.Prelude.{◌≡◌, []};
 
-use crate::noting::{Answers, with_answer};
+use crate::noting::{Answers, Writes, with_answer, with_write};
 use crate::reader::Reader;
+use crate::writer::FileWriter;
 use http_server::Log;
 use std::alloc::Global;
 use std::rt::Files;
@@ -37,6 +38,37 @@ impl<'a, R: Files + AllocGlobal> Reader for RuntimeFiles<'a, R> {
     fn read(&mut self, _alloc: Global, name: &str) -> io::Result<Vec<u8>> {
         let answer = fs::read(self.rt, name);
         self.answers = with_answer(&self.answers, name, &answer);
+        answer
+    }
+}
+
+/// Writes files of the runtime. A name is a path, relative to the directory that the program runs in.
+#[derive(Drop)]
+pub struct RuntimeWriter<'a, R> {
+    rt: &'a R,
+    writes: Writes,
+}
+
+impl<'a, R> RuntimeWriter<'a, R> {
+    /// What writes a runtime's files, and has been given none yet.
+    pub fn new(rt: &'a R) -> RuntimeWriter<'a, R>
+        ensures { result.writes.items ≡ [] }
+    {
+        RuntimeWriter {
+            rt,
+            writes: Log::new(),
+        }
+    }
+}
+
+impl<'a, R: Files> FileWriter for RuntimeWriter<'a, R> {
+    ghost use Rattle.mx_app_start.specs.Written.{written_in};
+
+    ghost written = { λ writer. written_in writer.writes.items };
+
+    fn write(&mut self, _alloc: Global, name: &str, bytes: &[u8]) -> io::Result<()> {
+        let answer = fs::write(self.rt, name, bytes);
+        self.writes = with_write(&self.writes, name, bytes, &answer);
         answer
     }
 }

@@ -61,8 +61,7 @@ fn perform_lines(
     Ok(())
 }
 
-/// Does what lines say, prints a line for each, and then the report. What was said before memory was
-/// wanting is printed.
+/// Does what lines say, prints a line for each, and then the report.
 fn print_lines<W: Write>(
     alloc: Global,
     machine: &mut Machine,
@@ -83,7 +82,7 @@ fn print_lines<W: Write>(
 }
 
 /// Starts a machine by the names of its configuration and of a script, prints a line for each line of
-/// the script, and then the report. What was said before memory was wanting is printed.
+/// the script, and then the report. What stands printed after a failure isn't promised.
 pub fn step<R: Reader, W: Write>(
     alloc: Global,
     reader: &mut R,

@@ -24,7 +24,7 @@ const CLIENT: [u8; 123] = [
 ];
 
 /// A sum, and a trap that fails.
-const SUM: [u8; 78] = [
+pub(crate) const SUM: [u8; 78] = [
     1, 3, 0x30, 0x10, 0x20, 0, 0, 0, 0xA, 0, 0, 0, 0x24, 0, 0, 0, 0, 0, 0, 0, 0, 0, 0, 0, 0, 0x10,
     0, 0, 0, 0, 0, 0, 0xB8, 5, 0, 0, 0, 0x83, 0xC0, 0x7B, 0xCD, 0x21, 0, 0, 0, 0, 0, 0, 0, 0, 0, 0,
     0, 0, 0, 0, 0, 0, 0, 0, 0, 0, 0, 0, 0, 0, 0, 0, 0, 0, 0, 0, 0, 0, 0, 0, 0, 0,
@@ -92,7 +92,7 @@ const COUNTS: [u8; 59] = [
     0xFF, 0xBB, 0, 0, 0, 0, 0xCD, 0x21,
 ];
 
-static FILES: [NamedFile<'static>; 29] = [
+static FILES: [NamedFile<'static>; 33] = [
     NamedFile {
         name: "pair",
         bytes: b"cpus 1\nlog 64\n\
@@ -225,6 +225,22 @@ static FILES: [NamedFile<'static>; 29] = [
     NamedFile {
         name: "foo",
         bytes: b"tick\nfoo\n",
+    },
+    NamedFile {
+        name: "look",
+        bytes: b"break 0 top\nmessages\n",
+    },
+    NamedFile {
+        name: "sum.s",
+        bytes: b".sep\nmov eax, 5\nadd eax, 0x7b\nint 33\n.data\n.space 36\n",
+    },
+    NamedFile {
+        name: "wrong.s",
+        bytes: b".sep\nmov eax, bl\n",
+    },
+    NamedFile {
+        name: "no_text.s",
+        bytes: b"int 33 ; \xFF",
     },
     NamedFile {
         name: "empty",

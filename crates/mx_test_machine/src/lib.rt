@@ -6,6 +6,8 @@ mod breakpoints;
 #[cfg(test)]
 mod calls;
 #[cfg(test)]
+mod commands;
+#[cfg(test)]
 mod debugging;
 #[cfg(test)]
 mod driving;

@@ -1,0 +1,77 @@
+-- What is done of a request, from what its subcommand does.
+use Rattle.std.proofs.Common.{◌≡◌, ◌++◌, ℕ, List, [], ◌∷◌, Option, Some, None, Result, Ok, Err, IfErr, OnOk, refl, sym}
+use Rattle.std.specs.Prelude.{IfOk}
+use Rattle.std.specs.Io.KnownBytes.{Appends}
+use Rattle.std.proofs.lemmas.List.{append-nil}
+use Rattle.mx_boot_script.specs.declared.scripts.ScriptLine.{ScriptLine}
+use Rattle.mx_boot_script.specs.declared.debug.DebugLine.{DebugLine}
+use Rattle.mx_app_failure.specs.declared.failure.Failure.{Failure as Kind}
+use Rattle.mx_machine_world.specs.Boot.{world_at_boot}
+use Rattle.mx_machine_world.specs.declared.history.Record.{Record}
+use Rattle.mx_app_start.specs.Asked.{Asked}
+use Rattle.mx_app_start.specs.Written.{Written}
+use Rattle.mx_app_start.specs.Config.{Config}
+use Rattle.mx_app_start.specs.Service.{Service}
+use Rattle.mx_app_start.specs.Report.{report_text}
+use Rattle.mx_app_start.specs.Course.{IsDebugScript, IsSaved, IsScript, TellsDebugScript, TellsSaved, TellsScript}
+use Rattle.mx_app_start.specs.Setup.{IsStart}
+use Rattle.mx_app_start.specs.Telling.{IsTold}
+use Rattle.mx_print_answers.specs.Said.{said_lines}
+use Rattle.mx_app_step.specs.Lines.{lines_made}
+use Rattle.mx_app_step.specs.Records.{IsReplayPrinted as IsReplayPrinted}
+use Rattle.mx_app_step.specs.declared.records.Replayed.{Replayed}
+use Rattle.mx_app_db.specs.Lines.{DebuggedWorld, debug_lines_made}
+use Rattle.mx_app_db.specs.Told.{debug_lines_text}
+use Rattle.mx_app.specs.Named.{Assembles, ShowsFile}
+use Rattle.mx_app.specs.Requests.{Debugs, Replays, Shows, Steps, status_after_replay, status_after_work}
+
+-- nothing is printed where a writer wasn't touched
+pub appends_nothing : (known : Option (List ℕ)) → Appends known known []
+appends_nothing None = tt
+appends_nothing (Some bytes) = sym (append-nil bytes)
+
+-- what a request asked for and wrote, and what is done of it
+abbrev pub Does : List Asked → List Asked → List Written → List Written → (List Asked → List Written → Type 0) → Type 0
+Does asked asked_now written written_now Done =
+    (qs : List Asked) × (ws : List Written) × (asked_now ≡ asked ++ qs) × (written_now ≡ written ++ ws) × Done qs ws
+
+-- `asked` and `files` before, `now` asked after; no file is written
+module _ (asked now : List Asked) (files : List Written) where
+  abbrev WritesNone : (List Asked → List Written → Type 0) → Type 0
+  WritesNone Done = Does asked now files files Done
+
+  pub shows : (Has : List ℕ → List ℕ → Type 0) (name : List ℕ) (Prints : List ℕ → Type 0) (d : Result (Unit {0}) Kind) (r : Result ℕ Kind)
+      → (q : Asked) × (now ≡ asked ++ q ∷ []) × ShowsFile Has name q Prints d → r ≡ status_after_work d
+      → WritesNone (λ qs ws. Shows Has name qs ws Prints r)
+  shows Has name Prints d r p e = (p.0 ∷ [], [], p.1, sym (append-nil files), (p.0, d, refl, refl, p.2, e))
+
+  pub steps : (config script : List ℕ) (Prints : List ℕ → Type 0) (d : Result (Unit {0}) Kind) (r : Result ℕ Kind)
+      → OnOk d ((qs : List Asked) × (c : Config) × (vs : List Service) × (said : List ScriptLine)
+      × (now ≡ asked ++ qs) × IsStart IsScript config script qs c vs said
+      × (let m = lines_made (world_at_boot c vs) c.cpus said in Prints (said_lines m.0 ++ report_text m.1.table m.1.services)))
+      → IfErr d (λ f. (qs : List Asked) × (now ≡ asked ++ qs) × IsTold IsScript TellsScript config script qs f)
+      → r ≡ status_after_work d
+      → WritesNone (λ qs ws. (x : Result (Unit {0}) Kind) × (ws ≡ []) × Steps config script qs Prints x × (r ≡ status_after_work x))
+  steps config script Prints (Ok u) r p f e = (p.0, [], p.4, sym (append-nil files), (Ok u, refl, (p.1, p.2, p.3, p.5, p.6), e))
+  steps config script Prints (Err x) r p f e = (f.0, [], f.1, sym (append-nil files), (Err x, refl, f.2, e))
+
+  pub debugs : (config script : List ℕ) (Prints : List ℕ → Type 0) (d : Result (Unit {0}) Kind) (r : Result ℕ Kind)
+      → OnOk d ((qs : List Asked) × (c : Config) × (vs : List Service) × (said : List DebugLine)
+      × (now ≡ asked ++ qs) × IsStart IsDebugScript config script qs c vs said
+      × (let d : DebuggedWorld = record { world = world_at_boot c vs; points = [] } in
+      let e = debug_lines_made c.cpus d said in
+      Prints (debug_lines_text c.cpus d said ++ report_text e.world.table e.world.services)))
+      → IfErr d (λ f. (qs : List Asked) × (now ≡ asked ++ qs) × IsTold IsDebugScript TellsDebugScript config script qs f)
+      → r ≡ status_after_work d
+      → WritesNone (λ qs ws. (x : Result (Unit {0}) Kind) × (ws ≡ []) × Debugs config script qs Prints x × (r ≡ status_after_work x))
+  debugs config script Prints (Ok u) r p f e = (p.0, [], p.4, sym (append-nil files), (Ok u, refl, (p.1, p.2, p.3, p.5, p.6), e))
+  debugs config script Prints (Err x) r p f e = (f.0, [], f.1, sym (append-nil files), (Err x, refl, f.2, e))
+
+  pub replays : (config log : List ℕ) (Prints : List ℕ → Type 0) (d : Result Replayed Kind) (r : Result ℕ Kind)
+      → IfOk d (λ how. (qs : List Asked) × (c : Config) × (vs : List Service) × (records : List Record)
+      × (now ≡ asked ++ qs) × IsStart IsSaved config log qs c vs records × IsReplayPrinted (world_at_boot c vs) records how Prints)
+      → IfErr d (λ f. (qs : List Asked) × (now ≡ asked ++ qs) × IsTold IsSaved TellsSaved config log qs f)
+      → r ≡ status_after_replay d
+      → WritesNone (λ qs ws. (x : Result Replayed Kind) × (ws ≡ []) × Replays config log qs Prints x × (r ≡ status_after_replay x))
+  replays config log Prints (Ok how) r p f e = (p.0, [], p.4, sym (append-nil files), (Ok how, refl, (p.1, p.2, p.3, p.5, p.6), e))
+  replays config log Prints (Err x) r p f e = (f.0, [], f.1, sym (append-nil files), (Err x, refl, f.2, e))

@@ -1,0 +1,24 @@
+-- What comes of a program's file, or of a text, that is read.
+use Rattle.std.proofs.Common.{◌≡◌, ◌≢◌, ◌++◌, ℕ, List, [], ◌∷◌, Result, Ok, Err, OnOk, inl, inr, ap, refl, subst, sym}
+use Rattle.std.specs.Prelude.{IsErrAnd}
+use Rattle.std.specs.declared.io.ErrorKind.{ErrorKind}
+use Rattle.std.proofs.lemmas.List.{append-nil}
+use Rattle.mx_aout.specs.File.{refusal_of}
+use Rattle.mx_app_failure.specs.declared.failure.Failure.{Failure as Kind}
+use Rattle.mx_app_failure.specs.Failure.{Tells, failure_of_kind}
+use Rattle.mx_app_start.specs.Asked.{Asked, file_given, file_missed}
+use Rattle.mx_app.specs.Named.{IsMissing, ShowsFile}
+
+pub missing : (name : List ℕ) (kind : ErrorKind) (r : Result (Unit {0}) Kind) → IsErrAnd r (λ f. f ≡ failure_of_kind kind) → IsMissing name (file_missed name kind) r
+missing name kind (Ok u) h = absurd h
+missing name kind (Err f) h = (kind, refl, ap Err h)
+
+-- the bytes as they were given are those that are shown
+pub shown : (Has : List ℕ → List ℕ → Type 0) (name bytes slice : List ℕ) (Prints : List ℕ → Type 0) (r : Result (Unit {0}) Kind) → slice ≡ bytes
+    → Tells (refusal_of slice) r → OnOk r ((text : List ℕ) × Has slice text × Prints text) → ShowsFile Has name (file_given name bytes) Prints r
+shown Has name bytes slice Prints r same tells text = inr (
+  bytes,
+  refl,
+  subst (λ (b : List ℕ). Tells (refusal_of b) r) same tells,
+  subst (λ (b : List ℕ). OnOk r ((text : List ℕ) × Has b text × Prints text)) same text,
+)

@@ -1,0 +1,82 @@
+-- What is done of requests (our own).
+use Rattle.std.specs.Prelude.{◌≡◌, ℕ, List, [], ◌∷◌, ◌++◌, Result, Ok, Err}
+use Rattle.mx_app_command.specs.declared.words.CommandRequest.{CommandRequest}
+use Rattle.mx_app_command.specs.declared.words.CommandRequest.TheVariants.{One, As, Dis, Nm, Step, Replay, Db}
+use Rattle.mx_boot_script.specs.declared.scripts.ScriptLine.{ScriptLine}
+use Rattle.mx_boot_script.specs.declared.debug.DebugLine.{DebugLine}
+use Rattle.mx_app_failure.specs.declared.failure.Failure.{Failure as Kind}
+use Rattle.mx_app_program.specs.One.{IsPrinted}
+use Rattle.mx_app_program.specs.Shown.{HasListing, HasNames, IsShown}
+use Rattle.mx_machine_world.specs.Boot.{world_at_boot}
+use Rattle.mx_machine_world.specs.declared.history.Record.{Record}
+use Rattle.mx_app_start.specs.Asked.{Asked}
+use Rattle.mx_app_start.specs.Written.{Written}
+use Rattle.mx_app_start.specs.Config.{Config}
+use Rattle.mx_app_start.specs.Service.{Service}
+use Rattle.mx_app_start.specs.Report.{report_text}
+use Rattle.mx_app_start.specs.Course.{IsDebugScript, IsSaved, IsScript, TellsDebugScript, TellsSaved, TellsScript}
+use Rattle.mx_app_start.specs.Setup.{IsStart}
+use Rattle.mx_app_start.specs.Telling.{IsTold}
+use Rattle.mx_print_answers.specs.Said.{said_lines}
+use Rattle.mx_app_step.specs.Lines.{lines_made}
+use Rattle.mx_app_step.specs.Records.{IsReplayPrinted as IsReplayPrinted}
+use Rattle.mx_app_step.specs.declared.records.Replayed.{Replayed}
+use Rattle.mx_app_step.specs.declared.records.Replayed.TheVariants as replayed
+use Rattle.mx_app_db.specs.Lines.{DebuggedWorld, debug_lines_made}
+use Rattle.mx_app_db.specs.Told.{debug_lines_text}
+use Rattle.mx_app.specs.Named.{Assembles, ShowsFile}
+
+-- ---- statuses
+
+abbrev pub status_after_work : Result (Unit {0}) Kind → Result ℕ Kind
+status_after_work (Ok u) = Ok 0
+status_after_work (Err f) = Err f
+
+-- a history that is refused is no failure, and its status is 1
+abbrev pub status_after_replay : Result Replayed Kind → Result ℕ Kind
+status_after_replay (Ok replayed.Whole) = Ok 0
+status_after_replay (Ok replayed.Refused) = Ok 1
+status_after_replay (Err f) = Err f
+
+-- ---- machines: the files are as the start wants them, and the text is printed; or the first fault is told
+
+abbrev pub Steps : List ℕ → List ℕ → List Asked → (List ℕ → Type 0) → Result (Unit {0}) Kind → Type 0
+Steps config script qs Prints (Ok u) =
+    (c : Config) × (vs : List Service) × (said : List ScriptLine) × IsStart IsScript config script qs c vs said
+    × (let m = lines_made (world_at_boot c vs) c.cpus said in Prints (said_lines m.0 ++ report_text m.1.table m.1.services))
+Steps config script qs Prints (Err f) = IsTold IsScript TellsScript config script qs f
+
+abbrev pub Debugs : List ℕ → List ℕ → List Asked → (List ℕ → Type 0) → Result (Unit {0}) Kind → Type 0
+Debugs config script qs Prints (Ok u) =
+    (c : Config) × (vs : List Service) × (said : List DebugLine) × IsStart IsDebugScript config script qs c vs said
+    × (let d : DebuggedWorld = record { world = world_at_boot c vs; points = [] } in
+    let e = debug_lines_made c.cpus d said in
+    Prints (debug_lines_text c.cpus d said ++ report_text e.world.table e.world.services))
+Debugs config script qs Prints (Err f) = IsTold IsDebugScript TellsDebugScript config script qs f
+
+abbrev pub Replays : List ℕ → List ℕ → List Asked → (List ℕ → Type 0) → Result Replayed Kind → Type 0
+Replays config log qs Prints (Ok how) =
+    (c : Config) × (vs : List Service) × (records : List Record) × IsStart IsSaved config log qs c vs records
+    × IsReplayPrinted (world_at_boot c vs) records how Prints
+Replays config log qs Prints (Err f) = IsTold IsSaved TellsSaved config log qs f
+
+-- ---- requests
+
+-- a file is read, shown, and none is written
+abbrev pub Shows : (List ℕ → List ℕ → Type 0) → List ℕ → List Asked → List Written → (List ℕ → Type 0) → Result ℕ Kind → Type 0
+Shows Has name qs ws Prints r =
+    (q : Asked) × (d : Result (Unit {0}) Kind) × (qs ≡ q ∷ []) × (ws ≡ []) × ShowsFile Has name q Prints d × (r ≡ status_after_work d)
+
+-- WHAT IS DONE OF A REQUEST, by the files that were asked for and written, what is printed, and how it ends
+abbrev pub Performs : CommandRequest → List Asked → List Written → (List ℕ → Type 0) → Result ℕ Kind → Type 0
+Performs (One file steps) qs ws Prints r = Shows (λ bytes text. IsPrinted bytes steps text) file.now qs ws Prints r
+Performs (As text file) qs ws Prints r =
+    (d : Result (Unit {0}) Kind) × Assembles text.now file.now qs ws d × Prints [] × (r ≡ status_after_work d)
+Performs (Dis file) qs ws Prints r = Shows (λ bytes text. IsShown HasListing bytes text) file.now qs ws Prints r
+Performs (Nm file) qs ws Prints r = Shows (λ bytes text. IsShown HasNames bytes text) file.now qs ws Prints r
+Performs (Step config script) qs ws Prints r =
+    (d : Result (Unit {0}) Kind) × (ws ≡ []) × Steps config.now script.now qs Prints d × (r ≡ status_after_work d)
+Performs (Replay config log) qs ws Prints r =
+    (d : Result Replayed Kind) × (ws ≡ []) × Replays config.now log.now qs Prints d × (r ≡ status_after_replay d)
+Performs (Db config script) qs ws Prints r =
+    (d : Result (Unit {0}) Kind) × (ws ≡ []) × Debugs config.now script.now qs Prints d × (r ≡ status_after_work d)

@@ -1,0 +1,49 @@
+//! What the program tells where it didn't do what its words ask for.
+
+ghost use Rattle.std.specs.Prelude.{◌≡◌};
+ghost use Rattle.mx_app.specs.Words.{complaint_status};
+
+use mx_app_failure::Failure;
+use std::fmt;
+
+/// Why the program didn't do what its words ask for.
+#[derive(Drop)]
+pub enum Complaint {
+    /// They ask for nothing: what is wrong with them, and how they are used.
+    Mistaken(clap::Error),
+    /// What they ask for failed.
+    Failed(Failure),
+}
+
+impl Complaint {
+    /// The status that the program ends with.
+    pub fn status(&self) -> u8
+        ensures { result ≡ complaint_status self.now }
+    {
+        match self {
+            Complaint::Mistaken(_) => 2,
+            Complaint::Failed(failure) => failure.status(),
+        }
+    }
+}
+
+/// What standard error gets, in whole lines.
+impl fmt::Display for Complaint {
+    fn fmt<W: fmt::Write>(&self, f: &mut fmt::Formatter<W>) -> fmt::Result {
+        match self {
+            Complaint::Mistaken(error) => write!(f, "{error}"),
+            Complaint::Failed(failure) => write!(f, "{failure}\n"),
+        }
+    }
+}
+
+impl From<Failure> for Complaint {
+    ghost use Rattle.std.specs.Prelude.{◌≡◌};
+    ghost use Rattle.mx_app.specs.declared.complaint.Complaint.TheVariants as complaints;
+
+    ghost from_gives = { λ failure complaint. complaint ≡ complaints.Failed failure };
+
+    fn from(failure: Failure) -> Complaint {
+        Complaint::Failed(failure)
+    }
+}

@@ -1,0 +1,361 @@
+//! From the words of a command line to the status, to what is printed and told, and to the files.
+
+use crate::files::{SUM, reader};
+use mx_app::{Channels, KeptFile, MemoryWriter, NamedFiles, perform_words};
+use std::alloc::Global;
+use std::fmt::Write as _;
+use std::io;
+use std::io::Write;
+use std::test::Fail;
+
+/// Holds the bytes that it takes, of which those count that were flushed; or refuses each write.
+#[derive(Drop)]
+struct Sink {
+    bytes: Vec<u8>,
+    flushed: usize,
+    refusal: Option<io::ErrorKind>,
+}
+
+impl Write for Sink {
+    fn write(&mut self, buf: &[u8]) -> io::Result<usize> {
+        match self.refusal {
+            Some(kind) => Err(io::Error::from(kind)),
+            None => self.bytes.write(buf),
+        }
+    }
+
+    fn flush(&mut self) -> io::Result<()> {
+        self.flushed = self.bytes.len();
+        Ok(())
+    }
+}
+
+type Held = Channels<NamedFiles<'static>, MemoryWriter, Sink>;
+
+/// Channels over lists of bytes, of which those that take bytes may be broken.
+fn channels(alloc: Global, refusal: Option<io::ErrorKind>) -> Held {
+    let files = match refusal {
+        Some(kind) => MemoryWriter::refusing(alloc, kind),
+        None => MemoryWriter::new(alloc),
+    };
+    Channels {
+        reader: reader(),
+        files,
+        out: Sink {
+            bytes: Vec::new(alloc),
+            flushed: 0,
+            refusal,
+        },
+    }
+}
+
+/// Words of which something comes: the status, what is printed, and the file that is written.
+struct Done {
+    words: &'static [&'static str],
+    status: u8,
+    printed: &'static str,
+    file: Option<(&'static str, &'static [u8])>,
+}
+
+const SUMMED: &str = "EAX 00000080 ECX 00000000 EDX 00000000 EBX 00000000\n\
+    ESP 00001000 EBP 00000000 ESI 00000000 EDI 00000000\n\
+    EIP 0000000a CF 0 PF 0 AF 1 ZF 0 SF 0 DF 0 OF 0\n\
+    stop trap after 3\n";
+
+static DONE: [Done; 8] = [
+    Done {
+        words: &["mx", "one", "a.out", "9"],
+        status: 0,
+        printed: SUMMED,
+        file: None,
+    },
+    Done {
+        words: &["mx", "as", "sum.s", "new.out"],
+        status: 0,
+        printed: "",
+        file: Some(("new.out", &SUM)),
+    },
+    Done {
+        words: &["mx", "dis", "a.out"],
+        status: 0,
+        printed: "00000000 mov eax, 0x5\n00000005 add eax, 0x7b\n00000008 int 0x21\n",
+        file: None,
+    },
+    Done {
+        words: &["mx", "nm", "drv.out"],
+        status: 0,
+        printed: "00000000 D buf\n00000000 T top\n",
+        file: None,
+    },
+    Done {
+        words: &["mx", "step", "one", "kills"],
+        status: 0,
+        printed: "done\ndone\nrefused 54 NoProcess\nrefused 41 Worn\nrefused 53 NoLine\n\
+                  refused 42 NoService\n0 a 0 down kill 7 5\nuptime 1\nconsole 0\n",
+        file: None,
+    },
+    Done {
+        words: &["mx", "replay", "one", "whole"],
+        status: 0,
+        printed: "0 a 0 down fault 13 7 1\nuptime 0\nconsole 0\n",
+        file: None,
+    },
+    // A history that is refused is told on standard output, and is no failure.
+    Done {
+        words: &["mx", "replay", "one", "early"],
+        status: 1,
+        printed: "line 1: refused 51 CpuEmpty\n",
+        file: None,
+    },
+    Done {
+        words: &["mx", "db", "pair", "look"],
+        status: 0,
+        printed: "done\n0 drv 0 ready 4 20\n1 cli 1 ready 7 20\nuptime 0\nconsole 0\n",
+        file: None,
+    },
+];
+
+/// Words of which nothing comes: the status, and what standard error gets.
+struct Failed {
+    words: &'static [&'static str],
+    status: u8,
+    told: &'static str,
+}
+
+static FAILED: [Failed; 22] = [
+    Failed {
+        words: &["mx", "one", "cut", "9"],
+        status: 1,
+        told: "mx: 20 Truncated\n",
+    },
+    Failed {
+        words: &["mx", "as", "wrong.s", "new.out"],
+        status: 1,
+        told: "mx: 11 BadOperands line 2\n",
+    },
+    Failed {
+        words: &["mx", "dis", "cut"],
+        status: 1,
+        told: "mx: 20 Truncated\n",
+    },
+    Failed {
+        words: &["mx", "nm", "cut"],
+        status: 1,
+        told: "mx: 20 Truncated\n",
+    },
+    Failed {
+        words: &["mx", "step", "one", "tock"],
+        status: 1,
+        told: "mx: 73 BadRecord line 2\n",
+    },
+    Failed {
+        words: &["mx", "replay", "one", "look"],
+        status: 1,
+        told: "mx: 73 BadRecord line 1\n",
+    },
+    Failed {
+        words: &["mx", "db", "bad", "look"],
+        status: 1,
+        told: "mx: 70 BadLine line 2\n",
+    },
+    Failed {
+        words: &["mx", "one", "a.out"],
+        status: 2,
+        told: "",
+    },
+    Failed {
+        words: &["mx", "as", "sum.s"],
+        status: 2,
+        told: "",
+    },
+    Failed {
+        words: &["mx", "dis"],
+        status: 2,
+        told: "",
+    },
+    Failed {
+        words: &["mx", "nm", "a.out", "b.out"],
+        status: 2,
+        told: "",
+    },
+    Failed {
+        words: &["mx", "step", "one"],
+        status: 2,
+        told: "",
+    },
+    Failed {
+        words: &["mx", "replay", "one"],
+        status: 2,
+        told: "",
+    },
+    Failed {
+        words: &["mx", "db", "pair"],
+        status: 2,
+        told: "",
+    },
+    Failed {
+        words: &["mx", "one", "nothing", "9"],
+        status: 3,
+        told: "mx: 80 File\n",
+    },
+    Failed {
+        words: &["mx", "as", "no_text.s", "new.out"],
+        status: 3,
+        told: "mx: 80 File\n",
+    },
+    Failed {
+        words: &["mx", "as", "sum.s", "sum.s"],
+        status: 3,
+        told: "mx: 80 File\n",
+    },
+    Failed {
+        words: &["mx", "dis", "nothing"],
+        status: 3,
+        told: "mx: 80 File\n",
+    },
+    Failed {
+        words: &["mx", "nm", "nothing"],
+        status: 3,
+        told: "mx: 80 File\n",
+    },
+    Failed {
+        words: &["mx", "step", "nothing", "kills"],
+        status: 3,
+        told: "mx: 80 File\n",
+    },
+    Failed {
+        words: &["mx", "replay", "one", "nothing"],
+        status: 3,
+        told: "mx: 80 File\n",
+    },
+    Failed {
+        words: &["mx", "db", "pair", "nothing"],
+        status: 3,
+        told: "mx: 80 File\n",
+    },
+];
+
+/// Performs words, and answers the status; what is to be told is appended.
+fn perform(
+    channels: &mut Held,
+    alloc: Global,
+    words: &'static [&'static str],
+    told: &mut String,
+) -> u8 {
+    match perform_words(alloc, words, channels) {
+        Ok(status) => status,
+        Err(complaint) => {
+            let _ = write!(told, "{complaint}");
+            complaint.status()
+        }
+    }
+}
+
+/// Whether a sink has taken this text, and it was flushed.
+fn is_printed(out: &Sink, text: &str) -> bool {
+    out.bytes.as_slice() == text.as_bytes() && out.flushed == text.len()
+}
+
+fn is_kept(files: &[KeptFile], wanted: Option<(&str, &[u8])>) -> bool {
+    match (files, wanted) {
+        ([], None) => true,
+        ([file], Some((name, bytes))) => {
+            file.name.as_str() == name && file.bytes.as_slice() == bytes
+        }
+        _ => false,
+    }
+}
+
+fn is_done(alloc: Global, row: &Done) -> bool {
+    let mut channels = channels(alloc, None);
+    let mut told = String::new(alloc);
+    perform(&mut channels, alloc, row.words, &mut told) == row.status
+        && told.is_empty()
+        && is_printed(&channels.out, row.printed)
+        && is_kept(channels.files.files(), row.file)
+}
+
+/// Whether words end so, with nothing printed or written, where this breaks; a mistake in the words is told
+/// in lines of clap's own.
+fn is_told(
+    alloc: Global,
+    words: &'static [&'static str],
+    refusal: Option<io::ErrorKind>,
+    status: u8,
+    text: &str,
+) -> bool {
+    let mut channels = channels(alloc, refusal);
+    let mut told = String::new(alloc);
+    perform(&mut channels, alloc, words, &mut told) == status
+        && (told.as_str() == text || (status == 2 && told.as_str().starts_with("error: ")))
+        && is_printed(&channels.out, "")
+        && is_kept(channels.files.files(), None)
+}
+
+#[test]
+fn commands_done(rt: HostRuntime) -> Result<(), Fail> {
+    for (number, row) in DONE.iter().enumerate() {
+        assert!(rt; is_done(rt.alloc(), row), "row {number}");
+    }
+    Ok(())
+}
+
+#[test]
+fn commands_failed(rt: HostRuntime) -> Result<(), Fail> {
+    for (number, row) in FAILED.iter().enumerate() {
+        assert!(rt;
+            is_told(rt.alloc(), row.words, None, row.status, row.told),
+            "row {number}"
+        );
+    }
+    Ok(())
+}
+
+/// What takes bytes is broken, or has no memory for them.
+#[test]
+fn commands_broken(rt: HostRuntime) -> Result<(), Fail> {
+    let broken = Some(io::ErrorKind::BrokenPipe);
+    let full = Some(io::ErrorKind::OutOfMemory);
+    for (number, row) in DONE.iter().enumerate() {
+        assert!(rt;
+            is_told(rt.alloc(), row.words, broken, 3, "mx: 80 File\n"),
+            "row {number}"
+        );
+        assert!(rt;
+            is_told(rt.alloc(), row.words, full, 4, "mx: 90 NoMemory\n"),
+            "row {number}"
+        );
+    }
+    Ok(())
+}
+
+/// A subcommand's help ends with the example of this subcommand.
+#[test]
+fn helps(rt: HostRuntime) -> Result<(), Fail> {
+    for (words, ending) in HELPS {
+        assert!(rt; ends_so(rt.alloc(), words, ending), "{ending}");
+    }
+    Ok(())
+}
+
+const HELPS: [(&[&str], &str); 5] = [
+    (&["mx", "--help"], "  -h, --help  Print help\n"),
+    (&["mx", "as", "--help"], ".entry start\n"),
+    (&["mx", "step", "--help"], "\nrespawn 1\n"),
+    (&["mx", "replay", "--help"], "see mx step --help.\n"),
+    (
+        &["mx", "db", "--help"],
+        "All lines of mx step's scripts may stand here too.\n",
+    ),
+];
+
+fn ends_so(alloc: Global, words: &'static [&'static str], ending: &str) -> bool {
+    let mut channels = channels(alloc, None);
+    let mut told = String::new(alloc);
+    let status = perform(&mut channels, alloc, words, &mut told);
+    let out = &channels.out;
+    status == 0
+        && told.is_empty()
+        && out.bytes.ends_with(ending.as_bytes())
+        && out.flushed == out.bytes.len()
+}
