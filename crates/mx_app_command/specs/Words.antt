@@ -44,7 +44,7 @@ one_shape = subcommand (codes "one") (wanted (codes "FILE") ∷ wanted_number (c
 -- one of the subcommands is wanted
 abbrev pub top_app : App
 top_app = record {
-  top = record (new_shape (codes "mx")) { subcommand_required = true; disable_help_subcommand = true };
+  top = record (new_shape (codes "mx")) { subcommand_required = true; disable_help_subcommand = true; has_version = true };
   subs = [];
 }
 

@@ -23,7 +23,7 @@ struct Subcommand<'a> {
     name: &'a str,
     help: &'a str,
     arguments: &'a [CommandArgument<'a>],
-    example: Option<Example>,
+    example: Example,
 }
 
 /// The program that is run or printed.
@@ -88,43 +88,43 @@ static SUBCOMMANDS: [Subcommand<'static>; 7] = [
         name: "one",
         help: "Runs one program for at most N steps and prints its registers, flags and how it stopped",
         arguments: &[FILE, STEPS],
-        example: None,
+        example: Example::One,
     },
     Subcommand {
         name: "as",
         help: "Assembles a text to a program",
         arguments: &[TEXT, WRITTEN],
-        example: Some(Example::As),
+        example: Example::As,
     },
     Subcommand {
         name: "dis",
         help: "Prints the instructions of a program, one a line",
         arguments: &[FILE],
-        example: None,
+        example: Example::Dis,
     },
     Subcommand {
         name: "nm",
         help: "Prints the symbols of a program, one a line",
         arguments: &[FILE],
-        example: None,
+        example: Example::Nm,
     },
     Subcommand {
         name: "step",
         help: "Runs a machine by a script and prints its answers and a report",
         arguments: &[CONFIG, SCRIPT],
-        example: Some(Example::Step),
+        example: Example::Step,
     },
     Subcommand {
         name: "replay",
         help: "Runs a saved history again and prints the report",
         arguments: &[CONFIG, LOG],
-        example: Some(Example::Replay),
+        example: Example::Replay,
     },
     Subcommand {
         name: "db",
         help: "Runs a machine by a script with breakpoints, and looks into it",
         arguments: &[CONFIG, COMMANDS],
-        example: Some(Example::Db),
+        example: Example::Db,
     },
 ];
 
@@ -149,10 +149,9 @@ fn made<'a>(alloc: Global, subcommand: &Subcommand<'a>) -> Result<Command<'a>, A
     ensures shape { IfOk result (λ c. shape_of c ≡ shape_of_subcommand subcommand.now) }
     ensures local { IfOk result IsLocal }
 {
-    let mut command = Command::new(alloc, subcommand.name).about(subcommand.help);
-    if let Some(example) = subcommand.example {
-        command = command.after_help(example.text());
-    }
+    let mut command = Command::new(alloc, subcommand.name)
+        .about(subcommand.help)
+        .after_help(subcommand.example.text());
     for argument in subcommand.arguments {
         command = command.arg(wanted(alloc, argument))?;
     }
@@ -173,12 +172,16 @@ fn with_all<'a>(
     Ok(line)
 }
 
+/// What `mx --version` prints beside the name.
+const VERSION: &str = "0.1";
+
 /// The command line's grammar, with its help.
 pub fn grammar<'a>(alloc: Global) -> Result<Command<'a>, AllocError>
     ensures app { IfOk result (λ c. app_of c ≡ mx_grammar) }
 {
     let line = Command::new(alloc, "mx")
         .about("A machine for the process layer of MINIX 3.1")
+        .version(VERSION)
         .subcommand_required(true)
         .disable_help_subcommand(true);
     with_all(alloc, line, &SUBCOMMANDS)

@@ -1,11 +1,18 @@
 //! The examples that the subcommands' help ends with.
 
-/// What a subcommand's help ends with.
+/// What a subcommand's help ends with: examples that can be run, the statuses, and the page of its
+/// formats.
 #[derive(Clone, Copy)]
 pub(crate) enum Example {
+    /// A program and its registers.
+    One,
     /// A text that assembles.
     As,
-    /// A configuration of two services, and a script.
+    /// A listing.
+    Dis,
+    /// Symbols.
+    Nm,
+    /// A configuration, and a script.
     Step,
     /// A history, and what a refused event of it gives.
     Replay,
@@ -17,7 +24,10 @@ impl Example {
     /// The lines that are printed.
     pub(crate) fn text(self) -> &'static str {
         match self {
+            Example::One => ONE_EXAMPLE,
             Example::As => AS_EXAMPLE,
+            Example::Dis => DIS_EXAMPLE,
+            Example::Nm => NM_EXAMPLE,
             Example::Step => STEP_EXAMPLE,
             Example::Replay => REPLAY_EXAMPLE,
             Example::Db => DB_EXAMPLE,
@@ -25,42 +35,108 @@ impl Example {
     }
 }
 
+/// A program and its registers.
+const ONE_EXAMPLE: &str = "In the folder examples:
+
+$ mx one sum.out 9
+EAX 00000080 ECX 00000000 EDX 00000000 EBX 00000000
+ESP 00001000 EBP 00000000 ESI 00000000 EDI 00000000
+EIP 0000000a CF 0 PF 0 AF 1 ZF 0 SF 0 DF 0 OF 0
+stop trap after 3
+
+Status: 0 done, also if the program faults; 1 FILE is refused; 2 a mistake in the
+words; 3 FILE can't be read; 4 no memory. Formats: docs/REFERENCE.md.";
+
 /// A text that assembles.
-const AS_EXAMPLE: &str = "A text, which gives 42 in EAX and traps:
+const AS_EXAMPLE: &str = "In the folder examples:
+
+$ mx as gcd.s /tmp/gcd.out
+$ mx one /tmp/gcd.out 99
+EAX 00000015 ECX 00000000 EDX 00000000 EBX 00000000
+ESP 00001000 EBP 00000000 ESI 00000000 EDI 00000000
+EIP 0000001c CF 0 PF 1 AF 0 ZF 1 SF 0 DF 0 OF 0
+stop trap after 21
+
+A text, which gives 42 in EAX and traps:
 
 .sep
 start:  mov ecx, 6      ; turns
 next:   add eax, 7
         loop next
         int 33
-.entry start";
+.entry start
 
-/// A configuration of two services, and a script.
-const STEP_EXAMPLE: &str = "A configuration, of one processor and two services:
+Status: 0 done; 1 TEXT has a fault, and FILE is as it was; 2 a mistake in the words;
+3 a file can't be read or written; 4 no memory. Formats: docs/REFERENCE.md.";
+
+/// A listing.
+const DIS_EXAMPLE: &str = "In the folder examples:
+
+$ mx dis count.out
+00000000 mov ecx, 0x3
+00000005 add eax, 0x5
+00000008 sub ecx, 0x1
+0000000b jnz 0x5
+0000000d int 0x21
+
+Status: 0 done; 1 FILE is refused; 2 a mistake in the words; 3 FILE can't be read;
+4 no memory. Formats: docs/REFERENCE.md.";
+
+/// Symbols.
+const NM_EXAMPLE: &str = "In the folder examples:
+
+$ mx nm count.out
+00000005 T again
+
+A program without labels has no symbols, and nothing is printed.
+
+Status: 0 done; 1 FILE is refused; 2 a mistake in the words; 3 FILE can't be read;
+4 no memory. Formats: docs/REFERENCE.md.";
+
+/// A configuration, and a script.
+const STEP_EXAMPLE: &str = "In the folder examples:
+
+$ mx step alarm.config alarm.script | tail -n 4
+0 sleeper 0 down exit 7 77
+uptime 3
+console 1
+3
+
+A configuration, of one processor and one service:
 
 cpus 1
 log 64
-service drv drv.out traps 1e send 2 calls 0 level 4 best 4 quantum 20 restarts 0
-service cli cli.out traps 1e send 1 calls 1 level 7 best 7 quantum 20 restarts 0
+service sleeper alarm.out traps c send 0 calls 15 level 7 best 7 quantum 99 restarts 0
 
-The name of a service's program is opened as it is written, from the folder
-that mx is run in. The numbers after traps, send and calls are hexadecimal.
+A service's program is opened as it is written, from the folder that mx is run in.
+The numbers after traps, send and calls are hexadecimal, all others decimal.
 
 A script, which takes the next ready process to processor 0, runs it for at most
 99 steps, gives it back, and then makes a tick, an interrupt at line 3, the death
-of the process with endpoint 1 and the respawn of the service in slot 1:
+of the process with endpoint 0 and the respawn of the service in slot 0:
 
 take 0
 step 0 99
 back 0
 tick
 line 3
-kill 1
-respawn 1";
+kill 0
+respawn 0
+
+Status: 0 done, also if lines were refused; 1 a text or a program's file is refused;
+2 a mistake in the words; 3 a file can't be read; 4 no memory. Formats:
+docs/REFERENCE.md.";
 
 /// A history, and what a refused event of it gives.
-const REPLAY_EXAMPLE: &str =
-    "A history of two processes, which processor 0 took and gave back after 4 and 3
+const REPLAY_EXAMPLE: &str = "In the folder examples:
+
+$ mx replay pair.config pair.log
+0 drv 0 receiving any 4 8
+1 cli 1 down exit 7 12
+uptime 0
+console 0
+
+A history of two processes, which processor 0 took and gave back after 4 and 3
 steps, with a tick by the actor after the processors, here number 1:
 
 0 take
@@ -69,19 +145,20 @@ steps, with a tick by the actor after the processors, here number 1:
 0 take
 0 back 3
 
-An event that the machine refuses is told by its line, and mx ends with status 1.
-Of configurations see mx step --help.";
+Status: 0 done; 1 a text or a program's file is refused, or an event, which is told
+by its line; 2 a mistake in the words; 3 a file can't be read; 4 no memory. Formats:
+docs/REFERENCE.md.";
 
 /// A debugger's script.
-const DB_EXAMPLE: &str = "A configuration, of one processor and two services:
+const DB_EXAMPLE: &str = "In the folder examples:
 
-cpus 1
-log 64
-service drv drv.out traps 1e send 2 calls 0 level 4 best 4 quantum 20 restarts 0
-service cli cli.out traps 1e send 1 calls 1 level 7 best 7 quantum 20 restarts 0
-
-The name of a service's program is opened as it is written, from the folder
-that mx is run in.
+$ mx db pair.config pair.db | tail -n 6
+00000000 01 00 00 00 00 00 00 00 00 00 00 00 00 00 00 00
+1 0 0 message
+0 drv 0 out 4 16
+1 cli 1 awaiting 0 7 16
+uptime 0
+console 0
 
 A script, which stops the service in slot 0 at its symbol top, and looks at the
 registers, at 16 bytes from address 0 and at the messages delivered so far:
@@ -96,4 +173,9 @@ clear 0 top
 go 0 99
 back 0
 
-All lines of mx step's scripts may stand here too.";
+All lines of mx step's scripts may stand here too. In place of a symbol an address
+may stand. Addresses are decimal here, and hexadecimal in listings.
+
+Status: 0 done, also if lines were refused; 1 a text or a program's file is refused;
+2 a mistake in the words; 3 a file can't be read; 4 no memory. Formats:
+docs/REFERENCE.md.";

@@ -7,24 +7,17 @@ use Rattle.mx_app_command.specs.Tables.{rule_of_argument}
 use Rattle.mx_app_command.specs.Words.{IsLocal}
 use Rattle.mx_app_command.specs.declared.grammar.CommandArgument.{CommandArgument}
 use Rattle.mx_app_command.proofs.Tables.{argument_added}
-use Rattle.mx_app_command.proofs.grammar.made.Goals.{in-Some, in_default}
 use Rattle.mx_app_command.proofs.grammar.made.Goals as goal
 
 pub loop-argument-init : goal.loop-argument-init
 loop-argument-init c =
-    let plain : app_of c.about-command.result ≡ new_app c.args.subcommand.now.name.now = ap app_of_fields c.about-command.ensures ∙ c.new.ensures.app in
-    let local : IsLocal c.about-command.result = ap (λ f. f.has_globals) c.about-command.ensures ∙ c.new.ensures.local in
-    let whole : app_of c.match-subcommand.command ≡ new_app c.args.subcommand.now.name.now = elim c.match-subcommand.branch [
-      | in-Some w ↦ ap app_of w.command-is ∙ (ap app_of_fields w.after_help-command.ensures ∙ plain)
-      | in_default w ↦ ap app_of w.command-is ∙ plain
-    ] in
-    let whole_local : IsLocal c.match-subcommand.command = elim c.match-subcommand.branch [
-      | in-Some w ↦ rw w.command-is (ap (λ f. f.has_globals) w.after_help-command.ensures ∙ local)
-      | in_default w ↦ rw w.command-is local
-    ] in
+    let whole : app_of c.after_help-command.result ≡ new_app c.args.subcommand.now.name.now =
+    ap app_of_fields c.after_help-command.ensures ∙ (ap app_of_fields c.about-command.ensures ∙ c.new.ensures.app) in
+    let local : IsLocal c.after_help-command.result =
+    ap (λ f. f.has_globals) c.after_help-command.ensures ∙ (ap (λ f. f.has_globals) c.about-command.ensures ∙ c.new.ensures.local) in
     record {
       shape = ap (λ (a : App). (fold with_rule a (map rule_of_argument c.args.subcommand.now.arguments.now)).top) whole;
-      local = whole_local;
+      local = local;
     }
 
 pub loop-argument-preserved : goal.loop-argument-preserved

@@ -1,0 +1,13 @@
+; Sends a message to the process with endpoint 0, and exits.
+.sep
+.data
+buf:    .space 36
+.text
+        mov ecx, 1              ; SEND
+        mov eax, 0
+        mov ebx, buf
+        int 33
+        mov dword [buf+4], 0x600 ; EXIT
+        mov ecx, 3              ; SENDREC
+        mov eax, -2             ; the kernel
+        int 33

@@ -1,0 +1,78 @@
+"""The crates of the program, as crates.txt lists them, and what their proofs cost."""
+import os
+import re
+
+TOP = os.path.dirname(os.path.dirname(os.path.abspath(__file__)))
+PROGRAM = "mx"
+# A proof takes so much memory at most, in bytes, but for a few.
+MEMORY = 2_500_000_000
+# Pages with a table of what a proof costs, in seconds of one processor.
+PAGES = ("docs/EVIDENCE.md", "docs/ARCHITECTURE.md")
+ROW = re.compile(r"^\| `(\w+)` \| (\d+) \|", re.M)
+# What compiling and linking the program adds, in seconds.
+LINKING = 40
+
+
+def crates_below():
+    """Each crate of crates.txt, with the crates of this repository that it stands on."""
+    below = {}
+    with open(os.path.join(TOP, "crates.txt"), encoding="utf-8") as lines:
+        for line in lines:
+            name, colon, rest = line.partition("#")[0].partition(":")
+            if colon:
+                below[name.split()[0]] = rest.split()
+    return {name: [it for it in found if it in below] for name, found in below.items()}
+
+
+def crates_of_program():
+    """The crates that the program is made of, each with those below it, lowest first."""
+    below, found = crates_below(), {}
+
+    def visit(name):
+        if name not in found:
+            for other in below[name]:
+                visit(other)
+            found[name] = below[name]
+
+    visit(PROGRAM)
+    return found
+
+
+def seconds_of_proofs(names):
+    """What each of these crates' proofs costs. A crate that no table has yet costs what others do."""
+    known = {}
+    for page in PAGES:
+        file = os.path.join(TOP, page)
+        if os.path.isfile(file):
+            with open(file, encoding="utf-8") as it:
+                known = {**dict(ROW.findall(it.read())), **known}
+    seconds = {name: int(known[name]) for name in names if name in known}
+    usual = sum(seconds.values()) // len(seconds) if seconds else 60
+    return {name: seconds.get(name, usual) for name in names}
+
+
+def lanes():
+    """How many proofs can run side by side: by the processors, and by the memory that is free."""
+    with open("/proc/meminfo", encoding="utf-8") as it:
+        free = 1024 * int(re.search(r"MemAvailable:\s+(\d+)", it.read())[1])
+    return max(1, min(len(os.sched_getaffinity(0)), int(free // MEMORY)))
+
+
+def longest_chain(below, seconds):
+    """For each crate, the seconds of the longest chain of crates that begins with it and goes up."""
+    chain = {}
+    for name in reversed(below):
+        above = [chain[it] for it in chain if name in below[it]]
+        chain[name] = seconds[name] + max(above, default=0)
+    return chain
+
+
+def minutes(below, seconds, processors):
+    """About how many minutes the proofs of these crates take on this number of processors."""
+    if not below:
+        return 1
+    longest = max(longest_chain(below, seconds).values())
+    # The longest chain gets two processors if there are two.
+    least = longest / min(processors, 2)
+    share = 1.15 * sum(seconds[it] for it in below) / processors
+    return max(1, round(max(share, least) / 60))
