@@ -12,9 +12,9 @@ use Rattle.mx_app_command.proofs.grammar.made.Goals as goal
 pub loop-argument-init : goal.loop-argument-init
 loop-argument-init c =
     let whole : app_of c.after_help-command.result ≡ new_app c.args.subcommand.now.name.now =
-    ap app_of_fields c.after_help-command.ensures ∙ (ap app_of_fields c.about-command.ensures ∙ c.new.ensures.app) in
+    ap app_of_fields c.after_help-command.ensures ∙ (ap app_of_fields c.about.ensures ∙ c.new.ensures.app) in
     let local : IsLocal c.after_help-command.result =
-    ap (λ f. f.has_globals) c.after_help-command.ensures ∙ (ap (λ f. f.has_globals) c.about-command.ensures ∙ c.new.ensures.local) in
+    ap (λ f. f.has_globals) c.after_help-command.ensures ∙ (ap (λ f. f.has_globals) c.about.ensures ∙ c.new.ensures.local) in
     record {
       shape = ap (λ (a : App). (fold with_rule a (map rule_of_argument c.args.subcommand.now.arguments.now)).top) whole;
       local = local;
