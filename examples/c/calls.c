@@ -35,7 +35,7 @@ static void show_times(void)
 
     show("times", sys_times(&uptime, &steps));
     show("uptime", uptime);
-    show("hundreds of steps", (uint32_t)steps / 100);
+    show("over 1000 steps", steps > 1000);
 }
 
 static void show_line(void)
