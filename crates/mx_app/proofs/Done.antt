@@ -1,8 +1,9 @@
 -- What is done of a request, from what its subcommand does.
-use Rattle.std.proofs.Common.{◌≡◌, ◌++◌, ℕ, List, [], ◌∷◌, Option, Some, None, Result, Ok, Err, IfErr, OnOk, refl, sym}
+use Rattle.std.proofs.Common.{◌≡◌, ◌++◌, ℕ, List, [], ◌∷◌, Option, Some, None, Result, Ok, Err, IfErr, OnOk, refl, subst, sym}
 use Rattle.std.specs.Prelude.{IfOk}
 use Rattle.std.specs.Io.KnownBytes.{Appends}
 use Rattle.std.proofs.lemmas.List.{append-nil}
+use Rattle.mx_app_command.specs.declared.words.CommandRequest.{CommandRequest}
 use Rattle.mx_boot_script.specs.declared.scripts.ScriptLine.{ScriptLine}
 use Rattle.mx_boot_script.specs.declared.debug.DebugLine.{DebugLine}
 use Rattle.mx_app_failure.specs.declared.failure.Failure.{Failure as Kind}
@@ -23,7 +24,7 @@ use Rattle.mx_app_step.specs.declared.records.Replayed.{Replayed}
 use Rattle.mx_app_db.specs.Lines.{DebuggedWorld, debug_lines_made}
 use Rattle.mx_app_db.specs.Told.{debug_lines_text}
 use Rattle.mx_app.specs.Named.{Assembles, ShowsFile}
-use Rattle.mx_app.specs.Requests.{Debugs, Replays, Shows, Steps, status_after_replay, status_after_work}
+use Rattle.mx_app.specs.Requests.{Debugs, Performs, Replays, Shows, Steps, status_after_replay, status_after_work}
 
 -- nothing is printed where a writer wasn't touched
 pub appends_nothing : (known : Option (List ℕ)) → Appends known known []
@@ -35,6 +36,18 @@ abbrev pub Does : List Asked → List Asked → List Written → List Written �
 Does asked asked_now written written_now Done =
     (qs : List Asked) × (ws : List Written) × (asked_now ≡ asked ++ qs) × (written_now ≡ written ++ ws) × Done qs ws
 
+-- what is done of the request that was asked for
+pub as_asked : (asked now : List Asked) (files written : List Written) (Prints : List ℕ → Type 0) (r : Result ℕ Kind) (request known : CommandRequest) → request ≡ known
+    → Does asked now files written (λ qs ws. Performs known qs ws Prints r) → Does asked now files written (λ qs ws. Performs request qs ws Prints r)
+as_asked asked now files written Prints r request known same done =
+    subst (λ (x : CommandRequest). Does asked now files written (λ qs ws. Performs x qs ws Prints r)) (sym same) done
+
+-- a text was assembled, and nothing printed
+pub assembled : (asked now : List Asked) (files written : List Written) (known : Option (List ℕ)) (text file : List ℕ) (d : Result (Unit {0}) Kind) (r : Result ℕ Kind)
+    → (qs : List Asked) × (ws : List Written) × (now ≡ asked ++ qs) × (written ≡ files ++ ws) × Assembles text file qs ws d → r ≡ status_after_work d
+    → Does asked now files written (λ qs ws. (x : Result (Unit {0}) Kind) × Assembles text file qs ws x × Appends known known [] × (r ≡ status_after_work x))
+assembled asked now files written known text file d r p e = (p.0, p.1, p.2, p.3, (d, p.4, appends_nothing known, e))
+
 -- `asked` and `files` before, `now` asked after; no file is written
 module _ (asked now : List Asked) (files : List Written) where
   abbrev WritesNone : (List Asked → List Written → Type 0) → Type 0
@@ -45,33 +58,33 @@ module _ (asked now : List Asked) (files : List Written) where
       → WritesNone (λ qs ws. Shows Has name qs ws Prints r)
   shows Has name Prints d r p e = (p.0 ∷ [], [], p.1, sym (append-nil files), (p.0, d, refl, refl, p.2, e))
 
-  pub steps : (config script : List ℕ) (Prints : List ℕ → Type 0) (d : Result (Unit {0}) Kind) (r : Result ℕ Kind)
+  pub steps : (config script : List ℕ) (x y : Option (List ℕ)) (d : Result (Unit {0}) Kind) (r : Result ℕ Kind)
       → OnOk d ((qs : List Asked) × (c : Config) × (vs : List Service) × (said : List ScriptLine)
       × (now ≡ asked ++ qs) × IsStart IsScript config script qs c vs said
-      × (let m = lines_made (world_at_boot c vs) c.cpus said in Prints (said_lines m.0 ++ report_text m.1.table m.1.services)))
+      × (let m = lines_made (world_at_boot c vs) c.cpus said in Appends x y (said_lines m.0 ++ report_text m.1.table m.1.services)))
       → IfErr d (λ f. (qs : List Asked) × (now ≡ asked ++ qs) × IsTold IsScript TellsScript config script qs f)
       → r ≡ status_after_work d
-      → WritesNone (λ qs ws. (x : Result (Unit {0}) Kind) × (ws ≡ []) × Steps config script qs Prints x × (r ≡ status_after_work x))
-  steps config script Prints (Ok u) r p f e = (p.0, [], p.4, sym (append-nil files), (Ok u, refl, (p.1, p.2, p.3, p.5, p.6), e))
-  steps config script Prints (Err x) r p f e = (f.0, [], f.1, sym (append-nil files), (Err x, refl, f.2, e))
+      → WritesNone (λ qs ws. (e : Result (Unit {0}) Kind) × (ws ≡ []) × Steps config script qs (λ text. Appends x y text) e × (r ≡ status_after_work e))
+  steps config script x y (Ok u) r p f e = (p.0, [], p.4, sym (append-nil files), (Ok u, refl, (p.1, p.2, p.3, p.5, p.6), e))
+  steps config script x y (Err why) r p f e = (f.0, [], f.1, sym (append-nil files), (Err why, refl, f.2, e))
 
-  pub debugs : (config script : List ℕ) (Prints : List ℕ → Type 0) (d : Result (Unit {0}) Kind) (r : Result ℕ Kind)
+  pub debugs : (config script : List ℕ) (x y : Option (List ℕ)) (d : Result (Unit {0}) Kind) (r : Result ℕ Kind)
       → OnOk d ((qs : List Asked) × (c : Config) × (vs : List Service) × (said : List DebugLine)
       × (now ≡ asked ++ qs) × IsStart IsDebugScript config script qs c vs said
       × (let d : DebuggedWorld = record { world = world_at_boot c vs; points = [] } in
       let e = debug_lines_made c.cpus d said in
-      Prints (debug_lines_text c.cpus d said ++ report_text e.world.table e.world.services)))
+      Appends x y (debug_lines_text c.cpus d said ++ report_text e.world.table e.world.services)))
       → IfErr d (λ f. (qs : List Asked) × (now ≡ asked ++ qs) × IsTold IsDebugScript TellsDebugScript config script qs f)
       → r ≡ status_after_work d
-      → WritesNone (λ qs ws. (x : Result (Unit {0}) Kind) × (ws ≡ []) × Debugs config script qs Prints x × (r ≡ status_after_work x))
-  debugs config script Prints (Ok u) r p f e = (p.0, [], p.4, sym (append-nil files), (Ok u, refl, (p.1, p.2, p.3, p.5, p.6), e))
-  debugs config script Prints (Err x) r p f e = (f.0, [], f.1, sym (append-nil files), (Err x, refl, f.2, e))
+      → WritesNone (λ qs ws. (e : Result (Unit {0}) Kind) × (ws ≡ []) × Debugs config script qs (λ text. Appends x y text) e × (r ≡ status_after_work e))
+  debugs config script x y (Ok u) r p f e = (p.0, [], p.4, sym (append-nil files), (Ok u, refl, (p.1, p.2, p.3, p.5, p.6), e))
+  debugs config script x y (Err why) r p f e = (f.0, [], f.1, sym (append-nil files), (Err why, refl, f.2, e))
 
-  pub replays : (config log : List ℕ) (Prints : List ℕ → Type 0) (d : Result Replayed Kind) (r : Result ℕ Kind)
+  pub replays : (config log : List ℕ) (x y : Option (List ℕ)) (d : Result Replayed Kind) (r : Result ℕ Kind)
       → IfOk d (λ how. (qs : List Asked) × (c : Config) × (vs : List Service) × (records : List Record)
-      × (now ≡ asked ++ qs) × IsStart IsSaved config log qs c vs records × IsReplayPrinted (world_at_boot c vs) records how Prints)
+      × (now ≡ asked ++ qs) × IsStart IsSaved config log qs c vs records × IsReplayPrinted (world_at_boot c vs) records how (λ text. Appends x y text))
       → IfErr d (λ f. (qs : List Asked) × (now ≡ asked ++ qs) × IsTold IsSaved TellsSaved config log qs f)
       → r ≡ status_after_replay d
-      → WritesNone (λ qs ws. (x : Result Replayed Kind) × (ws ≡ []) × Replays config log qs Prints x × (r ≡ status_after_replay x))
-  replays config log Prints (Ok how) r p f e = (p.0, [], p.4, sym (append-nil files), (Ok how, refl, (p.1, p.2, p.3, p.5, p.6), e))
-  replays config log Prints (Err x) r p f e = (f.0, [], f.1, sym (append-nil files), (Err x, refl, f.2, e))
+      → WritesNone (λ qs ws. (e : Result Replayed Kind) × (ws ≡ []) × Replays config log qs (λ text. Appends x y text) e × (r ≡ status_after_replay e))
+  replays config log x y (Ok how) r p f e = (p.0, [], p.4, sym (append-nil files), (Ok how, refl, (p.1, p.2, p.3, p.5, p.6), e))
+  replays config log x y (Err why) r p f e = (f.0, [], f.1, sym (append-nil files), (Err why, refl, f.2, e))

@@ -4,7 +4,7 @@
 mod channels;
 mod complaint;
 mod named;
-mod perform;
+mod performing;
 mod program;
 mod words;
 
@@ -16,6 +16,6 @@ pub use mx_app_failure::{BootError, Failure, FileError};
 pub use mx_app_program::{assemble_file, one, print_listing, print_names, print_one};
 pub use mx_app_start::{FileWriter, KeptFile, MemoryWriter};
 pub use named::{as_named, dis_named, nm_named, one_named};
-pub use perform::perform;
+pub use performing::perform;
 pub use program::run_program;
 pub use words::perform_words;

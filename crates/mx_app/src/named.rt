@@ -24,7 +24,8 @@ pub fn one_named<R: Reader, W: Write>(
     out: &mut W,
 ) -> Result<(), Failure>
     ensures { (q : Asked) × (R.asked reader.new ≡ R.asked reader.old ++ q ∷ [])
-        × ShowsFile (λ bytes text. IsPrinted bytes steps text) file.now q (λ text. Appends (W.contents out.old) (W.contents out.new) text) result }
+        × ShowsFile (λ bytes text. IsPrinted bytes steps text) file.now q
+        (λ text. Appends (W.contents out.old) (W.contents out.new) text) result }
 {
     let bytes = reader.read(alloc, file)?;
     print_one(alloc, bytes.as_slice(), steps, out)
@@ -39,8 +40,10 @@ pub fn as_named<R: Reader, F: FileWriter>(
     text: &str,
     file: &str,
 ) -> Result<(), Failure>
-    ensures { (qs : List Asked) × (ws : List Written) × (R.asked reader.new ≡ R.asked reader.old ++ qs)
-        × (F.written files.new ≡ F.written files.old ++ ws) × Assembles text.now file.now qs ws result }
+    ensures { (qs : List Asked) × (ws : List Written)
+        × (R.asked reader.new ≡ R.asked reader.old ++ qs)
+        × (F.written files.new ≡ F.written files.old ++ ws)
+        × Assembles text.now file.now qs ws result }
 {
     if text == file {
         return Err(Failure::File);
@@ -59,7 +62,8 @@ pub fn dis_named<R: Reader, W: Write>(
     out: &mut W,
 ) -> Result<(), Failure>
     ensures { (q : Asked) × (R.asked reader.new ≡ R.asked reader.old ++ q ∷ [])
-        × ShowsFile (λ bytes text. IsShown HasListing bytes text) file.now q (λ text. Appends (W.contents out.old) (W.contents out.new) text) result }
+        × ShowsFile (λ bytes text. IsShown HasListing bytes text) file.now q
+        (λ text. Appends (W.contents out.old) (W.contents out.new) text) result }
 {
     let bytes = reader.read(alloc, file)?;
     print_listing(alloc, bytes.as_slice(), out)
@@ -73,7 +77,8 @@ pub fn nm_named<R: Reader, W: Write>(
     out: &mut W,
 ) -> Result<(), Failure>
     ensures { (q : Asked) × (R.asked reader.new ≡ R.asked reader.old ++ q ∷ [])
-        × ShowsFile (λ bytes text. IsShown HasNames bytes text) file.now q (λ text. Appends (W.contents out.old) (W.contents out.new) text) result }
+        × ShowsFile (λ bytes text. IsShown HasNames bytes text) file.now q
+        (λ text. Appends (W.contents out.old) (W.contents out.new) text) result }
 {
     let bytes = reader.read(alloc, file)?;
     print_names(alloc, bytes.as_slice(), out)

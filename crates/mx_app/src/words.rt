@@ -1,14 +1,15 @@
 //! From the words of the command line to a status.
 
-ghost use Rattle.std.specs.Prelude.{◌≡◌, ◌++◌, List, map};
+ghost use Rattle.std.specs.Prelude.{◌≡◌, ◌++◌, IfErr, List, map};
 ghost use Rattle.std.specs.Io.KnownBytes.{Appends};
+ghost use Rattle.mx_app_failure.specs.Failure.{IsWanting};
 ghost use Rattle.mx_app_start.specs.Asked.{Asked};
 ghost use Rattle.mx_app_start.specs.Written.{Written};
 ghost use Rattle.mx_app.specs.Words.{Explains, IsPerformed};
 
 use crate::channels::Channels;
 use crate::complaint::Complaint;
-use crate::perform::perform;
+use crate::performing::perform;
 use clap::Error;
 use clap::error::ErrorKind;
 use mx_app_command::command;
@@ -18,7 +19,9 @@ use std::alloc::Global;
 use std::io::Write;
 
 /// Prints a text, whole, and flushes.
-fn print_help<W: Write>(alloc: Global, error: &Error, out: &mut W) -> Result<(), Failure> {
+fn print_help<W: Write>(alloc: Global, error: &Error, out: &mut W) -> Result<(), Failure>
+    ensures { IfErr result IsWanting }
+{
     let text = format!(in alloc; "{error}")?;
     print_text(text.as_bytes(), out)
 }
@@ -44,9 +47,11 @@ pub fn perform_words<'a, R: Reader + Drop, F: FileWriter + Drop, W: Write + Drop
     words: &'a [&'a str],
     channels: &mut Channels<R, F, W>,
 ) -> Result<u8, Complaint>
-    ensures { (qs : List Asked) × (ws : List Written) × (R.asked channels.new.reader ≡ R.asked channels.old.reader ++ qs)
+    ensures { (qs : List Asked) × (ws : List Written)
+        × (R.asked channels.new.reader ≡ R.asked channels.old.reader ++ qs)
         × (F.written channels.new.files ≡ F.written channels.old.files ++ ws)
-        × IsPerformed (map (λ s. s.now) words.now) qs ws (λ text. Appends (W.contents channels.old.out) (W.contents channels.new.out) text) result }
+        × IsPerformed (map (λ s. s.now) words.now) qs ws
+        (λ text. Appends (W.contents channels.old.out) (W.contents channels.new.out) text) result }
 {
     match command(alloc, words) {
         Ok(request) => Ok(perform(alloc, channels, request)?),

@@ -59,8 +59,9 @@ impl MemoryWriter {
 
     /// Keeps a file. Want of memory changes nothing.
     fn keep(&mut self, alloc: Global, name: &str, bytes: &[u8]) -> Result<(), AllocError>
-        ensures files { OnOk result (files_of self.new.files.items ≡ files_of self.old.files.items ++ (name.now, bytes.now) ∷ []) }
-        ensures same { IfErr result (λ _. self.new.files ≡ self.old.files) }
+        ensures files { OnOk result (files_of self.new.files.items
+            ≡ files_of self.old.files.items ++ (name.now, bytes.now) ∷ []) }
+        ensures same { IfErr result (λ _. self.new.files.items ≡ self.old.files.items) }
         ensures others { (self.new.refusal ≡ self.old.refusal) × (self.new.writes ≡ self.old.writes) }
     {
         let file = KeptFile {
@@ -77,10 +78,14 @@ impl FileWriter for MemoryWriter {
 
     /// Keeps the file, or refuses it; what is refused changes no file.
     fn write(&mut self, alloc: Global, name: &str, bytes: &[u8]) -> io::Result<()>
-        ensures kept { IfOk result (λ _. written_in self.new.writes.items ≡ written_in self.old.writes.items ++ kept name.now bytes.now ∷ []) }
-        ensures unkept { IfErr result (λ e. written_in self.new.writes.items ≡ written_in self.old.writes.items ++ unkept name.now bytes.now (error_kind e) ∷ []) }
-        ensures files { OnOk result ((self.old.refusal ≡ None) × (files_of self.new.files.items ≡ files_of self.old.files.items ++ (name.now, bytes.now) ∷ [])) }
-        ensures refused { IfErr result (λ e. IsUnkept self.old.refusal (error_kind e) × (self.new.files ≡ self.old.files)) }
+        ensures kept { IfOk result (λ _. written_in self.new.writes.items
+            ≡ written_in self.old.writes.items ++ kept name.now bytes.now ∷ []) }
+        ensures unkept { IfErr result (λ e. written_in self.new.writes.items
+            ≡ written_in self.old.writes.items ++ unkept name.now bytes.now (error_kind e) ∷ []) }
+        ensures files { OnOk result ((self.old.refusal ≡ None) × (files_of self.new.files.items
+            ≡ files_of self.old.files.items ++ (name.now, bytes.now) ∷ [])) }
+        ensures refused { IfErr result (λ e. IsUnkept self.old.refusal (error_kind e)
+            × (self.new.files.items ≡ self.old.files.items)) }
         ensures refusal { self.new.refusal ≡ self.old.refusal }
     {
         let answer = match self.refusal {

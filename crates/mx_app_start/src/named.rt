@@ -57,8 +57,11 @@ impl<'a> Reader for NamedFiles<'a> {
     /// Answers the bytes that the list has; it is refused where the list has none of this name, or for
     /// want of memory.
     fn read(&mut self, alloc: Global, name: &str) -> io::Result<Vec<u8>>
-        ensures given { IfOk result (λ bytes. asked_in self.new.answers.items ≡ asked_in self.old.answers.items ++ record { name = name.now; answer = Ok bytes.items } ∷ []) }
-        ensures missed { IfErr result (λ e. asked_in self.new.answers.items ≡ asked_in self.old.answers.items ++ record { name = name.now; answer = Err (error_kind e) } ∷ []) }
+        ensures given { IfOk result (λ bytes. asked_in self.new.answers.items
+            ≡ asked_in self.old.answers.items ++ record { name = name.now; answer = Ok bytes.items } ∷ []) }
+        ensures missed { IfErr result (λ e. asked_in self.new.answers.items
+            ≡ asked_in self.old.answers.items
+            ++ record { name = name.now; answer = Err (error_kind e) } ∷ []) }
         ensures found { IfOk result (λ bytes. bytes_named self.old.files.now name.now ≡ Some bytes.items) }
         ensures absent { IfErr result (λ e. IsAbsent (bytes_named self.old.files.now name.now) (error_kind e)) }
         ensures files { self.new.files ≡ self.old.files }

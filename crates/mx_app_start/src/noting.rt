@@ -49,8 +49,10 @@ pub(crate) fn with_write(
     bytes: &[u8],
     answer: &io::Result<()>,
 ) -> Writes
-    ensures kept { IfOk answer.now (λ _. written_in result.items ≡ written_in writes.now.items ++ kept name.now bytes.now ∷ []) }
-    ensures unkept { IfErr answer.now (λ e. written_in result.items ≡ written_in writes.now.items ++ unkept name.now bytes.now (error_kind e) ∷ []) }
+    ensures kept { IfOk answer.now (λ _.
+        written_in result.items ≡ written_in writes.now.items ++ kept name.now bytes.now ∷ []) }
+    ensures unkept { IfErr answer.now (λ e. written_in result.items
+        ≡ written_in writes.now.items ++ unkept name.now bytes.now (error_kind e) ∷ []) }
 {
     let file = (bytes_noted(name.as_bytes()), bytes_noted(bytes));
     let answer = match answer {

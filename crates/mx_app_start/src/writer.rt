@@ -15,6 +15,8 @@ pub trait FileWriter {
     /// Writes bytes to the file that has a name, in place of what it had. Want of memory is the error
     /// `OutOfMemory`. After an error the file may have a part of the bytes.
     fn write(&mut self, alloc: Global, name: &str, bytes: &[u8]) -> io::Result<()>
-        ensures kept { IfOk result (λ _. written self.new ≡ written self.old ++ kept name.now bytes.now ∷ []) }
-        ensures unkept { IfErr result (λ e. written self.new ≡ written self.old ++ unkept name.now bytes.now (error_kind e) ∷ []) };
+        ensures kept { IfOk result (λ _.
+            written self.new ≡ written self.old ++ kept name.now bytes.now ∷ []) }
+        ensures unkept { IfErr result (λ e.
+            written self.new ≡ written self.old ++ unkept name.now bytes.now (error_kind e) ∷ []) };
 }

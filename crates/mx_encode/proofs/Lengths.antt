@@ -69,11 +69,11 @@ operand_length : (reg : ℕ) (o : Operand) (n : ℕ) → rm_length (Some (record
 operand_length reg (operand.Register r) n = refl
 operand_length reg (operand.Memory m) n = ap suc (memory_length m.base m.index m.displacement n)
 
-abbrev rm_at : Option Rm → ℕ → Option Rm
+abbrev pub rm_at : Option Rm → ℕ → Option Rm
 rm_at None n = None
 rm_at (Some rm) n = Some (record { reg = rm.reg; operand = operand_with_displacement rm.operand n })
 
-abbrev choice_at : Choice → ℕ → Choice
+abbrev pub choice_at : Choice → ℕ → Choice
 choice_at c n = record c { rm = rm_at c.rm n }
 
 rm_length_at : (rm : Option Rm) (n : ℕ) → rm_length (rm_at rm n) ≡ rm_length rm
@@ -83,7 +83,7 @@ rm_length_at (Some rm) n = operand_length rm.reg rm.operand n
 length_at : (c : Choice) (n : ℕ) → chosen_length (choice_at c n) ≡ chosen_length c
 length_at c n = ap (λ k. length (prefix_bytes c.resized c.repeat false) + (length (escape_bytes c.row.escaped) + suc (k + length (number_bytes c.immediate)))) (rm_length_at c.rm n)
 
-abbrev given_at : Option Choice → ℕ → Option Choice
+abbrev pub given_at : Option Choice → ℕ → Option Choice
 given_at None n = None
 given_at (Some c) n = Some (choice_at c n)
 
@@ -101,7 +101,7 @@ looping : (b : Bool) (row : Row) (number : Number) (n : ℕ) → cond b (Some (b
 looping true row number n = refl
 looping false row number n = refl
 
-choice_stays : (i : Insn) (short : Bool) (n : ℕ)
+pub choice_stays : (i : Insn) (short : Bool) (n : ℕ)
     → choice (with_displacement i n) (record { immediate = short; displacement = true }) ≡ given_at (choice i (record { immediate = short; displacement = true })) n
 choice_stays (insns.Arithmetic o (operands.ToRegister size to (operand.Register from))) short n = refl
 choice_stays (insns.Arithmetic o (operands.ToRegister size to (operand.Memory m))) short n = refl

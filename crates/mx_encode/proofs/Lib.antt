@@ -8,3 +8,4 @@ pub mod Spelled
 pub mod Formless
 pub mod Lengths
 pub mod Formed
+pub mod Filling

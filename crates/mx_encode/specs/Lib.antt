@@ -6,3 +6,4 @@ pub mod Chosen
 pub mod Lengths
 pub mod Given
 pub mod Filled
+pub mod Held

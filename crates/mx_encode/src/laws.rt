@@ -1,11 +1,13 @@
 //! Laws of the spelling that is chosen.
 
-ghost use Rattle.std.specs.Prelude.{◌≡◌, ℕ, ◌<◌, ◌^◌, true, List, IsTrue, length};
+ghost use Rattle.std.specs.Prelude.{◌≡◌, ℕ, ◌<◌, ◌^◌, true, false, List, IsTrue, length};
 ghost use Rattle.mx_insn.specs.declared.insn.Insn.{Insn};
 ghost use Rattle.mx_insn.specs.Spelling.{Spells};
 ghost use Rattle.mx_encode.specs.declared.Wide.{Wide};
 ghost use Rattle.mx_encode.specs.Forms.{has_form};
+ghost use Rattle.mx_encode.specs.Choice.{choice};
 ghost use Rattle.mx_encode.specs.Chosen.{Chosen};
+ghost use Rattle.mx_encode.specs.Held.{dword_in, displacement_in, in_place_of, is_jump};
 ghost use Rattle.mx_encode.specs.Lengths.{chosen_length};
 ghost use Rattle.mx_encode.specs.Given.{Fits};
 ghost use Rattle.mx_encode.specs.Filled.{with_immediate, with_displacement, with_target, reaches};
@@ -38,6 +40,17 @@ pub fn displacement_keeps_length()
     ensures form { (i : Insn) (n : ℕ) → has_form (with_displacement i n) ≡ has_form i }
     ensures count { (i : Insn) (wide : Wide) (n : ℕ) → IsTrue wide.displacement → chosen_length (with_displacement i n) wide ≡ chosen_length i wide }
     ensures length { (i : Insn) (wide : Wide) (n : ℕ) (a b : List ℕ) → IsTrue wide.displacement → Chosen i wide a → Chosen (with_displacement i n) wide b → length b ≡ length a }
+{}
+
+/// A dword that is put in as the immediate stands in what is chosen, if a dword stood there that is
+/// marked wide. Of a jump that number is how far it goes.
+pub fn immediate_is_held()
+    ensures { (i : Insn) (wide : Wide) (n : ℕ) → IsTrue wide.immediate → is_jump i ≡ false → dword_in (choice (with_immediate i n) wide) ≡ in_place_of (dword_in (choice i wide)) n }
+{}
+
+/// A displacement that is put in stands in what is chosen, if there is memory, and is marked wide.
+pub fn displacement_is_held()
+    ensures { (i : Insn) (wide : Wide) (n : ℕ) → IsTrue wide.displacement → displacement_in (choice (with_displacement i n) wide) ≡ in_place_of (displacement_in (choice i wide)) n }
 {}
 
 /// How far a jump goes decides neither, as long as it reaches.

@@ -18,8 +18,8 @@ mod writing;
 pub use encoding::encode;
 pub use filled::{with_displacement, with_immediate};
 pub use laws::{
-    chosen_spells, displacement_keeps_length, filled_fits, immediate_keeps_length, one_chosen,
-    some_chosen, spelled_has_form, target_keeps_length,
+    chosen_spells, displacement_is_held, displacement_keeps_length, filled_fits, immediate_is_held,
+    immediate_keeps_length, one_chosen, some_chosen, spelled_has_form, target_keeps_length,
 };
 
 /// What is asked for where a shorter form would do. A mark asks for nothing where an instruction

@@ -1,4 +1,4 @@
-//! Many steps in a row, counted, and how they end.
+//! Many steps in a row, counted, and how they end; and what a caller may read of an image.
 #![tactic(auto)]
 
 mod joining;

@@ -6,7 +6,13 @@ use Rattle.mx_proc.specs.declared.devices.Devices.{Devices}
 use Rattle.mx_proc.specs.Console.{ConsoleState}
 use Rattle.mx_proc.specs.Frame.{Frame, fixed_of, loan_of, frame, frame_with_process}
 use Rattle.mx_proc.specs.TableState.{TableState, nobody, process_at}
-use Rattle.mx_machine_kernel.specs.Serving.{KeepsBut, Keeps, WritesAtMostOne}
+use Rattle.mx_machine_kernel.specs.Serving.{KeepsBut, WritesAtMostOne}
+
+-- All slots keep what is fixed of them, and whether they are out.
+pub record Keeps (t u : TableState) : Type 0 where
+  pub fixed : (q : ℕ) → fixed_of (process_at u q) ≡ fixed_of (process_at t q)
+  pub loans : (q : ℕ) → loan_of (process_at u q) ≡ loan_of (process_at t q)
+  pub used : length u.slots ≡ length t.slots
 
 get_or-mapped : {X Y : Type 0} (f : X → Y) (xs : List X) (i : ℕ) (d : X) → get_or (map f xs) i (f d) ≡ f (get_or xs i d)
 get_or-mapped f [] i d = refl

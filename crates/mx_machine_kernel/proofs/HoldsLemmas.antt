@@ -8,7 +8,8 @@ use Rattle.mx_respawn.specs.declared.service.Service.{Service}
 use Rattle.mx_machine_world.specs.declared.holding.Lease.{Lease}
 use Rattle.mx_machine_world.specs.Sound.{IsConsistent, lease_at}
 use Rattle.mx_machine_world.specs.World.{out_count}
-use Rattle.mx_machine_kernel.specs.Serving.{KeepsBut, Keeps, Settled, WritesAtMostOne}
+use Rattle.mx_machine_kernel.proofs.FrameLemmas.{Keeps}
+use Rattle.mx_machine_kernel.specs.Serving.{KeepsBut, Settled, WritesAtMostOne}
 
 -- ---- processors that hold something
 

@@ -14,8 +14,8 @@ use Rattle.mx_proc.specs.TableState.{TableState, nobody, process_at, with_proces
 use Rattle.mx_machine_world.specs.Move.{table_after_sending_out, table_after_coming_home}
 use Rattle.mx_machine_world.specs.World.{HeldProcess}
 use Rattle.mx_machine_world.specs.declared.holding.Out.{Out as Held}
-use Rattle.mx_machine_kernel.specs.Serving.{KeepsBut, Keeps, Settled, SettledBut, WritesAtMostOne, IsSent, IsReturned}
-use Rattle.mx_machine_kernel.proofs.FrameLemmas.{keeps_but_devices, then_but, but_all, same_uptime}
+use Rattle.mx_machine_kernel.specs.Serving.{KeepsBut, Settled, SettledBut, WritesAtMostOne, IsSent, IsReturned}
+use Rattle.mx_machine_kernel.proofs.FrameLemmas.{Keeps, keeps_but_devices, then_but, but_all, same_uptime}
 
 -- a process is put into a slot
 put-at : (w : TableState) (s : ℕ) (p : Process) → s < length w.slots → process_at (with_process w s p) s ≡ p

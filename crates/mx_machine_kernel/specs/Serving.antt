@@ -12,12 +12,6 @@ pub record KeepsBut (s : ℕ) (t u : TableState) : Type 0 where
   pub loans : (q : ℕ) → q ≢ s → loan_of (process_at u q) ≡ loan_of (process_at t q)
   pub used : length u.slots ≡ length t.slots
 
--- All slots do.
-pub record Keeps (t u : TableState) : Type 0 where
-  pub fixed : (q : ℕ) → fixed_of (process_at u q) ≡ fixed_of (process_at t q)
-  pub loans : (q : ℕ) → loan_of (process_at u q) ≡ loan_of (process_at t q)
-  pub used : length u.slots ≡ length t.slots
-
 -- no process is left in the kernel's hands
 abbrev pub Settled : TableState → Type 0
 Settled t = (s : ℕ) → (process_at t s).state ≢ Home

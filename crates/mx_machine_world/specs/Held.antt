@@ -1,5 +1,5 @@
 -- Steps of a process that is on a processor.
-use Rattle.std.specs.Prelude.{◌≡◌, ◌≤◌, ℕ, zero, suc, ◌+◌, ◌-◌, min}
+use Rattle.std.specs.Prelude.{◌≡◌, ◌≤◌, ℕ, ◌+◌, ◌-◌, min}
 use Rattle.mx_exec.specs.declared.image.Image.{Image}
 use Rattle.mx_exec.specs.declared.image.Outcome.{Outcome}
 use Rattle.mx_exec.specs.declared.image.Outcome.TheVariants.{Go, Trap, Fault}
@@ -53,8 +53,3 @@ out_after_step o = out_after_outcome o (one_step o.image)
 -- how it ends
 unfoldable pub outcome_of_step : Out → Outcome
 outcome_of_step o = (one_step o.image).0
-
--- so many steps
-abbrev pub out_after_steps : ℕ → Out → Out
-out_after_steps zero o = o
-out_after_steps (suc n) o = out_after_steps n (out_after_step o)

@@ -1,7 +1,9 @@
 //! Files of programs, and what is told of others.
 
+use crate::load::FILE;
 use mx_aout::{FileError, Program, one_program, read, read_back, write};
 use std::alloc::Global;
+use std::test::Fail;
 
 /// A file of two bytes of text, `CD 21`, in the data segment, with a total of 4096.
 const TRAP: [u8; 34] = [
@@ -9,14 +11,11 @@ const TRAP: [u8; 34] = [
     0, 0, 0, 0, 0, 0, 0xCD, 0x21,
 ];
 
-/// What is told of that file with one byte of it changed.
-fn changed(alloc: Global, place: usize, value: u8) -> Option<FileError> {
-    let mut file = TRAP;
-    if let Some(byte) = file.get_mut(place) {
-        *byte = value;
-    }
-    read(alloc, &file).err()
-}
+/// The same without a text.
+const EMPTY: [u8; 32] = [
+    0x01, 0x03, 0x10, 0x10, 0x20, 0, 0, 0, 0, 0, 0, 0, 0, 0, 0, 0, 0, 0, 0, 0, 0, 0, 0, 0, 0, 0x10,
+    0, 0, 0, 0, 0, 0,
+];
 
 /// The long form: 2 bytes of text, 8 of relocations and one symbol.
 const LONG: [u8; 74] = [
@@ -37,8 +36,8 @@ fn is_long(program: &Program) -> bool {
         && program.init.as_slice().is_empty()
 }
 
-/// The short form: 12 bytes of text and one symbol.
-static SHORT: [u8; 60] = [
+/// The short form: 12 bytes of text, one symbol `start`, and a total of 4096.
+pub(crate) const SHORT: [u8; 60] = [
     0x01, 0x03, 0x30, 0x10, 0x20, 0, 0, 0, 12, 0, 0, 0, 0, 0, 0, 0, 0, 0, 0, 0, 0, 0, 0, 0, 0,
     0x10, 0, 0, 0x10, 0, 0, 0, 0xB8, 0x05, 0, 0, 0, 0x83, 0xC0, 0x7B, 0xE2, 0xF6, 0xCD, 0x21, b's',
     b't', b'a', b'r', b't', 0, 0, 0, 0, 0, 0, 0, 2, 0, 0, 0,
@@ -68,43 +67,151 @@ fn is_read(alloc: Global, file: &[u8]) -> bool {
 
 #[test]
 fn whole_files(rt: HostRuntime) {
-    for file in [TRAP.as_slice(), &SHORT, &LONG] {
+    for file in [TRAP.as_slice(), &EMPTY, &SHORT, &LONG] {
         assert!(rt; is_read(rt.alloc(), file));
     }
     one_program();
 }
 
-/// A place of that file, the byte that is put there, and what is then told.
-static CHANGES: [(usize, u8, Option<FileError>); 19] = [
-    (0, 0x02, Some(FileError::BadMagic)),
-    (1, 0x02, Some(FileError::BadMagic)),
-    (3, 0x04, Some(FileError::BadCpu)),
-    (2, 0x12, Some(FileError::BadFlags)),
-    (4, 0x21, Some(FileError::BadHeader)),
-    (4, 0x30, Some(FileError::Truncated)),
-    (25, 0x00, Some(FileError::NoTotal)),
-    (10, 0x11, Some(FileError::TooLarge)),
-    (17, 0x10, Some(FileError::TooLarge)),
-    (26, 0x40, Some(FileError::TooLarge)),
-    (31, 0x01, Some(FileError::TooLarge)),
-    (28, 0x01, Some(FileError::BadSymbols)),
-    (8, 0x03, Some(FileError::Truncated)),
-    (2, 0x04, None),
-    (5, 0xFF, None),
-    (6, 0xFF, None),
-    (7, 0xFF, None),
-    (17, 0x0F, None),
-    (23, 0xFF, None),
+/// A file, the bytes that are put at places of it, and what is then told.
+struct Change {
+    file: &'static [u8],
+    bytes: &'static [(usize, u8)],
+    told: Option<FileError>,
+}
+
+const CHANGE: Change = Change {
+    file: &TRAP,
+    bytes: &[],
+    told: None,
+};
+
+/// Nothing is told of flag 4, of any byte from 5 to 7, of bss 3,840 behind two bytes of text, of an
+/// entry outside the text, and of bss 4,090 behind six bytes; one byte more of bss is too much.
+static CHANGES: [Change; 22] = [
+    Change {
+        bytes: &[(0, 0x02)],
+        told: Some(FileError::BadMagic),
+        ..CHANGE
+    },
+    Change {
+        bytes: &[(1, 0x02)],
+        told: Some(FileError::BadMagic),
+        ..CHANGE
+    },
+    Change {
+        bytes: &[(3, 0x04)],
+        told: Some(FileError::BadCpu),
+        ..CHANGE
+    },
+    Change {
+        bytes: &[(2, 0x12)],
+        told: Some(FileError::BadFlags),
+        ..CHANGE
+    },
+    Change {
+        bytes: &[(4, 0x21)],
+        told: Some(FileError::BadHeader),
+        ..CHANGE
+    },
+    Change {
+        bytes: &[(4, 0x30)],
+        told: Some(FileError::Truncated),
+        ..CHANGE
+    },
+    Change {
+        bytes: &[(25, 0x00)],
+        told: Some(FileError::NoTotal),
+        ..CHANGE
+    },
+    Change {
+        bytes: &[(10, 0x11)],
+        told: Some(FileError::TooLarge),
+        ..CHANGE
+    },
+    Change {
+        bytes: &[(17, 0x10)],
+        told: Some(FileError::TooLarge),
+        ..CHANGE
+    },
+    Change {
+        bytes: &[(26, 0x40)],
+        told: Some(FileError::TooLarge),
+        ..CHANGE
+    },
+    Change {
+        bytes: &[(31, 0x01)],
+        told: Some(FileError::TooLarge),
+        ..CHANGE
+    },
+    Change {
+        bytes: &[(28, 0x01)],
+        told: Some(FileError::BadSymbols),
+        ..CHANGE
+    },
+    Change {
+        bytes: &[(8, 0x03)],
+        told: Some(FileError::Truncated),
+        ..CHANGE
+    },
+    Change {
+        bytes: &[(2, 0x04)],
+        ..CHANGE
+    },
+    Change {
+        bytes: &[(5, 0xFF)],
+        ..CHANGE
+    },
+    Change {
+        bytes: &[(6, 0xFF)],
+        ..CHANGE
+    },
+    Change {
+        bytes: &[(7, 0xFF)],
+        ..CHANGE
+    },
+    Change {
+        bytes: &[(17, 0x0F)],
+        ..CHANGE
+    },
+    Change {
+        bytes: &[(23, 0xFF)],
+        ..CHANGE
+    },
+    Change {
+        file: &FILE,
+        bytes: &[(16, 0xFA), (17, 0x0F)],
+        ..CHANGE
+    },
+    Change {
+        file: &FILE,
+        bytes: &[(16, 0xFB), (17, 0x0F)],
+        told: Some(FileError::TooLarge),
+    },
+    Change {
+        file: &LONG,
+        bytes: &[(28, 0x0F)],
+        told: Some(FileError::BadSymbols),
+    },
 ];
 
-#[test]
-fn changed_bytes(rt: HostRuntime) {
-    for (place, value, wanted) in &CHANGES {
-        assert!(rt;
-            changed(rt.alloc(), *place, *value) == *wanted,
-            "byte {place} is {value}"
-        );
+fn is_told(alloc: Global, row: &Change) -> Result<bool, Fail> {
+    let mut file = Vec::from_slice(alloc, row.file)?;
+    for (place, value) in row.bytes {
+        if let Some(byte) = file.get_mut(*place) {
+            *byte = *value;
+        }
     }
+    Ok(read(alloc, file.as_slice()).err() == row.told)
+}
+
+#[test]
+fn changed_bytes(rt: HostRuntime) -> Result<(), Fail> {
+    for (number, row) in CHANGES.iter().enumerate() {
+        let is_right = is_told(rt.alloc(), row)?;
+        assert!(rt; is_right, "row {number}");
+    }
+    Ok(())
 }
 
 /// Files, and where they are cut.

@@ -1,38 +1,84 @@
 //! Texts that go the whole way.
 
+use crate::aout::SHORT;
 use crate::bytes::has_bytes;
 use mx_asm_roundtrip::{Journey, around};
 use std::alloc::Global;
 
-/// A text, its listing, some bytes of its image, and how long its file is, where that is told.
+/// A text, its listing, some bytes of its image, and its file, where that is told.
 struct Row {
     text: &'static str,
     listing: &'static str,
     bytes: &'static [(u32, u8)],
-    length: Option<usize>,
+    file: Option<&'static [u8]>,
 }
 
-static ROWS: [Row; 2] = [
+/// The file that the machines of other tests run as their driver.
+const DRIVER: [u8; 135] = [
+    1, 3, 0x30, 0x10, 0x20, 0, 0, 0, 0x23, 0, 0, 0, 0x24, 0, 0, 0, 0, 0, 0, 0, 0, 0, 0, 0, 0, 0x10,
+    0, 0, 0x20, 0, 0, 0, 0xB9, 2, 0, 0, 0, 0xB8, 0xCE, 0x7A, 0, 0, 0xBB, 0, 0, 0, 0, 0xCD, 0x21,
+    0x8B, 5, 0, 0, 0, 0, 0xB9, 1, 0, 0, 0, 0xCD, 0x21, 0xE9, 0xDD, 0xFF, 0xFF, 0xFF, 0, 0, 0, 0, 0,
+    0, 0, 0, 0, 0, 0, 0, 0, 0, 0, 0, 0, 0, 0, 0, 0, 0, 0, 0, 0, 0, 0, 0, 0, 0, 0, 0, 0, 0, 0, 0,
+    0x62, 0x75, 0x66, 0, 0, 0, 0, 0, 0, 0, 0, 0, 3, 0, 0, 0, 0x74, 0x6F, 0x70, 0, 0, 0, 0, 0, 0, 0,
+    0, 0, 2, 0, 0, 0,
+];
+
+/// And as their client.
+const CLIENT: [u8; 123] = [
+    1, 3, 0x30, 0x10, 0x20, 0, 0, 0, 0x27, 0, 0, 0, 0x24, 0, 0, 0, 0, 0, 0, 0, 0, 0, 0, 0, 0, 0x10,
+    0, 0, 0x10, 0, 0, 0, 0xB9, 3, 0, 0, 0, 0xB8, 0, 0, 0, 0, 0xBB, 0, 0, 0, 0, 0xCD, 0x21, 0xC7, 5,
+    4, 0, 0, 0, 0, 6, 0, 0, 0xB9, 3, 0, 0, 0, 0xB8, 0xFE, 0xFF, 0xFF, 0xFF, 0xCD, 0x21, 0, 0, 0, 0,
+    0, 0, 0, 0, 0, 0, 0, 0, 0, 0, 0, 0, 0, 0, 0, 0, 0, 0, 0, 0, 0, 0, 0, 0, 0, 0, 0, 0, 0, 0, 0, 0,
+    0x62, 0x75, 0x66, 0, 0, 0, 0, 0, 0, 0, 0, 0, 3, 0, 0, 0,
+];
+
+static ROWS: [Row; 4] = [
     Row {
         text: ".sep\n.text\nstart: mov eax, 5\nadd eax, 0x7b\nloop start\nint 33\n",
         listing: "00000000 mov eax, 0x5\n00000005 add eax, 0x7b\n00000008 loop 0x0\n\
                   0000000a int 0x21\n",
         bytes: &[(0, 0)],
-        length: Some(60),
+        file: Some(&SHORT),
     },
     Row {
         text: "push eax\nx: int 33\n.data\n.data4 x\n",
         listing: "00000000 push eax\n00000001 int 0x21\n",
         bytes: &[(1, 0xCD), (3, 1)],
-        length: None,
+        file: None,
+    },
+    Row {
+        text: ".sep\n.data\nbuf: .space 36\n.text\n\
+               top: mov ecx, 2\nmov eax, 31438\nmov ebx, buf\nint 33\n\
+               mov eax, [buf]\nmov ecx, 1\nint 33\njmp top\n",
+        listing: "00000000 mov ecx, 0x2\n00000005 mov eax, 0x7ace\n0000000a mov ebx, 0x0\n\
+                  0000000f int 0x21\n00000011 mov eax, dword [0x0]\n00000017 mov ecx, 0x1\n\
+                  0000001c int 0x21\n0000001e jmp 0x0\n",
+        bytes: &[(0, 0)],
+        file: Some(&DRIVER),
+    },
+    Row {
+        text: ".sep\n.data\nbuf: .space 36\n.text\n\
+               mov ecx, 3\nmov eax, 0\nmov ebx, buf\nint 33\n\
+               mov dword [buf+4], 0x600\nmov ecx, 3\nmov eax, -2\nint 33\n",
+        listing: "00000000 mov ecx, 0x3\n00000005 mov eax, 0x0\n0000000a mov ebx, 0x0\n\
+                  0000000f int 0x21\n00000011 mov dword [0x4], 0x600\n0000001b mov ecx, 0x3\n\
+                  00000020 mov eax, 0xfffffffe\n00000025 int 0x21\n",
+        bytes: &[(0, 0)],
+        file: Some(&CLIENT),
     },
 ];
 
+fn has_file(found: &Journey, row: &Row) -> bool {
+    match row.file {
+        Some(file) => found.file.as_slice() == file,
+        None => true,
+    }
+}
+
 fn is_gone_around(found: &Journey, row: &Row) -> bool {
-    let length = found.file.as_slice().len();
     found.listing.as_str() == row.listing
         && has_bytes(&found.image, row.bytes)
-        && row.length.unwrap_or(length) == length
+        && has_file(found, row)
 }
 
 fn goes_around(alloc: Global, row: &Row) -> bool {

@@ -5,11 +5,17 @@ use mx_asm::{AsmError, assemble};
 use std::alloc::Global;
 use std::test::Fail;
 
+fn line_of(error: AsmError) -> usize {
+    match error {
+        AsmError::At(fault) => fault.line,
+        AsmError::NoMemory => 0,
+    }
+}
+
 fn told(alloc: Global, text: &str) -> (u8, usize) {
     match assemble(alloc, text) {
         Ok(_) => (0, 0),
-        Err(AsmError::At(fault)) => (fault.problem.code(), fault.line),
-        Err(AsmError::NoMemory) => (90, 0),
+        Err(error) => (error.code(), line_of(error)),
     }
 }
 
@@ -109,9 +115,18 @@ fn long_text(alloc: Global) -> Result<String, Fail> {
     Ok(text)
 }
 
+/// LOOP over 127 bytes.
+fn is_far_loop(alloc: Global) -> bool {
+    match assemble(alloc, "loop l\n.space 127\nl:") {
+        Ok(program) => program.text.as_slice().starts_with(b"\xE2\x7F"),
+        Err(_) => false,
+    }
+}
+
 #[test]
 fn whole_texts(rt: HostRuntime) -> Result<(), Fail> {
     assert!(rt; is_assembled(rt.alloc()));
+    assert!(rt; is_far_loop(rt.alloc()));
     let text = long_text(rt.alloc())?;
     assert!(rt; text.len() > 65_535 && told(rt.alloc(), text.as_str()) == (14, 130));
     Ok(())

@@ -20,6 +20,8 @@ mod form;
 #[cfg(test)]
 mod image;
 #[cfg(test)]
+mod lex;
+#[cfg(test)]
 mod load;
 #[cfg(test)]
 mod operand;

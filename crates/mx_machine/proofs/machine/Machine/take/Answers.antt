@@ -44,7 +44,9 @@ returns-clause-moved c =
     ∙ ap (λ (y : Answer). let p : Result Answer Refusal × World = (Ok y, world_of (on n (slice_set os c.args.cpu (Some out)))) in p) answer)
 
 pub returns-in_err-out-clause-recorded : goal.returns-in_err-out-clause-recorded
-returns-in_err-out-clause-recorded c = c.in_err-out.ensures.err.1 ∙ ap (λ (m : MachineState). m.kernel) c.self.view_is
+returns-in_err-out-clause-recorded c =
+    let p = err_from_is_err_and c.from_residual.result c.from_residual.ensures.1 in
+    rw p.1 (c.in_err-out.ensures.err.1 ∙ ap (λ (m : MachineState). m.kernel) c.self.view_is)
 
 pub returns-clause-recorded : goal.returns-clause-recorded
 returns-clause-recorded c = c.in_ok-out.ensures.ok.recorded ∙ ap (λ (m : MachineState). with_record m.kernel c.args.cpu Taking) c.self.view_is

@@ -42,9 +42,11 @@ pub fn perform<R: Reader + Drop, F: FileWriter + Drop, W: Write + Drop>(
     channels: &mut Channels<R, F, W>,
     request: CommandRequest<'_>,
 ) -> Result<u8, Failure>
-    ensures { (qs : List Asked) × (ws : List Written) × (R.asked channels.new.reader ≡ R.asked channels.old.reader ++ qs)
+    ensures { (qs : List Asked) × (ws : List Written)
+        × (R.asked channels.new.reader ≡ R.asked channels.old.reader ++ qs)
         × (F.written channels.new.files ≡ F.written channels.old.files ++ ws)
-        × Performs request.entry qs ws (λ text. Appends (W.contents channels.old.out) (W.contents channels.new.out) text) result }
+        × Performs request.entry qs ws
+        (λ text. Appends (W.contents channels.old.out) (W.contents channels.new.out) text) result }
 {
     let reader = &mut channels.reader;
     let out = &mut channels.out;

@@ -1,0 +1,25 @@
+use Rattle.mx_app_program.specs.One.{IsPrinted}
+use Rattle.mx_app_program.specs.Shown.{HasListing, HasNames, IsShown}
+use Rattle.mx_app.proofs.Done.{as_asked, assembled, debugs, replays, shows, steps}
+use Rattle.mx_app.proofs.performing.perform.Goals as goal
+
+pub returns-in-One : goal.returns-in-One
+returns-in-One g c = as_asked _ _ _ _ _ _ _ _ c.in-One.is (shows _ _ _ (λ bytes text. IsPrinted bytes c.in-One.steps text) c.in-One.file.now _ c.one_named.result c.status_after_work.result c.one_named.ensures c.status_after_work.ensures)
+
+pub returns-in-As : goal.returns-in-As
+returns-in-As g c = as_asked _ _ _ _ _ _ _ _ c.in-As.is (assembled _ _ _ _ _ c.in-As.text.now c.in-As.file.now c.as_named.result c.status_after_work-in-As.result c.as_named.ensures c.status_after_work-in-As.ensures)
+
+pub returns-in-Dis : goal.returns-in-Dis
+returns-in-Dis g c = as_asked _ _ _ _ _ _ _ _ c.in-Dis.is (shows _ _ _ (λ bytes text. IsShown HasListing bytes text) c.in-Dis.file.now _ c.dis_named.result c.status_after_work-in-Dis.result c.dis_named.ensures c.status_after_work-in-Dis.ensures)
+
+pub returns-in-Nm : goal.returns-in-Nm
+returns-in-Nm g c = as_asked _ _ _ _ _ _ _ _ c.in-Nm.is (shows _ _ _ (λ bytes text. IsShown HasNames bytes text) c.in-Nm.file.now _ c.nm_named.result c.status_after_work-in-Nm.result c.nm_named.ensures c.status_after_work-in-Nm.ensures)
+
+pub returns-in-Step : goal.returns-in-Step
+returns-in-Step g c = as_asked _ _ _ _ _ _ _ _ c.in-Step.is (steps _ _ _ c.in-Step.config.now c.in-Step.script.now _ _ c.step.result c.status_after_work-in-Step.result c.step.ensures.printed c.step.ensures.fault c.status_after_work-in-Step.ensures)
+
+pub returns-in-Replay : goal.returns-in-Replay
+returns-in-Replay g c = as_asked _ _ _ _ _ _ _ _ c.in-Replay.is (replays _ _ _ c.in-Replay.config.now c.in-Replay.log.now _ _ c.replay.result c.status_after_replay.result c.replay.ensures.printed c.replay.ensures.fault c.status_after_replay.ensures)
+
+pub returns-in-Db : goal.returns-in-Db
+returns-in-Db g c = as_asked _ _ _ _ _ _ _ _ c.in-Db.is (debugs _ _ _ c.in-Db.config.now c.in-Db.script.now _ _ c.db.result c.status_after_work-in-Db.result c.db.ensures.printed c.db.ensures.fault c.status_after_work-in-Db.ensures)
