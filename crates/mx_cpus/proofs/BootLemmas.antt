@@ -1,0 +1,43 @@
+-- Kernel and desk agree at boot.
+use Rattle.std.proofs.Common.{◌≡◌, ◌∙◌, ℕ, zero, suc, ◌+◌, List, [], ◌∷◌, map, replicate, Option, None, refl, sym, ap, arith}
+use Rattle.std.specs.Prelude.{All}
+use Rattle.std.proofs.lemmas.List.{length-replicate}
+use Rattle.std.proofs.lemmas.List.Elements.{All-push}
+use Rattle.mx_kcall.specs.Service.{Service}
+use Rattle.mx_machine_world.specs.declared.holding.Out.{Out}
+use Rattle.mx_machine_world.specs.Boot.{world_at_boot_with}
+use Rattle.mx_machine_world.specs.History.{BootAndHistory, replay}
+use Rattle.mx_machine_world.specs.World.{World, actors}
+use Rattle.atomic_table.specs.Seated.{TableId}
+use Rattle.mx_loan.specs.Seats.{DeskView, SeatView, empty_desk, new_seat, new_seats}
+use Rattle.mx_cpus_lock.specs.Calls.{desk_beside, out_of_lent, outs_of, world_after}
+use Rattle.mx_cpus.specs.Boots.{IsBlank}
+
+no_outs : (n : ℕ) → map out_of_lent (replicate n None) ≡ replicate n None
+no_outs zero = refl
+no_outs (suc n) = ap (λ l. None ∷ l) (no_outs n)
+
+-- nothing is out
+outs_at_boot : (v : List Service) (n o c : ℕ) → outs_of (world_after (world_at_boot_with v n o c) []) ≡ replicate n None
+unfolding replay
+outs_at_boot v n o c = no_outs n
+
+-- the actors are the processors and the others
+actors_at_boot : (v : List Service) (n o c : ℕ) → actors (world_at_boot_with v n o c) ≡ n + o
+actors_at_boot v n o c = ap (λ m. m + o) (length-replicate n None)
+
+-- an empty desk agrees with the kernel of a configuration
+pub blank_at_boot : (d : DeskView) (k : BootAndHistory) (v : List Service) (n o c : ℕ) → d ≡ empty_desk d.table n → d.table.words ≡ n + o → k ≡ record { boot = world_at_boot_with v n o c; history = [] } → IsBlank d k
+blank_at_boot d k v n o c desk words kernel = (
+  ap (λ (x : BootAndHistory). x.history) kernel,
+  (
+    refl,
+    words ∙ sym (ap (λ (x : BootAndHistory). actors x.boot) kernel ∙ actors_at_boot v n o c),
+    desk ∙ sym (ap (desk_beside d.table) kernel ∙ ap (λ l. let y : DeskView = record { table = d.table; history = []; lent = l } in y) (outs_at_boot v n o c)),
+  ),
+)
+
+-- new seats are the table's
+pub new_seats_at : (z : TableId) (n : ℕ) → All (λ s. s.table ≡ z) (new_seats z n)
+new_seats_at z zero = λ k d below. absurd (omega arith)
+new_seats_at z (suc n) = All-push (λ (s : SeatView). s.table ≡ z) (new_seats z n) (new_seat z n) (new_seats_at z n) refl

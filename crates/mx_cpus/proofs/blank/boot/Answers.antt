@@ -1,0 +1,9 @@
+use Rattle.std.proofs.Common.{sym, subst}
+use Rattle.std.specs.Prelude.{All}
+use Rattle.mx_cpus.proofs.BootLemmas.{blank_at_boot, new_seats_at}
+use Rattle.mx_cpus.proofs.blank.boot.Goals as goal
+
+pub invariant_of-result : goal.invariant_of-result
+invariant_of-result c =
+    let config = c.args.config.now in
+    blank_at_boot _ _ c.args.services.now.items config.cpus config.others config.log c.in_ok-desk.ensures.desk c.in_ok-desk.ensures.words c.in_ok-kernel.ensures.booted

@@ -1,0 +1,11 @@
+//! One machine that many threads share: each call takes the lock, does one thing to the kernel, and
+//! tells the caller what stands in the history now.
+#![tactic(auto)]
+
+mod blank;
+mod shared;
+
+pub use blank::{Blank, boot};
+pub use mx_cpus_lock::Naming;
+pub use mx_loan::{ActorSeat, Loan};
+pub use shared::Shared;

@@ -1,0 +1,122 @@
+//! The machine that threads share.
+
+ghost use Rattle.std.specs.Prelude.{◌≡◌, IfOk, IfErr, All};
+ghost use Rattle.mx_machine_world.specs.declared.events.Event.TheVariants as events;
+ghost use Rattle.mx_machine_world.specs.Rest.{at_rest};
+ghost use Rattle.mx_cpus_lock.specs.Calls.{Follows, IsAnsweredCall, IsGiveCall, IsLoanOf};
+ghost use Rattle.mx_cpus_lock.specs.Calls.{IsRefusedCall, IsSameSeat, IsTakeCall, StandsIn, world_after};
+
+use mx_cpus_lock::{Locked, Naming};
+use mx_loan::{ActorSeat, Loan};
+use mx_machine_kernel::Kernel;
+use mx_machine_world::{Answer, Event, Refusal};
+use std::sync::{Mutex, Wait};
+
+/// The machine that threads share: a kernel under a lock. Each call takes its actor's seat and gives it
+/// back with what the call did: the seat's own records, the history as it has seen it, and what it
+/// holds. A call that waits for the lock keeps its promises if it returns. None takes memory.
+pub struct Shared<M: Naming> {
+    lock: Mutex<Locked<M>>,
+}
+
+impl<M: Naming> Shared<M> {
+    pub(crate) fn new(locked: Locked<M>) -> Shared<M> {
+        Shared {
+            lock: Mutex::new(locked),
+        }
+    }
+
+    /// Ends the sharing. The kernel stands where the table stands after its history, in which stands all
+    /// that the seats show.
+    pub fn into_kernel(self, seats: Vec<ActorSeat>) -> Kernel
+        requires table { All (λ s. s.table ≡ M.table) seats.items }
+        ensures stands { All (λ s. StandsIn result.history s) seats.items }
+        ensures boot { result.boot ≡ M.boot }
+    {
+        let Shared { lock } = self;
+        let mut locked = lock.into_inner();
+        for seat in seats {
+            let _seat = locked.show(seat);
+        }
+        locked.into_kernel()
+    }
+
+    /// A processor takes the process that is first to run.
+    pub fn take(&self, rt: &impl Wait, seat: ActorSeat) -> (ActorSeat, Result<Loan, Refusal>)
+        requires table { seat.table ≡ M.table }
+        ensures ok { IfOk result.1 (λ l. IsTakeCall M.boot seat result.0 l) }
+        ensures err { IfErr result.1 (λ r. IsRefusedCall M.boot seat result.0 events.Take r) }
+    {
+        self.lock.lock(rt).take(seat)
+    }
+
+    /// A processor gives back what it was lent. Its record counts the steps that were made.
+    pub fn give(&self, rt: &impl Wait, seat: ActorSeat, loan: Loan) -> ActorSeat
+        requires table { seat.table ≡ M.table }
+        requires loan { IsLoanOf seat loan }
+        ensures { IsGiveCall M.boot seat result loan }
+    {
+        self.lock.lock(rt).give(seat, loan)
+    }
+
+    /// An actor raises an interrupt line, numbered from 0.
+    pub fn line(
+        &self,
+        rt: &impl Wait,
+        seat: ActorSeat,
+        line: u32,
+    ) -> (ActorSeat, Result<Answer, Refusal>)
+        requires table { seat.table ≡ M.table }
+        ensures ok { IfOk result.1 (λ x. IsAnsweredCall M.boot seat result.0 (events.Line line) x) }
+        ensures err { IfErr result.1 (λ r. IsRefusedCall M.boot seat result.0 (events.Line line) r) }
+    {
+        self.lock.lock(rt).event(seat, Event::Line(line))
+    }
+
+    /// An actor lets the clock tick.
+    pub fn tick(&self, rt: &impl Wait, seat: ActorSeat) -> (ActorSeat, Result<Answer, Refusal>)
+        requires table { seat.table ≡ M.table }
+        ensures ok { IfOk result.1 (λ x. IsAnsweredCall M.boot seat result.0 events.Tick x) }
+        ensures err { IfErr result.1 (λ r. IsRefusedCall M.boot seat result.0 events.Tick r) }
+    {
+        self.lock.lock(rt).event(seat, Event::Tick)
+    }
+
+    /// An actor kills the process of an endpoint.
+    pub fn kill(
+        &self,
+        rt: &impl Wait,
+        seat: ActorSeat,
+        endpoint: u32,
+    ) -> (ActorSeat, Result<Answer, Refusal>)
+        requires table { seat.table ≡ M.table }
+        ensures ok { IfOk result.1 (λ x. IsAnsweredCall M.boot seat result.0 (events.Kill endpoint) x) }
+        ensures err { IfErr result.1 (λ r. IsRefusedCall M.boot seat result.0 (events.Kill endpoint) r) }
+    {
+        self.lock.lock(rt).event(seat, Event::Kill(endpoint))
+    }
+
+    /// An actor puts a new process into a slot whose process is dead.
+    pub fn respawn(
+        &self,
+        rt: &impl Wait,
+        seat: ActorSeat,
+        slot: u32,
+    ) -> (ActorSeat, Result<Answer, Refusal>)
+        requires table { seat.table ≡ M.table }
+        ensures ok { IfOk result.1 (λ x. IsAnsweredCall M.boot seat result.0 (events.Respawn slot) x) }
+        ensures err { IfErr result.1 (λ r. IsRefusedCall M.boot seat result.0 (events.Respawn slot) r) }
+    {
+        self.lock.lock(rt).event(seat, Event::Respawn(slot))
+    }
+
+    /// Whether nothing is ready, nothing is out, and no slot that is down can be respawned.
+    pub fn at_rest(&self, rt: &impl Wait, seat: ActorSeat) -> (ActorSeat, bool)
+        requires table { seat.table ≡ M.table }
+        ensures follows { Follows seat result.0 }
+        ensures same { IsSameSeat seat result.0 }
+        ensures rest { result.1 ≡ at_rest (world_after M.boot result.0.seen) }
+    {
+        self.lock.lock(rt).at_rest(seat)
+    }
+}

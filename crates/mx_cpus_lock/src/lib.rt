@@ -1,0 +1,9 @@
+//! What lies under the lock: the kernel and the desk, always in agreement, so that whoever takes the
+//! lock finds the kernel exactly where its history leads.
+#![tactic(auto)]
+
+mod locked;
+mod naming;
+
+pub use locked::Locked;
+pub use naming::Naming;

@@ -1,0 +1,130 @@
+//! The kernel and its desk, as they lie under the lock.
+
+ghost use Rattle.std.specs.Prelude.{◌≡◌, true, IfOk, IfErr};
+ghost use Rattle.mx_machine_world.specs.declared.events.Event.TheVariants as events;
+ghost use Rattle.mx_machine_world.specs.Rest.{at_rest};
+ghost use Rattle.mx_machine_kernel.specs.KernelState.{is_for_all};
+ghost use Rattle.mx_cpus_lock.specs.Calls.{Follows, IsAnsweredCall, IsGiveCall, IsLoanOf, IsLocked};
+ghost use Rattle.mx_cpus_lock.specs.Calls.{IsRefusedCall, IsSameSeat, IsTakeCall, StandsIn};
+ghost use Rattle.mx_cpus_lock.specs.Calls.{world_after};
+
+use crate::naming::Naming;
+use mx_loan::{ActorSeat, Desk, Loan};
+use mx_machine_kernel::{Kernel, recorded_as};
+use mx_machine_world::{Answer, Event, Refusal, actors_stay};
+use std::marker::{Model, PhantomData};
+
+/// What lies under the lock: the kernel, which stands where the table stands after its history, and its
+/// desk, which has the same history and lends what that world shows as out. Contracts see the kernel.
+pub struct Locked<M: Naming> {
+    kernel: Kernel,
+    desk: Desk,
+    of: PhantomData<M>,
+}
+
+impl<M: Naming> Model for Locked<M> {
+    ghost use Rattle.mx_machine_world.specs.History.{BootAndHistory};
+    ghost use Rattle.mx_cpus_lock.specs.Calls.{IsLocked};
+
+    ghost Value = { BootAndHistory };
+
+    ghost view = { λ l. l.kernel };
+
+    ghost invariant = { λ l. IsLocked M.table M.boot l.kernel l.desk };
+}
+
+#[tactic(auto, using(crate::proofs::WorldLemmas::take_below, crate::proofs::WorldLemmas::take_empty, crate::proofs::WorldLemmas::take_outs, crate::proofs::WorldLemmas::take_fresh, crate::proofs::WorldLemmas::event_outs))]
+impl<M: Naming> Locked<M> {
+    /// A kernel, and the desk that agrees with it.
+    pub fn new(kernel: Kernel, desk: Desk) -> Locked<M>
+        requires { IsLocked M.table M.boot kernel desk }
+        ensures { result ≡ kernel }
+    {
+        Locked {
+            kernel,
+            desk,
+            of: PhantomData,
+        }
+    }
+
+    /// The kernel. It stands where the table stands after its history.
+    pub fn into_kernel(self) -> Kernel
+        ensures kernel { result ≡ self }
+        ensures boot { result.boot ≡ M.boot }
+    {
+        let Locked {
+            kernel,
+            desk: _,
+            of: _,
+        } = self;
+        kernel
+    }
+
+    /// The seat sees the history as it is.
+    pub fn show(&mut self, seat: ActorSeat) -> ActorSeat
+        requires table { seat.table ≡ M.table }
+        ensures kernel { self.new ≡ self.old }
+        ensures stands { StandsIn self.old.history seat }
+    {
+        self.desk.note(seat)
+    }
+
+    /// Whether nothing is ready, nothing is out, and no slot that is down can be respawned.
+    pub fn at_rest(&mut self, seat: ActorSeat) -> (ActorSeat, bool)
+        requires table { seat.table ≡ M.table }
+        ensures follows { Follows seat result.0 }
+        ensures same { IsSameSeat seat result.0 }
+        ensures rest { result.1 ≡ at_rest (world_after M.boot result.0.seen) }
+    {
+        (self.desk.note(seat), self.kernel.at_rest())
+    }
+
+    /// A processor takes the process that is first to run.
+    pub fn take(&mut self, seat: ActorSeat) -> (ActorSeat, Result<Loan, Refusal>)
+        requires table { seat.table ≡ M.table }
+        ensures ok { IfOk result.1 (λ l. IsTakeCall M.boot seat result.0 l) }
+        ensures err { IfErr result.1 (λ r. IsRefusedCall M.boot seat result.0 events.Take r) }
+    {
+        let seat = self.desk.note(seat);
+        match self.kernel.take(seat.actor()) {
+            Ok(out) => {
+                self.kernel.opened();
+                let (seat, loan) = self.desk.lend(seat, out);
+                (seat, Ok(loan))
+            }
+            Err(refusal) => (seat, Err(refusal)),
+        }
+    }
+
+    /// A processor brings back what it was lent.
+    pub fn give(&mut self, seat: ActorSeat, loan: Loan) -> ActorSeat
+        requires table { seat.table ≡ M.table }
+        requires loan { IsLoanOf seat loan }
+        ensures { IsGiveCall M.boot seat result loan }
+    {
+        let actor = seat.actor();
+        let (seat, out) = self.desk.redeem(seat, loan);
+        self.kernel.back(actor, out);
+        self.kernel.opened();
+        seat
+    }
+
+    /// An actor raises a line, lets the clock tick, kills a process or respawns a slot.
+    pub fn event(&mut self, seat: ActorSeat, event: Event) -> (ActorSeat, Result<Answer, Refusal>)
+        requires table { seat.table ≡ M.table }
+        requires event { is_for_all event ≡ true }
+        ensures ok { IfOk result.1 (λ x. IsAnsweredCall M.boot seat result.0 event x) }
+        ensures err { IfErr result.1 (λ r. IsRefusedCall M.boot seat result.0 event r) }
+    {
+        actors_stay();
+        let seat = self.desk.note(seat);
+        seat.opened();
+        match self.kernel.event(seat.actor(), event) {
+            Ok(answer) => {
+                self.kernel.opened();
+                (self.desk.record(seat, recorded_as(event)), Ok(answer))
+            }
+            Err(refusal) => (seat, Err(refusal)),
+        }
+    }
+}

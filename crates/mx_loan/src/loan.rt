@@ -1,0 +1,80 @@
+//! A process that is lent to an actor.
+
+ghost use Rattle.std.specs.Prelude.{◌≡◌};
+ghost use Rattle.mx_machine_world.specs.Held.{IsRunOf};
+
+use mx_exec::Image;
+use mx_image::Stop;
+use mx_loan_shown::Shown;
+use mx_machine_world::{Held, Out, held_runs_join};
+use std::marker::Model;
+
+/// A process that is lent to an actor. It can't be dropped or copied: `Desk::redeem` alone ends it.
+/// Contracts see whose it is, what was lent (for clauses alone; no call changes it), and what has
+/// become of it: the image, the budget, the count of steps, and how the last of them ended.
+pub struct Loan {
+    pub(crate) out: Out,
+    pub(crate) actor: u8,
+    pub(crate) lent: Shown<Out>,
+}
+
+impl Model for Loan {
+    ghost use Rattle.mx_machine_world.specs.Held.{IsRunOf};
+    ghost use Rattle.mx_loan.specs.Seats.{LoanView};
+
+    ghost Value = { LoanView };
+
+    ghost view = { λ l. record { actor = l.actor; lent = l.lent.value; out = l.out } };
+
+    ghost invariant = { λ l. IsRunOf l.lent.value l.out };
+}
+
+#[tactic(auto)]
+impl Held for Loan {
+    ghost use Rattle.std.specs.Prelude.{Some};
+
+    ghost out = { λ l. l.out };
+
+    ghost loan = { λ l. Some (l.actor, l.lent) };
+
+    /// Takes no memory, and never waits.
+    fn run(&mut self, k: u32) -> (u32, Stop) {
+        held_runs_join();
+        self.out.run(k)
+    }
+
+    fn image(&self) -> &Image {
+        &self.out.image
+    }
+}
+
+impl Loan {
+    /// How many steps it may make.
+    pub fn budget(&self) -> u32
+        ensures { result ≡ self.now.out.budget }
+    {
+        self.out.budget
+    }
+
+    /// How many steps it has made.
+    pub fn count(&self) -> u32
+        ensures { result ≡ self.now.out.count }
+    {
+        self.out.count
+    }
+
+    /// Whose it is.
+    pub fn actor(&self) -> u8
+        ensures { result ≡ self.now.actor }
+    {
+        self.actor
+    }
+
+    /// Opens to a proof what always holds of a loan: it is what was lent, after a run of the steps that
+    /// it counts.
+    pub fn opened(&self)
+        ensures { IsRunOf self.now.lent self.now.out }
+    {
+        let _out = &self.out;
+    }
+}

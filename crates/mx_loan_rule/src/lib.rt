@@ -1,0 +1,14 @@
+//! Like a library's cards: the librarian's list says what is lent and each reader's card says what
+//! the reader has; this crate states how list and cards agree, and that six kinds of step keep them so.
+#![tactic(auto)]
+
+mod kinds;
+mod knowledge;
+mod steps;
+
+pub use kinds::LoanRule;
+pub use knowledge::{Announcement, Knowledge, TableSizes};
+pub use steps::{
+    ActorTable, TableSeat, bring_back, close, end_founding, join_seats, make_seat, note, offer,
+    open_table, record_event, split_seats, take,
+};

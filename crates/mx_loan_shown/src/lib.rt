@@ -1,0 +1,7 @@
+//! A note that only the proofs can read: it says what a value was, costs nothing when the program
+//! runs, and may go to any thread.
+#![tactic(auto)]
+
+mod shown;
+
+pub use shown::Shown;

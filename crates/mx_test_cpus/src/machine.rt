@@ -1,0 +1,105 @@
+//! Machines for the trials: some number of equal services on some number of processors.
+
+ghost use Rattle.std.specs.Prelude.{◌≡◌, ◌<◌, ◌≤◌, All, IfOk, IfSome, length};
+
+use mx_aout::read;
+use mx_cpus::{ActorSeat, Naming};
+use mx_machine_world::{Config, FileName, Record, Recorded, ServiceLine, ServiceLines};
+use mx_proc::Masks;
+use mx_respawn::{Label, Service};
+use std::alloc::Global;
+use std::test::Fail;
+
+/// A file in a.out's form: a header of 32 bytes, and the text `mov eax, 5`, `add eax, 0x7b`, `int 33`.
+const FILE: [u8; 42] = [
+    1, 3, 0x30, 0x10, 0x20, 0, 0, 0, 10, 0, 0, 0, 0, 0, 0, 0, 0, 0, 0, 0, 0, 0, 0, 0, 0, 0x10, 0,
+    0, 0, 0, 0, 0, 0xB8, 5, 0, 0, 0, 0x83, 0xC0, 0x7B, 0xCD, 0x21,
+];
+
+const MASKS: Masks = Masks {
+    traps: 0x1E,
+    sends: 0,
+    calls: 0,
+};
+
+fn service(alloc: Global, restarts: u32) -> Result<Service, Fail>
+    requires { restarts ≤ 1048575 }
+{
+    Ok(Service {
+        name: Label::new(b"a").ok_or("label")?,
+        program: read(alloc, &FILE).map_err(|_| "file")?,
+        masks: MASKS,
+        level: 7,
+        best: 5,
+        quantum: 5,
+        restarts,
+    })
+}
+
+/// What slots are booted from.
+pub fn services(alloc: Global, count: u8, restarts: u32) -> Result<Vec<Service>, Fail>
+    requires restarts { restarts ≤ 1048575 }
+    ensures { IfOk result (λ v. length v.items ≡ count) }
+{
+    let mut services = Vec::new(alloc);
+    for slot in 0..count {
+        let _slot = slot;
+        services.push(service(alloc, restarts)?)?;
+    }
+    Ok(services)
+}
+
+fn line(alloc: Global, restarts: u32) -> Result<ServiceLine, Fail>
+    requires { restarts ≤ 1048575 }
+{
+    Ok(ServiceLine {
+        name: Label::new(b"a").ok_or("label")?,
+        file: FileName::from_string(String::new(alloc)),
+        masks: MASKS,
+        level: 7,
+        best: 5,
+        quantum: 5,
+        restarts,
+    })
+}
+
+/// A configuration with one actor beside the processors.
+pub fn config(alloc: Global, cpus: u8, log: u32, restarts: u32) -> Result<Config, Fail>
+    requires some { 0 < cpus }
+    requires few { cpus ≤ 8 }
+    requires log { 0 < log }
+    requires log_fits { log ≤ 1048576 }
+    requires restarts { restarts ≤ 1048575 }
+{
+    let mut lines = Vec::new(alloc);
+    lines.push(line(alloc, restarts)?)?;
+    Ok(Config {
+        cpus,
+        others: 1,
+        log,
+        lines: ServiceLines::from_vec(lines),
+    })
+}
+
+/// The seat of the last actor.
+pub fn last_seat<M: Naming>(seats: &mut Vec<ActorSeat>) -> Option<ActorSeat>
+    requires { All (λ s. s.table ≡ M.table) seats.old.items }
+    ensures rest { All (λ s. s.table ≡ M.table) seats.new.items }
+    ensures last { IfSome result (λ s. s.table ≡ M.table) }
+    ensures fewer { IfSome result (λ _. length seats.new.items < length seats.old.items) }
+{
+    seats.pop()
+}
+
+/// Whether a history has just these records, each by its actor and event.
+pub fn is_history(history: &[Record], wanted: &[(u8, Recorded)]) -> bool {
+    if history.len() != wanted.len() {
+        return false;
+    }
+    for (record, pair) in history.iter().zip(wanted.iter()) {
+        if record.actor != pair.0 || record.event != pair.1 {
+            return false;
+        }
+    }
+    true
+}

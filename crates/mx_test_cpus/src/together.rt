@@ -1,0 +1,143 @@
+//! Several loans at once, a kill while its process is out, and a loan under a debugger.
+
+ghost use Rattle.std.specs.Prelude.{◌≡◌, ◌<◌, All, length};
+
+use crate::machine::{config, is_history, last_seat, services};
+use mx_cpus::{ActorSeat, Blank, Naming, Shared, boot};
+use mx_debug::{DeathCause, Debugger, Halt};
+use mx_machine_kernel::Kernel;
+use mx_machine_world::{Answer, Recorded};
+use mx_proc::{DeathCause as Death, State};
+use std::marker::Brand;
+use std::process::Abort;
+use std::sync::Wait;
+use std::test::Fail;
+
+/// Each seat, the last one first, takes a process while the earlier ones hold theirs; then all are given
+/// back. Answers how many were out at once.
+#[cycle(take_all)]
+fn take_all<M: Naming>(rt: &impl Wait, shared: &Shared<M>, seats: &mut Vec<ActorSeat>) -> u64
+    requires { All (λ s. s.table ≡ M.table) seats.old.items }
+{
+    let Some(seat) = last_seat::<M>(seats) else {
+        return 0;
+    };
+    let (seat, taken) = shared.take(rt, seat);
+    match taken {
+        Ok(loan) => {
+            let others = take_all(rt, shared, seats);
+            let _seat = shared.give(rt, seat, loan);
+            others.saturating_add(1)
+        }
+        Err(_) => take_all(rt, shared, seats),
+    }
+}
+
+fn all_out<M: Naming>(rt: &impl Wait, blank: Blank, mut seats: Vec<ActorSeat>) -> (u64, usize)
+    requires table { blank.table ≡ M.table }
+    requires boot { blank.boot ≡ M.boot }
+    requires tables { All (λ s. s.table ≡ M.table) seats.items }
+{
+    let shared: Shared<M> = blank.open();
+    let out = take_all(rt, &shared, &mut seats);
+    let kernel = shared.into_kernel(Vec::new(*seats.allocator()));
+    (out, kernel.history().len())
+}
+
+#[test]
+fn eight_at_once(rt: HostRuntime) -> Result<(), Fail> {
+    let mut services = services(rt.alloc(), 8, 0)?;
+    let config = config(rt.alloc(), 8, 64, 0)?;
+    let (blank, seats) = boot(rt.alloc(), &config, &mut services).map_err(|_| "memory")?;
+    let told = all_out::<Brand>(&rt, blank, seats);
+    assert!(rt; told == (8, 16));
+    Ok(())
+}
+
+/// What is done with a loan while it is out.
+#[derive(Clone, Copy)]
+enum Meanwhile {
+    /// Another actor kills its process.
+    Kill,
+    /// A debugger resumes it, up to a breakpoint at the second instruction.
+    Resume,
+}
+
+static KILLED: [(u8, Recorded); 3] = [
+    (0, Recorded::Take),
+    (1, Recorded::Kill(0)),
+    (0, Recorded::Back(0)),
+];
+
+static RESUMED: [(u8, Recorded); 2] = [(0, Recorded::Take), (0, Recorded::Back(1))];
+
+/// The state of the process in slot 0.
+fn state(kernel: &Kernel) -> Option<State> {
+    let table = kernel.table();
+    if table.used() == 0 {
+        return None;
+    }
+    Some(table.process(0).state)
+}
+
+/// Whether the history and slot 0 show what was done.
+fn shows(kernel: &Kernel, meanwhile: Meanwhile) -> bool {
+    let (history, wanted) = match meanwhile {
+        Meanwhile::Kill => (KILLED.as_slice(), State::Down(Death::Kill)),
+        Meanwhile::Resume => (RESUMED.as_slice(), State::Ready),
+    };
+    is_history(kernel.history(), history) && state(kernel) == Some(wanted)
+}
+
+fn lent_and_given<M: Naming>(
+    rt: &impl Wait,
+    blank: Blank,
+    mut seats: Vec<ActorSeat>,
+    meanwhile: Meanwhile,
+) -> bool
+    requires table { blank.table ≡ M.table }
+    requires boot { blank.boot ≡ M.boot }
+    requires tables { All (λ s. s.table ≡ M.table) seats.items }
+{
+    let shared: Shared<M> = blank.open();
+    let others = last_seat::<M>(&mut seats);
+    let processors = last_seat::<M>(&mut seats);
+    let (Some(other), Some(processor)) = (others, processors) else {
+        let _kernel = shared.into_kernel(seats);
+        return false;
+    };
+    let (processor, taken) = shared.take(rt, processor);
+    let mut loan = match taken {
+        Ok(loan) => loan,
+        Err(_) => {
+            let _kernel = shared.into_kernel(seats);
+            return false;
+        }
+    };
+    let answered = match meanwhile {
+        Meanwhile::Kill => shared.kill(rt, other, 0).1 == Ok(Answer::Done),
+        Meanwhile::Resume => {
+            let mut debugger = Debugger::new();
+            debugger.add(0, 5).is_ok()
+                && debugger.resume(0, &mut loan, 9)
+                    == (Halt {
+                        count: 1,
+                        cause: DeathCause::Breakpoint,
+                    })
+        }
+    };
+    let _processor = shared.give(rt, processor, loan);
+    let kernel = shared.into_kernel(seats);
+    answered && shows(&kernel, meanwhile)
+}
+
+#[test]
+fn what_happens_meanwhile(rt: HostRuntime) -> Result<(), Fail> {
+    for meanwhile in [Meanwhile::Kill, Meanwhile::Resume] {
+        let mut services = services(rt.alloc(), 1, 0)?;
+        let config = config(rt.alloc(), 1, 8, 0)?;
+        let (blank, seats) = boot(rt.alloc(), &config, &mut services).map_err(|_| "memory")?;
+        assert!(rt; lent_and_given::<Brand>(&rt, blank, seats, meanwhile));
+    }
+    Ok(())
+}

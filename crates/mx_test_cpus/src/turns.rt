@@ -1,0 +1,287 @@
+//! Calls of a processor's seat and of another's, in turn, from one thread.
+
+ghost use Rattle.std.specs.Prelude.{◌≡◌, All};
+
+use crate::machine::{config, is_history, last_seat, services};
+use mx_cpus::{ActorSeat, Blank, Naming, Shared, boot};
+use mx_machine_world::{Answer, Held, Recorded, Refusal};
+use std::marker::Brand;
+use std::process::Abort;
+use std::sync::Wait;
+use std::test::Fail;
+
+/// A call. What is taken is run for some steps and given back.
+#[derive(Clone, Copy)]
+enum Call {
+    Take { steps: u32 },
+    Line(u32),
+    Tick,
+    Kill(u32),
+    Respawn(u32),
+    AtRest,
+}
+
+/// What a call answers: of a loan its budget and the steps that it counts.
+#[derive(Clone, Copy, PartialEq, Eq)]
+enum Told {
+    Done(Answer),
+    Refused(Refusal),
+    Lent { budget: u32, count: u32 },
+    Rest(bool),
+}
+
+/// Who calls.
+#[derive(Clone, Copy, PartialEq, Eq)]
+enum Caller {
+    Processor,
+    Other,
+}
+
+struct Turn(Caller, Call, Told);
+
+/// A machine of one service on one processor, with one other actor, and the history at the end.
+struct Row {
+    log: u32,
+    restarts: u32,
+    turns: &'static [Turn],
+    history: &'static [(u8, Recorded)],
+}
+
+/// The actors.
+const PROCESSOR: u8 = 0;
+
+const OTHER: u8 = 1;
+
+static ROWS: [Row; 4] = [
+    // A kill, a respawn, and a loan that is given back after no step.
+    Row {
+        log: 8,
+        restarts: 1,
+        turns: &[
+            Turn(Caller::Other, Call::Kill(0), Told::Done(Answer::Done)),
+            Turn(
+                Caller::Processor,
+                Call::Take { steps: 0 },
+                Told::Refused(Refusal::NoProcess),
+            ),
+            Turn(Caller::Processor, Call::AtRest, Told::Rest(false)),
+            Turn(
+                Caller::Other,
+                Call::Respawn(0),
+                Told::Done(Answer::Respawned(1024)),
+            ),
+            Turn(
+                Caller::Processor,
+                Call::Take { steps: 0 },
+                Told::Lent {
+                    budget: 5,
+                    count: 0,
+                },
+            ),
+            Turn(Caller::Other, Call::Kill(1024), Told::Done(Answer::Done)),
+            Turn(Caller::Processor, Call::AtRest, Told::Rest(true)),
+        ],
+        history: &[
+            (OTHER, Recorded::Kill(0)),
+            (OTHER, Recorded::Respawn(0)),
+            (PROCESSOR, Recorded::Take),
+            (PROCESSOR, Recorded::Back(0)),
+            (OTHER, Recorded::Kill(1024)),
+        ],
+    },
+    // Three steps up to the trap that is no call, and one to the end of the text.
+    Row {
+        log: 8,
+        restarts: 0,
+        turns: &[
+            Turn(
+                Caller::Processor,
+                Call::Take { steps: 9 },
+                Told::Lent {
+                    budget: 5,
+                    count: 3,
+                },
+            ),
+            Turn(
+                Caller::Processor,
+                Call::Take { steps: 9 },
+                Told::Lent {
+                    budget: 2,
+                    count: 1,
+                },
+            ),
+            Turn(
+                Caller::Processor,
+                Call::Take { steps: 9 },
+                Told::Refused(Refusal::NoProcess),
+            ),
+            Turn(Caller::Processor, Call::AtRest, Told::Rest(true)),
+        ],
+        history: &[
+            (PROCESSOR, Recorded::Take),
+            (PROCESSOR, Recorded::Back(3)),
+            (PROCESSOR, Recorded::Take),
+            (PROCESSOR, Recorded::Back(1)),
+        ],
+    },
+    // What is refused.
+    Row {
+        log: 8,
+        restarts: 0,
+        turns: &[
+            Turn(
+                Caller::Other,
+                Call::Respawn(0),
+                Told::Refused(Refusal::NotDown),
+            ),
+            Turn(
+                Caller::Other,
+                Call::Respawn(5),
+                Told::Refused(Refusal::NoService),
+            ),
+            Turn(Caller::Other, Call::Line(3), Told::Refused(Refusal::NoLine)),
+            Turn(
+                Caller::Other,
+                Call::Take { steps: 0 },
+                Told::Refused(Refusal::CpuBusy),
+            ),
+            Turn(Caller::Other, Call::Tick, Told::Done(Answer::Done)),
+            Turn(Caller::Other, Call::Kill(0), Told::Done(Answer::Done)),
+            Turn(
+                Caller::Other,
+                Call::Kill(0),
+                Told::Refused(Refusal::NoProcess),
+            ),
+            Turn(
+                Caller::Other,
+                Call::Respawn(0),
+                Told::Refused(Refusal::Worn),
+            ),
+        ],
+        history: &[(OTHER, Recorded::Tick), (OTHER, Recorded::Kill(0))],
+    },
+    // A history that has room for two records.
+    Row {
+        log: 2,
+        restarts: 0,
+        turns: &[
+            Turn(
+                Caller::Processor,
+                Call::Take { steps: 0 },
+                Told::Lent {
+                    budget: 5,
+                    count: 0,
+                },
+            ),
+            Turn(Caller::Other, Call::Tick, Told::Refused(Refusal::LogFull)),
+            Turn(Caller::Processor, Call::AtRest, Told::Rest(false)),
+        ],
+        history: &[(PROCESSOR, Recorded::Take), (PROCESSOR, Recorded::Back(0))],
+    },
+];
+
+fn told_of(answer: Result<Answer, Refusal>) -> Told {
+    match answer {
+        Ok(answer) => Told::Done(answer),
+        Err(refusal) => Told::Refused(refusal),
+    }
+}
+
+/// Takes, runs for some steps, and gives back.
+fn out_and_back<M: Naming>(
+    rt: &impl Wait,
+    shared: &Shared<M>,
+    seat: ActorSeat,
+    steps: u32,
+) -> (ActorSeat, Told)
+    requires { seat.table ≡ M.table }
+    ensures { result.0.table ≡ seat.table }
+{
+    let (seat, taken) = shared.take(rt, seat);
+    let mut loan = match taken {
+        Ok(loan) => loan,
+        Err(refusal) => return (seat, Told::Refused(refusal)),
+    };
+    let _stop = loan.run(steps);
+    let (budget, count) = (loan.budget(), loan.count());
+    (shared.give(rt, seat, loan), Told::Lent { budget, count })
+}
+
+fn make_call<M: Naming>(
+    rt: &impl Wait,
+    shared: &Shared<M>,
+    seat: ActorSeat,
+    call: Call,
+) -> (ActorSeat, Told)
+    requires { seat.table ≡ M.table }
+    ensures { result.0.table ≡ seat.table }
+{
+    let (seat, answer) = match call {
+        Call::Take { steps } => return out_and_back(rt, shared, seat, steps),
+        Call::AtRest => {
+            let (seat, rest) = shared.at_rest(rt, seat);
+            return (seat, Told::Rest(rest));
+        }
+        Call::Line(line) => shared.line(rt, seat, line),
+        Call::Tick => shared.tick(rt, seat),
+        Call::Kill(endpoint) => shared.kill(rt, seat, endpoint),
+        Call::Respawn(slot) => shared.respawn(rt, seat, slot),
+    };
+    (seat, told_of(answer))
+}
+
+/// Which turn is answered otherwise than the row wants, or whether the history is another.
+fn first_other<M: Naming>(
+    rt: &impl Wait,
+    blank: Blank,
+    mut seats: Vec<ActorSeat>,
+    row: &Row,
+) -> Option<usize>
+    requires table { blank.table ≡ M.table }
+    requires boot { blank.boot ≡ M.boot }
+    requires tables { All (λ s. s.table ≡ M.table) seats.items }
+{
+    let shared: Shared<M> = blank.open();
+    let others = last_seat::<M>(&mut seats);
+    let processors = last_seat::<M>(&mut seats);
+    let (Some(mut other), Some(mut processor)) = (others, processors) else {
+        let _kernel = shared.into_kernel(seats);
+        return Some(0);
+    };
+    let mut found = None;
+    for (number, turn) in row.turns.iter().enumerate() {
+        let told = if turn.0 == Caller::Other {
+            let (seat, told) = make_call(rt, &shared, other, turn.1);
+            other = seat;
+            told
+        } else {
+            let (seat, told) = make_call(rt, &shared, processor, turn.1);
+            processor = seat;
+            told
+        };
+        if told != turn.2 && found.is_none() {
+            found = Some(number);
+        }
+    }
+    let kernel = shared.into_kernel(seats);
+    if !is_history(kernel.history(), row.history) && found.is_none() {
+        found = Some(row.turns.len());
+    }
+    found
+}
+
+#[test]
+fn calls_in_turn(rt: HostRuntime) -> Result<(), Fail> {
+    for (number, row) in ROWS.iter().enumerate() {
+        assert!(rt;
+            0 < row.log && row.log <= 64 && row.restarts <= 1,
+            "row {number}"
+        );
+        let mut services = services(rt.alloc(), 1, row.restarts)?;
+        let config = config(rt.alloc(), 1, row.log, row.restarts)?;
+        let (blank, seats) = boot(rt.alloc(), &config, &mut services).map_err(|_| "memory")?;
+        let fault = first_other::<Brand>(&rt, blank, seats, row);
+        assert!(rt; fault.is_none(), "row {number}");
+    }
+    Ok(())
+}
