@@ -11,7 +11,7 @@ loop-pair-preserved c =
     record {
       answers = next-answers (world_of c.args.self.now) (world_of c.loop-pair.self) (world_of c.apply-answer.new.self) _ _ _ c.apply-answer.result c.loop-pair.answers.items c.reserve.new.self.items c.add.new.answers.items more inv.world c.apply-answer.ensures.moved inv.answers c.add.ensures.items;
       world = next-world (world_of c.args.self.now) (world_of c.loop-pair.self) (world_of c.apply-answer.new.self) _ _ _ c.apply-answer.result more inv.world c.apply-answer.ensures.moved;
-      kept = next-kept (world_of c.args.self.now) (world_of c.loop-pair.self) (world_of c.apply-answer.new.self) c.args.self.now.kernel c.loop-pair.self.kernel c.apply-answer.new.self.kernel _ _ _ c.apply-answer.result more inv.world c.apply-answer.ensures.moved inv.kept c.apply-answer.ensures.recorded;
       room = omega (arith, inv.room, c.add.ensures.len, c.add.ensures.room, c.loop-pair-test.true, length-drop c.loop-pair.pair-index c.args.events.now, length-drop (c.loop-pair.pair-index + 1) c.args.events.now);
+      kept = next-kept (world_of c.args.self.now) (world_of c.loop-pair.self) (world_of c.apply-answer.new.self) c.args.self.now.kernel c.loop-pair.self.kernel c.apply-answer.new.self.kernel _ _ _ c.apply-answer.result more inv.world c.apply-answer.ensures.moved inv.kept c.apply-answer.ensures.recorded;
       as_many = c.apply-answer.ensures.actors ∙ inv.as_many;
     }
