@@ -130,7 +130,7 @@ boot_holds ss cpus capacity fits = record {
   lent = λ s n h. absurd (each_first (λ p. loan_of p ≡ Some n → ⊥) (λ v e. cc) (λ e. cc) ss s h);
   apart = λ a b x y h k same. let z = none_at Lease cpus a in cc;
   served = sym (length-map ss first_process);
-  image_of_program = λ s v h home. subst (λ (p : Process). IsLoadedFrom p.image v.program) (sym (first-at ss s v h)) (loaded_from v.program);
+  loaded = λ s v h home. subst (λ (p : Process). IsLoadedFrom p.image v.program) (sym (first-at ss s v h)) (loaded_from v.program);
 }
 
 no_lease : (n : ℕ) → map lease_of (replicate n None) ≡ replicate n None
