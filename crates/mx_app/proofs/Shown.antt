@@ -1,13 +1,12 @@
 -- What comes of a program's file, or of a text, that is read.
-use Rattle.std.proofs.Common.{◌≡◌, ◌≢◌, ◌++◌, ℕ, List, [], ◌∷◌, Result, Ok, Err, OnOk, inl, inr, ap, refl, subst, sym}
+use Rattle.std.proofs.Common.{◌≡◌, ℕ, List, Result, Ok, Err, OnOk, inr, ap, refl, subst, sym}
 use Rattle.std.specs.Prelude.{IsErrAnd}
 use Rattle.std.specs.declared.io.ErrorKind.{ErrorKind}
-use Rattle.std.proofs.lemmas.List.{append-nil}
 use Rattle.mx_aout.specs.File.{refusal_of}
 use Rattle.mx_app_failure.specs.declared.failure.Failure.{Failure as Kind}
 use Rattle.mx_app_failure.specs.Failure.{Tells, failure_of_kind}
 use Rattle.mx_app_program.specs.Assembling.{IsAssembledFile, TellsText}
-use Rattle.mx_app_start.specs.Asked.{Asked, file_given, file_missed}
+use Rattle.mx_app_start.specs.Asked.{file_given, file_missed}
 use Rattle.mx_app.specs.Named.{IsMissing, ShowsFile}
 
 pub missing : (name : List ℕ) (kind : ErrorKind) (r : Result (Unit {0}) Kind) → IsErrAnd r (λ f. f ≡ failure_of_kind kind) → IsMissing name (file_missed name kind) r
