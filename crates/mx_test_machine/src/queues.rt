@@ -101,7 +101,7 @@ fn revive(rt: &impl Abort, table: &mut Table, slot: Slot) {
     let process = Process {
         state: State::Ready,
         generation: generation + 1,
-        restarts: 0,
+        restarts_used: 0,
         masks: MASKS,
         level: 7,
         best: 5,
