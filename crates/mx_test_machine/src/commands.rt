@@ -329,7 +329,7 @@ fn commands_broken(rt: HostRuntime) -> Result<(), Fail> {
     Ok(())
 }
 
-/// A subcommand's help ends with the example of this subcommand.
+/// A subcommand's help ends with the example and the statuses of this subcommand.
 #[test]
 fn helps(rt: HostRuntime) -> Result<(), Fail> {
     for (words, ending) in HELPS {
@@ -338,14 +338,65 @@ fn helps(rt: HostRuntime) -> Result<(), Fail> {
     Ok(())
 }
 
-const HELPS: [(&[&str], &str); 5] = [
-    (&["mx", "--help"], "  -h, --help  Print help\n"),
-    (&["mx", "as", "--help"], ".entry start\n"),
-    (&["mx", "step", "--help"], "\nrespawn 1\n"),
-    (&["mx", "replay", "--help"], "see mx step --help.\n"),
+const HELPS: [(&[&str], &str); 9] = [
+    (&["mx", "--help"], "  -V, --version  Print version\n"),
+    (&["mx", "--version"], "mx 0.1\n"),
+    (
+        &["mx", "one", "--help"],
+        "stop trap after 3
+
+Status: 0 done, also if the program faults; 1 FILE is refused; 2 a mistake in the
+words; 3 FILE can't be read; 4 no memory. Formats: docs/REFERENCE.md.
+",
+    ),
+    (
+        &["mx", "as", "--help"],
+        ".entry start
+
+Status: 0 done; 1 TEXT has a fault, and FILE is as it was; 2 a mistake in the words;
+3 a file can't be read or written; 4 no memory. Formats: docs/REFERENCE.md.
+",
+    ),
+    (
+        &["mx", "dis", "--help"],
+        "0000000d int 0x21
+
+Status: 0 done; 1 FILE is refused; 2 a mistake in the words; 3 FILE can't be read;
+4 no memory. Formats: docs/REFERENCE.md.
+",
+    ),
+    (
+        &["mx", "nm", "--help"],
+        "A program without labels has no symbols, and nothing is printed.
+
+Status: 0 done; 1 FILE is refused; 2 a mistake in the words; 3 FILE can't be read;
+4 no memory. Formats: docs/REFERENCE.md.
+",
+    ),
+    (
+        &["mx", "step", "--help"],
+        "respawn 0
+
+Status: 0 done, also if lines were refused; 1 a text or a program's file is refused;
+2 a mistake in the words; 3 a file can't be read; 4 no memory. Formats:
+docs/REFERENCE.md.
+",
+    ),
+    (
+        &["mx", "replay", "--help"],
+        "Status: 0 done; 1 a text or a program's file is refused, or an event, which is told
+by its line; 2 a mistake in the words; 3 a file can't be read; 4 no memory. Formats:
+docs/REFERENCE.md.
+",
+    ),
     (
         &["mx", "db", "--help"],
-        "All lines of mx step's scripts may stand here too.\n",
+        "decimal here, and hexadecimal in listings.
+
+Status: 0 done, also if lines were refused; 1 a text or a program's file is refused;
+2 a mistake in the words; 3 a file can't be read; 4 no memory. Formats:
+docs/REFERENCE.md.
+",
     ),
 ];
 
