@@ -4,10 +4,10 @@ ghost use Rattle.std.specs.Prelude.{◌≡◌, ◌<◌, All, length};
 
 use crate::machine::{config, is_history, last_seat, services};
 use mx_cpus::{ActorSeat, Blank, Naming, Shared, boot};
-use mx_debug::{DeathCause, Debugger, Halt};
+use mx_debug::{Debugger, Halt, HaltCause};
 use mx_machine_kernel::Kernel;
 use mx_machine_world::{Answer, Recorded};
-use mx_proc::{DeathCause as Death, State};
+use mx_proc::{DeathCause, State};
 use std::marker::Brand;
 use std::process::Abort;
 use std::sync::Wait;
@@ -83,7 +83,7 @@ fn state(kernel: &Kernel) -> Option<State> {
 /// Whether the history and slot 0 show what was done.
 fn shows(kernel: &Kernel, meanwhile: Meanwhile) -> bool {
     let (history, wanted) = match meanwhile {
-        Meanwhile::Kill => (KILLED.as_slice(), State::Down(Death::Kill)),
+        Meanwhile::Kill => (KILLED.as_slice(), State::Down(DeathCause::Kill)),
         Meanwhile::Resume => (RESUMED.as_slice(), State::Ready),
     };
     is_history(kernel.history(), history) && state(kernel) == Some(wanted)
@@ -122,7 +122,7 @@ fn lent_and_given<M: Naming>(
                 && debugger.resume(0, &mut loan, 9)
                     == (Halt {
                         count: 1,
-                        cause: DeathCause::Breakpoint,
+                        cause: HaltCause::Breakpoint,
                     })
         }
     };
