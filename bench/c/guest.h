@@ -13,6 +13,9 @@ enum wrong { WRONG_RESULT = 1, NO_ROOM = 2 };
 #define ALWAYS_INLINE static inline __attribute__((always_inline))
 #define OWN_FUNCTION __attribute__((noinline))
 
+/* A word of 32 bits among bytes, at any address. */
+typedef uint32_t word_among_bytes __attribute__((may_alias, aligned(1)));
+
 static uint32_t chance_state = 2463534242u;
 
 /* The next number by chance: three shifts, which pass through all numbers but 0. */

@@ -50,7 +50,7 @@ ALWAYS_INLINE int is_digit(char character)
 /* What may come next in a text that is looked at without a tree. */
 enum next { VALUE, VALUE_OR_END, KEY, KEY_OR_END, COLON, COMMA_OR_END, END };
 
-/* Behind a string whose first quotation mark was read, or NULL. */
+/* What follows a string whose first quotation mark was read, or NULL. */
 ALWAYS_INLINE const char *string_end(const char *at)
 {
     while (*at != '"') {
@@ -62,10 +62,11 @@ ALWAYS_INLINE const char *string_end(const char *at)
     return at + 1;
 }
 
-/* Behind a number or a word whose first character was read. */
+/* What follows a number or a word whose first character was read. */
 ALWAYS_INLINE const char *plain_end(const char *at)
 {
-    while (is_digit(*at) || (*at >= 'a' && *at <= 'z') || *at == '.' || *at == '-' || *at == '+' || *at == 'E')
+    while (is_digit(*at) || (*at >= 'a' && *at <= 'z') || *at == '.' || *at == '-' || *at == '+' ||
+           *at == 'E')
         at++;
     return at;
 }
@@ -211,7 +212,7 @@ static OWN_FUNCTION char *read_escape(reader *it, char *to)
     return put_character(to, 0x10000 + ((unit - 0xd800) << 10) + (other - 0xdc00));
 }
 
-/* A string behind its first quotation mark. */
+/* A string from after its first quotation mark on. */
 ALWAYS_INLINE const char *read_characters(reader *it, uint32_t *length)
 {
     char *first = it->to->characters + it->to->character_count;
@@ -306,6 +307,24 @@ ALWAYS_INLINE void add_digit(node *value, uint32_t *count, char digit, int is_fr
     }
 }
 
+/* The power of ten that a number ends with, from its `e` on. */
+ALWAYS_INLINE int read_power(reader *it, node *value)
+{
+    int is_small;
+    int32_t power = 0;
+
+    it->at++;
+    is_small = *it->at == '-';
+    if (*it->at == '-' || *it->at == '+')
+        it->at++;
+    if (!is_digit(*it->at))
+        return 0;
+    while (is_digit(*it->at) && power < 10000)
+        power = power * 10 + (*it->at++ - '0');
+    value->power += is_small ? -power : power;
+    return 1;
+}
+
 static OWN_FUNCTION int read_number(reader *it, node *value)
 {
     int is_negative = *it->at == '-';
@@ -329,20 +348,8 @@ static OWN_FUNCTION int read_number(reader *it, node *value)
         while (is_digit(*it->at))
             add_digit(value, &count, *it->at++, 1);
     }
-    if (*it->at == 'e' || *it->at == 'E') {
-        int is_small;
-        int32_t power = 0;
-
-        it->at++;
-        is_small = *it->at == '-';
-        if (*it->at == '-' || *it->at == '+')
-            it->at++;
-        if (!is_digit(*it->at))
-            return 0;
-        while (is_digit(*it->at) && power < 10000)
-            power = power * 10 + (*it->at++ - '0');
-        value->power += is_small ? -power : power;
-    }
+    if ((*it->at == 'e' || *it->at == 'E') && !read_power(it, value))
+        return 0;
     while (value->digits != 0 && value->digits % 10 == 0) {      /* one form of each number */
         value->digits /= 10;
         value->power++;
@@ -606,7 +613,7 @@ static int write_text(const node *value, int is_wide)
     return it.at < it.end;
 }
 
-/* The value at a path: names of members, and numbers for lists, each behind a slash. */
+/* The value at a path: names of members, and numbers for lists, each after a slash. */
 static OWN_FUNCTION const node *value_at(const node *value, const char *path)
 {
     while (value != NULL && *path == '/') {
@@ -746,7 +753,9 @@ int main(void)
 
         make_source(ENTRIES);
         value = read_text(source, &trees[0]);
-        if (value == NULL || !is_well_formed(source) || !is_read_again(value, 0) || !is_read_again(value, 1))
+        if (value == NULL || !is_well_formed(source))
+            return WRONG_RESULT;
+        if (!is_read_again(value, 0) || !is_read_again(value, 1))
             return WRONG_RESULT;
         sum = sum_of(sum, value);
         sum = look_up(sum, value, ENTRIES);

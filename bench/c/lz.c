@@ -174,12 +174,17 @@ ALWAYS_INLINE void keep_place(uint32_t at)
     last[hash] = at + 1;
 }
 
+ALWAYS_INLINE uint32_t word_at(uint32_t at)
+{
+    return *(const word_among_bytes *)(text + at);
+}
+
 /* How many bytes are the same, four at a time as long as that goes. */
 ALWAYS_INLINE uint32_t same_bytes(uint32_t one, uint32_t other, uint32_t most)
 {
     uint32_t count = 0;
 
-    while (count + 4 <= most && *(uint32_t *)(text + one + count) == *(uint32_t *)(text + other + count))
+    while (count + 4 <= most && word_at(one + count) == word_at(other + count))
         count += 4;
     while (count < most && text[one + count] == text[other + count])
         count++;

@@ -52,7 +52,7 @@ ALWAYS_INLINE uint32_t hash_by_words(const char *string, uint32_t length)
     uint32_t hash = length * 2654435761u;
 
     for (; length >= 4; length -= 4, string += 4)
-        hash = sum_with(hash, *(const uint32_t *)string);
+        hash = sum_with(hash, *(const word_among_bytes *)string);
     for (; length > 0; length--, string++)
         hash = sum_with(hash, (unsigned char)*string);
     return hash;
