@@ -71,16 +71,16 @@ take_below w a h = omega (arith, (can_take w a h).below, length-map w.cpus out_o
 pub take_empty : (w : World) (a : ℕ) → event_refusal w a events.Take ≡ None → lent_to (outs_of w) a ≡ None
 take_empty w a h = out_at w.cpus a ∙ ap out_of_lent (can_take w a h).empty
 
-world_after_take : (w : World) (a s : ℕ) → first_ready w.table.ready ≡ Some s → world_after_event w a events.Take ≡ with_held (world_with_record w (table_after_sending_out w.table s)) a (Some (held_at_take w.table s))
+taken_by_first : (w : World) (a s : ℕ) → first_ready w.table.ready ≡ Some s → world_after_event w a events.Take ≡ with_held (world_with_record w (table_after_sending_out w.table s)) a (Some (held_at_take w.table s))
 unfolding world_after_event
-world_after_take w a s h = ap (λ p. world_after_take w a p) h
+taken_by_first w a s h = ap (λ p. world_after_take w a p) h
 
 -- what is lent then is lent by the desk
 pub take_outs : (w u : World) (a : ℕ) (o : Out) → event_refusal w a events.Take ≡ None → u ≡ world_after_event w a events.Take → (l : HeldProcess) × (held_by u a ≡ Some l) × (l.out ≡ o) → outs_of u ≡ slice_set (outs_of w) a (Some o)
 take_outs w u a o h is lends =
     let c = can_take w a h in
     let l : HeldProcess = held_at_take w.table c.first.0 in
-    let e = is ∙ world_after_take w a c.first.0 c.first.1 in
+    let e = is ∙ taken_by_first w a c.first.0 c.first.1 in
     let at : held_by u a ≡ Some l = ap (λ x. held_by x a) e ∙ get_or-set_same w.cpus a (Some l) None c.below in
     let same : Some l ≡ Some lends.0 = sym at ∙ lends.1 in
     let same : l ≡ lends.0 = cc in
