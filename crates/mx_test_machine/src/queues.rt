@@ -276,7 +276,8 @@ impl Plain {
     /// A process that has ticks left goes on, in front of its level.
     fn go_on(&mut self, slot: Slot) -> Result<(), Fail> {
         self.set_state(slot, State::Ready);
-        self.ready.insert(0, (self.level(slot), slot))?;
+        let level = self.level(slot);
+        self.ready.insert(0, (level, slot))?;
         Ok(())
     }
 
