@@ -406,23 +406,31 @@ struct Numbers {
 }
 
 impl Numbers {
-    /// The next number below a bound.
-    fn below(&mut self, bound: u32) -> u32 {
+    /// The next number, of 24 bits.
+    fn next(&mut self) -> u32 {
         self.last = self
             .last
             .wrapping_mul(1_664_525)
             .wrapping_add(1_013_904_223);
-        if bound == 0 {
-            0
-        } else {
-            (self.last >> 8) % bound
-        }
+        self.last >> 8
+    }
+
+    /// The next number below a bound.
+    fn below(&mut self, bound: u32) -> u32 {
+        let number = self.next();
+        if bound == 0 { 0 } else { number % bound }
+    }
+
+    /// The next of 32 slots.
+    fn slot(&mut self) -> Slot {
+        let number = self.next();
+        (number % 32) as u8
     }
 }
 
 /// What a ready process does.
 fn deed_of_ready(numbers: &mut Numbers) -> Deed {
-    let other = numbers.below(32) as u8;
+    let other = numbers.slot();
     match numbers.below(16) {
         0..=4 => Deed::Send(other),
         5..=8 => Deed::Ask(other),
@@ -436,7 +444,7 @@ fn deed_of_ready(numbers: &mut Numbers) -> Deed {
 /// The next event: of a slot that a number tells, or of who is picked if that one waits; now and then,
 /// and if nobody is ready, who waits is killed.
 fn next_event(plain: &Plain, numbers: &mut Numbers) -> (Slot, Deed) {
-    let slot = numbers.below(32) as u8;
+    let slot = numbers.slot();
     let is_killed = numbers.below(24) == 0;
     match plain.state(slot) {
         State::Down(_) => (slot, Deed::Revive),
@@ -480,7 +488,7 @@ fn against_plain_lists(rt: HostRuntime) -> Result<(), Fail> {
         let (slot, deed) = next_event(&plain, &mut numbers);
         perform(&rt, &mut table, slot, deed);
         plain.perform(slot, deed)?;
-        let other = numbers.below(32) as u8;
+        let other = numbers.slot();
         assert!(rt; are_alike(&rt, &table, &plain, other), "event {number}");
     }
     Ok(())
