@@ -1,6 +1,7 @@
 pub mod ListLemmas
 pub mod WaitLemmas
 pub mod ChainLemmas
+pub mod WayLemmas
 pub mod LinkLemmas
 pub mod ReadyLemmas
 pub mod CallerLemmas

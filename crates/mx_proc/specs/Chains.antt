@@ -1,5 +1,5 @@
 -- Lists of slots that are linked by index. Where no slot is, 255 stands.
-use Rattle.std.specs.Prelude.{ℕ, zero, suc, ◌≡◌, ◌<◌, ◌≤◌, ◌==◌, List, [], ◌∷◌, ◌++◌, length, map, slice_index, slice_set, slice_index_or, if◌then◌else◌}
+use Rattle.std.specs.Prelude.{ℕ, zero, suc, ◌≡◌, ◌<◌, ◌≤◌, ◌==◌, List, [], ◌∷◌, ◌++◌, length, map, slice_index, slice_set, slice_index_or, take, drop, if◌then◌else◌}
 use Rattle.mx_proc.specs.Queues.{list_at, times}
 
 -- from a place on, the links lead along these slots, and then to none
@@ -20,6 +20,15 @@ chains nexts firsts = map (λ at. chain (length nexts) nexts at) firsts
 abbrev pub turned : List ℕ → List ℕ
 turned [] = []
 turned (x ∷ xs) = turned xs ++ x ∷ []
+
+-- One way through lists, as it is seen: the slot that each list begins with, and the next of each slot.
+pub record WayState : Type 0 where
+  pub firsts : List ℕ
+  pub nexts : List ℕ
+
+-- in cells: at most 32 for the lists, and from the 32nd on one for each slot
+abbrev pub way_of : ℕ → List ℕ → WayState
+way_of count cells = record { firsts = take count cells; nexts = drop 32 cells }
 
 -- So many lists: the first of each with the links forward, and the last of each with the links backward,
 -- are those of these lists, and no slot stands twice.

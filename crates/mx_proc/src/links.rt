@@ -9,37 +9,84 @@ use std::marker::Model;
 /// Stands where no slot is.
 const NONE: u8 = 255;
 
-/// One way through the lists: the slot that each begins with, and the next of each slot.
+/// Where the slots' cells begin.
+const SLOTS: usize = 32;
+
+/// One way through the lists: the slot that each begins with, and the next of each slot. Of the cells
+/// the first are the lists', and from `SLOTS` on stand the slots', so that one write changes either.
 #[derive(Drop)]
 struct Way<const LISTS: usize> {
-    firsts: [u8; LISTS],
-    nexts: [u8; 32],
+    cells: [u8; 64],
+}
+
+impl<const LISTS: usize> Model for Way<LISTS> {
+    ghost use Rattle.std.specs.Prelude.{◌≤◌};
+    ghost use Rattle.mx_proc.specs.Chains.{WayState, way_of};
+
+    ghost Value = { WayState };
+
+    ghost view = { λ w. way_of LISTS w.cells };
+
+    ghost invariant = { λ w. LISTS ≤ 32 };
 }
 
 impl<const LISTS: usize> Way<LISTS> {
     /// Empty lists.
     fn new() -> Way<LISTS>
+        requires lists { LISTS ≤ 32 }
         ensures firsts { result.firsts ≡ replicate LISTS 255 }
         ensures nexts { result.nexts ≡ replicate 32 255 }
     {
-        Way {
-            firsts: [NONE; LISTS],
-            nexts: [NONE; 32],
-        }
+        Way { cells: [NONE; 64] }
     }
 
-    /// The slot `after` comes behind `before`; if that is none, the list begins with `after`.
+    /// The slot that a list begins with.
+    fn first(&self, list: usize) -> u8
+        requires list { list < LISTS }
+        ensures { result ≡ slice_index self.now.firsts list }
+    {
+        self.cells[list]
+    }
+
+    /// The next of a slot.
+    fn next(&self, slot: u8) -> u8
+        requires slot { slot < 32 }
+        ensures { result ≡ slice_index self.now.nexts slot }
+    {
+        self.cells[SLOTS + slot as usize]
+    }
+
+    /// Sets the slot that a list begins with.
+    fn set_first(&mut self, list: usize, first: u8)
+        requires list { list < LISTS }
+        ensures firsts { self.new.firsts ≡ slice_set self.old.firsts list first }
+        ensures nexts { self.new.nexts ≡ self.old.nexts }
+    {
+        self.cells[list] = first;
+    }
+
+    /// Sets the next of a slot.
+    fn set_next(&mut self, slot: u8, next: u8)
+        requires slot { slot < 32 }
+        ensures firsts { self.new.firsts ≡ self.old.firsts }
+        ensures nexts { self.new.nexts ≡ slice_set self.old.nexts slot next }
+    {
+        self.cells[SLOTS + slot as usize] = next;
+    }
+
+    /// The slot `after` comes after `before`; if that is none, the list begins with `after`.
     fn lead(&mut self, list: usize, before: u8, after: u8)
         requires list { list < LISTS }
         requires before { before ≢ 255 → before < 32 }
         ensures firsts { self.new.firsts ≡ firsts_with self.old.firsts list before after }
         ensures nexts { self.new.nexts ≡ nexts_with self.old.nexts before after }
     {
-        if before == NONE {
-            self.firsts[list] = after;
+        let at = if before == NONE {
+            list
         } else {
-            self.nexts[before as usize] = after;
-        }
+            SLOTS + before as usize
+        };
+        self.cells[at] = after;
     }
 }
 
@@ -53,10 +100,10 @@ fn push<const LISTS: usize>(near: &mut Way<LISTS>, far: &mut Way<LISTS>, list: u
     ensures lasts { far.new.firsts ≡ firsts_with far.old.firsts list (slice_index near.old.firsts list) slot }
     ensures prevs { far.new.nexts ≡ nexts_with (slice_set far.old.nexts slot 255) (slice_index near.old.firsts list) slot }
 {
-    let first = near.firsts[list];
-    near.nexts[slot as usize] = first;
-    near.firsts[list] = slot;
-    far.nexts[slot as usize] = NONE;
+    let first = near.first(list);
+    near.set_next(slot, first);
+    near.set_first(list, slot);
+    far.set_next(slot, NONE);
     far.lead(list, first, slot);
 }
 
@@ -82,6 +129,7 @@ impl<const LISTS: usize> Model for Links<LISTS> {
 impl<const LISTS: usize> Links<LISTS> {
     /// Empty lists.
     pub fn new() -> Links<LISTS>
+        requires { LISTS ≤ 32 }
         ensures { result ≡ replicate LISTS [] }
     {
         Links {
@@ -95,7 +143,7 @@ impl<const LISTS: usize> Links<LISTS> {
         requires { list < LISTS }
         ensures { result ≡ slice_get (list_at self.now list) 0 }
     {
-        let first = self.forward.firsts[list];
+        let first = self.forward.first(list);
         if first == NONE { None } else { Some(first) }
     }
 
@@ -125,8 +173,8 @@ impl<const LISTS: usize> Links<LISTS> {
         requires there { 1 ≤ times slot (list_at self.old list) }
         ensures { self.new ≡ slice_set self.old list (without slot (list_at self.old list)) }
     {
-        let before = self.backward.nexts[slot as usize];
-        let after = self.forward.nexts[slot as usize];
+        let before = self.backward.next(slot);
+        let after = self.forward.next(slot);
         self.forward.lead(list, before, after);
         self.backward.lead(list, after, before);
     }
