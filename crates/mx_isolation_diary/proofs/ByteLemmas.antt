@@ -1,6 +1,27 @@
 -- What others leave of an image.
 use Rattle.std.proofs.Common.{◌≡◌, ◌∙◌, ℕ, ◌+◌, ◌-◌, ◌<◌, ◌≤◌, Bool, true, false, List, [], ◌∷◌, ◌++◌, length, take, drop, Option, Some, None, refl, sym, ap, subst, get_or, inl, inr, arith}
 use Rattle.std.proofs.lemmas.List.{get_or-take, get_or-drop, get_or_append_left, get_or-append_right, length-append, length-drop, length-take}
+use Rattle.std.proofs.Common.{◌≢◌, cond, not, ◌||◌, ◌%◌, get_or-set_other}
+use Rattle.std.specs.Option.{option_map}
+use Rattle.std.proofs.lemmas.Bool.{leb-true}
+use Rattle.mx_image.specs.declared.runs.Stop.{Stop}
+use Rattle.mx_image.specs.declared.runs.Stop.TheVariants.{Spent, Trap, Fault}
+use Rattle.mx_proc.specs.declared.errors.Errno.{Errno}
+use Rattle.mx_proc.specs.declared.errors.Errno.TheVariants.{Denied}
+use Rattle.mx_proc.specs.declared.process.Process.{Process}
+use Rattle.mx_proc.specs.TableState.{TableState, memory_at, nobody, table_after_move_home}
+use Rattle.mx_ipc.specs.Checks.{first_error, has_bit}
+use Rattle.mx_kcall.specs.declared.request.KernelCall.{KernelCall}
+use Rattle.mx_kcall.specs.declared.request.KernelCall.TheVariants.{Exit, Times, SetAlarm, Irqctl, Devio, Vircopy, Whois}
+use Rattle.mx_kcall.specs.declared.request.KernelCall.TheVariants as kernel_call
+use Rattle.mx_kcall.specs.Calls.{trap_answer}
+use Rattle.mx_kcall.specs.Refusals.{is_away, kernel_call_reasons, kernel_call_refusal, kernel_call_refusal_by}
+use Rattle.mx_kcall.specs.Requests.{kernel_call_of, message_words_at}
+use Rattle.mx_kcall.specs.TrapAnswer.{TrapAnswer}
+use Rattle.mx_kcall.specs.TrapAnswer.TheVariants as trap_ends
+use Rattle.mx_machine_world.specs.Move.{is_doomed, table_after_coming_home}
+use Rattle.mx_machine_world.specs.World.{HeldProcess, held_by}
+use Rattle.mx_isolation_diary.specs.Entries.{slot_on, copy_at_back, copy_at_end, copy_at_trap, copy_by, IsOutsideCopy}
 use Rattle.mx_exec.specs.declared.image.Image.{Image}
 use Rattle.mx_exec.specs.Image.{blank}
 use Rattle.mx_mem.specs.Segment.{with_bytes_at}
@@ -44,16 +65,16 @@ with_bytes_outside xs k ys i le (inr ge) =
 
 -- ---- items of others
 
--- a result or a short message, for who waits
-abbrev Mild : Type 0 → Item → Type 0
-Mild B Ran = ⊥
-Mild B (Result r) = B
-Mild B (Message bytes) = (length bytes ≤ 36) × B
-Mild B (Copy place bytes) = ⊥
+-- a result or a short message for who waits, or a copy
+abbrev Mild : Type 0 → (ℕ → List ℕ → Type 0) → Item → Type 0
+Mild B C Ran = ⊥
+Mild B C (Result r) = B
+Mild B C (Message bytes) = (length bytes ≤ 36) × B
+Mild B C (Copy place bytes) = C place bytes
 
-abbrev AllMild : Type 0 → List Item → Type 0
-AllMild B [] = Unit {0}
-AllMild B (x ∷ xs) = Mild B x × AllMild B xs
+abbrev AllMild : Type 0 → (ℕ → List ℕ → Type 0) → List Item → Type 0
+AllMild B C [] = Unit {0}
+AllMild B C (x ∷ xs) = Mild B C x × AllMild B C xs
 
 not_caller : (w : World) (a : ℕ) (e : Event) (s : ℕ) → IsOfOthers w a e s → caller_in w a e ≡ Some s → ⊥
 not_caller w a Step s n e = cc
@@ -67,62 +88,176 @@ not_caller w a (Respawn t) s n e = cc
 misses : (made : Option CopyMade) (s place : ℕ) (bytes : List ℕ) → MissesSlot s made → IsOfCopy made s place bytes → ⊥
 misses made s place bytes n h = subst (MissesSlot s) h.is_made n h.slot
 
-mild : (w : World) (a : ℕ) (e : Event) (s : ℕ) (x : Item) → IsOfOthers w a e s → MissesSlot s (copy_in w a e) → IsEntry w a e s x → Mild (is_blocked (process_at w.table s).state ≡ true) x
-mild w a e s Ran n m h = subst (λ k. IsOfOthers w a k s) h.0 n h.1
-mild w a e s (Result r) n m (inl h) = absurd (not_caller w a e s n h)
-mild w a e s (Result r) n m (inr h) = h
-mild w a e s (Message bytes) n m (k, inl h) = absurd (not_caller w a e s n h)
-mild w a e s (Message bytes) n m (k, inr h) = (k, receiving_blocked (process_at w.table s).state h)
-mild w a e s (Copy place bytes) n m h = misses (copy_in w a e) s place bytes m h
+mild : (w : World) (a : ℕ) (e : Event) (s : ℕ) (x : Item) → IsOfOthers w a e s → IsEntry w a e s x → Mild (is_blocked (process_at w.table s).state ≡ true) (IsOfCopy (copy_in w a e) s) x
+mild w a e s Ran n h = subst (λ k. IsOfOthers w a k s) h.0 n h.1
+mild w a e s (Result r) n (inl h) = absurd (not_caller w a e s n h)
+mild w a e s (Result r) n (inr h) = h
+mild w a e s (Message bytes) n (k, inl h) = absurd (not_caller w a e s n h)
+mild w a e s (Message bytes) n (k, inr h) = (k, receiving_blocked (process_at w.table s).state h)
+mild w a e s (Copy place bytes) n h = h
 
-all_mild : (w : World) (a : ℕ) (e : Event) (s : ℕ) (xs : List Item) → IsOfOthers w a e s → MissesSlot s (copy_in w a e) → AreEntries w a e s xs → AllMild (is_blocked (process_at w.table s).state ≡ true) xs
-all_mild w a e s [] n m h = tt
-all_mild w a e s (x ∷ xs) n m h = (mild w a e s x n m h.0, all_mild w a e s xs n m h.1)
+all_mild : (w : World) (a : ℕ) (e : Event) (s : ℕ) (xs : List Item) → IsOfOthers w a e s → AreEntries w a e s xs → AllMild (is_blocked (process_at w.table s).state ≡ true) (IsOfCopy (copy_in w a e) s) xs
+all_mild w a e s [] n h = tt
+all_mild w a e s (x ∷ xs) n h = (mild w a e s x n h.0, all_mild w a e s xs n h.1)
 
 -- ---- what they leave
 
 abbrev HasRoom : Image → Type 0
 HasRoom m = m.regs.ebx + 36 ≤ length m.memory
 
--- An image after mild items, with the one of before.
-record IsLeft (m r : Image) : Type 0 where
-  bytes : (k : ℕ) → IsOutside m.regs.ebx 36 k → byte_of r k ≡ byte_of m k
+-- An image after mild items, with the one of before: O holds of the bytes outside of copies.
+record IsLeft (O : ℕ → Type 0) (m r : Image) : Type 0 where
+  bytes : (k : ℕ) → IsOutside m.regs.ebx 36 k → O k → byte_of r k ≡ byte_of m k
   limit : length r.memory ≡ length m.memory
   rest : registers_and_code r ≡ registers_and_code m
 
-outside_fewer : (place n k : ℕ) → n ≤ 36 → IsOutside place 36 k → IsOutside place n k
-outside_fewer place n k le (inl lt) = inl lt
-outside_fewer place n k le (inr ge) = inr (omega (arith, le, ge))
+-- What is known of copies: they are inside, and a byte outside of copies is outside of each.
+record Copies (O : ℕ → Type 0) (C : ℕ → List ℕ → Type 0) (limit : ℕ) : Type 0 where
+  inside : (place : ℕ) (bytes : List ℕ) → C place bytes → place + length bytes ≤ limit
+  outside : (k place : ℕ) (bytes : List ℕ) → C place bytes → O k → IsOutside place (length bytes) k
+
+outside_fewer : (place n many k : ℕ) → n ≤ many → IsOutside place many k → IsOutside place n k
+outside_fewer place n many k le (inl lt) = inl lt
+outside_fewer place n many k le (inr ge) = inr (omega (arith, le, ge))
 
 -- a result changes EAX alone
-result_left : (m q : Image) (r : ℕ) → IsLeft (record m { regs = record m.regs { eax = r } }) q → IsLeft m q
-result_left m q r h = record { bytes = h.bytes; limit = h.limit; rest = h.rest }
+result_left : (O : ℕ → Type 0) (m q : Image) (r : ℕ) → IsLeft O (record m { regs = record m.regs { eax = r } }) q → IsLeft O m q
+result_left O m q r h = record { bytes = h.bytes; limit = h.limit; rest = h.rest }
 
--- a message changes its 36 bytes alone
-message_left : (m q : Image) (bytes : List ℕ) → length bytes ≤ 36 → HasRoom m → IsLeft (record m { memory = with_bytes_at m.memory m.regs.ebx bytes }) q → IsLeft m q
-message_left m q bytes le room h = record {
-  bytes = λ k o. h.bytes k o ∙ with_bytes_outside m.memory m.regs.ebx bytes k (omega (arith, le, room)) (outside_fewer m.regs.ebx (length bytes) k le o);
-  limit = h.limit ∙ with_bytes_long m.memory m.regs.ebx bytes (omega (arith, le, room));
+abbrev image_with : Image → ℕ → List ℕ → Image
+image_with m place bytes = record m { memory = with_bytes_at m.memory place bytes }
+
+-- bytes at a place change those alone
+bytes_left : (O : ℕ → Type 0) (m q : Image) (place : ℕ) (bytes : List ℕ) → place + length bytes ≤ length m.memory → ((k : ℕ) → IsOutside m.regs.ebx 36 k → O k → IsOutside place (length bytes) k) → IsLeft O (image_with m place bytes) q → IsLeft O m q
+bytes_left O m q place bytes le f h = record {
+  bytes = λ k o u. h.bytes k o u ∙ with_bytes_outside m.memory place bytes k le (f k o u);
+  limit = h.limit ∙ with_bytes_long m.memory place bytes le;
   rest = h.rest;
 }
 
-room_after : (m : Image) (bytes : List ℕ) → length bytes ≤ 36 → HasRoom m → HasRoom (record m { memory = with_bytes_at m.memory m.regs.ebx bytes })
-room_after m bytes le room = omega (arith, room, with_bytes_long m.memory m.regs.ebx bytes (omega (arith, le, room)))
+copies_after : (O : ℕ → Type 0) (C : ℕ → List ℕ → Type 0) (n k : ℕ) → k ≡ n → Copies O C n → Copies O C k
+copies_after O C n k e h = subst (Copies O C) (sym e) h
 
-play_left : (B : Type 0) (xs : List Item) (m : Image) → AllMild B xs → (B → HasRoom m) → IsLeft m (play xs m)
-play_left B [] m h room = record { bytes = λ k o. refl; limit = refl; rest = refl }
-play_left B (Ran ∷ xs) m h room = absurd h.0
-play_left B (Result r ∷ xs) m h room = result_left m _ r (play_left B xs (record m { regs = record m.regs { eax = r } }) h.1 room)
-play_left B (Message bytes ∷ xs) m h room =
-    message_left m _ bytes h.0.0 (room h.0.1) (play_left B xs (record m { memory = with_bytes_at m.memory m.regs.ebx bytes }) h.1 (λ b. room_after m bytes h.0.0 (room b)))
-play_left B (Copy place bytes ∷ xs) m h room = absurd h.0
+play_left : (B : Type 0) (O : ℕ → Type 0) (C : ℕ → List ℕ → Type 0) (xs : List Item) (m : Image) → AllMild B C xs → (B → HasRoom m) → Copies O C (length m.memory) → IsLeft O m (play xs m)
+play_left B O C [] m h room copies = record { bytes = λ k o u. refl; limit = refl; rest = refl }
+play_left B O C (Ran ∷ xs) m h room copies = absurd h.0
+play_left B O C (Result r ∷ xs) m h room copies = result_left O m _ r (play_left B O C xs (record m { regs = record m.regs { eax = r } }) h.1 room copies)
+play_left B O C (Message bytes ∷ xs) m h room copies =
+    let le : m.regs.ebx + length bytes ≤ length m.memory = omega (arith, h.0.0, room h.0.1) in
+    let long = with_bytes_long m.memory m.regs.ebx bytes le in
+    bytes_left O m _ m.regs.ebx bytes le (λ k o u. outside_fewer m.regs.ebx (length bytes) 36 k h.0.0 o)
+    (play_left B O C xs (image_with m m.regs.ebx bytes) h.1 (λ b. omega (arith, room b, long)) (copies_after O C (length m.memory) _ long copies))
+play_left B O C (Copy place bytes ∷ xs) m h room copies =
+    let le = copies.inside place bytes h.0 in
+    let long = with_bytes_long m.memory place bytes le in
+    bytes_left O m _ place bytes le (λ k o u. copies.outside k place bytes h.0 u)
+    (play_left B O C xs (image_with m place bytes) h.1 (λ b. omega (arith, room b, long)) (copies_after O C (length m.memory) _ long copies))
 
-play_nothing : (B : Type 0) (xs : List Item) (m : Image) → (B → ⊥) → AllMild B xs → play xs m ≡ m
-play_nothing B [] m n h = refl
-play_nothing B (Ran ∷ xs) m n h = absurd h.0
-play_nothing B (Result r ∷ xs) m n h = absurd (n h.0)
-play_nothing B (Message bytes ∷ xs) m n h = absurd (n h.0.1)
-play_nothing B (Copy place bytes ∷ xs) m n h = absurd h.0
+play_nothing : (B : Type 0) (C : ℕ → List ℕ → Type 0) (xs : List Item) (m : Image) → (B → ⊥) → ((place : ℕ) (bytes : List ℕ) → C place bytes → ⊥) → AllMild B C xs → play xs m ≡ m
+play_nothing B C [] m n o h = refl
+play_nothing B C (Ran ∷ xs) m n o h = absurd h.0
+play_nothing B C (Result r ∷ xs) m n o h = absurd (n h.0)
+play_nothing B C (Message bytes ∷ xs) m n o h = absurd (n h.0.1)
+play_nothing B C (Copy place bytes ∷ xs) m n o h = absurd (o place bytes h.0)
+
+-- ---- a copy is inside
+
+abbrev NoneHolds : List (Bool × Errno) → Type 0
+NoneHolds [] = Unit {0}
+NoneHolds (c ∷ cs) = (c.0 ≡ false) × NoneHolds cs
+
+first_none : (b : Bool) (x : Errno) (r : Option Errno) → cond b (Some x) r ≡ None → (b ≡ false) × (r ≡ None)
+first_none true x r e = cc
+first_none false x r e = (refl, e)
+
+none_holds : (cs : List (Bool × Errno)) → first_error cs ≡ None → NoneHolds cs
+none_holds [] e = tt
+none_holds (c ∷ cs) e = let h = first_none c.0 c.1 (first_error cs) e in (h.0, none_holds cs h.1)
+
+not_false : (b : Bool) → not b ≡ false → b ≡ true
+not_false true e = refl
+not_false false e = cc
+
+second_false : (b c : Bool) → (b || c) ≡ false → c ≡ false
+second_false true c e = cc
+second_false false c e = e
+
+-- A copy that isn't refused has its place inside, and its destination isn't on a processor.
+record IsInside (t : TableState) (c : CopyMade) : Type 0 where
+  home : is_out (process_at t c.to).state ≡ false
+  room : c.place + c.count ≤ length (memory_at t c.to)
+
+copy_fits : (t : TableState) (s from at to place count : ℕ) → kernel_call_refusal_by t s (Some (Vircopy from at to place count)) ≡ None → IsInside t (record { from = from % 1024; address = at; to = to % 1024; place = place; count = count })
+copy_fits t s from at to place count e =
+    let h = none_holds ((not (has_bit (process_at t s).masks.calls 5), Denied) ∷ kernel_call_reasons t s (Vircopy from at to place count)) e in
+    record {
+      home = second_false (is_away t from) (is_away t to) h.1.1.1.1.1.1.0;
+      room = leb-true (place + count) (length (memory_at t (to % 1024))) (not_false _ h.1.1.1.1.1.1.1.1.0);
+    }
+
+abbrev the_copy : CopyMade → Option CopyMade → CopyMade
+the_copy d None = d
+the_copy d (Some c) = c
+
+copy_inside_by : (t : TableState) (s : ℕ) (r : Option KernelCall) (e : Option Errno) (c : CopyMade) → kernel_call_refusal_by t s r ≡ e → copy_by r e ≡ Some c → IsInside t c
+copy_inside_by t s None e c f g = cc
+copy_inside_by t s (Some Exit) e c f g = cc
+copy_inside_by t s (Some Times) e c f g = cc
+copy_inside_by t s (Some (SetAlarm delay)) e c f g = cc
+copy_inside_by t s (Some (Irqctl action line)) e c f g = cc
+copy_inside_by t s (Some (Devio action register value)) e c f g = cc
+copy_inside_by t s (Some (Vircopy from at to place count)) (Some x) c f g = cc
+copy_inside_by t s (Some (Vircopy from at to place count)) None c f g = subst (IsInside t) (ap (the_copy c) g) (copy_fits t s from at to place count f)
+copy_inside_by t s (Some (kernel_call.Kill n)) e c f g = cc
+copy_inside_by t s (Some (Whois slot)) e c f g = cc
+
+copy_inside_trap : (t : TableState) (s : ℕ) (x : TrapAnswer) (c : CopyMade) → copy_at_trap t s x ≡ Some c → IsInside t c
+unfolding kernel_call_refusal
+copy_inside_trap t s trap_ends.Done c g = cc
+copy_inside_trap t s trap_ends.Kernel c g = copy_inside_by t s (kernel_call_of (message_words_at t s)) (kernel_call_refusal t s) c refl g
+
+copy_inside_end : (t : TableState) (s : ℕ) (b : Bool) (x : Stop) (c : CopyMade) → copy_at_end t s b x ≡ Some c → IsInside t c
+copy_inside_end t s true x c g = cc
+copy_inside_end t s false Spent c g = cc
+copy_inside_end t s false Trap c g = copy_inside_trap t s (trap_answer t s) c g
+copy_inside_end t s false (Fault v) c g = cc
+
+-- another slot's process isn't changed where one comes home
+home_at : (t : TableState) (l : HeldProcess) (s : ℕ) → s ≢ l.slot → process_at (table_after_coming_home t l) s ≡ process_at t s
+unfolding table_after_coming_home
+home_at t l s n = get_or-set_other (table_after_move_home t l.slot l.out.image).slots l.slot s _ nobody n ∙ get_or-set_other t.slots l.slot s _ nobody n
+
+abbrev IsInsideNow : World → CopyMade → Type 0
+IsInsideNow w c = c.place + c.count ≤ length (image_now w c.to).memory
+
+image_home : (w : World) (s : ℕ) → IsSound w → is_out (process_at w.table s).state ≡ false → image_now w s ≡ (process_at w.table s).image
+image_home w s h n = ap (image_or (get_or (images w.table) s blank)) (not_held w s h n) ∙ image_in w.table s
+
+copy_inside_back : (w : World) (a : ℕ) (x : Option HeldProcess) (c : CopyMade) → IsSound w → held_by w a ≡ x → slot_on w a ≢ Some c.to → copy_at_back w.table x ≡ Some c → IsInsideNow w c
+copy_inside_back w a None c h e n g = cc
+copy_inside_back w a (Some l) c h e n g =
+    let k = copy_inside_end (table_after_coming_home w.table l) l.slot (is_doomed (process_at w.table l.slot).state) l.out.stop c g in
+    let other : c.to ≢ l.slot = (λ z. n (ap (option_map (λ (y : HeldProcess). y.slot)) e ∙ ap Some (sym z))) in
+    let same = home_at w.table l c.to other in
+    let now = image_home w c.to h (ap (λ (p : Process). is_out p.state) (sym same) ∙ k.home) in
+    subst (λ (m : Image). c.place + c.count ≤ length m.memory) (sym now) (subst (λ (p : Process). c.place + c.count ≤ length p.image.memory) same k.room)
+
+copy_inside : (w : World) (a : ℕ) (e : Event) (c : CopyMade) → IsSound w → IsOfOthers w a e c.to → copy_in w a e ≡ Some c → IsInsideNow w c
+copy_inside w a Step c h n g = cc
+copy_inside w a Take c h n g = cc
+copy_inside w a Back c h n g = copy_inside_back w a (held_by w a) c h refl n g
+copy_inside w a (Line l) c h n g = cc
+copy_inside w a Tick c h n g = cc
+copy_inside w a (Kill k) c h n g = cc
+copy_inside w a (Respawn t) c h n g = cc
+
+copies_of : (w : World) (a : ℕ) (e : Event) (s : ℕ) → IsSound w → IsOfOthers w a e s → Copies (IsOutsideCopy s (copy_in w a e)) (IsOfCopy (copy_in w a e) s) (length (image_now w s).memory)
+copies_of w a e s h n = record {
+  inside = λ place bytes k.
+      let room : k.copy.place + k.copy.count ≤ length (image_now w s).memory = subst (λ z. k.copy.place + k.copy.count ≤ length (image_now w z).memory) k.slot (copy_inside w a e k.copy h (subst (IsOfOthers w a e) (sym k.slot) n) k.is_made) in
+      omega (arith, room, k.place, k.few);
+  outside = λ i place bytes k o. outside_fewer place (length bytes) k.copy.count i k.few (subst (λ z. IsOutside z k.copy.count i) k.place (subst (λ z. IsOutsideCopy s z i) k.is_made o k.slot));
+}
 
 -- ---- an event of others
 
@@ -148,23 +283,23 @@ no_respawn w a (Respawn t) s n = n
 
 -- who waits has its buffer inside
 waits_with_room : (w : World) (s : ℕ) → IsSound w → is_blocked (process_at w.table s).state ≡ true → HasRoom (image_now w s)
-waits_with_room w s h b =
-    let now : image_now w s ≡ (process_at w.table s).image = ap (image_or (get_or (images w.table) s blank)) (not_held w s h (blocked_not_out (process_at w.table s).state b)) ∙ image_in w.table s in
-    subst HasRoom (sym now) ((h.table.each s).process.buffer b)
+waits_with_room w s h b = subst HasRoom (sym (image_home w s h (blocked_not_out (process_at w.table s).state b))) ((h.table.each s).process.buffer b)
 
 true_false : (b : Bool) → b ≡ false → b ≡ true → ⊥
 true_false true e f = cc
 true_false false e f = cc
 
-pub others_leave : (w : World) (a : ℕ) (e : Event) (s : ℕ) → IsSound w → event_refusal w a e ≡ None → s < length (images w.table) → IsOfOthers w a e s → MissesSlot s (copy_in w a e) → LeavesImage w a e s
-others_leave w a e s h f b n m =
+pub others_leave : (w : World) (a : ℕ) (e : Event) (s : ℕ) → IsSound w → event_refusal w a e ≡ None → s < length (images w.table) → IsOfOthers w a e s → LeavesImage w a e s
+others_leave w a e s h f b n =
     let waits = is_blocked (process_at w.table s).state ≡ true in
-    let items = all_mild w a e s (diary w a e s) n m (event_entries w a e s h.table) in
+    let O = IsOutsideCopy s (copy_in w a e) in
+    let C = IsOfCopy (copy_in w a e) s in
+    let items : AllMild waits C (diary w a e s) = all_mild w a e s (diary w a e s) n (event_entries w a e s h.table) in
     let now : image_now (world_after_event w a e) s ≡ play (diary w a e s) (image_now w s) = event_law w a e s (held_once w h) f b (no_respawn w a e s n) in
-    let left : IsLeft (image_now w s) (image_now (world_after_event w a e) s) = subst (IsLeft (image_now w s)) (sym now) (play_left waits (diary w a e s) (image_now w s) items (λ k. waits_with_room w s h k)) in
+    let left : IsLeft O (image_now w s) (image_now (world_after_event w a e) s) = subst (IsLeft O (image_now w s)) (sym now) (play_left waits O C (diary w a e s) (image_now w s) items (λ k. waits_with_room w s h k) (copies_of w a e s h n)) in
     record {
       bytes = left.bytes;
       limit = left.limit;
       rest = left.rest;
-      whole = λ z. now ∙ play_nothing waits (diary w a e s) (image_now w s) (true_false (is_blocked (process_at w.table s).state) z) items;
+      whole = λ z m. now ∙ play_nothing waits C (diary w a e s) (image_now w s) (true_false (is_blocked (process_at w.table s).state) z) (λ place bytes. misses (copy_in w a e) s place bytes m) items;
     }

@@ -124,6 +124,11 @@ byte_of m k = slice_index_or m.memory k 0
 abbrev pub IsOutside : ℕ → ℕ → ℕ → Type 0
 IsOutside place count k = (k < place) ⊎ (place + count ≤ k)
 
+-- a byte of slot s outside of what is copied into it
+abbrev pub IsOutsideCopy : ℕ → Option CopyMade → ℕ → Type 0
+IsOutsideCopy s None k = Unit {0}
+IsOutsideCopy s (Some copy) k = copy.to ≡ s → IsOutside copy.place copy.count k
+
 -- all of an image but its memory and EAX, where results come
 abbrev pub registers_and_code : Image → Image
 registers_and_code m = record m { memory = []; regs = record m.regs { eax = 0 } }

@@ -13,7 +13,7 @@ use Rattle.mx_machine_world.specs.Sound.{IsSound}
 use Rattle.mx_machine_world.specs.World.{World}
 use Rattle.mx_isolation_diary.specs.Diary.{play}
 use Rattle.mx_isolation_diary.specs.Diaries.{diary, image_now, IsNoRespawnOf}
-use Rattle.mx_isolation_diary.specs.Entries.{AreEntries, byte_of, copy_in, IsOfOthers, IsOutside, MissesSlot, registers_and_code}
+use Rattle.mx_isolation_diary.specs.Entries.{AreEntries, byte_of, copy_in, IsOfOthers, IsOutside, IsOutsideCopy, MissesSlot, registers_and_code}
 use Rattle.mx_isolation_diary.specs.Runs.{AreNoRespawnsOf, AreSound, diary_along, IsLife, Life, diary_of_life, image_of_life}
 
 -- A slot of a sound machine, which has a service.
@@ -56,14 +56,14 @@ HasEntries w a e s = AreEntries w a e s (diary w a e s)
 
 -- ---- what others can't do
 
--- An event leaves of a slot's image all but its EAX and the 36 bytes of its buffer; and if the process doesn't wait
--- in a call, all.
+-- An event leaves each byte of a slot's image outside of its buffer's 36 and of what is copied into it, the limit, and
+-- all registers but EAX. If the process doesn't wait in a call, and nothing is copied into it, it leaves all.
 pub record LeavesImage (w : World) (a : ℕ) (e : Event) (s : ℕ) : Type 0 where
-  pub bytes : (k : ℕ) → IsOutside (image_now w s).regs.ebx 36 k → byte_of (image_now (world_after_event w a e) s) k ≡ byte_of (image_now w s) k
+  pub bytes : (k : ℕ) → IsOutside (image_now w s).regs.ebx 36 k → IsOutsideCopy s (copy_in w a e) k → byte_of (image_now (world_after_event w a e) s) k ≡ byte_of (image_now w s) k
   pub limit : length (image_now (world_after_event w a e) s).memory ≡ length (image_now w s).memory
   pub rest : registers_and_code (image_now (world_after_event w a e) s) ≡ registers_and_code (image_now w s)
-  pub whole : is_blocked (process_at w.table s).state ≡ false → image_now (world_after_event w a e) s ≡ image_now w s
+  pub whole : is_blocked (process_at w.table s).state ≡ false → MissesSlot s (copy_in w a e) → image_now (world_after_event w a e) s ≡ image_now w s
 
--- so does each accepted event of others that copies nothing into the slot
+-- so does each accepted event of others
 abbrev pub OthersLeaveImage : World → ℕ → Event → ℕ → Type 0
-OthersLeaveImage w a e s = event_refusal w a e ≡ None → IsOfOthers w a e s → MissesSlot s (copy_in w a e) → LeavesImage w a e s
+OthersLeaveImage w a e s = event_refusal w a e ≡ None → IsOfOthers w a e s → LeavesImage w a e s

@@ -36,8 +36,9 @@ pub fn diaries_have_entries()
     ensures { (w : World) (a : ℕ) (e : Event) (s : ℕ) → IsSlot w s → HasEntries w a e s }
 {}
 
-/// Law: what others do, if it copies nothing into the slot, leaves of its image all but EAX and the
-/// 36 bytes of the buffer that the process named; and all, if the process doesn't wait in a call.
+/// Law: what others do leaves of a slot's image all but EAX, the 36 bytes of the buffer that the
+/// process named, and the bytes that a copy puts into it; and all, if the process doesn't wait in a
+/// call and nothing is copied into it.
 pub fn others_leave_images()
     ensures { (w : World) (a : ℕ) (e : Event) (s : ℕ) → IsSlot w s → OthersLeaveImage w a e s }
 {}
