@@ -22,9 +22,10 @@ use Rattle.mx_machine_world.specs.Sound.{IsSound}
 use Rattle.mx_machine_world.specs.World.{World, HeldProcess, free_records, held_by}
 use Rattle.mx_proc.specs.Queues.{first_ready}
 use Rattle.mx_kcall.specs.Refusals.{owner_of}
+use Rattle.mx_machine.specs.Machine.{AreSound}
 use Rattle.mx_isolation_diary.specs.Diary.{Item, image_after_item, image_of, images, play}
 use Rattle.mx_isolation_diary.specs.Diaries.{diary, image_held_in, image_now, image_or, IsNoRespawnOf}
-use Rattle.mx_isolation_diary.specs.Runs.{AreSound, AreNoRespawnsOf, written_down, diary_along, diary_with, diary_after, diary_of_life, generation_diary, image_of_life, IsLife, Life}
+use Rattle.mx_isolation_diary.specs.Runs.{AreNoRespawnsOf, written_down, diary_along, diary_with, diary_after, diary_of_life, generation_diary, image_of_life, IsLife, Life}
 use Rattle.mx_isolation_diary.proofs.DiaryLemmas.{images-set}
 use Rattle.mx_isolation_diary.proofs.DiaryMoves.{event_law}
 use Rattle.mx_isolation_diary.proofs.SoundDiaries.{held_once, not_held}

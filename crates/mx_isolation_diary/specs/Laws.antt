@@ -11,10 +11,11 @@ use Rattle.mx_machine_world.specs.Boot.{world_at_boot}
 use Rattle.mx_machine_world.specs.Move.{event_refusal, moves, world_after_event}
 use Rattle.mx_machine_world.specs.Sound.{IsSound}
 use Rattle.mx_machine_world.specs.World.{World}
+use Rattle.mx_machine.specs.Machine.{AreSound}
 use Rattle.mx_isolation_diary.specs.Diary.{play}
 use Rattle.mx_isolation_diary.specs.Diaries.{diary, image_now, IsNoRespawnOf}
 use Rattle.mx_isolation_diary.specs.Entries.{AreEntries, byte_of, copy_in, IsOfOthers, IsOutside, IsOutsideCopy, MissesSlot, registers_and_code}
-use Rattle.mx_isolation_diary.specs.Runs.{AreNoRespawnsOf, AreSound, diary_along, IsLife, Life, diary_of_life, image_of_life}
+use Rattle.mx_isolation_diary.specs.Runs.{AreNoRespawnsOf, diary_along, IsLife, Life, diary_of_life, image_of_life}
 
 -- A slot of a sound machine, which has a service.
 pub record IsSlot (w : World) (s : ℕ) : Type 0 where

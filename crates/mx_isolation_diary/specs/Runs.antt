@@ -7,15 +7,10 @@ use Rattle.mx_machine_world.specs.declared.events.Event.{Event}
 use Rattle.mx_machine_world.specs.declared.events.Event.TheVariants.{Respawn}
 use Rattle.mx_machine_world.specs.declared.events.Refusal.{Refusal}
 use Rattle.mx_machine_world.specs.Move.{event_refusal, move, moves}
-use Rattle.mx_machine_world.specs.Sound.{IsSound}
 use Rattle.mx_machine_world.specs.World.{World}
+use Rattle.mx_machine.specs.Machine.{AreSound}
 use Rattle.mx_isolation_diary.specs.Diary.{Item, play}
 use Rattle.mx_isolation_diary.specs.Diaries.{diary, image_now, IsNoRespawnOf}
-
--- each machine of a run is sound, as a `Machine` always is
-abbrev pub AreSound : World → List (ℕ × Event) → Type 0
-AreSound w [] = Unit {0}
-AreSound w (x ∷ xs) = IsSound w × AreSound (move w x.0 x.1).1 xs
 
 -- no event of a run puts a new process into slot s
 abbrev pub AreNoRespawnsOf : ℕ → List (ℕ × Event) → Type 0
