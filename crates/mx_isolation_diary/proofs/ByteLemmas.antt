@@ -3,7 +3,7 @@ use Rattle.std.proofs.Common.{◌≡◌, ◌∙◌, ℕ, ◌+◌, ◌-◌, ◌<�
 use Rattle.std.proofs.lemmas.List.{get_or-take, get_or-drop, get_or_append_left, get_or-append_right, length-append, length-drop, length-take}
 use Rattle.std.proofs.Common.{◌≢◌, cond, not, ◌||◌, ◌%◌, get_or-set_other}
 use Rattle.std.specs.Option.{option_map}
-use Rattle.std.proofs.lemmas.Bool.{leb-true}
+use Rattle.std.proofs.lemmas.Bool.{leb-true, ne_eqb}
 use Rattle.mx_image.specs.declared.runs.Stop.{Stop}
 use Rattle.mx_image.specs.declared.runs.Stop.TheVariants.{Spent, Trap, Fault}
 use Rattle.mx_proc.specs.declared.errors.Errno.{Errno}
@@ -36,7 +36,7 @@ use Rattle.mx_machine_world.specs.Sound.{IsSound}
 use Rattle.mx_machine_world.specs.World.{World}
 use Rattle.mx_isolation_diary.specs.Diary.{Item, images, play}
 use Rattle.mx_isolation_diary.specs.Diary.Item.{Ran, Result, Message, Copy}
-use Rattle.mx_isolation_diary.specs.Diaries.{diary, image_now, image_or, IsNoRespawnOf}
+use Rattle.mx_isolation_diary.specs.Diaries.{diary, diary_of_step, image_now, image_or, IsNoRespawnOf}
 use Rattle.mx_isolation_diary.specs.Entries.{AreEntries, byte_of, caller_in, copy_in, CopyMade, IsEntry, IsOfCopy, IsOfOthers, IsOutside, MissesSlot, registers_and_code}
 use Rattle.mx_isolation_diary.specs.Laws.{LeavesImage}
 use Rattle.mx_isolation_diary.proofs.DiaryMoves.{event_law, image_in}
@@ -289,6 +289,14 @@ true_false : (b : Bool) → b ≡ false → b ≡ true → ⊥
 true_false true e f = cc
 true_false false e f = cc
 
+step_empty : (w : World) (a s : ℕ) (x : Option HeldProcess) → held_by w a ≡ x → slot_on w a ≢ Some s → diary_of_step s x ≡ []
+step_empty w a s None e n = refl
+step_empty w a s (Some l) e n = ap (λ b. cond b (Ran ∷ []) []) (ne_eqb l.slot s (λ g. n (ap (option_map (λ (y : HeldProcess). y.slot)) e ∙ ap Some g)))
+
+step_leaves : (w : World) (a : ℕ) (e : Event) (s : ℕ) → IsOfOthers w a e s → e ≡ Step → diary w a e s ≡ []
+step_leaves w a e s n g =
+    subst (λ x. diary w a x s ≡ []) (sym g) (step_empty w a s (held_by w a) refl (subst (λ x. IsOfOthers w a x s) g n))
+
 pub others_leave : (w : World) (a : ℕ) (e : Event) (s : ℕ) → IsSound w → event_refusal w a e ≡ None → s < length (images w.table) → IsOfOthers w a e s → LeavesImage w a e s
 others_leave w a e s h f b n =
     let waits = is_blocked (process_at w.table s).state ≡ true in
@@ -301,5 +309,6 @@ others_leave w a e s h f b n =
       bytes = left.bytes;
       limit = left.limit;
       rest = left.rest;
+      step = λ g. now ∙ ap (λ items. play items (image_now w s)) (step_leaves w a e s n g);
       whole = λ z m. now ∙ play_nothing waits C (diary w a e s) (image_now w s) (true_false (is_blocked (process_at w.table s).state) z) (λ place bytes. misses (copy_in w a e) s place bytes m) items;
     }

@@ -6,7 +6,7 @@ use Rattle.mx_kcall.specs.Load.{image_of_program}
 use Rattle.mx_kcall.specs.Service.{Service}
 use Rattle.mx_machine_world.specs.declared.config.Config.{Config}
 use Rattle.mx_machine_world.specs.declared.events.Event.{Event}
-use Rattle.mx_machine_world.specs.declared.events.Event.TheVariants.{Respawn}
+use Rattle.mx_machine_world.specs.declared.events.Event.TheVariants.{Step, Respawn}
 use Rattle.mx_machine_world.specs.Boot.{world_at_boot}
 use Rattle.mx_machine_world.specs.Move.{event_refusal, moves, world_after_event}
 use Rattle.mx_machine_world.specs.Sound.{IsSound}
@@ -58,11 +58,13 @@ HasEntries w a e s = AreEntries w a e s (diary w a e s)
 -- ---- what others can't do
 
 -- An event leaves each byte of a slot's image outside of its buffer's 36 and of what is copied into it, the limit, and
--- all registers but EAX. If the process doesn't wait in a call, and nothing is copied into it, it leaves all.
+-- all registers but EAX. A step leaves all; so does any event if the process doesn't wait in a call and nothing is
+-- copied into it.
 pub record LeavesImage (w : World) (a : ℕ) (e : Event) (s : ℕ) : Type 0 where
   pub bytes : (k : ℕ) → IsOutside (image_now w s).regs.ebx 36 k → IsOutsideCopy s (copy_in w a e) k → byte_of (image_now (world_after_event w a e) s) k ≡ byte_of (image_now w s) k
   pub limit : length (image_now (world_after_event w a e) s).memory ≡ length (image_now w s).memory
   pub rest : registers_and_code (image_now (world_after_event w a e) s) ≡ registers_and_code (image_now w s)
+  pub step : e ≡ Step → image_now (world_after_event w a e) s ≡ image_now w s
   pub whole : is_blocked (process_at w.table s).state ≡ false → MissesSlot s (copy_in w a e) → image_now (world_after_event w a e) s ≡ image_now w s
 
 -- so does each accepted event of others

@@ -37,8 +37,8 @@ pub fn diaries_have_entries()
 {}
 
 /// Law: what others do leaves of a slot's image all but EAX, the 36 bytes of the buffer that the
-/// process named, and the bytes that a copy puts into it; and all, if the process doesn't wait in a
-/// call and nothing is copied into it.
+/// process named, and the bytes that a copy puts into it. A step of theirs leaves all; so does all that
+/// they do, if the process doesn't wait in a call and nothing is copied into it.
 pub fn others_leave_images()
     ensures { (w : World) (a : ℕ) (e : Event) (s : ℕ) → IsSlot w s → OthersLeaveImage w a e s }
 {}
