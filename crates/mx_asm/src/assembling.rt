@@ -8,6 +8,7 @@ ghost use Rattle.mx_asm.specs.declared.fault.AsmError.TheVariants.{At};
 ghost use Rattle.mx_asm.specs.View.{above_of};
 ghost use Rattle.mx_asm.specs.Text.{AreLinesTaken, Accepts, TakesLine, IsAssembled, TellsTextFault, TellsFirstLine, TellsRefusal, TellsLineWrong, TellsLexical};
 
+use crate::hashing::HashedByText;
 use crate::program::program_of;
 use crate::{AsmError, Fault, Layout, Problem, problem_of};
 use mx_aout::Program;
@@ -94,7 +95,7 @@ fn read_lines(alloc: Global, text: &[u8]) -> Result<Read, AsmError>
     ensures wrong { IfErr result (TellsFirstLine text.now) }
 {
     let mut read = Read {
-        layout: Layout::new(alloc),
+        layout: Layout::new(alloc, HashedByText::new(text)),
         lines: Vec::new(alloc),
     };
     let mut rest = text;

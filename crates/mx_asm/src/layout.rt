@@ -7,6 +7,7 @@ ghost use Rattle.mx_asm.specs.Faults.{total_of, is_program_too_large};
 ghost use Rattle.mx_asm.specs.View.{above_of};
 
 use crate::fault::AsmError;
+use crate::hashing::HashedByText;
 use crate::sizes::{SectionOffset, SectionSizes};
 use indexmap::IndexMap;
 use mx_asm_statement::{Line, Reason, Section, Statement, StatementStart, Value, refusal};
@@ -18,7 +19,7 @@ use std::alloc::Global;
 #[derive(Drop)]
 pub struct Layout {
     pub sizes: SectionSizes,
-    pub labels: IndexMap<Name, SectionOffset>,
+    pub labels: IndexMap<Name, SectionOffset, HashedByText>,
     pub sep: bool,
     pub entry: Option<Name>,
     pub stack: Option<u32>,
@@ -32,13 +33,13 @@ fn low(count: u128) -> u32
 }
 
 impl Layout {
-    /// Behind no line yet.
-    pub fn new(alloc: Global) -> Layout
+    /// Behind no line yet; the labels of the text are hashed so.
+    pub fn new(alloc: Global, hashed: HashedByText) -> Layout
         ensures { above_of result ≡ no_lines_above }
     {
         Layout {
             sizes: SectionSizes::START,
-            labels: IndexMap::new(alloc),
+            labels: IndexMap::with_hasher(alloc, hashed),
             sep: false,
             entry: None,
             stack: None,

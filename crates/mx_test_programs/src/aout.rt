@@ -214,6 +214,155 @@ fn changed_bytes(rt: HostRuntime) -> Result<(), Fail> {
     Ok(())
 }
 
+/// Dwords of a file's header at their limits.
+struct Sizes {
+    file: &'static [u8],
+    dwords: &'static [(usize, u32)],
+    told: Option<FileError>,
+}
+
+const SIZES: Sizes = Sizes {
+    file: &SHORT,
+    dwords: &[],
+    told: None,
+};
+
+/// Places of the header's dwords.
+const LENGTHS: usize = 4;
+
+const TEXT: usize = 8;
+
+const INIT: usize = 12;
+
+const ENTRY: usize = 20;
+
+const TOTAL: usize = 24;
+
+const SYMBOLS: usize = 28;
+
+const TEXT_RELOCATIONS: usize = 32;
+
+const INIT_RELOCATIONS: usize = 36;
+
+/// A size at a limit is accepted where the file has the bytes, and told as the next fault where it
+/// hasn't; one more is too large. The dword at 4 is the header's length, an unused byte, and the version.
+static LIMITS: [Sizes; 19] = [
+    Sizes {
+        dwords: &[(SYMBOLS, 17)],
+        told: Some(FileError::BadSymbols),
+        ..SIZES
+    },
+    Sizes {
+        dwords: &[(SYMBOLS, 262_144)],
+        told: Some(FileError::Truncated),
+        ..SIZES
+    },
+    Sizes {
+        dwords: &[(SYMBOLS, 262_145)],
+        told: Some(FileError::TooLarge),
+        ..SIZES
+    },
+    Sizes {
+        dwords: &[(SYMBOLS, 262_160)],
+        told: Some(FileError::TooLarge),
+        ..SIZES
+    },
+    Sizes {
+        dwords: &[(TEXT, 1_048_576)],
+        told: Some(FileError::Truncated),
+        ..SIZES
+    },
+    Sizes {
+        dwords: &[(TEXT, 1_048_577)],
+        told: Some(FileError::TooLarge),
+        ..SIZES
+    },
+    Sizes {
+        dwords: &[(TEXT, 0xFFFF_FFFF)],
+        told: Some(FileError::TooLarge),
+        ..SIZES
+    },
+    Sizes {
+        dwords: &[(INIT, 0xFFFF_FFFF)],
+        told: Some(FileError::TooLarge),
+        ..SIZES
+    },
+    Sizes {
+        dwords: &[(TOTAL, 4_194_304)],
+        ..SIZES
+    },
+    Sizes {
+        dwords: &[(TOTAL, 4_194_305)],
+        told: Some(FileError::TooLarge),
+        ..SIZES
+    },
+    Sizes {
+        dwords: &[(TOTAL, 0xFFFF_FFFF)],
+        told: Some(FileError::TooLarge),
+        ..SIZES
+    },
+    Sizes {
+        dwords: &[(TOTAL, 1)],
+        ..SIZES
+    },
+    Sizes {
+        dwords: &[(ENTRY, 0xFFFF_FFFF)],
+        ..SIZES
+    },
+    Sizes {
+        dwords: &[(LENGTHS, 0x0000_0020)],
+        ..SIZES
+    },
+    Sizes {
+        dwords: &[(LENGTHS, 0xFFFF_FF20)],
+        ..SIZES
+    },
+    Sizes {
+        dwords: &[(LENGTHS, 0x0000_0030)],
+        told: Some(FileError::Truncated),
+        ..SIZES
+    },
+    Sizes {
+        file: &LONG,
+        dwords: &[
+            (TEXT_RELOCATIONS, 0xFFFF_FFFF),
+            (INIT_RELOCATIONS, 0xFFFF_FFFF),
+        ],
+        told: Some(FileError::Truncated),
+    },
+    Sizes {
+        file: &LONG,
+        dwords: &[(TEXT_RELOCATIONS, 0), (INIT_RELOCATIONS, 8)],
+        told: None,
+    },
+    Sizes {
+        file: &LONG,
+        dwords: &[(TEXT_RELOCATIONS, 0), (INIT_RELOCATIONS, 9)],
+        told: Some(FileError::Truncated),
+    },
+];
+
+fn has_limit(alloc: Global, row: &Sizes) -> Result<bool, Fail> {
+    let mut file = Vec::from_slice(alloc, row.file)?;
+    for (place, value) in row.dwords {
+        for (offset, low) in value.to_le_bytes().iter().enumerate() {
+            if let Some(byte) = file.get_mut(place.wrapping_add(offset)) {
+                *byte = *low;
+            }
+        }
+    }
+    Ok(read(alloc, file.as_slice()).err() == row.told)
+}
+
+#[test]
+fn sizes_at_limits(rt: HostRuntime) -> Result<(), Fail> {
+    for (number, row) in LIMITS.iter().enumerate() {
+        let is_right = has_limit(rt.alloc(), row)?;
+        assert!(rt; is_right, "row {number}");
+    }
+    Ok(())
+}
+
 /// Files, and where they are cut.
 static CUTS: [(&[u8], usize); 4] = [(&TRAP, 0), (&TRAP, 31), (&TRAP, 33), (&LONG, 73)];
 
@@ -226,5 +375,11 @@ fn cut(alloc: Global, file: &[u8], length: usize) -> Option<FileError> {
 fn cut_files(rt: HostRuntime) {
     for (file, length) in &CUTS {
         assert!(rt; cut(rt.alloc(), *file, *length) == Some(FileError::Truncated));
+    }
+    for length in 0..60 {
+        assert!(rt;
+            cut(rt.alloc(), &SHORT, length) == Some(FileError::Truncated),
+            "{length}"
+        );
     }
 }

@@ -20,7 +20,7 @@ fn told(alloc: Global, text: &str) -> (u8, usize) {
 }
 
 /// A text, and its bytes.
-static SPELLINGS: [(&str, &[u8]); 13] = [
+static SPELLINGS: [(&str, &[u8]); 15] = [
     ("mov eax, [ebp]", b"\x8B\x45\x00"),
     ("mov eax, [esp]", b"\x8B\x04\x24"),
     ("mov eax, [esi*4+8]", b"\x8B\x04\xB5\x08\x00\x00\x00"),
@@ -33,6 +33,8 @@ static SPELLINGS: [(&str, &[u8]); 13] = [
     ("l: jmp short l", b"\xEB\xFE"),
     ("l: add eax, l", b"\x81\xC0\x00\x00\x00\x00"),
     (".data2 0x102, -1\n.ascii \"a\\n\"", b"\x02\x01\xFF\xFFa\n"),
+    (".ascii \"\u{e9}\u{1F600}\"", b"\xC3\xA9\xF0\x9F\x98\x80"),
+    ("nop ; \u{e9}\u{1F600}\0\x7F", b"\x90"),
     (
         ".sep\n.text\nstart: mov eax, 5\nadd eax, 0x7b\nloop start\nint 33\n",
         b"\xB8\x05\x00\x00\x00\x83\xC0\x7B\xE2\xF6\xCD\x21",
@@ -54,7 +56,7 @@ fn spellings(rt: HostRuntime) {
 }
 
 /// A text, and the number and the line of its fault, or zeros.
-static FAULTS: [(&str, (u8, usize)); 24] = [
+static FAULTS: [(&str, (u8, usize)); 30] = [
     ("", (0, 0)),
     ("mov eax, 4294967296", (2, 1)),
     (".ascii \"ab", (3, 1)),
@@ -79,6 +81,12 @@ static FAULTS: [(&str, (u8, usize)); 24] = [
     ("a: foo\na: foo abcdefghi", (10, 1)),
     ("a:\na: foo", (12, 2)),
     ("mov eax, [ebx-0x80000000]", (0, 0)),
+    ("nop\n\u{e9}: nop", (1, 2)),
+    ("nop \0", (1, 1)),
+    ("mov eax, \u{1F600}", (1, 1)),
+    (".ascii \"\u{e9}", (3, 1)),
+    (".ascii \"\\\u{e9}\"", (1, 1)),
+    ("nop\r\nnop\rnop", (1, 2)),
 ];
 
 #[test]
