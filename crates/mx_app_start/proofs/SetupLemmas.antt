@@ -1,11 +1,10 @@
 -- What is read of files, and the first fault of them.
-use Rattle.std.proofs.Common.{◌≡◌, ◌<◌, ◌⊎◌, ◌∙◌, ℕ, zero, suc, ◌+◌, true, false, List, [], ◌∷◌, ◌++◌, Option, Some, None, Ok, Err, length, take, drop, get_or, append_assoc, inl, inr, refl, ap, sym, subst, arith}
+use Rattle.std.proofs.Common.{◌≡◌, ◌<◌, ◌∙◌, ℕ, zero, suc, ◌+◌, true, false, List, [], ◌∷◌, ◌++◌, Option, Some, None, Ok, Err, length, take, drop, get_or, append_assoc, inl, inr, refl, ap, sym, subst, arith}
 use Rattle.std.proofs.lemmas.List.{take_more}
 use Rattle.mx_aout.specs.declared.program.Program.{Program}
 use Rattle.mx_aout.specs.declared.program.FileError.{FileError}
 use Rattle.mx_aout.specs.File.{FileIs, ReadsFile, refusal_of}
 use Rattle.mx_text.specs.declared.error.BootError.{BootError}
-use Rattle.mx_text.specs.declared.error.BootError.TheVariants as lines
 use Rattle.mx_boot.specs.Config.{Config}
 use Rattle.mx_boot.specs.ServiceLine.{ServiceLine}
 use Rattle.mx_machine.specs.Service.{Service}
@@ -14,23 +13,17 @@ use Rattle.mx_app_failure.specs.declared.failure.Failure.{Failure}
 use Rattle.mx_app_failure.specs.declared.failure.Failure.TheVariants.{NoMemory}
 use Rattle.mx_app_failure.specs.Failure.{failure_of, failure_of_lines}
 use Rattle.mx_app_start.specs.Asked.{Asked, file_given}
-use Rattle.mx_app_start.specs.Setup.{AreServicesRead, IsTextFaulty, IsFirstFault, IsFirstRefused, IsNoTextGiven, IsServiceRead, IsFileRefused, IsSetup, IsSetupFault, IsStart, IsTextGiven}
+use Rattle.mx_app_start.specs.Setup.{AreServicesRead, IsNoTextGiven, IsNotStarted, IsServiceRead, IsServicesFault, IsFileRefused, IsSetup, IsSetupFault, IsStart, IsTextGiven}
 
 pub never : false ≡ true → ⊥
 never h = absurd cc
 
 -- ---- a service's file
 
-no_program : (o : Option FileError) (line : ServiceLine) (b : List ℕ) (e : FileError) → refusal_of b ≡ o → ReadsFile o b (Err e)
-    → (failure_of e ≡ NoMemory) ⊎ IsFileRefused line (file_given line.file b) (failure_of e)
-no_program (Some d) line b e is h = let s : e ≡ d = cc in inr (inr (b, e, refl, is ∙ ap (λ (x : FileError). Some x) (sym s), refl))
-no_program None line b e is h = inl (ap failure_of h)
-
 pub program_refused : (line : ServiceLine) (name b slice : List ℕ) (e : FileError) → name ≡ line.file → slice ≡ b → ReadsFile (refusal_of slice) slice (Err e)
-    → (failure_of e ≡ NoMemory) ⊎ IsFileRefused line (file_given name b) (failure_of e)
+    → IsFileRefused line (file_given name b) (failure_of e)
 program_refused line name b slice e same of h =
-    subst (λ (n : List ℕ). (failure_of e ≡ NoMemory) ⊎ IsFileRefused line (file_given n b) (failure_of e)) (sym same)
-    (no_program (refusal_of b) line b e refl (subst (λ (t : List ℕ). ReadsFile (refusal_of t) t (Err e)) of h))
+    inr (b, e, ap (λ (n : List ℕ). file_given n b) same, subst (λ (t : List ℕ). ReadsFile (refusal_of t) t (Err e)) of h, refl)
 
 is_program : (o : Option FileError) (b : List ℕ) (p : Program) → ReadsFile o b (Ok p) → FileIs b p
 is_program (Some d) b p h = absurd cc
@@ -65,9 +58,14 @@ as_many (k ∷ ls) (p ∷ qs) (w ∷ vs) h = ap (λ n. suc n) (as_many ls qs vs 
 
 -- those above the line of a place, and the one that is refused there
 pub refused_there : (lines : List ServiceLine) (i : ℕ) (l : ServiceLine) (qs : List Asked) (q : Asked) (vs : List Service) (f : Failure)
-    → i < length lines → l ≡ get_or lines i l → AreServicesRead (take i lines) qs vs → (f ≡ NoMemory) ⊎ IsFileRefused l q f → (f ≡ NoMemory) ⊎ IsFirstRefused lines (qs ++ q ∷ []) f
-refused_there lines i l qs q vs f b is h (inl e) = inl e
-refused_there lines i l qs q vs f b is h (inr r) = inr (take i lines, drop (suc i) lines, l, qs, q, vs, split_there lines i l b is, refl, h, r)
+    → i < length lines → l ≡ get_or lines i l → AreServicesRead (take i lines) qs vs → IsFileRefused l q f → IsServicesFault lines (qs ++ q ∷ []) f
+refused_there lines i l qs q vs f b is h r = inl (take i lines, drop (suc i) lines, l, qs, q, vs, split_there lines i l b is, refl, h, r)
+
+-- those up to the line of a place, with no room for the service there
+pub lost_there : (lines : List ServiceLine) (i : ℕ) (l : ServiceLine) (qs : List Asked) (q : Asked) (vs : List Service) (v : Service) (f : Failure)
+    → i < length lines → l ≡ get_or lines i l → AreServicesRead (take i lines) qs vs → IsServiceRead l q v → f ≡ NoMemory → IsServicesFault lines (qs ++ q ∷ []) f
+lost_there lines i l qs q vs v f b is h r lost =
+    inr (take i lines ++ l ∷ [], drop (suc i) lines, vs ++ v ∷ [], split_there lines i l b is ∙ sym (append_assoc (take i lines) (l ∷ []) (drop (suc i) lines)), read_more (take i lines) qs vs l q v h r, lost)
 
 pub read_there : (lines : List ServiceLine) (i : ℕ) (l : ServiceLine) (qs : List Asked) (q : Asked) (vs ws : List Service) (v : Service)
     → i < length lines → l ≡ get_or lines i l → ws ≡ vs ++ v ∷ [] → AreServicesRead (take i lines) qs vs → IsServiceRead l q v → AreServicesRead (take (i + 1) lines) (qs ++ q ∷ []) ws
@@ -81,37 +79,20 @@ read_there lines i l qs q vs ws v b is e h r =
 pub asked_on : (a b c qs rs : List Asked) → b ≡ a ++ qs → c ≡ b ++ rs → c ≡ a ++ (qs ++ rs)
 asked_on a b c qs rs e h = h ∙ ap (λ (x : List Asked). x ++ rs) e ∙ append_assoc a qs rs
 
--- ---- texts
-
--- what is told of a text is a fault of it, or want of memory
-pub text_told : (Tells : List ℕ → BootError → Type 0) (name text : List ℕ) (q : Asked) (e : BootError) → IsTextGiven name q text → Tells text e
-    → (failure_of_lines e ≡ NoMemory) ⊎ IsTextFaulty Tells name q (failure_of_lines e)
-text_told Tells name text q lines.NoMemory t h = inl refl
-text_told Tells name text q (lines.BadLine n) t h = inr (text, lines.BadLine n, t, h, refl)
-text_told Tells name text q (lines.TwiceNamed n) t h = inr (text, lines.TwiceNamed n, t, h, refl)
-text_told Tells name text q (lines.TooMany n) t h = inr (text, lines.TooMany n, t, h, refl)
-text_told Tells name text q (lines.BadRecord n) t h = inr (text, lines.BadRecord n, t, h, refl)
-
 -- ---- a configuration and its services
 
-pub setup_no_text : (name : List ℕ) (q : Asked) (f : Failure) → (f ≡ NoMemory) ⊎ IsNoTextGiven name q f → (f ≡ NoMemory) ⊎ IsSetupFault name (q ∷ []) f
-setup_no_text name q f (inl e) = inl e
-setup_no_text name q f (inr h) = inr (inl (q, refl, inl h))
-
-setup_by : (name : List ℕ) (q : Asked) (f : Failure) → (f ≡ NoMemory) ⊎ IsTextFaulty TellsConfigFault name q f → (f ≡ NoMemory) ⊎ IsSetupFault name (q ∷ []) f
-setup_by name q f (inl e) = inl e
-setup_by name q f (inr h) = inr (inl (q, refl, inr h))
+pub setup_no_text : (name : List ℕ) (q : Asked) (f : Failure) → IsNoTextGiven name q f → IsSetupFault name (q ∷ []) f
+setup_no_text name q f h = inl (q, refl, inl h)
 
 pub setup_faulty : (name text slice : List ℕ) (q : Asked) (e : BootError) → slice ≡ text → IsTextGiven name q text → TellsConfigFault slice e
-    → (failure_of_lines e ≡ NoMemory) ⊎ IsSetupFault name (q ∷ []) (failure_of_lines e)
-setup_faulty name text slice q e of t h = setup_by name q (failure_of_lines e) (text_told TellsConfigFault name text q e t (subst (λ (x : List ℕ). TellsConfigFault x e) of h))
+    → IsSetupFault name (q ∷ []) (failure_of_lines e)
+setup_faulty name text slice q e of t h = inl (q, refl, inr (text, e, t, subst (λ (x : List ℕ). TellsConfigFault x e) of h, refl))
 
 pub setup_refused : (name text slice : List ℕ) (q : Asked) (qs : List Asked) (config : Config) (lines : List ServiceLine) (f : Failure)
-    → slice ≡ text → IsTextGiven name q text → IsConfig slice config → lines ≡ config.lines → (f ≡ NoMemory) ⊎ IsFirstRefused lines qs f
-    → (f ≡ NoMemory) ⊎ IsSetupFault name (q ∷ qs) f
-setup_refused name text slice q qs config lines f of t is same (inl e) = inl e
-setup_refused name text slice q qs config lines f of t is same (inr r) =
-    inr (inr (q, qs, text, config, refl, t, subst (λ (x : List ℕ). IsConfig x config) of is, subst (λ (ls : List ServiceLine). IsFirstRefused ls qs f) same r))
+    → slice ≡ text → IsTextGiven name q text → IsConfig slice config → lines ≡ config.lines → IsServicesFault lines qs f
+    → IsSetupFault name (q ∷ qs) f
+setup_refused name text slice q qs config lines f of t is same r =
+    inr (q, qs, text, config, refl, t, subst (λ (x : List ℕ). IsConfig x config) of is, subst (λ (ls : List ServiceLine). IsServicesFault ls qs f) same r)
 
 pub setup_read : (name text slice : List ℕ) (q : Asked) (qs : List Asked) (config : Config) (lines : List ServiceLine) (vs : List Service)
     → slice ≡ text → IsTextGiven name q text → IsConfig slice config → lines ≡ config.lines → AreServicesRead lines qs vs → IsSetup name (q ∷ qs) config vs
@@ -123,28 +104,23 @@ as_many_services name qs config vs h = as_many config.lines h.1 vs h.6
 
 -- ---- and the text that drives the machine
 
-pub first_setup : (Tells : List ℕ → Config → BootError → Type 0) (config_name name : List ℕ) (qs : List Asked) (f : Failure)
-    → (f ≡ NoMemory) ⊎ IsSetupFault config_name qs f → (f ≡ NoMemory) ⊎ IsFirstFault Tells config_name name qs f
-first_setup Tells config_name name qs f (inl e) = inl e
-first_setup Tells config_name name qs f (inr h) = inr (inl h)
+pub first_setup : {L : Type 0} (Says : List ℕ → Config → List L → Type 0) (Tells : List ℕ → Config → BootError → Type 0) (config_name name : List ℕ) (qs : List Asked) (f : Failure)
+    → IsSetupFault config_name qs f → IsNotStarted Says Tells config_name name qs f
+first_setup Says Tells config_name name qs f h = inl (inl h)
 
-pub first_no_text : (Tells : List ℕ → Config → BootError → Type 0) (config_name name : List ℕ) (qs : List Asked) (q : Asked) (config : Config) (vs : List Service) (f : Failure)
-    → IsSetup config_name qs config vs → (f ≡ NoMemory) ⊎ IsNoTextGiven name q f → (f ≡ NoMemory) ⊎ IsFirstFault Tells config_name name (qs ++ q ∷ []) f
-first_no_text Tells config_name name qs q config vs f s (inl e) = inl e
-first_no_text Tells config_name name qs q config vs f s (inr h) = inr (inr (qs, q, config, vs, refl, s, inl h))
+pub first_no_text : {L : Type 0} (Says : List ℕ → Config → List L → Type 0) (Tells : List ℕ → Config → BootError → Type 0) (config_name name : List ℕ) (qs : List Asked) (q : Asked) (config : Config) (vs : List Service) (f : Failure)
+    → IsSetup config_name qs config vs → IsNoTextGiven name q f → IsNotStarted Says Tells config_name name (qs ++ q ∷ []) f
+first_no_text Says Tells config_name name qs q config vs f s h = inl (inr (qs, q, config, vs, refl, s, inl h))
 
-first_by : (Tells : List ℕ → Config → BootError → Type 0) (config_name name : List ℕ) (qs : List Asked) (q : Asked) (config : Config) (vs : List Service) (f : Failure)
-    → IsSetup config_name qs config vs → (f ≡ NoMemory) ⊎ IsTextFaulty (λ text e. Tells text config e) name q f
-    → (f ≡ NoMemory) ⊎ IsFirstFault Tells config_name name (qs ++ q ∷ []) f
-first_by Tells config_name name qs q config vs f s (inl e) = inl e
-first_by Tells config_name name qs q config vs f s (inr h) = inr (inr (qs, q, config, vs, refl, s, inr h))
-
-pub first_faulty : (Tells : List ℕ → Config → BootError → Type 0) (config_name name text slice : List ℕ) (qs : List Asked) (q : Asked) (config : Config) (vs : List Service) (e : BootError)
+pub first_faulty : {L : Type 0} (Says : List ℕ → Config → List L → Type 0) (Tells : List ℕ → Config → BootError → Type 0) (config_name name text slice : List ℕ) (qs : List Asked) (q : Asked) (config : Config) (vs : List Service) (e : BootError)
     → IsSetup config_name qs config vs → slice ≡ text → IsTextGiven name q text → Tells slice config e
-    → (failure_of_lines e ≡ NoMemory) ⊎ IsFirstFault Tells config_name name (qs ++ q ∷ []) (failure_of_lines e)
-first_faulty Tells config_name name text slice qs q config vs e s of t h =
-    first_by Tells config_name name qs q config vs (failure_of_lines e) s
-    (text_told (λ x d. Tells x config d) name text q e t (subst (λ (x : List ℕ). Tells x config e) of h))
+    → IsNotStarted Says Tells config_name name (qs ++ q ∷ []) (failure_of_lines e)
+first_faulty Says Tells config_name name text slice qs q config vs e s of t h =
+    inl (inr (qs, q, config, vs, refl, s, inr (text, e, t, subst (λ (x : List ℕ). Tells x config e) of h, refl)))
+
+pub not_booted : {L : Type 0} (Says : List ℕ → Config → List L → Type 0) (Tells : List ℕ → Config → BootError → Type 0) (config_name name : List ℕ) (qs : List Asked) (config : Config) (vs : List Service) (said : List L) (f : Failure)
+    → IsStart Says config_name name qs config vs said → f ≡ NoMemory → IsNotStarted Says Tells config_name name qs f
+not_booted Says Tells config_name name qs config vs said f s lost = inr (config, vs, said, s, lost)
 
 pub started : {L : Type 0} (Says : List ℕ → Config → List L → Type 0) (config_name name text slice : List ℕ) (qs : List Asked) (q : Asked) (config : Config) (vs : List Service) (said : List L)
     → IsSetup config_name qs config vs → slice ≡ text → IsTextGiven name q text → Says slice config said

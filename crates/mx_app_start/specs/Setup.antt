@@ -1,9 +1,9 @@
 -- What a machine is started from, by what a reader was asked for (our own).
-use Rattle.std.specs.Prelude.{◌≡◌, ◌⊎◌, ℕ, List, [], ◌∷◌, ◌++◌, Some}
+use Rattle.std.specs.Prelude.{◌≡◌, ◌⊎◌, ℕ, List, [], ◌∷◌, ◌++◌, Err}
 use Rattle.std.specs.Str.{IsUtf8}
 use Rattle.std.specs.declared.io.ErrorKind.{ErrorKind}
 use Rattle.mx_aout.specs.declared.program.FileError.{FileError}
-use Rattle.mx_aout.specs.File.{FileIs, refusal_of}
+use Rattle.mx_aout.specs.File.{FileIs, ReadsFile, refusal_of}
 use Rattle.mx_text.specs.declared.error.BootError.{BootError}
 use Rattle.mx_boot.specs.Config.{Config}
 use Rattle.mx_boot.specs.ServiceLine.{ServiceLine}
@@ -48,11 +48,11 @@ pub record IsServiceOf (line : ServiceLine) (bytes : List ℕ) (v : Service) : T
 abbrev pub IsServiceRead : ServiceLine → Asked → Service → Type 0
 IsServiceRead line q v = (bytes : List ℕ) × (q ≡ file_given line.file bytes) × IsServiceOf line bytes v
 
--- why the line's file gives no program
+-- why the line's file gives no program: it is missed or refused, or out of memory for the program that it is
 abbrev pub IsFileRefused : ServiceLine → Asked → Failure → Type 0
 IsFileRefused line q f =
     IsFileMissed line.file q f
-    ⊎ ((bytes : List ℕ) × (e : FileError) × (q ≡ file_given line.file bytes) × (refusal_of bytes ≡ Some e) × (f ≡ failure_of e))
+    ⊎ ((bytes : List ℕ) × (e : FileError) × (q ≡ file_given line.file bytes) × ReadsFile (refusal_of bytes) bytes (Err e) × (f ≡ failure_of e))
 
 -- each line's file was asked for, in order
 abbrev pub AreServicesRead : List ServiceLine → List Asked → List Service → Type 0
@@ -66,6 +66,15 @@ IsFirstRefused lines qs f =
     (above below : List ServiceLine) × (line : ServiceLine) × (before : List Asked) × (q : Asked) × (services : List Service)
     × (lines ≡ above ++ line ∷ below) × (qs ≡ before ++ q ∷ []) × AreServicesRead above before services × IsFileRefused line q f
 
+-- out of memory for the list of the services of some lines, each of which was read
+abbrev pub IsListLost : List ServiceLine → List Asked → Failure → Type 0
+IsListLost lines qs f =
+    (above below : List ServiceLine) × (services : List Service)
+    × (lines ≡ above ++ below) × AreServicesRead above qs services × (f ≡ NoMemory)
+
+abbrev pub IsServicesFault : List ServiceLine → List Asked → Failure → Type 0
+IsServicesFault lines qs f = IsFirstRefused lines qs f ⊎ IsListLost lines qs f
+
 -- ---- a configuration and its services
 
 abbrev pub IsSetup : List ℕ → List Asked → Config → List Service → Type 0
@@ -78,7 +87,7 @@ abbrev pub IsSetupFault : List ℕ → List Asked → Failure → Type 0
 IsSetupFault name qs f =
     ((q : Asked) × (qs ≡ q ∷ []) × (IsNoTextGiven name q f ⊎ IsTextFaulty TellsConfigFault name q f))
     ⊎ ((q : Asked) × (rest : List Asked) × (text : List ℕ) × (config : Config)
-    × (qs ≡ q ∷ rest) × IsTextGiven name q text × IsConfig text config × IsFirstRefused config.lines rest f)
+    × (qs ≡ q ∷ rest) × IsTextGiven name q text × IsConfig text config × IsServicesFault config.lines rest f)
 
 -- ---- and the text that drives the machine
 
@@ -96,6 +105,8 @@ IsFirstFault Tells config_name name qs f =
     × (qs ≡ before ++ q ∷ []) × IsSetup config_name before config services
     × (IsNoTextGiven name q f ⊎ IsTextFaulty (λ text e. Tells text config e) name q f))
 
--- no machine was started: that fault, want of memory aside
-abbrev pub IsNotStarted : (List ℕ → Config → BootError → Type 0) → List ℕ → List ℕ → List Asked → Failure → Type 0
-IsNotStarted Tells config_name name qs f = (f ≡ NoMemory) ⊎ IsFirstFault Tells config_name name qs f
+-- no machine was started: that fault; or, where there is none, out of memory
+abbrev pub IsNotStarted : {L : Type 0} → (List ℕ → Config → List L → Type 0) → (List ℕ → Config → BootError → Type 0) → List ℕ → List ℕ → List Asked → Failure → Type 0
+IsNotStarted {L} Says Tells config_name name qs f =
+    IsFirstFault Tells config_name name qs f
+    ⊎ ((c : Config) × (services : List Service) × (said : List L) × IsStart Says config_name name qs c services said × (f ≡ NoMemory))

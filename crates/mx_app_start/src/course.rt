@@ -16,7 +16,7 @@ pub trait Course {
     /// The lines say this, for the machine of a configuration.
     ghost IsSaid: { List ℕ → Config → List Self.Line → Type 0 };
 
-    /// What may be told of a text that isn't one of these; want of memory aside.
+    /// What may be told of a text: the first line at fault; or, where there is none, out of memory.
     ghost Tells: { List ℕ → Config → BootError → Type 0 };
 
     /// What the lines of a text say, or the first line at fault.

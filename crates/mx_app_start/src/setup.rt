@@ -1,9 +1,8 @@
 //! Configurations and programs by the names of their files.
 
-ghost use Rattle.std.specs.Prelude.{◌≡◌, ◌⊎◌, ◌++◌, ◌∷◌, [], List, IfOk, IfErr, string_bytes};
-ghost use Rattle.mx_app_failure.specs.declared.failure.Failure.TheVariants.{NoMemory};
+ghost use Rattle.std.specs.Prelude.{◌≡◌, ◌++◌, ◌∷◌, [], List, IfOk, IfErr, string_bytes};
 ghost use Rattle.mx_app_start.specs.Asked.{Asked};
-ghost use Rattle.mx_app_start.specs.Setup.{AreServicesRead, IsFirstRefused, IsNoTextGiven, IsServiceRead, IsFileRefused, IsSetup, IsSetupFault, IsTextGiven};
+ghost use Rattle.mx_app_start.specs.Setup.{AreServicesRead, IsNoTextGiven, IsServiceRead, IsServicesFault, IsFileRefused, IsSetup, IsSetupFault, IsTextGiven};
 
 use crate::reader::Reader;
 use mx_aout::read;
@@ -19,7 +18,7 @@ pub(crate) fn text_of<R: Reader>(
     name: &str,
 ) -> Result<String, Failure>
     ensures text { IfOk result (λ text. (q : Asked) × (R.asked reader.new ≡ R.asked reader.old ++ q ∷ []) × IsTextGiven name.now q (string_bytes text)) }
-    ensures fault { IfErr result (λ f. (q : Asked) × (R.asked reader.new ≡ R.asked reader.old ++ q ∷ []) × ((f ≡ NoMemory) ⊎ IsNoTextGiven name.now q f)) }
+    ensures fault { IfErr result (λ f. (q : Asked) × (R.asked reader.new ≡ R.asked reader.old ++ q ∷ []) × IsNoTextGiven name.now q f) }
 {
     let bytes = reader.read(alloc, name)?;
     match String::from_utf8(bytes) {
@@ -35,7 +34,7 @@ fn service_of<R: Reader>(
     line: &ServiceLine,
 ) -> Result<Service, Failure>
     ensures read { IfOk result (λ v. (q : Asked) × (R.asked reader.new ≡ R.asked reader.old ++ q ∷ []) × IsServiceRead line.now q v) }
-    ensures refused { IfErr result (λ f. (q : Asked) × (R.asked reader.new ≡ R.asked reader.old ++ q ∷ []) × ((f ≡ NoMemory) ⊎ IsFileRefused line.now q f)) }
+    ensures refused { IfErr result (λ f. (q : Asked) × (R.asked reader.new ≡ R.asked reader.old ++ q ∷ []) × IsFileRefused line.now q f) }
 {
     let bytes = reader.read(alloc, line.file.as_str())?;
     let program = read(alloc, bytes.as_slice())?;
@@ -57,7 +56,7 @@ fn services_of<R: Reader>(
     lines: &[ServiceLine],
 ) -> Result<Vec<Service>, Failure>
     ensures read { IfOk result (λ services. (qs : List Asked) × (R.asked reader.new ≡ R.asked reader.old ++ qs) × AreServicesRead lines.now qs services.items) }
-    ensures refused { IfErr result (λ f. (qs : List Asked) × (R.asked reader.new ≡ R.asked reader.old ++ qs) × ((f ≡ NoMemory) ⊎ IsFirstRefused lines.now qs f)) }
+    ensures refused { IfErr result (λ f. (qs : List Asked) × (R.asked reader.new ≡ R.asked reader.old ++ qs) × IsServicesFault lines.now qs f) }
 {
     let mut services = Vec::new(alloc);
     for line in lines {
@@ -68,15 +67,15 @@ fn services_of<R: Reader>(
 }
 
 /// The configuration of a file, and the services of its lines, whose programs' files are read in the
-/// order of the lines. A failure is the first fault of what was read, or want of memory; no further file
-/// was asked for.
+/// order of the lines. A failure is the first fault of what was read; out of memory is told only where
+/// nothing above is at fault. No further file was asked for.
 pub fn setup_of<R: Reader>(
     alloc: Global,
     reader: &mut R,
     name: &str,
 ) -> Result<(Config, Vec<Service>), Failure>
     ensures read { IfOk result (λ s. (qs : List Asked) × (R.asked reader.new ≡ R.asked reader.old ++ qs) × IsSetup name.now qs s.0 s.1.items) }
-    ensures fault { IfErr result (λ f. (qs : List Asked) × (R.asked reader.new ≡ R.asked reader.old ++ qs) × ((f ≡ NoMemory) ⊎ IsSetupFault name.now qs f)) }
+    ensures fault { IfErr result (λ f. (qs : List Asked) × (R.asked reader.new ≡ R.asked reader.old ++ qs) × IsSetupFault name.now qs f) }
 {
     let text = text_of(alloc, reader, name)?;
     let config = config(alloc, text.as_str())?;

@@ -40,7 +40,8 @@ fn boot(alloc: Global, config: &Config, services: Vec<Service>) -> Result<Machin
 }
 
 /// Reads a configuration, the programs of its services in the order of their lines, and the text that
-/// drives the machine, each checked before the next is read; then boots the machine.
+/// drives the machine, each checked before the next is read; then boots the machine. Out of memory is
+/// told only where nothing that was read is at fault.
 pub fn start<C: Course, R: Reader>(
     alloc: Global,
     reader: &mut R,
@@ -54,7 +55,7 @@ where
         × (world_of s.machine ≡ world_at_boot c vs) × (s.other ≡ c.cpus)) }
     ensures other { IfOk result (λ s. s.other < actors (world_of s.machine)) }
     ensures fault { IfErr result (λ f. (qs : List Asked)
-        × (R.asked reader.new ≡ R.asked reader.old ++ qs) × IsNotStarted C.Tells config.now text.now qs f) }
+        × (R.asked reader.new ≡ R.asked reader.old ++ qs) × IsNotStarted C.IsSaid C.Tells config.now text.now qs f) }
 {
     let (config, services) = setup_of(alloc, reader, config)?;
     let text = text_of(alloc, reader, text)?;

@@ -9,7 +9,7 @@ ghost use Rattle.mx_machine_kernel.specs.History.{replay};
 ghost use Rattle.mx_machine_kernel.specs.World.{actors};
 
 use mx_boot_config::Config;
-use mx_boot_history::{SaveFault, Sink, history_again, save_records};
+use mx_boot_history::{Over, SaveFault, Sink, history_again, save_records};
 use mx_machine_kernel::Kernel;
 use mx_print_report::report_of;
 use mx_word::NoMemory;
@@ -25,6 +25,17 @@ pub fn save<S: Sink>(kernel: &Kernel, sink: &mut S) -> Result<(), SaveFault>
     ensures failed { OnErr result (S.has_failed sink.new ≡ true) }
 {
     save_records(kernel.history(), sink)
+}
+
+/// The text of a kernel's history.
+pub fn saved_text(alloc: Global, kernel: &Kernel) -> Result<Vec<u8>, NoMemory>
+    ensures { IfOk result (λ text. text.items ≡ history_text kernel.now.history) }
+{
+    let mut sink = Over::new(Vec::new(alloc));
+    match save(kernel, &mut sink) {
+        Ok(()) => Ok(sink.into_writer()),
+        Err(SaveFault) => Err(NoMemory),
+    }
 }
 
 /// What is saved of a kernel is its history again for who reads it, by a configuration with as many

@@ -4,7 +4,7 @@
 
 mod kernels;
 
-pub use kernels::{report, save, saved_again};
+pub use kernels::{report, save, saved_again, saved_text};
 pub use mx_boot_config::{Config, FileName, ServiceLine, ServiceLines, config};
 pub use mx_boot_history::{Over, SaveFault, Sink, SinkFault, log};
 pub use mx_boot_script::{CodePlace, DebugLine, ScriptLine, SymbolName, debug_script, script};

@@ -1,10 +1,17 @@
 -- Lines that are read, one more at a time.
-use Rattle.std.proofs.Common.{◌≡◌, ◌≢◌, ◌∙◌, ℕ, suc, ◌+◌, inl, inr, List, [], ◌∷◌, length, refl, sym, subst, ap, arith}
+use Rattle.std.proofs.Common.{◌≡◌, ◌≢◌, ◌∙◌, ◌⊎◌, ◌<◌, ℕ, zero, false, nat_le, All, leb-false, length-append, suc, ◌+◌, inl, inr, List, [], ◌∷◌, ◌++◌, length, take, get_or, refl, sym, subst, ap, arith}
+use Rattle.std.proofs.lemmas.List.{take_more}
+use Rattle.std.proofs.lemmas.List.Elements.{All-append}
 use Rattle.mx_text.specs.Lines.{lines, last_line}
 use Rattle.mx_text.specs.declared.error.BootError.{BootError}
-use Rattle.mx_text.specs.declared.error.BootError.TheVariants.{BadLine, TwiceNamed, TooMany, BadRecord, NoMemory}
-use Rattle.mx_boot_config.specs.Above.{ItemsAbove, nothing_above}
-use Rattle.mx_boot_config.specs.Lines.{IsItemTaken, IsItemWrong, AreItemsTaken, IsFirstItemWrong, TellsItemWrong, TellsFirstItem, TellsConfigFault}
+use Rattle.mx_text.specs.declared.error.BootError.TheVariants.{BadLine, NoMemory}
+use Rattle.mx_machine_world.specs.declared.config.ServiceLine.{ServiceLine}
+use Rattle.mx_boot_config.specs.declared.service.ServiceWords.{ServiceWords}
+use Rattle.mx_boot_config.specs.declared.item.ConfigItem.{ConfigItem}
+use Rattle.mx_boot_config.specs.declared.item.ConfigItem.TheVariants.{Service}
+use Rattle.mx_boot_config.specs.Above.{ItemsAbove, IsAbove, nothing_above}
+use Rattle.mx_boot_config.specs.Items.{IsItemWithin, IsServiceWithin}
+use Rattle.mx_boot_config.specs.Lines.{is_service_too_many, AreLinesOf, IsLineOf, IsItemTaken, IsItemWrong, AreItemsTaken, IsFirstItemWrong, TellsConfigFault}
 
 -- what is made of the lines that are left is made of all
 abbrev pub TakesOn : ItemsAbove → ℕ → List (List ℕ) → List (List ℕ) → Type 0
@@ -34,31 +41,43 @@ count_more line left more n total next e =
 
 -- ---- what is told
 
-pub told_wrong : (a : ItemsAbove) (n : ℕ) (line : List ℕ) (e : BootError) → IsItemWrong a n line e → TellsItemWrong a n line e
-told_wrong a n line NoMemory wrong = tt
-told_wrong a n line (BadLine k) wrong = wrong
-told_wrong a n line (TwiceNamed k) wrong = wrong
-told_wrong a n line (TooMany k) wrong = wrong
-told_wrong a n line (BadRecord k) wrong = wrong
+pub told_last : (text : List ℕ) (a : ItemsAbove) (n : ℕ) (e : BootError) → AreItemsTaken nothing_above 1 (lines text) a → n ≡ last_line (lines text)
+    → ((a.services ≡ []) × (e ≡ BadLine n)) ⊎ ((a.services ≢ []) × (e ≡ NoMemory)) → TellsConfigFault text e
+told_last text a n e taken last (inl told) = inl (inr (a, taken, told.0, told.1 ∙ ap BadLine last))
+told_last text a n e taken last (inr told) = inr (a, (taken, told.0), told.1)
 
-pub told_first : (a : ItemsAbove) (n : ℕ) (line text : List ℕ) (left more : List (List ℕ)) (e : BootError) → WrongsOn a n left (lines text) → left ≡ line ∷ more → TellsItemWrong a n line e
-    → TellsFirstItem text e
-told_first a n line text left more NoMemory before next wrong = tt
-told_first a n line text left more (BadLine k) before next wrong = wrong_here a n line left more (lines text) (BadLine k) before next wrong
-told_first a n line text left more (TwiceNamed k) before next wrong = wrong_here a n line left more (lines text) (TwiceNamed k) before next wrong
-told_first a n line text left more (TooMany k) before next wrong = wrong_here a n line left more (lines text) (TooMany k) before next wrong
-told_first a n line text left more (BadRecord k) before next wrong = wrong_here a n line left more (lines text) (BadRecord k) before next wrong
+-- ---- lines that are made
 
-pub told_fault : (text : List ℕ) (e : BootError) → TellsFirstItem text e → TellsConfigFault text e
-told_fault text NoMemory wrong = tt
-told_fault text (BadLine k) wrong = inl wrong
-told_fault text (TwiceNamed k) wrong = inl wrong
-told_fault text (TooMany k) wrong = inl wrong
-told_fault text (BadRecord k) wrong = inl wrong
+pub lines_more : (ws : List ServiceWords) (ls : List ServiceLine) (w : ServiceWords) (l : ServiceLine) → AreLinesOf ws ls → IsLineOf w l → AreLinesOf (ws ++ w ∷ []) (ls ++ l ∷ [])
+lines_more [] [] w l h is = (is, tt)
+lines_more [] (m ∷ ls) w l h is = absurd h
+lines_more (v ∷ ws) [] w l h is = absurd h
+lines_more (v ∷ ws) (m ∷ ls) w l h is = (h.0, lines_more ws ls w l h.1 is)
 
-pub told_last : (text : List ℕ) (a : ItemsAbove) (n : ℕ) (e : BootError) → AreItemsTaken nothing_above 1 (lines text) a → n ≡ last_line (lines text) → (a.lines ≡ []) × (e ≡ BadLine n) → TellsConfigFault text e
-told_last text a n e taken last told =
-    subst (TellsConfigFault text) (sym (told.1 ∙ ap BadLine last)) (inr (a, taken, told.0, refl))
+pub lines_next : (ws : List ServiceWords) (i : ℕ) (d : ServiceWords) (ls more : List ServiceLine) (l : ServiceLine)
+    → i < length ws → more ≡ ls ++ l ∷ [] → AreLinesOf (take i ws) ls → IsLineOf (get_or ws i d) l → AreLinesOf (take (i + 1) ws) more
+lines_next ws i d ls more l b e h of =
+    subst (λ (xs : List ServiceLine). AreLinesOf (take (i + 1) ws) xs) (sym e)
+    (subst (λ (xs : List ServiceWords). AreLinesOf xs (ls ++ l ∷ [])) (sym (take_more ws i d b)) (lines_more (take i ws) ls (get_or ws i d) l h of))
+
+-- ---- services that are taken in
+
+one_within : (w : ServiceWords) → IsServiceWithin w → All IsServiceWithin (w ∷ [])
+one_within w is zero d below = is
+one_within w is (suc k) d below = absurd (omega (arith, below))
+
+pub services_more : (a : ItemsAbove) (new : List ServiceWords) (item : ConfigItem) (w : ServiceWords) → item ≡ Service w → is_service_too_many a item ≡ false → IsItemWithin item → IsAbove a
+    → new ≡ a.services ++ w ∷ [] → IsAbove (record a { services = new })
+services_more a new item w is room within above e =
+    let left : nat_le 32 (length a.services) ≡ false = subst (λ (x : ConfigItem). is_service_too_many a x ≡ false) is room in
+    let within_w : IsServiceWithin w = subst IsItemWithin is within in
+    let longer : length new ≡ length a.services + 1 = ap length e ∙ length-append a.services (w ∷ []) in record {
+      cpus = above.cpus;
+      log = above.log;
+      others = above.others;
+      services = let few : length a.services < 32 = leb-false 32 (length a.services) left in omega (arith, longer, few);
+      within = subst (All IsServiceWithin) (sym e) (All-append IsServiceWithin a.services (w ∷ []) above.within (one_within w within_w));
+    }
 
 -- ---- the last line's number
 

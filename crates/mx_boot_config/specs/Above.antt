@@ -1,15 +1,16 @@
 -- What stands above a line of a configuration.
-use Rattle.std.specs.Prelude.{ℕ, ◌≤◌, List, [], length, Option, None, IfSome}
-use Rattle.mx_machine_world.specs.declared.config.ServiceLine.{ServiceLine}
+use Rattle.std.specs.Prelude.{ℕ, ◌≤◌, List, [], length, Option, None, IfSome, All}
+use Rattle.mx_boot_config.specs.declared.service.ServiceWords.{ServiceWords}
+use Rattle.mx_boot_config.specs.Items.{IsServiceWithin}
 
 pub record ItemsAbove : Type 0 where
   pub cpus : Option ℕ
   pub log : Option ℕ
   pub others : Option ℕ
-  pub lines : List ServiceLine
+  pub services : List ServiceWords
 
 abbrev pub nothing_above : ItemsAbove
-nothing_above = record { cpus = None; log = None; others = None; lines = [] }
+nothing_above = record { cpus = None; log = None; others = None; services = [] }
 
 abbrev pub IsBetween : ℕ → ℕ → Option ℕ → Type 0
 IsBetween least most said = IfSome said (λ n. (least ≤ n) × (n ≤ most))
@@ -19,4 +20,5 @@ pub record IsAbove (a : ItemsAbove) : Type 0 where
   pub cpus : IsBetween 1 8 a.cpus
   pub log : IsBetween 1 1048576 a.log
   pub others : IsBetween 1 4 a.others
-  pub lines : length a.lines ≤ 32
+  pub services : length a.services ≤ 32
+  pub within : All IsServiceWithin a.services

@@ -1,16 +1,14 @@
 -- What a line of a configuration says (our own notation).
-use Rattle.std.specs.Prelude.{◌≡◌, ◌≤◌, ⊤, ℕ, Bool, false, ◌==◌, ◌||◌, List, [], ◌∷◌, codes, Option, Some}
+use Rattle.std.specs.Prelude.{◌≡◌, ◌≤◌, ℕ, Bool, false, ◌==◌, ◌||◌, List, [], ◌∷◌, codes, Option, Some}
 use Rattle.std.specs.List.{before_first, list_any}
 use Rattle.std.specs.Str.{IsUtf8}
 use Rattle.mx_text.specs.Names.{name_of}
-use Rattle.mx_machine_world.specs.Labels.{IsReserved}
+use Rattle.mx_machine_world.specs.Labels.{IsLabel, IsReserved}
 use Rattle.mx_text.specs.Fields.{◌>>=◌, fields, only}
-use Rattle.mx_machine_world.specs.Label.{Label}
-use Rattle.mx_machine_world.specs.declared.config.ServiceLine.{ServiceLine}
-use Rattle.mx_boot_config.specs.declared.service.Terms.{Terms}
+use Rattle.mx_boot_config.specs.declared.service.ServiceWords.{ServiceWords}
 use Rattle.mx_boot_config.specs.declared.item.ConfigItem.{ConfigItem}
 use Rattle.mx_boot_config.specs.declared.item.ConfigItem.TheVariants.{Cpus, Log, Others, Service}
-use Rattle.mx_boot_config.specs.Terms.{number_between, terms_of}
+use Rattle.mx_boot_config.specs.Terms.{number_between, terms_of, AreWithin}
 
 abbrev pub is_hash : ℕ → Bool
 is_hash b = b == 35
@@ -25,24 +23,17 @@ number_after_word least most fs = do
   word ← only fs
   number_between least most word
 
--- what the service is booted from, but for its name and its file
-abbrev pub terms_of_service : ServiceLine → Terms
-terms_of_service s = record { masks = s.masks; level = s.level; best = s.best; quantum = s.quantum; restarts = s.restarts }
-
 -- a tab or a carriage return, which is no part of a file's name
 abbrev pub is_stray : ℕ → Bool
 is_stray b = b == 9 || b == 13
 
 -- NAME FILE and what stands behind: a name that a label may have, and a text
-abbrev pub HasParts : List (List ℕ) → Label → List ℕ → Terms → Type 0
-HasParts (name ∷ file ∷ fs) label text terms =
-    (name_of name ≡ Some label.name) × (IsReserved name → ⊥)
-    × (file ≡ text) × IsUtf8 file × (list_any is_stray file ≡ false)
-    × (terms_of fs ≡ Some terms)
-HasParts _ label text terms = ⊥
-
-abbrev pub SaysService : List (List ℕ) → ServiceLine → Type 0
-SaysService fs s = HasParts fs s.name s.file (terms_of_service s)
+abbrev pub SaysService : List (List ℕ) → ServiceWords → Type 0
+SaysService (name ∷ file ∷ fs) s =
+    (name_of name ≡ Some s.name) × (IsReserved name → ⊥)
+    × (file ≡ s.file.now) × IsUtf8 file × (list_any is_stray file ≡ false)
+    × (terms_of fs ≡ Some s.terms)
+SaysService _ s = ⊥
 
 -- `cpus N`, `log N`, `others N`, `service NAME FILE ..`
 abbrev pub SaysItem : List (List ℕ) → ConfigItem → Type 0
@@ -56,8 +47,11 @@ abbrev pub SaysNothing : List (List ℕ) → Type 0
 SaysNothing fs = (item : ConfigItem) → SaysItem fs item → ⊥
 
 -- what is said lies within a configuration's limits
+abbrev pub IsServiceWithin : ServiceWords → Type 0
+IsServiceWithin s = ∥ IsLabel s.name ∥₁ × AreWithin s.terms
+
 abbrev pub IsItemWithin : ConfigItem → Type 0
 IsItemWithin (Cpus n) = (1 ≤ n) × (n ≤ 8)
 IsItemWithin (Log n) = (1 ≤ n) × (n ≤ 1048576)
 IsItemWithin (Others n) = (1 ≤ n) × (n ≤ 4)
-IsItemWithin (Service s) = ⊤
+IsItemWithin (Service s) = IsServiceWithin s

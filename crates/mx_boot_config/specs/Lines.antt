@@ -1,13 +1,15 @@
 -- The lines of a configuration, and what is told of them (our own notation; the codes are our choice).
-use Rattle.std.specs.Prelude.{◌≡◌, ◌≢◌, ◌⊎◌, ℕ, ◌+◌, Bool, false, nat_le, if◌then◌else◌, List, [], ◌∷◌, ◌++◌, length, Option, Some, None, is_some, unwrap_or, ⊤}
+use Rattle.std.specs.Prelude.{◌≡◌, ◌≢◌, ◌⊎◌, ℕ, ◌+◌, Bool, false, nat_le, if◌then◌else◌, List, [], ◌∷◌, ◌++◌, length, Option, Some, None, is_some, unwrap_or}
 use Rattle.std.specs.List.{list_any}
 use Rattle.std.specs.Str.{bytes_eq}
 use Rattle.mx_text.specs.Lines.{lines, last_line}
 use Rattle.mx_text.specs.declared.error.BootError.{BootError}
 use Rattle.mx_text.specs.declared.error.BootError.TheVariants.{BadLine, TwiceNamed, TooMany, NoMemory}
-use Rattle.mx_machine_world.specs.Label.{Label}
+use Rattle.mx_text.specs.declared.names.Name.{Name}
 use Rattle.mx_machine_world.specs.declared.config.ServiceLine.{ServiceLine}
 use Rattle.mx_machine_world.specs.declared.config.Config.{Config}
+use Rattle.mx_boot_config.specs.declared.service.Terms.{Terms}
+use Rattle.mx_boot_config.specs.declared.service.ServiceWords.{ServiceWords}
 use Rattle.mx_boot_config.specs.declared.item.ConfigItem.{ConfigItem}
 use Rattle.mx_boot_config.specs.declared.item.ConfigItem.TheVariants.{Cpus, Log, Others, Service}
 use Rattle.mx_boot_config.specs.Items.{said_in, SaysItem, SaysNothing}
@@ -15,19 +17,19 @@ use Rattle.mx_boot_config.specs.Above.{ItemsAbove, nothing_above}
 
 -- ---- what a line may not say below others
 
-abbrev pub has_service_name : List ServiceLine → Label → Bool
-has_service_name above label = list_any (λ (t : ServiceLine). bytes_eq t.name.name.bytes label.name.bytes) above
+abbrev pub has_service_name : List ServiceWords → Name → Bool
+has_service_name above name = list_any (λ (t : ServiceWords). bytes_eq t.name.bytes name.bytes) above
 
 -- an item, or a service's name, that stands above already
 abbrev pub is_twice : ItemsAbove → ConfigItem → Bool
 is_twice a (Cpus n) = is_some a.cpus
 is_twice a (Log n) = is_some a.log
 is_twice a (Others n) = is_some a.others
-is_twice a (Service s) = has_service_name a.lines s.name
+is_twice a (Service s) = has_service_name a.services s.name
 
 -- a service below 32 others
 abbrev pub is_service_too_many : ItemsAbove → ConfigItem → Bool
-is_service_too_many a (Service s) = nat_le 32 (length a.lines)
+is_service_too_many a (Service s) = nat_le 32 (length a.services)
 is_service_too_many a item = false
 
 -- the first reason to refuse what line n says
@@ -38,7 +40,7 @@ abbrev pub items_with : ItemsAbove → ConfigItem → ItemsAbove
 items_with a (Cpus n) = record a { cpus = Some n }
 items_with a (Log n) = record a { log = Some n }
 items_with a (Others n) = record a { others = Some n }
-items_with a (Service s) = record a { lines = a.lines ++ s ∷ [] }
+items_with a (Service s) = record a { services = a.services ++ s ∷ [] }
 
 -- ---- lines
 
@@ -65,31 +67,41 @@ IsFirstItemWrong a n (l ∷ ls) e = IsItemWrong a n l e ⊎ ((b : ItemsAbove) ×
 
 -- ---- configurations
 
+-- what a service is booted from, but for its name and its file
+abbrev pub terms_of_service : ServiceLine → Terms
+terms_of_service s = record { masks = s.masks; level = s.level; best = s.best; quantum = s.quantum; restarts = s.restarts }
+
+-- The service's line is what these words say.
+pub record IsLineOf (words : ServiceWords) (line : ServiceLine) : Type 0 where
+  pub name : line.name.name ≡ words.name
+  pub file : line.file ≡ words.file.now
+  pub terms : terms_of_service line ≡ words.terms
+
+abbrev pub AreLinesOf : List ServiceWords → List ServiceLine → Type 0
+AreLinesOf [] [] = Unit {0}
+AreLinesOf (w ∷ ws) (l ∷ ls) = IsLineOf w l × AreLinesOf ws ls
+AreLinesOf _ _ = ⊥
+
 -- what isn't said is 1 processor, room for 65,536 records and 1 other
 pub record IsConfigOf (a : ItemsAbove) (config : Config) : Type 0 where
   pub cpus : config.cpus ≡ unwrap_or a.cpus 1
   pub others : config.others ≡ unwrap_or a.others 1
   pub log : config.log ≡ unwrap_or a.log 65536
-  pub lines : config.lines ≡ a.lines
+  pub lines : AreLinesOf a.services config.lines
+
+-- a text without a fault says all this
+abbrev pub SaysConfig : List ℕ → ItemsAbove → Type 0
+SaysConfig text a = AreItemsTaken nothing_above 1 (lines text) a × (a.services ≢ [])
 
 abbrev pub IsConfig : List ℕ → Config → Type 0
-IsConfig text config = (a : ItemsAbove) × AreItemsTaken nothing_above 1 (lines text) a × (a.lines ≢ []) × IsConfigOf a config
+IsConfig text config = (a : ItemsAbove) × SaysConfig text a × IsConfigOf a config
 
 -- the first line at fault, else the last line, where there is no service
 abbrev pub HasConfigFault : List ℕ → BootError → Type 0
 HasConfigFault text e =
     IsFirstItemWrong nothing_above 1 (lines text) e
-    ⊎ ((a : ItemsAbove) × AreItemsTaken nothing_above 1 (lines text) a × (a.lines ≡ []) × (e ≡ BadLine (last_line (lines text))))
+    ⊎ ((a : ItemsAbove) × AreItemsTaken nothing_above 1 (lines text) a × (a.services ≡ []) × (e ≡ BadLine (last_line (lines text))))
 
--- want of memory aside
-abbrev pub TellsItemWrong : ItemsAbove → ℕ → List ℕ → BootError → Type 0
-TellsItemWrong a n line NoMemory = ⊤
-TellsItemWrong a n line e = IsItemWrong a n line e
-
-abbrev pub TellsFirstItem : List ℕ → BootError → Type 0
-TellsFirstItem text NoMemory = ⊤
-TellsFirstItem text e = IsFirstItemWrong nothing_above 1 (lines text) e
-
+-- what is told where no configuration is answered: its first fault, and out of memory only where it has none
 abbrev pub TellsConfigFault : List ℕ → BootError → Type 0
-TellsConfigFault text NoMemory = ⊤
-TellsConfigFault text e = HasConfigFault text e
+TellsConfigFault text e = HasConfigFault text e ⊎ ((a : ItemsAbove) × SaysConfig text a × (e ≡ NoMemory))

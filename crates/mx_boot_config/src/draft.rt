@@ -1,58 +1,93 @@
 //! A configuration while its lines are read.
 
-ghost use Rattle.std.specs.Prelude.{◌≡◌, ◌≢◌, [], None, IfOk, IfErr, false};
+ghost use Rattle.std.specs.Prelude.{◌≡◌, ◌≢◌, ◌⊎◌, ◌≤◌, [], None, IfOk, IfErr, OnOk, All, false, length};
 ghost use Rattle.mx_text.specs.declared.error.BootError.TheVariants.{BadLine, NoMemory};
 ghost use Rattle.mx_boot_config.specs.Above.{ItemsAbove, nothing_above};
-ghost use Rattle.mx_boot_config.specs.Items.{IsItemWithin};
-ghost use Rattle.mx_boot_config.specs.Lines.{has_service_name, is_twice, is_service_too_many, item_refusal, items_with, IsItemTaken, TellsItemWrong, IsConfigOf};
+ghost use Rattle.mx_boot_config.specs.Items.{IsItemWithin, IsServiceWithin};
+ghost use Rattle.mx_boot_config.specs.Lines.{has_service_name, is_twice, is_service_too_many, item_refusal, items_with, AreLinesOf, IsLineOf, IsItemTaken, IsItemWrong, IsConfigOf};
 
 use crate::item::ConfigItem;
 use crate::items::{before_comment, item_at};
-use mx_machine_world::{Config, Label, ServiceLine, ServiceLines};
-use mx_text::{BootError, next_field};
-use std::alloc::Global;
+use crate::service::ServiceWords;
+use arrayvec::ArrayVec;
+use mx_machine_world::{Config, FileName, Label, ServiceLine, ServiceLines};
+use mx_text::{BootError, Name, next_field};
+use std::alloc::{AllocError, Global};
 use std::marker::Model;
 
-/// What the lines of a configuration have said so far.
+/// What the lines of a configuration have said so far. It takes no memory.
 #[derive(Drop)]
-pub struct Draft {
+pub struct Draft<'a> {
     pub cpus: Option<u8>,
     pub log: Option<u32>,
     pub others: Option<u8>,
-    pub lines: Vec<ServiceLine>,
+    pub services: ArrayVec<ServiceWords<'a>, 32>,
 }
 
-impl Model for Draft {
+impl<'a> Model for Draft<'a> {
     ghost use Rattle.mx_boot_config.specs.Above.{ItemsAbove, IsAbove};
 
     ghost Value = { ItemsAbove };
 
-    ghost view = { λ d. record { cpus = d.cpus; log = d.log; others = d.others; lines = d.lines.items } };
+    ghost view = { λ d. record { cpus = d.cpus; log = d.log; others = d.others; services = d.services.items } };
 
-    ghost invariant = { λ d. IsAbove (record { cpus = d.cpus; log = d.log; others = d.others; lines = d.lines.items }) };
+    ghost invariant = { λ d. IsAbove (record { cpus = d.cpus; log = d.log; others = d.others; services = d.services.items }) };
 }
 
-impl Draft {
-    /// Before the first line. Takes no memory.
-    pub fn new(alloc: Global) -> Draft
+/// The line of a service.
+fn line_of(alloc: Global, words: &ServiceWords<'_>) -> Result<ServiceLine, AllocError>
+    requires { IsServiceWithin words.now }
+    ensures { IfOk result (IsLineOf words.now) }
+{
+    let file = String::from_str(alloc, words.file)?;
+    Ok(ServiceLine {
+        name: Label { name: words.name },
+        file: FileName::from_string(file),
+        masks: words.terms.masks,
+        level: words.terms.level,
+        best: words.terms.best,
+        quantum: words.terms.quantum,
+        restarts: words.terms.restarts,
+    })
+}
+
+/// The lines of services, in order.
+fn lines_of(alloc: Global, services: &[ServiceWords<'_>]) -> Result<Vec<ServiceLine>, AllocError>
+    requires { All IsServiceWithin services.now }
+    ensures lines { IfOk result (λ lines. AreLinesOf services.now lines.items) }
+    ensures count { IfOk result (λ lines. length lines.items ≡ length services.now) }
+{
+    let mut lines = Vec::new(alloc);
+    for words in services {
+        lines.push(line_of(alloc, words)?)?;
+    }
+    Ok(lines)
+}
+
+impl<'a> Draft<'a> {
+    /// Before the first line.
+    pub fn new() -> Draft<'a>
         ensures { result ≡ nothing_above }
     {
         Draft {
             cpus: None,
             log: None,
             others: None,
-            lines: Vec::new(alloc),
+            services: ArrayVec::new(),
         }
     }
 
     /// Whether a service has this name.
-    fn is_named(&self, name: Label) -> bool
-        ensures { result ≡ has_service_name self.now.lines name }
+    fn is_named(&self, name: Name) -> bool
+        ensures { result ≡ has_service_name self.now.services name }
     {
-        self.lines.iter().any(|line| line.name == name)
+        self.services
+            .as_slice()
+            .iter()
+            .any(|words| words.name == name)
     }
 
-    fn is_twice(&self, item: &ConfigItem) -> bool
+    fn is_twice(&self, item: &ConfigItem<'_>) -> bool
         ensures { result ≡ is_twice self.now item.now }
     {
         match item {
@@ -63,17 +98,17 @@ impl Draft {
         }
     }
 
-    fn is_over(&self, item: &ConfigItem) -> bool
+    fn is_over(&self, item: &ConfigItem<'_>) -> bool
         ensures { result ≡ is_service_too_many self.now item.now }
     {
         match item {
-            ConfigItem::Service(_) => self.lines.len() >= 32,
+            ConfigItem::Service(_) => self.services.len() >= 32,
             _ => false,
         }
     }
 
     /// Why an item may not stand below these lines, as the line of this number.
-    fn reason_of(&self, item: &ConfigItem, number: usize) -> Option<BootError>
+    fn reason_of(&self, item: &ConfigItem<'_>, number: usize) -> Option<BootError>
         ensures { result ≡ item_refusal number self.now item.now }
     {
         if self.is_twice(item) {
@@ -86,32 +121,29 @@ impl Draft {
     }
 
     /// Takes an item in.
-    fn go_behind(&mut self, item: ConfigItem) -> Result<(), BootError>
+    fn go_behind(&mut self, item: ConfigItem<'a>)
         requires within { IsItemWithin item }
         requires room { is_service_too_many self.old item ≡ false }
-        ensures behind { IfOk result (λ _. self.new ≡ items_with self.old item) }
-        ensures memory { IfErr result (λ e. e ≡ NoMemory) }
+        ensures { self.new ≡ items_with self.old item.entry }
     {
         match item {
             ConfigItem::Cpus(number) => self.cpus = Some(number),
             ConfigItem::Log(number) => self.log = Some(number),
             ConfigItem::Others(number) => self.others = Some(number),
-            ConfigItem::Service(service) => self.lines.push(service)?,
+            ConfigItem::Service(words) => self.services.push(words),
         }
-        Ok(())
     }
 
     /// Takes a line in, or tells what is wrong with it.
-    #[tactic(auto, using(crate::proofs::Taking::told_wrong))]
-    pub fn take_line(&mut self, alloc: Global, line: &[u8], number: usize) -> Result<(), BootError>
+    pub fn take_line(&mut self, line: &'a [u8], number: usize) -> Result<(), BootError>
         ensures taken { IfOk result (λ _. IsItemTaken self.old number line.now self.new) }
-        ensures wrong { IfErr result (TellsItemWrong self.old number line.now) }
+        ensures wrong { IfErr result (IsItemWrong self.old number line.now) }
     {
         let (word, rest) = match next_field(before_comment(line)) {
             Some(parts) => parts,
             None => return Ok(()),
         };
-        let item = match item_at(alloc, word, rest)? {
+        let item = match item_at(word, rest) {
             Some(item) => item,
             None => return Err(BootError::BadLine(number)),
         };
@@ -119,23 +151,27 @@ impl Draft {
             Some(error) => return Err(error),
             None => {}
         }
-        self.go_behind(item)
+        self.go_behind(item);
+        Ok(())
     }
 
-    /// The configuration that is said, or that there is no service, told of the last line.
-    pub fn into_config(self, last: usize) -> Result<Config, BootError>
-        ensures config { IfOk result (IsConfigOf self) }
-        ensures some { IfOk result (λ _. self.lines ≢ []) }
-        ensures none { IfErr result (λ e. (self.lines ≡ []) × (e ≡ BadLine last)) }
+    /// The configuration that is said, or that there is no service, told of the last line. Takes memory
+    /// for what it answers.
+    pub fn into_config(self, alloc: Global, last: usize) -> Result<Config, BootError>
+        ensures config { IfOk result (IsConfigOf self.entry) }
+        ensures some { OnOk result (self.entry.services ≢ []) }
+        ensures none { IfErr result (λ e. ((self.entry.services ≡ []) × (e ≡ BadLine last))
+            ⊎ ((self.entry.services ≢ []) × (e ≡ NoMemory))) }
     {
-        if self.lines.is_empty() {
+        if self.services.is_empty() {
             return Err(BootError::BadLine(last));
         }
+        let lines = lines_of(alloc, self.services.as_slice())?;
         Ok(Config {
             cpus: self.cpus.unwrap_or(1),
             others: self.others.unwrap_or(1),
             log: self.log.unwrap_or(65_536),
-            lines: ServiceLines::from_vec(self.lines),
+            lines: ServiceLines::from_vec(lines),
         })
     }
 }

@@ -1,15 +1,15 @@
 //! Items of a configuration.
 
-use mx_machine_world::ServiceLine;
+use crate::service::ServiceWords;
 
-/// What a line of a configuration says.
-#[derive(Drop)]
-pub enum ConfigItem {
+/// What a line of a configuration says. It takes no memory: a file's name stays where the line has it.
+#[derive(Clone, Copy)]
+pub enum ConfigItem<'a> {
     /// How many processors there are.
     Cpus(u8),
     /// How many records the history has room for.
     Log(u32),
     /// How many other actors there are.
     Others(u8),
-    Service(ServiceLine),
+    Service(ServiceWords<'a>),
 }

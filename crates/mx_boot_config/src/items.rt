@@ -3,19 +3,15 @@
 ghost use Rattle.std.specs.Prelude.{◌≡◌, ◌≢◌, ◌≤◌, ◌∷◌, [], ℕ, List, Some, None, MatchOption, IfOk, IfSome, codes, length, take};
 ghost use Rattle.std.specs.List.{before_first, list_any};
 ghost use Rattle.mx_text.specs.Fields.{fields};
-ghost use Rattle.mx_machine_world.specs.Label.{Label};
-ghost use Rattle.mx_machine_world.specs.declared.config.ServiceLine.{ServiceLine};
-ghost use Rattle.mx_boot_config.specs.declared.service.Terms.{Terms};
+ghost use Rattle.mx_boot_config.specs.declared.service.ServiceWords.{ServiceWords as Words};
 ghost use Rattle.mx_boot_config.specs.declared.item.ConfigItem.{ConfigItem};
-ghost use Rattle.mx_boot_config.specs.Terms.{AreWithin};
-ghost use Rattle.mx_boot_config.specs.Items.{is_hash, is_stray, said_in, number_after_word, HasParts, SaysService, SaysItem, IsItemWithin};
+ghost use Rattle.mx_boot_config.specs.Items.{is_hash, is_stray, said_in, number_after_word, SaysService, SaysItem, IsServiceWithin, IsItemWithin};
 
 use crate::item::ConfigItem;
-use crate::service::Terms;
+use crate::service::ServiceWords;
 use crate::terms::{number_between, terms_of};
-use mx_machine_world::{FileName, Label, ServiceLine};
+use mx_machine_world::Label;
 use mx_text::{next_field, one_field};
-use std::alloc::{AllocError, Global};
 
 /// How much stands before a comment.
 fn length_of_item(line: &[u8]) -> usize
@@ -60,10 +56,10 @@ fn has_stray(file: &[u8]) -> bool
     file.iter().any(|byte| is_stray(*byte))
 }
 
-/// The name, the file and the terms of a service.
-fn parts_of(line: &[u8]) -> Option<(Label, &str, Terms)>
-    ensures within { IfSome result (λ p. AreWithin p.2) }
-    ensures parts { MatchOption result ((l : Label) (f : List ℕ) (t : Terms) → HasParts (fields line.now) l f t → ⊥) (λ p. HasParts (fields line.now) p.0 p.1.now p.2) }
+/// The service that a line is.
+fn service_of(line: &[u8]) -> Option<ServiceWords<'_>>
+    ensures within { IfSome result IsServiceWithin }
+    ensures says { MatchOption result ((s : Words) → SaysService (fields line.now) s → ⊥) (SaysService (fields line.now)) }
 {
     let (name, rest) = next_field(line)?;
     let (file, rest) = next_field(rest)?;
@@ -73,47 +69,31 @@ fn parts_of(line: &[u8]) -> Option<(Label, &str, Terms)>
         return None;
     }
     match str::from_utf8(file) {
-        Ok(text) => Some((label, text, terms)),
+        Ok(text) => Some(ServiceWords {
+            name: label.name,
+            file: text,
+            terms,
+        }),
         Err(_) => None,
     }
 }
 
-/// The service that a line is.
-fn service_of(alloc: Global, line: &[u8]) -> Result<Option<ServiceLine>, AllocError>
-    ensures { IfOk result (λ o. MatchOption o ((s : ServiceLine) → SaysService (fields line.now) s → ⊥) (SaysService (fields line.now))) }
-{
-    let (name, file, terms) = match parts_of(line) {
-        Some(parts) => parts,
-        None => return Ok(None),
-    };
-    let text = String::from_str(alloc, file)?;
-    Ok(Some(ServiceLine {
-        name,
-        file: FileName::from_string(text),
-        masks: terms.masks,
-        level: terms.level,
-        best: terms.best,
-        quantum: terms.quantum,
-        restarts: terms.restarts,
-    }))
-}
-
-/// What a line says whose fields begin with a word.
+/// What a line says whose fields begin with a word. Takes no memory.
 #[tactic(auto, using(crate::proofs::Services::only_service))]
-pub fn item_at(alloc: Global, word: &[u8], line: &[u8]) -> Result<Option<ConfigItem>, AllocError>
-    ensures said { IfOk result (λ o. MatchOption o ((i : ConfigItem) → SaysItem (word.now ∷ fields line.now) i → ⊥) (SaysItem (word.now ∷ fields line.now))) }
-    ensures within { IfOk result (λ o. IfSome o IsItemWithin) }
+pub fn item_at<'a>(word: &[u8], line: &'a [u8]) -> Option<ConfigItem<'a>>
+    ensures said { MatchOption result ((i : ConfigItem) → SaysItem (word.now ∷ fields line.now) i → ⊥) (SaysItem (word.now ∷ fields line.now)) }
+    ensures within { IfSome result IsItemWithin }
 {
     if word == b"service".as_slice() {
-        return match service_of(alloc, line)? {
-            Some(service) => Ok(Some(ConfigItem::Service(service))),
-            None => Ok(None),
+        return match service_of(line) {
+            Some(service) => Some(ConfigItem::Service(service)),
+            None => None,
         };
     }
     match word {
-        b"cpus" => Ok(numbered(line, 1, 8).map(|number| ConfigItem::Cpus(number as u8))),
-        b"log" => Ok(numbered(line, 1, 1_048_576).map(ConfigItem::Log)),
-        b"others" => Ok(numbered(line, 1, 4).map(|number| ConfigItem::Others(number as u8))),
-        _ => Ok(None),
+        b"cpus" => Some(ConfigItem::Cpus(numbered(line, 1, 8)? as u8)),
+        b"log" => Some(ConfigItem::Log(numbered(line, 1, 1_048_576)?)),
+        b"others" => Some(ConfigItem::Others(numbered(line, 1, 4)? as u8)),
+        _ => None,
     }
 }

@@ -1,6 +1,7 @@
 //! Services, as a line tells them.
 
 use mx_proc::Masks;
+use mx_text::Name;
 
 /// What a service's line says behind its file.
 #[derive(Clone, Copy)]
@@ -10,4 +11,35 @@ pub struct Terms {
     pub best: u8,
     pub quantum: u32,
     pub restarts: u32,
+}
+
+/// What a service's line says. The file's name stays where the line has it.
+#[derive(Clone, Copy)]
+pub struct ServiceWords<'a> {
+    pub name: Name,
+    pub file: &'a str,
+    pub terms: Terms,
+}
+
+/// No line's words: what stands in a list where no line's are.
+impl<'a> Default for ServiceWords<'a> {
+    fn default() -> ServiceWords<'a> {
+        let masks = Masks {
+            traps: 0,
+            sends: 0,
+            calls: 0,
+        };
+        let terms = Terms {
+            masks,
+            level: 0,
+            best: 0,
+            quantum: 1,
+            restarts: 0,
+        };
+        ServiceWords {
+            name: Name { bytes: [0; 8] },
+            file: "",
+            terms,
+        }
+    }
 }

@@ -2,3 +2,5 @@ mod Ended
 mod ReadAgain
 mod OneHistory
 mod Fronts
+pub mod Held
+pub mod Unended

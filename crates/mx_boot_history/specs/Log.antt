@@ -1,5 +1,5 @@
 -- Which history a text is (our own).
-use Rattle.std.specs.Prelude.{◌≡◌, ℕ, ◌==◌, ◌⊎◌, nat_lt, if◌then◌else◌, Bool, true, false, List, [], ◌∷◌, length, Option, Some, None, ⊤}
+use Rattle.std.specs.Prelude.{◌≡◌, ℕ, ◌==◌, ◌⊎◌, nat_lt, if◌then◌else◌, Bool, true, false, List, [], ◌∷◌, length, Option, Some, None}
 use Rattle.mx_text.specs.Lines.{lines}
 use Rattle.mx_text.specs.Fields.{fields, ◌>>=◌}
 use Rattle.mx_text.specs.declared.error.BootError.{BootError}
@@ -63,7 +63,8 @@ IsHistoryFault actors t n =
     IsFirstUnread (record_line actors) (lines t) n
     ⊎ ((records : List Record) × AreLinesRead (record_line actors) (lines t) records × (is_ended t ≡ false) × (n ≡ length (lines t)))
 
+-- what is told where no history is answered: the first line at fault, and out of memory only where there is none
 abbrev pub TellsHistoryFault : ℕ → List ℕ → BootError → Type 0
 TellsHistoryFault actors t (BadRecord n) = IsHistoryFault actors t n
-TellsHistoryFault actors t NoMemory = ⊤
+TellsHistoryFault actors t NoMemory = (records : List Record) × IsHistory actors t records
 TellsHistoryFault actors t _ = ⊥

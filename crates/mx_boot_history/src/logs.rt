@@ -1,18 +1,19 @@
 //! Reads the text of a history.
 
-ghost use Rattle.std.specs.Prelude.{◌≡◌, ◌+◌, List, All, IfOk, IfErr, MatchResult};
+ghost use Rattle.std.specs.Prelude.{◌≡◌, ◌+◌, length, List, All, IfOk, IfErr, MatchResult};
 ghost use Rattle.mx_text.specs.declared.error.BootError.TheVariants.{NoMemory};
 ghost use Rattle.mx_machine_world.specs.declared.history.Record.{Record};
 ghost use Rattle.mx_machine_world.specs.History.{IsWritable};
 ghost use Rattle.mx_boot_history.specs.Text.{history_text};
 ghost use Rattle.mx_text.specs.Fields.{fields};
+ghost use Rattle.mx_text.specs.Lines.{lines};
 ghost use Rattle.mx_boot_script.specs.Script.{after_verb};
 ghost use Rattle.mx_boot_history.specs.Log.{recorded_of, record_by, record_line, is_ended, IsHistory, TellsHistoryFault};
 
 use crate::laws::{history_again, one_history};
 use mx_boot_script::{ReadsLine, Verb, actor, only_count, read_lines, verb_named};
 use mx_machine_world::{Config, Record, Recorded};
-use mx_text::{BootError, next_field};
+use mx_text::{BootError, next_field, next_line};
 use std::alloc::Global;
 
 /// What was recorded, of a verb and what stands behind it.
@@ -87,24 +88,42 @@ fn is_ended(text: &[u8]) -> bool
     }
 }
 
-/// The records of a text, or its first line at fault.
+/// How many lines a text has.
+#[tactic(auto, using(crate::proofs::Unended::one_more))]
+fn count_of_lines(text: &[u8]) -> usize
+    ensures { result ≡ length (lines text.now) }
+{
+    let mut rest = text;
+    let mut count = 0;
+    while let Some((_, below)) = next_line(rest) {
+        rest = below;
+        count += 1;
+    }
+    count
+}
+
+/// The records of a text, or its first line at fault. Want of memory is told after all lines are judged,
+/// so that a line at fault is told whatever memory there is.
 fn read_log(alloc: Global, text: &str, actors: u8) -> Result<Vec<Record>, BootError>
     ensures history { IfOk result (λ records. IsHistory actors text.now records.items) }
     ensures fault { IfErr result (λ e. TellsHistoryFault actors text.now e) }
 {
-    let records = read_lines(alloc, &RecordReader { actors }, text.as_bytes())?;
-    if is_ended(text.as_bytes()) {
-        Ok(records)
-    } else {
-        Err(BootError::BadRecord(records.len()))
+    let bytes = text.as_bytes();
+    let read = read_lines(alloc, &RecordReader { actors }, bytes);
+    if is_ended(bytes) {
+        return read;
+    }
+    match read {
+        Err(BootError::BadRecord(number)) => Err(BootError::BadRecord(number)),
+        _ => Err(BootError::BadRecord(count_of_lines(bytes))),
     }
 }
 
 /// The history that a text is, one record a line: `A take`, `A back N`, `A line L`, `A tick`,
 /// `A kill E`, `A respawn S`, A the actor; each line is ended by a line feed. The numbers are
 /// decimal; A is below the count of the configuration's processors and others, the other numbers at
-/// most 2,147,483,647. Else `BadRecord` with the first line at fault. So the text of a history is
-/// read as that history.
+/// most 2,147,483,647. Else `BadRecord` with the first line at fault; `NoMemory` comes only where the text
+/// is a history. So the text of a history is read as that history.
 pub fn log(alloc: Global, text: &str, config: &Config) -> Result<Vec<Record>, BootError>
     ensures history { IfOk result (λ records. IsHistory (config.now.cpus + config.now.others) text.now records.items) }
     ensures fault { IfErr result (λ e. TellsHistoryFault (config.now.cpus + config.now.others) text.now e) }

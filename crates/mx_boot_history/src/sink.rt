@@ -1,9 +1,8 @@
 //! What takes bytes.
 
-ghost use Rattle.std.specs.Prelude.{◌≡◌, ◌<◌, ◌++◌, [], ℕ, Bool, false, List, length};
-ghost use Rattle.mx_boot_history.specs.Taking.{SinkTakes, bytes_put};
+ghost use Rattle.std.specs.Prelude.{◌≡◌, ◌<◌, ◌∷◌, [], ℕ, Bool, false, List, IsSome, Some, length};
+ghost use Rattle.mx_boot_history.specs.Taking.{SinkTakes};
 
-use http_server::Log;
 use std::io::Write;
 
 /// A sink has failed: it takes nothing any more.
@@ -24,48 +23,47 @@ pub trait Sink {
         ensures { SinkTakes (taken self.old) (taken self.new) (has_failed self.new) bytes.now result };
 }
 
-/// A sink over any writer. It keeps nothing of what the writer took but in its contracts.
+/// A sink over a writer that says what it holds, as a `Vec` does. What the sink took is what its writer
+/// holds.
 #[derive(Drop)]
-pub struct Over<W> {
-    pub writer: W,
-    pub has_failed: bool,
-    pub taken: Log<u8, ()>,
+pub struct Over<W: Write> {
+    writer: W,
+    has_failed: bool,
+    ghost known: { IsSome (W.contents writer) },
 }
 
-impl<W> Over<W> {
-    /// A sink that has taken nothing yet.
+impl<W: Write> Over<W> {
+    /// A sink over a writer that holds nothing yet.
     pub fn new(writer: W) -> Over<W>
-        ensures taken { bytes_put result.taken.items ≡ [] }
+        requires { W.contents writer ≡ Some [] }
+        ensures writer { result.writer ≡ writer }
         ensures whole { result.has_failed ≡ false }
     {
         Over {
             writer,
             has_failed: false,
-            taken: Log::new(),
         }
     }
-}
 
-/// Notes bytes that were taken.
-fn note(taken: &mut Log<u8, ()>, bytes: &[u8])
-    ensures { bytes_put taken.new.items ≡ bytes_put taken.old.items ++ bytes.now }
-{
-    for byte in bytes {
-        *taken = taken.and(byte, &());
+    /// The writer, with what the sink took.
+    pub fn into_writer(self) -> W
+        ensures { result ≡ self.writer }
+    {
+        self.writer
     }
 }
 
 impl<W: Write> Sink for Over<W> {
-    ghost use Rattle.mx_boot_history.specs.Taking.{bytes_put};
+    ghost use Rattle.std.specs.Prelude.{[], unwrap_or};
 
-    ghost taken = { λ sink. bytes_put sink.taken.items };
+    ghost taken = { λ sink. unwrap_or (W.contents sink.writer) [] };
 
     ghost has_failed = { λ sink. sink.has_failed };
 
+    #[tactic(auto, using(crate::proofs::Held::holds_more, crate::proofs::Held::holds_still, crate::proofs::Held::is_known, crate::proofs::Held::stays_known))]
     fn put(&mut self, bytes: &[u8]) -> Result<usize, SinkFault> {
         match self.writer.write(bytes) {
             Ok(count) => {
-                note(&mut self.taken, &bytes[..count]);
                 self.has_failed = count == 0;
                 Ok(count)
             }

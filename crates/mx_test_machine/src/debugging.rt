@@ -2,7 +2,7 @@
 
 use crate::files::reader;
 use mx_app_db::{Script, go, make_steps, set_breakpoint, start};
-use mx_boot::{Over, save};
+use mx_boot::saved_text;
 use mx_boot_script::{CodePlace, SymbolName};
 use mx_debug::Debugger;
 use mx_machine::{Event, Machine};
@@ -24,30 +24,29 @@ fn is_turned(machine: &mut Machine, debugger: &Debugger, is_debugged: bool) -> b
     is_taken && machine.apply(0, Event::Back).is_ok()
 }
 
-/// Whether five turns are made, with a breakpoint at `top`, and their history saved.
-fn is_saved(machine: &mut Machine, is_debugged: bool, sink: &mut Over<Vec<u8>>) -> bool {
+/// Whether five turns are made, with a breakpoint at `top`, and leave their history.
+fn is_saved(alloc: Global, machine: &mut Machine, is_debugged: bool) -> bool {
     let mut debugger = Debugger::new();
     let top = CodePlace::Symbol(SymbolName::new(b"top"));
     let mut is_made = set_breakpoint(machine.kernel(), &mut debugger, 0, &top).is_ok();
     for _ in 0..5 {
         is_made = is_turned(machine, &debugger, is_debugged) && is_made;
     }
-    is_made && !sink.has_failed && save(machine.kernel(), sink).is_ok()
+    match saved_text(alloc, machine.kernel()) {
+        Ok(text) => is_made && text.as_slice() == TURNS.as_bytes(),
+        Err(_) => false,
+    }
 }
 
-fn is_noted(alloc: Global, is_debugged: bool, sink: &mut Over<Vec<u8>>) -> bool {
+fn is_noted(alloc: Global, is_debugged: bool) -> bool {
     match start::<Script, _>(alloc, &mut reader(), "pair", "empty") {
-        Ok(mut started) => is_saved(&mut started.machine, is_debugged, sink),
+        Ok(mut started) => is_saved(alloc, &mut started.machine, is_debugged),
         Err(_) => false,
     }
 }
 
 #[test]
 fn leaves_the_history(rt: HostRuntime) {
-    let mut debugged = Over::new(Vec::new(rt.alloc()));
-    let mut stepped = Over::new(Vec::new(rt.alloc()));
-    assert!(rt; is_noted(rt.alloc(), true, &mut debugged));
-    assert!(rt; is_noted(rt.alloc(), false, &mut stepped));
-    assert!(rt; debugged.writer.as_slice() == TURNS.as_bytes());
-    assert!(rt; stepped.writer.as_slice() == TURNS.as_bytes());
+    assert!(rt; is_noted(rt.alloc(), true));
+    assert!(rt; is_noted(rt.alloc(), false));
 }

@@ -227,6 +227,10 @@ struct Narrow {
 }
 
 impl Write for Narrow {
+    ghost use Rattle.std.specs.Prelude.{Some};
+
+    ghost contents = { λ narrow. Some narrow.bytes.items };
+
     fn write(&mut self, buf: &[u8]) -> io::Result<usize> {
         let count = buf.len().min(3).min(self.room);
         self.bytes.extend_from_slice(&buf[..count])?;
@@ -285,7 +289,7 @@ fn is_saved_to(alloc: Global, room: usize) -> bool {
     let is_whole = save_records(&RECORDS, &mut sink).is_ok();
     let text = SAVED.as_bytes();
     let front = &text[..room.min(text.len())];
-    is_whole == (room >= text.len()) && sink.writer.bytes.as_slice() == front
+    is_whole == (room >= text.len()) && sink.into_writer().bytes.as_slice() == front
 }
 
 fn is_read_again(alloc: Global, machine: &Config) -> bool {

@@ -14,5 +14,5 @@ pub returns-clause-fault : goal.returns-clause-fault
 returns-clause-fault g c = (
   file_given c.args.name.now c.in_ok-bytes.bytes.items,
   c.in_ok-bytes.ensures.given,
-  inr (inr (c.in_ok-bytes.bytes.items, refl, (λ u. never (c.in-Err.ensures.succeeds u)), refl)),
+  inr (c.in_ok-bytes.bytes.items, refl, (λ u. never (c.in-Err.ensures.succeeds u)), refl),
 )

@@ -1,4 +1,4 @@
-use Rattle.std.proofs.Common.{◌∙◌, ◌+◌, ◌++◌, List, ℕ, take, drop}
+use Rattle.std.proofs.Common.{◌∙◌, ◌+◌, ◌++◌, take, drop}
 use Rattle.std.proofs.lemmas.List.{take_more}
 use Rattle.mx_boot_history.specs.Text.{history_text}
 use Rattle.mx_boot_history.proofs.Fronts.{lines_taken, on_err, parted_text}
