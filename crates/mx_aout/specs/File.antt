@@ -1,5 +1,5 @@
 -- Which bytes are a file of which program (a.out.h, struct exec and struct nlist).
-use Rattle.std.specs.Prelude.{◌≡◌, ℕ, zero, suc, ◌+◌, ◌/◌, ◌%◌, Bool, not, ◌&&◌, ◌||◌, ◌==◌, nat_lt, if◌then◌else◌, List, [], ◌∷◌, length, take, drop, slice_index, Option, Some, None, Result, Ok, Err, bit_and}
+use Rattle.std.specs.Prelude.{◌≡◌, ℕ, zero, suc, ◌+◌, ◌/◌, ◌%◌, Bool, not, ◌&&◌, ◌||◌, ◌==◌, nat_lt, if◌then◌else◌, List, [], ◌∷◌, ◌++◌, length, take, drop, slice_index, Option, Some, None, Result, Ok, Err, bit_and}
 use Rattle.mx_word.specs.Word.{value_at}
 use Rattle.mx_aout.specs.Limits.{rounded_to_pages, used_of}
 use Rattle.mx_aout.specs.declared.program.Symbol.{Symbol}
@@ -37,6 +37,10 @@ symbols_at h = h.length + h.text + h.init + h.text_relocations + h.init_relocati
 
 -- ---- refusals
 
+-- all that the header names
+abbrev pub length_of_parts : Header → ℕ
+length_of_parts h = symbols_at h + h.symbols
+
 -- the parts are too large
 abbrev pub is_too_large : Header → Bool
 is_too_large h =
@@ -49,14 +53,14 @@ reasons_of_sizes h length_of_file =
     (h.total == 0, NoTotal) ∷
     (is_too_large h, TooLarge) ∷
     (not (h.symbols % 16 == 0), BadSymbols) ∷
-    (nat_lt length_of_file (symbols_at h + h.symbols), Truncated) ∷
+    (nat_lt length_of_file (length_of_parts h), Truncated) ∷
     []
 
 abbrev pub size_reasons : List ℕ → List (Bool × FileError)
 size_reasons b = reasons_of_sizes (header_of b) (length b)
 
-abbrev pub file_reasons : List ℕ → List (Bool × FileError)
-file_reasons b =
+abbrev pub form_reasons : List ℕ → List (Bool × FileError)
+form_reasons b =
     (nat_lt (length b) 32, Truncated) ∷
     (not (slice_index b 0 == 1 && slice_index b 1 == 3), BadMagic) ∷
     (not (slice_index b 3 == 0x10), BadCpu) ∷
@@ -64,7 +68,10 @@ file_reasons b =
     (not (bit_and (slice_index b 2) 0xCB == 0), BadFlags) ∷
     (not (slice_index b 4 == 32 || slice_index b 4 == 48), BadHeader) ∷
     (slice_index b 4 == 48 && nat_lt (length b) 48, Truncated) ∷
-    size_reasons b
+    []
+
+abbrev pub file_reasons : List ℕ → List (Bool × FileError)
+file_reasons b = form_reasons b ++ size_reasons b
 
 abbrev pub first_file_error : List (Bool × FileError) → Option FileError
 first_file_error [] = None
@@ -73,6 +80,18 @@ first_file_error (r ∷ rest) = if r.0 then Some r.1 else first_file_error rest
 -- the first reason that stands
 abbrev pub refusal_of : List ℕ → Option FileError
 refusal_of b = first_file_error (file_reasons b)
+
+-- ---- how many bytes of a file matter, by its first 48
+
+abbrev pub asked_unless : Option FileError → ℕ → ℕ
+asked_unless (Some e) n = 48
+asked_unless None n = n
+
+-- its parts; no more than these 48 where it is refused for its header, however long it is
+abbrev pub length_asked : List ℕ → ℕ
+length_asked front =
+    asked_unless (first_file_error (form_reasons front))
+    (asked_unless (first_file_error (reasons_of_sizes (header_of front) (length_of_parts (header_of front)))) (length_of_parts (header_of front)))
 
 -- ---- the program
 

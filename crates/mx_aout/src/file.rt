@@ -1,8 +1,8 @@
 //! Reads the bytes of a file.
 
-ghost use Rattle.std.specs.Prelude.{◌≡◌, ◌≤◌, ◌+◌, ◌*◌, ◌/◌, None, Some, IfSome, IfNone, IfOk, length, slice_index, take, drop};
+ghost use Rattle.std.specs.Prelude.{◌≡◌, ◌≤◌, ◌+◌, ◌*◌, ◌/◌, ◌^◌, None, Some, IfSome, IfNone, IfOk, length, slice_index, take, drop};
 ghost use Rattle.mx_word.specs.Word.{value_at};
-ghost use Rattle.mx_aout.specs.File.{header_of, relocations_at, is_too_large, init_at, symbols_at, refusal_of, first_file_error, size_reasons, reasons_of_sizes, symbol_at, symbols_from, ReadsFile};
+ghost use Rattle.mx_aout.specs.File.{header_of, relocations_at, is_too_large, init_at, symbols_at, refusal_of, first_file_error, size_reasons, reasons_of_sizes, form_reasons, length_of_parts, length_asked, symbol_at, symbols_from, ReadsFile};
 ghost use Rattle.mx_aout.specs.Limits.{rounded_to_pages, used_of, IsWithin};
 
 use crate::program::{FileError, Program, Symbol, Symbols};
@@ -35,12 +35,20 @@ impl Header {
 
     /// Where the symbols stand.
     fn symbols_at(&self) -> u64
-        ensures { result ≡ symbols_at self.now }
+        ensures place { result ≡ symbols_at self.now }
+        ensures small { result ≤ 2 ^ 35 }
     {
         self.init_at()
             + u64::from(self.init)
             + u64::from(self.text_relocations)
             + u64::from(self.init_relocations)
+    }
+
+    /// All that the header names.
+    fn length_of_parts(&self) -> u64
+        ensures { result ≡ length_of_parts self.now }
+    {
+        self.symbols_at() + u64::from(self.symbols)
     }
 
     /// The total, rounded up to 4096.
@@ -117,6 +125,7 @@ fn header_of(bytes: &[u8]) -> Header
 fn header_refusal(bytes: &[u8]) -> Option<FileError>
     ensures stands { IfSome result (λ e. refusal_of bytes.now ≡ Some e) }
     ensures passes { IfNone result (refusal_of bytes.now ≡ first_file_error (size_reasons bytes.now)) }
+    ensures form { result ≡ first_file_error (form_reasons bytes.now) }
     ensures header { IfNone result (32 ≤ length bytes.now) }
     ensures long { IfNone result (slice_index bytes.now 4 ≡ 48 → 48 ≤ length bytes.now) }
 {
@@ -155,10 +164,29 @@ fn size_refusal(header: &Header, length: usize) -> Option<FileError>
     if header.symbols % 16 != 0 {
         return Some(FileError::BadSymbols);
     }
-    if (length as u64) < header.symbols_at() + u64::from(header.symbols) {
+    if (length as u64) < header.length_of_parts() {
         return Some(FileError::Truncated);
     }
     None
+}
+
+/// The longest header.
+const LONGEST_HEADER: u64 = 48;
+
+/// How many of a file's bytes matter, by its first 48, or all if it has fewer: the header and the parts
+/// that it names; no more than these 48 where the file is refused for its header, however long it is.
+pub fn length_asked(front: &[u8]) -> u64
+    ensures { result ≡ length_asked front.now }
+{
+    if header_refusal(front).is_some() {
+        return LONGEST_HEADER;
+    }
+    let header = header_of(front);
+    let length = header.length_of_parts();
+    match size_refusal(&header, length as usize) {
+        Some(_) => LONGEST_HEADER,
+        None => length,
+    }
 }
 
 /// The symbol at a place.

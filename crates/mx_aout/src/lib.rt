@@ -5,6 +5,6 @@ mod file;
 mod program;
 mod writing;
 
-pub use file::read;
+pub use file::{length_asked, read};
 pub use program::{FileError, Program, Symbol, Symbols};
 pub use writing::{alike_is_same, one_program, read_back, write};

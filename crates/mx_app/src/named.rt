@@ -27,7 +27,7 @@ pub fn one_named<R: Reader, W: Write>(
         × ShowsFile (λ bytes text. IsPrinted bytes steps text) file.now q
         (λ text. Appends (W.contents out.old) (W.contents out.new) text) result }
 {
-    let bytes = reader.read(alloc, file)?;
+    let bytes = reader.read_program(alloc, file)?;
     print_one(alloc, bytes.as_slice(), steps, out)
 }
 
@@ -65,7 +65,7 @@ pub fn dis_named<R: Reader, W: Write>(
         × ShowsFile (λ bytes text. IsShown HasListing bytes text) file.now q
         (λ text. Appends (W.contents out.old) (W.contents out.new) text) result }
 {
-    let bytes = reader.read(alloc, file)?;
+    let bytes = reader.read_program(alloc, file)?;
     print_listing(alloc, bytes.as_slice(), out)
 }
 
@@ -80,6 +80,6 @@ pub fn nm_named<R: Reader, W: Write>(
         × ShowsFile (λ bytes text. IsShown HasNames bytes text) file.now q
         (λ text. Appends (W.contents out.old) (W.contents out.new) text) result }
 {
-    let bytes = reader.read(alloc, file)?;
+    let bytes = reader.read_program(alloc, file)?;
     print_names(alloc, bytes.as_slice(), out)
 }

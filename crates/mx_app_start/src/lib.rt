@@ -2,6 +2,7 @@
 #![tactic(auto)]
 
 mod course;
+mod limits;
 mod memory;
 mod named;
 mod noting;

@@ -76,4 +76,9 @@ impl<'a> Reader for NamedFiles<'a> {
         self.answers = with_answer(&self.answers, name, &answer);
         answer
     }
+
+    /// Answers as `read` does.
+    fn read_program(&mut self, alloc: Global, name: &str) -> io::Result<Vec<u8>> {
+        self.read(alloc, name)
+    }
 }

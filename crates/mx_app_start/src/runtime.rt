@@ -2,6 +2,7 @@
 
 ghost use Rattle.std.specs.Prelude.{◌≡◌, []};
 
+use crate::limits::{read_program, read_text};
 use crate::noting::{Answers, Writes, with_answer, with_write};
 use crate::reader::Reader;
 use crate::writer::FileWriter;
@@ -36,7 +37,13 @@ impl<'a, R: Files + AllocGlobal> Reader for RuntimeFiles<'a, R> {
     ghost asked = { λ files. asked_in files.answers.items };
 
     fn read(&mut self, _alloc: Global, name: &str) -> io::Result<Vec<u8>> {
-        let answer = fs::read(self.rt, name);
+        let answer = read_text(self.rt, name);
+        self.answers = with_answer(&self.answers, name, &answer);
+        answer
+    }
+
+    fn read_program(&mut self, _alloc: Global, name: &str) -> io::Result<Vec<u8>> {
+        let answer = read_program(self.rt, name);
         self.answers = with_answer(&self.answers, name, &answer);
         answer
     }

@@ -36,7 +36,7 @@ fn service_of<R: Reader>(
     ensures read { IfOk result (λ v. (q : Asked) × (R.asked reader.new ≡ R.asked reader.old ++ q ∷ []) × IsServiceRead line.now q v) }
     ensures refused { IfErr result (λ f. (q : Asked) × (R.asked reader.new ≡ R.asked reader.old ++ q ∷ []) × IsFileRefused line.now q f) }
 {
-    let bytes = reader.read(alloc, line.file.as_str())?;
+    let bytes = reader.read_program(alloc, line.file.as_str())?;
     let program = read(alloc, bytes.as_slice())?;
     Ok(Service {
         name: line.name,

@@ -122,7 +122,7 @@ struct Failed {
     told: &'static str,
 }
 
-static FAILED: [Failed; 22] = [
+static FAILED: [Failed; 26] = [
     Failed {
         words: &["mx", "one", "cut", "9"],
         status: 1,
@@ -200,6 +200,26 @@ static FAILED: [Failed; 22] = [
     },
     Failed {
         words: &["mx", "as", "no_text.s", "new.out"],
+        status: 3,
+        told: "mx: 80 File\n",
+    },
+    Failed {
+        words: &["mx", "step", "no_text", "kills"],
+        status: 3,
+        told: "mx: 80 File\n",
+    },
+    Failed {
+        words: &["mx", "step", "one", "no_text"],
+        status: 3,
+        told: "mx: 80 File\n",
+    },
+    Failed {
+        words: &["mx", "replay", "one", "no_text"],
+        status: 3,
+        told: "mx: 80 File\n",
+    },
+    Failed {
+        words: &["mx", "db", "one", "no_text"],
         status: 3,
         told: "mx: 80 File\n",
     },

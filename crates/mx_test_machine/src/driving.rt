@@ -22,7 +22,7 @@ struct Row {
 
 const DONE: Result<Replayed, Failure> = Ok(Replayed::Whole);
 
-static ROWS: [Row; 13] = [
+static ROWS: [Row; 19] = [
     Row {
         config: "pair",
         text: "turns",
@@ -96,6 +96,61 @@ static ROWS: [Row; 13] = [
         by: By::History,
         told: Ok(Replayed::Refused),
         printed: "line 2: refused 55 AtStop\n",
+    },
+    // Four takes and four returns fill a history of eight records.
+    Row {
+        config: "four_of_eight",
+        text: "takes_of_eight",
+        by: By::Script,
+        told: DONE,
+        printed: "taken 0 budget 5\ntaken 1 budget 5\ntaken 2 budget 5\ntaken 3 budget 5\n\
+                  returned 0\nreturned 0\nreturned 0\nreturned 0\nrefused 52 LogFull\n\
+                  0 a 0 ready 7 5\n1 b 1 ready 7 5\n2 c 2 ready 7 5\n3 d 3 ready 7 5\n\
+                  uptime 0\nconsole 0\n",
+    },
+    // In one of seven a fourth take has no room for its return, and a tick has.
+    Row {
+        config: "four_of_seven",
+        text: "takes_of_seven",
+        by: By::Script,
+        told: DONE,
+        printed: "taken 0 budget 5\ntaken 1 budget 5\ntaken 2 budget 5\nrefused 52 LogFull\n\
+                  done\nreturned 0\nreturned 0\nreturned 0\n\
+                  0 a 0 ready 7 5\n1 b 1 ready 7 5\n2 c 2 ready 7 5\n3 d 3 ready 7 5\n\
+                  uptime 1\nconsole 0\n",
+    },
+    // Who is killed while it is out makes its steps, and dies when it comes back.
+    Row {
+        config: "one",
+        text: "killed_out",
+        by: By::Script,
+        told: DONE,
+        printed: "taken 0 budget 5\ndone\nstepped 1 go\nreturned 1\n\
+                  0 a 0 down kill 7 4\nuptime 0\nconsole 0\n",
+    },
+    // Also if a debugger runs it on from a breakpoint, or up to one.
+    Row {
+        config: "one",
+        text: "killed_at_break",
+        by: By::Debugger,
+        told: DONE,
+        printed: "done\ntaken 0 budget 5\nstopped at 00000005 after 1\ndone\nstepped 2 trap\n\
+                  returned 3\n0 a 0 down kill 7 2\nuptime 0\nconsole 0\n",
+    },
+    Row {
+        config: "one",
+        text: "killed_before",
+        by: By::Debugger,
+        told: DONE,
+        printed: "done\ntaken 0 budget 5\ndone\nstopped at 00000005 after 1\n\
+                  returned 1\n0 a 0 down kill 7 4\nuptime 0\nconsole 0\n",
+    },
+    Row {
+        config: "one",
+        text: "ninth",
+        by: By::History,
+        told: Err(Failure::Misstated(BootError::BadRecord(2))),
+        printed: "",
     },
     // Turns of both up to the breakpoint at `top`.
     Row {

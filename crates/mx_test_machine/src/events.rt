@@ -13,7 +13,7 @@ use mx_word::{Register, Size};
 use std::alloc::Global;
 use std::process::Abort;
 
-/// An event by an actor, so often, and how the last of them is answered. The steps before it go on.
+/// An event by an actor, so often, and how the last of them is answered. Those before it go on or are done.
 struct Turn(u8, Event, u32, Result<Answer, Refusal>);
 
 /// A slot at the end: state, level, ticks, steps, EAX, a place of its memory and the number there.
@@ -36,7 +36,7 @@ enum Task {
 /// The actor that is none of the eight processors.
 const OTHER: u8 = 8;
 
-static ROWS: [Row; 14] = [
+static ROWS: [Row; 16] = [
     // A call and its answer.
     Row {
         config: "asked",
@@ -285,6 +285,47 @@ static ROWS: [Row; 14] = [
         config: "short",
         task: Task::Runs,
     },
+    // A thousand interrupts for a ready owner are one message, with the bit of line 5.
+    Row {
+        config: "button",
+        task: Task::Turns(
+            &[
+                Turn(0, Event::Take, 1, Ok(Answer::Taken(0, 99))),
+                Turn(0, Event::Step, 7, Ok(Answer::Went(Outcome::Trap))),
+                Turn(0, Event::Back, 1, Ok(Answer::Returned(7))),
+                Turn(OTHER, Event::Line(5), 1000, Ok(Answer::Done)),
+                Turn(0, Event::Take, 1, Ok(Answer::Taken(0, 92))),
+                Turn(0, Event::Step, 3, Ok(Answer::Went(Outcome::Trap))),
+                Turn(0, Event::Back, 1, Ok(Answer::Returned(3))),
+            ],
+            &[End(0, State::Ready, 4, 89, 10, 0, 12, 0x20)],
+        ),
+    },
+    Row {
+        config: "button",
+        task: Task::Turns(
+            &[
+                Turn(0, Event::Take, 1, Ok(Answer::Taken(0, 99))),
+                Turn(0, Event::Step, 7, Ok(Answer::Went(Outcome::Trap))),
+                Turn(0, Event::Back, 1, Ok(Answer::Returned(7))),
+                Turn(OTHER, Event::Line(5), 1000, Ok(Answer::Done)),
+                Turn(0, Event::Take, 1, Ok(Answer::Taken(0, 92))),
+                Turn(0, Event::Step, 3, Ok(Answer::Went(Outcome::Trap))),
+                Turn(0, Event::Back, 1, Ok(Answer::Returned(3))),
+                Turn(0, Event::Take, 1, Ok(Answer::Taken(0, 89))),
+                Turn(0, Event::Step, 10, Ok(Answer::Went(Outcome::Trap))),
+                Turn(0, Event::Back, 1, Ok(Answer::Returned(10))),
+                Turn(0, Event::Take, 1, Ok(Answer::Taken(0, 79))),
+                Turn(0, Event::Step, 4, Ok(Answer::Went(Outcome::Trap))),
+                Turn(0, Event::Back, 1, Ok(Answer::Returned(4))),
+                Turn(0, Event::Take, 1, Err(Refusal::NoProcess)),
+                // 1,008 records stand by now.
+                Turn(OTHER, Event::Tick, 92, Ok(Answer::Done)),
+                Turn(OTHER, Event::Tick, 1, Err(Refusal::LogFull)),
+            ],
+            &[],
+        ),
+    },
     // The last generation and the last restart of the driver's service.
     Row {
         config: "looks",
@@ -312,12 +353,14 @@ fn work<T: Tool>(machine: &mut Machine, cpu: u8, tool: &mut T) -> Result<(), Ref
     machine.work(cpu, tool)
 }
 
-/// So many events of an actor, of which all but the last are steps that go on: how the last is answered.
+/// So many events of an actor, of which all but the last are steps that go on, or are done: how the
+/// last is answered.
 fn last_answer(rt: &impl Abort, machine: &mut Machine, turn: &Turn) -> Result<Answer, Refusal> {
     let Turn(actor, event, count, _) = *turn;
     for _ in 1..count {
         assert!(rt; (actor as usize) < machine.actors());
-        assert!(rt; machine.apply(actor, event) == Ok(Answer::Went(Outcome::Go)));
+        let answer = machine.apply(actor, event);
+        assert!(rt; answer == Ok(Answer::Went(Outcome::Go)) || answer == Ok(Answer::Done));
     }
     assert!(rt; (actor as usize) < machine.actors());
     machine.apply(actor, event)

@@ -5,7 +5,7 @@ use std::alloc::Global;
 use std::test::Fail;
 
 /// Waits at `top` for anybody, answers who it was, and jumps to `top`; its buffer is `buf`, at 0.
-const DRIVER: [u8; 135] = [
+pub(crate) const DRIVER: [u8; 135] = [
     1, 3, 0x30, 0x10, 0x20, 0, 0, 0, 0x23, 0, 0, 0, 0x24, 0, 0, 0, 0, 0, 0, 0, 0, 0, 0, 0, 0, 0x10,
     0, 0, 0x20, 0, 0, 0, 0xB9, 2, 0, 0, 0, 0xB8, 0xCE, 0x7A, 0, 0, 0xBB, 0, 0, 0, 0, 0xCD, 0x21,
     0x8B, 5, 0, 0, 0, 0, 0xB9, 1, 0, 0, 0, 0xCD, 0x21, 0xE9, 0xDD, 0xFF, 0xFF, 0xFF, 0, 0, 0, 0, 0,
@@ -15,7 +15,7 @@ const DRIVER: [u8; 135] = [
 ];
 
 /// Calls the driver, then EXIT.
-const CLIENT: [u8; 123] = [
+pub(crate) const CLIENT: [u8; 123] = [
     1, 3, 0x30, 0x10, 0x20, 0, 0, 0, 0x27, 0, 0, 0, 0x24, 0, 0, 0, 0, 0, 0, 0, 0, 0, 0, 0, 0, 0x10,
     0, 0, 0x10, 0, 0, 0, 0xB9, 3, 0, 0, 0, 0xB8, 0, 0, 0, 0, 0xBB, 0, 0, 0, 0, 0xCD, 0x21, 0xC7, 5,
     4, 0, 0, 0, 0, 6, 0, 0, 0xB9, 3, 0, 0, 0, 0xB8, 0xFE, 0xFF, 0xFF, 0xFF, 0xCD, 0x21, 0, 0, 0, 0,
@@ -24,6 +24,11 @@ const CLIENT: [u8; 123] = [
 ];
 
 /// A sum, and a trap that fails.
+/// A driver, and who calls it.
+pub(crate) const PAIR: &[u8] = b"cpus 1\nlog 64\n\
+    service drv drv.out traps 1e send 2 calls 0 level 4 best 4 quantum 20 restarts 0\n\
+    service cli cli.out traps 1e send 1 calls 1 level 7 best 7 quantum 20 restarts 0\n";
+
 pub(crate) const SUM: [u8; 78] = [
     1, 3, 0x30, 0x10, 0x20, 0, 0, 0, 0xA, 0, 0, 0, 0x24, 0, 0, 0, 0, 0, 0, 0, 0, 0, 0, 0, 0, 0x10,
     0, 0, 0, 0, 0, 0, 0xB8, 5, 0, 0, 0, 0x83, 0xC0, 0x7B, 0xCD, 0x21, 0, 0, 0, 0, 0, 0, 0, 0, 0, 0,
@@ -71,6 +76,20 @@ const LOOKS: [u8; 93] = [
     0, 0, 0xB9, 3, 0, 0, 0, 0xB8, 0xFE, 0xFF, 0xFF, 0xFF, 0xCD, 0x21,
 ];
 
+/// Takes line 5 by IRQCTL; then RECEIVE from the hardware, and DEVIO, in a loop. The buffer is at 0.
+const BUTTON: [u8; 248] = [
+    1, 3, 0x30, 0x10, 0x20, 0, 0, 0, 0x80, 0, 0, 0, 0x28, 0, 0, 0, 0, 0, 0, 0, 0, 0, 0, 0, 0, 0x10,
+    0, 0, 0x30, 0, 0, 0, 0xc7, 5, 4, 0, 0, 0, 3, 6, 0, 0, 0xc7, 5, 8, 0, 0, 0, 1, 0, 0, 0, 0xc7, 5,
+    0xc, 0, 0, 0, 5, 0, 0, 0, 0xb9, 3, 0, 0, 0, 0xb8, 0xfe, 0xff, 0xff, 0xff, 0xbb, 0, 0, 0, 0,
+    0xcd, 0x21, 0xb9, 2, 0, 0, 0, 0xb8, 0xff, 0xff, 0xff, 0xff, 0xcd, 0x21, 0x83, 5, 0x24, 0, 0, 0,
+    1, 0x8b, 5, 0x24, 0, 0, 0, 0x83, 0xc0, 0x30, 0x89, 5, 0x10, 0, 0, 0, 0xc7, 5, 4, 0, 0, 0, 4, 6,
+    0, 0, 0xc7, 5, 8, 0, 0, 0, 1, 0, 0, 0, 0xc7, 5, 0xc, 0, 0, 0, 0, 0, 0, 0, 0xb9, 3, 0, 0, 0,
+    0xb8, 0xfe, 0xff, 0xff, 0xff, 0xcd, 0x21, 0xe9, 0xaf, 0xff, 0xff, 0xff, 0, 0, 0, 0, 0, 0, 0, 0,
+    0, 0, 0, 0, 0, 0, 0, 0, 0, 0, 0, 0, 0, 0, 0, 0, 0, 0, 0, 0, 0, 0, 0, 0, 0, 0, 0, 0, 0, 0, 0, 0,
+    0x62, 0x75, 0x66, 0, 0, 0, 0, 0, 0, 0, 0, 0, 3, 0, 0, 0, 0x63, 0x6f, 0x75, 0x6e, 0x74, 0, 0, 0,
+    0x24, 0, 0, 0, 3, 0, 0, 0, 0x77, 0x61, 0x69, 0x74, 0, 0, 0, 0, 0x2f, 0, 0, 0, 2, 0, 0, 0,
+];
+
 /// Never runs.
 const IDLE: [u8; 33] = [
     1, 3, 0x30, 0x10, 0x20, 0, 0, 0, 0x1, 0, 0, 0, 0, 0, 0, 0, 0x80, 0, 0, 0, 0, 0, 0, 0, 0, 0x10,
@@ -92,12 +111,10 @@ const COUNTS: [u8; 59] = [
     0xFF, 0xBB, 0, 0, 0, 0, 0xCD, 0x21,
 ];
 
-static FILES: [NamedFile<'static>; 33] = [
+static FILES: [NamedFile<'static>; 41] = [
     NamedFile {
         name: "pair",
-        bytes: b"cpus 1\nlog 64\n\
-            service drv drv.out traps 1e send 2 calls 0 level 4 best 4 quantum 20 restarts 0\n\
-            service cli cli.out traps 1e send 1 calls 1 level 7 best 7 quantum 20 restarts 0\n",
+        bytes: PAIR,
     },
     NamedFile {
         name: "one",
@@ -223,6 +240,46 @@ static FILES: [NamedFile<'static>; 33] = [
             break 0 63\nbreak 0 64\nbreak 0 3\nclear 0 3\nbreak 1 64\nbreak 1 65\n",
     },
     NamedFile {
+        name: "four_of_eight",
+        bytes: b"cpus 4\nlog 8\n\
+            service a good traps 1e send 0 calls 0 level 7 best 7 quantum 5 restarts 0\n\
+            service b good traps 1e send 0 calls 0 level 7 best 7 quantum 5 restarts 0\n\
+            service c good traps 1e send 0 calls 0 level 7 best 7 quantum 5 restarts 0\n\
+            service d good traps 1e send 0 calls 0 level 7 best 7 quantum 5 restarts 0\n",
+    },
+    NamedFile {
+        name: "four_of_seven",
+        bytes: b"cpus 4\nlog 7\n\
+            service a good traps 1e send 0 calls 0 level 7 best 7 quantum 5 restarts 0\n\
+            service b good traps 1e send 0 calls 0 level 7 best 7 quantum 5 restarts 0\n\
+            service c good traps 1e send 0 calls 0 level 7 best 7 quantum 5 restarts 0\n\
+            service d good traps 1e send 0 calls 0 level 7 best 7 quantum 5 restarts 0\n",
+    },
+    NamedFile {
+        name: "takes_of_eight",
+        bytes: b"take 0\ntake 1\ntake 2\ntake 3\nback 0\nback 1\nback 2\nback 3\ntick\n",
+    },
+    NamedFile {
+        name: "takes_of_seven",
+        bytes: b"take 0\ntake 1\ntake 2\ntake 3\ntick\nback 0\nback 1\nback 2\n",
+    },
+    NamedFile {
+        name: "killed_out",
+        bytes: b"take 0\nkill 0\nstep 0 1\nback 0\n",
+    },
+    NamedFile {
+        name: "killed_at_break",
+        bytes: b"break 0 5\ntake 0\ngo 0 9\nkill 0\ngo 0 9\nback 0\n",
+    },
+    NamedFile {
+        name: "killed_before",
+        bytes: b"break 0 5\ntake 0\nkill 0\ngo 0 9\nback 0\n",
+    },
+    NamedFile {
+        name: "ninth",
+        bytes: b"0 take\n9 tick\n",
+    },
+    NamedFile {
         name: "foo",
         bytes: b"tick\nfoo\n",
     },
@@ -253,7 +310,7 @@ pub(crate) fn reader() -> NamedFiles<'static> {
     NamedFiles::new(&FILES)
 }
 
-static SMALL: [NamedFile<'static>; 17] = [
+static SMALL: [NamedFile<'static>; 19] = [
     NamedFile {
         name: "empty",
         bytes: b"",
@@ -309,6 +366,15 @@ static SMALL: [NamedFile<'static>; 17] = [
         name: "times",
         bytes: b"cpus 8\nlog 8\n\
             service a counts.out traps 1e send 0 calls 2 level 7 best 7 quantum 20 restarts 0\n",
+    },
+    NamedFile {
+        name: "button",
+        bytes: b"cpus 8\nlog 1100\n\
+            service a button.out traps c send 0 calls 18 level 4 best 4 quantum 99 restarts 0\n",
+    },
+    NamedFile {
+        name: "button.out",
+        bytes: &BUTTON,
     },
     NamedFile {
         name: "short.out",

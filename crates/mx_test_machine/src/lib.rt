@@ -8,6 +8,8 @@ mod calls;
 #[cfg(test)]
 mod commands;
 #[cfg(test)]
+mod cuts;
+#[cfg(test)]
 mod debugging;
 #[cfg(test)]
 mod driving;
@@ -17,6 +19,8 @@ mod events;
 mod files;
 #[cfg(test)]
 mod pages;
+#[cfg(test)]
+mod patterns;
 #[cfg(test)]
 mod printing;
 #[cfg(test)]

@@ -13,7 +13,7 @@ use std::test::Fail;
 /// A configuration, and what is told.
 struct Setup(&'static str, Option<BootError>);
 
-static SETUPS: [Setup; 14] = [
+static SETUPS: [Setup; 20] = [
     Setup("", Some(BootError::BadLine(1))),
     Setup("cpus 1\n# x\n", Some(BootError::BadLine(2))),
     Setup(
@@ -46,6 +46,32 @@ static SETUPS: [Setup; 14] = [
         "log 0\n\
          service a a.out traps 1e send 0 calls ff level 7 best 5 quantum 5 restarts 1",
         Some(BootError::BadLine(1)),
+    ),
+    // One over the limit, and best over level; then the limits themselves.
+    Setup(
+        "service a a.out traps 1e send 0 calls ff level 7 best 5 quantum 65536 restarts 1",
+        Some(BootError::BadLine(1)),
+    ),
+    Setup(
+        "# x\nservice a a.out traps 1e send 0 calls ff level 7 best 8 quantum 5 restarts 1",
+        Some(BootError::BadLine(2)),
+    ),
+    Setup(
+        "log 1048577\n\
+         service a a.out traps 1e send 0 calls ff level 7 best 5 quantum 5 restarts 1",
+        Some(BootError::BadLine(1)),
+    ),
+    Setup(
+        "service a a.out traps 1e send 0 calls ff level 7 best 7 quantum 65535 restarts 1",
+        None,
+    ),
+    Setup(
+        "service a a.out traps 1e send 0 calls ff level 7 best 5 quantum 0 restarts 1",
+        Some(BootError::BadLine(1)),
+    ),
+    Setup(
+        "service a a.out traps 1e send 0 calls ff level 7 best 5 quantum 1 restarts 1",
+        None,
     ),
     Setup("cpus 1\ncpus 1", Some(BootError::TwiceNamed(2))),
     Setup("others 2\nothers 5", Some(BootError::BadLine(2))),

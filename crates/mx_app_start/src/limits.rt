@@ -1,0 +1,44 @@
+//! How much of a file is read.
+
+ghost use Rattle.std.specs.Prelude.{◌≤◌, ◌*◌, IfOk, length};
+
+use mx_aout::length_asked;
+use std::io::Read;
+use std::rt::Files;
+use std::{fs, io};
+
+/// The most bytes that a text may have: 64 MiB.
+const LONGEST_TEXT: u64 = 64 * 1024 * 1024;
+
+/// The longest header of a program's file.
+const LONGEST_HEADER: u64 = 48;
+
+/// Reads at most so many bytes more of a file, behind those that are there.
+fn read_more<F: Read + Drop>(file: F, most: u64, bytes: &mut Vec<u8>) -> io::Result<F> {
+    let mut front = file.take(most);
+    front.read_to_end(bytes)?;
+    Ok(front.into_inner())
+}
+
+/// The bytes of a text's file. One that is too long is the error `FileTooLarge`, and isn't read to its end.
+pub(crate) fn read_text<R: Files + AllocGlobal>(rt: &R, name: &str) -> io::Result<Vec<u8>>
+    ensures { IfOk result (λ bytes. length bytes.items ≤ 64 * 1024 * 1024) }
+{
+    let file = fs::open(rt, name)?;
+    let mut bytes = Vec::new(rt.alloc());
+    read_more(file, LONGEST_TEXT + 1, &mut bytes)?;
+    if bytes.len() as u64 > LONGEST_TEXT {
+        return Err(io::Error::from(io::ErrorKind::FileTooLarge));
+    }
+    Ok(bytes)
+}
+
+/// The first bytes of a program's file: as many as its header asks for, or all if it has fewer.
+pub(crate) fn read_program<R: Files + AllocGlobal>(rt: &R, name: &str) -> io::Result<Vec<u8>> {
+    let file = fs::open(rt, name)?;
+    let mut bytes = Vec::new(rt.alloc());
+    let file = read_more(file, LONGEST_HEADER, &mut bytes)?;
+    let asked = length_asked(bytes.as_slice());
+    read_more(file, asked.saturating_sub(LONGEST_HEADER), &mut bytes)?;
+    Ok(bytes)
+}

@@ -1,0 +1,72 @@
+//! A saved history that is cut: nothing is replayed of it, unless whole lines are left.
+
+use crate::files::{CLIENT, DRIVER, PAIR};
+use mx_app_db::{BootError, Failure, NamedFile, NamedFiles, Replayed, replay};
+use std::alloc::Global;
+
+/// A call, its answer, and the caller's end.
+const TURNS: &str =
+    "0 take\n0 back 4\n0 take\n0 back 4\n0 take\n0 back 3\n0 take\n0 back 5\n0 take\n0 back 4\n";
+
+/// The report by the number of lines that are left.
+static REPORTS: [&str; 11] = [
+    "0 drv 0 ready 4 20\n1 cli 1 ready 7 20\nuptime 0\nconsole 0\n",
+    "0 drv 0 out 4 20\n1 cli 1 ready 7 20\nuptime 0\nconsole 0\n",
+    "0 drv 0 receiving any 4 16\n1 cli 1 ready 7 20\nuptime 0\nconsole 0\n",
+    "0 drv 0 receiving any 4 16\n1 cli 1 out 7 20\nuptime 0\nconsole 0\n",
+    "0 drv 0 ready 4 16\n1 cli 1 awaiting 0 7 16\nuptime 0\nconsole 0\n",
+    "0 drv 0 out 4 16\n1 cli 1 awaiting 0 7 16\nuptime 0\nconsole 0\n",
+    "0 drv 0 ready 4 13\n1 cli 1 ready 7 16\nuptime 0\nconsole 0\n",
+    "0 drv 0 out 4 13\n1 cli 1 ready 7 16\nuptime 0\nconsole 0\n",
+    "0 drv 0 receiving any 4 8\n1 cli 1 ready 7 16\nuptime 0\nconsole 0\n",
+    "0 drv 0 receiving any 4 8\n1 cli 1 out 7 16\nuptime 0\nconsole 0\n",
+    "0 drv 0 receiving any 4 8\n1 cli 1 down exit 7 12\nuptime 0\nconsole 0\n",
+];
+
+fn file<'a>(name: &'a str, bytes: &'a [u8]) -> NamedFile<'a> {
+    NamedFile { name, bytes }
+}
+
+/// What comes of a text that is replayed; what is printed is appended.
+fn told(alloc: Global, text: &[u8], out: &mut Vec<u8>) -> Result<Replayed, Failure> {
+    let files = [
+        file("pair", PAIR),
+        file("drv.out", &DRIVER),
+        file("cli.out", &CLIENT),
+        file("cut", text),
+    ];
+    replay(alloc, &mut NamedFiles::new(&files), "pair", "cut", out)
+}
+
+/// What is told of a text with so many whole lines, and what is printed.
+fn wanted(lines: usize, is_whole: bool) -> (Result<Replayed, Failure>, &'static str) {
+    match REPORTS.get(lines) {
+        Some(report) if is_whole => (Ok(Replayed::Whole), *report),
+        _ => {
+            (
+                Err(Failure::Misstated(BootError::BadRecord(lines.wrapping_add(1)))),
+                "",
+            )
+        }
+    }
+}
+
+#[test]
+fn history_cut_at_each_byte(rt: HostRuntime) {
+    let text = TURNS.as_bytes();
+    let mut lines = 0_usize;
+    for length in 0..text.len() + 1 {
+        let front = &text[..length];
+        let is_whole = front.is_empty() || front.ends_with(b"\n");
+        if front.ends_with(b"\n") {
+            lines = lines.wrapping_add(1);
+        }
+        let mut out = Vec::new(rt.alloc());
+        let found = told(rt.alloc(), front, &mut out);
+        let (answer, printed) = wanted(lines, is_whole);
+        assert!(rt;
+            found == answer && out.as_slice() == printed.as_bytes(),
+            "{length} bytes"
+        );
+    }
+}
