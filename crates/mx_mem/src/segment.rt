@@ -163,7 +163,9 @@ impl Segment {
         }
     }
 
-    /// The number at a place, lowest byte first.
+    /// The number at a place, lowest byte first. Inlined, as `write`, so that a caller who knows the
+    /// size looks at none.
+    #[inline(always)]
     pub fn read(&self, at: u32, size: Size) -> Result<u32, OutOfLimit>
         ensures value { result ≡ read_at self.now at size }
         ensures below { IfOk result (λ v. v < 2 ^ width size) }
@@ -213,6 +215,7 @@ impl Segment {
     }
 
     /// Writes a number at a place, lowest byte first. A refusal changes nothing.
+    #[inline(always)]
     pub fn write(&mut self, at: u32, size: Size, value: u32) -> Result<(), OutOfLimit>
         requires { value < 2 ^ width size }
         ensures ok { OnOk result (bytes_after_write self.old at size value ≡ Ok self.new) }
