@@ -1,5 +1,5 @@
 -- What is done of a request, from what its subcommand does.
-use Rattle.std.proofs.Common.{◌≡◌, ◌++◌, ℕ, List, [], ◌∷◌, Option, Some, None, Result, Ok, Err, IfErr, OnOk, refl, subst, sym}
+use Rattle.std.proofs.Common.{◌≡◌, ◌⊎◌, ◌++◌, ℕ, List, [], ◌∷◌, Option, Some, None, Result, Ok, Err, IfErr, OnOk, refl, subst, sym}
 use Rattle.std.specs.Prelude.{IfOk}
 use Rattle.std.specs.Io.KnownBytes.{Appends}
 use Rattle.std.proofs.lemmas.List.{append-nil}
@@ -10,21 +10,23 @@ use Rattle.mx_app_failure.specs.declared.failure.Failure.{Failure as Kind}
 use Rattle.mx_machine_world.specs.Boot.{world_at_boot}
 use Rattle.mx_machine_world.specs.declared.history.Record.{Record}
 use Rattle.mx_app_start.specs.Asked.{Asked}
-use Rattle.mx_app_start.specs.Written.{Written}
+use Rattle.mx_app_start.specs.Written.{Written, kept}
+use Rattle.mx_app_start.specs.Text.{history_text}
 use Rattle.mx_app_start.specs.Config.{Config}
 use Rattle.mx_app_start.specs.Service.{Service}
 use Rattle.mx_app_start.specs.Report.{report_text}
 use Rattle.mx_app_start.specs.Course.{IsDebugScript, IsSaved, IsScript, TellsDebugScript, TellsSaved, TellsScript}
-use Rattle.mx_app_start.specs.Setup.{IsStart}
-use Rattle.mx_app_start.specs.Telling.{IsTold}
+use Rattle.mx_app_start.specs.Setup.{IsNotStarted, IsStart}
+use Rattle.mx_app_start.specs.Telling.{IsTold, IsUnsaved}
 use Rattle.mx_print_answers.specs.Said.{said_lines}
+use Rattle.mx_app_step.specs.Kept.{history_made}
 use Rattle.mx_app_step.specs.Lines.{lines_made}
 use Rattle.mx_app_step.specs.Records.{IsReplayPrinted as IsReplayPrinted}
 use Rattle.mx_app_step.specs.declared.records.Replayed.{Replayed}
 use Rattle.mx_app_db.specs.Lines.{DebuggedWorld, debug_lines_made}
 use Rattle.mx_app_db.specs.Told.{debug_lines_text}
 use Rattle.mx_app.specs.Named.{Assembles, ShowsFile}
-use Rattle.mx_app.specs.Requests.{Debugs, Performs, Replays, Shows, Steps, status_after_replay, status_after_work}
+use Rattle.mx_app.specs.Requests.{Debugs, Performs, Replays, SavesSteps, Shows, Steps, status_after_replay, status_after_work}
 
 -- nothing is printed where a writer wasn't touched
 pub appends_nothing : (known : Option (List ℕ)) → Appends known known []
@@ -47,6 +49,22 @@ pub assembled : (asked now : List Asked) (files written : List Written) (known :
     → (qs : List Asked) × (ws : List Written) × (now ≡ asked ++ qs) × (written ≡ files ++ ws) × Assembles text file qs ws d → r ≡ status_after_work d
     → Does asked now files written (λ qs ws. (x : Result (Unit {0}) Kind) × Assembles text file qs ws x × Appends known known [] × (r ≡ status_after_work x))
 assembled asked now files written known text file d r p e = (p.0, p.1, p.2, p.3, (d, p.4, appends_nothing known, e))
+
+-- a script was done, and its history saved or not
+pub saves : (asked now : List Asked) (files written : List Written) (config script log : List ℕ) (x y : Option (List ℕ)) (d : Result (Unit {0}) Kind) (r : Result ℕ Kind)
+    → OnOk d ((qs : List Asked) × (c : Config) × (vs : List Service) × (said : List ScriptLine)
+    × (now ≡ asked ++ qs) × IsStart IsScript config script qs c vs said
+    × (written ≡ files ++ kept log (history_text (history_made (world_at_boot c vs) c.cpus said)) ∷ [])
+    × (let m = lines_made (world_at_boot c vs) c.cpus said in Appends x y (said_lines m.0 ++ report_text m.1.table m.1.services)))
+    → IfErr d (λ f. (qs : List Asked) × (ws : List Written) × (now ≡ asked ++ qs) × (written ≡ files ++ ws)
+    × (((ws ≡ []) × IsNotStarted IsScript TellsScript config script qs f)
+    ⊎ ((c : Config) × (vs : List Service) × (said : List ScriptLine) × IsStart IsScript config script qs c vs said
+    × IsUnsaved log (history_text (history_made (world_at_boot c vs) c.cpus said)) ws f)))
+    → r ≡ status_after_work d
+    → Does asked now files written (λ qs ws. (e : Result (Unit {0}) Kind) × SavesSteps config script log qs ws (λ text. Appends x y text) e × (r ≡ status_after_work e))
+saves asked now files written config script log x y (Ok u) r p f e =
+    (p.0, kept log (history_text (history_made (world_at_boot p.1 p.2) p.1.cpus p.3)) ∷ [], p.4, p.6, (Ok u, (p.1, p.2, p.3, p.5, refl, p.7), e))
+saves asked now files written config script log x y (Err why) r p f e = (f.0, f.1, f.2, f.3, (Err why, f.4, e))
 
 -- `asked` and `files` before, `now` asked after; no file is written
 module _ (asked now : List Asked) (files : List Written) where

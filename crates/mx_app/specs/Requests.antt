@@ -1,5 +1,5 @@
 -- What is done of requests (our own).
-use Rattle.std.specs.Prelude.{◌≡◌, ℕ, List, [], ◌∷◌, ◌++◌, Result, Ok, Err}
+use Rattle.std.specs.Prelude.{◌≡◌, ◌⊎◌, ℕ, List, [], ◌∷◌, ◌++◌, Some, None, Result, Ok, Err}
 use Rattle.mx_app_command.specs.declared.words.CommandRequest.{CommandRequest}
 use Rattle.mx_app_command.specs.declared.words.CommandRequest.TheVariants.{One, As, Dis, Nm, Step, Replay, Db}
 use Rattle.mx_boot_script.specs.declared.scripts.ScriptLine.{ScriptLine}
@@ -10,14 +10,16 @@ use Rattle.mx_app_program.specs.Shown.{HasListing, HasNames, IsShown}
 use Rattle.mx_machine_world.specs.Boot.{world_at_boot}
 use Rattle.mx_machine_world.specs.declared.history.Record.{Record}
 use Rattle.mx_app_start.specs.Asked.{Asked}
-use Rattle.mx_app_start.specs.Written.{Written}
+use Rattle.mx_app_start.specs.Written.{Written, kept}
+use Rattle.mx_app_start.specs.Text.{history_text}
 use Rattle.mx_app_start.specs.Config.{Config}
 use Rattle.mx_app_start.specs.Service.{Service}
 use Rattle.mx_app_start.specs.Report.{report_text}
 use Rattle.mx_app_start.specs.Course.{IsDebugScript, IsSaved, IsScript, TellsDebugScript, TellsSaved, TellsScript}
-use Rattle.mx_app_start.specs.Setup.{IsStart}
-use Rattle.mx_app_start.specs.Telling.{IsTold}
+use Rattle.mx_app_start.specs.Setup.{IsNotStarted, IsStart}
+use Rattle.mx_app_start.specs.Telling.{IsTold, IsUnsaved}
 use Rattle.mx_print_answers.specs.Said.{said_lines}
+use Rattle.mx_app_step.specs.Kept.{history_made}
 use Rattle.mx_app_step.specs.Lines.{lines_made}
 use Rattle.mx_app_step.specs.Records.{IsReplayPrinted as IsReplayPrinted}
 use Rattle.mx_app_step.specs.declared.records.Replayed.{Replayed}
@@ -45,6 +47,17 @@ Steps config script qs Prints (Ok u) =
     (c : Config) × (vs : List Service) × (said : List ScriptLine) × IsStart IsScript config script qs c vs said
     × (let m = lines_made (world_at_boot c vs) c.cpus said in Prints (said_lines m.0 ++ report_text m.1.table m.1.services))
 Steps config script qs Prints (Err f) = IsTold IsScript TellsScript config script qs f
+
+-- the same, with the file of the script's history, which is written before the report is printed
+abbrev pub SavesSteps : List ℕ → List ℕ → List ℕ → List Asked → List Written → (List ℕ → Type 0) → Result (Unit {0}) Kind → Type 0
+SavesSteps config script log qs ws Prints (Ok u) =
+    (c : Config) × (vs : List Service) × (said : List ScriptLine) × IsStart IsScript config script qs c vs said
+    × (ws ≡ kept log (history_text (history_made (world_at_boot c vs) c.cpus said)) ∷ [])
+    × (let m = lines_made (world_at_boot c vs) c.cpus said in Prints (said_lines m.0 ++ report_text m.1.table m.1.services))
+SavesSteps config script log qs ws Prints (Err f) =
+    ((ws ≡ []) × IsNotStarted IsScript TellsScript config script qs f)
+    ⊎ ((c : Config) × (vs : List Service) × (said : List ScriptLine) × IsStart IsScript config script qs c vs said
+    × IsUnsaved log (history_text (history_made (world_at_boot c vs) c.cpus said)) ws f)
 
 abbrev pub Debugs : List ℕ → List ℕ → List Asked → (List ℕ → Type 0) → Result (Unit {0}) Kind → Type 0
 Debugs config script qs Prints (Ok u) =
@@ -74,8 +87,10 @@ Performs (As text file) qs ws Prints r =
     (d : Result (Unit {0}) Kind) × Assembles text.now file.now qs ws d × Prints [] × (r ≡ status_after_work d)
 Performs (Dis file) qs ws Prints r = Shows (λ bytes text. IsShown HasListing bytes text) file.now qs ws Prints r
 Performs (Nm file) qs ws Prints r = Shows (λ bytes text. IsShown HasNames bytes text) file.now qs ws Prints r
-Performs (Step config script) qs ws Prints r =
+Performs (Step config script None) qs ws Prints r =
     (d : Result (Unit {0}) Kind) × (ws ≡ []) × Steps config.now script.now qs Prints d × (r ≡ status_after_work d)
+Performs (Step config script (Some log)) qs ws Prints r =
+    (d : Result (Unit {0}) Kind) × SavesSteps config.now script.now log.now qs ws Prints d × (r ≡ status_after_work d)
 Performs (Replay config log) qs ws Prints r =
     (d : Result Replayed Kind) × (ws ≡ []) × Replays config.now log.now qs Prints d × (r ≡ status_after_replay d)
 Performs (Db config script) qs ws Prints r =

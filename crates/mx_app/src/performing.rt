@@ -9,7 +9,7 @@ ghost use Rattle.mx_app.specs.Requests.{Performs, status_after_replay, status_af
 use crate::channels::Channels;
 use crate::named::{as_named, dis_named, nm_named, one_named};
 use mx_app_command::CommandRequest;
-use mx_app_db::{Replayed, db, replay, step};
+use mx_app_db::{Replayed, db, replay, step, step_saved};
 use mx_app_failure::Failure;
 use mx_app_start::{FileWriter, Reader};
 use std::alloc::Global;
@@ -59,9 +59,22 @@ pub fn perform<R: Reader + Drop, F: FileWriter + Drop, W: Write + Drop>(
         }
         CommandRequest::Dis { file } => status_after_work(dis_named(alloc, reader, file, out)),
         CommandRequest::Nm { file } => status_after_work(nm_named(alloc, reader, file, out)),
-        CommandRequest::Step { config, script } => {
-            status_after_work(step(alloc, reader, config, script, out))
-        }
+        CommandRequest::Step {
+            config,
+            script,
+            save,
+        } => match save {
+            None => status_after_work(step(alloc, reader, config, script, out)),
+            Some(log) => status_after_work(step_saved(
+                alloc,
+                reader,
+                &mut channels.files,
+                config,
+                script,
+                log,
+                out,
+            )),
+        },
         CommandRequest::Replay { config, log } => {
             status_after_replay(replay(alloc, reader, config, log, out))
         }

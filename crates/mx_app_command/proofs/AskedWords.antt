@@ -15,7 +15,7 @@ use Rattle.clap.specs.Faults.{defaults_fault, entered_fault, level_fault, settle
 use Rattle.clap.specs.Walk.{answers_to, finished, nothing_held, rows_after, settled, stop_after, walk, walk_from}
 use Rattle.clap.specs.declared.builder.value_parser.ValueParser.TheVariants.{Signed}
 use Rattle.clap.proofs.ValueTestLemmas.{accepts-Accepts}
-use Rattle.mx_app_command.specs.Words.{HasNumber, IsAsked, IsGiven, mx_grammar, of_one, of_two, one_shape, wanted, wanted_number}
+use Rattle.mx_app_command.specs.Words.{HasNumber, IsAsked, IsGiven, mx_grammar, of_one, of_two, one_shape, step_shape, wanted, wanted_number}
 use Rattle.mx_app_command.proofs.Given.{IsOnly, SetsValue, all_found, has_wanted, no_fault, value_given}
 
 -- the grammar as a parse sees it: with the help flag, and each argument's place
@@ -141,9 +141,26 @@ nm_fits : Fits (whole_of (of_one (codes "nm") (codes "FILE")))
 nm_fits words fine = let given = one_text_given (codes "nm") (codes "FILE") refl words fine in
     ((λ e. absurd (true≢false (sym e))), (λ e. (given, inr (inr (inr refl)))))
 
-step_fits : Fits (whole_of (of_two (codes "step") (codes "CONFIG") (codes "SCRIPT")))
-step_fits words fine = let given = two_texts_given (codes "step") (codes "CONFIG") (codes "SCRIPT") refl refl refl refl words fine in
-    ((λ e. (given.0, inl (refl, given.1))), (λ e. absurd (true≢false e)))
+abbrev step_whole : Shape
+step_whole = whole_of step_shape
+
+abbrev config_rule : Rule
+config_rule = with_index 1 (filled (wanted (codes "CONFIG")))
+
+abbrev script_rule : Rule
+script_rule = with_index 2 (filled (wanted (codes "SCRIPT")))
+
+only_config : IsOnly config_rule step_whole.rules
+only_config = ((λ e. refl), ((λ e. cc), ((λ e. cc), ((λ e. cc), tt))))
+
+only_script : IsOnly script_rule step_whole.rules
+only_script = ((λ e. cc), ((λ e. refl), ((λ e. cc), ((λ e. cc), tt))))
+
+step_fits : Fits step_whole
+step_fits words fine =
+    let config = value_given config_rule (wanted_sets (codes "CONFIG") 1) step_whole only_config words (inl refl) refl fine in
+    let script = value_given script_rule (wanted_sets (codes "SCRIPT") 2) step_whole only_script words (inr (inl refl)) refl fine in
+    ((λ e. (ap is_some config.1, inl (refl, ap is_some script.1))), (λ e. absurd (true≢false e)))
 
 replay_fits : Fits (whole_of (of_two (codes "replay") (codes "CONFIG") (codes "LOG")))
 replay_fits words fine = let given = two_texts_given (codes "replay") (codes "CONFIG") (codes "LOG") refl refl refl refl words fine in

@@ -1,12 +1,19 @@
 -- What a row of the grammar's table says.
-use Rattle.std.specs.Prelude.{if◌then◌else◌, fold, map}
-use Rattle.clap.specs.Words.{Rule, Shape, new_app, with_rule}
-use Rattle.mx_app_command.specs.Words.{wanted, wanted_number}
+use Rattle.std.specs.Prelude.{fold, map}
+use Rattle.clap.specs.Words.{Rule, Shape, Text, new_app, with_rule}
+use Rattle.mx_app_command.specs.Words.{after_name, wanted, wanted_number}
+use Rattle.mx_app_command.specs.declared.grammar.ArgumentForm.{ArgumentForm}
+use Rattle.mx_app_command.specs.declared.grammar.ArgumentForm.TheVariants as form
 use Rattle.mx_app_command.specs.declared.grammar.CommandArgument.{CommandArgument}
 use Rattle.mx_app_command.specs.declared.grammar.Subcommand.{Subcommand}
 
+abbrev pub rule_of_form : ArgumentForm → Text → Rule
+rule_of_form form.Text name = wanted name
+rule_of_form form.Number name = wanted_number name
+rule_of_form (form.After long) name = after_name long.now name
+
 abbrev pub rule_of_argument : CommandArgument → Rule
-rule_of_argument a = if a.is_number then wanted_number a.name.now else wanted a.name.now
+rule_of_argument a = rule_of_form a.form a.name.now
 
 -- the shape with each argument added in turn
 abbrev pub shape_of_subcommand : Subcommand → Shape

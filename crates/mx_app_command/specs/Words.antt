@@ -1,5 +1,5 @@
 -- The command line's grammar, and what a request says of its words.
-use Rattle.std.specs.Prelude.{◌≡◌, ◌⊎◌, ◌||◌, ◌++◌, is_some, Bool, ℕ, true, false, List, [], ◌∷◌, Option, Some, None, Ok, codes, pos}
+use Rattle.std.specs.Prelude.{◌≡◌, ◌⊎◌, ◌||◌, ◌++◌, is_some, Bool, ℕ, true, false, List, [], ◌∷◌, Option, Some, None, Ok, codes, option_map, pos}
 use Rattle.std.specs.Str.{bytes_eq}
 use Rattle.std.specs.Str.Parse.{ParsesUnsigned}
 use Rattle.std.specs.declared.num.ParseIntError.{ParseIntError}
@@ -22,6 +22,10 @@ wanted id = record (new_rule id) { required = true; action = Some Set }
 abbrev pub wanted_number : Text → Rule
 wanted_number id = record (wanted id) { parser = Some (Signed (pos 0) (pos 4294967295)) }
 
+-- an argument that may be given once, after a long name
+abbrev pub after_name : Text → Text → Rule
+after_name long id = record (new_rule id) { long = Some long; action = Some Set }
+
 -- a subcommand, by its name and its arguments
 abbrev pub subcommand : Text → List Rule → Shape
 subcommand name arguments = record (new_shape name) { rules = arguments }
@@ -40,6 +44,10 @@ IsLocal c = (out-Command c).has_globals ≡ false
 -- `one FILE N`
 abbrev pub one_shape : Shape
 one_shape = subcommand (codes "one") (wanted (codes "FILE") ∷ wanted_number (codes "N") ∷ [])
+
+-- `step CONFIG SCRIPT --save LOG`
+abbrev pub step_shape : Shape
+step_shape = subcommand (codes "step") (wanted (codes "CONFIG") ∷ wanted (codes "SCRIPT") ∷ after_name (codes "save") (codes "LOG") ∷ [])
 
 -- one of the subcommands is wanted
 abbrev pub top_app : App
@@ -64,7 +72,7 @@ abbrev pub mx_grammar : App
 mx_grammar = record {
   top = program_app.top;
   subs = program_shapes
-      ++ of_two (codes "step") (codes "CONFIG") (codes "SCRIPT")
+      ++ step_shape
       ∷ of_two (codes "replay") (codes "CONFIG") (codes "LOG")
       ∷ of_two (codes "db") (codes "CONFIG") (codes "SCRIPT")
       ∷ [];
@@ -82,6 +90,10 @@ HasNumber id rows n =
 abbrev pub HasText : Text → List Row → Text → Type 0
 HasText id rows text = first_of id rows ≡ Some text
 
+-- the argument's text, where it is given
+abbrev pub MayHaveText : Text → List Row → Option Text → Type 0
+MayHaveText id rows text = first_of id rows ≡ text
+
 -- the request is what the subcommand of this name and its values ask for
 abbrev pub AsksBy : CommandRequest → Text → List Row → Type 0
 AsksBy (One file steps) name rows =
@@ -90,8 +102,9 @@ AsksBy (As text file) name rows =
     (name ≡ codes "as") × HasText (codes "TEXT") rows text.now × HasText (codes "FILE") rows file.now
 AsksBy (Dis file) name rows = (name ≡ codes "dis") × HasText (codes "FILE") rows file.now
 AsksBy (Nm file) name rows = (name ≡ codes "nm") × HasText (codes "FILE") rows file.now
-AsksBy (Step config script) name rows =
+AsksBy (Step config script save) name rows =
     (name ≡ codes "step") × HasText (codes "CONFIG") rows config.now × HasText (codes "SCRIPT") rows script.now
+    × MayHaveText (codes "LOG") rows (option_map (λ s. s.now) save)
 AsksBy (Replay config log) name rows =
     (name ≡ codes "replay") × HasText (codes "CONFIG") rows config.now × HasText (codes "LOG") rows log.now
 AsksBy (Db config script) name rows =

@@ -9,12 +9,23 @@ use crate::help::Example;
 use clap::{Arg, ArgAction, Command};
 use std::alloc::{AllocError, Global};
 
+/// What an argument is, and where it stands.
+#[derive(Clone, Copy)]
+enum ArgumentForm<'a> {
+    /// A text that has to be given, in its place.
+    Text,
+    /// A number of 32 bits that has to be given, in its place.
+    Number,
+    /// A text that may be given, after this long name.
+    After(&'a str),
+}
+
 /// An argument of a subcommand, with a line of help.
 #[derive(Clone, Copy)]
 struct CommandArgument<'a> {
     name: &'a str,
     help: &'a str,
-    is_number: bool,
+    form: ArgumentForm<'a>,
 }
 
 /// A subcommand, with a line of help and an example.
@@ -30,56 +41,63 @@ struct Subcommand<'a> {
 const FILE: CommandArgument<'static> = CommandArgument {
     name: "FILE",
     help: "An a.out file of MINIX 3 for the 80386",
-    is_number: false,
+    form: ArgumentForm::Text,
 };
 
 /// How many steps at most.
 const STEPS: CommandArgument<'static> = CommandArgument {
     name: "N",
     help: "How many steps at most, 0 to 4294967295",
-    is_number: true,
+    form: ArgumentForm::Number,
 };
 
 /// The text that is assembled.
 const TEXT: CommandArgument<'static> = CommandArgument {
     name: "TEXT",
     help: "A text for the assembler",
-    is_number: false,
+    form: ArgumentForm::Text,
 };
 
 /// The program that is made.
 const WRITTEN: CommandArgument<'static> = CommandArgument {
     name: "FILE",
     help: "The a.out file to write",
-    is_number: false,
+    form: ArgumentForm::Text,
 };
 
 /// The machine that is started.
 const CONFIG: CommandArgument<'static> = CommandArgument {
     name: "CONFIG",
     help: "The processors, and the services with their programs' files",
-    is_number: false,
+    form: ArgumentForm::Text,
 };
 
 /// What happens to it.
 const SCRIPT: CommandArgument<'static> = CommandArgument {
     name: "SCRIPT",
     help: "What happens, an event a line",
-    is_number: false,
+    form: ArgumentForm::Text,
 };
 
 /// What happened to it.
 const LOG: CommandArgument<'static> = CommandArgument {
     name: "LOG",
     help: "A saved history, a record a line",
-    is_number: false,
+    form: ArgumentForm::Text,
+};
+
+/// Where what happened is kept.
+const SAVED: CommandArgument<'static> = CommandArgument {
+    name: "LOG",
+    help: "Writes the history that the script made to the file LOG",
+    form: ArgumentForm::After("save"),
 };
 
 /// What happens to it, and what is looked at.
 const COMMANDS: CommandArgument<'static> = CommandArgument {
     name: "SCRIPT",
     help: "Events and what to look at, one a line",
-    is_number: false,
+    form: ArgumentForm::Text,
 };
 
 /// The subcommands, those that work on one program first.
@@ -111,7 +129,7 @@ static SUBCOMMANDS: [Subcommand<'static>; 7] = [
     Subcommand {
         name: "step",
         help: "Runs a machine by a script and prints its answers and a report",
-        arguments: &[CONFIG, SCRIPT],
+        arguments: &[CONFIG, SCRIPT, SAVED],
         example: Example::Step,
     },
     Subcommand {
@@ -128,19 +146,18 @@ static SUBCOMMANDS: [Subcommand<'static>; 7] = [
     },
 ];
 
-/// An argument that has to be given, once.
-fn wanted<'a>(alloc: Global, argument: &CommandArgument<'a>) -> Arg<'a>
+/// An argument as the grammar has it.
+fn argument_of<'a>(alloc: Global, argument: &CommandArgument<'a>) -> Arg<'a>
     ensures rule { rule_of result ≡ rule_of_argument argument.now }
     ensures local { result.global ≡ false }
 {
     let arg = Arg::new(alloc, argument.name)
-        .required(true)
         .action(ArgAction::Set)
         .help(argument.help);
-    if argument.is_number {
-        arg.value_parser(clap::value_parser!(u32))
-    } else {
-        arg
+    match argument.form {
+        ArgumentForm::Text => arg.required(true),
+        ArgumentForm::Number => arg.required(true).value_parser(clap::value_parser!(u32)),
+        ArgumentForm::After(name) => arg.long(name),
     }
 }
 
@@ -153,7 +170,7 @@ fn made<'a>(alloc: Global, subcommand: &Subcommand<'a>) -> Result<Command<'a>, A
         .about(subcommand.help)
         .after_help(subcommand.example.text());
     for argument in subcommand.arguments {
-        command = command.arg(wanted(alloc, argument))?;
+        command = command.arg(argument_of(alloc, argument))?;
     }
     Ok(command)
 }

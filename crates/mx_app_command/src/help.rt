@@ -102,6 +102,17 @@ uptime 3
 console 1
 3
 
+With --save LOG the history that the script made is written to the file LOG before
+the report is printed, also where lines were refused:
+
+$ mx step pair.config pair.script --save /tmp/pair.log | head -n 1
+taken 0 budget 20
+$ mx replay pair.config /tmp/pair.log
+0 drv 0 receiving any 4 8
+1 cli 1 down exit 7 12
+uptime 0
+console 0
+
 A configuration, of one processor and one service:
 
 cpus 1
@@ -124,7 +135,7 @@ kill 0
 respawn 0
 
 Status: 0 done, also if lines were refused; 1 a text or a program's file is refused;
-2 a mistake in the words; 3 a file can't be read; 4 no memory. Formats:
+2 a mistake in the words; 3 a file can't be read or written; 4 no memory. Formats:
 docs/REFERENCE.md.";
 
 /// A history, and what a refused event of it gives.

@@ -1,8 +1,8 @@
 //! The command line.
 
-ghost use Rattle.std.specs.Prelude.{◌≡◌, ℕ, IfErr, IfOk, codes, false, is_some, map, true};
+ghost use Rattle.std.specs.Prelude.{◌≡◌, ℕ, IfErr, IfOk, codes, false, is_some, map, option_map, true};
 ghost use Rattle.clap.specs.Words.{FailsBy, HasMatchesOf, fault_of, first_of, found_of, kind_of, rows_of, subcommand_of, takes};
-ghost use Rattle.mx_app_command.specs.Words.{Asks, AsksBy, HasNumber, HasText, IsAsked, IsMachineAsked, IsProgramAsked, is_machine, mx_grammar};
+ghost use Rattle.mx_app_command.specs.Words.{Asks, AsksBy, HasNumber, HasText, MayHaveText, IsAsked, IsMachineAsked, IsProgramAsked, is_machine, mx_grammar};
 
 use crate::grammar::grammar;
 use clap::error::ErrorKind;
@@ -13,19 +13,39 @@ use std::alloc::Global;
 #[derive(Clone, Copy, Debug, PartialEq, Eq)]
 pub enum CommandRequest<'a> {
     /// `one FILE N`.
-    One { file: &'a str, steps: u32 },
+    One {
+        file: &'a str,
+        steps: u32,
+    },
     /// `as TEXT FILE`.
-    As { text: &'a str, file: &'a str },
+    As {
+        text: &'a str,
+        file: &'a str,
+    },
     /// `dis FILE`.
-    Dis { file: &'a str },
+    Dis {
+        file: &'a str,
+    },
     /// `nm FILE`.
-    Nm { file: &'a str },
-    /// `step CONFIG SCRIPT`.
-    Step { config: &'a str, script: &'a str },
+    Nm {
+        file: &'a str,
+    },
+    /// `step CONFIG SCRIPT`, with `--save LOG` or without.
+    Step {
+        config: &'a str,
+        script: &'a str,
+        save: Option<&'a str>,
+    },
     /// `replay CONFIG LOG`.
-    Replay { config: &'a str, log: &'a str },
+    Replay {
+        config: &'a str,
+        log: &'a str,
+    },
     /// `db CONFIG SCRIPT`.
-    Db { config: &'a str, script: &'a str },
+    Db {
+        config: &'a str,
+        script: &'a str,
+    },
 }
 
 /// The value that an argument has, which is there.
@@ -34,6 +54,13 @@ fn value_asked<'a>(matches: &ArgMatches<'a>, id: &str) -> &'a str
     ensures { HasText id.now (rows_of (found_of matches.now)) result.now }
 {
     matches.get_str(id).unwrap()
+}
+
+/// The value that an argument has, if it is there.
+fn value_if_asked<'a>(matches: &ArgMatches<'a>, id: &str) -> Option<&'a str>
+    ensures { MayHaveText id.now (rows_of (found_of matches.now)) (option_map (λ s. s.now) result) }
+{
+    matches.get_str(id)
 }
 
 /// The number that an argument has, which is there.
@@ -75,7 +102,12 @@ fn machine_request<'a>(name: &str, matches: &ArgMatches<'a>) -> CommandRequest<'
     }
     let script = value_asked(matches, "SCRIPT");
     if name == "step" {
-        CommandRequest::Step { config, script }
+        let save = value_if_asked(matches, "LOG");
+        CommandRequest::Step {
+            config,
+            script,
+            save,
+        }
     } else {
         CommandRequest::Db { config, script }
     }

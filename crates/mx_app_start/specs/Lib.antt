@@ -12,3 +12,4 @@ pub use Rattle.mx_machine.specs.Service
 pub use Rattle.mx_app_failure.specs.Failure
 pub use Rattle.mx_machine.specs.KernelState
 pub use Rattle.mx_boot.specs.ServiceLine
+pub use Rattle.mx_boot.specs.Text

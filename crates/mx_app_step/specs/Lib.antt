@@ -1,3 +1,4 @@
+pub mod Kept
 pub mod Lines
 pub mod Records
 pub use Rattle.mx_app_start.specs.Machine
@@ -10,3 +11,5 @@ pub use Rattle.mx_app_start.specs.Course
 pub use Rattle.mx_app_start.specs.Setup
 pub use Rattle.mx_app_start.specs.Telling
 pub use Rattle.mx_app_start.specs.ServiceLine
+pub use Rattle.mx_app_start.specs.Written
+pub use Rattle.mx_app_start.specs.Text

@@ -4,14 +4,16 @@
 mod lines;
 mod printing;
 mod records;
+mod saving;
 mod stepping;
 
 pub use lines::{perform_line, step};
 pub use mx_app_start::{
-    BootError, DebugScript, Failure, Machine, NamedFile, NamedFiles, Out, Reader, RuntimeFiles,
-    Script, ScriptLine, Tool, print_text, start,
+    BootError, DebugScript, Failure, FileWriter, Machine, NamedFile, NamedFiles, Out, Reader,
+    RuntimeFiles, Script, ScriptLine, Tool, print_text, start,
 };
 pub use mx_print_answers::Said;
 pub use printing::print_report;
 pub use records::{Replayed, replay};
+pub use saving::step_saved;
 pub use stepping::make_steps;

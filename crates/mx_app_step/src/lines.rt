@@ -14,6 +14,7 @@ ghost use Rattle.mx_app_start.specs.Setup.{IsStart};
 ghost use Rattle.mx_machine_world.specs.Boot.{world_at_boot};
 ghost use Rattle.mx_machine_world.specs.World.{actors};
 ghost use Rattle.mx_print_answers.specs.Said.{said_lines};
+ghost use Rattle.mx_app_step.specs.Kept.{event_of_line, kept_by, lines_kept};
 ghost use Rattle.mx_app_step.specs.Lines.{line_made, lines_made};
 ghost use Rattle.mx_app_start.specs.Telling.{IsTold};
 
@@ -30,6 +31,7 @@ use std::io::Write;
 pub fn perform_line(machine: &mut Machine, other: u8, line: ScriptLine) -> Said
     requires { other < actors (world_of machine.old) }
     ensures made { line_made (world_of machine.old) other line ≡ (result, world_of machine.new) }
+    ensures kept { machine.new.kernel ≡ kept_by machine.old.kernel (world_of machine.old) (event_of_line other line) }
     ensures actors { actors (world_of machine.new) ≡ actors (world_of machine.old) }
 {
     match line {
@@ -52,12 +54,35 @@ fn perform_lines(
 ) -> Result<(), AllocError>
     requires { other < actors (world_of machine.old) }
     ensures world { OnOk result (world_of machine.new ≡ (lines_made (world_of machine.old) other lines.now).1) }
+    ensures kept { OnOk result (machine.new.kernel ≡ lines_kept machine.old.kernel (world_of machine.old) other lines.now) }
     ensures text { OnOk result (string_bytes text.new ≡ string_bytes text.old ++ said_lines (lines_made (world_of machine.old) other lines.now).0) }
 {
     for line in lines {
         let said = perform_line(machine, other, *line);
         write!(text, "{said}\n")?;
     }
+    Ok(())
+}
+
+/// Does what lines say, and prints a line for each.
+pub(crate) fn print_said<W: Write>(
+    alloc: Global,
+    machine: &mut Machine,
+    other: u8,
+    lines: &[ScriptLine],
+    out: &mut W,
+) -> Result<(), Failure>
+    requires { other < actors (world_of machine.old) }
+    ensures err { IfErr result IsWanting }
+    ensures world { OnOk result (world_of machine.new ≡ (lines_made (world_of machine.old) other lines.now).1) }
+    ensures kept { OnOk result (machine.new.kernel ≡ lines_kept machine.old.kernel (world_of machine.old) other lines.now) }
+    ensures printed { OnOk result (Appends (W.contents out.old) (W.contents out.new)
+        (said_lines (lines_made (world_of machine.old) other lines.now).0)) }
+{
+    let mut text = String::new(alloc);
+    let done = perform_lines(machine, other, lines, &mut text);
+    print_text(text.as_bytes(), out)?;
+    done?;
     Ok(())
 }
 
@@ -74,10 +99,7 @@ fn print_lines<W: Write>(
     ensures printed { OnOk result (let m = lines_made (world_of machine.old) other lines.now in
         Appends (W.contents out.old) (W.contents out.new) (said_lines m.0 ++ report_text m.1.table m.1.services)) }
 {
-    let mut text = String::new(alloc);
-    let done = perform_lines(machine, other, lines, &mut text);
-    print_text(text.as_bytes(), out)?;
-    done?;
+    print_said(alloc, machine, other, lines, out)?;
     print_report(alloc, machine, out)
 }
 

@@ -5,6 +5,7 @@ ghost use Rattle.mx_machine_world.specs.Move.{at_stop, move};
 ghost use Rattle.mx_machine_world.specs.World.{HeldProcess, actors, held_by};
 ghost use Rattle.mx_app_start.specs.KernelState.{is_for_all};
 ghost use Rattle.mx_app_start.specs.Machine.{HasWorked, world_of};
+ghost use Rattle.mx_app_step.specs.Kept.{kept_by};
 ghost use Rattle.mx_app_step.specs.Lines.{event_made, run_made, steps_made};
 
 use mx_app_start::{Event, Held, Machine, Out, Tool};
@@ -53,6 +54,7 @@ pub(crate) fn work_steps(machine: &mut Machine, cpu: u8, steps: u32) -> Said
     requires { 0 < steps }
     ensures made { run_made (world_of machine.old) cpu steps (held_by (world_of machine.old) cpu) ≡ (result, world_of machine.new) }
     ensures actors { actors (world_of machine.new) ≡ actors (world_of machine.old) }
+    ensures kernel { machine.new.kernel ≡ machine.old.kernel }
     ensures worked { (l : HeldProcess) → held_by (world_of machine.old) cpu ≡ Some l → HasWorked (world_of machine.old) (world_of machine.new) cpu steps l }
 {
     let mut stepper = Stepper {
@@ -69,6 +71,7 @@ pub(crate) fn work_steps(machine: &mut Machine, cpu: u8, steps: u32) -> Said
 /// Where the first of them is refused, the refusal; no steps are none, whatever the processor holds.
 pub fn make_steps(machine: &mut Machine, cpu: u8, steps: u32) -> Said
     ensures made { steps_made (world_of machine.old) cpu steps ≡ (result, world_of machine.new) }
+    ensures kernel { machine.new.kernel ≡ machine.old.kernel }
     ensures actors { actors (world_of machine.new) ≡ actors (world_of machine.old) }
 {
     if steps == 0 {
@@ -81,6 +84,7 @@ pub fn make_steps(machine: &mut Machine, cpu: u8, steps: u32) -> Said
 pub(crate) fn make_own(machine: &mut Machine, actor: u8, event: Event) -> Said
     requires { is_for_all event ≡ false }
     ensures made { event_made (move (world_of machine.old) actor event) ≡ (result, world_of machine.new) }
+    ensures kept { machine.new.kernel ≡ kept_by machine.old.kernel (world_of machine.old) (Some (actor, event)) }
     ensures actors { actors (world_of machine.new) ≡ actors (world_of machine.old) }
 {
     said_of(machine.apply(actor, event))
@@ -90,6 +94,7 @@ pub(crate) fn make_own(machine: &mut Machine, actor: u8, event: Event) -> Said
 pub(crate) fn make_event(machine: &mut Machine, actor: u8, event: Event) -> Said
     requires { actor < actors (world_of machine.old) }
     ensures made { event_made (move (world_of machine.old) actor event) ≡ (result, world_of machine.new) }
+    ensures kept { machine.new.kernel ≡ kept_by machine.old.kernel (world_of machine.old) (Some (actor, event)) }
     ensures actors { actors (world_of machine.new) ≡ actors (world_of machine.old) }
 {
     said_of(machine.apply(actor, event))

@@ -62,7 +62,11 @@ const SUMMED: &str = "EAX 00000080 ECX 00000000 EDX 00000000 EBX 00000000\n\
     EIP 0000000a CF 0 PF 0 AF 1 ZF 0 SF 0 DF 0 OF 0\n\
     stop trap after 3\n";
 
-static DONE: [Done; 8] = [
+/// What is said of the lines of the script `kills`.
+const KILLED: &str = "done\ndone\nrefused 54 NoProcess\nrefused 41 Worn\nrefused 53 NoLine\n\
+    refused 42 NoService\n";
+
+static DONE: [Done; 9] = [
     Done {
         words: &["mx", "one", "a.out", "9"],
         status: 0,
@@ -94,6 +98,14 @@ static DONE: [Done; 8] = [
                   refused 42 NoService\n0 a 0 down kill 7 5\nuptime 1\nconsole 0\n",
         file: None,
     },
+    // The events that were refused have no record.
+    Done {
+        words: &["mx", "step", "one", "kills", "--save", "new.log"],
+        status: 0,
+        printed: "done\ndone\nrefused 54 NoProcess\nrefused 41 Worn\nrefused 53 NoLine\n\
+                  refused 42 NoService\n0 a 0 down kill 7 5\nuptime 1\nconsole 0\n",
+        file: Some(("new.log", b"1 tick\n1 kill 0\n")),
+    },
     Done {
         words: &["mx", "replay", "one", "whole"],
         status: 0,
@@ -122,7 +134,7 @@ struct Failed {
     told: &'static str,
 }
 
-static FAILED: [Failed; 26] = [
+static FAILED: [Failed; 29] = [
     Failed {
         words: &["mx", "one", "cut", "9"],
         status: 1,
@@ -184,6 +196,16 @@ static FAILED: [Failed; 26] = [
         told: "",
     },
     Failed {
+        words: &["mx", "step", "one", "kills", "--save"],
+        status: 2,
+        told: "",
+    },
+    Failed {
+        words: &["mx", "replay", "one", "whole", "--save", "new.log"],
+        status: 2,
+        told: "",
+    },
+    Failed {
         words: &["mx", "replay", "one"],
         status: 2,
         told: "",
@@ -240,6 +262,11 @@ static FAILED: [Failed; 26] = [
     },
     Failed {
         words: &["mx", "step", "nothing", "kills"],
+        status: 3,
+        told: "mx: 80 File\n",
+    },
+    Failed {
+        words: &["mx", "step", "one", "nothing", "--save", "new.log"],
         status: 3,
         told: "mx: 80 File\n",
     },
@@ -306,8 +333,14 @@ fn is_told(
 ) -> bool {
     let mut channels = channels(alloc, refusal);
     let mut told = String::new(alloc);
-    perform(&mut channels, alloc, words, &mut told) == status
-        && (told.as_str() == text || (status == 2 && told.as_str().starts_with("error: ")))
+    let ended = perform(&mut channels, alloc, words, &mut told);
+    let is_told = if status == 2 {
+        told.as_str().starts_with("error: ")
+    } else {
+        told.as_str() == text
+    };
+    ended == status
+        && is_told
         && is_printed(&channels.out, "")
         && is_kept(channels.files.files(), None)
 }
@@ -347,6 +380,19 @@ fn commands_broken(rt: HostRuntime) -> Result<(), Fail> {
         );
     }
     Ok(())
+}
+
+/// A history that can't be written: the lines were done and printed, and no report follows.
+#[test]
+fn history_unwritten(rt: HostRuntime) {
+    let alloc = rt.alloc();
+    let words: &[&str] = &["mx", "step", "one", "kills", "--save", "new.log"];
+    let mut channels = channels(alloc, None);
+    channels.files = MemoryWriter::refusing(alloc, io::ErrorKind::PermissionDenied);
+    let mut told = String::new(alloc);
+    let status = perform(&mut channels, alloc, words, &mut told);
+    assert!(rt; status == 3 && told.as_str() == "mx: 80 File\n");
+    assert!(rt; is_printed(&channels.out, KILLED) && is_kept(channels.files.files(), None));
 }
 
 /// A subcommand's help ends with the example and the statuses of this subcommand.
@@ -398,7 +444,7 @@ Status: 0 done; 1 FILE is refused; 2 a mistake in the words; 3 FILE can't be rea
         "respawn 0
 
 Status: 0 done, also if lines were refused; 1 a text or a program's file is refused;
-2 a mistake in the words; 3 a file can't be read; 4 no memory. Formats:
+2 a mistake in the words; 3 a file can't be read or written; 4 no memory. Formats:
 docs/REFERENCE.md.
 ",
     ),

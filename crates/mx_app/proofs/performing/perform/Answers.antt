@@ -1,6 +1,8 @@
 use Rattle.mx_app_program.specs.One.{IsPrinted}
 use Rattle.mx_app_program.specs.Shown.{HasListing, HasNames, IsShown}
-use Rattle.mx_app.proofs.Done.{as_asked, assembled, debugs, replays, shows, steps}
+use Rattle.std.proofs.Common.{◌∙◌, ap, Option}
+use Rattle.mx_app_command.specs.declared.words.CommandRequest.TheVariants.{Step}
+use Rattle.mx_app.proofs.Done.{as_asked, assembled, debugs, replays, saves, shows, steps}
 use Rattle.mx_app.proofs.performing.perform.Goals as goal
 
 pub returns-in-One : goal.returns-in-One
@@ -15,8 +17,15 @@ returns-in-Dis g c = as_asked _ _ _ _ _ _ _ _ c.in-Dis.is (shows _ _ _ (λ bytes
 pub returns-in-Nm : goal.returns-in-Nm
 returns-in-Nm g c = as_asked _ _ _ _ _ _ _ _ c.in-Nm.is (shows _ _ _ (λ bytes text. IsShown HasNames bytes text) c.in-Nm.file.now _ c.nm_named.result c.status_after_work-in-Nm.result c.nm_named.ensures c.status_after_work-in-Nm.ensures)
 
-pub returns-in-Step : goal.returns-in-Step
-returns-in-Step g c = as_asked _ _ _ _ _ _ _ _ c.in-Step.is (steps _ _ _ c.in-Step.config.now c.in-Step.script.now _ _ c.step.result c.status_after_work-in-Step.result c.step.ensures.printed c.step.ensures.fault c.status_after_work-in-Step.ensures)
+pub returns-in-None : goal.returns-in-None
+returns-in-None g c =
+    as_asked _ _ _ _ _ _ _ _ (c.in-Step.is ∙ ap (λ (o : Option _). Step c.in-Step.config c.in-Step.script o) c.in-None.is)
+    (steps _ _ _ c.in-Step.config.now c.in-Step.script.now _ _ c.step.result c.status_after_work-in-None.result c.step.ensures.printed c.step.ensures.fault c.status_after_work-in-None.ensures)
+
+pub returns-in-Some : goal.returns-in-Some
+returns-in-Some g c =
+    as_asked _ _ _ _ _ _ _ _ (c.in-Step.is ∙ ap (λ (o : Option _). Step c.in-Step.config c.in-Step.script o) c.in-Some.is)
+    (saves _ _ _ _ c.in-Step.config.now c.in-Step.script.now c.in-Some.log.now _ _ c.step_saved.result c.status_after_work-in-Some.result c.step_saved.ensures.saved c.step_saved.ensures.fault c.status_after_work-in-Some.ensures)
 
 pub returns-in-Replay : goal.returns-in-Replay
 returns-in-Replay g c = as_asked _ _ _ _ _ _ _ _ c.in-Replay.is (replays _ _ _ c.in-Replay.config.now c.in-Replay.log.now _ _ c.replay.result c.status_after_replay.result c.replay.ensures.printed c.replay.ensures.fault c.status_after_replay.ensures)

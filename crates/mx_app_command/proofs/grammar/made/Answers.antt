@@ -22,9 +22,9 @@ loop-argument-init c =
 
 pub loop-argument-preserved : goal.loop-argument-preserved
 loop-argument-preserved c = record {
-  shape = ap (λ (a : App). a.top) (argument_added c.loop-argument.command c.in_ok-command.command c.wanted.result _ c.loop-argument.argument-index _
-      c.loop-argument-test.true c.wanted.ensures.local c.wanted.ensures.rule c.in_ok-command.ensures) ∙ c.loop-argument.invariant.shape;
-  local = c.in_ok-command.ensures.globals ∙ ap₂ ◌||◌ c.loop-argument.invariant.local c.wanted.ensures.local;
+  shape = ap (λ (a : App). a.top) (argument_added c.loop-argument.command c.in_ok-command.command c.argument_of.result _ c.loop-argument.argument-index _
+      c.loop-argument-test.true c.argument_of.ensures.local c.argument_of.ensures.rule c.in_ok-command.ensures) ∙ c.loop-argument.invariant.shape;
+  local = c.in_ok-command.ensures.globals ∙ ap₂ ◌||◌ c.loop-argument.invariant.local c.argument_of.ensures.local;
 }
 
 pub returns-clause-shape : goal.returns-clause-shape

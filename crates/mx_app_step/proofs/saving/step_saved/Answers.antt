@@ -1,0 +1,35 @@
+use Rattle.std.proofs.Common.{[], ◌∷◌, ◌++◌, inl, inr, subst, ap, sym, ◌∙◌, List, ℕ, refl}
+use Rattle.std.proofs.lemmas.List.{append-nil}
+use Rattle.std.proofs.lemmas.Result.{IfErr-weaker, err_from_is_err_and, on_ok_weaker}
+use Rattle.mx_app_start.specs.Machine.{world_of}
+use Rattle.mx_app_start.specs.Written.{kept}
+use Rattle.mx_app_start.specs.Telling.{IsUnsaved}
+use Rattle.mx_app_step.proofs.StepLemmas.{script_history, script_printed}
+use Rattle.mx_app_step.proofs.saving.step_saved.Goals as goal
+
+pub returns-in_err-started-clause-fault : goal.returns-in_err-started-clause-fault
+returns-in_err-started-clause-fault g c =
+    let p = err_from_is_err_and c.from_residual.result c.from_residual.ensures.1 in
+    let h = c.in_err-started.ensures.fault in
+    rw (p.1, p.2) (h.0, [], h.1, sym (append-nil _), inl (refl, h.2))
+
+pub returns-clause-saved : goal.returns-clause-saved
+returns-clause-saved g c =
+    let s = c.in_ok-started.ensures.started in
+    let text = script_history c.in_ok-started.started.machine.kernel s.1 s.2 (world_of c.in_ok-started.started.machine) c.in_ok-started.started.other c.in_ok-started.started.lines.items c.as_slice-lines.result.now c.in_ok-started.ensures.kernel s.5 s.6 c.as_slice-lines.ensures.value in
+    on_ok_weaker c.save_lines.result (λ b. (
+      s.0,
+      s.1,
+      s.2,
+      c.in_ok-started.started.lines.items,
+      s.3,
+      s.4,
+      b.0 ∙ ap (λ (t : List ℕ). g.F.FileWriter.written c.args.files.now ++ kept c.args.log.now t ∷ []) text,
+      script_printed (g.W.Write.contents c.args.out.now) (g.W.Write.contents c.save_lines.new.out) s.1 s.2 (world_of c.in_ok-started.started.machine) c.in_ok-started.started.other c.in_ok-started.started.lines.items c.as_slice-lines.result.now s.5 s.6 c.as_slice-lines.ensures.value b.1,
+    )) c.save_lines.ensures.saved
+
+pub returns-clause-fault : goal.returns-clause-fault
+returns-clause-fault g c =
+    let s = c.in_ok-started.ensures.started in
+    let text = script_history c.in_ok-started.started.machine.kernel s.1 s.2 (world_of c.in_ok-started.started.machine) c.in_ok-started.started.other c.in_ok-started.started.lines.items c.as_slice-lines.result.now c.in_ok-started.ensures.kernel s.5 s.6 c.as_slice-lines.ensures.value in
+    IfErr-weaker c.save_lines.result _ _ (λ f h. (s.0, h.0, s.3, h.1, inr (s.1, s.2, c.in_ok-started.started.lines.items, s.4, subst (λ (t : List ℕ). IsUnsaved c.args.log.now t h.0 f) text h.2))) c.save_lines.ensures.unsaved

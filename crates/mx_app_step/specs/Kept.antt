@@ -1,0 +1,36 @@
+-- What the lines of a script leave in the history (our own).
+use Rattle.std.specs.Prelude.{ℕ, List, [], ◌∷◌, Option, Some, None}
+use Rattle.mx_app_start.specs.Machine.{kept_after}
+use Rattle.mx_boot_script.specs.declared.scripts.ScriptLine.{ScriptLine}
+use Rattle.mx_boot_script.specs.declared.scripts.ScriptLine.TheVariants.{Step, Take, Back, Line, Tick, Kill, Respawn}
+use Rattle.mx_machine_world.specs.declared.events.Event.{Event}
+use Rattle.mx_machine_world.specs.declared.events.Event.TheVariants as events
+use Rattle.mx_machine_world.specs.declared.history.Record.{Record}
+use Rattle.mx_machine_world.specs.History.{BootAndHistory}
+use Rattle.mx_machine_world.specs.Move.{move}
+use Rattle.mx_machine_world.specs.World.{World}
+use Rattle.mx_app_step.specs.Lines.{line_made}
+
+-- the event that a line is, with its actor, where `other` is the actor of the lines that name none; steps are none
+abbrev pub event_of_line : ℕ → ScriptLine → Option (ℕ × Event)
+event_of_line other (Step c k) = None
+event_of_line other (Take c) = Some (c, events.Take)
+event_of_line other (Back c) = Some (c, events.Back)
+event_of_line other (Line l) = Some (other, events.Line l)
+event_of_line other Tick = Some (other, events.Tick)
+event_of_line other (Kill e) = Some (other, events.Kill e)
+event_of_line other (Respawn s) = Some (other, events.Respawn s)
+
+-- what is kept after an event of the world: its record, where it is accepted
+abbrev pub kept_by : BootAndHistory → World → Option (ℕ × Event) → BootAndHistory
+kept_by k w None = k
+kept_by k w (Some x) = kept_after k x.0 x.1 (move w x.0 x.1).0
+
+-- and after lines in a row
+abbrev pub lines_kept : BootAndHistory → World → ℕ → List ScriptLine → BootAndHistory
+lines_kept k w other [] = k
+lines_kept k w other (l ∷ ls) = lines_kept (kept_by k w (event_of_line other l)) (line_made w other l).1 other ls
+
+-- THE HISTORY that the lines of a script make of a machine at boot
+abbrev pub history_made : World → ℕ → List ScriptLine → List Record
+history_made w other lines = (lines_kept (record { boot = w; history = [] }) w other lines).history

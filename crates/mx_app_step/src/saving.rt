@@ -1,0 +1,87 @@
+//! A script that drives a machine, whose history is saved.
+
+ghost use Rattle.std.specs.Prelude.{◌≡◌, ◌⊎◌, ◌<◌, ◌++◌, ◌∷◌, [], List, IfErr, OnOk};
+ghost use Rattle.std.specs.Io.KnownBytes.{Appends};
+ghost use Rattle.mx_app_start.specs.Machine.{world_of};
+ghost use Rattle.mx_app_start.specs.Report.{report_text};
+ghost use Rattle.mx_app_start.specs.Text.{history_text};
+ghost use Rattle.mx_app_start.specs.Service.{Service};
+ghost use Rattle.mx_app_start.specs.Config.{Config};
+ghost use Rattle.mx_boot_script.specs.declared.scripts.ScriptLine.{ScriptLine as Line};
+ghost use Rattle.mx_app_start.specs.Asked.{Asked};
+ghost use Rattle.mx_app_start.specs.Course.{IsScript, TellsScript};
+ghost use Rattle.mx_app_start.specs.Setup.{IsNotStarted, IsStart};
+ghost use Rattle.mx_app_start.specs.Written.{Written, kept};
+ghost use Rattle.mx_machine_world.specs.Boot.{world_at_boot};
+ghost use Rattle.mx_machine_world.specs.World.{actors};
+ghost use Rattle.mx_print_answers.specs.Said.{said_lines};
+ghost use Rattle.mx_app_start.specs.Telling.{IsUnsaved};
+ghost use Rattle.mx_app_step.specs.Kept.{history_made, lines_kept};
+ghost use Rattle.mx_app_step.specs.Lines.{lines_made};
+
+use crate::lines::print_said;
+use crate::printing::print_report;
+use mx_app_start::{Failure, FileWriter, Machine, Reader, Script, ScriptLine, saved_text, start};
+use std::alloc::Global;
+use std::io::Write;
+
+/// Does what lines say, prints a line for each, writes the history to a file, and prints the report.
+fn save_lines<F: FileWriter, W: Write>(
+    alloc: Global,
+    machine: &mut Machine,
+    other: u8,
+    lines: &[ScriptLine],
+    files: &mut F,
+    log: &str,
+    out: &mut W,
+) -> Result<(), Failure>
+    requires { other < actors (world_of machine.old) }
+    ensures saved { OnOk result ((F.written files.new ≡ F.written files.old
+        ++ kept log.now (history_text (lines_kept machine.old.kernel (world_of machine.old) other lines.now).history) ∷ [])
+        × (let m = lines_made (world_of machine.old) other lines.now in
+        Appends (W.contents out.old) (W.contents out.new) (said_lines m.0 ++ report_text m.1.table m.1.services))) }
+    ensures unsaved { IfErr result (λ f. (ws : List Written) × (F.written files.new ≡ F.written files.old ++ ws)
+        × IsUnsaved log.now (history_text (lines_kept machine.old.kernel (world_of machine.old) other lines.now).history) ws f) }
+{
+    print_said(alloc, machine, other, lines, out)?;
+    let text = saved_text(alloc, machine.kernel())?;
+    files.write(alloc, log, text.as_slice())?;
+    print_report(alloc, machine, out)
+}
+
+/// Starts a machine by the names of its configuration and of a script, prints a line for each line of
+/// the script, writes the history that the script made to the file `log`, also where lines were refused,
+/// and then prints the report. What stands printed after a failure isn't promised.
+pub fn step_saved<R: Reader, F: FileWriter, W: Write>(
+    alloc: Global,
+    reader: &mut R,
+    files: &mut F,
+    config: &str,
+    script: &str,
+    log: &str,
+    out: &mut W,
+) -> Result<(), Failure>
+    ensures saved { OnOk result ((qs : List Asked) × (c : Config) × (vs : List Service) × (said : List Line)
+        × (R.asked reader.new ≡ R.asked reader.old ++ qs) × IsStart IsScript config.now script.now qs c vs said
+        × (F.written files.new ≡ F.written files.old
+        ++ kept log.now (history_text (history_made (world_at_boot c vs) c.cpus said)) ∷ [])
+        × (let m = lines_made (world_at_boot c vs) c.cpus said in
+        Appends (W.contents out.old) (W.contents out.new) (said_lines m.0 ++ report_text m.1.table m.1.services))) }
+    ensures fault { IfErr result (λ f. (qs : List Asked) × (ws : List Written)
+        × (R.asked reader.new ≡ R.asked reader.old ++ qs) × (F.written files.new ≡ F.written files.old ++ ws)
+        × (((ws ≡ []) × IsNotStarted IsScript TellsScript config.now script.now qs f)
+        ⊎ ((c : Config) × (vs : List Service) × (said : List Line) × IsStart IsScript config.now script.now qs c vs said
+        × IsUnsaved log.now (history_text (history_made (world_at_boot c vs) c.cpus said)) ws f))) }
+{
+    let mut started = start::<Script, R>(alloc, reader, config, script)?;
+    let lines = started.lines.as_slice();
+    save_lines(
+        alloc,
+        &mut started.machine,
+        started.other,
+        lines,
+        files,
+        log,
+        out,
+    )
+}
