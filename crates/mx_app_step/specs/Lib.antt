@@ -1,6 +1,7 @@
 pub mod Kept
 pub mod Lines
 pub mod Records
+pub mod Traces
 pub use Rattle.mx_app_start.specs.Machine
 pub use Rattle.mx_app_start.specs.Report
 pub use Rattle.mx_app_start.specs.Config

@@ -1,4 +1,4 @@
-//! `mx step` and `mx replay`: a machine driven by a script, or by a saved history.
+//! `mx step`, `mx replay` and `mx trace`: a machine driven by a script, or by a saved history.
 #![tactic(auto)]
 
 mod lines;
@@ -6,6 +6,7 @@ mod printing;
 mod records;
 mod saving;
 mod stepping;
+mod tracing;
 
 pub use lines::{perform_line, step};
 pub use mx_app_start::{
@@ -17,3 +18,4 @@ pub use printing::print_report;
 pub use records::{Replayed, replay};
 pub use saving::step_saved;
 pub use stepping::make_steps;
+pub use tracing::trace;
