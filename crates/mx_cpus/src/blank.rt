@@ -60,6 +60,7 @@ impl Blank {
         requires boot { self.boot ≡ M.boot }
     {
         let Blank { kernel, desk } = self;
-        Shared::new(Locked::new(kernel, desk))
+        let cpus = kernel.cpus();
+        Shared::new(cpus, Locked::new(kernel, desk))
     }
 }

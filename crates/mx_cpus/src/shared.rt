@@ -1,6 +1,6 @@
 //! The machine that threads share.
 
-ghost use Rattle.std.specs.Prelude.{◌≡◌, IfOk, IfErr, All};
+ghost use Rattle.std.specs.Prelude.{◌≡◌, IfOk, IfErr, All, length};
 ghost use Rattle.mx_machine_world.specs.declared.events.Event.TheVariants as events;
 ghost use Rattle.mx_machine_world.specs.Rest.{at_rest};
 ghost use Rattle.mx_cpus_lock.specs.Calls.{Follows, IsAnsweredCall, IsGiveCall, IsLoanOf};
@@ -17,13 +17,25 @@ use std::sync::{Mutex, Wait};
 /// holds. A call that waits for the lock keeps its promises if it returns. None takes memory.
 pub struct Shared<M: Naming> {
     lock: Mutex<Locked<M>>,
+    cpus: u8,
+    ghost counted: { cpus ≡ length M.boot.cpus },
 }
 
 impl<M: Naming> Shared<M> {
-    pub(crate) fn new(locked: Locked<M>) -> Shared<M> {
+    pub(crate) fn new(cpus: u8, locked: Locked<M>) -> Shared<M>
+        requires { cpus ≡ length M.boot.cpus }
+    {
         Shared {
             lock: Mutex::new(locked),
+            cpus,
         }
+    }
+
+    /// How many processors there are. They are the first actors.
+    pub fn cpus(&self) -> u8
+        ensures { result ≡ length M.boot.cpus }
+    {
+        self.cpus
     }
 
     /// Ends the sharing. The kernel stands where the table stands after its history, in which stands all
@@ -33,7 +45,7 @@ impl<M: Naming> Shared<M> {
         ensures stands { All (λ s. StandsIn result.history s) seats.items }
         ensures boot { result.boot ≡ M.boot }
     {
-        let Shared { lock } = self;
+        let Shared { lock, cpus: _ } = self;
         let mut locked = lock.into_inner();
         for seat in seats {
             let _seat = locked.show(seat);

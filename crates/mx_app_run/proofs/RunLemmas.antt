@@ -1,0 +1,134 @@
+-- From loops to a run, and from its text to its replay.
+use Rattle.std.proofs.Common.{◌≡◌, ◌≢◌, ◌∙◌, ◌⊎◌, ◌+◌, ℕ, zero, suc, List, [], ◌∷◌, ◌++◌, length, Option, Some, None, Result, Ok, Err, IfErr, OnOk, All, refl, sym, ap, subst, inl, inr, arith, append_assoc}
+use Rattle.std.specs.Prelude.{IsErrAnd}
+use Rattle.std.specs.declared.io.ErrorKind.{ErrorKind}
+use Rattle.std.specs.Io.KnownBytes.{Appends}
+use Rattle.std.proofs.lemmas.List.{length-replicate}
+use Rattle.std.proofs.lemmas.List.Elements.{All-push}
+use Rattle.atomic_table.specs.Seated.{TableId}
+use Rattle.mx_machine_world.specs.declared.config.Config.{Config}
+use Rattle.mx_machine_world.specs.declared.events.Event.{Event}
+use Rattle.mx_machine_world.specs.declared.events.Refusal.{Refusal}
+use Rattle.mx_machine_world.specs.declared.history.Record.{Record}
+use Rattle.mx_machine_world.specs.Boot.{world_at_boot}
+use Rattle.mx_machine_world.specs.History.{AreAccepted, BootAndHistory, IsWritable, events_of, events_of_history, replay, world_after_events}
+use Rattle.mx_machine_world.specs.Move.{world_after_event}
+use Rattle.mx_machine_world.specs.World.{World, actors}
+use Rattle.mx_kcall.specs.Service.{Service}
+use Rattle.mx_loan.specs.Seats.{SeatView, new_seat, new_seats}
+use Rattle.mx_cpus.specs.Boots.{all_seats}
+use Rattle.mx_app_start.specs.Asked.{Asked}
+use Rattle.mx_app_start.specs.ServiceLine.{ServiceLine}
+use Rattle.mx_app_start.specs.Setup.{AreServicesRead, IsSetup}
+use Rattle.mx_app_failure.specs.declared.failure.Failure.{Failure as Kind}
+use Rattle.mx_app_failure.specs.declared.failure.Failure.TheVariants.{NoMemory}
+use Rattle.mx_app_failure.specs.Failure.{IsWanting, failure_of_kind}
+use Rattle.mx_app_start.specs.Setup.{IsSetupFault}
+use Rattle.mx_app_start.specs.Written.{kept, unkept}
+use Rattle.mx_print_report.specs.Report.{report_text}
+use Rattle.mx_boot_history.specs.Text.{history_text}
+use Rattle.mx_app_step.specs.Records.{IsFirstRefusal, IsRefusedAt, IsReplayPrinted}
+use Rattle.mx_app_step.specs.declared.records.Replayed.{Replayed}
+use Rattle.mx_app_step.specs.declared.records.Replayed.TheVariants as replayed
+use Rattle.mx_app_run.specs.Run.{EndsDriven, IsRun, Runs}
+
+-- new seats hold nothing
+pub new_seats_empty : (z : TableId) (n : ℕ) → All (λ s. s.held ≡ None) (new_seats z n)
+new_seats_empty z zero = λ k d below. absurd (omega arith)
+new_seats_empty z (suc n) = All-push (λ (s : SeatView). s.held ≡ None) (new_seats z n) (new_seat z n) (new_seats_empty z n) refl
+
+pub seats_empty : (z : TableId) (c : Config) (seats : List SeatView) → seats ≡ all_seats c z → All (λ s. s.held ≡ None) seats
+seats_empty z c seats is = subst (λ (l : List SeatView). All (λ s. s.held ≡ None) l) (sym is) (new_seats_empty z (c.cpus + c.others))
+
+-- a kernel whose loops have ended is what a run comes to
+pub run_of : (c : Config) (vs : List Service) (ticks : ℕ) (k : BootAndHistory) (boot : World) (z : TableId) (seats : List SeatView)
+    → boot ≡ world_at_boot c vs → seats ≡ all_seats c z → k.boot ≡ boot → EndsDriven (length boot.cpus) ticks seats k.history
+    → AreAccepted k.boot (events_of_history k.history) → All (IsWritable (actors (replay k))) k.history → IsRun c vs ticks k
+run_of c vs ticks k boot z seats booted all is ends accepted written =
+    let many : length boot.cpus ≡ c.cpus = ap (λ (w : World). length w.cpus) booted ∙ length-replicate c.cpus None in
+    record {
+      boot = is ∙ booted;
+      accepted = accepted;
+      written = written;
+      table = z;
+      loops = subst (λ n. EndsDriven n ticks (all_seats c z) k.history) many (subst (λ (l : List SeatView). EndsDriven (length boot.cpus) ticks l k.history) all ends);
+    }
+
+-- one service for each line
+as_many : (ls : List ServiceLine) (qs : List Asked) (vs : List Service) → AreServicesRead ls qs vs → length vs ≡ length ls
+as_many [] [] [] h = refl
+as_many (l ∷ ls) (q ∷ qs) (v ∷ vs) h = ap suc (as_many ls qs vs h.1)
+as_many [] [] (v ∷ vs) h = absurd h
+as_many [] (q ∷ qs) [] h = absurd h
+as_many [] (q ∷ qs) (v ∷ vs) h = absurd h
+as_many (l ∷ ls) [] [] h = absurd h
+as_many (l ∷ ls) [] (v ∷ vs) h = absurd h
+as_many (l ∷ ls) (q ∷ qs) [] h = absurd h
+
+pub as_many_services : (name : List ℕ) (qs : List Asked) (c : Config) (vs : List Service) → IsSetup name qs c vs → length vs ≡ length c.lines
+as_many_services name qs c vs h = as_many c.lines h.1 vs h.6
+
+-- ---- what `mx run` tells, by how it ends
+
+module _ (config log : List ℕ) (ticks : ℕ) (qs : List Asked) (Prints : List ℕ → Type 0) (apart : config ≢ log) where
+  pub not_set_up : (f : Kind) (r : Result (Unit {0}) Kind) → (f ≡ NoMemory) ⊎ IsSetupFault config qs f → IsErrAnd r (λ y. y ≡ f) → Runs config log ticks qs [] Prints r
+  not_set_up f (Ok u) why h = absurd h
+  not_set_up f (Err y) why h = inl (refl, inr (apart, subst (λ z. (z ≡ NoMemory) ⊎ IsSetupFault config qs z) (sym h) why))
+
+  pub no_memory : (r : Result (Unit {0}) Kind) → IsErrAnd r (λ y. y ≡ NoMemory) → Runs config log ticks qs [] Prints r
+  no_memory (Ok u) h = absurd h
+  no_memory (Err y) h = inl (refl, inr (apart, inl h))
+
+  module _ (c : Config) (vs : List Service) (k : BootAndHistory) (setup : IsSetup config qs c vs) (run : IsRun c vs ticks k) (text : List ℕ) (is : text ≡ history_text k.history) where
+    pub unwritten : (kind : ErrorKind) (r : Result (Unit {0}) Kind) → IsErrAnd r (λ y. y ≡ failure_of_kind kind) → Runs config log ticks qs (unkept log text kind ∷ []) Prints r
+    unwritten kind (Ok u) h = absurd h
+    unwritten kind (Err y) h = inr (c, vs, k, apart, setup, run, inl (kind, ap (λ t. unkept log t kind ∷ []) is, h))
+
+    pub written : (report : List ℕ) (r : Result (Unit {0}) Kind) → report ≡ report_text (replay k).table (replay k).services → IfErr r IsWanting → OnOk r (Prints report)
+        → Runs config log ticks qs (kept log text ∷ []) Prints r
+    written report (Ok u) e wanting printed = (c, vs, k, apart, setup, run, ap (λ t. kept log t ∷ []) is, subst Prints e printed)
+    written report (Err f) e wanting printed = inr (c, vs, k, apart, setup, run, inr (ap (λ t. kept log t ∷ []) is, wanting))
+
+-- ---- its replay
+
+pub actors_of_run : (c : Config) (vs : List Service) (ticks : ℕ) (k : BootAndHistory) → ((w : World) (xs : List (ℕ × Event)) → actors (world_after_events w xs) ≡ actors w)
+    → IsRun c vs ticks k → actors (replay k) ≡ c.cpus + c.others
+unfolding replay
+actors_of_run c vs ticks k stay r = stay k.boot (events_of_history k.history) ∙ ap actors r.boot ∙ ap (λ n. n + c.others) (length-replicate c.cpus None)
+
+events_both : (xs ys : List Record) → events_of_history (xs ++ ys) ≡ events_of_history xs ++ events_of_history ys
+events_both [] ys = refl
+events_both (x ∷ xs) ys = ap (λ l. events_of x.actor x.event ++ l) (events_both xs ys) ∙ sym (append_assoc (events_of x.actor x.event) (events_of_history xs) (events_of_history ys))
+
+accepted_after : (w : World) (xs ys : List (ℕ × Event)) → AreAccepted w (xs ++ ys) → AreAccepted (world_after_events w xs) ys
+accepted_after w [] ys h = h
+accepted_after w (x ∷ xs) ys h = accepted_after (world_after_event w x.0 x.1) xs ys h.1
+
+never_refused : (w : World) (xs ys : List (ℕ × Event)) (r : Refusal) → AreAccepted w (xs ++ ys) → IsFirstRefusal w xs r → ⊥
+never_refused w [] ys r h q = q
+never_refused w (x ∷ xs) ys r h q = elim q [
+  | inl e ↦ (let both : None ≡ Some r = sym h.0 ∙ e in absurd cc)
+  | inr p ↦ never_refused (world_after_event w x.0 x.1) xs ys r h.1 p.1
+]
+
+-- no record of an accepted history is refused
+not_refused : (w : World) (records : List Record) (n : ℕ) (r : Refusal) → AreAccepted w (events_of_history records) → IsRefusedAt w records n r → ⊥
+not_refused w records n r h q =
+    let above = q.0 in
+    let below = q.1 in
+    let x = q.2 in
+    let parts = ap events_of_history q.3 ∙ events_both above (x ∷ below) in
+    never_refused (world_after_events w (events_of_history above)) (events_of x.actor x.event) (events_of_history below) r
+    (accepted_after w (events_of_history above) (events_of_history (x ∷ below)) (subst (AreAccepted w) parts h)) q.5
+
+pub printed_whole : (c : Config) (vs : List Service) (ticks : ℕ) (k : BootAndHistory) (records : List Record) (how : Replayed) (before after : Option (List ℕ))
+    → IsRun c vs ticks k → records ≡ k.history → IsReplayPrinted (world_at_boot c vs) records how (λ text. Appends before after text)
+    → (how ≡ replayed.Whole) × Appends before after (report_text (replay k).table (replay k).services)
+unfolding replay
+printed_whole c vs ticks k records replayed.Whole before after run same h =
+    let there : world_after_events (world_at_boot c vs) (events_of_history records) ≡ world_after_events k.boot (events_of_history k.history) =
+    ap (λ (l : List Record). world_after_events (world_at_boot c vs) (events_of_history l)) same ∙ ap (λ w. world_after_events w (events_of_history k.history)) (sym run.boot) in
+    (refl, subst (λ (u : World). Appends before after (report_text u.table u.services)) there h.1)
+printed_whole c vs ticks k records replayed.Refused before after run same h =
+    let accepted = subst (λ w. AreAccepted w (events_of_history records)) run.boot (subst (λ (l : List Record). AreAccepted k.boot (events_of_history l)) (sym same) run.accepted) in
+    absurd (not_refused (world_at_boot c vs) records h.0 h.1 accepted h.2)

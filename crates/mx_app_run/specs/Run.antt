@@ -1,0 +1,77 @@
+-- Machines whose processors are threads, and what their runs leave (our own).
+use Rattle.std.specs.Prelude.{◌≡◌, ◌⊎◌, ◌≢◌, ℕ, List, [], ◌∷◌, All, Option, Result, Ok, Err}
+use Rattle.std.specs.Io.KnownBytes.{Appends}
+use Rattle.std.specs.declared.io.ErrorKind.{ErrorKind}
+use Rattle.atomic_table.specs.Seated.{TableId}
+use Rattle.mx_machine_world.specs.declared.config.Config.{Config}
+use Rattle.mx_machine_world.specs.declared.history.Record.{Record}
+use Rattle.mx_machine_world.specs.Boot.{world_at_boot}
+use Rattle.mx_machine_world.specs.History.{AreAccepted, BootAndHistory, IsWritable, events_of_history, replay}
+use Rattle.mx_machine_world.specs.World.{actors}
+use Rattle.mx_kcall.specs.Service.{Service}
+use Rattle.mx_loan.specs.Seats.{SeatView}
+use Rattle.mx_cpus_lock.specs.Calls.{StandsIn}
+use Rattle.mx_cpus.specs.Boots.{all_seats}
+use Rattle.mx_cpus_drive.specs.Loops.{AreDriven}
+use Rattle.mx_print_report.specs.Report.{report_text}
+use Rattle.mx_boot_history.specs.Text.{history_text}
+use Rattle.mx_app_failure.specs.declared.failure.Failure.{Failure as Kind}
+use Rattle.mx_app_failure.specs.declared.failure.Failure.TheVariants.{File, NoMemory}
+use Rattle.mx_app_failure.specs.Failure.{IsWanting, failure_of_kind}
+use Rattle.mx_app_start.specs.Asked.{Asked}
+use Rattle.mx_app_start.specs.Course.{IsSaved}
+use Rattle.mx_app_start.specs.Setup.{IsSetup, IsSetupFault}
+use Rattle.mx_app_start.specs.Written.{Written, kept, unkept}
+use Rattle.mx_app_step.specs.Records.{IsReplayPrinted}
+use Rattle.mx_app_step.specs.declared.records.Replayed.{Replayed}
+use Rattle.mx_app_step.specs.declared.records.Replayed.TheVariants.{Whole}
+
+-- ---- a run
+
+-- the loops of these seats have ended, and what each seat shows then stands in the history
+abbrev pub EndsDriven : ℕ → ℕ → List SeatView → List Record → Type 0
+EndsDriven cpus ticks seats history = (ended : List SeatView) × AreDriven cpus ticks seats ended × All (StandsIn history) ended
+
+-- A RUN of a configuration and its services with at most so many ticks ends at a kernel: it was booted so, each event
+-- of its history is accepted, and the records of each actor there are those of its loop.
+pub record IsRun (c : Config) (vs : List Service) (ticks : ℕ) (k : BootAndHistory) : Type 0 where
+  pub boot : k.boot ≡ world_at_boot c vs
+  pub accepted : AreAccepted k.boot (events_of_history k.history)
+  pub written : All (IsWritable (actors (replay k))) k.history
+  pub table : TableId
+  pub loops : EndsDriven c.cpus ticks (all_seats c table) k.history
+
+-- ---- `mx run`
+
+-- nothing was run, or there was no memory to run it, and no history is written: both files have one name, or the first
+-- fault of the configuration and its services' files
+abbrev pub IsNotRun : List ℕ → List ℕ → List Asked → Kind → Type 0
+IsNotRun config log qs f = ((config ≡ log) × (qs ≡ []) × (f ≡ File)) ⊎ ((config ≢ log) × ((f ≡ NoMemory) ⊎ IsSetupFault config qs f))
+
+-- what a run came to: its history's text couldn't be written, or it was, and the report couldn't be printed
+abbrev pub IsRunUntold : List ℕ → List ℕ → List Written → Kind → Type 0
+IsRunUntold log text ws f =
+    ((kind : ErrorKind) × (ws ≡ unkept log text kind ∷ []) × (f ≡ failure_of_kind kind))
+    ⊎ ((ws ≡ kept log text ∷ []) × IsWanting f)
+
+-- WHAT `mx run` DOES: it writes the text of a run's history, whole, and prints the report on the replay of that history;
+-- or it tells why it didn't
+abbrev pub Runs : List ℕ → List ℕ → ℕ → List Asked → List Written → (List ℕ → Type 0) → Result (Unit {0}) Kind → Type 0
+Runs config log ticks qs ws Prints (Ok u) =
+    (c : Config) × (vs : List Service) × (k : BootAndHistory) × (config ≢ log) × IsSetup config qs c vs × IsRun c vs ticks k
+    × (ws ≡ kept log (history_text k.history) ∷ []) × Prints (report_text (replay k).table (replay k).services)
+Runs config log ticks qs ws Prints (Err f) =
+    ((ws ≡ []) × IsNotRun config log qs f)
+    ⊎ ((c : Config) × (vs : List Service) × (k : BootAndHistory) × (config ≢ log) × IsSetup config qs c vs × IsRun c vs ticks k
+    × IsRunUntold log (history_text k.history) ws f)
+
+-- ---- its replay
+
+abbrev pub RunsAreHistories : Type 0
+RunsAreHistories = (c : Config) (vs : List Service) (ticks : ℕ) (k : BootAndHistory) → IsRun c vs ticks k → IsSaved (history_text k.history) c k.history
+
+-- `mx replay` of the same configuration and services prints, of the text that was written, the same report
+abbrev pub RunsReplay : Type 0
+RunsReplay = (c : Config) (vs : List Service) (ticks : ℕ) (k : BootAndHistory) (records : List Record) (how : Replayed) (before after : Option (List ℕ))
+    → IsRun c vs ticks k → IsSaved (history_text k.history) c records → IsReplayPrinted (world_at_boot c vs) records how (λ text. Appends before after text)
+    → (how ≡ Whole) × Appends before after (report_text (replay k).table (replay k).services)

@@ -1,0 +1,108 @@
+//! When the loops of a run wait, and when they end.
+
+use mx_cpus_drive::Gate;
+use std::sync::atomic::{AtomicBool, AtomicU32, Ordering};
+use std::time::{Clock, Duration};
+use std::{array, thread};
+
+/// How many loops a run may have: eight processors, and the respawner.
+const LOOPS: usize = 9;
+
+/// How often a processor that finds nothing ready only yields, before it sleeps too.
+const YIELDS: u32 = 16;
+
+/// How many milliseconds a loop sleeps at a time. No loop is woken by another, so none depends on
+/// another.
+const NAP: u64 = 1;
+
+/// What the gate knows of one loop.
+#[derive(Drop)]
+struct LoopState {
+    /// Whether an earlier question of it came after the last tick.
+    is_past_ticks: AtomicBool,
+    /// How many questions it has asked since it last held a process.
+    questions: AtomicU32,
+}
+
+/// Ends all loops where the machine is at rest after the last tick, and where one loop has ended.
+#[derive(Drop)]
+pub(crate) struct RunGate<'a, R> {
+    clock: &'a R,
+    respawner: u8,
+    ticks: u32,
+    /// The respawner's rounds. After `n` of them `n` ticks are made, or all.
+    rounds: AtomicU32,
+    has_ended: AtomicBool,
+    loops: [LoopState; LOOPS],
+}
+
+impl<'a, R> RunGate<'a, R> {
+    /// The gate of a run. The respawner is the first actor that is no processor.
+    pub(crate) fn new(clock: &'a R, respawner: u8, ticks: u32) -> RunGate<'a, R> {
+        RunGate {
+            clock,
+            respawner,
+            ticks,
+            rounds: AtomicU32::new(0),
+            has_ended: AtomicBool::new(false),
+            loops: array::from_fn(|_| LoopState {
+                is_past_ticks: AtomicBool::new(false),
+                questions: AtomicU32::new(0),
+            }),
+        }
+    }
+
+    /// Notes that the respawner has made a round.
+    fn note_round(&self) {
+        let rounds = self.rounds.load(Ordering::SeqCst);
+        self.rounds
+            .store(rounds.saturating_add(1), Ordering::SeqCst);
+    }
+
+    /// How many questions a loop has asked in a row, this one too.
+    fn note_question(&self, state: &LoopState) -> u32 {
+        let questions = state.questions.load(Ordering::SeqCst).saturating_add(1);
+        state.questions.store(questions, Ordering::SeqCst);
+        questions
+    }
+}
+
+impl<'a, R: Clock> Gate for RunGate<'a, R> {
+    fn held(&self, cpu: u8, _turn: u64) {
+        if let Some(state) = self.loops.get(usize::from(cpu)) {
+            state.questions.store(0, Ordering::SeqCst);
+        }
+    }
+
+    fn given(&self, _cpu: u8) {}
+
+    /// It ends where a loop has ended, or where an earlier question of this actor came after the last
+    /// tick and the machine is at rest now.
+    fn again(&self, actor: u8, at_rest: bool) -> bool {
+        if self.has_ended.load(Ordering::SeqCst) {
+            return false;
+        }
+        let Some(state) = self.loops.get(usize::from(actor)) else {
+            return false;
+        };
+        if actor == self.respawner {
+            self.note_round();
+        }
+        if at_rest && state.is_past_ticks.load(Ordering::SeqCst) {
+            return false;
+        }
+        if self.rounds.load(Ordering::SeqCst) >= self.ticks {
+            state.is_past_ticks.store(true, Ordering::SeqCst);
+        }
+        let questions = self.note_question(state);
+        thread::yield_now();
+        if actor == self.respawner || questions > YIELDS {
+            thread::sleep(self.clock, Duration::from_millis(NAP));
+        }
+        true
+    }
+
+    fn ended(&self, _actor: u8) {
+        self.has_ended.store(true, Ordering::SeqCst);
+    }
+}

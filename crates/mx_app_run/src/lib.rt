@@ -1,0 +1,13 @@
+//! `mx run`: a machine whose processors are threads, and its history, saved at the end.
+#![tactic(auto)]
+
+mod gate;
+mod laws;
+mod running;
+mod text;
+
+pub use laws::{replay_again, run_again};
+pub use mx_app_start::{
+    Failure, FileWriter, KeptFile, MemoryWriter, NamedFile, NamedFiles, Reader,
+};
+pub use running::run;

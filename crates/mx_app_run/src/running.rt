@@ -1,0 +1,95 @@
+//! A machine whose processors are threads.
+
+ghost use Rattle.std.specs.Prelude.{◌≡◌, ◌<◌, ◌≤◌, ◌++◌, List, All, IfOk, None, length};
+ghost use Rattle.std.specs.Io.KnownBytes.{Appends};
+ghost use Rattle.mx_app_start.specs.Asked.{Asked};
+ghost use Rattle.mx_app_start.specs.Written.{Written};
+ghost use Rattle.mx_app_run.specs.Run.{EndsDriven, IsRun, Runs};
+
+use crate::gate::RunGate;
+use crate::text::text_of_history;
+use mx_app_start::{Failure, FileWriter, Reader, print_text, setup_of};
+use mx_boot::{Config, report};
+use mx_cpus_drive::{ActorSeat, Blank, Naming, Shared, boot, drive};
+use mx_machine_kernel::{Kernel, Service};
+use mx_word::NoMemory;
+use std::alloc::Global;
+use std::io::Write;
+use std::marker::Brand;
+use std::sync::Wait;
+use std::thread::Threads;
+use std::time::Clock;
+
+/// Drives a machine that was just booted, until it is at rest after its ticks or its history is full.
+fn drive_blank<M: Naming + Send + Sync, R: Threads + Wait + Clock + Sync>(
+    rt: &R,
+    alloc: Global,
+    blank: Blank,
+    seats: Vec<ActorSeat>,
+    ticks: u32,
+) -> Result<Kernel, NoMemory>
+    requires table { blank.table ≡ M.table }
+    requires boot { blank.boot ≡ M.boot }
+    requires tables { All (λ s. s.table ≡ M.table) seats.items }
+    requires empties { All (λ s. s.held ≡ None) seats.items }
+    ensures boot { IfOk result (λ kernel. kernel.boot ≡ blank.boot) }
+    ensures driven { IfOk result (λ kernel. EndsDriven (length blank.boot.cpus) ticks seats.items kernel.history) }
+{
+    let shared: Shared<M> = blank.open();
+    let gate = RunGate::new(rt, shared.cpus(), ticks);
+    match drive(rt, &shared, seats, &gate, ticks) {
+        Ok(seats) => Ok(shared.into_kernel(seats)),
+        Err(NoMemory) => {
+            let _kernel = shared.into_kernel(Vec::new(alloc));
+            Err(NoMemory)
+        }
+    }
+}
+
+/// Boots the machine of a configuration and its services, and drives it.
+fn run_machine<R: Threads + Wait + Clock + Sync>(
+    rt: &R,
+    alloc: Global,
+    config: &Config,
+    mut services: Vec<Service>,
+    ticks: u32,
+) -> Result<Kernel, NoMemory>
+    requires some { 0 < length services.items }
+    requires few { length services.items ≤ 32 }
+    ensures { IfOk result (λ kernel. IsRun config.now services.items ticks kernel) }
+{
+    let (blank, seats) = boot(alloc, config, &mut services)?;
+    let kernel = drive_blank::<Brand, R>(rt, alloc, blank, seats, ticks)?;
+    kernel.opened();
+    Ok(kernel)
+}
+
+/// Runs the machine of a configuration, each processor in a thread of its own, until it is at rest after
+/// so many ticks or its history is full. Then writes the history to a file, and prints the report. The
+/// configuration isn't written over: where both have one name, nothing is read or written.
+pub fn run<T: Threads + Wait + Clock + Sync, R: Reader, F: FileWriter, W: Write>(
+    rt: &T,
+    alloc: Global,
+    reader: &mut R,
+    files: &mut F,
+    config: &str,
+    log: &str,
+    ticks: u32,
+    out: &mut W,
+) -> Result<(), Failure>
+    ensures { (qs : List Asked) × (ws : List Written)
+        × (R.asked reader.new ≡ R.asked reader.old ++ qs)
+        × (F.written files.new ≡ F.written files.old ++ ws)
+        × Runs config.now log.now ticks qs ws
+        (λ text. Appends (W.contents out.old) (W.contents out.new) text) result }
+{
+    if config == log {
+        return Err(Failure::File);
+    }
+    let (config, services) = setup_of(alloc, reader, config)?;
+    let kernel = run_machine(rt, alloc, &config, services, ticks)?;
+    let text = text_of_history(alloc, &kernel)?;
+    let report = report(alloc, &kernel)?;
+    files.write(alloc, log, text.as_slice())?;
+    print_text(report.as_slice(), out)
+}

@@ -1,0 +1,151 @@
+//! A thread for each processor, and one for the respawner.
+
+ghost use Rattle.std.specs.Prelude.{◌≡◌, ◌≤◌, None, IfOk, OnOk, All, length, vec_capacity, vec_len};
+ghost use Rattle.mx_cpus_drive.specs.Loops.{AreDriven, IsDriven};
+
+use crate::gate::Gate;
+use crate::loops::{processor, respawner};
+use mx_cpus::{ActorSeat, Naming, Shared};
+use mx_loan_shown::Shown;
+use mx_word::NoMemory;
+use std::sync::Wait;
+use std::thread;
+use std::thread::{Promise, PromisedHandle, Scope, Threads};
+
+/// What a thread promises of its seat, by the one that it was started with.
+#[derive(Drop)]
+struct Follower {
+    from: Shown<ActorSeat>,
+    cpus: u8,
+    ticks: u32,
+}
+
+impl Promise<ActorSeat> for Follower {
+    ghost use Rattle.mx_cpus_drive.specs.Loops.{IsDriven};
+
+    ghost kept_by = { λ p s. IsDriven p.cpus p.ticks p.from.value s };
+}
+
+/// The loop of an actor: a processor's, or the respawner's.
+fn serve<M: Naming, G: Gate, R: Wait>(
+    rt: &R,
+    shared: &Shared<M>,
+    seat: ActorSeat,
+    gate: &G,
+    ticks: u32,
+) -> ActorSeat
+    requires table { seat.table ≡ M.table }
+    requires empty { seat.held ≡ None }
+    requires actor { seat.actor ≤ length M.boot.cpus }
+    ensures { IsDriven (length M.boot.cpus) ticks seat result }
+{
+    let actor = seat.actor();
+    let seat = if actor < shared.cpus() {
+        processor(rt, shared, seat, gate)
+    } else {
+        respawner(rt, shared, seat, gate, ticks)
+    };
+    gate.ended(actor);
+    seat
+}
+
+/// Starts a thread with the loop of an actor.
+fn start<'s, E, M: Naming + Send + Sync, G: Gate + Sync, R: Wait + Sync>(
+    scope: &Scope<'s, E>,
+    rt: &'s R,
+    shared: &'s Shared<M>,
+    seat: ActorSeat,
+    gate: &'s G,
+    ticks: u32,
+) -> Result<PromisedHandle<ActorSeat, Follower>, NoMemory>
+    requires table { seat.table ≡ M.table }
+    requires empty { seat.held ≡ None }
+    requires actor { seat.actor ≤ length M.boot.cpus }
+    ensures { IfOk result (λ h. (h.promise.from.value ≡ seat) × (h.promise.cpus ≡ length M.boot.cpus) × (h.promise.ticks ≡ ticks)) }
+{
+    let actor = seat.actor();
+    let promise = Follower {
+        from: Shown::of(&seat),
+        cpus: shared.cpus(),
+        ticks,
+    };
+    let job = move || -> ActorSeat
+        requires { (seat.table ≡ M.table) × (seat.held ≡ None) × (seat.actor ≤ length M.boot.cpus) }
+        ensures { IsDriven (length M.boot.cpus) ticks seat result }
+    { serve(rt, shared, seat, gate, ticks) };
+    match scope.spawn_with(promise, job) {
+        Ok(handle) => Ok(handle),
+        Err(refused) => {
+            drop(refused);
+            gate.ended(actor);
+            Err(NoMemory)
+        }
+    }
+}
+
+/// Runs the loop of each seat in a thread of its own, from the last seat on, and joins all threads. The
+/// seats of further actors stay as they are. After an error some seats are spent.
+#[cycle(drive_all)]
+fn drive_all<'s, E, M: Naming + Send + Sync, G: Gate + Sync, R: Threads + Wait + Sync>(
+    scope: &Scope<'s, E>,
+    rt: &'s R,
+    shared: &'s Shared<M>,
+    seats: &mut Vec<ActorSeat>,
+    gate: &'s G,
+    ticks: u32,
+) -> Result<(), NoMemory>
+    requires tables { All (λ s. s.table ≡ M.table) seats.old.items }
+    requires empties { All (λ s. s.held ≡ None) seats.old.items }
+    ensures driven { OnOk result (AreDriven (length M.boot.cpus) ticks seats.old.items seats.new.items) }
+    ensures tables { OnOk result (All (λ s. s.table ≡ M.table) seats.new.items) }
+    ensures len { OnOk result (vec_len seats.new ≡ vec_len seats.old) }
+    ensures room { vec_capacity seats.new ≡ vec_capacity seats.old }
+{
+    let Some(seat) = seats.pop() else {
+        return Ok(());
+    };
+    if seat.actor() > shared.cpus() {
+        drive_all(scope, rt, shared, seats, gate, ticks)?;
+        seats.push_reserved(seat);
+        return Ok(());
+    }
+    let started = start(scope, rt, shared, seat, gate, ticks);
+    let others = drive_all(scope, rt, shared, seats, gate, ticks);
+    let seat = started?.join(rt);
+    others?;
+    seats.push_reserved(seat);
+    Ok(())
+}
+
+/// Runs the loops of all processors, and that of the first other actor as respawner, each in a thread of
+/// its own, and gives the seats back in order once all have ended. The seats of further actors stay as
+/// they are. The gate is told of each loop that has ended, and of each for which no thread could be
+/// made: then the answer is `NoMemory`, the seats are spent, and what was recorded stays. Takes no memory
+/// but that of the threads.
+pub fn drive<M: Naming + Send + Sync, G: Gate + Sync, R: Threads + Wait + Sync>(
+    rt: &R,
+    shared: &Shared<M>,
+    seats: Vec<ActorSeat>,
+    gate: &G,
+    ticks: u32,
+) -> Result<Vec<ActorSeat>, NoMemory>
+    requires tables { All (λ s. s.table ≡ M.table) seats.items }
+    requires empties { All (λ s. s.held ≡ None) seats.items }
+    ensures driven { IfOk result (λ v. AreDriven (length M.boot.cpus) ticks seats.items v.items) }
+    ensures tables { IfOk result (λ v. All (λ s. s.table ≡ M.table) v.items) }
+{
+    thread::scope(
+        thread::scope_env(),
+        rt,
+        move |scope| -> Result<Vec<ActorSeat>, NoMemory>
+            requires tables { All (λ s. s.table ≡ M.table) seats.items }
+            requires empties { All (λ s. s.held ≡ None) seats.items }
+            ensures driven { IfOk result (λ v. AreDriven (length M.boot.cpus) ticks seats.items v.items) }
+            ensures tables { IfOk result (λ v. All (λ s. s.table ≡ M.table) v.items) }
+        {
+            let mut seats = seats;
+            drive_all(scope, rt, shared, &mut seats, gate, ticks)?;
+            Ok(seats)
+        },
+    )
+}

@@ -1,0 +1,11 @@
+//! Threads that run a shared machine: a loop for each processor, and one that makes ticks and respawns.
+#![tactic(auto)]
+
+mod driving;
+mod gate;
+mod loops;
+
+pub use driving::drive;
+pub use gate::Gate;
+pub use loops::{processor, respawner};
+pub use mx_cpus::{ActorSeat, Blank, Naming, Shared, boot};

@@ -1,0 +1,5 @@
+//! Tests alone: runs of machines whose processors are threads.
+#![tactic(auto)]
+
+#[cfg(test)]
+mod pairs;
