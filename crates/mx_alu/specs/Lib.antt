@@ -2,3 +2,4 @@ pub mod Alu
 pub mod Shifts
 pub mod Products
 pub mod Extension
+pub mod Bits

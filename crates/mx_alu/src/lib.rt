@@ -6,11 +6,13 @@ ghost use Rattle.std.specs.Prelude.{◌≡◌, ◌^◌, ◌<◌};
 ghost use Rattle.mx_word.specs.Word.{width};
 ghost use Rattle.mx_alu.specs.Alu.{alu_value, alu_flags, unary_value, unary_flags};
 
+mod bits;
 mod extension;
 mod numbers;
 mod products;
 mod shifts;
 
+pub use bits::{bit_scan, bit_test, double_shift};
 pub use extension::{extend, spread_sign};
 use mx_flags::Flags;
 use mx_word::{Arithmetic, Size, Unary, add_w, sub_w};

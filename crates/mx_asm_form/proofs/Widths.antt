@@ -11,6 +11,9 @@ use Rattle.mx_word.specs.declared.names.Arithmetic.{Arithmetic}
 use Rattle.mx_word.specs.declared.names.Condition.{Condition}
 use Rattle.mx_word.specs.declared.names.Unary.{Unary}
 use Rattle.mx_word.specs.declared.names.Shift.{Shift}
+use Rattle.mx_word.specs.declared.names.BitTest.{BitTest}
+use Rattle.mx_word.specs.declared.names.BitScan.{BitScan}
+use Rattle.mx_word.specs.declared.names.DoubleShift.{DoubleShift}
 use Rattle.mx_text.specs.declared.names.Name.{Name}
 use Rattle.mx_insn.specs.declared.insn.Memory.{Memory}
 use Rattle.mx_insn.specs.declared.insn.Operand.TheVariants as operands
@@ -46,7 +49,7 @@ use Rattle.mx_asm_form.specs.declared.moves.ExtensionParts.{ExtensionParts}
 use Rattle.mx_asm_form.specs.Numbers.{is_out_of_range, low_bits, number_in, immediate_in, is_same, names_no_other, value_waiting}
 use Rattle.mx_asm_form.specs.SizedOperands.{statement_of_insn, memory_named, sized_memory, sized_operand_of, operand_of_size, operand_beside, not_byte}
 use Rattle.mx_asm_form.specs.Pairs.{pair_into_memory, operands_of}
-use Rattle.mx_asm_form.specs.Operations.{unary, test, sized_factor, factor_of, product, shift_count_of, shift, set_condition_statement}
+use Rattle.mx_asm_form.specs.Operations.{unary, test, sized_factor, factor_of, product, shift_count_of, shift, double_shift, bit_test, bit_scan, set_condition_statement}
 use Rattle.mx_asm_form.specs.Moves.{exchange, load_address_statement, extension_between, extension_parts, zero_extend, sign_extend}
 use Rattle.mx_asm_form.specs.Stack.{statement_without_arguments, push, pop, return_of, interrupt, port_of, port_size_of, port_in, port_out}
 use Rattle.mx_asm_form.specs.Transfers.{jump, jump_if_statement, call, loop_statement}
@@ -268,6 +271,65 @@ shift_fits o (x ∷ y ∷ []) =
     next CountFits StatementFits (shift_count_of y) _ (count_fits y) (λ count g. says_fits (insns.Shift o spot.size spot.operand count) None spot.displacement (h, g)))
 shift_fits o (x ∷ y ∷ z ∷ zs) = tt
 
+double_shift_fits : (o : DoubleShift) (xs : List Argument) → If StatementFits (double_shift o xs)
+double_shift_fits o [] = tt
+double_shift_fits o (x ∷ []) = tt
+double_shift_fits o (x ∷ arguments.Register Dword r ∷ []) = tt
+double_shift_fits o (x ∷ arguments.Register Dword r ∷ y ∷ []) =
+    with_spot (operand_beside Dword x) _ (beside_fits Dword x) (λ spot h.
+    next CountFits StatementFits (shift_count_of y) _ (count_fits y) (λ count g. says_fits (insns.DoubleShift o spot.operand r count) None spot.displacement (h, g)))
+double_shift_fits o (x ∷ arguments.Register Dword r ∷ y ∷ z ∷ zs) = tt
+double_shift_fits o (x ∷ arguments.Register Byte r ∷ ys) = tt
+double_shift_fits o (x ∷ arguments.Register Word r ∷ ys) = tt
+double_shift_fits o (x ∷ arguments.Memory n a ∷ ys) = tt
+double_shift_fits o (x ∷ arguments.Value v ∷ ys) = tt
+
+bit_number_fits : (o : BitTest) (x : Argument) (v : Value) → If StatementFits (operand_of_size Dword x >>= λ spot. number_in Byte v >>= λ word. statement_of_insn (insns.BitTest o spot.operand word) None spot.displacement)
+bit_number_fits o x v =
+    with_spot (operand_of_size Dword x) _ (sized_fits Dword x) (λ spot h.
+    next (Within Byte) StatementFits (number_in Byte v) _ (number_fits Byte v) (λ n g. says_fits (insns.BitTest o spot.operand n) None spot.displacement (h, g)))
+
+bit_test_fits : (o : BitTest) (xs : List Argument) → If StatementFits (bit_test o xs)
+bit_test_fits o [] = tt
+bit_test_fits o (arguments.Register Byte r ∷ []) = tt
+bit_test_fits o (arguments.Register Word r ∷ []) = tt
+bit_test_fits o (arguments.Register Dword r ∷ []) = tt
+bit_test_fits o (arguments.Memory n a ∷ []) = tt
+bit_test_fits o (arguments.Value v ∷ []) = tt
+bit_test_fits o (arguments.Register Dword r ∷ arguments.Register Dword n ∷ []) = says_fits (insns.BitTestRegister o r n) None None tt
+bit_test_fits o (arguments.Register Dword r ∷ arguments.Register Dword n ∷ z ∷ zs) = tt
+bit_test_fits o (arguments.Register Dword r ∷ arguments.Register Byte n ∷ zs) = tt
+bit_test_fits o (arguments.Register Dword r ∷ arguments.Register Word n ∷ zs) = tt
+bit_test_fits o (arguments.Register Byte r ∷ arguments.Register s n ∷ zs) = tt
+bit_test_fits o (arguments.Register Word r ∷ arguments.Register s n ∷ zs) = tt
+bit_test_fits o (arguments.Register Byte r ∷ arguments.Value v ∷ []) = bit_number_fits o (arguments.Register Byte r) v
+bit_test_fits o (arguments.Register Word r ∷ arguments.Value v ∷ []) = bit_number_fits o (arguments.Register Word r) v
+bit_test_fits o (arguments.Register Dword r ∷ arguments.Value v ∷ []) = bit_number_fits o (arguments.Register Dword r) v
+bit_test_fits o (arguments.Register Byte r ∷ arguments.Value v ∷ z ∷ zs) = tt
+bit_test_fits o (arguments.Register Word r ∷ arguments.Value v ∷ z ∷ zs) = tt
+bit_test_fits o (arguments.Register Dword r ∷ arguments.Value v ∷ z ∷ zs) = tt
+bit_test_fits o (arguments.Register Byte r ∷ arguments.Memory n a ∷ zs) = tt
+bit_test_fits o (arguments.Register Word r ∷ arguments.Memory n a ∷ zs) = tt
+bit_test_fits o (arguments.Register Dword r ∷ arguments.Memory n a ∷ zs) = tt
+bit_test_fits o (arguments.Memory n a ∷ arguments.Value v ∷ []) = bit_number_fits o (arguments.Memory n a) v
+bit_test_fits o (arguments.Memory n a ∷ arguments.Value v ∷ z ∷ zs) = tt
+bit_test_fits o (arguments.Memory n a ∷ arguments.Register s r ∷ zs) = tt
+bit_test_fits o (arguments.Memory n a ∷ arguments.Memory k b ∷ zs) = tt
+bit_test_fits o (arguments.Value u ∷ arguments.Value v ∷ []) = bit_number_fits o (arguments.Value u) v
+bit_test_fits o (arguments.Value u ∷ arguments.Value v ∷ z ∷ zs) = tt
+bit_test_fits o (arguments.Value u ∷ arguments.Register s r ∷ zs) = tt
+bit_test_fits o (arguments.Value u ∷ arguments.Memory k b ∷ zs) = tt
+
+bit_scan_fits : (o : BitScan) (xs : List Argument) → If StatementFits (bit_scan o xs)
+bit_scan_fits o [] = tt
+bit_scan_fits o (arguments.Register Dword to ∷ []) = tt
+bit_scan_fits o (arguments.Register Dword to ∷ y ∷ []) = with_spot (operand_beside Dword y) _ (beside_fits Dword y) (λ spot h. says_fits (insns.BitScan o to spot.operand) None spot.displacement h)
+bit_scan_fits o (arguments.Register Dword to ∷ y ∷ z ∷ zs) = tt
+bit_scan_fits o (arguments.Register Byte r ∷ ys) = tt
+bit_scan_fits o (arguments.Register Word r ∷ ys) = tt
+bit_scan_fits o (arguments.Memory n a ∷ ys) = tt
+bit_scan_fits o (arguments.Value v ∷ ys) = tt
+
 condition_fits : (c : Condition) (xs : List Argument) → If StatementFits (set_condition_statement c xs)
 condition_fits c [] = tt
 condition_fits c (x ∷ []) = with_spot (operand_of_size Byte x) _ (sized_fits Byte x) (λ spot h. says_fits (insns.SetCondition c spot.operand) None spot.displacement h)
@@ -453,6 +515,9 @@ stated_fits short (mnemonics.Arithmetic o) xs = arithmetic_fits o xs
 stated_fits short (mnemonics.Unary o) xs = unary_fits o xs
 stated_fits short (mnemonics.Product o) xs = product_fits o xs
 stated_fits short (mnemonics.Shift o) xs = shift_fits o xs
+stated_fits short (mnemonics.DoubleShift o) xs = double_shift_fits o xs
+stated_fits short (mnemonics.BitTest o) xs = bit_test_fits o xs
+stated_fits short (mnemonics.BitScan o) xs = bit_scan_fits o xs
 stated_fits short (mnemonics.Loop o) xs = looping_fits o xs
 stated_fits short (mnemonics.Plain o) xs = alone_fits (insns.Plain o) xs tt
 stated_fits short (mnemonics.Single o) xs = single_fits short o xs

@@ -1,9 +1,12 @@
--- What works on registers and memory: INC, DEC, NOT, NEG, TEST, MUL, IMUL, DIV, IDIV, shifts, SETcc.
+-- What works on registers and memory: INC, DEC, NOT, NEG, TEST, MUL, IMUL, DIV, IDIV, shifts, bit tests, bit scans, SETcc.
 use Rattle.std.specs.Prelude.{ℕ, Option, Some, None, List, [], ◌∷◌}
 use Rattle.mx_word.specs.declared.size.Size.{Size}
 use Rattle.mx_word.specs.declared.size.Size.TheVariants.{Byte, Word, Dword}
 use Rattle.mx_word.specs.declared.names.Register.TheVariants.{Ecx}
 use Rattle.mx_word.specs.declared.names.Condition.{Condition}
+use Rattle.mx_word.specs.declared.names.BitTest.{BitTest}
+use Rattle.mx_word.specs.declared.names.BitScan.{BitScan}
+use Rattle.mx_word.specs.declared.names.DoubleShift.{DoubleShift}
 use Rattle.mx_word.specs.declared.names.Unary.{Unary}
 use Rattle.mx_word.specs.declared.names.Shift.{Shift}
 use Rattle.mx_insn.specs.declared.insn.Product.{Product}
@@ -77,6 +80,29 @@ shift o (x ∷ y ∷ []) = do
   count ← shift_count_of y
   statement_of_insn (insns.Shift o spot.size spot.operand count) None spot.displacement
 shift o _ = None
+
+-- a dword in a register or memory, and a register that fills it
+abbrev pub double_shift : DoubleShift → List Argument → Option Statement
+double_shift o (x ∷ arguments.Register Dword r ∷ y ∷ []) = do
+  spot ← operand_beside Dword x
+  count ← shift_count_of y
+  statement_of_insn (insns.DoubleShift o spot.operand r count) None spot.displacement
+double_shift o _ = None
+
+-- by a number of 8 bits; a register's bit by a register too. Memory with a register for the number has no form
+abbrev pub bit_test : BitTest → List Argument → Option Statement
+bit_test o (arguments.Register Dword r ∷ arguments.Register Dword n ∷ []) = statement_of_insn (insns.BitTestRegister o r n) None None
+bit_test o (x ∷ arguments.Value v ∷ []) = do
+  spot ← operand_of_size Dword x
+  word ← number_in Byte v
+  statement_of_insn (insns.BitTest o spot.operand word) None spot.displacement
+bit_test o _ = None
+
+abbrev pub bit_scan : BitScan → List Argument → Option Statement
+bit_scan o (arguments.Register Dword to ∷ y ∷ []) = do
+  spot ← operand_beside Dword y
+  statement_of_insn (insns.BitScan o to spot.operand) None spot.displacement
+bit_scan o _ = None
 
 abbrev pub set_condition_statement : Condition → List Argument → Option Statement
 set_condition_statement c (x ∷ []) = do

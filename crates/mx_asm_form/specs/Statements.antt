@@ -16,7 +16,7 @@ use Rattle.mx_asm_statement.specs.declared.statement.Statement.{Statement}
 use Rattle.mx_asm_statement.specs.declared.statement.Statement.TheVariants as statements
 use Rattle.mx_asm_form.specs.SizedOperands.{statement_of_insn}
 use Rattle.mx_asm_form.specs.Pairs.{operands_of}
-use Rattle.mx_asm_form.specs.Operations.{unary, test, product, shift, set_condition_statement}
+use Rattle.mx_asm_form.specs.Operations.{unary, test, product, shift, double_shift, bit_test, bit_scan, set_condition_statement}
 use Rattle.mx_asm_form.specs.Moves.{exchange, load_address_statement, zero_extend, sign_extend}
 use Rattle.mx_asm_form.specs.Stack.{statement_without_arguments, push, pop, return_of, interrupt, port_in, port_out}
 use Rattle.mx_asm_form.specs.Transfers.{jump, jump_if_statement, call, loop_statement}
@@ -63,6 +63,9 @@ statement_for short (mnemonics.Arithmetic o) xs = arithmetic_statement o xs
 statement_for short (mnemonics.Unary o) xs = unary o xs
 statement_for short (mnemonics.Product o) xs = product o xs
 statement_for short (mnemonics.Shift o) xs = shift o xs
+statement_for short (mnemonics.DoubleShift o) xs = double_shift o xs
+statement_for short (mnemonics.BitTest o) xs = bit_test o xs
+statement_for short (mnemonics.BitScan o) xs = bit_scan o xs
 statement_for short (mnemonics.Loop o) xs = loop_statement o xs
 statement_for short (mnemonics.Plain o) xs = statement_without_arguments (insns.Plain o) xs
 statement_for short (mnemonics.Single o) xs = statement_for_single short o xs

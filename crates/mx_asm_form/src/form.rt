@@ -3,6 +3,7 @@
 ghost use Rattle.std.specs.Prelude.{◌≡◌};
 ghost use Rattle.mx_asm_form.specs.Statements.{arithmetic_statement, move_statement, statement_for_single, statement_for, statement_after_prefix};
 
+use crate::bits::{bit_scan, bit_test, double_shift};
 use crate::operations::{product, set_condition, shift, test, unary};
 use crate::stack::{alone, interrupt, pop, port_in, port_out, push, return_of};
 use crate::{
@@ -65,6 +66,9 @@ pub fn stated(short: bool, mnemonic: Mnemonic, arguments: &[Argument]) -> Option
         Mnemonic::Unary(operation) => unary(operation, arguments),
         Mnemonic::Product(operation) => product(operation, arguments),
         Mnemonic::Shift(operation) => shift(operation, arguments),
+        Mnemonic::DoubleShift(operation) => double_shift(operation, arguments),
+        Mnemonic::BitTest(operation) => bit_test(operation, arguments),
+        Mnemonic::BitScan(operation) => bit_scan(operation, arguments),
         Mnemonic::Loop(operation) => looping(operation, arguments),
         Mnemonic::Plain(plain) => alone(Insn::Plain(plain), arguments),
         Mnemonic::Single(single) => stated_single(short, single, arguments),

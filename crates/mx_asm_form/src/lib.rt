@@ -2,6 +2,7 @@
 //! data.
 #![tactic(auto)]
 
+mod bits;
 mod data;
 mod form;
 mod laws;

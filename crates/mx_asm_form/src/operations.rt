@@ -137,7 +137,7 @@ pub fn product(operation: Product, arguments: &[Argument]) -> Option<Statement>
     }
 }
 
-fn count_of(argument: Argument) -> Option<Count>
+pub fn count_of(argument: Argument) -> Option<Count>
     ensures { result ≡ shift_count_of argument }
 {
     match argument {

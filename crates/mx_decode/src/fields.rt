@@ -189,7 +189,7 @@ pub fn place(column: ModRm, bytes: &[u8]) -> Result<(u8, Operand, &[u8]), Decode
 {
     match column {
         ModRm::Absent => Ok((0, Operand::Register(Register::Eax), bytes)),
-        ModRm::Any | ModRm::AnyMemory | ModRm::Only(_) => modrm(bytes),
+        ModRm::Any | ModRm::AnyMemory | ModRm::AnyRegister | ModRm::Only(_) => modrm(bytes),
     }
 }
 

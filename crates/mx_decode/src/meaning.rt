@@ -2,7 +2,7 @@
 
 ghost use Rattle.std.specs.Prelude.{◌≡◌, ◌<◌, ◌^◌, if◌then◌else◌};
 ghost use Rattle.mx_word.specs.Word.{width};
-ghost use Rattle.mx_insn.specs.Spelling.{arithmetic, condition, immediate_of, wide_immediate, port_size, operand_size, byte_extension, to_rm, memory_of, at, shift_count, made};
+ghost use Rattle.mx_insn.specs.Spelling.{arithmetic, condition, immediate_of, wide_immediate, port_size, operand_size, byte_extension, to_rm, memory_of, register_of, at, shift_count, made};
 ghost use Rattle.mx_decode.specs.Given.{narrow_bound, shift_bound, parts_in};
 
 use crate::fields::register;
@@ -129,6 +129,15 @@ fn memory_of(operand: Operand) -> Memory
     match operand {
         Operand::Register(_) => at(0),
         Operand::Memory(memory) => memory,
+    }
+}
+
+fn register_of(operand: Operand) -> Register
+    ensures { result ≡ register_of operand }
+{
+    match operand {
+        Operand::Register(register) => register,
+        Operand::Memory(_) => Register::Eax,
     }
 }
 
@@ -277,6 +286,27 @@ pub fn insn_of(pattern: Pattern, size: Size, values: FieldValues) -> Insn
             size,
             operand: rm,
             count: shift_count(column, immediate),
+        },
+        Pattern::DoubleShiftRmReg(operation, column) => Insn::DoubleShift {
+            operation,
+            operand: rm,
+            register: reg,
+            count: shift_count(column, immediate),
+        },
+        Pattern::BitTestRmImmediate(operation) => Insn::BitTest {
+            operation,
+            operand: rm,
+            number: immediate as u8,
+        },
+        Pattern::BitTestRmReg(operation) => Insn::BitTestRegister {
+            operation,
+            register: register_of(rm),
+            number: reg,
+        },
+        Pattern::BitScanRegRm(operation) => Insn::BitScan {
+            operation,
+            to: reg,
+            from: rm,
         },
         Pattern::ZeroExtendByte => Insn::ZeroExtend {
             extension: byte_extension(resized),

@@ -44,7 +44,7 @@ fn is_absent(column: ModRm) -> bool
 {
     match column {
         ModRm::Absent => true,
-        ModRm::Any | ModRm::AnyMemory | ModRm::Only(_) => false,
+        ModRm::Any | ModRm::AnyMemory | ModRm::AnyRegister | ModRm::Only(_) => false,
     }
 }
 
@@ -55,6 +55,7 @@ fn may_follow(column: ModRm, behind: Option<u8>) -> bool
     match (column, behind) {
         (ModRm::Absent | ModRm::Any, _) | (_, None) => true,
         (ModRm::AnyMemory, Some(modrm)) => modrm / 64 != 3,
+        (ModRm::AnyRegister, Some(modrm)) => modrm / 64 == 3,
         (ModRm::Only(field), Some(modrm)) => field == modrm / 8 % 8,
     }
 }

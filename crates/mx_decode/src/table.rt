@@ -4,8 +4,8 @@ ghost use Rattle.std.specs.Prelude.{◌≡◌, ◌≤◌, ◌<◌, true, false};
 ghost use Rattle.mx_decode.specs.Map.{map_part, rows_in};
 
 use mx_insn::{
-    Comparison, CountColumn, ImmediateColumn, Loop, ModRm, Pattern, Plain, Product, Repeats, Row,
-    Shift, SizeMark, Transfer, Unary,
+    BitScan, BitTest, Comparison, CountColumn, DoubleShift, ImmediateColumn, Loop, ModRm, Pattern,
+    Plain, Product, Repeats, Row, Shift, SizeMark, Transfer, Unary,
 };
 
 macro_rules! row {
@@ -275,6 +275,20 @@ fn escaped_rows(part: u8) -> &'static [Row]
             row!(true 0xB7 + 1 * 1 => Dword Neither Nothing; ModRm::Any; Pattern::ZeroExtendWord),
             row!(true 0xBE + 1 * 1 => Variable Neither Nothing; ModRm::Any; Pattern::SignExtendByte),
             row!(true 0xBF + 1 * 1 => Dword Neither Nothing; ModRm::Any; Pattern::SignExtendWord),
+            row!(true 0xBA + 1 * 1 => Dword Neither Byte; ModRm::Only(4); Pattern::BitTestRmImmediate(BitTest::Bt)),
+            row!(true 0xBA + 1 * 1 => Dword Neither Byte; ModRm::Only(5); Pattern::BitTestRmImmediate(BitTest::Bts)),
+            row!(true 0xBA + 1 * 1 => Dword Neither Byte; ModRm::Only(6); Pattern::BitTestRmImmediate(BitTest::Btr)),
+            row!(true 0xBA + 1 * 1 => Dword Neither Byte; ModRm::Only(7); Pattern::BitTestRmImmediate(BitTest::Btc)),
+            row!(true 0xA3 + 1 * 1 => Dword Neither Nothing; ModRm::AnyRegister; Pattern::BitTestRmReg(BitTest::Bt)),
+            row!(true 0xAB + 1 * 1 => Dword Neither Nothing; ModRm::AnyRegister; Pattern::BitTestRmReg(BitTest::Bts)),
+            row!(true 0xB3 + 1 * 1 => Dword Neither Nothing; ModRm::AnyRegister; Pattern::BitTestRmReg(BitTest::Btr)),
+            row!(true 0xBB + 1 * 1 => Dword Neither Nothing; ModRm::AnyRegister; Pattern::BitTestRmReg(BitTest::Btc)),
+            row!(true 0xBC + 1 * 1 => Dword Neither Nothing; ModRm::Any; Pattern::BitScanRegRm(BitScan::Bsf)),
+            row!(true 0xBD + 1 * 1 => Dword Neither Nothing; ModRm::Any; Pattern::BitScanRegRm(BitScan::Bsr)),
+            row!(true 0xA4 + 1 * 1 => Dword Neither Byte; ModRm::Any; Pattern::DoubleShiftRmReg(DoubleShift::Shld, CountColumn::Immediate)),
+            row!(true 0xA5 + 1 * 1 => Dword Neither Nothing; ModRm::Any; Pattern::DoubleShiftRmReg(DoubleShift::Shld, CountColumn::Cl)),
+            row!(true 0xAC + 1 * 1 => Dword Neither Byte; ModRm::Any; Pattern::DoubleShiftRmReg(DoubleShift::Shrd, CountColumn::Immediate)),
+            row!(true 0xAD + 1 * 1 => Dword Neither Nothing; ModRm::Any; Pattern::DoubleShiftRmReg(DoubleShift::Shrd, CountColumn::Cl)),
         ],
         _ => &[],
     }

@@ -10,6 +10,10 @@ use Rattle.mx_word.specs.declared.names.Condition.{Condition}
 use Rattle.mx_word.specs.declared.names.Arithmetic.{Arithmetic}
 use Rattle.mx_word.specs.declared.names.Shift.{Shift}
 use Rattle.mx_word.specs.declared.names.Shift.TheVariants.{Rol, Ror, Shl, Shr, Sar}
+use Rattle.mx_word.specs.declared.names.BitTest.{BitTest}
+use Rattle.mx_word.specs.declared.names.BitTest.TheVariants.{Bt, Bts, Btr, Btc}
+use Rattle.mx_word.specs.declared.names.BitScan.{BitScan}
+use Rattle.mx_word.specs.declared.names.DoubleShift.{DoubleShift}
 use Rattle.mx_word.specs.declared.names.Unary.{Unary}
 use Rattle.mx_word.specs.declared.names.Unary.TheVariants.{Inc, Dec, Not, Neg}
 use Rattle.mx_insn.specs.declared.insn.Memory.{Memory}
@@ -45,15 +49,15 @@ use Rattle.mx_insn.specs.declared.row.ModRm.TheVariants.{Any, Only}
 use Rattle.mx_insn.specs.declared.row.Repeats.TheVariants.{Both}
 use Rattle.mx_insn.specs.declared.row.CountColumn.TheVariants as by
 use Rattle.mx_insn.specs.declared.row.Pattern.TheVariants as patterns
-use Rattle.mx_insn.specs.Table.{shift_number, product_number, sized_column, plain_column, arithmetic_rm_reg_row, arithmetic_whole_row, arithmetic_signed_row, push_dword_row, push_signed_row, multiply_whole_row, multiply_signed_row, jump_if_signed_row, jump_if_dword_row, move_rm_reg_row, shift_immediate_row, shift_one_row, return_bytes_row, return_row, loop_row, jump_dword_row, jump_signed_row, rows}
+use Rattle.mx_insn.specs.Table.{shift_number, product_number, sized_column, plain_column, arithmetic_rm_reg_row, arithmetic_whole_row, arithmetic_signed_row, push_dword_row, push_signed_row, multiply_whole_row, multiply_signed_row, jump_if_signed_row, jump_if_dword_row, move_rm_reg_row, shift_immediate_row, shift_one_row, return_bytes_row, return_row, loop_row, jump_dword_row, jump_signed_row, rows, bit_test_number}
 use Rattle.mx_insn.specs.Spelling.{to_rm, row_size, allows_resized, allows_repeat}
 use Rattle.mx_encode.specs.declared.Wide.{Wide}
 use Rattle.mx_encode.specs.declared.fields.Number.TheVariants as numbers
 use Rattle.mx_encode.specs.Numbers.{arithmetic_number, is_word, is_short, shortens, short}
-use Rattle.mx_encode.specs.Choice.{Choice, bare, with_rm, choice, arithmetic_immediate, arithmetic_choice, move_immediate, move_choice, test_choice, test_immediate, exchange_choice, unary_choice, product_choice, shift_choice, load_address, multiply_choice, multiply_immediate, zero_extension, sign_extension, set_condition, push_choice, push_immediate, pop_choice, jump_if, jump_choice, call_choice, jump_to, call_to, loop_choice, return_choice, interrupt_choice, extend_accumulator, spread_sign, transfer_choice, compare_choice, in_choice, out_choice, plain_choice}
+use Rattle.mx_encode.specs.Choice.{Choice, bare, with_rm, choice, arithmetic_immediate, arithmetic_choice, move_immediate, move_choice, test_choice, test_immediate, exchange_choice, unary_choice, product_choice, shift_choice, load_address, multiply_choice, multiply_immediate, zero_extension, sign_extension, set_condition, push_choice, push_immediate, pop_choice, jump_if, jump_choice, call_choice, jump_to, call_to, loop_choice, return_choice, interrupt_choice, extend_accumulator, spread_sign, transfer_choice, compare_choice, in_choice, out_choice, plain_choice, bit_test_choice, register_bit_test, bit_scan_choice, double_shift_choice}
 use Rattle.mx_encode.specs.Given.{OperandFits, ImmediateFits, WideImmediateFits, OperandsFit, CountFits, PortFits, Fits}
 use Rattle.mx_encode.proofs.Digits.{register_below, register_again, arithmetic_below, arithmetic_again, condition_below, condition_again}
-use Rattle.mx_encode.proofs.Listed.{opcode_at, under_at, escaped_at, arithmetic_rm_reg, arithmetic_reg_rm, move_rm_reg, move_reg_rm, test_rm_reg, exchange_rm_reg, inc_rm, dec_rm, not_rm, neg_rm, product_rm, shift_immediate, shift_one, shift_cl, transfer_listed, compare_listed, loop_listed, plain_listed}
+use Rattle.mx_encode.proofs.Listed.{opcode_at, under_at, escaped_at, arithmetic_rm_reg, arithmetic_reg_rm, move_rm_reg, move_reg_rm, test_rm_reg, exchange_rm_reg, inc_rm, dec_rm, not_rm, neg_rm, product_rm, shift_immediate, shift_one, shift_cl, transfer_listed, compare_listed, loop_listed, plain_listed, bit_test_immediate, bit_test_register, bit_scan, double_shift_immediate, double_shift_cl}
 use Rattle.mx_encode.proofs.Suits.{reads_nothing, reads_byte, reads_word, reads_dword, reads_whole_word, reads_whole_dword, reads_short, Suits, sized_suits}
 
 -- a value that a byte stands for
@@ -159,7 +163,26 @@ shift_suits o size x (counts.Immediate n) fits small =
     (λ h. sized_suits size 0xD0 1 1 (Only (shift_number o)) (patterns.ShiftRm o by.One) 0 (shift_number o) x (insns.Shift o size x (counts.Immediate n)) (shift_one o size) (lit< tt) (shift_below o, fits, refl) (rw (eqb-true n 1 h) refl))
     (λ h. record { listed = shift_immediate o size; resized = (sized_again size).0; repeat = refl; number = lit< tt; rm = (shift_below o, fits, refl); value = n; reads = reads_byte (is_word size) (row_size (sized_column size) (is_word size)) n small; means = rw ((sized_again size).1) refl })
 
+bit_test_below : (o : BitTest) → bit_test_number o < 8
+bit_test_below Bt = lit< tt
+bit_test_below Bts = lit< tt
+bit_test_below Btr = lit< tt
+bit_test_below Btc = lit< tt
+
+bit_test_suits : (o : BitTest) (x : Operand) (n : ℕ) → OperandFits x → n < 2 ^ 8 → Suits (bit_test_choice o x n) (insns.BitTest o x n)
+bit_test_suits o x n fits small = record { listed = bit_test_immediate o; resized = refl; repeat = refl; number = lit< tt; rm = (bit_test_below o, fits, refl); value = n; reads = reads_byte false Dword n small; means = refl }
+
+register_bit_test_suits : (o : BitTest) (r n : Register) → Suits (register_bit_test o r n) (insns.BitTestRegister o r n)
+register_bit_test_suits o r n = record { listed = bit_test_register o; resized = refl; repeat = refl; number = lit< tt; rm = (register_below n, tt, refl); value = 0; reads = reads_nothing false Dword; means = rw (register_again n) refl }
+
+double_shift_suits : (o : DoubleShift) (x : Operand) (r : Register) (count : Count) → OperandFits x → CountFits count → Suits (double_shift_choice o x r count) (insns.DoubleShift o x r count)
+double_shift_suits o x r counts.Cl fits small = record { listed = double_shift_cl o; resized = refl; repeat = refl; number = lit< tt; rm = (register_below r, fits); value = 0; reads = reads_nothing false Dword; means = rw (register_again r) refl }
+double_shift_suits o x r (counts.Immediate n) fits small = record { listed = double_shift_immediate o; resized = refl; repeat = refl; number = lit< tt; rm = (register_below r, fits); value = n; reads = reads_byte false Dword n small; means = rw (register_again r) refl }
+
 -- ---- into a register
+
+bit_scan_suits : (o : BitScan) (to : Register) (from : Operand) → OperandFits from → Suits (bit_scan_choice o to from) (insns.BitScan o to from)
+bit_scan_suits o to from fits = record { listed = bit_scan o; resized = refl; repeat = refl; number = lit< tt; rm = (register_below to, fits); value = 0; reads = reads_nothing false Dword; means = rw (register_again to) refl }
 
 load_suits : (size : OperandSize) (to : Register) (m : Memory) → m.displacement < 2 ^ 32 → Suits (load_address size to m) (insns.LoadAddress size to m)
 unfolding rows
@@ -333,6 +356,10 @@ choice_suits (insns.Product o size x) wide fits = product_suits o size x fits
 choice_suits (insns.Multiply size to from) wide fits = multiply_suits size to from fits
 choice_suits (insns.MultiplyImmediate to from value) wide fits = multiply_immediate_suits to from value wide.immediate fits.0 fits.1
 choice_suits (insns.Shift o size x count) wide fits = shift_suits o size x count fits.0 fits.1
+choice_suits (insns.DoubleShift o x r count) wide fits = double_shift_suits o x r count fits.0 fits.1
+choice_suits (insns.BitTest o x n) wide fits = bit_test_suits o x n fits.0 fits.1
+choice_suits (insns.BitTestRegister o r n) wide fits = register_bit_test_suits o r n
+choice_suits (insns.BitScan o to from) wide fits = bit_scan_suits o to from fits
 choice_suits (insns.ZeroExtend e to from) wide fits = zero_extension_suits e to from fits
 choice_suits (insns.SignExtend e to from) wide fits = sign_extension_suits e to from fits
 choice_suits (insns.SetCondition c o) wide fits = condition_suits c o fits

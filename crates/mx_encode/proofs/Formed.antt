@@ -19,7 +19,8 @@ use Rattle.mx_encode.specs.Filled.{value_with, factor_with, operands_with_value,
 use Rattle.mx_encode.specs.Given.{OperandFits, ImmediateFits, WideImmediateFits, OperandsFit, Fits}
 use Rattle.mx_encode.proofs.Suits.{suits_spell}
 use Rattle.mx_encode.proofs.Families.{SuitsWhere, choice_suits}
-use Rattle.mx_encode.proofs.Formless.{stands, form_is}
+use Rattle.mx_encode.proofs.Each.{stands}
+use Rattle.mx_encode.proofs.Formless.{form_is}
 
 pub formed_chosen : (i : Insn) (wide : Wide) → Fits i → has_form i ≡ true → (bytes : List ℕ) × Chosen i wide bytes
 formed_chosen i wide fits form = go (choice i wide) refl (choice_suits i wide fits) (form_is i wide ∙ form)
@@ -78,6 +79,9 @@ displaced_fits (insns.Product o size x) n lt fits = operand_fits x n lt
 displaced_fits (insns.Multiply size to from) n lt fits = operand_fits from n lt
 displaced_fits (insns.MultiplyImmediate to from by) n lt fits = (operand_fits from n lt, fits.1)
 displaced_fits (insns.Shift o size x count) n lt fits = (operand_fits x n lt, fits.1)
+displaced_fits (insns.DoubleShift o x r count) n lt fits = (operand_fits x n lt, fits.1)
+displaced_fits (insns.BitTest o x m) n lt fits = (operand_fits x n lt, fits.1)
+displaced_fits (insns.BitScan o to from) n lt fits = operand_fits from n lt
 displaced_fits (insns.ZeroExtend e to from) n lt fits = operand_fits from n lt
 displaced_fits (insns.SignExtend e to from) n lt fits = operand_fits from n lt
 displaced_fits (insns.SetCondition c o) n lt fits = operand_fits o n lt

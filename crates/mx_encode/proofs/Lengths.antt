@@ -1,9 +1,7 @@
 -- How many bytes are chosen doesn't hang on a displacement that is marked wide.
-use Rattle.std.proofs.Common.{◌≡◌, ℕ, suc, ◌+◌, Bool, true, false, cond, eqb, List, ◌++◌, length, Option, Some, None, refl, sym, ap, ◌∙◌, IsTrue}
+use Rattle.std.proofs.Common.{◌≡◌, ℕ, suc, ◌+◌, Bool, true, false, List, ◌++◌, length, Option, Some, None, refl, sym, ap, ◌∙◌, IsTrue}
 use Rattle.std.proofs.lemmas.List.{length-append}
-use Rattle.mx_word.specs.declared.size.Size.TheVariants.{Byte, Word, Dword}
 use Rattle.mx_word.specs.declared.names.Register.{Register}
-use Rattle.mx_word.specs.declared.names.Unary.TheVariants.{Inc, Dec, Not, Neg}
 use Rattle.mx_word.specs.Word.{bytes_of}
 use Rattle.mx_insn.specs.declared.insn.Index.{Index}
 use Rattle.mx_insn.specs.declared.insn.Operand.{Operand}
@@ -11,24 +9,19 @@ use Rattle.mx_insn.specs.declared.insn.Operand.TheVariants as operand
 use Rattle.mx_insn.specs.declared.insn.Operands.TheVariants as operands
 use Rattle.mx_insn.specs.declared.insn.Immediate.TheVariants as immediate
 use Rattle.mx_insn.specs.declared.insn.WideImmediate.TheVariants as wide_immediates
-use Rattle.mx_insn.specs.declared.insn.Count.TheVariants as counts
-use Rattle.mx_insn.specs.declared.insn.Extension.TheVariants.{ByteToWord, ByteToDword, WordToDword}
-use Rattle.mx_insn.specs.declared.insn.Port.TheVariants as ports
-use Rattle.mx_insn.specs.declared.insn.PortSize.TheVariants as port_sizes
 use Rattle.mx_insn.specs.declared.insn.Insn.{Insn}
 use Rattle.mx_insn.specs.declared.insn.Insn.TheVariants as insns
 use Rattle.mx_insn.specs.Spelling.{spelling, prefix_bytes, escape_bytes, modrm_bytes, sib_bytes, displacement_length}
 use Rattle.mx_encode.specs.declared.Wide.{Wide}
 use Rattle.mx_encode.specs.declared.fields.Rm.{Rm}
-use Rattle.mx_encode.specs.declared.fields.Number.{Number}
-use Rattle.mx_insn.specs.declared.row.Row.{Row}
-use Rattle.mx_encode.specs.Numbers.{number_bytes, is_short, shortens}
+use Rattle.mx_encode.specs.Numbers.{number_bytes}
 use Rattle.mx_encode.specs.Places.{place_for, sib_of, mode_of, base_number}
-use Rattle.mx_encode.specs.Choice.{Choice, choice, bare}
+use Rattle.mx_encode.specs.Choice.{Choice, choice}
 use Rattle.mx_encode.specs.Chosen.{Chosen, fields_of}
 use Rattle.mx_encode.specs.Filled.{operand_with_displacement, with_displacement, with_immediate}
 use Rattle.mx_encode.specs.Lengths.{spelled_length, chosen_length as whole_length}
 use Rattle.mx_encode.specs.Numbers.{arithmetic_number}
+use Rattle.mx_encode.proofs.Each.{rm_at, choice_at, given_at, each}
 use Rattle.mx_word.specs.Names.{register_number}
 
 -- ---- the length of a choice
@@ -69,13 +62,6 @@ operand_length : (reg : ℕ) (o : Operand) (n : ℕ) → rm_length (Some (record
 operand_length reg (operand.Register r) n = refl
 operand_length reg (operand.Memory m) n = ap suc (memory_length m.base m.index m.displacement n)
 
-abbrev pub rm_at : Option Rm → ℕ → Option Rm
-rm_at None n = None
-rm_at (Some rm) n = Some (record { reg = rm.reg; operand = operand_with_displacement rm.operand n })
-
-abbrev pub choice_at : Choice → ℕ → Choice
-choice_at c n = record c { rm = rm_at c.rm n }
-
 rm_length_at : (rm : Option Rm) (n : ℕ) → rm_length (rm_at rm n) ≡ rm_length rm
 rm_length_at None n = refl
 rm_length_at (Some rm) n = operand_length rm.reg rm.operand n
@@ -83,102 +69,14 @@ rm_length_at (Some rm) n = operand_length rm.reg rm.operand n
 length_at : (c : Choice) (n : ℕ) → chosen_length (choice_at c n) ≡ chosen_length c
 length_at c n = ap (λ k. length (prefix_bytes c.resized c.repeat false) + (length (escape_bytes c.row.escaped) + suc (k + length (number_bytes c.immediate)))) (rm_length_at c.rm n)
 
-abbrev pub given_at : Option Choice → ℕ → Option Choice
-given_at None n = None
-given_at (Some c) n = Some (choice_at c n)
-
 given_length_at : (c : Option Choice) (n : ℕ) → given_length (given_at c n) ≡ given_length c
 given_length_at None n = refl
 given_length_at (Some c) n = length_at c n
 
--- ---- the choice stays but for the displacement
-
-either : (b : Bool) (x y : Choice) (n : ℕ) → Some (cond b (choice_at x n) (choice_at y n)) ≡ given_at (Some (cond b x y)) n
-either true x y n = refl
-either false x y n = refl
-
-looping : (b : Bool) (row : Row) (number : Number) (n : ℕ) → cond b (Some (bare row false 0 number)) None ≡ given_at (cond b (Some (bare row false 0 number)) None) n
-looping true row number n = refl
-looping false row number n = refl
-
-pub choice_stays : (i : Insn) (short : Bool) (n : ℕ)
-    → choice (with_displacement i n) (record { immediate = short; displacement = true }) ≡ given_at (choice i (record { immediate = short; displacement = true })) n
-choice_stays (insns.Arithmetic o (operands.ToRegister size to (operand.Register from))) short n = refl
-choice_stays (insns.Arithmetic o (operands.ToRegister size to (operand.Memory m))) short n = refl
-choice_stays (insns.Arithmetic o (operands.ToMemory size to from)) short n = refl
-choice_stays (insns.Arithmetic o (operands.Immediate to (immediate.Byte m))) short n = refl
-choice_stays (insns.Arithmetic o (operands.Immediate to (immediate.Word m))) short n = either (shortens 16 m short) _ _ n
-choice_stays (insns.Arithmetic o (operands.Immediate to (immediate.Dword m))) short n = either (shortens 32 m short) _ _ n
-choice_stays (insns.Move (operands.ToRegister size to (operand.Register from))) short n = refl
-choice_stays (insns.Move (operands.ToRegister size to (operand.Memory m))) short n = refl
-choice_stays (insns.Move (operands.ToMemory size to from)) short n = refl
-choice_stays (insns.Move (operands.Immediate (operand.Register r) (immediate.Byte m))) short n = refl
-choice_stays (insns.Move (operands.Immediate (operand.Register r) (immediate.Word m))) short n = refl
-choice_stays (insns.Move (operands.Immediate (operand.Register r) (immediate.Dword m))) short n = refl
-choice_stays (insns.Move (operands.Immediate (operand.Memory a) (immediate.Byte m))) short n = refl
-choice_stays (insns.Move (operands.Immediate (operand.Memory a) (immediate.Word m))) short n = refl
-choice_stays (insns.Move (operands.Immediate (operand.Memory a) (immediate.Dword m))) short n = refl
-choice_stays (insns.Test size o r) short n = refl
-choice_stays (insns.TestImmediate o (immediate.Byte m)) short n = refl
-choice_stays (insns.TestImmediate o (immediate.Word m)) short n = refl
-choice_stays (insns.TestImmediate o (immediate.Dword m)) short n = refl
-choice_stays (insns.Exchange size o r) short n = refl
-choice_stays (insns.LoadAddress size to m) short n = refl
-choice_stays (insns.Unary Inc Byte x) short n = refl
-choice_stays (insns.Unary Inc Word (operand.Register r)) short n = refl
-choice_stays (insns.Unary Inc Word (operand.Memory m)) short n = refl
-choice_stays (insns.Unary Inc Dword (operand.Register r)) short n = refl
-choice_stays (insns.Unary Inc Dword (operand.Memory m)) short n = refl
-choice_stays (insns.Unary Dec Byte x) short n = refl
-choice_stays (insns.Unary Dec Word (operand.Register r)) short n = refl
-choice_stays (insns.Unary Dec Word (operand.Memory m)) short n = refl
-choice_stays (insns.Unary Dec Dword (operand.Register r)) short n = refl
-choice_stays (insns.Unary Dec Dword (operand.Memory m)) short n = refl
-choice_stays (insns.Unary Not size x) short n = refl
-choice_stays (insns.Unary Neg size x) short n = refl
-choice_stays (insns.Product o size x) short n = refl
-choice_stays (insns.Multiply size to from) short n = refl
-choice_stays (insns.MultiplyImmediate to from (wide_immediates.Word m)) short n = either (shortens 16 m short) _ _ n
-choice_stays (insns.MultiplyImmediate to from (wide_immediates.Dword m)) short n = either (shortens 32 m short) _ _ n
-choice_stays (insns.Shift o size x counts.Cl) short n = refl
-choice_stays (insns.Shift o size x (counts.Immediate m)) short n = either (eqb m 1) _ _ n
-choice_stays (insns.ZeroExtend ByteToWord to from) short n = refl
-choice_stays (insns.ZeroExtend ByteToDword to from) short n = refl
-choice_stays (insns.ZeroExtend WordToDword to from) short n = refl
-choice_stays (insns.SignExtend ByteToWord to from) short n = refl
-choice_stays (insns.SignExtend ByteToDword to from) short n = refl
-choice_stays (insns.SignExtend WordToDword to from) short n = refl
-choice_stays (insns.SetCondition c o) short n = refl
-choice_stays (insns.Push (operand.Register r)) short n = refl
-choice_stays (insns.Push (operand.Memory m)) short n = refl
-choice_stays (insns.PushImmediate m) short n = either (shortens 32 m short) _ _ n
-choice_stays (insns.Pop r) short n = refl
-choice_stays (insns.JumpIf c m) short n = refl
-choice_stays (insns.Jump m) short n = refl
-choice_stays (insns.Call m) short n = refl
-choice_stays (insns.JumpTo o) short n = refl
-choice_stays (insns.CallTo o) short n = refl
-choice_stays (insns.Loop o m) short n = looping (is_short 32 m) _ _ n
-choice_stays (insns.Return m) short n = either (eqb m 0) _ _ n
-choice_stays (insns.Interrupt m) short n = refl
-choice_stays (insns.ExtendAccumulator size) short n = refl
-choice_stays (insns.SpreadSign size) short n = refl
-choice_stays (insns.Transfer o size repeated) short n = refl
-choice_stays (insns.Compare o size repeat) short n = refl
-choice_stays (insns.In port_sizes.Byte ports.Dx) short n = refl
-choice_stays (insns.In port_sizes.Dword ports.Dx) short n = refl
-choice_stays (insns.In port_sizes.Byte (ports.Immediate m)) short n = refl
-choice_stays (insns.In port_sizes.Dword (ports.Immediate m)) short n = refl
-choice_stays (insns.Out port_sizes.Byte ports.Dx) short n = refl
-choice_stays (insns.Out port_sizes.Dword ports.Dx) short n = refl
-choice_stays (insns.Out port_sizes.Byte (ports.Immediate m)) short n = refl
-choice_stays (insns.Out port_sizes.Dword (ports.Immediate m)) short n = refl
-choice_stays (insns.Plain o) short n = refl
-
 pub length_stays : (i : Insn) (short long : Bool) (n : ℕ) (a b : List ℕ) → IsTrue long → Chosen i (record { immediate = short; displacement = long }) a → Chosen (with_displacement i n) (record { immediate = short; displacement = long }) b → length b ≡ length a
 length_stays i short true n a b h x y =
     length-chosen (with_displacement i n) short b y
-    ∙ (ap given_length (choice_stays i short n) ∙ (given_length_at (choice i (record { immediate = short; displacement = true })) n ∙ sym (length-chosen i short a x)))
+    ∙ (ap given_length ((each i).stays short n) ∙ (given_length_at (choice i (record { immediate = short; displacement = true })) n ∙ sym (length-chosen i short a x)))
 length_stays i short false n a b h x y = cc
 
 -- ---- the same as a number
@@ -191,7 +89,7 @@ pub displaced_count : (i : Insn) (short long : Bool) (n : ℕ) → IsTrue long
     → whole_length (with_displacement i n) (record { immediate = short; displacement = long }) ≡ whole_length i (record { immediate = short; displacement = long })
 displaced_count i short true n h =
     spelled_given (choice (with_displacement i n) (record { immediate = short; displacement = true }))
-    ∙ (ap given_length (choice_stays i short n) ∙ (given_length_at (choice i (record { immediate = short; displacement = true })) n
+    ∙ (ap given_length ((each i).stays short n) ∙ (given_length_at (choice i (record { immediate = short; displacement = true })) n
     ∙ sym (spelled_given (choice i (record { immediate = short; displacement = true })))))
 displaced_count i short false n h = cc
 

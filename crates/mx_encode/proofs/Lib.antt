@@ -5,6 +5,7 @@ pub mod Suits
 pub mod Families
 pub mod Answer
 pub mod Spelled
+pub mod Each
 pub mod Formless
 pub mod Lengths
 pub mod Formed

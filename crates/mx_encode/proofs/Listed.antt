@@ -6,6 +6,12 @@ use Rattle.mx_word.specs.declared.size.Size.{Size}
 use Rattle.mx_word.specs.declared.size.Size.TheVariants.{Byte, Word, Dword}
 use Rattle.mx_word.specs.declared.names.Shift.{Shift}
 use Rattle.mx_word.specs.declared.names.Shift.TheVariants.{Rol, Ror, Shl, Shr, Sar}
+use Rattle.mx_word.specs.declared.names.BitTest.{BitTest}
+use Rattle.mx_word.specs.declared.names.BitTest.TheVariants.{Bt, Bts, Btr, Btc}
+use Rattle.mx_word.specs.declared.names.BitScan.{BitScan}
+use Rattle.mx_word.specs.declared.names.BitScan.TheVariants.{Bsf, Bsr}
+use Rattle.mx_word.specs.declared.names.DoubleShift.{DoubleShift}
+use Rattle.mx_word.specs.declared.names.DoubleShift.TheVariants.{Shld, Shrd}
 use Rattle.mx_word.specs.declared.names.Unary.TheVariants.{Inc, Dec, Not, Neg}
 use Rattle.mx_insn.specs.declared.insn.Product.{Product}
 use Rattle.mx_insn.specs.declared.insn.Product.TheVariants.{Mul, Imul, Div, Idiv}
@@ -26,7 +32,7 @@ use Rattle.mx_insn.specs.declared.row.ImmediateColumn.{ImmediateColumn}
 use Rattle.mx_insn.specs.declared.row.CountColumn.TheVariants as by
 use Rattle.mx_insn.specs.declared.row.Pattern.{Pattern}
 use Rattle.mx_insn.specs.declared.row.Pattern.TheVariants as patterns
-use Rattle.mx_insn.specs.Table.{sized, arithmetic_rm_reg_row, arithmetic_reg_rm_row, test_rm_reg_row, exchange_rm_reg_row, move_rm_reg_row, move_reg_rm_row, transfer_row, compare_row, shift_immediate_row, shift_one_row, shift_cl_row, loop_row, not_rm_row, neg_rm_row, product_row, increase_rm_row, decrease_rm_row, plain_row, rows, no, ib}
+use Rattle.mx_insn.specs.Table.{sized, arithmetic_rm_reg_row, arithmetic_reg_rm_row, test_rm_reg_row, exchange_rm_reg_row, move_rm_reg_row, move_reg_rm_row, transfer_row, compare_row, shift_immediate_row, shift_one_row, shift_cl_row, loop_row, not_rm_row, neg_rm_row, product_row, increase_rm_row, decrease_rm_row, plain_row, bit_test_immediate_row, bit_test_register_row, bit_scan_row, double_shift_immediate_row, double_shift_cl_row, rows, no, ib}
 
 -- ---- where a row stands
 
@@ -43,6 +49,9 @@ under_at first n = position_or_len (λ (r : Row). not r.escaped && ((r.first == 
 
 abbrev pub escaped_at : ℕ → ℕ
 escaped_at first = position_or_len (λ (r : Row). r.escaped && (r.first == first)) rows
+
+abbrev pub escaped_under_at : ℕ → ℕ → ℕ
+escaped_under_at first n = position_or_len (λ (r : Row). r.escaped && ((r.first == first) && is_under n r.modrm)) rows
 
 -- a row of bytes and the next, of words and dwords
 pair_listed : (size : Size) (first step count : ℕ) (repeats : Repeats) (modrm : ModRm) (immediate : ImmediateColumn) (pattern : Pattern) → Contains rows (sized Byte first step count repeats modrm immediate pattern) → Contains rows (sized Word first step count repeats modrm immediate pattern) → Contains rows (sized size first step count repeats modrm immediate pattern)
@@ -120,6 +129,35 @@ shift_cl Ror size = pair_listed size 0xD2 1 1 Neither (Only 1) no (patterns.Shif
 shift_cl Shl size = pair_listed size 0xD2 1 1 Neither (Only 4) no (patterns.ShiftRm Shl by.Cl) (under_at 0xD2 4, lit< tt, refl) (under_at 0xD3 4, lit< tt, refl)
 shift_cl Shr size = pair_listed size 0xD2 1 1 Neither (Only 5) no (patterns.ShiftRm Shr by.Cl) (under_at 0xD2 5, lit< tt, refl) (under_at 0xD3 5, lit< tt, refl)
 shift_cl Sar size = pair_listed size 0xD2 1 1 Neither (Only 7) no (patterns.ShiftRm Sar by.Cl) (under_at 0xD2 7, lit< tt, refl) (under_at 0xD3 7, lit< tt, refl)
+
+pub bit_test_immediate : (o : BitTest) → Contains rows (bit_test_immediate_row o)
+unfolding rows
+bit_test_immediate Bt = (escaped_under_at 0xBA 4, lit< tt, refl)
+bit_test_immediate Bts = (escaped_under_at 0xBA 5, lit< tt, refl)
+bit_test_immediate Btr = (escaped_under_at 0xBA 6, lit< tt, refl)
+bit_test_immediate Btc = (escaped_under_at 0xBA 7, lit< tt, refl)
+
+pub bit_test_register : (o : BitTest) → Contains rows (bit_test_register_row o)
+unfolding rows
+bit_test_register Bt = (escaped_at 0xA3, lit< tt, refl)
+bit_test_register Bts = (escaped_at 0xAB, lit< tt, refl)
+bit_test_register Btr = (escaped_at 0xB3, lit< tt, refl)
+bit_test_register Btc = (escaped_at 0xBB, lit< tt, refl)
+
+pub bit_scan : (o : BitScan) → Contains rows (bit_scan_row o)
+unfolding rows
+bit_scan Bsf = (escaped_at 0xBC, lit< tt, refl)
+bit_scan Bsr = (escaped_at 0xBD, lit< tt, refl)
+
+pub double_shift_immediate : (o : DoubleShift) → Contains rows (double_shift_immediate_row o)
+unfolding rows
+double_shift_immediate Shld = (escaped_at 0xA4, lit< tt, refl)
+double_shift_immediate Shrd = (escaped_at 0xAC, lit< tt, refl)
+
+pub double_shift_cl : (o : DoubleShift) → Contains rows (double_shift_cl_row o)
+unfolding rows
+double_shift_cl Shld = (escaped_at 0xA5, lit< tt, refl)
+double_shift_cl Shrd = (escaped_at 0xAD, lit< tt, refl)
 
 pub transfer_listed : (o : Transfer) (size : Size) → Contains rows (transfer_row o size)
 unfolding rows

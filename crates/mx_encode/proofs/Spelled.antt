@@ -15,7 +15,7 @@ use Rattle.mx_insn.specs.declared.row.Row.{Row}
 use Rattle.mx_insn.specs.declared.row.SizeMark.{SizeMark}
 use Rattle.mx_insn.specs.declared.row.SizeMark.TheVariants as sizes
 use Rattle.mx_insn.specs.declared.row.ModRm.{ModRm}
-use Rattle.mx_insn.specs.declared.row.ModRm.TheVariants.{Absent, Any, AnyMemory, Only}
+use Rattle.mx_insn.specs.declared.row.ModRm.TheVariants.{Absent, Any, AnyMemory, AnyRegister, Only}
 use Rattle.mx_insn.specs.declared.row.ImmediateColumn.{ImmediateColumn}
 use Rattle.mx_insn.specs.declared.row.ImmediateColumn.TheVariants as columns
 use Rattle.mx_insn.specs.declared.row.Pattern.{Pattern}
@@ -57,6 +57,7 @@ rm_stands column None h = refl
 rm_stands Absent (Some p) h = absurd h
 rm_stands Any (Some p) h = operand_stands p h.0
 rm_stands AnyMemory (Some p) h = operand_stands p h.0
+rm_stands AnyRegister (Some p) h = operand_stands p h.0
 rm_stands (Only n) (Some p) h = operand_stands p h.0
 
 -- ---- LOOP and JECXZ
@@ -150,6 +151,9 @@ made_stands (patterns.ProductRm o) size p h l = h
 made_stands patterns.MultiplyRegRm size p h l = h
 made_stands patterns.MultiplyRegRmImmediate size p h l = h
 made_stands (patterns.ShiftRm o column) size p h l = h
+made_stands (patterns.DoubleShiftRmReg o column) size p h l = h
+made_stands (patterns.BitTestRmImmediate o) size p h l = h
+made_stands (patterns.BitScanRegRm o) size p h l = h
 made_stands patterns.ZeroExtendByte size p h l = h
 made_stands patterns.ZeroExtendWord size p h l = h
 made_stands patterns.SignExtendByte size p h l = h

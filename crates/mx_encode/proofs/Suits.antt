@@ -10,7 +10,7 @@ use Rattle.mx_insn.specs.declared.insn.Operand.TheVariants as operand
 use Rattle.mx_insn.specs.declared.insn.Insn.{Insn}
 use Rattle.mx_insn.specs.declared.row.Repeats.TheVariants.{Neither}
 use Rattle.mx_insn.specs.declared.row.ModRm.{ModRm}
-use Rattle.mx_insn.specs.declared.row.ModRm.TheVariants.{Absent, Any, AnyMemory, Only}
+use Rattle.mx_insn.specs.declared.row.ModRm.TheVariants.{Absent, Any, AnyMemory, AnyRegister, Only}
 use Rattle.mx_insn.specs.declared.row.ImmediateColumn.{ImmediateColumn}
 use Rattle.mx_insn.specs.declared.row.ImmediateColumn.TheVariants as columns
 use Rattle.mx_insn.specs.declared.row.Pattern.{Pattern}
@@ -70,6 +70,8 @@ RmSuits Any None = ⊥
 RmSuits Any (Some rm) = (rm.reg < 8) × OperandFits rm.operand
 RmSuits AnyMemory None = ⊥
 RmSuits AnyMemory (Some rm) = (rm.reg < 8) × OperandFits rm.operand × (is_memory rm.operand ≡ true)
+RmSuits AnyRegister None = ⊥
+RmSuits AnyRegister (Some rm) = (rm.reg < 8) × OperandFits rm.operand × (is_memory rm.operand ≡ false)
 RmSuits (Only n) None = ⊥
 RmSuits (Only n) (Some rm) = (rm.reg < 8) × OperandFits rm.operand × (n ≡ rm.reg)
 
@@ -81,6 +83,10 @@ mode_below : (reg : ℕ) (o : Operand) (long : Bool) → OperandFits o → is_me
 mode_below reg (operand.Register r) long fits h = absurd cc
 mode_below reg (operand.Memory m) long fits h = rw (memory_mode reg m long fits) refl
 
+mode_of_register : (reg : ℕ) (o : Operand) (long : Bool) → is_memory o ≡ false → eqb (place_written reg o long).mode 3 ≡ true
+mode_of_register reg (operand.Register r) long h = refl
+mode_of_register reg (operand.Memory m) long h = absurd cc
+
 stands : (column : ModRm) (rm : Option Rm) (long : Bool) → RmSuits column rm → PlaceStands column (place_for rm long)
 stands Absent None long s = tt
 stands Absent (Some rm) long s = absurd s
@@ -88,6 +94,8 @@ stands Any None long s = absurd s
 stands Any (Some rm) long s = (place_fits rm.reg rm.operand long s.0 s.1, refl)
 stands AnyMemory None long s = absurd s
 stands AnyMemory (Some rm) long s = (place_fits rm.reg rm.operand long s.0 s.1, mode_below rm.reg rm.operand long s.1 s.2)
+stands AnyRegister None long s = absurd s
+stands AnyRegister (Some rm) long s = (place_fits rm.reg rm.operand long s.0 s.1, mode_of_register rm.reg rm.operand long s.2)
 stands (Only n) None long s = absurd s
 stands (Only n) (Some rm) long s = (place_fits rm.reg rm.operand long s.0 s.1, eq-eqb n (place_written rm.reg rm.operand long).reg (s.2 ∙ sym (reg_kept rm.reg rm.operand long)))
 
@@ -103,6 +111,7 @@ suits_fit : (column : ModRm) (rm : Rm) → RmSuits column (Some rm) → (rm.reg 
 suits_fit Absent rm s = absurd s
 suits_fit Any rm s = s
 suits_fit AnyMemory rm s = (s.0, s.1)
+suits_fit AnyRegister rm s = (s.0, s.1)
 suits_fit (Only n) rm s = (s.0, s.1)
 
 pub suits_reg : (column : ModRm) (rm : Option Rm) → RmSuits column rm → RegFits rm

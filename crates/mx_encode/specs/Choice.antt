@@ -7,6 +7,9 @@ use Rattle.mx_word.specs.declared.names.Register.{Register}
 use Rattle.mx_word.specs.declared.names.Condition.{Condition}
 use Rattle.mx_word.specs.declared.names.Arithmetic.{Arithmetic}
 use Rattle.mx_word.specs.declared.names.Shift.{Shift}
+use Rattle.mx_word.specs.declared.names.BitTest.{BitTest}
+use Rattle.mx_word.specs.declared.names.BitScan.{BitScan}
+use Rattle.mx_word.specs.declared.names.DoubleShift.{DoubleShift}
 use Rattle.mx_word.specs.declared.names.Unary.{Unary}
 use Rattle.mx_word.specs.declared.names.Unary.TheVariants.{Inc, Dec, Not, Neg}
 use Rattle.mx_insn.specs.declared.insn.Memory.{Memory}
@@ -37,7 +40,7 @@ use Rattle.mx_insn.specs.declared.insn.Plain.{Plain}
 use Rattle.mx_insn.specs.declared.insn.Insn.{Insn}
 use Rattle.mx_insn.specs.declared.insn.Insn.TheVariants as insns
 use Rattle.mx_insn.specs.declared.row.Row.{Row}
-use Rattle.mx_insn.specs.Table.{shift_number, product_number, arithmetic_rm_reg_row, arithmetic_reg_rm_row, arithmetic_byte_row, arithmetic_whole_row, arithmetic_signed_row, increase_reg_row, decrease_reg_row, push_reg_row, pop_reg_row, push_dword_row, push_signed_row, multiply_whole_row, multiply_signed_row, jump_if_signed_row, jump_if_dword_row, test_rm_reg_row, test_rm_byte_row, test_rm_whole_row, exchange_rm_reg_row, move_rm_reg_row, move_reg_rm_row, move_reg_byte_row, move_reg_whole_row, move_rm_byte_row, move_rm_whole_row, load_address_row, extend_accumulator_row, spread_sign_row, transfer_row, compare_row, shift_immediate_row, shift_one_row, shift_cl_row, return_bytes_row, return_row, interrupt_row, loop_row, call_row, jump_dword_row, jump_signed_row, call_rm_row, jump_rm_row, push_rm_row, in_immediate_byte_row, in_immediate_dword_row, out_immediate_byte_row, out_immediate_dword_row, in_dx_byte_row, in_dx_dword_row, out_dx_byte_row, out_dx_dword_row, not_rm_row, neg_rm_row, product_row, increase_rm_row, decrease_rm_row, plain_row, set_condition_row, multiply_reg_rm_row, zero_extend_byte_row, zero_extend_word_row, sign_extend_byte_row, sign_extend_word_row}
+use Rattle.mx_insn.specs.Table.{shift_number, product_number, arithmetic_rm_reg_row, arithmetic_reg_rm_row, arithmetic_byte_row, arithmetic_whole_row, arithmetic_signed_row, increase_reg_row, decrease_reg_row, push_reg_row, pop_reg_row, push_dword_row, push_signed_row, multiply_whole_row, multiply_signed_row, jump_if_signed_row, jump_if_dword_row, test_rm_reg_row, test_rm_byte_row, test_rm_whole_row, exchange_rm_reg_row, move_rm_reg_row, move_reg_rm_row, move_reg_byte_row, move_reg_whole_row, move_rm_byte_row, move_rm_whole_row, load_address_row, extend_accumulator_row, spread_sign_row, transfer_row, compare_row, shift_immediate_row, shift_one_row, shift_cl_row, return_bytes_row, return_row, interrupt_row, loop_row, call_row, jump_dword_row, jump_signed_row, call_rm_row, jump_rm_row, push_rm_row, in_immediate_byte_row, in_immediate_dword_row, out_immediate_byte_row, out_immediate_dword_row, in_dx_byte_row, in_dx_dword_row, out_dx_byte_row, out_dx_dword_row, not_rm_row, neg_rm_row, product_row, increase_rm_row, decrease_rm_row, plain_row, set_condition_row, multiply_reg_rm_row, zero_extend_byte_row, zero_extend_word_row, sign_extend_byte_row, sign_extend_word_row, bit_test_number, bit_test_immediate_row, bit_test_register_row, bit_scan_row, double_shift_immediate_row, double_shift_cl_row}
 use Rattle.mx_encode.specs.declared.Wide.{Wide}
 use Rattle.mx_encode.specs.declared.fields.Number.{Number}
 use Rattle.mx_encode.specs.declared.fields.Number.TheVariants as numbers
@@ -135,6 +138,18 @@ shift_choice o size operand (counts.Immediate n) =
     if n == 1 then with_rm (shift_one_row o size) (is_word size) 0 (shift_number o) operand numbers.Nothing
     else with_rm (shift_immediate_row o size) (is_word size) 0 (shift_number o) operand (numbers.Byte n)
 
+-- a bit's number in the instruction by BA, in a register by A3 and its like
+abbrev pub bit_test_choice : BitTest → Operand → ℕ → Choice
+bit_test_choice o operand n = with_rm (bit_test_immediate_row o) false 0 (bit_test_number o) operand (numbers.Byte n)
+
+abbrev pub register_bit_test : BitTest → Register → Register → Choice
+register_bit_test o r n = with_rm (bit_test_register_row o) false 0 (register_number n) (operand.Register r) numbers.Nothing
+
+-- CL by A5 and AD, a number by A4 and AC
+abbrev pub double_shift_choice : DoubleShift → Operand → Register → Count → Choice
+double_shift_choice o operand r counts.Cl = with_rm (double_shift_cl_row o) false 0 (register_number r) operand numbers.Nothing
+double_shift_choice o operand r (counts.Immediate n) = with_rm (double_shift_immediate_row o) false 0 (register_number r) operand (numbers.Byte n)
+
 -- ---- into a register
 
 abbrev pub load_address : OperandSize → Register → Memory → Choice
@@ -142,6 +157,9 @@ load_address size to m = with_rm load_address_row (is_word_size size) 0 (registe
 
 abbrev pub multiply_choice : OperandSize → Register → Operand → Choice
 multiply_choice size to from = with_rm multiply_reg_rm_row (is_word_size size) 0 (register_number to) from numbers.Nothing
+
+abbrev pub bit_scan_choice : BitScan → Register → Operand → Choice
+bit_scan_choice o to from = with_rm (bit_scan_row o) false 0 (register_number to) from numbers.Nothing
 
 -- 6B where the value is a byte with its sign extended and isn't marked wide, else 69
 abbrev pub multiply_immediate : Register → Operand → WideImmediate → Bool → Choice
@@ -268,6 +286,10 @@ choice (insns.Product o size x) wide = Some (product_choice o size x)
 choice (insns.Multiply size to from) wide = Some (multiply_choice size to from)
 choice (insns.MultiplyImmediate to from value) wide = Some (multiply_immediate to from value wide.immediate)
 choice (insns.Shift o size x count) wide = Some (shift_choice o size x count)
+choice (insns.DoubleShift o x r count) wide = Some (double_shift_choice o x r count)
+choice (insns.BitTest o x n) wide = Some (bit_test_choice o x n)
+choice (insns.BitTestRegister o r n) wide = Some (register_bit_test o r n)
+choice (insns.BitScan o to from) wide = Some (bit_scan_choice o to from)
 choice (insns.ZeroExtend e to from) wide = Some (zero_extension e to from)
 choice (insns.SignExtend e to from) wide = Some (sign_extension e to from)
 choice (insns.SetCondition c o) wide = Some (set_condition c o)

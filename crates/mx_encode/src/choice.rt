@@ -4,7 +4,7 @@ ghost use Rattle.mx_encode.specs.Choice.{choice};
 ghost use Rattle.mx_encode.specs.Given.{GivesBytes, Fits};
 
 use crate::forms::Encoding;
-use crate::{NoForm, Wide, accumulator, jumps, operands, single};
+use crate::{NoForm, Wide, accumulator, bits, jumps, operands, single};
 use mx_insn::Insn;
 
 /// The form that is chosen. Only how far LOOP and JECXZ go can rule one out.
@@ -50,6 +50,27 @@ pub fn form_of(insn: Insn, wide: Wide) -> Result<Encoding, NoForm>
             operand,
             count,
         } => Ok(single::shift(operation, size, operand, count)),
+        Insn::DoubleShift {
+            operation,
+            operand,
+            register,
+            count,
+        } => Ok(bits::double_shift(operation, operand, register, count)),
+        Insn::BitTest {
+            operation,
+            operand,
+            number,
+        } => Ok(bits::bit_test(operation, operand, number)),
+        Insn::BitTestRegister {
+            operation,
+            register,
+            number,
+        } => Ok(bits::register_bit_test(operation, register, number)),
+        Insn::BitScan {
+            operation,
+            to,
+            from,
+        } => Ok(bits::bit_scan(operation, to, from)),
         Insn::ZeroExtend {
             extension,
             to,

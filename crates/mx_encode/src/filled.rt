@@ -181,6 +181,35 @@ pub fn with_displacement(insn: Insn, displacement: u32) -> Insn
             operand: operand_at(operand, displacement),
             count,
         },
+        Insn::DoubleShift {
+            operation,
+            operand,
+            register,
+            count,
+        } => Insn::DoubleShift {
+            operation,
+            operand: operand_at(operand, displacement),
+            register,
+            count,
+        },
+        Insn::BitTest {
+            operation,
+            operand,
+            number,
+        } => Insn::BitTest {
+            operation,
+            operand: operand_at(operand, displacement),
+            number,
+        },
+        Insn::BitScan {
+            operation,
+            to,
+            from,
+        } => Insn::BitScan {
+            operation,
+            to,
+            from: operand_at(from, displacement),
+        },
         Insn::ZeroExtend {
             extension,
             to,
@@ -206,6 +235,21 @@ pub fn with_displacement(insn: Insn, displacement: u32) -> Insn
         Insn::Push(operand) => Insn::Push(operand_at(operand, displacement)),
         Insn::JumpTo(operand) => Insn::JumpTo(operand_at(operand, displacement)),
         Insn::CallTo(operand) => Insn::CallTo(operand_at(operand, displacement)),
-        _ => insn,
+        Insn::BitTestRegister { .. }
+        | Insn::PushImmediate(_)
+        | Insn::Pop(_)
+        | Insn::JumpIf { .. }
+        | Insn::Jump(_)
+        | Insn::Call(_)
+        | Insn::Loop { .. }
+        | Insn::Return(_)
+        | Insn::Interrupt(_)
+        | Insn::ExtendAccumulator(_)
+        | Insn::SpreadSign(_)
+        | Insn::Transfer { .. }
+        | Insn::Compare { .. }
+        | Insn::In { .. }
+        | Insn::Out { .. }
+        | Insn::Plain(_) => insn,
     }
 }

@@ -2,6 +2,7 @@
 #![tactic(auto)]
 
 mod accumulator;
+mod bits;
 mod choice;
 mod encoding;
 mod fields;

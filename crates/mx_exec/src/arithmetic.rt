@@ -234,7 +234,7 @@ pub fn unary_operation(
 }
 
 /// How far a shift goes.
-fn count_of(image: &Image, count: Count) -> u32
+pub fn count_of(image: &Image, count: Count) -> u32
     ensures { result ≡ count_of_shift count image.now }
 {
     match count {

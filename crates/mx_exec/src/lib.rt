@@ -2,6 +2,7 @@
 #![tactic(auto)]
 
 mod arithmetic;
+mod bits;
 mod image;
 mod jumps;
 mod laws;

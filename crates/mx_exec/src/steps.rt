@@ -8,7 +8,7 @@ ghost use Rattle.mx_exec.specs.Step.{after, outcome_of, one_step};
 ghost use Rattle.mx_exec.specs.Text.{Fetches};
 
 use crate::image::dword_sum;
-use crate::{Image, Outcome, arithmetic, jumps, moves, plain, strings};
+use crate::{Image, Outcome, arithmetic, bits, jumps, moves, plain, strings};
 use mx_decode::DecodeFault;
 use mx_insn::{Insn, Plain};
 
@@ -73,6 +73,27 @@ pub fn perform(image: &mut Image, insn: &Insn, next: u32) -> Result<(), u8>
             operand,
             count,
         } => { arithmetic::shift_operand(image, *operation, *size, operand, *count, next) }
+        Insn::DoubleShift {
+            operation,
+            operand,
+            register,
+            count,
+        } => { bits::shift_double(image, *operation, operand, *register, *count, next) }
+        Insn::BitTest {
+            operation,
+            operand,
+            number,
+        } => { bits::test_bit(image, *operation, operand, u32::from(*number), next) }
+        Insn::BitTestRegister {
+            operation,
+            register,
+            number,
+        } => { bits::test_register_bit(image, *operation, *register, *number, next) }
+        Insn::BitScan {
+            operation,
+            to,
+            from,
+        } => { bits::scan(image, *operation, *to, from, next) }
         Insn::ZeroExtend {
             extension,
             to,

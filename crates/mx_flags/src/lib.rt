@@ -236,6 +236,16 @@ impl Flags {
         }
     }
 
+    /// With this zero flag, as after BSF and BSR. Sign and parity stay.
+    pub fn with_zero(&self, zero: bool) -> Flags
+        ensures { result ≡ record self.now { zero = zero } }
+    {
+        Flags {
+            zero: 1 - u32::from(zero),
+            ..self.copied()
+        }
+    }
+
     /// With this direction, as after CLD and STD.
     pub fn with_direction(&self, direction: bool) -> Flags
         ensures { result ≡ record self.now { direction = direction } }

@@ -1,6 +1,6 @@
 //! Instructions as values: operation, size and operands, and not the form that spelled them.
 
-use mx_word::{Arithmetic, Condition, Register, Shift, Size, Unary};
+use mx_word::{Arithmetic, BitScan, BitTest, Condition, DoubleShift, Register, Shift, Size, Unary};
 
 /// What an index register is multiplied by.
 #[derive(Clone, Copy, PartialEq, Eq)]
@@ -231,6 +231,31 @@ pub enum Insn {
         size: Size,
         operand: Operand,
         count: Count,
+    },
+    /// SHLD, SHRD: a dword, filled from a register.
+    DoubleShift {
+        operation: DoubleShift,
+        operand: Operand,
+        register: Register,
+        count: Count,
+    },
+    /// BT, BTS, BTR, BTC of a dword's bit with a number in the instruction.
+    BitTest {
+        operation: BitTest,
+        operand: Operand,
+        number: u8,
+    },
+    /// The same of a register's bit with its number in a register.
+    BitTestRegister {
+        operation: BitTest,
+        register: Register,
+        number: Register,
+    },
+    /// BSF, BSR of a dword.
+    BitScan {
+        operation: BitScan,
+        to: Register,
+        from: Operand,
     },
     /// MOVZX.
     ZeroExtend {

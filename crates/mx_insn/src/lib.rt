@@ -9,5 +9,7 @@ pub use insn::{
     Comparison, Count, Extension, Immediate, Index, Insn, Loop, Memory, Operand, OperandSize,
     Operands, Plain, Port, PortSize, Product, Repeat, Scale, Transfer, WideImmediate,
 };
-pub use mx_word::{Arithmetic, Condition, Register, Shift, Size, Unary};
+pub use mx_word::{
+    Arithmetic, BitScan, BitTest, Condition, DoubleShift, Register, Shift, Size, Unary,
+};
 pub use row::{CountColumn, ImmediateColumn, ModRm, Pattern, Repeats, Row, SizeMark};

@@ -1,7 +1,7 @@
 //! The columns of the instruction table.
 
 use crate::insn::{Comparison, Loop, Plain, Product, Transfer};
-use mx_word::{Shift, Unary};
+use mx_word::{BitScan, BitTest, DoubleShift, Shift, Unary};
 
 /// The operand size of a row: b, v (word behind 66, else dword), or d (also where it has no mark).
 #[derive(Clone, Copy)]
@@ -30,6 +30,8 @@ pub enum ModRm {
     Any,
     /// Any reg field, and rm is memory.
     AnyMemory,
+    /// Any reg field, and rm is a register: mod is 11.
+    AnyRegister,
     /// /n: the reg field is this, and rm is any.
     Only(u8),
 }
@@ -81,6 +83,10 @@ pub enum Pattern {
     MultiplyRegRm,
     MultiplyRegRmImmediate,
     ShiftRm(Shift, CountColumn),
+    DoubleShiftRmReg(DoubleShift, CountColumn),
+    BitTestRmImmediate(BitTest),
+    BitTestRmReg(BitTest),
+    BitScanRegRm(BitScan),
     ZeroExtendByte,
     ZeroExtendWord,
     SignExtendByte,

@@ -9,6 +9,9 @@ use Rattle.mx_word.specs.declared.names.Register.TheVariants as register
 use Rattle.mx_word.specs.declared.names.Arithmetic.TheVariants as arithmetic
 use Rattle.mx_word.specs.declared.names.Unary.TheVariants as unary
 use Rattle.mx_word.specs.declared.names.Shift.TheVariants as shift
+use Rattle.mx_word.specs.declared.names.BitTest.TheVariants as bit_test
+use Rattle.mx_word.specs.declared.names.BitScan.TheVariants as bit_scan
+use Rattle.mx_word.specs.declared.names.DoubleShift.TheVariants as double_shift
 use Rattle.mx_word.specs.declared.names.Condition.TheVariants as condition
 use Rattle.mx_insn.specs.declared.insn.Loop.TheVariants as loop
 use Rattle.mx_insn.specs.declared.insn.Product.TheVariants as product
@@ -63,6 +66,12 @@ all_starts =
     starts.Mnemonic (mnemonics.Arithmetic arithmetic.Adc) ∷
     starts.Mnemonic (mnemonics.Arithmetic arithmetic.Add) ∷
     starts.Mnemonic (mnemonics.Arithmetic arithmetic.And) ∷
+    starts.Mnemonic (mnemonics.BitScan bit_scan.Bsf) ∷
+    starts.Mnemonic (mnemonics.BitScan bit_scan.Bsr) ∷
+    starts.Mnemonic (mnemonics.BitTest bit_test.Bt) ∷
+    starts.Mnemonic (mnemonics.BitTest bit_test.Btc) ∷
+    starts.Mnemonic (mnemonics.BitTest bit_test.Btr) ∷
+    starts.Mnemonic (mnemonics.BitTest bit_test.Bts) ∷
     starts.Mnemonic (mnemonics.Single single.Call) ∷
     starts.Mnemonic (mnemonics.Single single.Cbw) ∷
     starts.Mnemonic (mnemonics.Single single.Cdq) ∷
@@ -160,7 +169,9 @@ all_starts =
     starts.Mnemonic (mnemonics.SetCondition condition.Sign) ∷
     starts.Mnemonic (mnemonics.SetCondition condition.Zero) ∷
     starts.Mnemonic (mnemonics.Shift shift.Shl) ∷
+    starts.Mnemonic (mnemonics.DoubleShift double_shift.Shld) ∷
     starts.Mnemonic (mnemonics.Shift shift.Shr) ∷
+    starts.Mnemonic (mnemonics.DoubleShift double_shift.Shrd) ∷
     starts.Mnemonic (mnemonics.Plain plain.Stc) ∷
     starts.Mnemonic (mnemonics.Plain plain.Std) ∷
     starts.Mnemonic (mnemonics.Plain plain.Sti) ∷
@@ -196,6 +207,14 @@ start_again (starts.Mnemonic (mnemonics.Shift shift.Ror)) = refl
 start_again (starts.Mnemonic (mnemonics.Shift shift.Shl)) = refl
 start_again (starts.Mnemonic (mnemonics.Shift shift.Shr)) = refl
 start_again (starts.Mnemonic (mnemonics.Shift shift.Sar)) = refl
+start_again (starts.Mnemonic (mnemonics.DoubleShift double_shift.Shld)) = refl
+start_again (starts.Mnemonic (mnemonics.DoubleShift double_shift.Shrd)) = refl
+start_again (starts.Mnemonic (mnemonics.BitTest bit_test.Bt)) = refl
+start_again (starts.Mnemonic (mnemonics.BitTest bit_test.Bts)) = refl
+start_again (starts.Mnemonic (mnemonics.BitTest bit_test.Btr)) = refl
+start_again (starts.Mnemonic (mnemonics.BitTest bit_test.Btc)) = refl
+start_again (starts.Mnemonic (mnemonics.BitScan bit_scan.Bsf)) = refl
+start_again (starts.Mnemonic (mnemonics.BitScan bit_scan.Bsr)) = refl
 start_again (starts.Mnemonic (mnemonics.Loop loop.Loopne)) = refl
 start_again (starts.Mnemonic (mnemonics.Loop loop.Loope)) = refl
 start_again (starts.Mnemonic (mnemonics.Loop loop.Loop)) = refl

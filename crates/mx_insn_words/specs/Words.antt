@@ -10,6 +10,12 @@ use Rattle.mx_word.specs.declared.names.Unary.{Unary}
 use Rattle.mx_word.specs.declared.names.Unary.TheVariants as unary
 use Rattle.mx_word.specs.declared.names.Shift.{Shift}
 use Rattle.mx_word.specs.declared.names.Shift.TheVariants as shift
+use Rattle.mx_word.specs.declared.names.BitTest.{BitTest}
+use Rattle.mx_word.specs.declared.names.BitTest.TheVariants as bit_test
+use Rattle.mx_word.specs.declared.names.BitScan.{BitScan}
+use Rattle.mx_word.specs.declared.names.BitScan.TheVariants as bit_scan
+use Rattle.mx_word.specs.declared.names.DoubleShift.{DoubleShift}
+use Rattle.mx_word.specs.declared.names.DoubleShift.TheVariants as double_shift
 use Rattle.mx_word.specs.declared.names.Condition.{Condition}
 use Rattle.mx_word.specs.declared.names.Condition.TheVariants as condition
 use Rattle.mx_insn.specs.declared.insn.Loop.{Loop}
@@ -57,6 +63,20 @@ shift_word shift.Ror = codes "ror"
 shift_word shift.Shl = codes "shl"
 shift_word shift.Shr = codes "shr"
 shift_word shift.Sar = codes "sar"
+
+abbrev pub double_shift_word : DoubleShift → List ℕ
+double_shift_word double_shift.Shld = codes "shld"
+double_shift_word double_shift.Shrd = codes "shrd"
+
+abbrev pub bit_test_word : BitTest → List ℕ
+bit_test_word bit_test.Bt = codes "bt"
+bit_test_word bit_test.Bts = codes "bts"
+bit_test_word bit_test.Btr = codes "btr"
+bit_test_word bit_test.Btc = codes "btc"
+
+abbrev pub bit_scan_word : BitScan → List ℕ
+bit_scan_word bit_scan.Bsf = codes "bsf"
+bit_scan_word bit_scan.Bsr = codes "bsr"
 
 abbrev pub loop_word : Loop → List ℕ
 loop_word loop.Loopne = codes "loopne"
@@ -148,6 +168,9 @@ word_of (mnemonics.Arithmetic x) = arithmetic_word x
 word_of (mnemonics.Unary x) = unary_word x
 word_of (mnemonics.Product x) = product_word x
 word_of (mnemonics.Shift x) = shift_word x
+word_of (mnemonics.DoubleShift x) = double_shift_word x
+word_of (mnemonics.BitTest x) = bit_test_word x
+word_of (mnemonics.BitScan x) = bit_scan_word x
 word_of (mnemonics.Loop x) = loop_word x
 word_of (mnemonics.Plain x) = plain_word x
 word_of (mnemonics.Single x) = single_word x

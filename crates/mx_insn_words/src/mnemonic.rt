@@ -1,7 +1,8 @@
 //! Mnemonics.
 
 use mx_insn::{
-    Arithmetic, Comparison, Condition, Loop, Plain, Product, Shift, Size, Transfer, Unary,
+    Arithmetic, BitScan, BitTest, Comparison, Condition, DoubleShift, Loop, Plain, Product, Shift,
+    Size, Transfer, Unary,
 };
 
 /// Mnemonics that are alone of their kind.
@@ -34,6 +35,9 @@ pub enum Mnemonic {
     Unary(Unary),
     Product(Product),
     Shift(Shift),
+    DoubleShift(DoubleShift),
+    BitTest(BitTest),
+    BitScan(BitScan),
     Loop(Loop),
     Plain(Plain),
     Single(Single),

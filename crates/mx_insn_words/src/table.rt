@@ -4,7 +4,8 @@ use crate::mnemonic::{Mnemonic, Single};
 use crate::named::Named;
 use crate::start::{Directive, Prefix, WordStart};
 use mx_insn::{
-    Arithmetic, Comparison, Condition, Loop, Plain, Product, Register, Shift, Size, Transfer, Unary,
+    Arithmetic, BitScan, BitTest, Comparison, Condition, DoubleShift, Loop, Plain, Product,
+    Register, Shift, Size, Transfer, Unary,
 };
 
 macro_rules! row {
@@ -17,7 +18,7 @@ macro_rules! row {
 }
 
 /// What begins a statement.
-pub static STARTS: [Named<WordStart>; 122] = [
+pub static STARTS: [Named<WordStart>; 130] = [
     row!(b".ascii" => WordStart::Directive(Directive::Ascii)),
     row!(b".bss" => WordStart::Directive(Directive::Bss)),
     row!(b".data" => WordStart::Directive(Directive::Data)),
@@ -32,6 +33,12 @@ pub static STARTS: [Named<WordStart>; 122] = [
     row!(b"adc" => WordStart::Mnemonic(Mnemonic::Arithmetic(Arithmetic::Adc))),
     row!(b"add" => WordStart::Mnemonic(Mnemonic::Arithmetic(Arithmetic::Add))),
     row!(b"and" => WordStart::Mnemonic(Mnemonic::Arithmetic(Arithmetic::And))),
+    row!(b"bsf" => WordStart::Mnemonic(Mnemonic::BitScan(BitScan::Bsf))),
+    row!(b"bsr" => WordStart::Mnemonic(Mnemonic::BitScan(BitScan::Bsr))),
+    row!(b"bt" => WordStart::Mnemonic(Mnemonic::BitTest(BitTest::Bt))),
+    row!(b"btc" => WordStart::Mnemonic(Mnemonic::BitTest(BitTest::Btc))),
+    row!(b"btr" => WordStart::Mnemonic(Mnemonic::BitTest(BitTest::Btr))),
+    row!(b"bts" => WordStart::Mnemonic(Mnemonic::BitTest(BitTest::Bts))),
     row!(b"call" => WordStart::Mnemonic(Mnemonic::Single(Single::Call))),
     row!(b"cbw" => WordStart::Mnemonic(Mnemonic::Single(Single::Cbw))),
     row!(b"cdq" => WordStart::Mnemonic(Mnemonic::Single(Single::Cdq))),
@@ -129,7 +136,9 @@ pub static STARTS: [Named<WordStart>; 122] = [
     row!(b"sets" => WordStart::Mnemonic(Mnemonic::SetCondition(Condition::Sign))),
     row!(b"setz" => WordStart::Mnemonic(Mnemonic::SetCondition(Condition::Zero))),
     row!(b"shl" => WordStart::Mnemonic(Mnemonic::Shift(Shift::Shl))),
+    row!(b"shld" => WordStart::Mnemonic(Mnemonic::DoubleShift(DoubleShift::Shld))),
     row!(b"shr" => WordStart::Mnemonic(Mnemonic::Shift(Shift::Shr))),
+    row!(b"shrd" => WordStart::Mnemonic(Mnemonic::DoubleShift(DoubleShift::Shrd))),
     row!(b"stc" => WordStart::Mnemonic(Mnemonic::Plain(Plain::Stc))),
     row!(b"std" => WordStart::Mnemonic(Mnemonic::Plain(Plain::Std))),
     row!(b"sti" => WordStart::Mnemonic(Mnemonic::Plain(Plain::Sti))),

@@ -29,7 +29,7 @@ use Rattle.mx_insn.specs.declared.insn.Insn.{Insn}
 use Rattle.mx_insn.specs.declared.insn.Insn.TheVariants as insns
 use Rattle.mx_insn_words.specs.declared.mnemonic.Single.TheVariants.{Mov, Test, Xchg, Lea, Movzx, Movsx, Push, Pop, Jmp, Call, Ret, Int, Cbw, Cwde, Cwd, Cdq, In, Out}
 use Rattle.mx_insn_words.specs.declared.mnemonic.Mnemonic.{Mnemonic}
-use Rattle.mx_insn_words.specs.declared.mnemonic.Mnemonic.TheVariants.{Arithmetic, Unary, Product, Shift, Loop, Plain, Single, JumpIf, SetCondition, Transfer, Compare}
+use Rattle.mx_insn_words.specs.declared.mnemonic.Mnemonic.TheVariants.{Arithmetic, Unary, Product, Shift, DoubleShift, BitTest, BitScan, Loop, Plain, Single, JumpIf, SetCondition, Transfer, Compare}
 use Rattle.mx_insn_words.specs.declared.start.Prefix.{Prefix}
 use Rattle.mx_insn_words.specs.declared.start.Prefix.TheVariants.{Rep, Repe, Repne}
 use Rattle.mx_insn_words.specs.Words.{word_of, prefix_word}
@@ -71,6 +71,10 @@ mnemonic_of (insns.Product o size x) = Product o
 mnemonic_of (insns.Multiply size r x) = Product Imul
 mnemonic_of (insns.MultiplyImmediate r x n) = Product Imul
 mnemonic_of (insns.Shift o size x n) = Shift o
+mnemonic_of (insns.DoubleShift o x r n) = DoubleShift o
+mnemonic_of (insns.BitTest o x n) = BitTest o
+mnemonic_of (insns.BitTestRegister o r n) = BitTest o
+mnemonic_of (insns.BitScan o r x) = BitScan o
 mnemonic_of (insns.ZeroExtend e r x) = Single Movzx
 mnemonic_of (insns.SignExtend e r x) = Single Movsx
 mnemonic_of (insns.SetCondition c x) = SetCondition c
@@ -165,6 +169,10 @@ written_operands next (insns.Product o size x) = written_operand size x ∷ []
 written_operands next (insns.Multiply size r x) = written.Register (written_size size) r ∷ written_operand (written_size size) x ∷ []
 written_operands next (insns.MultiplyImmediate r x n) = written_product r x n
 written_operands next (insns.Shift o size x n) = written_operand size x ∷ written_count n ∷ []
+written_operands next (insns.DoubleShift o x r n) = written_operand Dword x ∷ written.Register Dword r ∷ written_count n ∷ []
+written_operands next (insns.BitTest o x n) = written_operand Dword x ∷ written.Number n ∷ []
+written_operands next (insns.BitTestRegister o r n) = written.Register Dword r ∷ written.Register Dword n ∷ []
+written_operands next (insns.BitScan o r x) = written.Register Dword r ∷ written_operand Dword x ∷ []
 written_operands next (insns.ZeroExtend e r x) = written_extension e r x
 written_operands next (insns.SignExtend e r x) = written_extension e r x
 written_operands next (insns.SetCondition c x) = written_operand Byte x ∷ []

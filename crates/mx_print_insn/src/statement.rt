@@ -61,6 +61,11 @@ fn mnemonic(insn: &Insn) -> Mnemonic
         Insn::Product { operation, .. } => Mnemonic::Product(operation),
         Insn::Multiply { .. } | Insn::MultiplyImmediate { .. } => Mnemonic::Product(Product::Imul),
         Insn::Shift { operation, .. } => Mnemonic::Shift(operation),
+        Insn::DoubleShift { operation, .. } => Mnemonic::DoubleShift(operation),
+        Insn::BitTest { operation, .. } | Insn::BitTestRegister { operation, .. } => {
+            Mnemonic::BitTest(operation)
+        }
+        Insn::BitScan { operation, .. } => Mnemonic::BitScan(operation),
         Insn::ZeroExtend { .. } => Mnemonic::Single(Single::Movzx),
         Insn::SignExtend { .. } => Mnemonic::Single(Single::Movsx),
         Insn::SetCondition { condition, .. } => Mnemonic::SetCondition(condition),

@@ -2,10 +2,11 @@
 
 ghost use Rattle.std.specs.Prelude.{◌≡◌, ◌++◌};
 ghost use Rattle.mx_insn_words.specs.Registers.{register_word, size_word};
-ghost use Rattle.mx_insn_words.specs.Words.{size_letter, condition_word, arithmetic_word, unary_word, shift_word, product_word, loop_word, transfer_word, comparison_word, plain_word, single_word, word_of, prefix_word};
+ghost use Rattle.mx_insn_words.specs.Words.{size_letter, condition_word, arithmetic_word, unary_word, shift_word, double_shift_word, bit_test_word, bit_scan_word, product_word, loop_word, transfer_word, comparison_word, plain_word, single_word, word_of, prefix_word};
 
 use mx_insn::{
-    Arithmetic, Comparison, Condition, Loop, Plain, Product, Register, Shift, Size, Transfer, Unary,
+    Arithmetic, BitScan, BitTest, Comparison, Condition, DoubleShift, Loop, Plain, Product,
+    Register, Shift, Size, Transfer, Unary,
 };
 use mx_insn_words::{Mnemonic, Prefix, Single};
 
@@ -146,6 +147,35 @@ fn shift(operation: Shift) -> &'static str
     }
 }
 
+fn double_shift(operation: DoubleShift) -> &'static str
+    ensures { result.now ≡ double_shift_word operation }
+{
+    match operation {
+        DoubleShift::Shld => "shld",
+        DoubleShift::Shrd => "shrd",
+    }
+}
+
+fn bit_test(operation: BitTest) -> &'static str
+    ensures { result.now ≡ bit_test_word operation }
+{
+    match operation {
+        BitTest::Bt => "bt",
+        BitTest::Bts => "bts",
+        BitTest::Btr => "btr",
+        BitTest::Btc => "btc",
+    }
+}
+
+fn bit_scan(operation: BitScan) -> &'static str
+    ensures { result.now ≡ bit_scan_word operation }
+{
+    match operation {
+        BitScan::Bsf => "bsf",
+        BitScan::Bsr => "bsr",
+    }
+}
+
 fn product(operation: Product) -> &'static str
     ensures { result.now ≡ product_word operation }
 {
@@ -256,6 +286,9 @@ pub fn mnemonic(mnemonic: Mnemonic) -> (&'static str, &'static str)
         Mnemonic::Unary(operation) => (unary(operation), ""),
         Mnemonic::Product(operation) => (product(operation), ""),
         Mnemonic::Shift(operation) => (shift(operation), ""),
+        Mnemonic::DoubleShift(operation) => (double_shift(operation), ""),
+        Mnemonic::BitTest(operation) => (bit_test(operation), ""),
+        Mnemonic::BitScan(operation) => (bit_scan(operation), ""),
         Mnemonic::Loop(operation) => (looping(operation), ""),
         Mnemonic::Plain(operation) => (plain(operation), ""),
         Mnemonic::Single(mnemonic) => (single(mnemonic), ""),

@@ -177,6 +177,27 @@ fn of_shift(size: Size, operand: Operand, count: Count) -> WrittenOperands
     Two(of_operand(size, operand), of_count(count))
 }
 
+/// Of SHLD or SHRD.
+fn of_double_shift(operand: Operand, register: Register, count: Count) -> WrittenOperands
+    ensures { written_list result ≡ written_operand Size.Dword operand ∷ Written.Register Size.Dword register ∷ written_count count ∷ [] }
+{
+    Three(
+        of_operand(Size::Dword, operand),
+        Written::Register(Size::Dword, register),
+        of_count(count),
+    )
+}
+
+/// Of a bit test with a number in the instruction.
+fn of_bit(operand: Operand, number: u8) -> WrittenOperands
+    ensures { written_list result ≡ written_operand Size.Dword operand ∷ Written.Number number ∷ [] }
+{
+    Two(
+        of_operand(Size::Dword, operand),
+        Written::Number(u32::from(number)),
+    )
+}
+
 /// The operands of an instruction, by the address of the next one.
 pub fn of_insn(insn: &Insn, next: u32) -> WrittenOperands
     ensures { written_list result ≡ written_operands next insn.now }
@@ -206,6 +227,23 @@ pub fn of_insn(insn: &Insn, next: u32) -> WrittenOperands
             count,
             ..
         } => of_shift(size, operand, count),
+        Insn::DoubleShift {
+            operand,
+            register,
+            count,
+            ..
+        } => of_double_shift(operand, register, count),
+        Insn::BitTest {
+            operand,
+            number,
+            ..
+        } => of_bit(operand, number),
+        Insn::BitTestRegister {
+            register,
+            number,
+            ..
+        } => to_register(Size::Dword, register, Operand::Register(number)),
+        Insn::BitScan { to, from, .. } => to_register(Size::Dword, to, from),
         Insn::ZeroExtend {
             extension,
             to,

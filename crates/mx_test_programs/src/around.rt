@@ -32,7 +32,66 @@ const CLIENT: [u8; 123] = [
     0x62, 0x75, 0x66, 0, 0, 0, 0, 0, 0, 0, 0, 0, 3, 0, 0, 0,
 ];
 
-static ROWS: [Row; 4] = [
+static ROWS: [Row; 6] = [
+    Row {
+        text: "bt ecx, 0x0\n\
+               bt dword [eax+esi*4+0x8], 0x5\n\
+               bt edx, ebx\n\
+               bts ecx, 0x1f\n\
+               bts dword [eax+esi*4+0x8], 0x5\n\
+               bts edx, ebx\n\
+               btr ecx, 0x20\n\
+               btr dword [eax+esi*4+0x8], 0x5\n\
+               btr edx, ebx\n\
+               btc ecx, 0xff\n\
+               btc dword [eax+esi*4+0x8], 0x5\n\
+               btc edx, ebx\n\
+               bsf eax, ecx\n\
+               bsf edi, dword [0x1000]\n\
+               bsr eax, ecx\n\
+               bsr edi, dword [0x1000]\n\
+               shld eax, ecx, 0x4\n\
+               shld dword [ebp], esi, 0xff\n\
+               shld eax, ecx, cl\n\
+               shld dword [esp], ebx, cl\n\
+               shrd eax, ecx, 0x4\n\
+               shrd dword [ebp], esi, 0xff\n\
+               shrd eax, ecx, cl\n\
+               shrd dword [esp], ebx, cl\n",
+        listing: "00000000 bt ecx, 0x0\n\
+                  00000004 bt dword [eax+esi*4+0x8], 0x5\n\
+                  0000000a bt edx, ebx\n\
+                  0000000d bts ecx, 0x1f\n\
+                  00000011 bts dword [eax+esi*4+0x8], 0x5\n\
+                  00000017 bts edx, ebx\n\
+                  0000001a btr ecx, 0x20\n\
+                  0000001e btr dword [eax+esi*4+0x8], 0x5\n\
+                  00000024 btr edx, ebx\n\
+                  00000027 btc ecx, 0xff\n\
+                  0000002b btc dword [eax+esi*4+0x8], 0x5\n\
+                  00000031 btc edx, ebx\n\
+                  00000034 bsf eax, ecx\n\
+                  00000037 bsf edi, dword [0x1000]\n\
+                  0000003e bsr eax, ecx\n\
+                  00000041 bsr edi, dword [0x1000]\n\
+                  00000048 shld eax, ecx, 0x4\n\
+                  0000004c shld dword [ebp], esi, 0xff\n\
+                  00000051 shld eax, ecx, cl\n\
+                  00000054 shld dword [esp], ebx, cl\n\
+                  00000058 shrd eax, ecx, 0x4\n\
+                  0000005c shrd dword [ebp], esi, 0xff\n\
+                  00000061 shrd eax, ecx, cl\n\
+                  00000064 shrd dword [esp], ebx, cl\n",
+        bytes: &[(0, 0x0F), (1, 0xBA), (2, 0xE1), (3, 0)],
+        file: None,
+    },
+    Row {
+        text: "shld eax, ecx, 4\nl: bt eax, 33\nbtc dword [l], -1\nbsr ecx, [l]\n",
+        listing: "00000000 shld eax, ecx, 0x4\n00000004 bt eax, 0x21\n00000008 btc dword [0x4], 0xff\n\
+                  00000010 bsr ecx, dword [0x4]\n",
+        bytes: &[(0, 0x0F), (1, 0xA4), (2, 0xC8), (3, 0x04)],
+        file: None,
+    },
     Row {
         text: ".sep\n.text\nstart: mov eax, 5\nadd eax, 0x7b\nloop start\nint 33\n",
         listing: "00000000 mov eax, 0x5\n00000005 add eax, 0x7b\n00000008 loop 0x0\n\

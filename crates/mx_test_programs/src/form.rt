@@ -3,6 +3,7 @@
 use mx_asm_form::{
     Address, Argument, Mnemonic, Name, Prefix, Register, Single, Size, Value, repeated, stated,
 };
+use mx_insn::{BitScan, BitTest, DoubleShift};
 
 const EAX: Argument = Argument::Register(Size::Dword, Register::Eax);
 
@@ -86,6 +87,47 @@ static MOVED: [(&[Argument], bool); 14] = [
     (&[EAX, NAMED], true),
 ];
 
+const CX: Argument = Argument::Register(Size::Word, Register::Ecx);
+
+const CL: Argument = Argument::Register(Size::Byte, Register::Ecx);
+
+const ECX: Argument = Argument::Register(Size::Dword, Register::Ecx);
+
+const DWORD_AT: Argument = Argument::Memory(Some(Size::Dword), AT_EBX);
+
+const BTS: Mnemonic = Mnemonic::BitTest(BitTest::Bts);
+
+const BSR: Mnemonic = Mnemonic::BitScan(BitScan::Bsr);
+
+const SHRD: Mnemonic = Mnemonic::DoubleShift(DoubleShift::Shrd);
+
+/// What bit tests, bit scans and double shifts refuse, and what they take.
+static BITS: [(Mnemonic, &[Argument], bool); 23] = [
+    (BTS, &[EAX, ECX], true),
+    (BTS, &[EAX, LAST_BYTE], true),
+    (BTS, &[EAX, PAST_BYTE], false),
+    (BTS, &[EAX, NAMED], false),
+    (BTS, &[EAX, CX], false),
+    (BTS, &[CX, ONE], false),
+    (BTS, &[DWORD_AT, ONE], true),
+    (BTS, &[AT, ONE], false),
+    (BTS, &[BYTE_AT, ONE], false),
+    (BTS, &[DWORD_AT, ECX], false),
+    (BTS, &[ONE, ECX], false),
+    (BSR, &[EAX, ECX], true),
+    (BSR, &[EAX, AT], true),
+    (BSR, &[EAX, BYTE_AT], false),
+    (BSR, &[CX, AT], false),
+    (BSR, &[EAX, ONE], false),
+    (SHRD, &[EAX, ECX, CL], true),
+    (SHRD, &[AT, ECX, LEAST_BYTE], true),
+    (SHRD, &[DWORD_AT, EAX, CL], true),
+    (SHRD, &[EAX, ECX, ECX], false),
+    (SHRD, &[EAX, CX, CL], false),
+    (SHRD, &[EAX, AT, CL], false),
+    (SHRD, &[EAX, ECX], false),
+];
+
 fn is_moved(arguments: &[Argument]) -> bool {
     stated(false, Mnemonic::Single(Single::Mov), arguments).is_some()
 }
@@ -102,4 +144,14 @@ fn sizes(rt: HostRuntime) {
     assert!(rt;
         is_long_refused() && repeated(Prefix::Rep, Mnemonic::Single(Single::Mov)).is_none()
     );
+}
+
+#[test]
+fn bits(rt: HostRuntime) {
+    for (number, (mnemonic, arguments, is_taken)) in BITS.iter().enumerate() {
+        assert!(rt;
+            stated(false, *mnemonic, *arguments).is_some() == *is_taken,
+            "row {number}"
+        );
+    }
 }

@@ -81,6 +81,112 @@ static REGISTERS: [Register; 8] = [
     Register::Edi,
 ];
 
+/// Bit tests, bit scans and double shifts; the last ones are no instructions.
+static BITS: [Row; 14] = [
+    Row {
+        text: b"\x0F\xBA\xE0\x05",
+        words: [0x20, 0, 0, 0, 0, 0, 0, 0],
+        words_after: [0x20, 0, 0, 0, 0, 0, 0, 0],
+        eip_after: 4,
+        flags_after: ONES + CARRY,
+        ..ROW
+    },
+    Row {
+        text: b"\x0F\xBA\xF8\x21",
+        flags: CARRY,
+        words_after: [2, 0, 0, 0, 0, 0, 0, 0],
+        eip_after: 4,
+        ..ROW
+    },
+    Row {
+        text: b"\x0F\xAB\xC8",
+        words: [0, 0x3F, 0, 0, 0, 0, 0, 0],
+        flags: CARRY,
+        words_after: [0x80000000, 0x3F, 0, 0, 0, 0, 0, 0],
+        eip_after: 3,
+        ..ROW
+    },
+    Row {
+        text: b"\x0F\xBC\xC1",
+        words: [0, 0x50, 0, 0, 0, 0, 0, 0],
+        flags: ZERO,
+        words_after: [4, 0x50, 0, 0, 0, 0, 0, 0],
+        eip_after: 3,
+        ..ROW
+    },
+    Row {
+        text: b"\x0F\xBD\xC1",
+        words: [0, 0x50, 0, 0, 0, 0, 0, 0],
+        flags: ZERO,
+        words_after: [6, 0x50, 0, 0, 0, 0, 0, 0],
+        eip_after: 3,
+        ..ROW
+    },
+    Row {
+        text: b"\x0F\xBC\xC1",
+        words: [9, 0, 0, 0, 0, 0, 0, 0],
+        words_after: [9, 0, 0, 0, 0, 0, 0, 0],
+        eip_after: 3,
+        flags_after: ONES + ZERO,
+        ..ROW
+    },
+    Row {
+        text: b"\x0F\xA4\xC8\x04",
+        words: [0x12345678, 0xABCDEF01, 0, 0, 0, 0, 0, 0],
+        flags: PARITY + ZERO + SIGN,
+        words_after: [0x2345678A, 0xABCDEF01, 0, 0, 0, 0, 0, 0],
+        eip_after: 4,
+        flags_after: ONES + CARRY,
+        ..ROW
+    },
+    Row {
+        text: b"\x0F\xAC\xC8\x04",
+        words: [0x12345678, 0xABCDEF01, 0, 0, 0, 0, 0, 0],
+        flags: PARITY + AUXILIARY + OVERFLOW,
+        words_after: [0x11234567, 0xABCDEF01, 0, 0, 0, 0, 0, 0],
+        eip_after: 4,
+        flags_after: ONES + CARRY + AUXILIARY + OVERFLOW,
+        ..ROW
+    },
+    Row {
+        text: b"\x0F\xA5\xC8",
+        words: [5, 0x20, 0, 0, 0, 0, 0, 0],
+        flags: ZERO + SIGN + OVERFLOW,
+        words_after: [5, 0x20, 0, 0, 0, 0, 0, 0],
+        eip_after: 3,
+        flags_after: ONES + ZERO + SIGN + OVERFLOW,
+        ..ROW
+    },
+    Row {
+        text: b"\x0F\xA3\x08",
+        stop: Stop::Fault(6),
+        ..ROW
+    },
+    Row {
+        text: b"\x0F\xBA\xC0\x05",
+        stop: Stop::Fault(6),
+        ..ROW
+    },
+    Row {
+        text: b"\x66\x0F\xBC\xC1",
+        stop: Stop::Fault(6),
+        ..ROW
+    },
+    Row {
+        text: b"\x0F\xBA",
+        stop: Stop::Fault(13),
+        ..ROW
+    },
+    // The place is tried also by a count of 0, which writes nothing new.
+    Row {
+        text: b"\x0F\xA4\x08\x20",
+        words: [LIMIT - 3, 1, 0, 0, 0, 0, 0, 0],
+        stop: Stop::Fault(13),
+        words_after: [LIMIT - 3, 1, 0, 0, 0, 0, 0, 0],
+        ..ROW
+    },
+];
+
 /// Arithmetic, shifts, products and extensions.
 static ARITHMETIC: [Row; 15] = [
     Row {
@@ -884,6 +990,7 @@ fn work_all(rt: &impl Abort, alloc: Global, cache: &mut Cache, rows: &[Row]) -> 
 fn worked_rows(rt: HostRuntime) -> Result<(), Fail> {
     let mut cache = Cache::new(rt.alloc())?;
     work_all(&rt, rt.alloc(), &mut cache, &ARITHMETIC)?;
+    work_all(&rt, rt.alloc(), &mut cache, &BITS)?;
     work_all(&rt, rt.alloc(), &mut cache, &PLACES)?;
     work_all(&rt, rt.alloc(), &mut cache, &STRINGS)?;
     work_all(&rt, rt.alloc(), &mut cache, &FAULTS)?;

@@ -115,3 +115,26 @@ pub enum Shift {
     Shr,
     Sar,
 }
+
+/// What is done to the bit that is put into the carry: nothing, set, cleared, turned over.
+#[derive(Clone, Copy, PartialEq, Eq)]
+pub enum BitTest {
+    Bt,
+    Bts,
+    Btr,
+    Btc,
+}
+
+/// A search for a one: from the lowest bit up, or from the highest down.
+#[derive(Clone, Copy, PartialEq, Eq)]
+pub enum BitScan {
+    Bsf,
+    Bsr,
+}
+
+/// A shift to the left or to the right that a second word fills.
+#[derive(Clone, Copy, PartialEq, Eq)]
+pub enum DoubleShift {
+    Shld,
+    Shrd,
+}
