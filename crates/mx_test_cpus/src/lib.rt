@@ -1,8 +1,10 @@
-//! Tests alone: what the shared machine answers, call by call, from one thread.
+//! Tests alone: what the shared machine answers, call by call, from one thread and from several.
 #![tactic(auto)]
 
 #[cfg(test)]
 mod machine;
+#[cfg(test)]
+mod threads;
 #[cfg(test)]
 mod together;
 #[cfg(test)]
