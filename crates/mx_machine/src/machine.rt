@@ -91,15 +91,25 @@ impl Machine {
         self.kernel.actors()
     }
 
-    /// The image that a processor holds, as it is now.
-    pub fn image(&self, cpu: u8) -> Option<&Image>
-        ensures { MatchOption result (held_by (world_of self.now) cpu ≡ None) (λ image. (l : HeldProcess) × (held_by (world_of self.now) cpu ≡ Some l) × (image.now ≡ l.out.image)) }
+    /// What a processor holds, as it is now.
+    pub fn held(&self, cpu: u8) -> Option<&Out>
+        ensures { MatchOption result (held_by (world_of self.now) cpu ≡ None) (λ out. (l : HeldProcess) × (held_by (world_of self.now) cpu ≡ Some l) × (out.now ≡ l.out)) }
     {
         self.opened();
         if cpu as usize >= self.outs.len() {
             return None;
         }
         match &self.outs[cpu as usize] {
+            Some(out) => Some(out),
+            None => None,
+        }
+    }
+
+    /// The image that a processor holds, as it is now.
+    pub fn image(&self, cpu: u8) -> Option<&Image>
+        ensures { MatchOption result (held_by (world_of self.now) cpu ≡ None) (λ image. (l : HeldProcess) × (held_by (world_of self.now) cpu ≡ Some l) × (image.now ≡ l.out.image)) }
+    {
+        match self.held(cpu) {
             Some(out) => Some(&out.image),
             None => None,
         }

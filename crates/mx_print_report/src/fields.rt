@@ -33,7 +33,7 @@ pub fn push_number(out: &mut Vec<u8>, number: u32) -> Result<(), AllocError>
 }
 
 /// Appends a name without the zero bytes that pad it.
-fn push_name(out: &mut Vec<u8>, name: &[u8]) -> Result<(), AllocError>
+pub fn push_name(out: &mut Vec<u8>, name: &[u8]) -> Result<(), AllocError>
     ensures { OnOk result (out.new.items ≡ out.old.items ++ name_bytes name.now) }
 {
     for byte in name {

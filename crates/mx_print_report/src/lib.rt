@@ -4,4 +4,5 @@
 mod fields;
 mod reporting;
 
+pub use fields::{push_decimal, push_name};
 pub use reporting::report_of;

@@ -1,0 +1,24 @@
+-- Deliveries, and notifications that are kept (our own).
+use Rattle.std.specs.Prelude.{ℕ, ◌+◌, ◌-◌, ◌==◌, ◌&&◌, ◌||◌, not, nat_lt, Bool, false, count_by, Option, Some, None, slice_index_or, if◌then◌else◌}
+use Rattle.std.specs.List.{range_with_len}
+use Rattle.mx_proc.specs.declared.deliveries.Delivery.{Delivery}
+use Rattle.mx_look_glance.specs.declared.slots.SlotGlance.{SlotGlance}
+use Rattle.mx_look_facts.specs.declared.step.Step.{Step}
+use Rattle.mx_look_facts.specs.Going.{got}
+
+-- how many slots from one on got a message
+unfoldable pub got_from : Step → ℕ → ℕ
+got_from x s = count_by (got x) (range_with_len s (32 - s))
+
+-- WHAT A SLOT GOT: as many of the latest deliveries as slots got one belong to these, in slot order
+unfoldable pub delivery_to : Step → ℕ → Option Delivery
+delivery_to x s = if got x s then slice_index_or x.after.deliveries (got_from x (s + 1)) None else None
+
+-- ---- notifications that wait: HARDWARE at 0, CLOCK at 1, slot 0 from 2 on
+
+abbrev pub has_bit : SlotGlance → ℕ → Bool
+has_bit g place = nat_lt place 34 && slice_index_or g.pending place false
+
+-- A NOTIFICATION IS KEPT: it waits and didn't, or it is of other interrupt lines
+unfoldable pub is_new_bit : SlotGlance → SlotGlance → ℕ → Bool
+is_new_bit v u place = has_bit u place && (not (has_bit v place) || ((place == 0) && not (v.lines == u.lines)))

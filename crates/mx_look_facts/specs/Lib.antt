@@ -1,0 +1,6 @@
+pub mod Step
+pub mod Doings
+pub mod Going
+pub mod Deliveries
+pub mod Calls
+pub mod Slots

@@ -1,0 +1,98 @@
+//! A glance at a machine.
+
+ghost use Rattle.std.specs.Prelude.{◌≡◌};
+ghost use Rattle.mx_machine_world.specs.World.{held_by};
+ghost use Rattle.mx_machine.specs.Machine.{world_of};
+ghost use Rattle.mx_look_glance.specs.Glance.{glance_of, held_glance, cpu_glance, cpu_glances};
+
+use crate::images::{ImageGlance, image_glance};
+use crate::kept::{last_byte, latest_deliveries};
+use crate::slots::{SlotGlance, slot_glances};
+use mx_image::Stop;
+use mx_machine::{Machine, Out};
+use mx_proc::{Delivery, Slot};
+
+/// What is looked at of a processor that holds a process.
+#[derive(Clone, Copy)]
+pub struct CpuGlance {
+    pub slot: Slot,
+    /// How many steps its process may make, and has made, and how the last one ended.
+    pub budget: u32,
+    pub count: u32,
+    pub stop: Stop,
+    pub image: ImageGlance,
+}
+
+/// What is looked at in a machine. Slots, processors and deliveries that there aren't are none.
+#[derive(Drop)]
+pub struct Glance {
+    pub slots: [Option<SlotGlance>; 32],
+    pub cpus: [Option<CpuGlance>; 8],
+    /// Who owns which interrupt line.
+    pub owners: [Option<u8>; 16],
+    /// The ticks since boot.
+    pub uptime: u32,
+    /// How many bytes were ever written to the console, and the last of them.
+    pub written: u32,
+    pub last_byte: Option<u8>,
+    /// The deliveries that are kept, the latest first, and of these the first 32.
+    pub deliveries: [Option<Delivery>; 32],
+}
+
+/// What is looked at of a process on a processor.
+#[tactic(auto, unfolding(crate::specs::Glance::held_glance))]
+fn held_glance(slot: Slot, out: &Out) -> CpuGlance
+    ensures { result ≡ held_glance (record { slot = slot; out = out.now }) }
+{
+    CpuGlance {
+        slot,
+        budget: out.budget,
+        count: out.count,
+        stop: out.stop,
+        image: image_glance(&out.image),
+    }
+}
+
+/// What is looked at of a processor.
+fn cpu_glance(machine: &Machine, cpu: u8) -> Option<CpuGlance>
+    ensures { result ≡ cpu_glance (world_of machine.now) cpu }
+{
+    match (machine.slot_on(cpu), machine.held(cpu)) {
+        (Some(slot), Some(out)) => Some(held_glance(slot, out)),
+        _ => None,
+    }
+}
+
+/// What is looked at of the processors.
+fn cpu_glances(machine: &Machine) -> [Option<CpuGlance>; 8]
+    ensures { result ≡ cpu_glances (world_of machine.now) }
+{
+    let mut cpus = [None; 8];
+    for cpu in 0..8u8 {
+        cpus[cpu as usize] = cpu_glance(machine, cpu);
+    }
+    cpus
+}
+
+impl Glance {
+    /// Looks at a machine. Takes no memory.
+    #[tactic(auto, unfolding(mx_machine::specs::Machine::world_of))]
+    pub fn of(machine: &Machine) -> Glance
+        ensures { result ≡ glance_of (world_of machine.now) }
+    {
+        let cpus = cpu_glances(machine);
+        let kernel = machine.kernel();
+        kernel.opened();
+        let table = kernel.table();
+        let console = &table.devices().console;
+        Glance {
+            slots: slot_glances(table, kernel.services()),
+            cpus,
+            owners: table.devices().owners,
+            uptime: table.uptime(),
+            written: console.count(),
+            last_byte: last_byte(console),
+            deliveries: latest_deliveries(table),
+        }
+    }
+}

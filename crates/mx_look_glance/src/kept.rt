@@ -1,0 +1,58 @@
+//! What is looked at of the console and of the deliveries that are kept.
+
+ghost use Rattle.std.specs.Prelude.{◌≡◌, ◌≤◌};
+ghost use Rattle.mx_look_glance.specs.Kept.{last_byte, kept_count, latest, latest_deliveries};
+
+use mx_proc::{Console, Delivery, Table};
+
+/// The byte that was written to the console last.
+#[tactic(auto, unfolding(crate::specs::Kept::last_byte))]
+pub(crate) fn last_byte(console: &Console) -> Option<u8>
+    ensures { result ≡ last_byte console.now }
+{
+    match console.count() {
+        0 => None,
+        count => console.get(count.min(4096) as usize - 1),
+    }
+}
+
+/// How many deliveries are kept: a table keeps at most 1,024.
+fn kept_count(table: &Table) -> usize
+    ensures count { result ≡ kept_count table.now.deliveries }
+    ensures few { result ≤ 1024 }
+{
+    let mut low = 0;
+    let mut high = 1024;
+    while low < high {
+        let middle = low + (high - low) / 2;
+        match table.delivery(middle) {
+            Some(_) => low = middle + 1,
+            None => high = middle,
+        }
+    }
+    low
+}
+
+/// Of `count` deliveries that are kept the one at a place, counted back from the latest, which is at 0.
+#[tactic(auto, unfolding(crate::specs::Kept::latest))]
+fn latest(table: &Table, count: usize, back: usize) -> Option<Delivery>
+    ensures { result ≡ latest table.now.deliveries count back }
+{
+    if back < count {
+        table.delivery(count - 1 - back)
+    } else {
+        None
+    }
+}
+
+/// The deliveries that are kept, the latest first, and of these at most 32: no event makes more.
+pub(crate) fn latest_deliveries(table: &Table) -> [Option<Delivery>; 32]
+    ensures { result ≡ latest_deliveries table.now.deliveries }
+{
+    let count = kept_count(table);
+    let mut deliveries = [None; 32];
+    for back in 0..32usize {
+        deliveries[back] = latest(table, count, back);
+    }
+    deliveries
+}

@@ -1,0 +1,72 @@
+//! What is looked at of a slot.
+
+ghost use Rattle.std.specs.Prelude.{◌≡◌, ◌<◌, length};
+ghost use Rattle.mx_look_glance.specs.Glance.{glance_of_slot, slot_glance, slot_glances};
+
+use crate::doing::{Doing, doing_of};
+use crate::images::{ImageGlance, image_glance};
+use mx_machine::Service;
+use mx_proc::{Endpoint, Slot, Table};
+use mx_text::Name;
+
+/// What is looked at of a slot: its service's name, and its process. While that is on a processor its
+/// image is blank.
+#[derive(Clone, Copy)]
+pub struct SlotGlance {
+    pub name: Name,
+    pub endpoint: Endpoint,
+    pub doing: Doing,
+    pub level: u8,
+    /// The ticks of its quantum that are left.
+    pub ticks: u32,
+    /// Notifications that wait: HARDWARE, CLOCK, slot 0 and up.
+    pub pending: [bool; 34],
+    /// Interrupt lines that were raised, bit l for line l.
+    pub lines: u32,
+    /// The uptime at which the alarm rings.
+    pub alarm: Option<u64>,
+    pub image: ImageGlance,
+}
+
+/// What is looked at of the slot of a service.
+#[tactic(auto, unfolding(crate::specs::Glance::glance_of_slot))]
+fn glance_of_slot(table: &Table, slot: Slot, service: &Service) -> SlotGlance
+    requires { slot < length table.now.slots }
+    ensures { result ≡ glance_of_slot table.now slot service.now }
+{
+    let process = table.process(slot);
+    SlotGlance {
+        name: service.name.name,
+        endpoint: table.endpoint(slot),
+        doing: doing_of(table, slot, process.state),
+        level: process.level,
+        ticks: process.ticks,
+        pending: process.pending,
+        lines: process.lines,
+        alarm: process.alarm,
+        image: image_glance(&process.image),
+    }
+}
+
+/// What is looked at of a slot, if it has a service.
+fn slot_glance(table: &Table, services: &[Service], slot: Slot) -> Option<SlotGlance>
+    requires { length services.now ≡ length table.now.slots }
+    ensures { result ≡ slot_glance table.now services.now slot }
+{
+    if slot as usize >= services.len() {
+        return None;
+    }
+    Some(glance_of_slot(table, slot, &services[slot as usize]))
+}
+
+/// What is looked at of the slots.
+pub(crate) fn slot_glances(table: &Table, services: &[Service]) -> [Option<SlotGlance>; 32]
+    requires { length services.now ≡ length table.now.slots }
+    ensures { result ≡ slot_glances table.now services.now }
+{
+    let mut slots = [None; 32];
+    for slot in 0..32u8 {
+        slots[slot as usize] = slot_glance(table, services, slot);
+    }
+    slots
+}

@@ -1,0 +1,101 @@
+//! Kernel calls: what is asked, and what is answered. A further kernel call has its row in
+//! `request_name`, in `request_count`, and in `answer_count` if its reply has words.
+
+ghost use Rattle.std.specs.Prelude.{◌≡◌, ◌≤◌, ◌++◌, OnOk, slice_index};
+ghost use Rattle.mx_look_trace.specs.KernelCalls.{request_name, request_count, request_words, request_text, answer_count, answer_text};
+
+use crate::numbers::{push_result, push_spaced};
+use mx_look_facts::{CpuGlance, asks_kernel};
+use mx_print_report::push_decimal;
+use std::alloc::AllocError;
+
+/// The name of the request of a type, or nothing.
+#[tactic(auto, unfolding(crate::specs::KernelCalls::request_name))]
+fn request_name(kind: u32) -> &'static [u8]
+    ensures { result.now ≡ request_name kind }
+{
+    match kind {
+        0x600 => b"EXIT",
+        0x601 => b"TIMES",
+        0x602 => b"SETALARM",
+        0x603 => b"IRQCTL",
+        0x604 => b"DEVIO",
+        0x605 => b"VIRCOPY",
+        0x606 => b"KILL",
+        0x607 => b"WHOIS",
+        _ => b"",
+    }
+}
+
+/// How many words the request of a type has.
+#[tactic(auto, unfolding(crate::specs::KernelCalls::request_count))]
+fn request_count(kind: u32) -> usize
+    ensures count { result ≡ request_count kind }
+    ensures few { result ≤ 7 }
+{
+    match kind {
+        0x602 | 0x606 | 0x607 => 1,
+        0x603 => 2,
+        0x604 => 3,
+        0x605 => 5,
+        _ => 0,
+    }
+}
+
+/// Appends a request.
+#[tactic(auto, unfolding(crate::specs::KernelCalls::request_words))]
+fn push_request_words(out: &mut Vec<u8>, words: &[u32; 9]) -> Result<(), AllocError>
+    ensures { OnOk result (out.new.items ≡ out.old.items ++ request_words words.now) }
+{
+    let kind = words[1];
+    let name = request_name(kind);
+    if name.is_empty() {
+        out.extend_from_slice(b", type ")?;
+        return push_decimal(out, kind);
+    }
+    out.extend_from_slice(b", ")?;
+    out.extend_from_slice(name)?;
+    push_spaced(out, &words[2..2 + request_count(kind)])
+}
+
+/// Appends what a process asks of the kernel, if its trap does and the words lie inside its memory.
+#[tactic(auto, unfolding(crate::specs::KernelCalls::request_text))]
+pub(crate) fn push_request(out: &mut Vec<u8>, held: &CpuGlance) -> Result<(), AllocError>
+    ensures { OnOk result (out.new.items ≡ out.old.items ++ request_text held.now) }
+{
+    match &held.image.words {
+        Some(words) if asks_kernel(held) => push_request_words(out, words),
+        _ => Ok(()),
+    }
+}
+
+/// How many words the reply to a request has, if it is made.
+#[tactic(auto, unfolding(crate::specs::KernelCalls::answer_count))]
+fn answer_count(kind: u32, action: u32) -> usize
+    ensures count { result ≡ answer_count kind action }
+    ensures few { result ≤ 7 }
+{
+    match kind {
+        0x601 => 3,
+        0x602 | 0x607 => 1,
+        0x604 if action == 0 => 1,
+        _ => 0,
+    }
+}
+
+/// Appends the reply to a request.
+#[tactic(auto, unfolding(crate::specs::KernelCalls::answer_text))]
+pub(crate) fn push_answer(
+    out: &mut Vec<u8>,
+    request: &[u32; 9],
+    reply: &[u32; 9],
+) -> Result<(), AllocError>
+    ensures { OnOk result (out.new.items ≡ out.old.items ++ answer_text request.now reply.now) }
+{
+    out.extend_from_slice(b"answer ")?;
+    push_result(out, reply[1])?;
+    if reply[1] != 0 {
+        return Ok(());
+    }
+    push_spaced(out, &reply[2..2 + answer_count(request[1], request[2])])
+}
