@@ -2,3 +2,4 @@ pub mod SteppingLemmas
 pub mod StepLemmas
 pub mod RecordLemmas
 pub mod ReplayLemmas
+pub mod TraceLemmas

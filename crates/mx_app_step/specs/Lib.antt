@@ -1,5 +1,6 @@
 pub mod Lines
 pub mod Records
+pub mod Traces
 pub use Rattle.mx_app_start.specs.Machine
 pub use Rattle.mx_app_start.specs.Report
 pub use Rattle.mx_app_start.specs.Config

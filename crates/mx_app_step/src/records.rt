@@ -38,7 +38,7 @@ pub enum Replayed {
 }
 
 /// The steps that a process made.
-fn steps_again(machine: &mut Machine, cpu: u8, steps: u32) -> Result<(), Refusal>
+pub(crate) fn steps_again(machine: &mut Machine, cpu: u8, steps: u32) -> Result<(), Refusal>
     ensures ok { OnOk result (AreAccepted (world_of machine.old) (steps_of cpu steps) × (world_of machine.new ≡ world_after_events (world_of machine.old) (steps_of cpu steps))) }
     ensures err { IfErr result (IsFirstRefusal (world_of machine.old) (steps_of cpu steps)) }
 {
@@ -59,7 +59,7 @@ fn steps_again(machine: &mut Machine, cpu: u8, steps: u32) -> Result<(), Refusal
 }
 
 /// One event again.
-fn event_again(machine: &mut Machine, actor: u8, event: Event) -> Result<(), Refusal>
+pub(crate) fn event_again(machine: &mut Machine, actor: u8, event: Event) -> Result<(), Refusal>
     requires { IsActor (world_of machine.old) actor event }
     ensures ok { OnOk result ((event_refusal (world_of machine.old) actor event ≡ None) × (world_of machine.new ≡ world_after_event (world_of machine.old) actor event)) }
     ensures err { IfErr result (λ r. event_refusal (world_of machine.old) actor event ≡ Some r) }
@@ -112,7 +112,7 @@ fn perform_records(machine: &mut Machine, records: &[Record]) -> Result<(), (usi
 }
 
 /// Prints which record's event is refused, and why.
-fn print_refusal<W: Write>(
+pub(crate) fn print_refusal<W: Write>(
     alloc: Global,
     number: usize,
     refusal: Refusal,

@@ -2,3 +2,4 @@ pub mod Numbers
 pub mod Words
 pub mod KernelCalls
 pub mod Trace
+pub use Rattle.mx_look_facts.specs.declared.step.Step

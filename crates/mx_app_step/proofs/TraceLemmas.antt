@@ -1,0 +1,120 @@
+-- What is told of records, one more.
+use Rattle.std.proofs.Common.{◌≡◌, ◌∙◌, ◌<◌, ◌≤◌, ℕ, ◌+◌, ◌-◌, List, [], ◌∷◌, ◌++◌, length, take, get_or, append_assoc, Option, Some, None, inl, All, refl, ap, sym, subst, arith}
+use Rattle.std.proofs.KnownBytes.{Appends-trans}
+use Rattle.std.proofs.lemmas.List.{append-nil, take_more, take_all, length-take-le}
+use Rattle.std.proofs.lemmas.List.Elements.{All-take}
+use Rattle.std.specs.Io.KnownBytes.{Appends}
+use Rattle.mx_machine_world.specs.declared.events.Event.{Event}
+use Rattle.mx_machine_world.specs.declared.events.Refusal.{Refusal}
+use Rattle.mx_machine_world.specs.declared.history.Record.{Record}
+use Rattle.mx_machine_world.specs.declared.history.Recorded.{Recorded}
+use Rattle.mx_machine_world.specs.declared.history.Recorded.TheVariants as recorded
+use Rattle.mx_machine_world.specs.History.{AreAccepted, world_after_events, events_of, events_of_history}
+use Rattle.mx_machine_world.specs.Move.{world_after_event, event_refusal}
+use Rattle.mx_machine_world.specs.World.{World}
+use Rattle.mx_look_glance.specs.declared.glance.Glance.{Glance}
+use Rattle.mx_look_glance.specs.Glance.{glance_of}
+use Rattle.mx_look_trace.specs.Step.{Step}
+use Rattle.mx_app_start.specs.Config.{Config}
+use Rattle.mx_app_start.specs.Service.{Service}
+use Rattle.mx_machine_world.specs.Boot.{world_at_boot}
+use Rattle.mx_app_step.specs.declared.records.Replayed.{Replayed}
+use Rattle.mx_app_step.specs.Records.{IsFirstRefusal, IsRefusedAt}
+use Rattle.mx_app_step.specs.Traces.{steps_before, own_event, step_of, told_of, trace_text, IsTracePrinted}
+use Rattle.mx_app_step.proofs.RecordLemmas.{accepted_both, after_both, refused_front, refused_behind}
+
+-- ---- a record is its steps, and its own event behind them
+
+parts_of : (a : ℕ) (e : Recorded) → steps_before a e ++ (a, own_event e) ∷ [] ≡ events_of a e
+parts_of a recorded.Take = refl
+parts_of a (recorded.Back n) = refl
+parts_of a (recorded.Line l) = refl
+parts_of a recorded.Tick = refl
+parts_of a (recorded.Kill e) = refl
+parts_of a (recorded.Respawn s) = refl
+
+module _ (w v u : World) (a : ℕ) (e : Recorded) (begun : AreAccepted w (steps_before a e)) (behind : v ≡ world_after_events w (steps_before a e)) where
+  abbrev own : List (ℕ × Event)
+  own = (a, own_event e) ∷ []
+
+  pub look_accepted : event_refusal v a (own_event e) ≡ None → AreAccepted w (events_of a e)
+  look_accepted h =
+      subst (λ (xs : List (ℕ × Event)). AreAccepted w xs) (parts_of a e)
+      (accepted_both w (steps_before a e) own begun (subst (λ (x : World). event_refusal x a (own_event e) ≡ None) behind h, tt))
+
+  pub look_world : u ≡ world_after_event v a (own_event e) → u ≡ world_after_events w (events_of a e)
+  look_world h =
+      h ∙ ap (λ (x : World). world_after_event x a (own_event e)) behind ∙ sym (after_both w (steps_before a e) own)
+      ∙ ap (λ (xs : List (ℕ × Event)). world_after_events w xs) (parts_of a e)
+
+  pub look_refused : (r : Refusal) → event_refusal v a (own_event e) ≡ Some r → IsFirstRefusal w (events_of a e) r
+  look_refused r h =
+      subst (λ (xs : List (ℕ × Event)). IsFirstRefusal w xs r) (parts_of a e)
+      (refused_behind w (steps_before a e) own r begun (inl (subst (λ (x : World). event_refusal x a (own_event e) ≡ Some r) behind h)))
+
+pub steps_refused : (w : World) (a : ℕ) (e : Recorded) (r : Refusal) → IsFirstRefusal w (steps_before a e) r → IsFirstRefusal w (events_of a e) r
+steps_refused w a e r h =
+    subst (λ (xs : List (ℕ × Event)). IsFirstRefusal w xs r) (parts_of a e) (refused_front w (steps_before a e) ((a, own_event e) ∷ []) r h)
+
+-- ---- the trace, one record more
+
+trace_more : (from : ℕ) (w : World) (n k : ℕ) (xs : List Record) (x : Record) → k ≡ n + length xs
+    → trace_text from w n (xs ++ x ∷ []) ≡ trace_text from w n xs ++ told_of from (step_of (world_after_events w (events_of_history xs)) k x)
+trace_more from w n k [] x e =
+    let here : n ≡ k = omega (arith, e) in
+    append-nil (told_of from (step_of w n x)) ∙ ap (λ (m : ℕ). told_of from (step_of w m x)) here
+trace_more from w n k (y ∷ ys) x e =
+    let u = world_after_events w (events_of y.actor y.event) in
+    let next : k ≡ n + 1 + length ys = omega (arith, e) in
+    ap (λ (t : List ℕ). told_of from (step_of w n y) ++ t) (trace_more from u (n + 1) k ys x next)
+    ∙ sym (append_assoc (told_of from (step_of w n y)) (trace_text from u (n + 1) ys) (told_of from (step_of (world_after_events u (events_of_history ys)) k x)))
+    ∙ ap (λ (v : World). (told_of from (step_of w n y) ++ trace_text from u (n + 1) ys) ++ told_of from (step_of v k x)) (sym (after_both w (events_of y.actor y.event) (events_of_history ys)))
+
+pub next_printed : (from : ℕ) (w v : World) (records : List Record) (i n : ℕ) (d : Record) (x : Step) (a b c : Option (List ℕ)) → i < length records
+    → n ≡ i + 1 → v ≡ world_after_events w (events_of_history (take i records)) → x ≡ step_of v n (get_or records i d)
+    → Appends a b (trace_text from w 1 (take i records)) → Appends b c (told_of from x)
+    → Appends a c (trace_text from w 1 (take (i + 1) records))
+next_printed from w v records i n d x a b c within e world is so_far more =
+    let at : n ≡ 1 + length (take i records) = omega (arith, e, length-take-le i records (omega arith)) in
+    let same : trace_text from w 1 (take i records) ++ told_of from x ≡ trace_text from w 1 (take (i + 1) records) =
+    ap (λ (s : Step). trace_text from w 1 (take i records) ++ told_of from s) (is ∙ ap (λ (y : World). step_of y n (get_or records i d)) world)
+    ∙ sym (ap (λ (rs : List Record). trace_text from w 1 rs) (take_more records i d within) ∙ trace_more from w 1 n (take i records) (get_or records i d) at) in
+    subst (λ (t : List ℕ). Appends a c t) same (Appends-trans a b c (trace_text from w 1 (take i records)) (told_of from x) so_far more)
+
+-- ---- what is looked at
+
+abbrev step_as : ℕ → Record → Glance → Glance → Step
+step_as n x g h = record { number = n; before = g; actor = x.actor; event = x.event; after = h }
+
+pub step_is : (w v u : World) (n : ℕ) (x : Record) (b f : Glance) → b ≡ glance_of v → v ≡ world_after_events w (steps_before x.actor x.event)
+    → f ≡ glance_of u → u ≡ world_after_events w (events_of x.actor x.event) → step_as n x b f ≡ step_of w n x
+step_is w v u n x b f is behind also after =
+    ap (λ (g : Glance). step_as n x g f) (is ∙ ap glance_of behind)
+    ∙ ap (λ (h : Glance). step_as n x (glance_of (world_after_events w (steps_before x.actor x.event))) h) (also ∙ ap glance_of after)
+
+-- ---- at the end
+
+pub all_printed : (from : ℕ) (w : World) (records : List Record) (i : ℕ) (a b : Option (List ℕ)) → length records ≤ i
+    → AreAccepted w (events_of_history (take i records)) → Appends a b (trace_text from w 1 (take i records))
+    → AreAccepted w (events_of_history records) × Appends a b (trace_text from w 1 records)
+all_printed from w records i a b over accepted printed =
+    let all : take i records ≡ records = take_all i records over in
+    (subst (λ (rs : List Record). AreAccepted w (events_of_history rs)) all accepted, subst (λ (rs : List Record). Appends a b (trace_text from w 1 rs)) all printed)
+
+pub refused_printed : (from : ℕ) (w : World) (records : List Record) (i n : ℕ) (r : Refusal) (a b : Option (List ℕ)) → n ≡ i + 1 → IsRefusedAt w records n r
+    → Appends a b (trace_text from w 1 (take i records)) → IsRefusedAt w records n r × Appends a b (trace_text from w 1 (take (n - 1) records))
+refused_printed from w records i n r a b e refused printed =
+    let one : i ≡ n - 1 = omega (arith, e) in
+    (refused, subst (λ k. Appends a b (trace_text from w 1 (take k records))) one printed)
+
+pub then_line : (a b c : Option (List ℕ)) (text line : List ℕ) → Appends a b text → Appends b c line → Appends a c (text ++ line)
+then_line a b c text line h g = Appends-trans a b c text line h g
+
+pub trace_printed : (Prints : List ℕ → Type 0) (c : Config) (vs : List Service) (records slice : List Record) (w : World) (from to : ℕ) (replayed : Replayed)
+    → slice ≡ take to records → w ≡ world_at_boot c vs → IsTracePrinted w slice from replayed Prints → IsTracePrinted (world_at_boot c vs) (take to records) from replayed Prints
+trace_printed Prints c vs records slice w from to replayed same e h =
+    subst (λ (v : World). IsTracePrinted v (take to records) from replayed Prints) e (subst (λ (rs : List Record). IsTracePrinted w rs from replayed Prints) same h)
+
+pub front_by_actors : (P : Record → Type 0) (records slice : List Record) (to : ℕ) → slice ≡ take to records → All P records → All P slice
+front_by_actors P records slice to same h =
+    subst (λ (rs : List Record). All P rs) (sym same) (All-take P to records h)

@@ -1,0 +1,62 @@
+-- What is told of a history, record by record (our own).
+use Rattle.std.specs.Prelude.{ℕ, ◌+◌, ◌-◌, nat_lt, if◌then◌else◌, List, [], ◌∷◌, ◌++◌, take, Option, Some, None}
+use Rattle.mx_machine_world.specs.declared.events.Event.{Event}
+use Rattle.mx_machine_world.specs.declared.events.Event.TheVariants as event
+use Rattle.mx_machine_world.specs.declared.events.Refusal.{Refusal}
+use Rattle.mx_machine_world.specs.declared.history.Record.{Record}
+use Rattle.mx_machine_world.specs.declared.history.Recorded.{Recorded}
+use Rattle.mx_machine_world.specs.declared.history.Recorded.TheVariants as recorded
+use Rattle.mx_machine_world.specs.History.{AreAccepted, world_after_events, events_of, events_of_history}
+use Rattle.mx_machine_world.specs.Steps.{steps_of}
+use Rattle.mx_machine_world.specs.World.{World}
+use Rattle.mx_look_glance.specs.Glance.{glance_of}
+use Rattle.mx_look_trace.specs.Step.{Step}
+use Rattle.mx_look_trace.specs.Trace.{record_text}
+use Rattle.mx_app_step.specs.declared.records.Replayed.{Replayed}
+use Rattle.mx_app_step.specs.declared.records.Replayed.TheVariants as replayed
+use Rattle.mx_app_step.specs.Records.{IsRefusedAt, refused_record_line}
+
+-- the steps that a record stands for, and its own event behind them
+abbrev pub steps_before : ℕ → Recorded → List (ℕ × Event)
+steps_before a (recorded.Back n) = steps_of a n
+steps_before a _ = []
+
+abbrev pub own_event : Recorded → Event
+own_event recorded.Take = event.Take
+own_event (recorded.Back n) = event.Back
+own_event (recorded.Line l) = event.Line l
+own_event recorded.Tick = event.Tick
+own_event (recorded.Kill e) = event.Kill e
+own_event (recorded.Respawn s) = event.Respawn s
+
+-- A RECORD AS A STEP, from a world: it is looked at behind the steps, and after its own event
+abbrev pub step_of : World → ℕ → Record → Step
+step_of w n x = record {
+  number = n;
+  before = glance_of (world_after_events w (steps_before x.actor x.event));
+  actor = x.actor;
+  event = x.event;
+  after = glance_of (world_after_events w (events_of x.actor x.event));
+}
+
+-- what is told of a step: nothing of one before `from`
+abbrev pub told_of : ℕ → Step → List ℕ
+told_of from x = if nat_lt x.number from then [] else record_text x
+
+-- THE TRACE OF RECORDS, of which the first has this number
+abbrev pub trace_text : ℕ → World → ℕ → List Record → List ℕ
+trace_text from w n [] = []
+trace_text from w n (x ∷ xs) = told_of from (step_of w n x) ++ trace_text from (world_after_events w (events_of x.actor x.event)) (n + 1) xs
+
+-- the trace of records, or of those above the first that is refused
+abbrev pub IsTraced : World → List Record → ℕ → Option (ℕ × Refusal) → (List ℕ → Type 0) → Type 0
+IsTraced w records from None Prints = AreAccepted w (events_of_history records) × Prints (trace_text from w 1 records)
+IsTraced w records from (Some p) Prints = IsRefusedAt w records p.0 p.1 × Prints (trace_text from w 1 (take (p.0 - 1) records))
+
+-- WHAT IS PRINTED of records: the trace, or that of those above the first that is refused, and its line
+abbrev pub IsTracePrinted : World → List Record → ℕ → Replayed → (List ℕ → Type 0) → Type 0
+IsTracePrinted w records from replayed.Whole Prints =
+    AreAccepted w (events_of_history records) × Prints (trace_text from w 1 records)
+IsTracePrinted w records from replayed.Refused Prints =
+    (n : ℕ) × (r : Refusal) × IsRefusedAt w records n r
+    × Prints (trace_text from w 1 (take (n - 1) records) ++ refused_record_line n r)

@@ -1,0 +1,171 @@
+//! What each record of a saved history did.
+
+ghost use Rattle.std.specs.Prelude.{◌≡◌, ◌<◌, ◌^◌, ◌++◌, List, All, IfOk, IfErr, OnOk, length, take};
+ghost use Rattle.std.specs.Io.KnownBytes.{Appends};
+ghost use Rattle.mx_app_start.specs.Failure.{IsWanting};
+ghost use Rattle.mx_app_start.specs.Machine.{world_of};
+ghost use Rattle.mx_app_start.specs.Service.{Service};
+ghost use Rattle.mx_app_start.specs.Config.{Config};
+ghost use Rattle.mx_app_start.specs.Asked.{Asked};
+ghost use Rattle.mx_app_start.specs.Course.{IsSaved, TellsSaved};
+ghost use Rattle.mx_app_start.specs.Setup.{IsStart};
+ghost use Rattle.mx_app_start.specs.Telling.{IsTold};
+ghost use Rattle.mx_machine_world.specs.declared.history.Record.{Record as Noted};
+ghost use Rattle.mx_machine_world.specs.Boot.{world_at_boot};
+ghost use Rattle.mx_machine_world.specs.History.{AreAccepted, world_after_events, events_of};
+ghost use Rattle.mx_machine_world.specs.World.{actors};
+ghost use Rattle.mx_app_step.specs.Records.{IsFirstRefusal};
+ghost use Rattle.mx_app_step.specs.Traces.{IsTracePrinted, IsTraced, own_event, step_of, steps_before, told_of};
+
+use crate::records::{Replayed, event_again, print_refusal, steps_again};
+use mx_app_start::{Event, Failure, History, Machine, Reader, Record, Recorded, print_text, start};
+use mx_look_trace::{Glance, Step, push_record};
+use mx_machine_world::{Refusal, actors_stay};
+use std::alloc::Global;
+use std::io::Write;
+
+/// The event of a record, behind the steps that it stands for.
+fn own_event(event: Recorded) -> Event
+    ensures { result ≡ own_event event }
+{
+    match event {
+        Recorded::Take => Event::Take,
+        Recorded::Back(_) => Event::Back,
+        Recorded::Line(line) => Event::Line(line),
+        Recorded::Tick => Event::Tick,
+        Recorded::Kill(endpoint) => Event::Kill(endpoint),
+        Recorded::Respawn(slot) => Event::Respawn(slot),
+    }
+}
+
+/// The steps that a record stands for.
+fn begin_record(machine: &mut Machine, actor: u8, event: Recorded) -> Result<(), Refusal>
+    ensures ok { OnOk result (AreAccepted (world_of machine.old) (steps_before actor event) × (world_of machine.new ≡ world_after_events (world_of machine.old) (steps_before actor event))) }
+    ensures err { IfErr result (IsFirstRefusal (world_of machine.old) (steps_before actor event)) }
+{
+    match event {
+        Recorded::Back(steps) => steps_again(machine, actor, steps),
+        Recorded::Take
+        | Recorded::Line(_)
+        | Recorded::Tick
+        | Recorded::Kill(_)
+        | Recorded::Respawn(_) => Ok(()),
+    }
+}
+
+/// A record as a step: it is looked at behind the steps, and after its own event.
+fn look_record(machine: &mut Machine, number: u32, entry: Record) -> Result<Step, Refusal>
+    requires { entry.actor < actors (world_of machine.old) }
+    ensures ok { OnOk result (AreAccepted (world_of machine.old) (events_of entry.actor entry.event) × (world_of machine.new ≡ world_after_events (world_of machine.old) (events_of entry.actor entry.event))) }
+    ensures step { IfOk result (λ step. step ≡ step_of (world_of machine.old) number entry) }
+    ensures err { IfErr result (IsFirstRefusal (world_of machine.old) (events_of entry.actor entry.event)) }
+{
+    actors_stay();
+    begin_record(machine, entry.actor, entry.event)?;
+    let before = Glance::of(machine);
+    event_again(machine, entry.actor, own_event(entry.event))?;
+    let after = Glance::of(machine);
+    Ok(Step {
+        number,
+        before,
+        actor: entry.actor,
+        event: entry.event,
+        after,
+    })
+}
+
+/// Prints what is told of a step: nothing of one before `from`.
+fn print_step<W: Write>(alloc: Global, step: &Step, from: u32, out: &mut W) -> Result<(), Failure>
+    ensures err { IfErr result IsWanting }
+    ensures bytes { OnOk result (Appends (W.contents out.old) (W.contents out.new) (told_of from step.now)) }
+{
+    let mut text = Vec::new(alloc);
+    if step.number >= from {
+        push_record(&mut text, step)?;
+    }
+    print_text(text.as_slice(), out)
+}
+
+/// Prints what each record did from `from` on, up to the first record that is refused. Answers the
+/// number of this one, the first having the number 1, and why.
+fn print_steps<W: Write>(
+    alloc: Global,
+    machine: &mut Machine,
+    records: &[Record],
+    from: u32,
+    out: &mut W,
+) -> Result<Option<(usize, Refusal)>, Failure>
+    requires few { length records.now < 2 ^ 32 }
+    requires actors { All (λ (x : Noted). x.actor < actors (world_of machine.old)) records.now }
+    ensures err { IfErr result IsWanting }
+    ensures printed { IfOk result (λ refused. IsTraced (world_of machine.old) records.now from refused (λ text. Appends (W.contents out.old) (W.contents out.new) text)) }
+{
+    actors_stay();
+    for (index, entry) in records.iter().enumerate() {
+        let number = index as u32 + 1;
+        match look_record(machine, number, *entry) {
+            Ok(step) => print_step(alloc, &step, from, out)?,
+            Err(refusal) => return Ok(Some((number as usize, refusal))),
+        }
+    }
+    Ok(None)
+}
+
+/// Prints what each record did from `from` on. At an event that is refused it prints the number of the
+/// record and the refusal.
+fn print_trace<W: Write>(
+    alloc: Global,
+    machine: &mut Machine,
+    records: &[Record],
+    from: u32,
+    out: &mut W,
+) -> Result<Replayed, Failure>
+    requires few { length records.now < 2 ^ 32 }
+    requires actors { All (λ (x : Noted). x.actor < actors (world_of machine.old)) records.now }
+    ensures err { IfErr result IsWanting }
+    ensures printed { IfOk result (λ replayed. IsTracePrinted (world_of machine.old) records.now from replayed (λ text. Appends (W.contents out.old) (W.contents out.new) text)) }
+{
+    match print_steps(alloc, machine, records, from, out)? {
+        None => Ok(Replayed::Whole),
+        Some((number, refusal)) => {
+            print_refusal(alloc, number, refusal, out)?;
+            Ok(Replayed::Refused)
+        }
+    }
+}
+
+/// At most so many of the first records.
+fn first_records(records: &[Record], count: u32) -> &[Record]
+    ensures first { result.now ≡ take count records.entry.now }
+    ensures few { length result.now < 2 ^ 32 }
+{
+    let count = count as usize;
+    if count < records.len() {
+        &records[..count]
+    } else {
+        records
+    }
+}
+
+/// Starts a machine by the names of its configuration and of a saved history, makes the records up to
+/// `to`, and prints what each did from `from` on; both are places in the history, the first being 1. At
+/// an event that is refused it prints the number of the record's line and the refusal.
+pub fn trace<R: Reader, W: Write>(
+    alloc: Global,
+    reader: &mut R,
+    config: &str,
+    log: &str,
+    from: u32,
+    to: u32,
+    out: &mut W,
+) -> Result<Replayed, Failure>
+    ensures printed { IfOk result (λ replayed. (qs : List Asked) × (c : Config) × (vs : List Service) × (records : List Noted)
+        × (R.asked reader.new ≡ R.asked reader.old ++ qs) × IsStart IsSaved config.now log.now qs c vs records
+        × IsTracePrinted (world_at_boot c vs) (take to records) from replayed (λ text. Appends (W.contents out.old) (W.contents out.new) text)) }
+    ensures fault { IfErr result (λ f. (qs : List Asked)
+        × (R.asked reader.new ≡ R.asked reader.old ++ qs) × IsTold IsSaved TellsSaved config.now log.now qs f) }
+{
+    let mut started = start::<History, R>(alloc, reader, config, log)?;
+    let records = first_records(started.lines.as_slice(), to);
+    print_trace(alloc, &mut started.machine, records, from, out)
+}
