@@ -57,7 +57,7 @@ fn held_glance(slot: Slot, out: &Out) -> CpuGlance
 fn cpu_glance(machine: &Machine, cpu: u8) -> Option<CpuGlance>
     ensures { result ≡ cpu_glance (world_of machine.now) cpu }
 {
-    match (machine.slot_on(cpu), machine.out(cpu)) {
+    match (machine.slot_on(cpu), machine.held(cpu)) {
         (Some(slot), Some(out)) => Some(held_glance(slot, out)),
         _ => None,
     }

@@ -92,7 +92,7 @@ impl Machine {
     }
 
     /// What a processor holds, as it is now.
-    pub fn out(&self, cpu: u8) -> Option<&Out>
+    pub fn held(&self, cpu: u8) -> Option<&Out>
         ensures { MatchOption result (held_by (world_of self.now) cpu ≡ None) (λ out. (l : HeldProcess) × (held_by (world_of self.now) cpu ≡ Some l) × (out.now ≡ l.out)) }
     {
         self.opened();
@@ -109,7 +109,7 @@ impl Machine {
     pub fn image(&self, cpu: u8) -> Option<&Image>
         ensures { MatchOption result (held_by (world_of self.now) cpu ≡ None) (λ image. (l : HeldProcess) × (held_by (world_of self.now) cpu ≡ Some l) × (image.now ≡ l.out.image)) }
     {
-        match self.out(cpu) {
+        match self.held(cpu) {
             Some(out) => Some(&out.image),
             None => None,
         }
