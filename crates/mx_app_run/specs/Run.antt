@@ -32,7 +32,7 @@ use Rattle.mx_app_step.specs.declared.records.Replayed.TheVariants.{Whole}
 abbrev pub EndsDriven : ℕ → ℕ → List SeatView → List Record → Type 0
 EndsDriven cpus ticks seats history = (ended : List SeatView) × AreDriven cpus ticks seats ended × All (StandsIn history) ended
 
--- A RUN of a configuration and its services with at most so many ticks ends at a kernel: it was booted so, each event
+-- A RUN of a configuration and its services with at most that many ticks ends at a kernel: it was booted so, each event
 -- of its history is accepted, and the records of each actor there are those of its loop.
 pub record IsRun (c : Config) (vs : List Service) (ticks : ℕ) (k : BootAndHistory) : Type 0 where
   pub boot : k.boot ≡ world_at_boot c vs

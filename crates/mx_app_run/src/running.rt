@@ -65,7 +65,7 @@ fn run_machine<R: Threads + Wait + Clock + Sync>(
 }
 
 /// Runs the machine of a configuration, each processor in a thread of its own, until it is at rest after
-/// so many ticks or its history is full. Then writes the history to a file, and prints the report. The
+/// that many ticks or its history is full. Then writes the history to a file, and prints the report. The
 /// configuration isn't written over: where both have one name, nothing is read or written.
 pub fn run<T: Threads + Wait + Clock + Sync, R: Reader, F: FileWriter, W: Write>(
     rt: &T,

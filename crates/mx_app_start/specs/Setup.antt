@@ -91,7 +91,7 @@ IsSetupFault name qs f =
 
 -- ---- and the text that drives the machine
 
--- the text behind them says this, as `Says` has it
+-- the text after them says this, as `Says` has it
 abbrev pub IsStart : {L : Type 0} → (List ℕ → Config → List L → Type 0) → List ℕ → List ℕ → List Asked → Config → List Service → List L → Type 0
 IsStart Says config_name name qs config services lines =
     (before : List Asked) × (q : Asked) × (text : List ℕ)

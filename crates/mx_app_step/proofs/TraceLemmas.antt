@@ -23,7 +23,7 @@ use Rattle.mx_app_step.specs.Records.{IsFirstRefusal, IsRefusedAt}
 use Rattle.mx_app_step.specs.Traces.{steps_before, own_event, step_of, told_of, trace_text, IsTracePrinted}
 use Rattle.mx_app_step.proofs.RecordLemmas.{accepted_both, after_both, refused_front, refused_behind}
 
--- ---- a record is its steps, and its own event behind them
+-- ---- a record is its steps, and its own event after them
 
 parts_of : (a : ℕ) (e : Recorded) → steps_before a e ++ (a, own_event e) ∷ [] ≡ events_of a e
 parts_of a recorded.Take = refl

@@ -16,7 +16,7 @@ use Rattle.mx_app_step.specs.declared.records.Replayed.{Replayed}
 use Rattle.mx_app_step.specs.declared.records.Replayed.TheVariants as replayed
 use Rattle.mx_app_step.specs.Records.{IsRefusedAt, refused_record_line}
 
--- the steps that a record stands for, and its own event behind them
+-- the steps that a record stands for, and its own event after them
 abbrev pub steps_before : ℕ → Recorded → List (ℕ × Event)
 steps_before a (recorded.Back n) = steps_of a n
 steps_before a _ = []
@@ -29,7 +29,7 @@ own_event recorded.Tick = event.Tick
 own_event (recorded.Kill e) = event.Kill e
 own_event (recorded.Respawn s) = event.Respawn s
 
--- A RECORD AS A STEP, from a world: it is looked at behind the steps, and after its own event
+-- A RECORD AS A STEP, from a world: it is looked at after the steps, and after its own event
 abbrev pub step_of : World → ℕ → Record → Step
 step_of w n x = record {
   number = n;

@@ -24,7 +24,7 @@ use mx_machine_world::{Refusal, actors_stay};
 use std::alloc::Global;
 use std::io::Write;
 
-/// The event of a record, behind the steps that it stands for.
+/// The event of a record, after the steps that it stands for.
 fn own_event(event: Recorded) -> Event
     ensures { result ≡ own_event event }
 {
@@ -53,7 +53,7 @@ fn begin_record(machine: &mut Machine, actor: u8, event: Recorded) -> Result<(),
     }
 }
 
-/// A record as a step: it is looked at behind the steps, and after its own event.
+/// A record as a step: it is looked at after the steps, and after its own event.
 fn look_record(machine: &mut Machine, number: u32, entry: Record) -> Result<Step, Refusal>
     requires { entry.actor < actors (world_of machine.old) }
     ensures ok { OnOk result (AreAccepted (world_of machine.old) (events_of entry.actor entry.event) × (world_of machine.new ≡ world_after_events (world_of machine.old) (events_of entry.actor entry.event))) }
@@ -134,7 +134,7 @@ fn print_trace<W: Write>(
     }
 }
 
-/// At most so many of the first records.
+/// At most that many of the first records.
 fn first_records(records: &[Record], count: u32) -> &[Record]
     ensures first { result.now ≡ take count records.entry.now }
     ensures few { length result.now < 2 ^ 32 }

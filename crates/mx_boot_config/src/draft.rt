@@ -65,7 +65,7 @@ fn lines_of(alloc: Global, services: &[ServiceWords<'_>]) -> Result<Vec<ServiceL
 }
 
 impl<'a> Draft<'a> {
-    /// Before the first line.
+    /// A configuration's draft before the first line.
     pub fn new() -> Draft<'a>
         ensures { result ≡ nothing_above }
     {

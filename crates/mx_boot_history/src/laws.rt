@@ -14,7 +14,7 @@ pub fn one_history()
     ensures no_fault { (actors n : ℕ) (t : List ℕ) (a : List Record) → IsHistory actors t a → IsHistoryFault actors t n → ⊥ }
 {}
 
-/// The text of a history is read as that history.
+/// Law: the text of a history is read as that history.
 pub fn history_again()
     ensures { (actors : ℕ) (records : List Record) → actors ≤ 256 → All (IsWritable actors) records → IsHistory actors (history_text records) records }
 {
@@ -23,7 +23,7 @@ pub fn history_again()
     verb_again();
 }
 
-/// The text of a history is that of no other.
+/// Law: the text of a history is that of no other.
 pub fn one_text()
     ensures { (a b : List Record) → All (IsWritable 256) a → All (IsWritable 256) b → history_text a ≡ history_text b → a ≡ b }
 {

@@ -120,7 +120,7 @@ MissesSlot s (Some copy) = copy.to ≢ s
 abbrev pub byte_of : Image → ℕ → ℕ
 byte_of m k = slice_index_or m.memory k 0
 
--- a byte outside of so many from a place on
+-- a byte outside of this many from a place on
 abbrev pub IsOutside : ℕ → ℕ → ℕ → Type 0
 IsOutside place count k = (k < place) ⊎ (place + count ≤ k)
 

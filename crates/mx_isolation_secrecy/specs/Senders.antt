@@ -1,4 +1,4 @@
--- Whose message a trap brings to its caller: what a RECEIVE takes, or a SENDREC behind its send.
+-- Whose message a trap brings to its caller: what a RECEIVE takes, or a SENDREC after its send.
 use Rattle.std.specs.Prelude.{◌≢◌, ℕ, Option, Some, None, if◌then◌else◌}
 use Rattle.mx_proc.specs.declared.errors.Errno.{Errno}
 use Rattle.mx_proc.specs.declared.process.Partner.{Partner}

@@ -26,7 +26,7 @@ pub enum KernelCall {
     Exit,
     /// Tells the uptime and the caller's steps.
     Times,
-    /// Sets the caller's alarm after so many ticks; 0 cancels it.
+    /// Sets the caller's alarm after that many ticks; 0 cancels it.
     SetAlarm(u32),
     /// Takes (1) or gives up (0) an interrupt line.
     Irqctl {
@@ -39,7 +39,7 @@ pub enum KernelCall {
         register: u32,
         value: u32,
     },
-    /// Copies so many bytes from one process's address to another's.
+    /// Copies that many bytes from one process's address to another's.
     Vircopy {
         from: Endpoint,
         at: u32,
@@ -62,7 +62,7 @@ pub struct ReplyWords {
 }
 
 impl ReplyWords {
-    /// No words.
+    /// A kernel call's reply without words.
     pub fn none() -> ReplyWords
         ensures { result ≡ no_reply_words }
     {

@@ -12,7 +12,7 @@ last_byte c = if c.count == 0 then None else slice_get c.kept (min c.count 4096 
 abbrev pub kept_count : List Delivery → ℕ
 kept_count ds = min (length ds) 1024
 
--- of so many the one at a place, counted back from the latest
+-- of this many the one at a place, counted back from the latest
 unfoldable pub latest : List Delivery → ℕ → ℕ → Option Delivery
 latest ds count back = if nat_lt back count then slice_get ds (count - 1 - back) else None
 

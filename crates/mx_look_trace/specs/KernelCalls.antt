@@ -25,7 +25,7 @@ request_count kind =
     if kind == 0x605 then 5 else
     0
 
--- the type stands behind the source, and then the words
+-- the type stands after the source, and then the words
 abbrev pub words_from : ℕ → List ℕ → List ℕ
 words_from count message = spaced_numbers (take count (drop 2 message))
 

@@ -10,11 +10,11 @@ use Rattle.mx_proc.specs.declared.errors.Errno.TheVariants.{NotPermitted, BadAdd
 unfoldable pub hex_text : ℕ → List ℕ
 hex_text b = if b / 16 == 0 then digit_glyph false (b % 16) ∷ [] else digit_glyph false (b / 16) ∷ digit_glyph false (b % 16) ∷ []
 
--- numbers, each behind a space
+-- numbers, each after a space
 abbrev pub spaced_numbers : List ℕ → List ℕ
 spaced_numbers xs = flat_map (λ x. 32 ∷ decimal x) xs
 
--- a number, of which so many behind it are used
+-- a number, of which that many after it are used
 abbrev pub used_before : ℕ → ℕ → ℕ
 used_before x zero = if x == 0 then 0 else 1
 used_before x (suc n) = suc (suc n)
@@ -24,7 +24,7 @@ abbrev pub used_count : List ℕ → ℕ
 used_count [] = 0
 used_count (x ∷ xs) = used_before x (used_count xs)
 
--- the name of a result, behind a space
+-- the name of a result, after a space
 unfoldable pub result_name : ℕ → List ℕ
 result_name r =
     if r == 0 then codes " OK" else

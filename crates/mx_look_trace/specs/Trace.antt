@@ -1,5 +1,5 @@
 -- THE TRACE OF A RECORD (our own): its own line, then a line for each thing that came of it. Each line begins with the
--- record's number: one space behind it on a record's line, three on the others.
+-- record's number: one space after it on a record's line, three on the others.
 use Rattle.std.specs.Prelude.{ℕ, ◌-◌, ◌==◌, ◌&&◌, nat_lt, if◌then◌else◌, Bool, true, false, List, [], ◌∷◌, ◌++◌, codes, take, drop, Option, Some, None}
 use Rattle.std.specs.List.{flat_map, range_with_len}
 use Rattle.std.specs.Fmt.{decimal}
@@ -144,7 +144,7 @@ kind_text Notification = codes "notify "
 unfoldable pub told_words : List ℕ → List ℕ
 told_words xs = if used_count xs == 0 then [] else codes " words" ++ spaced_numbers (take (used_count xs) xs)
 
--- the words behind source and type
+-- the words after source and type
 abbrev pub told_words_of : Option (List ℕ) → List ℕ
 told_words_of None = []
 told_words_of (Some message) = told_words (drop 2 message)

@@ -40,7 +40,7 @@ pub(crate) fn push_hex(out: &mut Vec<u8>, byte: u8) -> Result<(), AllocError>
     Ok(())
 }
 
-/// Appends numbers, each behind a space.
+/// Appends numbers, each after a space.
 pub(crate) fn push_spaced(out: &mut Vec<u8>, numbers: &[u32]) -> Result<(), AllocError>
     ensures { OnOk result (out.new.items ≡ out.old.items ++ spaced_numbers numbers.now) }
 {
@@ -65,7 +65,7 @@ pub(crate) fn used_count(numbers: &[u32]) -> usize
     count
 }
 
-/// The name of a result, behind a space, if it has one.
+/// The name of a result, after a space, if it has one.
 #[tactic(auto, unfolding(crate::specs::Numbers::result_name))]
 fn result_name(outcome: u32) -> &'static [u8]
     ensures { result.now ≡ result_name outcome }

@@ -127,7 +127,7 @@ impl<const LISTS: usize> Model for Links<LISTS> {
 }
 
 impl<const LISTS: usize> Links<LISTS> {
-    /// Empty lists.
+    /// Linked lists of slots, all empty.
     pub fn new() -> Links<LISTS>
         requires { LISTS ≤ 32 }
         ensures { result ≡ replicate LISTS [] }
@@ -138,7 +138,7 @@ impl<const LISTS: usize> Links<LISTS> {
         }
     }
 
-    /// The front of a list.
+    /// The slot at the front of a linked list.
     pub fn first(&self, list: usize) -> Option<u8>
         requires { list < LISTS }
         ensures { result ≡ slice_get (list_at self.now list) 0 }
@@ -167,7 +167,7 @@ impl<const LISTS: usize> Links<LISTS> {
         push(&mut self.backward, &mut self.forward, list, slot);
     }
 
-    /// Takes a slot that stands in a list out of it.
+    /// Takes a slot out of the linked list that it stands in.
     pub fn remove(&mut self, list: usize, slot: u8)
         requires list { list < LISTS }
         requires there { 1 ≤ times slot (list_at self.old list) }

@@ -38,7 +38,7 @@ fn told(alloc: Global, text: &[u8], out: &mut Vec<u8>) -> Result<Replayed, Failu
     replay(alloc, &mut NamedFiles::new(&files), "pair", "cut", out)
 }
 
-/// What is told of a text with so many whole lines, and what is printed.
+/// What is told of a text with that many whole lines, and what is printed.
 fn wanted(lines: usize, is_whole: bool) -> (Result<Replayed, Failure>, &'static str) {
     match REPORTS.get(lines) {
         Some(report) if is_whole => (Ok(Replayed::Whole), *report),

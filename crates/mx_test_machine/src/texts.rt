@@ -245,7 +245,7 @@ fn is_script_read(alloc: Global) -> bool {
     }
 }
 
-/// A writer that takes so many bytes, at most three at a time, and then fails.
+/// A writer that takes that many bytes, at most three at a time, and then fails.
 #[derive(Drop)]
 struct Narrow {
     bytes: Vec<u8>,
@@ -305,7 +305,7 @@ const SAVED: &str = "\
 1 respawn 0
 ";
 
-/// Whether a writer that fails after so many bytes got just these of the text, or all if it has room.
+/// Whether a writer that fails after that many bytes got just these of the text, or all if it has room.
 fn is_saved_to(alloc: Global, room: usize) -> bool {
     let narrow = Narrow {
         bytes: Vec::new(alloc),
