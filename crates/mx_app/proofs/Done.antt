@@ -1,5 +1,5 @@
 -- What is done of a request, from what its subcommand does.
-use Rattle.std.proofs.Common.{◌≡◌, ◌⊎◌, ◌++◌, ℕ, List, [], ◌∷◌, Option, Some, None, Result, Ok, Err, IfErr, OnOk, refl, subst, sym}
+use Rattle.std.proofs.Common.{◌≡◌, ◌⊎◌, ◌++◌, ℕ, List, [], ◌∷◌, Option, Some, None, Result, Ok, Err, IfErr, OnOk, refl, subst, sym, take}
 use Rattle.std.specs.Prelude.{IfOk}
 use Rattle.std.specs.Io.KnownBytes.{Appends}
 use Rattle.std.proofs.lemmas.List.{append-nil}
@@ -22,11 +22,12 @@ use Rattle.mx_print_answers.specs.Said.{said_lines}
 use Rattle.mx_app_step.specs.Kept.{history_made}
 use Rattle.mx_app_step.specs.Lines.{lines_made}
 use Rattle.mx_app_step.specs.Records.{IsReplayPrinted as IsReplayPrinted}
+use Rattle.mx_app_step.specs.Traces.{IsTracePrinted}
 use Rattle.mx_app_step.specs.declared.records.Replayed.{Replayed}
 use Rattle.mx_app_db.specs.Lines.{DebuggedWorld, debug_lines_made}
 use Rattle.mx_app_db.specs.Told.{debug_lines_text}
 use Rattle.mx_app.specs.Named.{Assembles, ShowsFile}
-use Rattle.mx_app.specs.Requests.{Debugs, Performs, Replays, SavesSteps, Shows, Steps, status_after_replay, status_after_work}
+use Rattle.mx_app.specs.Requests.{Debugs, Performs, Replays, SavesSteps, Shows, Steps, Traces, status_after_replay, status_after_work}
 
 -- nothing is printed where a writer wasn't touched
 pub appends_nothing : (known : Option (List ℕ)) → Appends known known []
@@ -106,3 +107,13 @@ module _ (asked now : List Asked) (files : List Written) where
       → WritesNone (λ qs ws. (e : Result Replayed Kind) × (ws ≡ []) × Replays config log qs (λ text. Appends x y text) e × (r ≡ status_after_replay e))
   replays config log x y (Ok how) r p f e = (p.0, [], p.4, sym (append-nil files), (Ok how, refl, (p.1, p.2, p.3, p.5, p.6), e))
   replays config log x y (Err why) r p f e = (f.0, [], f.1, sym (append-nil files), (Err why, refl, f.2, e))
+
+  pub traces : (config log : List ℕ) (x y : Option (List ℕ)) (d : Result Replayed Kind) (r : Result ℕ Kind)
+      → IfOk d (λ how. (qs : List Asked) × (c : Config) × (vs : List Service) × (records : List Record)
+      × (now ≡ asked ++ qs) × IsStart IsSaved config log qs c vs records
+      × IsTracePrinted (world_at_boot c vs) (take 4294967295 records) 1 how (λ text. Appends x y text))
+      → IfErr d (λ f. (qs : List Asked) × (now ≡ asked ++ qs) × IsTold IsSaved TellsSaved config log qs f)
+      → r ≡ status_after_replay d
+      → WritesNone (λ qs ws. (e : Result Replayed Kind) × (ws ≡ []) × Traces config log qs (λ text. Appends x y text) e × (r ≡ status_after_replay e))
+  traces config log x y (Ok how) r p f e = (p.0, [], p.4, sym (append-nil files), (Ok how, refl, (p.1, p.2, p.3, p.5, p.6), e))
+  traces config log x y (Err why) r p f e = (f.0, [], f.1, sym (append-nil files), (Err why, refl, f.2, e))

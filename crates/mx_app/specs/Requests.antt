@@ -1,7 +1,7 @@
 -- What is done of requests (our own).
-use Rattle.std.specs.Prelude.{◌≡◌, ◌⊎◌, ℕ, List, [], ◌∷◌, ◌++◌, Some, None, Result, Ok, Err}
+use Rattle.std.specs.Prelude.{◌≡◌, ◌⊎◌, ℕ, List, [], ◌∷◌, ◌++◌, Some, None, Result, Ok, Err, take}
 use Rattle.mx_app_command.specs.declared.words.CommandRequest.{CommandRequest}
-use Rattle.mx_app_command.specs.declared.words.CommandRequest.TheVariants.{One, As, Dis, Nm, Step, Replay, Db}
+use Rattle.mx_app_command.specs.declared.words.CommandRequest.TheVariants.{One, As, Dis, Nm, Step, Replay, Trace, Db}
 use Rattle.mx_boot_script.specs.declared.scripts.ScriptLine.{ScriptLine}
 use Rattle.mx_boot_script.specs.declared.debug.DebugLine.{DebugLine}
 use Rattle.mx_app_failure.specs.declared.failure.Failure.{Failure as Kind}
@@ -22,6 +22,7 @@ use Rattle.mx_print_answers.specs.Said.{said_lines}
 use Rattle.mx_app_step.specs.Kept.{history_made}
 use Rattle.mx_app_step.specs.Lines.{lines_made}
 use Rattle.mx_app_step.specs.Records.{IsReplayPrinted as IsReplayPrinted}
+use Rattle.mx_app_step.specs.Traces.{IsTracePrinted}
 use Rattle.mx_app_step.specs.declared.records.Replayed.{Replayed}
 use Rattle.mx_app_step.specs.declared.records.Replayed.TheVariants as replayed
 use Rattle.mx_app_db.specs.Lines.{DebuggedWorld, debug_lines_made}
@@ -73,6 +74,13 @@ Replays config log qs Prints (Ok how) =
     × IsReplayPrinted (world_at_boot c vs) records how Prints
 Replays config log qs Prints (Err f) = IsTold IsSaved TellsSaved config log qs f
 
+-- every record is made, and each is told
+abbrev pub Traces : List ℕ → List ℕ → List Asked → (List ℕ → Type 0) → Result Replayed Kind → Type 0
+Traces config log qs Prints (Ok how) =
+    (c : Config) × (vs : List Service) × (records : List Record) × IsStart IsSaved config log qs c vs records
+    × IsTracePrinted (world_at_boot c vs) (take 4294967295 records) 1 how Prints
+Traces config log qs Prints (Err f) = IsTold IsSaved TellsSaved config log qs f
+
 -- ---- requests
 
 -- a file is read, shown, and none is written
@@ -93,5 +101,7 @@ Performs (Step config script (Some log)) qs ws Prints r =
     (d : Result (Unit {0}) Kind) × SavesSteps config.now script.now log.now qs ws Prints d × (r ≡ status_after_work d)
 Performs (Replay config log) qs ws Prints r =
     (d : Result Replayed Kind) × (ws ≡ []) × Replays config.now log.now qs Prints d × (r ≡ status_after_replay d)
+Performs (Trace config log) qs ws Prints r =
+    (d : Result Replayed Kind) × (ws ≡ []) × Traces config.now log.now qs Prints d × (r ≡ status_after_replay d)
 Performs (Db config script) qs ws Prints r =
     (d : Result (Unit {0}) Kind) × (ws ≡ []) × Debugs config.now script.now qs Prints d × (r ≡ status_after_work d)

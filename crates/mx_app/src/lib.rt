@@ -11,7 +11,7 @@ mod words;
 pub use channels::Channels;
 pub use complaint::Complaint;
 pub use mx_app_command::{CommandRequest, command};
-pub use mx_app_db::{NamedFile, NamedFiles, Reader, Replayed, db, replay, step, step_saved};
+pub use mx_app_db::{NamedFile, NamedFiles, Reader, Replayed, db, replay, step, step_saved, trace};
 pub use mx_app_failure::{BootError, Failure, FileError};
 pub use mx_app_program::{assemble_file, one, print_listing, print_names, print_one};
 pub use mx_app_start::{FileWriter, KeptFile, MemoryWriter};

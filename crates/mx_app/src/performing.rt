@@ -9,7 +9,7 @@ ghost use Rattle.mx_app.specs.Requests.{Performs, status_after_replay, status_af
 use crate::channels::Channels;
 use crate::named::{as_named, dis_named, nm_named, one_named};
 use mx_app_command::CommandRequest;
-use mx_app_db::{Replayed, db, replay, step, step_saved};
+use mx_app_db::{Replayed, db, replay, step, step_saved, trace};
 use mx_app_failure::Failure;
 use mx_app_start::{FileWriter, Reader};
 use std::alloc::Global;
@@ -78,6 +78,15 @@ pub fn perform<R: Reader + Drop, F: FileWriter + Drop, W: Write + Drop>(
         CommandRequest::Replay { config, log } => {
             status_after_replay(replay(alloc, reader, config, log, out))
         }
+        CommandRequest::Trace { config, log } => status_after_replay(trace(
+            alloc,
+            reader,
+            config,
+            log,
+            1,
+            u32::MAX,
+            out,
+        )),
         CommandRequest::Db { config, script } => status_after_work(db(
             alloc, reader, config, script, out,
         )),

@@ -166,12 +166,16 @@ replay_fits : Fits (whole_of (of_two (codes "replay") (codes "CONFIG") (codes "L
 replay_fits words fine = let given = two_texts_given (codes "replay") (codes "CONFIG") (codes "LOG") refl refl refl refl words fine in
     ((λ e. (given.0, inr (inl (refl, given.1)))), (λ e. absurd (true≢false e)))
 
+trace_fits : Fits (whole_of (of_two (codes "trace") (codes "CONFIG") (codes "LOG")))
+trace_fits words fine = let given = two_texts_given (codes "trace") (codes "CONFIG") (codes "LOG") refl refl refl refl words fine in
+    ((λ e. (given.0, inr (inr (inl (refl, given.1))))), (λ e. absurd (true≢false e)))
+
 db_fits : Fits (whole_of (of_two (codes "db") (codes "CONFIG") (codes "SCRIPT")))
 db_fits words fine = let given = two_texts_given (codes "db") (codes "CONFIG") (codes "SCRIPT") refl refl refl refl words fine in
-    ((λ e. (given.0, inr (inr (refl, given.1)))), (λ e. absurd (true≢false e)))
+    ((λ e. (given.0, inr (inr (inr (refl, given.1))))), (λ e. absurd (true≢false e)))
 
 all_fit : AllByRecursion Fits whole.subs
-all_fit = (one_fits, (as_fits, (dis_fits, (nm_fits, (step_fits, (replay_fits, (db_fits, tt)))))))
+all_fit = (one_fits, (as_fits, (dis_fits, (nm_fits, (step_fits, (replay_fits, (trace_fits, (db_fits, tt))))))))
 
 -- ---- the words of a command line
 

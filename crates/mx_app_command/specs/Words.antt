@@ -10,7 +10,7 @@ use Rattle.clap.specs.declared.builder.command.Command.{Command}
 use Rattle.clap.specs.declared.builder.command.Command.TheViews.{out-Command}
 use Rattle.clap.specs.declared.builder.value_parser.ValueParser.TheVariants.{Signed}
 use Rattle.mx_app_command.specs.declared.words.CommandRequest.{CommandRequest}
-use Rattle.mx_app_command.specs.declared.words.CommandRequest.TheVariants.{One, As, Dis, Nm, Step, Replay, Db}
+use Rattle.mx_app_command.specs.declared.words.CommandRequest.TheVariants.{One, As, Dis, Nm, Step, Replay, Trace, Db}
 
 -- ---- the grammar
 
@@ -74,6 +74,7 @@ mx_grammar = record {
   subs = program_shapes
       ++ step_shape
       ∷ of_two (codes "replay") (codes "CONFIG") (codes "LOG")
+      ∷ of_two (codes "trace") (codes "CONFIG") (codes "LOG")
       ∷ of_two (codes "db") (codes "CONFIG") (codes "SCRIPT")
       ∷ [];
 }
@@ -107,6 +108,8 @@ AsksBy (Step config script save) name rows =
     × MayHaveText (codes "LOG") rows (option_map (λ s. s.now) save)
 AsksBy (Replay config log) name rows =
     (name ≡ codes "replay") × HasText (codes "CONFIG") rows config.now × HasText (codes "LOG") rows log.now
+AsksBy (Trace config log) name rows =
+    (name ≡ codes "trace") × HasText (codes "CONFIG") rows config.now × HasText (codes "LOG") rows log.now
 AsksBy (Db config script) name rows =
     (name ≡ codes "db") × HasText (codes "CONFIG") rows config.now × HasText (codes "SCRIPT") rows script.now
 
@@ -134,10 +137,11 @@ IsMachineAsked name rows =
     IsGiven (codes "CONFIG") rows
     × (((name ≡ codes "step") × IsGiven (codes "SCRIPT") rows)
     ⊎ (((name ≡ codes "replay") × IsGiven (codes "LOG") rows)
-    ⊎ ((name ≡ codes "db") × IsGiven (codes "SCRIPT") rows)))
+    ⊎ (((name ≡ codes "trace") × IsGiven (codes "LOG") rows)
+    ⊎ ((name ≡ codes "db") × IsGiven (codes "SCRIPT") rows))))
 
 abbrev pub is_machine : Text → Bool
-is_machine name = bytes_eq name (codes "step") || (bytes_eq name (codes "replay") || bytes_eq name (codes "db"))
+is_machine name = bytes_eq name (codes "step") || (bytes_eq name (codes "replay") || (bytes_eq name (codes "trace") || bytes_eq name (codes "db")))
 
 abbrev pub IsAsked : Text → List Row → Type 0
 IsAsked name rows =

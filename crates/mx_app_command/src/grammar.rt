@@ -101,7 +101,7 @@ const COMMANDS: CommandArgument<'static> = CommandArgument {
 };
 
 /// The subcommands, those that work on one program first.
-static SUBCOMMANDS: [Subcommand<'static>; 7] = [
+static SUBCOMMANDS: [Subcommand<'static>; 8] = [
     Subcommand {
         name: "one",
         help: "Runs one program for at most N steps and prints its registers, flags and how it stopped",
@@ -137,6 +137,12 @@ static SUBCOMMANDS: [Subcommand<'static>; 7] = [
         help: "Runs a saved history again and prints the report",
         arguments: &[CONFIG, LOG],
         example: Example::Replay,
+    },
+    Subcommand {
+        name: "trace",
+        help: "Runs a saved history again and prints what each record did",
+        arguments: &[CONFIG, LOG],
+        example: Example::Trace,
     },
     Subcommand {
         name: "db",

@@ -16,6 +16,8 @@ pub(crate) enum Example {
     Step,
     /// A history, and what a refused event of it gives.
     Replay,
+    /// What a history's records did.
+    Trace,
     /// A debugger's script.
     Db,
 }
@@ -30,6 +32,7 @@ impl Example {
             Example::Nm => NM_EXAMPLE,
             Example::Step => STEP_EXAMPLE,
             Example::Replay => REPLAY_EXAMPLE,
+            Example::Trace => TRACE_EXAMPLE,
             Example::Db => DB_EXAMPLE,
         }
     }
@@ -189,4 +192,32 @@ may stand. Addresses are decimal here, and hexadecimal in listings.
 
 Status: 0 done, also if lines were refused; 1 a text or a program's file is refused;
 2 a mistake in the words; 3 a file can't be read; 4 no memory. Formats:
+docs/REFERENCE.md.";
+
+/// What a history's records did.
+const TRACE_EXAMPLE: &str = "In the folder examples:
+
+$ mx trace pair.config pair.log
+1 0 take: drv 0 budget 20
+2 0 back 4: drv 0 trap RECEIVE any
+2   drv 0: out -> receiving any
+3 0 take: cli 1 budget 20
+4 0 back 4: cli 1 trap SENDREC drv 0
+4   message cli 1 to drv 0 type 0
+4   drv 0: receiving any -> ready, result 0 OK
+4   cli 1: out -> awaiting 0
+5 0 take: drv 0 budget 16
+6 0 back 3: drv 0 trap SEND cli 1
+6   message drv 0 to cli 1 type 0
+6   drv 0: out -> ready, result 0 OK
+6   cli 1: awaiting 0 -> ready, result 0 OK
+7 0 take: drv 0 budget 13
+8 0 back 5: drv 0 trap RECEIVE any
+8   drv 0: out -> receiving any
+9 0 take: cli 1 budget 16
+10 0 back 4: cli 1 trap SENDREC SYSTEM, EXIT
+10   cli 1: out -> down exit
+
+Status: 0 done; 1 a text or a program's file is refused, or an event, which is told
+by its line; 2 a mistake in the words; 3 a file can't be read; 4 no memory. Formats:
 docs/REFERENCE.md.";

@@ -41,6 +41,11 @@ pub enum CommandRequest<'a> {
         config: &'a str,
         log: &'a str,
     },
+    /// `trace CONFIG LOG`.
+    Trace {
+        config: &'a str,
+        log: &'a str,
+    },
     /// `db CONFIG SCRIPT`.
     Db {
         config: &'a str,
@@ -100,6 +105,10 @@ fn machine_request<'a>(name: &str, matches: &ArgMatches<'a>) -> CommandRequest<'
         let log = value_asked(matches, "LOG");
         return CommandRequest::Replay { config, log };
     }
+    if name == "trace" {
+        let log = value_asked(matches, "LOG");
+        return CommandRequest::Trace { config, log };
+    }
     let script = value_asked(matches, "SCRIPT");
     if name == "step" {
         let save = value_if_asked(matches, "LOG");
@@ -117,7 +126,7 @@ fn machine_request<'a>(name: &str, matches: &ArgMatches<'a>) -> CommandRequest<'
 fn is_machine(name: &str) -> bool
     ensures { result ≡ is_machine name.now }
 {
-    name == "step" || name == "replay" || name == "db"
+    name == "step" || name == "replay" || name == "trace" || name == "db"
 }
 
 /// What a subcommand's words ask for.

@@ -2,7 +2,7 @@ use Rattle.mx_app_program.specs.One.{IsPrinted}
 use Rattle.mx_app_program.specs.Shown.{HasListing, HasNames, IsShown}
 use Rattle.std.proofs.Common.{◌∙◌, ap, Option}
 use Rattle.mx_app_command.specs.declared.words.CommandRequest.TheVariants.{Step}
-use Rattle.mx_app.proofs.Done.{as_asked, assembled, debugs, replays, saves, shows, steps}
+use Rattle.mx_app.proofs.Done.{as_asked, assembled, debugs, replays, saves, shows, steps, traces}
 use Rattle.mx_app.proofs.performing.perform.Goals as goal
 
 pub returns-in-One : goal.returns-in-One
@@ -32,3 +32,6 @@ returns-in-Replay g c = as_asked _ _ _ _ _ _ _ _ c.in-Replay.is (replays _ _ _ c
 
 pub returns-in-Db : goal.returns-in-Db
 returns-in-Db g c = as_asked _ _ _ _ _ _ _ _ c.in-Db.is (debugs _ _ _ c.in-Db.config.now c.in-Db.script.now _ _ c.db.result c.status_after_work-in-Db.result c.db.ensures.printed c.db.ensures.fault c.status_after_work-in-Db.ensures)
+
+pub returns-in-Trace : goal.returns-in-Trace
+returns-in-Trace g c = as_asked _ _ _ _ _ _ _ _ c.in-Trace.is (traces _ _ _ c.in-Trace.config.now c.in-Trace.log.now _ _ c.trace.result c.status_after_replay-in-Trace.result c.trace.ensures.printed c.trace.ensures.fault c.status_after_replay-in-Trace.ensures)
