@@ -28,7 +28,7 @@ header_of b = record {
   init_relocations = relocations_at b 36;
 }
 
--- behind the header stand text, data, relocations and symbols
+-- after the header stand text, data, relocations and symbols
 abbrev pub init_at : Header → ℕ
 init_at h = h.length + h.text
 
@@ -107,7 +107,7 @@ pub record FileIs (b : List ℕ) (p : Program) : Type 0 where
   pub bss : p.bss ≡ (header_of b).bss
   pub symbols : p.symbols ≡ symbols_from b (symbols_at (header_of b)) ((header_of b).symbols / 16)
 
--- what the reader answers: the first refusal that stands, or the program; want of memory aside
+-- what the reader answers: the first refusal that stands, or the program, unless memory runs out
 abbrev pub ReadsFile : Option FileError → List ℕ → Result Program FileError → Type 0
 ReadsFile (Some e) b r = r ≡ Err e
 ReadsFile None b (Ok p) = FileIs b p

@@ -19,6 +19,6 @@ short_header p =
 abbrev pub symbol_bytes : Symbol → List ℕ
 symbol_bytes s = s.name ++ bytes_of 4 s.value ++ s.class ∷ s.auxiliary ∷ bytes_of 2 s.kind
 
--- header, text, data and symbols, and nothing behind them
+-- header, text, data and symbols, and nothing after them
 abbrev pub short_file : Program → List ℕ
 short_file p = short_header p ++ p.text ++ p.init ++ flat_map symbol_bytes p.symbols

@@ -184,7 +184,7 @@ fn symbol_at(bytes: &[u8], at: usize) -> Symbol
     }
 }
 
-/// So many symbols from a place on.
+/// That many symbols from a place on.
 fn symbols_from(alloc: Global, bytes: &[u8], at: usize, count: usize) -> Result<Symbols, AllocError>
     requires { at + count * 16 ≤ length bytes.now }
     ensures symbols { IfOk result (λ s. s ≡ symbols_from bytes.now at count) }
@@ -197,7 +197,7 @@ fn symbols_from(alloc: Global, bytes: &[u8], at: usize, count: usize) -> Result<
     Ok(Symbols::from_vec(symbols))
 }
 
-/// A copy of so many bytes from a place on.
+/// A copy of this many bytes from a place on.
 fn part(alloc: Global, bytes: &[u8], at: usize, count: u32) -> Result<Bytes, AllocError>
     requires { at + count ≤ length bytes.now }
     ensures bytes { IfOk result (λ part. part ≡ take count (drop at bytes.now)) }
@@ -207,7 +207,7 @@ fn part(alloc: Global, bytes: &[u8], at: usize, count: u32) -> Result<Bytes, All
     Ok(Bytes::from_vec(part.to_vec(alloc)?))
 }
 
-/// The program of a file's bytes, or the first reason to refuse them. Bytes behind the parts,
+/// The program of a file's bytes, or the first reason to refuse them. Bytes after the parts,
 /// relocations, the unused byte, the version and the long header's bases are read past.
 pub fn read(alloc: Global, bytes: &[u8]) -> Result<Program, FileError>
     ensures { ReadsFile (refusal_of bytes.now) bytes.now result }

@@ -8,7 +8,7 @@ use mx_word::{Bytes, NoMemory};
 use std::alloc::AllocError;
 use std::marker::Model;
 
-/// Why a file is no program, or that memory was wanting.
+/// Why a file is no program, or that memory ran out.
 #[derive(Clone, Copy, Debug, PartialEq, Eq)]
 pub enum FileError {
     Truncated = 20,
@@ -23,14 +23,14 @@ pub enum FileError {
 }
 
 impl FileError {
-    /// The number that the line has.
+    /// The number with which a refused a.out file is told.
     pub fn code(self) -> u8
         ensures { result ≡ refusal_code self }
     {
         self as u8
     }
 
-    /// The name that the line has.
+    /// The name with which a refused a.out file is told.
     pub fn name(self) -> &'static str
         ensures { result.now ≡ refusal_name self }
     {
@@ -99,21 +99,21 @@ impl Model for Symbols {
 }
 
 impl Symbols {
-    /// The list of a vector's symbols. Takes no memory.
+    /// A program's symbols, from a vector. Takes no memory.
     pub fn from_vec(symbols: Vec<Symbol>) -> Symbols
         ensures { result ≡ symbols.items }
     {
         Symbols { symbols }
     }
 
-    /// The vector of the list's symbols. Takes no memory.
+    /// A program's symbols, as a vector. Takes no memory.
     pub fn into_vec(self) -> Vec<Symbol>
         ensures { result.items ≡ self }
     {
         self.symbols
     }
 
-    /// The symbols.
+    /// A program's symbols, in the order of the file.
     pub fn as_slice(&self) -> &[Symbol]
         ensures { result.now ≡ self.now }
     {

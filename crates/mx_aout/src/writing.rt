@@ -110,7 +110,7 @@ fn short_header(alloc: Global, program: &Program) -> Result<Vec<u8>, AllocError>
     Ok(bytes)
 }
 
-/// The bytes of a program's file, in the short form, with nothing behind the symbols.
+/// The bytes of a program's file, in the short form, with nothing after the symbols.
 pub fn write(alloc: Global, program: &Program) -> Result<Vec<u8>, NoMemory>
     ensures file { IfOk result (λ bytes. FileIs bytes.items program.now) }
     ensures form { IfOk result (λ bytes. bytes.items ≡ short_file program.now) }
@@ -127,12 +127,12 @@ pub fn alike_is_same()
     ensures { (p q : Program) → AreAlike p q → p ≡ q }
 {}
 
-/// Law: bytes are a file of one program at most.
+/// Law: bytes are an a.out file of one program at most.
 pub fn one_program()
     ensures { (b : List ℕ) (p q : Program) → FileIs b p → FileIs b q → p ≡ q }
 {}
 
-/// Writes a program and reads what was written. It is the same program again, memory aside.
+/// Writes a program as an a.out file and reads it again. It is the same program again, memory aside.
 pub fn read_back(alloc: Global, program: &Program) -> Result<Program, FileError>
     ensures { MatchResult result (λ again. again ≡ program.now) (λ e. e ≡ FileError.NoMemory) }
 {

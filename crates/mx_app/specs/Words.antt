@@ -33,7 +33,7 @@ complaint_status (Failed f) = status_of f
 abbrev pub IsHelp : Result ℕ Complaint → Type 0
 IsHelp r = MatchResult r (λ status. status ≡ 0) (λ complaint. (f : Kind) × IsWanting f × (complaint ≡ Failed f))
 
--- what comes of an error, by its kind: want of memory, help that was asked for, or a mistake
+-- what comes of an error, by its kind: lack of memory, help that was asked for, or a mistake
 abbrev pub ExplainsKind : WordsErrorKind → Error → Result ℕ Complaint → Type 0
 ExplainsKind words.OutOfMemory e r = r ≡ Err (Failed NoMemory)
 ExplainsKind words.DisplayHelp e r = IsHelp r

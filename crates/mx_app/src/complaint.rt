@@ -16,7 +16,7 @@ pub enum Complaint {
 }
 
 impl Complaint {
-    /// The status that the program ends with.
+    /// The program's exit status for a complaint.
     pub fn status(&self) -> u8
         ensures { result ≡ complaint_status self.now }
     {

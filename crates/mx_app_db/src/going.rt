@@ -11,7 +11,7 @@ use mx_machine_world::Refusal;
 use mx_print_answers::{Debugger, Halt, HaltCause};
 use mx_proc::Slot;
 
-/// A debugger that works with the process of a slot, for at most so many steps.
+/// A debugger that works with the process of a slot, for at most that many steps.
 #[derive(Drop)]
 struct Resuming<'a> {
     debugger: &'a Debugger,
@@ -34,7 +34,7 @@ impl<'a> Tool for Resuming<'a> {
     }
 }
 
-/// Runs what a processor holds for at most so many steps, up to one of the breakpoints of its slot.
+/// Runs what a processor holds for at most that many steps, up to one of the breakpoints of its slot.
 /// Refused are `CpuEmpty`, and `AtStop` where no step can be made.
 #[tactic(auto, using(crate::proofs::Worlds::gone_steps, crate::proofs::Worlds::gone_nothing, crate::proofs::Worlds::gone_no_slot))]
 pub fn go(machine: &mut Machine, debugger: &Debugger, cpu: u8, steps: u32) -> Result<Halt, Refusal>

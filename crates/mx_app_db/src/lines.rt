@@ -49,7 +49,7 @@ fn show_registers(machine: &Machine, cpu: u8, text: &mut String) -> Result<(), A
     push_process(text, machine.image(cpu))
 }
 
-/// Appends so many bytes, from an address on, of the process that a processor holds.
+/// Appends that many bytes, from an address on, of the process that a processor holds.
 fn show_memory(
     machine: &Machine,
     cpu: u8,

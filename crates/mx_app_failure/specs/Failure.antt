@@ -16,7 +16,7 @@ use Rattle.mx_text.specs.declared.error.BootError.TheVariants as lines
 use Rattle.mx_app_failure.specs.declared.failure.Failure.{Failure as Kind}
 use Rattle.mx_app_failure.specs.declared.failure.Failure.TheVariants.{Refused, Faulty, Misstated, NotText, File, NoMemory}
 
--- want of memory is told with the status 4, also by a failure that holds it as a refusal
+-- out of memory is told with the status 4, also by a failure that holds it as a refusal
 abbrev pub status_of : Kind → ℕ
 status_of (Refused errors.NoMemory) = 4
 status_of (Refused e) = 1
@@ -27,7 +27,7 @@ status_of NotText = 2
 status_of File = 3
 status_of NoMemory = 4
 
--- ---- what becomes a failure: want of memory is no refusal of a file, nor a failure of it
+-- ---- what becomes a failure: out of memory is no refusal of a file, nor a failure of it
 
 abbrev pub failure_of : FileError → Kind
 failure_of errors.NoMemory = NoMemory

@@ -23,12 +23,12 @@ pub enum Failure {
     NotText,
     /// A file or standard output can't be read or written.
     File,
-    /// Want of memory.
+    /// Out of memory.
     NoMemory,
 }
 
 impl Failure {
-    /// The status that the program ends with.
+    /// The program's exit status for a failure.
     pub fn status(self) -> u8
         ensures { result ≡ status_of self }
     {

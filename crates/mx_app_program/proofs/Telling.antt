@@ -14,7 +14,7 @@ use Rattle.mx_app_program.specs.Assembling.{TellsText}
 use Rattle.mx_app_program.specs.One.{Answers, IsPrinted, one_text}
 use Rattle.mx_app_failure.specs.Failure.{IsWanting, Tells, failure_of, failure_of_text}
 
--- a refusal, or want of memory
+-- a refusal, or lack of memory
 pub tells_refusal : (o : Option FileError) (b : List ℕ) (n : ℕ) (e : FileError) → Answers o b n (Err e) → Tells o {A = Unit {0}} (Err (failure_of e))
 tells_refusal (Some d) b n e h = let s : e ≡ d = cc in ap (λ (x : FileError). Err (failure_of x)) s
 tells_refusal None b n e h = subst (λ (x : FileError). IsWanting (failure_of x)) (sym h) (inr refl)

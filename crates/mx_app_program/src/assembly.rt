@@ -9,7 +9,8 @@ use mx_asm::assemble;
 use std::alloc::Global;
 use std::str;
 
-/// Assembles the bytes of a text. Answers the bytes of the program's file, in the one short form.
+/// Assembles a text to the bytes of its a.out file: what `mx as` writes. Answers the bytes of the
+/// program's file, in the one short form.
 #[tactic(auto, using(crate::proofs::Telling::tells_text))]
 pub fn assemble_file(alloc: Global, text: &[u8]) -> Result<Vec<u8>, Failure>
     ensures file { IfOk result (λ bytes. IsAssembledFile text.now bytes.items) }

@@ -83,7 +83,7 @@ asked_on a b c qs rs e h = h ∙ ap (λ (x : List Asked). x ++ rs) e ∙ append_
 
 -- ---- texts
 
--- what is told of a text is a fault of it, or want of memory
+-- what is told of a text is a fault of it, or lack of memory
 pub text_told : (Tells : List ℕ → BootError → Type 0) (name text : List ℕ) (q : Asked) (e : BootError) → IsTextGiven name q text → Tells text e
     → (failure_of_lines e ≡ NoMemory) ⊎ IsTextFaulty Tells name q (failure_of_lines e)
 text_told Tells name text q lines.NoMemory t h = inl refl

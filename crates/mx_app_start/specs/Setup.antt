@@ -82,7 +82,7 @@ IsSetupFault name qs f =
 
 -- ---- and the text that drives the machine
 
--- the text behind them says this, as `Says` has it, and the machine boots by this configuration
+-- the text after them says this, as `Says` has it, and the machine boots by this configuration
 abbrev pub IsStart : {L : Type 0} → (List ℕ → Config → Config → List L → Type 0) → List ℕ → List ℕ → List Asked → Config → List Service → List L → Type 0
 IsStart Says config_name name qs config services lines =
     (before : List Asked) × (q : Asked) × (text : List ℕ) × (read : Config)
@@ -96,6 +96,6 @@ IsFirstFault Tells config_name name qs f =
     × (qs ≡ before ++ q ∷ []) × IsSetup config_name before config services
     × (IsNoTextGiven name q f ⊎ IsTextFaulty (λ text e. Tells text config e) name q f))
 
--- no machine was started: that fault, want of memory aside
+-- no machine was started: that fault, unless memory runs out
 abbrev pub IsNotStarted : (List ℕ → Config → BootError → Type 0) → List ℕ → List ℕ → List Asked → Failure → Type 0
 IsNotStarted Tells config_name name qs f = (f ≡ NoMemory) ⊎ IsFirstFault Tells config_name name qs f

@@ -8,7 +8,7 @@ use Rattle.mx_app_failure.specs.Failure.{IsWanting}
 use Rattle.mx_app_start.specs.Asked.{Asked}
 use Rattle.mx_app_start.specs.Setup.{IsNotStarted, IsStart}
 
--- the first fault of what was read; or, where there is none, that it can't be printed; want of memory aside
+-- the first fault of what was read; or, where there is none, that it can't be printed, unless memory runs out
 abbrev pub IsTold : {L : Type 0} → (List ℕ → Config → Config → List L → Type 0) → (List ℕ → Config → BootError → Type 0) → List ℕ → List ℕ → List Asked → Failure → Type 0
 IsTold {L} Says Tells config name qs f =
     IsNotStarted Tells config name qs f

@@ -34,7 +34,7 @@ written_in writes = map written_of writes
 abbrev pub files_of : List KeptFile → List (List ℕ × List ℕ)
 files_of files = map (λ (f : KeptFile). (string_bytes f.name, f.bytes.items)) files
 
--- why a writer keeps no file: what it answers to each, or want of memory
+-- why a writer keeps no file: what it answers to each, or lack of memory
 abbrev pub IsUnkept : Option ErrorKind → ErrorKind → Type 0
 IsUnkept (Some refusal) kind = kind ≡ refusal
 IsUnkept None kind = kind ≡ OutOfMemory

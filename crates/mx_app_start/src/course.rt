@@ -16,7 +16,7 @@ pub trait Course {
     /// The lines say this, beside a configuration, of the machine that another one boots.
     ghost IsSaid: { List ℕ → Config → Config → List Self.Line → Type 0 };
 
-    /// What may be told of a text that isn't one of these; want of memory aside.
+    /// What may be told of a text that isn't one of these, unless memory runs out.
     ghost Tells: { List ℕ → Config → BootError → Type 0 };
 
     /// What the lines of a text say, or the first line at fault. The configuration becomes the one by

@@ -50,14 +50,14 @@ impl MemoryWriter {
         }
     }
 
-    /// The files that were written, in order.
+    /// The files that were written to memory, in order.
     pub fn files(&self) -> &[KeptFile]
         ensures { result.now ≡ self.now.files.items }
     {
         self.files.as_slice()
     }
 
-    /// Keeps a file. Want of memory changes nothing.
+    /// Keeps a file. A lack of memory changes nothing.
     fn keep(&mut self, alloc: Global, name: &str, bytes: &[u8]) -> Result<(), AllocError>
         ensures files { OnOk result (files_of self.new.files.items
             ≡ files_of self.old.files.items ++ (name.now, bytes.now) ∷ []) }

@@ -55,7 +55,7 @@ impl<'a> Reader for NamedFiles<'a> {
     ghost asked = { λ files. asked_in files.answers.items };
 
     /// Answers the bytes that the list has; it is refused where the list has none of this name, or for
-    /// want of memory.
+    /// lack of memory.
     fn read(&mut self, alloc: Global, name: &str) -> io::Result<Vec<u8>>
         ensures given { IfOk result (λ bytes. asked_in self.new.answers.items
             ≡ asked_in self.old.answers.items ++ record { name = name.now; answer = Ok bytes.items } ∷ []) }

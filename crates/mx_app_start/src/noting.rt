@@ -29,7 +29,7 @@ fn bytes_noted(bytes: &[u8]) -> Bytes
     log
 }
 
-/// Remembers an answer behind others.
+/// Remembers an answer after others.
 pub(crate) fn with_answer(answers: &Answers, name: &str, answer: &io::Result<Vec<u8>>) -> Answers
     ensures given { IfOk answer.now (λ bytes. asked_in result.items ≡ asked_in answers.now.items ++ record { name = name.now; answer = Ok bytes.items } ∷ []) }
     ensures missed { IfErr answer.now (λ e. asked_in result.items ≡ asked_in answers.now.items ++ record { name = name.now; answer = Err (error_kind e) } ∷ []) }
@@ -42,7 +42,7 @@ pub(crate) fn with_answer(answers: &Answers, name: &str, answer: &io::Result<Vec
     answers.and(&name, &answer)
 }
 
-/// Remembers what came of a write behind others.
+/// Remembers what came of a write after others.
 pub(crate) fn with_write(
     writes: &Writes,
     name: &str,

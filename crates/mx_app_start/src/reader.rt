@@ -12,7 +12,7 @@ pub trait Reader {
     /// What it was asked for, each name with its answer, in order.
     ghost asked: { Self → List Asked };
 
-    /// The bytes of the file that has a name. Want of memory is the error `OutOfMemory`.
+    /// The bytes of the file that has a name. Out of memory is the error `OutOfMemory`.
     fn read(&mut self, alloc: Global, name: &str) -> io::Result<Vec<u8>>
         ensures given { IfOk result (λ bytes. asked self.new ≡ asked self.old ++ record { name = name.now; answer = Ok bytes.items } ∷ []) }
         ensures missed { IfErr result (λ e. asked self.new ≡ asked self.old ++ record { name = name.now; answer = Err (error_kind e) } ∷ []) };

@@ -68,7 +68,7 @@ fn services_of<R: Reader>(
 }
 
 /// The configuration of a file, and the services of its lines, whose programs' files are read in the
-/// order of the lines. A failure is the first fault of what was read, or want of memory; no further file
+/// order of the lines. A failure is the first fault of what was read, or lack of memory; no further file
 /// was asked for.
 pub fn setup_of<R: Reader>(
     alloc: Global,

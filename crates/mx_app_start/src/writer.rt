@@ -12,7 +12,7 @@ pub trait FileWriter {
     /// What it was given to write, each file with what came of it, in order.
     ghost written: { Self → List Written };
 
-    /// Writes bytes to the file that has a name, in place of what it had. Want of memory is the error
+    /// Writes bytes to the file that has a name, in place of what it had. Out of memory is the error
     /// `OutOfMemory`. After an error the file may have a part of the bytes.
     fn write(&mut self, alloc: Global, name: &str, bytes: &[u8]) -> io::Result<()>
         ensures kept { IfOk result (λ _.

@@ -27,7 +27,7 @@ abbrev pub run_made : World → ℕ → ℕ → Option HeldProcess → Said × W
 run_made w c k None = (Refused CpuEmpty, w)
 run_made w c k (Some l) = (said_of_run k l.out, world_after_events w (steps_of c (held_run k l.out).0.0))
 
--- at most so many steps, up to a stop; no steps are none, whatever the processor holds
+-- at most that many steps, up to a stop; no steps are none, whatever the processor holds
 abbrev pub steps_made : World → ℕ → ℕ → Said × World
 steps_made w c zero = (Stepped 0 Spent, w)
 steps_made w c (suc k) = run_made w c (suc k) (held_by w c)

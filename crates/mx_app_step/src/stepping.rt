@@ -12,7 +12,7 @@ use mx_image::Stop;
 use mx_machine_world::Refusal;
 use mx_print_answers::{Said, said_of};
 
-/// Makes so many steps, and notes what is said of them.
+/// Makes that many steps, and notes what is said of them.
 #[derive(Drop)]
 struct Stepper {
     steps: u32,
@@ -65,7 +65,7 @@ pub(crate) fn work_steps(machine: &mut Machine, cpu: u8, steps: u32) -> Said
     }
 }
 
-/// At most so many steps of a processor, in one run: up to a trap, a fault or the end of the budget.
+/// At most that many steps of a processor, in one run: up to a trap, a fault or the end of the budget.
 /// Where the first of them is refused, the refusal; no steps are none, whatever the processor holds.
 pub fn make_steps(machine: &mut Machine, cpu: u8, steps: u32) -> Said
     ensures made { steps_made (world_of machine.old) cpu steps ≡ (result, world_of machine.new) }

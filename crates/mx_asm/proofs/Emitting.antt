@@ -110,7 +110,7 @@ values_more f g vs i v number old out new h there (ns, each, e) same = (
   same ∙ ap (λ (x : List ℕ). x ++ g number) e ∙ append_assoc old (flat_map g ns) (g number) ∙ ap (λ (x : List ℕ). old ++ (flat_map g ns ++ x)) (sym (append-nil (g number))) ∙ ap (λ (x : List ℕ). old ++ x) (sym (flat_map-append g ns (number ∷ []))),
 )
 
--- where no value from here on is undefined, the first of them has a number, and none behind it is undefined
+-- where no value from here on is undefined, the first of them has a number, and none after it is undefined
 pub none_on : (a : LinesAbove) (vs : List Value) (i : ℕ) (v : Value) (r : Option ℕ) → r ≡ value_under a (get_or vs i v) → i < length vs → list_any (is_undefined a) (drop i vs) ≡ false
     → (is_some r ≡ true) × (list_any (is_undefined a) (drop (i + 1) vs) ≡ false)
 none_on a vs i v r e h none =

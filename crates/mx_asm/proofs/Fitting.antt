@@ -50,7 +50,7 @@ size_after which s (says.Stack k) b h n = grown_size which s s.section b h
 size_after which s (says.Instruction i) b h n = grown_size which s s.section b h
 size_after which s (says.Branch k target) b h n = grown_size which s s.section b h
 
--- behind all lines the text and the data are as long as their contents
+-- after all lines the text and the data are as long as their contents
 pub contents_size : KeepsLength → (which : Section) → ((b : List ℕ) → put_into which which b ≡ b) → (a c : LinesAbove) (ls : List Line) (bs : List (List ℕ)) → AllStand a c.sizes ls bs
     → size_in (left_by c ls (map length bs)).sizes which ≡ size_in c.sizes which + length (contents which c.sizes ls bs)
 contents_size law which own a c [] [] h = omega arith

@@ -154,7 +154,7 @@ all_placed law s (t ∷ ts) (l ∷ ls) ((line, clean), more) = (line_placed law 
 
 -- ---- .entry
 
--- the entry that a line names is kept behind those below it, since they name none
+-- the entry that a line names is kept after those below it, since they name none
 entry_one_more : (entry : Option Name) (name : Name) (s : Seen) (t : Statement) → entry ≡ Some name → s.entry ≡ true → Placed s t → entry_with entry t ≡ Some name
 entry_one_more entry name s says.Nothing e h p = e
 entry_one_more entry name s (says.Enter section) e h p = e

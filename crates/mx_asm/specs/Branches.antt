@@ -25,7 +25,7 @@ branch_by (branches.Loop operation) n = insns.Loop operation n
 abbrev pub branch_marks : Branch → Wide
 branch_marks b = record { immediate = false; displacement = not (is_near b) }
 
--- opcode and 8 bits; opcode, behind 0F for Jcc, and 32 bits
+-- opcode and 8 bits; opcode, after 0F for Jcc, and 32 bits
 abbrev pub far_length : Branch → ℕ
 far_length (branches.JumpIf condition short) = 6
 far_length _ = 5

@@ -108,7 +108,7 @@ first_of (Some f) g = Some f
 abbrev pub fault_behind : List Line → Option Fault
 fault_behind lines = let a = laid_by no_lines_above lines in first_of (first_problem a no_lines_above.sizes 1 lines) (too_large_in a lines)
 
--- want of memory aside
+-- unless memory runs out
 abbrev pub IsFaultOr : Option Fault → AsmError → Type 0
 IsFaultOr found NoMemory = ⊤
 IsFaultOr found (At f) = found ≡ Some f

@@ -39,7 +39,7 @@ grown_in s Bss n = record s { bss = s.bss + n }
 abbrev pub sizes_grown : SectionSizes → ℕ → SectionSizes
 sizes_grown s n = grown_in s s.section n
 
--- behind a statement of so many bytes
+-- after a statement of this many bytes
 abbrev pub sizes_after : SectionSizes → Statement → ℕ → SectionSizes
 sizes_after s (says.Enter section) n = record s { section = section }
 sizes_after s _ n = sizes_grown s n
@@ -84,7 +84,7 @@ stack_with stack _ = stack
 abbrev pub statement_said : Line → Statement
 statement_said l = unwrap_or l.statement says.Nothing
 
--- behind a line of so many bytes: its label stands where it begins
+-- after a line of this many bytes: its label stands where it begins
 abbrev pub above_with : LinesAbove → Line → ℕ → LinesAbove
 above_with a l n = record {
   sizes = sizes_after a.sizes (statement_said l) n;
@@ -94,20 +94,20 @@ above_with a l n = record {
   stack = stack_with a.stack (statement_said l);
 }
 
--- behind lines of these lengths
+-- after lines of these lengths
 abbrev pub left_by : LinesAbove → List Line → List ℕ → LinesAbove
 left_by a [] ns = a
 left_by a (l ∷ ls) [] = a
 left_by a (l ∷ ls) (n ∷ ns) = left_by (above_with a l n) ls ns
 
--- behind lines of their own lengths
+-- after lines of their own lengths
 abbrev pub laid_by : LinesAbove → List Line → LinesAbove
 laid_by a [] = a
 laid_by a (l ∷ ls) = laid_by (above_with a l (statement_length (statement_said l))) ls
 
 -- ---- addresses
 
--- text begins at 0, data at 0 or behind the text, bss behind the data
+-- text begins at 0, data at 0 or after the text, bss after the data
 abbrev pub start_of : LinesAbove → Section → ℕ
 start_of a Text = 0
 start_of a Data = if a.sep then 0 else a.sizes.text
@@ -196,6 +196,6 @@ refusal_of_line s l = statement_refusal s.section (is_defined s.names l.label ||
 abbrev pub SizesWithin : SectionSizes → ℕ → Type 0
 SizesWithin s n = (s.text ≤ n) × (s.init ≤ n) × (s.bss ≤ n)
 
--- each section has at most so many bytes more
+-- each section has at most that many bytes more
 abbrev pub GrowsWithin : SectionSizes → SectionSizes → ℕ → Type 0
 GrowsWithin s t n = (t.text ≤ s.text + n) × (t.init ≤ s.init + n) × (t.bss ≤ s.bss + n)

@@ -39,7 +39,7 @@ IsLineWrong s t p =
 abbrev pub IsLineTaken : Seen → List ℕ → Line → Type 0
 IsLineTaken s t l = IsLine t l × (refusal_of_line s l ≡ None)
 
--- behind a line that is taken
+-- after a line that is taken
 abbrev pub on_behind : LinesAbove → Line → LinesAbove
 on_behind a l = above_with a l (statement_length (statement_said l))
 
@@ -79,7 +79,7 @@ IsAssembled t p = (ls : List Line) × AreLinesTaken unseen (lines t) ls × AreAs
 abbrev pub HasTextFault : List ℕ → Fault → Type 0
 HasTextFault t f = IsFirstLineWrong unseen 1 (lines t) f ⊎ ((ls : List Line) × AreLinesTaken unseen (lines t) ls × (fault_behind ls ≡ Some f))
 
--- want of memory aside
+-- unless memory runs out
 abbrev pub TellsTextFault : List ℕ → AsmError → Type 0
 TellsTextFault t NoMemory = ⊤
 TellsTextFault t (At f) = HasTextFault t f
@@ -88,7 +88,7 @@ abbrev pub TellsFirstLine : List ℕ → AsmError → Type 0
 TellsFirstLine t NoMemory = ⊤
 TellsFirstLine t (At f) = IsFirstLineWrong unseen 1 (lines t) f
 
--- of a line that says this; memory is only wanting where it isn't refused
+-- of a line that says this; memory runs out only where it isn't refused
 abbrev pub TellsRefusal : Seen → ℕ → Line → AsmError → Type 0
 TellsRefusal s n l NoMemory = refusal_of_line s l ≡ None
 TellsRefusal s n l (At f) = (f.line ≡ n) × ((r : Reason) × (refusal_of_line s l ≡ Some r) × (f.problem ≡ problem_of r))

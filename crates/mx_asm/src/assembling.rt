@@ -48,7 +48,7 @@ fn refused(reason: Reason, line: usize) -> AsmError
 }
 
 impl Read {
-    /// Takes in what a line says, behind those above it, or tells why it is refused. Memory is only
+    /// Takes in what a line says, after those above it, or tells why it is refused. Memory is only
     /// wanting where it isn't.
     fn accept(&mut self, line: Line, number: usize) -> Result<(), AsmError>
         requires { SizesWithin self.old.layout.sizes (2 ^ 126) }
@@ -107,8 +107,8 @@ fn read_lines(alloc: Global, text: &[u8]) -> Result<Read, AsmError>
     Ok(read)
 }
 
-/// The program of a text, or its first fault. Takes memory only for what it answers and for the
-/// lines it has read.
+/// The program that an assembler text says, or its first fault. Takes memory only for what it answers
+/// and for the lines it has read.
 pub fn assemble(alloc: Global, text: &str) -> Result<Program, AsmError>
     ensures program { IfOk result (IsAssembled text.now) }
     ensures fault { IfErr result (TellsTextFault text.now) }

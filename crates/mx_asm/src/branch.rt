@@ -51,7 +51,7 @@ pub fn branch_length(branch: Branch) -> u8
     }
 }
 
-/// How far a target is from the next instruction, behind one of so many bytes.
+/// How far a target is from the next instruction, after one of this many bytes.
 pub fn distance(at: u32, length: u8, target: u32) -> u32
     ensures { result ≡ distance (at + length) target }
 {
@@ -64,7 +64,7 @@ fn is_short(displacement: u32) -> bool
     displacement < 0x80 || displacement >= 0xFFFF_FF80
 }
 
-/// Whether 8 bits are asked for and don't reach.
+/// Whether a jump asks for 8 bits and they do not reach its label.
 pub fn is_too_far(branch: Branch, displacement: u32) -> bool
     ensures { result ≡ is_too_far branch displacement }
 {
@@ -77,7 +77,7 @@ pub fn branch_has_length()
     ensures reaches { (branch : Branch) (n : ℕ) (bytes : List ℕ) → Chosen (branch_by branch n) (branch_marks branch) bytes → length bytes ≡ branch_length branch → is_too_far branch n ≡ false }
 {}
 
-/// The bytes of a jump at an address.
+/// The bytes of a jump to a label, at an address.
 pub fn branch_bytes(branch: Branch, at: u32, target: u32) -> ArrayVec<u8, 15>
     requires { is_too_far branch (distance (at + branch_length branch) target) ≡ false }
     ensures bytes { Chosen (branch_by branch (distance (at + length result.items) target)) (branch_marks branch) result.items }

@@ -90,7 +90,7 @@ fn instruction_bytes(layout: &Layout, instruction: &Instruction) -> ArrayVec<u8,
     }
 }
 
-/// The bytes of a line's statement at an address, behind others.
+/// The bytes of a line's statement at an address, after others.
 fn push_line(layout: &Layout, at: u32, line: &Line, out: &mut Vec<u8>) -> Result<(), AllocError>
     requires { problem_at (above_of layout.now) at (statement_said line.now) ≡ None }
     ensures { OnOk result (Pushes (above_of layout.now) at (statement_said line.now) out.old.items out.new.items) }
@@ -115,7 +115,7 @@ fn push_line(layout: &Layout, at: u32, line: &Line, out: &mut Vec<u8>) -> Result
     }
 }
 
-/// Puts a line's bytes behind those of its section.
+/// Puts a line's bytes after those of its section.
 fn put_line(
     layout: &Layout,
     sizes: SectionSizes,

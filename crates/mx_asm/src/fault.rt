@@ -50,7 +50,7 @@ pub struct Fault {
     pub line: usize,
 }
 
-/// The first fault, or that memory was wanting.
+/// The first fault, or that memory ran out.
 #[derive(Clone, Copy, Debug, PartialEq, Eq)]
 pub enum AsmError {
     At(Fault),
@@ -69,7 +69,7 @@ impl AsmError {
     }
 }
 
-/// What a line is refused for.
+/// The problem that is told of a line for a reason.
 pub fn problem_of(reason: Reason) -> Problem
     ensures { result ≡ problem_of reason }
 {

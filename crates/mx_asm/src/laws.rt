@@ -32,7 +32,7 @@ pub fn program_or_fault()
     displacement_keeps_length();
 }
 
-/// A text has one fault at most.
+/// Law: an assembler text has at most one fault that is told.
 pub fn fault_is_one()
     ensures { (t : List ℕ) (f g : Fault) → HasTextFault t f → HasTextFault t g → f ≡ g }
 {
@@ -41,7 +41,7 @@ pub fn fault_is_one()
     one_fault();
 }
 
-/// At most one program is assembled from a text.
+/// Law: an assembler text says at most one program.
 pub fn program_is_one()
     ensures { (t : List ℕ) (p q : Program) → IsAssembled t p → IsAssembled t q → p ≡ q }
 {

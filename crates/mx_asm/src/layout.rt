@@ -32,7 +32,7 @@ fn low(count: u128) -> u32
 }
 
 impl Layout {
-    /// Behind no line yet.
+    /// The layout before the first line: nothing stands yet.
     pub fn new(alloc: Global) -> Layout
         ensures { above_of result ≡ no_lines_above }
     {
@@ -45,7 +45,7 @@ impl Layout {
         }
     }
 
-    /// Where a label stands.
+    /// Where a label stands: its section and its offset.
     pub fn spot_named(&self, name: &Name) -> Option<SectionOffset>
         ensures { result ≡ label_named (above_of self.now).labels name.now }
     {
@@ -72,7 +72,7 @@ impl Layout {
         }
     }
 
-    /// Why a line is refused behind those above it.
+    /// Why a line is refused after those above it, if it is.
     pub fn reason_of(&self, line: &Line) -> Option<Reason>
         ensures { result ≡ refusal_of_line (seen_of (above_of self.now)) line.now }
     {
@@ -93,7 +93,7 @@ impl Layout {
         Ok(())
     }
 
-    /// Goes on behind a line that isn't refused.
+    /// Lays out one line more, one that is not refused.
     pub fn go_behind(&mut self, line: &Line) -> Result<(), AsmError>
         requires room { SizesWithin self.old.sizes (2 ^ 126) }
         requires new { is_defined (seen_of (above_of self.old)).names line.now.label ≡ false }
@@ -124,7 +124,7 @@ impl Layout {
         }
     }
 
-    /// The address of a place, modulo 2^32.
+    /// The address of a section and an offset, modulo 2^32.
     pub fn address_of(&self, spot: SectionOffset) -> u32
         ensures { result ≡ address_of_offset (above_of self.now) spot }
     {
@@ -153,7 +153,7 @@ impl Layout {
         self.pages() > 4_194_304
     }
 
-    /// Whether no file may hold what the lines make.
+    /// Whether no a.out file can hold what the lines make.
     pub fn is_too_large(&self) -> bool
         ensures { result ≡ is_program_too_large (above_of self.now) }
     {
@@ -168,7 +168,7 @@ impl Layout {
         self.pages() as u32
     }
 
-    /// A value, where its name stands.
+    /// The number of a value: of a name, the address of its label.
     pub fn value(&self, value: Value) -> Option<u32>
         ensures { result ≡ value_under (above_of self.now) value }
     {

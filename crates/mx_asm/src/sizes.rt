@@ -78,7 +78,7 @@ impl SectionSizes {
         }
     }
 
-    /// Where the next byte stands.
+    /// Where the next byte of the current section stands.
     pub fn spot(&self) -> SectionOffset
         ensures { result ≡ section_offset_of self.now }
     {
@@ -110,7 +110,7 @@ impl SectionSizes {
         }
     }
 
-    /// The sizes behind a line.
+    /// The sizes of the sections after one line more.
     pub fn after(&self, line: &Line) -> SectionSizes
         requires { SizesWithin self.now (2 ^ 126) }
         ensures sizes { result ≡ sizes_after self.now (statement_said line.now) (statement_length (statement_said line.now)) }

@@ -34,7 +34,7 @@ extension_between Dword Byte = Some ByteToDword
 extension_between Dword Word = Some WordToDword
 extension_between _ _ = None
 
--- a register from a register, or from memory behind a size word
+-- a register from a register, or from memory after a size word
 abbrev pub extension_parts : List Argument → Option ExtensionParts
 extension_parts (arguments.Register s to ∷ y ∷ []) = do
   spot ← sized_operand_of y

@@ -1,4 +1,4 @@
--- Numbers of so many bits (that a number may be taken as signed or as unsigned is our own choice).
+-- Numbers of this many bits (that a number may be taken as signed or as unsigned is our own choice).
 use Rattle.std.specs.Prelude.{ℕ, ℤ, pos, neg_ℤ, int_lt, int_le, ◌^◌, ◌-◌, ◌||◌, if◌then◌else◌, Bool, true, false, Option, Some, None, is_some}
 use Rattle.mx_word.specs.declared.size.Size.{Size}
 use Rattle.mx_word.specs.declared.size.Size.TheVariants.{Byte, Word, Dword}

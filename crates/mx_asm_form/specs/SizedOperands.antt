@@ -38,7 +38,7 @@ sized_memory s a = do
   m ← memory_named a
   Some (record { size = s; operand = operands.Memory m; displacement = value_waiting a.value })
 
--- where no register gives the size: a register itself, or a place in memory behind its size word
+-- where no register gives the size: a register itself, or a place in memory after its size word
 abbrev pub sized_operand_of : Argument → Option SizedOperand
 sized_operand_of (arguments.Register s r) = Some (record { size = s; operand = operands.Register r; displacement = None })
 sized_operand_of (arguments.Memory (Some s) a) = sized_memory s a

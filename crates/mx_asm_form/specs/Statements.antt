@@ -57,7 +57,7 @@ statement_for_single short Cdq xs = statement_without_arguments (insns.SpreadSig
 statement_for_single short In xs = port_in xs
 statement_for_single short Out xs = port_out xs
 
--- a mnemonic, with `short` behind it or without, and its arguments
+-- a mnemonic, with `short` after it or without, and its arguments
 abbrev pub statement_for : Bool → Mnemonic → List Argument → Option Statement
 statement_for short (mnemonics.Arithmetic o) xs = arithmetic_statement o xs
 statement_for short (mnemonics.Unary o) xs = unary o xs
@@ -71,7 +71,7 @@ statement_for short (mnemonics.SetCondition c) xs = set_condition_statement c xs
 statement_for short (mnemonics.Transfer o s) xs = statement_without_arguments (insns.Transfer o s false) xs
 statement_for short (mnemonics.Compare o s) xs = statement_without_arguments (insns.Compare o s None) xs
 
--- behind rep a string instruction that moves, behind repe and repne one that compares
+-- after rep a string instruction that moves, after repe and repne one that compares
 abbrev pub statement_after_prefix : Prefix → Mnemonic → Option Statement
 statement_after_prefix Rep (mnemonics.Transfer o s) = statement_of_insn (insns.Transfer o s true) None None
 statement_after_prefix Repe (mnemonics.Compare o s) = statement_of_insn (insns.Compare o s (Some repeats.Repe)) None None

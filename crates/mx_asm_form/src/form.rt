@@ -56,7 +56,7 @@ fn stated_single(short: bool, single: Single, arguments: &[Argument]) -> Option<
     }
 }
 
-/// The statement that a mnemonic and its arguments are. Short: `short` stands behind JMP or Jcc.
+/// The statement that a mnemonic and its arguments are. Short: `short` stands after JMP or Jcc.
 pub fn stated(short: bool, mnemonic: Mnemonic, arguments: &[Argument]) -> Option<Statement>
     ensures { result ≡ statement_for short mnemonic arguments.now }
 {
@@ -89,7 +89,7 @@ pub fn stated(short: bool, mnemonic: Mnemonic, arguments: &[Argument]) -> Option
     }
 }
 
-/// The same behind `rep`, `repe` or `repne`, where a string instruction stands alone.
+/// The same after `rep`, `repe` or `repne`, where a string instruction stands alone.
 pub fn repeated(prefix: Prefix, mnemonic: Mnemonic) -> Option<Statement>
     ensures { result ≡ statement_after_prefix prefix mnemonic }
 {

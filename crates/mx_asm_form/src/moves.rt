@@ -25,7 +25,7 @@ fn exchange_two(first: Argument, second: Argument) -> Option<Statement>
     }
 }
 
-/// XCHG.
+/// The statement of XCHG with its arguments.
 pub fn exchange(arguments: &[Argument]) -> Option<Statement>
     ensures { result ≡ exchange arguments.now }
 {
@@ -52,7 +52,7 @@ fn load_two(first: Argument, second: Argument) -> Option<Statement>
     }
 }
 
-/// LEA, which takes no size word.
+/// The statement of LEA with its arguments, which takes no size word.
 pub fn load_address(arguments: &[Argument]) -> Option<Statement>
     ensures { result ≡ load_address_statement arguments.now }
 {
@@ -109,7 +109,7 @@ fn extension_parts(arguments: &[Argument]) -> Option<ExtensionParts>
     }
 }
 
-/// MOVZX.
+/// The statement of MOVZX with its arguments.
 pub fn zero_extend(arguments: &[Argument]) -> Option<Statement>
     ensures { result ≡ zero_extend arguments.now }
 {
@@ -122,7 +122,7 @@ pub fn zero_extend(arguments: &[Argument]) -> Option<Statement>
     says(insn, None, parts.displacement)
 }
 
-/// MOVSX.
+/// The statement of MOVSX with its arguments.
 pub fn sign_extend(arguments: &[Argument]) -> Option<Statement>
     ensures { result ≡ sign_extend arguments.now }
 {

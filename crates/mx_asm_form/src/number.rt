@@ -1,4 +1,4 @@
-//! Numbers of so many bits.
+//! Numbers of this many bits.
 
 ghost use Rattle.std.specs.Prelude.{◌≡◌, ◌<◌, ◌^◌, IfSome};
 ghost use Rattle.mx_word.specs.Word.{width};
@@ -7,7 +7,7 @@ ghost use Rattle.mx_asm_form.specs.Numbers.{number_in, value_waiting, immediate_
 use mx_asm_statement::Value;
 use mx_insn::{Immediate, Size};
 
-/// The word of so many bits that a value is: its low bits where it lies in -2^(w-1) to 2^w - 1, and
+/// The word of this many bits that a value is: its low bits where it lies in -2^(w-1) to 2^w - 1, and
 /// 0 where it holds a name, which only 32 bits can take.
 pub fn number_in(size: Size, value: Value) -> Option<u32>
     ensures value { result ≡ number_in size value }

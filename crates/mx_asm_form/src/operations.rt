@@ -7,7 +7,7 @@ use crate::{immediate_in, not_byte, number_in, says, spot_beside, spot_of, spot_
 use mx_asm_statement::{Argument, Statement, Value};
 use mx_insn::{Condition, Count, Insn, Product, Register, Shift, Size, Unary, WideImmediate};
 
-/// INC, DEC, NOT, NEG.
+/// The statement of INC, DEC, NOT or NEG with its arguments.
 pub fn unary(operation: Unary, arguments: &[Argument]) -> Option<Statement>
     ensures { result ≡ unary operation arguments.now }
 {
@@ -51,7 +51,7 @@ fn test_two(first: Argument, second: Argument) -> Option<Statement>
     }
 }
 
-/// TEST.
+/// The statement of TEST with its arguments.
 pub fn test(arguments: &[Argument]) -> Option<Statement>
     ensures { result ≡ test arguments.now }
 {
@@ -150,7 +150,7 @@ fn count_of(argument: Argument) -> Option<Count>
     }
 }
 
-/// ROL, ROR, SHL, SHR, SAR.
+/// The statement of ROL, ROR, SHL, SHR or SAR with its arguments.
 pub fn shift(operation: Shift, arguments: &[Argument]) -> Option<Statement>
     ensures { result ≡ shift operation arguments.now }
 {
@@ -170,7 +170,7 @@ pub fn shift(operation: Shift, arguments: &[Argument]) -> Option<Statement>
     }
 }
 
-/// SETcc.
+/// The statement of SETcc with its arguments.
 pub fn set_condition(condition: Condition, arguments: &[Argument]) -> Option<Statement>
     ensures { result ≡ set_condition_statement condition arguments.now }
 {

@@ -24,14 +24,14 @@ pub fn says(insn: Insn, immediate: Option<Value>, displacement: Option<Value>) -
     Some(Statement::Instruction(instruction))
 }
 
-/// The jump to a target.
+/// The statement that jumps to a target.
 pub fn goes(branch: Branch, target: Value) -> Option<Statement>
     ensures { result ≡ statement_of_branch branch target }
 {
     Some(Statement::Branch(branch, target))
 }
 
-/// The place in memory that an address is.
+/// The place in memory that a written address is.
 pub fn memory_named(address: Address) -> Option<Memory>
     ensures { result ≡ memory_named address }
 {
@@ -54,7 +54,7 @@ fn spot_in(size: Size, address: Address) -> Option<SizedOperand>
     })
 }
 
-/// A register, or a place in memory behind its size word.
+/// A register, or a place in memory after its size word.
 pub fn spot_of(argument: Argument) -> Option<SizedOperand>
     ensures { result ≡ sized_operand_of argument }
 {
@@ -69,7 +69,7 @@ pub fn spot_of(argument: Argument) -> Option<SizedOperand>
     }
 }
 
-/// One of a size that stands fixed.
+/// The operand that an argument is, of a size that stands fixed.
 pub fn spot_of_size(size: Size, argument: Argument) -> Option<SizedOperand>
     ensures { result ≡ operand_of_size size argument }
 {
@@ -77,7 +77,7 @@ pub fn spot_of_size(size: Size, argument: Argument) -> Option<SizedOperand>
     if spot.size == size { Some(spot) } else { None }
 }
 
-/// One beside a register, which gives the size.
+/// The operand that an argument is beside a register, which gives the size.
 pub fn spot_beside(size: Size, argument: Argument) -> Option<SizedOperand>
     ensures { result ≡ operand_beside size argument }
 {

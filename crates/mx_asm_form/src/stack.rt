@@ -7,7 +7,7 @@ use crate::{number_in, says, spot_of_size, waiting};
 use mx_asm_statement::{Argument, Statement};
 use mx_insn::{Insn, Port, PortSize, Register, Size};
 
-/// An instruction that stands alone.
+/// The statement of an instruction that takes no arguments.
 pub fn alone(insn: Insn, arguments: &[Argument]) -> Option<Statement>
     ensures { result ≡ statement_without_arguments insn arguments.now }
 {
@@ -32,7 +32,7 @@ fn push_one(first: Argument) -> Option<Statement>
     }
 }
 
-/// PUSH.
+/// The statement of PUSH with its arguments.
 pub fn push(arguments: &[Argument]) -> Option<Statement>
     ensures { result ≡ push arguments.now }
 {
@@ -51,7 +51,7 @@ fn pop_one(first: Argument) -> Option<Statement>
     }
 }
 
-/// POP.
+/// The statement of POP with its arguments.
 pub fn pop(arguments: &[Argument]) -> Option<Statement>
     ensures { result ≡ pop arguments.now }
 {
@@ -73,7 +73,7 @@ fn return_one(first: Argument) -> Option<Statement>
     }
 }
 
-/// RET.
+/// The statement of RET with its arguments.
 pub fn return_of(arguments: &[Argument]) -> Option<Statement>
     ensures { result ≡ return_of arguments.now }
 {
@@ -96,7 +96,7 @@ fn interrupt_one(first: Argument) -> Option<Statement>
     }
 }
 
-/// INT.
+/// The statement of INT with its arguments.
 pub fn interrupt(arguments: &[Argument]) -> Option<Statement>
     ensures { result ≡ interrupt arguments.now }
 {
@@ -129,7 +129,7 @@ fn port_size_of(argument: Argument) -> Option<PortSize>
     }
 }
 
-/// IN.
+/// The statement of IN with its arguments.
 pub fn port_in(arguments: &[Argument]) -> Option<Statement>
     ensures { result ≡ port_in arguments.now }
 {
@@ -143,7 +143,7 @@ pub fn port_in(arguments: &[Argument]) -> Option<Statement>
     }
 }
 
-/// OUT.
+/// The statement of OUT with its arguments.
 pub fn port_out(arguments: &[Argument]) -> Option<Statement>
     ensures { result ≡ port_out arguments.now }
 {

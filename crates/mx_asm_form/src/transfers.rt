@@ -20,7 +20,7 @@ fn jump_one(short: bool, first: Argument) -> Option<Statement>
     }
 }
 
-/// JMP.
+/// The statement of JMP with its arguments.
 pub fn jump(short: bool, arguments: &[Argument]) -> Option<Statement>
     ensures { result ≡ jump short arguments.now }
 {
@@ -30,7 +30,7 @@ pub fn jump(short: bool, arguments: &[Argument]) -> Option<Statement>
     }
 }
 
-/// Jcc.
+/// The statement of Jcc with its arguments.
 pub fn jump_if(short: bool, condition: Condition, arguments: &[Argument]) -> Option<Statement>
     ensures { result ≡ jump_if_statement short condition arguments.now }
 {
@@ -52,7 +52,7 @@ fn call_one(first: Argument) -> Option<Statement>
     }
 }
 
-/// CALL.
+/// The statement of CALL with its arguments.
 pub fn call(arguments: &[Argument]) -> Option<Statement>
     ensures { result ≡ call arguments.now }
 {
@@ -62,7 +62,7 @@ pub fn call(arguments: &[Argument]) -> Option<Statement>
     }
 }
 
-/// LOOPNE, LOOPE, LOOP, JECXZ.
+/// The statement of LOOPNE, LOOPE, LOOP or JECXZ with its arguments.
 pub fn looping(operation: Loop, arguments: &[Argument]) -> Option<Statement>
     ensures { result ≡ loop_statement operation arguments.now }
 {

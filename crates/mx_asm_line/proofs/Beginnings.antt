@@ -61,7 +61,7 @@ next : {A : Type 0} (b : StatementStart) (o : Option A) (f : A → Option Statem
 next b None f k = none_agrees b
 next b (Some a) f k = k a
 
--- ---- behind a mnemonic
+-- ---- after a mnemonic
 
 mnemonic_agrees : StatesCode → (m : Mnemonic) (ts : List Item) → Agrees beginnings.Instruction (behind_mnemonic m ts)
 mnemonic_agrees law m ts =
@@ -73,7 +73,7 @@ prefix_agrees law p (Some m) [] = none_agrees beginnings.Instruction
 prefix_agrees law p (Some m) (t ∷ []) = λ s e. code_agrees s (law.repeated p m s e)
 prefix_agrees law p (Some m) (t ∷ u ∷ ts) = none_agrees beginnings.Instruction
 
--- ---- behind a directive
+-- ---- after a directive
 
 alone_agrees : (s : Statement) (ts : List Item) → Agrees (begins_with s) (standing_alone s ts)
 alone_agrees s [] = some_agrees s

@@ -52,7 +52,7 @@ next : {A : Type 0} (o : Option A) (f : A → Option Statement) → ((a : A) →
 next None f k = none_fits
 next (Some a) f k = k a
 
--- ---- behind a mnemonic
+-- ---- after a mnemonic
 
 mnemonic_fits : NumbersFit → (m : Mnemonic) (ts : List Item) → AllFit (behind_mnemonic m ts)
 mnemonic_fits law m ts = next (arguments_of (without_short_mark m ts)) _ (λ xs. law.stated (is_marked m ts) m xs)
@@ -63,7 +63,7 @@ prefix_fits law p (Some m) [] = none_fits
 prefix_fits law p (Some m) (t ∷ []) = law.repeated p m
 prefix_fits law p (Some m) (t ∷ u ∷ ts) = none_fits
 
--- ---- behind a directive
+-- ---- after a directive
 
 alone_fits : (s : Statement) (ts : List Item) → IsOther s → AllFit (standing_alone s ts)
 alone_fits s [] other = other_fits s other

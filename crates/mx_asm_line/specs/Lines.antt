@@ -26,7 +26,7 @@ abbrev pub any_long : List Item → Bool
 any_long [] = false
 any_long (t ∷ ts) = is_long t || any_long ts
 
--- the word right behind a prefix is neither a label nor an operand
+-- the word right after a prefix is neither a label nor an operand
 abbrev pub long_behind : LineStart → List Item → Bool
 long_behind (begun.Known (starts.Repeat p)) [] = false
 long_behind (begun.Known (starts.Repeat p)) (t ∷ ts) = any_long ts

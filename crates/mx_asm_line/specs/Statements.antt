@@ -1,4 +1,4 @@
--- Which statement stands behind what it begins with.
+-- Which statement stands after what it begins with.
 use Rattle.std.specs.Prelude.{ℕ, ◌&&◌, ◌-◌, ◌+◌, if◌then◌else◌, Bool, true, false, nat_eq, Option, Some, None, List, [], ◌∷◌, slice_range}
 use Rattle.std.specs.Cmp.Lexicographic.{pointwise}
 use Rattle.mx_word.specs.declared.size.Size.TheVariants as sizes
@@ -27,7 +27,7 @@ use Rattle.mx_asm_form.specs.Statements.{statement_for, statement_after_prefix}
 use Rattle.mx_asm_line.specs.declared.opening.LineStart.{LineStart}
 use Rattle.mx_asm_line.specs.declared.opening.LineStart.TheVariants as begun
 
--- ---- behind a mnemonic
+-- ---- after a mnemonic
 
 -- the word `short`
 abbrev pub is_short_word : Item → Bool
@@ -44,7 +44,7 @@ statement_by short m ts = do
   xs ← arguments_of ts
   statement_for short m xs
 
--- right behind JMP and Jcc `short` is always the mark, and elsewhere a name
+-- right after JMP and Jcc `short` is always the mark, and elsewhere a name
 abbrev pub is_marked : Mnemonic → List Item → Bool
 is_marked m [] = false
 is_marked m (t ∷ ts) = takes_short m && is_short_word t
@@ -61,7 +61,7 @@ abbrev pub behind_prefix : Prefix → Option Mnemonic → List Item → Option S
 behind_prefix p (Some m) (t ∷ []) = statement_after_prefix p m
 behind_prefix p _ _ = None
 
--- ---- behind a directive
+-- ---- after a directive
 
 abbrev pub standing_alone : Statement → List Item → Option Statement
 standing_alone s [] = Some s
@@ -114,7 +114,7 @@ text_alone t _ = None
 
 -- ---- the whole statement
 
--- what it begins with, the mnemonic behind a prefix, the text that stands alone, and what stands behind its first word
+-- what it begins with, the mnemonic after a prefix, the text that stands alone, and what stands after its first word
 abbrev pub statement_of : LineStart → Option Mnemonic → Option (List ℕ) → List Item → Option Statement
 statement_of begun.Nothing second text ts = Some statements.Nothing
 statement_of begun.Unknown second text ts = None

@@ -15,7 +15,7 @@ use mx_asm_form::{code_is_stated, numbers_fit};
 use mx_insn_words::{one_register_or_size, one_start};
 use mx_lex::{one_reading, reading_or_fault};
 
-/// A line of a text says one thing at most.
+/// Law: a line of an assembler text says at most one thing.
 pub fn one_line()
     ensures { (t : List ℕ) (a b : Line) → IsLine t a → IsLine t b → a ≡ b }
 {

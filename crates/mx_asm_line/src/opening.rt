@@ -28,7 +28,7 @@ fn is_label(text: &[u8], first: Token, second: Token) -> bool
     }
 }
 
-/// What the label's token is, where there is one, and what stands behind it; or all.
+/// What the label's token is, where there is one, and what stands after it; or all.
 pub fn behind_label<'a>(text: &[u8], tokens: &'a [Token]) -> (Option<Item>, &'a [Token])
     requires { All (IsSlice text.now) tokens.now }
     ensures label { IsLabelItem text.now (label_of text.now tokens.now) result.0 }
@@ -47,7 +47,7 @@ pub fn behind_label<'a>(text: &[u8], tokens: &'a [Token]) -> (Option<Item>, &'a 
     }
 }
 
-/// What a statement's first token begins.
+/// What a line's first token begins: a label, a directive, an instruction.
 pub fn begun_by(text: &[u8], tokens: &[Token]) -> LineStart
     requires { All (IsSlice text.now) tokens.now }
     ensures { Begins text.now tokens.now result }
@@ -75,7 +75,7 @@ pub fn behind_first(tokens: &[Token]) -> &[Token]
     }
 }
 
-/// The mnemonic that stands first.
+/// The mnemonic that is a line's first word.
 pub fn mnemonic_first(text: &[u8], tokens: &[Token]) -> Option<Mnemonic>
     requires { All (IsSlice text.now) tokens.now }
     ensures { NamesMnemonic text.now tokens.now result }

@@ -25,7 +25,7 @@ fn any_long(items: &[Item]) -> bool
     false
 }
 
-/// Whether a name behind a statement's first word is too long, the word behind a prefix aside.
+/// Whether a name after a statement's first word is too long, the word after a prefix aside.
 fn long_behind(begun: LineStart, rest: &[Item]) -> bool
     ensures { result ≡ long_behind begun rest.now }
 {

@@ -44,7 +44,7 @@ AllAtAddress code a s (l ∷ ls) (b ∷ bs) =
 
 -- ---- instructions in the listing
 
--- at an address the parts have this instruction, spelled by so many bytes
+-- at an address the parts have this instruction, spelled by that many bytes
 abbrev pub HasAt : List Part → ℕ → Insn → ℕ → Type 0
 HasAt parts at i k = (before after : List Part) × (parts ≡ before ++ Instruction i k ∷ after) × (total_size before ≡ at)
 

@@ -10,7 +10,7 @@ abbrev pub error_of : AsmError → AroundError
 error_of (assembling.At f) = Text f
 error_of assembling.NoMemory = NoMemory
 
--- a text is told its first fault, and nothing else, want of memory aside
+-- a text is told its first fault, and nothing else, unless memory runs out
 abbrev pub TellsWhy : List ℕ → AroundError → Type 0
 TellsWhy t NoMemory = ⊤
 TellsWhy t (Text f) = HasTextFault t f

@@ -3,7 +3,7 @@
 use mx_asm::{AsmError, Fault};
 use mx_word::NoMemory;
 
-/// The text's first fault, or that memory was wanting. Nothing else can be in the way, since what is
+/// The text's first fault, or that memory ran out. Nothing else can be in the way, since what is
 /// read was written.
 #[derive(Clone, Copy, PartialEq, Eq)]
 pub enum AroundError {

@@ -26,7 +26,7 @@ pub struct Journey {
     pub listing: String,
 }
 
-/// Reads the file that was written of a program: it is that program again, want of memory aside.
+/// Reads the file that was written of a program: it is that program again, unless memory runs out.
 fn read_written(alloc: Global, file: &[u8], program: &Program) -> Result<Program, NoMemory>
     requires { FileIs file.now program.now }
     ensures { IfOk result (λ again. again ≡ program.now) }

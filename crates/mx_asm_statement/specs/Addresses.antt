@@ -21,7 +21,7 @@ scale_of_number n =
     else if n == 8 then Some scales.Eight
     else None
 
--- the value behind a register: left out, behind a plus and without a sign, or -n
+-- the value after a register: left out, after a plus and without a sign, or -n
 abbrev pub displacement_after : List Item → Option Value
 displacement_after [] = value_of_parts None false 0
 displacement_after (items.Mark Plus ∷ items.Mark Minus ∷ ts) = None
@@ -43,7 +43,7 @@ address_with_base base ts = do
   v ← displacement_after ts
   Some (record { base = Some base; index = None; value = v })
 
--- index*scale, base+index*scale, base+index (of scale 1), base, of registers of 32 bits, each with a value behind it or
+-- index*scale, base+index*scale, base+index (of scale 1), base, of registers of 32 bits, each with a value after it or
 -- without; or a value alone
 abbrev pub address_in_brackets : List Item → Option Address
 address_in_brackets (items.Register Dword i ∷ items.Mark Star ∷ items.Number n ∷ ts) = address_with_index None i (scale_of_number n) ts

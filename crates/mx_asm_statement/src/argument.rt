@@ -47,7 +47,7 @@ fn bracketed(size: Option<Size>, items: &[Item]) -> Option<Argument>
     Some(Argument::Memory(size, address))
 }
 
-/// The argument that items say.
+/// The argument that an operand's items say.
 pub fn argument_of(items: &[Item]) -> Option<Argument>
     ensures { result ≡ argument_of items.now }
 {

@@ -22,7 +22,7 @@ pub enum Item {
     Other,
 }
 
-/// Whether an item is a name that is too long.
+/// Whether an operand's item is a name that is too long.
 pub fn is_long(item: Item) -> bool
     ensures { result ≡ is_long item }
 {

@@ -18,7 +18,7 @@ fn is_comma(item: Item) -> bool
     }
 }
 
-/// What stands before the first comma, and what behind it.
+/// What stands before the first comma, and what after it.
 pub fn parted(items: &[Item]) -> Option<(&[Item], &[Item])>
     ensures parts { MatchOption result (slice_split is_comma items.now ≡ items.now ∷ []) (λ p. slice_split is_comma items.now ≡ p.0.now ∷ slice_split is_comma p.1.now) }
     ensures shorter { IfSome result (λ p. length p.1.now < length items.now) }
@@ -33,7 +33,7 @@ pub fn parted(items: &[Item]) -> Option<(&[Item], &[Item])>
     None
 }
 
-/// The arguments that items say.
+/// The arguments that a statement's items say.
 pub fn arguments_of(alloc: Global, items: &[Item]) -> Result<Option<Vec<Argument>>, AllocError>
     ensures { IfOk result (λ found. MatchOption found (arguments_of items.now ≡ None) (λ v. arguments_of items.now ≡ Some v.items)) }
 {

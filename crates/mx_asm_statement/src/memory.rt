@@ -32,7 +32,7 @@ fn scale_of(number: u32) -> Option<Scale>
     }
 }
 
-/// The value behind a register.
+/// The value after a register.
 fn displaced(items: &[Item]) -> Option<Value>
     ensures { result ≡ displacement_after items.now }
 {
@@ -82,7 +82,7 @@ fn based(base: Register, items: &[Item]) -> Option<Address>
     })
 }
 
-/// The place behind a base, a plus and a second register.
+/// The place after a base, a plus and a second register.
 fn behind_two(base: Register, register: Register, items: &[Item]) -> Option<Address>
     ensures { result ≡ address_in_brackets (item.Register sizes.Dword base ∷ item.Mark marks.Plus ∷ item.Register sizes.Dword register ∷ items.now) }
 {
@@ -97,7 +97,7 @@ fn behind_two(base: Register, register: Register, items: &[Item]) -> Option<Addr
     }
 }
 
-/// The place behind a register, which is an index where `*n` follows, else the base.
+/// The place after a register, which is an index where `*n` follows, else the base.
 fn behind_register(register: Register, items: &[Item]) -> Option<Address>
     ensures { result ≡ address_in_brackets (item.Register sizes.Dword register ∷ items.now) }
 {

@@ -10,7 +10,7 @@ use mx_lex::{Token, TokenKind};
 use mx_text::name_of;
 use std::alloc::{AllocError, Global};
 
-/// The bytes of a token.
+/// The bytes of an assembler text's token.
 pub fn token_bytes(text: &[u8], token: Token) -> &[u8]
     requires { IsSlice text.now token }
     ensures { result.now ≡ token_bytes text.now token }
@@ -18,7 +18,7 @@ pub fn token_bytes(text: &[u8], token: Token) -> &[u8]
     &text[token.start..token.end]
 }
 
-/// Whether a word begins with a dot.
+/// Whether a word begins with a dot, as directives do.
 pub fn is_dotted(word: &[u8]) -> bool
     ensures { result ≡ (slice_index word.now 0 == 46) }
 {

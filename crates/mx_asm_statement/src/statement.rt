@@ -33,14 +33,14 @@ impl Model for DataValues {
 }
 
 impl DataValues {
-    /// The list of a vector's values. Takes no memory.
+    /// The values of a data statement, from a vector. Takes no memory.
     pub fn from_vec(values: Vec<Value>) -> DataValues
         ensures { result ≡ values.items }
     {
         DataValues { values }
     }
 
-    /// The values.
+    /// The values of a data statement, in order.
     pub fn as_slice(&self) -> &[Value]
         ensures { result.now ≡ self.now }
     {
@@ -48,7 +48,7 @@ impl DataValues {
     }
 }
 
-/// What stands on a line behind its label.
+/// What stands on a line after its label.
 #[derive(Drop)]
 pub enum Statement {
     Nothing,
@@ -58,13 +58,13 @@ pub enum Statement {
     Data(Size, DataValues),
     /// `.ascii`: the bytes that a text stands for.
     Ascii(Bytes),
-    /// `.space`: so many zeros.
+    /// `.space`: that many zeros.
     Space(u32),
     /// `.sep`: text and data have segments of their own.
     Separate,
     /// `.entry`: where the program begins.
     Entry(Name),
-    /// `.stack`: so many bytes of stack.
+    /// `.stack`: that many bytes of stack.
     Stack(u32),
     Instruction(Instruction),
     /// To a target.

@@ -15,7 +15,7 @@ impl Value {
     ghost use Rattle.mx_word.specs.Word.{IsSmall};
     ghost use Rattle.mx_asm_statement.specs.Values.{whole_of};
 
-    /// The number with its sign, whatever the name.
+    /// The number of a written value with its sign, whatever the name.
     pub fn whole(self) -> i64
         ensures value { result ≡ whole_of self }
         ensures near { IsSmall result }

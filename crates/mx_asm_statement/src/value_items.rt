@@ -56,7 +56,7 @@ fn value_of_three(first: Item, second: Item, third: Item) -> Option<Value>
     }
 }
 
-/// The value that items say.
+/// The value that an operand's items say.
 pub fn value_of(items: &[Item]) -> Option<Value>
     ensures { result ≡ value_in_items items.now }
 {

@@ -37,7 +37,7 @@ pub fn saved_again(kernel: &Kernel, config: &Config)
     history_again();
 }
 
-/// The report on a kernel's processes.
+/// The report's text on a kernel's processes.
 pub fn report(alloc: Global, kernel: &Kernel) -> Result<Vec<u8>, NoMemory>
     ensures { IfOk result (λ report. report.items ≡ report_text (replay kernel.now).table (replay kernel.now).services) }
 {

@@ -21,7 +21,7 @@ is_hash b = b == 35
 abbrev pub said_in : List ℕ → List (List ℕ)
 said_in line = fields (before_first is_hash line)
 
--- a number behind the word, and nothing more
+-- a number after the word, and nothing more
 abbrev pub number_after_word : ℕ → ℕ → List (List ℕ) → Option ℕ
 number_after_word least most fs = do
   word ← only fs
@@ -44,7 +44,7 @@ terms_of_service s = record { masks = s.masks; level = s.level; best = s.best; q
 abbrev pub is_stray : ℕ → Bool
 is_stray b = b == 9 || b == 13
 
--- NAME FILE and what stands behind: a name that a label may have, and a text
+-- NAME FILE and what stands after: a name that a label may have, and a text
 abbrev pub HasParts : List (List ℕ) → Label → List ℕ → Terms → Type 0
 HasParts (name ∷ file ∷ fs) label text terms =
     (name_of name ≡ Some label.name) × (IsReserved name → ⊥)

@@ -85,7 +85,7 @@ HasConfigFault text e =
     IsFirstItemWrong nothing_above 1 (lines text) e
     ⊎ ((a : ItemsAbove) × AreItemsTaken nothing_above 1 (lines text) a × (a.lines ≡ []) × (e ≡ BadLine (last_line (lines text))))
 
--- want of memory aside
+-- unless memory runs out
 abbrev pub TellsItemWrong : ItemsAbove → ℕ → List ℕ → BootError → Type 0
 TellsItemWrong a n line NoMemory = ⊤
 TellsItemWrong a n line e = IsItemWrong a n line e

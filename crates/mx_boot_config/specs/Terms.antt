@@ -1,4 +1,4 @@
--- What a service's line says behind its file (our own notation).
+-- What a service's line says after its file (our own notation).
 use Rattle.std.specs.Prelude.{ℕ, ◌≤◌, ◌<◌, nat_lt, if◌then◌else◌, List, [], ◌∷◌, length, codes, Option, Some, None}
 use Rattle.std.specs.Str.{bytes_eq}
 use Rattle.mx_text.specs.Fields.{◌>>=◌}
@@ -16,19 +16,19 @@ number_between least most word = do
 abbrev pub mask : List ℕ → Option ℕ
 mask word = if nat_lt 8 (length word) then None else number_up_to 4294967295 16 word
 
--- a key and its value, and the fields behind them
+-- a key and its value, and the fields after them
 abbrev pub key_with_value : List ℕ → List (List ℕ) → Option (List ℕ × List (List ℕ))
 key_with_value key (k ∷ v ∷ fs) = if bytes_eq k key then Some (v, fs) else None
 key_with_value key _ = None
 
--- a value that is read in a way, and the fields behind it
+-- a value that is read in a way, and the fields after it
 abbrev pub read_as : (List ℕ → Option ℕ) → List ℕ → List (List ℕ) → Option (ℕ × List (List ℕ))
 read_as reads key fs = do
   p ← key_with_value key fs
   n ← reads p.0
   Some (n, p.1)
 
--- traps T send S calls C, and the fields behind them
+-- traps T send S calls C, and the fields after them
 unfoldable pub masks_of : List (List ℕ) → Option (Masks × List (List ℕ))
 masks_of fs = do
   t ← read_as mask (codes "traps") fs

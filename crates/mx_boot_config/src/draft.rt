@@ -35,7 +35,7 @@ impl Model for Draft {
 }
 
 impl Draft {
-    /// Before the first line. Takes no memory.
+    /// A configuration's draft before the first line. Takes no memory.
     pub fn new(alloc: Global) -> Draft
         ensures { result ≡ nothing_above }
     {

@@ -30,7 +30,7 @@ fn length_of_item(line: &[u8]) -> usize
     end
 }
 
-/// What stands before a comment.
+/// What stands before a comment in a configuration's line.
 pub fn before_comment(line: &[u8]) -> &[u8]
     ensures { result.now ≡ before_first is_hash line.now }
 {

@@ -2,7 +2,7 @@
 
 use mx_proc::Masks;
 
-/// What a service's line says behind its file.
+/// What a service's line says after its file.
 #[derive(Clone, Copy)]
 pub struct Terms {
     pub masks: Masks,

@@ -1,4 +1,4 @@
-//! What a service's line says behind its file.
+//! What a service's line says after its file.
 
 ghost use Rattle.std.specs.Prelude.{◌≡◌, ◌≤◌, Some, None, MatchOption, IfSome};
 ghost use Rattle.mx_text.specs.Fields.{fields};
@@ -29,7 +29,7 @@ fn mask(word: &[u8]) -> Option<u32>
     }
 }
 
-/// What stands behind a key that is the line's first field, and the line behind that.
+/// What stands after a key that is the line's first field, and the line after that.
 fn value_of<'a>(line: &'a [u8], key: &[u8]) -> Option<(&'a [u8], &'a [u8])>
     ensures { MatchOption result (key_with_value key.now (fields line.now) ≡ None) (λ p. key_with_value key.now (fields line.now) ≡ Some (p.0.now, fields p.1.now)) }
 {
@@ -42,7 +42,7 @@ fn value_of<'a>(line: &'a [u8], key: &[u8]) -> Option<(&'a [u8], &'a [u8])>
     }
 }
 
-/// The mask behind a key, and the line behind it.
+/// The mask after a key, and the line after it.
 fn mask_at<'a>(line: &'a [u8], key: &[u8]) -> Option<(u32, &'a [u8])>
     ensures { MatchOption result (read_as mask key.now (fields line.now) ≡ None) (λ p. read_as mask key.now (fields line.now) ≡ Some (p.0, fields p.1.now)) }
 {
@@ -51,7 +51,7 @@ fn mask_at<'a>(line: &'a [u8], key: &[u8]) -> Option<(u32, &'a [u8])>
     Some((mask, rest))
 }
 
-/// The number behind a key, and the line behind it.
+/// The number after a key, and the line after it.
 fn number_at<'a>(line: &'a [u8], key: &[u8], least: u32, most: u32) -> Option<(u32, &'a [u8])>
     ensures value { MatchOption result (read_as (number_between least most) key.now (fields line.now) ≡ None) (λ p. read_as (number_between least most) key.now (fields line.now) ≡ Some (p.0, fields p.1.now)) }
     ensures most { IfSome result (λ p. p.0 ≤ most) }
@@ -62,7 +62,7 @@ fn number_at<'a>(line: &'a [u8], key: &[u8], least: u32, most: u32) -> Option<(u
     Some((number, rest))
 }
 
-/// `traps T send S calls C`, and the line behind it.
+/// `traps T send S calls C`, and the line after it.
 #[tactic(auto, unfolding(crate::specs::Terms::masks_of))]
 fn masks_of(line: &[u8]) -> Option<(Masks, &[u8])>
     ensures { MatchOption result (masks_of (fields line.now) ≡ None) (λ p. masks_of (fields line.now) ≡ Some (p.0, fields p.1.now)) }
@@ -100,7 +100,7 @@ fn rest_of(masks: Masks, line: &[u8]) -> Option<Terms>
     }
 }
 
-/// What fields behind a service's file say.
+/// What the fields after a service's file say: masks, levels, quantum, restarts.
 pub fn terms_of(line: &[u8]) -> Option<Terms>
     ensures value { result ≡ terms_of (fields line.now) }
     ensures within { IfSome result AreWithin }

@@ -15,7 +15,7 @@ use Rattle.mx_machine_world.specs.declared.history.Record.{Record}
 use Rattle.mx_machine_world.specs.declared.history.Recorded.{Recorded}
 use Rattle.mx_machine_world.specs.declared.history.Recorded.TheVariants.{Take, Back, Line, Tick, Kill, Respawn}
 
--- what was recorded, of a verb and the fields behind it
+-- what was recorded, of a verb and the fields after it
 abbrev pub recorded_of : Verb → List (List ℕ) → Option Recorded
 recorded_of verbs.Take [] = Some Take
 recorded_of verbs.Take (f ∷ fs) = None
@@ -35,7 +35,7 @@ recorded_of verbs.Respawn fs = do
   Some (Respawn s)
 recorded_of _ fs = None
 
--- a record where the actor is one of so many
+-- a record where the actor is one of this many
 abbrev pub record_by : ℕ → ℕ → Recorded → Option Record
 record_by actors a e = if nat_lt a actors then Some (record { actor = a; event = e }) else None
 
@@ -46,7 +46,7 @@ record_of actors (f ∷ fs) = do
   e ← after_verb recorded_of fs
   record_by actors a e
 
--- the record that a line says, where there are so many actors
+-- the record that a line says, where there are that many actors
 abbrev pub record_line : ℕ → List ℕ → Option Record
 record_line actors line = record_of actors (fields line)
 

@@ -17,7 +17,7 @@ use mx_machine_world::{Config, Record, Recorded, Rules};
 use mx_text::{BootError, next_field, next_line};
 use std::alloc::Global;
 
-/// What was recorded, of a verb and what stands behind it.
+/// What was recorded, of a verb and what stands after it.
 fn recorded_of(verb: Verb, rest: &[u8]) -> Option<Recorded>
     ensures { result ≡ recorded_of verb (fields rest.now) }
 {
@@ -38,7 +38,7 @@ fn recorded_of(verb: Verb, rest: &[u8]) -> Option<Recorded>
     }
 }
 
-/// What a line says behind its actor.
+/// What a line says after its actor.
 fn recorded(line: &[u8]) -> Option<Recorded>
     ensures { result ≡ after_verb recorded_of (fields line.now) }
 {
@@ -47,7 +47,7 @@ fn recorded(line: &[u8]) -> Option<Recorded>
     recorded_of(verb, rest)
 }
 
-/// A record, where the actor is one of so many.
+/// A record, where the actor is one of this many.
 fn made_by(actors: u8, actor: u8, event: Recorded) -> Option<Record>
     ensures { result ≡ record_by actors actor event }
 {
@@ -58,7 +58,7 @@ fn made_by(actors: u8, actor: u8, event: Recorded) -> Option<Record>
     }
 }
 
-/// Reads the records of so many actors.
+/// Reads the records of this many actors.
 #[derive(Drop)]
 struct RecordReader {
     actors: u8,

@@ -13,7 +13,7 @@ IsFirstUnread {T} says lines n =
     (above below : List (List ℕ)) × (line : List ℕ) × (xs : List T) × (lines ≡ above ++ line ∷ below)
     × AreLinesRead says above xs × (says line ≡ None) × (n ≡ length above + 1)
 
--- what is told where nothing is answered: the first line that says nothing, and want of memory only where each line says
+-- what is told where nothing is answered: the first line that says nothing, and lack of memory only where each line says
 -- something
 abbrev pub TellsUnread : {T : Type 0} → (List ℕ → Option T) → List (List ℕ) → BootError → Type 0
 TellsUnread says lines (BadRecord n) = IsFirstUnread says lines n

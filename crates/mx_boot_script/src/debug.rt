@@ -23,11 +23,11 @@ pub enum DebugLine {
     Break(u32, CodePlace),
     /// No breakpoint any more.
     Clear(u32, CodePlace),
-    /// At most so many steps on a processor, up to a breakpoint.
+    /// At most that many steps on a processor, up to a breakpoint.
     Go(u8, u32),
     /// The registers of a processor's process.
     Registers(u8),
-    /// Of a processor's process, from an address on, so many bytes.
+    /// Of a processor's process, from an address on, that many bytes.
     Memory(u8, u32, u32),
     /// The deliveries that are kept.
     Messages,

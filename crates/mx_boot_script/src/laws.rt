@@ -23,7 +23,7 @@ pub fn number_again()
     ensures number { (limit n : ℕ) → n ≤ limit → n < 2 ^ 64 → number_up_to limit 10 (decimal n) ≡ Some n }
 {}
 
-/// The word of a verb is a word, and that verb's.
+/// Law: the word of a script's verb is read as that verb.
 pub fn verb_again()
     ensures word { (v : Verb) → is_field_word (verb_word v) ≡ true }
     ensures verb { (v : Verb) → verb_of (verb_word v) ≡ Some v }

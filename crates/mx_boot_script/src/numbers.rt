@@ -21,14 +21,14 @@ pub fn count(word: &[u8]) -> Option<u32>
     number_up_to(word, 10, 2_147_483_647)
 }
 
-/// The actor that a line's only field names.
+/// The actor that is a script line's only field.
 pub fn only_actor(line: &[u8]) -> Option<u8>
     ensures { result ≡ only_actor (fields line.now) }
 {
     actor(one_field(line)?)
 }
 
-/// The number that is a line's only field.
+/// The number that is a script line's only field.
 pub fn only_count(line: &[u8]) -> Option<u32>
     ensures { result ≡ only_count (fields line.now) }
 {

@@ -23,7 +23,7 @@ impl Model for SymbolName {
 }
 
 impl SymbolName {
-    /// The name that a word is.
+    /// The name of a symbol that a word of a debugger's script is.
     pub fn new(word: &[u8]) -> SymbolName
         requires { length word.now ≤ 8 }
         ensures { result ≡ word.now }
@@ -35,7 +35,7 @@ impl SymbolName {
         SymbolName { bytes }
     }
 
-    /// Its bytes.
+    /// The bytes of a symbol's name.
     pub fn as_slice(&self) -> &[u8]
         ensures { result.now ≡ self.now }
     {

@@ -18,14 +18,14 @@ pub trait ReadsLine {
         ensures { result ≡ says self.now line.now };
 }
 
-/// Keeps what a line says, and answers whether it is lost, for want of memory.
+/// Keeps what a line says, and answers whether it is lost, if memory runs out.
 fn is_lost<T: Drop>(found: &mut Vec<T>, said: T) -> bool
     ensures { result ≡ false → found.new.items ≡ found.old.items ++ said ∷ [] }
 {
     found.push(said).is_err()
 }
 
-/// What the lines of a text say, or `BadRecord` with the first line that says nothing. Want of memory
+/// What the lines of a text say, or `BadRecord` with the first line that says nothing. A lack of memory
 /// is told after all lines are judged, so that a line at fault is told whatever memory there is.
 #[tactic(auto, using(crate::proofs::ReadSoFar::more))]
 pub fn read_lines<R: ReadsLine>(

@@ -15,7 +15,7 @@ use std::alloc::Global;
 /// A line of a script. The last four are events of the first actor that is no processor.
 #[derive(Clone, Copy, Debug, PartialEq, Eq)]
 pub enum ScriptLine {
-    /// At most so many steps on a processor.
+    /// At most that many steps on a processor.
     Step(u8, u32),
     /// A processor takes a process.
     Take(u8),

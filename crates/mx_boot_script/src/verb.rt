@@ -43,7 +43,7 @@ fn matching(word: &[u8]) -> Option<Verb>
     }
 }
 
-/// The verb that a word is.
+/// The verb of a script's line that a word is.
 pub fn verb_named(word: &[u8]) -> Option<Verb>
     ensures { result ≡ verb_of word.now }
 {

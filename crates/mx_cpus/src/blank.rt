@@ -54,7 +54,7 @@ pub fn boot(
 }
 
 impl Blank {
-    /// The machine under a name. Takes no memory.
+    /// The shared machine, under the name that its proofs use. Takes no memory.
     pub fn open<M: Naming>(self) -> Shared<M>
         requires table { self.table ≡ M.table }
         requires boot { self.boot ≡ M.boot }

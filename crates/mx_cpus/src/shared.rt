@@ -26,8 +26,8 @@ impl<M: Naming> Shared<M> {
         }
     }
 
-    /// Ends the sharing. The kernel stands where the table stands after its history, in which stands all
-    /// that the seats show.
+    /// Ends the sharing: the kernel, for the seats of all actors. The kernel stands where the table
+    /// stands after its history, in which stands all that the seats show.
     pub fn into_kernel(self, seats: Vec<ActorSeat>) -> Kernel
         requires table { All (λ s. s.table ≡ M.table) seats.items }
         ensures stands { All (λ s. StandsIn result.history s) seats.items }
@@ -50,7 +50,7 @@ impl<M: Naming> Shared<M> {
         self.lock.lock(rt).take(seat)
     }
 
-    /// A processor gives back what it was lent. Its record counts the steps that were made.
+    /// A processor gives back the loan, under the lock. Its record counts the steps that were made.
     pub fn give(&self, rt: &impl Wait, seat: ActorSeat, loan: Loan) -> ActorSeat
         requires table { seat.table ≡ M.table }
         requires loan { IsLoanOf seat loan }
@@ -73,7 +73,7 @@ impl<M: Naming> Shared<M> {
         self.lock.lock(rt).event(seat, Event::Line(line))
     }
 
-    /// An actor lets the clock tick.
+    /// An actor lets the clock tick, under the lock.
     pub fn tick(&self, rt: &impl Wait, seat: ActorSeat) -> (ActorSeat, Result<Answer, Refusal>)
         requires table { seat.table ≡ M.table }
         ensures ok { IfOk result.1 (λ x. IsAnsweredCall M.boot seat result.0 events.Tick x) }
@@ -82,7 +82,7 @@ impl<M: Naming> Shared<M> {
         self.lock.lock(rt).event(seat, Event::Tick)
     }
 
-    /// An actor kills the process of an endpoint.
+    /// An actor kills the process of an endpoint, under the lock.
     pub fn kill(
         &self,
         rt: &impl Wait,

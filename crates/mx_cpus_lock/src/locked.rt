@@ -35,7 +35,7 @@ impl<M: Naming> Model for Locked<M> {
 
 #[tactic(auto, using(crate::proofs::WorldLemmas::take_below, crate::proofs::WorldLemmas::take_empty, crate::proofs::WorldLemmas::take_outs, crate::proofs::WorldLemmas::take_fresh, crate::proofs::WorldLemmas::event_outs))]
 impl<M: Naming> Locked<M> {
-    /// A kernel, and the desk that agrees with it.
+    /// What the lock guards: a kernel, and the desk that agrees with it.
     pub fn new(kernel: Kernel, desk: Desk) -> Locked<M>
         requires { IsLocked M.table M.boot kernel desk }
         ensures { result ≡ kernel }
@@ -47,7 +47,7 @@ impl<M: Naming> Locked<M> {
         }
     }
 
-    /// The kernel. It stands where the table stands after its history.
+    /// The kernel that the lock guarded. It stands where the table stands after its history.
     pub fn into_kernel(self) -> Kernel
         ensures kernel { result ≡ self }
         ensures boot { result.boot ≡ M.boot }
@@ -60,7 +60,7 @@ impl<M: Naming> Locked<M> {
         kernel
     }
 
-    /// The seat sees the history as it is.
+    /// The seat sees the history as the lock has it now.
     pub fn show(&mut self, seat: ActorSeat) -> ActorSeat
         requires table { seat.table ≡ M.table }
         ensures kernel { self.new ≡ self.old }
@@ -96,7 +96,7 @@ impl<M: Naming> Locked<M> {
         }
     }
 
-    /// A processor brings back what it was lent.
+    /// A processor brings back its loan to the locked kernel.
     pub fn give(&mut self, seat: ActorSeat, loan: Loan) -> ActorSeat
         requires table { seat.table ≡ M.table }
         requires loan { IsLoanOf seat loan }

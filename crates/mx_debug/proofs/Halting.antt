@@ -120,7 +120,7 @@ run_halts law k n s o left c run told points slot free = halts_by points slot k 
 
 -- ---- one step after another
 
--- so many steps were made, and none before was an end
+-- that many steps were made, and none before was an end
 pub record Stepped (points : List Breakpoint) (slot c : ℕ) (o here : Out) : Type 0 where
   pub made : (held_run c o).0.0 ≡ c
   pub here_is : held_after c o ≡ here

@@ -10,7 +10,7 @@ use Rattle.mx_debug.specs.declared.halt.HaltCause.TheVariants as cause
 use Rattle.mx_debug.specs.declared.halt.Halt.{Halt}
 use Rattle.mx_debug.specs.Points.{has_breakpoint}
 
--- what is held after so many steps
+-- what is held after that many steps
 abbrev pub held_after : ℕ → Out → Out
 held_after n o = (held_run n o).1
 
@@ -30,7 +30,7 @@ is_reached points slot n o = nat_lt 0 n && has_breakpoint points slot o.image.ei
 abbrev pub is_end : List Breakpoint → ℕ → Out → ℕ → Bool
 is_end points slot o n = is_over (held_after n o) || is_reached points slot n (held_after n o)
 
--- the least number from n on that passes the test, or the one that is so many further on
+-- the least number from n on that passes the test, or the one that is that many further on
 abbrev pub least_from : (ℕ → Bool) → ℕ → ℕ → ℕ
 least_from test n zero = n
 least_from test n (suc more) = if test n then n else least_from test (n + 1) more

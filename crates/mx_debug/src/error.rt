@@ -15,14 +15,14 @@ pub enum DebugError {
 }
 
 impl DebugError {
-    /// The number that messages tell.
+    /// The number with which a debugger's error is told.
     pub fn code(self) -> u8
         ensures { result ≡ error_code self }
     {
         self as u8
     }
 
-    /// The name that messages tell.
+    /// The name with which a debugger's error is told.
     pub fn name(self) -> &'static str
         ensures { result.now ≡ error_name self }
     {

@@ -30,7 +30,7 @@ fn is_named(symbol: &Symbol, name: &[u8]) -> bool
     before_zero(symbol.name.as_slice()) == name
 }
 
-/// The value of the first symbol of a name.
+/// The value of a program's first symbol of a name.
 pub fn address(program: &Program, name: &[u8]) -> Result<u32, DebugError>
     ensures found { IfOk result (λ value. first_named program.now.symbols name.now ≡ Some value) }
     ensures none { OnErr result (first_named program.now.symbols name.now ≡ None) }
@@ -44,7 +44,7 @@ pub fn address(program: &Program, name: &[u8]) -> Result<u32, DebugError>
     Err(DebugError::NoSymbol)
 }
 
-/// The byte of the data segment at a place.
+/// The byte of a process's data segment at an address, for the debugger.
 pub fn byte(image: &Image, at: u32) -> Result<u8, DebugError>
     ensures found { IfOk result (λ byte. slice_get image.now.memory at ≡ Some byte) }
     ensures none { OnErr result (slice_get image.now.memory at ≡ None) }

@@ -41,7 +41,7 @@ fn is_at(point: &Breakpoint, slot: Slot, address: u32) -> bool
 impl Debugger {
     ghost use Rattle.std.specs.Prelude.{[]};
 
-    /// No breakpoints.
+    /// A debugger without breakpoints.
     pub fn new() -> Debugger
         ensures { result ≡ [] }
     {
@@ -50,7 +50,7 @@ impl Debugger {
         }
     }
 
-    /// The breakpoints.
+    /// The breakpoints that are set.
     pub fn as_slice(&self) -> &[Breakpoint]
         ensures { result.now ≡ self.now }
     {

@@ -48,7 +48,7 @@ fn is_absent(column: ModRm) -> bool
     }
 }
 
-/// What stands behind the opcode may follow it: nothing yet, or this byte, a ModRM byte if the row has one.
+/// What stands after the opcode may follow it: nothing yet, or this byte, a ModRM byte if the row has one.
 fn may_follow(column: ModRm, behind: Option<u8>) -> bool
     ensures { result ≡ may_follow column behind }
 {
@@ -66,7 +66,7 @@ fn stands(row: &Row, resized: bool, repeat: Option<Repeat>) -> bool
     allows_resized(row.sizes, resized) && allows_repeat(row.repeats, repeat)
 }
 
-/// The row may be that of the head and of what stands behind it.
+/// The row may be that of the head and of what stands after it.
 fn begins(row: &Row, head: Head, behind: Option<u8>) -> bool
     ensures { result ≡ begins head behind row.now }
 {
@@ -106,7 +106,7 @@ fn followed(head: Head, modrm: u8) -> Result<&'static Row, DecodeFault>
     }
 }
 
-/// The row that the bytes behind the opcode are of.
+/// The row that the bytes after the opcode are of.
 pub fn row_of(head: Head, bytes: &[u8]) -> Result<&'static Row, DecodeFault>
     ensures { Gives (λ x. x.now) result (chosen head.resized head.repeat (rows_of head.escaped head.opcode) bytes.now) }
 {

@@ -258,7 +258,7 @@ fn high_rows(part: u8) -> &'static [Row]
     }
 }
 
-/// Behind 0F, 64 opcodes each.
+/// After 0F, 64 opcodes each.
 #[tactic(auto, unfolding(crate::specs::Map::rows_in, mx_insn::specs::Table::rows))]
 fn escaped_rows(part: u8) -> &'static [Row]
     requires { part < 4 }
@@ -280,7 +280,7 @@ fn escaped_rows(part: u8) -> &'static [Row]
     }
 }
 
-/// The rows of the map, behind 0F or not, in the part where the opcode stands.
+/// The rows of the map, after 0F or not, in the part where the opcode stands.
 #[inline(always)]
 pub fn rows_near(escaped: bool, opcode: u8) -> &'static [Row]
     ensures { result.now ≡ rows_in escaped (map_part escaped opcode) }

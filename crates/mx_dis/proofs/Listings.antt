@@ -19,7 +19,7 @@ pub one_more : (at : ℕ) (bytes : List ℕ) (p : Part) (text : List ℕ)
     → IsListing (at + part_size p) (drop (part_size p) bytes) text → IsListing at bytes (listing_line at p ++ text)
 one_more at bytes p text parting (parts, x, e) = (p ∷ parts, parting parts x, ap (λ (w : List ℕ). listing_line at p ++ w) e)
 
--- one more line behind the lines so far
+-- one more line after the lines so far
 pub more_lines : (at : ℕ) (bytes t : List ℕ) (p : Part) (out new : List ℕ)
     → ((rest : List Part) → IsParting (drop (part_size p) bytes) rest → IsParting bytes (p ∷ rest))
     → ((text : List ℕ) → IsListing at bytes text → IsListing 0 t (out ++ text))

@@ -109,7 +109,7 @@ SomeParting t = (parts : List Part) × IsParting t parts
 byte_first : (t : List ℕ) → 0 < length t → NoneFirst t → SomeParting (drop 1 t) → SomeParting t
 byte_first t lt none (parts, p) = (Byte (get_or t 0 0) ∷ parts, (drop 1 t, cut_one t lt, none, p))
 
--- the first part, by what decoding answers, and a parting of what is behind it
+-- the first part, by what decoding answers, and a parting of what is after it
 first_and_rest : FrontOk → FrontNotInTable → FrontShort → TakesBytes → (t : List ℕ) → AreBytes t → 0 < length t
     → (r : Result (Insn × ℕ) DecodeFault) → front t ≡ r → ((k : ℕ) → 1 ≤ k → SomeParting (drop k t)) → SomeParting t
 first_and_rest ok nit short least t b lt (Ok (i, k)) e rest =

@@ -17,7 +17,7 @@ part_text next (Byte b) = directive_word Data1 ++ (codes " " ++ number_text b)
 abbrev pub listing_line : ℕ → Part → List ℕ
 listing_line at p = eight_digits at ++ (codes " " ++ (part_text (at + part_size p) p ++ codes "\n"))
 
--- the lines of parts, of which the first stands at an address, and each other behind the one before
+-- the lines of parts, of which the first stands at an address, and each other after the one before
 abbrev pub lines_of : ℕ → List Part → List ℕ
 lines_of at [] = []
 lines_of at (p ∷ parts) = listing_line at p ++ lines_of (at + part_size p) parts

@@ -26,6 +26,6 @@ abbrev pub total_size : List Part → ℕ
 total_size [] = 0
 total_size (p ∷ parts) = part_size p + total_size parts
 
--- the first part is this instruction, spelled by so many bytes, and the others are a parting of the rest
+-- the first part is this instruction, spelled by that many bytes, and the others are a parting of the rest
 abbrev pub BeginsWith : Insn → ℕ → List ℕ → List Part → Type 0
 BeginsWith i k rest parts = (others : List Part) × (parts ≡ Instruction i k ∷ others) × IsParting rest others

@@ -10,7 +10,7 @@ ghost use Rattle.mx_dis.specs.Listing.{lines_of};
 
 use mx_decode::{few_bytes, front_is, front_of_fifteen, one_spelling};
 
-/// An instruction takes a byte at least.
+/// Law: an instruction of a listing takes a byte at least.
 pub fn takes_bytes()
     ensures { (t : List ℕ) (k : ℕ) (i : Insn) → SpellsFirst t k i → 1 ≤ k }
 {
@@ -19,7 +19,7 @@ pub fn takes_bytes()
     front_of_fifteen();
 }
 
-/// Bytes have just one parting.
+/// Law: bytes are parted into the lines of a listing in one way.
 pub fn one_parting()
     ensures some { (t : List ℕ) → AreBytes t → (parts : List Part) × IsParting t parts }
     ensures one { (t : List ℕ) (a b : List Part) → IsParting t a → IsParting t b → a ≡ b }
@@ -39,7 +39,7 @@ pub fn parted_there()
     one_spelling();
 }
 
-/// The lines of parts that follow others stand behind the others' lines, from the address on where
+/// The lines of parts that follow others stand after the others' lines, from the address on where
 /// these end.
 pub fn lines_join()
     ensures { (at : ℕ) (front back : List Part) → lines_of at (front ++ back) ≡ lines_of at front ++ lines_of (at + total_size front) back }

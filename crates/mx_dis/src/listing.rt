@@ -34,7 +34,7 @@ fn push_line(out: &mut String, at: u32, part: &Part) -> Result<(), AllocError>
     out.push_str("\n")
 }
 
-/// The bytes behind the part that they begin with.
+/// The bytes after the part that they begin with.
 fn behind<'a>(bytes: &'a [u8], part: &Part) -> &'a [u8]
     requires { part_size part.now ≤ length bytes.now }
     ensures { result.now ≡ drop (part_size part.now) bytes.now }

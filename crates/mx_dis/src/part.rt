@@ -18,7 +18,7 @@ pub enum Part {
 }
 
 impl Part {
-    /// How many bytes it takes.
+    /// How many bytes a line of a listing takes.
     pub fn size(&self) -> u8
         ensures { result ≡ part_size self.now }
     {
@@ -29,7 +29,7 @@ impl Part {
     }
 }
 
-/// The part that bytes begin with. Whatever the rest is parted into follows it.
+/// The line of a listing that bytes begin with. Whatever the rest is parted into follows it.
 pub fn first_part(bytes: &[u8]) -> Part
     requires { 0 < length bytes.now }
     ensures part { IsFirstPart bytes.now result }

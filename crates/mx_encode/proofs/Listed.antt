@@ -34,7 +34,7 @@ abbrev pub is_under : ℕ → ModRm → Bool
 is_under n (Only m) = n == m
 is_under n _ = false
 
--- the row of an opcode, of an opcode under /n, and of an opcode behind 0F
+-- the row of an opcode, of an opcode under /n, and of an opcode after 0F
 abbrev pub opcode_at : ℕ → ℕ
 opcode_at first = position_or_len (λ (r : Row). not r.escaped && (r.first == first)) rows
 

@@ -26,7 +26,7 @@ abbrev pub rm_number : Option Register → Option Sib → ℕ
 rm_number base None = base_number base
 rm_number base (Some s) = 4
 
--- behind a base other than EBP a displacement of 0 is left out, one that is a byte with its sign extended
+-- after a base other than EBP a displacement of 0 is left out, one that is a byte with its sign extended
 -- takes mod 01, and another, or one that is marked wide, mod 10
 abbrev pub mode_behind : ℕ → ℕ → Bool → ℕ
 mode_behind base displacement true = 2

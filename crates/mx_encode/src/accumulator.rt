@@ -10,14 +10,14 @@ use crate::forms::{Encoding, is_word, sized_opcode};
 use crate::numbers::is_word_size;
 use mx_insn::{Comparison, OperandSize, Plain, Port, PortSize, Repeat, Size, Transfer};
 
-/// CBW or CWDE.
+/// How CBW or CWDE is encoded.
 pub fn extend_accumulator(size: OperandSize) -> Encoding
     ensures { result ≡ laid (extend_accumulator size) }
 {
     Encoding::bare(0x98).resized(is_word_size(size))
 }
 
-/// CWD or CDQ.
+/// How CWD or CDQ is encoded.
 pub fn spread_sign(size: OperandSize) -> Encoding
     ensures { result ≡ laid (spread_sign size) }
 {
@@ -41,7 +41,7 @@ fn rep(repeated: bool) -> Option<Repeat>
     if repeated { Some(Repeat::Repe) } else { None }
 }
 
-/// MOVS, STOS, LODS.
+/// How MOVS, STOS and LODS are encoded.
 pub fn transfer(operation: Transfer, size: Size, repeated: bool) -> Encoding
     ensures { result ≡ laid (transfer_choice operation size repeated) }
 {
@@ -60,7 +60,7 @@ fn compare_opcode(operation: Comparison) -> u8
     }
 }
 
-/// CMPS, SCAS.
+/// How CMPS and SCAS are encoded.
 pub fn compare(operation: Comparison, size: Size, repeat: Option<Repeat>) -> Encoding
     ensures { result ≡ laid (compare_choice operation size repeat) }
 {
@@ -69,7 +69,7 @@ pub fn compare(operation: Comparison, size: Size, repeat: Option<Repeat>) -> Enc
         .repeated(repeat)
 }
 
-/// IN.
+/// How an IN is encoded.
 pub fn input(size: PortSize, port: Port) -> Encoding
     ensures form { result ≡ laid (in_choice size port) }
     ensures fits { PortFits port }
@@ -86,7 +86,7 @@ pub fn input(size: PortSize, port: Port) -> Encoding
     }
 }
 
-/// OUT.
+/// How an OUT is encoded.
 pub fn output(size: PortSize, port: Port) -> Encoding
     ensures form { result ≡ laid (out_choice size port) }
     ensures fits { PortFits port }
@@ -128,7 +128,7 @@ fn plain_opcode(operation: Plain) -> u8
     }
 }
 
-/// An instruction without operands.
+/// How an instruction without operands is encoded.
 pub fn plain(operation: Plain) -> Encoding
     ensures { result ≡ laid (plain_choice operation) }
 {

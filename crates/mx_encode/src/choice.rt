@@ -7,7 +7,7 @@ use crate::forms::Encoding;
 use crate::{NoForm, Wide, accumulator, jumps, operands, single};
 use mx_insn::Insn;
 
-/// The form that is chosen. Only how far LOOP and JECXZ go can rule one out.
+/// The encoding that is chosen for an instruction. Only how far LOOP and JECXZ go can rule one out.
 pub fn form_of(insn: Insn, wide: Wide) -> Result<Encoding, NoForm>
     ensures form { GivesBytes result (choice insn wide) }
     ensures fits { Fits insn }

@@ -13,7 +13,7 @@ pub struct Encoding {
     /// 66 stands.
     pub resized: bool,
     pub repeat: Option<Repeat>,
-    /// Behind 0F.
+    /// After 0F.
     pub escaped: bool,
     pub opcode: u8,
     pub rm: Option<Rm>,
@@ -21,7 +21,7 @@ pub struct Encoding {
 }
 
 impl Encoding {
-    /// An opcode alone.
+    /// An encoding of an opcode alone.
     pub fn bare(opcode: u8) -> Encoding
         ensures { result ≡ record { resized = false; repeat = None; escaped = false; opcode = opcode; rm = None; immediate = Number.Nothing } }
     {
@@ -35,7 +35,7 @@ impl Encoding {
         }
     }
 
-    /// An opcode with a reg field and an operand.
+    /// An encoding of an opcode with a reg field and an operand.
     pub fn with_rm(opcode: u8, reg: u8, operand: Operand) -> Encoding
         ensures { result ≡ record { resized = false; repeat = None; escaped = false; opcode = opcode; rm = Some (record { reg = reg; operand = operand }); immediate = Number.Nothing } }
     {
@@ -58,14 +58,14 @@ impl Encoding {
         Encoding::with_rm(sized_opcode(size, opcode), reg, operand).resized(is_word(size))
     }
 
-    /// With 66, or without.
+    /// The same encoding with the prefix 66, or without.
     pub fn resized(self, resized: bool) -> Encoding
         ensures { result ≡ record self { resized = resized } }
     {
         Encoding { resized, ..self }
     }
 
-    /// Behind 0F.
+    /// The same encoding, its opcode after 0F.
     pub fn escaped(self) -> Encoding
         ensures { result ≡ record self { escaped = true } }
     {
@@ -75,14 +75,14 @@ impl Encoding {
         }
     }
 
-    /// With F3, F2, or neither.
+    /// The same encoding with the prefix F3, F2, or neither.
     pub fn repeated(self, repeat: Option<Repeat>) -> Encoding
         ensures { result ≡ record self { repeat = repeat } }
     {
         Encoding { repeat, ..self }
     }
 
-    /// With an immediate.
+    /// The same encoding with an immediate.
     pub fn with_immediate(self, immediate: Number) -> Encoding
         ensures { result ≡ record self { immediate = immediate } }
     {

@@ -11,7 +11,7 @@ use crate::forms::Encoding;
 use crate::numbers::{is_short, short, shortens};
 use mx_insn::{Condition, Loop, Operand, Size};
 
-/// Jcc.
+/// How a Jcc is encoded, with 8 bits or with all.
 pub fn jump_if(condition: Condition, displacement: u32, long: bool) -> Encoding
     ensures { result ≡ laid (jump_if condition displacement long) }
 {
@@ -24,7 +24,7 @@ pub fn jump_if(condition: Condition, displacement: u32, long: bool) -> Encoding
     }
 }
 
-/// JMP.
+/// How a JMP is encoded, with 8 bits or with all.
 pub fn jump(displacement: u32, long: bool) -> Encoding
     ensures { result ≡ laid (jump_choice displacement long) }
 {
@@ -35,14 +35,14 @@ pub fn jump(displacement: u32, long: bool) -> Encoding
     }
 }
 
-/// CALL.
+/// How a CALL is encoded.
 pub fn call(displacement: u32) -> Encoding
     ensures { result ≡ laid (call_choice displacement) }
 {
     Encoding::bare(0xe8).with_immediate(Number::Dword(displacement))
 }
 
-/// JMP to where an operand says.
+/// How a JMP to where an operand says is encoded.
 pub fn jump_to(operand: Operand) -> Encoding
     ensures form { result ≡ laid (jump_to operand) }
     ensures fits { OperandFits operand }
@@ -50,7 +50,7 @@ pub fn jump_to(operand: Operand) -> Encoding
     Encoding::with_rm(0xff, 4, operand)
 }
 
-/// CALL of where an operand says.
+/// How a CALL of where an operand says is encoded.
 pub fn call_to(operand: Operand) -> Encoding
     ensures form { result ≡ laid (call_to operand) }
     ensures fits { OperandFits operand }
@@ -69,7 +69,7 @@ fn loop_opcode(operation: Loop) -> u8
     }
 }
 
-/// LOOPNE, LOOPE, LOOP, JECXZ.
+/// How LOOPNE, LOOPE, LOOP and JECXZ are encoded.
 pub fn looping(operation: Loop, displacement: u32) -> Result<Encoding, NoForm>
     ensures { GivesBytes result (loop_choice operation displacement) }
 {
@@ -79,7 +79,7 @@ pub fn looping(operation: Loop, displacement: u32) -> Result<Encoding, NoForm>
     Ok(Encoding::bare(loop_opcode(operation)).with_immediate(short(displacement)))
 }
 
-/// RET.
+/// How a RET is encoded.
 pub fn returning(number: u16) -> Encoding
     ensures { result ≡ laid (return_choice number) }
 {
@@ -90,7 +90,7 @@ pub fn returning(number: u16) -> Encoding
     }
 }
 
-/// INT.
+/// How an INT is encoded.
 pub fn interrupt(number: u8) -> Encoding
     ensures { result ≡ laid (interrupt_choice number) }
 {

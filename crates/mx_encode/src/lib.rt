@@ -28,7 +28,7 @@ pub use laws::{
 pub struct Wide {
     /// An immediate as wide as the operands.
     pub immediate: bool,
-    /// A displacement of 32 bits, in memory behind a base or in a jump.
+    /// A displacement of 32 bits, in memory after a base or in a jump.
     pub displacement: bool,
 }
 

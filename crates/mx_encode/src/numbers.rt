@@ -73,7 +73,7 @@ pub fn shortens(size: Size, number: u32, long: bool) -> bool
     !long && is_short(size, number)
 }
 
-/// The low byte, where the rest is its sign.
+/// The low byte of an immediate, where the rest is its sign.
 pub fn short(number: u32) -> Number
     ensures { result ≡ short number }
 {

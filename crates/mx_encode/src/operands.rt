@@ -44,7 +44,7 @@ fn arithmetic_immediate(
     }
 }
 
-/// The operands of ADD and its like.
+/// How ADD and its like are encoded, by their operands.
 pub fn arithmetic(operation: Arithmetic, operands: Operands, long: bool) -> Encoding
     ensures form { result ≡ laid (arithmetic_choice operation operands long) }
     ensures fits { OperandsFit operands }
@@ -103,7 +103,7 @@ fn value_into(opcode: u8, to: Operand, value: Immediate) -> Encoding
     }
 }
 
-/// The operands of MOV.
+/// How a MOV is encoded, by its operands.
 pub fn movement(operands: Operands) -> Encoding
     ensures form { result ≡ laid (move_choice operands) }
     ensures fits { OperandsFit operands }
@@ -122,7 +122,7 @@ pub fn movement(operands: Operands) -> Encoding
     }
 }
 
-/// The operands of TEST with a register.
+/// How a TEST with a register is encoded.
 pub fn test(size: Size, operand: Operand, register: Register) -> Encoding
     ensures form { result ≡ laid (test_choice size operand register) }
     ensures fits { OperandFits operand }
@@ -130,7 +130,7 @@ pub fn test(size: Size, operand: Operand, register: Register) -> Encoding
     Encoding::sized(size, 0x84, register.number(), operand)
 }
 
-/// The operands of TEST with an immediate.
+/// How a TEST with an immediate is encoded.
 pub fn test_immediate(operand: Operand, value: Immediate) -> Encoding
     ensures form { result ≡ laid (test_immediate operand value) }
     ensures operand_fits { OperandFits operand }
@@ -139,7 +139,7 @@ pub fn test_immediate(operand: Operand, value: Immediate) -> Encoding
     value_into(0xf6, operand, value)
 }
 
-/// The operands of XCHG.
+/// How an XCHG is encoded, by its operands.
 pub fn exchange(size: Size, operand: Operand, register: Register) -> Encoding
     ensures form { result ≡ laid (exchange_choice size operand register) }
     ensures fits { OperandFits operand }
@@ -147,7 +147,7 @@ pub fn exchange(size: Size, operand: Operand, register: Register) -> Encoding
     Encoding::sized(size, 0x86, register.number(), operand)
 }
 
-/// LEA.
+/// How a LEA is encoded.
 pub fn load_address(size: OperandSize, to: Register, memory: Memory) -> Encoding
     ensures form { result ≡ laid (load_address size to memory) }
     ensures fits { memory.displacement < 2 ^ 32 }
@@ -155,7 +155,7 @@ pub fn load_address(size: OperandSize, to: Register, memory: Memory) -> Encoding
     Encoding::with_rm(0x8d, to.number(), Operand::Memory(memory)).resized(is_word_size(size))
 }
 
-/// IMUL with two operands.
+/// How an IMUL with two operands is encoded.
 pub fn multiply(size: OperandSize, to: Register, from: Operand) -> Encoding
     ensures form { result ≡ laid (multiply_choice size to from) }
     ensures fits { OperandFits from }
@@ -165,7 +165,7 @@ pub fn multiply(size: OperandSize, to: Register, from: Operand) -> Encoding
         .resized(is_word_size(size))
 }
 
-/// IMUL with three operands.
+/// How an IMUL with three operands is encoded.
 pub fn multiply_immediate(to: Register, from: Operand, value: WideImmediate, long: bool) -> Encoding
     ensures form { result ≡ laid (multiply_immediate to from value long) }
     ensures from_fits { OperandFits from }
@@ -192,7 +192,7 @@ pub fn multiply_immediate(to: Register, from: Operand, value: WideImmediate, lon
     }
 }
 
-/// MOVZX.
+/// How a MOVZX is encoded.
 pub fn zero_extend(extension: Extension, to: Register, from: Operand) -> Encoding
     ensures form { result ≡ laid (zero_extension extension to from) }
     ensures fits { OperandFits from }
@@ -205,7 +205,7 @@ pub fn zero_extend(extension: Extension, to: Register, from: Operand) -> Encodin
     }
 }
 
-/// MOVSX.
+/// How a MOVSX is encoded.
 pub fn sign_extend(extension: Extension, to: Register, from: Operand) -> Encoding
     ensures form { result ≡ laid (sign_extension extension to from) }
     ensures fits { OperandFits from }

@@ -95,7 +95,7 @@ fn memory_place(reg: u8, memory: Memory, long: bool) -> RmFields
     }
 }
 
-/// Where the operand stands.
+/// How a ModRM byte and its SIB say where an operand stands.
 pub fn place_of(rm: Rm, long: bool) -> RmFields
     requires { rm.reg < 8 }
     ensures { place_seen result ≡ place_written rm.reg rm.operand long }

@@ -26,7 +26,7 @@ fn step(opcode: u8, reg: u8, size: Size, operand: Operand) -> Encoding
     }
 }
 
-/// INC, DEC, NOT, NEG.
+/// How INC, DEC, NOT and NEG are encoded.
 pub fn unary(operation: Unary, size: Size, operand: Operand) -> Encoding
     ensures form { result ≡ laid (unary_choice operation size operand) }
     ensures fits { OperandFits operand }
@@ -51,7 +51,7 @@ fn product_number(operation: Product) -> u8
     }
 }
 
-/// MUL, IMUL, DIV, IDIV.
+/// How MUL, IMUL, DIV and IDIV are encoded.
 pub fn product(operation: Product, size: Size, operand: Operand) -> Encoding
     ensures form { result ≡ laid (product_choice operation size operand) }
     ensures fits { OperandFits operand }
@@ -59,7 +59,7 @@ pub fn product(operation: Product, size: Size, operand: Operand) -> Encoding
     Encoding::sized(size, 0xf6, product_number(operation), operand)
 }
 
-/// ROL, ROR, SHL, SHR, SAR.
+/// How ROL, ROR, SHL, SHR and SAR are encoded.
 pub fn shift(operation: Shift, size: Size, operand: Operand, count: Count) -> Encoding
     ensures form { result ≡ laid (shift_choice operation size operand count) }
     ensures operand_fits { OperandFits operand }
@@ -78,7 +78,7 @@ pub fn shift(operation: Shift, size: Size, operand: Operand, count: Count) -> En
     }
 }
 
-/// SETcc.
+/// How a SETcc is encoded.
 pub fn set_condition(condition: Condition, operand: Operand) -> Encoding
     ensures form { result ≡ laid (set_condition condition operand) }
     ensures fits { OperandFits operand }
@@ -86,7 +86,7 @@ pub fn set_condition(condition: Condition, operand: Operand) -> Encoding
     Encoding::with_rm(0x90 + condition.code(), 0, operand).escaped()
 }
 
-/// PUSH.
+/// How a PUSH is encoded.
 pub fn push(operand: Operand) -> Encoding
     ensures form { result ≡ laid (push_choice operand) }
     ensures fits { OperandFits operand }
@@ -97,7 +97,7 @@ pub fn push(operand: Operand) -> Encoding
     }
 }
 
-/// PUSH of an immediate.
+/// How a PUSH of an immediate is encoded.
 pub fn push_immediate(number: u32, long: bool) -> Encoding
     ensures { result ≡ laid (push_immediate number long) }
 {
@@ -108,7 +108,7 @@ pub fn push_immediate(number: u32, long: bool) -> Encoding
     }
 }
 
-/// POP.
+/// How a POP is encoded.
 pub fn pop(register: Register) -> Encoding
     ensures { result ≡ laid (pop_choice register) }
 {

@@ -107,7 +107,7 @@ fn put_rm(bytes: &mut Bytes, rm: Option<Rm>, long: bool)
     }
 }
 
-/// The bytes of a form.
+/// The bytes of an encoding.
 pub fn bytes_of_form(form: Encoding, long: bool) -> Bytes
     requires { RegFits form.rm }
     ensures { result.items ≡ form_bytes form (place_for form.rm long) }

@@ -58,7 +58,7 @@ impl Image {
         }
     }
 
-    /// The 32 bits of a register.
+    /// The 32 bits of a register of the image.
     pub fn register(&self, register: Register) -> u32
         ensures { result ≡ register_of self.now register }
     {
@@ -71,7 +71,7 @@ impl Image {
         self.regs.set(Size::Dword, register, value);
     }
 
-    /// The segment that the code stands in.
+    /// The segment that the image's code stands in.
     #[inline(always)]
     pub fn code_segment(&self) -> &Segment
         ensures { result.now ≡ code_bytes self.now }
@@ -109,14 +109,14 @@ impl Image {
     }
 }
 
-/// A number less another, modulo 2^32.
+/// An address or count less a number, modulo 2^32.
 pub fn dword_difference(number: u32, by: u32) -> u32
     ensures { result ≡ dword_difference number by }
 {
     number.wrapping_sub(by)
 }
 
-/// A number and another more, modulo 2^32.
+/// An address or count and a number more, modulo 2^32.
 pub fn dword_sum(number: u32, by: u32) -> u32
     ensures { result ≡ dword_sum number by }
 {

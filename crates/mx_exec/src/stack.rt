@@ -12,7 +12,7 @@ use mx_mem::{OutOfLimit, Segment};
 use mx_regs::Regs;
 use mx_word::{Register, Size};
 
-/// Pushes a dword.
+/// Pushes a dword on the image's stack.
 pub fn push(image: &mut Image, value: u32) -> Result<(), u8>
     ensures { Performs image.old (image_after_push value image.old) result image.new }
 {
@@ -26,7 +26,7 @@ pub fn push(image: &mut Image, value: u32) -> Result<(), u8>
     }
 }
 
-/// The dword on top.
+/// The dword on top of the image's stack.
 pub fn top(image: &Image) -> Result<u32, u8>
     ensures { result ≡ top_of image.now }
 {
@@ -39,7 +39,7 @@ pub fn top(image: &Image) -> Result<u32, u8>
     }
 }
 
-/// Takes bytes off.
+/// Takes bytes off the image's stack.
 pub fn drop_bytes(image: &mut Image, count: u32)
     ensures { image.new ≡ image_after_drop count image.old }
 {

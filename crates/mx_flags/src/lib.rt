@@ -132,49 +132,49 @@ impl Flags {
         }
     }
 
-    /// CF.
+    /// The carry flag, CF.
     pub fn carry(&self) -> bool
         ensures { result ≡ self.now.carry }
     {
         self.carry == 1
     }
 
-    /// PF.
+    /// The parity flag, PF.
     pub fn parity(&self) -> bool
         ensures { result ≡ self.now.parity }
     {
         has_even_ones(self.word)
     }
 
-    /// AF.
+    /// The auxiliary carry flag, AF.
     pub fn auxiliary(&self) -> bool
         ensures { result ≡ self.now.auxiliary }
     {
         self.carries / 16 % 2 == 1
     }
 
-    /// ZF.
+    /// The zero flag, ZF.
     pub fn zero(&self) -> bool
         ensures { result ≡ self.now.zero }
     {
         self.zero == 0
     }
 
-    /// SF.
+    /// The sign flag, SF.
     pub fn sign(&self) -> bool
         ensures { result ≡ self.now.sign }
     {
         self.word >= 0x8000_0000
     }
 
-    /// DF.
+    /// The direction flag, DF.
     pub fn direction(&self) -> bool
         ensures { result ≡ self.now.direction }
     {
         self.direction == 1
     }
 
-    /// OF.
+    /// The overflow flag, OF.
     pub fn overflow(&self) -> bool
         ensures { result ≡ self.now.overflow }
     {
@@ -184,7 +184,7 @@ impl Flags {
         )
     }
 
-    /// Whether a condition holds.
+    /// Whether the flags satisfy a condition, as Jcc asks.
     pub fn cond(&self, condition: Condition) -> bool
         ensures { result ≡ holds condition self.now }
     {

@@ -278,13 +278,13 @@ pub enum Insn {
     ExtendAccumulator(OperandSize),
     /// CWD or CDQ: the accumulator's sign, extended over DX or EDX.
     SpreadSign(OperandSize),
-    /// MOVS, STOS, LODS, alone or behind REP.
+    /// MOVS, STOS, LODS, alone or after REP.
     Transfer {
         operation: Transfer,
         size: Size,
         repeated: bool,
     },
-    /// CMPS, SCAS, alone or behind REPE or REPNE.
+    /// CMPS, SCAS, alone or after REPE or REPNE.
     Compare {
         operation: Comparison,
         size: Size,

@@ -3,7 +3,7 @@
 use crate::insn::{Comparison, Loop, Plain, Product, Transfer};
 use mx_word::{Shift, Unary};
 
-/// The operand size of a row: b, v (word behind 66, else dword), or d (also where it has no mark).
+/// The operand size of a row: b, v (word after 66, else dword), or d (also where it has no mark).
 #[derive(Clone, Copy)]
 pub enum SizeMark {
     Byte,
@@ -43,7 +43,7 @@ pub enum ImmediateColumn {
     SignedByte,
     Word,
     Dword,
-    /// As wide as the operands: a word behind 66, else a dword.
+    /// As wide as the operands: a word after 66, else a dword.
     Variable,
 }
 
@@ -112,7 +112,7 @@ pub enum Pattern {
 /// A row of the table: opcodes first, first + step, .. of which there are count, and its columns.
 #[derive(Clone, Copy)]
 pub struct Row {
-    /// Behind 0F.
+    /// After 0F.
     pub escaped: bool,
     pub first: u8,
     pub step: u8,

@@ -142,7 +142,7 @@ abbrev pub comparison_word : Comparison → List ℕ
 comparison_word Cmps = codes "cmps"
 comparison_word Scas = codes "scas"
 
--- a mnemonic's word; a condition stands behind j or set, a size behind the name of a string instruction
+-- a mnemonic's word; a condition stands after j or set, a size after the name of a string instruction
 abbrev pub word_of : Mnemonic → List ℕ
 word_of (mnemonics.Arithmetic x) = arithmetic_word x
 word_of (mnemonics.Unary x) = unary_word x
@@ -163,7 +163,7 @@ prefix_word prefix.Rep = codes "rep"
 prefix_word prefix.Repe = codes "repe"
 prefix_word prefix.Repne = codes "repne"
 
--- right behind JMP or Jcc, what asks for a displacement of 8 bits
+-- right after JMP or Jcc, what asks for a displacement of 8 bits
 abbrev pub short_word : List ℕ
 short_word = codes "short"
 

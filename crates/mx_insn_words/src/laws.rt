@@ -7,7 +7,7 @@ ghost use Rattle.mx_insn_words.specs.declared.start.WordStart.{WordStart};
 ghost use Rattle.mx_insn_words.specs.Words.{start_word};
 ghost use Rattle.mx_insn_words.specs.Registers.{register_word, size_word};
 
-/// A word begins a statement as one thing at most.
+/// Law: a word begins an assembler statement as at most one thing.
 pub fn one_start()
     ensures { (a b : WordStart) → start_word a ≡ start_word b → a ≡ b }
 {}

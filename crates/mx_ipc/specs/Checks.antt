@@ -110,7 +110,7 @@ abbrev pub first_error : List (Bool × Errno) → Option Errno
 first_error [] = None
 first_error (check ∷ rest) = if check.0 then Some check.1 else first_error rest
 
--- those behind the trap mask, for a party
+-- those after the trap mask, for a party
 unfoldable pub party_refusal : TableState → ℕ → Call → Party → Option Errno
 party_refusal w s call party = if to_pseudo call party then Some Denied else first_error (drop 1 (checks w s call (Some party)))
 

@@ -13,7 +13,7 @@ pub enum Call {
 }
 
 impl Call {
-    /// The call of a number.
+    /// The call that a number in ECX means: SEND, RECEIVE, SENDREC, NOTIFY.
     pub fn of_number(number: u32) -> Option<Call>
         ensures { result ≡ call_of number }
     {

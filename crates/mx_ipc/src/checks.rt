@@ -120,7 +120,7 @@ fn check_process(
     Ok(())
 }
 
-/// The checks behind the trap mask.
+/// The checks after the trap mask.
 #[tactic(auto, unfolding(crate::specs::Checks::party_refusal, crate::specs::Checks::process_refusal))]
 fn check_party(table: &Table, slot: Slot, call: Call, party: Party) -> Result<(), Errno>
     requires slot { slot < length table.now.slots }

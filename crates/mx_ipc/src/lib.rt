@@ -268,7 +268,7 @@ fn perform(table: &mut Table, slot: Slot, call: Call, number: u32) -> TrapAnswer
     }
 }
 
-/// SEND: delivers where the destination receives, and else blocks the sender behind its callers.
+/// SEND: delivers where the destination receives, and else blocks the sender after its callers.
 pub fn send(table: &mut Table, slot: Slot, to: Endpoint)
     requires slot { slot < length table.old.slots }
     requires home { (process_at table.old slot).state ≡ Home }

@@ -13,7 +13,7 @@ use Rattle.mx_kcall.specs.declared.request.KernelCall.TheVariants.{Exit, Times, 
 abbrev pub word_at : List ℕ → ℕ → ℕ
 word_at bytes k = value_at (drop k bytes) 0 4
 
--- the type and the words of a message, behind the four bytes of its source
+-- the type and the words of a message, after the four bytes of its source
 abbrev pub message_words_of : List ℕ → MessageWords
 message_words_of bytes = record { kind = word_at bytes 4; p0 = word_at bytes 8; p1 = word_at bytes 12; p2 = word_at bytes 16; p3 = word_at bytes 20; p4 = word_at bytes 24 }
 

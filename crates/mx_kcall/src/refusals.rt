@@ -59,7 +59,7 @@ fn holds(table: &Table, slot: Slot, at: u32, count: u32) -> bool
     at as usize + count as usize <= table.process(slot).image.memory.limit()
 }
 
-/// Whether an endpoint's memory is barred to a slot for an access to so many bytes from an address on.
+/// Whether an endpoint's memory is barred to a slot for an access to that many bytes from an address on.
 fn is_barred(
     table: &Table,
     access: Access,

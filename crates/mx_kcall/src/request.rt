@@ -27,7 +27,7 @@ pub enum KernelCall {
     Exit,
     /// Tells the uptime and the caller's steps.
     Times,
-    /// Sets the caller's alarm after so many ticks; 0 cancels it.
+    /// Sets the caller's alarm after that many ticks; 0 cancels it.
     SetAlarm(u32),
     /// Takes (1) or gives up (0) an interrupt line.
     Irqctl {
@@ -40,7 +40,7 @@ pub enum KernelCall {
         register: u32,
         value: u32,
     },
-    /// Copies so many bytes from one process's address to another's.
+    /// Copies that many bytes from one process's address to another's.
     Vircopy {
         from: Endpoint,
         at: u32,
@@ -52,7 +52,7 @@ pub enum KernelCall {
     Kill(Endpoint),
     /// Tells the endpoint of a slot.
     Whois(u32),
-    /// Lets a process read (1), write (2) or do both (3) in so many bytes from an address on, and no
+    /// Lets a process read (1), write (2) or do both (3) in that many bytes from an address on, and no
     /// others; 0 ends what it was let.
     Grant {
         endpoint: Endpoint,
@@ -71,7 +71,7 @@ pub struct ReplyWords {
 }
 
 impl ReplyWords {
-    /// No words.
+    /// A kernel call's reply without words.
     pub fn none() -> ReplyWords
         ensures { result ≡ no_reply_words }
     {

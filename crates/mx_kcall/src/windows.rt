@@ -26,7 +26,7 @@ fn allows(wanted: Access, access: Access) -> bool
     }
 }
 
-/// Whether a window is open for an access to so many bytes from an address on: it allows that access,
+/// Whether a window is open for an access to that many bytes from an address on: it allows that access,
 /// and the whole range lies inside it.
 pub fn window_allows(window: Option<Window>, access: Access, at: u32, count: u32) -> bool
     ensures { result ≡ is_open (allows access) window at count }

@@ -2,7 +2,7 @@
 use Rattle.std.specs.Prelude.{ℕ, ◌+◌, ◌<◌, ◌≤◌, Bool, ◌&&◌, ◌||◌, ◌==◌, if◌then◌else◌, List, [], ◌∷◌, length, slice_index, IsTrue}
 use Rattle.mx_text.specs.Bytes.{is_letter, begins_name}
 
--- what may stand behind a backslash: n, 0, a quote, a backslash
+-- what may stand after a backslash: n, 0, a quote, a backslash
 abbrev pub is_escape : ℕ → Bool
 is_escape b = b == 110 || b == 48 || b == 34 || b == 92
 

@@ -98,7 +98,7 @@ IsReadAs t ks = (b : ℕ) × AreTokens t 0 ks b × Gap t b (length t)
 abbrev pub IsLexFault : List ℕ → LexError → Type 0
 IsLexFault t e = (ks : List Token) × (b a : ℕ) × AreTokens t 0 ks b × Gap t b a × BrokenAt t a e
 
--- the same, want of memory aside
+-- the same, unless memory runs out
 abbrev pub TellsLexFault : List ℕ → LexError → Type 0
 TellsLexFault t NoMemory = ⊤
 TellsLexFault t e = IsLexFault t e
@@ -108,6 +108,6 @@ abbrev pub least : TokenKind → ℕ
 least kinds.Text = 2
 least _ = 1
 
--- from one place in the text up to another behind it
+-- from one place in the text up to another after it
 abbrev pub IsSlice : List ℕ → Token → Type 0
 IsSlice t k = (k.start + least k.kind ≤ k.end) × (k.end ≤ length t)

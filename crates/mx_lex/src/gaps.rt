@@ -22,7 +22,7 @@ pub fn ends_at(bytes: &[u8], at: usize) -> bool
     bytes[at] == b'\r' && (at + 1 == bytes.len() || bytes[at + 1] == b'\n')
 }
 
-/// Where the word bytes from a place on end.
+/// Where the bytes of a word end that begins at a place of a text.
 pub fn run_end(bytes: &[u8], start: usize) -> usize
     requires { start ≤ length bytes.now }
     ensures from { start ≤ result }

@@ -36,7 +36,7 @@ pub struct Token {
     pub end: usize,
 }
 
-/// The first offset at fault, or that memory was wanting.
+/// The first offset at fault, or that memory ran out.
 #[derive(Clone, Copy, Debug, PartialEq, Eq)]
 pub enum LexError {
     /// No token begins here, or an escape isn't one.
@@ -49,7 +49,7 @@ pub enum LexError {
 }
 
 impl LexError {
-    /// The number that messages tell.
+    /// The number with which a token's fault is told.
     pub fn code(self) -> u8
         ensures { result ≡ lex_error_code self }
     {

@@ -10,7 +10,7 @@ pub fn gap_has_one_end()
     ensures { (t : List ℕ) (a b c : ℕ) → Gap t a b → Gap t a c → b ≤ length t → c ≤ length t → IsOver t b → IsOver t c → b ≡ c }
 {}
 
-/// A text has one reading at most.
+/// Law: a text is parted into tokens in at most one way.
 pub fn one_reading()
     ensures { (t : List ℕ) (ks js : List Token) → IsReadAs t ks → IsReadAs t js → ks ≡ js }
 {}
@@ -21,7 +21,7 @@ pub fn reading_or_fault()
     ensures not_neither { (t : List ℕ) → ((ks : List Token) → IsReadAs t ks → ⊥) → ((e : LexError) → IsLexFault t e → ⊥) → ⊥ }
 {}
 
-/// A text has one fault at most.
+/// Law: a text has at most one first fault of its tokens.
 pub fn one_fault()
     ensures { (t : List ℕ) (e f : LexError) → IsLexFault t e → IsLexFault t f → e ≡ f }
 {}

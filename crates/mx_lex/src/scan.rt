@@ -68,7 +68,7 @@ fn text_at(bytes: &[u8], start: usize) -> Result<Token, LexError>
     })
 }
 
-/// The token that begins at a place.
+/// The token of a text that begins at a place.
 pub fn token_at(bytes: &[u8], start: usize) -> Result<Token, LexError>
     requires place { start < length bytes.now }
     requires over { IsOver bytes.now start }

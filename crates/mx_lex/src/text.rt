@@ -14,7 +14,7 @@ fn is_escape(byte: u8) -> bool
     byte == b'n' || byte == b'0' || byte == b'"' || byte == b'\\'
 }
 
-/// Where the quote that ends a text stands.
+/// Where the quote stands that ends a quoted text.
 pub fn quote_at(bytes: &[u8], start: usize) -> Result<usize, LexError>
     requires { start ≤ length bytes.now }
     ensures quote { IfOk result (λ e. (e < length bytes.now) × Body bytes.now start e × (slice_index bytes.now e ≡ 34)) }

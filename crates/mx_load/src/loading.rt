@@ -93,7 +93,8 @@ fn code_of(text: Option<Segment>, program: &Program) -> Code
     Code::Separate(TextSegment::new(text))
 }
 
-/// The image of a program. Takes all pages for its segments before it writes one.
+/// The image with which a process of a program begins. Takes all pages for its segments before it
+/// writes one.
 pub fn load(alloc: Global, program: &Program) -> Result<Image, NoMemory>
     ensures image { IfOk result (λ image. image ≡ image_of_program program.now) }
     ensures from { IfOk result (λ image. IsLoadedFrom image program.now) }

@@ -166,7 +166,7 @@ impl Desk {
         ActorSeat { seat, actor, holds }
     }
 
-    /// The actor sees the history as it is. A note announces a record that nothing reads.
+    /// The actor sees the history as the desk has it. A note announces a record that nothing reads.
     pub fn note(&mut self, seat: ActorSeat) -> ActorSeat
         requires table { seat.table ≡ self.old.table }
         ensures known { IsSeatOf seat self.old }

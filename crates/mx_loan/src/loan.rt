@@ -49,21 +49,21 @@ impl Held for Loan {
 }
 
 impl Loan {
-    /// How many steps it may make.
+    /// How many steps the loan may make.
     pub fn budget(&self) -> u32
         ensures { result ≡ self.now.out.budget }
     {
         self.out.budget
     }
 
-    /// How many steps it has made.
+    /// How many steps the loan has made.
     pub fn count(&self) -> u32
         ensures { result ≡ self.now.out.count }
     {
         self.out.count
     }
 
-    /// Whose it is.
+    /// The processor that has the loan.
     pub fn actor(&self) -> u8
         ensures { result ≡ self.now.actor }
     {

@@ -27,7 +27,7 @@ impl Model for ActorSeat {
 }
 
 impl ActorSeat {
-    /// Which actor's it is.
+    /// The actor whose seat it is.
     pub fn actor(&self) -> u8
         ensures { result ≡ self.now.actor }
     {

@@ -36,7 +36,7 @@ pub fn join_seats(board: &ActorTable, both: &mut TableSeat, actor: TableSeat)
     board.shared.join_seat::<Halves>(both, actor);
 }
 
-/// The actor's half gets its own seat again.
+/// Parts two joined seats: the actor's half gets its own seat again.
 pub fn split_seats(board: &ActorTable, both: &mut TableSeat) -> TableSeat
     requires table { both.old.table_id ≡ board.now.shared.table_id }
     requires word { both.old.me.0.actor < board.now.shared.table_id.words }
@@ -166,7 +166,7 @@ pub fn note(board: &ActorTable, both: &mut TableSeat, said: &Announcement, at: u
         .compare_exchange_with::<NoteStep>(both, word, at, rest, &told);
 }
 
-/// Makes the seat of the next actor.
+/// Makes the seat of the next actor, while the table is made.
 pub fn make_seat(board: &ActorTable, founder: &mut TableSeat) -> TableSeat
     requires table { founder.old.table_id ≡ board.now.shared.table_id }
     requires founding { (founder.old.me.0.founding ≡ true) × (founder.old.me.1 ≡ []) }

@@ -18,7 +18,7 @@ impl<T> Model for Shown<T> {
 }
 
 impl<T> Shown<T> {
-    /// Shows a value as it is now.
+    /// Shows a value, as it is now, to contracts.
     pub fn of(x: &T) -> Shown<T>
         ensures { result.value ≡ x.now }
     {

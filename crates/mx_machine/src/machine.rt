@@ -77,7 +77,7 @@ impl Machine {
         }
     }
 
-    /// The kernel.
+    /// The kernel that the machine drives.
     pub fn kernel(&self) -> &Kernel
         ensures { result.now ≡ self.now.kernel }
     {
@@ -99,7 +99,7 @@ impl Machine {
         self.kernel.actors()
     }
 
-    /// The image that a processor holds, as it is now.
+    /// The image that a processor of the machine holds, as it is now.
     pub fn image(&self, cpu: u8) -> Option<&Image>
         ensures { MatchOption result (held_by (world_of self.now) cpu ≡ None) (λ image. (l : HeldProcess) × (held_by (world_of self.now) cpu ≡ Some l) × (image.now ≡ l.out.image)) }
     {
@@ -113,14 +113,14 @@ impl Machine {
         }
     }
 
-    /// The slot whose process a processor holds.
+    /// The slot whose process a processor of the machine holds.
     pub fn slot_on(&self, cpu: u8) -> Option<Slot>
         ensures { result ≡ option_map (λ (l : HeldProcess). l.slot) (held_by (world_of self.now) cpu) }
     {
         self.kernel.slot_on(cpu)
     }
 
-    /// Lends what a processor holds to a tool.
+    /// Lends what a processor of the machine holds to a tool.
     pub fn work<T: Tool>(&mut self, cpu: u8, tool: &mut T) -> Result<(), Refusal>
         ensures ok { OnOk result ((l : HeldProcess) × HasWorked (world_of self.old) (world_of self.new) cpu (T.steps tool.old l.out) l × T.Becomes tool.old l.out tool.new) }
         ensures err { IfErr result (λ refusal. (refusal ≡ CpuEmpty) × (held_by (world_of self.old) cpu ≡ None) × (self.new ≡ self.old) × (tool.new ≡ tool.old)) }
@@ -203,7 +203,7 @@ impl Machine {
         }
     }
 
-    /// Events in order, each by its actor; their answers are added to a list. For want of memory nothing
+    /// Events in order, each by its actor; their answers are added to a list. If memory runs out nothing
     /// changes.
     pub fn run(
         &mut self,

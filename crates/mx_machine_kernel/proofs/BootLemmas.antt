@@ -39,7 +39,7 @@ map-set f g a (suc n) zero k below is others = let e : a ≡ k = omega arith in
 map-set f g a (suc n) (suc i) k below is others = let m : a ≢ k = omega arith in
     ap (λ x. x ∷ map g (range_with_len (a + 1) n)) (others a m) ∙ ap (λ l. f a ∷ l) (map-set f g (a + 1) n i k (omega arith) (omega arith) others)
 
--- the slots of a level with one service more behind the others
+-- the slots of a level with one service more after the others
 slots-more_same : (n level : ℕ) (ss : List Service) (s : Service) → s.level ≡ level → slots_from n level (ss ++ s ∷ []) ≡ slots_from n level ss ++ (n + length ss) ∷ []
 slots-more_same n level [] s e = rw (eq-eqb s.level level e) (let z : n ≡ n + 0 = omega arith in ap (λ k. k ∷ []) z)
 slots-more_same n level (x ∷ xs) s e =

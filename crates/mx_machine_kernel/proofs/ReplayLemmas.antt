@@ -288,11 +288,11 @@ lease_there d room k n a l v h at = ap (λ (d : KernelState). lease_at d.leases 
 pub back_loaded : (d : KernelState) (room : ℕ) (k n : BootAndHistory) (a : ℕ) (l : HeldProcess) (o : Out) (v : Service) → k ≡ n → IsAtReplay d room k → held_by (replay n) a ≡ Some l → IsBack l.out o → slice_get d.services l.slot ≡ Some v → IsLoadedFrom o.image v.program
 back_loaded d room k n a l o v e h at b g = back_lasts l.out o b ∙ (h.fresh a l (ap (λ k. held_by (replay k) a) e ∙ at)).loaded v (ap (λ (d : KernelState). slice_get d.services l.slot) (sym h.present) ∙ g)
 
--- a run of what is lent is so many steps
+-- a run of what is lent is that many steps
 abbrev RunsAreSteps : Type 0
 RunsAreSteps = (w : World) (a k : ℕ) (l : HeldProcess) → held_by w a ≡ Some l → l.out.count ≤ l.out.budget → StepsTo w a (held_run k l.out).0.0 l (held_run k l.out).1
 
--- what came back is what so many steps make of what was lent
+-- what came back is what that many steps make of what was lent
 pub back_steps : (d : KernelState) (room : ℕ) (k n : BootAndHistory) (a : ℕ) (l : HeldProcess) (o : Out) → RunsAreSteps → k ≡ n → IsAtReplay d room k → held_by (replay n) a ≡ Some l → IsBack l.out o → StepsTo (replay k) a o.count l o
 back_steps d room k n a l o law v h at b =
     let held : held_by (replay k) a ≡ Some l = ap (λ k. held_by (replay k) a) v ∙ at in

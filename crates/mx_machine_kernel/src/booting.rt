@@ -44,7 +44,7 @@ fn first_table(alloc: Global, rules: Rules, services: &[Service]) -> Result<Tabl
     Ok(table)
 }
 
-/// So many processors, each without a process.
+/// That many processors, each without a process.
 fn no_leases(alloc: Global, cpus: u8) -> Result<Vec<Option<Lease>>, NoMemory>
     ensures { IfOk result (λ leases. leases.items ≡ replicate cpus None) }
 {

@@ -77,7 +77,7 @@ pub fn recorded_as(event: Event) -> Recorded
 
 impl Kernel {
     /// The kernel of a configuration and its services, each of which has its slot by its place in the
-    /// list. The services are moved out of the list, which is left empty; for want of memory they stay.
+    /// list. The services are moved out of the list, which is left empty; if memory runs out they stay.
     pub fn new(
         alloc: Global,
         config: &Config,
@@ -163,7 +163,7 @@ impl Kernel {
         self.processors as usize + self.present.others() as usize
     }
 
-    /// How many processors there are.
+    /// How many processors the kernel serves.
     pub fn cpus(&self) -> u8
         ensures { result ≡ length (replay self.now).cpus }
     {
@@ -178,21 +178,21 @@ impl Kernel {
         self.rules
     }
 
-    /// Where the processes stand.
+    /// The kernel's table of processes.
     pub fn table(&self) -> &Table
         ensures { result.now ≡ (replay self.now).table }
     {
         self.present.table()
     }
 
-    /// What has happened since boot.
+    /// The kernel's history: what has happened since boot.
     pub fn history(&self) -> &[Record]
         ensures { result.now ≡ self.now.history }
     {
         self.records.as_slice()
     }
 
-    /// What each slot is made from.
+    /// The services, from which each slot is made.
     pub fn services(&self) -> &[Service]
         ensures { result.now ≡ (replay self.now).services }
     {
@@ -213,7 +213,7 @@ impl Kernel {
         present.into_services()
     }
 
-    /// The slot whose process is on a processor.
+    /// The slot whose process the kernel has lent to a processor.
     pub fn slot_on(&self, cpu: u8) -> Option<Slot>
         ensures { result ≡ option_map (λ (l : HeldProcess). l.slot) (held_by (replay self.now) cpu) }
     {

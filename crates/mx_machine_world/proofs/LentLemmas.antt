@@ -20,7 +20,7 @@ HeldRunsJoin = (a b : ℕ) (o : Out) → held_run (a + b) o ≡ then_held (held_
 
 -- ---- counts
 
--- so many steps as a run made are that run
+-- that many steps as a run made are that run
 went_again : (k : ℕ) (x : Outcome × Image) → ((m : Image) → run_of (run_of k m).count m ≡ run_of k m) → (n : ℕ) → suc n ≡ (run_end_from (run_of k) x).count → run_end_from (run_of n) x ≡ run_end_from (run_of k) x
 went_again k (Go, m) f n e = let i : n ≡ (run_of k m).count = omega arith in ap (run_end_after 1) (ap (λ j. run_of j m) i ∙ f m)
 went_again k (Trap, m) f n e = refl

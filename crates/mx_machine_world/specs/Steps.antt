@@ -7,11 +7,11 @@ use Rattle.mx_machine_world.specs.History.{AreAccepted, world_after_events}
 use Rattle.mx_machine_world.specs.Move.{with_held}
 use Rattle.mx_machine_world.specs.World.{World, HeldProcess}
 
--- so many steps of a processor
+-- that many steps of a processor
 abbrev pub steps_of : ℕ → ℕ → List (ℕ × Event)
 steps_of a n = replicate n (a, Step)
 
--- Each of so many steps of a processor is accepted, and after them it holds this of the same slot.
+-- Each of this many steps of a processor is accepted, and after them it holds this of the same slot.
 pub record StepsTo (w : World) (a n : ℕ) (l : HeldProcess) (out : Out) : Type 0 where
   pub accepted : AreAccepted w (steps_of a n)
   pub after : world_after_events w (steps_of a n) ≡ with_held w a (Some (record l { out = out }))

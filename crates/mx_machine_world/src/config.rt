@@ -21,14 +21,14 @@ impl Model for FileName {
 }
 
 impl FileName {
-    /// The name that a text is. Takes no memory.
+    /// A service's file name, from a text. Takes no memory.
     pub fn from_string(name: String) -> FileName
         ensures { result ≡ string_bytes name }
     {
         FileName { name }
     }
 
-    /// The name's text.
+    /// A service's file name, as a text.
     pub fn as_str(&self) -> &str
         ensures { result.now ≡ self.now }
     {
@@ -73,14 +73,14 @@ impl Model for ServiceLines {
 }
 
 impl ServiceLines {
-    /// The list of a vector's lines. Takes no memory.
+    /// A configuration's lines of services, from a vector. Takes no memory.
     pub fn from_vec(lines: Vec<ServiceLine>) -> ServiceLines
         ensures { result ≡ lines.items }
     {
         ServiceLines { lines }
     }
 
-    /// The lines.
+    /// A configuration's lines of services, in order.
     pub fn as_slice(&self) -> &[ServiceLine]
         ensures { result.now ≡ self.now }
     {

@@ -64,14 +64,14 @@ pub enum Refusal {
 }
 
 impl Refusal {
-    /// Its number.
+    /// The number with which a refused event is told.
     pub fn code(self) -> u8
         ensures { result ≡ code_of_refusal self }
     {
         self as u8
     }
 
-    /// Its name.
+    /// The name with which a refused event is told.
     pub fn name(self) -> &'static str
         ensures { result.now ≡ name_of_refusal self }
     {

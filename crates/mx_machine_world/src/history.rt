@@ -4,7 +4,7 @@
 #[derive(Clone, Copy, PartialEq, Eq)]
 pub enum Recorded {
     Take,
-    /// The processor's process came back after so many steps.
+    /// The processor's process came back after that many steps.
     Back(u32),
     Line(u32),
     Tick,

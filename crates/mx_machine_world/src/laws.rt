@@ -21,7 +21,7 @@ pub fn held_runs_join()
     runs_join();
 }
 
-/// Law: a run of what a processor holds is so many steps of the processor as the run makes, none of
+/// Law: a run of what a processor holds is that many steps of the processor as the run makes, none of
 /// which is refused.
 pub fn runs_are_steps()
     ensures { (w : World) (a k : ℕ) (l : HeldProcess) → held_by w a ≡ Some l → l.out.count ≤ l.out.budget → StepsTo w a (held_run k l.out).0.0 l (held_run k l.out).1 }

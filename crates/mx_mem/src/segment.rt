@@ -62,7 +62,7 @@ fn piece(at: usize, count: usize) -> usize
 }
 
 impl Segment {
-    /// Zeros up to the limit, in bytes.
+    /// A segment of zeros up to its limit, in bytes.
     #[tactic(auto, unfolding(crate::specs::Segment::up_to, crate::specs::Segment::IsPaged))]
     pub fn new(alloc: Global, limit: u32) -> Result<Segment, NoMemory>
         ensures { IfOk result (λ s. s ≡ replicate limit 0) }
@@ -72,7 +72,7 @@ impl Segment {
         Ok(Segment { pages, limit })
     }
 
-    /// The number of bytes.
+    /// The number of bytes of the segment.
     #[tactic(auto, unfolding(crate::specs::Segment::up_to, crate::specs::Segment::IsPaged))]
     #[inline(always)]
     pub fn limit(&self) -> usize
@@ -81,7 +81,7 @@ impl Segment {
         self.limit
     }
 
-    /// The byte at a place, where it lies inside.
+    /// The byte of the segment at an address, if it lies inside.
     pub fn get(&self, at: u32) -> Option<u8>
         ensures { result ≡ slice_get self.now at }
     {
@@ -163,7 +163,7 @@ impl Segment {
         }
     }
 
-    /// The number at a place, lowest byte first.
+    /// The number at an address of the segment, lowest byte first.
     pub fn read(&self, at: u32, size: Size) -> Result<u32, OutOfLimit>
         ensures value { result ≡ read_at self.now at size }
         ensures below { IfOk result (λ v. v < 2 ^ width size) }
@@ -212,7 +212,7 @@ impl Segment {
         }
     }
 
-    /// Writes a number at a place, lowest byte first. A refusal changes nothing.
+    /// Writes a number at an address of the segment, lowest byte first. A refusal changes nothing.
     pub fn write(&mut self, at: u32, size: Size, value: u32) -> Result<(), OutOfLimit>
         requires { value < 2 ^ width size }
         ensures ok { OnOk result (bytes_after_write self.old at size value ≡ Ok self.new) }
@@ -230,7 +230,7 @@ impl Segment {
         Ok(())
     }
 
-    /// Copies bytes to a place. A refusal changes nothing.
+    /// Copies bytes to an address of the segment. A refusal changes nothing.
     pub fn fill_from(&mut self, at: u32, bytes: &[u8]) -> Result<(), OutOfLimit>
         ensures ok { OnOk result (bytes_after_copy self.old at bytes.now ≡ Ok self.new) }
         ensures err { OnErr result ((bytes_after_copy self.old at bytes.now ≡ Err (record {})) × (self.new ≡ self.old)) }
@@ -360,7 +360,7 @@ impl Segment {
 }
 
 impl Segment {
-    /// No bytes at all. Takes no memory.
+    /// A segment of no bytes at all. Takes no memory.
     #[tactic(auto, unfolding(crate::specs::Segment::up_to, crate::specs::Segment::IsPaged))]
     pub fn empty(alloc: Global) -> Segment
         ensures { result ≡ [] }
@@ -386,7 +386,7 @@ impl Segment {
         message
     }
 
-    /// A copy of the 36 bytes from a place on.
+    /// A copy of a message's 36 bytes from an address on.
     pub fn message(&self, at: u32) -> [u8; 36]
         requires { at + 36 ≤ length self.now }
         ensures { result ≡ take 36 (drop at self.now) }
@@ -427,7 +427,7 @@ impl Segment {
         }
     }
 
-    /// Writes bytes over those from a place on.
+    /// Writes bytes over those of the segment from an address on.
     pub fn put(&mut self, at: u32, bytes: &[u8])
         requires { at + length bytes.now ≤ length self.old }
         ensures value { self.new ≡ with_bytes_at self.old at bytes.now }

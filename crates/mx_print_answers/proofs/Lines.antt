@@ -61,7 +61,7 @@ module _ (d : Delivery) where
       let n : length z ≡ length (y ++ delivery_line d) = ap length h in
       omega (arith, line, same_line, whole, n)
 
--- what is so once a text was put behind another
+-- what is so once a text was put after another
 pub on_pushed : {E : Type 0} (P : Type 0) (r : Result (Unit {0}) E) (z y x : List ℕ) → (z ≡ y → P) → z ≡ (if is_ok r then y else x) → OnOk r P
 on_pushed P (Ok done) z y x f h = f h
 on_pushed P (Err e) z y x f h = tt

@@ -32,7 +32,7 @@ pub fn push_process(out: &mut String, image: Option<&Image>) -> Result<(), Alloc
     }
 }
 
-/// Appends the byte at an address in two digits behind a space, if there is one.
+/// Appends the byte at an address in two digits after a space, if there is one.
 fn push_byte(out: &mut String, memory: &Segment, at: u32) -> Result<(), AllocError>
     ensures { OnOk result (string_bytes out.new ≡ string_bytes out.old ++ flat_map byte_field (take 1 (drop at memory.now))) }
 {
@@ -42,7 +42,7 @@ fn push_byte(out: &mut String, memory: &Segment, at: u32) -> Result<(), AllocErr
     }
 }
 
-/// Appends the line of so many bytes from an address on.
+/// Appends the line of this many bytes from an address on.
 fn push_row(out: &mut String, memory: &Segment, from: u32, count: u32) -> Result<(), AllocError>
     requires { from + count < 2 ^ 32 }
     ensures { OnOk result (string_bytes out.new ≡ string_bytes out.old ++ memory_row from (take count (drop from memory.now))) }
@@ -54,7 +54,7 @@ fn push_row(out: &mut String, memory: &Segment, from: u32, count: u32) -> Result
     out.push_str("\n")
 }
 
-/// Appends so many bytes from an address on, sixteen a line.
+/// Appends that many bytes from an address on, sixteen a line.
 fn push_rows(out: &mut String, memory: &Segment, from: u32, count: u32) -> Result<(), AllocError>
     requires short { from + count < 2 ^ 32 }
     requires inside { from + count ≤ length memory.now }
@@ -68,7 +68,7 @@ fn push_rows(out: &mut String, memory: &Segment, from: u32, count: u32) -> Resul
     Ok(())
 }
 
-/// Appends so many bytes of a process's data from an address on, if all of them lie there: in rows
+/// Appends that many bytes of a process's data from an address on, if all of them lie there: in rows
 /// of an address and up to sixteen bytes, as `00000000 01 00`.
 pub fn push_memory(
     out: &mut String,

@@ -25,7 +25,7 @@ fn stop_of(halt: Halt) -> Stop
     }
 }
 
-/// Appends the line of a run behind which the process stands at an address.
+/// Appends the line of a run after which the process stands at an address.
 fn push_halt(text: &mut String, halt: Halt, eip: u32) -> Result<(), AllocError>
     ensures { OnOk result (string_bytes text.new ≡ string_bytes text.old ++ halt_line halt.count halt.cause eip ++ codes "\n") }
 {
@@ -39,7 +39,7 @@ fn push_halt(text: &mut String, halt: Halt, eip: u32) -> Result<(), AllocError>
     writeln!(text, "{said}")
 }
 
-/// Appends what is told of a run up to a breakpoint, behind which the process stands at an address:
+/// Appends what is told of a run up to a breakpoint, after which the process stands at an address:
 /// `stopped at 00000000 after 1`, or as a line of steps is told.
 pub fn push_run(text: &mut String, run: Result<Halt, Refusal>, eip: u32) -> Result<(), AllocError>
     ensures { OnOk result (string_bytes text.new ≡ string_bytes text.old ++ run_line run eip) }

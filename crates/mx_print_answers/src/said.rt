@@ -19,7 +19,7 @@ pub enum Said {
     Refused(Refusal),
 }
 
-/// What is said of an event.
+/// What is printed of the answer to an event.
 pub fn said_of(answer: Result<Answer, Refusal>) -> Said
     ensures { result ≡ said_of_answer answer }
 {

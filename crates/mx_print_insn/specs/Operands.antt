@@ -43,7 +43,7 @@ place_text m = join_with_byte 43 (base_parts m.base ++ (index_parts m.index ++ d
 abbrev pub bracket_text : Memory → List ℕ
 bracket_text m = codes "[" ++ (place_text m ++ codes "]")
 
--- a register's word, memory behind the word of its size, an address without one, a number
+-- a register's word, memory after the word of its size, an address without one, a number
 abbrev pub operand_text : Written → List ℕ
 operand_text (written.Register size r) = register_word size r
 operand_text (written.Memory size m) = size_word size ++ (codes " " ++ bracket_text m)

@@ -189,7 +189,7 @@ written_operands next (insns.Plain o) = []
 
 -- ---- the whole
 
--- behind a word: nothing, or a space and the operands with `, ` between them
+-- after a word: nothing, or a space and the operands with `, ` between them
 abbrev pub operands_text : List Written → List ℕ
 operands_text [] = []
 operands_text (x ∷ xs) = codes " " ++ join_by operand_text (codes ", ") (x ∷ xs)

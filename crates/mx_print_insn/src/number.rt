@@ -6,7 +6,7 @@ ghost use Rattle.mx_print_insn.specs.Numbers.{number_text, eight_digits};
 use std::alloc::AllocError;
 use std::fmt::Write;
 
-/// Appends a number in plain digits, as `0x1f`.
+/// Appends an operand's number in plain digits, as `0x1f`.
 pub fn push_number(out: &mut String, value: u32) -> Result<(), AllocError>
     ensures { OnOk result (string_bytes out.new ≡ string_bytes out.old ++ number_text value) }
 {

@@ -12,7 +12,7 @@ use crate::written::{Written, WrittenOperands};
 use mx_insn::{Index, Memory, Scale};
 use std::alloc::AllocError;
 
-/// How a scale is written behind its register.
+/// How a scale is written after its register.
 fn scale(scale: Scale) -> &'static str
     ensures { result.now ≡ scale_text scale }
 {
@@ -31,7 +31,7 @@ fn push_index(out: &mut String, index: Index) -> Result<(), AllocError>
     out.push_str(scale(index.scale))
 }
 
-/// Behind a base or an index.
+/// After a base or an index.
 fn push_displacement(out: &mut String, displacement: u32) -> Result<(), AllocError>
     ensures { OnOk result (string_bytes out.new ≡ string_bytes out.old ++ (if displacement == 0 then [] else codes "+" ++ number_text displacement)) }
 {
@@ -90,7 +90,7 @@ fn push_two(out: &mut String, first: Written, second: Written) -> Result<(), All
     push_operand(out, second)
 }
 
-/// A space and the operands, where there are any.
+/// Appends a space and an instruction's operands, if it has any.
 pub fn push_operands(out: &mut String, operands: WrittenOperands) -> Result<(), AllocError>
     ensures { OnOk result (string_bytes out.new ≡ string_bytes out.old ++ operands_text (written_list operands)) }
 {

@@ -90,7 +90,7 @@ fn mnemonic(insn: &Insn) -> Mnemonic
     }
 }
 
-/// Appends a prefix and the space behind it, where there is one.
+/// Appends a prefix and the space after it, where there is one.
 fn push_prefix(out: &mut String, prefix: Option<Prefix>) -> Result<(), AllocError>
     ensures { OnOk result (string_bytes out.new ≡ string_bytes out.old ++ prefix_text prefix) }
 {

@@ -74,7 +74,7 @@ pub fn size(size: Size) -> &'static str
     }
 }
 
-/// A size behind a string instruction's name.
+/// A size after a string instruction's name.
 fn size_letter(size: Size) -> &'static str
     ensures { result.now ≡ size_letter size }
 {

@@ -29,7 +29,7 @@ register_field w r = register_name r ++ codes " " ++ eight_digits (word_of_regis
 unfoldable pub register_line : RegisterValues → Register → Register → Register → Register → List ℕ
 register_line w a b c d = register_field w a ++ codes " " ++ register_field w b ++ codes " " ++ register_field w c ++ codes " " ++ register_field w d ++ codes "\n"
 
--- a flag's name and its value, behind a space
+-- a flag's name and its value, after a space
 abbrev pub flag_field : List ℕ → Bool → List ℕ
 flag_field name value = codes " " ++ name ++ codes " " ++ decimal (from_bool value)
 

@@ -61,7 +61,7 @@ fn push_four<R: Runs>(
     out.push_str("\n")
 }
 
-/// Appends a flag's name and its value, behind a space.
+/// Appends a flag's name and its value, after a space.
 fn push_flag(out: &mut String, name: &str, is_set: bool) -> Result<(), AllocError>
     ensures { OnOk result (string_bytes out.new ≡ string_bytes out.old ++ flag_field name.now is_set) }
 {

@@ -13,7 +13,7 @@ use Rattle.mx_proc.specs.TableState.{TableState, process_at, endpoint_of}
 use Rattle.mx_proc.specs.Waits.{next_of}
 use Rattle.mx_respawn.specs.declared.service.Service.{Service}
 
--- fields of a line, each behind a space
+-- fields of a line, each after a space
 abbrev pub spaced_fields : List (List ℕ) → List ℕ
 spaced_fields ws = flat_map (λ (w : List ℕ). 32 ∷ w) ws
 

@@ -9,14 +9,14 @@ use itoa::Buffer;
 use mx_proc::{DeathCause, Partner, Slot, Source, State, Table};
 use std::alloc::AllocError;
 
-/// Appends a number.
+/// Appends a number to a line of the report.
 pub fn push_decimal(out: &mut Vec<u8>, number: u32) -> Result<(), AllocError>
     ensures { OnOk result (out.new.items ≡ out.old.items ++ decimal number) }
 {
     out.extend_from_slice(Buffer::new().format(number).as_bytes())
 }
 
-/// Appends a field, behind a space.
+/// Appends a field to a line of the report, after a space.
 pub fn push_field(out: &mut Vec<u8>, word: &[u8]) -> Result<(), AllocError>
     ensures { OnOk result (out.new.items ≡ out.old.items ++ 32 ∷ word.now) }
 {
@@ -24,7 +24,7 @@ pub fn push_field(out: &mut Vec<u8>, word: &[u8]) -> Result<(), AllocError>
     out.extend_from_slice(word)
 }
 
-/// Appends a number as a field.
+/// Appends a number as a field of the report.
 pub fn push_number(out: &mut Vec<u8>, number: u32) -> Result<(), AllocError>
     ensures { OnOk result (out.new.items ≡ out.old.items ++ 32 ∷ decimal number) }
 {
@@ -45,7 +45,7 @@ fn push_name(out: &mut Vec<u8>, name: &[u8]) -> Result<(), AllocError>
     Ok(())
 }
 
-/// Appends a name as a field.
+/// Appends a service's name as a field of the report.
 pub fn push_label(out: &mut Vec<u8>, name: &[u8]) -> Result<(), AllocError>
     ensures { OnOk result (out.new.items ≡ out.old.items ++ 32 ∷ name_bytes name.now) }
 {
@@ -100,7 +100,7 @@ fn push_receiver(out: &mut Vec<u8>, table: &Table, slot: Slot) -> Result<(), All
     push_number(out, endpoint_of(table, receiver))
 }
 
-/// Appends what the process of a slot does.
+/// Appends to the report what a slot's process does.
 pub fn push_state(
     out: &mut Vec<u8>,
     table: &Table,

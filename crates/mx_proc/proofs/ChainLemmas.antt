@@ -25,7 +25,7 @@ chain_frame links s v at (x ∷ xs) z h =
 pub chain_front : (links : List ℕ) (s at : ℕ) (xs : List ℕ) → s < 32 → length links ≡ 32 → times s xs ≡ 0 → IsChain links at xs → IsChain (slice_set links s at) s (s ∷ xs)
 chain_front links s at xs b k z h = (refl, b, subst (λ k. IsChain (slice_set links s at) k xs) (sym (get_or-set_same links s at 0 (omega arith))) (chain_frame links s at at xs z h))
 
--- one more at the end, behind f
+-- one more at the end, after f
 pub chain_end : (links : List ℕ) (s f at : ℕ) (xs : List ℕ) → s < 32 → length links ≡ 32 → slice_index links s ≡ 255 → s ≢ f → times f xs ≡ 0 → times s xs ≡ 0
     → IsChain links at (xs ++ f ∷ []) → IsChain (slice_set links f s) at ((xs ++ f ∷ []) ++ s ∷ [])
 chain_end links s f at [] b k last m y z h =
@@ -38,7 +38,7 @@ chain_end links s f at (x ∷ xs) b k last m y z h =
           (chain_end links s f (slice_index links x) xs b k last m (omega arith) (omega arith) h.2),
     )
 
--- one taken out behind p
+-- one taken out after p
 pub chain_cut : (links : List ℕ) (s p at : ℕ) (xs ys : List ℕ) → length links ≡ 32 → s ≢ p → times p xs ≡ 0 → times p ys ≡ 0
     → IsChain links at (xs ++ p ∷ s ∷ ys) → IsChain (slice_set links p (slice_index links s)) at (xs ++ p ∷ ys)
 chain_cut links s p at [] ys k m x y h =

@@ -262,7 +262,7 @@ freed w w' s p h b y st k e r v d u = changed w w' s p h (record {
   uptime = u;
 })
 
--- a process that is in no queue waits behind another
+-- a process that is in no queue waits after another
 pub waits_for : (w w' : TableState) (s d : ℕ) (p : Process) → Sound w → s < length w.slots → d < length w.slots → s ≢ d → (Reaches w.waits d s → ⊥) → IsAlone (process_at w s).state → is_ready p.state ≡ false → is_sending p.state ≡ true → IsProcess w.uptime p
     → w'.slots ≡ slice_set w.slots s p → w'.ready ≡ w.ready → w'.waits ≡ w.waits ++ (s, d) ∷ [] → w'.devices ≡ w.devices → w'.uptime ≡ w.uptime → Sound w'
 waits_for w w' s d p h b i apart free o still sends k e r v f g = changed w w' s p h (record {

@@ -7,7 +7,7 @@ abbrev pub IsChain : List ℕ → ℕ → List ℕ → Type 0
 IsChain nexts at [] = at ≡ 255
 IsChain nexts at (x ∷ xs) = (at ≡ x) × (x < 32) × IsChain nexts (slice_index nexts x) xs
 
--- the slots along the links, at most so many
+-- the slots along the links, at most that many
 abbrev pub chain : ℕ → List ℕ → ℕ → List ℕ
 chain zero nexts at = []
 chain (suc n) nexts at = if at == 255 then [] else at ∷ chain n nexts (slice_index nexts at)
@@ -21,7 +21,7 @@ abbrev pub turned : List ℕ → List ℕ
 turned [] = []
 turned (x ∷ xs) = turned xs ++ x ∷ []
 
--- So many lists: the first of each with the links forward, and the last of each with the links backward,
+-- That many lists: the first of each with the links forward, and the last of each with the links backward,
 -- are those of these lists, and no slot stands twice.
 pub record Linked (count : ℕ) (nexts prevs firsts lasts : List ℕ) (lists : List (List ℕ)) : Type 0 where
   pub nexts_long : length nexts ≡ 32
@@ -34,7 +34,7 @@ pub record Linked (count : ℕ) (nexts prevs firsts lasts : List ℕ) (lists : L
   pub once : (s l : ℕ) → times s (list_at lists l) ≤ 1
   pub apart : (s l k : ℕ) → 1 ≤ times s (list_at lists l) → 1 ≤ times s (list_at lists k) → l ≡ k
 
--- the firsts and the links if the slot `after` comes behind `before`, or begins a list
+-- the firsts and the links if the slot `after` comes after `before`, or begins a list
 abbrev pub firsts_with : List ℕ → ℕ → ℕ → ℕ → List ℕ
 firsts_with firsts list before after = if before == 255 then slice_set firsts list after else firsts
 

@@ -120,7 +120,7 @@ table_with_last w s level = let p = process_at w s in record w {
 abbrev pub table_after_dequeue : TableState → ℕ → TableState
 table_after_dequeue w s = let level = (process_at w s).level in record (with_state w s Home) { ready = slice_set w.ready level (without s (list_at w.ready level)) }
 
--- a send is blocked, behind the others
+-- a send is blocked, after the others
 abbrev pub table_after_block : TableState → ℕ → ℕ → State → TableState
 table_after_block w s d state = record (with_state w s state) { waits = w.waits ++ (s, d) ∷ [] }
 
@@ -182,7 +182,7 @@ table_after_move_out w s = with_process w s (record (process_at w s) { state = O
 abbrev pub table_after_move_home : TableState → ℕ → Image → TableState
 table_after_move_home w s image = with_process w s (record (process_at w s) { state = Home; image = image })
 
--- so many steps were made
+-- that many steps were made
 abbrev pub table_after_steps : TableState → ℕ → ℕ → TableState
 table_after_steps w s n = let p = process_at w s in with_process w s (record p { ticks = p.ticks - n; steps = p.steps + n })
 

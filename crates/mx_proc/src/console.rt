@@ -45,14 +45,14 @@ impl Console {
         self.count += 1;
     }
 
-    /// A kept byte, counted from the oldest.
+    /// A byte of the console that is kept, counted from the oldest.
     pub fn get(&self, index: usize) -> Option<u8>
         ensures { result ≡ slice_get self.now.kept index }
     {
         self.kept.get(index).copied()
     }
 
-    /// How many bytes were ever written.
+    /// How many bytes were ever written to the console.
     pub fn count(&self) -> u32
         ensures { result ≡ self.now.count }
     {

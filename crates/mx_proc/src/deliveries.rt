@@ -42,7 +42,7 @@ impl Model for Deliveries {
 }
 
 impl Deliveries {
-    /// None yet, with room for all that are kept.
+    /// No deliveries yet, with room for all that are kept.
     pub fn new(alloc: Global) -> Result<Deliveries, NoMemory>
         ensures { IfOk result (λ deliveries. deliveries ≡ []) }
     {
@@ -50,7 +50,7 @@ impl Deliveries {
         Ok(Deliveries { kept })
     }
 
-    /// One more; the oldest past 1,024 goes.
+    /// Keeps one delivery more; of 1,025 the oldest goes.
     pub fn push(&mut self, delivery: Delivery)
         ensures { self.new ≡ keep_last 1024 (self.old ++ delivery ∷ []) }
     {

@@ -27,7 +27,7 @@ pub enum Errno {
 }
 
 impl Errno {
-    /// The number as a process finds it in a register: a negative number of 32 bits.
+    /// A call's result as a process finds it in EAX: a negative number of 32 bits.
     pub fn bits(self) -> u32
         ensures { result ≡ errno_bits self }
     {

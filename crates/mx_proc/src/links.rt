@@ -28,7 +28,7 @@ impl<const LISTS: usize> Way<LISTS> {
         }
     }
 
-    /// The slot `after` comes behind `before`; if that is none, the list begins with `after`.
+    /// The slot `after` comes after `before`; if that is none, the list begins with `after`.
     fn lead(&mut self, list: usize, before: u8, after: u8)
         requires list { list < LISTS }
         requires before { before ≢ 255 → before < 32 }
@@ -80,7 +80,7 @@ impl<const LISTS: usize> Model for Links<LISTS> {
 }
 
 impl<const LISTS: usize> Links<LISTS> {
-    /// Empty lists.
+    /// Linked lists of slots, all empty.
     pub fn new() -> Links<LISTS>
         ensures { result ≡ replicate LISTS [] }
     {
@@ -90,7 +90,7 @@ impl<const LISTS: usize> Links<LISTS> {
         }
     }
 
-    /// The front of a list.
+    /// The slot at the front of a linked list.
     pub fn first(&self, list: usize) -> Option<u8>
         requires { list < LISTS }
         ensures { result ≡ slice_get (list_at self.now list) 0 }
@@ -119,7 +119,7 @@ impl<const LISTS: usize> Links<LISTS> {
         push(&mut self.backward, &mut self.forward, list, slot);
     }
 
-    /// Takes a slot that stands in a list out of it.
+    /// Takes a slot out of the linked list that it stands in.
     pub fn remove(&mut self, list: usize, slot: u8)
         requires list { list < LISTS }
         requires there { 1 ≤ times slot (list_at self.old list) }

@@ -48,7 +48,7 @@ impl Source {
         }
     }
 
-    /// The source that has a place.
+    /// The source of notifications that has a place among the pending bits.
     pub fn of_place(place: u32) -> Source
         requires { place < 258 }
         ensures { result ≡ source_in_order place }
@@ -178,7 +178,7 @@ impl State {
         matches!(self, State::Ready)
     }
 
-    /// Whether the process is dead.
+    /// Whether a process's state says that it is dead.
     pub fn is_down(self) -> bool
         ensures { result ≡ is_down self }
     {

@@ -26,7 +26,7 @@ impl Model for Ready {
 }
 
 impl Ready {
-    /// Sixteen empty lists.
+    /// Sixteen ready lists, all empty.
     pub fn new() -> Ready
         ensures { result ≡ replicate 16 [] }
     {
@@ -58,7 +58,7 @@ impl Ready {
         self.filled |= 1 << level;
     }
 
-    /// Takes a slot that stands in a list out of it.
+    /// Takes a slot out of the ready list that it stands in.
     pub fn remove(&mut self, level: u8, slot: u8)
         requires level { level < 16 }
         requires there { 1 ≤ times slot (list_at self.old level) }
@@ -70,7 +70,7 @@ impl Ready {
         }
     }
 
-    /// The front of the lowest list that isn't empty.
+    /// The front of the lowest ready list that isn't empty.
     pub fn pick(&self) -> Option<u8>
         ensures { result ≡ first_ready self.now }
     {

@@ -172,7 +172,7 @@ impl Table {
         self.process(slot).generation * 1024 + u32::from(slot)
     }
 
-    /// How many slots are used.
+    /// How many slots of the table are used.
     pub fn used(&self) -> u8
         ensures value { result ≡ length self.now.slots }
         ensures few { result ≤ 32 }
@@ -187,7 +187,7 @@ impl Table {
         self.renewed
     }
 
-    /// The ticks since boot.
+    /// The ticks of the clock since boot.
     pub fn uptime(&self) -> u32
         ensures { result ≡ self.now.uptime }
     {

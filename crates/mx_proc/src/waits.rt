@@ -36,7 +36,7 @@ impl Model for Waits {
 }
 
 impl Waits {
-    /// Nobody waits.
+    /// No blocked sends: nobody waits.
     pub fn new() -> Waits
         ensures { result ≡ [] }
     {
@@ -48,7 +48,7 @@ impl Waits {
         }
     }
 
-    /// A slot that sends to nobody waits for another, behind the others.
+    /// A slot that sends to nobody waits for another, after the others.
     pub fn push(&mut self, from: u8, to: u8)
         requires from { from < 32 }
         requires to { to < 32 }
@@ -73,7 +73,7 @@ impl Waits {
         self.count -= 1;
     }
 
-    /// For whom a slot waits.
+    /// The slot to which a blocked slot sends.
     pub fn next(&self, from: u8) -> Option<u8>
         ensures { result ≡ next_of from self.now }
     {

@@ -24,7 +24,7 @@ impl Model for Regs {
 }
 
 impl Regs {
-    /// Eight zeros.
+    /// The eight general registers, all zero.
     pub fn new() -> Regs
         ensures { result ≡ no_words }
     {
@@ -45,7 +45,7 @@ impl Regs {
         self.words[register.number() as usize] = word;
     }
 
-    /// The register of a size.
+    /// The value of a register, byte, word or dword.
     #[inline(always)]
     pub fn get(&self, size: Size, register: Register) -> u32
         ensures value { result ≡ register_at self.now size register }

@@ -95,7 +95,7 @@ fn wake_receivers(table: &mut Table, slot: Slot)
     }
 }
 
-/// The process of a slot dies. It is at home, wherever it stands.
+/// The process of a slot dies: its partners go on with an error. It is at home, wherever it stands.
 pub fn die(table: &mut Table, slot: Slot, cause: DeathCause)
     requires slot { slot < length table.old.slots }
     requires home { is_out (process_at table.old slot).state ≡ false }

@@ -48,7 +48,7 @@ pub fn enqueue(table: &mut Table, slot: Slot)
     table.to_end(slot, next);
 }
 
-/// Takes a ready process out of its list.
+/// Takes a ready process out of its ready list.
 pub fn dequeue(table: &mut Table, slot: Slot)
     requires slot { slot < length table.old.slots }
     requires ready { is_ready (process_at table.old slot).state ≡ true }

@@ -11,7 +11,7 @@ use mx_regs::Regs;
 use std::alloc::Global;
 use std::test::Fail;
 
-/// `inc eax`, `inc eax`, `jmp short` to the first; behind it the trap.
+/// `inc eax`, `inc eax`, `jmp short` to the first; after it the trap.
 static LOOP: [u8; 6] = *b"\x40\x40\xEB\xFC\xCD\x21";
 
 /// What a processor holds of that loop, at its beginning.
@@ -47,7 +47,7 @@ fn is_marked(debugger: &mut Debugger) -> bool {
     is_full && debugger.add(2, 0) == Ok(())
 }
 
-/// A slot's run of so many steps: how many are made and why they end, and EIP behind them.
+/// A slot's run of this many steps: how many are made and why they end, and EIP after them.
 struct Row {
     slot: Slot,
     steps: u32,
@@ -112,7 +112,7 @@ fn are_halted(debugger: &Debugger, out: &mut Out) -> bool {
     true
 }
 
-/// The trap is told before the breakpoint behind it, and again of no step.
+/// The trap is told before the breakpoint after it, and again of no step.
 fn is_trapped(debugger: &mut Debugger, out: &mut Out) -> bool {
     out.image.eip = 4;
     debugger.remove(3, 3);

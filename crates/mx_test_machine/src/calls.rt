@@ -238,7 +238,7 @@ fn is_copied(rt: &impl Abort, table: &mut Table, copy: &Copied) -> bool {
     make_call(rt, table, 0, &words) == After::Reply(0) && word_at(rt, table, 0, copy.3) == copy.4
 }
 
-/// So many ticks.
+/// That many ticks.
 fn make_ticks(rt: &impl Abort, table: &mut Table, count: u8) {
     for _ in 0..count {
         assert!(rt; table.uptime() < 100);
@@ -254,7 +254,7 @@ fn raise_own(rt: &impl Abort, table: &mut Table, line: u8) {
     raise(table, line);
 }
 
-/// What stands in a buffer at 512 behind a RECEIVE from HARDWARE.
+/// What stands in a buffer at 512 after a RECEIVE from HARDWARE.
 static NOTIFIED: [u32; 9] = [0xFFFF_FFFF, 4096, 9, 0x22, 0, 0, 0, 0, 0];
 
 /// What an alarm's call of slot 0 replies.
@@ -337,7 +337,7 @@ fn keeps_last_bytes(rt: &impl Abort, table: &mut Table) -> bool {
         && console.get(4096).is_none()
 }
 
-/// Slot 0's call, behind those who wait for the process that dies of it: how that is down.
+/// Slot 0's call, after those who wait for the process that dies of it: how that is down.
 fn state_of_dead(rt: &impl Abort, table: &mut Table, death: &Death) -> State {
     for slot in death.senders {
         make_trap(rt, table, *slot, true, u32::from(death.dead));
@@ -361,7 +361,7 @@ fn next_one(rt: &impl Abort, table: &mut Table) -> Option<(Slot, u32)> {
     Some((slot, result))
 }
 
-/// Whether those who waited go on with EDEADDST, each in its turn, and nobody behind them.
+/// Whether those who waited go on with EDEADDST, each in its turn, and nobody after them.
 fn go_on_in_order(rt: &impl Abort, table: &mut Table, death: &Death) -> bool {
     for slot in death.order {
         let waited = death.senders.contains(slot) || death.receivers.contains(slot);

@@ -450,7 +450,7 @@ static ROWS: [Row; 19] = [
 
 fn sends<T: Send>(_: &T) {}
 
-/// One run of so many steps.
+/// One run of this many steps.
 #[derive(Drop)]
 struct Steps(u32);
 
@@ -468,7 +468,7 @@ fn work<T: Tool>(machine: &mut Machine, cpu: u8, tool: &mut T) -> Result<(), Ref
     machine.work(cpu, tool)
 }
 
-/// So many events of an actor, of which all but the last are steps that go on: how the last is answered.
+/// That many events of an actor, of which all but the last are steps that go on: how the last is answered.
 fn last_answer(rt: &impl Abort, machine: &mut Machine, turn: &Turn) -> Result<Answer, Refusal> {
     let Turn(actor, event, count, _) = *turn;
     for _ in 1..count {
@@ -522,7 +522,7 @@ const ROUND: [(u8, Event); 8] = [
 /// Five rounds of who asks and who answers: whose process it is, its budget and its steps.
 static ROUNDS: [(u32, u32, u32); 5] = [(0, 20, 4), (1, 20, 4), (0, 16, 3), (0, 13, 5), (1, 16, 4)];
 
-/// Whether a round's answers are those of so many steps, the last of them a trap.
+/// Whether a round's answers are those of this many steps, the last of them a trap.
 fn is_round(answers: &[Result<Answer, Refusal>], round: &(u32, u32, u32)) -> bool {
     let (named, budget, steps) = *round;
     answers.len() == 8

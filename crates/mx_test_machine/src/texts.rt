@@ -242,7 +242,7 @@ fn is_script_read(alloc: Global) -> bool {
     }
 }
 
-/// A writer that takes so many bytes, at most three at a time, and then fails.
+/// A writer that takes that many bytes, at most three at a time, and then fails.
 #[derive(Drop)]
 struct Narrow {
     bytes: Vec<u8>,
@@ -311,7 +311,7 @@ rules 2
 /// By which rules a machine was booted, and what is saved of it.
 static BY_RULES: [(Rules, &str); 2] = [(Rules::Lenient, SAVED), (Rules::Strict, SAVED_STRICT)];
 
-/// Whether a writer that fails after so many bytes got just these of the text, or all if it has room.
+/// Whether a writer that fails after that many bytes got just these of the text, or all if it has room.
 fn is_saved_to(alloc: Global, rules: Rules, text: &str, room: usize) -> bool {
     let narrow = Narrow {
         bytes: Vec::new(alloc),

@@ -373,7 +373,7 @@ static LEVELS: [(Slot, u8); 17] = [
     (0, 5),
 ];
 
-/// The level of a ready process behind a whole quantum.
+/// The level of a ready process after a whole quantum.
 fn level_behind(rt: &impl Abort, table: &mut Table, slot: Slot) -> u8 {
     assert!(rt; slot < table.used());
     let process = table.process(slot);

@@ -35,7 +35,7 @@ struct Grant(Slot, u32, u32, u32, u32);
 #[derive(Clone, Copy)]
 struct Copied(u32, u32, u32, u32, u32);
 
-/// A call of a slot behind grants, which are all accepted, and its result. The limits are 4096, and the
+/// A call of a slot after grants, which are all accepted, and its result. The limits are 4096, and the
 /// process of slot 3 is on a processor.
 struct Row {
     name: &'static str,

@@ -86,8 +86,8 @@ const CHANGE: Change = Change {
     told: None,
 };
 
-/// Nothing is told of flag 4, of any byte from 5 to 7, of bss 3,840 behind two bytes of text, of an
-/// entry outside the text, and of bss 4,090 behind six bytes; one byte more of bss is too much.
+/// Nothing is told of flag 4, of any byte from 5 to 7, of bss 3,840 after two bytes of text, of an
+/// entry outside the text, and of bss 4,090 after six bytes; one byte more of bss is too much.
 static CHANGES: [Change; 22] = [
     Change {
         bytes: &[(0, 0x02)],

@@ -82,7 +82,7 @@ static TEXTS: [(&str, Result<u64, u64>, &str); 18] = [
         Ok(1),
         "11_adc 110500000000 byte wanted 8 found 7\n1 cases, 1 wrong\n",
     ),
-    // Behind a case, what is none.
+    // After a case, what is none.
     (
         "b8_mov | b805000000 | b805000000 | 00000000 | 0 0 0 0 4 0 0 0 | 0 | 0 | go | 5 0 0 0 4 0 0 0 | 5 | 0 | cd5 | -\n\n",
         Err(2),

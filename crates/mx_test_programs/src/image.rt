@@ -315,7 +315,7 @@ static PLACES: [Row; 9] = [
     },
 ];
 
-/// String instructions, some of them behind a repeat.
+/// String instructions, some of them after a repeat.
 static STRINGS: [Row; 5] = [
     Row {
         text: b"\xF3\xA4",

@@ -10,7 +10,7 @@ abbrev pub is_name : List ℕ → Bool
 is_name [] = false
 is_name (b ∷ bs) = nat_le (length (b ∷ bs)) 8 && begins_name b && list_all is_word_byte bs
 
--- eight bytes: the word's, and 0 behind its end
+-- eight bytes: the word's, and 0 after its end
 abbrev pub padded_name : List ℕ → List ℕ
 padded_name w = slice_index w 0 ∷ slice_index w 1 ∷ slice_index w 2 ∷ slice_index w 3 ∷ slice_index w 4 ∷ slice_index w 5 ∷ slice_index w 6 ∷ slice_index w 7 ∷ []
 

@@ -27,7 +27,7 @@ pub enum BootError {
 }
 
 impl BootError {
-    /// The number that messages tell.
+    /// The number with which a text's first fault is told.
     pub fn code(self) -> u8
         ensures { result ≡ boot_code_of self }
     {

@@ -31,7 +31,7 @@ fn length_of_field(line: &[u8]) -> usize
     end
 }
 
-/// The first field of a line, and what stands behind it. None where there is none.
+/// The first field of a line, and what stands after it. None where there is none.
 pub fn next_field(line: &[u8]) -> Option<(&[u8], &[u8])>
     ensures field { MatchOption result (fields line.now ≡ []) (λ p. fields line.now ≡ p.0.now ∷ fields p.1.now) }
     ensures shorter { IfSome result (λ p. length p.1.now < length line.now) }
@@ -45,7 +45,7 @@ pub fn next_field(line: &[u8]) -> Option<(&[u8], &[u8])>
     Some((&rest[..end], &rest[end..]))
 }
 
-/// The field of a line that has just one.
+/// The field of a line that has just one field.
 pub fn one_field(line: &[u8]) -> Option<&[u8]>
     ensures { MatchOption result (only (fields line.now) ≡ None) (λ f. only (fields line.now) ≡ Some f.now) }
 {
@@ -56,7 +56,7 @@ pub fn one_field(line: &[u8]) -> Option<&[u8]>
     }
 }
 
-/// The fields of a line that has just two.
+/// The fields of a line that has just two fields.
 pub fn two_fields(line: &[u8]) -> Option<(&[u8], &[u8])>
     ensures { MatchOption result (pair (fields line.now) ≡ None) (λ p. pair (fields line.now) ≡ Some (p.0.now, p.1.now)) }
 {

@@ -27,14 +27,14 @@ pub fn begins_name(byte: u8) -> bool
     is_letter(byte) || byte == b'_'
 }
 
-/// Whether a byte may stand in a name behind its first.
+/// Whether a byte may stand in a name after its first.
 pub fn is_word_byte(byte: u8) -> bool
     ensures { result ≡ is_word_byte byte }
 {
     begins_name(byte) || is_digit(byte)
 }
 
-/// A word's byte, and 0 behind its end.
+/// A word's byte, and 0 after its end.
 fn byte_at(word: &[u8], at: usize) -> u8
     ensures { result ≡ slice_index word.now at }
 {

@@ -8,7 +8,7 @@ use Rattle.mx_vectors_compare.specs.declared.case.CaseError.TheVariants as case_
 use Rattle.mx_vectors_compare.specs.declared.lines.CompareFailure.{CompareFailure as Kind}
 use Rattle.mx_vectors_compare.specs.declared.lines.CompareFailure.TheVariants.{Line, File, NoMemory}
 
--- want of memory is no failure of the file
+-- out of memory is no failure of the file
 abbrev pub case_failure_of_kind : ErrorKind → Kind
 case_failure_of_kind kinds.OutOfMemory = NoMemory
 case_failure_of_kind k = File

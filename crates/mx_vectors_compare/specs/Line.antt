@@ -11,7 +11,7 @@ use Rattle.mx_vectors_compare.specs.declared.case.Case.{Case}
 use Rattle.mx_vectors_compare.specs.declared.case.CaseError.{CaseError}
 use Rattle.mx_vectors_compare.specs.declared.case.CaseError.TheVariants.{Malformed, NoMemory}
 
--- what is read of a text is what it spells, and a text that spells nothing is malformed; want of memory aside
+-- what is read of a text is what it spells, and a text that spells nothing is malformed, unless memory runs out
 abbrev pub ReadsField : {A : Type 0} → (A → Type 0) → Result A CaseError → Type 0
 ReadsField Spelled (Ok x) = Spelled x
 ReadsField {A} Spelled (Err Malformed) = (x : A) → Spelled x → ⊥

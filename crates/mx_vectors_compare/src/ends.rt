@@ -46,7 +46,7 @@ fn regs_of(words: &[u32; 8]) -> Regs
     regs
 }
 
-/// The image that a case begins with.
+/// The image that a processor's recorded case begins with.
 pub fn image_of(alloc: Global, case: &Case<'_>) -> Result<Image, NoMemory>
     ensures image { IfOk result (λ image. image ≡ image_of_case case.now) }
     ensures fits { OnOk result (length case.now.memory < 2 ^ 32) }
@@ -151,7 +151,7 @@ fn are_flags_same(case: &Case<'_>, flags: &Flags) -> bool
     flags.to_bits() & compared == wanted_flags(case) & compared
 }
 
-/// Whether a step ended as the case has it.
+/// Whether a step ended as the processor's case has it.
 pub fn is_end_same(case: &Case<'_>, outcome: Outcome, image: &Image) -> bool
     requires { length case.now.memory < 2 ^ 32 }
     ensures { IsTrue result ↔ EndsAs case.now outcome image.now }

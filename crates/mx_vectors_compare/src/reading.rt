@@ -23,7 +23,7 @@ fn parted<'a>(alloc: Global, text: &'a str) -> Result<Vec<&'a str>, AllocError>
     text.split(' ').collect(alloc)
 }
 
-/// Eight numbers, of so many words.
+/// Eight numbers, of this many words.
 fn eight_numbers(words: &[&str]) -> Result<[u32; 8], CaseError>
     ensures { IfOk result (λ numbers. (length numbers ≡ 8) × AreNumbers (map (λ word. word.now) words.now) numbers) }
 {
@@ -176,7 +176,7 @@ fn case_of<'a>(alloc: Global, fields: &Fields<'a>) -> Result<Case<'a>, CaseError
     })
 }
 
-/// Reads a line.
+/// Reads a line that records a real processor's case.
 pub fn parse_case<'a>(alloc: Global, line: &'a str) -> Result<Case<'a>, CaseError>
     ensures { IfOk result IsCaseSpelled }
 {

@@ -7,7 +7,7 @@ use byteorder::{ByteOrder, LittleEndian};
 use std::alloc::AllocError;
 use std::marker::Model;
 
-/// Want of memory: a growth was refused.
+/// Out of memory: a growth was refused.
 #[derive(Clone, Copy, Debug, PartialEq, Eq)]
 pub struct NoMemory;
 
@@ -32,21 +32,21 @@ impl Model for Bytes {
 }
 
 impl Bytes {
-    /// The list of a vector's bytes. Takes no memory.
+    /// A list of bytes that contracts see whole, from a vector. Takes no memory.
     pub fn from_vec(bytes: Vec<u8>) -> Bytes
         ensures { result ≡ bytes.items }
     {
         Bytes { bytes }
     }
 
-    /// The vector of the list's bytes. Takes no memory.
+    /// The list of bytes as a vector. Takes no memory.
     pub fn into_vec(self) -> Vec<u8>
         ensures { result.items ≡ self }
     {
         self.bytes
     }
 
-    /// The bytes.
+    /// The list of bytes as a slice.
     pub fn as_slice(&self) -> &[u8]
         ensures { result.now ≡ self.now }
     {

@@ -18,7 +18,7 @@ pub enum Register {
 }
 
 impl Register {
-    /// Its number in an instruction's fields.
+    /// A register's number in an instruction's fields.
     pub fn number(self) -> u8
         ensures value { result ≡ register_number self }
         ensures below { result < 8 }
@@ -58,7 +58,7 @@ pub enum Condition {
 }
 
 impl Condition {
-    /// Its code in an opcode.
+    /// A condition's code in an opcode.
     pub fn code(self) -> u8
         ensures value { result ≡ condition_code self }
         ensures below { result < 16 }

@@ -13,7 +13,7 @@ pub enum Size {
 }
 
 impl Size {
-    /// The number of bits.
+    /// The number of bits of a byte, word or dword.
     pub fn bits(self) -> u32
         ensures { result ≡ width self }
     {
@@ -24,7 +24,7 @@ impl Size {
         }
     }
 
-    /// The number of bytes.
+    /// The number of bytes of a byte, word or dword.
     pub fn bytes(self) -> u32
         ensures { result ≡ bytes_in self }
     {
@@ -35,7 +35,7 @@ impl Size {
         }
     }
 
-    /// 2 to the number of bits.
+    /// 2 to the number of bits of a size.
     pub fn modulus(self) -> i64
         ensures { result ≡ pos (2 ^ width self) }
     {
@@ -46,7 +46,7 @@ impl Size {
         }
     }
 
-    /// 2 to the number of bits less one.
+    /// 2 to the number of bits of a size less one.
     pub fn half(self) -> i64
         ensures { result ≡ pos (2 ^ (width self - 1)) }
     {
@@ -57,7 +57,7 @@ impl Size {
         }
     }
 
-    /// The low word of a number.
+    /// The low byte, word or dword of a number.
     pub fn low(self, whole: u64) -> u32
         ensures value { result ≡ whole % 2 ^ width self }
         ensures below { result < 2 ^ width self }
@@ -69,7 +69,7 @@ impl Size {
         }
     }
 
-    /// What stands above the low word of a number.
+    /// What stands above the low byte, word or dword of a number.
     pub fn high(self, whole: u64) -> u64
         ensures { result ≡ whole / 2 ^ width self }
     {
@@ -165,7 +165,7 @@ pub fn has_even_ones(word: u32) -> bool
     (word % 256).count_ones() % 2 == 0
 }
 
-/// Whether just one of two truth values holds.
+/// Whether just one of two truth values is true.
 pub fn differ(left: bool, right: bool) -> bool
     ensures { result ≡ differ left right }
 {

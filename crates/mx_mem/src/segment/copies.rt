@@ -96,7 +96,7 @@ impl Segment {
         }
     }
 
-    /// Copies bytes of another segment to a place.
+    /// Copies bytes of another segment to an address of this one.
     pub fn copy_from(&mut self, source: &Segment, from: u32, to: u32, count: u32)
         requires from { from + count ≤ length source.now }
         requires to { to + count ≤ length self.old }
@@ -115,7 +115,7 @@ impl Segment {
         }
     }
 
-    /// Makes every byte zero.
+    /// Makes every byte of the segment zero.
     #[tactic(auto, unfolding(crate::specs::Segment::up_to, crate::specs::Segment::IsPaged))]
     pub fn clear(&mut self)
         ensures { self.new ≡ replicate (length self.old) 0 }

@@ -13,7 +13,7 @@ use mx_exec::Image;
 use std::mem;
 
 impl Table {
-    /// Moves the image of a process out. Takes no memory.
+    /// Moves a process's image out, to be lent to a processor. Takes no memory.
     pub fn lend(&mut self, slot: Slot) -> Image
         requires slot { slot < length self.old.slots }
         requires home { (process_at self.old slot).state ≡ Home }
@@ -27,7 +27,7 @@ impl Table {
         mem::replace(&mut process.image, blank)
     }
 
-    /// Moves an image home.
+    /// Moves a process's image home.
     pub fn take_home(&mut self, slot: Slot, image: Image)
         requires slot { slot < length self.old.slots }
         requires out { is_out (process_at self.old slot).state ≡ true }
@@ -39,7 +39,7 @@ impl Table {
         process.image = image;
     }
 
-    /// Counts steps that a process at home has made.
+    /// Counts steps against a process's quantum.
     pub fn spend(&mut self, slot: Slot, steps: u32)
         requires slot { slot < length self.old.slots }
         requires home { (process_at self.old slot).state ≡ Home }

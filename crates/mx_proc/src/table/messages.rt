@@ -26,7 +26,7 @@ impl Table {
         process.image.regs.set(Size::Dword, Register::Eax, value);
     }
 
-    /// Writes a message to the buffer of a process.
+    /// Writes a message to a process's buffer.
     pub fn receive(&mut self, slot: Slot, message: &[u8; 36])
         requires slot { slot < length self.old.slots }
         requires inside { HasBuffer (process_at self.old slot) }
@@ -133,7 +133,7 @@ impl Table {
         self.log(from, to, 4096, DeliveryKind::Notification);
     }
 
-    /// Sets the pending bit of a source.
+    /// Sets the pending bit of a source of notifications.
     pub fn set_pending(&mut self, slot: Slot, source: Source)
         requires slot { slot < length self.old.slots }
         requires source { IsUsedSource self.old source }

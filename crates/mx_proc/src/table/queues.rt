@@ -72,7 +72,7 @@ impl Table {
         self.ready.remove(level, slot);
     }
 
-    /// The front of the lowest list that isn't empty.
+    /// The front of the lowest ready list that isn't empty.
     pub fn pick(&self) -> Option<Slot>
         ensures value { result ≡ first_ready self.now.ready }
         ensures used { IfSome result (λ s. s < length self.now.slots) }
@@ -81,8 +81,8 @@ impl Table {
         self.ready.pick()
     }
 
-    /// Blocks a send, behind the others. A chain of blocked sends from its destination must not lead
-    /// back to it.
+    /// Blocks a send, after all that are blocked already. A chain of blocked sends from its destination
+    /// must not lead back to it.
     pub fn block(&mut self, from: Slot, to: Slot, state: State)
         requires slot { from < length self.old.slots }
         requires to { to < length self.old.slots }
@@ -123,7 +123,7 @@ impl Table {
         self.waits.caller(to, partner)
     }
 
-    /// Whom a blocked send is for.
+    /// The slot to which a blocked process sends.
     pub fn next(&self, from: Slot) -> Option<Slot>
         ensures { result ≡ next_of from self.now.waits }
     {

@@ -14,7 +14,7 @@ use crate::process::{DeathCause, Endpoint, Process, Slot, State};
 use crate::windows::Window;
 
 impl Table {
-    /// Lines, registers and console.
+    /// The devices: interrupt lines, registers and console.
     pub fn devices(&self) -> &Devices
         ensures { result.now ≡ self.now.devices }
     {
@@ -88,7 +88,7 @@ impl Table {
         process.windows[user as usize] = window;
     }
 
-    /// Sets the bit of a line at a process.
+    /// Sets an interrupt line's bit at a process.
     pub fn set_line(&mut self, slot: Slot, line: u8)
         requires slot { slot < length self.old.slots }
         requires line { line < 16 }
@@ -99,7 +99,7 @@ impl Table {
         process.lines |= 1 << line;
     }
 
-    /// One tick more.
+    /// The clock ticks: the uptime is one more.
     pub fn advance(&mut self)
         requires { self.old.uptime + 1 < 2 ^ 32 }
         ensures value { self.new ≡ with_tick self.old }
@@ -108,7 +108,7 @@ impl Table {
         self.uptime += 1;
     }
 
-    /// Gives a line an owner, or none.
+    /// Gives an interrupt line an owner, or none.
     pub fn set_owner(&mut self, line: u8, owner: Option<Slot>)
         requires line { line < 16 }
         requires used { IfSome owner (λ s. s < length self.old.slots) }
@@ -118,7 +118,7 @@ impl Table {
         self.devices.owners[line as usize] = owner;
     }
 
-    /// Sets a register of the machine.
+    /// Sets a device register of the machine.
     pub fn set_register(&mut self, register: u8, value: u32)
         ensures value { self.new ≡ with_device_register self.old register value }
         ensures frame { frame self.new ≡ record (frame self.old) { devices = self.new.devices } }

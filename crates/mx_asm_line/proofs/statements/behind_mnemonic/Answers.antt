@@ -4,7 +4,7 @@ use Rattle.mx_asm_statement.specs.declared.item.Item.{Item}
 use Rattle.mx_asm_line.specs.Statements.{is_short_word, takes_short, statement_by, behind_mnemonic}
 use Rattle.mx_asm_line.proofs.statements.behind_mnemonic.Goals as goal
 
--- what stands behind a mnemonic, by whether the mark stands first
+-- what stands after a mnemonic, by whether the mark stands first
 parted : (m : Mnemonic) (ts us xs : List Item) (t : Item) (b : Bool) → ts ≡ t ∷ us → xs ≡ cond b us ts → (takes_short m && is_short_word t) ≡ b → statement_by b m xs ≡ behind_mnemonic m ts
 parted m ts us xs t b e f h =
     ap (statement_by b m) (f ∙ ap (cond b us) e)
