@@ -11,7 +11,7 @@ use Rattle.mx_machine_world.specs.Boot.{world_at_boot}
 use Rattle.mx_machine_world.specs.declared.history.Record.{Record}
 use Rattle.mx_app_start.specs.Asked.{Asked}
 use Rattle.mx_app_start.specs.Written.{Written, kept}
-use Rattle.mx_app_start.specs.Text.{history_text}
+use Rattle.mx_app_start.specs.Text.{saved_text}
 use Rattle.mx_app_start.specs.Config.{Config}
 use Rattle.mx_app_start.specs.Service.{Service}
 use Rattle.mx_app_start.specs.Report.{report_text}
@@ -53,12 +53,12 @@ Steps config script qs Prints (Err f) = IsTold IsScript TellsScript config scrip
 abbrev pub SavesSteps : List ℕ → List ℕ → List ℕ → List Asked → List Written → (List ℕ → Type 0) → Result (Unit {0}) Kind → Type 0
 SavesSteps config script log qs ws Prints (Ok u) =
     (c : Config) × (vs : List Service) × (said : List ScriptLine) × IsStart IsScript config script qs c vs said
-    × (ws ≡ kept log (history_text (history_made (world_at_boot c vs) c.cpus said)) ∷ [])
+    × (ws ≡ kept log (saved_text c.rules (history_made (world_at_boot c vs) c.cpus said)) ∷ [])
     × (let m = lines_made (world_at_boot c vs) c.cpus said in Prints (said_lines m.0 ++ report_text m.1.table m.1.services))
 SavesSteps config script log qs ws Prints (Err f) =
     ((ws ≡ []) × IsNotStarted IsScript TellsScript config script qs f)
     ⊎ ((c : Config) × (vs : List Service) × (said : List ScriptLine) × IsStart IsScript config script qs c vs said
-    × IsUnsaved log (history_text (history_made (world_at_boot c vs) c.cpus said)) ws f)
+    × IsUnsaved log (saved_text c.rules (history_made (world_at_boot c vs) c.cpus said)) ws f)
 
 abbrev pub Debugs : List ℕ → List ℕ → List Asked → (List ℕ → Type 0) → Result (Unit {0}) Kind → Type 0
 Debugs config script qs Prints (Ok u) =
