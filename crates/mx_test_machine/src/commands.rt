@@ -104,7 +104,7 @@ static DONE: [Done; 9] = [
         status: 0,
         printed: "done\ndone\nrefused 54 NoProcess\nrefused 41 Worn\nrefused 53 NoLine\n\
                   refused 42 NoService\n0 a 0 down kill 7 5\nuptime 1\nconsole 0\n",
-        file: Some(("new.log", b"1 tick\n1 kill 0\n")),
+        file: Some(("new.log", b"rules 2\n1 tick\n1 kill 0\n")),
     },
     Done {
         words: &["mx", "replay", "one", "whole"],
