@@ -146,8 +146,8 @@ first_faulty Tells config_name name text slice qs q config vs e s of t h =
     first_by Tells config_name name qs q config vs (failure_of_lines e) s
     (text_told (λ x d. Tells x config d) name text q e t (subst (λ (x : List ℕ). Tells x config e) of h))
 
-pub started : {L : Type 0} (Says : List ℕ → Config → List L → Type 0) (config_name name text slice : List ℕ) (qs : List Asked) (q : Asked) (config : Config) (vs : List Service) (said : List L)
-    → IsSetup config_name qs config vs → slice ≡ text → IsTextGiven name q text → Says slice config said
+pub started : {L : Type 0} (Says : List ℕ → Config → Config → List L → Type 0) (config_name name text slice : List ℕ) (qs : List Asked) (q : Asked) (read config : Config) (vs : List Service) (said : List L)
+    → IsSetup config_name qs read vs → slice ≡ text → IsTextGiven name q text → Says slice read config said
     → IsStart Says config_name name (qs ++ q ∷ []) config vs said
-started Says config_name name text slice qs q config vs said s of t h =
-    (qs, q, text, refl, s, t, subst (λ (x : List ℕ). Says x config said) of h)
+started Says config_name name text slice qs q read config vs said s of t h =
+    (qs, q, text, read, refl, s, t, subst (λ (x : List ℕ). Says x read config said) of h)

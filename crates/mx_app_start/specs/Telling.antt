@@ -9,7 +9,7 @@ use Rattle.mx_app_start.specs.Asked.{Asked}
 use Rattle.mx_app_start.specs.Setup.{IsNotStarted, IsStart}
 
 -- the first fault of what was read; or, where there is none, that it can't be printed; want of memory aside
-abbrev pub IsTold : {L : Type 0} → (List ℕ → Config → List L → Type 0) → (List ℕ → Config → BootError → Type 0) → List ℕ → List ℕ → List Asked → Failure → Type 0
+abbrev pub IsTold : {L : Type 0} → (List ℕ → Config → Config → List L → Type 0) → (List ℕ → Config → BootError → Type 0) → List ℕ → List ℕ → List Asked → Failure → Type 0
 IsTold {L} Says Tells config name qs f =
     IsNotStarted Tells config name qs f
     ⊎ ((c : Config) × (services : List Service) × (said : List L) × IsStart Says config name qs c services said × IsWanting f)

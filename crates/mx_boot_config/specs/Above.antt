@@ -1,15 +1,17 @@
 -- What stands above a line of a configuration.
 use Rattle.std.specs.Prelude.{ℕ, ◌≤◌, List, [], length, Option, None, IfSome}
+use Rattle.mx_proc.specs.declared.windows.Rules.{Rules}
 use Rattle.mx_machine_world.specs.declared.config.ServiceLine.{ServiceLine}
 
 pub record ItemsAbove : Type 0 where
   pub cpus : Option ℕ
   pub log : Option ℕ
   pub others : Option ℕ
+  pub rules : Option Rules
   pub lines : List ServiceLine
 
 abbrev pub nothing_above : ItemsAbove
-nothing_above = record { cpus = None; log = None; others = None; lines = [] }
+nothing_above = record { cpus = None; log = None; others = None; rules = None; lines = [] }
 
 abbrev pub IsBetween : ℕ → ℕ → Option ℕ → Type 0
 IsBetween least most said = IfSome said (λ n. (least ≤ n) × (n ≤ most))

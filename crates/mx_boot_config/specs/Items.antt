@@ -1,7 +1,9 @@
 -- What a line of a configuration says (our own notation).
-use Rattle.std.specs.Prelude.{◌≡◌, ◌≤◌, ⊤, ℕ, Bool, false, ◌==◌, ◌||◌, List, [], ◌∷◌, codes, Option, Some}
+use Rattle.std.specs.Prelude.{◌≡◌, ◌≤◌, ⊤, ℕ, Bool, false, ◌==◌, ◌||◌, List, [], ◌∷◌, codes, Option, Some, if◌then◌else◌}
 use Rattle.std.specs.List.{before_first, list_any}
 use Rattle.std.specs.Str.{IsUtf8}
+use Rattle.mx_proc.specs.declared.windows.Rules.{Rules}
+use Rattle.mx_proc.specs.declared.windows.Rules.TheVariants.{Lenient, Strict}
 use Rattle.mx_text.specs.Names.{name_of}
 use Rattle.mx_machine_world.specs.Labels.{IsReserved}
 use Rattle.mx_text.specs.Fields.{◌>>=◌, fields, only}
@@ -9,7 +11,7 @@ use Rattle.mx_machine_world.specs.Label.{Label}
 use Rattle.mx_machine_world.specs.declared.config.ServiceLine.{ServiceLine}
 use Rattle.mx_boot_config.specs.declared.service.Terms.{Terms}
 use Rattle.mx_boot_config.specs.declared.item.ConfigItem.{ConfigItem}
-use Rattle.mx_boot_config.specs.declared.item.ConfigItem.TheVariants.{Cpus, Log, Others, Service}
+use Rattle.mx_boot_config.specs.declared.item.ConfigItem.TheVariants.{Cpus, Log, Others, ByRules, Service}
 use Rattle.mx_boot_config.specs.Terms.{number_between, terms_of}
 
 abbrev pub is_hash : ℕ → Bool
@@ -24,6 +26,15 @@ abbrev pub number_after_word : ℕ → ℕ → List (List ℕ) → Option ℕ
 number_after_word least most fs = do
   word ← only fs
   number_between least most word
+
+-- 1 is the lenient rules, 2 the strict ones
+abbrev pub rules_of_number : ℕ → Rules
+rules_of_number n = if n == 1 then Lenient else Strict
+
+abbrev pub rules_after_word : List (List ℕ) → Option Rules
+rules_after_word fs = do
+  n ← number_after_word 1 2 fs
+  Some (rules_of_number n)
 
 -- what the service is booted from, but for its name and its file
 abbrev pub terms_of_service : ServiceLine → Terms
@@ -44,12 +55,13 @@ HasParts _ label text terms = ⊥
 abbrev pub SaysService : List (List ℕ) → ServiceLine → Type 0
 SaysService fs s = HasParts fs s.name s.file (terms_of_service s)
 
--- `cpus N`, `log N`, `others N`, `service NAME FILE ..`
+-- `cpus N`, `log N`, `others N`, `rules N`, `service NAME FILE ..`
 abbrev pub SaysItem : List (List ℕ) → ConfigItem → Type 0
 SaysItem [] item = ⊥
 SaysItem (word ∷ fs) (Cpus n) = (word ≡ codes "cpus") × (number_after_word 1 8 fs ≡ Some n)
 SaysItem (word ∷ fs) (Log n) = (word ≡ codes "log") × (number_after_word 1 1048576 fs ≡ Some n)
 SaysItem (word ∷ fs) (Others n) = (word ≡ codes "others") × (number_after_word 1 4 fs ≡ Some n)
+SaysItem (word ∷ fs) (ByRules rules) = (word ≡ codes "rules") × (rules_after_word fs ≡ Some rules)
 SaysItem (word ∷ fs) (Service s) = (word ≡ codes "service") × SaysService fs s
 
 abbrev pub SaysNothing : List (List ℕ) → Type 0
@@ -60,4 +72,5 @@ abbrev pub IsItemWithin : ConfigItem → Type 0
 IsItemWithin (Cpus n) = (1 ≤ n) × (n ≤ 8)
 IsItemWithin (Log n) = (1 ≤ n) × (n ≤ 1048576)
 IsItemWithin (Others n) = (1 ≤ n) × (n ≤ 4)
+IsItemWithin (ByRules rules) = ⊤
 IsItemWithin (Service s) = ⊤

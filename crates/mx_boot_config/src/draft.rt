@@ -9,6 +9,7 @@ ghost use Rattle.mx_boot_config.specs.Lines.{has_service_name, is_twice, is_serv
 use crate::item::ConfigItem;
 use crate::items::{before_comment, item_at};
 use mx_machine_world::{Config, Label, ServiceLine, ServiceLines};
+use mx_proc::Rules;
 use mx_text::{BootError, next_field};
 use std::alloc::Global;
 use std::marker::Model;
@@ -19,6 +20,7 @@ pub struct Draft {
     pub cpus: Option<u8>,
     pub log: Option<u32>,
     pub others: Option<u8>,
+    pub rules: Option<Rules>,
     pub lines: Vec<ServiceLine>,
 }
 
@@ -27,9 +29,9 @@ impl Model for Draft {
 
     ghost Value = { ItemsAbove };
 
-    ghost view = { λ d. record { cpus = d.cpus; log = d.log; others = d.others; lines = d.lines.items } };
+    ghost view = { λ d. record { cpus = d.cpus; log = d.log; others = d.others; rules = d.rules; lines = d.lines.items } };
 
-    ghost invariant = { λ d. IsAbove (record { cpus = d.cpus; log = d.log; others = d.others; lines = d.lines.items }) };
+    ghost invariant = { λ d. IsAbove (record { cpus = d.cpus; log = d.log; others = d.others; rules = d.rules; lines = d.lines.items }) };
 }
 
 impl Draft {
@@ -41,6 +43,7 @@ impl Draft {
             cpus: None,
             log: None,
             others: None,
+            rules: None,
             lines: Vec::new(alloc),
         }
     }
@@ -59,6 +62,7 @@ impl Draft {
             ConfigItem::Cpus(_) => self.cpus.is_some(),
             ConfigItem::Log(_) => self.log.is_some(),
             ConfigItem::Others(_) => self.others.is_some(),
+            ConfigItem::ByRules(_) => self.rules.is_some(),
             ConfigItem::Service(service) => self.is_named(service.name),
         }
     }
@@ -96,6 +100,7 @@ impl Draft {
             ConfigItem::Cpus(number) => self.cpus = Some(number),
             ConfigItem::Log(number) => self.log = Some(number),
             ConfigItem::Others(number) => self.others = Some(number),
+            ConfigItem::ByRules(rules) => self.rules = Some(rules),
             ConfigItem::Service(service) => self.lines.push(service)?,
         }
         Ok(())
@@ -135,6 +140,7 @@ impl Draft {
             cpus: self.cpus.unwrap_or(1),
             others: self.others.unwrap_or(1),
             log: self.log.unwrap_or(65_536),
+            rules: self.rules.unwrap_or(Rules::Strict),
             lines: ServiceLines::from_vec(self.lines),
         })
     }

@@ -1,6 +1,7 @@
 //! Items of a configuration.
 
 use mx_machine_world::ServiceLine;
+use mx_proc::Rules;
 
 /// What a line of a configuration says.
 #[derive(Drop)]
@@ -11,5 +12,7 @@ pub enum ConfigItem {
     Log(u32),
     /// How many other actors there are.
     Others(u8),
+    /// By which rules the machine copies between processes.
+    ByRules(Rules),
     Service(ServiceLine),
 }

@@ -8,12 +8,13 @@ ghost use Rattle.mx_machine_world.specs.declared.config.ServiceLine.{ServiceLine
 ghost use Rattle.mx_boot_config.specs.declared.service.Terms.{Terms};
 ghost use Rattle.mx_boot_config.specs.declared.item.ConfigItem.{ConfigItem};
 ghost use Rattle.mx_boot_config.specs.Terms.{AreWithin};
-ghost use Rattle.mx_boot_config.specs.Items.{is_hash, is_stray, said_in, number_after_word, HasParts, SaysService, SaysItem, IsItemWithin};
+ghost use Rattle.mx_boot_config.specs.Items.{is_hash, is_stray, said_in, number_after_word, rules_after_word, HasParts, SaysService, SaysItem, IsItemWithin};
 
 use crate::item::ConfigItem;
 use crate::service::Terms;
 use crate::terms::{number_between, terms_of};
 use mx_machine_world::{FileName, Label, ServiceLine};
+use mx_proc::Rules;
 use mx_text::{next_field, one_field};
 use std::alloc::{AllocError, Global};
 
@@ -44,6 +45,16 @@ fn numbered(line: &[u8], least: u32, most: u32) -> Option<u32>
 {
     let word = one_field(line)?;
     number_between(word, least, most)
+}
+
+/// The rules that a line is the number of.
+fn rules_of(line: &[u8]) -> Option<Rules>
+    ensures { result ≡ rules_after_word (fields line.now) }
+{
+    match numbered(line, 1, 2)? {
+        1 => Some(Rules::Lenient),
+        _ => Some(Rules::Strict),
+    }
 }
 
 /// Whether a byte is no part of a file's name.
@@ -114,6 +125,7 @@ pub fn item_at(alloc: Global, word: &[u8], line: &[u8]) -> Result<Option<ConfigI
         b"cpus" => Ok(numbered(line, 1, 8).map(|number| ConfigItem::Cpus(number as u8))),
         b"log" => Ok(numbered(line, 1, 1_048_576).map(ConfigItem::Log)),
         b"others" => Ok(numbered(line, 1, 4).map(|number| ConfigItem::Others(number as u8))),
+        b"rules" => Ok(rules_of(line).map(ConfigItem::ByRules)),
         _ => Ok(None),
     }
 }

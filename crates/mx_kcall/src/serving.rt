@@ -10,6 +10,7 @@ ghost use Rattle.mx_kcall.specs.Requests.{no_reply_words};
 ghost use Rattle.mx_kcall.specs.Serving.{due_after, ticks_left, table_after_change, words_of_reply, ends_caller, table_after_reply, table_after_serving, answer_of_serving, table_after_kernel_call, answer_of_kernel_call};
 
 use crate::refusals::check;
+use crate::windows::granted;
 use crate::request::{After, KernelCall, ReplyWords, reply_bytes};
 use mx_ipc::go_on;
 use mx_proc::{DeathCause, Slot, Table};
@@ -110,6 +111,12 @@ fn change(table: &mut Table, slot: Slot, request: KernelCall)
             count,
         } => table.copy((from % 1024) as u8, at, (to % 1024) as u8, place, count),
         KernelCall::Kill(endpoint) => die(table, (endpoint % 1024) as u8, DeathCause::Kill),
+        KernelCall::Grant {
+            endpoint,
+            place,
+            count,
+            access,
+        } => table.set_window(slot, (endpoint % 1024) as u8, granted(place, count, access)),
     }
 }
 
