@@ -1,13 +1,14 @@
 -- A run of events, one more each time.
-use Rattle.std.proofs.Common.{◌≡◌, ◌∙◌, ℕ, List, [], ◌∷◌, ◌++◌, Result, refl, sym, ap}
+use Rattle.std.proofs.Common.{◌≡◌, ◌∙◌, ℕ, List, [], ◌∷◌, ◌++◌, Result, refl, sym, ap, subst}
 use Rattle.std.proofs.lemmas.List.{append_assoc}
 use Rattle.mx_machine_world.specs.declared.events.Answer.{Answer}
 use Rattle.mx_machine_world.specs.declared.events.Event.{Event}
 use Rattle.mx_machine_world.specs.declared.events.Refusal.{Refusal}
 use Rattle.mx_machine_world.specs.Move.{move, moves}
+use Rattle.mx_machine_world.specs.Sound.{IsSound}
 use Rattle.mx_machine_world.specs.World.{World}
 use Rattle.mx_machine_world.specs.History.{BootAndHistory}
-use Rattle.mx_machine.specs.Machine.{kept_after, kept_along}
+use Rattle.mx_machine.specs.Machine.{AreSound, kept_after, kept_along}
 use Rattle.mx_machine.proofs.MachineLemmas.{moves-more}
 
 abbrev Answered : Type 0
@@ -39,3 +40,12 @@ next-kept w u v k l m ys zs x r more at answered before after =
     after ∙ ap (λ (n : BootAndHistory). kept_after n x.0 x.1 r) before ∙ sym (along_more w k ys x r)
     ∙ ap (λ (rs : List Answered). kept_along k (ys ++ x ∷ []) rs) (sym (ap (λ (p : List Answered × World). p.0) (one_more w u v ys zs x r more at answered)) ∙ ap (λ (l : List (ℕ × Event)). (moves w l).0) more)
     ∙ ap (λ (l : List (ℕ × Event)). kept_along k l (moves w l).0) (sym more)
+
+-- ---- what is sound
+
+sound_more : (ys : List (ℕ × Event)) (w : World) (x : ℕ × Event) → AreSound w ys → IsSound (moves w ys).1 → AreSound w (ys ++ x ∷ [])
+sound_more [] w x h k = (k, tt)
+sound_more (y ∷ ys) w x h k = (h.0, sound_more ys (move w y.0 y.1).1 x h.1 k)
+
+pub next-sound : (w u : World) (ys zs : List (ℕ × Event)) (x : ℕ × Event) → zs ≡ ys ++ x ∷ [] → u ≡ (moves w ys).1 → AreSound w ys → IsSound u → AreSound w zs
+next-sound w u ys zs x more at h k = subst (AreSound w) (sym more) (sound_more ys w x h (subst IsSound at k))

@@ -10,7 +10,7 @@ ghost use Rattle.mx_machine_world.specs.Move.{move, moves};
 ghost use Rattle.mx_machine_world.specs.Sound.{IsSound};
 ghost use Rattle.mx_machine_world.specs.World.{HeldProcess, actors, held_by, out_count};
 ghost use Rattle.mx_machine_kernel.specs.KernelState.{is_for_all};
-ghost use Rattle.mx_machine.specs.Machine.{HasWorked, IsActor, IsMachineState, kept_after, kept_along, world_of};
+ghost use Rattle.mx_machine.specs.Machine.{AreSound, HasWorked, IsActor, IsMachineState, kept_after, kept_along, world_of};
 
 use crate::steps::{Tool, step_held, work_held};
 use mx_exec::Image;
@@ -212,12 +212,14 @@ impl Machine {
     ) -> Result<(), NoMemory>
         requires { All (λ x. IsActor (world_of self.old) x.0 x.1) events.now }
         ensures ok { OnOk result ((answers.new.items ≡ answers.old.items ++ (moves (world_of self.old) events.now).0) × (world_of self.new ≡ (moves (world_of self.old) events.now).1)) }
+        ensures sound { OnOk result (AreSound (world_of self.old) events.now) }
         ensures recorded { OnOk result (self.new.kernel ≡ kept_along self.old.kernel events.now (moves (world_of self.old) events.now).0) }
         ensures err { OnErr result ((answers.new.items ≡ answers.old.items) × (self.new ≡ self.old)) }
         ensures actors { actors (world_of self.new) ≡ actors (world_of self.old) }
     {
         answers.reserve(events.len())?;
         for pair in events {
+            self.sound();
             let answer = self.apply(pair.0, pair.1);
             add(answers, answer);
         }

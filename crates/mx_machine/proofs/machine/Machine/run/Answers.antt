@@ -1,7 +1,7 @@
 use Rattle.std.proofs.Common.{◌∙◌, ◌+◌, arith}
 use Rattle.std.proofs.lemmas.List.{take_more, length-drop}
 use Rattle.mx_machine.specs.Machine.{world_of}
-use Rattle.mx_machine.proofs.RunningLemmas.{next-answers, next-kept, next-world}
+use Rattle.mx_machine.proofs.RunningLemmas.{next-answers, next-kept, next-sound, next-world}
 use Rattle.mx_machine.proofs.machine.Machine.run.Goals as goal
 
 pub loop-pair-preserved : goal.loop-pair-preserved
@@ -13,5 +13,6 @@ loop-pair-preserved c =
       world = next-world (world_of c.args.self.now) (world_of c.loop-pair.self) (world_of c.apply-answer.new.self) _ _ _ c.apply-answer.result more inv.world c.apply-answer.ensures.moved;
       room = omega (arith, inv.room, c.add.ensures.len, c.add.ensures.room, c.loop-pair-test.true, length-drop c.loop-pair.pair-index c.args.events.now, length-drop (c.loop-pair.pair-index + 1) c.args.events.now);
       kept = next-kept (world_of c.args.self.now) (world_of c.loop-pair.self) (world_of c.apply-answer.new.self) c.args.self.now.kernel c.loop-pair.self.kernel c.apply-answer.new.self.kernel _ _ _ c.apply-answer.result more inv.world c.apply-answer.ensures.moved inv.kept c.apply-answer.ensures.recorded;
+      sound = next-sound (world_of c.args.self.now) (world_of c.loop-pair.self) _ _ _ more inv.world inv.sound c.sound.ensures;
       as_many = c.apply-answer.ensures.actors ∙ inv.as_many;
     }

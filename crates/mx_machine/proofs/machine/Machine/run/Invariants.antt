@@ -2,7 +2,7 @@ use Rattle.std.proofs.Common.{◌≡◌, ◌+◌, ◌≤◌, ◌++◌, length, t
 use Rattle.std.specs.Vec.{vec_len, vec_capacity}
 use Rattle.mx_machine_world.specs.Move.{moves}
 use Rattle.mx_machine_world.specs.World.{actors}
-use Rattle.mx_machine.specs.Machine.{kept_along, world_of}
+use Rattle.mx_machine.specs.Machine.{AreSound, kept_along, world_of}
 use Rattle.mx_machine.proofs.machine.Machine.run.Given as goal
 
 -- the events so far are answered, and there is room for the answers of the others
@@ -12,5 +12,6 @@ invariant-loop-pair l = record {
   world : world_of l.self ≡ (moves (world_of l.initial.self) (take l.pair-index l.events)).1;
   room : vec_len l.answers + length (drop l.pair-index l.events) ≤ vec_capacity l.answers;
   kept : l.self.kernel ≡ kept_along l.initial.self.kernel (take l.pair-index l.events) (moves (world_of l.initial.self) (take l.pair-index l.events)).0;
+  sound : AreSound (world_of l.initial.self) (take l.pair-index l.events);
   as_many : actors (world_of l.self) ≡ actors (world_of l.initial.self);
 }

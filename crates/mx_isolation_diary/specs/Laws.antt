@@ -1,0 +1,72 @@
+-- The laws of diaries, as statements.
+use Rattle.std.specs.Prelude.{◌≡◌, ◌<◌, ℕ, List, false, Some, None, length, slice_get}
+use Rattle.mx_proc.specs.States.{is_blocked}
+use Rattle.mx_proc.specs.TableState.{process_at}
+use Rattle.mx_kcall.specs.Load.{image_of_program}
+use Rattle.mx_kcall.specs.Service.{Service}
+use Rattle.mx_machine_world.specs.declared.config.Config.{Config}
+use Rattle.mx_machine_world.specs.declared.events.Event.{Event}
+use Rattle.mx_machine_world.specs.declared.events.Event.TheVariants.{Step, Respawn}
+use Rattle.mx_machine_world.specs.Boot.{world_at_boot}
+use Rattle.mx_machine_world.specs.Move.{event_refusal, moves, world_after_event}
+use Rattle.mx_machine_world.specs.Sound.{IsSound}
+use Rattle.mx_machine_world.specs.World.{World}
+use Rattle.mx_machine.specs.Machine.{AreSound}
+use Rattle.mx_isolation_diary.specs.Diary.{play}
+use Rattle.mx_isolation_diary.specs.Diaries.{diary, image_now, IsNoRespawnOf}
+use Rattle.mx_isolation_diary.specs.Entries.{AreEntries, byte_of, copy_in, IsOfOthers, IsOutside, IsOutsideCopy, MissesSlot, registers_and_code}
+use Rattle.mx_isolation_diary.specs.Runs.{AreNoRespawnsOf, diary_along, IsLife, Life, diary_of_life, image_of_life}
+
+-- A slot of a sound machine, which has a service.
+pub record IsSlot (w : World) (s : ℕ) : Type 0 where
+  pub sound : IsSound w
+  pub served : s < length w.services
+
+-- ---- one event
+
+-- an accepted event that puts no new process into slot s does to its image what its diary says
+abbrev pub IsWritten : World → ℕ → Event → ℕ → Type 0
+IsWritten w a e s = event_refusal w a e ≡ None → IsNoRespawnOf s e → image_now (world_after_event w a e) s ≡ play (diary w a e s) (image_now w s)
+
+-- after an accepted respawn of slot s its image is the program of its service, loaded
+abbrev pub RespawnLoads : World → ℕ → ℕ → Service → Type 0
+RespawnLoads w a s v = event_refusal w a (Respawn s) ≡ None → slice_get w.services s ≡ Some v → image_now (world_after_event w a (Respawn s)) s ≡ image_of_program v.program
+
+-- at boot each image is the program of its service, loaded
+abbrev pub BootLoads : Config → List Service → ℕ → Service → Type 0
+BootLoads config services s v = slice_get services s ≡ Some v → image_now (world_at_boot config services) s ≡ image_of_program v.program
+
+-- ---- runs
+
+-- a run without a new process in slot s does to its image what its diary says
+abbrev pub RunIsWritten : World → List (ℕ × Event) → ℕ → Type 0
+RunIsWritten w xs s = AreSound w xs → AreNoRespawnsOf s xs → s < length w.services → image_now (moves w xs).1 s ≡ play (diary_along w xs s) (image_now w s)
+
+-- the image at the end of a life is the program with the diary played on it
+abbrev pub LifeIsWritten : Life → Type 0
+LifeIsWritten x = IsLife x → image_of_life x ≡ play (diary_of_life x) (image_of_program x.service.program)
+
+-- two lives, on any machines and in any slots, that agree on program and diary end with equal images
+abbrev pub LivesAgree : Life → Life → Type 0
+LivesAgree x y = x.service.program ≡ y.service.program → diary_of_life x ≡ diary_of_life y → image_of_life x ≡ image_of_life y
+
+-- ---- what a diary holds
+
+abbrev pub HasEntries : World → ℕ → Event → ℕ → Type 0
+HasEntries w a e s = AreEntries w a e s (diary w a e s)
+
+-- ---- what others can't do
+
+-- An event leaves each byte of a slot's image outside of its buffer's 36 and of what is copied into it, the limit, and
+-- all registers but EAX. A step leaves all; so does any event if the process doesn't wait in a call and nothing is
+-- copied into it.
+pub record LeavesImage (w : World) (a : ℕ) (e : Event) (s : ℕ) : Type 0 where
+  pub bytes : (k : ℕ) → IsOutside (image_now w s).regs.ebx 36 k → IsOutsideCopy s (copy_in w a e) k → byte_of (image_now (world_after_event w a e) s) k ≡ byte_of (image_now w s) k
+  pub limit : length (image_now (world_after_event w a e) s).memory ≡ length (image_now w s).memory
+  pub rest : registers_and_code (image_now (world_after_event w a e) s) ≡ registers_and_code (image_now w s)
+  pub step : e ≡ Step → image_now (world_after_event w a e) s ≡ image_now w s
+  pub whole : is_blocked (process_at w.table s).state ≡ false → MissesSlot s (copy_in w a e) → image_now (world_after_event w a e) s ≡ image_now w s
+
+-- so does each accepted event of others
+abbrev pub OthersLeaveImage : World → ℕ → Event → ℕ → Type 0
+OthersLeaveImage w a e s = event_refusal w a e ≡ None → IsOfOthers w a e s → LeavesImage w a e s

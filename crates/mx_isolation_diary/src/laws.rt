@@ -1,0 +1,44 @@
+//! The laws of diaries. No code keeps a diary: it is what an event does to the image of one slot,
+//! written down.
+
+ghost use Rattle.std.specs.Prelude.{ℕ, List};
+ghost use Rattle.mx_kcall.specs.Service.{Service};
+ghost use Rattle.mx_machine_world.specs.declared.config.Config.{Config};
+ghost use Rattle.mx_machine_world.specs.declared.events.Event.{Event};
+ghost use Rattle.mx_machine_world.specs.World.{World};
+ghost use Rattle.mx_isolation_diary.specs.Laws.{BootLoads, HasEntries, IsSlot, IsWritten, LifeIsWritten, LivesAgree, OthersLeaveImage, RespawnLoads, RunIsWritten};
+ghost use Rattle.mx_isolation_diary.specs.Runs.{IsLife, Life};
+
+/// Law: an accepted event does to the image of a slot, at home or on a processor, what the slot's
+/// diary over it says. At boot and after a respawn the image is the service's program, loaded.
+pub fn diaries_tell_images()
+    ensures event { (w : World) (a : ℕ) (e : Event) (s : ℕ) → IsSlot w s → IsWritten w a e s }
+    ensures respawn { (w : World) (a s : ℕ) (v : Service) → IsSlot w s → RespawnLoads w a s v }
+    ensures boot { (c : Config) (vs : List Service) (s : ℕ) (v : Service) → BootLoads c vs s v }
+{}
+
+/// Law: so does a run, if it puts no new process into the slot.
+pub fn diaries_tell_runs()
+    ensures { (w : World) (xs : List (ℕ × Event)) (s : ℕ) → RunIsWritten w xs s }
+{}
+
+/// Law: from boot on, through any respawns, an image is what the diary of its generation makes of
+/// its program. So two processes of any two machines that agree on program and diary have equal
+/// images.
+pub fn lives_tell_images()
+    ensures image { (x : Life) → LifeIsWritten x }
+    ensures equal { (x y : Life) → IsLife x → IsLife y → LivesAgree x y }
+{}
+
+/// Law: a diary holds the steps of its own process, results and messages of calls that it made or
+/// waited in, and bytes of copies that were not refused.
+pub fn diaries_have_entries()
+    ensures { (w : World) (a : ℕ) (e : Event) (s : ℕ) → IsSlot w s → HasEntries w a e s }
+{}
+
+/// Law: what others do leaves of a slot's image all but EAX, the 36 bytes of the buffer that the
+/// process named, and the bytes that a copy puts into it. A step of theirs leaves all; so does all that
+/// they do, if the process doesn't wait in a call and nothing is copied into it.
+pub fn others_leave_images()
+    ensures { (w : World) (a : ℕ) (e : Event) (s : ℕ) → IsSlot w s → OthersLeaveImage w a e s }
+{}

@@ -1,0 +1,9 @@
+//! Diaries: what happens to a process's image, and whose doing it is.
+#![tactic(auto)]
+
+mod laws;
+
+pub use laws::{
+    diaries_have_entries, diaries_tell_images, diaries_tell_runs, lives_tell_images,
+    others_leave_images,
+};

@@ -1,0 +1,6 @@
+pub mod TwinLemmas
+pub mod CallLemmas
+pub mod DeathLemmas
+pub mod ServingLemmas
+pub mod MoveLemmas
+pub mod SoundTwins

@@ -1,0 +1,5 @@
+pub mod Twins
+pub mod Same
+pub mod Senders
+pub mod Apart
+pub mod Laws
