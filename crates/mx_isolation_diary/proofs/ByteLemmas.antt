@@ -12,11 +12,11 @@ use Rattle.mx_proc.specs.declared.process.Process.{Process}
 use Rattle.mx_proc.specs.TableState.{TableState, memory_at, nobody, table_after_move_home}
 use Rattle.mx_ipc.specs.Checks.{first_error, has_bit}
 use Rattle.mx_kcall.specs.declared.request.KernelCall.{KernelCall}
-use Rattle.mx_kcall.specs.declared.request.KernelCall.TheVariants.{Exit, Times, SetAlarm, Irqctl, Devio, Vircopy, Whois}
+use Rattle.mx_kcall.specs.declared.request.KernelCall.TheVariants.{Exit, Times, SetAlarm, Irqctl, Devio, Vircopy, Whois, Grant}
 use Rattle.mx_kcall.specs.declared.request.KernelCall.TheVariants as kernel_call
 use Rattle.mx_kcall.specs.Calls.{trap_answer}
 use Rattle.mx_kcall.specs.Refusals.{is_away, kernel_call_reasons, kernel_call_refusal, kernel_call_refusal_by}
-use Rattle.mx_kcall.specs.Requests.{kernel_call_of, message_words_at}
+use Rattle.mx_kcall.specs.Requests.{kernel_call_under, message_words_at}
 use Rattle.mx_kcall.specs.TrapAnswer.{TrapAnswer}
 use Rattle.mx_kcall.specs.TrapAnswer.TheVariants as trap_ends
 use Rattle.mx_machine_world.specs.Move.{is_doomed, table_after_coming_home}
@@ -192,7 +192,7 @@ copy_fits t s from at to place count e =
     let h = none_holds ((not (has_bit (process_at t s).masks.calls 5), Denied) ∷ kernel_call_reasons t s (Vircopy from at to place count)) e in
     record {
       home = second_false (is_away t from) (is_away t to) h.1.1.1.1.1.1.0;
-      room = leb-true (place + count) (length (memory_at t (to % 1024))) (not_false _ h.1.1.1.1.1.1.1.1.0);
+      room = leb-true (place + count) (length (memory_at t (to % 1024))) (not_false _ h.1.1.1.1.1.1.1.1.1.1.0);
     }
 
 abbrev the_copy : CopyMade → Option CopyMade → CopyMade
@@ -210,11 +210,12 @@ copy_inside_by t s (Some (Vircopy from at to place count)) (Some x) c f g = cc
 copy_inside_by t s (Some (Vircopy from at to place count)) None c f g = subst (IsInside t) (ap (the_copy c) g) (copy_fits t s from at to place count f)
 copy_inside_by t s (Some (kernel_call.Kill n)) e c f g = cc
 copy_inside_by t s (Some (Whois slot)) e c f g = cc
+copy_inside_by t s (Some (Grant endpoint place count access)) e c f g = cc
 
 copy_inside_trap : (t : TableState) (s : ℕ) (x : TrapAnswer) (c : CopyMade) → copy_at_trap t s x ≡ Some c → IsInside t c
 unfolding kernel_call_refusal
 copy_inside_trap t s trap_ends.Done c g = cc
-copy_inside_trap t s trap_ends.Kernel c g = copy_inside_by t s (kernel_call_of (message_words_at t s)) (kernel_call_refusal t s) c refl g
+copy_inside_trap t s trap_ends.Kernel c g = copy_inside_by t s (kernel_call_under t.rules (message_words_at t s)) (kernel_call_refusal t s) c refl g
 
 copy_inside_end : (t : TableState) (s : ℕ) (b : Bool) (x : Stop) (c : CopyMade) → copy_at_end t s b x ≡ Some c → IsInside t c
 copy_inside_end t s true x c g = cc

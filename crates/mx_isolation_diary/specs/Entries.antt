@@ -13,7 +13,7 @@ use Rattle.mx_kcall.specs.declared.request.KernelCall.{KernelCall}
 use Rattle.mx_kcall.specs.declared.request.KernelCall.TheVariants.{Vircopy}
 use Rattle.mx_kcall.specs.Calls.{trap_answer}
 use Rattle.mx_kcall.specs.Refusals.{kernel_call_refusal}
-use Rattle.mx_kcall.specs.Requests.{kernel_call_of, message_words_at}
+use Rattle.mx_kcall.specs.Requests.{kernel_call_under, message_words_at}
 use Rattle.mx_kcall.specs.TrapAnswer.{TrapAnswer}
 use Rattle.mx_kcall.specs.TrapAnswer.TheVariants as trap_ends
 use Rattle.mx_machine_world.specs.declared.events.Event.{Event}
@@ -50,7 +50,7 @@ copy_by _ _ = None
 -- by the trap of s
 abbrev pub copy_at_trap : TableState → ℕ → TrapAnswer → Option CopyMade
 copy_at_trap t s trap_ends.Done = None
-copy_at_trap t s trap_ends.Kernel = copy_by (kernel_call_of (message_words_at t s)) (kernel_call_refusal t s)
+copy_at_trap t s trap_ends.Kernel = copy_by (kernel_call_under t.rules (message_words_at t s)) (kernel_call_refusal t s)
 
 -- by the end of its turn
 abbrev pub copy_at_end : TableState → ℕ → Bool → Stop → Option CopyMade
