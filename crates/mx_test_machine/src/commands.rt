@@ -66,7 +66,7 @@ const SUMMED: &str = "EAX 00000080 ECX 00000000 EDX 00000000 EBX 00000000\n\
 const KILLED: &str = "done\ndone\nrefused 54 NoProcess\nrefused 41 Worn\nrefused 53 NoLine\n\
     refused 42 NoService\n";
 
-static DONE: [Done; 9] = [
+static DONE: [Done; 10] = [
     Done {
         words: &["mx", "one", "a.out", "9"],
         status: 0,
@@ -117,6 +117,13 @@ static DONE: [Done; 9] = [
         words: &["mx", "replay", "one", "early"],
         status: 1,
         printed: "line 1: refused 51 CpuEmpty\n",
+        file: None,
+    },
+    // The line of the rules is counted too.
+    Done {
+        words: &["mx", "trace", "one", "strict_early"],
+        status: 1,
+        printed: "line 2: refused 51 CpuEmpty\n",
         file: None,
     },
     Done {
