@@ -23,7 +23,7 @@ read_ended by items actors t (Err e) ruled read ended = tt
 
 told : (actors : ℕ) (t : List ℕ) (e : BootError) → TellsNoRecords actors t e → is_ended t ≡ true → TellsHistoryFault actors t e
 told actors t (BadRecord n) h ended = inl h
-told actors t NoMemory h ended = (rules_of_lines (lines t), h.0, h.1, ended, refl)
+told actors t NoMemory h ended = (rules_of_lines (lines t), h.0, (h.1, ended, refl))
 told actors t (BadLine n) h ended = h
 told actors t (TwiceNamed n) h ended = h
 told actors t (TooMany n) h ended = h

@@ -150,14 +150,14 @@ pub fn lines_above(rules: Rules) -> usize
 /// The rules and the records that a text's lines say, or the first line that says no record.
 fn read_records(
     alloc: Global,
-    text: &[u8],
+    text: &str,
     actors: u8,
 ) -> Result<(Rules, Vec<Record>), BootError>
     ensures rules { IfOk result (λ found. found.0 ≡ rules_of_lines (lines text.now)) }
     ensures read { IfOk result (λ found. AreLinesRead (record_line actors) (record_lines (lines text.now)) found.1.items) }
     ensures unread { IfErr result (TellsNoRecords actors text.now) }
 {
-    let (rules, below) = split_rules(text);
+    let (rules, below) = split_rules(text.as_bytes());
     match read_lines(alloc, &RecordReader { actors }, below) {
         Ok(records) => Ok((rules, records)),
         Err(BootError::BadRecord(number)) => Err(BootError::BadRecord(lines_above(rules) + number)),
@@ -172,7 +172,7 @@ fn read_log(alloc: Global, text: &str, actors: u8) -> Result<(Rules, Vec<Record>
     ensures fault { IfErr result (λ e. TellsHistoryFault actors text.now e) }
 {
     let bytes = text.as_bytes();
-    let read = read_records(alloc, bytes, actors);
+    let read = read_records(alloc, text, actors);
     if is_ended(bytes) {
         return read;
     }
