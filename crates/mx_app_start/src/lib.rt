@@ -15,9 +15,7 @@ mod writer;
 pub use course::{Course, DebugScript, History, Script};
 pub use memory::{KeptFile, MemoryWriter};
 pub use mx_app_failure::{Failure, print_text};
-pub use mx_boot::{
-    BootError, Config, DebugLine, ScriptLine, lines_above, report, saved_text,
-};
+pub use mx_boot::{BootError, Config, DebugLine, ScriptLine, lines_above, report, saved_text};
 pub use mx_machine::{Event, Held, Machine, Out, Record, Recorded, Tool};
 pub use named::{NamedFile, NamedFiles};
 pub use reader::Reader;

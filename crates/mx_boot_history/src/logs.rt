@@ -148,11 +148,7 @@ pub fn lines_above(rules: Rules) -> usize
 }
 
 /// The rules and the records that a text's lines say, or the first line that says no record.
-fn read_records(
-    alloc: Global,
-    text: &str,
-    actors: u8,
-) -> Result<(Rules, Vec<Record>), BootError>
+fn read_records(alloc: Global, text: &str, actors: u8) -> Result<(Rules, Vec<Record>), BootError>
     ensures rules { IfOk result (λ found. found.0 ≡ rules_of_lines (lines text.now)) }
     ensures read { IfOk result (λ found. AreLinesRead (record_line actors) (record_lines (lines text.now)) found.1.items) }
     ensures unread { IfErr result (TellsNoRecords actors text.now) }

@@ -48,11 +48,7 @@ fn told(alloc: Global, text: &[u8], out: &mut Vec<u8>) -> Result<Replayed, Failu
 }
 
 /// What is told of a text with that many whole lines, that many above the records, and what is printed.
-fn wanted(
-    lines: usize,
-    above: usize,
-    is_whole: bool,
-) -> (Result<Replayed, Failure>, &'static str) {
+fn wanted(lines: usize, above: usize, is_whole: bool) -> (Result<Replayed, Failure>, &'static str) {
     match REPORTS.get(lines.saturating_sub(above)) {
         Some(report) if is_whole => (Ok(Replayed::Whole), *report),
         _ => {
