@@ -33,6 +33,7 @@ abbrev pub rules_after_word : List (List ℕ) → Option Rules
 rules_after_word fs = do
   n ← number_after_word 1 2 fs
   Some (rules_of_number n)
+
 -- a tab or a carriage return, which is no part of a file's name
 abbrev pub is_stray : ℕ → Bool
 is_stray b = b == 9 || b == 13
