@@ -71,13 +71,13 @@ as_many_services name qs c vs h = as_many c.lines h.1 vs h.6
 -- ---- what `mx run` tells, by how it ends
 
 module _ (config log : List ℕ) (ticks : ℕ) (qs : List Asked) (Prints : List ℕ → Type 0) (apart : config ≢ log) where
-  pub not_set_up : (f : Kind) (r : Result (Unit {0}) Kind) → (f ≡ NoMemory) ⊎ IsSetupFault config qs f → IsErrAnd r (λ y. y ≡ f) → Runs config log ticks qs [] Prints r
+  pub not_set_up : (f : Kind) (r : Result (Unit {0}) Kind) → IsSetupFault config qs f → IsErrAnd r (λ y. y ≡ f) → Runs config log ticks qs [] Prints r
   not_set_up f (Ok u) why h = absurd h
-  not_set_up f (Err y) why h = inl (refl, inr (apart, subst (λ z. (z ≡ NoMemory) ⊎ IsSetupFault config qs z) (sym h) why))
+  not_set_up f (Err y) why h = inl (refl, inr (apart, inl (subst (λ z. IsSetupFault config qs z) (sym h) why)))
 
-  pub no_memory : (r : Result (Unit {0}) Kind) → IsErrAnd r (λ y. y ≡ NoMemory) → Runs config log ticks qs [] Prints r
-  no_memory (Ok u) h = absurd h
-  no_memory (Err y) h = inl (refl, inr (apart, inl h))
+  pub no_memory : (c : Config) (vs : List Service) (r : Result (Unit {0}) Kind) → IsSetup config qs c vs → IsErrAnd r (λ y. y ≡ NoMemory) → Runs config log ticks qs [] Prints r
+  no_memory c vs (Ok u) setup h = absurd h
+  no_memory c vs (Err y) setup h = inl (refl, inr (apart, inr (c, vs, setup, h)))
 
   module _ (c : Config) (vs : List Service) (k : BootAndHistory) (setup : IsSetup config qs c vs) (run : IsRun c vs ticks k) (text : List ℕ) (is : text ≡ history_text k.history) where
     pub unwritten : (kind : ErrorKind) (r : Result (Unit {0}) Kind) → IsErrAnd r (λ y. y ≡ failure_of_kind kind) → Runs config log ticks qs (unkept log text kind ∷ []) Prints r

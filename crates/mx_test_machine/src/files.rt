@@ -111,7 +111,7 @@ const COUNTS: [u8; 59] = [
     0xFF, 0xBB, 0, 0, 0, 0, 0xCD, 0x21,
 ];
 
-static FILES: [NamedFile<'static>; 41] = [
+static FILES: [NamedFile<'static>; 42] = [
     NamedFile {
         name: "pair",
         bytes: PAIR,
@@ -120,6 +120,12 @@ static FILES: [NamedFile<'static>; 41] = [
         name: "one",
         bytes: b"cpus 1\nlog 8\n\
             service a a.out traps 1e send 0 calls 0 level 7 best 5 quantum 5 restarts 0\n",
+    },
+    NamedFile {
+        name: "full",
+        bytes: b"cpus 1\nlog 3\n\
+            service drv drv.out traps 1e send 2 calls 0 level 4 best 4 quantum 20 restarts 0\n\
+            service cli cli.out traps 1e send 1 calls 1 level 7 best 7 quantum 20 restarts 0\n",
     },
     NamedFile {
         name: "again",
