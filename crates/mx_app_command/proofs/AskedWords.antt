@@ -1,5 +1,5 @@
 -- What the words of a subcommand have, where the grammar finds no fault with them.
-use Rattle.std.proofs.Common.{◌≡◌, ◌⊎◌, ◌∙◌, ◌<◌, ◌==◌, ℕ, Bool, true, false, cond, is_some, IfSome, refl, sym, ap, subst, arith, inl, inr, codes, drop, List, [], ◌∷◌, Option, Some, None, true≢false}
+use Rattle.std.proofs.Common.{◌≡◌, ◌∙◌, ◌<◌, ◌==◌, ℕ, Bool, true, false, cond, is_some, IfSome, refl, sym, ap, subst, arith, inl, inr, codes, drop, List, [], ◌∷◌, Option, Some, None, true≢false}
 use Rattle.std.specs.Prelude.{Ok, find, option_map, pos, unwrap_or}
 use Rattle.std.specs.List.{AllByRecursion}
 use Rattle.std.specs.Str.{bytes_eq}
@@ -185,11 +185,11 @@ only_ticks = ((λ e. cc), ((λ e. cc), ((λ e. refl), ((λ e. cc), tt))))
 
 ticks_if_given : (words : List Text) → level_fault run_whole [] nothing_held words false [] ≡ []
     → MayHaveNumber (codes "T") (rows_after run_whole.rules [] words)
-ticks_if_given words fine = elim value_if_given ticks_rule ticks_sets run_whole only_ticks words fine [
+ticks_if_given words fine = elim (value_if_given ticks_rule ticks_sets run_whole only_ticks words fine) [
   | inl absent ↦ inl absent
   | inr given ↦
-    (let number = number_of given.0 (accepts-Accepts ticks_rule.ignore_case (Signed (pos 0) (pos 4294967295)) given.0 given.3) in
-    inr (number.0, (without_minus given.0, given.2, number.1)))
+      (let number = number_of given.0 (accepts-Accepts ticks_rule.ignore_case (Signed (pos 0) (pos 4294967295)) given.0 given.3) in
+      inr (number.0, (without_minus given.0, given.2, number.1)))
 ]
 
 run_fits : Fits run_whole

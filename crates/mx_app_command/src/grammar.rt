@@ -186,9 +186,7 @@ fn argument_of<'a>(alloc: Global, argument: &CommandArgument<'a>) -> Arg<'a>
         ArgumentForm::Text => arg.required(true),
         ArgumentForm::Number => arg.required(true).value_parser(clap::value_parser!(u32)),
         ArgumentForm::After(name) => arg.long(name),
-        ArgumentForm::NumberAfter(name) => {
-            arg.long(name).value_parser(clap::value_parser!(u32))
-        }
+        ArgumentForm::NumberAfter(name) => { arg.long(name).value_parser(clap::value_parser!(u32)) }
     }
 }
 
