@@ -9,8 +9,8 @@ use crate::replacing::replace_file;
 use crate::writer::FileWriter;
 use http_server::Log;
 use std::alloc::Global;
-use std::rt::Files;
 use std::io;
+use std::rt::Files;
 
 /// Reads the files of the runtime. A name is a path, relative to the directory that the program runs
 /// in.
