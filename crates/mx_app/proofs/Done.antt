@@ -53,10 +53,10 @@ pub assembled : (asked now : List Asked) (files written : List Written) (known :
 assembled asked now files written known text file d r p e = (p.0, p.1, p.2, p.3, (d, p.4, appends_nothing known, e))
 
 -- a machine was run, or it wasn't
-pub runs : (asked now : List Asked) (files written : List Written) (config log : List ℕ) (ticks : ℕ) (Prints : List ℕ → Type 0) (d : Result (Unit {0}) Kind) (r : Result ℕ Kind)
-    → (qs : List Asked) × (ws : List Written) × (now ≡ asked ++ qs) × (written ≡ files ++ ws) × Runs config log ticks qs ws Prints d → r ≡ status_after_work d
-    → Does asked now files written (λ qs ws. (x : Result (Unit {0}) Kind) × Runs config log ticks qs ws Prints x × (r ≡ status_after_work x))
-runs asked now files written config log ticks Prints d r p e = (p.0, p.1, p.2, p.3, (d, p.4, e))
+pub runs : (asked now : List Asked) (files written : List Written) (config log : List ℕ) (ticks : ℕ) (x y : Option (List ℕ)) (d : Result (Unit {0}) Kind) (r : Result ℕ Kind)
+    → (qs : List Asked) × (ws : List Written) × (now ≡ asked ++ qs) × (written ≡ files ++ ws) × Runs config log ticks qs ws (λ text. Appends x y text) d → r ≡ status_after_work d
+    → Does asked now files written (λ qs ws. (e : Result (Unit {0}) Kind) × Runs config log ticks qs ws (λ text. Appends x y text) e × (r ≡ status_after_work e))
+runs asked now files written config log ticks x y d r p e = (p.0, p.1, p.2, p.3, (d, p.4, e))
 
 -- a script was done, and its history saved or not
 pub saves : (asked now : List Asked) (files written : List Written) (config script log : List ℕ) (x y : Option (List ℕ)) (d : Result (Unit {0}) Kind) (r : Result ℕ Kind)

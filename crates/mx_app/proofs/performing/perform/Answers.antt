@@ -30,7 +30,7 @@ returns-in-Some g c =
 pub returns-in-Run : goal.returns-in-Run
 returns-in-Run g c =
     as_asked _ _ _ _ _ _ _ _ c.in-Run.is
-    (runs _ _ _ _ c.in-Run.config.now c.in-Run.log.now c.in-Run.ticks _ c.run.result c.status_after_work-in-Run.result c.run.ensures c.status_after_work-in-Run.ensures)
+    (runs _ _ _ _ c.in-Run.config.now c.in-Run.log.now c.in-Run.ticks _ _ c.run.result c.status_after_work-in-Run.result c.run.ensures c.status_after_work-in-Run.ensures)
 
 pub returns-in-Replay : goal.returns-in-Replay
 returns-in-Replay g c = as_asked _ _ _ _ _ _ _ _ c.in-Replay.is (replays _ _ _ c.in-Replay.config.now c.in-Replay.log.now _ _ c.replay.result c.status_after_replay.result c.replay.ensures.printed c.replay.ensures.fault c.status_after_replay.ensures)
