@@ -111,8 +111,11 @@ console 1
 With --save LOG the history that the script made is written to the file LOG before
 the report is printed, also where lines were refused:
 
-$ mx step pair.config pair.script --save /tmp/pair.log | head -n 1
-taken 0 budget 20
+$ mx step pair.config pair.script --save /tmp/pair.log | tail -n 4
+0 drv 0 receiving any 4 8
+1 cli 1 down exit 7 12
+uptime 0
+console 0
 $ mx replay pair.config /tmp/pair.log
 0 drv 0 receiving any 4 8
 1 cli 1 down exit 7 12

@@ -479,10 +479,7 @@ fn history_unwritten(rt: HostRuntime) {
 
 /// Words that write a history, and what is printed before it.
 const UNWRITTEN: [(&[&str], &str); 2] = [
-    (
-        &["mx", "step", "one", "kills", "--save", "new.log"],
-        KILLED,
-    ),
+    (&["mx", "step", "one", "kills", "--save", "new.log"], KILLED),
     (&["mx", "run", "one", "new.log"], ""),
 ];
 
@@ -495,7 +492,12 @@ fn run_with_ticks(rt: HostRuntime) {
     let mut told = String::new(alloc);
     let status = perform(&mut channels, &rt, alloc, words, &mut told);
     assert!(rt; status == 0 && told.is_empty());
-    assert!(rt; is_printed(&channels.out, "0 a 0 down fault 13 7 1\nuptime 3\nconsole 0\n"));
+    assert!(rt;
+        is_printed(
+            &channels.out,
+            "0 a 0 down fault 13 7 1\nuptime 3\nconsole 0\n"
+        )
+    );
     let files = channels.files.files();
     assert!(rt; files.len() == 1 && lines_in(files[0].bytes.as_slice()) == 7);
 }
@@ -592,7 +594,12 @@ docs/REFERENCE.md.
     ),
 ];
 
-fn ends_so<R: Threads + Wait + Clock + Sync>(rt: &R, alloc: Global, words: &'static [&'static str], ending: &str) -> bool {
+fn ends_so<R: Threads + Wait + Clock + Sync>(
+    rt: &R,
+    alloc: Global,
+    words: &'static [&'static str],
+    ending: &str,
+) -> bool {
     let mut channels = channels(alloc, None);
     let mut told = String::new(alloc);
     let status = perform(&mut channels, rt, alloc, words, &mut told);
