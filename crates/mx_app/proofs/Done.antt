@@ -26,6 +26,7 @@ use Rattle.mx_app_step.specs.Traces.{IsTracePrinted}
 use Rattle.mx_app_step.specs.declared.records.Replayed.{Replayed}
 use Rattle.mx_app_db.specs.Lines.{DebuggedWorld, debug_lines_made}
 use Rattle.mx_app_db.specs.Told.{debug_lines_text}
+use Rattle.mx_app_run.specs.Run.{Runs}
 use Rattle.mx_app.specs.Named.{Assembles, ShowsFile}
 use Rattle.mx_app.specs.Requests.{Debugs, Performs, Replays, SavesSteps, Shows, Steps, Traces, status_after_replay, status_after_work}
 
@@ -50,6 +51,12 @@ pub assembled : (asked now : List Asked) (files written : List Written) (known :
     → (qs : List Asked) × (ws : List Written) × (now ≡ asked ++ qs) × (written ≡ files ++ ws) × Assembles text file qs ws d → r ≡ status_after_work d
     → Does asked now files written (λ qs ws. (x : Result (Unit {0}) Kind) × Assembles text file qs ws x × Appends known known [] × (r ≡ status_after_work x))
 assembled asked now files written known text file d r p e = (p.0, p.1, p.2, p.3, (d, p.4, appends_nothing known, e))
+
+-- a machine was run, or it wasn't
+pub runs : (asked now : List Asked) (files written : List Written) (config log : List ℕ) (ticks : ℕ) (x y : Option (List ℕ)) (d : Result (Unit {0}) Kind) (r : Result ℕ Kind)
+    → (qs : List Asked) × (ws : List Written) × (now ≡ asked ++ qs) × (written ≡ files ++ ws) × Runs config log ticks qs ws (λ text. Appends x y text) d → r ≡ status_after_work d
+    → Does asked now files written (λ qs ws. (e : Result (Unit {0}) Kind) × Runs config log ticks qs ws (λ text. Appends x y text) e × (r ≡ status_after_work e))
+runs asked now files written config log ticks x y d r p e = (p.0, p.1, p.2, p.3, (d, p.4, e))
 
 -- a script was done, and its history saved or not
 pub saves : (asked now : List Asked) (files written : List Written) (config script log : List ℕ) (x y : Option (List ℕ)) (d : Result (Unit {0}) Kind) (r : Result ℕ Kind)

@@ -1,5 +1,5 @@
 -- From loops to a run, and from its text to its replay.
-use Rattle.std.proofs.Common.{◌≡◌, ◌≢◌, ◌∙◌, ◌⊎◌, ◌+◌, ℕ, zero, suc, List, [], ◌∷◌, ◌++◌, length, Option, Some, None, Result, Ok, Err, IfErr, OnOk, All, refl, sym, ap, subst, inl, inr, arith, append_assoc}
+use Rattle.std.proofs.Common.{◌≡◌, ◌≢◌, ◌∙◌, ◌+◌, ℕ, zero, suc, List, [], ◌∷◌, ◌++◌, length, Option, Some, None, Result, Ok, Err, IfErr, OnOk, All, refl, sym, ap, subst, inl, inr, arith, append_assoc}
 use Rattle.std.specs.Prelude.{IsErrAnd}
 use Rattle.std.specs.declared.io.ErrorKind.{ErrorKind}
 use Rattle.std.specs.Io.KnownBytes.{Appends}
@@ -76,13 +76,13 @@ rules_at_boot c vs = refl
 -- ---- what `mx run` tells, by how it ends
 
 module _ (config log : List ℕ) (ticks : ℕ) (qs : List Asked) (Prints : List ℕ → Type 0) (apart : config ≢ log) where
-  pub not_set_up : (f : Kind) (r : Result (Unit {0}) Kind) → (f ≡ NoMemory) ⊎ IsSetupFault config qs f → IsErrAnd r (λ y. y ≡ f) → Runs config log ticks qs [] Prints r
+  pub not_set_up : (f : Kind) (r : Result (Unit {0}) Kind) → IsSetupFault config qs f → IsErrAnd r (λ y. y ≡ f) → Runs config log ticks qs [] Prints r
   not_set_up f (Ok u) why h = absurd h
-  not_set_up f (Err y) why h = inl (refl, inr (apart, subst (λ z. (z ≡ NoMemory) ⊎ IsSetupFault config qs z) (sym h) why))
+  not_set_up f (Err y) why h = inl (refl, inr (apart, inl (subst (λ z. IsSetupFault config qs z) (sym h) why)))
 
-  pub no_memory : (r : Result (Unit {0}) Kind) → IsErrAnd r (λ y. y ≡ NoMemory) → Runs config log ticks qs [] Prints r
-  no_memory (Ok u) h = absurd h
-  no_memory (Err y) h = inl (refl, inr (apart, inl h))
+  pub no_memory : (c : Config) (vs : List Service) (r : Result (Unit {0}) Kind) → IsSetup config qs c vs → IsErrAnd r (λ y. y ≡ NoMemory) → Runs config log ticks qs [] Prints r
+  no_memory c vs (Ok u) setup h = absurd h
+  no_memory c vs (Err y) setup h = inl (refl, inr (apart, inr (c, vs, setup, h)))
 
   module _ (c : Config) (vs : List Service) (k : BootAndHistory) (setup : IsSetup config qs c vs) (run : IsRun c vs ticks k) (text : List ℕ) (is : text ≡ saved_text k.boot.table.rules k.history) where
     by_rules : text ≡ saved_text c.rules k.history

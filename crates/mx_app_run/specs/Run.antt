@@ -43,10 +43,11 @@ pub record IsRun (c : Config) (vs : List Service) (ticks : ℕ) (k : BootAndHist
 
 -- ---- `mx run`
 
--- nothing was run, or there was no memory to run it, and no history is written: both files have one name, or the first
--- fault of the configuration and its services' files
+-- no history is written: both files have one name; or the first fault of the configuration and its services' files; or,
+-- where there is none, out of memory
 abbrev pub IsNotRun : List ℕ → List ℕ → List Asked → Kind → Type 0
-IsNotRun config log qs f = ((config ≡ log) × (qs ≡ []) × (f ≡ File)) ⊎ ((config ≢ log) × ((f ≡ NoMemory) ⊎ IsSetupFault config qs f))
+IsNotRun config log qs f = ((config ≡ log) × (qs ≡ []) × (f ≡ File)) ⊎ ((config ≢ log)
+    × (IsSetupFault config qs f ⊎ ((c : Config) × (vs : List Service) × IsSetup config qs c vs × (f ≡ NoMemory))))
 
 -- what a run came to: its history's text couldn't be written, or it was, and the report couldn't be printed
 abbrev pub IsRunUntold : List ℕ → List ℕ → List Written → Kind → Type 0

@@ -7,6 +7,7 @@ mod memory;
 mod named;
 mod noting;
 mod reader;
+mod replacing;
 mod runtime;
 mod setup;
 mod starting;

@@ -132,7 +132,7 @@ const GRANTS: [u8; 101] = [
     0x21,
 ];
 
-static FILES: [NamedFile<'static>; 45] = [
+static FILES: [NamedFile<'static>; 46] = [
     NamedFile {
         name: "pair",
         bytes: PAIR,
@@ -141,6 +141,12 @@ static FILES: [NamedFile<'static>; 45] = [
         name: "one",
         bytes: b"cpus 1\nlog 8\n\
             service a a.out traps 1e send 0 calls 0 level 7 best 5 quantum 5 restarts 0\n",
+    },
+    NamedFile {
+        name: "full",
+        bytes: b"cpus 1\nlog 3\n\
+            service drv drv.out traps 1e send 2 calls 0 level 4 best 4 quantum 20 restarts 0\n\
+            service cli cli.out traps 1e send 1 calls 1 level 7 best 7 quantum 20 restarts 0\n",
     },
     NamedFile {
         name: "again",
