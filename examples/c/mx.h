@@ -31,7 +31,7 @@ _Static_assert(sizeof(message) == 36, "a message is 36 bytes");
 
 /* Results. */
 #define OK 0
-#define EPERM (-1)              /* the line is another's */
+#define EPERM (-1)              /* the line is another's, or the memory, and not granted */
 #define EFAULT (-14)            /* an address outside the memory */
 #define EINVAL (-22)            /* a word out of its range */
 #define ELOCKED (-101)          /* to send would be a deadlock */
@@ -60,6 +60,7 @@ _Static_assert(sizeof(message) == 36, "a message is 36 bytes");
 #define SYS_VIRCOPY 0x605
 #define SYS_KILL 0x606
 #define SYS_WHOIS 0x607
+#define SYS_GRANT 0x608         /* by rules 2 alone */
 #define CALL_BIT(type) (1 << ((type) - SYS_EXIT))
 
 /* The type of every notification. Its p[0] is the uptime; from HARDWARE, p[1] has a bit a line. */
@@ -187,7 +188,26 @@ static inline int sys_out(int number, uint32_t value)
     return kernel_call(SYS_DEVIO, &m);
 }
 
-/* Copies at most 65,536 bytes from one process's memory to another's; either may be the caller. */
+/* How another process may use what sys_grant lets it. */
+#define GRANT_NOTHING 0
+#define GRANT_READ 1
+#define GRANT_WRITE 2
+
+/* Lets another process copy from so many bytes here, or to them, or both, and no others; it takes the
+ * place of what that process was let before. */
+static inline int sys_grant(int to, const void *place, uint32_t count, int access)
+{
+    message m;
+
+    m.p[0] = to;
+    m.p[1] = (uint32_t)place;
+    m.p[2] = count;
+    m.p[3] = access;
+    return kernel_call(SYS_GRANT, &m);
+}
+
+/* Copies at most 65,536 bytes from one process's memory to another's; either may be the caller. By
+ * rules 2 the other one has to have granted it. */
 static inline int sys_vircopy(int from, uint32_t from_address, int to, uint32_t to_address,
                               uint32_t count)
 {

@@ -11,7 +11,7 @@ use Rattle.mx_machine_world.specs.Boot.{world_at_boot}
 use Rattle.mx_machine_world.specs.declared.history.Record.{Record}
 use Rattle.mx_app_start.specs.Asked.{Asked}
 use Rattle.mx_app_start.specs.Written.{Written, kept}
-use Rattle.mx_app_start.specs.Text.{history_text}
+use Rattle.mx_app_start.specs.Text.{saved_text}
 use Rattle.mx_app_start.specs.Config.{Config}
 use Rattle.mx_app_start.specs.Service.{Service}
 use Rattle.mx_app_start.specs.Report.{report_text}
@@ -26,6 +26,7 @@ use Rattle.mx_app_step.specs.Traces.{IsTracePrinted}
 use Rattle.mx_app_step.specs.declared.records.Replayed.{Replayed}
 use Rattle.mx_app_db.specs.Lines.{DebuggedWorld, debug_lines_made}
 use Rattle.mx_app_db.specs.Told.{debug_lines_text}
+use Rattle.mx_app_run.specs.Run.{Runs}
 use Rattle.mx_app.specs.Named.{Assembles, ShowsFile}
 use Rattle.mx_app.specs.Requests.{Debugs, Performs, Replays, SavesSteps, Shows, Steps, Traces, status_after_replay, status_after_work}
 
@@ -51,20 +52,26 @@ pub assembled : (asked now : List Asked) (files written : List Written) (known :
     → Does asked now files written (λ qs ws. (x : Result (Unit {0}) Kind) × Assembles text file qs ws x × Appends known known [] × (r ≡ status_after_work x))
 assembled asked now files written known text file d r p e = (p.0, p.1, p.2, p.3, (d, p.4, appends_nothing known, e))
 
+-- a machine was run, or it wasn't
+pub runs : (asked now : List Asked) (files written : List Written) (config log : List ℕ) (ticks : ℕ) (x y : Option (List ℕ)) (d : Result (Unit {0}) Kind) (r : Result ℕ Kind)
+    → (qs : List Asked) × (ws : List Written) × (now ≡ asked ++ qs) × (written ≡ files ++ ws) × Runs config log ticks qs ws (λ text. Appends x y text) d → r ≡ status_after_work d
+    → Does asked now files written (λ qs ws. (e : Result (Unit {0}) Kind) × Runs config log ticks qs ws (λ text. Appends x y text) e × (r ≡ status_after_work e))
+runs asked now files written config log ticks x y d r p e = (p.0, p.1, p.2, p.3, (d, p.4, e))
+
 -- a script was done, and its history saved or not
 pub saves : (asked now : List Asked) (files written : List Written) (config script log : List ℕ) (x y : Option (List ℕ)) (d : Result (Unit {0}) Kind) (r : Result ℕ Kind)
     → OnOk d ((qs : List Asked) × (c : Config) × (vs : List Service) × (said : List ScriptLine)
     × (now ≡ asked ++ qs) × IsStart IsScript config script qs c vs said
-    × (written ≡ files ++ kept log (history_text (history_made (world_at_boot c vs) c.cpus said)) ∷ [])
+    × (written ≡ files ++ kept log (saved_text c.rules (history_made (world_at_boot c vs) c.cpus said)) ∷ [])
     × (let m = lines_made (world_at_boot c vs) c.cpus said in Appends x y (said_lines m.0 ++ report_text m.1.table m.1.services)))
     → IfErr d (λ f. (qs : List Asked) × (ws : List Written) × (now ≡ asked ++ qs) × (written ≡ files ++ ws)
     × (((ws ≡ []) × IsNotStarted IsScript TellsScript config script qs f)
     ⊎ ((c : Config) × (vs : List Service) × (said : List ScriptLine) × IsStart IsScript config script qs c vs said
-    × IsUnsaved log (history_text (history_made (world_at_boot c vs) c.cpus said)) ws f)))
+    × IsUnsaved log (saved_text c.rules (history_made (world_at_boot c vs) c.cpus said)) ws f)))
     → r ≡ status_after_work d
     → Does asked now files written (λ qs ws. (e : Result (Unit {0}) Kind) × SavesSteps config script log qs ws (λ text. Appends x y text) e × (r ≡ status_after_work e))
 saves asked now files written config script log x y (Ok u) r p f e =
-    (p.0, kept log (history_text (history_made (world_at_boot p.1 p.2) p.1.cpus p.3)) ∷ [], p.4, p.6, (Ok u, (p.1, p.2, p.3, p.5, refl, p.7), e))
+    (p.0, kept log (saved_text p.1.rules (history_made (world_at_boot p.1 p.2) p.1.cpus p.3)) ∷ [], p.4, p.6, (Ok u, (p.1, p.2, p.3, p.5, refl, p.7), e))
 saves asked now files written config script log x y (Err why) r p f e = (f.0, f.1, f.2, f.3, (Err why, f.4, e))
 
 -- `asked` and `files` before, `now` asked after; no file is written

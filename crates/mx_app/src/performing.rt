@@ -11,9 +11,13 @@ use crate::named::{as_named, dis_named, nm_named, one_named};
 use mx_app_command::CommandRequest;
 use mx_app_db::{Replayed, db, replay, step, step_saved, trace};
 use mx_app_failure::Failure;
+use mx_app_run::run;
 use mx_app_start::{FileWriter, Reader};
 use std::alloc::Global;
 use std::io::Write;
+use std::sync::Wait;
+use std::thread::Threads;
+use std::time::Clock;
 
 /// The status after work that is done.
 fn status_after_work(done: Result<(), Failure>) -> Result<u8, Failure>
@@ -36,8 +40,14 @@ fn status_after_replay(replayed: Result<Replayed, Failure>) -> Result<u8, Failur
     }
 }
 
-/// Does what a request asks for, and answers the status to end with.
-pub fn perform<R: Reader + Drop, F: FileWriter + Drop, W: Write + Drop>(
+/// Does what a request asks for, and answers the status to end with. The processors of `run` are threads.
+pub fn perform<
+    T: Threads + Wait + Clock + Sync,
+    R: Reader + Drop,
+    F: FileWriter + Drop,
+    W: Write + Drop,
+>(
+    rt: &T,
     alloc: Global,
     channels: &mut Channels<R, F, W>,
     request: CommandRequest<'_>,
@@ -75,6 +85,16 @@ pub fn perform<R: Reader + Drop, F: FileWriter + Drop, W: Write + Drop>(
                 out,
             )),
         },
+        CommandRequest::Run { config, log, ticks } => status_after_work(run(
+            rt,
+            alloc,
+            reader,
+            &mut channels.files,
+            config,
+            log,
+            ticks,
+            out,
+        )),
         CommandRequest::Replay { config, log } => {
             status_after_replay(replay(alloc, reader, config, log, out))
         }

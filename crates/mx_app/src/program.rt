@@ -11,6 +11,9 @@ use mx_app_failure::Failure;
 use mx_app_start::{RuntimeFiles, RuntimeWriter};
 use std::alloc::Global;
 use std::rt::{Env, Files};
+use std::sync::Wait;
+use std::thread::Threads;
+use std::time::Clock;
 use std::{env, io};
 
 /// Why the program's words can't be had.
@@ -48,7 +51,10 @@ fn texts_of(alloc: Global, words: &[String]) -> Result<Vec<&str>, Failure> {
 }
 
 /// Does what the program's words ask for, and answers the status to end with, or what to tell.
-fn perform_arguments(rt: &(impl Env + Files + Print + AllocGlobal)) -> Result<u8, Complaint> {
+fn perform_arguments<R>(rt: &R) -> Result<u8, Complaint>
+where
+    R: Env + Files + Print + AllocGlobal + Threads + Wait + Clock + Sync,
+{
     let arguments = arguments(rt)?;
     let words = texts_of(rt.alloc(), arguments.as_slice())?;
     let mut channels = Channels {
@@ -56,12 +62,15 @@ fn perform_arguments(rt: &(impl Env + Files + Print + AllocGlobal)) -> Result<u8
         files: RuntimeWriter::new(rt),
         out: io::writer(rt),
     };
-    perform_words(rt.alloc(), words.as_slice(), &mut channels)
+    perform_words(rt, rt.alloc(), words.as_slice(), &mut channels)
 }
 
 /// Does what the program's words ask for with the files and the streams of the runtime; where it doesn't,
 /// it tells why on standard error. Answers the status to end with.
-pub fn run_program(rt: &(impl Env + Files + Print + Eprint + AllocGlobal)) -> u8 {
+pub fn run_program<R>(rt: &R) -> u8
+where
+    R: Env + Files + Print + Eprint + AllocGlobal + Threads + Wait + Clock + Sync,
+{
     match perform_arguments(rt) {
         Ok(status) => status,
         Err(complaint) => {

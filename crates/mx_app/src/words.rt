@@ -17,6 +17,9 @@ use mx_app_failure::{Failure, print_text};
 use mx_app_start::{FileWriter, Reader};
 use std::alloc::Global;
 use std::io::Write;
+use std::sync::Wait;
+use std::thread::Threads;
+use std::time::Clock;
 
 /// Prints a text, whole, and flushes.
 fn print_help<W: Write>(alloc: Global, error: &Error, out: &mut W) -> Result<(), Failure>
@@ -42,7 +45,14 @@ fn explain<W: Write>(alloc: Global, error: Error, out: &mut W) -> Result<u8, Com
 
 /// Does what the words of a command line ask for, the program's own name first, and answers the status to
 /// end with, or what to tell on standard error.
-pub fn perform_words<'a, R: Reader + Drop, F: FileWriter + Drop, W: Write + Drop>(
+pub fn perform_words<
+    'a,
+    T: Threads + Wait + Clock + Sync,
+    R: Reader + Drop,
+    F: FileWriter + Drop,
+    W: Write + Drop,
+>(
+    rt: &T,
     alloc: Global,
     words: &'a [&'a str],
     channels: &mut Channels<R, F, W>,
@@ -54,7 +64,7 @@ pub fn perform_words<'a, R: Reader + Drop, F: FileWriter + Drop, W: Write + Drop
         (λ text. Appends (W.contents channels.old.out) (W.contents channels.new.out) text) result }
 {
     match command(alloc, words) {
-        Ok(request) => Ok(perform(alloc, channels, request)?),
+        Ok(request) => Ok(perform(rt, alloc, channels, request)?),
         Err(error) => explain(alloc, error, &mut channels.out),
     }
 }

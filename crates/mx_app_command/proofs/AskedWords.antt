@@ -15,8 +15,8 @@ use Rattle.clap.specs.Faults.{defaults_fault, entered_fault, level_fault, settle
 use Rattle.clap.specs.Walk.{answers_to, finished, nothing_held, rows_after, settled, stop_after, walk, walk_from}
 use Rattle.clap.specs.declared.builder.value_parser.ValueParser.TheVariants.{Signed}
 use Rattle.clap.proofs.ValueTestLemmas.{accepts-Accepts}
-use Rattle.mx_app_command.specs.Words.{HasNumber, IsAsked, IsGiven, mx_grammar, of_one, of_two, one_shape, step_shape, wanted, wanted_number}
-use Rattle.mx_app_command.proofs.Given.{IsOnly, SetsValue, all_found, has_wanted, no_fault, value_given}
+use Rattle.mx_app_command.specs.Words.{HasNumber, IsAsked, IsGiven, MayHaveNumber, mx_grammar, number_after, of_one, of_two, one_shape, run_shape, step_shape, wanted, wanted_number}
+use Rattle.mx_app_command.proofs.Given.{IsOnly, SetsValue, all_found, has_wanted, no_fault, value_given, value_if_given}
 
 -- the grammar as a parse sees it: with the help flag, and each argument's place
 abbrev whole : App
@@ -65,7 +65,7 @@ number_of t passed =
 -- ---- the subcommands of texts
 
 wanted_sets : (id : Text) (n : ℕ) → SetsValue (with_index n (filled (wanted id)))
-wanted_sets id n = record { set = refl; least = omega arith; defaults = refl; required = refl }
+wanted_sets id n = record { set = refl; least = omega arith; defaults = refl }
 
 -- a text's name is none that the help flag has
 abbrev IsOwn : Text → Type 0
@@ -77,7 +77,7 @@ one_text_given : (name first : Text) → IsOwn first → (words : List Text)
 one_text_given name first own words fine =
     let only : IsOnly (with_index 1 (filled (wanted first))) (whole_of (of_one name first)).rules =
     ((λ e. refl), ((λ e. absurd (true≢false (sym e ∙ own))), tt)) in
-    ap is_some (value_given (with_index 1 (filled (wanted first))) (wanted_sets first 1) (whole_of (of_one name first)) only words (inl refl) refl fine).1
+    ap is_some (value_given (with_index 1 (filled (wanted first))) (wanted_sets first 1) (whole_of (of_one name first)) only words refl (inl refl) refl fine).1
 
 two_texts_given : (name first second : Text) → IsOwn first → IsOwn second → bytes_eq second first ≡ false → bytes_eq first second ≡ false
     → (words : List Text) → level_fault (whole_of (of_two name first second)) [] nothing_held words false [] ≡ []
@@ -89,7 +89,7 @@ two_texts_given name first second own other apart back words fine =
     let b = with_index 2 (filled (wanted second)) in
     let only_a : IsOnly a s.rules = ((λ e. refl), ((λ e. absurd (true≢false (sym e ∙ apart))), ((λ e. absurd (true≢false (sym e ∙ own))), tt))) in
     let only_b : IsOnly b s.rules = ((λ e. absurd (true≢false (sym e ∙ back))), ((λ e. refl), ((λ e. absurd (true≢false (sym e ∙ other))), tt))) in
-    (ap is_some (value_given a (wanted_sets first 1) s only_a words (inl refl) refl fine).1, ap is_some (value_given b (wanted_sets second 2) s only_b words (inr (inl refl)) refl fine).1)
+    (ap is_some (value_given a (wanted_sets first 1) s only_a words refl (inl refl) refl fine).1, ap is_some (value_given b (wanted_sets second 2) s only_b words refl (inr (inl refl)) refl fine).1)
 
 -- ---- `one`
 
@@ -103,7 +103,7 @@ abbrev steps_rule : Rule
 steps_rule = with_index 2 (filled (wanted_number (codes "N")))
 
 steps_sets : SetsValue steps_rule
-steps_sets = record { set = refl; least = omega arith; defaults = refl; required = refl }
+steps_sets = record { set = refl; least = omega arith; defaults = refl }
 
 only_file : IsOnly file_rule one_whole.rules
 only_file = ((λ e. refl), ((λ e. cc), ((λ e. cc), tt)))
@@ -114,8 +114,8 @@ only_steps = ((λ e. cc), ((λ e. refl), ((λ e. cc), tt)))
 one_values : (words : List Text) → level_fault one_whole [] nothing_held words false [] ≡ []
     → IsGiven (codes "FILE") (rows_after one_whole.rules [] words) × ((n : ℕ) × HasNumber (codes "N") (rows_after one_whole.rules [] words) n)
 one_values words fine =
-    let file = value_given file_rule (wanted_sets (codes "FILE") 1) one_whole only_file words (inl refl) refl fine in
-    let steps = value_given steps_rule steps_sets one_whole only_steps words (inr (inl refl)) refl fine in
+    let file = value_given file_rule (wanted_sets (codes "FILE") 1) one_whole only_file words refl (inl refl) refl fine in
+    let steps = value_given steps_rule steps_sets one_whole only_steps words refl (inr (inl refl)) refl fine in
     let number = number_of steps.0 (accepts-Accepts steps_rule.ignore_case (Signed (pos 0) (pos 4294967295)) steps.0 steps.3) in
     (ap is_some file.1, (number.0, (without_minus steps.0, steps.2, number.1)))
 
@@ -158,24 +158,60 @@ only_script = ((λ e. cc), ((λ e. refl), ((λ e. cc), ((λ e. cc), tt))))
 
 step_fits : Fits step_whole
 step_fits words fine =
-    let config = value_given config_rule (wanted_sets (codes "CONFIG") 1) step_whole only_config words (inl refl) refl fine in
-    let script = value_given script_rule (wanted_sets (codes "SCRIPT") 2) step_whole only_script words (inr (inl refl)) refl fine in
+    let config = value_given config_rule (wanted_sets (codes "CONFIG") 1) step_whole only_config words refl (inl refl) refl fine in
+    let script = value_given script_rule (wanted_sets (codes "SCRIPT") 2) step_whole only_script words refl (inr (inl refl)) refl fine in
     ((λ e. (ap is_some config.1, inl (refl, ap is_some script.1))), (λ e. absurd (true≢false e)))
+
+abbrev run_whole : Shape
+run_whole = whole_of run_shape
+
+abbrev log_rule : Rule
+log_rule = with_index 2 (filled (wanted (codes "LOG")))
+
+abbrev ticks_rule : Rule
+ticks_rule = with_index 3 (filled (number_after (codes "ticks") (codes "T")))
+
+ticks_sets : SetsValue ticks_rule
+ticks_sets = record { set = refl; least = omega arith; defaults = refl }
+
+only_run_config : IsOnly config_rule run_whole.rules
+only_run_config = ((λ e. refl), ((λ e. cc), ((λ e. cc), ((λ e. cc), tt))))
+
+only_log : IsOnly log_rule run_whole.rules
+only_log = ((λ e. cc), ((λ e. refl), ((λ e. cc), ((λ e. cc), tt))))
+
+only_ticks : IsOnly ticks_rule run_whole.rules
+only_ticks = ((λ e. cc), ((λ e. cc), ((λ e. refl), ((λ e. cc), tt))))
+
+ticks_if_given : (words : List Text) → level_fault run_whole [] nothing_held words false [] ≡ []
+    → MayHaveNumber (codes "T") (rows_after run_whole.rules [] words)
+ticks_if_given words fine = elim (value_if_given ticks_rule ticks_sets run_whole only_ticks words fine) [
+  | inl absent ↦ inl absent
+  | inr given ↦
+      (let number = number_of given.0 (accepts-Accepts ticks_rule.ignore_case (Signed (pos 0) (pos 4294967295)) given.0 given.3) in
+      inr (number.0, (without_minus given.0, given.2, number.1)))
+]
+
+run_fits : Fits run_whole
+run_fits words fine =
+    let config = value_given config_rule (wanted_sets (codes "CONFIG") 1) run_whole only_run_config words refl (inl refl) refl fine in
+    let log = value_given log_rule (wanted_sets (codes "LOG") 2) run_whole only_log words refl (inr (inl refl)) refl fine in
+    ((λ e. (ap is_some config.1, inr (inl (refl, ap is_some log.1, ticks_if_given words fine)))), (λ e. absurd (true≢false e)))
 
 replay_fits : Fits (whole_of (of_two (codes "replay") (codes "CONFIG") (codes "LOG")))
 replay_fits words fine = let given = two_texts_given (codes "replay") (codes "CONFIG") (codes "LOG") refl refl refl refl words fine in
-    ((λ e. (given.0, inr (inl (refl, given.1)))), (λ e. absurd (true≢false e)))
+    ((λ e. (given.0, inr (inr (inl (refl, given.1))))), (λ e. absurd (true≢false e)))
 
 trace_fits : Fits (whole_of (of_two (codes "trace") (codes "CONFIG") (codes "LOG")))
 trace_fits words fine = let given = two_texts_given (codes "trace") (codes "CONFIG") (codes "LOG") refl refl refl refl words fine in
-    ((λ e. (given.0, inr (inr (inl (refl, given.1))))), (λ e. absurd (true≢false e)))
+    ((λ e. (given.0, inr (inr (inr (inl (refl, given.1)))))), (λ e. absurd (true≢false e)))
 
 db_fits : Fits (whole_of (of_two (codes "db") (codes "CONFIG") (codes "SCRIPT")))
 db_fits words fine = let given = two_texts_given (codes "db") (codes "CONFIG") (codes "SCRIPT") refl refl refl refl words fine in
-    ((λ e. (given.0, inr (inr (inr (refl, given.1))))), (λ e. absurd (true≢false e)))
+    ((λ e. (given.0, inr (inr (inr (inr (refl, given.1)))))), (λ e. absurd (true≢false e)))
 
 all_fit : AllByRecursion Fits whole.subs
-all_fit = (one_fits, (as_fits, (dis_fits, (nm_fits, (step_fits, (replay_fits, (trace_fits, (db_fits, tt))))))))
+all_fit = (one_fits, (as_fits, (dis_fits, (nm_fits, (step_fits, (run_fits, (replay_fits, (trace_fits, (db_fits, tt)))))))))
 
 -- ---- the words of a command line
 

@@ -1,5 +1,5 @@
--- Where one level of a simple command finds no fault with its words, a required argument that takes
--- a value has one that passes its parser.
+-- Where one level of a simple command finds no fault with its words, an argument that takes a value
+-- has one that passes its parser if it is required, and none or such a one if it isn't.
 use Rattle.std.proofs.Common.{◌≡◌, ◌⊎◌, ◌∙◌, ◌<◌, ◌≤◌, ◌+◌, min, ◌&&◌, ◌||◌, ℕ, Bool, true, false, not, zero, suc, cond, is_some, refl, sym, ap, ap₂, subst, arith, inl, inr, List, [], ◌∷◌, ◌++◌, length, length-append, Option, Some, None, IfSome, true≢false}
 use Rattle.std.specs.Prelude.{encode_utf8, find, fold, slice_get, nat_lt, option_and_then, option_map, drop}
 use Rattle.std.specs.List.{AllByRecursion, list_any}
@@ -98,12 +98,11 @@ none_in p a (x ∷ xs) h e = go (p x) refl e (λ rest f. none_in p a xs rest f)
 abbrev pub IsOnly : Rule → List Rule → Type 0
 IsOnly a = AllByRecursion (λ b. bytes_eq b.id a.id ≡ true → b ≡ a)
 
--- a required argument that each use sets to one value or more
+-- an argument that each use sets to one value or more
 pub record SetsValue (a : Rule) : Type 0 where
   pub set : action_of a ≡ action.Set
   pub least : 1 ≤ (unwrap_or_range a.range).start_inclusive
   pub defaults : a.defaults ≡ []
-  pub required : a.required ≡ true
 
 module _ (a : Rule) (sets : SetsValue a) where
   abbrev Is : Rule → Type 0
@@ -365,11 +364,13 @@ module _ (a : Rule) (sets : SetsValue a) where
         go true e rest = g.0 e
         go false e rest = rest
 
-    value_of_row : (o : Option Row) → IfSome o (λ r. Passes r.reading r.values) → option_map_or (λ (r : Row). explicit_source r.source) o false ≡ true
-        → (t : Text) × (option_and_then (λ (r : Row). slice_get r.values 0) o ≡ Some t) × (option_and_then row_text o ≡ Some (read_as (reading_by a) t))
+    -- the same of one row
+    abbrev HasFirst : Option Row → Type 0
+    HasFirst o = (t : Text) × (option_and_then (λ (r : Row). slice_get r.values 0) o ≡ Some t) × (option_and_then row_text o ≡ Some (read_as (reading_by a) t))
         × (accepts a.ignore_case (parser_of_value a.parser) t ≡ true)
-    value_of_row None passes there = absurd (true≢false (sym there))
-    value_of_row (Some r) passes there = go r.values refl passes.1 passes.2
+
+    first_of_row : (r : Row) → Passes r.reading r.values → HasFirst (Some r)
+    first_of_row r passes = go r.values refl passes.1 passes.2
       where
         go : (vs : List Text) → r.values ≡ vs → values_fault a vs ≡ [] → 0 < length vs
             → (t : Text) × (slice_get r.values 0 ≡ Some t) × (row_text r ≡ Some (read_as (reading_by a) t)) × (accepts a.ignore_case (parser_of_value a.parser) t ≡ true)
@@ -381,24 +382,45 @@ module _ (a : Rule) (sets : SetsValue a) where
           accepted a.ignore_case (parser_of_value a.parser) v (no_fault _ _ fault).0,
         )
 
-    missing : (rows : List Row) → In a c → list_any (λ (b : Rule). b.required && not (is_given b.id rows)) c ≡ false → is_given a.id rows ≡ true
-    missing rows there e = go a.required (is_given a.id rows) sets.required (none_in (λ (b : Rule). b.required && not (is_given b.id rows)) a c there e)
+    value_of_row : (o : Option Row) → IfSome o (λ r. Passes r.reading r.values) → option_map_or (λ (r : Row). explicit_source r.source) o false ≡ true → HasFirst o
+    value_of_row None passes there = absurd (true≢false (sym there))
+    value_of_row (Some r) passes there = first_of_row r passes
+
+    value_if_row : (o : Option Row) → IfSome o (λ r. Passes r.reading r.values) → (option_and_then row_text o ≡ None) ⊎ HasFirst o
+    value_if_row None passes = inl refl
+    value_if_row (Some r) passes = inr (first_of_row r passes)
+
+    missing : (rows : List Row) → a.required ≡ true → In a c → list_any (λ (b : Rule). b.required && not (is_given b.id rows)) c ≡ false → is_given a.id rows ≡ true
+    missing rows required there e = go a.required (is_given a.id rows) required (none_in (λ (b : Rule). b.required && not (is_given b.id rows)) a c there e)
       where
         go : (x y : Bool) → x ≡ true → (x && not y) ≡ false → y ≡ true
         go true true r e = refl
         go true false r e = absurd (true≢false e)
         go false y r e = absurd (true≢false (sym r))
 
-    -- the level's fault is none: the argument has a value
-    pub value_given : (words : List Text) → In a c → s.subcommand_negates_reqs ≡ false → level_fault s [] nothing_held words false [] ≡ []
+    -- the level's fault is none: each row of the argument passes
+    rows_good : (words : List Text) → level_fault s [] nothing_held words false [] ≡ [] → AreGood (rows_after c [] words)
+    rows_good words e =
+        let end = (walk c [] nothing_held words).held in
+        let walked_fine = no_fault (walk_fault s [] (walk_from nothing_held) words) _ e in
+        let settled_fine = no_fault (settle_fault c again end) _ walked_fine.1 in
+        defaults-good c only _ (settled-good end (walk-good [] (walk_from nothing_held) words tt walked_fine.0) settled_fine.0)
+
+    -- so it has a value, if it has any
+    pub value_if_given : (words : List Text) → level_fault s [] nothing_held words false [] ≡ [] → (one_of a.id (rows_after c [] words) ≡ None) ⊎ HasValue (rows_after c [] words)
+    value_if_given words e =
+        let rows = rows_after c [] words in
+        value_if_row (find (λ r. bytes_eq r.id a.id) rows) (first_good rows (rows_good words e))
+
+    -- and it has one, if it is required
+    pub value_given : (words : List Text) → a.required ≡ true → In a c → s.subcommand_negates_reqs ≡ false → level_fault s [] nothing_held words false [] ≡ []
         → HasValue (rows_after c [] words)
-    value_given words there negates e =
+    value_given words required there negates e =
         let end = (walk c [] nothing_held words).held in
         let walked_fine = no_fault (walk_fault s [] (walk_from nothing_held) words) _ e in
         let settled_fine = no_fault (settle_fault c again end) _ walked_fine.1 in
         let defaults_fine = no_fault (defaults_fault (settled c end).rows c) _ settled_fine.1 in
         let wanted = (none_wanted _ _ _ defaults_fine.1).1 in
         let rows = rows_after c [] words in
-        let good : AreGood rows = defaults-good c only _ (settled-good end (walk-good [] (walk_from nothing_held) words tt walked_fine.0) settled_fine.0) in
         let all_there : list_any (λ (b : Rule). b.required && not (is_given b.id rows)) c ≡ false = rw negates at wanted in
-        value_of_row (find (λ r. bytes_eq r.id a.id) rows) (first_good rows good) (missing rows there all_there)
+        value_of_row (find (λ r. bytes_eq r.id a.id) rows) (first_good rows (rows_good words e)) (missing rows required there all_there)

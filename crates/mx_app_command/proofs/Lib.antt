@@ -1,3 +1,4 @@
 mod Given
 mod AskedWords
 mod Tables
+mod NumberText

@@ -10,7 +10,7 @@ use Rattle.clap.specs.declared.builder.command.Command.{Command}
 use Rattle.clap.specs.declared.builder.command.Command.TheViews.{out-Command}
 use Rattle.clap.specs.declared.builder.value_parser.ValueParser.TheVariants.{Signed}
 use Rattle.mx_app_command.specs.declared.words.CommandRequest.{CommandRequest}
-use Rattle.mx_app_command.specs.declared.words.CommandRequest.TheVariants.{One, As, Dis, Nm, Step, Replay, Trace, Db}
+use Rattle.mx_app_command.specs.declared.words.CommandRequest.TheVariants.{One, As, Dis, Nm, Step, Run, Replay, Trace, Db}
 
 -- ---- the grammar
 
@@ -25,6 +25,10 @@ wanted_number id = record (wanted id) { parser = Some (Signed (pos 0) (pos 42949
 -- an argument that may be given once, after a long name
 abbrev pub after_name : Text → Text → Rule
 after_name long id = record (new_rule id) { long = Some long; action = Some Set }
+
+-- the same, where the text is a number of 32 bits
+abbrev pub number_after : Text → Text → Rule
+number_after long id = record (after_name long id) { parser = Some (Signed (pos 0) (pos 4294967295)) }
 
 -- a subcommand, by its name and its arguments
 abbrev pub subcommand : Text → List Rule → Shape
@@ -48,6 +52,10 @@ one_shape = subcommand (codes "one") (wanted (codes "FILE") ∷ wanted_number (c
 -- `step CONFIG SCRIPT --save LOG`
 abbrev pub step_shape : Shape
 step_shape = subcommand (codes "step") (wanted (codes "CONFIG") ∷ wanted (codes "SCRIPT") ∷ after_name (codes "save") (codes "LOG") ∷ [])
+
+-- `run CONFIG LOG --ticks T`
+abbrev pub run_shape : Shape
+run_shape = subcommand (codes "run") (wanted (codes "CONFIG") ∷ wanted (codes "LOG") ∷ number_after (codes "ticks") (codes "T") ∷ [])
 
 -- one of the subcommands is wanted
 abbrev pub top_app : App
@@ -73,6 +81,7 @@ mx_grammar = record {
   top = program_app.top;
   subs = program_shapes
       ++ step_shape
+      ∷ run_shape
       ∷ of_two (codes "replay") (codes "CONFIG") (codes "LOG")
       ∷ of_two (codes "trace") (codes "CONFIG") (codes "LOG")
       ∷ of_two (codes "db") (codes "CONFIG") (codes "SCRIPT")
@@ -86,6 +95,10 @@ abbrev pub HasNumber : Text → List Row → ℕ → Type 0
 HasNumber id rows n =
     (text : Text) × (one_of id rows ≡ Some text)
     × ParsesUnsigned {E = ParseIntError} 32 10 text (Ok n)
+
+-- the argument isn't given, and the number is this other one; or it is its text's
+abbrev pub HasNumberOr : ℕ → Text → List Row → ℕ → Type 0
+HasNumberOr other id rows n = ((one_of id rows ≡ None) × (n ≡ other)) ⊎ HasNumber id rows n
 
 -- the argument's text is this one
 abbrev pub HasText : Text → List Row → Text → Type 0
@@ -106,6 +119,9 @@ AsksBy (Nm file) name rows = (name ≡ codes "nm") × HasText (codes "FILE") row
 AsksBy (Step config script save) name rows =
     (name ≡ codes "step") × HasText (codes "CONFIG") rows config.now × HasText (codes "SCRIPT") rows script.now
     × MayHaveText (codes "LOG") rows (option_map (λ s. s.now) save)
+AsksBy (Run config log ticks) name rows =
+    (name ≡ codes "run") × HasText (codes "CONFIG") rows config.now × HasText (codes "LOG") rows log.now
+    × HasNumberOr 0 (codes "T") rows ticks
 AsksBy (Replay config log) name rows =
     (name ≡ codes "replay") × HasText (codes "CONFIG") rows config.now × HasText (codes "LOG") rows log.now
 AsksBy (Trace config log) name rows =
@@ -123,6 +139,10 @@ Asks request None = ⊥
 abbrev pub IsGiven : Text → List Row → Type 0
 IsGiven id rows = is_some (first_of id rows) ≡ true
 
+-- the argument isn't given, or its text is a number
+abbrev pub MayHaveNumber : Text → List Row → Type 0
+MayHaveNumber id rows = (one_of id rows ≡ None) ⊎ ((n : ℕ) × HasNumber id rows n)
+
 -- the subcommands that work on one program: each has a file, `one` a number and `as` a text too
 abbrev pub IsProgramAsked : Text → List Row → Type 0
 IsProgramAsked name rows =
@@ -131,17 +151,22 @@ IsProgramAsked name rows =
     ⊎ (((name ≡ codes "as") × IsGiven (codes "TEXT") rows)
     ⊎ ((name ≡ codes "dis") ⊎ (name ≡ codes "nm"))))
 
--- those that work on a machine: each has a configuration, and a script or a history
+-- those that work on a machine: each has a configuration, and a script or a history; `run` may have a number
 abbrev pub IsMachineAsked : Text → List Row → Type 0
 IsMachineAsked name rows =
     IsGiven (codes "CONFIG") rows
     × (((name ≡ codes "step") × IsGiven (codes "SCRIPT") rows)
+    ⊎ (((name ≡ codes "run") × IsGiven (codes "LOG") rows × MayHaveNumber (codes "T") rows)
     ⊎ (((name ≡ codes "replay") × IsGiven (codes "LOG") rows)
     ⊎ (((name ≡ codes "trace") × IsGiven (codes "LOG") rows)
-    ⊎ ((name ≡ codes "db") × IsGiven (codes "SCRIPT") rows))))
+    ⊎ ((name ≡ codes "db") × IsGiven (codes "SCRIPT") rows)))))
 
 abbrev pub is_machine : Text → Bool
-is_machine name = bytes_eq name (codes "step") || (bytes_eq name (codes "replay") || (bytes_eq name (codes "trace") || bytes_eq name (codes "db")))
+is_machine name =
+    bytes_eq name (codes "step")
+    || (bytes_eq name (codes "run")
+    || (bytes_eq name (codes "replay")
+    || (bytes_eq name (codes "trace") || bytes_eq name (codes "db"))))
 
 abbrev pub IsAsked : Text → List Row → Type 0
 IsAsked name rows =

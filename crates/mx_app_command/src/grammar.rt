@@ -18,6 +18,8 @@ enum ArgumentForm<'a> {
     Number,
     /// A text that may be given, after this long name.
     After(&'a str),
+    /// A number of 32 bits that may be given, after this long name.
+    NumberAfter(&'a str),
 }
 
 /// An argument of a subcommand, with a line of help.
@@ -93,6 +95,20 @@ const SAVED: CommandArgument<'static> = CommandArgument {
     form: ArgumentForm::After("save"),
 };
 
+/// Where what happens is kept.
+const RECORDED: CommandArgument<'static> = CommandArgument {
+    name: "LOG",
+    help: "The file to write the history to",
+    form: ArgumentForm::Text,
+};
+
+/// How many ticks are made.
+const TICKS: CommandArgument<'static> = CommandArgument {
+    name: "T",
+    help: "How many ticks are made, 0 to 4294967295; none without it",
+    form: ArgumentForm::NumberAfter("ticks"),
+};
+
 /// What happens to it, and what is looked at.
 const COMMANDS: CommandArgument<'static> = CommandArgument {
     name: "SCRIPT",
@@ -101,7 +117,7 @@ const COMMANDS: CommandArgument<'static> = CommandArgument {
 };
 
 /// The subcommands, those that work on one program first.
-static SUBCOMMANDS: [Subcommand<'static>; 8] = [
+static SUBCOMMANDS: [Subcommand<'static>; 9] = [
     Subcommand {
         name: "one",
         help: "Runs one program for at most N steps and prints its registers, flags and how it stopped",
@@ -131,6 +147,12 @@ static SUBCOMMANDS: [Subcommand<'static>; 8] = [
         help: "Runs a machine by a script and prints its answers and a report",
         arguments: &[CONFIG, SCRIPT, SAVED],
         example: Example::Step,
+    },
+    Subcommand {
+        name: "run",
+        help: "Runs a machine, each processor in a thread, writes its history and prints a report",
+        arguments: &[CONFIG, RECORDED, TICKS],
+        example: Example::Run,
     },
     Subcommand {
         name: "replay",
@@ -164,6 +186,7 @@ fn argument_of<'a>(alloc: Global, argument: &CommandArgument<'a>) -> Arg<'a>
         ArgumentForm::Text => arg.required(true),
         ArgumentForm::Number => arg.required(true).value_parser(clap::value_parser!(u32)),
         ArgumentForm::After(name) => arg.long(name),
+        ArgumentForm::NumberAfter(name) => { arg.long(name).value_parser(clap::value_parser!(u32)) }
     }
 }
 

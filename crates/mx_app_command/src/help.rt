@@ -14,6 +14,8 @@ pub(crate) enum Example {
     Nm,
     /// A configuration, and a script.
     Step,
+    /// A run by threads, and its replay.
+    Run,
     /// A history, and what a refused event of it gives.
     Replay,
     /// What a history's records did.
@@ -31,6 +33,7 @@ impl Example {
             Example::Dis => DIS_EXAMPLE,
             Example::Nm => NM_EXAMPLE,
             Example::Step => STEP_EXAMPLE,
+            Example::Run => RUN_EXAMPLE,
             Example::Replay => REPLAY_EXAMPLE,
             Example::Trace => TRACE_EXAMPLE,
             Example::Db => DB_EXAMPLE,
@@ -108,8 +111,11 @@ console 1
 With --save LOG the history that the script made is written to the file LOG before
 the report is printed, also where lines were refused:
 
-$ mx step pair.config pair.script --save /tmp/pair.log | head -n 1
-taken 0 budget 20
+$ mx step pair.config pair.script --save /tmp/pair.log | tail -n 4
+0 drv 0 receiving any 4 8
+1 cli 1 down exit 7 12
+uptime 0
+console 0
 $ mx replay pair.config /tmp/pair.log
 0 drv 0 receiving any 4 8
 1 cli 1 down exit 7 12
@@ -140,6 +146,31 @@ respawn 0
 Status: 0 done, also if lines were refused; 1 a text or a program's file is refused;
 2 a mistake in the words; 3 a file can't be read or written; 4 no memory. Formats:
 docs/REFERENCE.md.";
+
+/// A run by threads, and its replay.
+const RUN_EXAMPLE: &str = "In the folder examples:
+
+$ mx run pair.config /tmp/pair.log --ticks 3
+0 drv 0 receiving any 4 8
+1 cli 1 down exit 7 12
+uptime 3
+console 0
+$ mx replay pair.config /tmp/pair.log
+0 drv 0 receiving any 4 8
+1 cli 1 down exit 7 12
+uptime 3
+console 0
+
+Each processor is a thread: it takes the next ready process, runs it up to a trap, a
+fault or the end of its budget, and gives it back. One thread more makes the ticks, at
+most a thousand a second, and respawns what is down while it has restarts. The run
+ends where nothing is ready, nothing is left to respawn and all ticks are made, or
+where the history is full. So a machine that is never at rest needs a log that ends
+it. Two runs may differ; the replay of a run's history never does.
+
+Status: 0 done, also if the history was full; 1 a text or a program's file is refused;
+2 a mistake in the words; 3 a file can't be read or written, or LOG is CONFIG; 4 no
+memory. Formats: docs/REFERENCE.md.";
 
 /// A history, and what a refused event of it gives.
 const REPLAY_EXAMPLE: &str = "In the folder examples:

@@ -2,7 +2,7 @@
 
 ghost use Rattle.std.specs.Prelude.{◌≡◌, ℕ, IfErr, IfOk, codes, false, is_some, map, option_map, true};
 ghost use Rattle.clap.specs.Words.{FailsBy, HasMatchesOf, fault_of, first_of, found_of, kind_of, rows_of, subcommand_of, takes};
-ghost use Rattle.mx_app_command.specs.Words.{Asks, AsksBy, HasNumber, HasText, MayHaveText, IsAsked, IsMachineAsked, IsProgramAsked, is_machine, mx_grammar};
+ghost use Rattle.mx_app_command.specs.Words.{Asks, AsksBy, HasNumber, HasNumberOr, HasText, MayHaveNumber, MayHaveText, IsAsked, IsMachineAsked, IsProgramAsked, is_machine, mx_grammar};
 
 use crate::grammar::grammar;
 use clap::error::ErrorKind;
@@ -35,6 +35,12 @@ pub enum CommandRequest<'a> {
         config: &'a str,
         script: &'a str,
         save: Option<&'a str>,
+    },
+    /// `run CONFIG LOG`, with `--ticks T` or, for no ticks, without.
+    Run {
+        config: &'a str,
+        log: &'a str,
+        ticks: u32,
     },
     /// `replay CONFIG LOG`.
     Replay {
@@ -76,6 +82,14 @@ fn number_asked(matches: &ArgMatches<'_>, id: &str) -> u32
     matches.get_one::<u32>(id).unwrap()
 }
 
+/// The number that an argument has, or 0 if it isn't there.
+fn number_if_asked(matches: &ArgMatches<'_>, id: &str) -> u32
+    requires { MayHaveNumber id.now (rows_of (found_of matches.now)) }
+    ensures { HasNumberOr 0 id.now (rows_of (found_of matches.now)) result }
+{
+    matches.get_one::<u32>(id).unwrap_or(0)
+}
+
 /// What the words of a subcommand on one program ask for.
 fn program_request<'a>(name: &str, matches: &ArgMatches<'a>) -> CommandRequest<'a>
     requires { IsProgramAsked name.now (rows_of (found_of matches.now)) }
@@ -101,6 +115,11 @@ fn machine_request<'a>(name: &str, matches: &ArgMatches<'a>) -> CommandRequest<'
     ensures { AsksBy result name.now (rows_of (found_of matches.now)) }
 {
     let config = value_asked(matches, "CONFIG");
+    if name == "run" {
+        let log = value_asked(matches, "LOG");
+        let ticks = number_if_asked(matches, "T");
+        return CommandRequest::Run { config, log, ticks };
+    }
     if name == "replay" {
         let log = value_asked(matches, "LOG");
         return CommandRequest::Replay { config, log };
@@ -126,7 +145,7 @@ fn machine_request<'a>(name: &str, matches: &ArgMatches<'a>) -> CommandRequest<'
 fn is_machine(name: &str) -> bool
     ensures { result ≡ is_machine name.now }
 {
-    name == "step" || name == "replay" || name == "trace" || name == "db"
+    name == "step" || name == "run" || name == "replay" || name == "trace" || name == "db"
 }
 
 /// What a subcommand's words ask for.

@@ -1,5 +1,5 @@
 -- From loops to a run, and from its text to its replay.
-use Rattle.std.proofs.Common.{◌≡◌, ◌≢◌, ◌∙◌, ◌⊎◌, ◌+◌, ℕ, zero, suc, List, [], ◌∷◌, ◌++◌, length, Option, Some, None, Result, Ok, Err, IfErr, OnOk, All, refl, sym, ap, subst, inl, inr, arith, append_assoc}
+use Rattle.std.proofs.Common.{◌≡◌, ◌≢◌, ◌∙◌, ◌+◌, ℕ, zero, suc, List, [], ◌∷◌, ◌++◌, length, Option, Some, None, Result, Ok, Err, IfErr, OnOk, All, refl, sym, ap, subst, inl, inr, arith, append_assoc}
 use Rattle.std.specs.Prelude.{IsErrAnd}
 use Rattle.std.specs.declared.io.ErrorKind.{ErrorKind}
 use Rattle.std.specs.Io.KnownBytes.{Appends}
@@ -10,9 +10,10 @@ use Rattle.mx_machine_world.specs.declared.config.Config.{Config}
 use Rattle.mx_machine_world.specs.declared.events.Event.{Event}
 use Rattle.mx_machine_world.specs.declared.events.Refusal.{Refusal}
 use Rattle.mx_machine_world.specs.declared.history.Record.{Record}
-use Rattle.mx_machine_world.specs.Boot.{world_at_boot}
+use Rattle.mx_machine_world.specs.Boot.{first_table, world_at_boot}
 use Rattle.mx_machine_world.specs.History.{AreAccepted, BootAndHistory, IsWritable, events_of, events_of_history, replay, world_after_events}
 use Rattle.mx_machine_world.specs.Move.{world_after_event}
+use Rattle.mx_machine_world.specs.Rules.{Rules}
 use Rattle.mx_machine_world.specs.World.{World, actors}
 use Rattle.mx_kcall.specs.Service.{Service}
 use Rattle.mx_loan.specs.Seats.{SeatView, new_seat, new_seats}
@@ -26,7 +27,7 @@ use Rattle.mx_app_failure.specs.Failure.{IsWanting, failure_of_kind}
 use Rattle.mx_app_start.specs.Setup.{IsSetupFault}
 use Rattle.mx_app_start.specs.Written.{kept, unkept}
 use Rattle.mx_print_report.specs.Report.{report_text}
-use Rattle.mx_boot_history.specs.Text.{history_text}
+use Rattle.mx_boot_history.specs.Text.{saved_text}
 use Rattle.mx_app_step.specs.Records.{IsFirstRefusal, IsRefusedAt, IsReplayPrinted}
 use Rattle.mx_app_step.specs.declared.records.Replayed.{Replayed}
 use Rattle.mx_app_step.specs.declared.records.Replayed.TheVariants as replayed
@@ -68,26 +69,33 @@ as_many (l ∷ ls) (q ∷ qs) [] h = absurd h
 pub as_many_services : (name : List ℕ) (qs : List Asked) (c : Config) (vs : List Service) → IsSetup name qs c vs → length vs ≡ length c.lines
 as_many_services name qs c vs h = as_many c.lines h.1 vs h.6
 
+rules_at_boot : (c : Config) (vs : List Service) → (world_at_boot c vs).table.rules ≡ c.rules
+unfolding first_table
+rules_at_boot c vs = refl
+
 -- ---- what `mx run` tells, by how it ends
 
 module _ (config log : List ℕ) (ticks : ℕ) (qs : List Asked) (Prints : List ℕ → Type 0) (apart : config ≢ log) where
-  pub not_set_up : (f : Kind) (r : Result (Unit {0}) Kind) → (f ≡ NoMemory) ⊎ IsSetupFault config qs f → IsErrAnd r (λ y. y ≡ f) → Runs config log ticks qs [] Prints r
+  pub not_set_up : (f : Kind) (r : Result (Unit {0}) Kind) → IsSetupFault config qs f → IsErrAnd r (λ y. y ≡ f) → Runs config log ticks qs [] Prints r
   not_set_up f (Ok u) why h = absurd h
-  not_set_up f (Err y) why h = inl (refl, inr (apart, subst (λ z. (z ≡ NoMemory) ⊎ IsSetupFault config qs z) (sym h) why))
+  not_set_up f (Err y) why h = inl (refl, inr (apart, inl (subst (λ z. IsSetupFault config qs z) (sym h) why)))
 
-  pub no_memory : (r : Result (Unit {0}) Kind) → IsErrAnd r (λ y. y ≡ NoMemory) → Runs config log ticks qs [] Prints r
-  no_memory (Ok u) h = absurd h
-  no_memory (Err y) h = inl (refl, inr (apart, inl h))
+  pub no_memory : (c : Config) (vs : List Service) (r : Result (Unit {0}) Kind) → IsSetup config qs c vs → IsErrAnd r (λ y. y ≡ NoMemory) → Runs config log ticks qs [] Prints r
+  no_memory c vs (Ok u) setup h = absurd h
+  no_memory c vs (Err y) setup h = inl (refl, inr (apart, inr (c, vs, setup, h)))
 
-  module _ (c : Config) (vs : List Service) (k : BootAndHistory) (setup : IsSetup config qs c vs) (run : IsRun c vs ticks k) (text : List ℕ) (is : text ≡ history_text k.history) where
+  module _ (c : Config) (vs : List Service) (k : BootAndHistory) (setup : IsSetup config qs c vs) (run : IsRun c vs ticks k) (text : List ℕ) (is : text ≡ saved_text k.boot.table.rules k.history) where
+    by_rules : text ≡ saved_text c.rules k.history
+    by_rules = is ∙ ap (λ (r : Rules). saved_text r k.history) (ap (λ (w : World). w.table.rules) run.boot ∙ rules_at_boot c vs)
+
     pub unwritten : (kind : ErrorKind) (r : Result (Unit {0}) Kind) → IsErrAnd r (λ y. y ≡ failure_of_kind kind) → Runs config log ticks qs (unkept log text kind ∷ []) Prints r
     unwritten kind (Ok u) h = absurd h
-    unwritten kind (Err y) h = inr (c, vs, k, apart, setup, run, inl (kind, ap (λ t. unkept log t kind ∷ []) is, h))
+    unwritten kind (Err y) h = inr (c, vs, k, apart, setup, run, inl (kind, ap (λ t. unkept log t kind ∷ []) by_rules, h))
 
     pub written : (report : List ℕ) (r : Result (Unit {0}) Kind) → report ≡ report_text (replay k).table (replay k).services → IfErr r IsWanting → OnOk r (Prints report)
         → Runs config log ticks qs (kept log text ∷ []) Prints r
-    written report (Ok u) e wanting printed = (c, vs, k, apart, setup, run, ap (λ t. kept log t ∷ []) is, subst Prints e printed)
-    written report (Err f) e wanting printed = inr (c, vs, k, apart, setup, run, inr (ap (λ t. kept log t ∷ []) is, wanting))
+    written report (Ok u) e wanting printed = (c, vs, k, apart, setup, run, ap (λ t. kept log t ∷ []) by_rules, subst Prints e printed)
+    written report (Err f) e wanting printed = inr (c, vs, k, apart, setup, run, inr (ap (λ t. kept log t ∷ []) by_rules, wanting))
 
 -- ---- its replay
 

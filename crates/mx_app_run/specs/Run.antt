@@ -14,7 +14,7 @@ use Rattle.mx_cpus_lock.specs.Calls.{StandsIn}
 use Rattle.mx_cpus.specs.Boots.{all_seats}
 use Rattle.mx_cpus_drive.specs.Loops.{AreDriven}
 use Rattle.mx_print_report.specs.Report.{report_text}
-use Rattle.mx_boot_history.specs.Text.{history_text}
+use Rattle.mx_boot_history.specs.Text.{saved_text}
 use Rattle.mx_app_failure.specs.declared.failure.Failure.{Failure as Kind}
 use Rattle.mx_app_failure.specs.declared.failure.Failure.TheVariants.{File, NoMemory}
 use Rattle.mx_app_failure.specs.Failure.{IsWanting, failure_of_kind}
@@ -43,10 +43,11 @@ pub record IsRun (c : Config) (vs : List Service) (ticks : ℕ) (k : BootAndHist
 
 -- ---- `mx run`
 
--- nothing was run, or there was no memory to run it, and no history is written: both files have one name, or the first
--- fault of the configuration and its services' files
+-- no history is written: both files have one name; or the first fault of the configuration and its services' files; or,
+-- where there is none, out of memory
 abbrev pub IsNotRun : List ℕ → List ℕ → List Asked → Kind → Type 0
-IsNotRun config log qs f = ((config ≡ log) × (qs ≡ []) × (f ≡ File)) ⊎ ((config ≢ log) × ((f ≡ NoMemory) ⊎ IsSetupFault config qs f))
+IsNotRun config log qs f = ((config ≡ log) × (qs ≡ []) × (f ≡ File)) ⊎ ((config ≢ log)
+    × (IsSetupFault config qs f ⊎ ((c : Config) × (vs : List Service) × IsSetup config qs c vs × (f ≡ NoMemory))))
 
 -- what a run came to: its history's text couldn't be written, or it was, and the report couldn't be printed
 abbrev pub IsRunUntold : List ℕ → List ℕ → List Written → Kind → Type 0
@@ -59,19 +60,20 @@ IsRunUntold log text ws f =
 abbrev pub Runs : List ℕ → List ℕ → ℕ → List Asked → List Written → (List ℕ → Type 0) → Result (Unit {0}) Kind → Type 0
 Runs config log ticks qs ws Prints (Ok u) =
     (c : Config) × (vs : List Service) × (k : BootAndHistory) × (config ≢ log) × IsSetup config qs c vs × IsRun c vs ticks k
-    × (ws ≡ kept log (history_text k.history) ∷ []) × Prints (report_text (replay k).table (replay k).services)
+    × (ws ≡ kept log (saved_text c.rules k.history) ∷ []) × Prints (report_text (replay k).table (replay k).services)
 Runs config log ticks qs ws Prints (Err f) =
     ((ws ≡ []) × IsNotRun config log qs f)
     ⊎ ((c : Config) × (vs : List Service) × (k : BootAndHistory) × (config ≢ log) × IsSetup config qs c vs × IsRun c vs ticks k
-    × IsRunUntold log (history_text k.history) ws f)
+    × IsRunUntold log (saved_text c.rules k.history) ws f)
 
 -- ---- its replay
 
+-- by the run's configuration, and by the rules of the run
 abbrev pub RunsAreHistories : Type 0
-RunsAreHistories = (c : Config) (vs : List Service) (ticks : ℕ) (k : BootAndHistory) → IsRun c vs ticks k → IsSaved (history_text k.history) c k.history
+RunsAreHistories = (c : Config) (vs : List Service) (ticks : ℕ) (k : BootAndHistory) → IsRun c vs ticks k → IsSaved (saved_text c.rules k.history) c c k.history
 
 -- `mx replay` of the same configuration and services prints, of the text that was written, the same report
 abbrev pub RunsReplay : Type 0
-RunsReplay = (c : Config) (vs : List Service) (ticks : ℕ) (k : BootAndHistory) (records : List Record) (how : Replayed) (before after : Option (List ℕ))
-    → IsRun c vs ticks k → IsSaved (history_text k.history) c records → IsReplayPrinted (world_at_boot c vs) records how (λ text. Appends before after text)
+RunsReplay = (c d : Config) (vs : List Service) (ticks : ℕ) (k : BootAndHistory) (records : List Record) (how : Replayed) (before after : Option (List ℕ))
+    → IsRun c vs ticks k → IsSaved (saved_text c.rules k.history) c d records → IsReplayPrinted (world_at_boot d vs) records how (λ text. Appends before after text)
     → (how ≡ Whole) × Appends before after (report_text (replay k).table (replay k).services)

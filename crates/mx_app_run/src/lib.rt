@@ -4,7 +4,6 @@
 mod gate;
 mod laws;
 mod running;
-mod text;
 
 pub use laws::{replay_again, run_again};
 pub use mx_app_start::{

@@ -7,9 +7,8 @@ ghost use Rattle.mx_app_start.specs.Written.{Written};
 ghost use Rattle.mx_app_run.specs.Run.{EndsDriven, IsRun, Runs};
 
 use crate::gate::RunGate;
-use crate::text::text_of_history;
 use mx_app_start::{Failure, FileWriter, Reader, print_text, setup_of};
-use mx_boot::{Config, report};
+use mx_boot::{Config, report, saved_text};
 use mx_cpus_drive::{ActorSeat, Blank, Naming, Shared, boot, drive};
 use mx_machine_kernel::{Kernel, Service};
 use mx_word::NoMemory;
@@ -88,7 +87,7 @@ pub fn run<T: Threads + Wait + Clock + Sync, R: Reader, F: FileWriter, W: Write>
     }
     let (config, services) = setup_of(alloc, reader, config)?;
     let kernel = run_machine(rt, alloc, &config, services, ticks)?;
-    let text = text_of_history(alloc, &kernel)?;
+    let text = saved_text(alloc, &kernel)?;
     let report = report(alloc, &kernel)?;
     files.write(alloc, log, text.as_slice())?;
     print_text(report.as_slice(), out)

@@ -104,26 +104,26 @@ as_many_services name qs config vs h = as_many config.lines h.1 vs h.6
 
 -- ---- and the text that drives the machine
 
-pub first_setup : {L : Type 0} (Says : List ℕ → Config → List L → Type 0) (Tells : List ℕ → Config → BootError → Type 0) (config_name name : List ℕ) (qs : List Asked) (f : Failure)
+pub first_setup : {L : Type 0} (Says : List ℕ → Config → Config → List L → Type 0) (Tells : List ℕ → Config → BootError → Type 0) (config_name name : List ℕ) (qs : List Asked) (f : Failure)
     → IsSetupFault config_name qs f → IsNotStarted Says Tells config_name name qs f
 first_setup Says Tells config_name name qs f h = inl (inl h)
 
-pub first_no_text : {L : Type 0} (Says : List ℕ → Config → List L → Type 0) (Tells : List ℕ → Config → BootError → Type 0) (config_name name : List ℕ) (qs : List Asked) (q : Asked) (config : Config) (vs : List Service) (f : Failure)
+pub first_no_text : {L : Type 0} (Says : List ℕ → Config → Config → List L → Type 0) (Tells : List ℕ → Config → BootError → Type 0) (config_name name : List ℕ) (qs : List Asked) (q : Asked) (config : Config) (vs : List Service) (f : Failure)
     → IsSetup config_name qs config vs → IsNoTextGiven name q f → IsNotStarted Says Tells config_name name (qs ++ q ∷ []) f
 first_no_text Says Tells config_name name qs q config vs f s h = inl (inr (qs, q, config, vs, refl, s, inl h))
 
-pub first_faulty : {L : Type 0} (Says : List ℕ → Config → List L → Type 0) (Tells : List ℕ → Config → BootError → Type 0) (config_name name text slice : List ℕ) (qs : List Asked) (q : Asked) (config : Config) (vs : List Service) (e : BootError)
+pub first_faulty : {L : Type 0} (Says : List ℕ → Config → Config → List L → Type 0) (Tells : List ℕ → Config → BootError → Type 0) (config_name name text slice : List ℕ) (qs : List Asked) (q : Asked) (config : Config) (vs : List Service) (e : BootError)
     → IsSetup config_name qs config vs → slice ≡ text → IsTextGiven name q text → Tells slice config e
     → IsNotStarted Says Tells config_name name (qs ++ q ∷ []) (failure_of_lines e)
 first_faulty Says Tells config_name name text slice qs q config vs e s of t h =
     inl (inr (qs, q, config, vs, refl, s, inr (text, e, t, subst (λ (x : List ℕ). Tells x config e) of h, refl)))
 
-pub not_booted : {L : Type 0} (Says : List ℕ → Config → List L → Type 0) (Tells : List ℕ → Config → BootError → Type 0) (config_name name : List ℕ) (qs : List Asked) (config : Config) (vs : List Service) (said : List L) (f : Failure)
+pub not_booted : {L : Type 0} (Says : List ℕ → Config → Config → List L → Type 0) (Tells : List ℕ → Config → BootError → Type 0) (config_name name : List ℕ) (qs : List Asked) (config : Config) (vs : List Service) (said : List L) (f : Failure)
     → IsStart Says config_name name qs config vs said → f ≡ NoMemory → IsNotStarted Says Tells config_name name qs f
 not_booted Says Tells config_name name qs config vs said f s lost = inr (config, vs, said, s, lost)
 
-pub started : {L : Type 0} (Says : List ℕ → Config → List L → Type 0) (config_name name text slice : List ℕ) (qs : List Asked) (q : Asked) (config : Config) (vs : List Service) (said : List L)
-    → IsSetup config_name qs config vs → slice ≡ text → IsTextGiven name q text → Says slice config said
+pub started : {L : Type 0} (Says : List ℕ → Config → Config → List L → Type 0) (config_name name text slice : List ℕ) (qs : List Asked) (q : Asked) (read config : Config) (vs : List Service) (said : List L)
+    → IsSetup config_name qs read vs → slice ≡ text → IsTextGiven name q text → Says slice read config said
     → IsStart Says config_name name (qs ++ q ∷ []) config vs said
-started Says config_name name text slice qs q config vs said s of t h =
-    (qs, q, text, refl, s, t, subst (λ (x : List ℕ). Says x config said) of h)
+started Says config_name name text slice qs q read config vs said s of t h =
+    (qs, q, text, read, refl, s, t, subst (λ (x : List ℕ). Says x read config said) of h)

@@ -1,5 +1,5 @@
--- The texts that drive a machine, and what is told of others (our own).
-use Rattle.std.specs.Prelude.{ℕ, ◌+◌, List}
+-- The texts that drive a machine, the configuration by which it boots then, and what is told of other texts (our own).
+use Rattle.std.specs.Prelude.{◌≡◌, ℕ, ◌+◌, List}
 use Rattle.mx_text.specs.Lines.{lines}
 use Rattle.mx_text.specs.declared.error.BootError.{BootError}
 use Rattle.mx_boot.specs.Config.{Config}
@@ -9,23 +9,24 @@ use Rattle.mx_boot_script.specs.Reading.{AreLinesRead, TellsUnread}
 use Rattle.mx_boot_script.specs.Script.{script_line}
 use Rattle.mx_boot_script.specs.Debug.{debug_line}
 use Rattle.mx_machine.specs.Record.{Record}
+use Rattle.mx_machine.specs.Rules.{Rules}
 use Rattle.mx_boot.specs.Log.{IsHistory, TellsHistoryFault}
 
-abbrev pub IsScript : List ℕ → Config → List ScriptLine → Type 0
-IsScript text config said = AreLinesRead script_line (lines text) said
+abbrev pub IsScript : List ℕ → Config → Config → List ScriptLine → Type 0
+IsScript text read config said = AreLinesRead script_line (lines text) said × (config ≡ read)
 
 abbrev pub TellsScript : List ℕ → Config → BootError → Type 0
 TellsScript text config e = TellsUnread script_line (lines text) e
 
-abbrev pub IsDebugScript : List ℕ → Config → List DebugLine → Type 0
-IsDebugScript text config said = AreLinesRead debug_line (lines text) said
+abbrev pub IsDebugScript : List ℕ → Config → Config → List DebugLine → Type 0
+IsDebugScript text read config said = AreLinesRead debug_line (lines text) said × (config ≡ read)
 
 abbrev pub TellsDebugScript : List ℕ → Config → BootError → Type 0
 TellsDebugScript text config e = TellsUnread debug_line (lines text) e
 
--- by the machine's actors
-abbrev pub IsSaved : List ℕ → Config → List Record → Type 0
-IsSaved text config records = IsHistory (config.cpus + config.others) text records
+-- by the machine's actors; it boots by the rules that the text says, whatever the configuration says
+abbrev pub IsSaved : List ℕ → Config → Config → List Record → Type 0
+IsSaved text read config records = (rules : Rules) × IsHistory (read.cpus + read.others) text rules records × (config ≡ record read { rules = rules })
 
 abbrev pub TellsSaved : List ℕ → Config → BootError → Type 0
 TellsSaved text config e = TellsHistoryFault (config.cpus + config.others) text e

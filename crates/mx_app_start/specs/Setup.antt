@@ -91,11 +91,11 @@ IsSetupFault name qs f =
 
 -- ---- and the text that drives the machine
 
--- the text after them says this, as `Says` has it
-abbrev pub IsStart : {L : Type 0} → (List ℕ → Config → List L → Type 0) → List ℕ → List ℕ → List Asked → Config → List Service → List L → Type 0
+-- the text after them says this, as `Says` has it, and the machine boots by this configuration
+abbrev pub IsStart : {L : Type 0} → (List ℕ → Config → Config → List L → Type 0) → List ℕ → List ℕ → List Asked → Config → List Service → List L → Type 0
 IsStart Says config_name name qs config services lines =
-    (before : List Asked) × (q : Asked) × (text : List ℕ)
-    × (qs ≡ before ++ q ∷ []) × IsSetup config_name before config services × IsTextGiven name q text × Says text config lines
+    (before : List Asked) × (q : Asked) × (text : List ℕ) × (read : Config)
+    × (qs ≡ before ++ q ∷ []) × IsSetup config_name before read services × IsTextGiven name q text × Says text read config lines
 
 -- the first fault of all
 abbrev pub IsFirstFault : (List ℕ → Config → BootError → Type 0) → List ℕ → List ℕ → List Asked → Failure → Type 0
@@ -106,7 +106,7 @@ IsFirstFault Tells config_name name qs f =
     × (IsNoTextGiven name q f ⊎ IsTextFaulty (λ text e. Tells text config e) name q f))
 
 -- no machine was started: that fault; or, where there is none, out of memory
-abbrev pub IsNotStarted : {L : Type 0} → (List ℕ → Config → List L → Type 0) → (List ℕ → Config → BootError → Type 0) → List ℕ → List ℕ → List Asked → Failure → Type 0
+abbrev pub IsNotStarted : {L : Type 0} → (List ℕ → Config → Config → List L → Type 0) → (List ℕ → Config → BootError → Type 0) → List ℕ → List ℕ → List Asked → Failure → Type 0
 IsNotStarted {L} Says Tells config_name name qs f =
     IsFirstFault Tells config_name name qs f
     ⊎ ((c : Config) × (services : List Service) × (said : List L) × IsStart Says config_name name qs c services said × (f ≡ NoMemory))

@@ -13,16 +13,17 @@ pub trait Course {
     /// What a line says.
     type Line;
 
-    /// The lines say this, for the machine of a configuration.
-    ghost IsSaid: { List ℕ → Config → List Self.Line → Type 0 };
+    /// The lines say this, beside a configuration, of the machine that another one boots.
+    ghost IsSaid: { List ℕ → Config → Config → List Self.Line → Type 0 };
 
     /// What may be told of a text: the first line at fault; or, where there is none, out of memory.
     ghost Tells: { List ℕ → Config → BootError → Type 0 };
 
-    /// What the lines of a text say, or the first line at fault.
-    fn read(alloc: Global, text: &str, config: &Config) -> Result<Vec<Self::Line>, BootError>
-        ensures said { IfOk result (λ lines. IsSaid text.now config.now lines.items) }
-        ensures fault { IfErr result (λ e. Tells text.now config.now e) };
+    /// What the lines of a text say, or the first line at fault. The configuration becomes the one by
+    /// which the machine is to boot.
+    fn read(alloc: Global, text: &str, config: &mut Config) -> Result<Vec<Self::Line>, BootError>
+        ensures said { IfOk result (λ lines. IsSaid text.now config.old config.new lines.items) }
+        ensures fault { IfErr result (λ e. Tells text.now config.old e) };
 }
 
 /// The lines of a script.
@@ -37,7 +38,7 @@ impl Course for Script {
 
     ghost Tells = { TellsScript };
 
-    fn read(alloc: Global, text: &str, _config: &Config) -> Result<Vec<ScriptLine>, BootError> {
+    fn read(alloc: Global, text: &str, _config: &mut Config) -> Result<Vec<ScriptLine>, BootError> {
         script(alloc, text)
     }
 }
@@ -54,12 +55,13 @@ impl Course for DebugScript {
 
     ghost Tells = { TellsDebugScript };
 
-    fn read(alloc: Global, text: &str, _config: &Config) -> Result<Vec<DebugLine>, BootError> {
+    fn read(alloc: Global, text: &str, _config: &mut Config) -> Result<Vec<DebugLine>, BootError> {
         debug_script(alloc, text)
     }
 }
 
-/// The records of a saved history.
+/// The records of a saved history. The machine boots by the rules that the text says, whatever the
+/// configuration says.
 pub struct History;
 
 impl Course for History {
@@ -71,7 +73,9 @@ impl Course for History {
 
     ghost Tells = { TellsSaved };
 
-    fn read(alloc: Global, text: &str, config: &Config) -> Result<Vec<Record>, BootError> {
-        log(alloc, text, config)
+    fn read(alloc: Global, text: &str, config: &mut Config) -> Result<Vec<Record>, BootError> {
+        let (rules, records) = log(alloc, text, config)?;
+        config.rules = rules;
+        Ok(records)
     }
 }

@@ -5,11 +5,12 @@ ghost use Rattle.std.specs.Prelude.{◌≡◌, []};
 use crate::limits::{read_program, read_text};
 use crate::noting::{Answers, Writes, with_answer, with_write};
 use crate::reader::Reader;
+use crate::replacing::replace_file;
 use crate::writer::FileWriter;
 use http_server::Log;
 use std::alloc::Global;
+use std::io;
 use std::rt::Files;
-use std::{fs, io};
 
 /// Reads the files of the runtime. A name is a path, relative to the directory that the program runs
 /// in.
@@ -49,7 +50,9 @@ impl<'a, R: Files + AllocGlobal> Reader for RuntimeFiles<'a, R> {
     }
 }
 
-/// Writes files of the runtime. A name is a path, relative to the directory that the program runs in.
+/// Writes files of the runtime. A name is a path, relative to the directory that the program runs in. A
+/// regular file, and one that isn't there, gets its bytes whole or not at all where a file can be made
+/// beside it; any other file is written in place.
 #[derive(Drop)]
 pub struct RuntimeWriter<'a, R> {
     rt: &'a R,
@@ -73,8 +76,8 @@ impl<'a, R: Files> FileWriter for RuntimeWriter<'a, R> {
 
     ghost written = { λ writer. written_in writer.writes.items };
 
-    fn write(&mut self, _alloc: Global, name: &str, bytes: &[u8]) -> io::Result<()> {
-        let answer = fs::write(self.rt, name, bytes);
+    fn write(&mut self, alloc: Global, name: &str, bytes: &[u8]) -> io::Result<()> {
+        let answer = replace_file(self.rt, alloc, name, bytes);
         self.writes = with_write(&self.writes, name, bytes, &answer);
         answer
     }

@@ -59,9 +59,9 @@ where
     ensures fault { IfErr result (λ f. (qs : List Asked)
         × (R.asked reader.new ≡ R.asked reader.old ++ qs) × IsNotStarted C.IsSaid C.Tells config.now text.now qs f) }
 {
-    let (config, services) = setup_of(alloc, reader, config)?;
+    let (mut config, services) = setup_of(alloc, reader, config)?;
     let text = text_of(alloc, reader, text)?;
-    let lines = C::read(alloc, text.as_str(), &config)?;
+    let lines = C::read(alloc, text.as_str(), &mut config)?;
     let machine = boot(alloc, &config, services)?;
     Ok(Started {
         machine,

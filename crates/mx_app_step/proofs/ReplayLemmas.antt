@@ -49,10 +49,12 @@ made_in n (l ∷ ls) (r ∷ rs) h (suc k) d b = let e : map (record_line n) ls �
 pub saved_by_actors : (config_name name : List ℕ) (qs : List Asked) (c : Config) (vs : List Service) (records slice : List Record) (w : World)
     → slice ≡ records → w ≡ world_at_boot c vs → IsStart IsSaved config_name name qs c vs records → All (λ (x : Record). x.actor < actors w) slice
 saved_by_actors config_name name qs c vs records slice w same e h =
+    let said = h.7 in
     let as_many : length (world_at_boot c vs).cpus ≡ c.cpus = length-replicate c.cpus None in
-    let n : c.cpus + c.others ≡ actors w = sym (ap actors e ∙ ap (λ k. k + c.others) as_many) in
+    let read : h.3.cpus + h.3.others ≡ c.cpus + c.others = sym (ap (λ (x : Config). x.cpus + x.others) said.2) in
+    let n : h.3.cpus + h.3.others ≡ actors w = read ∙ sym (ap actors e ∙ ap (λ k. k + c.others) as_many) in
     subst (λ (rs : List Record). All (λ (x : Record). x.actor < actors w) rs) (sym same)
-    (subst (λ k. All (λ (x : Record). x.actor < k) records) n (made_in (c.cpus + c.others) _ records h.6.0))
+    (subst (λ k. All (λ (x : Record). x.actor < k) records) n (made_in (h.3.cpus + h.3.others) _ records said.1.0))
 
 -- ---- what is printed
 

@@ -1,6 +1,7 @@
 -- What the lines of a script leave in the history (our own).
 use Rattle.std.specs.Prelude.{ℕ, List, [], ◌∷◌, Option, Some, None}
 use Rattle.mx_app_start.specs.Machine.{kept_after}
+use Rattle.mx_app_start.specs.Text.{saved_text}
 use Rattle.mx_boot_script.specs.declared.scripts.ScriptLine.{ScriptLine}
 use Rattle.mx_boot_script.specs.declared.scripts.ScriptLine.TheVariants.{Step, Take, Back, Line, Tick, Kill, Respawn}
 use Rattle.mx_machine_world.specs.declared.events.Event.{Event}
@@ -30,6 +31,10 @@ kept_by k w (Some x) = kept_after k x.0 x.1 (move w x.0 x.1).0
 abbrev pub lines_kept : BootAndHistory → World → ℕ → List ScriptLine → BootAndHistory
 lines_kept k w other [] = k
 lines_kept k w other (l ∷ ls) = lines_kept (kept_by k w (event_of_line other l)) (line_made w other l).1 other ls
+
+-- the text of what is kept, as it is saved
+abbrev pub text_kept : BootAndHistory → List ℕ
+text_kept k = saved_text k.boot.table.rules k.history
 
 -- THE HISTORY that the lines of a script make of a machine at boot
 abbrev pub history_made : World → ℕ → List ScriptLine → List Record

@@ -1,6 +1,7 @@
 -- How far a history replays (our own).
 use Rattle.std.specs.Prelude.{◌≡◌, ◌⊎◌, ℕ, ◌+◌, List, [], ◌∷◌, ◌++◌, length, codes, Some, None}
 use Rattle.std.specs.Fmt.{decimal}
+use Rattle.mx_app_start.specs.Log.{lines_above}
 use Rattle.mx_app_start.specs.Report.{report_text}
 use Rattle.mx_machine_world.specs.declared.events.Event.{Event}
 use Rattle.mx_machine_world.specs.declared.events.Refusal.{Refusal}
@@ -24,7 +25,7 @@ IsRefusedAt w records n r =
     × (records ≡ above ++ x ∷ below) × AreAccepted w (events_of_history above)
     × IsFirstRefusal (world_after_events w (events_of_history above)) (events_of x.actor x.event) r × (n ≡ length above + 1)
 
--- the line that tells it
+-- what tells it, by the line of the text where the record stands
 abbrev pub refused_record_line : ℕ → Refusal → List ℕ
 refused_record_line n r = codes "line " ++ decimal n ++ codes ": " ++ refusal_line r ++ codes "\n"
 
@@ -32,4 +33,4 @@ refused_record_line n r = codes "line " ++ decimal n ++ codes ": " ++ refusal_li
 abbrev pub IsReplayPrinted : World → List Record → Replayed → (List ℕ → Type 0) → Type 0
 IsReplayPrinted w records replayed.Whole Prints =
     AreAccepted w (events_of_history records) × (let u = world_after_events w (events_of_history records) in Prints (report_text u.table u.services))
-IsReplayPrinted w records replayed.Refused Prints = (n : ℕ) × (r : Refusal) × IsRefusedAt w records n r × Prints (refused_record_line n r)
+IsReplayPrinted w records replayed.Refused Prints = (n : ℕ) × (r : Refusal) × IsRefusedAt w records n r × Prints (refused_record_line (lines_above w.table.rules + n) r)

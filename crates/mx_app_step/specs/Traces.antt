@@ -1,5 +1,6 @@
 -- What is told of a history, record by record (our own).
 use Rattle.std.specs.Prelude.{ℕ, ◌+◌, ◌-◌, nat_lt, if◌then◌else◌, List, [], ◌∷◌, ◌++◌, take, Option, Some, None}
+use Rattle.mx_app_start.specs.Log.{lines_above}
 use Rattle.mx_machine_world.specs.declared.events.Event.{Event}
 use Rattle.mx_machine_world.specs.declared.events.Event.TheVariants as event
 use Rattle.mx_machine_world.specs.declared.events.Refusal.{Refusal}
@@ -59,4 +60,4 @@ IsTracePrinted w records from replayed.Whole Prints =
     AreAccepted w (events_of_history records) × Prints (trace_text from w 1 records)
 IsTracePrinted w records from replayed.Refused Prints =
     (n : ℕ) × (r : Refusal) × IsRefusedAt w records n r
-    × Prints (trace_text from w 1 (take (n - 1) records) ++ refused_record_line n r)
+    × Prints (trace_text from w 1 (take (n - 1) records) ++ refused_record_line (lines_above w.table.rules + n) r)

@@ -1,6 +1,6 @@
 //! A machine that is driven by a saved history.
 
-ghost use Rattle.std.specs.Prelude.{◌≡◌, ◌<◌, ◌++◌, List, All, IfOk, IfErr, OnOk, None, Some};
+ghost use Rattle.std.specs.Prelude.{◌≡◌, ◌<◌, ◌≤◌, ◌++◌, List, All, length, IfOk, IfErr, OnOk, None, Some};
 ghost use Rattle.std.specs.Io.KnownBytes.{Appends};
 ghost use Rattle.mx_app_start.specs.Failure.{IsWanting};
 ghost use Rattle.mx_app_start.specs.Machine.{IsActor, world_of};
@@ -22,7 +22,9 @@ ghost use Rattle.mx_app_start.specs.Telling.{IsTold};
 
 use crate::printing::print_report;
 use crate::stepping::work_steps;
-use mx_app_start::{Event, Failure, History, Machine, Reader, Record, Recorded, print_text, start};
+use mx_app_start::{
+    Event, Failure, History, Machine, Reader, Record, Recorded, lines_above, print_text, start,
+};
 use mx_machine_world::{Refusal, actors_stay};
 use mx_print_answers::Said;
 use std::alloc::Global;
@@ -99,6 +101,7 @@ fn perform_records(machine: &mut Machine, records: &[Record]) -> Result<(), (usi
     requires { All (λ (x : Noted). x.actor < actors (world_of machine.old)) records.now }
     ensures ok { OnOk result (AreAccepted (world_of machine.old) (events_of_history records.now) × (world_of machine.new ≡ world_after_events (world_of machine.old) (events_of_history records.now))) }
     ensures err { IfErr result (λ p. IsRefusedAt (world_of machine.old) records.now p.0 p.1) }
+    ensures few { IfErr result (λ p. p.0 ≤ length records.now) }
 {
     actors_stay();
     let mut number = 1;
@@ -111,7 +114,7 @@ fn perform_records(machine: &mut Machine, records: &[Record]) -> Result<(), (usi
     Ok(())
 }
 
-/// Prints which record's event is refused, and why.
+/// Prints in which line a record's event is refused, and why.
 pub(crate) fn print_refusal<W: Write>(
     alloc: Global,
     number: usize,
@@ -127,7 +130,7 @@ pub(crate) fn print_refusal<W: Write>(
 }
 
 /// Replays records, and prints the report. At an event that is refused it prints the number of the
-/// record and the refusal instead.
+/// record's line and the refusal instead.
 fn print_records<W: Write>(
     alloc: Global,
     machine: &mut Machine,
@@ -138,13 +141,14 @@ fn print_records<W: Write>(
     ensures err { IfErr result IsWanting }
     ensures printed { IfOk result (λ replayed. IsReplayPrinted (world_of machine.old) records.now replayed (λ text. Appends (W.contents out.old) (W.contents out.new) text)) }
 {
+    let above = lines_above(machine.rules());
     match perform_records(machine, records) {
         Ok(()) => {
             print_report(alloc, machine, out)?;
             Ok(Replayed::Whole)
         }
         Err((number, refusal)) => {
-            print_refusal(alloc, number, refusal, out)?;
+            print_refusal(alloc, above + number, refusal, out)?;
             Ok(Replayed::Refused)
         }
     }

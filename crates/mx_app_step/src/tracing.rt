@@ -1,6 +1,6 @@
 //! What each record of a saved history did.
 
-ghost use Rattle.std.specs.Prelude.{◌≡◌, ◌<◌, ◌^◌, ◌++◌, List, All, IfOk, IfErr, OnOk, length, take};
+ghost use Rattle.std.specs.Prelude.{◌≡◌, ◌<◌, ◌^◌, ◌++◌, ◌≤◌, List, All, IfOk, IfErr, IfSome, OnOk, length, take};
 ghost use Rattle.std.specs.Io.KnownBytes.{Appends};
 ghost use Rattle.mx_app_start.specs.Failure.{IsWanting};
 ghost use Rattle.mx_app_start.specs.Machine.{world_of};
@@ -18,7 +18,9 @@ ghost use Rattle.mx_app_step.specs.Records.{IsFirstRefusal};
 ghost use Rattle.mx_app_step.specs.Traces.{IsTracePrinted, IsTraced, own_event, step_of, steps_before, told_of};
 
 use crate::records::{Replayed, event_again, print_refusal, steps_again};
-use mx_app_start::{Event, Failure, History, Machine, Reader, Record, Recorded, print_text, start};
+use mx_app_start::{
+    Event, Failure, History, Machine, Reader, Record, Recorded, lines_above, print_text, start,
+};
 use mx_look_trace::{Glance, Step, push_record};
 use mx_machine_world::{Refusal, actors_stay};
 use std::alloc::Global;
@@ -99,6 +101,7 @@ fn print_steps<W: Write>(
     requires actors { All (λ (x : Noted). x.actor < actors (world_of machine.old)) records.now }
     ensures err { IfErr result IsWanting }
     ensures printed { IfOk result (λ refused. IsTraced (world_of machine.old) records.now from refused (λ text. Appends (W.contents out.old) (W.contents out.new) text)) }
+    ensures few { IfOk result (λ refused. IfSome refused (λ p. p.0 ≤ length records.now)) }
 {
     actors_stay();
     for (index, entry) in records.iter().enumerate() {
@@ -112,7 +115,7 @@ fn print_steps<W: Write>(
 }
 
 /// Prints what each record did from `from` on. At an event that is refused it prints the number of the
-/// record and the refusal.
+/// record's line and the refusal.
 fn print_trace<W: Write>(
     alloc: Global,
     machine: &mut Machine,
@@ -125,10 +128,11 @@ fn print_trace<W: Write>(
     ensures err { IfErr result IsWanting }
     ensures printed { IfOk result (λ replayed. IsTracePrinted (world_of machine.old) records.now from replayed (λ text. Appends (W.contents out.old) (W.contents out.new) text)) }
 {
+    let above = lines_above(machine.rules());
     match print_steps(alloc, machine, records, from, out)? {
         None => Ok(Replayed::Whole),
         Some((number, refusal)) => {
-            print_refusal(alloc, number, refusal, out)?;
+            print_refusal(alloc, above + number, refusal, out)?;
             Ok(Replayed::Refused)
         }
     }

@@ -3,33 +3,34 @@
 ghost use Rattle.std.specs.Prelude.{◌≡◌, ◌+◌, ◌++◌, ℕ, List, true, false, OnOk, OnErr, IfOk};
 ghost use Rattle.mx_boot_history.specs.Log.{IsHistory};
 ghost use Rattle.mx_boot_history.specs.Taking.{IsTakenBut};
-ghost use Rattle.mx_boot_history.specs.Text.{history_text};
+ghost use Rattle.mx_boot_history.specs.Text.{saved_text};
 ghost use Rattle.mx_print_report.specs.Report.{report_text};
 ghost use Rattle.mx_machine_kernel.specs.History.{replay};
 ghost use Rattle.mx_machine_kernel.specs.World.{actors};
 
 use mx_boot_config::Config;
-use mx_boot_history::{Over, SaveFault, Sink, history_again, save_records};
+use mx_boot_history::{Over, SaveFault, Sink, history_again, save_history};
 use mx_machine_kernel::Kernel;
 use mx_print_report::report_of;
 use mx_word::NoMemory;
 use std::alloc::Global;
 
-/// Writes the text of a kernel's history to a sink that hasn't failed. Where that is an error, the
-/// sink has failed, and what it took is a front of the text. Takes no memory.
+/// Writes the text of a kernel's history, by the rules of its machine, to a sink that hasn't failed.
+/// Where that is an error, the sink has failed, and what it took is a front of the text. Takes no
+/// memory.
 pub fn save<S: Sink>(kernel: &Kernel, sink: &mut S) -> Result<(), SaveFault>
     requires { S.has_failed sink.old ≡ false }
-    ensures taken { OnOk result (S.taken sink.new ≡ S.taken sink.old ++ history_text kernel.now.history) }
+    ensures taken { OnOk result (S.taken sink.new ≡ S.taken sink.old ++ saved_text kernel.now.boot.table.rules kernel.now.history) }
     ensures whole { OnOk result (S.has_failed sink.new ≡ false) }
-    ensures front { OnErr result ((rest : List ℕ) × IsTakenBut (S.taken sink.old) (S.taken sink.new) (history_text kernel.now.history) rest) }
+    ensures front { OnErr result ((rest : List ℕ) × IsTakenBut (S.taken sink.old) (S.taken sink.new) (saved_text kernel.now.boot.table.rules kernel.now.history) rest) }
     ensures failed { OnErr result (S.has_failed sink.new ≡ true) }
 {
-    save_records(kernel.history(), sink)
+    save_history(kernel.rules(), kernel.history(), sink)
 }
 
-/// The text of a kernel's history.
+/// The text of a kernel's history, by the rules of its machine.
 pub fn saved_text(alloc: Global, kernel: &Kernel) -> Result<Vec<u8>, NoMemory>
-    ensures { IfOk result (λ text. text.items ≡ history_text kernel.now.history) }
+    ensures { IfOk result (λ text. text.items ≡ saved_text kernel.now.boot.table.rules kernel.now.history) }
 {
     let mut sink = Over::new(Vec::new(alloc));
     match save(kernel, &mut sink) {
@@ -42,7 +43,7 @@ pub fn saved_text(alloc: Global, kernel: &Kernel) -> Result<Vec<u8>, NoMemory>
 /// actors.
 pub fn saved_again(kernel: &Kernel, config: &Config)
     requires { config.now.cpus + config.now.others ≡ actors (replay kernel.now) }
-    ensures { IsHistory (config.now.cpus + config.now.others) (history_text kernel.now.history) kernel.now.history }
+    ensures { IsHistory (config.now.cpus + config.now.others) (saved_text kernel.now.boot.table.rules kernel.now.history) kernel.now.boot.table.rules kernel.now.history }
 {
     kernel.opened();
     history_again();

@@ -1,5 +1,6 @@
 -- What stands above a line of a configuration.
 use Rattle.std.specs.Prelude.{ℕ, ◌≤◌, List, [], length, Option, None, IfSome, All}
+use Rattle.mx_proc.specs.declared.windows.Rules.{Rules}
 use Rattle.mx_boot_config.specs.declared.service.ServiceWords.{ServiceWords}
 use Rattle.mx_boot_config.specs.Items.{IsServiceWithin}
 
@@ -7,10 +8,11 @@ pub record ItemsAbove : Type 0 where
   pub cpus : Option ℕ
   pub log : Option ℕ
   pub others : Option ℕ
+  pub rules : Option Rules
   pub services : List ServiceWords
 
 abbrev pub nothing_above : ItemsAbove
-nothing_above = record { cpus = None; log = None; others = None; services = [] }
+nothing_above = record { cpus = None; log = None; others = None; rules = None; services = [] }
 
 abbrev pub IsBetween : ℕ → ℕ → Option ℕ → Type 0
 IsBetween least most said = IfSome said (λ n. (least ≤ n) × (n ≤ most))

@@ -6,12 +6,13 @@ use Rattle.mx_text.specs.Lines.{lines, last_line}
 use Rattle.mx_text.specs.declared.error.BootError.{BootError}
 use Rattle.mx_text.specs.declared.error.BootError.TheVariants.{BadLine, TwiceNamed, TooMany, NoMemory}
 use Rattle.mx_text.specs.declared.names.Name.{Name}
+use Rattle.mx_proc.specs.declared.windows.Rules.TheVariants.{Strict}
 use Rattle.mx_machine_world.specs.declared.config.ServiceLine.{ServiceLine}
 use Rattle.mx_machine_world.specs.declared.config.Config.{Config}
 use Rattle.mx_boot_config.specs.declared.service.Terms.{Terms}
 use Rattle.mx_boot_config.specs.declared.service.ServiceWords.{ServiceWords}
 use Rattle.mx_boot_config.specs.declared.item.ConfigItem.{ConfigItem}
-use Rattle.mx_boot_config.specs.declared.item.ConfigItem.TheVariants.{Cpus, Log, Others, Service}
+use Rattle.mx_boot_config.specs.declared.item.ConfigItem.TheVariants.{Cpus, Log, Others, ByRules, Service}
 use Rattle.mx_boot_config.specs.Items.{said_in, SaysItem, SaysNothing}
 use Rattle.mx_boot_config.specs.Above.{ItemsAbove, nothing_above}
 
@@ -25,6 +26,7 @@ abbrev pub is_twice : ItemsAbove → ConfigItem → Bool
 is_twice a (Cpus n) = is_some a.cpus
 is_twice a (Log n) = is_some a.log
 is_twice a (Others n) = is_some a.others
+is_twice a (ByRules rules) = is_some a.rules
 is_twice a (Service s) = has_service_name a.services s.name
 
 -- a service below 32 others
@@ -40,6 +42,7 @@ abbrev pub items_with : ItemsAbove → ConfigItem → ItemsAbove
 items_with a (Cpus n) = record a { cpus = Some n }
 items_with a (Log n) = record a { log = Some n }
 items_with a (Others n) = record a { others = Some n }
+items_with a (ByRules rules) = record a { rules = Some rules }
 items_with a (Service s) = record a { services = a.services ++ s ∷ [] }
 
 -- ---- lines
@@ -82,11 +85,12 @@ AreLinesOf [] [] = Unit {0}
 AreLinesOf (w ∷ ws) (l ∷ ls) = IsLineOf w l × AreLinesOf ws ls
 AreLinesOf _ _ = ⊥
 
--- what isn't said is 1 processor, room for 65,536 records and 1 other
+-- what isn't said is 1 processor, room for 65,536 records, 1 other and the strict rules
 pub record IsConfigOf (a : ItemsAbove) (config : Config) : Type 0 where
   pub cpus : config.cpus ≡ unwrap_or a.cpus 1
   pub others : config.others ≡ unwrap_or a.others 1
   pub log : config.log ≡ unwrap_or a.log 65536
+  pub rules : config.rules ≡ unwrap_or a.rules Strict
   pub lines : AreLinesOf a.services config.lines
 
 -- a text without a fault says all this

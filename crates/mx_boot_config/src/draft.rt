@@ -11,6 +11,7 @@ use crate::items::{before_comment, item_at};
 use crate::service::ServiceWords;
 use arrayvec::ArrayVec;
 use mx_machine_world::{Config, FileName, Label, ServiceLine, ServiceLines};
+use mx_proc::Rules;
 use mx_text::{BootError, Name, next_field};
 use std::alloc::{AllocError, Global};
 use std::marker::Model;
@@ -21,6 +22,7 @@ pub struct Draft<'a> {
     pub cpus: Option<u8>,
     pub log: Option<u32>,
     pub others: Option<u8>,
+    pub rules: Option<Rules>,
     pub services: ArrayVec<ServiceWords<'a>, 32>,
 }
 
@@ -29,9 +31,9 @@ impl<'a> Model for Draft<'a> {
 
     ghost Value = { ItemsAbove };
 
-    ghost view = { λ d. record { cpus = d.cpus; log = d.log; others = d.others; services = d.services.items } };
+    ghost view = { λ d. record { cpus = d.cpus; log = d.log; others = d.others; rules = d.rules; services = d.services.items } };
 
-    ghost invariant = { λ d. IsAbove (record { cpus = d.cpus; log = d.log; others = d.others; services = d.services.items }) };
+    ghost invariant = { λ d. IsAbove (record { cpus = d.cpus; log = d.log; others = d.others; rules = d.rules; services = d.services.items }) };
 }
 
 /// The line of a service.
@@ -73,6 +75,7 @@ impl<'a> Draft<'a> {
             cpus: None,
             log: None,
             others: None,
+            rules: None,
             services: ArrayVec::new(),
         }
     }
@@ -94,6 +97,7 @@ impl<'a> Draft<'a> {
             ConfigItem::Cpus(_) => self.cpus.is_some(),
             ConfigItem::Log(_) => self.log.is_some(),
             ConfigItem::Others(_) => self.others.is_some(),
+            ConfigItem::ByRules(_) => self.rules.is_some(),
             ConfigItem::Service(service) => self.is_named(service.name),
         }
     }
@@ -130,6 +134,7 @@ impl<'a> Draft<'a> {
             ConfigItem::Cpus(number) => self.cpus = Some(number),
             ConfigItem::Log(number) => self.log = Some(number),
             ConfigItem::Others(number) => self.others = Some(number),
+            ConfigItem::ByRules(rules) => self.rules = Some(rules),
             ConfigItem::Service(words) => self.services.push(words),
         }
     }
@@ -171,6 +176,7 @@ impl<'a> Draft<'a> {
             cpus: self.cpus.unwrap_or(1),
             others: self.others.unwrap_or(1),
             log: self.log.unwrap_or(65_536),
+            rules: self.rules.unwrap_or(Rules::Strict),
             lines: ServiceLines::from_vec(lines),
         })
     }

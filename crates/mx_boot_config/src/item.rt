@@ -1,6 +1,7 @@
 //! Items of a configuration.
 
 use crate::service::ServiceWords;
+use mx_proc::Rules;
 
 /// What a line of a configuration says. It takes no memory: a file's name stays where the line has it.
 #[derive(Clone, Copy)]
@@ -11,5 +12,7 @@ pub enum ConfigItem<'a> {
     Log(u32),
     /// How many other actors there are.
     Others(u8),
+    /// By which rules the machine copies between processes.
+    ByRules(Rules),
     Service(ServiceWords<'a>),
 }

@@ -5,12 +5,13 @@ ghost use Rattle.std.specs.List.{before_first, list_any};
 ghost use Rattle.mx_text.specs.Fields.{fields};
 ghost use Rattle.mx_boot_config.specs.declared.service.ServiceWords.{ServiceWords as Words};
 ghost use Rattle.mx_boot_config.specs.declared.item.ConfigItem.{ConfigItem};
-ghost use Rattle.mx_boot_config.specs.Items.{is_hash, is_stray, said_in, number_after_word, SaysService, SaysItem, IsServiceWithin, IsItemWithin};
+ghost use Rattle.mx_boot_config.specs.Items.{is_hash, is_stray, said_in, number_after_word, rules_after_word, SaysService, SaysItem, IsServiceWithin, IsItemWithin};
 
 use crate::item::ConfigItem;
 use crate::service::ServiceWords;
 use crate::terms::{number_between, terms_of};
 use mx_machine_world::Label;
+use mx_proc::Rules;
 use mx_text::{next_field, one_field};
 
 /// How much stands before a comment.
@@ -40,6 +41,16 @@ fn numbered(line: &[u8], least: u32, most: u32) -> Option<u32>
 {
     let word = one_field(line)?;
     number_between(word, least, most)
+}
+
+/// The rules that a line is the number of.
+fn rules_of(line: &[u8]) -> Option<Rules>
+    ensures { result ≡ rules_after_word (fields line.now) }
+{
+    match numbered(line, 1, 2)? {
+        1 => Some(Rules::Lenient),
+        _ => Some(Rules::Strict),
+    }
 }
 
 /// Whether a byte is no part of a file's name.
@@ -94,6 +105,7 @@ pub fn item_at<'a>(word: &[u8], line: &'a [u8]) -> Option<ConfigItem<'a>>
         b"cpus" => Some(ConfigItem::Cpus(numbered(line, 1, 8)? as u8)),
         b"log" => Some(ConfigItem::Log(numbered(line, 1, 1_048_576)?)),
         b"others" => Some(ConfigItem::Others(numbered(line, 1, 4)? as u8)),
+        b"rules" => Some(ConfigItem::ByRules(rules_of(line)?)),
         _ => None,
     }
 }

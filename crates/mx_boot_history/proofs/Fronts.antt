@@ -3,9 +3,10 @@ use Rattle.std.proofs.Common.{◌≡◌, ◌∙◌, ℕ, ◌+◌, List, [], ◌�
 use Rattle.std.proofs.lemmas.Grind.{flat_map-append}
 use Rattle.std.proofs.lemmas.List.{take-append-drop}
 use Rattle.mx_boot_script.specs.Words.{joined_words}
+use Rattle.mx_machine_world.specs.Rules.{Rules}
 use Rattle.mx_machine_world.specs.declared.history.Record.{Record}
 use Rattle.mx_boot_history.specs.Taking.{IsTakenBut}
-use Rattle.mx_boot_history.specs.Text.{history_text, record_words}
+use Rattle.mx_boot_history.specs.Text.{history_text, record_words, rules_text, saved_text}
 
 -- lines above, and a front of one line
 pub lines_taken : (before after later line rest above below text : List ℕ) → after ≡ before ++ above → text ≡ above ++ (line ++ below) → IsTakenBut after later line rest → IsTakenBut before later text (rest ++ below)
@@ -26,3 +27,24 @@ parted_text xs i x line more is =
 pub on_err : {A E : Type 0} (r : Result A E) (P : Type 0) → P → OnErr r P
 on_err (Ok a) P p = tt
 on_err (Err e) P p = p
+
+-- a front of the rules' line, and nothing of the records
+pub rules_front : (before after line : List ℕ) (rules : Rules) (rest : List ℕ) (records : List Record) → line ≡ rules_text rules → IsTakenBut before after line rest → IsTakenBut before after (saved_text rules records) (rest ++ history_text records)
+rules_front before after line rules rest records is g = record {
+  front = g.front;
+  parts = ap (λ (l : List ℕ). l ++ history_text records) (sym is ∙ g.parts) ∙ append_assoc g.front rest (history_text records);
+  taken = g.taken;
+}
+
+-- the rules' line, and a front of the records
+pub records_front : (before after later line : List ℕ) (rules : Rules) (rest : List ℕ) (records : List Record) → after ≡ before ++ line → line ≡ rules_text rules
+    → IsTakenBut after later (history_text records) rest → IsTakenBut before later (saved_text rules records) rest
+records_front before after later line rules rest records h is g = record {
+  front = line ++ g.front;
+  parts = ap (λ (l : List ℕ). l ++ history_text records) (sym is) ∙ ap (λ (l : List ℕ). line ++ l) g.parts ∙ sym (append_assoc line g.front rest);
+  taken = g.taken ∙ ap (λ (l : List ℕ). l ++ g.front) h ∙ append_assoc before line g.front;
+}
+
+pub on_err_more : {A E : Type 0} (r : Result A E) (P Q : Type 0) → (P → Q) → OnErr r P → OnErr r Q
+on_err_more (Ok a) P Q f p = tt
+on_err_more (Err e) P Q f p = f p

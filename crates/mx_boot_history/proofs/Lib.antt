@@ -1,4 +1,5 @@
 mod Ended
+mod Faults
 mod ReadAgain
 mod OneHistory
 mod Fronts

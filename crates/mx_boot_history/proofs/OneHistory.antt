@@ -6,9 +6,10 @@ use Rattle.mx_text.specs.declared.error.BootError.TheVariants.{BadLine, TwiceNam
 use Rattle.std.specs.List.{list_all}
 use Rattle.std.proofs.Math.Bool.{and-false}
 use Rattle.mx_text.specs.Lines.{lines}
+use Rattle.mx_machine_world.specs.Rules.{Rules}
 use Rattle.mx_machine_world.specs.declared.history.Record.{Record}
-use Rattle.mx_boot_history.specs.Text.{history_text}
-use Rattle.mx_boot_history.specs.Log.{record_line, is_ended, IsHistory, IsHistoryFault, TellsHistoryFault}
+use Rattle.mx_boot_history.specs.Text.{saved_text}
+use Rattle.mx_boot_history.specs.Log.{record_line, record_lines, is_ended, IsHistory, IsHistoryFault, TellsHistoryFault}
 
 somes : {A : Type 0} → List (Option A) → List A
 somes [] = []
@@ -20,8 +21,8 @@ unfolding somes
 somes-map [] = refl
 somes-map (x ∷ xs) = ap (λ ys. x ∷ ys) (somes-map xs)
 
-pub one_of_text : (actors : ℕ) (t : List ℕ) (a b : List Record) → IsHistory actors t a → IsHistory actors t b → a ≡ b
-one_of_text actors t a b h g = sym (somes-map a) ∙ ap somes (sym h.0 ∙ g.0) ∙ somes-map b
+pub one_of_text : (actors : ℕ) (t : List ℕ) (r s : Rules) (a b : List Record) → IsHistory actors t r a → IsHistory actors t s b → (r ≡ s) × (a ≡ b)
+one_of_text actors t r s a b h g = (h.2 ∙ sym g.2, sym (somes-map a) ∙ ap somes (sym h.0 ∙ g.0) ∙ somes-map b)
 
 all_some : {A : Type 0} (xs : List A) → list_all is_some (map Some xs) ≡ true
 all_some [] = refl
@@ -36,24 +37,25 @@ none_among says (l ∷ above) below line none =
 not_both : (b : Bool) → b ≡ true → b ≡ false → ⊥
 not_both b h g = absurd cc
 
-pub history_or_fault : (actors n : ℕ) (t : List ℕ) (a : List Record) → IsHistory actors t a → IsHistoryFault actors t n → ⊥
-history_or_fault actors n t a h (inl f) =
-    not_both (list_all is_some (map (record_line actors) (lines t)))
+pub history_or_fault : (actors n : ℕ) (t : List ℕ) (r : Rules) (a : List Record) → IsHistory actors t r a → IsHistoryFault actors t n → ⊥
+history_or_fault actors n t r a h (inl f) =
+    let g = f.1 in
+    not_both (list_all is_some (map (record_line actors) (record_lines (lines t))))
     (ap (list_all is_some) h.0 ∙ all_some a)
-    (ap (λ ls. list_all is_some (map (record_line actors) ls)) f.4 ∙ none_among (record_line actors) f.0 f.1 f.2 f.6)
-history_or_fault actors n t a h (inr f) = not_both (is_ended t) h.1 f.2
+    (ap (λ ls. list_all is_some (map (record_line actors) ls)) g.4 ∙ none_among (record_line actors) g.0 g.1 g.2 g.6)
+history_or_fault actors n t r a h (inr f) = not_both (is_ended t) h.1 f.2
 
-pub one_of_history : ((actors : ℕ) (t : List ℕ) (a b : List Record) → IsHistory actors t a → IsHistory actors t b → a ≡ b)
-    → (a b : List Record) → IsHistory 256 (history_text a) a → IsHistory 256 (history_text b) b → history_text a ≡ history_text b → a ≡ b
-one_of_history one a b h g e = one 256 (history_text a) a b h (subst (λ (t : List ℕ). IsHistory 256 t b) (sym e) g)
+pub one_of_history : ((actors : ℕ) (t : List ℕ) (r s : Rules) (a b : List Record) → IsHistory actors t r a → IsHistory actors t s b → (r ≡ s) × (a ≡ b))
+    → (r s : Rules) (a b : List Record) → IsHistory 256 (saved_text r a) r a → IsHistory 256 (saved_text s b) s b → saved_text r a ≡ saved_text s b → (r ≡ s) × (a ≡ b)
+one_of_history one r s a b h g e = one 256 (saved_text r a) r s a b h (subst (λ (t : List ℕ). IsHistory 256 t s b) (sym e) g)
 
 -- what a reader answers for a text that is a history
-pub answered : {X : Type 0} (items : X → List Record) (actors : ℕ) (t : List ℕ) (records : List Record) (r : Result X BootError)
-    → IfOk r (λ x. IsHistory actors t (items x)) → IfErr r (λ e. TellsHistoryFault actors t e) → IsHistory actors t records
-    → MatchResult r (λ x. items x ≡ records) (λ e. e ≡ NoMemory)
-answered items actors t records (Ok x) ok err h = one_of_text actors t (items x) records ok h
-answered items actors t records (Err (BadRecord n)) ok err h = absurd (history_or_fault actors n t records h err)
-answered items actors t records (Err NoMemory) ok err h = refl
-answered items actors t records (Err (BadLine n)) ok err h = absurd err
-answered items actors t records (Err (TwiceNamed n)) ok err h = absurd err
-answered items actors t records (Err (TooMany n)) ok err h = absurd err
+pub answered : {X : Type 0} (by : X → Rules) (items : X → List Record) (actors : ℕ) (t : List ℕ) (rules : Rules) (records : List Record) (r : Result X BootError)
+    → IfOk r (λ x. IsHistory actors t (by x) (items x)) → IfErr r (λ e. TellsHistoryFault actors t e) → IsHistory actors t rules records
+    → MatchResult r (λ x. (by x ≡ rules) × (items x ≡ records)) (λ e. e ≡ NoMemory)
+answered by items actors t rules records (Ok x) ok err h = one_of_text actors t (by x) rules (items x) records ok h
+answered by items actors t rules records (Err (BadRecord n)) ok err h = absurd (history_or_fault actors n t rules records h err)
+answered by items actors t rules records (Err NoMemory) ok err h = refl
+answered by items actors t rules records (Err (BadLine n)) ok err h = absurd err
+answered by items actors t rules records (Err (TwiceNamed n)) ok err h = absurd err
+answered by items actors t rules records (Err (TooMany n)) ok err h = absurd err

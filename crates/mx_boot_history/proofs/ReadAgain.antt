@@ -1,7 +1,10 @@
 -- The text of a history is read as that history.
-use Rattle.std.proofs.Common.{◌≡◌, ◌⊎◌, inl, inr, ℕ, suc, ◌<◌, ◌≤◌, ◌^◌, Bool, true, false, cond, List, [], ◌∷◌, ◌++◌, Some, None, refl, ap, ap₂, ◌∙◌, arith, append_assoc}
+use Rattle.std.proofs.Common.{◌≡◌, ◌&&◌, sym, subst, ◌⊎◌, inl, inr, ℕ, suc, ◌<◌, ◌≤◌, ◌^◌, Bool, true, false, cond, List, [], ◌∷◌, ◌++◌, Some, None, refl, ap, ap₂, ◌∙◌, arith, append_assoc}
 use Rattle.std.specs.Prelude.{map, codes, nat_lt, nat_le, All}
+use Rattle.std.proofs.lemmas.Bool.{cases_Bool}
 use Rattle.std.proofs.lemmas.Bool.Decides.{leb_tells}
+use Rattle.std.proofs.lemmas.Slice.Eq.{bytes_eq-Decides}
+use Rattle.std.specs.Str.{bytes_eq}
 use Rattle.std.specs.Fmt.{decimal}
 use Rattle.std.specs.List.{AllByRecursion}
 use Rattle.mx_text.specs.Lines.{lines}
@@ -12,12 +15,32 @@ use Rattle.mx_boot_script.specs.declared.verb.Verb.TheVariants as verbs
 use Rattle.mx_boot_script.specs.Verbs.{verb_word, verb_of}
 use Rattle.mx_boot_script.specs.Words.{is_field_word, AreWords, joined_words, lines_of_words}
 use Rattle.mx_boot_script.specs.Script.{only_count, after_verb}
+use Rattle.mx_machine_world.specs.Rules.{Rules}
+use Rattle.mx_machine_world.specs.Rules.TheVariants.{Lenient, Strict}
 use Rattle.mx_machine_world.specs.declared.history.Record.{Record}
 use Rattle.mx_machine_world.specs.declared.history.Recorded.{Recorded}
 use Rattle.mx_machine_world.specs.declared.history.Recorded.TheVariants.{Take, Back, Line, Tick, Kill, Respawn}
 use Rattle.mx_machine_world.specs.History.{number_of_record, IsWritable}
-use Rattle.mx_boot_history.specs.Text.{event_words, record_words, history_text}
-use Rattle.mx_boot_history.specs.Log.{recorded_of, record_by, record_of, record_line, is_ended, IsHistory}
+use Rattle.mx_boot_history.specs.Text.{event_words, record_words, history_text, saved_text}
+use Rattle.mx_boot_history.specs.Log.{recorded_of, record_by, record_of, record_line, is_ended, says_strict, rules_of_lines, record_lines, IsHistory}
+
+-- what is a record says no rules
+no_rules : (actors : ℕ) (fs : List (List ℕ)) (r : Record) → record_of actors fs ≡ Some r → says_strict fs ≡ false
+no_rules actors [] r e = refl
+no_rules actors (word ∷ []) r e = refl
+no_rules actors (word ∷ number ∷ f ∷ fs) r e = refl
+no_rules actors (word ∷ number ∷ []) r e = elim (cases_Bool (bytes_eq word (codes "rules"))) [
+  | inl y ↦ let is : word ≡ codes "rules" = (bytes_eq-Decides word (codes "rules")).0 y in
+      let none : None ≡ Some r = subst (λ (w : List ℕ). record_of actors (w ∷ number ∷ []) ≡ Some r) is e in absurd cc
+  | inr n ↦ ap (λ b. b && bytes_eq number (codes "2")) n
+]
+
+no_rules_above : (actors : ℕ) (ls : List (List ℕ)) (records : List Record) → map (record_line actors) ls ≡ map Some records → (rules_of_lines ls ≡ Lenient) × (record_lines ls ≡ ls)
+no_rules_above actors [] records e = (refl, refl)
+no_rules_above actors (l ∷ ls) [] e = absurd cc
+no_rules_above actors (l ∷ ls) (r ∷ rs) e =
+    let first : record_line actors l ≡ Some r = cc in
+    rw (no_rules actors (fields l) r first) (refl, refl)
 
 -- what is known of words, numbers and verbs
 pub record AreReadAgain : Type 0 where
@@ -107,10 +130,16 @@ module _ (k : AreReadAgain) where
       (ap (record_of actors) (k.fields_again (record_words r) (record_words_are actors r few h.0)) ∙ record_again actors r few h.0)
       (all_read actors rs few h.1)
 
-  pub read_again : (actors : ℕ) (records : List Record) → actors ≤ 256 → All (IsWritable actors) records → IsHistory actors (history_text records) records
-  read_again actors records few all =
-      let h = by_recursion (IsWritable actors) records all in (
-        ap (map (record_line actors)) (ap lines (text_of_words records) ∙ k.lines_again (map record_words records) (all_words actors records few h))
-            ∙ all_read actors records few h,
-        text_is_ended records,
-      )
+  records_again : (actors : ℕ) (records : List Record) → actors ≤ 256 → All (IsWritable actors) records → map (record_line actors) (lines (history_text records)) ≡ map Some records
+  records_again actors records few all =
+      let h = by_recursion (IsWritable actors) records all in
+      ap (map (record_line actors)) (ap lines (text_of_words records) ∙ k.lines_again (map record_words records) (all_words actors records few h))
+      ∙ all_read actors records few h
+
+  pub read_again : (actors : ℕ) (rules : Rules) (records : List Record) → actors ≤ 256 → All (IsWritable actors) records → IsHistory actors (saved_text rules records) rules records
+  read_again actors Lenient records few all =
+      let said = records_again actors records few all in
+      let none = no_rules_above actors (lines (history_text records)) records said in
+      (ap (map (record_line actors)) none.1 ∙ said, text_is_ended records, sym none.0)
+  read_again actors Strict records few all =
+      (records_again actors records few all, ended_behind (codes "rules 2") (history_text records) (text_is_ended records), refl)

@@ -1,5 +1,6 @@
 -- Which history a text is (our own).
-use Rattle.std.specs.Prelude.{◌≡◌, ℕ, ◌==◌, ◌⊎◌, nat_lt, if◌then◌else◌, Bool, true, false, List, [], ◌∷◌, length, Option, Some, None}
+use Rattle.std.specs.Prelude.{◌≡◌, ℕ, ◌==◌, ◌+◌, ◌&&◌, ◌⊎◌, nat_lt, codes, if◌then◌else◌, Bool, true, false, List, [], ◌∷◌, length, Option, Some, None}
+use Rattle.std.specs.Str.{bytes_eq}
 use Rattle.mx_text.specs.Lines.{lines}
 use Rattle.mx_text.specs.Fields.{fields, ◌>>=◌}
 use Rattle.mx_text.specs.declared.error.BootError.{BootError}
@@ -8,6 +9,8 @@ use Rattle.mx_boot_script.specs.declared.verb.Verb.{Verb}
 use Rattle.mx_boot_script.specs.declared.verb.Verb.TheVariants as verbs
 use Rattle.mx_boot_script.specs.Script.{actor_field, only_count, after_verb}
 use Rattle.mx_boot_script.specs.Reading.{AreLinesRead, IsFirstUnread}
+use Rattle.mx_machine_world.specs.Rules.{Rules}
+use Rattle.mx_machine_world.specs.Rules.TheVariants.{Lenient, Strict}
 use Rattle.mx_machine_world.specs.declared.history.Record.{Record}
 use Rattle.mx_machine_world.specs.declared.history.Recorded.{Recorded}
 use Rattle.mx_machine_world.specs.declared.history.Recorded.TheVariants.{Take, Back, Line, Tick, Kill, Respawn}
@@ -53,18 +56,50 @@ is_ended [] = true
 is_ended (b ∷ []) = b == 10
 is_ended (b ∷ c ∷ bs) = is_ended (c ∷ bs)
 
--- a text is a history
-abbrev pub IsHistory : ℕ → List ℕ → List Record → Type 0
-IsHistory actors t records = AreLinesRead (record_line actors) (lines t) records × (is_ended t ≡ true)
+-- the fields `rules 2`
+abbrev pub says_strict : List (List ℕ) → Bool
+says_strict (word ∷ number ∷ []) = bytes_eq word (codes "rules") && bytes_eq number (codes "2")
+says_strict _ = false
+
+-- the strict rules where the first line says them, else the lenient ones
+abbrev pub rules_of_lines : List (List ℕ) → Rules
+rules_of_lines [] = Lenient
+rules_of_lines (l ∷ ls) = if says_strict (fields l) then Strict else Lenient
+
+-- the lines below that one
+abbrev pub record_lines : List (List ℕ) → List (List ℕ)
+record_lines [] = []
+record_lines (l ∷ ls) = if says_strict (fields l) then ls else l ∷ ls
+
+-- how many lines stand above those of the records
+abbrev pub lines_above : Rules → ℕ
+lines_above Lenient = 0
+lines_above Strict = 1
+
+-- a text is a history of a machine that was booted by these rules
+abbrev pub IsHistory : ℕ → List ℕ → Rules → List Record → Type 0
+IsHistory actors t rules records =
+    AreLinesRead (record_line actors) (record_lines (lines t)) records × (is_ended t ≡ true) × (rules ≡ rules_of_lines (lines t))
+
+-- the line of this number is the first of the records' lines that says none
+abbrev pub IsFirstNoRecord : ℕ → List ℕ → ℕ → Type 0
+IsFirstNoRecord actors t n =
+    (k : ℕ) × IsFirstUnread (record_line actors) (record_lines (lines t)) k × (n ≡ lines_above (rules_of_lines (lines t)) + k)
 
 -- the first line at fault: it says no record, or it is the last and isn't ended
 abbrev pub IsHistoryFault : ℕ → List ℕ → ℕ → Type 0
 IsHistoryFault actors t n =
-    IsFirstUnread (record_line actors) (lines t) n
-    ⊎ ((records : List Record) × AreLinesRead (record_line actors) (lines t) records × (is_ended t ≡ false) × (n ≡ length (lines t)))
+    IsFirstNoRecord actors t n
+    ⊎ ((records : List Record) × AreLinesRead (record_line actors) (record_lines (lines t)) records × (is_ended t ≡ false) × (n ≡ length (lines t)))
+
+-- what is told of the records' lines where they aren't answered
+abbrev pub TellsNoRecords : ℕ → List ℕ → BootError → Type 0
+TellsNoRecords actors t (BadRecord n) = IsFirstNoRecord actors t n
+TellsNoRecords actors t NoMemory = (records : List Record) × AreLinesRead (record_line actors) (record_lines (lines t)) records
+TellsNoRecords actors t _ = ⊥
 
 -- what is told where no history is answered: the first line at fault, and out of memory only where there is none
 abbrev pub TellsHistoryFault : ℕ → List ℕ → BootError → Type 0
 TellsHistoryFault actors t (BadRecord n) = IsHistoryFault actors t n
-TellsHistoryFault actors t NoMemory = (records : List Record) × IsHistory actors t records
+TellsHistoryFault actors t NoMemory = (rules : Rules) × (records : List Record) × IsHistory actors t rules records
 TellsHistoryFault actors t _ = ⊥

@@ -1,10 +1,13 @@
--- The text of a history (our own): a record a line, the fields parted by one space, each line ended by a line feed.
+-- The text of a history (our own): the rules, where they are the strict ones, then a record a line, the fields parted by
+-- one space, each line ended by a line feed.
 use Rattle.std.specs.Prelude.{ℕ, List, [], ◌∷◌, ◌++◌, codes}
 use Rattle.std.specs.List.{flat_map}
 use Rattle.std.specs.Fmt.{decimal}
 use Rattle.mx_boot_script.specs.declared.verb.Verb.TheVariants as verbs
 use Rattle.mx_boot_script.specs.Verbs.{verb_word}
 use Rattle.mx_boot_script.specs.Words.{joined_words}
+use Rattle.mx_machine_world.specs.Rules.{Rules}
+use Rattle.mx_machine_world.specs.Rules.TheVariants.{Lenient, Strict}
 use Rattle.mx_machine_world.specs.declared.history.Record.{Record}
 use Rattle.mx_machine_world.specs.declared.history.Recorded.{Recorded}
 use Rattle.mx_machine_world.specs.declared.history.Recorded.TheVariants.{Take, Back, Line, Tick, Kill, Respawn}
@@ -22,3 +25,12 @@ record_words r = decimal r.actor ∷ event_words r.event
 
 abbrev pub history_text : List Record → List ℕ
 history_text records = flat_map (λ r. joined_words (record_words r) ++ codes "\n") records
+
+-- the line of the rules
+abbrev pub rules_text : Rules → List ℕ
+rules_text Lenient = []
+rules_text Strict = codes "rules 2\n"
+
+-- WHAT IS SAVED: by which rules the machine was booted, and what has happened since
+abbrev pub saved_text : Rules → List Record → List ℕ
+saved_text rules records = rules_text rules ++ history_text records

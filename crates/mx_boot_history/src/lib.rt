@@ -7,6 +7,6 @@ mod saving;
 mod sink;
 
 pub use laws::{history_again, one_history, one_text};
-pub use logs::log;
-pub use saving::{SaveFault, save_records};
+pub use logs::{lines_above, log};
+pub use saving::{SaveFault, save_history};
 pub use sink::{Over, Sink, SinkFault};

@@ -1,18 +1,20 @@
 //! Reads the text of a history.
 
-ghost use Rattle.std.specs.Prelude.{◌≡◌, ◌+◌, length, List, All, IfOk, IfErr, MatchResult};
+ghost use Rattle.std.specs.Prelude.{◌≡◌, ◌≤◌, ◌+◌, length, List, All, IfOk, IfErr, MatchResult};
 ghost use Rattle.mx_text.specs.declared.error.BootError.TheVariants.{NoMemory};
 ghost use Rattle.mx_machine_world.specs.declared.history.Record.{Record};
 ghost use Rattle.mx_machine_world.specs.History.{IsWritable};
-ghost use Rattle.mx_boot_history.specs.Text.{history_text};
+ghost use Rattle.mx_machine_world.specs.Rules.{Rules as ByRules};
+ghost use Rattle.mx_boot_history.specs.Text.{saved_text};
 ghost use Rattle.mx_text.specs.Fields.{fields};
 ghost use Rattle.mx_text.specs.Lines.{lines};
 ghost use Rattle.mx_boot_script.specs.Script.{after_verb};
-ghost use Rattle.mx_boot_history.specs.Log.{recorded_of, record_by, record_line, is_ended, IsHistory, TellsHistoryFault};
+ghost use Rattle.mx_boot_script.specs.Reading.{AreLinesRead};
+ghost use Rattle.mx_boot_history.specs.Log.{recorded_of, record_by, record_line, is_ended, says_strict, rules_of_lines, record_lines, lines_above, IsHistory, TellsNoRecords, TellsHistoryFault};
 
 use crate::laws::{history_again, one_history};
 use mx_boot_script::{ReadsLine, Verb, actor, only_count, read_lines, verb_named};
-use mx_machine_world::{Config, Record, Recorded};
+use mx_machine_world::{Config, Record, Recorded, Rules};
 use mx_text::{BootError, next_field, next_line};
 use std::alloc::Global;
 
@@ -102,14 +104,71 @@ fn count_of_lines(text: &[u8]) -> usize
     count
 }
 
-/// The records of a text, or its first line at fault. Out of memory is told after all lines are judged,
-/// so that a line at fault is told whatever memory there is.
-fn read_log(alloc: Global, text: &str, actors: u8) -> Result<Vec<Record>, BootError>
-    ensures history { IfOk result (λ records. IsHistory actors text.now records.items) }
+/// Whether a line says the strict rules: `rules 2`.
+fn says_strict(line: &[u8]) -> bool
+    ensures { result ≡ says_strict (fields line.now) }
+{
+    let Some((word, rest)) = next_field(line) else {
+        return false;
+    };
+    let Some((number, rest)) = next_field(rest) else {
+        return false;
+    };
+    match next_field(rest) {
+        Some(_) => false,
+        None => word == b"rules".as_slice() && number == b"2".as_slice(),
+    }
+}
+
+/// The rules that a text says, and what stands below their line.
+fn split_rules(text: &[u8]) -> (Rules, &[u8])
+    ensures rules { result.0 ≡ rules_of_lines (lines text.now) }
+    ensures below { lines result.1.now ≡ record_lines (lines text.now) }
+    ensures fewer { length result.1.now ≤ length text.now }
+{
+    match next_line(text) {
+        Some((line, below)) => if says_strict(line) {
+            (Rules::Strict, below)
+        } else {
+            (Rules::Lenient, text)
+        },
+        None => (Rules::Lenient, text),
+    }
+}
+
+/// How many lines stand above those of the records in what is saved by these rules.
+pub fn lines_above(rules: Rules) -> usize
+    ensures value { result ≡ lines_above rules }
+    ensures few { result ≤ 1 }
+{
+    match rules {
+        Rules::Lenient => 0,
+        Rules::Strict => 1,
+    }
+}
+
+/// The rules and the records that a text's lines say, or the first line that says no record.
+fn read_records(alloc: Global, text: &str, actors: u8) -> Result<(Rules, Vec<Record>), BootError>
+    ensures rules { IfOk result (λ found. found.0 ≡ rules_of_lines (lines text.now)) }
+    ensures read { IfOk result (λ found. AreLinesRead (record_line actors) (record_lines (lines text.now)) found.1.items) }
+    ensures unread { IfErr result (TellsNoRecords actors text.now) }
+{
+    let (rules, below) = split_rules(text.as_bytes());
+    match read_lines(alloc, &RecordReader { actors }, below) {
+        Ok(records) => Ok((rules, records)),
+        Err(BootError::BadRecord(number)) => Err(BootError::BadRecord(lines_above(rules) + number)),
+        Err(error) => Err(error),
+    }
+}
+
+/// The rules and the records of a text, or its first line at fault. Out of memory is told after all
+/// lines are judged, so that a line at fault is told whatever memory there is.
+fn read_log(alloc: Global, text: &str, actors: u8) -> Result<(Rules, Vec<Record>), BootError>
+    ensures history { IfOk result (λ found. IsHistory actors text.now found.0 found.1.items) }
     ensures fault { IfErr result (λ e. TellsHistoryFault actors text.now e) }
 {
     let bytes = text.as_bytes();
-    let read = read_lines(alloc, &RecordReader { actors }, bytes);
+    let read = read_records(alloc, text, actors);
     if is_ended(bytes) {
         return read;
     }
@@ -119,16 +178,18 @@ fn read_log(alloc: Global, text: &str, actors: u8) -> Result<Vec<Record>, BootEr
     }
 }
 
-/// The history that a text is, one record a line: `A take`, `A back N`, `A line L`, `A tick`,
-/// `A kill E`, `A respawn S`, A the actor; each line is ended by a line feed. The numbers are
-/// decimal; A is below the count of the configuration's processors and others, the other numbers at
-/// most 2,147,483,647. Else `BadRecord` with the first line at fault; `NoMemory` comes only where the text
-/// is a history. So the text of a history is read as that history.
-pub fn log(alloc: Global, text: &str, config: &Config) -> Result<Vec<Record>, BootError>
-    ensures history { IfOk result (λ records. IsHistory (config.now.cpus + config.now.others) text.now records.items) }
+/// The history that a text is, and the rules by which its machine was booted: the strict ones where
+/// the first line is `rules 2`, else the lenient ones. Each line below is a record: `A take`,
+/// `A back N`, `A line L`, `A tick`, `A kill E`, `A respawn S`, A the actor; each line is ended by a
+/// line feed. The numbers are decimal; A is below the count of the configuration's processors and
+/// others, the other numbers at most 2,147,483,647. Else `BadRecord` with the first line at fault;
+/// `NoMemory` comes only where the text is a history. So what is saved of a history is read as that
+/// history.
+pub fn log(alloc: Global, text: &str, config: &Config) -> Result<(Rules, Vec<Record>), BootError>
+    ensures history { IfOk result (λ found. IsHistory (config.now.cpus + config.now.others) text.now found.0 found.1.items) }
     ensures fault { IfErr result (λ e. TellsHistoryFault (config.now.cpus + config.now.others) text.now e) }
-    ensures saved { (records : List Record) → All (IsWritable (config.now.cpus + config.now.others)) records → text.now ≡ history_text records
-        → MatchResult result (λ found. found.items ≡ records) (λ e. e ≡ NoMemory) }
+    ensures saved { (rules : ByRules) (records : List Record) → All (IsWritable (config.now.cpus + config.now.others)) records → text.now ≡ saved_text rules records
+        → MatchResult result (λ found. (found.0 ≡ rules) × (found.1.items ≡ records)) (λ e. e ≡ NoMemory) }
 {
     one_history();
     history_again();

@@ -5,12 +5,12 @@ ghost use Rattle.std.specs.Fmt.{decimal};
 ghost use Rattle.arrayvec.specs.ArrayVec.{array_vec_len};
 ghost use Rattle.mx_boot_script.specs.Words.{joined_words};
 ghost use Rattle.mx_boot_history.specs.Taking.{IsTakenBut};
-ghost use Rattle.mx_boot_history.specs.Text.{event_words, record_words, history_text};
+ghost use Rattle.mx_boot_history.specs.Text.{event_words, record_words, history_text, rules_text, saved_text};
 
 use crate::sink::{Sink, SinkFault};
 use arrayvec::ArrayVec;
 use itoa::Buffer;
-use mx_machine_world::{Record, Recorded};
+use mx_machine_world::{Record, Recorded, Rules};
 
 /// The sink has failed.
 #[derive(Clone, Copy, Debug, PartialEq, Eq)]
@@ -98,9 +98,9 @@ fn put_all<S: Sink>(sink: &mut S, bytes: &[u8]) -> Result<(), SaveFault>
     Ok(())
 }
 
-/// Writes the text of a history to a sink that hasn't failed. Where that is an error, the sink has
-/// failed, and what it took is a front of the text. Takes no memory.
-pub fn save_records<S: Sink>(records: &[Record], sink: &mut S) -> Result<(), SaveFault>
+/// Writes the lines of records to a sink that hasn't failed. Where that is an error, the sink has
+/// failed, and what it took is a front of them.
+fn save_records<S: Sink>(records: &[Record], sink: &mut S) -> Result<(), SaveFault>
     requires { S.has_failed sink.old ≡ false }
     ensures taken { OnOk result (S.taken sink.new ≡ S.taken sink.old ++ history_text records.now) }
     ensures whole { OnOk result (S.has_failed sink.new ≡ false) }
@@ -111,4 +111,31 @@ pub fn save_records<S: Sink>(records: &[Record], sink: &mut S) -> Result<(), Sav
         put_all(sink, line_of(*entry).as_slice())?;
     }
     Ok(())
+}
+
+/// The line of the rules.
+fn rules_text(rules: Rules) -> &'static [u8]
+    ensures { result.now ≡ rules_text rules }
+{
+    match rules {
+        Rules::Lenient => b"",
+        Rules::Strict => b"rules 2\n",
+    }
+}
+
+/// Writes the text of a history, by the rules of its machine, to a sink that hasn't failed. Where that
+/// is an error, the sink has failed, and what it took is a front of the text. Takes no memory.
+pub fn save_history<S: Sink>(
+    rules: Rules,
+    records: &[Record],
+    sink: &mut S,
+) -> Result<(), SaveFault>
+    requires { S.has_failed sink.old ≡ false }
+    ensures taken { OnOk result (S.taken sink.new ≡ S.taken sink.old ++ saved_text rules records.now) }
+    ensures whole { OnOk result (S.has_failed sink.new ≡ false) }
+    ensures front { OnErr result ((rest : List ℕ) × IsTakenBut (S.taken sink.old) (S.taken sink.new) (saved_text rules records.now) rest) }
+    ensures failed { OnErr result (S.has_failed sink.new ≡ true) }
+{
+    put_all(sink, rules_text(rules))?;
+    save_records(records, sink)
 }

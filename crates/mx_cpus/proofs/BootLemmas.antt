@@ -4,6 +4,7 @@ use Rattle.std.specs.Prelude.{All}
 use Rattle.std.proofs.lemmas.List.{length-replicate}
 use Rattle.std.proofs.lemmas.List.Elements.{All-push}
 use Rattle.mx_kcall.specs.Service.{Service}
+use Rattle.mx_kcall.specs.Rules.{Rules}
 use Rattle.mx_machine_world.specs.declared.holding.Out.{Out}
 use Rattle.mx_machine_world.specs.Boot.{world_at_boot_with}
 use Rattle.mx_machine_world.specs.History.{BootAndHistory, replay}
@@ -18,22 +19,22 @@ no_outs zero = refl
 no_outs (suc n) = ap (λ l. None ∷ l) (no_outs n)
 
 -- nothing is out
-outs_at_boot : (v : List Service) (n o c : ℕ) → outs_of (world_after (world_at_boot_with v n o c) []) ≡ replicate n None
+outs_at_boot : (rules : Rules) (v : List Service) (n o c : ℕ) → outs_of (world_after (world_at_boot_with rules v n o c) []) ≡ replicate n None
 unfolding replay
-outs_at_boot v n o c = no_outs n
+outs_at_boot rules v n o c = no_outs n
 
 -- the actors are the processors and the others
-actors_at_boot : (v : List Service) (n o c : ℕ) → actors (world_at_boot_with v n o c) ≡ n + o
-actors_at_boot v n o c = ap (λ m. m + o) (length-replicate n None)
+actors_at_boot : (rules : Rules) (v : List Service) (n o c : ℕ) → actors (world_at_boot_with rules v n o c) ≡ n + o
+actors_at_boot rules v n o c = ap (λ m. m + o) (length-replicate n None)
 
 -- an empty desk agrees with the kernel of a configuration
-pub blank_at_boot : (d : DeskView) (k : BootAndHistory) (v : List Service) (n o c : ℕ) → d ≡ empty_desk d.table n → d.table.words ≡ n + o → k ≡ record { boot = world_at_boot_with v n o c; history = [] } → IsBlank d k
-blank_at_boot d k v n o c desk words kernel = (
+pub blank_at_boot : (d : DeskView) (k : BootAndHistory) (rules : Rules) (v : List Service) (n o c : ℕ) → d ≡ empty_desk d.table n → d.table.words ≡ n + o → k ≡ record { boot = world_at_boot_with rules v n o c; history = [] } → IsBlank d k
+blank_at_boot d k rules v n o c desk words kernel = (
   ap (λ (x : BootAndHistory). x.history) kernel,
   (
     refl,
-    words ∙ sym (ap (λ (x : BootAndHistory). actors x.boot) kernel ∙ actors_at_boot v n o c),
-    desk ∙ sym (ap (desk_beside d.table) kernel ∙ ap (λ l. let y : DeskView = record { table = d.table; history = []; lent = l } in y) (outs_at_boot v n o c)),
+    words ∙ sym (ap (λ (x : BootAndHistory). actors x.boot) kernel ∙ actors_at_boot rules v n o c),
+    desk ∙ sym (ap (desk_beside d.table) kernel ∙ ap (λ l. let y : DeskView = record { table = d.table; history = []; lent = l } in y) (outs_at_boot rules v n o c)),
   ),
 )
 

@@ -2,6 +2,7 @@
 use Rattle.std.specs.Prelude.{◌≡◌, ℕ, List, [], ◌∷◌, ◌++◌, map, Option, Some, None}
 use mathlib.Core.List.{IsPrefix}
 use Rattle.atomic_table.specs.Seated.{TableId}
+use Rattle.mx_proc.specs.declared.windows.Rules.TheVariants.{Lenient}
 use Rattle.mx_machine_world.specs.declared.events.Answer.{Answer}
 use Rattle.mx_machine_world.specs.declared.events.Event.{Event}
 use Rattle.mx_machine_world.specs.declared.events.Refusal.{Refusal}
@@ -22,7 +23,7 @@ abbrev pub unnamed_table : TableId
 unnamed_table = record { words = 0; slots = 0; views_name = 0; atom = 0; block = 0; offset = 0; slot_names = [] }
 
 abbrev pub unnamed_boot : World
-unnamed_boot = world_at_boot_with [] 0 0 0
+unnamed_boot = world_at_boot_with Lenient [] 0 0 0
 
 -- ---- the world after a history
 

@@ -2,6 +2,7 @@
 use Rattle.std.proofs.Common.{◌≡◌, ◌∙◌, ℕ, ◌+◌, ◌-◌, ◌<◌, ◌≤◌, Bool, true, false, List, [], ◌∷◌, ◌++◌, length, take, drop, Option, Some, None, refl, sym, ap, subst, get_or, inl, inr, arith}
 use Rattle.std.proofs.lemmas.List.{get_or-take, get_or-drop, get_or_append_left, get_or-append_right, length-append, length-drop, length-take}
 use Rattle.std.proofs.Common.{◌≢◌, cond, not, ◌||◌, ◌%◌, get_or-set_other}
+use Rattle.std.specs.Prelude.{◌&&◌, ◌==◌, nat_le, slice_index_or}
 use Rattle.std.specs.Option.{option_map}
 use Rattle.std.proofs.lemmas.Bool.{leb-true, ne_eqb}
 use Rattle.mx_image.specs.declared.runs.Stop.{Stop}
@@ -9,19 +10,21 @@ use Rattle.mx_image.specs.declared.runs.Stop.TheVariants.{Spent, Trap, Fault}
 use Rattle.mx_proc.specs.declared.errors.Errno.{Errno}
 use Rattle.mx_proc.specs.declared.errors.Errno.TheVariants.{Denied}
 use Rattle.mx_proc.specs.declared.process.Process.{Process}
-use Rattle.mx_proc.specs.TableState.{TableState, memory_at, nobody, table_after_move_home}
+use Rattle.mx_proc.specs.declared.windows.Window.{Window}
+use Rattle.mx_proc.specs.TableState.{TableState, memory_at, nobody, window_of, table_after_move_home}
 use Rattle.mx_ipc.specs.Checks.{first_error, has_bit}
 use Rattle.mx_kcall.specs.declared.request.KernelCall.{KernelCall}
-use Rattle.mx_kcall.specs.declared.request.KernelCall.TheVariants.{Exit, Times, SetAlarm, Irqctl, Devio, Vircopy, Whois}
+use Rattle.mx_kcall.specs.declared.request.KernelCall.TheVariants.{Exit, Times, SetAlarm, Irqctl, Devio, Vircopy, Whois, Grant}
 use Rattle.mx_kcall.specs.declared.request.KernelCall.TheVariants as kernel_call
 use Rattle.mx_kcall.specs.Calls.{trap_answer}
 use Rattle.mx_kcall.specs.Refusals.{is_away, kernel_call_reasons, kernel_call_refusal, kernel_call_refusal_by}
-use Rattle.mx_kcall.specs.Requests.{kernel_call_of, message_words_at}
+use Rattle.mx_kcall.specs.Requests.{kernel_call_under, message_words_at}
 use Rattle.mx_kcall.specs.TrapAnswer.{TrapAnswer}
+use Rattle.mx_kcall.specs.Windows.{allows_reading, allows_writing, is_open, is_strict}
 use Rattle.mx_kcall.specs.TrapAnswer.TheVariants as trap_ends
 use Rattle.mx_machine_world.specs.Move.{is_doomed, table_after_coming_home}
 use Rattle.mx_machine_world.specs.World.{HeldProcess, held_by}
-use Rattle.mx_isolation_diary.specs.Entries.{slot_on, copy_at_back, copy_at_end, copy_at_trap, copy_by, IsOutsideCopy}
+use Rattle.mx_isolation_diary.specs.Entries.{IsClosedToWriting, IsThroughWindows, slot_on, copy_at_back, copy_at_end, copy_at_trap, copy_by, IsOutsideCopy}
 use Rattle.mx_exec.specs.declared.image.Image.{Image}
 use Rattle.mx_exec.specs.Image.{blank}
 use Rattle.mx_mem.specs.Segment.{with_bytes_at}
@@ -182,24 +185,43 @@ second_false : (b c : Bool) → (b || c) ≡ false → c ≡ false
 second_false true c e = cc
 second_false false c e = e
 
--- A copy that isn't refused has its place inside, and its destination isn't on a processor.
-record IsInside (t : TableState) (c : CopyMade) : Type 0 where
+true_of_three : (a b c : Bool) → (a && b && c) ≡ true → (a ≡ true) × ((b ≡ true) × (c ≡ true))
+true_of_three true true true e = (refl, (refl, refl))
+true_of_three true true false e = cc
+true_of_three true false c e = cc
+true_of_three false b c e = cc
+
+-- a range that isn't barred, under the strict rules and of another's memory, is in an open window
+open_of : (strict own is_in : Bool) → (strict && not own && not is_in) ≡ false → strict ≡ true → own ≡ false → is_in ≡ true
+open_of true false true f e g = refl
+open_of true false false f e g = cc
+open_of true true x f e g = cc
+open_of false own x f e g = cc
+
+-- A copy that isn't refused has its place inside, its destination isn't on a processor, and under the strict rules it
+-- goes through windows.
+record IsAllowed (t : TableState) (s : ℕ) (c : CopyMade) : Type 0 where
+  windows : is_strict t.rules ≡ true → IsThroughWindows t s c
   home : is_out (process_at t c.to).state ≡ false
   room : c.place + c.count ≤ length (memory_at t c.to)
 
-copy_fits : (t : TableState) (s from at to place count : ℕ) → kernel_call_refusal_by t s (Some (Vircopy from at to place count)) ≡ None → IsInside t (record { from = from % 1024; address = at; to = to % 1024; place = place; count = count })
+copy_fits : (t : TableState) (s from at to place count : ℕ) → kernel_call_refusal_by t s (Some (Vircopy from at to place count)) ≡ None → IsAllowed t s (record { from = from % 1024; address = at; to = to % 1024; place = place; count = count })
 copy_fits t s from at to place count e =
     let h = none_holds ((not (has_bit (process_at t s).masks.calls 5), Denied) ∷ kernel_call_reasons t s (Vircopy from at to place count)) e in
     record {
+      windows = λ strict. record {
+        read = λ n. open_of (is_strict t.rules) (from % 1024 == s) (is_open allows_reading (window_of t (from % 1024) s) at count) h.1.1.1.1.1.1.1.0 strict (ne_eqb (from % 1024) s n);
+        written = λ n. open_of (is_strict t.rules) (to % 1024 == s) (is_open allows_writing (window_of t (to % 1024) s) place count) h.1.1.1.1.1.1.1.1.0 strict (ne_eqb (to % 1024) s n);
+      };
       home = second_false (is_away t from) (is_away t to) h.1.1.1.1.1.1.0;
-      room = leb-true (place + count) (length (memory_at t (to % 1024))) (not_false _ h.1.1.1.1.1.1.1.1.0);
+      room = leb-true (place + count) (length (memory_at t (to % 1024))) (not_false _ h.1.1.1.1.1.1.1.1.1.1.0);
     }
 
 abbrev the_copy : CopyMade → Option CopyMade → CopyMade
 the_copy d None = d
 the_copy d (Some c) = c
 
-copy_inside_by : (t : TableState) (s : ℕ) (r : Option KernelCall) (e : Option Errno) (c : CopyMade) → kernel_call_refusal_by t s r ≡ e → copy_by r e ≡ Some c → IsInside t c
+copy_inside_by : (t : TableState) (s : ℕ) (r : Option KernelCall) (e : Option Errno) (c : CopyMade) → kernel_call_refusal_by t s r ≡ e → copy_by r e ≡ Some c → IsAllowed t s c
 copy_inside_by t s None e c f g = cc
 copy_inside_by t s (Some Exit) e c f g = cc
 copy_inside_by t s (Some Times) e c f g = cc
@@ -207,16 +229,17 @@ copy_inside_by t s (Some (SetAlarm delay)) e c f g = cc
 copy_inside_by t s (Some (Irqctl action line)) e c f g = cc
 copy_inside_by t s (Some (Devio action register value)) e c f g = cc
 copy_inside_by t s (Some (Vircopy from at to place count)) (Some x) c f g = cc
-copy_inside_by t s (Some (Vircopy from at to place count)) None c f g = subst (IsInside t) (ap (the_copy c) g) (copy_fits t s from at to place count f)
+copy_inside_by t s (Some (Vircopy from at to place count)) None c f g = subst (IsAllowed t s) (ap (the_copy c) g) (copy_fits t s from at to place count f)
 copy_inside_by t s (Some (kernel_call.Kill n)) e c f g = cc
 copy_inside_by t s (Some (Whois slot)) e c f g = cc
+copy_inside_by t s (Some (Grant endpoint place count access)) e c f g = cc
 
-copy_inside_trap : (t : TableState) (s : ℕ) (x : TrapAnswer) (c : CopyMade) → copy_at_trap t s x ≡ Some c → IsInside t c
+copy_inside_trap : (t : TableState) (s : ℕ) (x : TrapAnswer) (c : CopyMade) → copy_at_trap t s x ≡ Some c → IsAllowed t s c
 unfolding kernel_call_refusal
 copy_inside_trap t s trap_ends.Done c g = cc
-copy_inside_trap t s trap_ends.Kernel c g = copy_inside_by t s (kernel_call_of (message_words_at t s)) (kernel_call_refusal t s) c refl g
+copy_inside_trap t s trap_ends.Kernel c g = copy_inside_by t s (kernel_call_under t.rules (message_words_at t s)) (kernel_call_refusal t s) c refl g
 
-copy_inside_end : (t : TableState) (s : ℕ) (b : Bool) (x : Stop) (c : CopyMade) → copy_at_end t s b x ≡ Some c → IsInside t c
+copy_inside_end : (t : TableState) (s : ℕ) (b : Bool) (x : Stop) (c : CopyMade) → copy_at_end t s b x ≡ Some c → IsAllowed t s c
 copy_inside_end t s true x c g = cc
 copy_inside_end t s false Spent c g = cc
 copy_inside_end t s false Trap c g = copy_inside_trap t s (trap_answer t s) c g
@@ -226,6 +249,60 @@ copy_inside_end t s false (Fault v) c g = cc
 home_at : (t : TableState) (l : HeldProcess) (s : ℕ) → s ≢ l.slot → process_at (table_after_coming_home t l) s ≡ process_at t s
 unfolding table_after_coming_home
 home_at t l s n = get_or-set_other (table_after_move_home t l.slot l.out.image).slots l.slot s _ nobody n ∙ get_or-set_other t.slots l.slot s _ nobody n
+
+-- the copy at a return goes through windows as they are before it
+copy_through_back : (w : World) (x : Option HeldProcess) (s : ℕ) (c : CopyMade) → is_strict w.table.rules ≡ true → option_map (λ (l : HeldProcess). l.slot) x ≡ Some s → copy_at_back w.table x ≡ Some c → IsThroughWindows w.table s c
+unfolding table_after_coming_home
+copy_through_back w None s c strict e g = cc
+copy_through_back w (Some l) s c strict e g =
+    let k = (copy_inside_end (table_after_coming_home w.table l) l.slot (is_doomed (process_at w.table l.slot).state) l.out.stop c g).windows strict in
+    let through : IsThroughWindows w.table l.slot c = record {
+      read = λ n. ap (λ (p : Process). is_open allows_reading (slice_index_or p.windows l.slot None) c.address c.count) (sym (home_at w.table l c.from n)) ∙ k.read n;
+      written = λ n. ap (λ (p : Process). is_open allows_writing (slice_index_or p.windows l.slot None) c.place c.count) (sym (home_at w.table l c.to n)) ∙ k.written n;
+    } in
+    subst (λ z. IsThroughWindows w.table z c) (ap (the_slot s) e) through
+  where
+    the_slot : ℕ → Option ℕ → ℕ
+    the_slot d None = d
+    the_slot d (Some t) = t
+
+pub copy_through : (w : World) (a : ℕ) (e : Event) (s : ℕ) (c : CopyMade) → is_strict w.table.rules ≡ true → caller_in w a e ≡ Some s → copy_in w a e ≡ Some c → IsThroughWindows w.table s c
+copy_through w a Step s c strict f g = cc
+copy_through w a Take s c strict f g = cc
+copy_through w a Back s c strict f g = copy_through_back w (held_by w a) s c strict f g
+copy_through w a (Line l) s c strict f g = cc
+copy_through w a Tick s c strict f g = cc
+copy_through w a (Kill k) s c strict f g = cc
+copy_through w a (Respawn t) s c strict f g = cc
+
+-- what is outside of a window is outside of what is copied through it
+outside_part : (at n place count k : ℕ) → at ≤ place → place + count ≤ at + n → IsOutside at n k → IsOutside place count k
+outside_part at n place count k le end (inl lt) = inl (omega (arith, lt, le))
+outside_part at n place count k le end (inr ge) = inr (omega (arith, ge, end))
+
+outside_window : (o : Option Window) (place count k : ℕ) → is_open allows_writing o place count ≡ true → ((x : Window) → o ≡ Some x → allows_writing x.access ≡ true → IsOutside x.place x.count k) → IsOutside place count k
+outside_window None place count k e f = cc
+outside_window (Some x) place count k e f =
+    let h = true_of_three (allows_writing x.access) (nat_le x.place place) (nat_le (place + count) (x.place + x.count)) e in
+    outside_part x.place x.count place count k (leb-true x.place place h.1.0) (leb-true (place + count) (x.place + x.count) h.1.1) (f x refl h.0)
+
+closed_back : (w : World) (a s k : ℕ) (o : Option HeldProcess) (c : Option CopyMade) → is_strict w.table.rules ≡ true → slot_on w a ≢ Some s → IsClosedToWriting w.table s k → held_by w a ≡ o → copy_at_back w.table o ≡ c → IsOutsideCopy s c k
+closed_back w a s k o None strict n closed e g = tt
+closed_back w a s k None (Some c) strict n closed e g = cc
+closed_back w a s k (Some l) (Some c) strict n closed e g = λ to_s.
+    let on : slot_on w a ≡ Some l.slot = ap (option_map (λ (y : HeldProcess). y.slot)) e in
+    let through = copy_through_back w (Some l) l.slot c strict refl g in
+    let written = through.written (λ z. n (on ∙ ap Some (sym z ∙ to_s))) in
+    outside_window (window_of w.table s l.slot) c.place c.count k (subst (λ t. is_open allows_writing (window_of w.table t l.slot) c.place c.count ≡ true) to_s written) (λ x. closed l.slot x)
+
+closed_outside : (w : World) (a : ℕ) (e : Event) (s k : ℕ) → is_strict w.table.rules ≡ true → IsOfOthers w a e s → IsClosedToWriting w.table s k → IsOutsideCopy s (copy_in w a e) k
+closed_outside w a Step s k strict n closed = tt
+closed_outside w a Take s k strict n closed = tt
+closed_outside w a Back s k strict n closed = closed_back w a s k (held_by w a) (copy_at_back w.table (held_by w a)) strict n closed refl refl
+closed_outside w a (Line l) s k strict n closed = tt
+closed_outside w a Tick s k strict n closed = tt
+closed_outside w a (Kill i) s k strict n closed = tt
+closed_outside w a (Respawn t) s k strict n closed = tt
 
 abbrev IsInsideNow : World → CopyMade → Type 0
 IsInsideNow w c = c.place + c.count ≤ length (image_now w c.to).memory
@@ -307,6 +384,7 @@ others_leave w a e s h f b n =
     let left : IsLeft O (image_now w s) (image_now (world_after_event w a e) s) = subst (IsLeft O (image_now w s)) (sym now) (play_left waits O C (diary w a e s) (image_now w s) items (λ k. waits_with_room w s h k) (copies_of w a e s h n)) in
     record {
       bytes = left.bytes;
+      closed = λ strict k o c. left.bytes k o (closed_outside w a e s k strict n c);
       limit = left.limit;
       rest = left.rest;
       step = λ g. now ∙ ap (λ items. play items (image_now w s)) (step_leaves w a e s n g);

@@ -26,13 +26,13 @@ use Rattle.mx_ipc.specs.declared.calls.Party.{Party}
 use Rattle.mx_ipc.specs.declared.calls.Party.TheVariants.{Any, Hardware, Clock, System, Process as Named}
 use Rattle.mx_ipc.specs.Checks.{call_of, call_refusal, party_of}
 use Rattle.mx_kcall.specs.declared.request.KernelCall.{KernelCall}
-use Rattle.mx_kcall.specs.declared.request.KernelCall.TheVariants.{Exit, Times, SetAlarm, Irqctl, Devio, Vircopy, Kill, Whois}
+use Rattle.mx_kcall.specs.declared.request.KernelCall.TheVariants.{Exit, Times, SetAlarm, Irqctl, Devio, Vircopy, Kill, Whois, Grant}
 use Rattle.mx_kcall.specs.declared.request.ReplyWords.{ReplyWords}
 use Rattle.mx_kcall.specs.Calls.{accepts, goes_on, hears, partner_of, trap_answer}
 use Rattle.mx_kcall.specs.Death.{callers, receivers, receives_from_alone, table_after_taking_out, waiting_for}
 use Rattle.mx_kcall.specs.Queueing.{table_after_queueing}
 use Rattle.mx_kcall.specs.Refusals.{kernel_call_refusal}
-use Rattle.mx_kcall.specs.Requests.{kernel_call_of, message_words_at, reply_bytes, no_reply_words}
+use Rattle.mx_kcall.specs.Requests.{kernel_call_under, message_words_at, reply_bytes, no_reply_words}
 use Rattle.mx_kcall.specs.Serving.{ends_caller, words_of_reply}
 use Rattle.mx_kcall.specs.TrapAnswer.{TrapAnswer}
 use Rattle.mx_kcall.specs.TrapAnswer.TheVariants as trap_ends
@@ -323,6 +323,7 @@ change_each h made (Devio action register value) e = tt
 change_each {w} h made (Vircopy from at to place count) e = (record { copy = record { from = from % 1024; address = at; to = to % 1024; place = place; count = count }; is_made = e; slot = refl; place = refl; few = part_short (memory_at w (from % 1024)) at count }, tt)
 change_each h made (Kill n) e = death_each h made (n % 1024)
 change_each h made (Whois slot) e = tt
+change_each h made (Grant endpoint place count access) e = tt
 
 kernel_call_each : {w : TableState} {R M : ℕ → Type 0} → Scene w R M → (made : Option CopyMade) (s : ℕ) (r : Option KernelCall) (e : Option Errno) → made ≡ copy_by r e → R s → M s → Each (Goes R M made) (items_of_kernel_call w s r e)
 kernel_call_each {w} {R} {M} h made s r (Some e) f own heard = reply_each R M made s (errno_bits e) no_reply_words own heard
@@ -332,7 +333,7 @@ kernel_call_each {w} {R} {M} h made s (Some r) None f own heard =
 
 trap_each : {w : TableState} {R M : ℕ → Type 0} → Scene w R M → (s : ℕ) (x : TrapAnswer) → R s → M s → Each (Goes R M (copy_at_trap w s x)) (items_of_trap w s x)
 trap_each {w} h s trap_ends.Done own heard = trap_by_each h None s (call_of (process_at w s).image.regs.ecx) (process_at w s).image.regs.eax own heard
-trap_each {w} h s trap_ends.Kernel own heard = kernel_call_each h (copy_at_trap w s trap_ends.Kernel) s (kernel_call_of (message_words_at w s)) (kernel_call_refusal w s) refl own heard
+trap_each {w} h s trap_ends.Kernel own heard = kernel_call_each h (copy_at_trap w s trap_ends.Kernel) s (kernel_call_under w.rules (message_words_at w s)) (kernel_call_refusal w s) refl own heard
 
 -- THE END OF A TURN
 pub end_of_turn_each : {w : TableState} {R M : ℕ → Type 0} → Scene w R M → (s : ℕ) (b : Bool) (x : Stop) → R s → M s → Each (Goes R M (copy_at_end w s b x)) (items_of_end_of_turn w s b x)

@@ -26,9 +26,9 @@ use Rattle.mx_kcall.specs.TrapAnswer.TheVariants as trap_ends
 use Rattle.mx_ipc.specs.Checks.{call_of, party_of, call_refusal}
 use Rattle.mx_kcall.specs.Calls.{accepts, goes_on, partner_of, trap_answer, table_after_taking, table_after_receive_by, table_after_receive, table_after_sendrec, table_after_notifying, table_after_checked_call, table_after_call_by, table_after_call, table_after_trap_by, table_after_trap}
 use Rattle.mx_kcall.specs.declared.request.KernelCall.{KernelCall}
-use Rattle.mx_kcall.specs.declared.request.KernelCall.TheVariants.{Exit, Times, SetAlarm, Irqctl, Devio, Vircopy, Kill, Whois}
+use Rattle.mx_kcall.specs.declared.request.KernelCall.TheVariants.{Exit, Times, SetAlarm, Irqctl, Devio, Vircopy, Kill, Whois, Grant}
 use Rattle.mx_kcall.specs.declared.request.ReplyWords.{ReplyWords}
-use Rattle.mx_kcall.specs.Requests.{kernel_call_of, message_words_at, reply_bytes, no_reply_words}
+use Rattle.mx_kcall.specs.Requests.{kernel_call_under, message_words_at, reply_bytes, no_reply_words}
 use Rattle.mx_kcall.specs.Refusals.{kernel_call_refusal}
 use Rattle.mx_kcall.specs.Serving.{words_of_reply, table_after_change, ends_caller, table_after_reply, table_after_serving, table_after_kernel_call_by, table_after_kernel_call}
 use Rattle.mx_machine_world.specs.Move.{table_after_trap_at_back, table_after_end_of_turn}
@@ -100,6 +100,7 @@ change_images w s (Devio action register value) = same_case (action == 0) w _ (i
 change_images w s (Vircopy from at to place count) = one_given w (to % 1024) (Copy place (part (memory_at w (from % 1024)) at count)) _ refl
 change_images w s (Kill e) = death_images w (e % 1024) cause.Kill
 change_images w s (Whois slot) = refl
+change_images w s (Grant endpoint place count access) = images-kept w.slots s _ refl
 
 reply_images : (w : TableState) (s n : ℕ) (a : ReplyWords) → images (table_after_reply w s n a) ≡ play_all (items_of_reply s n a) (images w)
 unfolding table_after_reply
@@ -118,7 +119,7 @@ kernel_call_by_images w s (Some r) None = serving_images w s r
 trap_images : (t : TableState) (s : ℕ) (x : TrapAnswer) → images (table_after_trap_at_back t s x) ≡ play_all (items_of_trap t s x) (images t)
 unfolding table_after_trap table_after_kernel_call
 trap_images t s trap_ends.Done = trap_by_images t s (call_of (process_at t s).image.regs.ecx) (process_at t s).image.regs.eax
-trap_images t s trap_ends.Kernel = kernel_call_by_images t s (kernel_call_of (message_words_at t s)) (kernel_call_refusal t s)
+trap_images t s trap_ends.Kernel = kernel_call_by_images t s (kernel_call_under t.rules (message_words_at t s)) (kernel_call_refusal t s)
 
 pub end_of_turn_images : (t : TableState) (s : ℕ) (b : Bool) (x : Stop) → images (table_after_end_of_turn t s b x) ≡ play_all (items_of_end_of_turn t s b x) (images t)
 end_of_turn_images t s true x = death_images t s cause.Kill

@@ -12,6 +12,7 @@ use Rattle.mx_proc.specs.TableState.{process_at}
 use Rattle.mx_kcall.specs.Load.{image_of_program}
 use Rattle.mx_kcall.specs.Respawn.{is_worn, next_process, table_after_respawn}
 use Rattle.mx_kcall.specs.Service.{Service}
+use Rattle.mx_kcall.specs.Rules.{Rules}
 use Rattle.mx_machine_world.specs.declared.events.Event.{Event}
 use Rattle.mx_machine_world.specs.declared.events.Event.TheVariants.{Step, Take, Back, Line, Tick, Kill, Respawn}
 use Rattle.mx_machine_world.specs.declared.events.Refusal.{Refusal}
@@ -159,10 +160,10 @@ first_image (x ∷ vs) zero v e = ap program_image e
 first_image (x ∷ vs) (suc s) v e = first_image vs s v e
 
 -- so does each process at boot
-pub boot_law : (services : List Service) (cpus others capacity s : ℕ) (v : Service) → slice_get services s ≡ Some v → image_now (world_at_boot_with services cpus others capacity) s ≡ image_of_program v.program
+pub boot_law : (rules : Rules) (services : List Service) (cpus others capacity s : ℕ) (v : Service) → slice_get services s ≡ Some v → image_now (world_at_boot_with rules services cpus others capacity) s ≡ image_of_program v.program
 unfolding first_table
-boot_law services cpus others capacity s v e =
-    ap (image_or (get_or (images (first_table services)) s blank)) (none_at_boot s cpus) ∙ first_image services s v e
+boot_law rules services cpus others capacity s v e =
+    ap (image_or (get_or (images (first_table rules services)) s blank)) (none_at_boot s cpus) ∙ first_image services s v e
 
 -- ---- generations
 

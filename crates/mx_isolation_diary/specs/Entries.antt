@@ -8,13 +8,15 @@ use Rattle.mx_proc.specs.declared.errors.Errno.{Errno}
 use Rattle.mx_proc.specs.declared.process.State.{State}
 use Rattle.mx_proc.specs.declared.process.State.TheVariants.{Receiving, Awaiting}
 use Rattle.mx_proc.specs.States.{is_blocked}
-use Rattle.mx_proc.specs.TableState.{TableState, process_at}
+use Rattle.mx_proc.specs.declared.windows.Window.{Window}
+use Rattle.mx_proc.specs.TableState.{TableState, process_at, window_of}
 use Rattle.mx_kcall.specs.declared.request.KernelCall.{KernelCall}
 use Rattle.mx_kcall.specs.declared.request.KernelCall.TheVariants.{Vircopy}
 use Rattle.mx_kcall.specs.Calls.{trap_answer}
 use Rattle.mx_kcall.specs.Refusals.{kernel_call_refusal}
-use Rattle.mx_kcall.specs.Requests.{kernel_call_of, message_words_at}
+use Rattle.mx_kcall.specs.Requests.{kernel_call_under, message_words_at}
 use Rattle.mx_kcall.specs.TrapAnswer.{TrapAnswer}
+use Rattle.mx_kcall.specs.Windows.{allows_reading, allows_writing, is_open}
 use Rattle.mx_kcall.specs.TrapAnswer.TheVariants as trap_ends
 use Rattle.mx_machine_world.specs.declared.events.Event.{Event}
 use Rattle.mx_machine_world.specs.declared.events.Event.TheVariants.{Step, Back, Respawn}
@@ -50,7 +52,7 @@ copy_by _ _ = None
 -- by the trap of s
 abbrev pub copy_at_trap : TableState → ℕ → TrapAnswer → Option CopyMade
 copy_at_trap t s trap_ends.Done = None
-copy_at_trap t s trap_ends.Kernel = copy_by (kernel_call_of (message_words_at t s)) (kernel_call_refusal t s)
+copy_at_trap t s trap_ends.Kernel = copy_by (kernel_call_under t.rules (message_words_at t s)) (kernel_call_refusal t s)
 
 -- by the end of its turn
 abbrev pub copy_at_end : TableState → ℕ → Bool → Stop → Option CopyMade
@@ -128,6 +130,18 @@ IsOutside place count k = (k < place) ⊎ (place + count ≤ k)
 abbrev pub IsOutsideCopy : ℕ → Option CopyMade → ℕ → Type 0
 IsOutsideCopy s None k = Unit {0}
 IsOutsideCopy s (Some copy) k = copy.to ≡ s → IsOutside copy.place copy.count k
+
+-- ---- windows
+
+-- A copy by the process in slot s goes through windows: of another's memory it reads a range that the other has open to
+-- s for reading, and it writes one that is open to s for writing.
+pub record IsThroughWindows (t : TableState) (s : ℕ) (copy : CopyMade) : Type 0 where
+  pub read : copy.from ≢ s → is_open allows_reading (window_of t copy.from s) copy.address copy.count ≡ true
+  pub written : copy.to ≢ s → is_open allows_writing (window_of t copy.to s) copy.place copy.count ≡ true
+
+-- a byte of slot s that is in no window which it has open for writing, to whomever
+abbrev pub IsClosedToWriting : TableState → ℕ → ℕ → Type 0
+IsClosedToWriting t s k = (u : ℕ) (x : Window) → window_of t s u ≡ Some x → allows_writing x.access ≡ true → IsOutside x.place x.count k
 
 -- all of an image but its memory and EAX, where results come
 abbrev pub registers_and_code : Image → Image

@@ -28,7 +28,7 @@ use Rattle.mx_kcall.specs.Death.{table_after_taking_out, waiting_for}
 use Rattle.mx_kcall.specs.declared.request.KernelCall.{KernelCall}
 use Rattle.mx_kcall.specs.declared.request.KernelCall.TheVariants.{Vircopy, Kill}
 use Rattle.mx_kcall.specs.declared.request.ReplyWords.{ReplyWords}
-use Rattle.mx_kcall.specs.Requests.{kernel_call_of, message_words_at, reply_bytes, no_reply_words}
+use Rattle.mx_kcall.specs.Requests.{kernel_call_under, message_words_at, reply_bytes, no_reply_words}
 use Rattle.mx_kcall.specs.Refusals.{kernel_call_refusal}
 use Rattle.mx_kcall.specs.Serving.{words_of_reply, ends_caller}
 use Rattle.mx_isolation_diary.specs.Diary.{Item}
@@ -118,7 +118,7 @@ items_of_kernel_call w s None None = []
 -- a trap of s, or its kernel call
 abbrev pub items_of_trap : TableState → ℕ → TrapAnswer → List (ℕ × Item)
 items_of_trap t s trap_ends.Done = let regs = (process_at t s).image.regs in items_of_trap_by t s (call_of regs.ecx) regs.eax
-items_of_trap t s trap_ends.Kernel = items_of_kernel_call t s (kernel_call_of (message_words_at t s)) (kernel_call_refusal t s)
+items_of_trap t s trap_ends.Kernel = items_of_kernel_call t s (kernel_call_under t.rules (message_words_at t s)) (kernel_call_refusal t s)
 
 -- THE END OF A TURN of s
 abbrev pub items_of_end_of_turn : TableState → ℕ → Bool → Stop → List (ℕ × Item)

@@ -1,9 +1,10 @@
 -- The laws of diaries, as statements.
-use Rattle.std.specs.Prelude.{◌≡◌, ◌<◌, ℕ, List, false, Some, None, length, slice_get}
+use Rattle.std.specs.Prelude.{◌≡◌, ◌<◌, ℕ, List, true, false, Some, None, length, slice_get}
 use Rattle.mx_proc.specs.States.{is_blocked}
 use Rattle.mx_proc.specs.TableState.{process_at}
 use Rattle.mx_kcall.specs.Load.{image_of_program}
 use Rattle.mx_kcall.specs.Service.{Service}
+use Rattle.mx_kcall.specs.Windows.{is_strict}
 use Rattle.mx_machine_world.specs.declared.config.Config.{Config}
 use Rattle.mx_machine_world.specs.declared.events.Event.{Event}
 use Rattle.mx_machine_world.specs.declared.events.Event.TheVariants.{Step, Respawn}
@@ -14,7 +15,7 @@ use Rattle.mx_machine_world.specs.World.{World}
 use Rattle.mx_machine.specs.Machine.{AreSound}
 use Rattle.mx_isolation_diary.specs.Diary.{play}
 use Rattle.mx_isolation_diary.specs.Diaries.{diary, image_now, IsNoRespawnOf}
-use Rattle.mx_isolation_diary.specs.Entries.{AreEntries, byte_of, copy_in, IsOfOthers, IsOutside, IsOutsideCopy, MissesSlot, registers_and_code}
+use Rattle.mx_isolation_diary.specs.Entries.{AreEntries, byte_of, caller_in, copy_in, CopyMade, IsClosedToWriting, IsThroughWindows, IsOfOthers, IsOutside, IsOutsideCopy, MissesSlot, registers_and_code}
 use Rattle.mx_isolation_diary.specs.Runs.{AreNoRespawnsOf, diary_along, IsLife, Life, diary_of_life, image_of_life}
 
 -- A slot of a sound machine, which has a service.
@@ -55,13 +56,21 @@ LivesAgree x y = x.service.program ≡ y.service.program → diary_of_life x ≡
 abbrev pub HasEntries : World → ℕ → Event → ℕ → Type 0
 HasEntries w a e s = AreEntries w a e s (diary w a e s)
 
+-- ---- windows
+
+-- under the strict rules the copy that an event makes goes through windows
+abbrev pub CopyIsThroughWindows : World → ℕ → Event → ℕ → CopyMade → Type 0
+CopyIsThroughWindows w a e s copy = is_strict w.table.rules ≡ true → caller_in w a e ≡ Some s → copy_in w a e ≡ Some copy → IsThroughWindows w.table s copy
+
 -- ---- what others can't do
 
 -- An event leaves each byte of a slot's image outside of its buffer's 36 and of what is copied into it, the limit, and
--- all registers but EAX. A step leaves all; so does any event if the process doesn't wait in a call and nothing is
+-- all registers but EAX. Under the strict rules it leaves each byte outside of the buffer's that is in no window which
+-- the process has open for writing. A step leaves all; so does any event if the process doesn't wait in a call and nothing is
 -- copied into it.
 pub record LeavesImage (w : World) (a : ℕ) (e : Event) (s : ℕ) : Type 0 where
   pub bytes : (k : ℕ) → IsOutside (image_now w s).regs.ebx 36 k → IsOutsideCopy s (copy_in w a e) k → byte_of (image_now (world_after_event w a e) s) k ≡ byte_of (image_now w s) k
+  pub closed : is_strict w.table.rules ≡ true → (k : ℕ) → IsOutside (image_now w s).regs.ebx 36 k → IsClosedToWriting w.table s k → byte_of (image_now (world_after_event w a e) s) k ≡ byte_of (image_now w s) k
   pub limit : length (image_now (world_after_event w a e) s).memory ≡ length (image_now w s).memory
   pub rest : registers_and_code (image_now (world_after_event w a e) s) ≡ registers_and_code (image_now w s)
   pub step : e ≡ Step → image_now (world_after_event w a e) s ≡ image_now w s

@@ -6,7 +6,8 @@ ghost use Rattle.mx_kcall.specs.Service.{Service};
 ghost use Rattle.mx_machine_world.specs.declared.config.Config.{Config};
 ghost use Rattle.mx_machine_world.specs.declared.events.Event.{Event};
 ghost use Rattle.mx_machine_world.specs.World.{World};
-ghost use Rattle.mx_isolation_diary.specs.Laws.{BootLoads, HasEntries, IsSlot, IsWritten, LifeIsWritten, LivesAgree, OthersLeaveImage, RespawnLoads, RunIsWritten};
+ghost use Rattle.mx_isolation_diary.specs.Entries.{CopyMade};
+ghost use Rattle.mx_isolation_diary.specs.Laws.{BootLoads, CopyIsThroughWindows, HasEntries, IsSlot, IsWritten, LifeIsWritten, LivesAgree, OthersLeaveImage, RespawnLoads, RunIsWritten};
 ghost use Rattle.mx_isolation_diary.specs.Runs.{IsLife, Life};
 
 /// Law: an accepted event does to the image of a slot, at home or on a processor, what the slot's
@@ -36,9 +37,18 @@ pub fn diaries_have_entries()
     ensures { (w : World) (a : ℕ) (e : Event) (s : ℕ) → IsSlot w s → HasEntries w a e s }
 {}
 
+/// Law: under the strict rules a copy goes through windows: of another's memory it reads only what
+/// that process has open to the caller for reading, and writes only what is open to it for
+/// writing.
+pub fn copies_go_through_windows()
+    ensures { (w : World) (a s : ℕ) (e : Event) (c : CopyMade) → CopyIsThroughWindows w a e s c }
+{}
+
 /// Law: what others do leaves of a slot's image all but EAX, the 36 bytes of the buffer that the
-/// process named, and the bytes that a copy puts into it. A step of theirs leaves all; so does all that
-/// they do, if the process doesn't wait in a call and nothing is copied into it.
+/// process named, and the bytes that a copy puts into it. Under the strict rules it leaves each
+/// byte outside of that buffer which is in no window that the process has open for writing. A step
+/// of theirs leaves all; so does all that they do, if the process doesn't wait in a call and
+/// nothing is copied into it.
 pub fn others_leave_images()
     ensures { (w : World) (a : ℕ) (e : Event) (s : ℕ) → IsSlot w s → OthersLeaveImage w a e s }
 {}

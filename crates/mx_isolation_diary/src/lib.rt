@@ -4,6 +4,6 @@
 mod laws;
 
 pub use laws::{
-    diaries_have_entries, diaries_tell_images, diaries_tell_runs, lives_tell_images,
-    others_leave_images,
+    copies_go_through_windows, diaries_have_entries, diaries_tell_images, diaries_tell_runs,
+    lives_tell_images, others_leave_images,
 };

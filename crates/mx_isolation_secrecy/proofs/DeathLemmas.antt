@@ -73,7 +73,7 @@ forgetting_twins {q} {w} {v} h s = record {
 }
 
 abbrev dead : DeathCause → Process → Process
-dead cause p = record p { state = Down cause; pending = replicate 34 false; lines = 0; alarm = None }
+dead cause p = record p { state = Down cause; pending = replicate 34 false; lines = 0; alarm = None; windows = replicate 32 None }
 
 burial_twins : {q : ℕ} {w v : TableState} → Twins q w v → (s : ℕ) (cause : DeathCause) → Twins q (table_after_burial w s cause) (table_after_burial v s cause)
 burial_twins {q} {w} {v} h s cause = let k = at h s in put h s (dead cause (process_at w s)) (dead cause (process_at v s)) (record { same = ap (dead cause) k.same; limit = k.limit; left = λ t z. cc; right = λ t z. cc })

@@ -3,4 +3,5 @@ pub mod CallLemmas
 pub mod DeathLemmas
 pub mod ServingLemmas
 pub mod MoveLemmas
+pub mod RulesLemmas
 pub mod SoundTwins

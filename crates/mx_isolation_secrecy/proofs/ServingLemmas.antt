@@ -1,31 +1,34 @@
 -- Kernel calls of another process leave two tables that are the same but for one image so, unless they copy from it.
-use Rattle.std.proofs.Common.{◌≡◌, ◌∙◌, ℕ, ◌+◌, ◌/◌, ◌%◌, ◌^◌, ◌≤◌, ◌==◌, ◌&&◌, ◌||◌, nat_lt, Bool, true, false, cond, not, List, [], ◌∷◌, ◌++◌, length, take, drop, Option, Some, None, refl, ap, subst, slice_set, arith}
-use Rattle.std.specs.Prelude.{nat_le, slice_index}
+use Rattle.std.proofs.Common.{◌≡◌, ◌∙◌, ℕ, zero, suc, ◌+◌, ◌/◌, ◌%◌, ◌^◌, ◌≤◌, ◌==◌, ◌&&◌, ◌||◌, nat_lt, Bool, true, false, cond, not, List, [], ◌∷◌, ◌++◌, length, take, drop, Option, Some, None, refl, sym, ap, subst, get_or, slice_set, arith}
+use Rattle.std.specs.Prelude.{◌≢◌, nat_le, slice_index}
 use Rattle.std.proofs.lemmas.List.{length-take}
-use Rattle.std.proofs.lemmas.Bool.{leb-true}
+use Rattle.std.proofs.lemmas.Bool.{leb-true, ne_eqb}
 use Rattle.circular_buffer.specs.Buffer.{keep_last}
 use Rattle.mx_mem.specs.Segment.{part}
 use Rattle.mx_proc.specs.declared.process.Process.{Process}
 use Rattle.mx_proc.specs.declared.process.DeathCause.TheVariants as cause
 use Rattle.mx_proc.specs.declared.errors.Errno.{Errno}
-use Rattle.mx_proc.specs.declared.errors.Errno.TheVariants.{BadAddress, Invalid, BadEndpoint, Denied, Dead, NotReady}
+use Rattle.mx_proc.specs.declared.errors.Errno.TheVariants.{NotPermitted, BadAddress, Invalid, BadEndpoint, Denied, Dead, NotReady}
 use Rattle.mx_proc.specs.declared.devices.Devices.{Devices}
 use Rattle.mx_proc.specs.Errors.{errno_bits}
 use Rattle.mx_proc.specs.Endpoints.{names_slot, is_alive, is_current}
 use Rattle.mx_proc.specs.States.{is_down, is_out}
 use Rattle.mx_proc.specs.Serving.{with_alarm, with_copy}
-use Rattle.mx_proc.specs.TableState.{TableState, process_at, with_process, memory_at}
+use Rattle.mx_proc.specs.TableState.{TableState, process_at, with_process, memory_at, endpoint_of, window_of}
 use Rattle.mx_ipc.specs.Checks.{first_error, has_bit}
 use Rattle.mx_kcall.specs.declared.request.KernelCall.{KernelCall}
-use Rattle.mx_kcall.specs.declared.request.KernelCall.TheVariants.{Exit, Times, SetAlarm, Irqctl, Devio, Vircopy, Kill, Whois}
+use Rattle.mx_kcall.specs.declared.request.KernelCall.TheVariants.{Exit, Times, SetAlarm, Irqctl, Devio, Vircopy, Kill, Whois, Grant}
 use Rattle.mx_kcall.specs.declared.request.ReplyWords.{ReplyWords}
 use Rattle.mx_kcall.specs.declared.request.MessageWords.{MessageWords}
-use Rattle.mx_kcall.specs.Requests.{kernel_call_of, message_words_at, message_words_of, bit_of, no_reply_words, reply_bytes}
+use Rattle.mx_kcall.specs.Requests.{kernel_call_under, message_words_at, message_words_of, bit_of, no_reply_words, reply_bytes}
 use Rattle.mx_kcall.specs.Refusals.{is_away, kernel_call_reasons, kernel_call_refusal_by, kernel_call_refusal}
 use Rattle.mx_kcall.specs.Serving.{table_after_change, words_of_reply, ends_caller, table_after_reply, table_after_serving, table_after_kernel_call_by, table_after_kernel_call, due_after, ticks_left}
 use Rattle.mx_isolation_secrecy.specs.Twins.{is_slot, Twins}
+use Rattle.mx_kcall.specs.Windows.{allows_reading, allows_writing, granted, is_open, is_strict}
+use Rattle.mx_proc.specs.declared.windows.Rules.{Rules}
+use Rattle.mx_proc.specs.declared.windows.Window.{Window}
 use Rattle.mx_isolation_secrecy.specs.Apart.{CopyIsApart}
-use Rattle.mx_isolation_secrecy.proofs.TwinLemmas.{other_slot, at, put, all_but_image_at, other_at, by_test, redeviced, goes_on_twins, message_other, endpoint_same, slots_of, uptime_of, devices_of, with_bytes, with_bytes_alike}
+use Rattle.mx_isolation_secrecy.proofs.TwinLemmas.{quiet, other_slot, at, put, all_but_image_at, other_at, by_test, redeviced, goes_on_twins, message_other, endpoint_same, slots_of, uptime_of, devices_of, with_bytes, with_bytes_alike}
 use Rattle.mx_isolation_secrecy.proofs.DeathLemmas.{death_twins, alarm_twins}
 
 -- ---- refusals
@@ -48,21 +51,41 @@ limit_at w s = length (memory_at w s)
 limits_same : {q : ℕ} {w v : TableState} → Twins q w v → limit_at w ≡ limit_at v
 limits_same h = λ i s. (at h s).limit i
 
+rules_of : {q : ℕ} {w v : TableState} → Twins q w v → w.rules ≡ v.rules
+rules_of h = ap (λ (x : TableState). x.rules) h.rest
+
+-- the window that each slot has for s
+abbrev windows_for : TableState → ℕ → ℕ → Option Window
+windows_for w s d = window_of w d s
+
+windows_same : {q : ℕ} {w v : TableState} → Twins q w v → (s : ℕ) → windows_for w s ≡ windows_for v s
+windows_same h s = λ i d. (ap (λ (p : Process). get_or p.windows s None) (all_but_image_at h d)) i
+
 -- what a copy's reasons read
-abbrev copy_reasons : (ℕ → Bool) → (ℕ → Bool) → (ℕ → Bool) → (ℕ → ℕ) → ℕ → ℕ → ℕ → ℕ → ℕ → List (Bool × Errno)
-copy_reasons named alive away limit from at to place count =
+abbrev copy_reasons : ℕ → Rules → (ℕ → Option Window) → (ℕ → Bool) → (ℕ → Bool) → (ℕ → Bool) → (ℕ → ℕ) → ℕ → ℕ → ℕ → ℕ → ℕ → List (Bool × Errno)
+copy_reasons s rules windows named alive away limit from at to place count =
     (nat_lt 65536 count, Invalid)
     ∷ (not (named from), BadEndpoint)
     ∷ (not (alive from), Dead)
     ∷ (not (named to), BadEndpoint)
     ∷ (not (alive to), Dead)
     ∷ (away from || away to, NotReady)
+    ∷ (is_strict rules && not (from % 1024 == s) && not (is_open allows_reading (windows (from % 1024)) at count), NotPermitted)
+    ∷ (is_strict rules && not (to % 1024 == s) && not (is_open allows_writing (windows (to % 1024)) place count), NotPermitted)
     ∷ (not (nat_le (at + count) (limit (from % 1024))), BadAddress)
     ∷ (not (nat_le (place + count) (limit (to % 1024))), BadAddress)
     ∷ []
 
 abbrev kill_reasons : (ℕ → Bool) → (ℕ → Bool) → (ℕ → Bool) → ℕ → List (Bool × Errno)
 kill_reasons named alive away e = (not (named e), BadEndpoint) ∷ (not (alive e), Dead) ∷ (away e, NotReady) ∷ []
+
+abbrev grant_reasons : (ℕ → Bool) → (ℕ → Bool) → (ℕ → ℕ) → ℕ → ℕ → ℕ → ℕ → ℕ → ℕ → List (Bool × Errno)
+grant_reasons named alive limit own s endpoint place count access =
+    (nat_lt 3 access || (endpoint == own), Invalid)
+    ∷ (not (named endpoint), BadEndpoint)
+    ∷ (not (alive endpoint), Dead)
+    ∷ (not (access == 0) && not (nat_le (place + count) (limit s)), BadAddress)
+    ∷ []
 
 reasons_same : {q : ℕ} {w v : TableState} → Twins q w v → (s : ℕ) (r : KernelCall) → kernel_call_reasons w s r ≡ kernel_call_reasons v s r
 reasons_same h s Exit = refl
@@ -71,14 +94,21 @@ reasons_same h s (SetAlarm delay) = refl
 reasons_same h s (Irqctl action line) = ap (λ (x : TableState). kernel_call_reasons x s (Irqctl action line)) h.rest
 reasons_same h s (Devio action register value) = refl
 reasons_same {q} {w} {v} h s (Vircopy from at to place count) =
-    ap (λ f. copy_reasons f (is_alive w) (is_away w) (limit_at w) from at to place count) (names_same h)
-    ∙ ap (λ f. copy_reasons (names_slot v) f (is_away w) (limit_at w) from at to place count) (alive_same h)
-    ∙ ap (λ f. copy_reasons (names_slot v) (is_alive v) f (limit_at w) from at to place count) (away_same h)
-    ∙ ap (λ f. copy_reasons (names_slot v) (is_alive v) (is_away v) f from at to place count) (limits_same h)
+    ap (λ f. copy_reasons s w.rules (windows_for w s) f (is_alive w) (is_away w) (limit_at w) from at to place count) (names_same h)
+    ∙ ap (λ f. copy_reasons s w.rules (windows_for w s) (names_slot v) f (is_away w) (limit_at w) from at to place count) (alive_same h)
+    ∙ ap (λ f. copy_reasons s w.rules (windows_for w s) (names_slot v) (is_alive v) f (limit_at w) from at to place count) (away_same h)
+    ∙ ap (λ f. copy_reasons s w.rules (windows_for w s) (names_slot v) (is_alive v) (is_away v) f from at to place count) (limits_same h)
+    ∙ ap (λ f. copy_reasons s w.rules f (names_slot v) (is_alive v) (is_away v) (limit_at v) from at to place count) (windows_same h s)
+    ∙ ap (λ r. copy_reasons s r (windows_for v s) (names_slot v) (is_alive v) (is_away v) (limit_at v) from at to place count) (rules_of h)
 reasons_same {q} {w} {v} h s (Kill e) =
     ap (λ f. kill_reasons f (is_alive w) (is_away w) e) (names_same h)
     ∙ ap (λ f. kill_reasons (names_slot v) f (is_away w) e) (alive_same h)
     ∙ ap (λ f. kill_reasons (names_slot v) (is_alive v) f e) (away_same h)
+reasons_same {q} {w} {v} h s (Grant endpoint place count access) =
+    ap (λ f. grant_reasons f (is_alive w) (limit_at w) (endpoint_of w s) s endpoint place count access) (names_same h)
+    ∙ ap (λ f. grant_reasons (names_slot v) f (limit_at w) (endpoint_of w s) s endpoint place count access) (alive_same h)
+    ∙ ap (λ f. grant_reasons (names_slot v) (is_alive v) f (endpoint_of w s) s endpoint place count access) (limits_same h)
+    ∙ ap (λ own. grant_reasons (names_slot v) (is_alive v) (limit_at v) own s endpoint place count access) (endpoint_same h s)
 reasons_same {q} {w} {v} h s (Whois slot) =
     ap (λ n. (nat_le n slot, Invalid) ∷ (is_down (process_at w slot).state, Dead) ∷ []) (slots_of h)
     ∙ ap (λ (p : Process). (nat_le (length v.slots) slot, Invalid) ∷ (is_down p.state, Dead) ∷ []) (all_but_image_at h slot)
@@ -95,7 +125,7 @@ kernel_call_refusal_by_same {q} {w} {v} h s (Some r) =
 
 kernel_call_refusal_same : {q : ℕ} {w v : TableState} → Twins q w v → (s : ℕ) → is_slot q s ≡ false → kernel_call_refusal w s ≡ kernel_call_refusal v s
 unfolding kernel_call_refusal
-kernel_call_refusal_same {q} {w} {v} h s n = kernel_call_refusal_by_same h s (kernel_call_of (message_words_at w s)) ∙ ap (λ x. kernel_call_refusal_by v s (kernel_call_of x)) (message_words_same h s n)
+kernel_call_refusal_same {q} {w} {v} h s n = kernel_call_refusal_by_same h s (kernel_call_under w.rules (message_words_at w s)) ∙ ap (λ x. kernel_call_refusal_by v s (kernel_call_under w.rules x)) (message_words_same h s n) ∙ ap (λ r. kernel_call_refusal_by v s (kernel_call_under r (message_words_at v s))) (rules_of h)
 
 -- ---- what a copy that isn't refused knows
 
@@ -121,7 +151,33 @@ inside_of n k e = leb-true n k (true_of (nat_le n k) e)
 copy_fits : (w : TableState) (s from at to place count : ℕ) → kernel_call_refusal_by w s (Some (Vircopy from at to place count)) ≡ None → place + count ≤ limit_at w (to % 1024)
 copy_fits w s from at to place count e =
     let h = none_holds ((not (has_bit (process_at w s).masks.calls 5), Denied) ∷ kernel_call_reasons w s (Vircopy from at to place count)) e in
-    inside_of (place + count) (limit_at w (to % 1024)) h.1.1.1.1.1.1.1.1.0
+    inside_of (place + count) (limit_at w (to % 1024)) h.1.1.1.1.1.1.1.1.1.1.0
+
+-- a copy that isn't refused, under strict rules and of another's memory, reads through an open window
+read_open : (strict own is_read : Bool) → (strict && not own && not is_read) ≡ false → strict ≡ true → own ≡ false → is_read ≡ true
+read_open true false true f e g = refl
+read_open true false false f e g = cc
+read_open true true x f e g = cc
+read_open false own x f e g = cc
+
+-- so where q grants none, its source is another
+source_is_other : (w : TableState) (q s from at to place count : ℕ) → is_slot q s ≡ false → kernel_call_refusal_by w s (Some (Vircopy from at to place count)) ≡ None → CopyIsApart q w s (Some (Vircopy from at to place count)) None → q ≢ from % 1024
+source_is_other w q s from at to place count n e m g =
+    let k = m (sym g) in
+    let h = none_holds ((not (has_bit (process_at w s).masks.calls 5), Denied) ∷ kernel_call_reasons w s (Vircopy from at to place count)) e in
+    let own : (from % 1024 == s) ≡ false = ne_eqb (from % 1024) s (λ z. is_not_itself q s n (g ∙ z)) in
+    let reads = read_open (is_strict w.rules) (from % 1024 == s) (is_open allows_reading (window_of w (from % 1024) s) at count) h.1.1.1.1.1.1.1.0 k.0 own in
+    true_false (sym reads ∙ ap (λ z. is_open allows_reading (window_of w z s) at count) (sym g) ∙ k.1)
+  where
+    true_false : true ≡ false → ⊥
+    true_false z = cc
+
+    is_itself : (x : ℕ) → is_slot x x ≡ true
+    is_itself zero = refl
+    is_itself (suc x) = is_itself x
+
+    is_not_itself : (x y : ℕ) → is_slot x y ≡ false → x ≡ y → ⊥
+    is_not_itself x y b z = true_false (sym (is_itself x) ∙ ap (is_slot x) z ∙ b)
 
 -- ---- what a call changes
 
@@ -139,7 +195,7 @@ copy_twins {q} {w} {v} h from k to place count n le =
 device_twins : {q : ℕ} {w v : TableState} → Twins q w v → (f : Devices → Devices) → Twins q (record w { devices = f w.devices }) (record v { devices = f v.devices })
 device_twins {q} {w} {v} h f = redeviced h (f w.devices) (f v.devices) (ap f (devices_of h))
 
-change_twins : {q : ℕ} {w v : TableState} → Twins q w v → (s : ℕ) (r : KernelCall) → is_slot q s ≡ false → kernel_call_refusal_by w s (Some r) ≡ None → CopyIsApart q (Some r) None → Twins q (table_after_change w s r) (table_after_change v s r)
+change_twins : {q : ℕ} {w v : TableState} → Twins q w v → (s : ℕ) (r : KernelCall) → is_slot q s ≡ false → kernel_call_refusal_by w s (Some r) ≡ None → CopyIsApart q w s (Some r) None → Twins q (table_after_change w s r) (table_after_change v s r)
 change_twins h s Exit n e m = h
 change_twins h s Times n e m = h
 change_twins {q} {w} {v} h s (SetAlarm delay) n e m = subst (λ t. Twins q (with_alarm w s (due_after w.uptime delay)) (with_alarm v s (due_after t delay))) (uptime_of h) (alarm_twins h s (due_after w.uptime delay))
@@ -147,9 +203,10 @@ change_twins h s (Irqctl action line) n e m = device_twins h (λ (d : Devices). 
 change_twins h s (Devio action register value) n e m = by_test (action == 0) (action == 0) refl (λ t. h) (λ t. by_test (register == 0) (register == 0) refl
     (λ u. device_twins h (λ (d : Devices). let x : Devices = record d { console = record { kept = keep_last 4096 (d.console.kept ++ (value % 256) ∷ []); count = d.console.count + 1 } } in x))
     (λ u. device_twins h (λ (d : Devices). let x : Devices = record d { registers = slice_set d.registers register value } in x)))
-change_twins {q} {w} {v} h s (Vircopy from k to place count) n e m = copy_twins h (from % 1024) k (to % 1024) place count (other_slot q (from % 1024) m) (copy_fits w s from k to place count e)
+change_twins {q} {w} {v} h s (Vircopy from k to place count) n e m = copy_twins h (from % 1024) k (to % 1024) place count (other_slot q (from % 1024) (source_is_other w q s from k to place count n e m)) (copy_fits w s from k to place count e)
 change_twins h s (Kill e) n x m = death_twins h (e % 1024) cause.Kill
 change_twins h s (Whois slot) n e m = h
+change_twins h s (Grant endpoint place count access) n e m = quiet h s (λ (p : Process). let x : Process = record p { windows = slice_set p.windows (endpoint % 1024) (granted place count access) } in x) (λ b p. refl) (λ p. refl) (λ p. refl)
 
 reply_words_same : {q : ℕ} {w v : TableState} → Twins q w v → (s : ℕ) (r : KernelCall) → is_slot q s ≡ false → words_of_reply w s r ≡ words_of_reply v s r
 reply_words_same h s Exit n = refl
@@ -163,25 +220,27 @@ reply_words_same h s (Irqctl action line) n = refl
 reply_words_same h s (Devio action register value) n = ap (λ (d : Devices). let x : ReplyWords = record { p0 = cond (action == 0 && not (register == 0)) (slice_index d.registers register) 0; p1 = 0; p2 = 0 } in x) (devices_of h)
 reply_words_same h s (Vircopy from k to place count) n = refl
 reply_words_same h s (Kill e) n = refl
+reply_words_same h s (Grant endpoint place count access) n = refl
 reply_words_same h s (Whois slot) n = ap (λ e. let x : ReplyWords = record { p0 = e; p1 = 0; p2 = 0 } in x) (endpoint_same h slot)
 
 reply_twins : {q : ℕ} {w v : TableState} → Twins q w v → (s k : ℕ) (a : ReplyWords) → is_slot q s ≡ false → Twins q (table_after_reply w s k a) (table_after_reply v s k a)
 unfolding table_after_reply
 reply_twins h s k a n = goes_on_twins (message_other h s (reply_bytes k a) n) s 0
 
-serving_twins : {q : ℕ} {w v : TableState} → Twins q w v → (s : ℕ) (r : KernelCall) → is_slot q s ≡ false → kernel_call_refusal_by w s (Some r) ≡ None → CopyIsApart q (Some r) None → Twins q (table_after_serving w s r) (table_after_serving v s r)
+serving_twins : {q : ℕ} {w v : TableState} → Twins q w v → (s : ℕ) (r : KernelCall) → is_slot q s ≡ false → kernel_call_refusal_by w s (Some r) ≡ None → CopyIsApart q w s (Some r) None → Twins q (table_after_serving w s r) (table_after_serving v s r)
 unfolding table_after_serving
 serving_twins {q} {w} {v} h s r n e m = by_test (ends_caller s r) (ends_caller s r) refl (λ t. death_twins h s cause.Exit)
     (λ t. subst (λ a. Twins q (table_after_reply (table_after_change w s r) s 0 (words_of_reply w s r)) (table_after_reply (table_after_change v s r) s 0 a)) (reply_words_same h s r n) (reply_twins (change_twins h s r n e m) s 0 (words_of_reply w s r) n))
 
-kernel_call_by_twins : {q : ℕ} {w v : TableState} → Twins q w v → (s : ℕ) (r : Option KernelCall) (e : Option Errno) → kernel_call_refusal_by w s r ≡ e → is_slot q s ≡ false → CopyIsApart q r e → Twins q (table_after_kernel_call_by w s r e) (table_after_kernel_call_by v s r e)
+kernel_call_by_twins : {q : ℕ} {w v : TableState} → Twins q w v → (s : ℕ) (r : Option KernelCall) (e : Option Errno) → kernel_call_refusal_by w s r ≡ e → is_slot q s ≡ false → CopyIsApart q w s r e → Twins q (table_after_kernel_call_by w s r e) (table_after_kernel_call_by v s r e)
 kernel_call_by_twins h s r (Some e) is n m = reply_twins h s (errno_bits e) no_reply_words n
 kernel_call_by_twins h s None None is n m = h
 kernel_call_by_twins h s (Some r) None is n m = serving_twins h s r n is m
 
-pub kernel_call_twins : {q : ℕ} {w v : TableState} → Twins q w v → (s : ℕ) → is_slot q s ≡ false → CopyIsApart q (kernel_call_of (message_words_at w s)) (kernel_call_refusal w s) → Twins q (table_after_kernel_call w s) (table_after_kernel_call v s)
+pub kernel_call_twins : {q : ℕ} {w v : TableState} → Twins q w v → (s : ℕ) → is_slot q s ≡ false → CopyIsApart q w s (kernel_call_under w.rules (message_words_at w s)) (kernel_call_refusal w s) → Twins q (table_after_kernel_call w s) (table_after_kernel_call v s)
 unfolding table_after_kernel_call kernel_call_refusal
 kernel_call_twins {q} {w} {v} h s n m =
-    let first = kernel_call_by_twins h s (kernel_call_of (message_words_at w s)) (kernel_call_refusal_by w s (kernel_call_of (message_words_at w s))) refl n m in
-    subst (λ (x : MessageWords). Twins q (table_after_kernel_call w s) (table_after_kernel_call_by v s (kernel_call_of x) (kernel_call_refusal_by v s (kernel_call_of x)))) (message_words_same h s n)
-    (subst (λ e. Twins q (table_after_kernel_call w s) (table_after_kernel_call_by v s (kernel_call_of (message_words_at w s)) e)) (kernel_call_refusal_by_same h s (kernel_call_of (message_words_at w s))) first)
+    let first = kernel_call_by_twins h s (kernel_call_under w.rules (message_words_at w s)) (kernel_call_refusal_by w s (kernel_call_under w.rules (message_words_at w s))) refl n m in
+    subst (λ (r : Rules). Twins q (table_after_kernel_call w s) (table_after_kernel_call_by v s (kernel_call_under r (message_words_at v s)) (kernel_call_refusal_by v s (kernel_call_under r (message_words_at v s))))) (rules_of h)
+    (subst (λ (x : MessageWords). Twins q (table_after_kernel_call w s) (table_after_kernel_call_by v s (kernel_call_under w.rules x) (kernel_call_refusal_by v s (kernel_call_under w.rules x)))) (message_words_same h s n)
+    (subst (λ e. Twins q (table_after_kernel_call w s) (table_after_kernel_call_by v s (kernel_call_under w.rules (message_words_at w s)) e)) (kernel_call_refusal_by_same h s (kernel_call_under w.rules (message_words_at w s))) first))

@@ -1,13 +1,14 @@
 -- An event that is apart from the process in slot q: nothing of its image is used.
-use Rattle.std.specs.Prelude.{◌≢◌, ℕ, ◌%◌, Bool, true, false, List, [], ◌∷◌, Option, Some, None}
+use Rattle.std.specs.Prelude.{◌≡◌, ℕ, ◌%◌, Bool, true, false, List, [], ◌∷◌, Option, Some, None}
 use Rattle.mx_image.specs.declared.runs.Stop.{Stop}
 use Rattle.mx_image.specs.declared.runs.Stop.TheVariants.{Spent, Trap, Fault}
 use Rattle.mx_proc.specs.declared.errors.Errno.{Errno}
-use Rattle.mx_proc.specs.TableState.{TableState, process_at}
+use Rattle.mx_proc.specs.TableState.{TableState, process_at, window_of}
 use Rattle.mx_kcall.specs.declared.request.KernelCall.{KernelCall}
 use Rattle.mx_kcall.specs.declared.request.KernelCall.TheVariants.{Vircopy}
-use Rattle.mx_kcall.specs.Requests.{kernel_call_of, message_words_at}
+use Rattle.mx_kcall.specs.Requests.{kernel_call_under, message_words_at}
 use Rattle.mx_kcall.specs.Refusals.{kernel_call_refusal}
+use Rattle.mx_kcall.specs.Windows.{allows_reading, is_open, is_strict}
 use Rattle.mx_kcall.specs.TrapAnswer.{TrapAnswer}
 use Rattle.mx_kcall.specs.TrapAnswer.TheVariants as trap_ends
 use Rattle.mx_ipc.specs.Checks.{call_of}
@@ -22,15 +23,16 @@ use Rattle.mx_isolation_secrecy.specs.Senders.{IsNot, sender_of_trap}
 abbrev pub sender_at_trap : TableState → ℕ → Option ℕ
 sender_at_trap t s = let regs = (process_at t s).image.regs in sender_of_trap t s (call_of regs.ecx) regs.eax
 
--- a kernel call that doesn't copy from q, or is refused
-abbrev pub CopyIsApart : ℕ → Option KernelCall → Option Errno → Type 0
-CopyIsApart q (Some (Vircopy from at to place count)) None = q ≢ from % 1024
-CopyIsApart q _ _ = Unit {0}
+-- a kernel call by s that doesn't copy from q, or is refused; or the rules are strict, and q has no window open for it
+abbrev pub CopyIsApart : ℕ → TableState → ℕ → Option KernelCall → Option Errno → Type 0
+CopyIsApart q t s (Some (Vircopy from at to place count)) None =
+    from % 1024 ≡ q → (is_strict t.rules ≡ true) × (is_open allows_reading (window_of t q s) at count ≡ false)
+CopyIsApart q t s _ _ = Unit {0}
 
--- a trap that takes no message of q, or a kernel call that doesn't copy from it
+-- a trap that takes no message of q, or a kernel call that can't copy from it
 abbrev pub TrapIsApart : ℕ → TableState → ℕ → TrapAnswer → Type 0
 TrapIsApart q t s trap_ends.Done = IsNot q (sender_at_trap t s)
-TrapIsApart q t s trap_ends.Kernel = CopyIsApart q (kernel_call_of (message_words_at t s)) (kernel_call_refusal t s)
+TrapIsApart q t s trap_ends.Kernel = CopyIsApart q t s (kernel_call_under t.rules (message_words_at t s)) (kernel_call_refusal t s)
 
 -- a turn of s that ends so: only a trap that is acted uses anything of another
 abbrev pub ReturnIsApart : ℕ → TableState → ℕ → Bool → Stop → Type 0
@@ -49,7 +51,7 @@ abbrev pub BackIsApart : ℕ → TableState → Option HeldProcess → Type 0
 BackIsApart q t None = Unit {0}
 BackIsApart q t (Some l) = IsNot q (Some l.slot) × ReturnIsApart q (table_after_coming_home t l) l.slot (is_doomed (process_at t l.slot).state) l.out.stop
 
--- APART: no step and no return of q, no message of q is taken, and nothing is copied from it
+-- APART: no step and no return of q, no message of q is taken, and nothing can be copied from it
 abbrev pub IsApart : ℕ → World → ℕ → Event → Type 0
 IsApart q w a Step = StepIsApart q (held_by w a)
 IsApart q w a Back = BackIsApart q w.table (held_by w a)

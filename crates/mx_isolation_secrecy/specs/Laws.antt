@@ -30,6 +30,16 @@ TellsNothing q w v a e = SameBut q w v → IsApart q w a e → AnsweredAlike q w
 abbrev pub TellNothing : ℕ → World → World → List (ℕ × Event) → Type 0
 TellNothing q w v xs = SameBut q w v → AreApart q w xs → AllAnsweredAlike q w v xs
 
+-- ---- rules
+
+-- a machine runs by the same rules after an event, refused or not
+abbrev pub KeepsRules : World → ℕ → Event → Type 0
+KeepsRules w a e = (move w a e).1.table.rules ≡ w.table.rules
+
+-- and after events in a row
+abbrev pub KeepRules : World → List (ℕ × Event) → Type 0
+KeepRules w xs = (moves w xs).1.table.rules ≡ w.table.rules
+
 -- ---- what is the same
 
 -- All of two machines but q's image is the same.

@@ -1,6 +1,7 @@
 -- Two machines that are the same but for the image of the process in slot q.
 use Rattle.std.specs.Prelude.{◌≡◌, ℕ, [], map, Option, Some, None}
 use Rattle.mx_exec.specs.declared.image.Image.{Image}
+use Rattle.mx_proc.specs.declared.windows.Rules.TheVariants.{Lenient}
 use Rattle.mx_proc.specs.TableState.{empty_table, with_image}
 use Rattle.mx_machine_world.specs.Move.{with_held}
 use Rattle.mx_machine_world.specs.World.{World, HeldProcess}
@@ -17,7 +18,7 @@ held_seen q (Some l) = Some (held_process_seen q l)
 
 -- a machine without its table and what its processors hold
 abbrev pub frame_of : World → World
-frame_of w = record w { table = empty_table; cpus = [] }
+frame_of w = record w { table = empty_table Lenient; cpus = [] }
 
 -- THE SAME BUT for one image, at home or on a processor
 pub record SameBut (q : ℕ) (w v : World) : Type 0 where

@@ -3,4 +3,4 @@
 
 mod laws;
 
-pub use laws::{all_else_is_same, images_stay_secret, other_images_differ};
+pub use laws::{all_else_is_same, images_stay_secret, other_images_differ, rules_stay};

@@ -1,9 +1,11 @@
 pub mod Requests
+pub mod Windows
 pub mod Refusals
 pub mod Serving
 pub mod Clock
 pub mod Ringing
 pub use Rattle.mx_respawn.specs.declared.service.Service
+pub use Rattle.mx_proc.specs.declared.windows.Rules
 pub use Rattle.mx_respawn.specs.Death
 pub use Rattle.mx_respawn.specs.Respawn
 pub use Rattle.mx_respawn.specs.Load

@@ -5,11 +5,12 @@ use Rattle.mx_proc.specs.declared.errors.Errno.{Errno}
 use Rattle.mx_proc.specs.declared.errors.Errno.TheVariants.{NotPermitted, BadAddress, Invalid, BadEndpoint, Denied, Dead, NotReady, BadRequest}
 use Rattle.mx_proc.specs.Endpoints.{names_slot, is_alive}
 use Rattle.mx_proc.specs.States.{is_down, is_out}
-use Rattle.mx_proc.specs.TableState.{TableState, process_at, memory_at}
+use Rattle.mx_proc.specs.TableState.{TableState, process_at, endpoint_of, memory_at}
 use Rattle.mx_ipc.specs.Checks.{has_bit, first_error}
 use Rattle.mx_kcall.specs.declared.request.KernelCall.{KernelCall}
-use Rattle.mx_kcall.specs.declared.request.KernelCall.TheVariants.{Exit, Times, SetAlarm, Irqctl, Devio, Vircopy, Kill, Whois}
-use Rattle.mx_kcall.specs.Requests.{kernel_call_of, message_words_at, bit_of}
+use Rattle.mx_kcall.specs.declared.request.KernelCall.TheVariants.{Exit, Times, SetAlarm, Irqctl, Devio, Vircopy, Kill, Whois, Grant}
+use Rattle.mx_kcall.specs.Requests.{kernel_call_under, message_words_at, bit_of}
+use Rattle.mx_kcall.specs.Windows.{allows_reading, allows_writing, is_barred}
 
 -- who owns a line
 abbrev pub owner_of : TableState → ℕ → Option ℕ
@@ -45,6 +46,8 @@ kernel_call_reasons w s (Vircopy from at to place count) =
     ∷ (not (names_slot w to), BadEndpoint)
     ∷ (not (is_alive w to), Dead)
     ∷ (is_away w from || is_away w to, NotReady)
+    ∷ (is_barred w allows_reading s from at count, NotPermitted)
+    ∷ (is_barred w allows_writing s to place count, NotPermitted)
     ∷ (not (inside (memory_at w (from % 1024)) at count), BadAddress)
     ∷ (not (inside (memory_at w (to % 1024)) place count), BadAddress)
     ∷ []
@@ -57,6 +60,12 @@ kernel_call_reasons w s (Whois slot) =
     (nat_le (length w.slots) slot, Invalid)
     ∷ (is_down (process_at w slot).state, Dead)
     ∷ []
+kernel_call_reasons w s (Grant endpoint place count access) =
+    (nat_lt 3 access || (endpoint == endpoint_of w s), Invalid)
+    ∷ (not (names_slot w endpoint), BadEndpoint)
+    ∷ (not (is_alive w endpoint), Dead)
+    ∷ (not (access == 0) && not (inside (memory_at w s) place count), BadAddress)
+    ∷ []
 
 -- the first that holds; before them all comes the mask of calls, and before that the type
 unfoldable pub refusal_of_kernel_call : TableState → ℕ → KernelCall → Option Errno
@@ -68,7 +77,7 @@ kernel_call_refusal_by w s (Some r) = first_error ((not (has_bit (process_at w s
 
 -- THE REFUSAL of the call at the buffer of a process, or none
 unfoldable pub kernel_call_refusal : TableState → ℕ → Option Errno
-kernel_call_refusal w s = kernel_call_refusal_by w s (kernel_call_of (message_words_at w s))
+kernel_call_refusal w s = kernel_call_refusal_by w s (kernel_call_under w.rules (message_words_at w s))
 
 -- What is known of a call that isn't refused.
 abbrev pub IsPermitted : TableState → KernelCall → Type 0
@@ -81,3 +90,4 @@ IsPermitted w (Vircopy from at to place count) =
     (from % 1024 < length w.slots) × (to % 1024 < length w.slots) × (at + count ≤ length (memory_at w (from % 1024))) × (place + count ≤ length (memory_at w (to % 1024)))
 IsPermitted w (Kill endpoint) = (endpoint % 1024 < length w.slots) × (is_out (process_at w (endpoint % 1024)).state ≡ false)
 IsPermitted w (Whois slot) = slot < length w.slots
+IsPermitted w (Grant endpoint place count access) = endpoint % 1024 < length w.slots

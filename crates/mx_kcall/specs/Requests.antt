@@ -1,11 +1,13 @@
 -- Kernel calls as messages to SYSTEM, and their replies (our choice).
-use Rattle.std.specs.Prelude.{ℕ, ◌-◌, ◌^◌, ◌++◌, ◌==◌, List, drop, take, replicate, Option, Some, None, if◌then◌else◌}
+use Rattle.std.specs.Prelude.{ℕ, ◌-◌, ◌^◌, ◌++◌, ◌==◌, List, drop, take, replicate, ◌&&◌, Option, Some, None, if◌then◌else◌}
 use Rattle.mx_word.specs.Word.{value_at, bytes_of}
+use Rattle.mx_proc.specs.declared.windows.Rules.{Rules}
 use Rattle.mx_proc.specs.TableState.{TableState, buffer_at, memory_at}
+use Rattle.mx_kcall.specs.Windows.{is_strict}
 use Rattle.mx_kcall.specs.declared.request.MessageWords.{MessageWords}
 use Rattle.mx_kcall.specs.declared.request.ReplyWords.{ReplyWords}
 use Rattle.mx_kcall.specs.declared.request.KernelCall.{KernelCall}
-use Rattle.mx_kcall.specs.declared.request.KernelCall.TheVariants.{Exit, Times, SetAlarm, Irqctl, Devio, Vircopy, Kill, Whois}
+use Rattle.mx_kcall.specs.declared.request.KernelCall.TheVariants.{Exit, Times, SetAlarm, Irqctl, Devio, Vircopy, Kill, Whois, Grant}
 
 -- the number at a place of a message
 abbrev pub word_at : List ℕ → ℕ → ℕ
@@ -38,6 +40,10 @@ kernel_call_of m =
     if m.kind == 0x607 then Some (Whois m.p0) else
     None
 
+-- AND THE NINTH, under the strict rules: an endpoint, an address, how many bytes, an access
+abbrev pub kernel_call_under : Rules → MessageWords → Option KernelCall
+kernel_call_under rules m = if is_strict rules && (m.kind == 0x608) then Some (Grant m.p0 m.p1 m.p2 m.p3) else kernel_call_of m
+
 -- the bit of a call in the mask of calls
 abbrev pub bit_of : KernelCall → ℕ
 bit_of Exit = 0
@@ -48,6 +54,7 @@ bit_of (Devio action register value) = 4
 bit_of (Vircopy from at to place count) = 5
 bit_of (Kill endpoint) = 6
 bit_of (Whois slot) = 7
+bit_of (Grant endpoint place count access) = 8
 
 -- no words
 abbrev pub no_reply_words : ReplyWords

@@ -4,15 +4,16 @@ use Rattle.mx_proc.specs.declared.errors.Errno.{Errno}
 use Rattle.mx_proc.specs.declared.process.DeathCause.TheVariants as cause
 use Rattle.mx_proc.specs.Errors.{errno_bits}
 use Rattle.mx_proc.specs.TableState.{TableState, process_at, endpoint_of, with_message}
-use Rattle.mx_proc.specs.Serving.{with_alarm, with_owner, with_device_register, with_console_byte, with_copy}
+use Rattle.mx_proc.specs.Serving.{with_alarm, with_owner, with_window, with_device_register, with_console_byte, with_copy}
 use Rattle.mx_ipc.specs.Calls.{goes_on}
 use Rattle.mx_respawn.specs.Death.{table_after_death}
 use Rattle.mx_kcall.specs.declared.request.ReplyWords.{ReplyWords}
 use Rattle.mx_kcall.specs.declared.request.After.{After}
 use Rattle.mx_kcall.specs.declared.request.After.TheVariants.{Reply, Died}
 use Rattle.mx_kcall.specs.declared.request.KernelCall.{KernelCall}
-use Rattle.mx_kcall.specs.declared.request.KernelCall.TheVariants.{Exit, Times, SetAlarm, Irqctl, Devio, Vircopy, Kill, Whois}
-use Rattle.mx_kcall.specs.Requests.{kernel_call_of, message_words_at, reply_bytes, no_reply_words}
+use Rattle.mx_kcall.specs.declared.request.KernelCall.TheVariants.{Exit, Times, SetAlarm, Irqctl, Devio, Vircopy, Kill, Whois, Grant}
+use Rattle.mx_kcall.specs.Windows.{granted}
+use Rattle.mx_kcall.specs.Requests.{kernel_call_under, message_words_at, reply_bytes, no_reply_words}
 use Rattle.mx_kcall.specs.Refusals.{kernel_call_refusal}
 
 -- when an alarm rings that is set for a delay
@@ -35,6 +36,7 @@ table_after_change w s (Devio action register value) = if action == 0 then w els
 table_after_change w s (Vircopy from at to place count) = with_copy w (from % 1024) at (to % 1024) place count
 table_after_change w s (Kill endpoint) = table_after_death w (endpoint % 1024) cause.Kill
 table_after_change w s (Whois slot) = w
+table_after_change w s (Grant endpoint place count access) = with_window w s (endpoint % 1024) (granted place count access)
 
 -- THE WORDS OF EACH REPLY
 abbrev pub words_of_reply : TableState → ℕ → KernelCall → ReplyWords
@@ -73,7 +75,7 @@ answer_of_kernel_call_by s None None = Died
 
 -- A KERNEL CALL by s: the world after it, and how it ended
 unfoldable pub table_after_kernel_call : TableState → ℕ → TableState
-table_after_kernel_call w s = table_after_kernel_call_by w s (kernel_call_of (message_words_at w s)) (kernel_call_refusal w s)
+table_after_kernel_call w s = table_after_kernel_call_by w s (kernel_call_under w.rules (message_words_at w s)) (kernel_call_refusal w s)
 
 unfoldable pub answer_of_kernel_call : TableState → ℕ → After
-answer_of_kernel_call w s = answer_of_kernel_call_by s (kernel_call_of (message_words_at w s)) (kernel_call_refusal w s)
+answer_of_kernel_call w s = answer_of_kernel_call_by s (kernel_call_under w.rules (message_words_at w s)) (kernel_call_refusal w s)

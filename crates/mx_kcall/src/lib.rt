@@ -5,7 +5,9 @@ mod clock;
 mod refusals;
 mod request;
 mod serving;
+mod windows;
 
 pub use clock::{raise, tick};
 pub use request::{After, KernelCall, ReplyWords};
 pub use serving::call;
+pub use windows::{is_strict, window_allows};

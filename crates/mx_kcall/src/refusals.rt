@@ -1,6 +1,6 @@
 //! Why kernel calls are refused.
 
-ghost use Rattle.std.specs.Prelude.{◌≡◌, ◌∷◌, [], ◌<◌, ◌+◌, ◌%◌, ◌≤◌, ◌||◌, nat_lt, not, false, length, Some, None, MatchResult, IfOk};
+ghost use Rattle.std.specs.Prelude.{◌≡◌, ◌∷◌, [], ◌<◌, ◌+◌, ◌%◌, ◌≤◌, ◌||◌, ◌&&◌, nat_lt, not, false, length, Some, None, MatchResult, IfOk};
 ghost use Rattle.std.specs.Option.{ForSome};
 ghost use Rattle.mx_mem.specs.Segment.{inside};
 ghost use Rattle.mx_proc.specs.Endpoints.{names_slot, is_alive};
@@ -10,11 +10,13 @@ ghost use Rattle.mx_proc.specs.TableState.{process_at, memory_at};
 ghost use Rattle.mx_proc.specs.declared.errors.Errno.TheVariants.{BadEndpoint, Dead};
 ghost use Rattle.mx_ipc.specs.Checks.{has_bit, first_error};
 ghost use Rattle.mx_kcall.specs.Refusals.{kernel_call_reasons, refusal_of_kernel_call, kernel_call_refusal, is_away, IsPermitted};
-ghost use Rattle.mx_kcall.specs.Requests.{kernel_call_of, message_words_at};
+ghost use Rattle.mx_kcall.specs.Requests.{kernel_call_under, message_words_at};
+ghost use Rattle.mx_kcall.specs.Windows.{allows, is_barred};
 ghost use Rattle.mx_kcall.specs.declared.request.KernelCall.TheVariants as requests;
 
-use crate::request::{KernelCall, request_of, words_at};
-use mx_proc::{Endpoint, Errno, Slot, Stale, State, Table};
+use crate::request::{KernelCall, request_under, words_at};
+use crate::windows::{is_strict, window_allows};
+use mx_proc::{Access, Endpoint, Errno, Slot, Stale, State, Table};
 
 /// Whether a mask has a bit.
 fn has_bit(mask: u32, bit: u32) -> bool
@@ -57,6 +59,27 @@ fn holds(table: &Table, slot: Slot, at: u32, count: u32) -> bool
     at as usize + count as usize <= table.process(slot).image.memory.limit()
 }
 
+/// Whether an endpoint's memory is barred to a slot for an access to that many bytes from an address on.
+fn is_barred(
+    table: &Table,
+    access: Access,
+    slot: Slot,
+    endpoint: Endpoint,
+    at: u32,
+    count: u32,
+) -> bool
+    requires slot { slot < length table.now.slots }
+    requires endpoint { endpoint % 1024 < length table.now.slots }
+    ensures { result ≡ is_barred table.now (allows access) slot endpoint at count }
+{
+    // So few that a slot fits a byte.
+    let _used = table.used();
+    let owner = (endpoint % 1024) as Slot;
+    is_strict(table.rules())
+        && owner != slot
+        && !window_allows(table.window(owner, slot), access, at, count)
+}
+
 /// IRQCTL's refusals.
 fn check_irqctl(table: &Table, slot: Slot, action: u32, line: u32) -> Result<(), Errno>
     ensures value { MatchResult result (λ _. first_error (kernel_call_reasons table.now slot (requests.Irqctl action line)) ≡ None) (λ e. first_error (kernel_call_reasons table.now slot (requests.Irqctl action line)) ≡ Some e) }
@@ -86,6 +109,7 @@ fn check_vircopy(
     place: u32,
     count: u32,
 ) -> Result<(), Errno>
+    requires { slot < length table.now.slots }
     ensures value { MatchResult result (λ _. first_error (kernel_call_reasons table.now slot (requests.Vircopy from at to place count)) ≡ None) (λ e. first_error (kernel_call_reasons table.now slot (requests.Vircopy from at to place count)) ≡ Some e) }
     ensures permitted { IfOk result (λ _. IsPermitted table.now (requests.Vircopy from at to place count)) }
 {
@@ -96,6 +120,11 @@ fn check_vircopy(
     let destination = check_endpoint(table, to)?;
     if is_away(table, source) || is_away(table, destination) {
         return Err(Errno::NotReady);
+    }
+    if is_barred(table, Access::Read, slot, from, at, count)
+        || is_barred(table, Access::Write, slot, to, place, count)
+    {
+        return Err(Errno::NotPermitted);
     }
     if !holds(table, source, at, count) || !holds(table, destination, place, count) {
         return Err(Errno::BadAddress);
@@ -129,9 +158,33 @@ fn check_whois(table: &Table, slot: Slot, named: u32) -> Result<(), Errno>
     Ok(())
 }
 
+/// GRANT's refusals.
+fn check_grant(
+    table: &Table,
+    slot: Slot,
+    endpoint: Endpoint,
+    place: u32,
+    count: u32,
+    access: u32,
+) -> Result<(), Errno>
+    requires { slot < length table.now.slots }
+    ensures value { MatchResult result (λ _. first_error (kernel_call_reasons table.now slot (requests.Grant endpoint place count access)) ≡ None) (λ e. first_error (kernel_call_reasons table.now slot (requests.Grant endpoint place count access)) ≡ Some e) }
+    ensures permitted { IfOk result (λ _. IsPermitted table.now (requests.Grant endpoint place count access)) }
+{
+    if access > 3 || endpoint == table.endpoint(slot) {
+        return Err(Errno::Invalid);
+    }
+    check_endpoint(table, endpoint)?;
+    if access != 0 && !holds(table, slot, place, count) {
+        return Err(Errno::BadAddress);
+    }
+    Ok(())
+}
+
 /// A request's own refusals, the first told.
 #[tactic(auto, unfolding(crate::specs::Refusals::refusal_of_kernel_call))]
 fn check_request(table: &Table, slot: Slot, request: KernelCall) -> Result<(), Errno>
+    requires { slot < length table.now.slots }
     ensures value { MatchResult result (λ _. refusal_of_kernel_call table.now slot request ≡ None) (λ e. refusal_of_kernel_call table.now slot request ≡ Some e) }
     ensures permitted { IfOk result (λ _. IsPermitted table.now request) }
 {
@@ -157,6 +210,12 @@ fn check_request(table: &Table, slot: Slot, request: KernelCall) -> Result<(), E
         } => check_vircopy(table, slot, from, at, to, place, count),
         KernelCall::Kill(endpoint) => check_kill(table, slot, endpoint),
         KernelCall::Whois(named) => check_whois(table, slot, named),
+        KernelCall::Grant {
+            endpoint,
+            place,
+            count,
+            access,
+        } => check_grant(table, slot, endpoint, place, count, access),
     }
 }
 
@@ -166,10 +225,10 @@ fn check_request(table: &Table, slot: Slot, request: KernelCall) -> Result<(), E
 pub(crate) fn check(table: &Table, slot: Slot) -> Result<KernelCall, Errno>
     requires slot { slot < length table.now.slots }
     requires inside { HasBuffer (process_at table.now slot) }
-    ensures value { MatchResult result (λ r. (kernel_call_of (message_words_at table.now slot) ≡ Some r) × (kernel_call_refusal table.now slot ≡ None)) (λ e. kernel_call_refusal table.now slot ≡ Some e) }
+    ensures value { MatchResult result (λ r. (kernel_call_under table.now.rules (message_words_at table.now slot) ≡ Some r) × (kernel_call_refusal table.now slot ≡ None)) (λ e. kernel_call_refusal table.now slot ≡ Some e) }
     ensures permitted { IfOk result (λ r. IsPermitted table.now r) }
 {
-    let request = match request_of(words_at(table, slot)) {
+    let request = match request_under(table.rules(), words_at(table, slot)) {
         Some(request) => request,
         None => return Err(Errno::BadRequest),
     };

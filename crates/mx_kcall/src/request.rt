@@ -3,9 +3,10 @@
 ghost use Rattle.std.specs.Prelude.{◌≡◌, ◌+◌, ◌<◌, ◌≤◌, length};
 ghost use Rattle.mx_proc.specs.Sound.{HasBuffer};
 ghost use Rattle.mx_proc.specs.TableState.{process_at};
-ghost use Rattle.mx_kcall.specs.Requests.{word_at, message_words_of, message_words_at, kernel_call_of, bit_of, no_reply_words, reply_bytes};
+ghost use Rattle.mx_kcall.specs.Requests.{word_at, message_words_of, message_words_at, kernel_call_of, bit_of, kernel_call_under, no_reply_words, reply_bytes};
 
-use mx_proc::{Endpoint, Slot, Table};
+use crate::windows::is_strict;
+use mx_proc::{Endpoint, Rules, Slot, Table};
 use mx_word::{Register, read_dword, write_dword};
 
 /// The type of a message to SYSTEM, and the first of its words.
@@ -51,6 +52,14 @@ pub enum KernelCall {
     Kill(Endpoint),
     /// Tells the endpoint of a slot.
     Whois(u32),
+    /// Lets a process read (1), write (2) or do both (3) in that many bytes from an address on, and no
+    /// others; 0 ends what it was let.
+    Grant {
+        endpoint: Endpoint,
+        place: u32,
+        count: u32,
+        access: u32,
+    },
 }
 
 /// The words of a reply.
@@ -115,8 +124,8 @@ pub(crate) fn words_at(table: &Table, slot: Slot) -> MessageWords
     words_of(&image.memory.message(image.register(Register::Ebx)))
 }
 
-/// The request that words make.
-pub(crate) fn request_of(words: MessageWords) -> Option<KernelCall>
+/// The request that words make under any rules.
+fn request_of(words: MessageWords) -> Option<KernelCall>
     ensures { result ≡ kernel_call_of words }
 {
     let request = match words.kind {
@@ -146,11 +155,26 @@ pub(crate) fn request_of(words: MessageWords) -> Option<KernelCall>
     Some(request)
 }
 
+/// The request that words make under these rules.
+pub(crate) fn request_under(rules: Rules, words: MessageWords) -> Option<KernelCall>
+    ensures { result ≡ kernel_call_under rules words }
+{
+    if is_strict(rules) && words.kind == 0x608 {
+        return Some(KernelCall::Grant {
+            endpoint: words.p0,
+            place: words.p1,
+            count: words.p2,
+            access: words.p3,
+        });
+    }
+    request_of(words)
+}
+
 impl KernelCall {
     /// Its bit in the mask of calls.
     pub(crate) fn bit(self) -> u32
         ensures value { result ≡ bit_of self }
-        ensures below { result < 8 }
+        ensures below { result < 9 }
     {
         match self {
             KernelCall::Exit => 0,
@@ -161,6 +185,7 @@ impl KernelCall {
             KernelCall::Vircopy { .. } => 5,
             KernelCall::Kill(_) => 6,
             KernelCall::Whois(_) => 7,
+            KernelCall::Grant { .. } => 8,
         }
     }
 }

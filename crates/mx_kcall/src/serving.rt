@@ -11,6 +11,7 @@ ghost use Rattle.mx_kcall.specs.Serving.{due_after, ticks_left, table_after_chan
 
 use crate::refusals::check;
 use crate::request::{After, KernelCall, ReplyWords, reply_bytes};
+use crate::windows::granted;
 use mx_ipc::go_on;
 use mx_proc::{DeathCause, Slot, Table};
 use mx_respawn::die;
@@ -110,6 +111,12 @@ fn change(table: &mut Table, slot: Slot, request: KernelCall)
             count,
         } => table.copy((from % 1024) as u8, at, (to % 1024) as u8, place, count),
         KernelCall::Kill(endpoint) => die(table, (endpoint % 1024) as u8, DeathCause::Kill),
+        KernelCall::Grant {
+            endpoint,
+            place,
+            count,
+            access,
+        } => table.set_window(slot, (endpoint % 1024) as u8, granted(place, count, access)),
     }
 }
 

@@ -1,4 +1,5 @@
--- Kernel calls, as a trace has them (our own): types, names, and how many words requests and replies have.
+-- Kernel calls, as a trace has them (our own): types, names, and how many words requests and replies have. A type has one
+-- name by both rules; by the lenient ones GRANT is answered EBADREQUEST.
 use Rattle.std.specs.Prelude.{ℕ, ◌==◌, ◌&&◌, ◌||◌, if◌then◌else◌, List, [], ◌++◌, codes, take, drop, Option, Some, None, slice_index}
 use Rattle.std.specs.Fmt.{decimal}
 use Rattle.mx_look_glance.specs.declared.glance.CpuGlance.{CpuGlance}
@@ -15,6 +16,7 @@ request_name kind =
     if kind == 0x605 then codes "VIRCOPY" else
     if kind == 0x606 then codes "KILL" else
     if kind == 0x607 then codes "WHOIS" else
+    if kind == 0x608 then codes "GRANT" else
     []
 
 unfoldable pub request_count : ℕ → ℕ
@@ -22,6 +24,7 @@ request_count kind =
     if (kind == 0x602) || (kind == 0x606) || (kind == 0x607) then 1 else
     if kind == 0x603 then 2 else
     if kind == 0x604 then 3 else
+    if kind == 0x608 then 4 else
     if kind == 0x605 then 5 else
     0
 

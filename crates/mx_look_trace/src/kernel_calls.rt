@@ -23,6 +23,7 @@ fn request_name(kind: u32) -> &'static [u8]
         0x605 => b"VIRCOPY",
         0x606 => b"KILL",
         0x607 => b"WHOIS",
+        0x608 => b"GRANT",
         _ => b"",
     }
 }
@@ -37,6 +38,7 @@ fn request_count(kind: u32) -> usize
         0x602 | 0x606 | 0x607 => 1,
         0x603 => 2,
         0x604 => 3,
+        0x608 => 4,
         0x605 => 5,
         _ => 0,
     }

@@ -16,7 +16,7 @@ use crate::steps::{Tool, step_held, work_held};
 use mx_exec::Image;
 use mx_machine_kernel::Kernel;
 use mx_machine_world::{Answer, Event, Out, Refusal, actors_stay, held_runs_join, runs_are_steps};
-use mx_proc::{Endpoint, Slot};
+use mx_proc::{Endpoint, Rules, Slot};
 use mx_word::NoMemory;
 use std::marker::Model;
 use std::mem;
@@ -82,6 +82,14 @@ impl Machine {
         ensures { result.now ≡ self.now.kernel }
     {
         &self.kernel
+    }
+
+    /// By which rules it copies between processes.
+    #[tactic(auto, unfolding(crate::specs::Machine::world_of))]
+    pub fn rules(&self) -> Rules
+        ensures { result ≡ (world_of self.now).table.rules }
+    {
+        self.kernel.table().rules()
     }
 
     /// How many actors there are: the processors, and the others.

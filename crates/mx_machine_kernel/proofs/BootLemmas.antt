@@ -11,6 +11,7 @@ use Rattle.mx_exec.specs.declared.image.Code.{Code}
 use Rattle.mx_load.specs.Load.{image_of_program, contents_of, filled_to, code_of_text, IsLoadedFrom}
 use Rattle.mx_proc.specs.declared.process.Process.{Process}
 use Rattle.mx_proc.specs.declared.process.State.TheVariants.{Home}
+use Rattle.mx_proc.specs.declared.windows.Rules.{Rules}
 use Rattle.mx_proc.specs.TableState.{TableState, empty_table, table_after_add, nobody}
 use Rattle.mx_proc.specs.Frame.{loan_of}
 use Rattle.mx_proc.specs.Queues.{list_at}
@@ -56,14 +57,14 @@ slots-more_other n level (x ∷ xs) s e = elim (cases_eq x.level level) [
   | inr m ↦ rw (ne_eqb x.level level m) (slots-more_other (n + 1) level xs s e)
 ]
 
-pub first-empty : first_table [] ≡ empty_table
+pub first-empty : (rules : Rules) → first_table rules [] ≡ empty_table rules
 unfolding first_table
-first-empty = refl
+first-empty rules = refl
 
 -- the table of one service more
-pub first-more : (ss : List Service) (s : Service) → s.level ≤ 14 → first_table (ss ++ s ∷ []) ≡ table_after_add (first_table ss) (image_of_program s.program) s.masks s.level s.best s.quantum
+pub first-more : (rules : Rules) (ss : List Service) (s : Service) → s.level ≤ 14 → first_table rules (ss ++ s ∷ []) ≡ table_after_add (first_table rules ss) (image_of_program s.program) s.masks s.level s.best s.quantum
 unfolding first_table
-first-more ss s low =
+first-more rules ss s low =
     let f = λ (level : ℕ). slots_from 0 level ss in
     let g = λ (level : ℕ). slots_from 0 level (ss ++ s ∷ []) in
     let there : g s.level ≡ list_at (map f (range_with_len 0 16)) s.level ++ length (map first_process ss) ∷ [] =
@@ -74,12 +75,12 @@ first-more ss s low =
     map-set f g 0 16 s.level s.level (omega arith) (omega arith) (λ j m. slots-more_other 0 j ss s m)
     ∙ ap (slice_set (map f (range_with_len 0 16)) s.level) there in
     let slots : map first_process (ss ++ s ∷ []) ≡ map first_process ss ++ first_process s ∷ [] = map-append first_process ss (s ∷ []) in
-    ap (λ l. let w : TableState = record empty_table { slots = l; ready = map g (range_with_len 0 16) } in w) slots
-    ∙ ap (λ r. let w : TableState = record empty_table { slots = map first_process ss ++ first_process s ∷ []; ready = r } in w) ready
+    ap (λ l. let w : TableState = record (empty_table rules) { slots = l; ready = map g (range_with_len 0 16) } in w) slots
+    ∙ ap (λ r. let w : TableState = record (empty_table rules) { slots = map first_process ss ++ first_process s ∷ []; ready = r } in w) ready
 
-pub first-used : (ss : List Service) → length (first_table ss).slots ≡ length ss
+pub first-used : (rules : Rules) (ss : List Service) → length (first_table rules ss).slots ≡ length ss
 unfolding first_table
-first-used ss = length-map ss first_process
+first-used rules ss = length-map ss first_process
 
 -- ---- what holds at boot
 
@@ -117,9 +118,9 @@ none_out : (X : Type 0) (n : ℕ) → out_count (nothings X n) ≡ 0
 none_out X zero = refl
 none_out X (suc n) = none_out X n
 
-pub boot_holds : (ss : List Service) (cpus capacity : ℕ) → capacity ≤ 2 ^ 20 → IsConsistent (first_table ss) (replicate cpus None) ss 0 capacity
+pub boot_holds : (rules : Rules) (ss : List Service) (cpus capacity : ℕ) → capacity ≤ 2 ^ 20 → IsConsistent (first_table rules ss) (replicate cpus None) ss 0 capacity
 unfolding first_table
-boot_holds ss cpus capacity fits = record {
+boot_holds rules ss cpus capacity fits = record {
   room = omega (arith, none_out Lease cpus);
   size = fits;
   uptime = omega arith;
@@ -137,13 +138,13 @@ no_lease : (n : ℕ) → map lease_of (replicate n None) ≡ replicate n None
 no_lease zero = refl
 no_lease (suc n) = ap (λ l. None ∷ l) (no_lease n)
 
-pub boot_agrees : (ss : List Service) (cpus others capacity room : ℕ) (leases : List (Option Lease)) (items : List Record) → cpus ≤ 8 → leases ≡ replicate cpus None → items ≡ [] → capacity ≤ room
-    → IsAtReplay (record { table = first_table ss; leases = leases; others = others; services = ss; records = 0; capacity = capacity }) room (record { boot = world_at_boot_with ss cpus others capacity; history = items })
+pub boot_agrees : (rules : Rules) (ss : List Service) (cpus others capacity room : ℕ) (leases : List (Option Lease)) (items : List Record) → cpus ≤ 8 → leases ≡ replicate cpus None → items ≡ [] → capacity ≤ room
+    → IsAtReplay (record { table = first_table rules ss; leases = leases; others = others; services = ss; records = 0; capacity = capacity }) room (record { boot = world_at_boot_with rules ss cpus others capacity; history = items })
 unfolding replay
-boot_agrees ss cpus others capacity room leases items eight idle none fits =
-    subst (λ l. IsAtReplay (record { table = first_table ss; leases = leases; others = others; services = ss; records = 0; capacity = capacity }) room (record { boot = world_at_boot_with ss cpus others capacity; history = l })) (sym none)
+boot_agrees rules ss cpus others capacity room leases items eight idle none fits =
+    subst (λ l. IsAtReplay (record { table = first_table rules ss; leases = leases; others = others; services = ss; records = 0; capacity = capacity }) room (record { boot = world_at_boot_with rules ss cpus others capacity; history = l })) (sym none)
     (record {
-      present = ap (λ (l : List (Option Lease)). let d : KernelState = record { table = first_table ss; leases = l; others = others; services = ss; records = 0; capacity = capacity } in d) (idle ∙ sym (no_lease cpus));
+      present = ap (λ (l : List (Option Lease)). let d : KernelState = record { table = first_table rules ss; leases = l; others = others; services = ss; records = 0; capacity = capacity } in d) (idle ∙ sym (no_lease cpus));
       records = refl;
       space = fits;
       accepted = tt;

@@ -20,6 +20,7 @@ use Rattle.mx_machine_world.specs.declared.history.Recorded.{Recorded}
 use Rattle.mx_machine_world.specs.declared.history.Recorded.TheVariants as recorded
 use Rattle.mx_machine_world.specs.declared.holding.Lease.{Lease}
 use Rattle.mx_machine_world.specs.declared.holding.Out.{Out}
+use Rattle.mx_proc.specs.declared.windows.Rules.{Rules}
 use Rattle.mx_machine_world.specs.Boot.{world_at_boot_with}
 use Rattle.mx_machine_world.specs.Held.{held_run, IsBack}
 use Rattle.mx_machine_world.specs.History.{BootAndHistory, AreAccepted, IsWritable, events_of, events_of_history, world_after_events, replay, with_record}
@@ -345,28 +346,28 @@ back_agrees d n room more k a l o x h at s same after written bigger =
 -- ---- a kernel by its parts
 
 -- what a kernel is seen as
-abbrev pub kept_of : KernelState → ℕ → List Record → BootAndHistory
-kept_of d n records = record { boot = world_at_boot_with d.services n d.others d.capacity; history = records }
+abbrev pub kept_of : Rules → KernelState → ℕ → List Record → BootAndHistory
+kept_of rules d n records = record { boot = world_at_boot_with rules d.services n d.others d.capacity; history = records }
 
--- the same services, others and capacity
-boot-same : (d m : KernelState) (n : ℕ) (records : List Record) → m.services ≡ d.services → m.others ≡ d.others → m.capacity ≡ d.capacity → kept_of m n records ≡ kept_of d n records
-boot-same d m n records s o c =
-    ap (λ x. let k : BootAndHistory = record { boot = world_at_boot_with x n m.others m.capacity; history = records } in k) s
-    ∙ ap (λ x. let k : BootAndHistory = record { boot = world_at_boot_with d.services n x m.capacity; history = records } in k) o
-    ∙ ap (λ x. let k : BootAndHistory = record { boot = world_at_boot_with d.services n d.others x; history = records } in k) c
+-- the same services, others and capacity, by the same rules
+boot-same : (rules : Rules) (d m : KernelState) (n : ℕ) (records : List Record) → m.services ≡ d.services → m.others ≡ d.others → m.capacity ≡ d.capacity → kept_of rules m n records ≡ kept_of rules d n records
+boot-same rules d m n records s o c =
+    ap (λ x. let k : BootAndHistory = record { boot = world_at_boot_with rules x n m.others m.capacity; history = records } in k) s
+    ∙ ap (λ x. let k : BootAndHistory = record { boot = world_at_boot_with rules d.services n x m.capacity; history = records } in k) o
+    ∙ ap (λ x. let k : BootAndHistory = record { boot = world_at_boot_with rules d.services n d.others x; history = records } in k) c
 
-pub recorded_by : (d m : KernelState) (n a : ℕ) (records more : List Record) (x : Recorded) → m.services ≡ d.services → m.others ≡ d.others → m.capacity ≡ d.capacity → more ≡ records ++ record { actor = a; event = x } ∷ []
-    → kept_of m n more ≡ with_record (kept_of d n records) a x
-recorded_by d m n a records more x s o c e = boot-same d m n more s o c ∙ ap (λ l. kept_of d n l) e
+pub recorded_by : (rules : Rules) (d m : KernelState) (n a : ℕ) (records more : List Record) (x : Recorded) → m.services ≡ d.services → m.others ≡ d.others → m.capacity ≡ d.capacity → more ≡ records ++ record { actor = a; event = x } ∷ []
+    → kept_of rules m n more ≡ with_record (kept_of rules d n records) a x
+recorded_by rules d m n a records more x s o c e = boot-same rules d m n more s o c ∙ ap (λ l. kept_of rules d n l) e
 
-pub after_taking : (d m : KernelState) (n a s : ℕ) (records more : List Record) (o : Out) → HasTaken d m a s o → more ≡ records ++ record { actor = a; event = recorded.Take } ∷ [] → kept_of m n more ≡ with_record (kept_of d n records) a recorded.Take
-after_taking d m n a s records more o h e = recorded_by d m n a records more recorded.Take (ap (λ (d : KernelState). d.services) h.after) (ap (λ (d : KernelState). d.others) h.after) (ap (λ (d : KernelState). d.capacity) h.after) e
+pub after_taking : (rules : Rules) (d m : KernelState) (n a s : ℕ) (records more : List Record) (o : Out) → HasTaken d m a s o → more ≡ records ++ record { actor = a; event = recorded.Take } ∷ [] → kept_of rules m n more ≡ with_record (kept_of rules d n records) a recorded.Take
+after_taking rules d m n a s records more o h e = recorded_by rules d m n a records more recorded.Take (ap (λ (d : KernelState). d.services) h.after) (ap (λ (d : KernelState). d.others) h.after) (ap (λ (d : KernelState). d.capacity) h.after) e
 
-pub after_acting : (d m : KernelState) (n a : ℕ) (records more : List Record) (e : Event) (x : Answer) → HasAccepted d m e x → more ≡ records ++ record { actor = a; event = recorded_as e } ∷ [] → kept_of m n more ≡ with_record (kept_of d n records) a (recorded_as e)
-after_acting d m n a records more e x h i = recorded_by d m n a records more (recorded_as e) (ap (λ (d : KernelState). d.services) h.after) (ap (λ (d : KernelState). d.others) h.after) (ap (λ (d : KernelState). d.capacity) h.after) i
+pub after_acting : (rules : Rules) (d m : KernelState) (n a : ℕ) (records more : List Record) (e : Event) (x : Answer) → HasAccepted d m e x → more ≡ records ++ record { actor = a; event = recorded_as e } ∷ [] → kept_of rules m n more ≡ with_record (kept_of rules d n records) a (recorded_as e)
+after_acting rules d m n a records more e x h i = recorded_by rules d m n a records more (recorded_as e) (ap (λ (d : KernelState). d.services) h.after) (ap (λ (d : KernelState). d.others) h.after) (ap (λ (d : KernelState). d.capacity) h.after) i
 
-pub after_returning : (d m : KernelState) (n a s : ℕ) (records more : List Record) (o : Out) → m ≡ state_after_back d a s o → more ≡ records ++ record { actor = a; event = recorded.Back o.count } ∷ [] → kept_of m n more ≡ with_record (kept_of d n records) a (recorded.Back o.count)
-after_returning d m n a s records more o h e = recorded_by d m n a records more (recorded.Back o.count) (ap (λ (d : KernelState). d.services) h) (ap (λ (d : KernelState). d.others) h) (ap (λ (d : KernelState). d.capacity) h) e
+pub after_returning : (rules : Rules) (d m : KernelState) (n a s : ℕ) (records more : List Record) (o : Out) → m ≡ state_after_back d a s o → more ≡ records ++ record { actor = a; event = recorded.Back o.count } ∷ [] → kept_of rules m n more ≡ with_record (kept_of rules d n records) a (recorded.Back o.count)
+after_returning rules d m n a s records more o h e = recorded_by rules d m n a records more (recorded.Back o.count) (ap (λ (d : KernelState). d.services) h) (ap (λ (d : KernelState). d.others) h) (ap (λ (d : KernelState). d.capacity) h) e
 
 -- there is room for a record more
 pub room_for : (d m : KernelState) (room : ℕ) (k : BootAndHistory) → IsAtReplay d room k → HoldsOf m → m.records ≡ d.records + 1 → m.capacity ≡ d.capacity → length k.history < room

@@ -1,5 +1,6 @@
 -- Where a kernel stands, by what it keeps in mind: of what is out it knows slot and budget.
 use Rattle.std.specs.Prelude.{◌≡◌, ◌<◌, ◌≤◌, ℕ, ◌+◌, ◌-◌, ◌*◌, ◌%◌, ◌^◌, true, false, nat_lt, if◌then◌else◌, List, map, length, replicate, Option, Some, None, Result, Ok, Err, slice_get, slice_set}
+use Rattle.mx_proc.specs.declared.windows.Rules.{Rules}
 use Rattle.mx_proc.specs.Endpoints.{is_alive}
 use Rattle.mx_proc.specs.Queues.{first_ready}
 use Rattle.mx_proc.specs.States.{is_ready, is_down}
@@ -34,8 +35,8 @@ pub record KernelState : Type 0 where
   pub capacity : ℕ
 
 -- where one stands at boot
-abbrev pub kernel_state_at_boot : List Service → ℕ → ℕ → ℕ → KernelState
-kernel_state_at_boot services cpus others capacity = record { table = first_table services; leases = replicate cpus None; others = others; services = services; records = 0; capacity = capacity }
+abbrev pub kernel_state_at_boot : Rules → List Service → ℕ → ℕ → ℕ → KernelState
+kernel_state_at_boot rules services cpus others capacity = record { table = first_table rules services; leases = replicate cpus None; others = others; services = services; records = 0; capacity = capacity }
 
 -- what a kernel knows of a machine
 abbrev pub kernel_state_of : World → KernelState

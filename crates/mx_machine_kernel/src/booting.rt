@@ -8,7 +8,7 @@ ghost use Rattle.mx_machine_kernel.specs.KernelState.{kernel_state_at_boot};
 use crate::current::CurrentState;
 use mx_load::load;
 use mx_machine_world::{Config, Lease};
-use mx_proc::Table;
+use mx_proc::{Rules, Table};
 use mx_respawn::Service;
 use mx_word::NoMemory;
 use std::alloc::Global;
@@ -16,9 +16,9 @@ use std::mem;
 
 /// Gives each service its slot, with its program loaded.
 fn enter(alloc: Global, table: &mut Table, services: &[Service]) -> Result<(), NoMemory>
-    requires empty { table.old ≡ empty_table }
+    requires empty { table.old ≡ empty_table table.old.rules }
     requires few { length services.now ≤ 32 }
-    ensures { OnOk result (table.new ≡ first_table services.now) }
+    ensures { OnOk result (table.new ≡ first_table table.old.rules services.now) }
 {
     for service in services {
         let mut image = load(alloc, &service.program)?;
@@ -35,11 +35,11 @@ fn enter(alloc: Global, table: &mut Table, services: &[Service]) -> Result<(), N
 }
 
 /// The table of services.
-fn first_table(alloc: Global, services: &[Service]) -> Result<Table, NoMemory>
+fn first_table(alloc: Global, rules: Rules, services: &[Service]) -> Result<Table, NoMemory>
     requires { length services.now ≤ 32 }
-    ensures { IfOk result (λ table. table ≡ first_table services.now) }
+    ensures { IfOk result (λ table. table ≡ first_table rules services.now) }
 {
-    let mut table = Table::new(alloc)?;
+    let mut table = Table::new(alloc, rules)?;
     enter(alloc, &mut table, services)?;
     Ok(table)
 }
@@ -59,11 +59,11 @@ pub(crate) fn first_present(
     services: &mut Vec<Service>,
 ) -> Result<CurrentState, NoMemory>
     requires { length services.old.items ≤ 32 }
-    ensures booted { IfOk result (λ present. present ≡ kernel_state_at_boot services.old.items config.now.cpus config.now.others config.now.log) }
+    ensures booted { IfOk result (λ present. present ≡ kernel_state_at_boot config.now.rules services.old.items config.now.cpus config.now.others config.now.log) }
     ensures emptied { OnOk result (services.new.items ≡ []) }
     ensures same { OnErr result (services.new.items ≡ services.old.items) }
 {
-    let table = first_table(alloc, services.as_slice())?;
+    let table = first_table(alloc, config.rules, services.as_slice())?;
     let leases = no_leases(alloc, config.cpus)?;
     let entered = mem::replace(services, Vec::new(alloc));
     let present = CurrentState::new(table, leases, config.others, entered, config.log);

@@ -20,7 +20,7 @@ use crate::current::CurrentState;
 use mx_machine_world::{
     Answer, Config, Decoded, Event, Out, Record, Recorded, Refusal, runs_are_steps,
 };
-use mx_proc::{Delivery, Slot, Table};
+use mx_proc::{Delivery, Rules, Slot, Table};
 use mx_respawn::Service;
 use mx_word::NoMemory;
 use std::alloc::Global;
@@ -34,6 +34,7 @@ pub struct Kernel {
     present: CurrentState,
     records: Vec<Record>,
     processors: u8,
+    rules: Rules,
     caches: Caches,
 }
 
@@ -45,9 +46,9 @@ impl Model for Kernel {
 
     ghost Value = { BootAndHistory };
 
-    ghost view = { λ k. record { boot = world_at_boot_with k.present.services k.processors k.present.others k.present.capacity; history = k.records.items } };
+    ghost view = { λ k. record { boot = world_at_boot_with k.rules k.present.services k.processors k.present.others k.present.capacity; history = k.records.items } };
 
-    ghost invariant = { λ k. IsAtReplay k.present (vec_capacity k.records) (record { boot = world_at_boot_with k.present.services k.processors k.present.others k.present.capacity; history = k.records.items }) };
+    ghost invariant = { λ k. IsAtReplay k.present (vec_capacity k.records) (record { boot = world_at_boot_with k.rules k.present.services k.processors k.present.others k.present.capacity; history = k.records.items }) };
 }
 
 /// Adds a record, where there is room.
@@ -95,6 +96,7 @@ impl Kernel {
             present,
             records,
             processors: config.cpus,
+            rules: config.rules,
             caches,
         })
     }
@@ -168,6 +170,14 @@ impl Kernel {
         self.processors
     }
 
+    /// By which rules the machine was booted.
+    #[tactic(auto, unfolding(mx_machine_world::specs::Boot::first_table))]
+    pub fn rules(&self) -> Rules
+        ensures { result ≡ self.now.boot.table.rules }
+    {
+        self.rules
+    }
+
     /// The kernel's table of processes.
     pub fn table(&self) -> &Table
         ensures { result.now ≡ (replay self.now).table }
@@ -197,6 +207,7 @@ impl Kernel {
             present,
             records: _,
             processors: _,
+            rules: _,
             caches: _,
         } = self;
         present.into_services()

@@ -4,6 +4,7 @@ use Rattle.std.specs.Prelude.{ℕ, ◌+◌, ◌==◌, List, [], ◌∷◌, None,
 use Rattle.std.specs.List.{range_with_len}
 use Rattle.mx_kcall.specs.Load.{image_of_program}
 use Rattle.mx_proc.specs.declared.process.Process.{Process}
+use Rattle.mx_proc.specs.declared.windows.Rules.{Rules}
 use Rattle.mx_proc.specs.TableState.{TableState, empty_table, new_process}
 use Rattle.mx_kcall.specs.Service.{Service}
 use Rattle.mx_machine_world.specs.declared.config.Config.{Config}
@@ -19,16 +20,16 @@ slots_from n level [] = []
 slots_from n level (s ∷ ss) = if s.level == level then n ∷ slots_from (n + 1) level ss else slots_from (n + 1) level ss
 
 -- one slot for each service, queued in slot order; all else is as in an empty table
-unfoldable pub first_table : List Service → TableState
-first_table services = record empty_table {
+unfoldable pub first_table : Rules → List Service → TableState
+first_table rules services = record (empty_table rules) {
   slots = map first_process services;
   ready = map (λ level. slots_from 0 level services) (range_with_len 0 16);
 }
 
 -- BOOT: no processor has a process, and there are no records
-abbrev pub world_at_boot_with : List Service → ℕ → ℕ → ℕ → World
-world_at_boot_with services cpus others capacity = record {
-  table = first_table services;
+abbrev pub world_at_boot_with : Rules → List Service → ℕ → ℕ → ℕ → World
+world_at_boot_with rules services cpus others capacity = record {
+  table = first_table rules services;
   cpus = replicate cpus None;
   others = others;
   services = services;
@@ -37,4 +38,4 @@ world_at_boot_with services cpus others capacity = record {
 }
 
 abbrev pub world_at_boot : Config → List Service → World
-world_at_boot config services = world_at_boot_with services config.cpus config.others config.log
+world_at_boot config services = world_at_boot_with config.rules services config.cpus config.others config.log

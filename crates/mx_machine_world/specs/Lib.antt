@@ -1,4 +1,5 @@
 pub use Rattle.mx_respawn.specs.Labels
+pub use Rattle.mx_proc.specs.declared.windows.Rules
 pub use Rattle.mx_respawn.specs.declared.label.Label
 pub mod Refusals
 pub mod Held

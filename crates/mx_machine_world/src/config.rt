@@ -2,7 +2,7 @@
 
 ghost use Rattle.std.specs.Prelude.{◌≡◌, ◌<◌, ◌≤◌, length, string_bytes};
 
-use mx_proc::Masks;
+use mx_proc::{Masks, Rules};
 use mx_respawn::Label;
 use std::marker::Model;
 
@@ -97,6 +97,8 @@ pub struct Config {
     pub others: u8,
     /// How many records the history has room for.
     pub log: u32,
+    /// By which it copies between processes.
+    pub rules: Rules,
     /// One line for each service.
     pub lines: ServiceLines,
     ghost some_cpus: { 0 < cpus },

@@ -17,5 +17,5 @@ pub use holding::{Held, Lease, Out};
 pub use laws::{
     actors_stay, back_empties, held_runs_join, others_keep, parts_join, runs_are_steps,
 };
-pub use mx_proc::Masks;
+pub use mx_proc::{Masks, Rules};
 pub use mx_respawn::Label;

@@ -48,6 +48,7 @@ reclocked w t b h = record {
       ticks = k.process.ticks;
       generation = k.process.generation;
       pending = k.process.pending;
+      windows = k.process.windows;
       alarm = due_before (process_at w s).alarm w.uptime t (2 ^ 32) b k.process.alarm;
       buffer = k.process.buffer;
     };
@@ -105,6 +106,7 @@ forgotten_sound w s h = let used : length (map (without_bit_of s) w.slots) ≡ l
         generation = k.process.generation;
         ticks = k.process.ticks;
         pending = length-set _ _ _ ∙ k.process.pending;
+        windows = length-set _ _ _ ∙ k.process.windows;
         alarm = k.process.alarm;
         buffer = k.process.buffer;
       };
@@ -177,6 +179,7 @@ copied_sound w n s at bytes ps v h b room e =
       generation = refl;
       ticks = refl;
       pending = refl;
+      windows = refl;
       alarm = refl;
       buffer = refl;
       memory = length-overwritten q.image.memory at bytes room;

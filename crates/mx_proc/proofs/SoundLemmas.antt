@@ -334,7 +334,7 @@ no_chain _ _ (one_pair p q h) = h
 no_chain _ _ (and_then p q r h g) = h
 
 nobody_is : (uptime : ℕ) → IsProcess uptime nobody
-nobody_is uptime = record { level = omega arith; best = omega arith; quantum = omega arith; ticks = omega arith; generation = lit< tt; pending = refl; alarm = _; buffer = λ m. cc }
+nobody_is uptime = record { level = omega arith; best = omega arith; quantum = omega arith; ticks = omega arith; generation = lit< tt; pending = refl; windows = refl; alarm = _; buffer = λ m. cc }
 
 pub founded : (w : TableState) → w.slots ≡ [] → w.ready ≡ replicate 16 [] → w.waits ≡ [] → w.devices ≡ no_devices → Sound w
 founded w a b d e =

@@ -37,6 +37,7 @@ state_set w n s q st v h b e o still room =
       generation = k.generation;
       ticks = k.ticks;
       pending = k.pending;
+      windows = k.windows;
       alarm = k.alarm;
       buffer = λ m. subst (λ p. HasBuffer p) (sym is) (room m);
     }))
@@ -50,6 +51,7 @@ pub record Alike (q p : Process) : Type 0 where
   pub generation : p.generation ≡ q.generation
   pub ticks : p.ticks ≡ q.ticks
   pub pending : length p.pending ≡ length q.pending
+  pub windows : length p.windows ≡ length q.windows
   pub alarm : p.alarm ≡ q.alarm
   pub buffer : p.image.regs.ebx ≡ q.image.regs.ebx
   pub memory : length p.image.memory ≡ length q.image.memory
@@ -65,6 +67,7 @@ alike w n s q p v h b e a =
       generation = subst (λ g. g < 2 ^ 20) (sym a.generation) k.generation;
       ticks = omega (arith, k.ticks, a.ticks);
       pending = a.pending ∙ k.pending;
+      windows = a.windows ∙ k.windows;
       alarm = subst (λ o. IfSome o (λ due. due < n.uptime + 2 ^ 32)) (sym a.alarm) k.alarm;
       buffer = λ m. let r : HasBuffer q = k.buffer (ap is_blocked (sym a.state) ∙ m) in omega (arith, r, a.buffer, a.memory);
     }))
@@ -75,7 +78,7 @@ alarm_set w n s q due v h b e bound =
     let is = the_process w n s q v b e in
     let k = is_process w n s q v h is in
     renamed w n s (record q { alarm = due }) v (stays n s (record q { alarm = due }) (subst Sound v h) b (ap (λ (p : Process). p.state) is) (ap (λ (p : Process). p.level) is)
-    (record { level = k.level; best = k.best; quantum = k.quantum; ticks = k.ticks; generation = k.generation; pending = k.pending; alarm = bound; buffer = k.buffer }))
+    (record { level = k.level; best = k.best; quantum = k.quantum; ticks = k.ticks; generation = k.generation; pending = k.pending; windows = k.windows; alarm = bound; buffer = k.buffer }))
 
 -- who is ready stands in the list of its level
 pub ready_listed : (w n : TableState) (s : ℕ) (q : Process) → w ≡ n → Sound w → s < length n.slots → q ≡ get_or w.slots s q → is_ready (process_at n s).state ≡ true → 1 ≤ times s (list_at w.ready q.level)
@@ -93,9 +96,9 @@ sending_waits w n s v h y =
 
 -- ready, in the list of a level
 pub listed : (w n w' : TableState) (s level : ℕ) (list : List ℕ) (q p : Process) → w ≡ n → Sound w → s < length n.slots → q ≡ get_or w.slots s q → IsAlone (process_at n s).state
-    → level ≤ 14 → p.level ≡ level → p.state ≡ Ready → p.best ≡ q.best → q.best ≤ level → p.quantum ≡ q.quantum → p.generation ≡ q.generation → p.ticks ≤ 65535 → p.pending ≡ q.pending → p.alarm ≡ q.alarm
+    → level ≤ 14 → p.level ≡ level → p.state ≡ Ready → p.best ≡ q.best → q.best ≤ level → p.quantum ≡ q.quantum → p.generation ≡ q.generation → p.ticks ≤ 65535 → p.pending ≡ q.pending → p.windows ≡ q.windows → p.alarm ≡ q.alarm
     → w'.slots ≡ slice_set w.slots s p → w'.ready ≡ slice_set w.ready level list → w'.waits ≡ w.waits → w'.devices ≡ w.devices → w'.uptime ≡ w.uptime → ((t : ℕ) → times t list ≡ tally (s == t) + times t (list_at w.ready level)) → Sound w'
-listed w n w' s level list q p v h b e o low at st best high quantum generation ticks notes alarm slots r u f g counts =
+listed w n w' s level list q p v h b e o low at st best high quantum generation ticks notes panes alarm slots r u f g counts =
     let is = the_process w n s q v b e in
     let k = is_process_here w n s q v h is in
     placed w w' s level list p h (subst (λ (x : TableState). s < length x.slots) (sym v) b) (subst (λ x. IsAlone (process_at x s).state) (sym v) o) low at st (record {
@@ -105,12 +108,13 @@ listed w n w' s level list q p v h b e o low at st best high quantum generation 
       generation = subst (λ g. g < 2 ^ 20) (sym generation) k.generation;
       ticks = ticks;
       pending = ap length notes ∙ k.pending;
+      windows = ap length panes ∙ k.windows;
       alarm = subst (λ o. IfSome o (λ due. due < w.uptime + 2 ^ 32)) (sym alarm) k.alarm;
       buffer = λ m. let f : false ≡ true = ap is_blocked (sym st) ∙ m in cc;
     }) slots r u f g counts
 
 homed : (uptime : ℕ) (q : Process) → IsProcess uptime q → IsProcess uptime (record q { state = Home })
-homed uptime q k = record { level = k.level; best = k.best; quantum = k.quantum; generation = k.generation; ticks = k.ticks; pending = k.pending; alarm = k.alarm; buffer = λ m. cc }
+homed uptime q k = record { level = k.level; best = k.best; quantum = k.quantum; generation = k.generation; ticks = k.ticks; pending = k.pending; windows = k.windows; alarm = k.alarm; buffer = λ m. cc }
 
 pub unlisted : (w n w' : TableState) (s : ℕ) (q : Process) → w ≡ n → Sound w → s < length n.slots → q ≡ get_or w.slots s q → is_ready (process_at n s).state ≡ true
     → w'.slots ≡ slice_set w.slots s (record q { state = Home }) → w'.ready ≡ slice_set w.ready q.level (without s (list_at w.ready q.level)) → w'.waits ≡ w.waits → w'.devices ≡ w.devices → w'.uptime ≡ w.uptime → Sound w'
@@ -140,6 +144,7 @@ waiting w n w' s d q st v h b e i apart free o still sends room slots r u g same
       generation = k.generation;
       ticks = k.ticks;
       pending = k.pending;
+      windows = k.windows;
       alarm = k.alarm;
       buffer = λ m. subst (λ p. HasBuffer p) (sym is) room;
     }) slots r u g same

@@ -6,30 +6,37 @@ use Rattle.mx_proc.specs.declared.process.Process.{Process}
 use Rattle.mx_proc.specs.declared.process.State.TheVariants.{Down}
 use Rattle.mx_proc.specs.declared.process.DeathCause.{DeathCause}
 use Rattle.mx_proc.specs.declared.process.Source.TheVariants.{Slot}
+use Rattle.mx_proc.specs.declared.windows.Window.{Window}
 use Rattle.mx_proc.specs.Partners.{order_of_source}
 use Rattle.mx_proc.specs.TableState.{TableState, process_at, with_process, with_memory, memory_at}
 
 -- ---- death
 
--- a process without the pending bit of a slot
+-- a process without the pending bit of a slot, and without the window for it
 abbrev pub without_bit_of : ℕ → Process → Process
-without_bit_of s p = record p { pending = slice_set p.pending (order_of_source (Slot s)) false }
+without_bit_of s p = record p { pending = slice_set p.pending (order_of_source (Slot s)) false; windows = slice_set p.windows s None }
 
 -- an owner, unless it is this slot
 abbrev pub owner_but : ℕ → Option ℕ → Option ℕ
 owner_but s None = None
 owner_but s (Some t) = if t == s then None else Some t
 
--- nobody has a bit of a slot, and no line is its
+-- nobody has a bit of a slot or a window for it, and no line is its
 abbrev pub table_after_forgetting : TableState → ℕ → TableState
 table_after_forgetting w s = record w {
   slots = map (without_bit_of s) w.slots;
   devices = record w.devices { owners = map (owner_but s) w.devices.owners };
 }
 
--- a process is down, with nothing pending
+-- a process is down, with nothing pending and no windows
 abbrev pub table_after_burial : TableState → ℕ → DeathCause → TableState
-table_after_burial w s cause = with_process w s (record (process_at w s) { state = Down cause; pending = replicate 34 false; lines = 0; alarm = None })
+table_after_burial w s cause = with_process w s (record (process_at w s) { state = Down cause; pending = replicate 34 false; lines = 0; alarm = None; windows = replicate 32 None })
+
+-- ---- windows
+
+-- what the process of one slot (the second) may use of another's memory is this now
+abbrev pub with_window : TableState → ℕ → ℕ → Option Window → TableState
+with_window w s t window = let p = process_at w s in with_process w s (record p { windows = slice_set p.windows t window })
 
 -- ---- alarms, lines and the clock
 

@@ -23,6 +23,7 @@ pub record IsProcess (uptime : ℕ) (p : Process) : Type 0 where
   pub ticks : p.ticks ≤ 65535
   pub generation : p.generation < 2 ^ 20
   pub pending : length p.pending ≡ 34
+  pub windows : length p.windows ≡ 32
   -- an alarm rings in fewer than 2^32 ticks
   pub alarm : IfSome p.alarm (λ due. due < uptime + 2 ^ 32)
   -- who sends or receives has its buffer inside

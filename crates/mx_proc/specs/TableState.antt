@@ -17,6 +17,8 @@ use Rattle.mx_proc.specs.declared.deliveries.Delivery.{Delivery}
 use Rattle.mx_proc.specs.declared.deliveries.DeliveryKind.{DeliveryKind}
 use Rattle.mx_proc.specs.declared.deliveries.DeliveryKind.TheVariants.{Message, Notification}
 use Rattle.mx_proc.specs.declared.devices.Devices.{Devices}
+use Rattle.mx_proc.specs.declared.windows.Window.{Window}
+use Rattle.mx_proc.specs.declared.windows.Rules.{Rules}
 use Rattle.mx_proc.specs.Devices.{no_devices}
 use Rattle.mx_proc.specs.Messages.{with_source, type_of, notification}
 use Rattle.mx_proc.specs.Partners.{order_of_source, source_in_order, lines_in_notification, first_pending}
@@ -35,10 +37,12 @@ pub record TableState : Type 0 where
   pub uptime : ℕ
   pub devices : Devices
   pub deliveries : List Delivery
+  -- by which it copies between processes
+  pub rules : Rules
 
 -- a table as it is made
-abbrev pub empty_table : TableState
-empty_table = record { slots = []; ready = replicate 16 []; waits = []; renewed = None; uptime = 0; devices = no_devices; deliveries = [] }
+abbrev pub empty_table : Rules → TableState
+empty_table rules = record { slots = []; ready = replicate 16 []; waits = []; renewed = None; uptime = 0; devices = no_devices; deliveries = []; rules = rules }
 
 -- what stands where no process is
 abbrev pub nobody : Process
@@ -55,6 +59,7 @@ nobody = record {
   pending = replicate 34 false;
   lines = 0;
   alarm = None;
+  windows = replicate 32 None;
   image = blank;
 }
 
@@ -85,6 +90,10 @@ with_memory w s bytes = let p = process_at w s in with_process w s (record p { i
 
 abbrev pub with_pending : TableState → ℕ → ℕ → Bool → TableState
 with_pending w s place bit = let p = process_at w s in with_process w s (record p { pending = slice_set p.pending place bit })
+
+-- what the process of one slot (the second) may use of another's memory
+abbrev pub window_of : TableState → ℕ → ℕ → Option Window
+window_of w s t = slice_index_or (process_at w s).windows t None
 
 -- the endpoint of the process in a slot
 abbrev pub endpoint_of : TableState → ℕ → ℕ

@@ -10,6 +10,7 @@ mod process;
 mod ready;
 mod table;
 mod waits;
+mod windows;
 
 pub use console::Console;
 pub use deliveries::{Deliveries, Delivery, DeliveryKind};
@@ -17,3 +18,4 @@ pub use devices::Devices;
 pub use errors::Errno;
 pub use process::{DeathCause, Endpoint, Masks, Partner, Process, Slot, Source, State};
 pub use table::{Stale, Table};
+pub use windows::{Access, Rules, Window};

@@ -4,6 +4,7 @@ ghost use Rattle.std.specs.Prelude.{◌≡◌, ◌<◌, ◌≤◌, length, IfSom
 ghost use Rattle.mx_proc.specs.Partners.{order_of_source, source_in_order, lines_in_notification, may_be, first_pending};
 ghost use Rattle.mx_proc.specs.States.{is_ready, is_down};
 
+use crate::windows::Window;
 use mx_exec::Image;
 
 /// A slot of the table, 0 to 31.
@@ -164,6 +165,8 @@ pub struct Process {
     pub lines: u32,
     /// The uptime at which the alarm rings.
     pub alarm: Option<u64>,
+    /// What the process of each slot may use of this one's memory.
+    pub windows: [Option<Window>; 32],
     pub image: Image,
 }
 

@@ -11,6 +11,7 @@ use crate::devices::Devices;
 use crate::process::{Endpoint, Masks, Process, Slot, State};
 use crate::ready::Ready;
 use crate::waits::Waits;
+use crate::windows::Rules;
 use mx_exec::Image;
 use mx_word::NoMemory;
 use std::alloc::Global;
@@ -37,6 +38,7 @@ pub struct Table {
     uptime: u32,
     devices: Devices,
     deliveries: Deliveries,
+    rules: Rules,
 }
 
 impl Model for Table {
@@ -45,9 +47,9 @@ impl Model for Table {
 
     ghost Value = { TableState };
 
-    ghost view = { λ t. record { slots = t.slots.items; ready = t.ready; waits = t.waits; renewed = t.renewed; uptime = t.uptime; devices = t.devices; deliveries = t.deliveries } };
+    ghost view = { λ t. record { slots = t.slots.items; ready = t.ready; waits = t.waits; renewed = t.renewed; uptime = t.uptime; devices = t.devices; deliveries = t.deliveries; rules = t.rules } };
 
-    ghost invariant = { λ t. Sound (record { slots = t.slots.items; ready = t.ready; waits = t.waits; renewed = t.renewed; uptime = t.uptime; devices = t.devices; deliveries = t.deliveries }) };
+    ghost invariant = { λ t. Sound (record { slots = t.slots.items; ready = t.ready; waits = t.waits; renewed = t.renewed; uptime = t.uptime; devices = t.devices; deliveries = t.deliveries; rules = t.rules }) };
 }
 
 impl Table {
@@ -55,8 +57,8 @@ impl Table {
     ghost use Rattle.mx_proc.specs.Endpoints.{is_current};
 
     /// A table without processes, with room for all that it keeps.
-    pub fn new(alloc: Global) -> Result<Table, NoMemory>
-        ensures { IfOk result (λ table. table ≡ empty_table) }
+    pub fn new(alloc: Global, rules: Rules) -> Result<Table, NoMemory>
+        ensures { IfOk result (λ table. table ≡ empty_table rules) }
     {
         let slots = Vec::with_capacity(alloc, 32)?;
         let devices = Devices::new(alloc)?;
@@ -69,6 +71,7 @@ impl Table {
             uptime: 0,
             devices,
             deliveries,
+            rules,
         })
     }
 
@@ -106,6 +109,7 @@ impl Table {
             pending: [false; 34],
             lines: 0,
             alarm: None,
+            windows: [None; 32],
             image: mem::replace(image, Image::blank(alloc)),
         };
         match self.slots.push(process) {
@@ -188,6 +192,13 @@ impl Table {
         ensures { result ≡ self.now.uptime }
     {
         self.uptime
+    }
+
+    /// By which rules the machine copies.
+    pub fn rules(&self) -> Rules
+        ensures { result ≡ self.now.rules }
+    {
+        self.rules
     }
 
     /// A delivery that is kept, counted from the oldest.

@@ -44,6 +44,7 @@ table_after_freeing_all w (p ∷ ps) = table_after_freeing_all (table_after_free
 abbrev pub waiting_for : TableState → ℕ → List ℕ
 waiting_for w s = callers s w.waits ++ receivers s 0 w.slots
 
--- a process dies: it leaves its queue; who waits for it goes on; its bits, its alarm and its lines are cleared; it is down
+-- a process dies: it leaves its queue; who waits for it goes on; its bits, its alarm, its lines, its windows and those for it
+-- are cleared; it is down
 unfoldable pub table_after_death : TableState → ℕ → DeathCause → TableState
 table_after_death w s cause = let left = table_after_taking_out w s in table_after_burial (table_after_forgetting (table_after_freeing_all left (waiting_for left s)) s) s cause

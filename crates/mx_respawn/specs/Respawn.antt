@@ -26,6 +26,7 @@ next_process p v = record {
   pending = replicate 34 false;
   lines = 0;
   alarm = None;
+  windows = replicate 32 None;
   image = image_of_program v.program;
 }
 

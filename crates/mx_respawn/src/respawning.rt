@@ -43,6 +43,7 @@ fn next_process(dead: &Process, image: Image, service: &Service) -> Process
         pending: [false; 34],
         lines: 0,
         alarm: None,
+        windows: [None; 32],
         image,
     }
 }

@@ -4,7 +4,7 @@ ghost use Rattle.std.specs.Prelude.{◌≡◌, ◌<◌, ◌≤◌, All, IfOk, If
 
 use mx_aout::read;
 use mx_cpus::{ActorSeat, Naming};
-use mx_machine_world::{Config, FileName, Record, Recorded, ServiceLine, ServiceLines};
+use mx_machine_world::{Config, FileName, Record, Recorded, Rules, ServiceLine, ServiceLines};
 use mx_proc::Masks;
 use mx_respawn::{Label, Service};
 use std::alloc::Global;
@@ -77,6 +77,7 @@ pub fn config(alloc: Global, cpus: u8, log: u32, restarts: u32) -> Result<Config
         cpus,
         others: 1,
         log,
+        rules: Rules::Strict,
         lines: ServiceLines::from_vec(lines),
     })
 }

@@ -4,7 +4,7 @@ use crate::tables::{add_process, has_words, word_at};
 use mx_exec::Image;
 use mx_ipc::{receive, send};
 use mx_kcall::{After, call, raise, tick};
-use mx_proc::{DeathCause, Masks, Slot, State, Table};
+use mx_proc::{DeathCause, Masks, Rules, Slot, State, Table};
 use mx_sched::{dequeue, pick};
 use mx_word::{Register, Size};
 use std::alloc::Global;
@@ -154,7 +154,7 @@ static CASES: [Case; 58] = [
 
 /// Some processes that may make these kernel calls.
 fn processes(rt: &impl Abort, alloc: Global, used: u8, calls: u32) -> Result<Table, Fail> {
-    let mut table = Table::new(alloc)?;
+    let mut table = Table::new(alloc, Rules::Lenient)?;
     for _ in 0..used {
         let masks = Masks {
             traps: 0x1E,
@@ -201,7 +201,7 @@ pub(crate) fn make_trap(rt: &impl Abort, table: &mut Table, slot: Slot, sends: b
 }
 
 /// A ready process goes to a processor.
-fn send_away(rt: &impl Abort, table: &mut Table, slot: Slot) {
+pub(crate) fn send_away(rt: &impl Abort, table: &mut Table, slot: Slot) {
     assert!(rt; slot < table.used());
     assert!(rt; table.process(slot).state.is_ready());
     dequeue(table, slot);

@@ -6,7 +6,10 @@ use std::alloc::Global;
 use std::fmt::Write as _;
 use std::io;
 use std::io::Write;
+use std::sync::Wait;
 use std::test::Fail;
+use std::thread::Threads;
+use std::time::Clock;
 
 /// Holds the bytes that it takes, of which those count that were flushed; or refuses each write.
 #[derive(Drop)]
@@ -66,7 +69,7 @@ const SUMMED: &str = "EAX 00000080 ECX 00000000 EDX 00000000 EBX 00000000\n\
 const KILLED: &str = "done\ndone\nrefused 54 NoProcess\nrefused 41 Worn\nrefused 53 NoLine\n\
     refused 42 NoService\n";
 
-static DONE: [Done; 9] = [
+static DONE: [Done; 13] = [
     Done {
         words: &["mx", "one", "a.out", "9"],
         status: 0,
@@ -104,7 +107,27 @@ static DONE: [Done; 9] = [
         status: 0,
         printed: "done\ndone\nrefused 54 NoProcess\nrefused 41 Worn\nrefused 53 NoLine\n\
                   refused 42 NoService\n0 a 0 down kill 7 5\nuptime 1\nconsole 0\n",
-        file: Some(("new.log", b"1 tick\n1 kill 0\n")),
+        file: Some(("new.log", b"rules 2\n1 tick\n1 kill 0\n")),
+    },
+    // One processor, so the history is the same whatever the schedule.
+    Done {
+        words: &["mx", "run", "one", "new.log"],
+        status: 0,
+        printed: "0 a 0 down fault 13 7 1\nuptime 0\nconsole 0\n",
+        file: Some(("new.log", b"rules 2\n0 take\n0 back 3\n0 take\n0 back 1\n")),
+    },
+    Done {
+        words: &["mx", "run", "--ticks", "0", "one", "new.log"],
+        status: 0,
+        printed: "0 a 0 down fault 13 7 1\nuptime 0\nconsole 0\n",
+        file: Some(("new.log", b"rules 2\n0 take\n0 back 3\n0 take\n0 back 1\n")),
+    },
+    // A history without room for another take ends a run, and is no failure.
+    Done {
+        words: &["mx", "run", "full", "new.log"],
+        status: 0,
+        printed: "0 drv 0 receiving any 4 16\n1 cli 1 ready 7 20\nuptime 0\nconsole 0\n",
+        file: Some(("new.log", b"rules 2\n0 take\n0 back 4\n")),
     },
     Done {
         words: &["mx", "replay", "one", "whole"],
@@ -117,6 +140,13 @@ static DONE: [Done; 9] = [
         words: &["mx", "replay", "one", "early"],
         status: 1,
         printed: "line 1: refused 51 CpuEmpty\n",
+        file: None,
+    },
+    // The line of the rules is counted too.
+    Done {
+        words: &["mx", "trace", "one", "strict_early"],
+        status: 1,
+        printed: "line 2: refused 51 CpuEmpty\n",
         file: None,
     },
     Done {
@@ -134,7 +164,7 @@ struct Failed {
     told: &'static str,
 }
 
-static FAILED: [Failed; 29] = [
+static FAILED: [Failed; 40] = [
     Failed {
         words: &["mx", "one", "cut", "9"],
         status: 1,
@@ -159,6 +189,16 @@ static FAILED: [Failed; 29] = [
         words: &["mx", "step", "one", "tock"],
         status: 1,
         told: "mx: 73 BadRecord line 2\n",
+    },
+    Failed {
+        words: &["mx", "run", "bad", "new.log"],
+        status: 1,
+        told: "mx: 70 BadLine line 2\n",
+    },
+    Failed {
+        words: &["mx", "run", "cut_first", "new.log"],
+        status: 1,
+        told: "mx: 20 Truncated\n",
     },
     Failed {
         words: &["mx", "replay", "one", "look"],
@@ -201,6 +241,31 @@ static FAILED: [Failed; 29] = [
         told: "",
     },
     Failed {
+        words: &["mx", "run", "one"],
+        status: 2,
+        told: "",
+    },
+    Failed {
+        words: &["mx", "run", "one", "new.log", "--ticks"],
+        status: 2,
+        told: "",
+    },
+    Failed {
+        words: &["mx", "run", "one", "new.log", "--ticks", "4294967296"],
+        status: 2,
+        told: "",
+    },
+    Failed {
+        words: &["mx", "run", "one", "new.log", "--ticks", "many"],
+        status: 2,
+        told: "",
+    },
+    Failed {
+        words: &["mx", "replay", "one", "whole", "--ticks", "1"],
+        status: 2,
+        told: "",
+    },
+    Failed {
         words: &["mx", "replay", "one", "whole", "--save", "new.log"],
         status: 2,
         told: "",
@@ -232,6 +297,27 @@ static FAILED: [Failed; 29] = [
     },
     Failed {
         words: &["mx", "step", "one", "no_text"],
+        status: 3,
+        told: "mx: 80 File\n",
+    },
+    Failed {
+        words: &["mx", "run", "nothing", "new.log"],
+        status: 3,
+        told: "mx: 80 File\n",
+    },
+    Failed {
+        words: &["mx", "run", "none_first", "new.log"],
+        status: 3,
+        told: "mx: 80 File\n",
+    },
+    Failed {
+        words: &["mx", "run", "no_text", "new.log"],
+        status: 3,
+        told: "mx: 80 File\n",
+    },
+    // A configuration isn't written over by its own history.
+    Failed {
+        words: &["mx", "run", "one", "one"],
         status: 3,
         told: "mx: 80 File\n",
     },
@@ -283,13 +369,14 @@ static FAILED: [Failed; 29] = [
 ];
 
 /// Performs words, and answers the status; what is to be told is appended.
-fn perform(
+fn perform<R: Threads + Wait + Clock + Sync>(
     channels: &mut Held,
+    rt: &R,
     alloc: Global,
     words: &'static [&'static str],
     told: &mut String,
 ) -> u8 {
-    match perform_words(alloc, words, channels) {
+    match perform_words(rt, alloc, words, channels) {
         Ok(status) => status,
         Err(complaint) => {
             let _ = write!(told, "{complaint}");
@@ -313,10 +400,10 @@ fn is_kept(files: &[KeptFile], wanted: Option<(&str, &[u8])>) -> bool {
     }
 }
 
-fn is_done(alloc: Global, row: &Done) -> bool {
+fn is_done<R: Threads + Wait + Clock + Sync>(rt: &R, alloc: Global, row: &Done) -> bool {
     let mut channels = channels(alloc, None);
     let mut told = String::new(alloc);
-    perform(&mut channels, alloc, row.words, &mut told) == row.status
+    perform(&mut channels, rt, alloc, row.words, &mut told) == row.status
         && told.is_empty()
         && is_printed(&channels.out, row.printed)
         && is_kept(channels.files.files(), row.file)
@@ -324,7 +411,8 @@ fn is_done(alloc: Global, row: &Done) -> bool {
 
 /// Whether words end so, with nothing printed or written, where this breaks; a mistake in the words is told
 /// in lines of clap's own.
-fn is_told(
+fn is_told<R: Threads + Wait + Clock + Sync>(
+    rt: &R,
     alloc: Global,
     words: &'static [&'static str],
     refusal: Option<io::ErrorKind>,
@@ -333,7 +421,7 @@ fn is_told(
 ) -> bool {
     let mut channels = channels(alloc, refusal);
     let mut told = String::new(alloc);
-    let ended = perform(&mut channels, alloc, words, &mut told);
+    let ended = perform(&mut channels, rt, alloc, words, &mut told);
     let is_told = if status == 2 {
         told.as_str().starts_with("error: ")
     } else {
@@ -348,7 +436,7 @@ fn is_told(
 #[test]
 fn commands_done(rt: HostRuntime) -> Result<(), Fail> {
     for (number, row) in DONE.iter().enumerate() {
-        assert!(rt; is_done(rt.alloc(), row), "row {number}");
+        assert!(rt; is_done(&rt, rt.alloc(), row), "row {number}");
     }
     Ok(())
 }
@@ -357,7 +445,7 @@ fn commands_done(rt: HostRuntime) -> Result<(), Fail> {
 fn commands_failed(rt: HostRuntime) -> Result<(), Fail> {
     for (number, row) in FAILED.iter().enumerate() {
         assert!(rt;
-            is_told(rt.alloc(), row.words, None, row.status, row.told),
+            is_told(&rt, rt.alloc(), row.words, None, row.status, row.told),
             "row {number}"
         );
     }
@@ -371,40 +459,71 @@ fn commands_broken(rt: HostRuntime) -> Result<(), Fail> {
     let full = Some(io::ErrorKind::OutOfMemory);
     for (number, row) in DONE.iter().enumerate() {
         assert!(rt;
-            is_told(rt.alloc(), row.words, broken, 3, "mx: 80 File\n"),
+            is_told(&rt, rt.alloc(), row.words, broken, 3, "mx: 80 File\n"),
             "row {number}"
         );
         assert!(rt;
-            is_told(rt.alloc(), row.words, full, 4, "mx: 90 NoMemory\n"),
+            is_told(&rt, rt.alloc(), row.words, full, 4, "mx: 90 NoMemory\n"),
             "row {number}"
         );
     }
     Ok(())
 }
 
-/// A history that can't be written: the lines were done and printed, and no report follows.
+/// A history that can't be written: the lines of a script were done and printed, and no report follows.
 #[test]
 fn history_unwritten(rt: HostRuntime) {
     let alloc = rt.alloc();
-    let words: &[&str] = &["mx", "step", "one", "kills", "--save", "new.log"];
+    for (words, printed) in UNWRITTEN {
+        let mut channels = channels(alloc, None);
+        channels.files = MemoryWriter::refusing(alloc, io::ErrorKind::PermissionDenied);
+        let mut told = String::new(alloc);
+        let status = perform(&mut channels, &rt, alloc, words, &mut told);
+        assert!(rt; status == 3 && told.as_str() == "mx: 80 File\n");
+        assert!(rt; is_printed(&channels.out, printed) && is_kept(channels.files.files(), None));
+    }
+}
+
+/// Words that write a history, and what is printed before it.
+const UNWRITTEN: [(&[&str], &str); 2] = [
+    (&["mx", "step", "one", "kills", "--save", "new.log"], KILLED),
+    (&["mx", "run", "one", "new.log"], ""),
+];
+
+/// Three ticks come whenever they come, and the report is the same.
+#[test]
+fn run_with_ticks(rt: HostRuntime) {
+    let alloc = rt.alloc();
+    let words: &[&str] = &["mx", "run", "one", "new.log", "--ticks", "3"];
     let mut channels = channels(alloc, None);
-    channels.files = MemoryWriter::refusing(alloc, io::ErrorKind::PermissionDenied);
     let mut told = String::new(alloc);
-    let status = perform(&mut channels, alloc, words, &mut told);
-    assert!(rt; status == 3 && told.as_str() == "mx: 80 File\n");
-    assert!(rt; is_printed(&channels.out, KILLED) && is_kept(channels.files.files(), None));
+    let status = perform(&mut channels, &rt, alloc, words, &mut told);
+    assert!(rt; status == 0 && told.is_empty());
+    assert!(rt;
+        is_printed(
+            &channels.out,
+            "0 a 0 down fault 13 7 1\nuptime 3\nconsole 0\n"
+        )
+    );
+    let files = channels.files.files();
+    assert!(rt; files.len() == 1 && lines_in(files[0].bytes.as_slice()) == 7);
+}
+
+/// How many line feeds there are.
+fn lines_in(text: &[u8]) -> usize {
+    text.iter().filter(|byte| **byte == b'\n').count()
 }
 
 /// A subcommand's help ends with the example and the statuses of this subcommand.
 #[test]
 fn helps(rt: HostRuntime) -> Result<(), Fail> {
     for (words, ending) in HELPS {
-        assert!(rt; ends_so(rt.alloc(), words, ending), "{ending}");
+        assert!(rt; ends_so(&rt, rt.alloc(), words, ending), "{ending}");
     }
     Ok(())
 }
 
-const HELPS: [(&[&str], &str); 9] = [
+const HELPS: [(&[&str], &str); 11] = [
     (&["mx", "--help"], "  -V, --version  Print version\n"),
     (&["mx", "--version"], "mx 0.1\n"),
     (
@@ -449,6 +568,22 @@ docs/REFERENCE.md.
 ",
     ),
     (
+        &["mx", "run", "--help"],
+        "Status: 0 done, also if the history was full; 1 a text or a program's file is refused;
+2 a mistake in the words; 3 a file can't be read or written, or LOG is CONFIG; 4 no
+memory. Formats: docs/REFERENCE.md.
+",
+    ),
+    (
+        &["mx", "trace", "--help"],
+        "10   cli 1: out -> down exit
+
+Status: 0 done; 1 a text or a program's file is refused, or an event, which is told
+by its line; 2 a mistake in the words; 3 a file can't be read; 4 no memory. Formats:
+docs/REFERENCE.md.
+",
+    ),
+    (
         &["mx", "replay", "--help"],
         "Status: 0 done; 1 a text or a program's file is refused, or an event, which is told
 by its line; 2 a mistake in the words; 3 a file can't be read; 4 no memory. Formats:
@@ -466,10 +601,15 @@ docs/REFERENCE.md.
     ),
 ];
 
-fn ends_so(alloc: Global, words: &'static [&'static str], ending: &str) -> bool {
+fn ends_so<R: Threads + Wait + Clock + Sync>(
+    rt: &R,
+    alloc: Global,
+    words: &'static [&'static str],
+    ending: &str,
+) -> bool {
     let mut channels = channels(alloc, None);
     let mut told = String::new(alloc);
-    let status = perform(&mut channels, alloc, words, &mut told);
+    let status = perform(&mut channels, rt, alloc, words, &mut told);
     let out = &channels.out;
     status == 0
         && told.is_empty()

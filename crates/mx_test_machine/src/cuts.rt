@@ -3,12 +3,21 @@
 use crate::files::{CLIENT, DRIVER, PAIR};
 use mx_app_db::{BootError, Failure, NamedFile, NamedFiles, Replayed, replay};
 use std::alloc::Global;
+use std::process::Abort;
 
 /// A call, its answer, and the caller's end.
 const TURNS: &str =
     "0 take\n0 back 4\n0 take\n0 back 4\n0 take\n0 back 3\n0 take\n0 back 5\n0 take\n0 back 4\n";
 
-/// The report by the number of lines that are left.
+/// The same by the strict rules.
+const STRICT_TURNS: &str =
+    "rules 2\n0 take\n0 back 4\n0 take\n0 back 4\n0 take\n0 back 3\n0 take\n0 back 5\n\
+     0 take\n0 back 4\n";
+
+/// Each, and how many of its lines are above the records.
+static TEXTS: [(&str, usize); 2] = [(TURNS, 0), (STRICT_TURNS, 1)];
+
+/// The report by the number of records that are left.
 static REPORTS: [&str; 11] = [
     "0 drv 0 ready 4 20\n1 cli 1 ready 7 20\nuptime 0\nconsole 0\n",
     "0 drv 0 out 4 20\n1 cli 1 ready 7 20\nuptime 0\nconsole 0\n",
@@ -38,9 +47,9 @@ fn told(alloc: Global, text: &[u8], out: &mut Vec<u8>) -> Result<Replayed, Failu
     replay(alloc, &mut NamedFiles::new(&files), "pair", "cut", out)
 }
 
-/// What is told of a text with that many whole lines, and what is printed.
-fn wanted(lines: usize, is_whole: bool) -> (Result<Replayed, Failure>, &'static str) {
-    match REPORTS.get(lines) {
+/// What is told of a text with that many whole lines, that many above the records, and what is printed.
+fn wanted(lines: usize, above: usize, is_whole: bool) -> (Result<Replayed, Failure>, &'static str) {
+    match REPORTS.get(lines.saturating_sub(above)) {
         Some(report) if is_whole => (Ok(Replayed::Whole), *report),
         _ => {
             (
@@ -51,9 +60,7 @@ fn wanted(lines: usize, is_whole: bool) -> (Result<Replayed, Failure>, &'static 
     }
 }
 
-#[test]
-fn history_cut_at_each_byte(rt: HostRuntime) {
-    let text = TURNS.as_bytes();
+fn cut_at_each_byte(rt: &impl Abort, alloc: Global, text: &[u8], above: usize) {
     let mut lines = 0_usize;
     for length in 0..text.len() + 1 {
         let front = &text[..length];
@@ -61,12 +68,19 @@ fn history_cut_at_each_byte(rt: HostRuntime) {
         if front.ends_with(b"\n") {
             lines = lines.wrapping_add(1);
         }
-        let mut out = Vec::new(rt.alloc());
-        let found = told(rt.alloc(), front, &mut out);
-        let (answer, printed) = wanted(lines, is_whole);
+        let mut out = Vec::new(alloc);
+        let found = told(alloc, front, &mut out);
+        let (answer, printed) = wanted(lines, above, is_whole);
         assert!(rt;
             found == answer && out.as_slice() == printed.as_bytes(),
             "{length} bytes"
         );
+    }
+}
+
+#[test]
+fn history_cut_at_each_byte(rt: HostRuntime) {
+    for (text, above) in &TEXTS {
+        cut_at_each_byte(&rt, rt.alloc(), text.as_bytes(), *above);
     }
 }

@@ -9,8 +9,8 @@ use mx_machine::{Event, Machine};
 use std::alloc::Global;
 
 /// What is recorded of the five turns of a call and its answer.
-const TURNS: &str =
-    "0 take\n0 back 4\n0 take\n0 back 4\n0 take\n0 back 3\n0 take\n0 back 5\n0 take\n0 back 4\n";
+const TURNS: &str = "rules 2\n\
+    0 take\n0 back 4\n0 take\n0 back 4\n0 take\n0 back 3\n0 take\n0 back 5\n0 take\n0 back 4\n";
 
 /// A turn of who is picked, whose steps are made under a debugger or by themselves.
 fn is_turned(machine: &mut Machine, debugger: &Debugger, is_debugged: bool) -> bool {

@@ -22,7 +22,7 @@ struct Row {
 
 const DONE: Result<Replayed, Failure> = Ok(Replayed::Whole);
 
-static ROWS: [Row; 19] = [
+static ROWS: [Row; 24] = [
     Row {
         config: "pair",
         text: "turns",
@@ -148,6 +148,44 @@ static ROWS: [Row; 19] = [
     Row {
         config: "one",
         text: "ninth",
+        by: By::History,
+        told: Err(Failure::Misstated(BootError::BadRecord(2))),
+        printed: "",
+    },
+    // One service by the lenient rules, and histories by both, whatever the configuration says.
+    Row {
+        config: "lenient_one",
+        text: "sums",
+        by: By::Script,
+        told: DONE,
+        printed: "taken 0 budget 5\nstepped 3 trap\nreturned 3\n\
+                  taken 0 budget 2\nstepped 1 fault 13\nreturned 1\nrefused 54 NoProcess\n\
+                  0 a 0 down fault 13 7 1\nuptime 0\nconsole 0\n",
+    },
+    Row {
+        config: "one",
+        text: "strict_whole",
+        by: By::History,
+        told: DONE,
+        printed: "0 a 0 down fault 13 7 1\nuptime 0\nconsole 0\n",
+    },
+    Row {
+        config: "lenient_one",
+        text: "strict_whole",
+        by: By::History,
+        told: DONE,
+        printed: "0 a 0 down fault 13 7 1\nuptime 0\nconsole 0\n",
+    },
+    Row {
+        config: "one",
+        text: "strict_early",
+        by: By::History,
+        told: Ok(Replayed::Refused),
+        printed: "line 2: refused 51 CpuEmpty\n",
+    },
+    Row {
+        config: "one",
+        text: "late_rules",
         by: By::History,
         told: Err(Failure::Misstated(BootError::BadRecord(2))),
         printed: "",

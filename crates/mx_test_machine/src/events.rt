@@ -36,7 +36,7 @@ enum Task {
 /// The actor that is none of the eight processors.
 const OTHER: u8 = 8;
 
-static ROWS: [Row; 16] = [
+static ROWS: [Row; 21] = [
     // A call and its answer.
     Row {
         config: "asked",
@@ -276,6 +276,162 @@ static ROWS: [Row; 16] = [
             ],
         ),
     },
+    // A copy into a window that was granted.
+    Row {
+        config: "granted",
+        task: Task::Turns(
+            &[
+                Turn(0, Event::Take, 1, Ok(Answer::Taken(0, 40))),
+                Turn(1, Event::Take, 1, Ok(Answer::Taken(1, 40))),
+                Turn(1, Event::Step, 8, Ok(Answer::Went(Outcome::Trap))),
+                Turn(1, Event::Back, 1, Ok(Answer::Returned(8))),
+                Turn(1, Event::Take, 1, Ok(Answer::Taken(1, 32))),
+                Turn(1, Event::Step, 3, Ok(Answer::Went(Outcome::Trap))),
+                Turn(1, Event::Back, 1, Ok(Answer::Returned(3))),
+                Turn(0, Event::Step, 6, Ok(Answer::Went(Outcome::Trap))),
+                Turn(0, Event::Back, 1, Ok(Answer::Returned(6))),
+                Turn(0, Event::Take, 1, Ok(Answer::Taken(0, 34))),
+                Turn(0, Event::Step, 8, Ok(Answer::Went(Outcome::Trap))),
+                Turn(0, Event::Back, 1, Ok(Answer::Returned(8))),
+            ],
+            &[
+                End(0, State::Ready, 4, 26, 14, 0, 4, 0),
+                End(
+                    1,
+                    State::Receiving(Partner::Any),
+                    7,
+                    29,
+                    11,
+                    31438,
+                    256,
+                    0x605,
+                ),
+            ],
+        ),
+    },
+    // Who granted is dead, and its endpoint with it.
+    Row {
+        config: "granted",
+        task: Task::Turns(
+            &[
+                Turn(0, Event::Take, 1, Ok(Answer::Taken(0, 40))),
+                Turn(1, Event::Take, 1, Ok(Answer::Taken(1, 40))),
+                Turn(1, Event::Step, 8, Ok(Answer::Went(Outcome::Trap))),
+                Turn(1, Event::Back, 1, Ok(Answer::Returned(8))),
+                Turn(1, Event::Take, 1, Ok(Answer::Taken(1, 32))),
+                Turn(1, Event::Step, 3, Ok(Answer::Went(Outcome::Trap))),
+                Turn(1, Event::Back, 1, Ok(Answer::Returned(3))),
+                Turn(OTHER, Event::Kill(1), 1, Ok(Answer::Done)),
+                Turn(OTHER, Event::Respawn(1), 1, Ok(Answer::Respawned(1025))),
+                Turn(0, Event::Step, 6, Ok(Answer::Went(Outcome::Trap))),
+                Turn(0, Event::Back, 1, Ok(Answer::Returned(6))),
+                Turn(0, Event::Take, 1, Ok(Answer::Taken(0, 34))),
+                Turn(0, Event::Step, 8, Ok(Answer::Went(Outcome::Trap))),
+                Turn(0, Event::Back, 1, Ok(Answer::Returned(8))),
+            ],
+            &[End(0, State::Ready, 4, 26, 14, 0, 4, 0xFFFF_FF97)],
+        ),
+    },
+    // The process after it has granted nothing.
+    Row {
+        config: "granted",
+        task: Task::Turns(
+            &[
+                Turn(0, Event::Take, 1, Ok(Answer::Taken(0, 40))),
+                Turn(1, Event::Take, 1, Ok(Answer::Taken(1, 40))),
+                Turn(1, Event::Step, 8, Ok(Answer::Went(Outcome::Trap))),
+                Turn(1, Event::Back, 1, Ok(Answer::Returned(8))),
+                Turn(1, Event::Take, 1, Ok(Answer::Taken(1, 32))),
+                Turn(1, Event::Step, 3, Ok(Answer::Went(Outcome::Trap))),
+                Turn(1, Event::Back, 1, Ok(Answer::Returned(3))),
+                Turn(OTHER, Event::Kill(1), 1, Ok(Answer::Done)),
+                Turn(OTHER, Event::Respawn(1), 1, Ok(Answer::Respawned(1025))),
+                Turn(0, Event::Step, 6, Ok(Answer::Went(Outcome::Trap))),
+                Turn(0, Event::Back, 1, Ok(Answer::Returned(6))),
+                Turn(0, Event::Take, 1, Ok(Answer::Taken(0, 34))),
+                Turn(0, Event::Step, 8, Ok(Answer::Went(Outcome::Trap))),
+                Turn(0, Event::Back, 1, Ok(Answer::Returned(8))),
+                Turn(0, Event::Take, 1, Ok(Answer::Taken(0, 26))),
+                Turn(0, Event::Step, 8, Ok(Answer::Went(Outcome::Trap))),
+                Turn(0, Event::Back, 1, Ok(Answer::Returned(8))),
+            ],
+            &[
+                End(0, State::Ready, 4, 18, 22, 0, 4, 0xFFFF_FFFF),
+                End(1, State::Ready, 7, 40, 0, 0, 256, 0),
+            ],
+        ),
+    },
+    // A window isn't for the process after the one that it was opened for.
+    Row {
+        config: "granted",
+        task: Task::Turns(
+            &[
+                Turn(0, Event::Take, 1, Ok(Answer::Taken(0, 40))),
+                Turn(1, Event::Take, 1, Ok(Answer::Taken(1, 40))),
+                Turn(1, Event::Step, 8, Ok(Answer::Went(Outcome::Trap))),
+                Turn(1, Event::Back, 1, Ok(Answer::Returned(8))),
+                Turn(1, Event::Take, 1, Ok(Answer::Taken(1, 32))),
+                Turn(1, Event::Step, 3, Ok(Answer::Went(Outcome::Trap))),
+                Turn(1, Event::Back, 1, Ok(Answer::Returned(3))),
+                Turn(0, Event::Back, 1, Ok(Answer::Returned(0))),
+                Turn(OTHER, Event::Kill(0), 1, Ok(Answer::Done)),
+                Turn(OTHER, Event::Respawn(0), 1, Ok(Answer::Respawned(1024))),
+                Turn(0, Event::Take, 1, Ok(Answer::Taken(1024, 40))),
+                Turn(0, Event::Step, 6, Ok(Answer::Went(Outcome::Trap))),
+                Turn(0, Event::Back, 1, Ok(Answer::Returned(6))),
+                Turn(0, Event::Take, 1, Ok(Answer::Taken(1024, 34))),
+                Turn(0, Event::Step, 8, Ok(Answer::Went(Outcome::Trap))),
+                Turn(0, Event::Back, 1, Ok(Answer::Returned(8))),
+            ],
+            &[
+                End(0, State::Ready, 4, 26, 14, 0, 4, 0xFFFF_FFFF),
+                End(1, State::Receiving(Partner::Any), 7, 29, 11, 31438, 256, 0),
+            ],
+        ),
+    },
+    // By the lenient rules there is no such call, and a copy asks for none.
+    Row {
+        config: "lenient",
+        task: Task::Turns(
+            &[
+                Turn(0, Event::Take, 1, Ok(Answer::Taken(0, 40))),
+                Turn(1, Event::Take, 1, Ok(Answer::Taken(1, 40))),
+                Turn(1, Event::Step, 8, Ok(Answer::Went(Outcome::Trap))),
+                Turn(1, Event::Back, 1, Ok(Answer::Returned(8))),
+                Turn(1, Event::Take, 1, Ok(Answer::Taken(1, 32))),
+                Turn(1, Event::Step, 3, Ok(Answer::Went(Outcome::Trap))),
+                Turn(1, Event::Back, 1, Ok(Answer::Returned(3))),
+                Turn(0, Event::Step, 6, Ok(Answer::Went(Outcome::Trap))),
+                Turn(0, Event::Back, 1, Ok(Answer::Returned(6))),
+                Turn(0, Event::Take, 1, Ok(Answer::Taken(0, 34))),
+                Turn(0, Event::Step, 8, Ok(Answer::Went(Outcome::Trap))),
+                Turn(0, Event::Back, 1, Ok(Answer::Returned(8))),
+            ],
+            &[
+                End(0, State::Ready, 4, 26, 14, 0, 4, 0),
+                End(
+                    1,
+                    State::Receiving(Partner::Any),
+                    7,
+                    29,
+                    11,
+                    31438,
+                    4,
+                    0xFFFF_FF95,
+                ),
+                End(
+                    1,
+                    State::Receiving(Partner::Any),
+                    7,
+                    29,
+                    11,
+                    31438,
+                    256,
+                    0x605,
+                ),
+            ],
+        ),
+    },
     // A call and its answer in rounds, and a tool's runs.
     Row {
         config: "asked",
@@ -465,6 +621,7 @@ fn down(alloc: Global, masks: Masks, generation: u32, restarts_used: u32) -> Pro
         pending: [false; 34],
         lines: 0,
         alarm: None,
+        windows: [None; 32],
         image: Image::blank(alloc),
     }
 }

@@ -111,7 +111,28 @@ const COUNTS: [u8; 59] = [
     0xFF, 0xBB, 0, 0, 0, 0, 0xCD, 0x21,
 ];
 
-static FILES: [NamedFile<'static>; 41] = [
+/// WHOIS of slot 0, then 16 bytes from 4 of its own memory are copied to 256 of process 1, then of 1025.
+const COPIES: [u8; 195] = [
+    1, 3, 0x30, 0x10, 0x20, 0, 0, 0, 0xA3, 0, 0, 0, 0, 0, 0, 0, 0x80, 0, 0, 0, 0, 0, 0, 0, 0, 0x10,
+    0, 0, 0, 0, 0, 0, 0xBB, 0, 0, 0, 0, 0xC7, 5, 4, 0, 0, 0, 7, 6, 0, 0, 0xC7, 5, 8, 0, 0, 0, 0, 0,
+    0, 0, 0xB9, 3, 0, 0, 0, 0xB8, 0xFE, 0xFF, 0xFF, 0xFF, 0xCD, 0x21, 0x8B, 0x15, 8, 0, 0, 0, 0xC7,
+    5, 4, 0, 0, 0, 5, 6, 0, 0, 0xC7, 5, 0xC, 0, 0, 0, 4, 0, 0, 0, 0xC7, 5, 0x10, 0, 0, 0, 1, 0, 0,
+    0, 0xC7, 5, 0x14, 0, 0, 0, 0, 1, 0, 0, 0xC7, 5, 0x18, 0, 0, 0, 0x10, 0, 0, 0, 0xB8, 0xFE, 0xFF,
+    0xFF, 0xFF, 0xCD, 0x21, 0xC7, 5, 4, 0, 0, 0, 5, 6, 0, 0, 0x89, 0x15, 8, 0, 0, 0, 0xC7, 5, 0xC,
+    0, 0, 0, 4, 0, 0, 0, 0xC7, 5, 0x10, 0, 0, 0, 1, 4, 0, 0, 0xC7, 5, 0x14, 0, 0, 0, 0, 1, 0, 0,
+    0xC7, 5, 0x18, 0, 0, 0, 0x10, 0, 0, 0, 0xB8, 0xFE, 0xFF, 0xFF, 0xFF, 0xCD, 0x21,
+];
+
+/// GRANT to process 0 of 16 bytes at 256, for writing, then RECEIVE from anybody.
+const GRANTS: [u8; 101] = [
+    1, 3, 0x30, 0x10, 0x20, 0, 0, 0, 0x45, 0, 0, 0, 0, 0, 0, 0, 0x80, 0, 0, 0, 0, 0, 0, 0, 0, 0x10,
+    0, 0, 0, 0, 0, 0, 0xBB, 0, 0, 0, 0, 0xC7, 5, 4, 0, 0, 0, 8, 6, 0, 0, 0xC7, 5, 0xC, 0, 0, 0, 0,
+    1, 0, 0, 0xC7, 5, 0x10, 0, 0, 0, 0x10, 0, 0, 0, 0xC7, 5, 0x14, 0, 0, 0, 2, 0, 0, 0, 0xB9, 3, 0,
+    0, 0, 0xB8, 0xFE, 0xFF, 0xFF, 0xFF, 0xCD, 0x21, 0xB9, 2, 0, 0, 0, 0xB8, 0xCE, 0x7A, 0, 0, 0xCD,
+    0x21,
+];
+
+static FILES: [NamedFile<'static>; 46] = [
     NamedFile {
         name: "pair",
         bytes: PAIR,
@@ -120,6 +141,12 @@ static FILES: [NamedFile<'static>; 41] = [
         name: "one",
         bytes: b"cpus 1\nlog 8\n\
             service a a.out traps 1e send 0 calls 0 level 7 best 5 quantum 5 restarts 0\n",
+    },
+    NamedFile {
+        name: "full",
+        bytes: b"cpus 1\nlog 3\n\
+            service drv drv.out traps 1e send 2 calls 0 level 4 best 4 quantum 20 restarts 0\n\
+            service cli cli.out traps 1e send 1 calls 1 level 7 best 7 quantum 20 restarts 0\n",
     },
     NamedFile {
         name: "again",
@@ -209,6 +236,23 @@ static FILES: [NamedFile<'static>; 41] = [
     NamedFile {
         name: "early",
         bytes: b"0 back 1\n",
+    },
+    NamedFile {
+        name: "lenient_one",
+        bytes: b"cpus 1\nlog 8\nrules 1\n\
+            service a a.out traps 1e send 0 calls 0 level 7 best 5 quantum 5 restarts 0\n",
+    },
+    NamedFile {
+        name: "strict_whole",
+        bytes: b"rules 2\n0 take\n0 back 3\n0 take\n0 back 1\n",
+    },
+    NamedFile {
+        name: "strict_early",
+        bytes: b"rules 2\n0 back 1\n",
+    },
+    NamedFile {
+        name: "late_rules",
+        bytes: b"0 take\nrules 2\n",
     },
     NamedFile {
         name: "long",
@@ -310,7 +354,7 @@ pub(crate) fn reader() -> NamedFiles<'static> {
     NamedFiles::new(&FILES)
 }
 
-static SMALL: [NamedFile<'static>; 19] = [
+static SMALL: [NamedFile<'static>; 23] = [
     NamedFile {
         name: "empty",
         bytes: b"",
@@ -375,6 +419,26 @@ static SMALL: [NamedFile<'static>; 19] = [
     NamedFile {
         name: "button.out",
         bytes: &BUTTON,
+    },
+    NamedFile {
+        name: "granted",
+        bytes: b"cpus 8\nlog 64\n\
+            service a copies.out traps 1e send 0 calls a0 level 4 best 4 quantum 40 restarts 1\n\
+            service b grants.out traps 1e send 0 calls 100 level 7 best 7 quantum 40 restarts 1\n",
+    },
+    NamedFile {
+        name: "lenient",
+        bytes: b"cpus 8\nlog 64\nrules 1\n\
+            service a copies.out traps 1e send 0 calls a0 level 4 best 4 quantum 40 restarts 1\n\
+            service b grants.out traps 1e send 0 calls 100 level 7 best 7 quantum 40 restarts 1\n",
+    },
+    NamedFile {
+        name: "copies.out",
+        bytes: &COPIES,
+    },
+    NamedFile {
+        name: "grants.out",
+        bytes: &GRANTS,
     },
     NamedFile {
         name: "short.out",

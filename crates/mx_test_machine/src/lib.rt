@@ -33,3 +33,5 @@ mod tables;
 mod texts;
 #[cfg(test)]
 mod traps;
+#[cfg(test)]
+mod windows;

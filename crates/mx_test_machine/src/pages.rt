@@ -5,7 +5,7 @@ use crate::tables::word_at;
 use mx_exec::Image;
 use mx_kcall::After;
 use mx_mem::Segment;
-use mx_proc::{Masks, Slot, Table};
+use mx_proc::{Masks, Rules, Slot, Table};
 use mx_word::{Register, Size};
 use std::alloc::Global;
 use std::process::Abort;
@@ -53,7 +53,7 @@ fn image_of(alloc: Global, words: &[u32; 9]) -> Result<Image, Fail> {
 }
 
 fn two_processes(rt: &impl Abort, alloc: Global) -> Result<Table, Fail> {
-    let mut table = Table::new(alloc)?;
+    let mut table = Table::new(alloc, Rules::Lenient)?;
     for words in &WORDS {
         let mut image = image_of(alloc, words)?;
         let masks = Masks {

@@ -5,7 +5,7 @@ ghost use Rattle.mx_proc.specs.States.{is_out};
 
 use crate::tables::{add_process, word_at};
 use mx_ipc::{receive, send, sendrec};
-use mx_proc::{DeathCause, Masks, Partner, Process, Slot, Source, State, Table};
+use mx_proc::{DeathCause, Masks, Partner, Process, Rules, Slot, Source, State, Table};
 use mx_respawn::die;
 use mx_sched::{dequeue, enqueue, pick};
 use std::alloc::Global;
@@ -22,7 +22,7 @@ const MASKS: Masks = Masks {
 
 /// 32 services at level 7, whose best is 5 and whose quantum is 5.
 fn services(rt: &impl Abort, alloc: Global) -> Result<Table, Fail> {
-    let mut table = Table::new(alloc)?;
+    let mut table = Table::new(alloc, Rules::Lenient)?;
     for _ in 0..32u8 {
         add_process(rt, alloc, &mut table, MASKS, 5)?;
     }
@@ -111,6 +111,7 @@ fn revive(rt: &impl Abort, table: &mut Table, slot: Slot) {
         pending: [false; 34],
         lines: 0,
         alarm: None,
+        windows: [None; 32],
         image,
     };
     assert!(rt; table.process(slot).state.is_down());

@@ -1,9 +1,9 @@
 //! Configurations, scripts and histories, read and saved.
 
 use mx_boot::{BootError, Config, Over, ScriptLine, config, debug_script, log, script};
-use mx_boot_history::{history_again, one_history, one_text, save_records};
+use mx_boot_history::{history_again, one_history, one_text, save_history};
 use mx_boot_script::{number_again, verb_again, words_again};
-use mx_machine_world::{Record, Recorded};
+use mx_machine_world::{Record, Recorded, Rules};
 use std::alloc::Global;
 use std::io;
 use std::io::Write;
@@ -13,7 +13,7 @@ use std::test::Fail;
 /// A configuration, and what is told.
 struct Setup(&'static str, Option<BootError>);
 
-static SETUPS: [Setup; 20] = [
+static SETUPS: [Setup; 24] = [
     Setup("", Some(BootError::BadLine(1))),
     Setup("cpus 1\n# x\n", Some(BootError::BadLine(2))),
     Setup(
@@ -75,6 +75,10 @@ static SETUPS: [Setup; 20] = [
     ),
     Setup("cpus 1\ncpus 1", Some(BootError::TwiceNamed(2))),
     Setup("others 2\nothers 5", Some(BootError::BadLine(2))),
+    Setup("rules 1\nrules 2", Some(BootError::TwiceNamed(2))),
+    Setup("rules 3", Some(BootError::BadLine(1))),
+    Setup("rules 0", Some(BootError::BadLine(1))),
+    Setup("rules", Some(BootError::BadLine(1))),
     Setup(
         "service a a.out traps 1e send 0 calls ff level 7 best 5 quantum 5 restarts 1\n\
          service a a.out traps 1e send 0 calls ff level 7 best 5 quantum 5 restarts 1",
@@ -185,7 +189,7 @@ use Kind::{DebugScript, History, Script};
 /// A text, and what is told of it.
 struct Text(Kind, &'static str, Result<usize, (u8, usize)>);
 
-static TEXTS: [Text; 27] = [
+static TEXTS: [Text; 39] = [
     Text(Script, "tick\n\ntick\n", Err((73, 2))),
     Text(Script, "tick\nfoo", Err((73, 2))),
     Text(Script, "step 0", Err((73, 1))),
@@ -222,13 +226,32 @@ static TEXTS: [Text; 27] = [
     Text(History, "0 step 1\n", Err((73, 1))),
     Text(History, "0 tick\n\n", Err((73, 2))),
     Text(History, "0 tick\r\n", Err((73, 1))),
+    // The line of the rules counts, and is no record.
+    Text(History, "rules 2\n", Ok(0)),
+    Text(History, "rules 2\n0 take\n0 back 3\n", Ok(2)),
+    Text(History, "  rules   2 \n0 tick\n", Ok(1)),
+    Text(History, "rules 2", Err((73, 1))),
+    Text(History, "rules 2\n2 tick\n", Err((73, 2))),
+    Text(History, "rules 2\n0 tick\n0 tick", Err((73, 3))),
+    Text(History, "0 tick\nrules 2\n", Err((73, 2))),
+    Text(History, "rules 2\nrules 2\n", Err((73, 2))),
+    Text(History, "rules 1\n", Err((73, 1))),
+    Text(History, "rules 3\n", Err((73, 1))),
+    Text(History, "rules 2 2\n", Err((73, 1))),
+    Text(History, "rules\n", Err((73, 1))),
 ];
+
+/// The records of a history.
+fn records_of(alloc: Global, text: &str, machine: &Config) -> Result<Vec<Record>, BootError> {
+    let (_, records) = log(alloc, text, machine)?;
+    Ok(records)
+}
 
 fn told_of(alloc: Global, machine: &Config, text: &Text) -> Result<usize, (u8, usize)> {
     match text.0 {
         Script => told(script(alloc, text.1)),
         DebugScript => told(debug_script(alloc, text.1)),
-        History => told(log(alloc, text.1, machine)),
+        History => told(records_of(alloc, text.1, machine)),
     }
 }
 
@@ -305,30 +328,45 @@ const SAVED: &str = "\
 1 respawn 0
 ";
 
+const SAVED_STRICT: &str = "\
+rules 2
+1 take
+1 back 2147483647
+1 line 15
+1 tick
+1 kill 1027
+1 respawn 0
+";
+
+/// By which rules a machine was booted, and what is saved of it.
+static BY_RULES: [(Rules, &str); 2] = [(Rules::Lenient, SAVED), (Rules::Strict, SAVED_STRICT)];
+
 /// Whether a writer that fails after that many bytes got just these of the text, or all if it has room.
-fn is_saved_to(alloc: Global, room: usize) -> bool {
+fn is_saved_to(alloc: Global, rules: Rules, text: &str, room: usize) -> bool {
     let narrow = Narrow {
         bytes: Vec::new(alloc),
         room,
     };
     let mut sink = Over::new(narrow);
-    let is_whole = save_records(&RECORDS, &mut sink).is_ok();
-    let text = SAVED.as_bytes();
+    let is_whole = save_history(rules, &RECORDS, &mut sink).is_ok();
+    let text = text.as_bytes();
     let front = &text[..room.min(text.len())];
     is_whole == (room >= text.len()) && sink.into_writer().bytes.as_slice() == front
 }
 
-fn is_read_again(alloc: Global, machine: &Config) -> bool {
-    match log(alloc, SAVED, machine) {
-        Ok(again) => again.as_slice() == RECORDS.as_slice(),
+fn is_read_again(alloc: Global, machine: &Config, rules: Rules, text: &str) -> bool {
+    match log(alloc, text, machine) {
+        Ok((again, records)) => again == rules && records.as_slice() == RECORDS.as_slice(),
         Err(_) => false,
     }
 }
 
 #[test]
 fn saves_histories(rt: HostRuntime) {
-    for room in 0..SAVED.len() + 2 {
-        assert!(rt; is_saved_to(rt.alloc(), room), "room {room}");
+    for (rules, text) in &BY_RULES {
+        for room in 0..SAVED_STRICT.len() + 2 {
+            assert!(rt; is_saved_to(rt.alloc(), *rules, *text, room), "room {room}");
+        }
     }
 }
 
@@ -340,7 +378,10 @@ fn read_all(rt: &impl Abort, alloc: Global, machine: &Config) {
     for (number, text) in TEXTS.iter().enumerate() {
         assert!(rt; told_of(alloc, machine, text) == text.2, "text {number}");
     }
-    assert!(rt; is_script_read(alloc) && is_read_again(alloc, machine));
+    assert!(rt; is_script_read(alloc));
+    for (rules, text) in &BY_RULES {
+        assert!(rt; is_read_again(alloc, machine, *rules, *text));
+    }
 }
 
 #[test]

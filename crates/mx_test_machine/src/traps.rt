@@ -2,7 +2,7 @@
 
 use crate::tables::{LIMIT, add_process, has_words};
 use mx_ipc::{TrapAnswer, trap};
-use mx_proc::{Delivery, DeliveryKind, Masks, Partner, Slot, Source, Stale, State, Table};
+use mx_proc::{Delivery, DeliveryKind, Masks, Partner, Rules, Slot, Source, Stale, State, Table};
 use mx_sched::{dequeue, enqueue, pick};
 use mx_word::{Register, Size, write_dword};
 use std::alloc::Global;
@@ -193,7 +193,7 @@ static MASKS: [(u32, u32); 5] = [
 ];
 
 fn five_processes(rt: &impl Abort, alloc: Global) -> Result<Table, Fail> {
-    let mut table = Table::new(alloc)?;
+    let mut table = Table::new(alloc, Rules::Lenient)?;
     for (traps, sends) in &MASKS {
         let masks = Masks {
             traps: *traps,

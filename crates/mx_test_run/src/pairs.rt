@@ -30,7 +30,8 @@ const CLIENT: [u8; 107] = [
 struct Row {
     config: &'static str,
     ticks: u32,
-    records: usize,
+    /// The lines of the history: the rules, and the records.
+    lines: usize,
     report: &'static str,
     /// How many runs are made.
     runs: u32,
@@ -46,7 +47,7 @@ service cli cli.out traps 1e send 1 calls 1 level 7 best 7 quantum 20 restarts 0
 static TALK: Row = Row {
     config: TWO_PROCESSORS,
     ticks: 0,
-    records: 10,
+    lines: 11,
     report: "0 drv 0 receiving any 4 8
 1 cli 1 down exit 7 12
 uptime 0
@@ -59,7 +60,7 @@ console 0
 static TALK_AND_TICK: Row = Row {
     config: TWO_PROCESSORS,
     ticks: 3,
-    records: 13,
+    lines: 14,
     report: "0 drv 0 receiving any 4 8
 1 cli 1 down exit 7 12
 uptime 3
@@ -76,7 +77,7 @@ service drv drv.out traps 1e send 2 calls 0 level 4 best 4 quantum 20 restarts 0
 service cli cli.out traps 1e send 1 calls 1 level 7 best 7 quantum 20 restarts 2
 ",
     ticks: 0,
-    records: 28,
+    lines: 29,
     report: "0 drv 0 receiving any 4 12
 1 cli 2049 down exit 7 12
 uptime 0
@@ -93,7 +94,7 @@ service drv drv.out traps 1e send 2 calls 0 level 4 best 4 quantum 20 restarts 0
 service cli cli.out traps 1e send 1 calls 1 level 7 best 7 quantum 20 restarts 0
 ",
     ticks: 0,
-    records: 2,
+    lines: 3,
     report: "0 drv 0 receiving any 4 16
 1 cli 1 ready 7 20
 uptime 0
@@ -191,7 +192,7 @@ fn is_wanted(alloc: Global, row: &Row, left: &RunLeft) -> Result<bool, Fail> {
     let wanted = row.report.as_bytes();
     Ok(
         files[0].name.as_str() == "log"
-            && lines_in(log) == row.records
+            && lines_in(log) == row.lines
             && left.printed.as_slice() == wanted
             && again.as_slice() == wanted,
     )

@@ -84,6 +84,7 @@ impl Table {
         requires ready { process.state ≡ Ready }
         requires generation { process.generation < 2 ^ 20 }
         requires pending { length process.pending ≡ 34 }
+        requires windows { length process.windows ≡ 32 }
         requires level { process.level ≤ 14 }
         requires best { process.best ≤ process.level }
         requires quantum { process.quantum ≤ 65535 }

@@ -4,13 +4,14 @@ ghost use Rattle.std.specs.Prelude.{◌≡◌, ◌≢◌, ℕ, false, ◌+◌, �
 ghost use Rattle.mx_mem.specs.Segment.{with_bytes_at, part};
 ghost use Rattle.mx_proc.specs.Endpoints.{names_slot};
 ghost use Rattle.mx_proc.specs.Frame.{frame};
-ghost use Rattle.mx_proc.specs.Serving.{without_bit_of, owner_but, table_after_forgetting, table_after_burial, with_alarm, with_line, with_owner, with_tick, with_device_register, with_console_byte, with_copy, process_after_copy};
+ghost use Rattle.mx_proc.specs.Serving.{without_bit_of, owner_but, table_after_forgetting, table_after_burial, with_alarm, with_line, with_owner, with_window, with_tick, with_device_register, with_console_byte, with_copy, process_after_copy};
 ghost use Rattle.mx_proc.specs.States.{IsAlone, is_out};
-ghost use Rattle.mx_proc.specs.TableState.{process_at, memory_at, nobody};
+ghost use Rattle.mx_proc.specs.TableState.{process_at, memory_at, window_of, nobody};
 
 use super::Table;
 use crate::devices::Devices;
 use crate::process::{DeathCause, Endpoint, Process, Slot, State};
+use crate::windows::Window;
 
 impl Table {
     /// The devices: interrupt lines, registers and console.
@@ -27,7 +28,8 @@ impl Table {
         endpoint < 0x8000_0000 && endpoint % 1024 < self.slots.len() as u32
     }
 
-    /// Clears the bits of a slot at every process, and gives up its lines.
+    /// Clears the bits of a slot at every process and the windows that were opened for it, and gives up
+    /// its lines.
     pub fn forget(&mut self, slot: Slot)
         requires { slot < length self.old.slots }
         ensures value { self.new ≡ table_after_forgetting self.old slot }
@@ -37,7 +39,7 @@ impl Table {
         give_up(&mut self.devices.owners, slot);
     }
 
-    /// A process that is at home and in no queue is down, with nothing pending.
+    /// A process that is at home and in no queue is down, with nothing pending and no windows.
     pub fn bury(&mut self, slot: Slot, cause: DeathCause)
         requires slot { slot < length self.old.slots }
         requires alone { IsAlone (process_at self.old slot).state }
@@ -50,6 +52,7 @@ impl Table {
         process.pending = [false; 34];
         process.lines = 0;
         process.alarm = None;
+        process.windows = [None; 32];
     }
 
     /// Sets the uptime at which the alarm of a process rings, fewer than 2^32 ticks from now, or clears
@@ -62,6 +65,27 @@ impl Table {
     {
         let process = &mut self.slots[slot as usize];
         process.alarm = due;
+    }
+
+    /// What the process of one slot may use of another's memory.
+    pub fn window(&self, owner: Slot, user: Slot) -> Option<Window>
+        requires owner { owner < length self.now.slots }
+        requires user { user < length self.now.slots }
+        ensures { result ≡ window_of self.now owner user }
+    {
+        self.slots[owner as usize].windows[user as usize]
+    }
+
+    /// Opens a window of one slot's process for another's, in place of the one that it had, or closes
+    /// that.
+    pub fn set_window(&mut self, owner: Slot, user: Slot, window: Option<Window>)
+        requires owner { owner < length self.old.slots }
+        requires user { user < length self.old.slots }
+        ensures value { self.new ≡ with_window self.old owner user window }
+        ensures frame { frame self.new ≡ frame self.old }
+    {
+        let process = &mut self.slots[owner as usize];
+        process.windows[user as usize] = window;
     }
 
     /// Sets an interrupt line's bit at a process.
@@ -131,13 +155,15 @@ impl Table {
     }
 }
 
-/// Clears the bits of a slot.
+/// Clears the bits of a slot, and the windows for it.
 fn clear_bits(processes: &mut [Process], slot: Slot)
     requires { slot < 32 }
     ensures { processes.new ≡ map (without_bit_of slot) processes.old }
 {
     for i in 0..processes.len() {
-        processes[i].pending[2 + slot as usize] = false;
+        let process = &mut processes[i];
+        process.pending[2 + slot as usize] = false;
+        process.windows[slot as usize] = None;
     }
 }
 

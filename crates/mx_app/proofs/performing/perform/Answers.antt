@@ -2,7 +2,7 @@ use Rattle.mx_app_program.specs.One.{IsPrinted}
 use Rattle.mx_app_program.specs.Shown.{HasListing, HasNames, IsShown}
 use Rattle.std.proofs.Common.{◌∙◌, ap, Option}
 use Rattle.mx_app_command.specs.declared.words.CommandRequest.TheVariants.{Step}
-use Rattle.mx_app.proofs.Done.{as_asked, assembled, debugs, replays, saves, shows, steps, traces}
+use Rattle.mx_app.proofs.Done.{as_asked, assembled, debugs, replays, runs, saves, shows, steps, traces}
 use Rattle.mx_app.proofs.performing.perform.Goals as goal
 
 pub returns-in-One : goal.returns-in-One
@@ -26,6 +26,11 @@ pub returns-in-Some : goal.returns-in-Some
 returns-in-Some g c =
     as_asked _ _ _ _ _ _ _ _ (c.in-Step.is ∙ ap (λ (o : Option _). Step c.in-Step.config c.in-Step.script o) c.in-Some.is)
     (saves _ _ _ _ c.in-Step.config.now c.in-Step.script.now c.in-Some.log.now _ _ c.step_saved.result c.status_after_work-in-Some.result c.step_saved.ensures.saved c.step_saved.ensures.fault c.status_after_work-in-Some.ensures)
+
+pub returns-in-Run : goal.returns-in-Run
+returns-in-Run g c =
+    as_asked _ _ _ _ _ _ _ _ c.in-Run.is
+    (runs _ _ _ _ c.in-Run.config.now c.in-Run.log.now c.in-Run.ticks _ _ c.run.result c.status_after_work-in-Run.result c.run.ensures c.status_after_work-in-Run.ensures)
 
 pub returns-in-Replay : goal.returns-in-Replay
 returns-in-Replay g c = as_asked _ _ _ _ _ _ _ _ c.in-Replay.is (replays _ _ _ c.in-Replay.config.now c.in-Replay.log.now _ _ c.replay.result c.status_after_replay.result c.replay.ensures.printed c.replay.ensures.fault c.status_after_replay.ensures)

@@ -1,4 +1,4 @@
-use Rattle.std.proofs.Common.{◌≡◌, ◌≢◌, ◌∙◌, ℕ, List, [], ◌∷◌, arith, inl, inr, refl, rules, sym, true, false, true≢false}
+use Rattle.std.proofs.Common.{◌≡◌, ◌≢◌, ◌∙◌, ℕ, List, [], ◌∷◌, arith, inl, refl, rules, sym, true, false, true≢false}
 use Rattle.std.specs.IoError.{error_kind}
 use Rattle.std.specs.Io.KnownBytes.{Appends}
 use Rattle.std.specs.Str.{bytes_eq}
@@ -18,7 +18,7 @@ returns-in_err-config g c =
     let apart : bytes_eq c.args.config.now c.args.log.now ≡ false = search rules in
     let other : c.args.config.now ≢ c.args.log.now = λ e. true≢false (sym ((bytes_eq-Decides c.args.config.now c.args.log.now).1 e) ∙ apart) in
     let h = c.in_err-config.ensures.fault in
-    (h.0, [], h.1, sym (append-nil _), not_set_up c.args.config.now c.args.log.now c.args.ticks h.0 (λ (text : List ℕ). Appends (g.W.Write.contents c.args.out.now) (g.W.Write.contents c.args.out.now) text) other c.in_err-config.field-0.0 c.from_residual.result (inr h.2) c.from_residual.ensures.1)
+    (h.0, [], h.1, sym (append-nil _), not_set_up c.args.config.now c.args.log.now c.args.ticks h.0 (λ (text : List ℕ). Appends (g.W.Write.contents c.args.out.now) (g.W.Write.contents c.args.out.now) text) other c.in_err-config.field-0.0 c.from_residual.result h.2 c.from_residual.ensures.1)
 
 pub run_machine-requires-clause-some : goal.run_machine-requires-clause-some
 run_machine-requires-clause-some g c κs within =
@@ -35,21 +35,21 @@ returns-in_err-kernel g c =
     let apart : bytes_eq c.args.config.now c.args.log.now ≡ false = search rules in
     let other : c.args.config.now ≢ c.args.log.now = λ e. true≢false (sym ((bytes_eq-Decides c.args.config.now c.args.log.now).1 e) ∙ apart) in
     let s = c.in_ok-config.ensures.read in
-    (s.0, [], s.1, sym (append-nil _), no_memory c.args.config.now c.args.log.now c.args.ticks s.0 (λ (text : List ℕ). Appends (g.W.Write.contents c.args.out.now) (g.W.Write.contents c.args.out.now) text) other c.from_residual-in_err-kernel.result c.from_residual-in_err-kernel.ensures.1)
+    (s.0, [], s.1, sym (append-nil _), no_memory c.args.config.now c.args.log.now c.args.ticks s.0 (λ (text : List ℕ). Appends (g.W.Write.contents c.args.out.now) (g.W.Write.contents c.args.out.now) text) other c.in_ok-config.config c.in_ok-config.services.items c.from_residual-in_err-kernel.result s.2 c.from_residual-in_err-kernel.ensures.1)
 
 pub returns-in_err-text : goal.returns-in_err-text
 returns-in_err-text g c =
     let apart : bytes_eq c.args.config.now c.args.log.now ≡ false = search rules in
     let other : c.args.config.now ≢ c.args.log.now = λ e. true≢false (sym ((bytes_eq-Decides c.args.config.now c.args.log.now).1 e) ∙ apart) in
     let s = c.in_ok-config.ensures.read in
-    (s.0, [], s.1, sym (append-nil _), no_memory c.args.config.now c.args.log.now c.args.ticks s.0 (λ (text : List ℕ). Appends (g.W.Write.contents c.args.out.now) (g.W.Write.contents c.args.out.now) text) other c.from_residual-in_err-text.result c.from_residual-in_err-text.ensures.1)
+    (s.0, [], s.1, sym (append-nil _), no_memory c.args.config.now c.args.log.now c.args.ticks s.0 (λ (text : List ℕ). Appends (g.W.Write.contents c.args.out.now) (g.W.Write.contents c.args.out.now) text) other c.in_ok-config.config c.in_ok-config.services.items c.from_residual-in_err-text.result s.2 c.from_residual-in_err-text.ensures.1)
 
 pub returns-in_err-report : goal.returns-in_err-report
 returns-in_err-report g c =
     let apart : bytes_eq c.args.config.now c.args.log.now ≡ false = search rules in
     let other : c.args.config.now ≢ c.args.log.now = λ e. true≢false (sym ((bytes_eq-Decides c.args.config.now c.args.log.now).1 e) ∙ apart) in
     let s = c.in_ok-config.ensures.read in
-    (s.0, [], s.1, sym (append-nil _), no_memory c.args.config.now c.args.log.now c.args.ticks s.0 (λ (text : List ℕ). Appends (g.W.Write.contents c.args.out.now) (g.W.Write.contents c.args.out.now) text) other c.from_residual-in_err-report.result c.from_residual-in_err-report.ensures.1)
+    (s.0, [], s.1, sym (append-nil _), no_memory c.args.config.now c.args.log.now c.args.ticks s.0 (λ (text : List ℕ). Appends (g.W.Write.contents c.args.out.now) (g.W.Write.contents c.args.out.now) text) other c.in_ok-config.config c.in_ok-config.services.items c.from_residual-in_err-report.result s.2 c.from_residual-in_err-report.ensures.1)
 
 pub returns-in_err-write : goal.returns-in_err-write
 returns-in_err-write g c =

@@ -42,8 +42,8 @@ returns-in_err-machine-clause-fault g c =
     rw (p.1, p.2) (
       s.0 ++ t.0 ∷ [],
       asked_on (g.R.Reader.asked c.args.reader.now) (g.R.Reader.asked c.setup_of.new.reader) (g.R.Reader.asked c.text_of.new.reader) s.0 (t.0 ∷ []) s.1 t.1,
-      not_booted g.C.Course.IsSaid g.C.Course.Tells c.args.config.now c.args.text.now (s.0 ++ t.0 ∷ []) c.in_ok-config.config c.in_ok-config.services.items c.in_ok-lines.lines.items _
-          (started g.C.Course.IsSaid c.args.config.now c.args.text.now (string_bytes c.in_ok-text.text) c.as_str.result.now s.0 t.0 c.in_ok-config.config c.in_ok-config.services.items c.in_ok-lines.lines.items s.2 c.as_str.ensures.value t.2 c.in_ok-lines.ensures.said)
+      not_booted g.C.Course.IsSaid g.C.Course.Tells c.args.config.now c.args.text.now (s.0 ++ t.0 ∷ []) c.read.new.config c.in_ok-config.services.items c.in_ok-lines.lines.items _
+          (started g.C.Course.IsSaid c.args.config.now c.args.text.now (string_bytes c.in_ok-text.text) c.as_str.result.now s.0 t.0 c.in_ok-config.config c.read.new.config c.in_ok-config.services.items c.in_ok-lines.lines.items s.2 c.as_str.ensures.value t.2 c.in_ok-lines.ensures.said)
           (search),
     )
 
@@ -62,13 +62,13 @@ returns-clause-started g c =
     let s = c.in_ok-config.ensures.read in
     let t = c.in_ok-text.ensures.text in (
       s.0 ++ t.0 ∷ [],
-      c.in_ok-config.config,
+      c.read.new.config,
       c.in_ok-config.services.items,
       asked_on (g.R.Reader.asked c.args.reader.now) (g.R.Reader.asked c.setup_of.new.reader) (g.R.Reader.asked c.text_of.new.reader) s.0 (t.0 ∷ []) s.1 t.1,
-      started g.C.Course.IsSaid c.args.config.now c.args.text.now (string_bytes c.in_ok-text.text) c.as_str.result.now s.0 t.0 c.in_ok-config.config c.in_ok-config.services.items c.in_ok-lines.lines.items s.2 c.as_str.ensures.value t.2 c.in_ok-lines.ensures.said,
+      started g.C.Course.IsSaid c.args.config.now c.args.text.now (string_bytes c.in_ok-text.text) c.as_str.result.now s.0 t.0 c.in_ok-config.config c.read.new.config c.in_ok-config.services.items c.in_ok-lines.lines.items s.2 c.as_str.ensures.value t.2 c.in_ok-lines.ensures.said,
       c.in_ok-machine.ensures.world,
       refl,
     )
 
 pub returns-clause-other : goal.returns-clause-other
-returns-clause-other g c = other_booted (world_of c.in_ok-machine.machine) c.in_ok-config.config c.in_ok-config.services.items c.in_ok-machine.ensures.world
+returns-clause-other g c = other_booted (world_of c.in_ok-machine.machine) c.read.new.config c.in_ok-config.services.items c.in_ok-machine.ensures.world

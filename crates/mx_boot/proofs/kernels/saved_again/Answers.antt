@@ -10,5 +10,5 @@ returns c =
     let others = config.others_fit in
     let actors : ℕ = config.cpus + config.others in
     let few : actors ≤ 256 = omega (arith, cpus, others) in
-    c.history_again.ensures actors c.args.kernel.now.history few
+    c.history_again.ensures actors c.args.kernel.now.boot.table.rules c.args.kernel.now.history few
     (subst (λ (n : ℕ). All (IsWritable n) c.args.kernel.now.history) (sym c.requires) c.opened.ensures.written)

@@ -10,4 +10,4 @@ pub returns-clause-respawn : goal.returns-clause-respawn
 returns-clause-respawn c = λ w a s v h f e. respawn_law w a s v h.sound f e
 
 pub returns-clause-boot : goal.returns-clause-boot
-returns-clause-boot c = λ config vs s v e. boot_law vs config.cpus config.others config.log s v e
+returns-clause-boot c = λ config vs s v e. boot_law config.rules vs config.cpus config.others config.log s v e

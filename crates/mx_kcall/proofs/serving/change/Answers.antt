@@ -13,3 +13,6 @@ returns-then-action-eq0-clause-frame c = kept_frame c.args.table.now c.args.tabl
 
 pub returns-in-Vircopy-clause-frame : goal.returns-in-Vircopy-clause-frame
 returns-in-Vircopy-clause-frame c = kept_frame _ _ c.copy.ensures.frame
+
+pub returns-in-Grant-clause-frame : goal.returns-in-Grant-clause-frame
+returns-in-Grant-clause-frame c = kept_frame _ _ c.set_window.ensures.frame

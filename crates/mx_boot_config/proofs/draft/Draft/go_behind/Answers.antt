@@ -6,7 +6,7 @@ use Rattle.mx_boot_config.proofs.draft.Draft.go_behind.Goals as goal
 
 pub invariant_of-self-in-Service : goal.invariant_of-self-in-Service
 invariant_of-self-in-Service c =
-    let before : ItemsAbove = record { cpus = c.self.inside.cpus; log = c.self.inside.log; others = c.self.inside.others; services = c.self.inside.services.items } in
+    let before : ItemsAbove = record { cpus = c.self.inside.cpus; log = c.self.inside.log; others = c.self.inside.others; rules = c.self.inside.rules; services = c.self.inside.services.items } in
     services_more before c.push.new.self.items c.args.item c.in-Service.words c.in-Service.is
     (subst (λ (a : ItemsAbove). is_service_too_many a c.args.item ≡ false) (sym c.self.view_is) c.requires.room)
     c.requires.within c.self.invariant c.push.ensures.items

@@ -11,6 +11,7 @@ invariant_of-self c = alone_changed _ _ c.args.slot c.index_mut-process.result.n
   generation = k.generation;
   ticks = k.ticks;
   pending = refl;
+  windows = refl;
   alarm = _;
   buffer = λ m. cc;
 })

@@ -13,6 +13,7 @@ invariant_of-self c = alike _ _ c.args.slot c.index_mut-process.result.now _ c.s
   ticks = refl;
   generation = refl;
   pending = refl;
+  windows = refl;
   alarm = refl;
   buffer = refl;
   memory = c.put.ensures.limit;

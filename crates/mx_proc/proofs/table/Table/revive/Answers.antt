@@ -14,7 +14,7 @@ pub invariant_of-self : goal.invariant_of-self
 invariant_of-self c =
     placed _ _ c.args.slot c.args.process.level _ c.args.process c.self.invariant (subst (λ (x : TableState). c.args.slot < length x.slots) (sym c.self.view_is) c.requires.slot)
     (subst (λ (x : TableState). IsAlone (process_at x c.args.slot).state) (sym c.self.view_is) (down_alone _ c.requires.down)) c.requires.level refl c.requires.ready
-    (record { level = c.requires.level; best = c.requires.best; quantum = c.requires.quantum; ticks = c.requires.ticks; generation = c.requires.generation; pending = c.requires.pending; alarm = subst (λ (x : TableState). IfSome c.args.process.alarm (λ due. due < x.uptime + 2 ^ 32)) (sym c.self.view_is) c.requires.alarm; buffer = λ m. let f : false ≡ true = ap is_blocked (sym c.requires.ready) ∙ m in cc })
+    (record { level = c.requires.level; best = c.requires.best; quantum = c.requires.quantum; ticks = c.requires.ticks; generation = c.requires.generation; pending = c.requires.pending; windows = c.requires.windows; alarm = subst (λ (x : TableState). IfSome c.args.process.alarm (λ due. due < x.uptime + 2 ^ 32)) (sym c.self.view_is) c.requires.alarm; buffer = λ m. let f : false ≡ true = ap is_blocked (sym c.requires.ready) ∙ m in cc })
     refl c.push_back.ensures refl refl refl (λ t. times-push t c.args.slot _)
 
 pub returns-clause-frame : goal.returns-clause-frame

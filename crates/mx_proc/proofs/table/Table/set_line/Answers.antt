@@ -12,6 +12,7 @@ invariant_of-self c = alike _ _ c.args.slot c.index_mut-process.result.now _ c.s
   generation = refl;
   ticks = refl;
   pending = refl;
+  windows = refl;
   alarm = refl;
   buffer = refl;
   memory = refl;

@@ -12,6 +12,7 @@ invariant_of-self c = alike _ _ c.args.slot c.index_mut-process.result.now _ c.s
   ticks = refl;
   generation = refl;
   pending = length-set _ _ _;
+  windows = refl;
   alarm = refl;
   buffer = refl;
   memory = refl;

@@ -13,6 +13,7 @@ invariant_of-self c = alike _ _ c.args.slot c.index_mut-process.result.now _ c.s
   generation = refl;
   ticks = refl;
   pending = refl;
+  windows = refl;
   alarm = refl;
   buffer = ap (λ (r : RegisterValues). r.ebx) c.set.ensures;
   memory = refl;

@@ -1,0 +1,79 @@
+//! How a file is replaced.
+
+use std::alloc::{AllocError, Global};
+use std::fs::Permissions;
+use std::io::Write;
+use std::rt::Files;
+use std::{fs, io};
+
+/// Where a file's new bytes go.
+#[derive(Drop)]
+enum Place {
+    /// Beside a regular file, which has these permissions, or beside no file.
+    Beside(Option<Permissions>),
+    /// Into the file itself: a device, a pipe, what a link leads to.
+    Itself,
+}
+
+/// Where the new bytes of the file that has a name go.
+fn place_of(rt: &impl Files, name: &str) -> Place {
+    match fs::symlink_metadata(rt, name) {
+        Ok(metadata) => {
+            if metadata.is_file() {
+                Place::Beside(Some(metadata.permissions()))
+            } else {
+                Place::Itself
+            }
+        }
+        Err(error) => match error.kind() {
+            io::ErrorKind::NotFound => Place::Beside(None),
+            _ => Place::Itself,
+        },
+    }
+}
+
+/// The name beside a file's, for bytes that aren't whole yet.
+fn name_beside(alloc: Global, name: &str) -> Result<String, AllocError> {
+    format!(in alloc; "{name}.part")
+}
+
+/// Fills a new file with bytes and gives it permissions and its name.
+fn fill_and_rename<R: Files>(
+    rt: &R,
+    mut file: R::File,
+    beside: &str,
+    permissions: Option<Permissions>,
+    name: &str,
+    bytes: &[u8],
+) -> io::Result<()> {
+    file.write_all(bytes)?;
+    if let Some(permissions) = permissions {
+        fs::set_permissions(rt, beside, permissions)?;
+    }
+    fs::rename(rt, beside, name)
+}
+
+/// Writes bytes to the file that has a name, in place of what it had. Where the file is regular or new and a
+/// file of the name `NAME.part` can be made, it is written there first and then renamed, so no half of it is
+/// ever seen; what stands at `NAME.part` already isn't touched. Any other file is written in place.
+pub(crate) fn replace_file<R: Files>(
+    rt: &R,
+    alloc: Global,
+    name: &str,
+    bytes: &[u8],
+) -> io::Result<()> {
+    let Place::Beside(permissions) = place_of(rt, name) else {
+        return fs::write(rt, name, bytes);
+    };
+    let Ok(beside) = name_beside(alloc, name) else {
+        return Err(io::Error::from(io::ErrorKind::OutOfMemory));
+    };
+    let Ok(file) = fs::File::create_new(rt, beside.as_str()) else {
+        return fs::write(rt, name, bytes);
+    };
+    let done = fill_and_rename(rt, file, beside.as_str(), permissions, name, bytes);
+    if done.is_err() {
+        let _ = fs::remove_file(rt, beside.as_str());
+    }
+    done
+}

@@ -1,0 +1,22 @@
+use Rattle.std.proofs.Common.{refl, length-set}
+use Rattle.mx_proc.proofs.TableLemmas.{alike}
+use Rattle.mx_proc.proofs.FrameLemmas.{framed}
+use Rattle.mx_proc.proofs.table.Table.set_window.Goals as goal
+
+pub invariant_of-self : goal.invariant_of-self
+invariant_of-self c = alike _ _ c.args.owner c.index_mut-process.result.now _ c.self.view_is c.self.invariant c.requires.owner c.index_mut-process.ensures.value (record {
+  state = refl;
+  level = refl;
+  best = refl;
+  quantum = refl;
+  ticks = refl;
+  generation = refl;
+  pending = refl;
+  windows = length-set _ _ _;
+  alarm = refl;
+  buffer = refl;
+  memory = refl;
+})
+
+pub returns-clause-frame : goal.returns-clause-frame
+returns-clause-frame c = framed _ _ c.args.owner c.index_mut-process.result.now _ _ _ _ _ c.self.view_is c.index_mut-process.ensures.value refl refl
