@@ -6,7 +6,7 @@ use Rattle.mx_aout.specs.File.{refusal_of}
 use Rattle.mx_app_failure.specs.declared.failure.Failure.{Failure as Kind}
 use Rattle.mx_app_failure.specs.Failure.{Tells, failure_of_kind}
 use Rattle.mx_app_program.specs.Assembling.{IsAssembledFile, TellsText}
-use Rattle.mx_app_start.specs.Asked.{file_given, file_missed}
+use Rattle.mx_app_db.specs.Asked.{file_given, file_missed}
 use Rattle.mx_app.specs.Named.{IsMissing, ShowsFile}
 
 pub missing : (name : List ℕ) (kind : ErrorKind) (r : Result (Unit {0}) Kind) → IsErrAnd r (λ f. f ≡ failure_of_kind kind) → IsMissing name (file_missed name kind) r

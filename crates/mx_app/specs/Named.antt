@@ -6,8 +6,8 @@ use Rattle.mx_app_failure.specs.declared.failure.Failure.{Failure as Kind}
 use Rattle.mx_app_failure.specs.declared.failure.Failure.TheVariants.{File}
 use Rattle.mx_app_failure.specs.Failure.{Tells, failure_of_kind}
 use Rattle.mx_app_program.specs.Assembling.{IsAssembledFile, TellsText}
-use Rattle.mx_app_start.specs.Asked.{Asked, file_given, file_missed}
-use Rattle.mx_app_start.specs.Written.{Written}
+use Rattle.mx_app_db.specs.Asked.{Asked, file_given, file_missed}
+use Rattle.mx_app_db.specs.Written.{Written}
 
 -- the file was missed, and the reason is told
 abbrev pub IsMissing : List ℕ → Asked → Result (Unit {0}) Kind → Type 0

@@ -2,31 +2,31 @@
 use Rattle.std.specs.Prelude.{◌≡◌, ◌⊎◌, ℕ, List, [], ◌∷◌, ◌++◌, Some, None, Result, Ok, Err, take}
 use Rattle.mx_app_command.specs.declared.words.CommandRequest.{CommandRequest}
 use Rattle.mx_app_command.specs.declared.words.CommandRequest.TheVariants.{One, As, Dis, Nm, Step, Run, Replay, Trace, Db}
-use Rattle.mx_boot_script.specs.declared.scripts.ScriptLine.{ScriptLine}
-use Rattle.mx_boot_script.specs.declared.debug.DebugLine.{DebugLine}
+use Rattle.mx_app_db.specs.ScriptLine.{ScriptLine}
+use Rattle.mx_app_db.specs.DebugLine.{DebugLine}
 use Rattle.mx_app_failure.specs.declared.failure.Failure.{Failure as Kind}
 use Rattle.mx_app_program.specs.One.{IsPrinted}
 use Rattle.mx_app_program.specs.Shown.{HasListing, HasNames, IsShown}
 use Rattle.mx_machine_world.specs.Boot.{world_at_boot}
 use Rattle.mx_machine_world.specs.declared.history.Record.{Record}
-use Rattle.mx_app_start.specs.Asked.{Asked}
-use Rattle.mx_app_start.specs.Written.{Written, kept}
-use Rattle.mx_app_start.specs.Text.{saved_text}
-use Rattle.mx_app_start.specs.Config.{Config}
-use Rattle.mx_app_start.specs.Service.{Service}
-use Rattle.mx_app_start.specs.Report.{report_text}
-use Rattle.mx_app_start.specs.Course.{IsDebugScript, IsSaved, IsScript, TellsDebugScript, TellsSaved, TellsScript}
-use Rattle.mx_app_start.specs.Setup.{IsNotStarted, IsStart}
-use Rattle.mx_app_start.specs.Telling.{IsTold, IsUnsaved}
-use Rattle.mx_print_answers.specs.Said.{said_lines}
-use Rattle.mx_app_step.specs.Kept.{history_made}
-use Rattle.mx_app_step.specs.Lines.{lines_made}
-use Rattle.mx_app_step.specs.Records.{IsReplayPrinted as IsReplayPrinted}
-use Rattle.mx_app_step.specs.Traces.{IsTracePrinted}
-use Rattle.mx_app_step.specs.declared.records.Replayed.{Replayed}
-use Rattle.mx_app_step.specs.declared.records.Replayed.TheVariants as replayed
+use Rattle.mx_app_db.specs.Asked.{Asked}
+use Rattle.mx_app_db.specs.Written.{Written, kept}
+use Rattle.mx_app_db.specs.Text.{saved_text}
+use Rattle.mx_app_db.specs.Config.{Config}
+use Rattle.mx_app_db.specs.Service.{Service}
+use Rattle.mx_app_db.specs.Report.{report_text}
+use Rattle.mx_app_db.specs.Course.{IsDebugScript, IsSaved, IsScript, TellsDebugScript, TellsSaved, TellsScript}
+use Rattle.mx_app_db.specs.Setup.{IsNotStarted, IsStart}
+use Rattle.mx_app_db.specs.Telling.{IsTold, IsUnsaved}
+use Rattle.mx_app_db.specs.Said.{said_lines}
+use Rattle.mx_app_db.specs.Kept.{history_made}
+use Rattle.mx_app_db.specs.Lines.{lines_made}
+use Rattle.mx_app_db.specs.Records.{IsReplayPrinted as IsReplayPrinted}
+use Rattle.mx_app_db.specs.Traces.{IsTracePrinted}
+use Rattle.mx_app_db.specs.Replayed.{Replayed}
+use Rattle.mx_app_db.specs.Replayed.TheVariants as replayed
 use Rattle.mx_app_run.specs.Run.{Runs}
-use Rattle.mx_app_db.specs.Lines.{DebuggedWorld, debug_lines_made}
+use Rattle.mx_app_db.specs.DebugLines.{DebuggedWorld, debug_lines_made}
 use Rattle.mx_app_db.specs.Told.{debug_lines_text}
 use Rattle.mx_app.specs.Named.{Assembles, ShowsFile}
 

@@ -11,8 +11,8 @@ use Rattle.mx_app_command.specs.Words.{Asks, mx_grammar}
 use Rattle.mx_app_failure.specs.declared.failure.Failure.{Failure as Kind}
 use Rattle.mx_app_failure.specs.declared.failure.Failure.TheVariants.{NotText, NoMemory}
 use Rattle.mx_app_failure.specs.Failure.{IsWanting, status_of}
-use Rattle.mx_app_start.specs.Asked.{Asked}
-use Rattle.mx_app_start.specs.Written.{Written}
+use Rattle.mx_app_db.specs.Asked.{Asked}
+use Rattle.mx_app_db.specs.Written.{Written}
 use Rattle.mx_app.specs.Requests.{Performs}
 use Rattle.mx_app.specs.declared.complaint.Complaint.{Complaint}
 use Rattle.mx_app.specs.declared.complaint.Complaint.TheVariants.{Mistaken, Failed}

@@ -11,11 +11,13 @@ mod words;
 pub use channels::Channels;
 pub use complaint::Complaint;
 pub use mx_app_command::{CommandRequest, command};
-pub use mx_app_db::{NamedFile, NamedFiles, Reader, Replayed, db, replay, step, step_saved, trace};
+pub use mx_app_db::{
+    FileWriter, KeptFile, MemoryWriter, NamedFile, NamedFiles, Reader, Replayed, db, replay, step,
+    step_saved, trace,
+};
 pub use mx_app_failure::{BootError, Failure, FileError};
 pub use mx_app_program::{assemble_file, one, print_listing, print_names, print_one};
 pub use mx_app_run::run;
-pub use mx_app_start::{FileWriter, KeptFile, MemoryWriter};
 pub use named::{as_named, dis_named, nm_named, one_named};
 pub use performing::perform;
 pub use program::run_program;

@@ -2,15 +2,15 @@
 
 ghost use Rattle.std.specs.Prelude.{◌≡◌, ◌++◌, ◌∷◌, [], List};
 ghost use Rattle.std.specs.Io.KnownBytes.{Appends};
-ghost use Rattle.mx_app_start.specs.Asked.{Asked};
-ghost use Rattle.mx_app_start.specs.Written.{Written};
+ghost use Rattle.mx_app_db.specs.Asked.{Asked};
+ghost use Rattle.mx_app_db.specs.Written.{Written};
 ghost use Rattle.mx_app_program.specs.One.{IsPrinted};
 ghost use Rattle.mx_app_program.specs.Shown.{HasListing, HasNames, IsShown};
 ghost use Rattle.mx_app.specs.Named.{Assembles, ShowsFile};
 
+use mx_app_db::{FileWriter, Reader};
 use mx_app_failure::Failure;
 use mx_app_program::{assemble_file, print_listing, print_names, print_one};
-use mx_app_start::{FileWriter, Reader};
 use std::alloc::Global;
 use std::io::Write;
 

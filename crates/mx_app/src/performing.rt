@@ -2,17 +2,16 @@
 
 ghost use Rattle.std.specs.Prelude.{◌≡◌, ◌++◌, List};
 ghost use Rattle.std.specs.Io.KnownBytes.{Appends};
-ghost use Rattle.mx_app_start.specs.Asked.{Asked};
-ghost use Rattle.mx_app_start.specs.Written.{Written};
+ghost use Rattle.mx_app_db.specs.Asked.{Asked};
+ghost use Rattle.mx_app_db.specs.Written.{Written};
 ghost use Rattle.mx_app.specs.Requests.{Performs, status_after_replay, status_after_work};
 
 use crate::channels::Channels;
 use crate::named::{as_named, dis_named, nm_named, one_named};
 use mx_app_command::CommandRequest;
-use mx_app_db::{Replayed, db, replay, step, step_saved, trace};
+use mx_app_db::{FileWriter, Reader, Replayed, db, replay, step, step_saved, trace};
 use mx_app_failure::Failure;
 use mx_app_run::run;
-use mx_app_start::{FileWriter, Reader};
 use std::alloc::Global;
 use std::io::Write;
 use std::sync::Wait;

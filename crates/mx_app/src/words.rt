@@ -3,8 +3,8 @@
 ghost use Rattle.std.specs.Prelude.{◌≡◌, ◌++◌, IfErr, List, map};
 ghost use Rattle.std.specs.Io.KnownBytes.{Appends};
 ghost use Rattle.mx_app_failure.specs.Failure.{IsWanting};
-ghost use Rattle.mx_app_start.specs.Asked.{Asked};
-ghost use Rattle.mx_app_start.specs.Written.{Written};
+ghost use Rattle.mx_app_db.specs.Asked.{Asked};
+ghost use Rattle.mx_app_db.specs.Written.{Written};
 ghost use Rattle.mx_app.specs.Words.{Explains, IsPerformed};
 
 use crate::channels::Channels;
@@ -13,8 +13,8 @@ use crate::performing::perform;
 use clap::Error;
 use clap::error::ErrorKind;
 use mx_app_command::command;
+use mx_app_db::{FileWriter, Reader};
 use mx_app_failure::{Failure, print_text};
-use mx_app_start::{FileWriter, Reader};
 use std::alloc::Global;
 use std::io::Write;
 use std::sync::Wait;

@@ -13,7 +13,7 @@ use Rattle.mx_app_step.specs.Lines.{line_made}
 use Rattle.mx_print_answers.specs.Breakpoint.{Breakpoint}
 use Rattle.mx_print_answers.specs.declared.refused.Refused.{Refused as Kind}
 use Rattle.mx_app_db.specs.Places.{place_found, breakpoints_after_break, breakpoints_after_clear}
-use Rattle.mx_app_db.specs.Lines.{DebuggedWorld, world_after_go, debug_line_made, debug_lines_made}
+use Rattle.mx_app_db.specs.DebugLines.{DebuggedWorld, world_after_go, debug_line_made, debug_lines_made}
 
 -- a world and breakpoints
 abbrev pub both : World → List Breakpoint → DebuggedWorld

@@ -9,7 +9,7 @@ use Rattle.mx_print_answers.specs.Breakpoint.{Breakpoint}
 use Rattle.mx_app_step.specs.Report.{report_text}
 use Rattle.mx_machine_world.specs.Boot.{world_at_boot}
 use Rattle.mx_machine_world.specs.World.{World}
-use Rattle.mx_app_db.specs.Lines.{DebuggedWorld, debug_lines_made}
+use Rattle.mx_app_db.specs.DebugLines.{DebuggedWorld, debug_lines_made}
 use Rattle.mx_app_db.specs.Told.{debug_lines_text}
 use Rattle.mx_app_db.proofs.Made.{both}
 

@@ -27,7 +27,7 @@ use Rattle.mx_print_answers.specs.Processes.{memory_text, registers_text}
 use Rattle.mx_print_answers.specs.Runs.{halt_line, run_line}
 use Rattle.mx_print_answers.specs.Said.{refusal_line, said_line}
 use Rattle.mx_app_db.specs.Going.{HasGone, IsStuck}
-use Rattle.mx_app_db.specs.Lines.{DebuggedWorld, debug_line_made, debug_lines_made}
+use Rattle.mx_app_db.specs.DebugLines.{DebuggedWorld, debug_line_made, debug_lines_made}
 use Rattle.mx_app_db.specs.Places.{place_found, breakpoints_after_break, breakpoints_after_clear}
 use Rattle.mx_app_db.specs.Told.{eip_of, image_held, halt_text, go_text, debug_line_text, debug_lines_text}
 use Rattle.mx_app_db.proofs.Made.{both}

@@ -7,7 +7,7 @@ use Rattle.mx_machine_world.specs.World.{World, HeldProcess, held_by}
 use Rattle.mx_print_answers.specs.Halt.{Halt}
 use Rattle.mx_print_answers.specs.Breakpoint.{Breakpoint}
 use Rattle.mx_app_db.specs.Going.{HasGone}
-use Rattle.mx_app_db.specs.Lines.{world_after_go}
+use Rattle.mx_app_db.specs.DebugLines.{world_after_go}
 
 pub gone_nothing : (w : World) (points : List Breakpoint) (c k : ℕ) → held_by w c ≡ None → world_after_go w points c k (held_by w c) ≡ w
 gone_nothing w points c k h = ap (world_after_go w points c k) h

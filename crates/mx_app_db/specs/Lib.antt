@@ -1,6 +1,6 @@
 pub mod Places
 pub mod Going
-pub mod Lines
+pub mod DebugLines
 pub mod Told
 pub use Rattle.mx_app_step.specs.Asked
 pub use Rattle.mx_app_step.specs.Setup
@@ -8,3 +8,15 @@ pub use Rattle.mx_app_step.specs.Telling
 pub use Rattle.mx_app_step.specs.Config
 pub use Rattle.mx_app_step.specs.ServiceLine
 pub use Rattle.mx_app_step.specs.Course
+pub use Rattle.mx_app_step.specs.Report
+pub use Rattle.mx_app_step.specs.Service
+pub use Rattle.mx_app_step.specs.Text
+pub use Rattle.mx_app_step.specs.Written
+pub use Rattle.mx_app_step.specs.Kept
+pub use Rattle.mx_app_step.specs.Lines
+pub use Rattle.mx_app_step.specs.Records
+pub use Rattle.mx_app_step.specs.Traces
+pub use Rattle.mx_app_step.specs.declared.records.Replayed
+pub use Rattle.mx_boot_script.specs.declared.debug.DebugLine
+pub use Rattle.mx_boot_script.specs.declared.scripts.ScriptLine
+pub use Rattle.mx_print_answers.specs.Said

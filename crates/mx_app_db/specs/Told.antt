@@ -15,7 +15,7 @@ use Rattle.mx_print_answers.specs.Processes.{registers_text, memory_text}
 use Rattle.mx_print_answers.specs.Runs.{halt_line}
 use Rattle.mx_print_answers.specs.Said.{refusal_line, said_line}
 use Rattle.mx_app_db.specs.Places.{place_found, breakpoints_after_break, breakpoints_after_clear}
-use Rattle.mx_app_db.specs.Lines.{DebuggedWorld, debug_line_made}
+use Rattle.mx_app_db.specs.DebugLines.{DebuggedWorld, debug_line_made}
 
 -- ---- of what a processor holds
 

@@ -14,7 +14,7 @@ ghost use Rattle.mx_app_step.specs.Setup.{IsStart};
 ghost use Rattle.mx_app_step.specs.Telling.{IsTold};
 ghost use Rattle.mx_machine_world.specs.Boot.{world_at_boot};
 ghost use Rattle.mx_machine_world.specs.World.{actors};
-ghost use Rattle.mx_app_db.specs.Lines.{DebuggedWorld, debug_lines_made};
+ghost use Rattle.mx_app_db.specs.DebugLines.{DebuggedWorld, debug_lines_made};
 ghost use Rattle.mx_app_db.specs.Told.{debug_lines_text};
 
 use crate::lines::perform_debug_lines;

@@ -4,7 +4,7 @@ ghost use Rattle.std.specs.Prelude.{◌≡◌, IfOk, IfErr};
 ghost use Rattle.mx_app_step.specs.Machine.{world_of};
 ghost use Rattle.mx_machine_world.specs.World.{actors, held_by};
 ghost use Rattle.mx_app_db.specs.Going.{HasGone, IsStuck};
-ghost use Rattle.mx_app_db.specs.Lines.{world_after_go};
+ghost use Rattle.mx_app_db.specs.DebugLines.{world_after_go};
 
 use mx_app_step::{Machine, Out, Tool};
 use mx_machine_world::Refusal;

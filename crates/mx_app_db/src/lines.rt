@@ -4,7 +4,7 @@ ghost use Rattle.std.specs.Prelude.{◌≡◌, ◌<◌, ◌++◌, OnOk, string_b
 ghost use Rattle.mx_app_step.specs.Machine.{world_of};
 ghost use Rattle.mx_machine_world.specs.World.{actors, held_by};
 ghost use Rattle.mx_print_answers.specs.Processes.{registers_text, memory_text};
-ghost use Rattle.mx_app_db.specs.Lines.{world_after_go, debug_line_made, debug_lines_made};
+ghost use Rattle.mx_app_db.specs.DebugLines.{world_after_go, debug_line_made, debug_lines_made};
 ghost use Rattle.mx_app_db.specs.Told.{eip_of, image_held, go_text, debug_line_text, debug_lines_text};
 
 use crate::going::go;

@@ -16,17 +16,17 @@ use Rattle.mx_machine_world.specs.Move.{world_after_event}
 use Rattle.mx_machine_world.specs.Rules.{Rules}
 use Rattle.mx_machine_world.specs.World.{World, actors}
 use Rattle.mx_kcall.specs.Service.{Service}
-use Rattle.mx_loan.specs.Seats.{SeatView, new_seat, new_seats}
-use Rattle.mx_cpus.specs.Boots.{all_seats}
-use Rattle.mx_app_start.specs.Asked.{Asked}
-use Rattle.mx_app_start.specs.ServiceLine.{ServiceLine}
-use Rattle.mx_app_start.specs.Setup.{AreServicesRead, IsSetup}
+use Rattle.mx_cpus_drive.specs.Seats.{SeatView, new_seat, new_seats}
+use Rattle.mx_cpus_drive.specs.Boots.{all_seats}
+use Rattle.mx_app_step.specs.Asked.{Asked}
+use Rattle.mx_app_step.specs.ServiceLine.{ServiceLine}
+use Rattle.mx_app_step.specs.Setup.{AreServicesRead, IsSetup}
 use Rattle.mx_app_failure.specs.declared.failure.Failure.{Failure as Kind}
 use Rattle.mx_app_failure.specs.declared.failure.Failure.TheVariants.{NoMemory}
 use Rattle.mx_app_failure.specs.Failure.{IsWanting, failure_of_kind}
-use Rattle.mx_app_start.specs.Setup.{IsSetupFault}
-use Rattle.mx_app_start.specs.Written.{kept, unkept}
-use Rattle.mx_print_report.specs.Report.{report_text}
+use Rattle.mx_app_step.specs.Setup.{IsSetupFault}
+use Rattle.mx_app_step.specs.Written.{kept, unkept}
+use Rattle.mx_app_step.specs.Report.{report_text}
 use Rattle.mx_boot_history.specs.Text.{saved_text}
 use Rattle.mx_app_step.specs.Records.{IsFirstRefusal, IsRefusedAt, IsReplayPrinted}
 use Rattle.mx_app_step.specs.declared.records.Replayed.{Replayed}

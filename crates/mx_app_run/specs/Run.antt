@@ -9,19 +9,19 @@ use Rattle.mx_machine_world.specs.Boot.{world_at_boot}
 use Rattle.mx_machine_world.specs.History.{AreAccepted, BootAndHistory, IsWritable, events_of_history, replay}
 use Rattle.mx_machine_world.specs.World.{actors}
 use Rattle.mx_kcall.specs.Service.{Service}
-use Rattle.mx_loan.specs.Seats.{SeatView}
-use Rattle.mx_cpus_lock.specs.Calls.{StandsIn}
-use Rattle.mx_cpus.specs.Boots.{all_seats}
+use Rattle.mx_cpus_drive.specs.Seats.{SeatView}
+use Rattle.mx_cpus_drive.specs.Calls.{StandsIn}
+use Rattle.mx_cpus_drive.specs.Boots.{all_seats}
 use Rattle.mx_cpus_drive.specs.Loops.{AreDriven}
-use Rattle.mx_print_report.specs.Report.{report_text}
+use Rattle.mx_app_step.specs.Report.{report_text}
 use Rattle.mx_boot_history.specs.Text.{saved_text}
 use Rattle.mx_app_failure.specs.declared.failure.Failure.{Failure as Kind}
 use Rattle.mx_app_failure.specs.declared.failure.Failure.TheVariants.{File, NoMemory}
 use Rattle.mx_app_failure.specs.Failure.{IsWanting, failure_of_kind}
-use Rattle.mx_app_start.specs.Asked.{Asked}
-use Rattle.mx_app_start.specs.Course.{IsSaved}
-use Rattle.mx_app_start.specs.Setup.{IsSetup, IsSetupFault}
-use Rattle.mx_app_start.specs.Written.{Written, kept, unkept}
+use Rattle.mx_app_step.specs.Asked.{Asked}
+use Rattle.mx_app_step.specs.Course.{IsSaved}
+use Rattle.mx_app_step.specs.Setup.{IsSetup, IsSetupFault}
+use Rattle.mx_app_step.specs.Written.{Written, kept, unkept}
 use Rattle.mx_app_step.specs.Records.{IsReplayPrinted}
 use Rattle.mx_app_step.specs.declared.records.Replayed.{Replayed}
 use Rattle.mx_app_step.specs.declared.records.Replayed.TheVariants.{Whole}

@@ -6,7 +6,7 @@ mod laws;
 mod running;
 
 pub use laws::{replay_again, run_again};
-pub use mx_app_start::{
-    Failure, FileWriter, KeptFile, MemoryWriter, NamedFile, NamedFiles, Reader,
+pub use mx_app_step::{
+    Failure, FileWriter, KeptFile, MemoryWriter, NamedFile, NamedFiles, Reader, Replayed, replay,
 };
 pub use running::run;

@@ -2,15 +2,13 @@
 
 ghost use Rattle.std.specs.Prelude.{◌≡◌, ◌<◌, ◌≤◌, ◌++◌, List, All, IfOk, None, length};
 ghost use Rattle.std.specs.Io.KnownBytes.{Appends};
-ghost use Rattle.mx_app_start.specs.Asked.{Asked};
-ghost use Rattle.mx_app_start.specs.Written.{Written};
+ghost use Rattle.mx_app_step.specs.Asked.{Asked};
+ghost use Rattle.mx_app_step.specs.Written.{Written};
 ghost use Rattle.mx_app_run.specs.Run.{EndsDriven, IsRun, Runs};
 
 use crate::gate::RunGate;
-use mx_app_start::{Failure, FileWriter, Reader, print_text, setup_of};
-use mx_boot::{Config, report, saved_text};
-use mx_cpus_drive::{ActorSeat, Blank, Naming, Shared, boot, drive};
-use mx_machine_kernel::{Kernel, Service};
+use mx_app_step::{Config, Failure, FileWriter, Reader, print_text, report, saved_text, setup_of};
+use mx_cpus_drive::{ActorSeat, Blank, Kernel, Naming, Service, Shared, boot, drive};
 use mx_word::NoMemory;
 use std::alloc::Global;
 use std::io::Write;

@@ -10,8 +10,9 @@ mod tracing;
 
 pub use lines::{perform_line, step};
 pub use mx_app_start::{
-    BootError, DebugScript, Failure, FileWriter, Machine, NamedFile, NamedFiles, Out, Reader,
-    RuntimeFiles, Script, ScriptLine, Tool, print_text, start,
+    BootError, Config, DebugScript, Failure, FileWriter, KeptFile, Machine, MemoryWriter, NamedFile,
+    NamedFiles, Out, Reader, RuntimeFiles, RuntimeWriter, Script, ScriptLine, Tool, print_text,
+    report, saved_text, setup_of, start,
 };
 pub use mx_print_answers::Said;
 pub use printing::print_report;

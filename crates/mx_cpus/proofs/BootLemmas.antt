@@ -10,7 +10,7 @@ use Rattle.mx_machine_world.specs.Boot.{world_at_boot_with}
 use Rattle.mx_machine_world.specs.History.{BootAndHistory, replay}
 use Rattle.mx_machine_world.specs.World.{World, actors}
 use Rattle.atomic_table.specs.Seated.{TableId}
-use Rattle.mx_loan.specs.Seats.{DeskView, SeatView, empty_desk, new_seat, new_seats}
+use Rattle.mx_cpus_lock.specs.Seats.{DeskView, SeatView, empty_desk, new_seat, new_seats}
 use Rattle.mx_cpus_lock.specs.Calls.{desk_beside, out_of_lent, outs_of, world_after}
 use Rattle.mx_cpus.specs.Boots.{IsBlank}
 

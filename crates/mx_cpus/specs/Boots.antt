@@ -5,7 +5,7 @@ use Rattle.mx_machine_world.specs.declared.history.Record.{Record}
 use Rattle.mx_machine_world.specs.History.{BootAndHistory}
 use Rattle.mx_machine_world.specs.World.{World}
 use Rattle.mx_machine_world.specs.declared.config.Config.{Config}
-use Rattle.mx_loan.specs.Seats.{DeskView, SeatView, new_seats}
+use Rattle.mx_cpus_lock.specs.Seats.{DeskView, SeatView, new_seats}
 use Rattle.mx_cpus_lock.specs.Calls.{IsLocked}
 
 -- A blank: the table of its seats, the world at its boot, and the history so far

@@ -5,9 +5,7 @@ ghost use Rattle.mx_machine_world.specs.Boot.{world_at_boot};
 ghost use Rattle.mx_cpus.specs.Boots.{all_seats};
 
 use crate::shared::Shared;
-use mx_cpus_lock::{Locked, Naming};
-use mx_loan::{ActorSeat, Desk};
-use mx_machine_kernel::{Kernel, Service};
+use mx_cpus_lock::{ActorSeat, Desk, Kernel, Locked, Naming, Service};
 use mx_machine_world::Config;
 use mx_word::NoMemory;
 use std::alloc::Global;

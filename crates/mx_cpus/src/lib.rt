@@ -6,6 +6,5 @@ mod blank;
 mod shared;
 
 pub use blank::{Blank, boot};
-pub use mx_cpus_lock::Naming;
-pub use mx_loan::{ActorSeat, Loan};
+pub use mx_cpus_lock::{ActorSeat, Kernel, Loan, Naming, Service};
 pub use shared::Shared;

@@ -6,9 +6,7 @@ ghost use Rattle.mx_machine_world.specs.Rest.{at_rest};
 ghost use Rattle.mx_cpus_lock.specs.Calls.{Follows, IsAnsweredCall, IsGiveCall, IsLoanOf};
 ghost use Rattle.mx_cpus_lock.specs.Calls.{IsRefusedCall, IsSameSeat, IsTakeCall, StandsIn, world_after};
 
-use mx_cpus_lock::{Locked, Naming};
-use mx_loan::{ActorSeat, Loan};
-use mx_machine_kernel::Kernel;
+use mx_cpus_lock::{ActorSeat, Kernel, Loan, Locked, Naming};
 use mx_machine_world::{Answer, Event, Refusal};
 use std::sync::{Mutex, Wait};
 

@@ -14,8 +14,8 @@ use Rattle.mx_machine_world.specs.declared.history.Recorded.TheVariants as recor
 use Rattle.mx_machine_world.specs.History.{part_of}
 use Rattle.mx_machine_world.specs.World.{World}
 use Rattle.mx_loan_rule.proofs.Fronts.{prefix_self, prefix_trans}
-use Rattle.mx_loan.specs.Seats.{SeatView, LoanView, back_record, record_of, take_record}
-use Rattle.mx_cpus_lock.specs.Calls.{Follows, IsAnsweredCall, IsGiveCall, IsRefusedCall, IsSameSeat, IsTakeCall}
+use Rattle.mx_cpus.specs.Seats.{SeatView, LoanView, back_record, record_of, take_record}
+use Rattle.mx_cpus.specs.Calls.{Follows, IsAnsweredCall, IsGiveCall, IsRefusedCall, IsSameSeat, IsTakeCall}
 use Rattle.mx_cpus_drive.specs.Loops.{AreDriven, AreTicksAndRespawns, HasMadeTurns, HasTickedAndRespawned, IsDriven, ticks_among, turns_of}
 
 pub follows_self : (s : SeatView) → s.mine ≡ part_of s.seen s.actor → Follows s s

@@ -3,8 +3,8 @@ use Rattle.std.specs.Prelude.{◌≡◌, ◌<◌, ◌≤◌, ℕ, suc, List, [],
 use Rattle.mx_machine_world.specs.declared.history.Record.{Record}
 use Rattle.mx_machine_world.specs.declared.history.Recorded.{Recorded}
 use Rattle.mx_machine_world.specs.declared.history.Recorded.TheVariants.{Tick, Respawn}
-use Rattle.mx_loan.specs.Seats.{SeatView, back_record, record_of, take_record}
-use Rattle.mx_cpus_lock.specs.Calls.{Follows}
+use Rattle.mx_cpus.specs.Seats.{SeatView, back_record, record_of, take_record}
+use Rattle.mx_cpus.specs.Calls.{Follows}
 
 -- ---- records
 

@@ -8,4 +8,4 @@ mod loops;
 pub use driving::drive;
 pub use gate::Gate;
 pub use loops::{processor, respawner};
-pub use mx_cpus::{ActorSeat, Blank, Naming, Shared, boot};
+pub use mx_cpus::{ActorSeat, Blank, Kernel, Naming, Service, Shared, boot};

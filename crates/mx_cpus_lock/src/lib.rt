@@ -6,4 +6,6 @@ mod locked;
 mod naming;
 
 pub use locked::Locked;
+pub use mx_loan::{ActorSeat, Desk, Loan};
+pub use mx_machine_kernel::{Kernel, Service};
 pub use naming::Naming;

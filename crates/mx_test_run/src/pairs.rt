@@ -1,8 +1,6 @@
 //! A driver and a client, whose processors are threads: what their runs leave, whatever the schedule.
 
-use mx_app_run::run;
-use mx_app_start::MemoryWriter;
-use mx_app_step::{NamedFile, NamedFiles, Replayed, replay};
+use mx_app_run::{MemoryWriter, NamedFile, NamedFiles, Replayed, replay, run};
 use std::alloc::Global;
 use std::process::Abort;
 use std::sync::Wait;

@@ -3,8 +3,8 @@ use Rattle.std.specs.IoError.{error_kind}
 use Rattle.std.specs.Str.{bytes_eq}
 use Rattle.std.proofs.lemmas.List.{append-nil}
 use Rattle.std.proofs.lemmas.Slice.Eq.{bytes_eq-Decides}
-use Rattle.mx_app_start.specs.Asked.{file_given, file_missed}
-use Rattle.mx_app_start.specs.Written.{kept, unkept}
+use Rattle.mx_app_db.specs.Asked.{file_given, file_missed}
+use Rattle.mx_app_db.specs.Written.{kept, unkept}
 use Rattle.mx_app.proofs.Shown.{file_assembled, missing, passed, text_tells, told}
 use Rattle.mx_app.proofs.named.as_named.Goals as goal
 

@@ -1,7 +1,7 @@
 use Rattle.std.proofs.Common.{inl}
 use Rattle.std.specs.IoError.{error_kind}
 use Rattle.mx_app_program.specs.Shown.{HasNames, IsShown}
-use Rattle.mx_app_start.specs.Asked.{file_given, file_missed}
+use Rattle.mx_app_db.specs.Asked.{file_given, file_missed}
 use Rattle.mx_app.proofs.Shown.{missing, shown}
 use Rattle.mx_app.proofs.named.nm_named.Goals as goal
 

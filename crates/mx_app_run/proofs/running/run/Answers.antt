@@ -4,7 +4,7 @@ use Rattle.std.specs.Io.KnownBytes.{Appends}
 use Rattle.std.specs.Str.{bytes_eq}
 use Rattle.std.proofs.lemmas.List.{append-nil}
 use Rattle.std.proofs.lemmas.Slice.Eq.{bytes_eq-Decides}
-use Rattle.mx_app_start.specs.Written.{kept, unkept}
+use Rattle.mx_app_step.specs.Written.{kept, unkept}
 use Rattle.mx_app_run.proofs.RunLemmas.{as_many_services, no_memory, not_set_up, unwritten, written}
 use Rattle.mx_app_run.proofs.running.run.Goals as goal
 

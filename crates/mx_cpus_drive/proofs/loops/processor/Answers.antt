@@ -1,8 +1,8 @@
 use Rattle.std.proofs.Common.{Result, subst, sym}
 use Rattle.std.specs.Prelude.{IfOk}
 use Rattle.mx_machine_world.specs.declared.events.Refusal.{Refusal}
-use Rattle.mx_loan.specs.Seats.{LoanView}
-use Rattle.mx_cpus_lock.specs.Calls.{IsTakeCall}
+use Rattle.mx_cpus.specs.Seats.{LoanView}
+use Rattle.mx_cpus.specs.Calls.{IsTakeCall}
 use Rattle.mx_cpus_drive.specs.Loops.{HasMadeTurns}
 use Rattle.mx_cpus_drive.proofs.LoopLemmas.{turn_more, turns_if_refused, turns_seen}
 use Rattle.mx_cpus_drive.proofs.loops.processor.Goals as goal
