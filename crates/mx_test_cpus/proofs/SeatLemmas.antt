@@ -2,7 +2,7 @@
 use Rattle.std.proofs.Common.{◌≡◌, ℕ, zero, suc, List, None, All, refl, subst, sym, arith}
 use Rattle.std.proofs.lemmas.List.Elements.{All-push}
 use Rattle.atomic_table.specs.Seated.{TableId}
-use Rattle.mx_loan.specs.Seats.{SeatView, new_seat, new_seats}
+use Rattle.mx_cpus.specs.Seats.{SeatView, new_seat, new_seats}
 
 new_seats_empty : (z : TableId) (n : ℕ) → All (λ s. s.held ≡ None) (new_seats z n)
 new_seats_empty z zero = λ k d below. absurd (omega arith)
