@@ -490,7 +490,8 @@ const UNWRITTEN: [(&[&str], &str); 2] = [
     (&["mx", "run", "one", "new.log"], ""),
 ];
 
-/// Three ticks come whenever they come, and the report is the same.
+/// Three ticks come whenever they come, and the report is the same; the history has the line of the rules,
+/// four records of the processor and three ticks.
 #[test]
 fn run_with_ticks(rt: HostRuntime) {
     let alloc = rt.alloc();
@@ -506,7 +507,7 @@ fn run_with_ticks(rt: HostRuntime) {
         )
     );
     let files = channels.files.files();
-    assert!(rt; files.len() == 1 && lines_in(files[0].bytes.as_slice()) == 7);
+    assert!(rt; files.len() == 1 && lines_in(files[0].bytes.as_slice()) == 8);
 }
 
 /// How many line feeds there are.
