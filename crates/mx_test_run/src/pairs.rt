@@ -25,12 +25,12 @@ const CLIENT: [u8; 107] = [
 ];
 
 /// A machine of both, and what every run of it leaves.
-struct Row {
-    config: &'static str,
+pub(crate) struct Row {
+    pub config: &'static str,
     ticks: u32,
     /// The lines of the history: the rules, and the records.
-    lines: usize,
-    report: &'static str,
+    pub lines: usize,
+    pub report: &'static str,
     /// How many runs are made.
     runs: u32,
 }
@@ -42,7 +42,7 @@ service cli cli.out traps 1e send 1 calls 1 level 7 best 7 quantum 20 restarts 0
 ";
 
 /// Two processors.
-static TALK: Row = Row {
+pub(crate) static TALK: Row = Row {
     config: TWO_PROCESSORS,
     ticks: 0,
     lines: 11,
@@ -101,12 +101,12 @@ console 0
     runs: 200,
 };
 
-/// The files of a row's machine.
-fn files_of(row: &Row) -> [NamedFile<'static>; 3] {
+/// The files of a machine of both, by its configuration.
+pub(crate) fn files_of(config: &'static str) -> [NamedFile<'static>; 3] {
     [
         NamedFile {
             name: "config",
-            bytes: row.config.as_bytes(),
+            bytes: config.as_bytes(),
         },
         NamedFile {
             name: "drv.out",
@@ -120,13 +120,17 @@ fn files_of(row: &Row) -> [NamedFile<'static>; 3] {
 }
 
 /// How many line feeds there are.
-fn lines_in(text: &[u8]) -> usize {
+pub(crate) fn lines_in(text: &[u8]) -> usize {
     text.iter().filter(|byte| **byte == b'\n').count()
 }
 
 /// What a replay of a history prints.
-fn replayed(alloc: Global, row: &Row, log: &[u8]) -> Result<Vec<u8>, Fail> {
-    let [config, driver, client] = files_of(row);
+pub(crate) fn replayed(
+    alloc: Global,
+    config: &'static str,
+    log: &[u8],
+) -> Result<Vec<u8>, Fail> {
+    let [config, driver, client] = files_of(config);
     let history = NamedFile {
         name: "log",
         bytes: log,
@@ -159,7 +163,7 @@ fn left_by<R: Threads + Wait + Clock + Sync>(
     alloc: Global,
     row: &Row,
 ) -> Result<RunLeft, Fail> {
-    let named = files_of(row);
+    let named = files_of(row.config);
     let mut reader = NamedFiles::new(&named);
     let mut files = MemoryWriter::new(alloc);
     let mut printed = Vec::new(alloc);
@@ -186,7 +190,7 @@ fn is_wanted(alloc: Global, row: &Row, left: &RunLeft) -> Result<bool, Fail> {
         return Ok(false);
     }
     let log = files[0].bytes.as_slice();
-    let again = replayed(alloc, row, log)?;
+    let again = replayed(alloc, row.config, log)?;
     let wanted = row.report.as_bytes();
     Ok(
         files[0].name.as_str() == "log"
