@@ -122,7 +122,8 @@ fn are_lent<M: Naming>(rt: &(impl Wait + Eprint), blank: Blank, mut seats: Vec<A
         is_done = is_done && is_turn;
     }
     mark(rt);
-    is_done && shared.into_kernel(seats).history().len() == 10
+    let records = shared.into_kernel(seats).history().len();
+    is_done && records == 10
 }
 
 /// The five turns by calls of the shared machine.

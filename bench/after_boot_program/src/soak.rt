@@ -4,7 +4,7 @@ ghost use Rattle.std.specs.Prelude.{◌≡◌, All, None, length};
 
 use crate::Fault;
 use crate::booting::{booted, mark};
-use crate::course::{Course, SLOTS};
+use crate::course::{Course, SLOTS, THREADS};
 use mx_app_step::{FileWriter, RuntimeWriter, print_text, report, saved_text};
 use mx_cpus_drive::{ActorSeat, Blank, Kernel, Naming, Shared, processor};
 use mx_machine_world::{Answer, Refusal};
@@ -157,6 +157,10 @@ fn drive_until_full<M: Naming + Send + Sync, R: Threads + Wait + Eprint + Sync>(
     requires empties { All (λ s. s.held ≡ None) seats.items }
 {
     let shared: Shared<M> = blank.open();
+    if seats.len() + 1 != THREADS {
+        let _kernel = shared.into_kernel(seats);
+        return Err(Fault("there are to be eight actors"));
+    }
     let course = Course::new();
     let is_done = thread::scope(
         thread::scope_env(),
@@ -188,9 +192,6 @@ where
     R: Files + Print + Eprint + AllocGlobal + Threads + Wait + Sync,
 {
     let (blank, seats) = booted(rt, config)?;
-    if seats.len() != 8 {
-        return Err(Fault("there are to be eight actors"));
-    }
     let kernel = drive_until_full::<Brand, _>(rt, rt.alloc(), blank, seats)?;
     let saved = saved_text(rt.alloc(), &kernel).map_err(|_| Fault("no memory"))?;
     let printed = report(rt.alloc(), &kernel).map_err(|_| Fault("no memory"))?;
