@@ -30,6 +30,8 @@ pub(crate) struct Row {
     ticks: u32,
     /// The lines of the history: the rules, and the records.
     pub lines: usize,
+    /// The saved history, if that's the same in all schedules.
+    log: Option<&'static str>,
     pub report: &'static str,
     /// How many runs are made.
     runs: u32,
@@ -46,6 +48,7 @@ pub(crate) static TALK: Row = Row {
     config: TWO_PROCESSORS,
     ticks: 0,
     lines: 11,
+    log: None,
     report: "0 drv 0 receiving any 4 8
 1 cli 1 down exit 7 12
 uptime 0
@@ -59,6 +62,7 @@ static TALK_AND_TICK: Row = Row {
     config: TWO_PROCESSORS,
     ticks: 3,
     lines: 14,
+    log: None,
     report: "0 drv 0 receiving any 4 8
 1 cli 1 down exit 7 12
 uptime 3
@@ -76,6 +80,7 @@ service cli cli.out traps 1e send 1 calls 1 level 7 best 7 quantum 20 restarts 2
 ",
     ticks: 0,
     lines: 29,
+    log: None,
     report: "0 drv 0 receiving any 4 12
 1 cli 2049 down exit 7 12
 uptime 0
@@ -93,6 +98,7 @@ service cli cli.out traps 1e send 1 calls 1 level 7 best 7 quantum 20 restarts 0
 ",
     ticks: 0,
     lines: 3,
+    log: Some("rules 2\n0 take\n0 back 4\n"),
     report: "0 drv 0 receiving any 4 16
 1 cli 1 ready 7 20
 uptime 0
@@ -192,8 +198,13 @@ fn is_wanted(alloc: Global, row: &Row, left: &RunLeft) -> Result<bool, Fail> {
     let log = files[0].bytes.as_slice();
     let again = replayed(alloc, row.config, log)?;
     let wanted = row.report.as_bytes();
+    let is_saved = match row.log {
+        Some(text) => log == text.as_bytes(),
+        None => true,
+    };
     Ok(
         files[0].name.as_str() == "log"
+            && is_saved
             && lines_in(log) == row.lines
             && left.printed.as_slice() == wanted
             && again.as_slice() == wanted,
