@@ -4,6 +4,7 @@ use Rattle.std.specs.Prelude.{IfOk}
 use Rattle.std.specs.Io.KnownBytes.{Appends}
 use Rattle.std.proofs.lemmas.List.{append-nil}
 use Rattle.mx_app_command.specs.declared.words.CommandRequest.{CommandRequest}
+use Rattle.mx_app_command.specs.declared.words.RecordRange.{RecordRange}
 use Rattle.mx_app_db.specs.ScriptLine.{ScriptLine}
 use Rattle.mx_app_db.specs.DebugLine.{DebugLine}
 use Rattle.mx_app_failure.specs.declared.failure.Failure.{Failure as Kind}
@@ -115,12 +116,12 @@ module _ (asked now : List Asked) (files : List Written) where
   replays config log x y (Ok how) r p f e = (p.0, [], p.4, sym (append-nil files), (Ok how, refl, (p.1, p.2, p.3, p.5, p.6), e))
   replays config log x y (Err why) r p f e = (f.0, [], f.1, sym (append-nil files), (Err why, refl, f.2, e))
 
-  pub traces : (config log : List ℕ) (x y : Option (List ℕ)) (d : Result Replayed Kind) (r : Result ℕ Kind)
+  pub traces : (config log : List ℕ) (range : RecordRange) (x y : Option (List ℕ)) (d : Result Replayed Kind) (r : Result ℕ Kind)
       → IfOk d (λ how. (qs : List Asked) × (c : Config) × (vs : List Service) × (records : List Record)
       × (now ≡ asked ++ qs) × IsStart IsSaved config log qs c vs records
-      × IsTracePrinted (world_at_boot c vs) (take 4294967295 records) 1 how (λ text. Appends x y text))
+      × IsTracePrinted (world_at_boot c vs) (take range.to records) range.from how (λ text. Appends x y text))
       → IfErr d (λ f. (qs : List Asked) × (now ≡ asked ++ qs) × IsTold IsSaved TellsSaved config log qs f)
       → r ≡ status_after_replay d
-      → WritesNone (λ qs ws. (e : Result Replayed Kind) × (ws ≡ []) × Traces config log qs (λ text. Appends x y text) e × (r ≡ status_after_replay e))
-  traces config log x y (Ok how) r p f e = (p.0, [], p.4, sym (append-nil files), (Ok how, refl, (p.1, p.2, p.3, p.5, p.6), e))
-  traces config log x y (Err why) r p f e = (f.0, [], f.1, sym (append-nil files), (Err why, refl, f.2, e))
+      → WritesNone (λ qs ws. (e : Result Replayed Kind) × (ws ≡ []) × Traces config log range qs (λ text. Appends x y text) e × (r ≡ status_after_replay e))
+  traces config log range x y (Ok how) r p f e = (p.0, [], p.4, sym (append-nil files), (Ok how, refl, (p.1, p.2, p.3, p.5, p.6), e))
+  traces config log range x y (Err why) r p f e = (f.0, [], f.1, sym (append-nil files), (Err why, refl, f.2, e))

@@ -1,6 +1,7 @@
 -- What is done of requests (our own).
 use Rattle.std.specs.Prelude.{◌≡◌, ◌⊎◌, ℕ, List, [], ◌∷◌, ◌++◌, Some, None, Result, Ok, Err, take}
 use Rattle.mx_app_command.specs.declared.words.CommandRequest.{CommandRequest}
+use Rattle.mx_app_command.specs.declared.words.RecordRange.{RecordRange}
 use Rattle.mx_app_command.specs.declared.words.CommandRequest.TheVariants.{One, As, Dis, Nm, Step, Run, Replay, Trace, Db}
 use Rattle.mx_app_db.specs.ScriptLine.{ScriptLine}
 use Rattle.mx_app_db.specs.DebugLine.{DebugLine}
@@ -75,12 +76,12 @@ Replays config log qs Prints (Ok how) =
     × IsReplayPrinted (world_at_boot c vs) records how Prints
 Replays config log qs Prints (Err f) = IsTold IsSaved TellsSaved config log qs f
 
--- every record is made, and each is told
-abbrev pub Traces : List ℕ → List ℕ → List Asked → (List ℕ → Type 0) → Result Replayed Kind → Type 0
-Traces config log qs Prints (Ok how) =
+-- the records up to the range's last are made, and those from its first on are told
+abbrev pub Traces : List ℕ → List ℕ → RecordRange → List Asked → (List ℕ → Type 0) → Result Replayed Kind → Type 0
+Traces config log range qs Prints (Ok how) =
     (c : Config) × (vs : List Service) × (records : List Record) × IsStart IsSaved config log qs c vs records
-    × IsTracePrinted (world_at_boot c vs) (take 4294967295 records) 1 how Prints
-Traces config log qs Prints (Err f) = IsTold IsSaved TellsSaved config log qs f
+    × IsTracePrinted (world_at_boot c vs) (take range.to records) range.from how Prints
+Traces config log range qs Prints (Err f) = IsTold IsSaved TellsSaved config log qs f
 
 -- ---- requests
 
@@ -104,7 +105,7 @@ Performs (Run config log ticks) qs ws Prints r =
     (d : Result (Unit {0}) Kind) × Runs config.now log.now ticks qs ws Prints d × (r ≡ status_after_work d)
 Performs (Replay config log) qs ws Prints r =
     (d : Result Replayed Kind) × (ws ≡ []) × Replays config.now log.now qs Prints d × (r ≡ status_after_replay d)
-Performs (Trace config log) qs ws Prints r =
-    (d : Result Replayed Kind) × (ws ≡ []) × Traces config.now log.now qs Prints d × (r ≡ status_after_replay d)
+Performs (Trace config log range) qs ws Prints r =
+    (d : Result Replayed Kind) × (ws ≡ []) × Traces config.now log.now range qs Prints d × (r ≡ status_after_replay d)
 Performs (Db config script) qs ws Prints r =
     (d : Result (Unit {0}) Kind) × (ws ≡ []) × Debugs config.now script.now qs Prints d × (r ≡ status_after_work d)

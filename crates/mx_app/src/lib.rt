@@ -10,7 +10,7 @@ mod words;
 
 pub use channels::Channels;
 pub use complaint::Complaint;
-pub use mx_app_command::{CommandRequest, command};
+pub use mx_app_command::{CommandRequest, RecordRange, command};
 pub use mx_app_db::{
     FileWriter, KeptFile, MemoryWriter, NamedFile, NamedFiles, Reader, Replayed, db, replay, step,
     step_saved, trace,

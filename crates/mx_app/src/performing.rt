@@ -97,14 +97,8 @@ pub fn perform<
         CommandRequest::Replay { config, log } => {
             status_after_replay(replay(alloc, reader, config, log, out))
         }
-        CommandRequest::Trace { config, log } => status_after_replay(trace(
-            alloc,
-            reader,
-            config,
-            log,
-            1,
-            u32::MAX,
-            out,
+        CommandRequest::Trace { config, log, range } => status_after_replay(trace(
+            alloc, reader, config, log, range.from, range.to, out,
         )),
         CommandRequest::Db { config, script } => status_after_work(db(
             alloc, reader, config, script, out,

@@ -15,7 +15,7 @@ use Rattle.clap.specs.Faults.{defaults_fault, entered_fault, level_fault, settle
 use Rattle.clap.specs.Walk.{answers_to, finished, nothing_held, rows_after, settled, stop_after, walk, walk_from}
 use Rattle.clap.specs.declared.builder.value_parser.ValueParser.TheVariants.{Signed}
 use Rattle.clap.proofs.ValueTestLemmas.{accepts-Accepts}
-use Rattle.mx_app_command.specs.Words.{HasNumber, IsAsked, IsGiven, MayHaveNumber, mx_grammar, number_after, of_one, of_two, one_shape, run_shape, step_shape, wanted, wanted_number}
+use Rattle.mx_app_command.specs.Words.{HasNumber, IsAsked, IsGiven, MayHaveNumber, looking_shape, mx_grammar, number_after, of_one, of_two, one_shape, run_shape, step_shape, wanted, wanted_number}
 use Rattle.mx_app_command.proofs.Given.{IsOnly, SetsValue, all_found, has_wanted, no_fault, value_given, value_if_given}
 
 -- the grammar as a parse sees it: with the help flag, and each argument's place
@@ -171,8 +171,8 @@ log_rule = with_index 2 (filled (wanted (codes "LOG")))
 abbrev ticks_rule : Rule
 ticks_rule = with_index 3 (filled (number_after (codes "ticks") (codes "T")))
 
-ticks_sets : SetsValue ticks_rule
-ticks_sets = record { set = refl; least = omega arith; defaults = refl }
+number_sets : (long id : Text) (n : ℕ) → SetsValue (with_index n (filled (number_after long id)))
+number_sets long id n = record { set = refl; least = omega arith; defaults = refl }
 
 only_run_config : IsOnly config_rule run_whole.rules
 only_run_config = ((λ e. refl), ((λ e. cc), ((λ e. cc), ((λ e. cc), tt))))
@@ -183,28 +183,56 @@ only_log = ((λ e. cc), ((λ e. refl), ((λ e. cc), ((λ e. cc), tt))))
 only_ticks : IsOnly ticks_rule run_whole.rules
 only_ticks = ((λ e. cc), ((λ e. cc), ((λ e. refl), ((λ e. cc), tt))))
 
-ticks_if_given : (words : List Text) → level_fault run_whole [] nothing_held words false [] ≡ []
-    → MayHaveNumber (codes "T") (rows_after run_whole.rules [] words)
-ticks_if_given words fine = elim (value_if_given ticks_rule ticks_sets run_whole only_ticks words fine) [
-  | inl absent ↦ inl absent
-  | inr given ↦
-      (let number = number_of given.0 (accepts-Accepts ticks_rule.ignore_case (Signed (pos 0) (pos 4294967295)) given.0 given.3) in
-      inr (number.0, (without_minus given.0, given.2, number.1)))
-]
+-- a number after a long name, of which the argument is the only one
+number_if_given : (s : Shape) (long id : Text) (n : ℕ) → IsOnly (with_index n (filled (number_after long id))) s.rules
+    → (words : List Text) → level_fault s [] nothing_held words false [] ≡ [] → MayHaveNumber id (rows_after s.rules [] words)
+number_if_given s long id n only words fine =
+    let rule = with_index n (filled (number_after long id)) in
+    elim (value_if_given rule (number_sets long id n) s only words fine) [
+      | inl absent ↦ inl absent
+      | inr given ↦
+          (let number = number_of given.0 (accepts-Accepts rule.ignore_case (Signed (pos 0) (pos 4294967295)) given.0 given.3) in
+          inr (number.0, (without_minus given.0, given.2, number.1)))
+    ]
 
 run_fits : Fits run_whole
 run_fits words fine =
     let config = value_given config_rule (wanted_sets (codes "CONFIG") 1) run_whole only_run_config words refl (inl refl) refl fine in
     let log = value_given log_rule (wanted_sets (codes "LOG") 2) run_whole only_log words refl (inr (inl refl)) refl fine in
-    ((λ e. (ap is_some config.1, inr (inl (refl, ap is_some log.1, ticks_if_given words fine)))), (λ e. absurd (true≢false e)))
+    ((λ e. (ap is_some config.1, inr (inl (refl, ap is_some log.1, number_if_given run_whole (codes "ticks") (codes "T") 3 only_ticks words fine)))), (λ e. absurd (true≢false e)))
 
 replay_fits : Fits (whole_of (of_two (codes "replay") (codes "CONFIG") (codes "LOG")))
 replay_fits words fine = let given = two_texts_given (codes "replay") (codes "CONFIG") (codes "LOG") refl refl refl refl words fine in
     ((λ e. (given.0, inr (inr (inl (refl, given.1))))), (λ e. absurd (true≢false e)))
 
-trace_fits : Fits (whole_of (of_two (codes "trace") (codes "CONFIG") (codes "LOG")))
-trace_fits words fine = let given = two_texts_given (codes "trace") (codes "CONFIG") (codes "LOG") refl refl refl refl words fine in
-    ((λ e. (given.0, inr (inr (inr (inl (refl, given.1)))))), (λ e. absurd (true≢false e)))
+abbrev trace_whole : Shape
+trace_whole = whole_of (looking_shape (codes "trace"))
+
+abbrev from_rule : Rule
+from_rule = with_index 3 (filled (number_after (codes "from") (codes "A")))
+
+abbrev to_rule : Rule
+to_rule = with_index 4 (filled (number_after (codes "to") (codes "B")))
+
+only_trace_config : IsOnly config_rule trace_whole.rules
+only_trace_config = ((λ e. refl), ((λ e. cc), ((λ e. cc), ((λ e. cc), ((λ e. cc), tt)))))
+
+only_trace_log : IsOnly log_rule trace_whole.rules
+only_trace_log = ((λ e. cc), ((λ e. refl), ((λ e. cc), ((λ e. cc), ((λ e. cc), tt)))))
+
+only_from : IsOnly from_rule trace_whole.rules
+only_from = ((λ e. cc), ((λ e. cc), ((λ e. refl), ((λ e. cc), ((λ e. cc), tt)))))
+
+only_to : IsOnly to_rule trace_whole.rules
+only_to = ((λ e. cc), ((λ e. cc), ((λ e. cc), ((λ e. refl), ((λ e. cc), tt)))))
+
+trace_fits : Fits trace_whole
+trace_fits words fine =
+    let config = value_given config_rule (wanted_sets (codes "CONFIG") 1) trace_whole only_trace_config words refl (inl refl) refl fine in
+    let log = value_given log_rule (wanted_sets (codes "LOG") 2) trace_whole only_trace_log words refl (inr (inl refl)) refl fine in
+    let from = number_if_given trace_whole (codes "from") (codes "A") 3 only_from words fine in
+    let to = number_if_given trace_whole (codes "to") (codes "B") 4 only_to words fine in
+    ((λ e. (ap is_some config.1, inr (inr (inr (inl (refl, ap is_some log.1, (from, to))))))), (λ e. absurd (true≢false e)))
 
 db_fits : Fits (whole_of (of_two (codes "db") (codes "CONFIG") (codes "SCRIPT")))
 db_fits words fine = let given = two_texts_given (codes "db") (codes "CONFIG") (codes "SCRIPT") refl refl refl refl words fine in

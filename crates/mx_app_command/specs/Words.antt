@@ -10,6 +10,7 @@ use Rattle.clap.specs.declared.builder.command.Command.{Command}
 use Rattle.clap.specs.declared.builder.command.Command.TheViews.{out-Command}
 use Rattle.clap.specs.declared.builder.value_parser.ValueParser.TheVariants.{Signed}
 use Rattle.mx_app_command.specs.declared.words.CommandRequest.{CommandRequest}
+use Rattle.mx_app_command.specs.declared.words.RecordRange.{RecordRange}
 use Rattle.mx_app_command.specs.declared.words.CommandRequest.TheVariants.{One, As, Dis, Nm, Step, Run, Replay, Trace, Db}
 
 -- ---- the grammar
@@ -57,6 +58,12 @@ step_shape = subcommand (codes "step") (wanted (codes "CONFIG") ∷ wanted (code
 abbrev pub run_shape : Shape
 run_shape = subcommand (codes "run") (wanted (codes "CONFIG") ∷ wanted (codes "LOG") ∷ number_after (codes "ticks") (codes "T") ∷ [])
 
+-- `NAME CONFIG LOG --from A --to B`, what is told of a history's records
+abbrev pub looking_shape : Text → Shape
+looking_shape name =
+    subcommand name
+    (wanted (codes "CONFIG") ∷ wanted (codes "LOG") ∷ number_after (codes "from") (codes "A") ∷ number_after (codes "to") (codes "B") ∷ [])
+
 -- one of the subcommands is wanted
 abbrev pub top_app : App
 top_app = record {
@@ -83,7 +90,7 @@ mx_grammar = record {
       ++ step_shape
       ∷ run_shape
       ∷ of_two (codes "replay") (codes "CONFIG") (codes "LOG")
-      ∷ of_two (codes "trace") (codes "CONFIG") (codes "LOG")
+      ∷ looking_shape (codes "trace")
       ∷ of_two (codes "db") (codes "CONFIG") (codes "SCRIPT")
       ∷ [];
 }
@@ -99,6 +106,10 @@ HasNumber id rows n =
 -- the argument isn't given, and the number is this other one; or it is its text's
 abbrev pub HasNumberOr : ℕ → Text → List Row → ℕ → Type 0
 HasNumberOr other id rows n = ((one_of id rows ≡ None) × (n ≡ other)) ⊎ HasNumber id rows n
+
+-- the records from A, by default the first, to B, by default the last: a history has fewer than 2 ^ 32
+abbrev pub HasRange : List Row → RecordRange → Type 0
+HasRange rows range = HasNumberOr 1 (codes "A") rows range.from × HasNumberOr 4294967295 (codes "B") rows range.to
 
 -- the argument's text is this one
 abbrev pub HasText : Text → List Row → Text → Type 0
@@ -124,8 +135,8 @@ AsksBy (Run config log ticks) name rows =
     × HasNumberOr 0 (codes "T") rows ticks
 AsksBy (Replay config log) name rows =
     (name ≡ codes "replay") × HasText (codes "CONFIG") rows config.now × HasText (codes "LOG") rows log.now
-AsksBy (Trace config log) name rows =
-    (name ≡ codes "trace") × HasText (codes "CONFIG") rows config.now × HasText (codes "LOG") rows log.now
+AsksBy (Trace config log range) name rows =
+    (name ≡ codes "trace") × HasText (codes "CONFIG") rows config.now × HasText (codes "LOG") rows log.now × HasRange rows range
 AsksBy (Db config script) name rows =
     (name ≡ codes "db") × HasText (codes "CONFIG") rows config.now × HasText (codes "SCRIPT") rows script.now
 
@@ -143,6 +154,10 @@ IsGiven id rows = is_some (first_of id rows) ≡ true
 abbrev pub MayHaveNumber : Text → List Row → Type 0
 MayHaveNumber id rows = (one_of id rows ≡ None) ⊎ ((n : ℕ) × HasNumber id rows n)
 
+-- what looks at records may have the numbers of the first and the last
+abbrev pub MayHaveRange : List Row → Type 0
+MayHaveRange rows = MayHaveNumber (codes "A") rows × MayHaveNumber (codes "B") rows
+
 -- the subcommands that work on one program: each has a file, `one` a number and `as` a text too
 abbrev pub IsProgramAsked : Text → List Row → Type 0
 IsProgramAsked name rows =
@@ -151,14 +166,14 @@ IsProgramAsked name rows =
     ⊎ (((name ≡ codes "as") × IsGiven (codes "TEXT") rows)
     ⊎ ((name ≡ codes "dis") ⊎ (name ≡ codes "nm"))))
 
--- those that work on a machine: each has a configuration, and a script or a history; `run` may have a number
+-- those that work on a machine: each has a configuration, and a script or a history; `run` may have a number, and `trace` two
 abbrev pub IsMachineAsked : Text → List Row → Type 0
 IsMachineAsked name rows =
     IsGiven (codes "CONFIG") rows
     × (((name ≡ codes "step") × IsGiven (codes "SCRIPT") rows)
     ⊎ (((name ≡ codes "run") × IsGiven (codes "LOG") rows × MayHaveNumber (codes "T") rows)
     ⊎ (((name ≡ codes "replay") × IsGiven (codes "LOG") rows)
-    ⊎ (((name ≡ codes "trace") × IsGiven (codes "LOG") rows)
+    ⊎ (((name ≡ codes "trace") × IsGiven (codes "LOG") rows × MayHaveRange rows)
     ⊎ ((name ≡ codes "db") × IsGiven (codes "SCRIPT") rows)))))
 
 abbrev pub is_machine : Text → Bool

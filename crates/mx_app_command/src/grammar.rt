@@ -109,6 +109,20 @@ const TICKS: CommandArgument<'static> = CommandArgument {
     form: ArgumentForm::NumberAfter("ticks"),
 };
 
+/// The first record that is told.
+const FROM: CommandArgument<'static> = CommandArgument {
+    name: "A",
+    help: "The first record that is told, 1 by default; records are counted from 1",
+    form: ArgumentForm::NumberAfter("from"),
+};
+
+/// The last record that is told.
+const TO: CommandArgument<'static> = CommandArgument {
+    name: "B",
+    help: "The last record that is told, the history's last by default",
+    form: ArgumentForm::NumberAfter("to"),
+};
+
 /// What happens to it, and what is looked at.
 const COMMANDS: CommandArgument<'static> = CommandArgument {
     name: "SCRIPT",
@@ -163,7 +177,7 @@ static SUBCOMMANDS: [Subcommand<'static>; 9] = [
     Subcommand {
         name: "trace",
         help: "Runs a saved history again and prints what each record did",
-        arguments: &[CONFIG, LOG],
+        arguments: &[CONFIG, LOG, FROM, TO],
         example: Example::Trace,
     },
     Subcommand {

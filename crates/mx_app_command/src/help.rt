@@ -249,6 +249,15 @@ $ mx trace pair.config pair.log
 10 0 back 4: cli 1 trap SENDREC SYSTEM, EXIT
 10   cli 1: out -> down exit
 
+Each line begins with the number of its record in the history, counted from 1. Of a
+long history a part is told, here one record:
+
+$ mx trace pair.config pair.log --from 6 --to 6
+6 0 back 3: drv 0 trap SEND cli 1
+6   message drv 0 to cli 1 type 0
+6   drv 0: out -> ready, result 0 OK
+6   cli 1: awaiting 0 -> ready, result 0 OK
+
 Status: 0 done; 1 a text or a program's file is refused, or an event, which is told
 by its line; 2 a mistake in the words; 3 a file can't be read; 4 no memory. Formats:
 docs/REFERENCE.md.";

@@ -2,12 +2,22 @@
 
 ghost use Rattle.std.specs.Prelude.{◌≡◌, ℕ, IfErr, IfOk, codes, false, is_some, map, option_map, true};
 ghost use Rattle.clap.specs.Words.{FailsBy, HasMatchesOf, fault_of, first_of, found_of, kind_of, rows_of, subcommand_of, takes};
-ghost use Rattle.mx_app_command.specs.Words.{Asks, AsksBy, HasNumber, HasNumberOr, HasText, MayHaveNumber, MayHaveText, IsAsked, IsMachineAsked, IsProgramAsked, is_machine, mx_grammar};
+ghost use Rattle.mx_app_command.specs.Words.{Asks, AsksBy, HasNumber, HasNumberOr, HasRange, HasText, MayHaveNumber, MayHaveRange, MayHaveText, IsAsked, IsMachineAsked, IsProgramAsked, is_machine, mx_grammar};
 
 use crate::grammar::grammar;
 use clap::error::ErrorKind;
 use clap::{ArgMatches, Error};
 use std::alloc::Global;
+
+/// Records of a history, by their places in it, of which the first is 1. Those that the history hasn't
+/// are none: a range past its end has no record, and neither has one that ends before it begins.
+#[derive(Clone, Copy, Debug, PartialEq, Eq)]
+pub struct RecordRange {
+    /// The first; 0 is as 1.
+    pub from: u32,
+    /// The last.
+    pub to: u32,
+}
 
 /// What the words of a command line ask for.
 #[derive(Clone, Copy, Debug, PartialEq, Eq)]
@@ -47,10 +57,11 @@ pub enum CommandRequest<'a> {
         config: &'a str,
         log: &'a str,
     },
-    /// `trace CONFIG LOG`.
+    /// `trace CONFIG LOG`, with `--from A` and `--to B` or without.
     Trace {
         config: &'a str,
         log: &'a str,
+        range: RecordRange,
     },
     /// `db CONFIG SCRIPT`.
     Db {
@@ -82,12 +93,23 @@ fn number_asked(matches: &ArgMatches<'_>, id: &str) -> u32
     matches.get_one::<u32>(id).unwrap()
 }
 
-/// The number that an argument has, or 0 if it isn't there.
-fn number_if_asked(matches: &ArgMatches<'_>, id: &str) -> u32
+/// The number that an argument has, or another one if it isn't there.
+fn number_or(matches: &ArgMatches<'_>, id: &str, other: u32) -> u32
     requires { MayHaveNumber id.now (rows_of (found_of matches.now)) }
-    ensures { HasNumberOr 0 id.now (rows_of (found_of matches.now)) result }
+    ensures { HasNumberOr other id.now (rows_of (found_of matches.now)) result }
 {
-    matches.get_one::<u32>(id).unwrap_or(0)
+    matches.get_one::<u32>(id).unwrap_or(other)
+}
+
+/// The records that are asked for: all, but for what the arguments leave out.
+fn range_asked(matches: &ArgMatches<'_>) -> RecordRange
+    requires { MayHaveRange (rows_of (found_of matches.now)) }
+    ensures { HasRange (rows_of (found_of matches.now)) result }
+{
+    RecordRange {
+        from: number_or(matches, "A", 1),
+        to: number_or(matches, "B", u32::MAX),
+    }
 }
 
 /// What the words of a subcommand on one program ask for.
@@ -117,7 +139,7 @@ fn machine_request<'a>(name: &str, matches: &ArgMatches<'a>) -> CommandRequest<'
     let config = value_asked(matches, "CONFIG");
     if name == "run" {
         let log = value_asked(matches, "LOG");
-        let ticks = number_if_asked(matches, "T");
+        let ticks = number_or(matches, "T", 0);
         return CommandRequest::Run { config, log, ticks };
     }
     if name == "replay" {
@@ -126,7 +148,8 @@ fn machine_request<'a>(name: &str, matches: &ArgMatches<'a>) -> CommandRequest<'
     }
     if name == "trace" {
         let log = value_asked(matches, "LOG");
-        return CommandRequest::Trace { config, log };
+        let range = range_asked(matches);
+        return CommandRequest::Trace { config, log, range };
     }
     let script = value_asked(matches, "SCRIPT");
     if name == "step" {

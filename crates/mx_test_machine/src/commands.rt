@@ -69,7 +69,7 @@ const SUMMED: &str = "EAX 00000080 ECX 00000000 EDX 00000000 EBX 00000000\n\
 const KILLED: &str = "done\ndone\nrefused 54 NoProcess\nrefused 41 Worn\nrefused 53 NoLine\n\
     refused 42 NoService\n";
 
-static DONE: [Done; 13] = [
+static DONE: [Done; 20] = [
     Done {
         words: &["mx", "one", "a.out", "9"],
         status: 0,
@@ -150,6 +150,53 @@ static DONE: [Done; 13] = [
         file: None,
     },
     Done {
+        words: &["mx", "trace", "one", "whole", "--from", "3"],
+        status: 0,
+        printed: "3 0 take: a 0 budget 2\n4 0 back 1: a 0 fault 13\n\
+                  4   a 0: out -> down fault 13\n",
+        file: None,
+    },
+    Done {
+        words: &["mx", "trace", "--to", "2", "one", "whole", "--from", "2"],
+        status: 0,
+        printed: "2 0 back 3: a 0 trap 0 128\n\
+                  2   a 0: out -> ready, result -104 ECALLDENIED\n",
+        file: None,
+    },
+    // 0 is as 1.
+    Done {
+        words: &["mx", "trace", "one", "whole", "--from", "0", "--to", "1"],
+        status: 0,
+        printed: "1 0 take: a 0 budget 5\n",
+        file: None,
+    },
+    // No record: past the end, and a range that ends before it begins.
+    Done {
+        words: &["mx", "trace", "one", "whole", "--from", "5", "--to", "4294967295"],
+        status: 0,
+        printed: "",
+        file: None,
+    },
+    Done {
+        words: &["mx", "trace", "one", "whole", "--from", "3", "--to", "2"],
+        status: 0,
+        printed: "",
+        file: None,
+    },
+    // No record after the last of the range is made, but those before the first are.
+    Done {
+        words: &["mx", "trace", "one", "early", "--to", "0"],
+        status: 0,
+        printed: "",
+        file: None,
+    },
+    Done {
+        words: &["mx", "trace", "one", "strict_early", "--from", "9"],
+        status: 1,
+        printed: "line 2: refused 51 CpuEmpty\n",
+        file: None,
+    },
+    Done {
         words: &["mx", "db", "pair", "look"],
         status: 0,
         printed: "done\n0 drv 0 ready 4 20\n1 cli 1 ready 7 20\nuptime 0\nconsole 0\n",
@@ -164,7 +211,7 @@ struct Failed {
     told: &'static str,
 }
 
-static FAILED: [Failed; 40] = [
+static FAILED: [Failed; 46] = [
     Failed {
         words: &["mx", "one", "cut", "9"],
         status: 1,
@@ -202,6 +249,12 @@ static FAILED: [Failed; 40] = [
     },
     Failed {
         words: &["mx", "replay", "one", "look"],
+        status: 1,
+        told: "mx: 73 BadRecord line 1\n",
+    },
+    // A text that is no history is refused wherever its bad line stands.
+    Failed {
+        words: &["mx", "trace", "one", "look", "--to", "0"],
         status: 1,
         told: "mx: 73 BadRecord line 1\n",
     },
@@ -272,6 +325,31 @@ static FAILED: [Failed; 40] = [
     },
     Failed {
         words: &["mx", "replay", "one"],
+        status: 2,
+        told: "",
+    },
+    Failed {
+        words: &["mx", "trace", "one", "whole", "--from"],
+        status: 2,
+        told: "",
+    },
+    Failed {
+        words: &["mx", "trace", "one", "whole", "--from", "4294967296"],
+        status: 2,
+        told: "",
+    },
+    Failed {
+        words: &["mx", "trace", "one", "whole", "--to", "last"],
+        status: 2,
+        told: "",
+    },
+    Failed {
+        words: &["mx", "trace", "one", "whole", "--to", "1", "--to", "2"],
+        status: 2,
+        told: "",
+    },
+    Failed {
+        words: &["mx", "replay", "one", "whole", "--from", "1"],
         status: 2,
         told: "",
     },
@@ -577,7 +655,7 @@ memory. Formats: docs/REFERENCE.md.
     ),
     (
         &["mx", "trace", "--help"],
-        "10   cli 1: out -> down exit
+        "6   cli 1: awaiting 0 -> ready, result 0 OK
 
 Status: 0 done; 1 a text or a program's file is refused, or an event, which is told
 by its line; 2 a mistake in the words; 3 a file can't be read; 4 no memory. Formats:

@@ -39,4 +39,4 @@ pub returns-in-Db : goal.returns-in-Db
 returns-in-Db g c = as_asked _ _ _ _ _ _ _ _ c.in-Db.is (debugs _ _ _ c.in-Db.config.now c.in-Db.script.now _ _ c.db.result c.status_after_work-in-Db.result c.db.ensures.printed c.db.ensures.fault c.status_after_work-in-Db.ensures)
 
 pub returns-in-Trace : goal.returns-in-Trace
-returns-in-Trace g c = as_asked _ _ _ _ _ _ _ _ c.in-Trace.is (traces _ _ _ c.in-Trace.config.now c.in-Trace.log.now _ _ c.trace.result c.status_after_replay-in-Trace.result c.trace.ensures.printed c.trace.ensures.fault c.status_after_replay-in-Trace.ensures)
+returns-in-Trace g c = as_asked _ _ _ _ _ _ _ _ c.in-Trace.is (traces _ _ _ c.in-Trace.config.now c.in-Trace.log.now c.in-Trace.range _ _ c.trace.result c.status_after_replay-in-Trace.result c.trace.ensures.printed c.trace.ensures.fault c.status_after_replay-in-Trace.ensures)
