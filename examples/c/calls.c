@@ -80,6 +80,6 @@ int main(void)
     show_victim();
     show_alarm();
     show_times();
-    show("no such call", kernel_call(SYS_WHOIS + 1, &m));
+    show("no such call", kernel_call(SYS_GRANT + 1, &m));
     return 0;
 }
