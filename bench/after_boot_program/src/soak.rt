@@ -9,12 +9,11 @@ use mx_app_step::{FileWriter, RuntimeWriter, print_text, report, saved_text};
 use mx_cpus_drive::{ActorSeat, Blank, Kernel, Naming, Shared, processor};
 use mx_machine_world::{Answer, Refusal};
 use std::alloc::Global;
-use std::io;
 use std::marker::Brand;
 use std::rt::Files;
 use std::sync::Wait;
-use std::thread;
 use std::thread::{Scope, Threads};
+use std::{io, thread};
 
 /// What an actor that is no processor does, until the history is full.
 #[derive(Clone, Copy, PartialEq, Eq)]
@@ -182,7 +181,11 @@ fn drive_until_full<M: Naming + Send + Sync, R: Threads + Wait + Eprint + Sync>(
         },
     );
     let kernel = shared.into_kernel(Vec::new(alloc));
-    if is_done { Ok(kernel) } else { Err(Fault("no thread")) }
+    if is_done {
+        Ok(kernel)
+    } else {
+        Err(Fault("no thread"))
+    }
 }
 
 /// Runs the machine of a configuration with four processors and four other actors until its history is full,
@@ -199,5 +202,7 @@ where
     if files.write(rt.alloc(), log, saved.as_slice()).is_err() {
         return Err(Fault("the history can't be written"));
     }
-    print_text(printed.as_slice(), &mut io::writer(rt)).map_err(|_| Fault("the report can't be printed"))
+    print_text(printed.as_slice(), &mut io::writer(rt)).map_err(|_| Fault(
+        "the report can't be printed",
+    ))
 }

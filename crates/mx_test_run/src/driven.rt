@@ -114,8 +114,9 @@ fn booted(alloc: Global, config: &'static str) -> Result<(Blank, Vec<ActorSeat>)
 {
     let named = files_of(config);
     let mut reader = NamedFiles::new(&named);
-    let (config, mut services) =
-        setup_of(alloc, &mut reader, "config").map_err(|_| "the configuration isn't read")?;
+    let (config, mut services) = setup_of(alloc, &mut reader, "config").map_err(
+        |_| "the configuration isn't read",
+    )?;
     if services.is_empty() || services.len() > 32 {
         return Err(Fail::new("there are two services"));
     }
@@ -235,7 +236,12 @@ const TAKEN: [u8; 4] = [0, 1, 0, 1];
 const BREAKPOINT: u32 = 0x17;
 
 /// The turns of a processor under a debugger.
-fn debug_turns<M: Naming>(rt: &impl Wait, shared: &Shared<M>, seat: ActorSeat, gate: &Waiting) -> bool
+fn debug_turns<M: Naming>(
+    rt: &impl Wait,
+    shared: &Shared<M>,
+    seat: ActorSeat,
+    gate: &Waiting,
+) -> bool
     requires { seat.table ≡ M.table }
 {
     let mut debugger = Debugger::new();

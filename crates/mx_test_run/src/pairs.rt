@@ -131,11 +131,7 @@ pub(crate) fn lines_in(text: &[u8]) -> usize {
 }
 
 /// What a replay of a history prints.
-pub(crate) fn replayed(
-    alloc: Global,
-    config: &'static str,
-    log: &[u8],
-) -> Result<Vec<u8>, Fail> {
+pub(crate) fn replayed(alloc: Global, config: &'static str, log: &[u8]) -> Result<Vec<u8>, Fail> {
     let [config, driver, client] = files_of(config);
     let history = NamedFile {
         name: "log",
