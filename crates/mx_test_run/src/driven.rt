@@ -4,8 +4,7 @@
 ghost use Rattle.std.specs.Prelude.{◌≡◌, All, IfOk, None};
 
 use crate::pairs::{TALK, files_of, replayed};
-use mx_app_run::NamedFiles;
-use mx_app_step::{report, saved_text, setup_of};
+use mx_app_run::{NamedFiles, report, saved_text, setup_of};
 use mx_cpus_drive::{ActorSeat, Blank, Gate, Kernel, Naming, Shared, boot, drive};
 use mx_debug::Debugger;
 use mx_machine_world::{Answer, Record, Recorded};
