@@ -2,6 +2,4 @@
 #![tactic(auto)]
 
 #[cfg(test)]
-mod driven;
-#[cfg(test)]
 mod pairs;
