@@ -1,6 +1,7 @@
 //! `mx step`, `mx replay` and `mx trace`: a machine driven by a script, or by a saved history.
 #![tactic(auto)]
 
+mod laws;
 mod lines;
 mod printing;
 mod records;
@@ -8,11 +9,12 @@ mod saving;
 mod stepping;
 mod tracing;
 
+pub use laws::parts_of_a_trace_join;
 pub use lines::{perform_line, step};
 pub use mx_app_start::{
-    BootError, Config, DebugScript, Failure, FileWriter, KeptFile, Machine, MemoryWriter, NamedFile,
-    NamedFiles, Out, Reader, RuntimeFiles, RuntimeWriter, Script, ScriptLine, Tool, print_text,
-    report, saved_text, setup_of, start,
+    BootError, Config, DebugScript, Failure, FileWriter, KeptFile, Machine, MemoryWriter,
+    NamedFile, NamedFiles, Out, Reader, RuntimeFiles, RuntimeWriter, Script, ScriptLine, Tool,
+    print_text, report, saved_text, setup_of, start,
 };
 pub use mx_print_answers::Said;
 pub use printing::print_report;
