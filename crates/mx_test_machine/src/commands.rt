@@ -545,6 +545,10 @@ fn commands_broken(rt: HostRuntime) -> Result<(), Fail> {
     let broken = Some(io::ErrorKind::BrokenPipe);
     let full = Some(io::ErrorKind::OutOfMemory);
     for (number, row) in DONE.iter().enumerate() {
+        // A row that writes nothing doesn't notice.
+        if row.printed.is_empty() && row.file.is_none() {
+            continue;
+        }
         assert!(rt;
             is_told(&rt, rt.alloc(), row.words, broken, 3, "mx: 80 File\n"),
             "row {number}"
