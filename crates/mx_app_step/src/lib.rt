@@ -10,12 +10,12 @@ mod tracing;
 
 pub use lines::{perform_line, step};
 pub use mx_app_start::{
-    BootError, Config, DebugScript, Failure, FileWriter, KeptFile, Machine, MemoryWriter, NamedFile,
-    NamedFiles, Out, Reader, RuntimeFiles, RuntimeWriter, Script, ScriptLine, Tool, print_text,
-    report, saved_text, setup_of, start,
+    BootError, Config, DebugScript, Failure, FileWriter, KeptFile, Machine, MemoryWriter,
+    NamedFile, NamedFiles, Out, Reader, RuntimeFiles, RuntimeWriter, Script, ScriptLine, Tool,
+    print_text, report, saved_text, setup_of, start,
 };
 pub use mx_print_answers::Said;
-pub use printing::print_report;
+pub use printing::{pieces_join, print_piece, print_report};
 pub use records::{Replayed, replay};
 pub use saving::step_saved;
 pub use stepping::make_steps;
