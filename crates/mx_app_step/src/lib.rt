@@ -10,9 +10,9 @@ mod tracing;
 
 pub use lines::{perform_line, step};
 pub use mx_app_start::{
-    BootError, Config, DebugScript, Failure, FileWriter, KeptFile, Machine, MemoryWriter,
-    NamedFile, NamedFiles, Out, Reader, RuntimeFiles, RuntimeWriter, Script, ScriptLine, Tool,
-    print_text, report, saved_text, setup_of, start,
+    BootError, Config, DebugScript, Failure, FileWriter, KeptFile, Machine, MemoryWriter, NamedFile,
+    NamedFiles, Out, Reader, RuntimeFiles, RuntimeWriter, Script, ScriptLine, Tool, print_text,
+    report, saved_text, setup_of, start,
 };
 pub use mx_print_answers::Said;
 pub use printing::{pieces_join, print_piece, print_report};
