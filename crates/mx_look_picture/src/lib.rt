@@ -1,0 +1,24 @@
+//! The picture of a run: what is drawn of its records, as a list of values with whole coordinates.
+#![tactic(auto)]
+
+mod bars;
+mod came;
+mod drawing;
+mod fates;
+mod layout;
+mod legend;
+mod messages;
+mod returns;
+mod same;
+mod scene;
+mod strips;
+mod values;
+
+pub use drawing::picture;
+pub use layout::{paper_height, paper_width};
+pub use mx_look_facts::{Glance, Step};
+pub use scene::{Scene, Standing};
+pub use values::{
+    Anchor, Arrow, ArrowKind, Bar, BarKind, Deed, Hint, Item, Label, LabelKind, Manner, Mark,
+    MarkKind, Text, Value,
+};
