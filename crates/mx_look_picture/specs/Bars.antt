@@ -1,7 +1,7 @@
 -- The bars of a strip (our own): of each service one for each longest run of columns in which it does the same, for the same
 -- endpoint and on the same processor. Who is down has none.
-use Rattle.std.specs.Prelude.{ℕ, ◌+◌, ◌-◌, ◌*◌, ◌≤◌, ◌==◌, ◌||◌, ◌×◌, not, unwrap_or, if◌then◌else◌, Bool, List, [], ◌∷◌, ◌++◌, Option, Some, None}
-use Rattle.std.specs.List.{flat_map, range_with_len, find}
+use Rattle.std.specs.Prelude.{ℕ, find, ◌+◌, ◌-◌, ◌*◌, ◌≤◌, ◌==◌, ◌||◌, not, unwrap_or, if◌then◌else◌, Bool, List, [], ◌∷◌, ◌++◌, Option, Some, None}
+use Rattle.std.specs.List.{flat_map, range_with_len}
 use Rattle.mx_look_glance.specs.declared.doing.Doing.{Doing}
 use Rattle.mx_look_glance.specs.declared.doing.Doing.TheVariants as doing
 use Rattle.mx_look_picture.specs.declared.values.Hint.{Hint}

@@ -1,5 +1,5 @@
 -- THE PICTURE of a run (our own): one function of what is drawn.
-use Rattle.std.specs.Prelude.{ℕ, ◌-◌, ◌≤◌, ◌×◌, if◌then◌else◌, List, [], ◌∷◌, ◌++◌, length, is_some}
+use Rattle.std.specs.Prelude.{ℕ, ◌-◌, ◌≤◌, if◌then◌else◌, List, [], ◌∷◌, ◌++◌, length, is_some}
 use Rattle.std.specs.List.{flat_map, range_with_len}
 use Rattle.mx_look_picture.specs.declared.values.Hint.TheVariants as hint
 use Rattle.mx_look_picture.specs.declared.values.LabelKind.TheVariants as written

@@ -1,6 +1,6 @@
 -- What is drawn: the steps of a run, and what is seen in the worlds between them (our own).
-use Rattle.std.specs.Prelude.{ℕ, ◌+◌, ◌-◌, ◌==◌, ◌&&◌, Bool, true, false, Option, Some, None, slice_get, if◌then◌else◌}
-use Rattle.std.specs.List.{find, range_with_len}
+use Rattle.std.specs.Prelude.{ℕ, find, ◌+◌, ◌-◌, ◌==◌, ◌&&◌, Bool, true, false, Option, Some, None, slice_get, if◌then◌else◌}
+use Rattle.std.specs.List.{range_with_len}
 use Rattle.mx_look_glance.specs.declared.slots.SlotGlance.{SlotGlance}
 use Rattle.mx_look_glance.specs.declared.glance.CpuGlance.{CpuGlance}
 use Rattle.mx_look_glance.specs.declared.glance.Glance.{Glance}

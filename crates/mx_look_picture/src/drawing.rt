@@ -1,6 +1,6 @@
 //! The whole picture.
 
-ghost use Rattle.std.specs.Prelude.{◌≡◌, ◌<◌, ◌≤◌, ◌++◌, OnOk, IfOk, length};
+ghost use Rattle.std.specs.Prelude.{◌≡◌, ◌≤◌, ◌++◌, OnOk, IfOk, length};
 ghost use Rattle.mx_look_picture.specs.Layout.{strip_count, strip_at};
 ghost use Rattle.mx_look_picture.specs.Picture.{IsDrawable, title, strips, refused_values, picture};
 

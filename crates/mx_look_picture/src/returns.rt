@@ -1,6 +1,6 @@
 //! What a process did that comes back.
 
-ghost use Rattle.std.specs.Prelude.{◌≡◌, ◌≤◌, ◌++◌, OnOk};
+ghost use Rattle.std.specs.Prelude.{◌≡◌, ◌++◌, OnOk};
 ghost use Rattle.mx_look_picture.specs.Fates.{IsOnPaper};
 ghost use Rattle.mx_look_picture.specs.Returns.{trap_deed, deed_of, is_doomed_in, has_gone_wrong, is_refused_answer, has_failed_call, manner_of, deed_kind, return_values};
 

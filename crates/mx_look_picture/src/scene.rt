@@ -1,6 +1,6 @@
 //! What is drawn: the steps of a run, and what is looked at in the worlds between them.
 
-ghost use Rattle.std.specs.Prelude.{◌≡◌, None, Some, MatchOption};
+ghost use Rattle.std.specs.Prelude.{◌≡◌, ◌≤◌};
 ghost use Rattle.mx_look_picture.specs.Scene.{world_at, number_at, holds, cpu_of, standing_of, same_cpu, same_standing, stands_like};
 
 use crate::same::same_doing;
