@@ -1,3 +1,4 @@
 mod Shown
 mod Done
 mod Explained
+mod Told

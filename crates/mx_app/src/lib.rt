@@ -3,6 +3,7 @@
 
 mod channels;
 mod complaint;
+mod ending;
 mod named;
 mod performing;
 mod program;
@@ -10,15 +11,16 @@ mod words;
 
 pub use channels::Channels;
 pub use complaint::Complaint;
-pub use mx_app_command::{CommandRequest, command};
+pub use mx_app_command::{CommandLine, CommandRequest, command};
 pub use mx_app_db::{
     FileWriter, KeptFile, MemoryWriter, NamedFile, NamedFiles, Reader, Replayed, db, replay, step,
     step_saved, trace,
 };
+pub use mx_app_explain::{NotingFiles, NotingReader};
 pub use mx_app_failure::{BootError, Failure, FileError};
 pub use mx_app_program::{assemble_file, one, print_listing, print_names, print_one};
 pub use mx_app_run::run;
 pub use named::{as_named, dis_named, nm_named, one_named};
 pub use performing::perform;
-pub use program::run_program;
+pub use program::{Terminals, run_program};
 pub use words::perform_words;

@@ -1,0 +1,11 @@
+//! `--explain`: the second line of a failure: which file, which word has its name, and what was wanted.
+#![tactic(auto)]
+
+mod explaining;
+mod noting;
+mod subject;
+mod wanting;
+
+pub use explaining::{Explanation, explain_failure};
+pub use noting::{NotingFiles, NotingReader, noted};
+pub use subject::{Notes, Subject};
