@@ -1,7 +1,6 @@
 -- What is noted of files, as it is held and as it is handed on.
 use Rattle.std.proofs.Common.{◌≡◌, Bool, Option, ap, refl}
-use Rattle.std.specs.Prelude.{option_map, string_bytes}
-use Rattle.std.specs.declared.string.String.{String}
+use Rattle.std.specs.Prelude.{String, option_map, string_bytes}
 use Rattle.mx_app_explain.specs.declared.subject.Notes.{Notes}
 use Rattle.mx_app.specs.Words.{noted_by, noted_in}
 

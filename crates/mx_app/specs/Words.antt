@@ -1,5 +1,5 @@
 -- What is done and told of the words of the command line (our own).
-use Rattle.std.specs.Prelude.{◌≡◌, ◌⊎◌, ◌++◌, ℕ, Bool, true, List, [], codes, Option, Some, None, Result, Ok, Err, MatchResult, option_map, string_bytes}
+use Rattle.std.specs.Prelude.{◌≡◌, ◌⊎◌, ◌++◌, ℕ, Bool, true, List, [], codes, Option, Some, None, Result, Ok, Err, MatchResult, String, option_map, string_bytes}
 use Rattle.std.specs.declared.io.ErrorKind.{ErrorKind}
 use Rattle.std.specs.declared.io.ErrorKind.TheVariants as kinds
 use Rattle.clap.specs.Words.{HasKind, fault_of, kind_of, subcommand_of}
