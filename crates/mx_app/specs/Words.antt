@@ -1,5 +1,6 @@
 -- What is done and told of the words of the command line (our own).
 use Rattle.std.specs.Prelude.{◌≡◌, ◌⊎◌, ◌++◌, ℕ, Bool, true, List, [], codes, Option, Some, None, Result, Ok, Err, MatchResult, String, option_map, string_bytes}
+use Rattle.std.specs.declared.alloc.Global.{Global}
 use Rattle.std.specs.declared.io.ErrorKind.{ErrorKind}
 use Rattle.std.specs.declared.io.ErrorKind.TheVariants as kinds
 use Rattle.clap.specs.Words.{HasKind, fault_of, kind_of, subcommand_of}
@@ -60,7 +61,7 @@ pub record Noted : Type 0 where
   pub is_missed : Bool
   pub is_unwritten : Bool
 
-abbrev pub noted_by : Option String → Bool → Bool → Noted
+abbrev pub noted_by : Option (String Global) → Bool → Bool → Noted
 noted_by last is_missed is_unwritten = record { last = option_map string_bytes last; is_missed = is_missed; is_unwritten = is_unwritten }
 
 abbrev pub noted_in : Notes → Noted
@@ -70,7 +71,7 @@ noted_in notes = record { last = option_map (λ s. s.now) notes.last; is_missed 
 abbrev pub IsTold : CommandLine → Kind → Noted → Complaint → Type 0
 IsTold line f noted c =
     (c ≡ Failed f)
-    ⊎ ((s : String) × (line.explains ≡ true) × (c ≡ Explained f s)
+    ⊎ ((s : String Global) × (line.explains ≡ true) × (c ≡ Explained f s)
     × (string_bytes s ≡ explained line.request f noted.last noted.is_missed noted.is_unwritten))
 
 -- what comes of a request's status or failure
