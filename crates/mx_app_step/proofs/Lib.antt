@@ -3,3 +3,4 @@ pub mod StepLemmas
 pub mod RecordLemmas
 pub mod ReplayLemmas
 pub mod TraceLemmas
+mod PartLemmas

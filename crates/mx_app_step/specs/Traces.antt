@@ -1,5 +1,5 @@
 -- What is told of a history, record by record (our own).
-use Rattle.std.specs.Prelude.{ℕ, ◌+◌, ◌-◌, nat_lt, if◌then◌else◌, List, [], ◌∷◌, ◌++◌, take, Option, Some, None}
+use Rattle.std.specs.Prelude.{◌≡◌, ℕ, ◌+◌, ◌-◌, nat_lt, if◌then◌else◌, List, [], ◌∷◌, ◌++◌, take, Option, Some, None}
 use Rattle.mx_app_start.specs.Log.{lines_above}
 use Rattle.mx_machine_world.specs.declared.events.Event.{Event}
 use Rattle.mx_machine_world.specs.declared.events.Event.TheVariants as event
@@ -61,3 +61,7 @@ IsTracePrinted w records from replayed.Whole Prints =
 IsTracePrinted w records from replayed.Refused Prints =
     (n : ℕ) × (r : Refusal) × IsRefusedAt w records n r
     × Prints (trace_text from w 1 (take (n - 1) records) ++ refused_record_line (lines_above w.table.rules + n) r)
+
+-- TWO PARTS OF A TRACE JOIN: what is told from a to b, and then what is told from the record after b to c, is what is told from a to c
+abbrev pub PartsJoin : World → List Record → ℕ → ℕ → ℕ → Type 0
+PartsJoin w records a b c = trace_text a w 1 (take b records) ++ trace_text (b + 1) w 1 (take c records) ≡ trace_text a w 1 (take c records)

@@ -1,6 +1,7 @@
 //! `mx step`, `mx replay` and `mx trace`: a machine driven by a script, or by a saved history.
 #![tactic(auto)]
 
+mod laws;
 mod lines;
 mod printing;
 mod records;
@@ -8,6 +9,7 @@ mod saving;
 mod stepping;
 mod tracing;
 
+pub use laws::parts_of_a_trace_join;
 pub use lines::{perform_line, step};
 pub use mx_app_start::{
     BootError, Config, DebugScript, Failure, FileWriter, KeptFile, Machine, MemoryWriter, NamedFile,
