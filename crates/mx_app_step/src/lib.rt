@@ -12,9 +12,9 @@ mod tracing;
 pub use laws::parts_of_a_trace_join;
 pub use lines::{perform_line, step};
 pub use mx_app_start::{
-    BootError, Config, DebugScript, Failure, FileWriter, KeptFile, Machine, MemoryWriter, NamedFile,
-    NamedFiles, Out, Reader, RuntimeFiles, RuntimeWriter, Script, ScriptLine, Tool, print_text,
-    report, saved_text, setup_of, start,
+    BootError, Config, DebugScript, Failure, FileWriter, KeptFile, Machine, MemoryWriter,
+    NamedFile, NamedFiles, Out, Reader, RuntimeFiles, RuntimeWriter, Script, ScriptLine, Tool,
+    print_text, report, saved_text, setup_of, start,
 };
 pub use mx_print_answers::Said;
 pub use printing::print_report;

@@ -227,8 +227,7 @@ module _ (v : World) (a n s : ℕ) (p : Service) (sound : IsSound v) (few : leng
           let own : d ≡ items_for s items = written ∙ ap (λ o. unless_held o (items_for s items)) (not_out b) in
           let home : image_now u s ≡ (process_at u.table s).image =
           ap (λ cpus. image_or (get_or (images u.table) s blank) (image_held_in s cpus)) same ∙ ap (image_or (get_or (images u.table) s blank)) (not_out b) ∙ get_or-images u.table.slots s in
-          let image : (process_at u.table s).image ≡ play d (image_now v s) = sym home ∙ played in
-          (
+          let image : (process_at u.table s).image ≡ play d (image_now v s) = sym home ∙ played in (
             sym (readies-at u.table.slots s) ∙ tells within (idle b) ∙ sym (ap has_result own ∙ result_for s items),
             ap (λ (m : Image). cond (has_result d) (Some m.regs.eax) None) image ∙ result_played d (image_now v s) steps,
           )
@@ -278,10 +277,12 @@ module _ (v : World) (a n s : ℕ) (p : Service) (sound : IsSound v) (few : leng
     home_waits = refl
 
     home_queued : IsQueued home
-    home_queued = record { each = λ q e. ap (sends_of q) home_waits ∙ elim (cases_eq q l.slot) [
-      | inl g ↦ (sound_queued v.table sound.table).each q (subst (λ z. is_sending (process_at v.table z).state ≡ false) (sym g) (out_unsending (process_at v.table l.slot).state out))
-      | inr m ↦ (sound_queued v.table sound.table).each q (ap (λ (x : Process). is_sending x.state) (sym (home_other q m)) ∙ e)
-    ] }
+    home_queued = record {
+      each = λ q e. ap (sends_of q) home_waits ∙ elim (cases_eq q l.slot) [
+        | inl g ↦ (sound_queued v.table sound.table).each q (subst (λ z. is_sending (process_at v.table z).state ≡ false) (sym g) (out_unsending (process_at v.table l.slot).state out))
+        | inr m ↦ (sound_queued v.table sound.table).each q (ap (λ (x : Process). is_sending x.state) (sym (home_other q m)) ∙ e)
+      ];
+    }
 
     home_idle : IsIdle home l.slot
     home_idle = readies-at home.slots l.slot ∙ ap is_ready home_own
@@ -353,10 +354,9 @@ module _ (v : World) (a n s : ℕ) (p : Service) (sound : IsSound v) (few : leng
             let rests : IsIdle home s = readies-at home.slots s ∙ ap (λ (x : Process). is_ready x.state) (home_other s (λ e. m (sym e))) ∙ blocked_idle state b in
             let lies : s < length home.slots = omega (arith, within, home_long) in
             let image : (process_at back.table s).image ≡ play d (process_at home s).image =
-            ap (λ (t : TableState). (process_at t s).image) back_table ∙ image_at s doomed l.out.stop within ∙ ap (λ xs. play xs (process_at home s).image) (sym own) in
-            (
+            ap (λ (t : TableState). (process_at t s).image) back_table ∙ image_at s doomed l.out.stop within ∙ ap (λ xs. play xs (process_at home s).image) (sym own) in (
               ap (λ (t : TableState). is_ready (process_at t s).state) back_table ∙ sym (readies-at (table_after_end_of_turn home l.slot doomed l.out.stop).slots s)
-              ∙ end_tells s (λ e. m (sym e)) lies rests ∙ sym (ap has_result own ∙ result_for s items),
+                  ∙ end_tells s (λ e. m (sym e)) lies rests ∙ sym (ap has_result own ∙ result_for s items),
               ap (λ (x : Image). cond (has_result d) (Some x.regs.eax) None) image ∙ result_played d (process_at home s).image now_steps,
             )
 

@@ -82,6 +82,7 @@ caller_sends s x (a ∷ rest) p e = by_bool ((a.1 == s) && may_be x (2 + a.0)) (
   where
     some_is : (i j : ℕ) → Some i ≡ Some j → i ≡ j
     some_is i j e = cc
+
     by_bool : (b : Bool) → (caller_of s x rest ≡ Some p → 1 ≤ sends_of p rest) → cond b (Some a.0) (caller_of s x rest) ≡ Some p → 1 ≤ tally (a.0 == p) + sends_of p rest
     by_bool true f e = omega (arith, ap tally (eq-eqb a.0 p (some_is a.0 p e)))
     by_bool false f e = omega (arith, f e)
@@ -92,6 +93,7 @@ idle_caller t s x h = by_option (caller_of s x t.waits) refl
     by_bool : (p : ℕ) (b : Bool) → is_sending (process_at t p).state ≡ b → 1 ≤ sends_of p t.waits → is_sending (process_at t p).state ≡ true
     by_bool p true e le = e
     by_bool p false e le = absurd (omega (arith, h.each p e, le))
+
     by_option : (o : Option ℕ) → caller_of s x t.waits ≡ o → IsIdleIfAny t o
     by_option None e = tt
     by_option (Some p) e =
@@ -107,10 +109,12 @@ no_caller s d (a ∷ rest) e = by_bool (a.0 == d) refl (λ f. no_caller s d rest
       where
         true_false : true ≡ false → ⊥
         true_false z = cc
+
     skipped : (b c : Bool) (x y : Option ℕ) → c ≡ false → cond (b && c) x y ≡ y
     skipped true true x y e = cc
     skipped true false x y e = refl
     skipped false c x y e = refl
+
     by_bool : (b : Bool) → (a.0 == d) ≡ b → (sends_of d rest ≡ 0 → caller_of s (partner.Only (source.Slot d)) rest ≡ None) → tally b + sends_of d rest ≡ 0
         → caller_of s (partner.Only (source.Slot d)) (a ∷ rest) ≡ None
     by_bool true g f z = absurd (omega (arith, z))

@@ -172,7 +172,16 @@ static DONE: [Done; 20] = [
     },
     // No record: past the end, and a range that ends before it begins.
     Done {
-        words: &["mx", "trace", "one", "whole", "--from", "5", "--to", "4294967295"],
+        words: &[
+            "mx",
+            "trace",
+            "one",
+            "whole",
+            "--from",
+            "5",
+            "--to",
+            "4294967295",
+        ],
         status: 0,
         printed: "",
         file: None,
