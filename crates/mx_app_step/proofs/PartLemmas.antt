@@ -1,6 +1,6 @@
 -- Parts of a trace.
 use Rattle.std.proofs.Common.{◌≡◌, ◌∙◌, ℕ, zero, suc, ◌+◌, ◌≤◌, ◌<◌, nat_lt, Bool, true, false, cond, List, [], ◌∷◌, ◌++◌, take, append_assoc, refl, sym, ap, ap₂, arith, inl, inr}
-use Rattle.std.proofs.lemmas.Bool.{lt-ltb}
+use Rattle.std.proofs.lemmas.Bool.{lt-ltb, ltb-true}
 use Rattle.mx_machine_world.specs.declared.history.Record.{Record}
 use Rattle.mx_machine_world.specs.History.{world_after_events, events_of}
 use Rattle.mx_machine_world.specs.World.{World}
@@ -16,7 +16,7 @@ not_below : (n from : ℕ) → from ≤ n → nat_lt n from ≡ false
 not_below n from le = by_bool (nat_lt n from) refl
   where
     by_bool : (b : Bool) → nat_lt n from ≡ b → b ≡ false
-    by_bool true e = absurd (omega (arith, e, le))
+    by_bool true e = absurd (omega (arith, ltb-true n from e, le))
     by_bool false e = refl
 
 told : (from : ℕ) (x : Step) → from ≤ x.number → told_of from x ≡ record_text x
