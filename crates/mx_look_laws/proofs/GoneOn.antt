@@ -265,7 +265,7 @@ module _ (v : World) (a n s : ℕ) (p : Service) (sound : IsSound v) (few : leng
         let lies = out_within v.table.slots l.slot out in
         let moved = table_after_move_home v.table l.slot l.out.image in
         let first : (process_at moved l.slot).state ≡ Home = ap (λ (x : Process). x.state) (get_or-set_same v.table.slots l.slot _ nobody lies) in
-        let room : l.slot < length moved.slots = omega (arith, lies, length-set v.table.slots l.slot _) in
+        let room : l.slot < length moved.slots = omega (arith, lies, length-set v.table.slots l.slot (record (process_at v.table l.slot) { state = Home; image = l.out.image })) in
         ap (λ (x : Process). x.state) (get_or-set_same moved.slots l.slot _ nobody room) ∙ first
 
     home_long : length home.slots ≡ length v.table.slots

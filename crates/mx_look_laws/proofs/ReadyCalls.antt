@@ -394,15 +394,15 @@ device_readies : (t : TableState) (action register value : ℕ) → readies (con
 device_readies t action register value = either (action == 0) t _ refl (either (register == 0) (with_console_byte t (value % 256)) (with_device_register t register value) refl refl)
 
 change_tells : (t : TableState) (s : ℕ) (r : KernelCall) (q : ℕ) → IsQueued t → Tells t (table_after_change t s r) (items_of_change t r) q
-change_tells t s Exit q h = quiet t _ _ q refl refl
-change_tells t s Times q h = quiet t _ _ q refl refl
-change_tells t s (SetAlarm delay) q h = quiet t _ _ q (readies-kept t.slots s _ refl) refl
-change_tells t s (Irqctl action line) q h = quiet t _ _ q refl refl
-change_tells t s (Devio action register value) q h = quiet t _ _ q (device_readies t action register value) refl
-change_tells t s (Vircopy from at to place count) q h = quiet t _ _ q (readies-kept t.slots (to % 1024) _ refl) (ap (λ z. z || false) (and_false (to % 1024 == q)))
+change_tells t s Exit q h = quiet t (table_after_change t s Exit) (items_of_change t Exit) q refl refl
+change_tells t s Times q h = quiet t (table_after_change t s Times) (items_of_change t Times) q refl refl
+change_tells t s (SetAlarm delay) q h = quiet t (table_after_change t s (SetAlarm delay)) (items_of_change t (SetAlarm delay)) q (readies-kept t.slots s _ refl) refl
+change_tells t s (Irqctl action line) q h = quiet t (table_after_change t s (Irqctl action line)) (items_of_change t (Irqctl action line)) q refl refl
+change_tells t s (Devio action register value) q h = quiet t (table_after_change t s (Devio action register value)) (items_of_change t (Devio action register value)) q (device_readies t action register value) refl
+change_tells t s (Vircopy from at to place count) q h = quiet t (table_after_change t s (Vircopy from at to place count)) (items_of_change t (Vircopy from at to place count)) q (readies-kept t.slots (to % 1024) _ refl) (ap (λ z. z || false) (and_false (to % 1024 == q)))
 change_tells t s (Kill e) q h = death_tells t (e % 1024) cause.Kill q h
-change_tells t s (Whois slot) q h = quiet t _ _ q refl refl
-change_tells t s (Grant endpoint place count access) q h = quiet t _ _ q (readies-kept t.slots s _ refl) refl
+change_tells t s (Whois slot) q h = quiet t (table_after_change t s (Whois slot)) (items_of_change t (Whois slot)) q refl refl
+change_tells t s (Grant endpoint place count access) q h = quiet t (table_after_change t s (Grant endpoint place count access)) (items_of_change t (Grant endpoint place count access)) q (readies-kept t.slots s _ refl) refl
 
 change_long : (t : TableState) (s : ℕ) (r : KernelCall) → length (readies (table_after_change t s r)) ≡ length (readies t)
 change_long t s Exit = refl

@@ -23,13 +23,13 @@ pub slot_seen : (w : World) (s : ℕ) (v : Service) → s < 32 → slice_get w.s
 unfolding slot_glances
 slot_seen w s v lt e =
     ap (λ b. cond b (get_or (slot_glances w.table w.services) s None) None) (lt-ltb s 32 lt)
-    ∙ get_or-map-range_with_len (slot_glance w.table w.services) 0 32 s s None lt refl ∙ ap (option_map (glance_of_slot w.table s)) e
+    ∙ get_or-map-range_with_len (slot_glance w.table w.services) 0 32 s s None lt (omega arith) ∙ ap (option_map (glance_of_slot w.table s)) e
 
 pub cpu_seen : (w : World) (a : ℕ) → a < 8 → cpu_in (glance_of w) a ≡ option_map held_glance (held_by w a)
 unfolding cpu_glances
 cpu_seen w a lt =
     ap (λ b. cond b (get_or (cpu_glances w) a None) None) (lt-ltb a 8 lt)
-    ∙ get_or-map-range_with_len (cpu_glance w) 0 8 a a None lt refl
+    ∙ get_or-map-range_with_len (cpu_glance w) 0 8 a a None lt (omega arith)
 
 waiting_is : (t : TableState) (s : ℕ) (st : State) → is_waiting (doing_of t s st) ≡ is_blocked st
 unfolding doing_of
