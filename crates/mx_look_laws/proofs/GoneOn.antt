@@ -194,7 +194,7 @@ module _ (v : World) (a n s : ℕ) (p : Service) (sound : IsSound v) (few : leng
   silent : (r : Recorded) (u : World) (o : Option Image) → is_acted (step_to r u) s ≡ false → slice_get u.services s ≡ Some p
       → (is_blocked state ≡ true → is_ready (process_at u.table s).state ≡ false) → gone_on (step_to r u) s ≡ result_written (unless_held o [])
   silent r u o acts after rests =
-      gone r u false acts after ∙ ap (λ b. cond b _ None) (or_false (is_blocked state))
+      gone r u false acts after ∙ ap (λ b. cond b (cond (is_ready (process_at u.table s).state) (Some (process_at u.table s).image.regs.eax) None) None) (or_false (is_blocked state))
       ∙ pick (is_blocked state) (is_ready (process_at u.table s).state) false (process_at u.table s).image.regs.eax (result_written (unless_held o []))
       (λ e. (rests e, sym (none o))) (λ e. none o)
     where
@@ -207,7 +207,7 @@ module _ (v : World) (a n s : ℕ) (p : Service) (sound : IsSound v) (few : leng
       → e ≢ event.Step → caller_in v a e ≢ Some s → diary v a e s ≡ unless_held (image_held_in s v.cpus) (items_for s items)
       → Tells v.table u.table items s → image_now u s ≡ play (diary v a e s) (image_now v s) → gone_on (step_to r u) s ≡ result_written (diary v a e s)
   apart r e u items acts after same unstepped uncalled written tells played =
-      gone r u false acts after ∙ ap (λ b. cond b _ None) (or_false (is_blocked state))
+      gone r u false acts after ∙ ap (λ b. cond b (cond (is_ready (process_at u.table s).state) (Some (process_at u.table s).image.regs.eax) None) None) (or_false (is_blocked state))
       ∙ pick (is_blocked state) (is_ready (process_at u.table s).state) (has_result d) (process_at u.table s).image.regs.eax (result_written d) waiting resting
     where
       d : List Item
@@ -330,7 +330,7 @@ module _ (v : World) (a n s : ℕ) (p : Service) (sound : IsSound v) (few : leng
 
     other_told : l.slot ≢ s → gone_on step s ≡ result_written (diary_of_back v s (Some l))
     other_told m =
-        gone (recorded.Back k) back false acts served ∙ ap (λ b. cond b _ None) (or_false (is_blocked state))
+        gone (recorded.Back k) back false acts served ∙ ap (λ b. cond b (cond (is_ready (process_at back.table s).state) (Some (process_at back.table s).image.regs.eax) None) None) (or_false (is_blocked state))
         ∙ pick (is_blocked state) (is_ready (process_at back.table s).state) (has_result d) (process_at back.table s).image.regs.eax (result_written d) waiting resting
       where
         d : List Item
@@ -366,7 +366,7 @@ module _ (v : World) (a n s : ℕ) (p : Service) (sound : IsSound v) (few : leng
         → cond (is_trap x && not b) (cond (is_ready (process_at (table_after_end_of_turn home l.slot b x) l.slot).state) (Some (process_at (table_after_end_of_turn home l.slot b x) l.slot).image.regs.eax) None) None
         ≡ result_written (items_for l.slot (items_of_end_of_turn home l.slot b x))
     own_end true x steps =
-        ap (λ z. cond z _ None) (and_false (is_trap x))
+        ap (λ z. cond z (cond (is_ready (process_at (table_after_end_of_turn home l.slot true x) l.slot).state) (Some (process_at (table_after_end_of_turn home l.slot true x) l.slot).image.regs.eax) None) None) (and_false (is_trap x))
         ∙ sym (none_written (items_for l.slot (items_of_death home l.slot)) (process_at home l.slot).image steps (result_for l.slot (items_of_death home l.slot) ∙ misses_waiting home l.slot home_queued))
     own_end false Spent steps = refl
     own_end false (Fault w) steps =

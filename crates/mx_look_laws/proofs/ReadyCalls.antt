@@ -457,7 +457,7 @@ kernel_call_tells t s (Some r) None q h = serving_tells t s r q h
 pub trap_tells : (t : TableState) (s : ℕ) (x : TrapAnswer) (q : ℕ) → IsQueued t → (process_at t s).state ≡ Home → IsIdle t s → Tells t (table_after_trap_at_back t s x) (items_of_trap t s x) q
 unfolding table_after_trap table_after_kernel_call
 trap_tells t s trap_ends.Done q h home idle =
-    tells_marked t _ (items_of_trap t s trap_ends.Done) q (trap_by_readies t s (call_of (process_at t s).image.regs.ecx) (process_at t s).image.regs.eax h home idle)
+    tells_marked t (table_after_trap t s) (items_of_trap t s trap_ends.Done) q (trap_by_readies t s (call_of (process_at t s).image.regs.ecx) (process_at t s).image.regs.eax h home idle)
 trap_tells t s trap_ends.Kernel q h home idle = kernel_call_tells t s (kernel_call_under t.rules (message_words_at t s)) (kernel_call_refusal t s) q h
 
 -- ---- other events
