@@ -25,12 +25,14 @@ const CLIENT: [u8; 107] = [
 ];
 
 /// A machine of both, and what every run of it leaves.
-struct Row {
-    config: &'static str,
+pub(crate) struct Row {
+    pub config: &'static str,
     ticks: u32,
     /// The lines of the history: the rules, and the records.
-    lines: usize,
-    report: &'static str,
+    pub lines: usize,
+    /// The saved history, if that's the same in all schedules.
+    log: Option<&'static str>,
+    pub report: &'static str,
     /// How many runs are made.
     runs: u32,
 }
@@ -42,10 +44,11 @@ service cli cli.out traps 1e send 1 calls 1 level 7 best 7 quantum 20 restarts 0
 ";
 
 /// Two processors.
-static TALK: Row = Row {
+pub(crate) static TALK: Row = Row {
     config: TWO_PROCESSORS,
     ticks: 0,
     lines: 11,
+    log: None,
     report: "0 drv 0 receiving any 4 8
 1 cli 1 down exit 7 12
 uptime 0
@@ -59,6 +62,7 @@ static TALK_AND_TICK: Row = Row {
     config: TWO_PROCESSORS,
     ticks: 3,
     lines: 14,
+    log: None,
     report: "0 drv 0 receiving any 4 8
 1 cli 1 down exit 7 12
 uptime 3
@@ -76,6 +80,7 @@ service cli cli.out traps 1e send 1 calls 1 level 7 best 7 quantum 20 restarts 2
 ",
     ticks: 0,
     lines: 29,
+    log: None,
     report: "0 drv 0 receiving any 4 12
 1 cli 2049 down exit 7 12
 uptime 0
@@ -93,6 +98,7 @@ service cli cli.out traps 1e send 1 calls 1 level 7 best 7 quantum 20 restarts 0
 ",
     ticks: 0,
     lines: 3,
+    log: Some("rules 2\n0 take\n0 back 4\n"),
     report: "0 drv 0 receiving any 4 16
 1 cli 1 ready 7 20
 uptime 0
@@ -101,12 +107,12 @@ console 0
     runs: 200,
 };
 
-/// The files of a row's machine.
-fn files_of(row: &Row) -> [NamedFile<'static>; 3] {
+/// The files of a machine of both, by its configuration.
+pub(crate) fn files_of(config: &'static str) -> [NamedFile<'static>; 3] {
     [
         NamedFile {
             name: "config",
-            bytes: row.config.as_bytes(),
+            bytes: config.as_bytes(),
         },
         NamedFile {
             name: "drv.out",
@@ -120,13 +126,13 @@ fn files_of(row: &Row) -> [NamedFile<'static>; 3] {
 }
 
 /// How many line feeds there are.
-fn lines_in(text: &[u8]) -> usize {
+pub(crate) fn lines_in(text: &[u8]) -> usize {
     text.iter().filter(|byte| **byte == b'\n').count()
 }
 
 /// What a replay of a history prints.
-fn replayed(alloc: Global, row: &Row, log: &[u8]) -> Result<Vec<u8>, Fail> {
-    let [config, driver, client] = files_of(row);
+pub(crate) fn replayed(alloc: Global, config: &'static str, log: &[u8]) -> Result<Vec<u8>, Fail> {
+    let [config, driver, client] = files_of(config);
     let history = NamedFile {
         name: "log",
         bytes: log,
@@ -159,7 +165,7 @@ fn left_by<R: Threads + Wait + Clock + Sync>(
     alloc: Global,
     row: &Row,
 ) -> Result<RunLeft, Fail> {
-    let named = files_of(row);
+    let named = files_of(row.config);
     let mut reader = NamedFiles::new(&named);
     let mut files = MemoryWriter::new(alloc);
     let mut printed = Vec::new(alloc);
@@ -186,10 +192,15 @@ fn is_wanted(alloc: Global, row: &Row, left: &RunLeft) -> Result<bool, Fail> {
         return Ok(false);
     }
     let log = files[0].bytes.as_slice();
-    let again = replayed(alloc, row, log)?;
+    let again = replayed(alloc, row.config, log)?;
     let wanted = row.report.as_bytes();
+    let is_saved = match row.log {
+        Some(text) => log == text.as_bytes(),
+        None => true,
+    };
     Ok(
         files[0].name.as_str() == "log"
+            && is_saved
             && lines_in(log) == row.lines
             && left.printed.as_slice() == wanted
             && again.as_slice() == wanted,

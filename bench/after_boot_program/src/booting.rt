@@ -1,0 +1,34 @@
+//! Machines of configurations.
+
+ghost use Rattle.std.specs.Prelude.{◌≡◌, All, IfOk, None};
+
+use crate::Fault;
+use mx_app_step::{RuntimeFiles, setup_of};
+use mx_cpus_drive::{ActorSeat, Blank, boot};
+use std::rt::Files;
+
+/// The machine of a configuration, and the seats of its actors.
+pub(crate) fn booted<R: Files + AllocGlobal>(
+    rt: &R,
+    config: &str,
+) -> Result<(Blank, Vec<ActorSeat>), Fault>
+    ensures tables { IfOk result (λ r. All (λ s. s.table ≡ r.0.table) r.1.items) }
+    ensures empties { IfOk result (λ r. All (λ s. s.held ≡ None) r.1.items) }
+{
+    let mut reader = RuntimeFiles::new(rt);
+    let Ok((config, mut services)) = setup_of(rt.alloc(), &mut reader, config) else {
+        return Err(Fault("the configuration can't be read"));
+    };
+    if services.is_empty() || services.len() > 32 {
+        return Err(Fault("too few services, or too many"));
+    }
+    match boot(rt.alloc(), &config, &mut services) {
+        Ok(made) => Ok(made),
+        Err(_) => Err(Fault("no memory")),
+    }
+}
+
+/// Says where no memory is wanted any more, and where it is wanted again.
+pub(crate) fn mark<R: Eprint>(rt: &R) {
+    let _ = eprint!(rt; "mark\n");
+}

@@ -1,0 +1,63 @@
+//! Machines that take no memory once they have booted: a soak by eight threads until the history is full, and
+//! events of one thread while every allocation is refused. A line `mark` on standard error stands where no
+//! memory is wanted any more, and another where it is wanted again.
+#![tactic(auto)]
+
+mod booting;
+mod course;
+mod lone;
+mod soak;
+
+use crate::lone::{call_in_turn, kill_and_respawn, make_script};
+use crate::soak::soak;
+use std::env;
+use std::process::ExitCode;
+use std::rt::{Env, Files};
+use std::sync::Wait;
+use std::thread::Threads;
+
+/// Why nothing was done, or what went wrong.
+pub(crate) struct Fault(pub &'static str);
+
+/// The words of the command line.
+fn words_of(rt: &(impl Env + AllocGlobal)) -> Result<Vec<String>, Fault> {
+    let mut words = Vec::new(rt.alloc());
+    for word in env::args(rt).map_err(|_| Fault("the words can't be read"))? {
+        words.push(word).map_err(|_| Fault("no memory"))?;
+    }
+    Ok(words)
+}
+
+/// Does what the words ask for: a task over the machine of a configuration, and the file that its history is
+/// written to.
+fn perform<R>(rt: &R) -> Result<(), Fault>
+where
+    R: Env + Files + Print + Eprint + AllocGlobal + Threads + Wait + Sync,
+{
+    let words = words_of(rt)?;
+    let (Some(task), Some(config), Some(log)) = (words.get(1), words.get(2), words.get(3)) else {
+        return Ok(());
+    };
+    let (task, config, log) = (task.as_str(), config.as_str(), log.as_str());
+    if task == "soak" {
+        soak(rt, config, log)
+    } else if task == "script" {
+        make_script(rt, config, log)
+    } else if task == "calls" {
+        call_in_turn(rt, config)
+    } else if task == "rounds" {
+        kill_and_respawn(rt, config)
+    } else {
+        Err(Fault("there is no such task"))
+    }
+}
+
+fn main(rt: HostRuntime) -> ExitCode {
+    match perform(&rt) {
+        Ok(()) => ExitCode::from(0),
+        Err(Fault(text)) => {
+            let _ = eprint!(rt; "{text}\n");
+            ExitCode::from(1)
+        }
+    }
+}
