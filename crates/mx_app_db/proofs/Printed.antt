@@ -1,11 +1,10 @@
 -- What is printed where a debugger's script drives a machine.
-use Rattle.std.proofs.Common.{◌≡◌, ◌∙◌, ℕ, List, [], ◌++◌, Option, ap, sym, subst}
+use Rattle.std.proofs.Common.{◌≡◌, ◌∙◌, ℕ, List, [], ◌++◌, Option, ap, subst}
 use Rattle.std.proofs.KnownBytes.{Appends-trans}
 use Rattle.std.specs.Io.KnownBytes.{Appends}
 use Rattle.mx_app_step.specs.Config.{Config}
 use Rattle.mx_app_step.specs.Service.{Service}
 use Rattle.mx_boot_script.specs.declared.debug.DebugLine.{DebugLine}
-use Rattle.mx_print_answers.specs.Breakpoint.{Breakpoint}
 use Rattle.mx_app_step.specs.Report.{report_text}
 use Rattle.mx_machine_world.specs.Boot.{world_at_boot}
 use Rattle.mx_machine_world.specs.World.{World}
@@ -21,17 +20,10 @@ report_on d = report_text d.world.table d.world.services
 abbrev pub text_of : ℕ → DebuggedWorld → List DebugLine → List ℕ
 text_of other d lines = debug_lines_text other d lines ++ report_on (debug_lines_made other d lines)
 
-pub lines_printed : (x y z : Option (List ℕ)) (none text slice : List ℕ) (w v : World) (other : ℕ) (lines : List DebugLine) (empty points : List Breakpoint)
-    → Appends x y slice → slice ≡ text → none ≡ [] → text ≡ none ++ debug_lines_text other (both w empty) lines
-    → empty ≡ [] → debug_lines_made other (both w empty) lines ≡ both v points → Appends y z (report_text v.table v.services)
-    → Appends x z (text_of other (both w []) lines)
-lines_printed x y z none text slice w v other lines empty points a shown nothing told new made b =
-    let world : v ≡ (debug_lines_made other (both w []) lines).world =
-    ap (λ (d : DebuggedWorld). d.world) (sym made ∙ ap (λ (p : List Breakpoint). debug_lines_made other (both w p) lines) new) in
-    let said : slice ≡ debug_lines_text other (both w []) lines =
-    shown ∙ told ∙ ap (λ (t : List ℕ). t ++ debug_lines_text other (both w empty) lines) nothing
-    ∙ ap (λ (p : List Breakpoint). debug_lines_text other (both w p) lines) new in
-    Appends-trans x y z (debug_lines_text other (both w []) lines) (report_on (debug_lines_made other (both w []) lines)) (subst (λ (t : List ℕ). Appends x y t) said a)
+pub lines_printed : (x y z : Option (List ℕ)) (w v : World) (other : ℕ) (lines : List DebugLine) → Appends x y (debug_lines_text other (both w []) lines)
+    → v ≡ (debug_lines_made other (both w []) lines).world → Appends y z (report_text v.table v.services) → Appends x z (text_of other (both w []) lines)
+lines_printed x y z w v other lines a world b =
+    Appends-trans x y z (debug_lines_text other (both w []) lines) (report_on (debug_lines_made other (both w []) lines)) a
     (subst (λ (u : World). Appends y z (report_text u.table u.services)) world b)
 
 pub booted_printed : (x z : Option (List ℕ)) (c : Config) (vs : List Service) (w : World) (other : ℕ) (said lines : List DebugLine)

@@ -18,11 +18,40 @@ ghost use Rattle.mx_app_db.specs.DebugLines.{DebuggedWorld, debug_lines_made};
 ghost use Rattle.mx_app_db.specs.Told.{debug_lines_text};
 
 use crate::lines::perform_debug_lines;
-use mx_app_step::{DebugScript, Failure, Machine, Reader, print_report, print_text, start};
+use mx_app_step::{
+    DebugScript, Failure, Machine, Reader, pieces_join, print_report, print_text, start,
+};
 use mx_boot_script::DebugLine;
 use mx_print_answers::Debugger;
 use std::alloc::Global;
 use std::io::Write;
+
+/// Does what lines say to a machine with no breakpoints, and prints what is said of each. What was made before
+/// memory ran out is printed too; a writer that has failed isn't tried again.
+fn print_said<W: Write>(
+    alloc: Global,
+    machine: &mut Machine,
+    other: u8,
+    lines: &[DebugLine],
+    out: &mut W,
+) -> Result<(), Failure>
+    requires { other < actors (world_of machine.old) }
+    ensures err { IfErr result IsWanting }
+    ensures world { OnOk result (world_of machine.new ≡ (debug_lines_made other (record { world = world_of machine.old; points = [] }) lines.now).world) }
+    ensures printed { OnOk result (Appends (W.contents out.old) (W.contents out.new)
+        (debug_lines_text other (record { world = world_of machine.old; points = [] }) lines.now)) }
+{
+    pieces_join();
+    let mut debugger = Debugger::new();
+    let mut text = String::new(alloc);
+    let done = perform_debug_lines(machine, &mut debugger, other, lines, &mut text, out);
+    if let Err(Failure::File) = done {
+        return done;
+    }
+    print_text(text.as_bytes(), out)?;
+    done?;
+    Ok(())
+}
 
 /// Does what lines say to a machine with no breakpoints, prints what is said of each, and then the report.
 fn print_lines<W: Write>(
@@ -38,11 +67,7 @@ fn print_lines<W: Write>(
         let e = debug_lines_made other d lines.now in
         Appends (W.contents out.old) (W.contents out.new) (debug_lines_text other d lines.now ++ report_text e.world.table e.world.services)) }
 {
-    let mut debugger = Debugger::new();
-    let mut text = String::new(alloc);
-    let done = perform_debug_lines(machine, &mut debugger, other, lines, &mut text);
-    print_text(text.as_bytes(), out)?;
-    done?;
+    print_said(alloc, machine, other, lines, out)?;
     print_report(alloc, machine, out)
 }
 

@@ -1,7 +1,9 @@
 //! Lines of a debugger's script.
 
-ghost use Rattle.std.specs.Prelude.{◌≡◌, ◌<◌, ◌++◌, OnOk, string_bytes};
+ghost use Rattle.std.specs.Prelude.{◌≡◌, ◌<◌, ◌++◌, IfErr, OnOk, string_bytes};
+ghost use Rattle.mx_app_step.specs.Failure.{IsWanting};
 ghost use Rattle.mx_app_step.specs.Machine.{world_of};
+ghost use Rattle.mx_app_step.specs.Pieces.{IsPrintedBut};
 ghost use Rattle.mx_machine_world.specs.World.{actors, held_by};
 ghost use Rattle.mx_print_answers.specs.Processes.{registers_text, memory_text};
 ghost use Rattle.mx_app_db.specs.DebugLines.{world_after_go, debug_line_made, debug_lines_made};
@@ -9,11 +11,12 @@ ghost use Rattle.mx_app_db.specs.Told.{eip_of, image_held, go_text, debug_line_t
 
 use crate::going::go;
 use crate::places::{clear_breakpoint, set_breakpoint};
-use mx_app_step::{Machine, perform_line};
+use mx_app_step::{Failure, Machine, perform_line, pieces_join, print_piece};
 use mx_boot_script::DebugLine;
 use mx_print_answers::{Debugger, push_done, push_memory, push_messages, push_process, push_run};
 use std::alloc::AllocError;
 use std::fmt::Write;
+use std::io;
 
 /// Where the process stands that a processor holds.
 fn eip_on(machine: &Machine, cpu: u8) -> u32
@@ -101,20 +104,26 @@ fn perform_debug_line(
     }
 }
 
-/// Does what lines say, and appends what is said of them.
-pub fn perform_debug_lines(
+/// Does what lines say, and prints what is said of each, in pieces. What the text has at the end is still to be
+/// printed.
+pub fn perform_debug_lines<W: io::Write>(
     machine: &mut Machine,
     debugger: &mut Debugger,
     other: u8,
     lines: &[DebugLine],
     text: &mut String,
-) -> Result<(), AllocError>
+    out: &mut W,
+) -> Result<(), Failure>
     requires { other < actors (world_of machine.old) }
+    ensures err { IfErr result IsWanting }
     ensures made { OnOk result (debug_lines_made other (record { world = world_of machine.old; points = debugger.old }) lines.now ≡ record { world = world_of machine.new; points = debugger.new }) }
-    ensures told { OnOk result (string_bytes text.new ≡ string_bytes text.old ++ debug_lines_text other (record { world = world_of machine.old; points = debugger.old }) lines.now) }
+    ensures told { OnOk result (IsPrintedBut (W.contents out.old) (W.contents out.new) (string_bytes text.new)
+        (string_bytes text.old ++ debug_lines_text other (record { world = world_of machine.old; points = debugger.old }) lines.now)) }
 {
+    pieces_join();
     for line in lines {
         perform_debug_line(machine, debugger, other, line, text)?;
+        print_piece(text, out)?;
     }
     Ok(())
 }

@@ -1,3 +1,4 @@
+pub mod PieceLemmas
 pub mod SteppingLemmas
 pub mod StepLemmas
 pub mod RecordLemmas

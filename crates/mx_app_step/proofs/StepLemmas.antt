@@ -22,13 +22,6 @@ use Rattle.mx_machine_world.specs.History.{BootAndHistory}
 use Rattle.mx_app_step.specs.Kept.{event_of_line, history_made, kept_by, lines_kept, text_kept}
 use Rattle.mx_app_step.specs.Lines.{line_made, lines_made}
 
-pub said_printed : (x y : Option (List ℕ)) (none text slice : List ℕ) (w : World) (other : ℕ) (lines : List ScriptLine)
-    → Appends x y slice → slice ≡ text → none ≡ [] → text ≡ none ++ said_lines (lines_made w other lines).0
-    → Appends x y (said_lines (lines_made w other lines).0)
-said_printed x y none text slice w other lines a is empty text_is =
-    let shown : slice ≡ said_lines (lines_made w other lines).0 = is ∙ text_is ∙ ap (λ s. s ++ said_lines (lines_made w other lines).0) empty in
-    subst (λ (t : List ℕ). Appends x y t) shown a
-
 pub lines_printed : (x y z : Option (List ℕ)) (w v : World) (other : ℕ) (lines : List ScriptLine)
     → Appends x y (said_lines (lines_made w other lines).0) → v ≡ (lines_made w other lines).1
     → Appends y z (report_text v.table v.services)

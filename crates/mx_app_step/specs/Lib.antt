@@ -1,5 +1,6 @@
 pub mod Kept
 pub mod Lines
+pub mod Pieces
 pub mod Records
 pub mod Traces
 pub use Rattle.mx_app_start.specs.Machine

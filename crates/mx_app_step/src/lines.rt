@@ -16,13 +16,14 @@ ghost use Rattle.mx_machine_world.specs.World.{actors};
 ghost use Rattle.mx_print_answers.specs.Said.{said_lines};
 ghost use Rattle.mx_app_step.specs.Kept.{event_of_line, kept_by, lines_kept};
 ghost use Rattle.mx_app_step.specs.Lines.{line_made, lines_made};
+ghost use Rattle.mx_app_step.specs.Pieces.{IsPrintedBut};
 ghost use Rattle.mx_app_start.specs.Telling.{IsTold};
 
-use crate::printing::print_report;
+use crate::printing::{print_piece, print_report};
 use crate::stepping::{make_event, make_own, make_steps};
 use mx_app_start::{Event, Failure, Machine, Reader, Script, ScriptLine, print_text, start};
 use mx_print_answers::Said;
-use std::alloc::{AllocError, Global};
+use std::alloc::Global;
 use std::io::Write;
 
 /// Does what a line of a script says, and answers what is said of it. The lines that name no actor are
@@ -45,26 +46,32 @@ pub fn perform_line(machine: &mut Machine, other: u8, line: ScriptLine) -> Said
     }
 }
 
-/// Does what lines say, and adds a line for each to a text.
-fn perform_lines(
+/// Does what lines say, adds a line for each to a text, and prints it in pieces. What the text has at the end
+/// is still to be printed.
+fn perform_lines<W: Write>(
     machine: &mut Machine,
     other: u8,
     lines: &[ScriptLine],
     text: &mut String,
-) -> Result<(), AllocError>
+    out: &mut W,
+) -> Result<(), Failure>
     requires { other < actors (world_of machine.old) }
+    ensures err { IfErr result IsWanting }
     ensures world { OnOk result (world_of machine.new ≡ (lines_made (world_of machine.old) other lines.now).1) }
     ensures kept { OnOk result (machine.new.kernel ≡ lines_kept machine.old.kernel (world_of machine.old) other lines.now) }
-    ensures text { OnOk result (string_bytes text.new ≡ string_bytes text.old ++ said_lines (lines_made (world_of machine.old) other lines.now).0) }
+    ensures printed { OnOk result (IsPrintedBut (W.contents out.old) (W.contents out.new) (string_bytes text.new)
+        (string_bytes text.old ++ said_lines (lines_made (world_of machine.old) other lines.now).0)) }
 {
     for line in lines {
         let said = perform_line(machine, other, *line);
         write!(text, "{said}\n")?;
+        print_piece(text, out)?;
     }
     Ok(())
 }
 
-/// Does what lines say, and prints a line for each.
+/// Does what lines say, and prints a line for each. What was made before memory ran out is printed too; a
+/// writer that has failed isn't tried again.
 pub(crate) fn print_said<W: Write>(
     alloc: Global,
     machine: &mut Machine,
@@ -80,7 +87,10 @@ pub(crate) fn print_said<W: Write>(
         (said_lines (lines_made (world_of machine.old) other lines.now).0)) }
 {
     let mut text = String::new(alloc);
-    let done = perform_lines(machine, other, lines, &mut text);
+    let done = perform_lines(machine, other, lines, &mut text, out);
+    if let Err(Failure::File) = done {
+        return done;
+    }
     print_text(text.as_bytes(), out)?;
     done?;
     Ok(())

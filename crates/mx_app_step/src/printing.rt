@@ -1,14 +1,40 @@
 //! What is printed of a machine.
 
-ghost use Rattle.std.specs.Prelude.{IfErr, OnOk};
+ghost use Rattle.std.specs.Prelude.{◌++◌, ℕ, List, Option, IfErr, OnOk, string_bytes};
 ghost use Rattle.std.specs.Io.KnownBytes.{Appends};
 ghost use Rattle.mx_app_start.specs.Failure.{IsWanting};
 ghost use Rattle.mx_app_start.specs.Machine.{world_of};
 ghost use Rattle.mx_app_start.specs.Report.{report_text};
+ghost use Rattle.mx_app_step.specs.Pieces.{IsPrintedBut};
 
 use mx_app_start::{Failure, Machine, print_text, report};
 use std::alloc::Global;
 use std::io::Write;
+
+/// How long a text becomes before it is printed: at most this many bytes and one line more.
+const PIECE: usize = 1 << 16;
+
+/// Prints a text and empties it, if it is long. So a text that goes on is printed in pieces, and what is left
+/// at the end is still to be printed.
+pub fn print_piece<W: Write>(text: &mut String, out: &mut W) -> Result<(), Failure>
+    ensures err { IfErr result IsWanting }
+    ensures printed { OnOk result (IsPrintedBut (W.contents out.old) (W.contents out.new) (string_bytes text.new) (string_bytes text.old)) }
+{
+    if text.len() < PIECE {
+        return Ok(());
+    }
+    print_text(text.as_bytes(), out)?;
+    text.clear();
+    Ok(())
+}
+
+/// Laws of a text that is printed in pieces: a line comes to its end, and a piece is printed; or the end is.
+pub fn pieces_join()
+    ensures next { (x y z : Option (List ℕ)) (end left text line : List ℕ) → IsPrintedBut x y end text
+        → IsPrintedBut y z left (end ++ line) → IsPrintedBut x z left (text ++ line) }
+    ensures rest { (x y z : Option (List ℕ)) (end text : List ℕ) → IsPrintedBut x y end text
+        → Appends y z end → Appends x z text }
+{}
 
 /// Prints the report on a machine, and flushes.
 pub fn print_report<W: Write>(alloc: Global, machine: &Machine, out: &mut W) -> Result<(), Failure>

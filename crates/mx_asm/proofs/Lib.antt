@@ -5,6 +5,7 @@ pub mod Standing
 pub mod Emitting
 pub mod Fitting
 pub mod Seeing
+pub mod Kept
 pub mod Reading
 pub mod Deciding
 pub mod Entering

@@ -5,4 +5,5 @@ pub mod View
 pub mod Faults
 pub mod Bytes
 pub mod Assembled
+pub mod Kept
 pub mod Text

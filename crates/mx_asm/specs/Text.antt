@@ -17,6 +17,8 @@ use Rattle.mx_asm.specs.Lengths.{statement_length}
 use Rattle.mx_asm.specs.Layout.{LinesAbove, Seen, unseen, seen_with, seen_of, above_with, statement_said, refusal_of_line}
 use Rattle.mx_asm.specs.Faults.{problem_of, fault_behind}
 use Rattle.mx_asm.specs.Assembled.{AreAssembled}
+use Rattle.mx_asm.specs.Kept.{line_kept}
+use Rattle.mx_asm.specs.declared.numbered.NumberedLine.{NumberedLine}
 
 -- what is told of bytes that no tokens are
 abbrev pub TellsOf : LexError → Problem → Type 0
@@ -49,16 +51,16 @@ AreLinesTaken s [] [] = ⊤
 AreLinesTaken s (t ∷ ts) (l ∷ ls) = IsLineTaken s t l × AreLinesTaken (seen_with s l) ts ls
 AreLinesTaken s _ _ = ⊥
 
--- one line more isn't refused
-abbrev pub Accepts : LinesAbove → LinesAbove → Line → List Line → List Line → Type 0
-Accepts a b l old new = (refusal_of_line (seen_of a) l ≡ None) × (b ≡ on_behind a l) × (new ≡ old ++ l ∷ [])
+-- one line more, line n, isn't refused
+abbrev pub Accepts : LinesAbove → LinesAbove → ℕ → Line → List NumberedLine → List NumberedLine → Type 0
+Accepts a b n l old new = (refusal_of_line (seen_of a) l ≡ None) × (b ≡ on_behind a l) × (new ≡ old ++ line_kept n l)
 
 -- one line more is taken
-pub record TakesLine (a b : LinesAbove) (t : List ℕ) (old new : List Line) : Type 0 where
+pub record TakesLine (a b : LinesAbove) (n : ℕ) (t : List ℕ) (old new : List NumberedLine) : Type 0 where
   pub line : Line
   pub taken : IsLineTaken (seen_of a) t line
   pub behind_is : b ≡ on_behind a line
-  pub lines_are : new ≡ old ++ line ∷ []
+  pub lines_are : new ≡ old ++ line_kept n line
 
 -- the first line with which something is wrong, the first of these being line n
 abbrev pub IsFirstLineWrong : Seen → ℕ → List (List ℕ) → Fault → Type 0

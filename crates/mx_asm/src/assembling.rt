@@ -1,7 +1,9 @@
 //! Texts.
 
-ghost use Rattle.std.specs.Prelude.{◌≡◌, ◌≤◌, ◌^◌, length, OnOk, IfOk, IfErr};
+ghost use Rattle.std.specs.Prelude.{◌≡◌, ◌+◌, ◌<◌, ◌≤◌, ◌^◌, List, length, OnOk, IfOk, IfErr};
 ghost use Rattle.mx_text.specs.Lines.{lines};
+ghost use Rattle.mx_asm_statement.specs.declared.line.Line.{Line};
+ghost use Rattle.mx_asm.specs.Kept.{AreKept};
 ghost use Rattle.mx_asm.specs.Layout.{SizesWithin, GrowsWithin, no_lines_above, unseen, seen_of, laid_by};
 ghost use Rattle.mx_asm.specs.Faults.{problem_of};
 ghost use Rattle.mx_asm.specs.declared.fault.AsmError.TheVariants.{At};
@@ -9,6 +11,7 @@ ghost use Rattle.mx_asm.specs.View.{above_of};
 ghost use Rattle.mx_asm.specs.Text.{AreLinesTaken, Accepts, TakesLine, IsAssembled, TellsTextFault, TellsFirstLine, TellsRefusal, TellsLineWrong, TellsLexical};
 
 use crate::hashing::HashedByText;
+use crate::numbered::{NumberedLine, says_something};
 use crate::program::program_of;
 use crate::{AsmError, Fault, Layout, Problem, problem_of};
 use mx_aout::Program;
@@ -31,11 +34,12 @@ fn told_of(error: LexError, line: usize) -> AsmError
     AsmError::At(Fault { problem, line })
 }
 
-/// What the lines of a text say, and where they stand.
+/// The lines of a text that say something, how many others there are, and where all stand.
 #[derive(Drop)]
 struct Read {
     layout: Layout,
-    lines: Vec<Line>,
+    lines: Vec<NumberedLine>,
+    blanks: usize,
 }
 
 /// What is told of a line that is refused.
@@ -49,11 +53,23 @@ fn refused(reason: Reason, line: usize) -> AsmError
 }
 
 impl Read {
+    /// How many lines were read.
+    fn count(&self) -> usize
+        requires { length self.now.lines.items + self.now.blanks < 2 ^ 64 }
+        ensures count { result ≡ length self.now.lines.items + self.now.blanks }
+        ensures few { length self.now.lines.items ≤ 2 ^ 62 }
+    {
+        self.lines.as_slice().len() + self.blanks
+    }
+
     /// Takes in what a line says, after those above it, or tells why it is refused. Memory is only
-    /// wanting where it isn't.
+    /// wanting where it isn't, and a line that says nothing keeps none.
+    #[tactic(auto, using(crate::proofs::Kept::one_kept, crate::proofs::Kept::none_kept))]
     fn accept(&mut self, line: Line, number: usize) -> Result<(), AsmError>
-        requires { SizesWithin self.old.layout.sizes (2 ^ 126) }
-        ensures accepted { OnOk result (Accepts (above_of self.old.layout) (above_of self.new.layout) line self.old.lines.items self.new.lines.items) }
+        requires room { SizesWithin self.old.layout.sizes (2 ^ 126) }
+        requires few { self.old.blanks + 1 < 2 ^ 64 }
+        ensures accepted { OnOk result (Accepts (above_of self.old.layout) (above_of self.new.layout) number line self.old.lines.items self.new.lines.items) }
+        ensures counted { OnOk result (length self.new.lines.items + self.new.blanks ≡ length self.old.lines.items + self.old.blanks + 1) }
         ensures small { OnOk result (GrowsWithin self.old.layout.sizes self.new.layout.sizes (2 ^ 64)) }
         ensures refused { IfErr result (TellsRefusal (seen_of (above_of self.old.layout)) number line) }
     {
@@ -62,14 +78,20 @@ impl Read {
             None => {}
         }
         self.layout.go_behind(&line)?;
-        self.lines.push(line)?;
+        if says_something(&line) {
+            self.lines.push(NumberedLine { number, line })?;
+        } else {
+            self.blanks += 1;
+        }
         Ok(())
     }
 
     /// Reads a line and takes it in, or tells what is wrong with it.
     fn take(&mut self, alloc: Global, text: &[u8], number: usize) -> Result<(), AsmError>
-        requires { SizesWithin self.old.layout.sizes (2 ^ 126) }
-        ensures taken { OnOk result (TakesLine (above_of self.old.layout) (above_of self.new.layout) text.now self.old.lines.items self.new.lines.items) }
+        requires room { SizesWithin self.old.layout.sizes (2 ^ 126) }
+        requires few { self.old.blanks + 1 < 2 ^ 64 }
+        ensures taken { OnOk result (TakesLine (above_of self.old.layout) (above_of self.new.layout) number text.now self.old.lines.items self.new.lines.items) }
+        ensures counted { OnOk result (length self.new.lines.items + self.new.blanks ≡ length self.old.lines.items + self.old.blanks + 1) }
         ensures small { OnOk result (GrowsWithin self.old.layout.sizes self.new.layout.sizes (2 ^ 64)) }
         ensures wrong { IfErr result (TellsLineWrong (seen_of (above_of self.old.layout)) number text.now) }
     {
@@ -80,40 +102,34 @@ impl Read {
     }
 }
 
-/// How many lines there are; that many fit in memory.
-fn count(lines: &[Line]) -> usize
-    ensures count { result ≡ length lines.now }
-    ensures small { result ≤ 2 ^ 62 }
-{
-    lines.len()
-}
-
 /// The lines of a text, or the first with which something is wrong.
 fn read_lines(alloc: Global, text: &[u8]) -> Result<Read, AsmError>
-    ensures taken { IfOk result (λ read. AreLinesTaken unseen (lines text.now) read.lines.items) }
-    ensures laid { IfOk result (λ read. above_of read.layout ≡ laid_by no_lines_above read.lines.items) }
+    ensures taken { IfOk result (λ read. (ls : List Line) × AreLinesTaken unseen (lines text.now) ls
+        × AreKept ls read.lines.items (length read.lines.items + read.blanks) × (above_of read.layout ≡ laid_by no_lines_above ls)) }
+    ensures few { IfOk result (λ read. length read.lines.items + read.blanks < 2 ^ 64) }
     ensures wrong { IfErr result (TellsFirstLine text.now) }
 {
     let mut read = Read {
         layout: Layout::new(alloc, HashedByText::new(text)),
         lines: Vec::new(alloc),
+        blanks: 0,
     };
     let mut rest = text;
     let mut number = 1;
     while let Some((line, more)) = next_line(rest) {
         read.take(alloc, line, number)?;
-        number = count(read.lines.as_slice()) + 1;
+        number = read.count() + 1;
         rest = more;
     }
     Ok(read)
 }
 
 /// The program that an assembler text says, or its first fault. Takes memory only for what it answers
-/// and for the lines it has read.
+/// and for the lines that say something.
 pub fn assemble(alloc: Global, text: &str) -> Result<Program, AsmError>
     ensures program { IfOk result (IsAssembled text.now) }
     ensures fault { IfErr result (TellsTextFault text.now) }
 {
     let read = read_lines(alloc, text.as_bytes())?;
-    program_of(alloc, &read.layout, read.lines.as_slice())
+    program_of(alloc, &read.layout, read.lines.as_slice(), read.count())
 }

@@ -1,14 +1,17 @@
 //! The bytes of statements, where all labels stand.
 
-ghost use Rattle.std.specs.Prelude.{◌≡◌, ◌++◌, true, false, None, Some, OnOk, IfOk};
+ghost use Rattle.std.specs.Prelude.{◌≡◌, ◌++◌, true, false, map, None, Some, OnOk, IfOk};
 ghost use Rattle.std.specs.List.{list_any};
 ghost use Rattle.mx_word.specs.Word.{bytes_of, bytes_in};
 ghost use Rattle.mx_encode.specs.Forms.{has_form};
 ghost use Rattle.mx_asm.specs.Layout.{no_lines_above, statement_said, section_offset_of, address_of_offset};
-ghost use Rattle.mx_asm.specs.Faults.{is_undefined, is_undefined_if, problem_at, first_problem};
+ghost use Rattle.mx_asm.specs.Faults.{is_undefined, is_undefined_if, problem_at};
+ghost use Rattle.mx_asm.specs.Kept.{first_problem_kept};
+ghost use Rattle.mx_asm.specs.declared.numbered.NumberedLine.{NumberedLine};
 ghost use Rattle.mx_asm.specs.View.{above_of};
 ghost use Rattle.mx_asm.specs.Bytes.{named_under, BytesOf, Pushes, PutsOut, AreParts};
 
+use crate::numbered::NumberedLine;
 use crate::{Layout, SectionSizes, branch_bytes};
 use mx_asm_statement::{Instruction, Line, Section, Statement, Value};
 use mx_encode::{
@@ -134,9 +137,9 @@ fn put_line(
 }
 
 /// The bytes of all statements, where nothing stands against a line.
-pub fn parts_of(alloc: Global, layout: &Layout, lines: &[Line]) -> Result<Parts, AllocError>
-    requires { first_problem (above_of layout.now) no_lines_above.sizes 1 lines.now ≡ None }
-    ensures { IfOk result (λ parts. AreParts (above_of layout.now) no_lines_above.sizes lines.now parts.text.items parts.init.items) }
+pub fn parts_of(alloc: Global, layout: &Layout, lines: &[NumberedLine]) -> Result<Parts, AllocError>
+    requires { first_problem_kept (above_of layout.now) no_lines_above.sizes lines.now ≡ None }
+    ensures { IfOk result (λ parts. AreParts (above_of layout.now) no_lines_above.sizes (map (λ (k : NumberedLine). k.line) lines.now) parts.text.items parts.init.items) }
 {
     immediate_keeps_length();
     displacement_keeps_length();
@@ -145,9 +148,9 @@ pub fn parts_of(alloc: Global, layout: &Layout, lines: &[Line]) -> Result<Parts,
         init: Vec::new(alloc),
     };
     let mut sizes = SectionSizes::START;
-    for line in lines {
-        put_line(layout, sizes, line, &mut parts)?;
-        sizes = sizes.after(line);
+    for kept in lines {
+        put_line(layout, sizes, &kept.line, &mut parts)?;
+        sizes = sizes.after(&kept.line);
     }
     Ok(parts)
 }

@@ -8,6 +8,7 @@ mod fault;
 mod hashing;
 mod laws;
 mod layout;
+mod numbered;
 mod program;
 mod second;
 mod sizes;

@@ -1,15 +1,18 @@
 //! The program of lines.
 
-ghost use Rattle.std.specs.Prelude.{◌≡◌, false, length, map, IfOk, IfErr, IsSome};
+ghost use Rattle.std.specs.Prelude.{◌≡◌, List, false, length, map, IfOk, IfErr, IsSome};
+ghost use Rattle.mx_asm_statement.specs.declared.line.Line.{Line};
+ghost use Rattle.mx_asm.specs.Kept.{AreKept};
 ghost use Rattle.mx_asm.specs.Layout.{no_lines_above, laid_by};
 ghost use Rattle.mx_asm.specs.Faults.{IsFaultOr, fault_behind, total_of, is_program_too_large};
 ghost use Rattle.mx_asm.specs.View.{above_of};
 ghost use Rattle.mx_asm.specs.Assembled.{class_of, symbol_under, entry_under, AreAssembled};
 
 use crate::emit::{Parts, parts_of};
+use crate::numbered::NumberedLine;
 use crate::{AsmError, Layout};
 use mx_aout::{Program, Symbol, Symbols};
-use mx_asm_statement::{Line, Section};
+use mx_asm_statement::Section;
 use mx_encode::{displacement_keeps_length, immediate_keeps_length};
 use mx_text::Name;
 use mx_word::Bytes;
@@ -82,15 +85,20 @@ fn program_with(layout: &Layout, parts: Parts, symbols: Vec<Symbol>) -> Program
     }
 }
 
-/// The program of lines that leave a layout, or the first fault.
-pub fn program_of(alloc: Global, layout: &Layout, lines: &[Line]) -> Result<Program, AsmError>
-    requires { above_of layout.now ≡ laid_by no_lines_above lines.now }
-    ensures program { IfOk result (λ p. AreAssembled lines.now p) }
-    ensures fault { IfErr result (λ e. IsFaultOr (fault_behind lines.now) e) }
+/// The program of lines that leave a layout, so many with those that aren't kept; or the first fault.
+pub fn program_of(
+    alloc: Global,
+    layout: &Layout,
+    lines: &[NumberedLine],
+    count: usize,
+) -> Result<Program, AsmError>
+    requires { (ls : List Line) × AreKept ls lines.now count × (above_of layout.now ≡ laid_by no_lines_above ls) }
+    ensures program { (ls : List Line) → AreKept ls lines.now count → above_of layout.now ≡ laid_by no_lines_above ls → IfOk result (λ p. AreAssembled ls p) }
+    ensures fault { (ls : List Line) → AreKept ls lines.now count → above_of layout.now ≡ laid_by no_lines_above ls → IfErr result (λ e. IsFaultOr (fault_behind ls) e) }
 {
     immediate_keeps_length();
     displacement_keeps_length();
-    match layout.fault_behind(lines) {
+    match layout.fault_behind(lines, count) {
         Some(fault) => return Err(AsmError::At(fault)),
         None => {}
     }

@@ -1,14 +1,17 @@
 //! What stands against lines once all labels stand.
 
-ghost use Rattle.std.specs.Prelude.{◌≡◌, false, None};
+ghost use Rattle.std.specs.Prelude.{◌≡◌, List, length, false, None};
 ghost use Rattle.std.specs.List.{list_any};
 ghost use Rattle.mx_asm.specs.Layout.{no_lines_above, statement_said, laid_by};
-ghost use Rattle.mx_asm.specs.Faults.{is_undefined, is_undefined_if, undefined_where, problem_at, first_problem, fault_behind, is_program_too_large};
+ghost use Rattle.mx_asm.specs.Faults.{is_undefined, is_undefined_if, undefined_where, problem_at, fault_behind, is_program_too_large, too_large_in};
+ghost use Rattle.mx_asm.specs.Kept.{AreKept, first_problem_kept};
+ghost use Rattle.mx_asm_statement.specs.declared.line.Line.{Line};
 ghost use Rattle.mx_asm.specs.View.{above_of};
 
 use crate::branch::{branch_length, distance, is_too_far};
 use crate::fault::{Fault, Problem};
 use crate::layout::Layout;
+use crate::numbered::NumberedLine;
 use crate::sizes::SectionSizes;
 use mx_asm_statement::{Branch, Line, Statement, Value};
 
@@ -82,46 +85,51 @@ impl Layout {
         }
     }
 
-    /// The first line that something stands against.
-    fn first_problem(&self, lines: &[Line]) -> Option<Fault>
-        ensures { result ≡ first_problem (above_of self.now) no_lines_above.sizes 1 lines.now }
+    /// The first of the lines that are kept that something stands against.
+    fn first_problem(&self, lines: &[NumberedLine]) -> Option<Fault>
+        ensures { result ≡ first_problem_kept (above_of self.now) no_lines_above.sizes lines.now }
     {
         let mut sizes = SectionSizes::START;
-        for (index, line) in lines.iter().enumerate() {
+        for kept in lines {
             let at = self.address_of(sizes.spot());
-            match self.problem_at(at, line) {
+            match self.problem_at(at, &kept.line) {
                 Some(problem) => {
                     return Some(Fault {
                         problem,
-                        line: index + 1,
+                        line: kept.number,
                     });
                 }
                 None => {}
             }
-            sizes = sizes.after(line);
+            sizes = sizes.after(&kept.line);
         }
         None
     }
 
-    /// What stands against the lines that leave this layout: against one of them, or against all for
-    /// their size.
-    pub fn fault_behind(&self, lines: &[Line]) -> Option<Fault>
-        requires { above_of self.now ≡ laid_by no_lines_above lines.now }
-        ensures fault { result ≡ fault_behind lines.now }
-        ensures clean { result ≡ None → first_problem (above_of self.now) no_lines_above.sizes 1 lines.now ≡ None }
+    /// What stands against so many lines for their size.
+    fn fault_of_size(&self, count: usize) -> Option<Fault>
+        ensures fault { (ls : List Line) → count ≡ length ls → result ≡ too_large_in (above_of self.now) ls }
+        ensures small { result ≡ None → is_program_too_large (above_of self.now) ≡ false }
+    {
+        if !self.is_too_large() {
+            return None;
+        }
+        Some(Fault {
+            problem: Problem::TooLarge,
+            line: count.max(1),
+        })
+    }
+
+    /// What stands against lines that leave this layout, so many with those that aren't kept: against one of
+    /// them, or against all for their size.
+    pub fn fault_behind(&self, lines: &[NumberedLine], count: usize) -> Option<Fault>
+        ensures fault { (ls : List Line) → AreKept ls lines.now count → above_of self.now ≡ laid_by no_lines_above ls → result ≡ fault_behind ls }
+        ensures clean { result ≡ None → first_problem_kept (above_of self.now) no_lines_above.sizes lines.now ≡ None }
         ensures small { result ≡ None → is_program_too_large (above_of self.now) ≡ false }
     {
         match self.first_problem(lines) {
-            Some(fault) => return Some(fault),
-            None => {}
+            Some(fault) => Some(fault),
+            None => self.fault_of_size(count),
         }
-        if self.is_too_large() {
-            let line = lines.len().max(1);
-            return Some(Fault {
-                problem: Problem::TooLarge,
-                line,
-            });
-        }
-        None
     }
 }

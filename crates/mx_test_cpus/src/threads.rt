@@ -2,8 +2,9 @@
 
 ghost use Rattle.std.specs.Prelude.{◌≡◌, All, None};
 
-use crate::machine::{config, services};
+use crate::machine::{config, last_seat, services};
 use mx_cpus_drive::{ActorSeat, Blank, Gate, Naming, Shared, boot, drive};
+use mx_machine_world::Refusal;
 use std::alloc::Global;
 use std::marker::Brand;
 use std::process::Abort;
@@ -16,11 +17,13 @@ use std::thread::Threads;
 /// How long a processor waits for the other one, in turns.
 const TURNS: u32 = 10_000_000;
 
-/// A processor goes on with its first process only once two processors hold one. It ends where the machine
-/// is at rest.
+/// A processor goes on with its first process only once a number of processors hold one. A loop ends where
+/// the machine is at rest, or another loop has ended.
 #[derive(Drop)]
 struct Meeting {
-    /// How many processors have taken their first process, and how many of them saw the other.
+    /// How many processors have to hold one.
+    wanted: u32,
+    /// How many processors have taken their first process, and how many of them saw the others.
     inside: AtomicU32,
     met: AtomicU32,
     /// How many processes were given back, and how many loops have ended.
@@ -29,8 +32,9 @@ struct Meeting {
 }
 
 impl Meeting {
-    fn new() -> Meeting {
+    fn new(wanted: u32) -> Meeting {
         Meeting {
+            wanted,
             inside: AtomicU32::new(0),
             met: AtomicU32::new(0),
             given: AtomicU32::new(0),
@@ -46,7 +50,7 @@ impl Gate for Meeting {
         }
         let _earlier = self.inside.fetch_add(1, Ordering::SeqCst);
         for _ in 0..TURNS {
-            if self.inside.load(Ordering::SeqCst) >= 2 {
+            if self.inside.load(Ordering::SeqCst) >= self.wanted {
                 let _met = self.met.fetch_add(1, Ordering::SeqCst);
                 return;
             }
@@ -60,7 +64,7 @@ impl Gate for Meeting {
 
     fn again(&self, _actor: u8, at_rest: bool) -> bool {
         thread::yield_now();
-        !at_rest
+        !at_rest && self.ended.load(Ordering::SeqCst) == 0
     }
 
     fn ended(&self, _actor: u8) {
@@ -68,22 +72,46 @@ impl Gate for Meeting {
     }
 }
 
-/// How many records a machine has once its loops have ended.
-fn records_driven<M: Naming + Send + Sync, G: Gate + Sync, R: Threads + Wait + Sync>(
+/// What is seen of a machine once its loops have ended.
+#[derive(Clone, Copy, PartialEq, Eq)]
+struct Ending {
+    records: usize,
+    /// Whether a last tick finds the history full.
+    is_full: bool,
+}
+
+/// Whether a tick of the last actor finds the history full.
+fn is_full<M: Naming>(rt: &impl Wait, shared: &Shared<M>, seats: &mut Vec<ActorSeat>) -> bool
+    requires { All (λ s. s.table ≡ M.table) seats.old.items }
+    ensures { All (λ s. s.table ≡ M.table) seats.new.items }
+{
+    match last_seat::<M>(seats) {
+        Some(seat) => shared.tick(rt, seat).1 == Err(Refusal::LogFull),
+        None => false,
+    }
+}
+
+/// Drives a machine until its loops have ended.
+fn driven<M: Naming + Send + Sync, G: Gate + Sync, R: Threads + Wait + Sync>(
     rt: &R,
     alloc: Global,
     blank: Blank,
     seats: Vec<ActorSeat>,
     gate: &G,
-) -> Option<usize>
+    ticks: u32,
+) -> Option<Ending>
     requires table { blank.table ≡ M.table }
     requires boot { blank.boot ≡ M.boot }
     requires tables { All (λ s. s.table ≡ M.table) seats.items }
     requires empties { All (λ s. s.held ≡ None) seats.items }
 {
     let shared: Shared<M> = blank.open();
-    match drive(rt, &shared, seats, gate, 0) {
-        Ok(seats) => Some(shared.into_kernel(seats).history().len()),
+    match drive(rt, &shared, seats, gate, ticks) {
+        Ok(mut seats) => {
+            let is_full = is_full(rt, &shared, &mut seats);
+            let records = shared.into_kernel(seats).history().len();
+            Some(Ending { records, is_full })
+        }
         Err(_) => {
             let _kernel = shared.into_kernel(Vec::new(alloc));
             None
@@ -91,19 +119,75 @@ fn records_driven<M: Naming + Send + Sync, G: Gate + Sync, R: Threads + Wait + S
     }
 }
 
-/// Two processors hold a process at the same time; each take has its return; three loops end.
+/// A machine of as many equal services as processors, and what is seen of it in every schedule.
+struct Row {
+    cpus: u8,
+    log: u32,
+    ticks: u32,
+    /// How many processors hold a process at the same time.
+    holders: u32,
+    ending: Ending,
+}
+
+static ROWS: [Row; 3] = [
+    // Two processors hold a process at the same time. Each is taken once more, and dies then; a tick
+    // has room.
+    Row {
+        cpus: 2,
+        log: 64,
+        ticks: 0,
+        holders: 2,
+        ending: Ending {
+            records: 9,
+            is_full: false,
+        },
+    },
+    // Room for four takes and four returns: then a tick finds none.
+    Row {
+        cpus: 4,
+        log: 8,
+        ticks: 0,
+        holders: 4,
+        ending: Ending {
+            records: 8,
+            is_full: true,
+        },
+    },
+    // Room for three takes and three returns: the fourth take is refused, and a tick has room.
+    Row {
+        cpus: 4,
+        log: 7,
+        ticks: 1,
+        holders: 3,
+        ending: Ending {
+            records: 7,
+            is_full: true,
+        },
+    },
+];
+
+/// Processors hold processes at the same time, each take has its return, and all loops end, at a full
+/// history too.
 #[test]
-fn both_hold_at_once(rt: HostRuntime) -> Result<(), Fail> {
-    let mut services = services(rt.alloc(), 2, 0)?;
-    let config = config(rt.alloc(), 2, 64, 0)?;
-    let Ok((blank, seats)) = boot(rt.alloc(), &config, &mut services) else {
-        return Err(Fail::new("no memory"));
-    };
-    let gate = Meeting::new();
-    let records = records_driven::<Brand, _, _>(&rt, rt.alloc(), blank, seats, &gate);
-    let given = gate.given.load(Ordering::SeqCst) as usize;
-    assert!(rt; gate.met.load(Ordering::SeqCst) == 2);
-    assert!(rt; gate.ended.load(Ordering::SeqCst) == 3);
-    assert!(rt; records == given.checked_mul(2));
+fn hold_at_once(rt: HostRuntime) -> Result<(), Fail> {
+    for (number, row) in ROWS.iter().enumerate() {
+        assert!(rt; 0 < row.cpus && row.cpus <= 8 && 0 < row.log && row.log <= 64);
+        let mut services = services(rt.alloc(), row.cpus, 0)?;
+        let config = config(rt.alloc(), row.cpus, row.log, 0)?;
+        let Ok((blank, seats)) = boot(rt.alloc(), &config, &mut services) else {
+            return Err(Fail::new("no memory"));
+        };
+        let gate = Meeting::new(row.holders);
+        let ending = driven::<Brand, _, _>(&rt, rt.alloc(), blank, seats, &gate, row.ticks);
+        assert!(rt; ending == Some(row.ending), "row {number}");
+        assert!(rt;
+            gate.met.load(Ordering::SeqCst) == row.holders,
+            "row {number}"
+        );
+        assert!(rt;
+            gate.ended.load(Ordering::SeqCst) == u32::from(row.cpus) + 1,
+            "row {number}"
+        );
+    }
     Ok(())
 }

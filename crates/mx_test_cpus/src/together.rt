@@ -6,51 +6,100 @@ use crate::machine::{config, is_history, last_seat, services};
 use mx_cpus::{ActorSeat, Blank, Naming, Shared, boot};
 use mx_debug::{Debugger, Halt, HaltCause};
 use mx_machine_kernel::Kernel;
-use mx_machine_world::{Answer, Recorded};
+use mx_machine_world::{Answer, Recorded, Refusal};
 use mx_proc::{DeathCause, State};
 use std::marker::Brand;
 use std::process::Abort;
 use std::sync::Wait;
 use std::test::Fail;
 
-/// Each seat, the last one first, takes a process while the earlier ones hold theirs; then all are given
-/// back. Answers how many were out at once.
+/// Each seat, the last one first, takes a process while the earlier ones hold theirs; then another actor
+/// ticks, and all are given back. Answers how many were out at once, and how the tick is answered.
 #[cycle(take_all)]
-fn take_all<M: Naming>(rt: &impl Wait, shared: &Shared<M>, seats: &mut Vec<ActorSeat>) -> u64
-    requires { All (λ s. s.table ≡ M.table) seats.old.items }
+fn take_all<M: Naming>(
+    rt: &impl Wait,
+    shared: &Shared<M>,
+    seats: &mut Vec<ActorSeat>,
+    other: ActorSeat,
+) -> (u64, Result<Answer, Refusal>)
+    requires tables { All (λ s. s.table ≡ M.table) seats.old.items }
+    requires other { other.table ≡ M.table }
 {
     let Some(seat) = last_seat::<M>(seats) else {
-        return 0;
+        return (0, shared.tick(rt, other).1);
     };
     let (seat, taken) = shared.take(rt, seat);
     match taken {
         Ok(loan) => {
-            let others = take_all(rt, shared, seats);
+            let (others, ticked) = take_all(rt, shared, seats, other);
             let _seat = shared.give(rt, seat, loan);
-            others.saturating_add(1)
+            (others.saturating_add(1), ticked)
         }
-        Err(_) => take_all(rt, shared, seats),
+        Err(_) => take_all(rt, shared, seats, other),
     }
 }
 
-fn all_out<M: Naming>(rt: &impl Wait, blank: Blank, mut seats: Vec<ActorSeat>) -> (u64, usize)
+/// A machine of as many equal services as processors, how many processors take one while the others hold
+/// theirs, how a tick is answered then, and how many records there are at the end.
+struct Row {
+    cpus: u8,
+    log: u32,
+    out: u64,
+    ticked: Result<Answer, Refusal>,
+    records: usize,
+}
+
+static ROWS: [Row; 3] = [
+    Row {
+        cpus: 8,
+        log: 64,
+        out: 8,
+        ticked: Ok(Answer::Done),
+        records: 17,
+    },
+    // Room for four takes and their returns.
+    Row {
+        cpus: 4,
+        log: 8,
+        out: 4,
+        ticked: Err(Refusal::LogFull),
+        records: 8,
+    },
+    // The fourth take finds no room for its return, and the tick has room.
+    Row {
+        cpus: 4,
+        log: 7,
+        out: 3,
+        ticked: Ok(Answer::Done),
+        records: 7,
+    },
+];
+
+/// Whether a row's machine does what the row wants.
+fn are_out<M: Naming>(rt: &impl Wait, blank: Blank, mut seats: Vec<ActorSeat>, row: &Row) -> bool
     requires table { blank.table ≡ M.table }
     requires boot { blank.boot ≡ M.boot }
     requires tables { All (λ s. s.table ≡ M.table) seats.items }
 {
     let shared: Shared<M> = blank.open();
-    let out = take_all(rt, &shared, &mut seats);
+    let Some(other) = last_seat::<M>(&mut seats) else {
+        let _kernel = shared.into_kernel(seats);
+        return false;
+    };
+    let (out, ticked) = take_all(rt, &shared, &mut seats, other);
     let kernel = shared.into_kernel(Vec::new(*seats.allocator()));
-    (out, kernel.history().len())
+    (out, ticked, kernel.history().len()) == (row.out, row.ticked, row.records)
 }
 
 #[test]
-fn eight_at_once(rt: HostRuntime) -> Result<(), Fail> {
-    let mut services = services(rt.alloc(), 8, 0)?;
-    let config = config(rt.alloc(), 8, 64, 0)?;
-    let (blank, seats) = boot(rt.alloc(), &config, &mut services).map_err(|_| "memory")?;
-    let told = all_out::<Brand>(&rt, blank, seats);
-    assert!(rt; told == (8, 16));
+fn all_at_once(rt: HostRuntime) -> Result<(), Fail> {
+    for (number, row) in ROWS.iter().enumerate() {
+        assert!(rt; 0 < row.cpus && row.cpus <= 8 && 0 < row.log && row.log <= 64);
+        let mut services = services(rt.alloc(), row.cpus, 0)?;
+        let config = config(rt.alloc(), row.cpus, row.log, 0)?;
+        let (blank, seats) = boot(rt.alloc(), &config, &mut services).map_err(|_| "memory")?;
+        assert!(rt; are_out::<Brand>(&rt, blank, seats, row), "row {number}");
+    }
     Ok(())
 }
 

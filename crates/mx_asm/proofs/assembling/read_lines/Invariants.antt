@@ -1,17 +1,18 @@
-use Rattle.std.proofs.Common.{◌≡◌, ◌+◌, ◌*◌, ◌^◌, ◌≤◌, length}
+use Rattle.std.proofs.Common.{◌≡◌, ◌+◌, ◌*◌, ◌^◌, ◌≤◌, length, List}
+use Rattle.mx_asm_statement.specs.declared.line.Line.{Line}
 use Rattle.mx_text.specs.Lines.{lines}
+use Rattle.mx_asm.specs.Kept.{lines_kept}
 use Rattle.mx_asm.specs.Layout.{no_lines_above, laid_by, SizesWithin}
 use Rattle.mx_asm.specs.View.{above_of}
-use Rattle.mx_asm.proofs.Reading.{TakesOn, WrongsOn}
+use Rattle.mx_asm.proofs.Reading.{ReadSoFar}
 use Rattle.mx_asm.proofs.assembling.read_lines.Given as goal
 
 abbrev pub invariant-loop-line : goal.invariant-loop-line
 invariant-loop-line l = record {
-  number : l.number ≡ length l.read.lines.items + 1;
+  number : l.number ≡ length l.read.lines.items + l.read.blanks + 1;
   few : length l.read.lines.items ≤ 2 ^ 62;
-  takes : TakesOn (above_of l.read.layout) (lines l.rest) (lines l.fn.text) l.read.lines.items;
-  wrongs : WrongsOn (above_of l.read.layout) l.number (lines l.rest) (lines l.fn.text);
-  laid : above_of l.read.layout ≡ laid_by no_lines_above l.read.lines.items;
+  room : length l.read.lines.items + l.read.blanks + length l.rest ≤ length l.fn.text;
+  found : ReadSoFar (above_of l.read.layout) l.number (lines l.rest) (lines l.fn.text) l.read.lines.items (length l.read.lines.items + l.read.blanks);
   sizes : SizesWithin l.read.layout.sizes (length l.read.lines.items * 2 ^ 64);
 }
 

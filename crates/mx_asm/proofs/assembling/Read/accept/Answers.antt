@@ -1,11 +1,23 @@
-use Rattle.std.proofs.Common.{◌∙◌, sym}
+use Rattle.std.proofs.Common.{◌∙◌, refl, sym}
 use Rattle.mx_asm.specs.Layout.{seen_of}
 use Rattle.mx_asm.specs.View.{above_of}
+use Rattle.mx_asm.proofs.Kept.{none_kept, one_kept}
 use Rattle.mx_asm.proofs.Seeing.{not_standing}
 use Rattle.mx_asm.proofs.assembling.Read.accept.Goals as goal
 
-pub returns-clause-accepted : goal.returns-clause-accepted
-returns-clause-accepted c = (sym c.reason_of.ensures ∙ c.in-None.is, c.in_ok-go_behind.ensures.ok, c.in_ok-push.ensures.items)
+pub returns-in_ok-push-clause-accepted : goal.returns-in_ok-push-clause-accepted
+returns-in_ok-push-clause-accepted c = (
+  sym c.reason_of.ensures ∙ c.in-None.is,
+  c.in_ok-go_behind.ensures.ok,
+  one_kept c.args.number c.args.line c.args.self.now.lines.items _ (sym c.says_something.ensures ∙ c.if-says_something.true) c.in_ok-push.ensures.items,
+)
+
+pub returns-else-says_something-clause-accepted : goal.returns-else-says_something-clause-accepted
+returns-else-says_something-clause-accepted c = (
+  sym c.reason_of.ensures ∙ c.in-None.is,
+  c.in_ok-go_behind.ensures.ok,
+  none_kept c.args.number c.args.line c.args.self.now.lines.items _ (sym c.says_something.ensures ∙ c.if-says_something.false) refl,
+)
 
 pub go_behind-requires-clause-new : goal.go_behind-requires-clause-new
 go_behind-requires-clause-new c = not_standing (seen_of (above_of c.args.self.now.layout)) c.args.line (sym c.reason_of.ensures ∙ c.in-None.is)

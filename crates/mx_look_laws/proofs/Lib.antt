@@ -1,0 +1,5 @@
+mod Readies
+mod ReadyCalls
+mod Results
+mod Seen
+mod GoneOn

@@ -1,0 +1,17 @@
+//! The laws. No code is theirs: they say that facts which are told from two glances are what the event
+//! between them did.
+
+ghost use Rattle.std.specs.Prelude.{ℕ};
+ghost use Rattle.mx_machine_world.specs.declared.history.Record.{Record};
+ghost use Rattle.mx_machine_world.specs.World.{World};
+ghost use Rattle.mx_look_laws.specs.Told.{IsMadeIn, ToldGoneOn};
+
+use mx_isolation_diary::diaries_tell_images;
+
+/// Law: a slot has gone on with a result, as it is told of a record, exactly if the event of the record
+/// put that result into its EAX.
+pub fn told_gone_on()
+    ensures { (w : World) (n : ℕ) (x : Record) (s : ℕ) → IsMadeIn w x s → ToldGoneOn w n x s }
+{
+    diaries_tell_images();
+}
