@@ -28,6 +28,8 @@ mod load;
 #[cfg(test)]
 mod operand;
 #[cfg(test)]
+mod printed;
+#[cfg(test)]
 mod reading;
 #[cfg(test)]
 mod segment;

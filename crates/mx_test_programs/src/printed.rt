@@ -1,0 +1,124 @@
+//! What is printed of an instruction is read again.
+
+use mx_asm_line::read_line;
+use mx_asm_statement::{Branch, Statement, Value};
+use mx_decode::decode;
+use mx_insn::Insn;
+use mx_print_insn::push_statement;
+use std::alloc::Global;
+use std::string::String;
+
+/// Where the instruction after the printed one stands.
+const NEXT: u32 = 0x1000;
+
+/// What stands before an opcode.
+static FRONTS: [&[u8]; 8] = [
+    b"",
+    b"\x66",
+    b"\x0F",
+    b"\x66\x0F",
+    b"\xF3",
+    b"\xF2",
+    b"\x66\xF3",
+    b"\x66\xF2",
+];
+
+/// What stands after an opcode and the byte after it: a SIB byte, if there is one, and numbers. The SIB
+/// bytes say a base alone, every part, and an index without a base.
+static TAILS: [&[u8]; 3] = [
+    b"\x24\x12\x34\x56\x78\x9A\xBC\xDE\xF0",
+    b"\x8D\xFE\xFF\xFF\xFF\x80\xFF\xFF\xFF",
+    b"\xBD\x00\x00\x00\x00\x00\x00\x00\x00",
+];
+
+/// The byte after an opcode: each mode with each register, and as the other register ECX, ESP, which
+/// stands for a SIB byte, and EBP.
+const SHAPES: u16 = 4 * 8 * 3;
+
+/// Whether a branch to a number is this jump.
+fn is_branch(branch: Branch, target: &Value, insn: Insn) -> bool {
+    let distance = target.number.wrapping_sub(NEXT);
+    let found = match branch {
+        Branch::Jump { .. } => Insn::Jump(distance),
+        Branch::JumpIf { condition, .. } => Insn::JumpIf {
+            condition,
+            displacement: distance,
+        },
+        Branch::Call => Insn::Call(distance),
+        Branch::Loop(operation) => Insn::Loop {
+            operation,
+            displacement: distance,
+        },
+    };
+    target.name.is_none() && !target.minus && found == insn
+}
+
+/// Whether a line of a text says this instruction, or a jump to the same target.
+fn says(alloc: Global, text: &str, insn: Insn) -> bool {
+    match read_line(alloc, text.as_bytes()) {
+        Ok(line) => match &line.statement {
+            Some(Statement::Instruction(read)) => {
+                read.insn == insn && read.immediate.is_none() && read.displacement.is_none()
+            }
+            Some(Statement::Branch(branch, target)) => is_branch(*branch, target, insn),
+            _ => false,
+        },
+        Err(_) => false,
+    }
+}
+
+/// Whether the instruction at the front of bytes, if there is one, is read again as it is printed.
+fn is_read_again(alloc: Global, bytes: &[u8]) -> bool {
+    match decode(bytes) {
+        Ok((insn, _)) => {
+            let mut text = String::new(alloc);
+            push_statement(&mut text, &insn, NEXT).is_ok() && says(alloc, text.as_str(), insn)
+        }
+        Err(_) => true,
+    }
+}
+
+/// The byte after an opcode, by its number.
+fn shape(number: u16) -> u8 {
+    let other = match number % 3 {
+        0 => 1,
+        1 => 4,
+        _ => 5,
+    };
+    (number / 24 * 64 + number / 3 % 8 * 8 + other) as u8
+}
+
+/// The bytes of an instruction, from its parts.
+fn bytes_of(alloc: Global, parts: &[&[u8]]) -> Option<Vec<u8>> {
+    let mut bytes = Vec::new(alloc);
+    for part in parts {
+        if bytes.extend_from_slice(*part).is_err() {
+            return None;
+        }
+    }
+    Some(bytes)
+}
+
+/// The number of the first opcode and shape whose instruction isn't read again.
+fn first_lost(alloc: Global, front: &[u8], tail: &[u8]) -> Option<u16> {
+    for number in 0..256 * SHAPES {
+        let opcode = [(number / SHAPES) as u8, shape(number % SHAPES)];
+        let Some(bytes) = bytes_of(alloc, &[front, opcode.as_slice(), tail]) else {
+            return Some(number);
+        };
+        if !is_read_again(alloc, bytes.as_slice()) {
+            return Some(number);
+        }
+    }
+    None
+}
+
+#[test]
+fn instructions_are_read_again(rt: HostRuntime) {
+    for (number, front) in FRONTS.iter().enumerate() {
+        for tail in &TAILS {
+            let lost = first_lost(rt.alloc(), *front, *tail);
+            assert!(rt; lost.is_none(), "front {number}");
+        }
+    }
+}
