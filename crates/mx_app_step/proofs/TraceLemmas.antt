@@ -12,8 +12,8 @@ use Rattle.mx_machine_world.specs.declared.history.Recorded.TheVariants as recor
 use Rattle.mx_machine_world.specs.History.{AreAccepted, world_after_events, events_of, events_of_history}
 use Rattle.mx_machine_world.specs.Move.{world_after_event, event_refusal}
 use Rattle.mx_machine_world.specs.World.{World}
-use Rattle.mx_look_glance.specs.declared.glance.Glance.{Glance}
-use Rattle.mx_look_glance.specs.Glance.{glance_of}
+use Rattle.mx_look_trace.specs.Glance.{Glance}
+use Rattle.mx_look_trace.specs.Glances.{glance_of}
 use Rattle.mx_look_trace.specs.Step.{Step}
 use Rattle.mx_app_start.specs.Config.{Config}
 use Rattle.mx_app_start.specs.Service.{Service}

@@ -10,7 +10,7 @@ use Rattle.mx_machine_world.specs.declared.history.Recorded.TheVariants as recor
 use Rattle.mx_machine_world.specs.History.{AreAccepted, world_after_events, events_of, events_of_history}
 use Rattle.mx_machine_world.specs.Steps.{steps_of}
 use Rattle.mx_machine_world.specs.World.{World}
-use Rattle.mx_look_glance.specs.Glance.{glance_of}
+use Rattle.mx_look_trace.specs.Glances.{glance_of}
 use Rattle.mx_look_trace.specs.Step.{Step}
 use Rattle.mx_look_trace.specs.Trace.{record_text}
 use Rattle.mx_app_step.specs.declared.records.Replayed.{Replayed}

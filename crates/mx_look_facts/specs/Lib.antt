@@ -4,3 +4,11 @@ pub mod Going
 pub mod Deliveries
 pub mod Calls
 pub mod Slots
+pub use Rattle.mx_look_glance.specs.SlotDoing
+pub use Rattle.mx_look_glance.specs.Images
+pub use Rattle.mx_look_glance.specs.Glances
+pub use Rattle.mx_look_glance.specs.declared.glance.Glance
+pub use Rattle.mx_look_glance.specs.declared.glance.CpuGlance
+pub use Rattle.mx_look_glance.specs.declared.slots.SlotGlance
+pub use Rattle.mx_look_glance.specs.declared.doing.Doing
+pub use Rattle.mx_look_glance.specs.declared.doing.Awaited

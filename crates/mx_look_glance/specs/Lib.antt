@@ -1,5 +1,5 @@
-pub mod Doing
+pub mod SlotDoing
 pub mod Images
 pub mod Kept
-pub mod Glance
+pub mod Glances
 pub use Rattle.mx_machine.specs.World

@@ -2,7 +2,7 @@
 
 ghost use Rattle.std.specs.Prelude.{◌≡◌};
 ghost use Rattle.mx_proc.specs.TableState.{endpoint_of};
-ghost use Rattle.mx_look_glance.specs.Doing.{awaited_of, receiver_of, doing_of};
+ghost use Rattle.mx_look_glance.specs.SlotDoing.{awaited_of, receiver_of, doing_of};
 
 use mx_proc::{DeathCause, Endpoint, Partner, Slot, Source, State, Table};
 
@@ -45,7 +45,7 @@ fn endpoint_of(table: &Table, slot: Slot) -> Endpoint
     }
 }
 
-#[tactic(auto, unfolding(crate::specs::Doing::awaited_of))]
+#[tactic(auto, unfolding(crate::specs::SlotDoing::awaited_of))]
 fn awaited_of(table: &Table, partner: Partner) -> Awaited
     ensures { result ≡ awaited_of table.now partner }
 {
@@ -59,7 +59,7 @@ fn awaited_of(table: &Table, partner: Partner) -> Awaited
 }
 
 /// The endpoint of whom a blocked send is for.
-#[tactic(auto, unfolding(crate::specs::Doing::receiver_of))]
+#[tactic(auto, unfolding(crate::specs::SlotDoing::receiver_of))]
 fn receiver_of(table: &Table, slot: Slot) -> Endpoint
     ensures { result ≡ receiver_of table.now slot }
 {
@@ -67,7 +67,7 @@ fn receiver_of(table: &Table, slot: Slot) -> Endpoint
 }
 
 /// What the process of a slot, in a state, does.
-#[tactic(auto, unfolding(crate::specs::Doing::doing_of))]
+#[tactic(auto, unfolding(crate::specs::SlotDoing::doing_of))]
 pub(crate) fn doing_of(table: &Table, slot: Slot, state: State) -> Doing
     ensures { result ≡ doing_of table.now slot state }
 {

@@ -3,7 +3,7 @@
 ghost use Rattle.std.specs.Prelude.{◌≡◌};
 ghost use Rattle.mx_machine_world.specs.World.{held_by};
 ghost use Rattle.mx_machine.specs.Machine.{world_of};
-ghost use Rattle.mx_look_glance.specs.Glance.{glance_of, held_glance, cpu_glance, cpu_glances};
+ghost use Rattle.mx_look_glance.specs.Glances.{glance_of, held_glance, cpu_glance, cpu_glances};
 
 use crate::images::{ImageGlance, image_glance};
 use crate::kept::{last_byte, latest_deliveries};
@@ -40,7 +40,7 @@ pub struct Glance {
 }
 
 /// What is looked at of a process on a processor.
-#[tactic(auto, unfolding(crate::specs::Glance::held_glance))]
+#[tactic(auto, unfolding(crate::specs::Glances::held_glance))]
 fn held_glance(slot: Slot, out: &Out) -> CpuGlance
     ensures { result ≡ held_glance (record { slot = slot; out = out.now }) }
 {

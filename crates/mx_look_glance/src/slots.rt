@@ -1,7 +1,7 @@
 //! What is looked at of a slot.
 
 ghost use Rattle.std.specs.Prelude.{◌≡◌, ◌<◌, length};
-ghost use Rattle.mx_look_glance.specs.Glance.{glance_of_slot, slot_glance, slot_glances};
+ghost use Rattle.mx_look_glance.specs.Glances.{glance_of_slot, slot_glance, slot_glances};
 
 use crate::doing::{Doing, doing_of};
 use crate::images::{ImageGlance, image_glance};
@@ -29,7 +29,7 @@ pub struct SlotGlance {
 }
 
 /// What is looked at of the slot of a service.
-#[tactic(auto, unfolding(crate::specs::Glance::glance_of_slot))]
+#[tactic(auto, unfolding(crate::specs::Glances::glance_of_slot))]
 fn glance_of_slot(table: &Table, slot: Slot, service: &Service) -> SlotGlance
     requires { slot < length table.now.slots }
     ensures { result ≡ glance_of_slot table.now slot service.now }

@@ -40,8 +40,8 @@ use Rattle.mx_isolation_diary.proofs.DiaryLemmas.{get_or-images, play_all-at}
 use Rattle.mx_isolation_diary.proofs.EventEntries.{event_entries}
 use Rattle.mx_isolation_diary.proofs.ItemLemmas.{end_of_turn_images}
 use Rattle.mx_isolation_diary.proofs.SoundDiaries.{not_held}
-use Rattle.mx_look_glance.specs.Glance.{glance_of, held_glance}
-use Rattle.mx_look_glance.specs.declared.glance.CpuGlance.{CpuGlance}
+use Rattle.mx_look_facts.specs.Glances.{glance_of, held_glance}
+use Rattle.mx_look_facts.specs.CpuGlance.{CpuGlance}
 use Rattle.mx_look_facts.specs.declared.step.Step.{Step}
 use Rattle.mx_look_facts.specs.Doings.{is_out as is_out_doing, is_waiting, seen_is}
 use Rattle.mx_look_facts.specs.Going.{acting, acting_of, gone_on, is_acted, is_acted_by, is_trap, is_trapped, result_in}

@@ -12,9 +12,9 @@ use Rattle.mx_kcall.specs.Service.{Service}
 use Rattle.mx_machine_world.specs.declared.history.Recorded.{Recorded}
 use Rattle.mx_machine_world.specs.Move.{is_doomed}
 use Rattle.mx_machine_world.specs.World.{World, HeldProcess, held_by}
-use Rattle.mx_look_glance.specs.Doing.{doing_of}
-use Rattle.mx_look_glance.specs.Glance.{cpu_glance, cpu_glances, glance_of, glance_of_slot, held_glance, slot_glance, slot_glances}
-use Rattle.mx_look_glance.specs.Images.{image_glance}
+use Rattle.mx_look_facts.specs.SlotDoing.{doing_of}
+use Rattle.mx_look_facts.specs.Glances.{cpu_glance, cpu_glances, glance_of, glance_of_slot, held_glance, slot_glance, slot_glances}
+use Rattle.mx_look_facts.specs.Images.{image_glance}
 use Rattle.mx_look_facts.specs.Doings.{is_ready as is_ready_doing, is_out as is_out_doing, is_waiting, seen_is}
 use Rattle.mx_look_facts.specs.Going.{result_in}
 use Rattle.mx_look_facts.specs.Step.{cpu_in, slot_in}

@@ -2,7 +2,7 @@
 -- name by both rules; by the lenient ones GRANT is answered EBADREQUEST.
 use Rattle.std.specs.Prelude.{ℕ, ◌==◌, ◌&&◌, ◌||◌, if◌then◌else◌, List, [], ◌++◌, codes, take, drop, Option, Some, None, slice_index}
 use Rattle.std.specs.Fmt.{decimal}
-use Rattle.mx_look_glance.specs.declared.glance.CpuGlance.{CpuGlance}
+use Rattle.mx_look_facts.specs.CpuGlance.{CpuGlance}
 use Rattle.mx_look_facts.specs.Calls.{asks_kernel}
 use Rattle.mx_look_trace.specs.Numbers.{result_text, spaced_numbers}
 

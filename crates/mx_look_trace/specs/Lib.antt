@@ -3,3 +3,5 @@ pub mod Words
 pub mod KernelCalls
 pub mod Trace
 pub use Rattle.mx_look_facts.specs.declared.step.Step
+pub use Rattle.mx_look_facts.specs.Glances
+pub use Rattle.mx_look_facts.specs.Glance

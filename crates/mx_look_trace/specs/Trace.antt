@@ -10,11 +10,11 @@ use Rattle.mx_machine_world.specs.declared.history.Recorded.TheVariants.{Take, B
 use Rattle.mx_proc.specs.declared.deliveries.Delivery.{Delivery}
 use Rattle.mx_proc.specs.declared.deliveries.DeliveryKind.{DeliveryKind}
 use Rattle.mx_proc.specs.declared.deliveries.DeliveryKind.TheVariants.{Message, Notification}
-use Rattle.mx_look_glance.specs.declared.doing.Doing.{Doing}
-use Rattle.mx_look_glance.specs.declared.doing.Doing.TheVariants as doing
-use Rattle.mx_look_glance.specs.declared.slots.SlotGlance.{SlotGlance}
-use Rattle.mx_look_glance.specs.declared.glance.CpuGlance.{CpuGlance}
-use Rattle.mx_look_glance.specs.declared.glance.Glance.{Glance}
+use Rattle.mx_look_facts.specs.Doing.{Doing}
+use Rattle.mx_look_facts.specs.Doing.TheVariants as doing
+use Rattle.mx_look_facts.specs.SlotGlance.{SlotGlance}
+use Rattle.mx_look_facts.specs.CpuGlance.{CpuGlance}
+use Rattle.mx_look_facts.specs.Glance.{Glance}
 use Rattle.mx_look_facts.specs.declared.step.Step.{Step}
 use Rattle.mx_look_facts.specs.Step.{slot_in, held_before, held_after, about}
 use Rattle.mx_look_facts.specs.Doings.{is_ready}

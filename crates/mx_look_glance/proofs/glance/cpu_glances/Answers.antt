@@ -2,7 +2,7 @@ use Rattle.std.proofs.Common.{◌≡◌, ◌∙◌, ◌<◌, length, None, arith
 use Rattle.std.proofs.Math.ListN.{length-set}
 use Rattle.std.proofs.lemmas.List.FromFn.{fill_by_all}
 use Rattle.mx_machine.specs.Machine.{world_of}
-use Rattle.mx_look_glance.specs.Glance.{cpu_glance, cpu_glances}
+use Rattle.mx_look_glance.specs.Glances.{cpu_glance, cpu_glances}
 use Rattle.mx_look_glance.proofs.Filled.{filled_more}
 use Rattle.mx_look_glance.proofs.glance.cpu_glances.Goals as goal
 

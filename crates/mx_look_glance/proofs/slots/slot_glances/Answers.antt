@@ -1,7 +1,7 @@
 use Rattle.std.proofs.Common.{◌≡◌, ◌∙◌, ◌<◌, length, None, arith}
 use Rattle.std.proofs.Math.ListN.{length-set}
 use Rattle.std.proofs.lemmas.List.FromFn.{fill_by_all}
-use Rattle.mx_look_glance.specs.Glance.{slot_glance, slot_glances}
+use Rattle.mx_look_glance.specs.Glances.{slot_glance, slot_glances}
 use Rattle.mx_look_glance.proofs.Filled.{filled_more}
 use Rattle.mx_look_glance.proofs.slots.slot_glances.Goals as goal
 

@@ -1,5 +1,5 @@
 use Rattle.std.proofs.Common.{◌≡◌, ℕ, ◌<◌, length, get_or, None}
-use Rattle.mx_look_glance.specs.Glance.{slot_glance}
+use Rattle.mx_look_glance.specs.Glances.{slot_glance}
 use Rattle.mx_look_glance.proofs.slots.slot_glances.Given as goal
 
 -- the places so far

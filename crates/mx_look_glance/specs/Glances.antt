@@ -8,7 +8,7 @@ use Rattle.mx_machine_world.specs.World.{World, HeldProcess, held_by}
 use Rattle.mx_look_glance.specs.declared.slots.SlotGlance.{SlotGlance}
 use Rattle.mx_look_glance.specs.declared.glance.CpuGlance.{CpuGlance}
 use Rattle.mx_look_glance.specs.declared.glance.Glance.{Glance}
-use Rattle.mx_look_glance.specs.Doing.{doing_of}
+use Rattle.mx_look_glance.specs.SlotDoing.{doing_of}
 use Rattle.mx_look_glance.specs.Images.{image_glance}
 use Rattle.mx_look_glance.specs.Kept.{last_byte, latest_deliveries}
 
