@@ -28,7 +28,8 @@ pub fn print_piece<W: Write>(text: &mut String, out: &mut W) -> Result<(), Failu
     Ok(())
 }
 
-/// Laws of a text that is printed in pieces: a line comes to its end, and a piece is printed; or the end is.
+/// Law: a text that is printed in pieces may go on: a line comes to its end, and a piece is printed;
+/// or the end is.
 pub fn pieces_join()
     ensures next { (x y z : Option (List ℕ)) (end left text line : List ℕ) → IsPrintedBut x y end text
         → IsPrintedBut y z left (end ++ line) → IsPrintedBut x z left (text ++ line) }

@@ -71,7 +71,7 @@ pub fn is_too_far(branch: Branch, displacement: u32) -> bool
     is_near(branch) && !is_short(displacement)
 }
 
-/// A jump that reaches has the length that its line asks for, and one of that length reaches.
+/// Law: a jump that reaches has the length that its line asks for, and one of that length reaches.
 pub fn branch_has_length()
     ensures length { (branch : Branch) (n : ℕ) (bytes : List ℕ) → is_too_far branch n ≡ false → Chosen (branch_by branch n) (branch_marks branch) bytes → length bytes ≡ branch_length branch }
     ensures reaches { (branch : Branch) (n : ℕ) (bytes : List ℕ) → Chosen (branch_by branch n) (branch_marks branch) bytes → length bytes ≡ branch_length branch → is_too_far branch n ≡ false }

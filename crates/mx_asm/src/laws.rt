@@ -14,8 +14,8 @@ use mx_encode::{
 };
 use mx_lex::one_fault;
 
-/// Lines against which nothing stands have their program. No text has both a program and a fault,
-/// and none has neither.
+/// Law: lines against which nothing stands have their program. No text has both a program and a
+/// fault, and none has neither.
 pub fn program_or_fault()
     ensures accepted { (t : List ℕ) (ls : List Line) → AreLinesAccepted t ls → (p : Program) × IsAssembled t p }
     ensures not_both { (t : List ℕ) (p : Program) (f : Fault) → IsAssembled t p → HasTextFault t f → ⊥ }

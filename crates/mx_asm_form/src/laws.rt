@@ -10,13 +10,13 @@ ghost use Rattle.mx_asm_statement.specs.declared.statement.Statement.{Statement}
 ghost use Rattle.mx_asm_statement.specs.declared.statement.Statement.TheVariants as statements;
 ghost use Rattle.mx_asm_form.specs.Statements.{IsCode, statement_for, statement_after_prefix};
 
-/// The numbers of an instruction are as wide as their types.
+/// Law: the numbers of an instruction are as wide as their types.
 pub fn numbers_fit()
     ensures stated { (short : Bool) (m : Mnemonic) (xs : List Argument) (i : Instruction) → statement_for short m xs ≡ Some (statements.Instruction i) → Fits i.insn }
     ensures repeated { (p : Prefix) (m : Mnemonic) (i : Instruction) → statement_after_prefix p m ≡ Some (statements.Instruction i) → Fits i.insn }
 {}
 
-/// A mnemonic says an instruction or a jump, and no directive.
+/// Law: a mnemonic says an instruction or a jump, and no directive.
 pub fn code_is_stated()
     ensures stated { (short : Bool) (m : Mnemonic) (xs : List Argument) (s : Statement) → statement_for short m xs ≡ Some s → IsCode s }
     ensures repeated { (p : Prefix) (m : Mnemonic) (s : Statement) → statement_after_prefix p m ≡ Some s → IsCode s }

@@ -13,13 +13,13 @@ ghost use Rattle.mx_asm_roundtrip.specs.Around.{CodeKeeps, PartsKeep};
 use mx_dis::parted_there;
 use mx_encode::chosen_spells;
 
-/// The code of a program that was assembled has each statement's bytes at its address.
+/// Law: the code of a program that was assembled has each statement's bytes at its address.
 pub fn code_keeps()
     ensures { (lines : List Line) (p : Program) (made : AreAssembled lines p) → length p.text < 2 ^ 32 → CodeKeeps lines p made (code_bytes (image_of_program p)) }
 {}
 
-/// The parts of its text have each instruction at its address, where no directive before it puts
-/// bytes into the text.
+/// Law: the parts of its text have each instruction at its address, where no directive before it
+/// puts bytes into the text.
 pub fn listing_keeps()
     ensures { (lines : List Line) (p : Program) (made : AreAssembled lines p) (parts : List Part) → length p.text < 2 ^ 32 → IsParting p.text parts → PartsKeep lines p made parts }
 {

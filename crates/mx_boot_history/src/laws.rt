@@ -9,7 +9,7 @@ ghost use Rattle.mx_boot_history.specs.Log.{IsHistory, IsHistoryFault};
 
 use mx_boot_script::{number_again, verb_again, words_again};
 
-/// A text is one history at most, by one of the rules, and none where it has a fault.
+/// Law: a text is one history at most, by one of the rules, and none where it has a fault.
 pub fn one_history()
     ensures one { (actors : ℕ) (t : List ℕ) (r s : Rules) (a b : List Record) → IsHistory actors t r a → IsHistory actors t s b → (r ≡ s) × (a ≡ b) }
     ensures no_fault { (actors n : ℕ) (t : List ℕ) (r : Rules) (a : List Record) → IsHistory actors t r a → IsHistoryFault actors t n → ⊥ }

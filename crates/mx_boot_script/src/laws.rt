@@ -10,14 +10,14 @@ ghost use Rattle.mx_boot_script.specs.declared.verb.Verb.{Verb};
 ghost use Rattle.mx_boot_script.specs.Verbs.{verb_word, verb_of};
 ghost use Rattle.mx_boot_script.specs.Words.{is_field_word, AreWords, joined_words, lines_of_words};
 
-/// Words that are parted by spaces are the fields of their line, and lines of words that are ended
-/// by line feeds are the lines of their text.
+/// Law: words that are parted by spaces are the fields of their line, and lines of words that are
+/// ended by line feeds are the lines of their text.
 pub fn words_again()
     ensures fields { (ws : List (List ℕ)) → AreWords ws → fields (joined_words ws) ≡ ws }
     ensures lines { (lists : List (List (List ℕ))) → AllByRecursion AreWords lists → lines (lines_of_words lists) ≡ map joined_words lists }
 {}
 
-/// The decimal text of a number is a word that spells it.
+/// Law: the decimal text of a number is a word that spells it.
 pub fn number_again()
     ensures word { (n : ℕ) → n < 2 ^ 64 → is_field_word (decimal n) ≡ true }
     ensures number { (limit n : ℕ) → n ≤ limit → n < 2 ^ 64 → number_up_to limit 10 (decimal n) ≡ Some n }

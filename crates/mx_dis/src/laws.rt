@@ -29,7 +29,7 @@ pub fn one_parting()
     one_spelling();
 }
 
-/// What spells first at a part's place is that part.
+/// Law: what spells first at a part's place is that part.
 pub fn parted_there()
     ensures first { (t : List ℕ) (k : ℕ) (i : Insn) (parts : List Part) → SpellsFirst t k i → IsParting t parts → BeginsWith i k (drop k t) parts }
     ensures spelled { (b rest : List ℕ) (i : Insn) (parts : List Part) → Spells b i → IsParting (b ++ rest) parts → BeginsWith i (length b) rest parts }
@@ -39,8 +39,8 @@ pub fn parted_there()
     one_spelling();
 }
 
-/// The lines of parts that follow others stand after the others' lines, from the address on where
-/// these end.
+/// Law: the lines of parts that follow others stand after the others' lines, from the address on
+/// where these end.
 pub fn lines_join()
     ensures { (at : ℕ) (front back : List Part) → lines_of at (front ++ back) ≡ lines_of at front ++ lines_of (at + total_size front) back }
 {}

@@ -12,59 +12,61 @@ ghost use Rattle.mx_encode.specs.Lengths.{chosen_length};
 ghost use Rattle.mx_encode.specs.Given.{Fits};
 ghost use Rattle.mx_encode.specs.Filled.{with_immediate, with_displacement, with_target, reaches};
 
-/// What is chosen for an instruction spells it.
+/// Law: what is chosen for an instruction spells it.
 pub fn chosen_spells()
     ensures { (i : Insn) (wide : Wide) (bytes : List ℕ) → Chosen i wide bytes → Spells bytes i }
 {}
 
-/// At most one spelling is chosen.
+/// Law: at most one spelling is chosen.
 pub fn one_chosen()
     ensures { (i : Insn) (wide : Wide) (a b : List ℕ) → Chosen i wide a → Chosen i wide b → a ≡ b }
 {}
 
-/// What has a spelling has a form: it doesn't index by ESP, nor loop further than a signed byte.
+/// Law: what has a spelling has a form: it doesn't index by ESP, nor loop further than a signed
+/// byte.
 pub fn spelled_has_form()
     ensures { (i : Insn) (bytes : List ℕ) → Spells bytes i → IsTrue (has_form i) }
 {}
 
-/// An immediate that is marked wide decides neither whether there is a form nor its length.
+/// Law: an immediate that is marked wide decides neither whether there is a form nor its length.
 pub fn immediate_keeps_length()
     ensures form { (i : Insn) (n : ℕ) → has_form (with_immediate i n) ≡ has_form i }
     ensures count { (i : Insn) (wide : Wide) (n : ℕ) → IsTrue wide.immediate → chosen_length (with_immediate i n) wide ≡ chosen_length i wide }
     ensures length { (i : Insn) (wide : Wide) (n : ℕ) (a b : List ℕ) → IsTrue wide.immediate → Chosen i wide a → Chosen (with_immediate i n) wide b → length b ≡ length a }
 {}
 
-/// A displacement in memory that is marked wide decides neither whether there is a form nor its
-/// length.
+/// Law: a displacement in memory that is marked wide decides neither whether there is a form nor
+/// its length.
 pub fn displacement_keeps_length()
     ensures form { (i : Insn) (n : ℕ) → has_form (with_displacement i n) ≡ has_form i }
     ensures count { (i : Insn) (wide : Wide) (n : ℕ) → IsTrue wide.displacement → chosen_length (with_displacement i n) wide ≡ chosen_length i wide }
     ensures length { (i : Insn) (wide : Wide) (n : ℕ) (a b : List ℕ) → IsTrue wide.displacement → Chosen i wide a → Chosen (with_displacement i n) wide b → length b ≡ length a }
 {}
 
-/// A dword that is put in as the immediate stands in what is chosen, if a dword stood there that is
-/// marked wide. Of a jump that number is how far it goes.
+/// Law: a dword that is put in as the immediate stands in what is chosen, if a dword stood there
+/// that is marked wide. Of a jump that number is how far it goes.
 pub fn immediate_is_held()
     ensures { (i : Insn) (wide : Wide) (n : ℕ) → IsTrue wide.immediate → is_jump i ≡ false → dword_in (choice (with_immediate i n) wide) ≡ in_place_of (dword_in (choice i wide)) n }
 {}
 
-/// A displacement that is put in stands in what is chosen, if there is memory, and is marked wide.
+/// Law: a displacement that is put in stands in what is chosen, if there is memory, and is marked
+/// wide.
 pub fn displacement_is_held()
     ensures { (i : Insn) (wide : Wide) (n : ℕ) → IsTrue wide.displacement → displacement_in (choice (with_displacement i n) wide) ≡ in_place_of (displacement_in (choice i wide)) n }
 {}
 
-/// How far a jump goes decides neither, as long as it reaches.
+/// Law: how far a jump goes decides neither, as long as it reaches.
 pub fn target_keeps_length()
     ensures form { (i : Insn) (wide : Wide) (m n : ℕ) → IsTrue (reaches i wide m) → IsTrue (reaches i wide n) → has_form (with_target i n) ≡ has_form (with_target i m) }
     ensures length { (i : Insn) (wide : Wide) (m n : ℕ) (a b : List ℕ) → IsTrue (reaches i wide m) → IsTrue (reaches i wide n) → Chosen (with_target i m) wide a → Chosen (with_target i n) wide b → length b ≡ length a }
 {}
 
-/// What has a form, and numbers as wide as their types, has a spelling that is chosen.
+/// Law: what has a form, and numbers as wide as their types, has a spelling that is chosen.
 pub fn some_chosen()
     ensures { (i : Insn) (wide : Wide) → Fits i → has_form i ≡ true → (bytes : List ℕ) × Chosen i wide bytes }
 {}
 
-/// With a dword as its immediate or displacement its numbers are still as wide as their types.
+/// Law: with a dword as its immediate or displacement its numbers are still as wide as their types.
 pub fn filled_fits()
     ensures immediate { (i : Insn) (n : ℕ) → n < 2 ^ 32 → Fits i → Fits (with_immediate i n) }
     ensures displacement { (i : Insn) (n : ℕ) → n < 2 ^ 32 → Fits i → Fits (with_displacement i n) }

@@ -12,7 +12,7 @@ pub fn one_start()
     ensures { (a b : WordStart) → start_word a ≡ start_word b → a ≡ b }
 {}
 
-/// A word is one register at most, or a size word, and not both.
+/// Law: a word is one register at most, or a size word, and not both.
 #[tactic(auto, using(crate::proofs::Inverse::one_register, crate::proofs::Inverse::one_size, crate::proofs::Inverse::register_or_size))]
 pub fn one_register_or_size()
     ensures register { (s z : Size) (r q : Register) → register_word s r ≡ register_word z q → (s ≡ z) × (r ≡ q) }

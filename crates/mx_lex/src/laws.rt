@@ -5,7 +5,7 @@ ghost use Rattle.mx_lex.specs.declared.kinds.LexError.{LexError};
 ghost use Rattle.mx_lex.specs.declared.kinds.Token.{Token};
 ghost use Rattle.mx_lex.specs.Tokens.{Gap, IsOver, IsReadAs, IsLexFault};
 
-/// A gap that ends where no other begins has one end.
+/// Law: a gap that ends where no other begins has one end.
 pub fn gap_has_one_end()
     ensures { (t : List ℕ) (a b c : ℕ) → Gap t a b → Gap t a c → b ≤ length t → c ≤ length t → IsOver t b → IsOver t c → b ≡ c }
 {}
@@ -15,7 +15,7 @@ pub fn one_reading()
     ensures { (t : List ℕ) (ks js : List Token) → IsReadAs t ks → IsReadAs t js → ks ≡ js }
 {}
 
-/// A text has a reading or a fault, and not both: none has neither.
+/// Law: a text has a reading or a fault, and not both: none has neither.
 pub fn reading_or_fault()
     ensures not_both { (t : List ℕ) (ks : List Token) (e : LexError) → IsReadAs t ks → IsLexFault t e → ⊥ }
     ensures not_neither { (t : List ℕ) → ((ks : List Token) → IsReadAs t ks → ⊥) → ((e : LexError) → IsLexFault t e → ⊥) → ⊥ }

@@ -12,13 +12,13 @@ use crate::machine::Machine;
 use mx_machine_kernel::Kernel;
 use mx_machine_world::actors_stay;
 
-/// While a processor has a process, its step may change places with any event but its own steps,
-/// takes and returns.
+/// Law: while a processor has a process, its step may change places with any event but its own
+/// steps, takes and returns.
 pub fn steps_change_places()
     ensures { (w : World) (c a : ℕ) (x : Event) (l : HeldProcess) → held_by w c ≡ Some l → IsOthers c a x → ChangePlaces w c e.Step a x }
 {}
 
-/// A history whose events are accepted, as every kernel's are, replays.
+/// Law: a history whose events are accepted, as every kernel's are, replays.
 pub fn histories_replay()
     ensures { (k : BootAndHistory) → AreAccepted k.boot (events_of_history k.history) → Replays k }
 {}
