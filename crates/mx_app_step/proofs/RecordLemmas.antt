@@ -54,9 +54,9 @@ refused_front w [] ys r h = absurd h
 refused_front w (x ∷ xs) ys r (inl e) = inl e
 refused_front w (x ∷ xs) ys r (inr p) = inr (p.0, refused_front (world_after_event w x.0 x.1) xs ys r p.1)
 
-pub refused_behind : (w : World) (xs ys : List (ℕ × Event)) (r : Refusal) → AreAccepted w xs → IsFirstRefusal (world_after_events w xs) ys r → IsFirstRefusal w (xs ++ ys) r
-refused_behind w [] ys r a h = h
-refused_behind w (x ∷ xs) ys r a h = inr (a.0, refused_behind (world_after_event w x.0 x.1) xs ys r a.1 h)
+pub refused_after : (w : World) (xs ys : List (ℕ × Event)) (r : Refusal) → AreAccepted w xs → IsFirstRefusal (world_after_events w xs) ys r → IsFirstRefusal w (xs ++ ys) r
+refused_after w [] ys r a h = h
+refused_after w (x ∷ xs) ys r a h = inr (a.0, refused_after (world_after_event w x.0 x.1) xs ys r a.1 h)
 
 pub accepted_both : (w : World) (xs ys : List (ℕ × Event)) → AreAccepted w xs → AreAccepted (world_after_events w xs) ys → AreAccepted w (xs ++ ys)
 accepted_both w [] ys a h = h
@@ -172,7 +172,7 @@ module _ (w v u : World) (c n : ℕ) (a : AreAccepted w (steps_of c n)) (after :
   )
 
   pub return_err : (r : Refusal) → event_refusal v c Back ≡ Some r → IsFirstRefusal w (steps_of c n ++ (c, Back) ∷ []) r
-  return_err r h = refused_behind w (steps_of c n) ((c, Back) ∷ []) r a (inl (subst (λ (x : World). event_refusal x c Back ≡ Some r) after h))
+  return_err r h = refused_after w (steps_of c n) ((c, Back) ∷ []) r a (inl (subst (λ (x : World). event_refusal x c Back ≡ Some r) after h))
 
 -- ---- records, one more
 

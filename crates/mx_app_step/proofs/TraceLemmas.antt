@@ -21,7 +21,7 @@ use Rattle.mx_machine_world.specs.Boot.{world_at_boot}
 use Rattle.mx_app_step.specs.declared.records.Replayed.{Replayed}
 use Rattle.mx_app_step.specs.Records.{IsFirstRefusal, IsRefusedAt}
 use Rattle.mx_app_step.specs.Traces.{steps_before, own_event, step_of, told_of, trace_text, IsTracePrinted}
-use Rattle.mx_app_step.proofs.RecordLemmas.{accepted_both, after_both, refused_front, refused_behind}
+use Rattle.mx_app_step.proofs.RecordLemmas.{accepted_both, after_both, refused_front, refused_after}
 
 -- ---- a record is its steps, and its own event after them
 
@@ -50,7 +50,7 @@ module _ (w v u : World) (a : ℕ) (e : Recorded) (begun : AreAccepted w (steps_
   pub look_refused : (r : Refusal) → event_refusal v a (own_event e) ≡ Some r → IsFirstRefusal w (events_of a e) r
   look_refused r h =
       subst (λ (xs : List (ℕ × Event)). IsFirstRefusal w xs r) (parts_of a e)
-      (refused_behind w (steps_before a e) own r begun (inl (subst (λ (x : World). event_refusal x a (own_event e) ≡ Some r) behind h)))
+      (refused_after w (steps_before a e) own r begun (inl (subst (λ (x : World). event_refusal x a (own_event e) ≡ Some r) behind h)))
 
 pub steps_refused : (w : World) (a : ℕ) (e : Recorded) (r : Refusal) → IsFirstRefusal w (steps_before a e) r → IsFirstRefusal w (events_of a e) r
 steps_refused w a e r h =

@@ -26,7 +26,7 @@ use Rattle.mx_asm.specs.declared.sizes.SectionSizes.{SectionSizes}
 use Rattle.mx_asm.specs.Branches.{branch_by, branch_marks, distance}
 use Rattle.mx_asm.specs.Layout.{LinesAbove, Seen, no_lines_above, unseen, seen_with, statement_said, refusal_of_line, left_by, address_of_offset, section_offset_of, sizes_after}
 use Rattle.mx_asm.specs.Bytes.{AllStand, BytesOf, StandsIn, contents}
-use Rattle.mx_asm.specs.Faults.{fault_behind, problem_of, total_of}
+use Rattle.mx_asm.specs.Faults.{fault_after, problem_of, total_of}
 use Rattle.mx_asm.specs.Assembled.{AreAssembled, symbol_under, entry_under}
 use Rattle.mx_asm.specs.Text.{IsLineTaken, AreLinesTaken, IsLineWrong, IsFirstLineWrong, AreLinesAccepted, IsAssembled, HasTextFault}
 use Rattle.mx_asm.proofs.Lengths.{KeepsLength}
@@ -77,13 +77,13 @@ taken_same one s (t ∷ ts) (l ∷ ls) (k ∷ ks) ((line, clean), more) ((other,
 
 -- no program is made of lines that something stands against
 abbrev pub NoneMade : Type 0
-NoneMade = (t : List ℕ) (ls : List Line) (p : Program) (f : Fault) → AreLinesTaken unseen (lines t) ls → AreAssembled ls p → fault_behind ls ≡ Some f → ⊥
+NoneMade = (t : List ℕ) (ls : List Line) (p : Program) (f : Fault) → AreLinesTaken unseen (lines t) ls → AreAssembled ls p → fault_after ls ≡ Some f → ⊥
 
 pub never_program_and_fault : OneLine → NeverBoth → NoneMade → (t : List ℕ) (p : Program) (f : Fault) → IsAssembled t p → HasTextFault t f → ⊥
 never_program_and_fault one never none t p f (ls, taken, made) (inl wrong) = taken_not_wrong one never unseen 1 _ ls f taken wrong
 never_program_and_fault one never none t p f (ls, taken, made) (inr (ks, taken', told)) =
     let same : ks ≡ ls = taken_same one unseen _ ks ls taken' taken in
-    none t ls p f taken made (subst (λ (x : List Line). fault_behind x ≡ Some f) same told)
+    none t ls p f taken made (subst (λ (x : List Line). fault_after x ≡ Some f) same told)
 
 -- ---- all lines are taken, or one is the first that is wrong
 
@@ -105,9 +105,9 @@ taken_or_wrong law s n (t ∷ ts) taken wrong =
     by_reason l line (Some r) e again = wrong (record { problem = problem_of r; line = n }) (inl (refl, inr (l, r, line, e, refl)))
 
 pub never_neither : NeverNeither → ((t : List ℕ) (ls : List Line) → AreLinesAccepted t ls → (p : Program) × IsAssembled t p) → (t : List ℕ) → ((p : Program) → IsAssembled t p → ⊥) → ((f : Fault) → HasTextFault t f → ⊥) → ⊥
-never_neither law have t no_program no_fault = taken_or_wrong law unseen 1 _ (λ ls taken. by_fault ls taken (fault_behind ls) refl) (λ f wrong. no_fault f (inl wrong))
+never_neither law have t no_program no_fault = taken_or_wrong law unseen 1 _ (λ ls taken. by_fault ls taken (fault_after ls) refl) (λ f wrong. no_fault f (inl wrong))
   where
-    by_fault : (ls : List Line) → AreLinesTaken unseen (lines t) ls → (o : Option Fault) → fault_behind ls ≡ o → ⊥
+    by_fault : (ls : List Line) → AreLinesTaken unseen (lines t) ls → (o : Option Fault) → fault_after ls ≡ o → ⊥
     by_fault ls taken None e = let (p, made) = have t ls (taken, e) in no_program p made
     by_fault ls taken (Some f) e = no_fault f (inr (ls, taken, e))
 

@@ -12,7 +12,7 @@ use Rattle.mx_asm.specs.declared.fault.Problem.{Problem}
 use Rattle.mx_asm.specs.declared.numbered.NumberedLine.{NumberedLine}
 use Rattle.mx_asm.specs.declared.sizes.SectionSizes.{SectionSizes}
 use Rattle.mx_asm.specs.Bytes.{AllStand, AreParts, StandsIn, contents, put_into}
-use Rattle.mx_asm.specs.Faults.{fault_behind, fault_or, first_of, first_problem, problem_at, too_large_in}
+use Rattle.mx_asm.specs.Faults.{fault_after, fault_or, first_of, first_problem, problem_at, too_large_in}
 use Rattle.mx_asm.specs.Kept.{AreKept, is_nothing, says_something, line_kept, lines_kept, first_problem_kept}
 use Rattle.mx_asm.specs.Layout.{LinesAbove, no_lines_above, laid_by, GrowsWithin, SizesWithin, address_of_offset, grown_in, section_offset_of, sizes_after, statement_said}
 use Rattle.mx_asm.specs.Lengths.{statement_length}
@@ -198,16 +198,16 @@ parts_kept a s n ls ks text init is p =
 -- ---- what is told of lines by those that are kept
 
 decided : (a : LinesAbove) (ks : List NumberedLine) (count : ℕ) (ls : List Line) (found : Option Fault) → AreKept ls ks count → a ≡ laid_by no_lines_above ls → found ≡ first_problem_kept a no_lines_above.sizes ks
-    → fault_behind ls ≡ first_of found (too_large_in a ls)
+    → fault_after ls ≡ first_of found (too_large_in a ls)
 decided a ks count ls found kept laid is =
     ap (λ (x : LinesAbove). first_of (first_problem x no_lines_above.sizes 1 ls) (too_large_in x ls)) (sym laid)
     ∙ ap (λ (o : Option Fault). first_of o (too_large_in a ls)) (problems_kept a no_lines_above.sizes 1 ls ∙ ap (first_problem_kept a no_lines_above.sizes) (sym kept.0) ∙ sym is)
 
 pub told_line : (a : LinesAbove) (ks : List NumberedLine) (count : ℕ) (ls : List Line) (found : Option Fault) (f : Fault) → AreKept ls ks count → a ≡ laid_by no_lines_above ls → found ≡ first_problem_kept a no_lines_above.sizes ks
-    → found ≡ Some f → Some f ≡ fault_behind ls
+    → found ≡ Some f → Some f ≡ fault_after ls
 told_line a ks count ls found f kept laid is some = ap (λ (o : Option Fault). first_of o (too_large_in a ls)) (sym some) ∙ sym (decided a ks count ls found kept laid is)
 
 pub told_size : (a : LinesAbove) (ks : List NumberedLine) (count : ℕ) (ls : List Line) (found large : Option Fault) → AreKept ls ks count → a ≡ laid_by no_lines_above ls → found ≡ first_problem_kept a no_lines_above.sizes ks
-    → found ≡ None → large ≡ too_large_in a ls → large ≡ fault_behind ls
+    → found ≡ None → large ≡ too_large_in a ls → large ≡ fault_after ls
 told_size a ks count ls found large kept laid is none big =
     big ∙ ap (λ (o : Option Fault). first_of o (too_large_in a ls)) (sym none) ∙ sym (decided a ks count ls found kept laid is)

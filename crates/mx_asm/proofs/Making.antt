@@ -33,7 +33,7 @@ use Rattle.mx_asm.specs.Branches.{branch_by, branch_marks, branch_length, distan
 use Rattle.mx_asm.specs.Lengths.{statement_length}
 use Rattle.mx_asm.specs.Layout.{LinesAbove, Seen, no_lines_above, unseen, seen_with, statement_said, left_by, laid_by, address_of_offset, section_offset_of, sizes_after, value_under, value_base, counted_from}
 use Rattle.mx_asm.specs.Bytes.{put_in, put_under, then_put, named_under, BytesOf, StandsIn, AllStand, contents}
-use Rattle.mx_asm.specs.Faults.{is_undefined, is_undefined_if, undefined_where, undefined_or, problem_at, fault_or, first_problem, total_of, at_least, is_program_too_large, number_of_last_line, too_large_in, first_of, fault_behind}
+use Rattle.mx_asm.specs.Faults.{is_undefined, is_undefined_if, undefined_where, undefined_or, problem_at, fault_or, first_problem, total_of, at_least, is_program_too_large, number_of_last_line, too_large_in, first_of, fault_after}
 use Rattle.mx_asm.specs.Faults as faults
 use Rattle.mx_asm.specs.Assembled.{AreAssembled, symbol_under, entry_under}
 use Rattle.mx_asm.specs.Text.{AreLinesTaken, IsAssembled}
@@ -291,7 +291,7 @@ built law ls bs clean small stand =
       },
     )
 
-made : Encodes → (ls : List Line) → AllFitting ls → fault_behind ls ≡ None → (p : Program) × AreAssembled ls p
+made : Encodes → (ls : List Line) → AllFitting ls → fault_after ls ≡ None → (p : Program) × AreAssembled ls p
 made law ls fits clean =
     let a = laid_by no_lines_above ls in
     let both = no_first (first_problem a no_lines_above.sizes 1 ls) (too_large_in a ls) clean in
@@ -299,6 +299,6 @@ made law ls fits clean =
     let (bs, stand) = all_some law a no_lines_above.sizes 1 ls fits both.0 in
     built law.keeps ls bs both.0 small stand
 
-pub lines_have_program : Encodes → (t : List ℕ) (ls : List Line) → AreLinesTaken unseen (lines t) ls → fault_behind ls ≡ None → (p : Program) × IsAssembled t p
+pub lines_have_program : Encodes → (t : List ℕ) (ls : List Line) → AreLinesTaken unseen (lines t) ls → fault_after ls ≡ None → (p : Program) × IsAssembled t p
 lines_have_program law t ls taken clean =
     let (p, assembled) = made law ls (taken_fit law unseen (lines t) ls taken) clean in (p, (ls, taken, assembled))

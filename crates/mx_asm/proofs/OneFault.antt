@@ -9,7 +9,7 @@ use Rattle.mx_asm_statement.specs.declared.line.Reason.{Reason}
 use Rattle.mx_asm.specs.declared.fault.Problem.{Problem}
 use Rattle.mx_asm.specs.declared.fault.Fault.{Fault}
 use Rattle.mx_asm.specs.Layout.{Seen, unseen, seen_with, refusal_of_line}
-use Rattle.mx_asm.specs.Faults.{fault_behind, problem_of}
+use Rattle.mx_asm.specs.Faults.{fault_after, problem_of}
 use Rattle.mx_asm.specs.Text.{TellsOf, IsLineWrong, IsFirstLineWrong, HasTextFault}
 use Rattle.mx_asm.proofs.Deciding.{OneLine, NeverBoth, taken_same, taken_right, taken_not_wrong}
 
@@ -61,4 +61,4 @@ one_fault one never lexical t f g (inl x) (inr (ls, taken, told)) = absurd (take
 one_fault one never lexical t f g (inr (ls, taken, told)) (inl y) = absurd (taken_not_wrong one never unseen 1 (lines t) ls g taken y)
 one_fault one never lexical t f g (inr (ls, taken, told)) (inr (ks, taken', told')) =
     let same : ks ≡ ls = taken_same one unseen (lines t) ks ls taken' taken in
-    told_same (fault_behind ls) f g told (subst (λ (x : List Line). fault_behind x ≡ Some g) same told')
+    told_same (fault_after ls) f g told (subst (λ (x : List Line). fault_after x ≡ Some g) same told')

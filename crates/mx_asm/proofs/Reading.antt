@@ -9,15 +9,15 @@ use Rattle.mx_asm.specs.Layout.{LinesAbove, Seen, no_lines_above, unseen, seen_o
 use Rattle.mx_asm.specs.declared.numbered.NumberedLine.{NumberedLine}
 use Rattle.mx_asm.specs.Kept.{AreKept, line_kept}
 use Rattle.mx_asm.proofs.Kept.{kept_more}
-use Rattle.mx_asm.proofs.Seeing.{seen_behind}
+use Rattle.mx_asm.proofs.Seeing.{seen_after}
 use Rattle.mx_asm.specs.declared.fault.AsmError.{AsmError}
 use Rattle.mx_asm.specs.declared.fault.AsmError.TheVariants.{At, NoMemory}
 use Rattle.mx_asm_line.specs.Lines.{IsLine}
-use Rattle.mx_asm.specs.Text.{IsLineTaken, AreLinesTaken, on_behind, TakesLine, IsFirstLineWrong, TellsRefusal, TellsLineWrong}
+use Rattle.mx_asm.specs.Text.{IsLineTaken, AreLinesTaken, on_after, TakesLine, IsFirstLineWrong, TellsRefusal, TellsLineWrong}
 
 -- one line more is seen
-seen_on : (a b : LinesAbove) (l : Line) → b ≡ on_behind a l → seen_of b ≡ seen_with (seen_of a) l
-seen_on a b l same = ap seen_of same ∙ seen_behind a l (statement_length (statement_said l))
+seen_on : (a b : LinesAbove) (l : Line) → b ≡ on_after a l → seen_of b ≡ seen_with (seen_of a) l
+seen_on a b l same = ap seen_of same ∙ seen_after a l (statement_length (statement_said l))
 
 -- whatever goes on from here goes on from the start
 abbrev pub TakesOn : LinesAbove → List (List ℕ) → List (List ℕ) → List Line → Type 0
@@ -26,14 +26,14 @@ TakesOn a left all found = (ls : List Line) → AreLinesTaken (seen_of a) left l
 abbrev pub WrongsOn : LinesAbove → ℕ → List (List ℕ) → List (List ℕ) → Type 0
 WrongsOn a n left all = (f : Fault) → IsFirstLineWrong (seen_of a) n left f → IsFirstLineWrong unseen 1 all f
 
-pub takes_more : (a b : LinesAbove) (t : List ℕ) (left more all : List (List ℕ)) (found : List Line) (l : Line) → TakesOn a left all found → left ≡ t ∷ more → IsLineTaken (seen_of a) t l → b ≡ on_behind a l
+pub takes_more : (a b : LinesAbove) (t : List ℕ) (left more all : List (List ℕ)) (found : List Line) (l : Line) → TakesOn a left all found → left ≡ t ∷ more → IsLineTaken (seen_of a) t l → b ≡ on_after a l
     → TakesOn b more all (found ++ l ∷ [])
 takes_more a b t left more all found l before next taken same ls rest =
     let rest' : AreLinesTaken (seen_with (seen_of a) l) more ls = subst (λ (x : Seen). AreLinesTaken x more ls) (seen_on a b l same) rest in
     let whole : AreLinesTaken (seen_of a) left (l ∷ ls) = subst (λ (x : List (List ℕ)). AreLinesTaken (seen_of a) x (l ∷ ls)) (sym next) (taken, rest') in
     subst (λ (x : List Line). AreLinesTaken unseen all x) (sym (append_assoc found (l ∷ []) ls)) (before (l ∷ ls) whole)
 
-pub wrongs_more : (a b : LinesAbove) (n m : ℕ) (t : List ℕ) (left more all : List (List ℕ)) (l : Line) → WrongsOn a n left all → left ≡ t ∷ more → IsLineTaken (seen_of a) t l → b ≡ on_behind a l → m ≡ n + 1
+pub wrongs_more : (a b : LinesAbove) (n m : ℕ) (t : List ℕ) (left more all : List (List ℕ)) (l : Line) → WrongsOn a n left all → left ≡ t ∷ more → IsLineTaken (seen_of a) t l → b ≡ on_after a l → m ≡ n + 1
     → WrongsOn b m more all
 wrongs_more a b n m t left more all l before next taken same one f rest =
     let rest' : IsFirstLineWrong (seen_with (seen_of a) l) (n + 1) more f =
@@ -48,12 +48,12 @@ pub record ReadSoFar (a : LinesAbove) (n : ℕ) (left all : List (List ℕ)) (ke
   pub wrongs : WrongsOn a n left all
   pub laid : a ≡ laid_by no_lines_above found
 
-laid_snoc : (a : LinesAbove) (found : List Line) (l : Line) → laid_by a (found ++ l ∷ []) ≡ on_behind (laid_by a found) l
+laid_snoc : (a : LinesAbove) (found : List Line) (l : Line) → laid_by a (found ++ l ∷ []) ≡ on_after (laid_by a found) l
 laid_snoc a [] l = refl
 laid_snoc a (k ∷ found) l = laid_snoc (above_with a k (statement_length (statement_said k))) found l
 
-pub laid_more : (a b : LinesAbove) (found : List Line) (l : Line) → a ≡ laid_by no_lines_above found → b ≡ on_behind a l → b ≡ laid_by no_lines_above (found ++ l ∷ [])
-laid_more a b found l laid same = same ∙ ap (λ (x : LinesAbove). on_behind x l) laid ∙ sym (laid_snoc no_lines_above found l)
+pub laid_more : (a b : LinesAbove) (found : List Line) (l : Line) → a ≡ laid_by no_lines_above found → b ≡ on_after a l → b ≡ laid_by no_lines_above (found ++ l ∷ [])
+laid_more a b found l laid same = same ∙ ap (λ (x : LinesAbove). on_after x l) laid ∙ sym (laid_snoc no_lines_above found l)
 
 pub one_longer : (found : List Line) (l : Line) → length (found ++ l ∷ []) ≡ length found + 1
 one_longer found l = length-append found (l ∷ [])
@@ -67,9 +67,9 @@ read_more a b n m count counted t left more all old new before next step here on
     record {
       found = before.found ++ l ∷ [];
       are_kept = (step.lines_are ∙ ap (λ (x : List NumberedLine). x ++ line_kept n l) before.are_kept.0 ∙ sym (kept_more 1 n before.found l at), many);
-      takes = takes_more a b t left more all before.found l before.takes next step.taken step.behind_is;
-      wrongs = wrongs_more a b n m t left more all l before.wrongs next step.taken step.behind_is one;
-      laid = laid_more a b before.found l before.laid step.behind_is;
+      takes = takes_more a b t left more all before.found l before.takes next step.taken step.following_is;
+      wrongs = wrongs_more a b n m t left more all l before.wrongs next step.taken step.following_is one;
+      laid = laid_more a b before.found l before.laid step.following_is;
     }
 
 -- with no line left all are read

@@ -33,14 +33,14 @@ use Rattle.mx_asm.specs.declared.fault.Fault.{Fault}
 use Rattle.mx_asm.specs.Branches.{branch_by, branch_marks, branch_length, distance, is_too_far}
 use Rattle.mx_asm.specs.Lengths.{statement_length}
 use Rattle.mx_asm.specs.Layout.{LinesAbove, Seen, no_lines_above, unseen, seen_of, seen_with, is_defined, is_defined_twice, refusal_of_line, statement_said, above_with, left_by, laid_by, address_of_offset, address_of_label, section_offset_of, label_named, sizes_after, entry_with, value_under}
-use Rattle.mx_asm.specs.Faults.{is_undefined, is_undefined_if, undefined_where, undefined_or, problem_at, fault_or, first_problem, total_of, is_program_too_large, number_of_last_line, too_large_in, first_of, fault_behind}
+use Rattle.mx_asm.specs.Faults.{is_undefined, is_undefined_if, undefined_where, undefined_or, problem_at, fault_or, first_problem, total_of, is_program_too_large, number_of_last_line, too_large_in, first_of, fault_after}
 use Rattle.mx_asm.specs.Bytes.{put_in, put_under, then_put, named_under, BytesOf, StandsIn, AllStand, contents}
 use Rattle.mx_asm.specs.Assembled.{AreAssembled, symbol_under, entry_under}
 use Rattle.mx_asm.specs.Text.{AreLinesTaken}
 use Rattle.mx_asm.proofs.Lengths.{KeepsLength, stands_length}
 use Rattle.mx_asm.proofs.Emitting.{lengths_same}
 use Rattle.mx_asm.proofs.Fitting.{contents_size}
-use Rattle.mx_asm.proofs.Seeing.{false_right, none_refused, seen_behind}
+use Rattle.mx_asm.proofs.Seeing.{false_right, none_refused, seen_after}
 
 -- what is known of lines and of the encoder
 pub record Refutes : Type 0 where
@@ -177,7 +177,7 @@ entry_kept c name (l ∷ ls) e (here, more) =
     let d = above_with c l (statement_length (statement_said l)) in
     entry_kept d name ls
     (entry_one_more c.entry name (seen_of c) (statement_said l) e (some_true c.entry name e) here)
-    (subst (λ (s : Seen). AllPlaced s ls) (sym (seen_behind c l (statement_length (statement_said l)))) more)
+    (subst (λ (s : Seen). AllPlaced s ls) (sym (seen_after c l (statement_length (statement_said l)))) more)
 
 entry_found : (a : LinesAbove) (name : Name) (o : Option SectionOffset) (n : ℕ) → address_of_label a o ≡ Some n → is_some o ≡ true
 entry_found a name None n e = cc
@@ -206,7 +206,7 @@ none_first law a c n k (l ∷ ls) [] e entry placed h = absurd h
 none_first law a c n k (l ∷ ls) (b ∷ bs) e entry (here, more) (right, rest) =
     let d = above_with c l (statement_length (statement_said l)) in
     let at = address_of_offset a (section_offset_of c.sizes) in
-    let placed : AllPlaced (seen_of d) ls = subst (λ (s : Seen). AllPlaced s ls) (sym (seen_behind c l (statement_length (statement_said l)))) more in
+    let placed : AllPlaced (seen_of d) ls = subst (λ (s : Seen). AllPlaced s ls) (sym (seen_after c l (statement_length (statement_said l)))) more in
     let is_defined = entry_stands a c n (statement_said l) entry (λ name f. ap (λ (x : LinesAbove). x.entry) e ∙ entry_kept d name ls f placed) in
     let none : problem_at a at (statement_said l) ≡ None = none_stands law c.sizes.section a at (statement_said l) b is_defined here.placed right in
     let long : length b ≡ statement_length (statement_said l) = stands_length law.keeps c.sizes.section a at (statement_said l) b right in
@@ -235,7 +235,7 @@ not_some : (o : Option Fault) (f : Fault) → o ≡ None → o ≡ Some f → �
 not_some None f e g = cc
 not_some (Some h) f e g = cc
 
-pub none_made : Refutes → (t : List ℕ) (ls : List Line) (p : Program) (f : Fault) → AreLinesTaken unseen (lines t) ls → AreAssembled ls p → fault_behind ls ≡ Some f → ⊥
+pub none_made : Refutes → (t : List ℕ) (ls : List Line) (p : Program) (f : Fault) → AreLinesTaken unseen (lines t) ls → AreAssembled ls p → fault_after ls ≡ Some f → ⊥
 none_made law t ls p f taken made told =
     let a = laid_by no_lines_above ls in
     let left : left_by no_lines_above ls (map length made.bytes) ≡ a = lengths_same law.keeps _ no_lines_above no_lines_above.sizes ls made.bytes made.stand in
@@ -247,4 +247,4 @@ none_made law t ls p f taken made told =
     let symbols : length p.symbols ≡ length a.labels = ap length made.symbols ∙ length-map _ _ ∙ ap (λ (x : LinesAbove). length x.labels) left in
     let fits = small a p (made.total ∙ ap total_of left) text symbols in
     let large : too_large_in a ls ≡ None = ap (λ (b : Bool). cond b (Some (record { problem = TooLarge; line = number_of_last_line ls })) None) fits in
-    not_some (fault_behind ls) f (both_none (first_problem a no_lines_above.sizes 1 ls) (too_large_in a ls) first large) told
+    not_some (fault_after ls) f (both_none (first_problem a no_lines_above.sizes 1 ls) (too_large_in a ls) first large) told

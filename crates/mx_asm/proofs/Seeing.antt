@@ -65,8 +65,8 @@ seen_same : (z y : Section) (ns ms : List Name) (sep e f s t : Bool) → z ≡ y
 seen_same z y ns ms sep e f s t h1 h2 h3 h4 = cc
 
 -- how long the line is decides nothing
-pub seen_behind : (a : LinesAbove) (l : Line) (n : ℕ) → seen_of (above_with a l n) ≡ seen_with (seen_of a) l
-seen_behind a l n =
+pub seen_after : (a : LinesAbove) (l : Line) (n : ℕ) → seen_of (above_with a l n) ≡ seen_with (seen_of a) l
+seen_after a l n =
     seen_same _ _ _ _ (a.sep || separates (statement_said l)) _ _ _ _
     (section_after a.sizes (statement_said l) n)
     (names_after a.labels l.label (section_offset_of a.sizes))

@@ -105,8 +105,8 @@ first_of None g = g
 first_of (Some f) g = Some f
 
 -- what is told of lines none of which is refused for itself or the lines above it
-abbrev pub fault_behind : List Line → Option Fault
-fault_behind lines = let a = laid_by no_lines_above lines in first_of (first_problem a no_lines_above.sizes 1 lines) (too_large_in a lines)
+abbrev pub fault_after : List Line → Option Fault
+fault_after lines = let a = laid_by no_lines_above lines in first_of (first_problem a no_lines_above.sizes 1 lines) (too_large_in a lines)
 
 -- unless memory runs out
 abbrev pub IsFaultOr : Option Fault → AsmError → Type 0

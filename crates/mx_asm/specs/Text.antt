@@ -15,7 +15,7 @@ use Rattle.mx_asm.specs.declared.fault.AsmError.{AsmError}
 use Rattle.mx_asm.specs.declared.fault.AsmError.TheVariants.{At, NoMemory}
 use Rattle.mx_asm.specs.Lengths.{statement_length}
 use Rattle.mx_asm.specs.Layout.{LinesAbove, Seen, unseen, seen_with, seen_of, above_with, statement_said, refusal_of_line}
-use Rattle.mx_asm.specs.Faults.{problem_of, fault_behind}
+use Rattle.mx_asm.specs.Faults.{problem_of, fault_after}
 use Rattle.mx_asm.specs.Assembled.{AreAssembled}
 use Rattle.mx_asm.specs.Kept.{line_kept}
 use Rattle.mx_asm.specs.declared.numbered.NumberedLine.{NumberedLine}
@@ -42,8 +42,8 @@ abbrev pub IsLineTaken : Seen → List ℕ → Line → Type 0
 IsLineTaken s t l = IsLine t l × (refusal_of_line s l ≡ None)
 
 -- after a line that is taken
-abbrev pub on_behind : LinesAbove → Line → LinesAbove
-on_behind a l = above_with a l (statement_length (statement_said l))
+abbrev pub on_after : LinesAbove → Line → LinesAbove
+on_after a l = above_with a l (statement_length (statement_said l))
 
 -- the lines say these, and nothing is wrong with them
 abbrev pub AreLinesTaken : Seen → List (List ℕ) → List Line → Type 0
@@ -53,13 +53,13 @@ AreLinesTaken s _ _ = ⊥
 
 -- one line more, line n, isn't refused
 abbrev pub Accepts : LinesAbove → LinesAbove → ℕ → Line → List NumberedLine → List NumberedLine → Type 0
-Accepts a b n l old new = (refusal_of_line (seen_of a) l ≡ None) × (b ≡ on_behind a l) × (new ≡ old ++ line_kept n l)
+Accepts a b n l old new = (refusal_of_line (seen_of a) l ≡ None) × (b ≡ on_after a l) × (new ≡ old ++ line_kept n l)
 
 -- one line more is taken
 pub record TakesLine (a b : LinesAbove) (n : ℕ) (t : List ℕ) (old new : List NumberedLine) : Type 0 where
   pub line : Line
   pub taken : IsLineTaken (seen_of a) t line
-  pub behind_is : b ≡ on_behind a line
+  pub following_is : b ≡ on_after a line
   pub lines_are : new ≡ old ++ line_kept n line
 
 -- the first line with which something is wrong, the first of these being line n
@@ -71,7 +71,7 @@ IsFirstLineWrong s n (t ∷ ts) f =
 
 -- the text's lines say these, and nothing stands against them
 abbrev pub AreLinesAccepted : List ℕ → List Line → Type 0
-AreLinesAccepted t ls = AreLinesTaken unseen (lines t) ls × (fault_behind ls ≡ None)
+AreLinesAccepted t ls = AreLinesTaken unseen (lines t) ls × (fault_after ls ≡ None)
 
 -- the text's lines say these, none is refused, and they make this program
 abbrev pub IsAssembled : List ℕ → Program → Type 0
@@ -79,7 +79,7 @@ IsAssembled t p = (ls : List Line) × AreLinesTaken unseen (lines t) ls × AreAs
 
 -- the first line with which something is wrong, else what is told of all lines
 abbrev pub HasTextFault : List ℕ → Fault → Type 0
-HasTextFault t f = IsFirstLineWrong unseen 1 (lines t) f ⊎ ((ls : List Line) × AreLinesTaken unseen (lines t) ls × (fault_behind ls ≡ Some f))
+HasTextFault t f = IsFirstLineWrong unseen 1 (lines t) f ⊎ ((ls : List Line) × AreLinesTaken unseen (lines t) ls × (fault_after ls ≡ Some f))
 
 -- unless memory runs out
 abbrev pub TellsTextFault : List ℕ → AsmError → Type 0

@@ -62,8 +62,8 @@ impl Read {
         self.lines.as_slice().len() + self.blanks
     }
 
-    /// Takes in what a line says, after those above it, or tells why it is refused. Memory is only
-    /// wanting where it isn't, and a line that says nothing keeps none.
+    /// Takes in what a line says, after those above it, or tells why it is refused. Only a line that
+    /// isn't refused takes memory, and one that says nothing keeps none.
     #[tactic(auto, using(crate::proofs::Kept::one_kept, crate::proofs::Kept::none_kept))]
     fn accept(&mut self, line: Line, number: usize) -> Result<(), AsmError>
         requires room { SizesWithin self.old.layout.sizes (2 ^ 126) }
@@ -77,7 +77,7 @@ impl Read {
             Some(reason) => return Err(refused(reason, number)),
             None => {}
         }
-        self.layout.go_behind(&line)?;
+        self.layout.go_after(&line)?;
         if says_something(&line) {
             self.lines.push(NumberedLine { number, line })?;
         } else {

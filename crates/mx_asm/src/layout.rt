@@ -95,7 +95,7 @@ impl Layout {
     }
 
     /// Lays out one line more, one that is not refused.
-    pub fn go_behind(&mut self, line: &Line) -> Result<(), AsmError>
+    pub fn go_after(&mut self, line: &Line) -> Result<(), AsmError>
         requires room { SizesWithin self.old.sizes (2 ^ 126) }
         requires new { is_defined (seen_of (above_of self.old)).names line.now.label ≡ false }
         ensures ok { OnOk result (above_of self.new ≡ above_with (above_of self.old) line.now (statement_length (statement_said line.now))) }

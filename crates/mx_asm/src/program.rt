@@ -4,7 +4,7 @@ ghost use Rattle.std.specs.Prelude.{◌≡◌, List, false, length, map, IfOk, I
 ghost use Rattle.mx_asm_statement.specs.declared.line.Line.{Line};
 ghost use Rattle.mx_asm.specs.Kept.{AreKept};
 ghost use Rattle.mx_asm.specs.Layout.{no_lines_above, laid_by};
-ghost use Rattle.mx_asm.specs.Faults.{IsFaultOr, fault_behind, total_of, is_program_too_large};
+ghost use Rattle.mx_asm.specs.Faults.{IsFaultOr, fault_after, total_of, is_program_too_large};
 ghost use Rattle.mx_asm.specs.View.{above_of};
 ghost use Rattle.mx_asm.specs.Assembled.{class_of, symbol_under, entry_under, AreAssembled};
 
@@ -85,7 +85,7 @@ fn program_with(layout: &Layout, parts: Parts, symbols: Vec<Symbol>) -> Program
     }
 }
 
-/// The program of lines that leave a layout, so many with those that aren't kept; or the first fault.
+/// The program of lines that leave a layout, `count` with those that aren't kept; or the first fault.
 pub fn program_of(
     alloc: Global,
     layout: &Layout,
@@ -94,11 +94,11 @@ pub fn program_of(
 ) -> Result<Program, AsmError>
     requires { (ls : List Line) × AreKept ls lines.now count × (above_of layout.now ≡ laid_by no_lines_above ls) }
     ensures program { (ls : List Line) → AreKept ls lines.now count → above_of layout.now ≡ laid_by no_lines_above ls → IfOk result (λ p. AreAssembled ls p) }
-    ensures fault { (ls : List Line) → AreKept ls lines.now count → above_of layout.now ≡ laid_by no_lines_above ls → IfErr result (λ e. IsFaultOr (fault_behind ls) e) }
+    ensures fault { (ls : List Line) → AreKept ls lines.now count → above_of layout.now ≡ laid_by no_lines_above ls → IfErr result (λ e. IsFaultOr (fault_after ls) e) }
 {
     immediate_keeps_length();
     displacement_keeps_length();
-    match layout.fault_behind(lines, count) {
+    match layout.fault_after(lines, count) {
         Some(fault) => return Err(AsmError::At(fault)),
         None => {}
     }

@@ -3,7 +3,7 @@
 ghost use Rattle.std.specs.Prelude.{◌≡◌, List, length, false, None};
 ghost use Rattle.std.specs.List.{list_any};
 ghost use Rattle.mx_asm.specs.Layout.{no_lines_above, statement_said, laid_by};
-ghost use Rattle.mx_asm.specs.Faults.{is_undefined, is_undefined_if, undefined_where, problem_at, fault_behind, is_program_too_large, too_large_in};
+ghost use Rattle.mx_asm.specs.Faults.{is_undefined, is_undefined_if, undefined_where, problem_at, fault_after, is_program_too_large, too_large_in};
 ghost use Rattle.mx_asm.specs.Kept.{AreKept, first_problem_kept};
 ghost use Rattle.mx_asm_statement.specs.declared.line.Line.{Line};
 ghost use Rattle.mx_asm.specs.View.{above_of};
@@ -106,7 +106,7 @@ impl Layout {
         None
     }
 
-    /// What stands against so many lines for their size.
+    /// What stands against `count` lines for their size.
     fn fault_of_size(&self, count: usize) -> Option<Fault>
         ensures fault { (ls : List Line) → count ≡ length ls → result ≡ too_large_in (above_of self.now) ls }
         ensures small { result ≡ None → is_program_too_large (above_of self.now) ≡ false }
@@ -120,10 +120,10 @@ impl Layout {
         })
     }
 
-    /// What stands against lines that leave this layout, so many with those that aren't kept: against one of
-    /// them, or against all for their size.
-    pub fn fault_behind(&self, lines: &[NumberedLine], count: usize) -> Option<Fault>
-        ensures fault { (ls : List Line) → AreKept ls lines.now count → above_of self.now ≡ laid_by no_lines_above ls → result ≡ fault_behind ls }
+    /// What stands against lines that leave this layout, `count` with those that aren't kept: against one
+    /// of them, or against all for their size.
+    pub fn fault_after(&self, lines: &[NumberedLine], count: usize) -> Option<Fault>
+        ensures fault { (ls : List Line) → AreKept ls lines.now count → above_of self.now ≡ laid_by no_lines_above ls → result ≡ fault_after ls }
         ensures clean { result ≡ None → first_problem_kept (above_of self.now) no_lines_above.sizes lines.now ≡ None }
         ensures small { result ≡ None → is_program_too_large (above_of self.now) ≡ false }
     {

@@ -23,9 +23,9 @@ use Rattle.mx_asm_form.specs.Statements.{IsCode, statement_for, statement_after_
 use Rattle.mx_asm_line.specs.declared.opening.LineStart.{LineStart}
 use Rattle.mx_asm_line.specs.declared.opening.LineStart.TheVariants as begun
 use Rattle.mx_asm_line.specs.Beginnings.{begins_with}
-use Rattle.mx_asm_line.specs.Opening.{behind_label, behind_first}
-use Rattle.mx_asm_line.specs.Statements.{is_marked, without_short_mark, behind_mnemonic, behind_prefix, standing_alone, number_alone, entry_of, behind_directive, text_alone, statement_of}
-use Rattle.mx_asm_line.specs.Lines.{beginning_of, beginning_behind, where_named, IsLine}
+use Rattle.mx_asm_line.specs.Opening.{after_label, after_first}
+use Rattle.mx_asm_line.specs.Statements.{is_marked, without_short_mark, after_mnemonic, after_prefix, standing_alone, number_alone, entry_of, after_directive, text_alone, statement_of}
+use Rattle.mx_asm_line.specs.Lines.{beginning_of, beginning_after, where_named, IsLine}
 
 -- of the forms
 pub record StatesCode : Type 0 where
@@ -63,11 +63,11 @@ next b (Some a) f k = k a
 
 -- ---- after a mnemonic
 
-mnemonic_agrees : StatesCode → (m : Mnemonic) (ts : List Item) → Agrees beginnings.Instruction (behind_mnemonic m ts)
+mnemonic_agrees : StatesCode → (m : Mnemonic) (ts : List Item) → Agrees beginnings.Instruction (after_mnemonic m ts)
 mnemonic_agrees law m ts =
     next beginnings.Instruction (arguments_of (without_short_mark m ts)) _ (λ xs s e. code_agrees s (law.stated (is_marked m ts) m xs s e))
 
-prefix_agrees : StatesCode → (p : Prefix) (m : Option Mnemonic) (ts : List Item) → Agrees beginnings.Instruction (behind_prefix p m ts)
+prefix_agrees : StatesCode → (p : Prefix) (m : Option Mnemonic) (ts : List Item) → Agrees beginnings.Instruction (after_prefix p m ts)
 prefix_agrees law p None ts = none_agrees beginnings.Instruction
 prefix_agrees law p (Some m) [] = none_agrees beginnings.Instruction
 prefix_agrees law p (Some m) (t ∷ []) = λ s e. code_agrees s (law.repeated p m s e)
@@ -93,7 +93,7 @@ entry_agrees (items.Other ∷ ts) = none_agrees beginnings.Entry
 entry_agrees (items.Mark m ∷ ts) = none_agrees beginnings.Entry
 entry_agrees (items.Number n ∷ ts) = none_agrees beginnings.Entry
 
-directive_agrees : (d : Directive) (text : Option (List ℕ)) (ts : List Item) → Agrees (beginning_behind d) (behind_directive d text ts)
+directive_agrees : (d : Directive) (text : Option (List ℕ)) (ts : List Item) → Agrees (beginning_after d) (after_directive d text ts)
 directive_agrees directives.Text text ts = alone_agrees _ ts
 directive_agrees directives.Data text ts = alone_agrees _ ts
 directive_agrees directives.Bss text ts = alone_agrees _ ts
@@ -127,7 +127,7 @@ named_agrees b (Some (items.Number n)) o h = none_agrees b
 
 pub line_begins : StatesCode → (t : List ℕ) (l : Line) (s : Statement) → IsLine t l → l.statement ≡ Some s → l.beginning ≡ begins_with s
 line_begins law t l s (ks, reading, says) e =
-    let text = text_alone t (behind_first (behind_label t ks)) in
+    let text = text_alone t (after_first (after_label t ks)) in
     let said = statement_of says.start says.second text says.rest in
     ap (λ (z : Line). z.beginning) says.is_line
     ∙ named_agrees (beginning_of says.start) says.label_item said (statement_agrees law says.start says.second text says.rest) s (sym (ap (λ (z : Line). z.statement) says.is_line) ∙ e)

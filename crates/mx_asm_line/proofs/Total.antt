@@ -21,7 +21,7 @@ use Rattle.mx_asm_statement.specs.declared.line.Line.{Line}
 use Rattle.mx_asm_line.specs.declared.opening.LineStart.{LineStart}
 use Rattle.mx_asm_line.specs.declared.opening.LineStart.TheVariants as begun
 use Rattle.mx_asm_statement.specs.Sorting.{token_bytes, IsOrdinary, IsWordItem, IsKindItem, AreItems}
-use Rattle.mx_asm_line.specs.Opening.{IsWord, IsLabelItem, Begins, NamesMnemonic, label_of, behind_label, behind_first}
+use Rattle.mx_asm_line.specs.Opening.{IsWord, IsLabelItem, Begins, NamesMnemonic, label_of, after_label, after_first}
 use Rattle.mx_asm_line.specs.Statements.{text_alone}
 use Rattle.mx_asm_line.specs.Lines.{line_of_items, SaysLine, IsLine}
 
@@ -93,12 +93,12 @@ NeverNeither = (t : List ℕ) → ((ks : List Token) → IsReadAs t ks → ⊥) 
 
 says_something : (t : List ℕ) (ks : List Token) → ((l : Line) → SaysLine t ks l → ⊥) → ⊥
 says_something t ks k =
-    let rest = behind_label t ks in
+    let rest = after_label t ks in
     some_label t (label_of t ks) (λ label is_label.
     some_start t rest (λ start begins.
-    some_mnemonic t (behind_first rest) (λ second names.
-    some_items t (behind_first rest) (λ xs are_items.
-    k (line_of_items label start second (text_alone t (behind_first rest)) xs) (record {
+    some_mnemonic t (after_first rest) (λ second names.
+    some_items t (after_first rest) (λ xs are_items.
+    k (line_of_items label start second (text_alone t (after_first rest)) xs) (record {
       label_item = label;
       is_label = is_label;
       start = start;

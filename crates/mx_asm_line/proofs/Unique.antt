@@ -19,7 +19,7 @@ use Rattle.mx_asm_statement.specs.declared.line.Line.{Line}
 use Rattle.mx_asm_line.specs.declared.opening.LineStart.{LineStart}
 use Rattle.mx_asm_line.specs.declared.opening.LineStart.TheVariants as begun
 use Rattle.mx_asm_statement.specs.Sorting.{token_bytes, IsWordItem, IsKindItem, IsItem, AreItems}
-use Rattle.mx_asm_line.specs.Opening.{IsLabelItem, Begins, NamesMnemonic, label_of, behind_label, behind_first}
+use Rattle.mx_asm_line.specs.Opening.{IsLabelItem, Begins, NamesMnemonic, label_of, after_label, after_first}
 use Rattle.mx_asm_line.specs.Statements.{text_alone}
 use Rattle.mx_asm_line.specs.Lines.{line_of_items, SaysLine, IsLine}
 
@@ -126,12 +126,12 @@ one_second table t (k ∷ ks) (Some m) (Some n) e f = ap Some (one_mnemonic tabl
 
 one_said : Table → (t : List ℕ) (ks : List Token) (a b : Line) → SaysLine t ks a → SaysLine t ks b → a ≡ b
 one_said table t ks a b x y =
-    let text = text_alone t (behind_first (behind_label t ks)) in
+    let text = text_alone t (after_first (after_label t ks)) in
     x.is_line
     ∙ (ap (λ l. line_of_items l x.start x.second text x.rest) (one_label table t (label_of t ks) x.label_item y.label_item x.is_label y.is_label)
-    ∙ (ap (λ s. line_of_items y.label_item s x.second text x.rest) (one_begun table t (behind_label t ks) x.start y.start x.begins y.begins)
-    ∙ (ap (λ m. line_of_items y.label_item y.start m text x.rest) (one_second table t (behind_first (behind_label t ks)) x.second y.second x.names y.names)
-    ∙ (ap (λ r. line_of_items y.label_item y.start y.second text r) (one_list table t (behind_first (behind_label t ks)) x.rest y.rest x.are_items y.are_items)
+    ∙ (ap (λ s. line_of_items y.label_item s x.second text x.rest) (one_begun table t (after_label t ks) x.start y.start x.begins y.begins)
+    ∙ (ap (λ m. line_of_items y.label_item y.start m text x.rest) (one_second table t (after_first (after_label t ks)) x.second y.second x.names y.names)
+    ∙ (ap (λ r. line_of_items y.label_item y.start y.second text r) (one_list table t (after_first (after_label t ks)) x.rest y.rest x.are_items y.are_items)
     ∙ sym y.is_line))))
 
 pub one_line : Table → ((t : List ℕ) (ks js : List Token) → IsReadAs t ks → IsReadAs t js → ks ≡ js) → (t : List ℕ) (a b : Line) → IsLine t a → IsLine t b → a ≡ b

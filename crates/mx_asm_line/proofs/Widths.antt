@@ -22,8 +22,8 @@ use Rattle.mx_asm_form.specs.Data.{values_in, data_of}
 use Rattle.mx_asm_form.specs.Statements.{statement_for, statement_after_prefix}
 use Rattle.mx_asm_line.specs.declared.opening.LineStart.{LineStart}
 use Rattle.mx_asm_line.specs.declared.opening.LineStart.TheVariants as begun
-use Rattle.mx_asm_line.specs.Opening.{behind_label, behind_first}
-use Rattle.mx_asm_line.specs.Statements.{is_marked, without_short_mark, behind_mnemonic, behind_prefix, standing_alone, number_alone, entry_of, behind_directive, text_alone, statement_of}
+use Rattle.mx_asm_line.specs.Opening.{after_label, after_first}
+use Rattle.mx_asm_line.specs.Statements.{is_marked, without_short_mark, after_mnemonic, after_prefix, standing_alone, number_alone, entry_of, after_directive, text_alone, statement_of}
 use Rattle.mx_asm_line.specs.Lines.{where_named, IsLine}
 
 -- of the forms
@@ -54,10 +54,10 @@ next (Some a) f k = k a
 
 -- ---- after a mnemonic
 
-mnemonic_fits : NumbersFit → (m : Mnemonic) (ts : List Item) → AllFit (behind_mnemonic m ts)
+mnemonic_fits : NumbersFit → (m : Mnemonic) (ts : List Item) → AllFit (after_mnemonic m ts)
 mnemonic_fits law m ts = next (arguments_of (without_short_mark m ts)) _ (λ xs. law.stated (is_marked m ts) m xs)
 
-prefix_fits : NumbersFit → (p : Prefix) (m : Option Mnemonic) (ts : List Item) → AllFit (behind_prefix p m ts)
+prefix_fits : NumbersFit → (p : Prefix) (m : Option Mnemonic) (ts : List Item) → AllFit (after_prefix p m ts)
 prefix_fits law p None ts = none_fits
 prefix_fits law p (Some m) [] = none_fits
 prefix_fits law p (Some m) (t ∷ []) = law.repeated p m
@@ -83,7 +83,7 @@ entry_fits (items.Other ∷ ts) = none_fits
 entry_fits (items.Mark m ∷ ts) = none_fits
 entry_fits (items.Number n ∷ ts) = none_fits
 
-directive_fits : (d : Directive) (text : Option (List ℕ)) (ts : List Item) → AllFit (behind_directive d text ts)
+directive_fits : (d : Directive) (text : Option (List ℕ)) (ts : List Item) → AllFit (after_directive d text ts)
 directive_fits directives.Text text ts = alone_fits _ ts tt
 directive_fits directives.Data text ts = alone_fits _ ts tt
 directive_fits directives.Bss text ts = alone_fits _ ts tt
@@ -117,6 +117,6 @@ named_fits (Some (items.Number n)) s h = none_fits
 
 pub line_fits : NumbersFit → (t : List ℕ) (l : Line) (i : Instruction) → IsLine t l → l.statement ≡ Some (statements.Instruction i) → Fits i.insn
 line_fits law t l i (ks, reading, says) e =
-    let text = text_alone t (behind_first (behind_label t ks)) in
+    let text = text_alone t (after_first (after_label t ks)) in
     let said = statement_of says.start says.second text says.rest in
     named_fits says.label_item said (statement_fits law says.start says.second text says.rest) i (sym (ap (λ (z : Line). z.statement) says.is_line) ∙ e)

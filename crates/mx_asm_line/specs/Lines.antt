@@ -17,7 +17,7 @@ use Rattle.mx_asm_statement.specs.declared.statement.Statement.{Statement}
 use Rattle.mx_asm_line.specs.declared.opening.LineStart.{LineStart}
 use Rattle.mx_asm_line.specs.declared.opening.LineStart.TheVariants as begun
 use Rattle.mx_asm_statement.specs.Sorting.{AreItems}
-use Rattle.mx_asm_line.specs.Opening.{label_of, behind_label, IsLabelItem, Begins, behind_first, NamesMnemonic}
+use Rattle.mx_asm_line.specs.Opening.{label_of, after_label, IsLabelItem, Begins, after_first, NamesMnemonic}
 use Rattle.mx_asm_line.specs.Statements.{text_alone, statement_of}
 
 -- ---- names that are too long
@@ -27,10 +27,10 @@ any_long [] = false
 any_long (t ∷ ts) = is_long t || any_long ts
 
 -- the word right after a prefix is neither a label nor an operand
-abbrev pub long_behind : LineStart → List Item → Bool
-long_behind (begun.Known (starts.Repeat p)) [] = false
-long_behind (begun.Known (starts.Repeat p)) (t ∷ ts) = any_long ts
-long_behind _ ts = any_long ts
+abbrev pub long_after : LineStart → List Item → Bool
+long_after (begun.Known (starts.Repeat p)) [] = false
+long_after (begun.Known (starts.Repeat p)) (t ∷ ts) = any_long ts
+long_after _ ts = any_long ts
 
 abbrev pub long_label : Option Item → Bool
 long_label None = false
@@ -50,29 +50,29 @@ where_named _ s = None
 
 -- ---- what a statement begins with
 
-abbrev pub beginning_behind : Directive → StatementStart
-beginning_behind directives.Data1 = beginnings.Data
-beginning_behind directives.Data2 = beginnings.Data
-beginning_behind directives.Data4 = beginnings.Data
-beginning_behind directives.Ascii = beginnings.Data
-beginning_behind directives.Sep = beginnings.Separate
-beginning_behind directives.Entry = beginnings.Entry
-beginning_behind directives.Stack = beginnings.Stack
-beginning_behind _ = beginnings.Anywhere
+abbrev pub beginning_after : Directive → StatementStart
+beginning_after directives.Data1 = beginnings.Data
+beginning_after directives.Data2 = beginnings.Data
+beginning_after directives.Data4 = beginnings.Data
+beginning_after directives.Ascii = beginnings.Data
+beginning_after directives.Sep = beginnings.Separate
+beginning_after directives.Entry = beginnings.Entry
+beginning_after directives.Stack = beginnings.Stack
+beginning_after _ = beginnings.Anywhere
 
 abbrev pub beginning_of : LineStart → StatementStart
 beginning_of begun.Nothing = beginnings.Nothing
 beginning_of begun.Unknown = beginnings.Unknown
 beginning_of (begun.Known (starts.Mnemonic m)) = beginnings.Instruction
 beginning_of (begun.Known (starts.Repeat p)) = beginnings.Instruction
-beginning_of (begun.Known (starts.Directive d)) = beginning_behind d
+beginning_of (begun.Known (starts.Directive d)) = beginning_after d
 
 -- ---- the line
 
 abbrev pub line_of_items : Option Item → LineStart → Option Mnemonic → Option (List ℕ) → List Item → Line
 line_of_items label b second text ts = record {
   label = name_in label;
-  long = long_label label || long_behind b ts;
+  long = long_label label || long_after b ts;
   beginning = beginning_of b;
   statement = where_named label (statement_of b second text ts);
 }
@@ -82,12 +82,12 @@ pub record SaysLine (t : List ℕ) (ks : List Token) (line : Line) : Type 0 wher
   pub label_item : Option Item
   pub is_label : IsLabelItem t (label_of t ks) label_item
   pub start : LineStart
-  pub begins : Begins t (behind_label t ks) start
+  pub begins : Begins t (after_label t ks) start
   pub second : Option Mnemonic
-  pub names : NamesMnemonic t (behind_first (behind_label t ks)) second
+  pub names : NamesMnemonic t (after_first (after_label t ks)) second
   pub rest : List Item
-  pub are_items : AreItems t (behind_first (behind_label t ks)) rest
-  pub is_line : line ≡ line_of_items label_item start second (text_alone t (behind_first (behind_label t ks))) rest
+  pub are_items : AreItems t (after_first (after_label t ks)) rest
+  pub is_line : line ≡ line_of_items label_item start second (text_alone t (after_first (after_label t ks))) rest
 
 -- what a line of a text says
 abbrev pub IsLine : List ℕ → Line → Type 0

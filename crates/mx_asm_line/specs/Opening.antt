@@ -31,9 +31,9 @@ abbrev pub label_of : List ℕ → List Token → Option Token
 label_of t (k ∷ c ∷ ks) = if is_label t k c then Some k else None
 label_of t _ = None
 
-abbrev pub behind_label : List ℕ → List Token → List Token
-behind_label t (k ∷ c ∷ ks) = if is_label t k c then ks else k ∷ c ∷ ks
-behind_label t ks = ks
+abbrev pub after_label : List ℕ → List Token → List Token
+after_label t (k ∷ c ∷ ks) = if is_label t k c then ks else k ∷ c ∷ ks
+after_label t ks = ks
 
 abbrev pub IsLabelItem : List ℕ → Option Token → Option Item → Type 0
 IsLabelItem t None None = Unit {0}
@@ -53,9 +53,9 @@ Begins t (k ∷ ks) begun.Nothing = ⊥
 Begins t (k ∷ ks) begun.Unknown = (s : WordStart) → IsWord t k (start_word s) → ⊥
 Begins t (k ∷ ks) (begun.Known s) = IsWord t k (start_word s)
 
-abbrev pub behind_first : List Token → List Token
-behind_first [] = []
-behind_first (k ∷ ks) = ks
+abbrev pub after_first : List Token → List Token
+after_first [] = []
+after_first (k ∷ ks) = ks
 
 -- the mnemonic that stands first after a prefix
 abbrev pub NamesMnemonic : List ℕ → List Token → Option Mnemonic → Type 0

@@ -53,13 +53,13 @@ abbrev pub without_short_mark : Mnemonic → List Item → List Item
 without_short_mark m [] = []
 without_short_mark m (t ∷ ts) = if takes_short m && is_short_word t then ts else t ∷ ts
 
-abbrev pub behind_mnemonic : Mnemonic → List Item → Option Statement
-behind_mnemonic m ts = statement_by (is_marked m ts) m (without_short_mark m ts)
+abbrev pub after_mnemonic : Mnemonic → List Item → Option Statement
+after_mnemonic m ts = statement_by (is_marked m ts) m (without_short_mark m ts)
 
 -- a string instruction, alone
-abbrev pub behind_prefix : Prefix → Option Mnemonic → List Item → Option Statement
-behind_prefix p (Some m) (t ∷ []) = statement_after_prefix p m
-behind_prefix p _ _ = None
+abbrev pub after_prefix : Prefix → Option Mnemonic → List Item → Option Statement
+after_prefix p (Some m) (t ∷ []) = statement_after_prefix p m
+after_prefix p _ _ = None
 
 -- ---- after a directive
 
@@ -90,18 +90,18 @@ abbrev pub entry_of : List Item → Option Statement
 entry_of (items.Name w ∷ []) = Some (statements.Entry w)
 entry_of _ = None
 
-abbrev pub behind_directive : Directive → Option (List ℕ) → List Item → Option Statement
-behind_directive directives.Text text ts = standing_alone (statements.Enter sections.Text) ts
-behind_directive directives.Data text ts = standing_alone (statements.Enter sections.Data) ts
-behind_directive directives.Bss text ts = standing_alone (statements.Enter sections.Bss) ts
-behind_directive directives.Data1 text ts = data_of sizes.Byte ts
-behind_directive directives.Data2 text ts = data_of sizes.Word ts
-behind_directive directives.Data4 text ts = data_of sizes.Dword ts
-behind_directive directives.Ascii text ts = text_given text
-behind_directive directives.Space text ts = space_of ts
-behind_directive directives.Sep text ts = standing_alone statements.Separate ts
-behind_directive directives.Entry text ts = entry_of ts
-behind_directive directives.Stack text ts = stack_of ts
+abbrev pub after_directive : Directive → Option (List ℕ) → List Item → Option Statement
+after_directive directives.Text text ts = standing_alone (statements.Enter sections.Text) ts
+after_directive directives.Data text ts = standing_alone (statements.Enter sections.Data) ts
+after_directive directives.Bss text ts = standing_alone (statements.Enter sections.Bss) ts
+after_directive directives.Data1 text ts = data_of sizes.Byte ts
+after_directive directives.Data2 text ts = data_of sizes.Word ts
+after_directive directives.Data4 text ts = data_of sizes.Dword ts
+after_directive directives.Ascii text ts = text_given text
+after_directive directives.Space text ts = space_of ts
+after_directive directives.Sep text ts = standing_alone statements.Separate ts
+after_directive directives.Entry text ts = entry_of ts
+after_directive directives.Stack text ts = stack_of ts
 
 -- the bytes of a text that stands alone, without its quotes
 abbrev pub text_in : List ℕ → Token → TokenKind → Option (List ℕ)
@@ -118,6 +118,6 @@ text_alone t _ = None
 abbrev pub statement_of : LineStart → Option Mnemonic → Option (List ℕ) → List Item → Option Statement
 statement_of begun.Nothing second text ts = Some statements.Nothing
 statement_of begun.Unknown second text ts = None
-statement_of (begun.Known (starts.Mnemonic m)) second text ts = behind_mnemonic m ts
-statement_of (begun.Known (starts.Repeat p)) second text ts = behind_prefix p second ts
-statement_of (begun.Known (starts.Directive d)) second text ts = behind_directive d text ts
+statement_of (begun.Known (starts.Mnemonic m)) second text ts = after_mnemonic m ts
+statement_of (begun.Known (starts.Repeat p)) second text ts = after_prefix p second ts
+statement_of (begun.Known (starts.Directive d)) second text ts = after_directive d text ts

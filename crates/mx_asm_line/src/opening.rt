@@ -2,7 +2,7 @@
 
 ghost use Rattle.std.specs.Prelude.{◌≡◌, All};
 ghost use Rattle.mx_lex.specs.Tokens.{IsSlice};
-ghost use Rattle.mx_asm_line.specs.Opening.{is_label, label_of, behind_label, IsLabelItem, Begins, behind_first, NamesMnemonic};
+ghost use Rattle.mx_asm_line.specs.Opening.{is_label, label_of, after_label, IsLabelItem, Begins, after_first, NamesMnemonic};
 
 use mx_asm_statement::{Item, is_dotted, item_of, token_bytes};
 use mx_insn_words::{Mnemonic, WordStart, mnemonic_named, start_named};
@@ -29,19 +29,19 @@ fn is_label(text: &[u8], first: Token, second: Token) -> bool
 }
 
 /// What the label's token is, where there is one, and what stands after it; or all.
-pub fn behind_label<'a>(text: &[u8], tokens: &'a [Token]) -> (Option<Item>, &'a [Token])
+pub fn after_label<'a>(text: &[u8], tokens: &'a [Token]) -> (Option<Item>, &'a [Token])
     requires { All (IsSlice text.now) tokens.now }
     ensures label { IsLabelItem text.now (label_of text.now tokens.now) result.0 }
-    ensures behind { result.1.now ≡ behind_label text.now tokens.now }
+    ensures rest { result.1.now ≡ after_label text.now tokens.now }
 {
     let Some((first, rest)) = tokens.split_first() else {
         return (None, tokens);
     };
-    let Some((second, behind)) = rest.split_first() else {
+    let Some((second, others)) = rest.split_first() else {
         return (None, tokens);
     };
     if is_label(text, *first, *second) {
-        (Some(item_of(text, *first)), behind)
+        (Some(item_of(text, *first)), others)
     } else {
         (None, tokens)
     }
@@ -66,8 +66,8 @@ pub fn begun_by(text: &[u8], tokens: &[Token]) -> LineStart
     }
 }
 
-pub fn behind_first(tokens: &[Token]) -> &[Token]
-    ensures { result.now ≡ behind_first tokens.now }
+pub fn after_first(tokens: &[Token]) -> &[Token]
+    ensures { result.now ≡ after_first tokens.now }
 {
     match tokens.split_first() {
         None => tokens,

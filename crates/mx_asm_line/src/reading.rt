@@ -2,9 +2,9 @@
 
 ghost use Rattle.std.specs.Prelude.{◌≡◌, IfOk, IfErr, All};
 ghost use Rattle.mx_lex.specs.Tokens.{IsSlice, TellsLexFault};
-ghost use Rattle.mx_asm_line.specs.Lines.{any_long, long_behind, long_label, name_in, where_named, beginning_of, SaysLine, IsLine};
+ghost use Rattle.mx_asm_line.specs.Lines.{any_long, long_after, long_label, name_in, where_named, beginning_of, SaysLine, IsLine};
 
-use crate::opening::{LineStart, begun_by, behind_first, behind_label, mnemonic_first};
+use crate::opening::{LineStart, after_first, after_label, begun_by, mnemonic_first};
 use crate::statements::{statement_of, text_alone};
 use mx_asm_statement::{Item, Line, Statement, StatementStart, is_long, items_of};
 use mx_insn_words::{Directive, WordStart};
@@ -26,8 +26,8 @@ fn any_long(items: &[Item]) -> bool
 }
 
 /// Whether a name after a statement's first word is too long, the word after a prefix aside.
-fn long_behind(begun: LineStart, rest: &[Item]) -> bool
-    ensures { result ≡ long_behind begun rest.now }
+fn long_after(begun: LineStart, rest: &[Item]) -> bool
+    ensures { result ≡ long_after begun rest.now }
 {
     match begun {
         LineStart::Known(WordStart::Repeat(_)) => match rest.split_first() {
@@ -94,14 +94,14 @@ fn line_of(alloc: Global, text: &[u8], tokens: &[Token]) -> Result<Line, AllocEr
     requires { All (IsSlice text.now) tokens.now }
     ensures { IfOk result (SaysLine text.now tokens.now) }
 {
-    let (label, statement) = behind_label(text, tokens);
+    let (label, statement) = after_label(text, tokens);
     let begun = begun_by(text, statement);
-    let rest = behind_first(statement);
+    let rest = after_first(statement);
     let second = mnemonic_first(text, rest);
     let alone = text_alone(alloc, text, rest)?;
     let found = items_of(alloc, text, rest)?;
     let items = found.as_slice();
-    let long = long_label(label) || long_behind(begun, items);
+    let long = long_label(label) || long_after(begun, items);
     let stated = statement_of(alloc, begun, second, alone, items)?;
     Ok(Line {
         label: name_in(label),

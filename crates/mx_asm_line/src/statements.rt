@@ -2,7 +2,7 @@
 
 ghost use Rattle.std.specs.Prelude.{◌≡◌, ◌+◌, ◌≤◌, IfOk, All};
 ghost use Rattle.mx_lex.specs.Tokens.{IsSlice};
-ghost use Rattle.mx_asm_line.specs.Statements.{is_short_word, takes_short, statement_by, behind_mnemonic, behind_prefix, standing_alone, text_given, space_of, stack_of, entry_of, behind_directive, text_alone, statement_of};
+ghost use Rattle.mx_asm_line.specs.Statements.{is_short_word, takes_short, statement_by, after_mnemonic, after_prefix, standing_alone, text_given, space_of, stack_of, entry_of, after_directive, text_alone, statement_of};
 
 use crate::opening::LineStart;
 use mx_asm_form::{data_of, repeated, stated};
@@ -47,12 +47,12 @@ fn stated_by(
 }
 
 /// The instruction of a mnemonic and what stands after it, first of all its `short`.
-fn behind_mnemonic(
+fn after_mnemonic(
     alloc: Global,
     mnemonic: Mnemonic,
     items: &[Item],
 ) -> Result<Option<Statement>, AllocError>
-    ensures { IfOk result (λ s. s ≡ behind_mnemonic mnemonic items.now) }
+    ensures { IfOk result (λ s. s ≡ after_mnemonic mnemonic items.now) }
 {
     let Some((first, rest)) = items.split_first() else {
         return stated_by(alloc, false, mnemonic, items);
@@ -64,8 +64,8 @@ fn behind_mnemonic(
     }
 }
 
-fn behind_prefix(prefix: Prefix, second: Option<Mnemonic>, items: &[Item]) -> Option<Statement>
-    ensures { result ≡ behind_prefix prefix second items.now }
+fn after_prefix(prefix: Prefix, second: Option<Mnemonic>, items: &[Item]) -> Option<Statement>
+    ensures { result ≡ after_prefix prefix second items.now }
 {
     match (second, items) {
         (Some(mnemonic), [_]) => repeated(prefix, mnemonic),
@@ -136,13 +136,13 @@ fn entry_of(items: &[Item]) -> Option<Statement>
     }
 }
 
-fn behind_directive(
+fn after_directive(
     alloc: Global,
     directive: Directive,
     text: Option<Bytes>,
     items: &[Item],
 ) -> Result<Option<Statement>, AllocError>
-    ensures { IfOk result (λ s. s ≡ behind_directive directive text items.now) }
+    ensures { IfOk result (λ s. s ≡ after_directive directive text items.now) }
 {
     match directive {
         Directive::Text => Ok(standing_alone(Statement::Enter(Section::Text), items)),
@@ -173,10 +173,10 @@ pub fn statement_of(
     match begun {
         LineStart::Nothing => Ok(Some(Statement::Nothing)),
         LineStart::Unknown => Ok(None),
-        LineStart::Known(WordStart::Mnemonic(mnemonic)) => behind_mnemonic(alloc, mnemonic, items),
-        LineStart::Known(WordStart::Repeat(prefix)) => Ok(behind_prefix(prefix, second, items)),
+        LineStart::Known(WordStart::Mnemonic(mnemonic)) => after_mnemonic(alloc, mnemonic, items),
+        LineStart::Known(WordStart::Repeat(prefix)) => Ok(after_prefix(prefix, second, items)),
         LineStart::Known(WordStart::Directive(directive)) => {
-            behind_directive(alloc, directive, text, items)
+            after_directive(alloc, directive, text, items)
         }
     }
 }

@@ -35,23 +35,23 @@ split_at_comma xs at d h none is =
 abbrev pub behind : List Argument → Option (List Argument) → Option (List Argument)
 behind found os = os >>= λ more. Some (found ++ more)
 
-behind_none : (os : Option (List Argument)) → behind [] os ≡ os
-behind_none None = refl
-behind_none (Some os) = refl
+after_none : (os : Option (List Argument)) → behind [] os ≡ os
+after_none None = refl
+after_none (Some os) = refl
 
-pub behind_start : (xs : List Item) → 0 < length xs → arguments_of xs ≡ behind [] (each_of (slice_split is_comma xs))
-behind_start [] h = absurd (omega (arith, h))
-behind_start (x ∷ xs) h = sym (behind_none (each_of (slice_split is_comma (x ∷ xs))))
+pub after_start : (xs : List Item) → 0 < length xs → arguments_of xs ≡ behind [] (each_of (slice_split is_comma xs))
+after_start [] h = absurd (omega (arith, h))
+after_start (x ∷ xs) h = sym (after_none (each_of (slice_split is_comma (x ∷ xs))))
 
 onto : (found : List Argument) (o : Argument) (os : Option (List Argument)) → behind found (os >>= λ more. Some (o ∷ more)) ≡ behind (found ++ o ∷ []) os
 onto found o None = refl
 onto found o (Some os) = ap Some (sym (append_assoc found (o ∷ []) os))
 
-pub behind_one : (found : List Argument) (parts : List (List Item)) (front : List Item) (o : Argument) → argument_of front ≡ Some o → behind found (each_of (front ∷ parts)) ≡ behind (found ++ o ∷ []) (each_of parts)
-behind_one found parts front o h = ap (λ r. behind found (r >>= λ o'. each_of parts >>= λ more. Some (o' ∷ more))) h ∙ onto found o (each_of parts)
+pub after_one : (found : List Argument) (parts : List (List Item)) (front : List Item) (o : Argument) → argument_of front ≡ Some o → behind found (each_of (front ∷ parts)) ≡ behind (found ++ o ∷ []) (each_of parts)
+after_one found parts front o h = ap (λ r. behind found (r >>= λ o'. each_of parts >>= λ more. Some (o' ∷ more))) h ∙ onto found o (each_of parts)
 
-pub behind_bad : (found : List Argument) (parts : List (List Item)) (front : List Item) → argument_of front ≡ None → behind found (each_of (front ∷ parts)) ≡ None
-behind_bad found parts front h = ap (λ r. behind found (r >>= λ o'. each_of parts >>= λ more. Some (o' ∷ more))) h
+pub after_bad : (found : List Argument) (parts : List (List Item)) (front : List Item) → argument_of front ≡ None → behind found (each_of (front ∷ parts)) ≡ None
+after_bad found parts front h = ap (λ r. behind found (r >>= λ o'. each_of parts >>= λ more. Some (o' ∷ more))) h
 
-pub behind_last : (found : List Argument) (front : List Item) (o : Argument) → argument_of front ≡ Some o → behind found (each_of (front ∷ [])) ≡ Some (found ++ o ∷ [])
-behind_last found front o h = behind_one found [] front o h ∙ ap Some (append-nil (found ++ o ∷ []))
+pub after_last : (found : List Argument) (front : List Item) (o : Argument) → argument_of front ≡ Some o → behind found (each_of (front ∷ [])) ≡ Some (found ++ o ∷ [])
+after_last found front o h = after_one found [] front o h ∙ ap Some (append-nil (found ++ o ∷ []))

@@ -30,8 +30,8 @@ goes_on_stop t all [] found none goes = goes_on_end t all found goes
 goes_on_stop t all (k ∷ rest) found none goes = absurd (omega (arith, none))
 
 -- each of the rest is a slice
-pub slices_behind : (t : List ℕ) (rest more : List Token) (k : Token) → rest ≡ k ∷ more → All (IsSlice t) rest → All (IsSlice t) more
-slices_behind t rest more k split all = go (subst (λ r. All (IsSlice t) r) split all)
+pub slices_after : (t : List ℕ) (rest more : List Token) (k : Token) → rest ≡ k ∷ more → All (IsSlice t) rest → All (IsSlice t) more
+slices_after t rest more k split all = go (subst (λ r. All (IsSlice t) r) split all)
   where
     go : All (IsSlice t) (k ∷ more) → All (IsSlice t) more
     go each i d lt = each (suc i) d (omega (arith, lt))

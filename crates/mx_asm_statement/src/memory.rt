@@ -83,7 +83,7 @@ fn based(base: Register, items: &[Item]) -> Option<Address>
 }
 
 /// The place after a base, a plus and a second register.
-fn behind_two(base: Register, register: Register, items: &[Item]) -> Option<Address>
+fn after_two(base: Register, register: Register, items: &[Item]) -> Option<Address>
     ensures { result ≡ address_in_brackets (item.Register sizes.Dword base ∷ item.Mark marks.Plus ∷ item.Register sizes.Dword register ∷ items.now) }
 {
     match items.split_first() {
@@ -98,7 +98,7 @@ fn behind_two(base: Register, register: Register, items: &[Item]) -> Option<Addr
 }
 
 /// The place after a register, which is an index where `*n` follows, else the base.
-fn behind_register(register: Register, items: &[Item]) -> Option<Address>
+fn after_register(register: Register, items: &[Item]) -> Option<Address>
     ensures { result ≡ address_in_brackets (item.Register sizes.Dword register ∷ items.now) }
 {
     match items.split_first() {
@@ -107,7 +107,7 @@ fn behind_register(register: Register, items: &[Item]) -> Option<Address>
             _ => based(register, items),
         },
         Some((Item::Mark(Mark::Plus), rest)) => match rest.split_first() {
-            Some((Item::Register(Size::Dword, index), rest)) => behind_two(register, *index, rest),
+            Some((Item::Register(Size::Dword, index), rest)) => after_two(register, *index, rest),
             _ => based(register, items),
         },
         _ => based(register, items),
@@ -119,7 +119,7 @@ pub fn address_of(items: &[Item]) -> Option<Address>
     ensures { result ≡ address_in_brackets items.now }
 {
     match items.split_first() {
-        Some((Item::Register(Size::Dword, register), rest)) => behind_register(*register, rest),
+        Some((Item::Register(Size::Dword, register), rest)) => after_register(*register, rest),
         _ => {
             let value = value_of(items)?;
             Some(Address {

@@ -125,7 +125,7 @@ impl<'a> Draft<'a> {
     }
 
     /// Takes an item in.
-    fn go_behind(&mut self, item: ConfigItem<'a>)
+    fn go_after(&mut self, item: ConfigItem<'a>)
         requires within { IsItemWithin item }
         requires room { is_service_too_many self.old item ≡ false }
         ensures { self.new ≡ items_with self.old item.entry }
@@ -156,7 +156,7 @@ impl<'a> Draft<'a> {
             Some(error) => return Err(error),
             None => {}
         }
-        self.go_behind(item);
+        self.go_after(item);
         Ok(())
     }
 

@@ -67,17 +67,17 @@ text_of_words [] = refl
 text_of_words (r ∷ rs) = ap (λ z. (joined_words (record_words r) ++ codes "\n") ++ z) (text_of_words rs)
 
 -- a line feed ends a text as what follows it does
-ended_behind : (xs ys : List ℕ) → is_ended ys ≡ true → is_ended (xs ++ 10 ∷ ys) ≡ true
-ended_behind [] [] h = refl
-ended_behind [] (y ∷ ys) h = h
-ended_behind (x ∷ []) ys h = ended_behind [] ys h
-ended_behind (x ∷ z ∷ xs) ys h = ended_behind (z ∷ xs) ys h
+ended_after : (xs ys : List ℕ) → is_ended ys ≡ true → is_ended (xs ++ 10 ∷ ys) ≡ true
+ended_after [] [] h = refl
+ended_after [] (y ∷ ys) h = h
+ended_after (x ∷ []) ys h = ended_after [] ys h
+ended_after (x ∷ z ∷ xs) ys h = ended_after (z ∷ xs) ys h
 
 text_is_ended : (records : List Record) → is_ended (history_text records) ≡ true
 text_is_ended [] = refl
 text_is_ended (r ∷ rs) =
     ap is_ended (append_assoc (joined_words (record_words r)) (10 ∷ []) (history_text rs))
-    ∙ ended_behind (joined_words (record_words r)) (history_text rs) (text_is_ended rs)
+    ∙ ended_after (joined_words (record_words r)) (history_text rs) (text_is_ended rs)
 
 by_recursion : (P : Record → Type 0) (xs : List Record) → All P xs → AllByRecursion P xs
 by_recursion P [] h = tt
@@ -142,4 +142,4 @@ module _ (k : AreReadAgain) where
       let none = no_rules_above actors (lines (history_text records)) records said in
       (ap (map (record_line actors)) none.1 ∙ said, text_is_ended records, sym none.0)
   read_again actors Strict records few all =
-      (records_again actors records few all, ended_behind (codes "rules 2") (history_text records) (text_is_ended records), refl)
+      (records_again actors records few all, ended_after (codes "rules 2") (history_text records) (text_is_ended records), refl)

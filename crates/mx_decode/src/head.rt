@@ -57,7 +57,7 @@ fn opcode(resized: bool, repeat: Option<Repeat>, bytes: &[u8]) -> Result<(Head, 
     }
 }
 
-fn behind_66(bytes: &[u8]) -> Result<(Head, &[u8]), DecodeFault>
+fn after_66(bytes: &[u8]) -> Result<(Head, &[u8]), DecodeFault>
     ensures { Gives (λ x. (x.0, x.1.now)) result (resized_then bytes.now) }
 {
     match bytes {
@@ -68,7 +68,7 @@ fn behind_66(bytes: &[u8]) -> Result<(Head, &[u8]), DecodeFault>
     }
 }
 
-fn behind_repeat(repeat: Repeat, bytes: &[u8]) -> Result<(Head, &[u8]), DecodeFault>
+fn after_repeat(repeat: Repeat, bytes: &[u8]) -> Result<(Head, &[u8]), DecodeFault>
     ensures { Gives (λ x. (x.0, x.1.now)) result (repeat_then repeat bytes.now) }
 {
     match bytes {
@@ -85,9 +85,9 @@ pub fn read_head(bytes: &[u8]) -> Result<(Head, &[u8]), DecodeFault>
 {
     match bytes {
         [] => Err(DecodeFault::Short),
-        [0x66, rest @ ..] => behind_66(rest),
-        [0xF3, rest @ ..] => behind_repeat(Repeat::Repe, rest),
-        [0xF2, rest @ ..] => behind_repeat(Repeat::Repne, rest),
+        [0x66, rest @ ..] => after_66(rest),
+        [0xF3, rest @ ..] => after_repeat(Repeat::Repe, rest),
+        [0xF2, rest @ ..] => after_repeat(Repeat::Repne, rest),
         _ => opcode(false, None, bytes),
     }
 }

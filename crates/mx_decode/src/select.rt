@@ -49,10 +49,10 @@ fn is_absent(column: ModRm) -> bool
 }
 
 /// What stands after the opcode may follow it: nothing yet, or this byte, a ModRM byte if the row has one.
-fn may_follow(column: ModRm, behind: Option<u8>) -> bool
-    ensures { result ≡ may_follow column behind }
+fn may_follow(column: ModRm, next: Option<u8>) -> bool
+    ensures { result ≡ may_follow column next }
 {
-    match (column, behind) {
+    match (column, next) {
         (ModRm::Absent | ModRm::Any, _) | (_, None) => true,
         (ModRm::AnyMemory, Some(modrm)) => modrm / 64 != 3,
         (ModRm::AnyRegister, Some(modrm)) => modrm / 64 == 3,
@@ -68,18 +68,18 @@ fn stands(row: &Row, resized: bool, repeat: Option<Repeat>) -> bool
 }
 
 /// The row may be that of the head and of what stands after it.
-fn begins(row: &Row, head: Head, behind: Option<u8>) -> bool
-    ensures { result ≡ begins head behind row.now }
+fn begins(row: &Row, head: Head, next: Option<u8>) -> bool
+    ensures { result ≡ begins head next row.now }
 {
     has_opcode(row, head.escaped, head.opcode)
         && stands(row, head.resized, head.repeat)
-        && may_follow(row.modrm, behind)
+        && may_follow(row.modrm, next)
 }
 
-fn first(rows: &'static [Row], head: Head, behind: Option<u8>) -> Option<&'static Row>
-    ensures { option_copied result ≡ find (begins head behind) rows.now }
+fn first(rows: &'static [Row], head: Head, next: Option<u8>) -> Option<&'static Row>
+    ensures { option_copied result ≡ find (begins head next) rows.now }
 {
-    rows.iter().find(|row| begins(row, head, behind))
+    rows.iter().find(|row| begins(row, head, next))
 }
 
 /// The row where nothing follows the opcode.

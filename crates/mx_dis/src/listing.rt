@@ -35,7 +35,7 @@ fn push_line(out: &mut String, at: u32, part: &Part) -> Result<(), AllocError>
 }
 
 /// The bytes after the part that they begin with.
-fn behind<'a>(bytes: &'a [u8], part: &Part) -> &'a [u8]
+fn after<'a>(bytes: &'a [u8], part: &Part) -> &'a [u8]
     requires { part_size part.now ≤ length bytes.now }
     ensures { result.now ≡ drop (part_size part.now) bytes.now }
 {
@@ -55,7 +55,7 @@ pub fn list(alloc: Global, program: &Program) -> Result<String, NoMemory>
         let part = first_part(rest);
         push_line(&mut out, at, &part)?;
         at += u32::from(part.size());
-        rest = behind(rest, &part);
+        rest = after(rest, &part);
     }
     Ok(out)
 }

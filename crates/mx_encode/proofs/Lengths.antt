@@ -48,15 +48,15 @@ length-chosen i short bytes x =
 
 -- ---- a displacement that is marked wide takes four bytes, whichever it is
 
-behind_sib : (base : Option Register) (index : Option Index) (m n : ℕ) → length (sib_bytes (sib_of base index) ++ bytes_of 4 n) ≡ length (sib_bytes (sib_of base index) ++ bytes_of 4 m)
-behind_sib base index m n =
+after_sib : (base : Option Register) (index : Option Index) (m n : ℕ) → length (sib_bytes (sib_of base index) ++ bytes_of 4 n) ≡ length (sib_bytes (sib_of base index) ++ bytes_of 4 m)
+after_sib base index m n =
     length-append (sib_bytes (sib_of base index)) (bytes_of 4 n) ∙ sym (length-append (sib_bytes (sib_of base index)) (bytes_of 4 m))
 
 memory_length : (base : Option Register) (index : Option Index) (m n : ℕ)
     → length (sib_bytes (sib_of base index) ++ bytes_of (displacement_length (mode_of base n true) (base_number base)) n)
     ≡ length (sib_bytes (sib_of base index) ++ bytes_of (displacement_length (mode_of base m true) (base_number base)) m)
-memory_length None index m n = behind_sib None index m n
-memory_length (Some r) index m n = behind_sib (Some r) index m n
+memory_length None index m n = after_sib None index m n
+memory_length (Some r) index m n = after_sib (Some r) index m n
 
 operand_length : (reg : ℕ) (o : Operand) (n : ℕ) → rm_length (Some (record { reg = reg; operand = operand_with_displacement o n })) ≡ rm_length (Some (record { reg = reg; operand = o }))
 operand_length reg (operand.Register r) n = refl
@@ -94,17 +94,17 @@ displaced_count i short true n h =
 displaced_count i short false n h = cc
 
 -- whatever stands before them, four bytes are four
-four_behind : (before : List ℕ) (m n : ℕ) → length (before ++ bytes_of 4 n) ≡ length (before ++ bytes_of 4 m)
-four_behind before m n = length-append before (bytes_of 4 n) ∙ sym (length-append before (bytes_of 4 m))
+four_after : (before : List ℕ) (m n : ℕ) → length (before ++ bytes_of 4 n) ≡ length (before ++ bytes_of 4 m)
+four_after before m n = length-append before (bytes_of 4 n) ∙ sym (length-append before (bytes_of 4 m))
 
 pub valued_count : (i : Insn) (short long : Bool) (n : ℕ) → IsTrue short
     → whole_length (with_immediate i n) (record { immediate = short; displacement = long }) ≡ whole_length i (record { immediate = short; displacement = long })
 valued_count i false long n h = cc
-valued_count (insns.Arithmetic o (operands.Immediate to (immediate.Dword m))) true long n h = ap suc (four_behind (modrm_bytes (place_for (Some (record { reg = arithmetic_number o; operand = to })) long)) m n)
-valued_count (insns.Move (operands.Immediate (operand.Memory a) (immediate.Dword m))) true long n h = ap suc (four_behind (modrm_bytes (place_for (Some (record { reg = 0; operand = operand.Memory a })) long)) m n)
+valued_count (insns.Arithmetic o (operands.Immediate to (immediate.Dword m))) true long n h = ap suc (four_after (modrm_bytes (place_for (Some (record { reg = arithmetic_number o; operand = to })) long)) m n)
+valued_count (insns.Move (operands.Immediate (operand.Memory a) (immediate.Dword m))) true long n h = ap suc (four_after (modrm_bytes (place_for (Some (record { reg = 0; operand = operand.Memory a })) long)) m n)
 valued_count (insns.Move (operands.Immediate (operand.Register r) (immediate.Dword m))) true long n h = refl
-valued_count (insns.TestImmediate o (immediate.Dword m)) true long n h = ap suc (four_behind (modrm_bytes (place_for (Some (record { reg = 0; operand = o })) long)) m n)
-valued_count (insns.MultiplyImmediate to from (wide_immediates.Dword m)) true long n h = ap suc (four_behind (modrm_bytes (place_for (Some (record { reg = register_number to; operand = from })) long)) m n)
+valued_count (insns.TestImmediate o (immediate.Dword m)) true long n h = ap suc (four_after (modrm_bytes (place_for (Some (record { reg = 0; operand = o })) long)) m n)
+valued_count (insns.MultiplyImmediate to from (wide_immediates.Dword m)) true long n h = ap suc (four_after (modrm_bytes (place_for (Some (record { reg = register_number to; operand = from })) long)) m n)
 valued_count (insns.PushImmediate m) true long n h = refl
 valued_count i true long n h = refl
 

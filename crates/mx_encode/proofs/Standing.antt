@@ -11,7 +11,7 @@ use Rattle.mx_insn.specs.declared.insn.Operand.{Operand}
 use Rattle.mx_insn.specs.declared.insn.Operand.TheVariants as operand
 use Rattle.mx_insn.specs.Spelling.{Sib, PlaceFits, SibFits, has_sib, base_field, base_of, index_of, displacement_length, displacement_of, operand_of}
 use Rattle.mx_encode.specs.Numbers.{is_short}
-use Rattle.mx_encode.specs.Places.{base_number, sib_of, rm_number, mode_behind, mode_of, memory_place, place_written, can_index, can_stand}
+use Rattle.mx_encode.specs.Places.{base_number, sib_of, rm_number, mode_after, mode_of, memory_place, place_written, can_index, can_stand}
 use Rattle.mx_encode.specs.Given.{OperandFits}
 use Rattle.mx_encode.proofs.Digits.{no_bytes, are_bytes_of, length-bytes_of, value_4, value_short, register_below, register_again, scale_below, scale_again}
 
@@ -23,7 +23,7 @@ record ModeSuits (mode base n : ℕ) : Type 0 where
   keeps_base : ((eqb mode 0) && (eqb base 5)) ≡ false
   gives : displacement_of mode (bytes_of (displacement_length mode base) n) ≡ n
 
-mode_suits : (base n : ℕ) (long : Bool) → n < 2 ^ 32 → ModeSuits (mode_behind base n long) base n
+mode_suits : (base n : ℕ) (long : Bool) → n < 2 ^ 32 → ModeSuits (mode_after base n long) base n
 mode_suits base n true lt = record { below = lit< tt; keeps_base = refl; gives = value_4 n lt }
 mode_suits base n false lt = none (eqb n 0 && not (eqb base 5)) refl
   where

@@ -28,16 +28,16 @@ rm_number base (Some s) = 4
 
 -- after a base other than EBP a displacement of 0 is left out, one that is a byte with its sign extended
 -- takes mod 01, and another, or one that is marked wide, mod 10
-abbrev pub mode_behind : ℕ → ℕ → Bool → ℕ
-mode_behind base displacement true = 2
-mode_behind base displacement false =
+abbrev pub mode_after : ℕ → ℕ → Bool → ℕ
+mode_after base displacement true = 2
+mode_after base displacement false =
     if (displacement == 0) && not (base == 5) then 0
     else (if is_short 32 displacement then 1 else 2)
 
 -- without a base mod is 00, and the displacement has 32 bits
 abbrev pub mode_of : Option Register → ℕ → Bool → ℕ
 mode_of None displacement long = 0
-mode_of (Some r) displacement long = mode_behind (register_number r) displacement long
+mode_of (Some r) displacement long = mode_after (register_number r) displacement long
 
 abbrev pub memory_place : ℕ → Memory → Bool → Place
 memory_place reg m long = record {

@@ -5,7 +5,7 @@ ghost use Rattle.mx_word.specs.Word.{bytes_of};
 ghost use Rattle.mx_word.specs.Names.{register_number};
 ghost use Rattle.mx_insn.specs.Spelling.{displacement_length};
 ghost use Rattle.mx_encode.specs.Numbers.{number_bytes};
-ghost use Rattle.mx_encode.specs.Places.{base_number, sib_of, rm_number, mode_behind, mode_of, memory_place, place_written, can_index, can_stand, has_place};
+ghost use Rattle.mx_encode.specs.Places.{base_number, sib_of, rm_number, mode_after, mode_of, memory_place, place_written, can_index, can_stand, has_place};
 ghost use Rattle.mx_encode.specs.Given.{sib_seen, place_seen};
 
 use crate::fields::{Number, Rm, RmFields, Sib};
@@ -43,8 +43,8 @@ fn sib_of(base: Option<Register>, index: Option<Index>) -> Option<Sib>
     }
 }
 
-fn mode_behind(base: Register, displacement: u32, long: bool) -> u8
-    ensures value { result ≡ mode_behind (register_number base) displacement long }
+fn mode_after(base: Register, displacement: u32, long: bool) -> u8
+    ensures value { result ≡ mode_after (register_number base) displacement long }
     ensures below { result < 3 }
 {
     if long {
@@ -64,7 +64,7 @@ fn mode_of(base: Option<Register>, displacement: u32, long: bool) -> u8
 {
     match base {
         None => 0,
-        Some(base) => mode_behind(base, displacement, long),
+        Some(base) => mode_after(base, displacement, long),
     }
 }
 

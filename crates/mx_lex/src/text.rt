@@ -60,9 +60,9 @@ pub fn text_bytes(alloc: Global, body: &[u8]) -> Result<Vec<u8>, AllocError>
     while let Some((first, more)) = rest.split_first() {
         rest = more;
         match (*first, more.split_first()) {
-            (b'\\', Some((second, behind))) => {
+            (b'\\', Some((second, others))) => {
                 bytes.push(escaped(*second))?;
-                rest = behind;
+                rest = others;
             }
             _ => bytes.push(*first)?,
         }

@@ -25,9 +25,9 @@ past (x ∷ xs) (suc i) h = let further = past xs i h in omega (arith, further)
 pub kept_none : (kept : List ℕ) (i : ℕ) → slice_get kept i ≡ None → drop i kept ≡ []
 kept_none kept i h = drop_all i kept (past kept i h)
 
-pub nil_behind : (xs : List ℕ) → xs ++ [] ≡ xs
-nil_behind [] = refl
-nil_behind (x ∷ xs) = ap (λ (ys : List ℕ). x ∷ ys) (nil_behind xs)
+pub nil_after : (xs : List ℕ) → xs ++ [] ≡ xs
+nil_after [] = refl
+nil_after (x ∷ xs) = ap (λ (ys : List ℕ). x ∷ ys) (nil_after xs)
 
 pub slot_lines_more : (w : TableState) (services : List Service) (i : ℕ) (v : Service) → i < length services → v ≡ get_or services i v
     → slot_lines w i (drop i services) ≡ slot_line w i v.name.name.bytes ++ slot_lines w (i + 1) (drop (i + 1) services)

@@ -374,7 +374,7 @@ static LEVELS: [(Slot, u8); 17] = [
 ];
 
 /// The level of a ready process after a whole quantum.
-fn level_behind(rt: &impl Abort, table: &mut Table, slot: Slot) -> u8 {
+fn level_after(rt: &impl Abort, table: &mut Table, slot: Slot) -> u8 {
     assert!(rt; slot < table.used());
     let process = table.process(slot);
     assert!(rt; process.state.is_ready() && process.steps < 1000 && process.ticks == 5);
@@ -387,7 +387,7 @@ fn level_behind(rt: &impl Abort, table: &mut Table, slot: Slot) -> u8 {
 /// Whether each slot comes to its level, and slot 0 is picked then.
 fn come_to_levels(rt: &impl Abort, table: &mut Table) -> bool {
     for (slot, level) in &LEVELS {
-        if level_behind(rt, table, *slot) != *level {
+        if level_after(rt, table, *slot) != *level {
             return false;
         }
     }

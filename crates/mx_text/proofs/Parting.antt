@@ -24,10 +24,10 @@ is_none b h = by_case (eqb_tells b 32)
 one_space : (b : ℕ) (bs : List ℕ) → b ≡ 32 → fields (b ∷ bs) ≡ fields bs
 one_space b bs h = ap (filter has_bytes) (slice_split-cons_yes is_space b bs (eq-eqb b 32 h))
 
-pub behind_spaces : (t : List ℕ) (at : ℕ) → at ≤ length t → AreSpaces t at → fields t ≡ fields (drop at t)
-behind_spaces t zero h all = refl
-behind_spaces [] (suc at) h all = absurd (omega (arith, h))
-behind_spaces (b ∷ bs) (suc at) h all = one_space b bs (all 0 (omega arith)) ∙ behind_spaces bs at (omega arith) (λ k l. all (suc k) (omega arith))
+pub after_spaces : (t : List ℕ) (at : ℕ) → at ≤ length t → AreSpaces t at → fields t ≡ fields (drop at t)
+after_spaces t zero h all = refl
+after_spaces [] (suc at) h all = absurd (omega (arith, h))
+after_spaces (b ∷ bs) (suc at) h all = one_space b bs (all 0 (omega arith)) ∙ after_spaces bs at (omega arith) (λ k l. all (suc k) (omega arith))
 
 split_none : (t : List ℕ) → AreNoSpaces t (length t) → slice_split is_space t ≡ t ∷ []
 split_none [] none = refl

@@ -6,8 +6,8 @@ ghost use Rattle.mx_text.specs.Errors.{boot_code_of};
 use std::alloc::{AllocError, AllocFailed};
 use thiserror::Error;
 
-/// The first line at fault, the first line of a text having the number 1, or that memory was
-/// wanting.
+/// The first line at fault, the first line of a text having the number 1, or that memory ran
+/// out.
 #[derive(Clone, Copy, Debug, PartialEq, Eq, Error)]
 pub enum BootError {
     /// No item of a configuration.

@@ -22,7 +22,7 @@ failure_of_line n case_errors.NoMemory = NoMemory
 abbrev pub text_of : Kind → List ℕ
 text_of (Line n) = codes "line " ++ decimal n ++ codes " is no case"
 text_of File = codes "input or output failed"
-text_of NoMemory = codes "want of memory"
+text_of NoMemory = codes "out of memory"
 
 -- a file or memory is wanting
 abbrev pub IsCaseWanting : Kind → Type 0

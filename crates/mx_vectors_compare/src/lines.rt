@@ -54,7 +54,7 @@ impl fmt::Display for CompareFailure {
         match *self {
             CompareFailure::Line(number) => write!(f, "line {number} is no case"),
             CompareFailure::File => write!(f, "input or output failed"),
-            CompareFailure::NoMemory => write!(f, "want of memory"),
+            CompareFailure::NoMemory => write!(f, "out of memory"),
         }
     }
 }

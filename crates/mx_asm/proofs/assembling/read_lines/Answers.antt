@@ -25,7 +25,7 @@ loop-line-preserved c =
       room = omega (arith, c.in_ok-take.ensures.counted, inv.room, shorter);
       found = read_more a b c.loop-line.number (c.count-number.result + 1) (length old + c.loop-line.read.blanks) (length now + c.take.new.self.blanks) c.in-Some.line.now (lines c.loop-line.rest.now) (lines c.in-Some.more.now) (lines c.args.text.now) old now
           inv.found next step inv.number (omega (arith, c.count-number.ensures.count, c.in_ok-take.ensures.counted, inv.number)) c.in_ok-take.ensures.counted;
-      sizes = sizes_kept c.loop-line.read.layout.sizes c.take.new.self.layout.sizes c.loop-line.number step.line old now inv.sizes (ap (λ (x : LinesAbove). x.sizes) step.behind_is) c.in_ok-take.ensures.small step.lines_are;
+      sizes = sizes_kept c.loop-line.read.layout.sizes c.take.new.self.layout.sizes c.loop-line.number step.line old now inv.sizes (ap (λ (x : LinesAbove). x.sizes) step.following_is) c.in_ok-take.ensures.small step.lines_are;
     }
 
 pub returns-clause-taken : goal.returns-clause-taken

@@ -56,5 +56,5 @@ pub program_with-requires-clause-begins : goal.program_with-requires-clause-begi
 program_with-requires-clause-begins c =
     let (lines, kept, laid) = c.requires in
     let a = above_of c.args.layout.now in
-    let clean : first_problem a no_lines_above.sizes 1 lines ≡ None = problems_kept a no_lines_above.sizes 1 lines ∙ ap (first_problem_kept a no_lines_above.sizes) (sym kept.0) ∙ c.fault_behind.ensures.clean c.in-None.is in
+    let clean : first_problem a no_lines_above.sizes 1 lines ≡ None = problems_kept a no_lines_above.sizes 1 lines ∙ ap (first_problem_kept a no_lines_above.sizes) (sym kept.0) ∙ c.fault_after.ensures.clean c.in-None.is in
     begins_somewhere a lines laid clean

@@ -8,8 +8,8 @@ loop-rest-preserved c =
     let rest = c.loop-rest.rest.now in
     let step : c.from-at.result ≡ part_size c.first_part-part.result = c.from-at.ensures ∙ c.size.ensures in
     let lines = more_lines c.loop-rest.at rest c.args.program.now.text c.first_part-part.result (string_bytes c.loop-rest.out) (string_bytes c.push_line.new.out) c.first_part-part.ensures.parting c.loop-rest.invariant.completes c.in_ok-push_line.ensures in record {
-      place = omega (arith, ap length c.behind-rest.ensures, length-drop (part_size c.first_part-part.result) rest);
-      completes = λ more listed. lines more (rw (step, c.behind-rest.ensures) at listed);
+      place = omega (arith, ap length c.after-rest.ensures, length-drop (part_size c.first_part-part.result) rest);
+      completes = λ more listed. lines more (rw (step, c.after-rest.ensures) at listed);
     }
 
 pub returns : goal.returns

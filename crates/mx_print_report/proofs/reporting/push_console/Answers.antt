@@ -1,6 +1,6 @@
 use Rattle.std.proofs.Common.{ℕ, ◌+◌, ◌<◌, List, [], ◌∷◌, ◌++◌, length, drop, sym, ap, ◌∙◌, arith, append_assoc, length-append}
 use Rattle.std.proofs.lemmas.Option.{slice_get_within}
-use Rattle.mx_print_report.proofs.Steps.{kept_more, kept_none, nil_behind}
+use Rattle.mx_print_report.proofs.Steps.{kept_more, kept_none, nil_after}
 use Rattle.mx_print_report.proofs.reporting.push_console.Goals as goal
 
 pub overflow_add-index : goal.overflow_add-index
@@ -30,4 +30,4 @@ loop-byte-preserved c =
 pub returns : goal.returns
 returns c =
     let over = kept_none c.args.console.now.kept c.loop-byte.index (sym c.get.ensures ∙ c.in_default.is) in
-    sym (nil_behind c.loop-byte.out.items) ∙ ap (λ (z : List ℕ). c.loop-byte.out.items ++ z) (sym over) ∙ c.loop-byte.invariant.items
+    sym (nil_after c.loop-byte.out.items) ∙ ap (λ (z : List ℕ). c.loop-byte.out.items ++ z) (sym over) ∙ c.loop-byte.invariant.items

@@ -8,16 +8,16 @@ use Rattle.mx_asm.proofs.assembling.Read.accept.Goals as goal
 pub returns-in_ok-push-clause-accepted : goal.returns-in_ok-push-clause-accepted
 returns-in_ok-push-clause-accepted c = (
   sym c.reason_of.ensures ∙ c.in-None.is,
-  c.in_ok-go_behind.ensures.ok,
+  c.in_ok-go_after.ensures.ok,
   one_kept c.args.number c.args.line c.args.self.now.lines.items _ (sym c.says_something.ensures ∙ c.if-says_something.true) c.in_ok-push.ensures.items,
 )
 
 pub returns-else-says_something-clause-accepted : goal.returns-else-says_something-clause-accepted
 returns-else-says_something-clause-accepted c = (
   sym c.reason_of.ensures ∙ c.in-None.is,
-  c.in_ok-go_behind.ensures.ok,
+  c.in_ok-go_after.ensures.ok,
   none_kept c.args.number c.args.line c.args.self.now.lines.items _ (sym c.says_something.ensures ∙ c.if-says_something.false) refl,
 )
 
-pub go_behind-requires-clause-new : goal.go_behind-requires-clause-new
-go_behind-requires-clause-new c = not_standing (seen_of (above_of c.args.self.now.layout)) c.args.line (sym c.reason_of.ensures ∙ c.in-None.is)
+pub go_after-requires-clause-new : goal.go_after-requires-clause-new
+go_after-requires-clause-new c = not_standing (seen_of (above_of c.args.self.now.layout)) c.args.line (sym c.reason_of.ensures ∙ c.in-None.is)

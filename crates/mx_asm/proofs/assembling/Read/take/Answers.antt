@@ -7,7 +7,7 @@ use Rattle.mx_asm.proofs.assembling.Read.take.Goals as goal
 
 pub returns-in-Ok-clause-taken : goal.returns-in-Ok-clause-taken
 returns-in-Ok-clause-taken c =
-    on_ok_weaker c.accept.result (λ p. record { line = c.in-Ok.line; taken = (c.in-Ok.ensures.line, p.0); behind_is = p.1; lines_are = p.2 }) c.accept.ensures.accepted
+    on_ok_weaker c.accept.result (λ p. record { line = c.in-Ok.line; taken = (c.in-Ok.ensures.line, p.0); following_is = p.1; lines_are = p.2 }) c.accept.ensures.accepted
 
 pub returns-in-Ok-clause-wrong : goal.returns-in-Ok-clause-wrong
 returns-in-Ok-clause-wrong c =

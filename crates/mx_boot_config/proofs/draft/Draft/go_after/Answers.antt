@@ -2,7 +2,7 @@ use Rattle.std.proofs.Common.{◌≡◌, false, subst, sym}
 use Rattle.mx_boot_config.specs.Above.{ItemsAbove}
 use Rattle.mx_boot_config.specs.Lines.{is_service_too_many}
 use Rattle.mx_boot_config.proofs.Taking.{services_more}
-use Rattle.mx_boot_config.proofs.draft.Draft.go_behind.Goals as goal
+use Rattle.mx_boot_config.proofs.draft.Draft.go_after.Goals as goal
 
 pub invariant_of-self-in-Service : goal.invariant_of-self-in-Service
 invariant_of-self-in-Service c =
