@@ -46,7 +46,8 @@ pub(crate) fn times(x: i64, y: i64) -> i64
 pub(crate) fn quotient(whole: i64, divisor: i64) -> Option<(i64, i64)>
     requires { divisor ≢ pos 0 }
     ensures none { IfNone result (leaves_signed 64 (int_div whole divisor) ≡ true) }
-    ensures some { IfSome result (λ q. (q.0 ≡ int_div whole divisor) × (q.1 ≡ int_rem whole divisor)) }
+    ensures some { IfSome result (λ q. (q.0 ≡ int_div whole divisor)
+        × (q.1 ≡ int_rem whole divisor)) }
 {
     match (whole.checked_div(divisor), whole.checked_rem(divisor)) {
         (Some(quotient), Some(remainder)) => Some((quotient, remainder)),

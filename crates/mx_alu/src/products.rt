@@ -58,8 +58,11 @@ pub fn multiply_low(size: Size, x: u32, y: u32, flags: &Flags) -> (u32, Flags)
 fn unsigned_product(size: Size, x: u32, y: u32) -> (Halves, bool)
     requires left { x < 2 ^ width size }
     requires right { y < 2 ^ width size }
-    ensures value { result.0 ≡ halves_of (width size) (product_of Signedness.Unsigned (width size) x y) }
-    ensures outside { result.1 ≡ leaves Signedness.Unsigned (width size) (product_of Signedness.Unsigned (width size) x y) }
+    ensures value { result.0
+        ≡ halves_of (width size) (product_of Signedness.Unsigned (width size) x y) }
+    ensures outside { result.1
+        ≡ leaves Signedness.Unsigned (width size)
+        (product_of Signedness.Unsigned (width size) x y) }
     ensures low { result.0.low < 2 ^ width size }
     ensures high { result.0.high < 2 ^ width size }
 {
@@ -77,8 +80,10 @@ fn unsigned_product(size: Size, x: u32, y: u32) -> (Halves, bool)
 fn signed_product(size: Size, x: u32, y: u32) -> (Halves, bool)
     requires left { x < 2 ^ width size }
     requires right { y < 2 ^ width size }
-    ensures value { result.0 ≡ halves_of (width size) (product_of Signedness.Signed (width size) x y) }
-    ensures outside { result.1 ≡ leaves Signedness.Signed (width size) (product_of Signedness.Signed (width size) x y) }
+    ensures value { result.0
+        ≡ halves_of (width size) (product_of Signedness.Signed (width size) x y) }
+    ensures outside { result.1
+        ≡ leaves Signedness.Signed (width size) (product_of Signedness.Signed (width size) x y) }
     ensures low { result.0.low < 2 ^ width size }
     ensures high { result.0.high < 2 ^ width size }
 {

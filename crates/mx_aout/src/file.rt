@@ -124,7 +124,8 @@ fn header_of(bytes: &[u8]) -> Header
 /// The first reason to refuse a file for its header.
 fn header_refusal(bytes: &[u8]) -> Option<FileError>
     ensures stands { IfSome result (λ e. refusal_of bytes.now ≡ Some e) }
-    ensures passes { IfNone result (refusal_of bytes.now ≡ first_file_error (size_reasons bytes.now)) }
+    ensures passes { IfNone result (refusal_of bytes.now
+        ≡ first_file_error (size_reasons bytes.now)) }
     ensures form { result ≡ first_file_error (form_reasons bytes.now) }
     ensures header { IfNone result (32 ≤ length bytes.now) }
     ensures long { IfNone result (slice_index bytes.now 4 ≡ 48 → 48 ≤ length bytes.now) }
@@ -152,7 +153,9 @@ fn header_refusal(bytes: &[u8]) -> Option<FileError>
 /// The first reason to refuse a file for its sizes.
 fn size_refusal(header: &Header, length: usize) -> Option<FileError>
     ensures reason { result ≡ first_file_error (reasons_of_sizes header.now length) }
-    ensures within { IfNone result (IsWithin header.now.sep header.now.total header.now.text header.now.init header.now.bss (header.now.symbols / 16)) }
+    ensures within { IfNone result
+        (IsWithin header.now.sep header.now.total header.now.text header.now.init header.now.bss
+        (header.now.symbols / 16)) }
     ensures inside { IfNone result (symbols_at header.now + header.now.symbols ≤ length) }
 {
     if header.total == 0 {
@@ -254,7 +257,8 @@ pub fn read(alloc: Global, bytes: &[u8]) -> Result<Program, FileError>
 fn read_parts(alloc: Global, bytes: &[u8], header: &Header) -> Result<Program, FileError>
     requires header { header.now ≡ header_of bytes.now }
     requires accepted { refusal_of bytes.now ≡ None }
-    requires within { IsWithin header.now.sep header.now.total header.now.text header.now.init header.now.bss (header.now.symbols / 16) }
+    requires within { IsWithin header.now.sep header.now.total header.now.text header.now.init
+        header.now.bss (header.now.symbols / 16) }
     requires inside { symbols_at header.now + header.now.symbols ≤ length bytes.now }
     ensures { ReadsFile None bytes.now result }
 {

@@ -72,8 +72,10 @@ fn push_dwords(bytes: &mut Vec<u8>, numbers: &[u32]) -> Result<(), AllocError>
 
 /// Appends the bytes of each symbol.
 fn push_symbols(bytes: &mut Vec<u8>, symbols: &[Symbol]) -> Result<(), AllocError>
-    ensures bytes { OnOk result (bytes.new.items ≡ bytes.old.items ++ flat_map symbol_bytes symbols.now) }
-    ensures again { OnOk result (AllByRecursion (λ s. symbol_at (symbol_bytes s) 0 ≡ s) symbols.now) }
+    ensures bytes { OnOk result (bytes.new.items ≡ bytes.old.items
+        ++ flat_map symbol_bytes symbols.now) }
+    ensures again { OnOk result (AllByRecursion (λ s. symbol_at (symbol_bytes s) 0
+        ≡ s) symbols.now) }
 {
     for symbol in symbols {
         bytes.extend_from_slice(&symbol_bytes(symbol))?;
@@ -93,7 +95,8 @@ fn entry_of(program: &Program) -> u32
 fn short_header(alloc: Global, program: &Program) -> Result<Vec<u8>, AllocError>
     ensures bytes { IfOk result (λ bytes. bytes.items ≡ short_header program.now) }
     ensures entry { program.now.entry < 2 ^ 32 }
-    ensures within { IsWithin program.now.sep program.now.total (length program.now.text) (length program.now.init) program.now.bss (length program.now.symbols) }
+    ensures within { IsWithin program.now.sep program.now.total (length program.now.text)
+        (length program.now.init) program.now.bss (length program.now.symbols) }
 {
     let flags = if program.sep { 0x30 } else { 0x10 };
     let mut bytes = Vec::new(alloc);

@@ -37,7 +37,9 @@ fn print_said<W: Write>(
 ) -> Result<(), Failure>
     requires { other < actors (world_of machine.old) }
     ensures err { IfErr result IsWanting }
-    ensures world { OnOk result (world_of machine.new ≡ (debug_lines_made other (record { world = world_of machine.old; points = [] }) lines.now).world) }
+    ensures world { OnOk result (world_of machine.new
+        ≡ (debug_lines_made other (record { world = world_of machine.old; points = [] })
+        lines.now).world) }
     ensures printed { OnOk result (Appends (W.contents out.old) (W.contents out.new)
         (debug_lines_text other (record { world = world_of machine.old; points = [] }) lines.now)) }
 {
@@ -63,9 +65,11 @@ fn print_lines<W: Write>(
 ) -> Result<(), Failure>
     requires { other < actors (world_of machine.old) }
     ensures err { IfErr result IsWanting }
-    ensures printed { OnOk result (let d : DebuggedWorld = record { world = world_of machine.old; points = [] } in
+    ensures printed { OnOk result
+        (let d : DebuggedWorld = record { world = world_of machine.old; points = [] } in
         let e = debug_lines_made other d lines.now in
-        Appends (W.contents out.old) (W.contents out.new) (debug_lines_text other d lines.now ++ report_text e.world.table e.world.services)) }
+        Appends (W.contents out.old) (W.contents out.new) (debug_lines_text other d lines.now
+        ++ report_text e.world.table e.world.services)) }
 {
     print_said(alloc, machine, other, lines, out)?;
     print_report(alloc, machine, out)
@@ -80,13 +84,17 @@ pub fn db<R: Reader, W: Write>(
     script: &str,
     out: &mut W,
 ) -> Result<(), Failure>
-    ensures printed { OnOk result ((qs : List Asked) × (c : Config) × (vs : List Service) × (said : List Line)
-        × (R.asked reader.new ≡ R.asked reader.old ++ qs) × IsStart IsDebugScript config.now script.now qs c vs said
+    ensures printed { OnOk result ((qs : List Asked) × (c : Config) × (vs : List Service)
+        × (said : List Line)
+        × (R.asked reader.new ≡ R.asked reader.old ++ qs)
+        × IsStart IsDebugScript config.now script.now qs c vs said
         × (let d : DebuggedWorld = record { world = world_at_boot c vs; points = [] } in
         let e = debug_lines_made c.cpus d said in
-        Appends (W.contents out.old) (W.contents out.new) (debug_lines_text c.cpus d said ++ report_text e.world.table e.world.services))) }
+        Appends (W.contents out.old) (W.contents out.new) (debug_lines_text c.cpus d said
+        ++ report_text e.world.table e.world.services))) }
     ensures fault { IfErr result (λ f. (qs : List Asked)
-        × (R.asked reader.new ≡ R.asked reader.old ++ qs) × IsTold IsDebugScript TellsDebugScript config.now script.now qs f) }
+        × (R.asked reader.new ≡ R.asked reader.old ++ qs)
+        × IsTold IsDebugScript TellsDebugScript config.now script.now qs f) }
 {
     let mut started = start::<DebugScript, R>(alloc, reader, config, script)?;
     let lines = started.lines.as_slice();

@@ -38,9 +38,13 @@ impl<'a> Tool for Resuming<'a> {
 /// Refused are `CpuEmpty`, and `AtStop` where no step can be made.
 #[tactic(auto, using(crate::proofs::Worlds::gone_steps, crate::proofs::Worlds::gone_nothing, crate::proofs::Worlds::gone_no_slot))]
 pub fn go(machine: &mut Machine, debugger: &Debugger, cpu: u8, steps: u32) -> Result<Halt, Refusal>
-    ensures gone { IfOk result (λ halt. HasGone (world_of machine.old) (world_of machine.new) debugger.now cpu steps halt) }
-    ensures stuck { IfErr result (λ refusal. IsStuck (world_of machine.old) debugger.now cpu steps refusal × (world_of machine.new ≡ world_of machine.old)) }
-    ensures world { world_after_go (world_of machine.old) debugger.now cpu steps (held_by (world_of machine.old) cpu) ≡ world_of machine.new }
+    ensures gone { IfOk result (λ halt.
+        HasGone (world_of machine.old) (world_of machine.new) debugger.now cpu steps halt) }
+    ensures stuck { IfErr result (λ refusal.
+        IsStuck (world_of machine.old) debugger.now cpu steps refusal
+        × (world_of machine.new ≡ world_of machine.old)) }
+    ensures world { world_after_go (world_of machine.old) debugger.now cpu steps
+        (held_by (world_of machine.old) cpu) ≡ world_of machine.new }
     ensures kernel { machine.new.kernel ≡ machine.old.kernel }
     ensures actors { actors (world_of machine.new) ≡ actors (world_of machine.old) }
 {

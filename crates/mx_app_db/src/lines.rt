@@ -36,9 +36,11 @@ fn perform_go(
     steps: u32,
     text: &mut String,
 ) -> Result<(), AllocError>
-    ensures world { world_after_go (world_of machine.old) debugger.now cpu steps (held_by (world_of machine.old) cpu) ≡ world_of machine.new }
+    ensures world { world_after_go (world_of machine.old) debugger.now cpu steps
+        (held_by (world_of machine.old) cpu) ≡ world_of machine.new }
     ensures actors { actors (world_of machine.new) ≡ actors (world_of machine.old) }
-    ensures told { OnOk result (string_bytes text.new ≡ string_bytes text.old ++ go_text debugger.now steps (held_by (world_of machine.old) cpu)) }
+    ensures told { OnOk result (string_bytes text.new ≡ string_bytes text.old
+        ++ go_text debugger.now steps (held_by (world_of machine.old) cpu)) }
 {
     let run = go(machine, debugger, cpu, steps);
     let eip = eip_on(machine, cpu);
@@ -47,7 +49,8 @@ fn perform_go(
 
 /// Appends the registers of the process that a processor holds.
 fn show_registers(machine: &Machine, cpu: u8, text: &mut String) -> Result<(), AllocError>
-    ensures { OnOk result (string_bytes text.new ≡ string_bytes text.old ++ registers_text (image_held (held_by (world_of machine.now) cpu))) }
+    ensures { OnOk result (string_bytes text.new ≡ string_bytes text.old
+        ++ registers_text (image_held (held_by (world_of machine.now) cpu))) }
 {
     push_process(text, machine.image(cpu))
 }
@@ -60,7 +63,8 @@ fn show_memory(
     count: u32,
     text: &mut String,
 ) -> Result<(), AllocError>
-    ensures { OnOk result (string_bytes text.new ≡ string_bytes text.old ++ memory_text (image_held (held_by (world_of machine.now) cpu)) from count) }
+    ensures { OnOk result (string_bytes text.new ≡ string_bytes text.old
+        ++ memory_text (image_held (held_by (world_of machine.now) cpu)) from count) }
 {
     push_memory(text, machine.image(cpu), from, count)
 }
@@ -76,8 +80,12 @@ fn perform_debug_line(
     text: &mut String,
 ) -> Result<(), AllocError>
     requires { other < actors (world_of machine.old) }
-    ensures made { OnOk result (debug_line_made other (record { world = world_of machine.old; points = debugger.old }) line.now ≡ record { world = world_of machine.new; points = debugger.new }) }
-    ensures told { OnOk result (string_bytes text.new ≡ string_bytes text.old ++ debug_line_text other (record { world = world_of machine.old; points = debugger.old }) line.now) }
+    ensures made { OnOk result
+        (debug_line_made other (record { world = world_of machine.old; points = debugger.old })
+        line.now ≡ record { world = world_of machine.new; points = debugger.new }) }
+    ensures told { OnOk result (string_bytes text.new ≡ string_bytes text.old
+        ++ debug_line_text other (record { world = world_of machine.old; points = debugger.old })
+        line.now) }
     ensures actors { actors (world_of machine.new) ≡ actors (world_of machine.old) }
 {
     match line {
@@ -116,9 +124,14 @@ pub fn perform_debug_lines<W: io::Write>(
 ) -> Result<(), Failure>
     requires { other < actors (world_of machine.old) }
     ensures err { IfErr result IsWanting }
-    ensures made { OnOk result (debug_lines_made other (record { world = world_of machine.old; points = debugger.old }) lines.now ≡ record { world = world_of machine.new; points = debugger.new }) }
-    ensures told { OnOk result (IsPrintedBut (W.contents out.old) (W.contents out.new) (string_bytes text.new)
-        (string_bytes text.old ++ debug_lines_text other (record { world = world_of machine.old; points = debugger.old }) lines.now)) }
+    ensures made { OnOk result
+        (debug_lines_made other (record { world = world_of machine.old; points = debugger.old })
+        lines.now ≡ record { world = world_of machine.new; points = debugger.new }) }
+    ensures told { OnOk result (IsPrintedBut (W.contents out.old) (W.contents out.new)
+        (string_bytes text.new)
+        (string_bytes text.old
+        ++ debug_lines_text other (record { world = world_of machine.old; points = debugger.old })
+        lines.now)) }
 {
     pieces_join();
     for line in lines {

@@ -13,7 +13,8 @@ use mx_proc::Slot;
 
 /// The address of a place in a program.
 fn address_of(program: &Program, place: &CodePlace) -> Result<u32, DebugError>
-    ensures { MatchResult result (λ at. address_of_place program.now place.now ≡ Some at) (λ e. (address_of_place program.now place.now ≡ None) × (e ≡ errors.NoSymbol)) }
+    ensures { MatchResult result (λ at. address_of_place program.now place.now ≡ Some at) (λ e.
+        (address_of_place program.now place.now ≡ None) × (e ≡ errors.NoSymbol)) }
 {
     match place {
         CodePlace::Address(at) => Ok(*at),
@@ -41,7 +42,8 @@ pub fn set_breakpoint(
     slot: u32,
     place: &CodePlace,
 ) -> Result<(), Refused>
-    ensures { breakpoints_after_break debugger.old (place_found (replay kernel.now).services slot place.now) ≡ (result, debugger.new) }
+    ensures { breakpoints_after_break debugger.old
+        (place_found (replay kernel.now).services slot place.now) ≡ (result, debugger.new) }
 {
     let (slot, at) = found(kernel, slot, place)?;
     debugger.add(slot, at)?;
@@ -55,7 +57,8 @@ pub fn clear_breakpoint(
     slot: u32,
     place: &CodePlace,
 ) -> Result<(), Refused>
-    ensures { breakpoints_after_clear debugger.old (place_found (replay kernel.now).services slot place.now) ≡ (result, debugger.new) }
+    ensures { breakpoints_after_clear debugger.old
+        (place_found (replay kernel.now).services slot place.now) ≡ (result, debugger.new) }
 {
     let (slot, at) = found(kernel, slot, place)?;
     debugger.remove(slot, at);

@@ -31,7 +31,8 @@ fn names_of(alloc: Global, bytes: &[u8]) -> Result<String, FileError>
 /// Prints the instructions of a file's program, one a line.
 pub fn print_listing<W: Write>(alloc: Global, bytes: &[u8], out: &mut W) -> Result<(), Failure>
     ensures tells { Tells (refusal_of bytes.now) result }
-    ensures shown { OnOk result ((text : List ℕ) × IsShown HasListing bytes.now text × Appends (W.contents out.old) (W.contents out.new) text) }
+    ensures shown { OnOk result ((text : List ℕ) × IsShown HasListing bytes.now text
+        × Appends (W.contents out.old) (W.contents out.new) text) }
 {
     let text = listing_of(alloc, bytes)?;
     print_text(text.as_bytes(), out)
@@ -40,7 +41,8 @@ pub fn print_listing<W: Write>(alloc: Global, bytes: &[u8], out: &mut W) -> Resu
 /// Prints the symbols of a file's program, one a line.
 pub fn print_names<W: Write>(alloc: Global, bytes: &[u8], out: &mut W) -> Result<(), Failure>
     ensures tells { Tells (refusal_of bytes.now) result }
-    ensures shown { OnOk result ((text : List ℕ) × IsShown HasNames bytes.now text × Appends (W.contents out.old) (W.contents out.new) text) }
+    ensures shown { OnOk result ((text : List ℕ) × IsShown HasNames bytes.now text
+        × Appends (W.contents out.old) (W.contents out.new) text) }
 {
     let text = names_of(alloc, bytes)?;
     print_text(text.as_bytes(), out)

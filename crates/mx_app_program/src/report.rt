@@ -23,7 +23,8 @@ pub fn print_one<W: Write>(
     out: &mut W,
 ) -> Result<(), Failure>
     ensures tells { Tells (refusal_of bytes.now) result }
-    ensures shown { OnOk result ((text : List ℕ) × IsPrinted bytes.now steps text × Appends (W.contents out.old) (W.contents out.new) text) }
+    ensures shown { OnOk result ((text : List ℕ) × IsPrinted bytes.now steps text
+        × Appends (W.contents out.old) (W.contents out.new) text) }
 {
     let (count, stop, image) = one(alloc, bytes, steps)?;
     print_steps(alloc, count, stop, &image, out)
@@ -38,7 +39,8 @@ fn print_steps<R: Runs, W: Write>(
     out: &mut W,
 ) -> Result<(), Failure>
     ensures err { IfErr result IsWanting }
-    ensures bytes { OnOk result (Appends (W.contents out.old) (W.contents out.new) (one_text count stop (R.image image.now))) }
+    ensures bytes { OnOk result (Appends (W.contents out.old) (W.contents out.new)
+        (one_text count stop (R.image image.now))) }
 {
     let text = four_lines(alloc, count, stop, image)?;
     print_text(text.as_bytes(), out)

@@ -62,7 +62,8 @@ impl MemoryWriter {
         ensures files { OnOk result (files_of self.new.files.items
             ≡ files_of self.old.files.items ++ (name.now, bytes.now) ∷ []) }
         ensures same { IfErr result (λ _. self.new.files.items ≡ self.old.files.items) }
-        ensures others { (self.new.refusal ≡ self.old.refusal) × (self.new.writes ≡ self.old.writes) }
+        ensures others { (self.new.refusal ≡ self.old.refusal)
+            × (self.new.writes ≡ self.old.writes) }
     {
         let file = KeptFile {
             name: String::from_str(alloc, name)?,

@@ -40,7 +40,8 @@ impl<'a> NamedFiles<'a> {
 
     /// The bytes of the first file that has a name.
     fn find(&self, name: &str) -> Option<&[u8]>
-        ensures { MatchOption result (bytes_named self.now.files.now name.now ≡ None) (λ bytes. bytes_named self.now.files.now name.now ≡ Some bytes.now) }
+        ensures { MatchOption result (bytes_named self.now.files.now name.now ≡ None) (λ bytes.
+            bytes_named self.now.files.now name.now ≡ Some bytes.now) }
     {
         for file in self.files {
             if file.name == name {
@@ -58,12 +59,15 @@ impl<'a> Reader for NamedFiles<'a> {
     /// lack of memory.
     fn read(&mut self, alloc: Global, name: &str) -> io::Result<Vec<u8>>
         ensures given { IfOk result (λ bytes. asked_in self.new.answers.items
-            ≡ asked_in self.old.answers.items ++ record { name = name.now; answer = Ok bytes.items } ∷ []) }
+            ≡ asked_in self.old.answers.items ++ record { name = name.now; answer = Ok bytes.items }
+            ∷ []) }
         ensures missed { IfErr result (λ e. asked_in self.new.answers.items
             ≡ asked_in self.old.answers.items
             ++ record { name = name.now; answer = Err (error_kind e) } ∷ []) }
-        ensures found { IfOk result (λ bytes. bytes_named self.old.files.now name.now ≡ Some bytes.items) }
-        ensures absent { IfErr result (λ e. IsAbsent (bytes_named self.old.files.now name.now) (error_kind e)) }
+        ensures found { IfOk result (λ bytes. bytes_named self.old.files.now name.now
+            ≡ Some bytes.items) }
+        ensures absent { IfErr result (λ e.
+            IsAbsent (bytes_named self.old.files.now name.now) (error_kind e)) }
         ensures files { self.new.files ≡ self.old.files }
     {
         let answer = match self.find(name) {

@@ -31,8 +31,10 @@ fn bytes_noted(bytes: &[u8]) -> Bytes
 
 /// Remembers an answer after others.
 pub(crate) fn with_answer(answers: &Answers, name: &str, answer: &io::Result<Vec<u8>>) -> Answers
-    ensures given { IfOk answer.now (λ bytes. asked_in result.items ≡ asked_in answers.now.items ++ record { name = name.now; answer = Ok bytes.items } ∷ []) }
-    ensures missed { IfErr answer.now (λ e. asked_in result.items ≡ asked_in answers.now.items ++ record { name = name.now; answer = Err (error_kind e) } ∷ []) }
+    ensures given { IfOk answer.now (λ bytes. asked_in result.items ≡ asked_in answers.now.items
+        ++ record { name = name.now; answer = Ok bytes.items } ∷ []) }
+    ensures missed { IfErr answer.now (λ e. asked_in result.items ≡ asked_in answers.now.items
+        ++ record { name = name.now; answer = Err (error_kind e) } ∷ []) }
 {
     let name = bytes_noted(name.as_bytes());
     let answer = match answer {

@@ -14,12 +14,16 @@ pub trait Reader {
 
     /// The bytes of the file that has a name. Out of memory is the error `OutOfMemory`.
     fn read(&mut self, alloc: Global, name: &str) -> io::Result<Vec<u8>>
-        ensures given { IfOk result (λ bytes. asked self.new ≡ asked self.old ++ record { name = name.now; answer = Ok bytes.items } ∷ []) }
-        ensures missed { IfErr result (λ e. asked self.new ≡ asked self.old ++ record { name = name.now; answer = Err (error_kind e) } ∷ []) };
+        ensures given { IfOk result (λ bytes. asked self.new ≡ asked self.old
+            ++ record { name = name.now; answer = Ok bytes.items } ∷ []) }
+        ensures missed { IfErr result (λ e. asked self.new ≡ asked self.old
+            ++ record { name = name.now; answer = Err (error_kind e) } ∷ []) };
 
     /// The bytes of the program's file that has a name; of a file that is longer than its header says, the
     /// first of them may be all. Out of memory is the error `OutOfMemory`.
     fn read_program(&mut self, alloc: Global, name: &str) -> io::Result<Vec<u8>>
-        ensures given { IfOk result (λ bytes. asked self.new ≡ asked self.old ++ record { name = name.now; answer = Ok bytes.items } ∷ []) }
-        ensures missed { IfErr result (λ e. asked self.new ≡ asked self.old ++ record { name = name.now; answer = Err (error_kind e) } ∷ []) };
+        ensures given { IfOk result (λ bytes. asked self.new ≡ asked self.old
+            ++ record { name = name.now; answer = Ok bytes.items } ∷ []) }
+        ensures missed { IfErr result (λ e. asked self.new ≡ asked self.old
+            ++ record { name = name.now; answer = Err (error_kind e) } ∷ []) };
 }

@@ -17,8 +17,11 @@ pub(crate) fn text_of<R: Reader>(
     reader: &mut R,
     name: &str,
 ) -> Result<String, Failure>
-    ensures text { IfOk result (λ text. (q : Asked) × (R.asked reader.new ≡ R.asked reader.old ++ q ∷ []) × IsTextGiven name.now q (string_bytes text)) }
-    ensures fault { IfErr result (λ f. (q : Asked) × (R.asked reader.new ≡ R.asked reader.old ++ q ∷ []) × IsNoTextGiven name.now q f) }
+    ensures text { IfOk result (λ text. (q : Asked)
+        × (R.asked reader.new ≡ R.asked reader.old ++ q ∷ [])
+        × IsTextGiven name.now q (string_bytes text)) }
+    ensures fault { IfErr result (λ f. (q : Asked)
+        × (R.asked reader.new ≡ R.asked reader.old ++ q ∷ []) × IsNoTextGiven name.now q f) }
 {
     let bytes = reader.read(alloc, name)?;
     match String::from_utf8(bytes) {
@@ -33,8 +36,10 @@ fn service_of<R: Reader>(
     reader: &mut R,
     line: &ServiceLine,
 ) -> Result<Service, Failure>
-    ensures read { IfOk result (λ v. (q : Asked) × (R.asked reader.new ≡ R.asked reader.old ++ q ∷ []) × IsServiceRead line.now q v) }
-    ensures refused { IfErr result (λ f. (q : Asked) × (R.asked reader.new ≡ R.asked reader.old ++ q ∷ []) × IsFileRefused line.now q f) }
+    ensures read { IfOk result (λ v. (q : Asked)
+        × (R.asked reader.new ≡ R.asked reader.old ++ q ∷ []) × IsServiceRead line.now q v) }
+    ensures refused { IfErr result (λ f. (q : Asked)
+        × (R.asked reader.new ≡ R.asked reader.old ++ q ∷ []) × IsFileRefused line.now q f) }
 {
     let bytes = reader.read_program(alloc, line.file.as_str())?;
     let program = read(alloc, bytes.as_slice())?;
@@ -55,8 +60,11 @@ fn services_of<R: Reader>(
     reader: &mut R,
     lines: &[ServiceLine],
 ) -> Result<Vec<Service>, Failure>
-    ensures read { IfOk result (λ services. (qs : List Asked) × (R.asked reader.new ≡ R.asked reader.old ++ qs) × AreServicesRead lines.now qs services.items) }
-    ensures refused { IfErr result (λ f. (qs : List Asked) × (R.asked reader.new ≡ R.asked reader.old ++ qs) × IsServicesFault lines.now qs f) }
+    ensures read { IfOk result (λ services. (qs : List Asked)
+        × (R.asked reader.new ≡ R.asked reader.old ++ qs)
+        × AreServicesRead lines.now qs services.items) }
+    ensures refused { IfErr result (λ f. (qs : List Asked)
+        × (R.asked reader.new ≡ R.asked reader.old ++ qs) × IsServicesFault lines.now qs f) }
 {
     let mut services = Vec::new(alloc);
     for line in lines {
@@ -74,8 +82,10 @@ pub fn setup_of<R: Reader>(
     reader: &mut R,
     name: &str,
 ) -> Result<(Config, Vec<Service>), Failure>
-    ensures read { IfOk result (λ s. (qs : List Asked) × (R.asked reader.new ≡ R.asked reader.old ++ qs) × IsSetup name.now qs s.0 s.1.items) }
-    ensures fault { IfErr result (λ f. (qs : List Asked) × (R.asked reader.new ≡ R.asked reader.old ++ qs) × IsSetupFault name.now qs f) }
+    ensures read { IfOk result (λ s. (qs : List Asked)
+        × (R.asked reader.new ≡ R.asked reader.old ++ qs) × IsSetup name.now qs s.0 s.1.items) }
+    ensures fault { IfErr result (λ f. (qs : List Asked)
+        × (R.asked reader.new ≡ R.asked reader.old ++ qs) × IsSetupFault name.now qs f) }
 {
     let text = text_of(alloc, reader, name)?;
     let config = config(alloc, text.as_str())?;

@@ -32,8 +32,10 @@ pub struct Started<L: Drop> {
 fn boot(alloc: Global, config: &Config, services: Vec<Service>) -> Result<Machine, NoMemory>
     requires some { 0 < length services.items }
     requires few { length services.items ≤ 32 }
-    ensures world { IfOk result (λ machine. world_of machine ≡ world_at_boot config.now services.items) }
-    ensures kernel { IfOk result (λ machine. machine.kernel ≡ record { boot = world_of machine; history = [] }) }
+    ensures world { IfOk result (λ machine. world_of machine
+        ≡ world_at_boot config.now services.items) }
+    ensures kernel { IfOk result (λ machine. machine.kernel
+        ≡ record { boot = world_of machine; history = [] }) }
 {
     let mut services = services;
     let kernel = Kernel::new(alloc, config, &mut services)?;
@@ -52,12 +54,15 @@ pub fn start<C: Course, R: Reader>(
 where
     C::Line: Drop,
     ensures started { IfOk result (λ s. (qs : List Asked) × (c : Configured) × (vs : List Served)
-        × (R.asked reader.new ≡ R.asked reader.old ++ qs) × IsStart C.IsSaid config.now text.now qs c vs s.lines.items
+        × (R.asked reader.new ≡ R.asked reader.old ++ qs)
+        × IsStart C.IsSaid config.now text.now qs c vs s.lines.items
         × (world_of s.machine ≡ world_at_boot c vs) × (s.other ≡ c.cpus)) }
-    ensures kernel { IfOk result (λ s. s.machine.kernel ≡ record { boot = world_of s.machine; history = [] }) }
+    ensures kernel { IfOk result (λ s. s.machine.kernel
+        ≡ record { boot = world_of s.machine; history = [] }) }
     ensures other { IfOk result (λ s. s.other < actors (world_of s.machine)) }
     ensures fault { IfErr result (λ f. (qs : List Asked)
-        × (R.asked reader.new ≡ R.asked reader.old ++ qs) × IsNotStarted C.IsSaid C.Tells config.now text.now qs f) }
+        × (R.asked reader.new ≡ R.asked reader.old ++ qs)
+        × IsNotStarted C.IsSaid C.Tells config.now text.now qs f) }
 {
     let (mut config, services) = setup_of(alloc, reader, config)?;
     let text = text_of(alloc, reader, text)?;

@@ -32,7 +32,8 @@ use std::io::Write;
 pub fn perform_line(machine: &mut Machine, other: u8, line: ScriptLine) -> Said
     requires { other < actors (world_of machine.old) }
     ensures made { line_made (world_of machine.old) other line ≡ (result, world_of machine.new) }
-    ensures kept { machine.new.kernel ≡ kept_by machine.old.kernel (world_of machine.old) (event_of_line other line) }
+    ensures kept { machine.new.kernel
+        ≡ kept_by machine.old.kernel (world_of machine.old) (event_of_line other line) }
     ensures actors { actors (world_of machine.new) ≡ actors (world_of machine.old) }
 {
     match line {
@@ -57,10 +58,14 @@ fn perform_lines<W: Write>(
 ) -> Result<(), Failure>
     requires { other < actors (world_of machine.old) }
     ensures err { IfErr result IsWanting }
-    ensures world { OnOk result (world_of machine.new ≡ (lines_made (world_of machine.old) other lines.now).1) }
-    ensures kept { OnOk result (machine.new.kernel ≡ lines_kept machine.old.kernel (world_of machine.old) other lines.now) }
-    ensures printed { OnOk result (IsPrintedBut (W.contents out.old) (W.contents out.new) (string_bytes text.new)
-        (string_bytes text.old ++ said_lines (lines_made (world_of machine.old) other lines.now).0)) }
+    ensures world { OnOk result (world_of machine.new
+        ≡ (lines_made (world_of machine.old) other lines.now).1) }
+    ensures kept { OnOk result (machine.new.kernel
+        ≡ lines_kept machine.old.kernel (world_of machine.old) other lines.now) }
+    ensures printed { OnOk result (IsPrintedBut (W.contents out.old) (W.contents out.new)
+        (string_bytes text.new)
+        (string_bytes text.old
+        ++ said_lines (lines_made (world_of machine.old) other lines.now).0)) }
 {
     for line in lines {
         let said = perform_line(machine, other, *line);
@@ -81,8 +86,10 @@ pub(crate) fn print_said<W: Write>(
 ) -> Result<(), Failure>
     requires { other < actors (world_of machine.old) }
     ensures err { IfErr result IsWanting }
-    ensures world { OnOk result (world_of machine.new ≡ (lines_made (world_of machine.old) other lines.now).1) }
-    ensures kept { OnOk result (machine.new.kernel ≡ lines_kept machine.old.kernel (world_of machine.old) other lines.now) }
+    ensures world { OnOk result (world_of machine.new
+        ≡ (lines_made (world_of machine.old) other lines.now).1) }
+    ensures kept { OnOk result (machine.new.kernel
+        ≡ lines_kept machine.old.kernel (world_of machine.old) other lines.now) }
     ensures printed { OnOk result (Appends (W.contents out.old) (W.contents out.new)
         (said_lines (lines_made (world_of machine.old) other lines.now).0)) }
 {
@@ -107,7 +114,8 @@ fn print_lines<W: Write>(
     requires { other < actors (world_of machine.old) }
     ensures err { IfErr result IsWanting }
     ensures printed { OnOk result (let m = lines_made (world_of machine.old) other lines.now in
-        Appends (W.contents out.old) (W.contents out.new) (said_lines m.0 ++ report_text m.1.table m.1.services)) }
+        Appends (W.contents out.old) (W.contents out.new) (said_lines m.0
+        ++ report_text m.1.table m.1.services)) }
 {
     print_said(alloc, machine, other, lines, out)?;
     print_report(alloc, machine, out)
@@ -122,12 +130,16 @@ pub fn step<R: Reader, W: Write>(
     script: &str,
     out: &mut W,
 ) -> Result<(), Failure>
-    ensures printed { OnOk result ((qs : List Asked) × (c : Config) × (vs : List Service) × (said : List Line)
-        × (R.asked reader.new ≡ R.asked reader.old ++ qs) × IsStart IsScript config.now script.now qs c vs said
+    ensures printed { OnOk result ((qs : List Asked) × (c : Config) × (vs : List Service)
+        × (said : List Line)
+        × (R.asked reader.new ≡ R.asked reader.old ++ qs)
+        × IsStart IsScript config.now script.now qs c vs said
         × (let m = lines_made (world_at_boot c vs) c.cpus said in
-        Appends (W.contents out.old) (W.contents out.new) (said_lines m.0 ++ report_text m.1.table m.1.services))) }
+        Appends (W.contents out.old) (W.contents out.new) (said_lines m.0
+        ++ report_text m.1.table m.1.services))) }
     ensures fault { IfErr result (λ f. (qs : List Asked)
-        × (R.asked reader.new ≡ R.asked reader.old ++ qs) × IsTold IsScript TellsScript config.now script.now qs f) }
+        × (R.asked reader.new ≡ R.asked reader.old ++ qs)
+        × IsTold IsScript TellsScript config.now script.now qs f) }
 {
     let mut started = start::<Script, R>(alloc, reader, config, script)?;
     let lines = started.lines.as_slice();

@@ -18,7 +18,8 @@ const PIECE: usize = 1 << 16;
 /// at the end is still to be printed.
 pub fn print_piece<W: Write>(text: &mut String, out: &mut W) -> Result<(), Failure>
     ensures err { IfErr result IsWanting }
-    ensures printed { OnOk result (IsPrintedBut (W.contents out.old) (W.contents out.new) (string_bytes text.new) (string_bytes text.old)) }
+    ensures printed { OnOk result (IsPrintedBut (W.contents out.old) (W.contents out.new)
+        (string_bytes text.new) (string_bytes text.old)) }
 {
     if text.len() < PIECE {
         return Ok(());
@@ -31,7 +32,8 @@ pub fn print_piece<W: Write>(text: &mut String, out: &mut W) -> Result<(), Failu
 /// Law: a text that is printed in pieces may go on: a line comes to its end, and a piece is printed;
 /// or the end is.
 pub fn pieces_join()
-    ensures next { (x y z : Option (List ℕ)) (end left text line : List ℕ) → IsPrintedBut x y end text
+    ensures next { (x y z : Option (List ℕ)) (end left text line : List ℕ)
+        → IsPrintedBut x y end text
         → IsPrintedBut y z left (end ++ line) → IsPrintedBut x z left (text ++ line) }
     ensures rest { (x y z : Option (List ℕ)) (end text : List ℕ) → IsPrintedBut x y end text
         → Appends y z end → Appends x z text }
@@ -40,7 +42,8 @@ pub fn pieces_join()
 /// Prints the report on a machine, and flushes.
 pub fn print_report<W: Write>(alloc: Global, machine: &Machine, out: &mut W) -> Result<(), Failure>
     ensures err { IfErr result IsWanting }
-    ensures bytes { OnOk result (Appends (W.contents out.old) (W.contents out.new) (report_text (world_of machine.now).table (world_of machine.now).services)) }
+    ensures bytes { OnOk result (Appends (W.contents out.old) (W.contents out.new)
+        (report_text (world_of machine.now).table (world_of machine.now).services)) }
 {
     let report = report(alloc, machine.kernel())?;
     print_text(report.as_slice(), out)

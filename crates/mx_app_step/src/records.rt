@@ -41,7 +41,8 @@ pub enum Replayed {
 
 /// The steps that a process made.
 pub(crate) fn steps_again(machine: &mut Machine, cpu: u8, steps: u32) -> Result<(), Refusal>
-    ensures ok { OnOk result (AreAccepted (world_of machine.old) (steps_of cpu steps) × (world_of machine.new ≡ world_after_events (world_of machine.old) (steps_of cpu steps))) }
+    ensures ok { OnOk result (AreAccepted (world_of machine.old) (steps_of cpu steps)
+        × (world_of machine.new ≡ world_after_events (world_of machine.old) (steps_of cpu steps))) }
     ensures err { IfErr result (IsFirstRefusal (world_of machine.old) (steps_of cpu steps)) }
 {
     if steps == 0 {
@@ -63,7 +64,8 @@ pub(crate) fn steps_again(machine: &mut Machine, cpu: u8, steps: u32) -> Result<
 /// One event again.
 pub(crate) fn event_again(machine: &mut Machine, actor: u8, event: Event) -> Result<(), Refusal>
     requires { IsActor (world_of machine.old) actor event }
-    ensures ok { OnOk result ((event_refusal (world_of machine.old) actor event ≡ None) × (world_of machine.new ≡ world_after_event (world_of machine.old) actor event)) }
+    ensures ok { OnOk result ((event_refusal (world_of machine.old) actor event ≡ None)
+        × (world_of machine.new ≡ world_after_event (world_of machine.old) actor event)) }
     ensures err { IfErr result (λ r. event_refusal (world_of machine.old) actor event ≡ Some r) }
 {
     machine.apply(actor, event)?;
@@ -72,8 +74,12 @@ pub(crate) fn event_again(machine: &mut Machine, actor: u8, event: Event) -> Res
 
 /// The steps that a process made, and its return.
 fn return_again(machine: &mut Machine, cpu: u8, steps: u32) -> Result<(), Refusal>
-    ensures ok { OnOk result (AreAccepted (world_of machine.old) (events_of cpu (recorded.Back steps)) × (world_of machine.new ≡ world_after_events (world_of machine.old) (events_of cpu (recorded.Back steps)))) }
-    ensures err { IfErr result (IsFirstRefusal (world_of machine.old) (events_of cpu (recorded.Back steps))) }
+    ensures ok { OnOk result
+        (AreAccepted (world_of machine.old) (events_of cpu (recorded.Back steps))
+        × (world_of machine.new
+        ≡ world_after_events (world_of machine.old) (events_of cpu (recorded.Back steps)))) }
+    ensures err { IfErr result
+        (IsFirstRefusal (world_of machine.old) (events_of cpu (recorded.Back steps))) }
 {
     steps_again(machine, cpu, steps)?;
     event_again(machine, cpu, Event::Back)
@@ -82,7 +88,9 @@ fn return_again(machine: &mut Machine, cpu: u8, steps: u32) -> Result<(), Refusa
 /// The events that a record stands for, up to the first that is refused.
 fn perform_record(machine: &mut Machine, actor: u8, event: Recorded) -> Result<(), Refusal>
     requires { actor < actors (world_of machine.old) }
-    ensures ok { OnOk result (AreAccepted (world_of machine.old) (events_of actor event) × (world_of machine.new ≡ world_after_events (world_of machine.old) (events_of actor event))) }
+    ensures ok { OnOk result (AreAccepted (world_of machine.old) (events_of actor event)
+        × (world_of machine.new
+        ≡ world_after_events (world_of machine.old) (events_of actor event))) }
     ensures err { IfErr result (IsFirstRefusal (world_of machine.old) (events_of actor event)) }
 {
     match event {
@@ -99,7 +107,9 @@ fn perform_record(machine: &mut Machine, actor: u8, event: Recorded) -> Result<(
 /// record, the first having the number 1, and why.
 fn perform_records(machine: &mut Machine, records: &[Record]) -> Result<(), (usize, Refusal)>
     requires { All (λ (x : Noted). x.actor < actors (world_of machine.old)) records.now }
-    ensures ok { OnOk result (AreAccepted (world_of machine.old) (events_of_history records.now) × (world_of machine.new ≡ world_after_events (world_of machine.old) (events_of_history records.now))) }
+    ensures ok { OnOk result (AreAccepted (world_of machine.old) (events_of_history records.now)
+        × (world_of machine.new
+        ≡ world_after_events (world_of machine.old) (events_of_history records.now))) }
     ensures err { IfErr result (λ p. IsRefusedAt (world_of machine.old) records.now p.0 p.1) }
     ensures few { IfErr result (λ p. p.0 ≤ length records.now) }
 {
@@ -122,7 +132,8 @@ pub(crate) fn print_refusal<W: Write>(
     out: &mut W,
 ) -> Result<(), Failure>
     ensures err { IfErr result IsWanting }
-    ensures bytes { OnOk result (Appends (W.contents out.old) (W.contents out.new) (refused_record_line number refusal)) }
+    ensures bytes { OnOk result (Appends (W.contents out.old) (W.contents out.new)
+        (refused_record_line number refusal)) }
 {
     let said = Said::Refused(refusal);
     let line = format!(in alloc; "line {number}: {said}\n")?;
@@ -139,7 +150,9 @@ fn print_records<W: Write>(
 ) -> Result<Replayed, Failure>
     requires { All (λ (x : Noted). x.actor < actors (world_of machine.old)) records.now }
     ensures err { IfErr result IsWanting }
-    ensures printed { IfOk result (λ replayed. IsReplayPrinted (world_of machine.old) records.now replayed (λ text. Appends (W.contents out.old) (W.contents out.new) text)) }
+    ensures printed { IfOk result (λ replayed.
+        IsReplayPrinted (world_of machine.old) records.now replayed (λ text.
+        Appends (W.contents out.old) (W.contents out.new) text)) }
 {
     let above = lines_above(machine.rules());
     match perform_records(machine, records) {
@@ -164,11 +177,15 @@ pub fn replay<R: Reader, W: Write>(
     log: &str,
     out: &mut W,
 ) -> Result<Replayed, Failure>
-    ensures printed { IfOk result (λ replayed. (qs : List Asked) × (c : Config) × (vs : List Service) × (records : List Noted)
-        × (R.asked reader.new ≡ R.asked reader.old ++ qs) × IsStart IsSaved config.now log.now qs c vs records
-        × IsReplayPrinted (world_at_boot c vs) records replayed (λ text. Appends (W.contents out.old) (W.contents out.new) text)) }
+    ensures printed { IfOk result (λ replayed. (qs : List Asked) × (c : Config)
+        × (vs : List Service) × (records : List Noted)
+        × (R.asked reader.new ≡ R.asked reader.old ++ qs)
+        × IsStart IsSaved config.now log.now qs c vs records
+        × IsReplayPrinted (world_at_boot c vs) records replayed (λ text.
+        Appends (W.contents out.old) (W.contents out.new) text)) }
     ensures fault { IfErr result (λ f. (qs : List Asked)
-        × (R.asked reader.new ≡ R.asked reader.old ++ qs) × IsTold IsSaved TellsSaved config.now log.now qs f) }
+        × (R.asked reader.new ≡ R.asked reader.old ++ qs)
+        × IsTold IsSaved TellsSaved config.now log.now qs f) }
 {
     let mut started = start::<History, R>(alloc, reader, config, log)?;
     let records = started.lines.as_slice();

@@ -37,11 +37,15 @@ fn save_lines<F: FileWriter, W: Write>(
 ) -> Result<(), Failure>
     requires { other < actors (world_of machine.old) }
     ensures saved { OnOk result ((F.written files.new ≡ F.written files.old
-        ++ kept log.now (text_kept (lines_kept machine.old.kernel (world_of machine.old) other lines.now)) ∷ [])
+        ++ kept log.now (text_kept
+        (lines_kept machine.old.kernel (world_of machine.old) other lines.now)) ∷ [])
         × (let m = lines_made (world_of machine.old) other lines.now in
-        Appends (W.contents out.old) (W.contents out.new) (said_lines m.0 ++ report_text m.1.table m.1.services))) }
-    ensures unsaved { IfErr result (λ f. (ws : List Written) × (F.written files.new ≡ F.written files.old ++ ws)
-        × IsUnsaved log.now (text_kept (lines_kept machine.old.kernel (world_of machine.old) other lines.now)) ws f) }
+        Appends (W.contents out.old) (W.contents out.new) (said_lines m.0
+        ++ report_text m.1.table m.1.services))) }
+    ensures unsaved { IfErr result (λ f. (ws : List Written)
+        × (F.written files.new ≡ F.written files.old ++ ws)
+        × IsUnsaved log.now (text_kept
+        (lines_kept machine.old.kernel (world_of machine.old) other lines.now)) ws f) }
 {
     print_said(alloc, machine, other, lines, out)?;
     let text = saved_text(alloc, machine.kernel())?;
@@ -61,17 +65,22 @@ pub fn step_saved<R: Reader, F: FileWriter, W: Write>(
     log: &str,
     out: &mut W,
 ) -> Result<(), Failure>
-    ensures saved { OnOk result ((qs : List Asked) × (c : Config) × (vs : List Service) × (said : List Line)
-        × (R.asked reader.new ≡ R.asked reader.old ++ qs) × IsStart IsScript config.now script.now qs c vs said
+    ensures saved { OnOk result ((qs : List Asked) × (c : Config) × (vs : List Service)
+        × (said : List Line)
+        × (R.asked reader.new ≡ R.asked reader.old ++ qs)
+        × IsStart IsScript config.now script.now qs c vs said
         × (F.written files.new ≡ F.written files.old
         ++ kept log.now (saved_text c.rules (history_made (world_at_boot c vs) c.cpus said)) ∷ [])
         × (let m = lines_made (world_at_boot c vs) c.cpus said in
-        Appends (W.contents out.old) (W.contents out.new) (said_lines m.0 ++ report_text m.1.table m.1.services))) }
+        Appends (W.contents out.old) (W.contents out.new) (said_lines m.0
+        ++ report_text m.1.table m.1.services))) }
     ensures fault { IfErr result (λ f. (qs : List Asked) × (ws : List Written)
-        × (R.asked reader.new ≡ R.asked reader.old ++ qs) × (F.written files.new ≡ F.written files.old ++ ws)
+        × (R.asked reader.new ≡ R.asked reader.old ++ qs)
+        × (F.written files.new ≡ F.written files.old ++ ws)
         × (((ws ≡ []) × IsNotStarted IsScript TellsScript config.now script.now qs f)
         ⊎ ((c : Config) × (vs : List Service) × (said : List Line) × IsStart IsScript config.now script.now qs c vs said
-        × IsUnsaved log.now (saved_text c.rules (history_made (world_at_boot c vs) c.cpus said)) ws f))) }
+        × IsUnsaved log.now (saved_text c.rules (history_made (world_at_boot c vs) c.cpus said)) ws
+        f))) }
 {
     let mut started = start::<Script, R>(alloc, reader, config, script)?;
     let lines = started.lines.as_slice();

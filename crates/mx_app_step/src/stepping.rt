@@ -52,10 +52,12 @@ impl Tool for Stepper {
 /// One or more steps of a processor, in one run.
 pub(crate) fn work_steps(machine: &mut Machine, cpu: u8, steps: u32) -> Said
     requires { 0 < steps }
-    ensures made { run_made (world_of machine.old) cpu steps (held_by (world_of machine.old) cpu) ≡ (result, world_of machine.new) }
+    ensures made { run_made (world_of machine.old) cpu steps (held_by (world_of machine.old) cpu)
+        ≡ (result, world_of machine.new) }
     ensures actors { actors (world_of machine.new) ≡ actors (world_of machine.old) }
     ensures kernel { machine.new.kernel ≡ machine.old.kernel }
-    ensures worked { (l : HeldProcess) → held_by (world_of machine.old) cpu ≡ Some l → HasWorked (world_of machine.old) (world_of machine.new) cpu steps l }
+    ensures worked { (l : HeldProcess) → held_by (world_of machine.old) cpu ≡ Some l
+        → HasWorked (world_of machine.old) (world_of machine.new) cpu steps l }
 {
     let mut stepper = Stepper {
         steps,
@@ -83,8 +85,10 @@ pub fn make_steps(machine: &mut Machine, cpu: u8, steps: u32) -> Said
 /// A take or a return of an actor, and what is said of it.
 pub(crate) fn make_own(machine: &mut Machine, actor: u8, event: Event) -> Said
     requires { is_for_all event ≡ false }
-    ensures made { event_made (move (world_of machine.old) actor event) ≡ (result, world_of machine.new) }
-    ensures kept { machine.new.kernel ≡ kept_by machine.old.kernel (world_of machine.old) (Some (actor, event)) }
+    ensures made { event_made (move (world_of machine.old) actor event)
+        ≡ (result, world_of machine.new) }
+    ensures kept { machine.new.kernel
+        ≡ kept_by machine.old.kernel (world_of machine.old) (Some (actor, event)) }
     ensures actors { actors (world_of machine.new) ≡ actors (world_of machine.old) }
 {
     said_of(machine.apply(actor, event))
@@ -93,8 +97,10 @@ pub(crate) fn make_own(machine: &mut Machine, actor: u8, event: Event) -> Said
 /// One event of an actor of the machine, and what is said of it.
 pub(crate) fn make_event(machine: &mut Machine, actor: u8, event: Event) -> Said
     requires { actor < actors (world_of machine.old) }
-    ensures made { event_made (move (world_of machine.old) actor event) ≡ (result, world_of machine.new) }
-    ensures kept { machine.new.kernel ≡ kept_by machine.old.kernel (world_of machine.old) (Some (actor, event)) }
+    ensures made { event_made (move (world_of machine.old) actor event)
+        ≡ (result, world_of machine.new) }
+    ensures kept { machine.new.kernel
+        ≡ kept_by machine.old.kernel (world_of machine.old) (Some (actor, event)) }
     ensures actors { actors (world_of machine.new) ≡ actors (world_of machine.old) }
 {
     said_of(machine.apply(actor, event))

@@ -42,7 +42,9 @@ fn own_event(event: Recorded) -> Event
 
 /// The steps that a record stands for.
 fn begin_record(machine: &mut Machine, actor: u8, event: Recorded) -> Result<(), Refusal>
-    ensures ok { OnOk result (AreAccepted (world_of machine.old) (steps_before actor event) × (world_of machine.new ≡ world_after_events (world_of machine.old) (steps_before actor event))) }
+    ensures ok { OnOk result (AreAccepted (world_of machine.old) (steps_before actor event)
+        × (world_of machine.new
+        ≡ world_after_events (world_of machine.old) (steps_before actor event))) }
     ensures err { IfErr result (IsFirstRefusal (world_of machine.old) (steps_before actor event)) }
 {
     match event {
@@ -58,9 +60,12 @@ fn begin_record(machine: &mut Machine, actor: u8, event: Recorded) -> Result<(),
 /// A record as a step: it is looked at after the steps, and after its own event.
 fn look_record(machine: &mut Machine, number: u32, entry: Record) -> Result<Step, Refusal>
     requires { entry.actor < actors (world_of machine.old) }
-    ensures ok { OnOk result (AreAccepted (world_of machine.old) (events_of entry.actor entry.event) × (world_of machine.new ≡ world_after_events (world_of machine.old) (events_of entry.actor entry.event))) }
+    ensures ok { OnOk result (AreAccepted (world_of machine.old) (events_of entry.actor entry.event)
+        × (world_of machine.new
+        ≡ world_after_events (world_of machine.old) (events_of entry.actor entry.event))) }
     ensures step { IfOk result (λ step. step ≡ step_of (world_of machine.old) number entry) }
-    ensures err { IfErr result (IsFirstRefusal (world_of machine.old) (events_of entry.actor entry.event)) }
+    ensures err { IfErr result
+        (IsFirstRefusal (world_of machine.old) (events_of entry.actor entry.event)) }
 {
     actors_stay();
     begin_record(machine, entry.actor, entry.event)?;
@@ -79,7 +84,8 @@ fn look_record(machine: &mut Machine, number: u32, entry: Record) -> Result<Step
 /// Prints what is told of a step: nothing of one before `from`.
 fn print_step<W: Write>(alloc: Global, step: &Step, from: u32, out: &mut W) -> Result<(), Failure>
     ensures err { IfErr result IsWanting }
-    ensures bytes { OnOk result (Appends (W.contents out.old) (W.contents out.new) (told_of from step.now)) }
+    ensures bytes { OnOk result (Appends (W.contents out.old) (W.contents out.new)
+        (told_of from step.now)) }
 {
     let mut text = Vec::new(alloc);
     if step.number >= from {
@@ -100,7 +106,9 @@ fn print_steps<W: Write>(
     requires few { length records.now < 2 ^ 32 }
     requires actors { All (λ (x : Noted). x.actor < actors (world_of machine.old)) records.now }
     ensures err { IfErr result IsWanting }
-    ensures printed { IfOk result (λ refused. IsTraced (world_of machine.old) records.now from refused (λ text. Appends (W.contents out.old) (W.contents out.new) text)) }
+    ensures printed { IfOk result (λ refused.
+        IsTraced (world_of machine.old) records.now from refused (λ text.
+        Appends (W.contents out.old) (W.contents out.new) text)) }
     ensures few { IfOk result (λ refused. IfSome refused (λ p. p.0 ≤ length records.now)) }
 {
     actors_stay();
@@ -126,7 +134,9 @@ fn print_trace<W: Write>(
     requires few { length records.now < 2 ^ 32 }
     requires actors { All (λ (x : Noted). x.actor < actors (world_of machine.old)) records.now }
     ensures err { IfErr result IsWanting }
-    ensures printed { IfOk result (λ replayed. IsTracePrinted (world_of machine.old) records.now from replayed (λ text. Appends (W.contents out.old) (W.contents out.new) text)) }
+    ensures printed { IfOk result (λ replayed.
+        IsTracePrinted (world_of machine.old) records.now from replayed (λ text.
+        Appends (W.contents out.old) (W.contents out.new) text)) }
 {
     let above = lines_above(machine.rules());
     match print_steps(alloc, machine, records, from, out)? {
@@ -163,11 +173,15 @@ pub fn trace<R: Reader, W: Write>(
     to: u32,
     out: &mut W,
 ) -> Result<Replayed, Failure>
-    ensures printed { IfOk result (λ replayed. (qs : List Asked) × (c : Config) × (vs : List Service) × (records : List Noted)
-        × (R.asked reader.new ≡ R.asked reader.old ++ qs) × IsStart IsSaved config.now log.now qs c vs records
-        × IsTracePrinted (world_at_boot c vs) (take to records) from replayed (λ text. Appends (W.contents out.old) (W.contents out.new) text)) }
+    ensures printed { IfOk result (λ replayed. (qs : List Asked) × (c : Config)
+        × (vs : List Service) × (records : List Noted)
+        × (R.asked reader.new ≡ R.asked reader.old ++ qs)
+        × IsStart IsSaved config.now log.now qs c vs records
+        × IsTracePrinted (world_at_boot c vs) (take to records) from replayed (λ text.
+        Appends (W.contents out.old) (W.contents out.new) text)) }
     ensures fault { IfErr result (λ f. (qs : List Asked)
-        × (R.asked reader.new ≡ R.asked reader.old ++ qs) × IsTold IsSaved TellsSaved config.now log.now qs f) }
+        × (R.asked reader.new ≡ R.asked reader.old ++ qs)
+        × IsTold IsSaved TellsSaved config.now log.now qs f) }
 {
     let mut started = start::<History, R>(alloc, reader, config, log)?;
     let records = first_records(started.lines.as_slice(), to);

@@ -68,10 +68,15 @@ impl Read {
     fn accept(&mut self, line: Line, number: usize) -> Result<(), AsmError>
         requires room { SizesWithin self.old.layout.sizes (2 ^ 126) }
         requires few { self.old.blanks + 1 < 2 ^ 64 }
-        ensures accepted { OnOk result (Accepts (above_of self.old.layout) (above_of self.new.layout) number line self.old.lines.items self.new.lines.items) }
-        ensures counted { OnOk result (length self.new.lines.items + self.new.blanks ≡ length self.old.lines.items + self.old.blanks + 1) }
-        ensures small { OnOk result (GrowsWithin self.old.layout.sizes self.new.layout.sizes (2 ^ 64)) }
-        ensures refused { IfErr result (TellsRefusal (seen_of (above_of self.old.layout)) number line) }
+        ensures accepted { OnOk result
+            (Accepts (above_of self.old.layout) (above_of self.new.layout) number line
+            self.old.lines.items self.new.lines.items) }
+        ensures counted { OnOk result (length self.new.lines.items + self.new.blanks
+            ≡ length self.old.lines.items + self.old.blanks + 1) }
+        ensures small { OnOk result (GrowsWithin self.old.layout.sizes self.new.layout.sizes
+            (2 ^ 64)) }
+        ensures refused { IfErr result
+            (TellsRefusal (seen_of (above_of self.old.layout)) number line) }
     {
         match self.layout.reason_of(&line) {
             Some(reason) => return Err(refused(reason, number)),
@@ -90,10 +95,15 @@ impl Read {
     fn take(&mut self, alloc: Global, text: &[u8], number: usize) -> Result<(), AsmError>
         requires room { SizesWithin self.old.layout.sizes (2 ^ 126) }
         requires few { self.old.blanks + 1 < 2 ^ 64 }
-        ensures taken { OnOk result (TakesLine (above_of self.old.layout) (above_of self.new.layout) number text.now self.old.lines.items self.new.lines.items) }
-        ensures counted { OnOk result (length self.new.lines.items + self.new.blanks ≡ length self.old.lines.items + self.old.blanks + 1) }
-        ensures small { OnOk result (GrowsWithin self.old.layout.sizes self.new.layout.sizes (2 ^ 64)) }
-        ensures wrong { IfErr result (TellsLineWrong (seen_of (above_of self.old.layout)) number text.now) }
+        ensures taken { OnOk result
+            (TakesLine (above_of self.old.layout) (above_of self.new.layout) number text.now
+            self.old.lines.items self.new.lines.items) }
+        ensures counted { OnOk result (length self.new.lines.items + self.new.blanks
+            ≡ length self.old.lines.items + self.old.blanks + 1) }
+        ensures small { OnOk result (GrowsWithin self.old.layout.sizes self.new.layout.sizes
+            (2 ^ 64)) }
+        ensures wrong { IfErr result
+            (TellsLineWrong (seen_of (above_of self.old.layout)) number text.now) }
     {
         match read_line(alloc, text) {
             Ok(line) => self.accept(line, number),
@@ -105,7 +115,8 @@ impl Read {
 /// The lines of a text, or the first with which something is wrong.
 fn read_lines(alloc: Global, text: &[u8]) -> Result<Read, AsmError>
     ensures taken { IfOk result (λ read. (ls : List Line) × AreLinesTaken unseen (lines text.now) ls
-        × AreKept ls read.lines.items (length read.lines.items + read.blanks) × (above_of read.layout ≡ laid_by no_lines_above ls)) }
+        × AreKept ls read.lines.items (length read.lines.items + read.blanks)
+        × (above_of read.layout ≡ laid_by no_lines_above ls)) }
     ensures few { IfOk result (λ read. length read.lines.items + read.blanks < 2 ^ 64) }
     ensures wrong { IfErr result (TellsFirstLine text.now) }
 {

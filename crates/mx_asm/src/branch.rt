@@ -73,14 +73,19 @@ pub fn is_too_far(branch: Branch, displacement: u32) -> bool
 
 /// Law: a jump that reaches has the length that its line asks for, and one of that length reaches.
 pub fn branch_has_length()
-    ensures length { (branch : Branch) (n : ℕ) (bytes : List ℕ) → is_too_far branch n ≡ false → Chosen (branch_by branch n) (branch_marks branch) bytes → length bytes ≡ branch_length branch }
-    ensures reaches { (branch : Branch) (n : ℕ) (bytes : List ℕ) → Chosen (branch_by branch n) (branch_marks branch) bytes → length bytes ≡ branch_length branch → is_too_far branch n ≡ false }
+    ensures length { (branch : Branch) (n : ℕ) (bytes : List ℕ) → is_too_far branch n ≡ false
+        → Chosen (branch_by branch n) (branch_marks branch) bytes
+        → length bytes ≡ branch_length branch }
+    ensures reaches { (branch : Branch) (n : ℕ) (bytes : List ℕ)
+        → Chosen (branch_by branch n) (branch_marks branch) bytes
+        → length bytes ≡ branch_length branch → is_too_far branch n ≡ false }
 {}
 
 /// The bytes of a jump to a label, at an address.
 pub fn branch_bytes(branch: Branch, at: u32, target: u32) -> ArrayVec<u8, 15>
     requires { is_too_far branch (distance (at + branch_length branch) target) ≡ false }
-    ensures bytes { Chosen (branch_by branch (distance (at + length result.items) target)) (branch_marks branch) result.items }
+    ensures bytes { Chosen (branch_by branch (distance (at + length result.items) target))
+        (branch_marks branch) result.items }
     ensures length { length result.items ≡ branch_length branch }
 {
     let marks = Wide {

@@ -47,7 +47,9 @@ fn push_values(
     out: &mut Vec<u8>,
 ) -> Result<(), AllocError>
     requires { list_any (is_undefined (above_of layout.now)) values.now ≡ false }
-    ensures { OnOk result (Pushes (above_of layout.now) 0 (Statement.Data size values.now) out.old.items out.new.items) }
+    ensures { OnOk result
+        (Pushes (above_of layout.now) 0 (Statement.Data size values.now) out.old.items
+        out.new.items) }
 {
     for value in values {
         let Some(number) = layout.value(*value) else {
@@ -60,7 +62,8 @@ fn push_values(
 
 fn named(layout: &Layout, instruction: &Instruction) -> Insn
     requires immediate { is_undefined_if (above_of layout.now) instruction.now.immediate ≡ false }
-    requires displacement { is_undefined_if (above_of layout.now) instruction.now.displacement ≡ false }
+    requires displacement { is_undefined_if (above_of layout.now) instruction.now.displacement
+        ≡ false }
     ensures named { named_under (above_of layout.now) instruction.now ≡ Some result }
     ensures form { has_form result ≡ true }
 {
@@ -84,7 +87,8 @@ fn named(layout: &Layout, instruction: &Instruction) -> Insn
 
 fn instruction_bytes(layout: &Layout, instruction: &Instruction) -> ArrayVec<u8, 15>
     requires immediate { is_undefined_if (above_of layout.now) instruction.now.immediate ≡ false }
-    requires displacement { is_undefined_if (above_of layout.now) instruction.now.displacement ≡ false }
+    requires displacement { is_undefined_if (above_of layout.now) instruction.now.displacement
+        ≡ false }
     ensures { BytesOf (above_of layout.now) 0 (Statement.Instruction instruction.now) result.items }
 {
     match encode(&named(layout, instruction), instruction.marks()) {
@@ -96,7 +100,8 @@ fn instruction_bytes(layout: &Layout, instruction: &Instruction) -> ArrayVec<u8,
 /// The bytes of a line's statement at an address, after others.
 fn push_line(layout: &Layout, at: u32, line: &Line, out: &mut Vec<u8>) -> Result<(), AllocError>
     requires { problem_at (above_of layout.now) at (statement_said line.now) ≡ None }
-    ensures { OnOk result (Pushes (above_of layout.now) at (statement_said line.now) out.old.items out.new.items) }
+    ensures { OnOk result (Pushes (above_of layout.now) at (statement_said line.now) out.old.items
+        out.new.items) }
 {
     match &line.statement {
         Some(Statement::Data(size, values)) => push_values(layout, *size, values.as_slice(), out),
@@ -125,8 +130,11 @@ fn put_line(
     line: &Line,
     parts: &mut Parts,
 ) -> Result<(), AllocError>
-    requires { problem_at (above_of layout.now) (address_of_offset (above_of layout.now) (section_offset_of sizes)) (statement_said line.now) ≡ None }
-    ensures { OnOk result (PutsOut (above_of layout.now) sizes (statement_said line.now) parts.old.text.items parts.old.init.items parts.new.text.items parts.new.init.items) }
+    requires { problem_at (above_of layout.now) (address_of_offset (above_of layout.now)
+        (section_offset_of sizes)) (statement_said line.now) ≡ None }
+    ensures { OnOk result
+        (PutsOut (above_of layout.now) sizes (statement_said line.now) parts.old.text.items
+        parts.old.init.items parts.new.text.items parts.new.init.items) }
 {
     let at = layout.address_of(sizes.spot());
     match sizes.section {
@@ -139,7 +147,9 @@ fn put_line(
 /// The bytes of all statements, where nothing stands against a line.
 pub fn parts_of(alloc: Global, layout: &Layout, lines: &[NumberedLine]) -> Result<Parts, AllocError>
     requires { first_problem_kept (above_of layout.now) no_lines_above.sizes lines.now ≡ None }
-    ensures { IfOk result (λ parts. AreParts (above_of layout.now) no_lines_above.sizes (map (λ (k : NumberedLine). k.line) lines.now) parts.text.items parts.init.items) }
+    ensures { IfOk result (λ parts.
+        AreParts (above_of layout.now) no_lines_above.sizes (map (λ (k : NumberedLine).
+        k.line) lines.now) parts.text.items parts.init.items) }
 {
     immediate_keeps_length();
     displacement_keeps_length();

@@ -17,9 +17,12 @@ use mx_lex::one_fault;
 /// Law: lines against which nothing stands have their program. No text has both a program and a
 /// fault, and none has neither.
 pub fn program_or_fault()
-    ensures accepted { (t : List ℕ) (ls : List Line) → AreLinesAccepted t ls → (p : Program) × IsAssembled t p }
-    ensures not_both { (t : List ℕ) (p : Program) (f : Fault) → IsAssembled t p → HasTextFault t f → ⊥ }
-    ensures not_neither { (t : List ℕ) → ((p : Program) → IsAssembled t p → ⊥) → ((f : Fault) → HasTextFault t f → ⊥) → ⊥ }
+    ensures accepted { (t : List ℕ) (ls : List Line) → AreLinesAccepted t ls → (p : Program)
+        × IsAssembled t p }
+    ensures not_both { (t : List ℕ) (p : Program) (f : Fault) → IsAssembled t p → HasTextFault t f
+        → ⊥ }
+    ensures not_neither { (t : List ℕ) → ((p : Program) → IsAssembled t p → ⊥)
+        → ((f : Fault) → HasTextFault t f → ⊥) → ⊥ }
 {
     one_line();
     line_or_fault();

@@ -84,7 +84,11 @@ impl Layout {
     /// A label that stands here.
     fn place_label(&mut self, label: Option<Name>) -> Result<(), AsmError>
         requires { is_defined (seen_of (above_of self.old)).names label ≡ false }
-        ensures ok { OnOk result (above_of self.new ≡ record (above_of self.old) { labels = labels_with (above_of self.old).labels label (section_offset_of self.old.sizes) }) }
+        ensures ok { OnOk result (above_of self.new
+            ≡ record (above_of self.old) {
+              labels = labels_with (above_of self.old).labels label
+                  (section_offset_of self.old.sizes);
+            }) }
         ensures err { IfErr result (λ e. e ≡ AsmError.NoMemory) }
     {
         if let Some(name) = label {
@@ -98,7 +102,9 @@ impl Layout {
     pub fn go_after(&mut self, line: &Line) -> Result<(), AsmError>
         requires room { SizesWithin self.old.sizes (2 ^ 126) }
         requires new { is_defined (seen_of (above_of self.old)).names line.now.label ≡ false }
-        ensures ok { OnOk result (above_of self.new ≡ above_with (above_of self.old) line.now (statement_length (statement_said line.now))) }
+        ensures ok { OnOk result (above_of self.new
+            ≡ above_with (above_of self.old) line.now
+            (statement_length (statement_said line.now))) }
         ensures small { OnOk result (GrowsWithin self.old.sizes self.new.sizes (2 ^ 64)) }
         ensures err { IfErr result (λ e. e ≡ AsmError.NoMemory) }
     {

@@ -44,7 +44,8 @@ fn entry_address(layout: &Layout) -> u32
 
 /// The labels as symbols.
 fn symbols_of(alloc: Global, layout: &Layout) -> Result<Vec<Symbol>, AllocError>
-    ensures { IfOk result (λ symbols. symbols.items ≡ map (symbol_under (above_of layout.now)) (above_of layout.now).labels) }
+    ensures { IfOk result (λ symbols. symbols.items
+        ≡ map (symbol_under (above_of layout.now)) (above_of layout.now).labels) }
 {
     let mut symbols = Vec::new(alloc);
     for (name, spot) in layout.labels.iter() {
@@ -65,14 +66,16 @@ fn program_with(layout: &Layout, parts: Parts, symbols: Vec<Symbol>) -> Program
     requires begins { IsSome (entry_under (above_of layout.now) layout.now.entry) }
     requires text { length parts.text.items ≡ layout.now.sizes.text }
     requires init { length parts.init.items ≡ layout.now.sizes.init }
-    requires symbols { symbols.items ≡ map (symbol_under (above_of layout.now)) (above_of layout.now).labels }
+    requires symbols { symbols.items
+        ≡ map (symbol_under (above_of layout.now)) (above_of layout.now).labels }
     ensures sep { result.sep ≡ layout.now.sep }
     ensures entry { entry_under (above_of layout.now) layout.now.entry ≡ Some result.entry }
     ensures total { result.total ≡ total_of (above_of layout.now) }
     ensures text { result.text ≡ parts.text.items }
     ensures init { result.init ≡ parts.init.items }
     ensures bss { result.bss ≡ layout.now.sizes.bss }
-    ensures symbols { result.symbols ≡ map (symbol_under (above_of layout.now)) (above_of layout.now).labels }
+    ensures symbols { result.symbols
+        ≡ map (symbol_under (above_of layout.now)) (above_of layout.now).labels }
 {
     Program {
         sep: layout.sep,
@@ -92,9 +95,13 @@ pub fn program_of(
     lines: &[NumberedLine],
     count: usize,
 ) -> Result<Program, AsmError>
-    requires { (ls : List Line) × AreKept ls lines.now count × (above_of layout.now ≡ laid_by no_lines_above ls) }
-    ensures program { (ls : List Line) → AreKept ls lines.now count → above_of layout.now ≡ laid_by no_lines_above ls → IfOk result (λ p. AreAssembled ls p) }
-    ensures fault { (ls : List Line) → AreKept ls lines.now count → above_of layout.now ≡ laid_by no_lines_above ls → IfErr result (λ e. IsFaultOr (fault_after ls) e) }
+    requires { (ls : List Line) × AreKept ls lines.now count
+        × (above_of layout.now ≡ laid_by no_lines_above ls) }
+    ensures program { (ls : List Line) → AreKept ls lines.now count
+        → above_of layout.now ≡ laid_by no_lines_above ls → IfOk result (λ p. AreAssembled ls p) }
+    ensures fault { (ls : List Line) → AreKept ls lines.now count
+        → above_of layout.now ≡ laid_by no_lines_above ls
+        → IfErr result (λ e. IsFaultOr (fault_after ls) e) }
 {
     immediate_keeps_length();
     displacement_keeps_length();

@@ -108,7 +108,8 @@ impl Layout {
 
     /// What stands against `count` lines for their size.
     fn fault_of_size(&self, count: usize) -> Option<Fault>
-        ensures fault { (ls : List Line) → count ≡ length ls → result ≡ too_large_in (above_of self.now) ls }
+        ensures fault { (ls : List Line) → count ≡ length ls
+            → result ≡ too_large_in (above_of self.now) ls }
         ensures small { result ≡ None → is_program_too_large (above_of self.now) ≡ false }
     {
         if !self.is_too_large() {
@@ -123,8 +124,10 @@ impl Layout {
     /// What stands against lines that leave this layout, `count` with those that aren't kept: against one
     /// of them, or against all for their size.
     pub fn fault_after(&self, lines: &[NumberedLine], count: usize) -> Option<Fault>
-        ensures fault { (ls : List Line) → AreKept ls lines.now count → above_of self.now ≡ laid_by no_lines_above ls → result ≡ fault_after ls }
-        ensures clean { result ≡ None → first_problem_kept (above_of self.now) no_lines_above.sizes lines.now ≡ None }
+        ensures fault { (ls : List Line) → AreKept ls lines.now count
+            → above_of self.now ≡ laid_by no_lines_above ls → result ≡ fault_after ls }
+        ensures clean { result ≡ None
+            → first_problem_kept (above_of self.now) no_lines_above.sizes lines.now ≡ None }
         ensures small { result ≡ None → is_program_too_large (above_of self.now) ≡ false }
     {
         match self.first_problem(lines) {

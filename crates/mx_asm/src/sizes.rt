@@ -113,7 +113,9 @@ impl SectionSizes {
     /// The sizes of the sections after one line more.
     pub fn after(&self, line: &Line) -> SectionSizes
         requires { SizesWithin self.now (2 ^ 126) }
-        ensures sizes { result ≡ sizes_after self.now (statement_said line.now) (statement_length (statement_said line.now)) }
+        ensures sizes { result
+            ≡ sizes_after self.now (statement_said line.now)
+            (statement_length (statement_said line.now)) }
         ensures small { GrowsWithin self.now result (2 ^ 64) }
     {
         let count = length_of(line);

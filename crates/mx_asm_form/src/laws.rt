@@ -12,12 +12,16 @@ ghost use Rattle.mx_asm_form.specs.Statements.{IsCode, statement_for, statement_
 
 /// Law: the numbers of an instruction are as wide as their types.
 pub fn numbers_fit()
-    ensures stated { (short : Bool) (m : Mnemonic) (xs : List Argument) (i : Instruction) → statement_for short m xs ≡ Some (statements.Instruction i) → Fits i.insn }
-    ensures repeated { (p : Prefix) (m : Mnemonic) (i : Instruction) → statement_after_prefix p m ≡ Some (statements.Instruction i) → Fits i.insn }
+    ensures stated { (short : Bool) (m : Mnemonic) (xs : List Argument) (i : Instruction)
+        → statement_for short m xs ≡ Some (statements.Instruction i) → Fits i.insn }
+    ensures repeated { (p : Prefix) (m : Mnemonic) (i : Instruction) → statement_after_prefix p m
+        ≡ Some (statements.Instruction i) → Fits i.insn }
 {}
 
 /// Law: a mnemonic says an instruction or a jump, and no directive.
 pub fn code_is_stated()
-    ensures stated { (short : Bool) (m : Mnemonic) (xs : List Argument) (s : Statement) → statement_for short m xs ≡ Some s → IsCode s }
-    ensures repeated { (p : Prefix) (m : Mnemonic) (s : Statement) → statement_after_prefix p m ≡ Some s → IsCode s }
+    ensures stated { (short : Bool) (m : Mnemonic) (xs : List Argument) (s : Statement)
+        → statement_for short m xs ≡ Some s → IsCode s }
+    ensures repeated { (p : Prefix) (m : Mnemonic) (s : Statement) → statement_after_prefix p m
+        ≡ Some s → IsCode s }
 {}

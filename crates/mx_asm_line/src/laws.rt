@@ -27,21 +27,24 @@ pub fn one_line()
 /// Law: a line of a text says something or has a fault, and not both: none has neither.
 pub fn line_or_fault()
     ensures not_both { (t : List ℕ) (l : Line) (e : LexError) → IsLine t l → IsLexFault t e → ⊥ }
-    ensures not_neither { (t : List ℕ) → ((l : Line) → IsLine t l → ⊥) → ((e : LexError) → IsLexFault t e → ⊥) → ⊥ }
+    ensures not_neither { (t : List ℕ) → ((l : Line) → IsLine t l → ⊥)
+        → ((e : LexError) → IsLexFault t e → ⊥) → ⊥ }
 {
     reading_or_fault();
 }
 
 /// Law: the numbers of a line's instruction are as wide as their types.
 pub fn line_fits()
-    ensures { (t : List ℕ) (l : Line) (i : Instruction) → IsLine t l → l.statement ≡ Some (statements.Instruction i) → Fits i.insn }
+    ensures { (t : List ℕ) (l : Line) (i : Instruction) → IsLine t l
+        → l.statement ≡ Some (statements.Instruction i) → Fits i.insn }
 {
     numbers_fit();
 }
 
 /// Law: a line begins with what its statement begins with.
 pub fn line_begins()
-    ensures { (t : List ℕ) (l : Line) (s : Statement) → IsLine t l → l.statement ≡ Some s → l.beginning ≡ begins_with s }
+    ensures { (t : List ℕ) (l : Line) (s : Statement) → IsLine t l → l.statement ≡ Some s
+        → l.beginning ≡ begins_with s }
 {
     code_is_stated();
 }

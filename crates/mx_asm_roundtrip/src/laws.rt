@@ -15,13 +15,15 @@ use mx_encode::chosen_spells;
 
 /// Law: the code of a program that was assembled has each statement's bytes at its address.
 pub fn code_keeps()
-    ensures { (lines : List Line) (p : Program) (made : AreAssembled lines p) → length p.text < 2 ^ 32 → CodeKeeps lines p made (code_bytes (image_of_program p)) }
+    ensures { (lines : List Line) (p : Program) (made : AreAssembled lines p)
+        → length p.text < 2 ^ 32 → CodeKeeps lines p made (code_bytes (image_of_program p)) }
 {}
 
 /// Law: the parts of its text have each instruction at its address, where no directive before it
 /// puts bytes into the text.
 pub fn listing_keeps()
-    ensures { (lines : List Line) (p : Program) (made : AreAssembled lines p) (parts : List Part) → length p.text < 2 ^ 32 → IsParting p.text parts → PartsKeep lines p made parts }
+    ensures { (lines : List Line) (p : Program) (made : AreAssembled lines p) (parts : List Part)
+        → length p.text < 2 ^ 32 → IsParting p.text parts → PartsKeep lines p made parts }
 {
     chosen_spells();
     parted_there();

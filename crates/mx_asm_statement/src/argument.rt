@@ -31,7 +31,8 @@ fn is_close(item: Item) -> bool
 /// What stands before the closing bracket, where one stands last.
 #[tactic(auto, using(crate::proofs::Closing::before_close_last))]
 fn before_close(items: &[Item]) -> Option<&[Item]>
-    ensures { MatchOption result (before_close items.now ≡ None) (λ r. before_close items.now ≡ Some r.now) }
+    ensures { MatchOption result (before_close items.now ≡ None) (λ r. before_close items.now
+        ≡ Some r.now) }
 {
     match items.split_last() {
         None => None,

@@ -20,7 +20,8 @@ fn is_comma(item: Item) -> bool
 
 /// What stands before the first comma, and what after it.
 pub fn parted(items: &[Item]) -> Option<(&[Item], &[Item])>
-    ensures parts { MatchOption result (slice_split is_comma items.now ≡ items.now ∷ []) (λ p. slice_split is_comma items.now ≡ p.0.now ∷ slice_split is_comma p.1.now) }
+    ensures parts { MatchOption result (slice_split is_comma items.now ≡ items.now ∷ []) (λ p.
+        slice_split is_comma items.now ≡ p.0.now ∷ slice_split is_comma p.1.now) }
     ensures shorter { IfSome result (λ p. length p.1.now < length items.now) }
 {
     let mut at = 0;
@@ -35,7 +36,8 @@ pub fn parted(items: &[Item]) -> Option<(&[Item], &[Item])>
 
 /// The arguments that a statement's items say.
 pub fn arguments_of(alloc: Global, items: &[Item]) -> Result<Option<Vec<Argument>>, AllocError>
-    ensures { IfOk result (λ found. MatchOption found (arguments_of items.now ≡ None) (λ v. arguments_of items.now ≡ Some v.items)) }
+    ensures { IfOk result (λ found. MatchOption found (arguments_of items.now ≡ None) (λ v.
+        arguments_of items.now ≡ Some v.items)) }
 {
     let mut found = Vec::new(alloc);
     if items.is_empty() {

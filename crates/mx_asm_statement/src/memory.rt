@@ -84,7 +84,8 @@ fn based(base: Register, items: &[Item]) -> Option<Address>
 
 /// The place after a base, a plus and a second register.
 fn after_two(base: Register, register: Register, items: &[Item]) -> Option<Address>
-    ensures { result ≡ address_in_brackets (item.Register sizes.Dword base ∷ item.Mark marks.Plus ∷ item.Register sizes.Dword register ∷ items.now) }
+    ensures { result ≡ address_in_brackets (item.Register sizes.Dword base ∷ item.Mark marks.Plus
+        ∷ item.Register sizes.Dword register ∷ items.now) }
 {
     match items.split_first() {
         Some((Item::Mark(Mark::Star), rest)) => match rest.split_first() {

@@ -20,9 +20,12 @@ use std::alloc::Global;
 /// memory.
 pub fn save<S: Sink>(kernel: &Kernel, sink: &mut S) -> Result<(), SaveFault>
     requires { S.has_failed sink.old ≡ false }
-    ensures taken { OnOk result (S.taken sink.new ≡ S.taken sink.old ++ saved_text kernel.now.boot.table.rules kernel.now.history) }
+    ensures taken { OnOk result (S.taken sink.new ≡ S.taken sink.old
+        ++ saved_text kernel.now.boot.table.rules kernel.now.history) }
     ensures whole { OnOk result (S.has_failed sink.new ≡ false) }
-    ensures front { OnErr result ((rest : List ℕ) × IsTakenBut (S.taken sink.old) (S.taken sink.new) (saved_text kernel.now.boot.table.rules kernel.now.history) rest) }
+    ensures front { OnErr result ((rest : List ℕ)
+        × IsTakenBut (S.taken sink.old) (S.taken sink.new)
+        (saved_text kernel.now.boot.table.rules kernel.now.history) rest) }
     ensures failed { OnErr result (S.has_failed sink.new ≡ true) }
 {
     save_history(kernel.rules(), kernel.history(), sink)
@@ -30,7 +33,8 @@ pub fn save<S: Sink>(kernel: &Kernel, sink: &mut S) -> Result<(), SaveFault>
 
 /// The text of a kernel's history, by the rules of its machine.
 pub fn saved_text(alloc: Global, kernel: &Kernel) -> Result<Vec<u8>, NoMemory>
-    ensures { IfOk result (λ text. text.items ≡ saved_text kernel.now.boot.table.rules kernel.now.history) }
+    ensures { IfOk result (λ text. text.items
+        ≡ saved_text kernel.now.boot.table.rules kernel.now.history) }
 {
     let mut sink = Over::new(Vec::new(alloc));
     match save(kernel, &mut sink) {
@@ -43,7 +47,9 @@ pub fn saved_text(alloc: Global, kernel: &Kernel) -> Result<Vec<u8>, NoMemory>
 /// actors.
 pub fn saved_again(kernel: &Kernel, config: &Config)
     requires { config.now.cpus + config.now.others ≡ actors (replay kernel.now) }
-    ensures { IsHistory (config.now.cpus + config.now.others) (saved_text kernel.now.boot.table.rules kernel.now.history) kernel.now.boot.table.rules kernel.now.history }
+    ensures { IsHistory (config.now.cpus + config.now.others)
+        (saved_text kernel.now.boot.table.rules kernel.now.history) kernel.now.boot.table.rules
+        kernel.now.history }
 {
     kernel.opened();
     history_again();
@@ -51,7 +57,8 @@ pub fn saved_again(kernel: &Kernel, config: &Config)
 
 /// The report's text on a kernel's processes.
 pub fn report(alloc: Global, kernel: &Kernel) -> Result<Vec<u8>, NoMemory>
-    ensures { IfOk result (λ report. report.items ≡ report_text (replay kernel.now).table (replay kernel.now).services) }
+    ensures { IfOk result (λ report. report.items
+        ≡ report_text (replay kernel.now).table (replay kernel.now).services) }
 {
     kernel.opened();
     report_of(alloc, kernel.table(), kernel.services())

@@ -31,9 +31,22 @@ impl<'a> Model for Draft<'a> {
 
     ghost Value = { ItemsAbove };
 
-    ghost view = { λ d. record { cpus = d.cpus; log = d.log; others = d.others; rules = d.rules; services = d.services.items } };
+    ghost view = { λ d. record {
+      cpus = d.cpus;
+      log = d.log;
+      others = d.others;
+      rules = d.rules;
+      services = d.services.items;
+    } };
 
-    ghost invariant = { λ d. IsAbove (record { cpus = d.cpus; log = d.log; others = d.others; rules = d.rules; services = d.services.items }) };
+    ghost invariant = { λ d.
+        IsAbove (record {
+          cpus = d.cpus;
+          log = d.log;
+          others = d.others;
+          rules = d.rules;
+          services = d.services.items;
+        }) };
 }
 
 /// The line of a service.

@@ -70,7 +70,8 @@ fn has_stray(file: &[u8]) -> bool
 /// The service that a line is.
 fn service_of(line: &[u8]) -> Option<ServiceWords<'_>>
     ensures within { IfSome result IsServiceWithin }
-    ensures says { MatchOption result ((s : Words) → SaysService (fields line.now) s → ⊥) (SaysService (fields line.now)) }
+    ensures says { MatchOption result ((s : Words) → SaysService (fields line.now) s
+        → ⊥) (SaysService (fields line.now)) }
 {
     let (name, rest) = next_field(line)?;
     let (file, rest) = next_field(rest)?;
@@ -92,7 +93,8 @@ fn service_of(line: &[u8]) -> Option<ServiceWords<'_>>
 /// What a line says whose fields begin with a word. Takes no memory.
 #[tactic(auto, using(crate::proofs::Services::only_service))]
 pub fn item_at<'a>(word: &[u8], line: &'a [u8]) -> Option<ConfigItem<'a>>
-    ensures said { MatchOption result ((i : ConfigItem) → SaysItem (word.now ∷ fields line.now) i → ⊥) (SaysItem (word.now ∷ fields line.now)) }
+    ensures said { MatchOption result ((i : ConfigItem) → SaysItem (word.now ∷ fields line.now) i
+        → ⊥) (SaysItem (word.now ∷ fields line.now)) }
     ensures within { IfSome result IsItemWithin }
 {
     if word == b"service".as_slice() {

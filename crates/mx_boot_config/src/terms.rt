@@ -31,7 +31,8 @@ fn mask(word: &[u8]) -> Option<u32>
 
 /// What stands after a key that is the line's first field, and the line after that.
 fn value_of<'a>(line: &'a [u8], key: &[u8]) -> Option<(&'a [u8], &'a [u8])>
-    ensures { MatchOption result (key_with_value key.now (fields line.now) ≡ None) (λ p. key_with_value key.now (fields line.now) ≡ Some (p.0.now, fields p.1.now)) }
+    ensures { MatchOption result (key_with_value key.now (fields line.now) ≡ None) (λ p.
+        key_with_value key.now (fields line.now) ≡ Some (p.0.now, fields p.1.now)) }
 {
     let (word, rest) = next_field(line)?;
     let (value, rest) = next_field(rest)?;
@@ -44,7 +45,8 @@ fn value_of<'a>(line: &'a [u8], key: &[u8]) -> Option<(&'a [u8], &'a [u8])>
 
 /// The mask after a key, and the line after it.
 fn mask_at<'a>(line: &'a [u8], key: &[u8]) -> Option<(u32, &'a [u8])>
-    ensures { MatchOption result (read_as mask key.now (fields line.now) ≡ None) (λ p. read_as mask key.now (fields line.now) ≡ Some (p.0, fields p.1.now)) }
+    ensures { MatchOption result (read_as mask key.now (fields line.now) ≡ None) (λ p.
+        read_as mask key.now (fields line.now) ≡ Some (p.0, fields p.1.now)) }
 {
     let (value, rest) = value_of(line, key)?;
     let mask = mask(value)?;
@@ -53,7 +55,10 @@ fn mask_at<'a>(line: &'a [u8], key: &[u8]) -> Option<(u32, &'a [u8])>
 
 /// The number after a key, and the line after it.
 fn number_at<'a>(line: &'a [u8], key: &[u8], least: u32, most: u32) -> Option<(u32, &'a [u8])>
-    ensures value { MatchOption result (read_as (number_between least most) key.now (fields line.now) ≡ None) (λ p. read_as (number_between least most) key.now (fields line.now) ≡ Some (p.0, fields p.1.now)) }
+    ensures value { MatchOption result (read_as (number_between least most) key.now
+        (fields line.now) ≡ None) (λ p.
+        read_as (number_between least most) key.now (fields line.now)
+        ≡ Some (p.0, fields p.1.now)) }
     ensures most { IfSome result (λ p. p.0 ≤ most) }
     ensures least { IfSome result (λ p. least ≤ p.0) }
 {
@@ -65,7 +70,8 @@ fn number_at<'a>(line: &'a [u8], key: &[u8], least: u32, most: u32) -> Option<(u
 /// `traps T send S calls C`, and the line after it.
 #[tactic(auto, unfolding(crate::specs::Terms::masks_of))]
 fn masks_of(line: &[u8]) -> Option<(Masks, &[u8])>
-    ensures { MatchOption result (masks_of (fields line.now) ≡ None) (λ p. masks_of (fields line.now) ≡ Some (p.0, fields p.1.now)) }
+    ensures { MatchOption result (masks_of (fields line.now) ≡ None) (λ p.
+        masks_of (fields line.now) ≡ Some (p.0, fields p.1.now)) }
 {
     let (traps, rest) = mask_at(line, b"traps")?;
     let (sends, rest) = mask_at(rest, b"send")?;

@@ -11,13 +11,17 @@ use mx_boot_script::{number_again, verb_again, words_again};
 
 /// Law: a text is one history at most, by one of the rules, and none where it has a fault.
 pub fn one_history()
-    ensures one { (actors : ℕ) (t : List ℕ) (r s : Rules) (a b : List Record) → IsHistory actors t r a → IsHistory actors t s b → (r ≡ s) × (a ≡ b) }
-    ensures no_fault { (actors n : ℕ) (t : List ℕ) (r : Rules) (a : List Record) → IsHistory actors t r a → IsHistoryFault actors t n → ⊥ }
+    ensures one { (actors : ℕ) (t : List ℕ) (r s : Rules) (a b : List Record)
+        → IsHistory actors t r a → IsHistory actors t s b → (r ≡ s) × (a ≡ b) }
+    ensures no_fault { (actors n : ℕ) (t : List ℕ) (r : Rules) (a : List Record)
+        → IsHistory actors t r a → IsHistoryFault actors t n → ⊥ }
 {}
 
 /// Law: what is saved of a history is read as that history, by the same rules.
 pub fn history_again()
-    ensures { (actors : ℕ) (rules : Rules) (records : List Record) → actors ≤ 256 → All (IsWritable actors) records → IsHistory actors (saved_text rules records) rules records }
+    ensures { (actors : ℕ) (rules : Rules) (records : List Record) → actors ≤ 256
+        → All (IsWritable actors) records
+        → IsHistory actors (saved_text rules records) rules records }
 {
     words_again();
     number_again();
@@ -26,7 +30,8 @@ pub fn history_again()
 
 /// Law: what is saved of a history is saved of no other, nor by other rules.
 pub fn one_text()
-    ensures { (r s : Rules) (a b : List Record) → All (IsWritable 256) a → All (IsWritable 256) b → saved_text r a ≡ saved_text s b → (r ≡ s) × (a ≡ b) }
+    ensures { (r s : Rules) (a b : List Record) → All (IsWritable 256) a → All (IsWritable 256) b
+        → saved_text r a ≡ saved_text s b → (r ≡ s) × (a ≡ b) }
 {
     history_again();
     one_history();

@@ -150,7 +150,8 @@ pub fn lines_above(rules: Rules) -> usize
 /// The rules and the records that a text's lines say, or the first line that says no record.
 fn read_records(alloc: Global, text: &str, actors: u8) -> Result<(Rules, Vec<Record>), BootError>
     ensures rules { IfOk result (λ found. found.0 ≡ rules_of_lines (lines text.now)) }
-    ensures read { IfOk result (λ found. AreLinesRead (record_line actors) (record_lines (lines text.now)) found.1.items) }
+    ensures read { IfOk result (λ found.
+        AreLinesRead (record_line actors) (record_lines (lines text.now)) found.1.items) }
     ensures unread { IfErr result (TellsNoRecords actors text.now) }
 {
     let (rules, below) = split_rules(text.as_bytes());
@@ -186,10 +187,15 @@ fn read_log(alloc: Global, text: &str, actors: u8) -> Result<(Rules, Vec<Record>
 /// `NoMemory` comes only where the text is a history. So what is saved of a history is read as that
 /// history.
 pub fn log(alloc: Global, text: &str, config: &Config) -> Result<(Rules, Vec<Record>), BootError>
-    ensures history { IfOk result (λ found. IsHistory (config.now.cpus + config.now.others) text.now found.0 found.1.items) }
-    ensures fault { IfErr result (λ e. TellsHistoryFault (config.now.cpus + config.now.others) text.now e) }
-    ensures saved { (rules : ByRules) (records : List Record) → All (IsWritable (config.now.cpus + config.now.others)) records → text.now ≡ saved_text rules records
-        → MatchResult result (λ found. (found.0 ≡ rules) × (found.1.items ≡ records)) (λ e. e ≡ NoMemory) }
+    ensures history { IfOk result (λ found.
+        IsHistory (config.now.cpus + config.now.others) text.now found.0 found.1.items) }
+    ensures fault { IfErr result (λ e.
+        TellsHistoryFault (config.now.cpus + config.now.others) text.now e) }
+    ensures saved { (rules : ByRules) (records : List Record)
+        → All (IsWritable (config.now.cpus + config.now.others)) records
+        → text.now ≡ saved_text rules records
+        → MatchResult result (λ found. (found.0 ≡ rules) × (found.1.items ≡ records)) (λ e.
+        e ≡ NoMemory) }
 {
     one_history();
     history_again();

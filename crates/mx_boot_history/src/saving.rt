@@ -84,7 +84,8 @@ fn put_all<S: Sink>(sink: &mut S, bytes: &[u8]) -> Result<(), SaveFault>
     requires { S.has_failed sink.old ≡ false }
     ensures taken { OnOk result (S.taken sink.new ≡ S.taken sink.old ++ bytes.now) }
     ensures whole { OnOk result (S.has_failed sink.new ≡ false) }
-    ensures front { OnErr result ((rest : List ℕ) × IsTakenBut (S.taken sink.old) (S.taken sink.new) bytes.now rest) }
+    ensures front { OnErr result ((rest : List ℕ)
+        × IsTakenBut (S.taken sink.old) (S.taken sink.new) bytes.now rest) }
     ensures failed { OnErr result (S.has_failed sink.new ≡ true) }
 {
     let mut rest = bytes;
@@ -104,7 +105,8 @@ fn save_records<S: Sink>(records: &[Record], sink: &mut S) -> Result<(), SaveFau
     requires { S.has_failed sink.old ≡ false }
     ensures taken { OnOk result (S.taken sink.new ≡ S.taken sink.old ++ history_text records.now) }
     ensures whole { OnOk result (S.has_failed sink.new ≡ false) }
-    ensures front { OnErr result ((rest : List ℕ) × IsTakenBut (S.taken sink.old) (S.taken sink.new) (history_text records.now) rest) }
+    ensures front { OnErr result ((rest : List ℕ)
+        × IsTakenBut (S.taken sink.old) (S.taken sink.new) (history_text records.now) rest) }
     ensures failed { OnErr result (S.has_failed sink.new ≡ true) }
 {
     for entry in records {
@@ -131,9 +133,11 @@ pub fn save_history<S: Sink>(
     sink: &mut S,
 ) -> Result<(), SaveFault>
     requires { S.has_failed sink.old ≡ false }
-    ensures taken { OnOk result (S.taken sink.new ≡ S.taken sink.old ++ saved_text rules records.now) }
+    ensures taken { OnOk result (S.taken sink.new ≡ S.taken sink.old
+        ++ saved_text rules records.now) }
     ensures whole { OnOk result (S.has_failed sink.new ≡ false) }
-    ensures front { OnErr result ((rest : List ℕ) × IsTakenBut (S.taken sink.old) (S.taken sink.new) (saved_text rules records.now) rest) }
+    ensures front { OnErr result ((rest : List ℕ)
+        × IsTakenBut (S.taken sink.old) (S.taken sink.new) (saved_text rules records.now) rest) }
     ensures failed { OnErr result (S.has_failed sink.new ≡ true) }
 {
     put_all(sink, rules_text(rules))?;

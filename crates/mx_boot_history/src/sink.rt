@@ -20,7 +20,8 @@ pub trait Sink {
     fn put(&mut self, bytes: &[u8]) -> Result<usize, SinkFault>
         requires whole { has_failed self.old ≡ false }
         requires some { 0 < length bytes.now }
-        ensures { SinkTakes (taken self.old) (taken self.new) (has_failed self.new) bytes.now result };
+        ensures { SinkTakes (taken self.old) (taken self.new) (has_failed self.new) bytes.now
+            result };
 }
 
 /// A sink over a writer that says what it holds, as a `Vec` does. What the sink took is what its writer

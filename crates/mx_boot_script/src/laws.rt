@@ -14,13 +14,15 @@ ghost use Rattle.mx_boot_script.specs.Words.{is_field_word, AreWords, joined_wor
 /// ended by line feeds are the lines of their text.
 pub fn words_again()
     ensures fields { (ws : List (List ℕ)) → AreWords ws → fields (joined_words ws) ≡ ws }
-    ensures lines { (lists : List (List (List ℕ))) → AllByRecursion AreWords lists → lines (lines_of_words lists) ≡ map joined_words lists }
+    ensures lines { (lists : List (List (List ℕ))) → AllByRecursion AreWords lists
+        → lines (lines_of_words lists) ≡ map joined_words lists }
 {}
 
 /// Law: the decimal text of a number is a word that spells it.
 pub fn number_again()
     ensures word { (n : ℕ) → n < 2 ^ 64 → is_field_word (decimal n) ≡ true }
-    ensures number { (limit n : ℕ) → n ≤ limit → n < 2 ^ 64 → number_up_to limit 10 (decimal n) ≡ Some n }
+    ensures number { (limit n : ℕ) → n ≤ limit → n < 2 ^ 64 → number_up_to limit 10 (decimal n)
+        ≡ Some n }
 {}
 
 /// Law: the word of a script's verb is read as that verb.

@@ -35,7 +35,8 @@ pub fn read_lines<R: ReadsLine>(
 ) -> Result<Vec<R::Said>, BootError>
 where
     R::Said: Drop,
-    ensures read { IfOk result (λ found. AreLinesRead (R.says reader.now) (lines text.now) found.items) }
+    ensures read { IfOk result (λ found.
+        AreLinesRead (R.says reader.now) (lines text.now) found.items) }
     ensures unread { IfErr result (λ e. TellsUnread (R.says reader.now) (lines text.now) e) }
 {
     let mut found = Vec::new(alloc);

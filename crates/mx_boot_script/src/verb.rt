@@ -23,7 +23,8 @@ pub enum Verb {
 }
 
 fn matching(word: &[u8]) -> Option<Verb>
-    ensures { MatchOption result ((v : Verb) → word.now ≢ verb_word v) (λ v. word.now ≡ verb_word v) }
+    ensures { MatchOption result ((v : Verb) → word.now ≢ verb_word v) (λ v.
+        word.now ≡ verb_word v) }
 {
     match word {
         b"step" => Some(Verb::Step),

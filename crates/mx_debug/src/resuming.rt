@@ -12,7 +12,8 @@ use mx_proc::Slot;
 
 /// All steps at once, where no breakpoint can be reached.
 fn run_on<H: Held>(held: &mut H, k: u32) -> Halt
-    ensures halts { (points : List Breakpoint) (slot : ℕ) → (k ≡ 0) ⊎ (has_any points slot ≡ false) → Halts points slot k (H.out held.old) result (H.out held.new) }
+    ensures halts { (points : List Breakpoint) (slot : ℕ) → (k ≡ 0) ⊎ (has_any points slot ≡ false)
+        → Halts points slot k (H.out held.old) result (H.out held.new) }
     ensures loan { H.loan held.new ≡ H.loan held.old }
 {
     held_runs_join();
@@ -26,7 +27,8 @@ fn run_on<H: Held>(held: &mut H, k: u32) -> Halt
 impl Debugger {
     /// Marks, by address modulo 1,024, where a slot has breakpoints.
     fn marks(&self, slot: Slot) -> [bool; 1024]
-        ensures { (address : ℕ) → has_breakpoint self.now slot address ≡ true → slice_index_or result (address % 1024) false ≡ true }
+        ensures { (address : ℕ) → has_breakpoint self.now slot address ≡ true
+            → slice_index_or result (address % 1024) false ≡ true }
     {
         let mut marks = [false; 1024];
         for point in self.as_slice() {
@@ -39,7 +41,8 @@ impl Debugger {
 
     /// Whether a slot has a breakpoint at an address, by its marks first.
     fn is_reached(&self, marks: &[bool; 1024], slot: Slot, address: u32) -> bool
-        requires { (a : ℕ) → has_breakpoint self.now slot a ≡ true → slice_index_or marks.now (a % 1024) false ≡ true }
+        requires { (a : ℕ) → has_breakpoint self.now slot a ≡ true
+            → slice_index_or marks.now (a % 1024) false ≡ true }
         ensures { result ≡ has_breakpoint self.now slot address }
     {
         if !marks[(address % 1024) as usize] {

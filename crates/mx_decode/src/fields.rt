@@ -97,7 +97,8 @@ fn displacement(mode: u8, base: u8, bytes: &[u8]) -> Result<(u32, &[u8]), Decode
 /// The index that a SIB byte names.
 #[inline(always)]
 fn index(sib: u8) -> Option<Index>
-    ensures { result ≡ index_of (Some (record { scale = sib / 64; index = sib / 8 % 8; base = sib % 8 })) }
+    ensures { result ≡ index_of
+        (Some (record { scale = sib / 64; index = sib / 8 % 8; base = sib % 8 })) }
 {
     match sib / 8 % 8 {
         4 => None,
@@ -210,7 +211,8 @@ pub fn immediate(
     resized: bool,
     bytes: &[u8],
 ) -> Result<(u32, &[u8]), DecodeFault>
-    ensures value { Gives (λ x. (x.0, x.1.now)) result (immediate_at column size resized bytes.now) }
+    ensures value { Gives (λ x.
+        (x.0, x.1.now)) result (immediate_at column size resized bytes.now) }
     ensures bound { IfOk result (λ x. x.0 < immediate_bound column size resized) }
 {
     match column {

@@ -84,7 +84,8 @@ fn first(rows: &'static [Row], head: Head, next: Option<u8>) -> Option<&'static 
 
 /// The row where nothing follows the opcode.
 fn bare(head: Head) -> Result<&'static Row, DecodeFault>
-    ensures { Gives (λ x. x.now) result (chosen head.resized head.repeat (rows_of head.escaped head.opcode) []) }
+    ensures { Gives (λ x.
+        x.now) result (chosen head.resized head.repeat (rows_of head.escaped head.opcode) []) }
 {
     match first(rows_near(head.escaped, head.opcode), head, None) {
         None => Err(DecodeFault::NotInTable),
@@ -99,7 +100,9 @@ fn bare(head: Head) -> Result<&'static Row, DecodeFault>
 
 /// The row where this byte follows.
 fn followed(head: Head, modrm: u8) -> Result<&'static Row, DecodeFault>
-    ensures { (rest : List ℕ) → Gives (λ x. x.now) result (chosen head.resized head.repeat (rows_of head.escaped head.opcode) (modrm ∷ rest)) }
+    ensures { (rest : List ℕ)
+        → Gives (λ x. x.now) result
+        (chosen head.resized head.repeat (rows_of head.escaped head.opcode) (modrm ∷ rest)) }
 {
     match first(rows_near(head.escaped, head.opcode), head, Some(modrm)) {
         None => Err(DecodeFault::NotInTable),
@@ -109,7 +112,9 @@ fn followed(head: Head, modrm: u8) -> Result<&'static Row, DecodeFault>
 
 /// The row that the bytes after the opcode are of.
 pub fn row_of(head: Head, bytes: &[u8]) -> Result<&'static Row, DecodeFault>
-    ensures { Gives (λ x. x.now) result (chosen head.resized head.repeat (rows_of head.escaped head.opcode) bytes.now) }
+    ensures { Gives (λ x.
+        x.now) result (chosen head.resized head.repeat (rows_of head.escaped head.opcode)
+        bytes.now) }
 {
     match bytes {
         [] => bare(head),

@@ -19,7 +19,9 @@ fn operands<'a>(head: Head, row: &Row, bytes: &'a [u8]) -> Result<(Insn, &'a [u8
     requires first { row.now.first ≤ head.opcode }
     requires step { 0 < row.now.step }
     requires number { opcode_number row.now head.opcode < 255 }
-    requires narrow { immediate_bound row.now.immediate (row_size row.now.sizes head.resized) head.resized ≤ narrow_bound row.now.pattern (row_size row.now.sizes head.resized) head.resized }
+    requires narrow { immediate_bound row.now.immediate (row_size row.now.sizes head.resized)
+        head.resized ≤ narrow_bound row.now.pattern (row_size row.now.sizes head.resized)
+        head.resized }
     ensures { Gives (λ x. (x.0, x.1.now)) result (operands_code head row.now bytes.now) }
 {
     let size = row_size(row.sizes, head.resized);
@@ -59,7 +61,8 @@ fn read_counted(bytes: &[u8]) -> Result<(Insn, u8), DecodeFault>
 pub fn decode(bytes: &[u8]) -> Result<(Insn, u8), DecodeFault>
     ensures value { result ≡ front bytes.now }
     ensures ok { (i : Insn) (k : ℕ) → (result ≡ Ok (i, k)) ↔ SpellsFirst bytes.now k i }
-    ensures not_in_table { (result ≡ Err DecodeFault.NotInTable) ↔ (NoneFirst bytes.now × ¬ IsOpen bytes.now) }
+    ensures not_in_table { (result ≡ Err DecodeFault.NotInTable) ↔ (NoneFirst bytes.now
+        × ¬ IsOpen bytes.now) }
     ensures short { (result ≡ Err DecodeFault.Short) ↔ (NoneFirst bytes.now × IsOpen bytes.now) }
 {
     read_counted(bytes)

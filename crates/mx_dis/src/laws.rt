@@ -31,9 +31,12 @@ pub fn one_parting()
 
 /// Law: what spells first at a part's place is that part.
 pub fn parted_there()
-    ensures first { (t : List ℕ) (k : ℕ) (i : Insn) (parts : List Part) → SpellsFirst t k i → IsParting t parts → BeginsWith i k (drop k t) parts }
-    ensures spelled { (b rest : List ℕ) (i : Insn) (parts : List Part) → Spells b i → IsParting (b ++ rest) parts → BeginsWith i (length b) rest parts }
-    ensures later { (t : List ℕ) (front back : List Part) → IsParting t (front ++ back) → IsParting (drop (total_size front) t) back }
+    ensures first { (t : List ℕ) (k : ℕ) (i : Insn) (parts : List Part) → SpellsFirst t k i
+        → IsParting t parts → BeginsWith i k (drop k t) parts }
+    ensures spelled { (b rest : List ℕ) (i : Insn) (parts : List Part) → Spells b i
+        → IsParting (b ++ rest) parts → BeginsWith i (length b) rest parts }
+    ensures later { (t : List ℕ) (front back : List Part) → IsParting t (front ++ back)
+        → IsParting (drop (total_size front) t) back }
 {
     takes_bytes();
     one_spelling();
@@ -42,5 +45,6 @@ pub fn parted_there()
 /// Law: the lines of parts that follow others stand after the others' lines, from the address on
 /// where these end.
 pub fn lines_join()
-    ensures { (at : ℕ) (front back : List Part) → lines_of at (front ++ back) ≡ lines_of at front ++ lines_of (at + total_size front) back }
+    ensures { (at : ℕ) (front back : List Part) → lines_of at (front ++ back) ≡ lines_of at front
+        ++ lines_of (at + total_size front) back }
 {}

@@ -26,7 +26,8 @@ fn push_part(out: &mut String, part: &Part, next: u32) -> Result<(), AllocError>
 /// The line of a part at an address.
 fn push_line(out: &mut String, at: u32, part: &Part) -> Result<(), AllocError>
     requires { at + part_size part.now < 2 ^ 32 }
-    ensures { OnOk result (string_bytes out.new ≡ string_bytes out.old ++ listing_line at part.now) }
+    ensures { OnOk result (string_bytes out.new ≡ string_bytes out.old
+        ++ listing_line at part.now) }
 {
     push_eight_digits(out, at)?;
     out.push_str(" ")?;

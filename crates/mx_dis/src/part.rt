@@ -33,7 +33,8 @@ impl Part {
 pub fn first_part(bytes: &[u8]) -> Part
     requires { 0 < length bytes.now }
     ensures part { IsFirstPart bytes.now result }
-    ensures parting { (rest : List Part) → IsParting (drop (part_size result) bytes.now) rest → IsParting bytes.now (result ∷ rest) }
+    ensures parting { (rest : List Part) → IsParting (drop (part_size result) bytes.now) rest
+        → IsParting bytes.now (result ∷ rest) }
     ensures least { 1 ≤ part_size result }
     ensures within { part_size result ≤ length bytes.now }
     ensures byte { part_size result < 256 }

@@ -23,7 +23,14 @@ pub struct Encoding {
 impl Encoding {
     /// An encoding of an opcode alone.
     pub fn bare(opcode: u8) -> Encoding
-        ensures { result ≡ record { resized = false; repeat = None; escaped = false; opcode = opcode; rm = None; immediate = Number.Nothing } }
+        ensures { result ≡ record {
+          resized = false;
+          repeat = None;
+          escaped = false;
+          opcode = opcode;
+          rm = None;
+          immediate = Number.Nothing;
+        } }
     {
         Encoding {
             resized: false,
@@ -37,7 +44,14 @@ impl Encoding {
 
     /// An encoding of an opcode with a reg field and an operand.
     pub fn with_rm(opcode: u8, reg: u8, operand: Operand) -> Encoding
-        ensures { result ≡ record { resized = false; repeat = None; escaped = false; opcode = opcode; rm = Some (record { reg = reg; operand = operand }); immediate = Number.Nothing } }
+        ensures { result ≡ record {
+          resized = false;
+          repeat = None;
+          escaped = false;
+          opcode = opcode;
+          rm = Some (record { reg = reg; operand = operand });
+          immediate = Number.Nothing;
+        } }
     {
         Encoding {
             resized: false,
@@ -53,7 +67,14 @@ impl Encoding {
     /// field and an operand.
     pub fn sized(size: Size, opcode: u8, reg: u8, operand: Operand) -> Encoding
         requires { opcode < 255 }
-        ensures { result ≡ record { resized = is_word size; repeat = None; escaped = false; opcode = sized_opcode size opcode; rm = Some (record { reg = reg; operand = operand }); immediate = Number.Nothing } }
+        ensures { result ≡ record {
+          resized = is_word size;
+          repeat = None;
+          escaped = false;
+          opcode = sized_opcode size opcode;
+          rm = Some (record { reg = reg; operand = operand });
+          immediate = Number.Nothing;
+        } }
     {
         Encoding::with_rm(sized_opcode(size, opcode), reg, operand).resized(is_word(size))
     }

@@ -31,39 +31,50 @@ pub fn spelled_has_form()
 /// Law: an immediate that is marked wide decides neither whether there is a form nor its length.
 pub fn immediate_keeps_length()
     ensures form { (i : Insn) (n : ℕ) → has_form (with_immediate i n) ≡ has_form i }
-    ensures count { (i : Insn) (wide : Wide) (n : ℕ) → IsTrue wide.immediate → chosen_length (with_immediate i n) wide ≡ chosen_length i wide }
-    ensures length { (i : Insn) (wide : Wide) (n : ℕ) (a b : List ℕ) → IsTrue wide.immediate → Chosen i wide a → Chosen (with_immediate i n) wide b → length b ≡ length a }
+    ensures count { (i : Insn) (wide : Wide) (n : ℕ) → IsTrue wide.immediate
+        → chosen_length (with_immediate i n) wide ≡ chosen_length i wide }
+    ensures length { (i : Insn) (wide : Wide) (n : ℕ) (a b : List ℕ) → IsTrue wide.immediate
+        → Chosen i wide a → Chosen (with_immediate i n) wide b → length b ≡ length a }
 {}
 
 /// Law: a displacement in memory that is marked wide decides neither whether there is a form nor
 /// its length.
 pub fn displacement_keeps_length()
     ensures form { (i : Insn) (n : ℕ) → has_form (with_displacement i n) ≡ has_form i }
-    ensures count { (i : Insn) (wide : Wide) (n : ℕ) → IsTrue wide.displacement → chosen_length (with_displacement i n) wide ≡ chosen_length i wide }
-    ensures length { (i : Insn) (wide : Wide) (n : ℕ) (a b : List ℕ) → IsTrue wide.displacement → Chosen i wide a → Chosen (with_displacement i n) wide b → length b ≡ length a }
+    ensures count { (i : Insn) (wide : Wide) (n : ℕ) → IsTrue wide.displacement
+        → chosen_length (with_displacement i n) wide ≡ chosen_length i wide }
+    ensures length { (i : Insn) (wide : Wide) (n : ℕ) (a b : List ℕ) → IsTrue wide.displacement
+        → Chosen i wide a → Chosen (with_displacement i n) wide b → length b ≡ length a }
 {}
 
 /// Law: a dword that is put in as the immediate stands in what is chosen, if a dword stood there
 /// that is marked wide. Of a jump that number is how far it goes.
 pub fn immediate_is_held()
-    ensures { (i : Insn) (wide : Wide) (n : ℕ) → IsTrue wide.immediate → is_jump i ≡ false → dword_in (choice (with_immediate i n) wide) ≡ in_place_of (dword_in (choice i wide)) n }
+    ensures { (i : Insn) (wide : Wide) (n : ℕ) → IsTrue wide.immediate → is_jump i ≡ false
+        → dword_in (choice (with_immediate i n) wide) ≡ in_place_of (dword_in (choice i wide)) n }
 {}
 
 /// Law: a displacement that is put in stands in what is chosen, if there is memory, and is marked
 /// wide.
 pub fn displacement_is_held()
-    ensures { (i : Insn) (wide : Wide) (n : ℕ) → IsTrue wide.displacement → displacement_in (choice (with_displacement i n) wide) ≡ in_place_of (displacement_in (choice i wide)) n }
+    ensures { (i : Insn) (wide : Wide) (n : ℕ) → IsTrue wide.displacement
+        → displacement_in (choice (with_displacement i n) wide)
+        ≡ in_place_of (displacement_in (choice i wide)) n }
 {}
 
 /// Law: how far a jump goes decides neither, as long as it reaches.
 pub fn target_keeps_length()
-    ensures form { (i : Insn) (wide : Wide) (m n : ℕ) → IsTrue (reaches i wide m) → IsTrue (reaches i wide n) → has_form (with_target i n) ≡ has_form (with_target i m) }
-    ensures length { (i : Insn) (wide : Wide) (m n : ℕ) (a b : List ℕ) → IsTrue (reaches i wide m) → IsTrue (reaches i wide n) → Chosen (with_target i m) wide a → Chosen (with_target i n) wide b → length b ≡ length a }
+    ensures form { (i : Insn) (wide : Wide) (m n : ℕ) → IsTrue (reaches i wide m)
+        → IsTrue (reaches i wide n) → has_form (with_target i n) ≡ has_form (with_target i m) }
+    ensures length { (i : Insn) (wide : Wide) (m n : ℕ) (a b : List ℕ) → IsTrue (reaches i wide m)
+        → IsTrue (reaches i wide n) → Chosen (with_target i m) wide a
+        → Chosen (with_target i n) wide b → length b ≡ length a }
 {}
 
 /// Law: what has a form, and numbers as wide as their types, has a spelling that is chosen.
 pub fn some_chosen()
-    ensures { (i : Insn) (wide : Wide) → Fits i → has_form i ≡ true → (bytes : List ℕ) × Chosen i wide bytes }
+    ensures { (i : Insn) (wide : Wide) → Fits i → has_form i ≡ true → (bytes : List ℕ)
+        × Chosen i wide bytes }
 {}
 
 /// Law: with a dword as its immediate or displacement its numbers are still as wide as their types.

@@ -23,7 +23,8 @@ fn keep(
     value: u32,
 ) -> Result<(), u8>
     requires { value < 2 ^ width size }
-    ensures { Performs image.old (image_with_result operation operand.now size value image.old) result image.new }
+    ensures { Performs image.old (image_with_result operation operand.now size value image.old)
+        result image.new }
 {
     match operation {
         Arithmetic::Cmp => Ok(()),
@@ -47,7 +48,9 @@ fn operate_registers(
     from: &Operand,
     next: u32,
 ) -> Result<(), u8>
-    ensures { Performs image.old (after (Insn.Arithmetic operation (Operands.ToRegister size to from.now)) next image.old) result image.new }
+    ensures { Performs image.old
+        (after (Insn.Arithmetic operation (Operands.ToRegister size to from.now)) next image.old)
+        result image.new }
 {
     let y = image.value(from, size)?;
     let x = image.regs.get(size, to);
@@ -69,7 +72,9 @@ fn operate_on_register(
     from: &Operand,
     next: u32,
 ) -> Result<(), u8>
-    ensures { Performs image.old (after (Insn.Arithmetic operation (Operands.ToRegister size to from.now)) next image.old) result image.new }
+    ensures { Performs image.old
+        (after (Insn.Arithmetic operation (Operands.ToRegister size to from.now)) next image.old)
+        result image.new }
 {
     match size {
         Size::Byte => operate_registers(image, operation, Size::Byte, to, from, next),
@@ -87,7 +92,9 @@ fn operate_on_memory(
     from: Register,
     next: u32,
 ) -> Result<(), u8>
-    ensures { Performs image.old (after (Insn.Arithmetic operation (Operands.ToMemory size to.now from)) next image.old) result image.new }
+    ensures { Performs image.old
+        (after (Insn.Arithmetic operation (Operands.ToMemory size to.now from)) next image.old)
+        result image.new }
 {
     let operand = Operand::Memory(*to);
     let x = image.value(&operand, size)?;
@@ -108,7 +115,9 @@ fn operate_number(
     number: Immediate,
     next: u32,
 ) -> Result<(), u8>
-    ensures { Performs image.old (after (Insn.Arithmetic operation (Operands.Immediate to.now number)) next image.old) result image.new }
+    ensures { Performs image.old
+        (after (Insn.Arithmetic operation (Operands.Immediate to.now number)) next image.old) result
+        image.new }
 {
     let size = immediate_size(number);
     let x = image.value(to, size)?;
@@ -128,7 +137,9 @@ fn operate_immediate(
     number: Immediate,
     next: u32,
 ) -> Result<(), u8>
-    ensures { Performs image.old (after (Insn.Arithmetic operation (Operands.Immediate to.now number)) next image.old) result image.new }
+    ensures { Performs image.old
+        (after (Insn.Arithmetic operation (Operands.Immediate to.now number)) next image.old) result
+        image.new }
 {
     match number {
         Immediate::Byte(y) => operate_number(image, operation, to, Immediate::Byte(y), next),
@@ -143,7 +154,8 @@ pub fn operate(
     operands: &Operands,
     next: u32,
 ) -> Result<(), u8>
-    ensures { Performs image.old (after (Insn.Arithmetic operation operands.now) next image.old) result image.new }
+    ensures { Performs image.old (after (Insn.Arithmetic operation operands.now) next image.old)
+        result image.new }
 {
     match operands {
         Operands::ToRegister { size, to, from } => {
@@ -176,7 +188,8 @@ pub fn test(
     register: Register,
     next: u32,
 ) -> Result<(), u8>
-    ensures { Performs image.old (after (Insn.Test size operand.now register) next image.old) result image.new }
+    ensures { Performs image.old (after (Insn.Test size operand.now register) next image.old) result
+        image.new }
 {
     let x = image.value(operand, size)?;
     let y = image.regs.get(size, register);
@@ -190,7 +203,8 @@ pub fn test_immediate(
     value: Immediate,
     next: u32,
 ) -> Result<(), u8>
-    ensures { Performs image.old (after (Insn.TestImmediate operand.now value) next image.old) result image.new }
+    ensures { Performs image.old (after (Insn.TestImmediate operand.now value) next image.old)
+        result image.new }
 {
     let size = immediate_size(value);
     let x = image.value(operand, size)?;
@@ -207,7 +221,8 @@ fn operate_alone(
     operand: &Operand,
     next: u32,
 ) -> Result<(), u8>
-    ensures { Performs image.old (after (Insn.Unary operation size operand.now) next image.old) result image.new }
+    ensures { Performs image.old (after (Insn.Unary operation size operand.now) next image.old)
+        result image.new }
 {
     let x = image.value(operand, size)?;
     let (value, flags) = unary(operation, size, x, &image.flags);
@@ -224,7 +239,8 @@ pub fn unary_operation(
     operand: &Operand,
     next: u32,
 ) -> Result<(), u8>
-    ensures { Performs image.old (after (Insn.Unary operation size operand.now) next image.old) result image.new }
+    ensures { Performs image.old (after (Insn.Unary operation size operand.now) next image.old)
+        result image.new }
 {
     match size {
         Size::Byte => operate_alone(image, operation, Size::Byte, operand, next),
@@ -251,7 +267,8 @@ pub fn shift_operand(
     count: Count,
     next: u32,
 ) -> Result<(), u8>
-    ensures { Performs image.old (after (Insn.Shift operation size operand.now count) next image.old) result image.new }
+    ensures { Performs image.old
+        (after (Insn.Shift operation size operand.now count) next image.old) result image.new }
 {
     let x = image.value(operand, size)?;
     let count = count_of(image, count);
@@ -331,7 +348,8 @@ pub fn product(
     operand: &Operand,
     next: u32,
 ) -> Result<(), u8>
-    ensures { Performs image.old (after (Insn.Product operation size operand.now) next image.old) result image.new }
+    ensures { Performs image.old (after (Insn.Product operation size operand.now) next image.old)
+        result image.new }
 {
     let y = image.value(operand, size)?;
     take_product(image, operation, size, y)?;
@@ -358,7 +376,8 @@ pub fn multiply_register(
     from: &Operand,
     next: u32,
 ) -> Result<(), u8>
-    ensures { Performs image.old (after (Insn.Multiply size to from.now) next image.old) result image.new }
+    ensures { Performs image.old (after (Insn.Multiply size to from.now) next image.old) result
+        image.new }
 {
     let size = size_of(size);
     let y = image.value(from, size)?;
@@ -374,7 +393,8 @@ pub fn multiply_immediate(
     by: WideImmediate,
     next: u32,
 ) -> Result<(), u8>
-    ensures { Performs image.old (after (Insn.MultiplyImmediate to from.now by) next image.old) result image.new }
+    ensures { Performs image.old (after (Insn.MultiplyImmediate to from.now by) next image.old)
+        result image.new }
 {
     let size = wide_size(by);
     let x = image.value(from, size)?;

@@ -12,7 +12,8 @@ use mx_word::{BitScan, BitTest, DoubleShift, Register, Size};
 
 /// Writes the dword of a bit test to its operand; BT makes none.
 fn keep(image: &mut Image, operation: BitTest, operand: &Operand, value: u32) -> Result<(), u8>
-    ensures { Performs image.old (image_with_bit operation operand.now value image.old) result image.new }
+    ensures { Performs image.old (image_with_bit operation operand.now value image.old) result
+        image.new }
 {
     match operation {
         BitTest::Bt => Ok(()),
@@ -27,7 +28,8 @@ pub fn test_bit(
     number: u32,
     next: u32,
 ) -> Result<(), u8>
-    ensures { Performs image.old (image_after_bit_test operation operand.now number next image.old) result image.new }
+    ensures { Performs image.old (image_after_bit_test operation operand.now number next image.old)
+        result image.new }
 {
     let x = image.value(operand, Size::Dword)?;
     let (value, flags) = bit_test(operation, x, number, &image.flags);
@@ -44,7 +46,8 @@ pub fn test_register_bit(
     number: Register,
     next: u32,
 ) -> Result<(), u8>
-    ensures { Performs image.old (after (Insn.BitTestRegister operation register number) next image.old) result image.new }
+    ensures { Performs image.old
+        (after (Insn.BitTestRegister operation register number) next image.old) result image.new }
 {
     let number = image.register(number);
     test_bit(image, operation, &Operand::Register(register), number, next)
@@ -57,7 +60,8 @@ pub fn scan(
     from: &Operand,
     next: u32,
 ) -> Result<(), u8>
-    ensures { Performs image.old (after (Insn.BitScan operation to from.now) next image.old) result image.new }
+    ensures { Performs image.old (after (Insn.BitScan operation to from.now) next image.old) result
+        image.new }
 {
     let x = image.value(from, Size::Dword)?;
     let (found, flags) = bit_scan(operation, x, &image.flags);
@@ -77,7 +81,9 @@ pub fn shift_double(
     count: Count,
     next: u32,
 ) -> Result<(), u8>
-    ensures { Performs image.old (after (Insn.DoubleShift operation operand.now register count) next image.old) result image.new }
+    ensures { Performs image.old
+        (after (Insn.DoubleShift operation operand.now register count) next image.old) result
+        image.new }
 {
     let x = image.value(operand, Size::Dword)?;
     let filler = image.register(register);

@@ -53,14 +53,18 @@ fn leave(image: &mut Image) -> Result<(), u8>
 }
 
 fn set_carry(image: &mut Image, carry: bool, next: u32) -> Result<(), u8>
-    ensures { Performs image.old (image_at_next next (record image.old { flags = record image.old.flags { carry = carry } })) result image.new }
+    ensures { Performs image.old
+        (image_at_next next (record image.old { flags = record image.old.flags { carry = carry } }))
+        result image.new }
 {
     image.flags = image.flags.with_carry(carry);
     pass(image, next)
 }
 
 fn set_direction(image: &mut Image, direction: bool, next: u32) -> Result<(), u8>
-    ensures { Performs image.old (image_at_next next (record image.old { flags = record image.old.flags { direction = direction } })) result image.new }
+    ensures { Performs image.old
+        (image_at_next next (record image.old
+        { flags = record image.old.flags { direction = direction } })) result image.new }
 {
     image.flags = image.flags.with_direction(direction);
     pass(image, next)

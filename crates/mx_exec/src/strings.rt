@@ -75,7 +75,8 @@ fn transfer_once(image: &mut Image, operation: Transfer, size: Size) -> Result<(
 
 /// One CMPS or SCAS.
 fn compare_once(image: &mut Image, operation: Comparison, size: Size) -> Result<(), u8>
-    ensures { Performs image.old (image_after_comparison operation size image.old) result image.new }
+    ensures { Performs image.old (image_after_comparison operation size image.old) result
+        image.new }
 {
     match operation {
         Comparison::Cmps => {
@@ -118,7 +119,8 @@ pub fn transfer(
     repeated: bool,
     next: u32,
 ) -> Result<(), u8>
-    ensures { Performs image.old (transfer operation size repeated next image.old) result image.new }
+    ensures { Performs image.old (transfer operation size repeated next image.old) result
+        image.new }
 {
     if !repeated {
         transfer_once(image, operation, size)?;

@@ -15,7 +15,8 @@ pub fn one_start()
 /// Law: a word is one register at most, or a size word, and not both.
 #[tactic(auto, using(crate::proofs::Inverse::one_register, crate::proofs::Inverse::one_size, crate::proofs::Inverse::register_or_size))]
 pub fn one_register_or_size()
-    ensures register { (s z : Size) (r q : Register) → register_word s r ≡ register_word z q → (s ≡ z) × (r ≡ q) }
+    ensures register { (s z : Size) (r q : Register) → register_word s r ≡ register_word z q
+        → (s ≡ z) × (r ≡ q) }
     ensures size { (s z : Size) → size_word s ≡ size_word z → s ≡ z }
     ensures not_both { (s z : Size) (r : Register) → register_word s r ≢ size_word z }
 {}

@@ -11,14 +11,16 @@ use mx_insn::{Register, Size};
 
 /// The register that a word is, with its size.
 pub fn register_named(word: &[u8]) -> Option<(Size, Register)>
-    ensures { MatchOption result ((s : Size) (r : Register) → word.now ≢ register_word s r) (λ p. word.now ≡ register_word p.0 p.1) }
+    ensures { MatchOption result ((s : Size) (r : Register) → word.now ≢ register_word s r) (λ p.
+        word.now ≡ register_word p.0 p.1) }
 {
     found(&REGISTERS, word)
 }
 
 /// The size that a word names.
 pub fn size_named(word: &[u8]) -> Option<Size>
-    ensures { MatchOption result ((s : Size) → word.now ≢ size_word s) (λ s. word.now ≡ size_word s) }
+    ensures { MatchOption result ((s : Size) → word.now ≢ size_word s) (λ s.
+        word.now ≡ size_word s) }
 {
     found(&SIZES, word)
 }

@@ -43,7 +43,8 @@ pub enum WordStart {
 
 /// What a word begins a statement as.
 pub fn start_named(word: &[u8]) -> Option<WordStart>
-    ensures { MatchOption result ((x : WordStart) → word.now ≢ start_word x) (λ x. word.now ≡ start_word x) }
+    ensures { MatchOption result ((x : WordStart) → word.now ≢ start_word x) (λ x.
+        word.now ≡ start_word x) }
 {
     found(&STARTS, word)
 }
@@ -51,7 +52,8 @@ pub fn start_named(word: &[u8]) -> Option<WordStart>
 /// The mnemonic that a word is.
 #[tactic(auto, using(crate::proofs::Inverse::no_start, crate::proofs::Inverse::no_repeat, crate::proofs::Inverse::no_directive))]
 pub fn mnemonic_named(word: &[u8]) -> Option<Mnemonic>
-    ensures { MatchOption result ((m : Mnemonic) → word.now ≢ word_of m) (λ m. word.now ≡ word_of m) }
+    ensures { MatchOption result ((m : Mnemonic) → word.now ≢ word_of m) (λ m.
+        word.now ≡ word_of m) }
 {
     match start_named(word) {
         Some(WordStart::Mnemonic(mnemonic)) => Some(mnemonic),

@@ -103,7 +103,8 @@ fn check_process(
 ) -> Result<(), Errno>
     requires slot { slot < length table.now.slots }
     requires to { to < length table.now.slots }
-    ensures value { MatchResult result (λ _. process_refusal table.now slot call to generation ≡ None) (λ e. process_refusal table.now slot call to generation ≡ Some e) }
+    ensures value { MatchResult result (λ _. process_refusal table.now slot call to generation
+        ≡ None) (λ e. process_refusal table.now slot call to generation ≡ Some e) }
     ensures free { IfOk result (λ _. PassedProcess table.now slot call to) }
 {
     // So few that each has a bit in a mask.
@@ -125,7 +126,8 @@ fn check_process(
 fn check_party(table: &Table, slot: Slot, call: Call, party: Party) -> Result<(), Errno>
     requires slot { slot < length table.now.slots }
     requires named { HasUsedSlot table.now party }
-    ensures value { MatchResult result (λ _. party_refusal table.now slot call party ≡ None) (λ e. party_refusal table.now slot call party ≡ Some e) }
+    ensures value { MatchResult result (λ _. party_refusal table.now slot call party ≡ None) (λ e.
+        party_refusal table.now slot call party ≡ Some e) }
     ensures passed { IfOk result (λ _. Passed table.now slot call party) }
 {
     if to_pseudo(call, party) {
@@ -148,7 +150,9 @@ fn check_party(table: &Table, slot: Slot, call: Call, party: Party) -> Result<()
 pub(crate) fn check(table: &Table, slot: Slot, call: Call, number: u32) -> Result<Party, Errno>
     requires slot { slot < length table.now.slots }
     ensures party { IfOk result (λ party. party_of table.now number ≡ Some party) }
-    ensures value { MatchResult result (λ _. call_refusal table.now slot call (party_of table.now number) ≡ None) (λ e. call_refusal table.now slot call (party_of table.now number) ≡ Some e) }
+    ensures value { MatchResult result (λ _.
+        call_refusal table.now slot call (party_of table.now number) ≡ None) (λ e.
+        call_refusal table.now slot call (party_of table.now number) ≡ Some e) }
     ensures passed { IfOk result (λ party. Passed table.now slot call party) }
 {
     if !has_bit(table.process(slot).masks.traps, call.number()) {

@@ -99,7 +99,8 @@ fn release(table: &mut Table, slot: Slot, from: Slot)
     requires from { from < length table.old.slots }
     requires sending { is_sending (process_at table.old from).state ≡ true }
     requires inside { HasBuffer (process_at table.old from) }
-    ensures value { table.new ≡ table_after_release table.old slot from (process_at table.old from).state }
+    ensures value { table.new
+        ≡ table_after_release table.old slot from (process_at table.old from).state }
     ensures frame { frame table.new ≡ frame table.old }
     ensures used { length table.new.slots ≡ length table.old.slots }
     ensures others { (s : ℕ) → s ≢ from → process_at table.new s ≡ process_at table.old s }
@@ -194,7 +195,8 @@ fn tell(table: &mut Table, source: Source, to: Slot)
     ensures value { table.new ≡ table_after_notifying table.old source to }
     ensures frame { frame table.new ≡ frame table.old }
     ensures used { length table.new.slots ≡ length table.old.slots }
-    ensures home { (s : ℕ) → (process_at table.old s).state ≡ Home → (process_at table.new s).state ≡ Home }
+    ensures home { (s : ℕ) → (process_at table.old s).state ≡ Home → (process_at table.new s).state
+        ≡ Home }
     ensures settled { NoneComesHome table.old table.new }
 {
     let state = table.process(to).state;

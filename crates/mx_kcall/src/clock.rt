@@ -15,7 +15,8 @@ use mx_proc::{Slot, Source, Table};
 pub fn raise(table: &mut Table, line: u8)
     requires line { line < 16 }
     requires owned { IsSome (owner_of table.old line) }
-    ensures value { IfSome (owner_of table.old line) (λ s. table.new ≡ table_after_line table.old line s) }
+    ensures value { IfSome (owner_of table.old line) (λ s. table.new
+        ≡ table_after_line table.old line s) }
     ensures frame { frame table.new ≡ frame table.old }
     ensures settled { NoneComesHome table.old table.new }
 {
@@ -41,7 +42,8 @@ fn ring(table: &mut Table, slot: Slot)
     requires { slot < length table.old.slots }
     ensures value { table.new ≡ table_after_ring_if_due table.old slot }
     ensures frame { frame table.new ≡ frame table.old }
-    ensures others { (s : ℕ) → s ≢ slot → (process_at table.new s).alarm ≡ (process_at table.old s).alarm }
+    ensures others { (s : ℕ) → s ≢ slot → (process_at table.new s).alarm
+        ≡ (process_at table.old s).alarm }
     ensures settled { NoneComesHome table.old table.new }
 {
     if is_due(table.uptime(), table.process(slot).alarm) {

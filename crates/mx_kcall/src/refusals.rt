@@ -28,7 +28,11 @@ fn has_bit(mask: u32, bit: u32) -> bool
 
 /// The slot of an endpoint that is alive.
 fn check_endpoint(table: &Table, endpoint: Endpoint) -> Result<Slot, Errno>
-    ensures value { MatchResult result (λ _. first_error ((not (names_slot table.now endpoint), BadEndpoint) ∷ (not (is_alive table.now endpoint), Dead) ∷ []) ≡ None) (λ e. first_error ((not (names_slot table.now endpoint), BadEndpoint) ∷ (not (is_alive table.now endpoint), Dead) ∷ []) ≡ Some e) }
+    ensures value { MatchResult result (λ _.
+        first_error ((not (names_slot table.now endpoint), BadEndpoint)
+        ∷ (not (is_alive table.now endpoint), Dead) ∷ []) ≡ None) (λ e.
+        first_error ((not (names_slot table.now endpoint), BadEndpoint)
+        ∷ (not (is_alive table.now endpoint), Dead) ∷ []) ≡ Some e) }
     ensures slot { IfOk result (λ s. (s ≡ endpoint % 1024) × (s < length table.now.slots)) }
 {
     if !table.names_slot(endpoint) {
@@ -82,7 +86,9 @@ fn is_barred(
 
 /// IRQCTL's refusals.
 fn check_irqctl(table: &Table, slot: Slot, action: u32, line: u32) -> Result<(), Errno>
-    ensures value { MatchResult result (λ _. first_error (kernel_call_reasons table.now slot (requests.Irqctl action line)) ≡ None) (λ e. first_error (kernel_call_reasons table.now slot (requests.Irqctl action line)) ≡ Some e) }
+    ensures value { MatchResult result (λ _.
+        first_error (kernel_call_reasons table.now slot (requests.Irqctl action line)) ≡ None) (λ e.
+        first_error (kernel_call_reasons table.now slot (requests.Irqctl action line)) ≡ Some e) }
     ensures permitted { IfOk result (λ _. line < 16) }
 {
     if action > 1 || line > 15 {
@@ -110,8 +116,12 @@ fn check_vircopy(
     count: u32,
 ) -> Result<(), Errno>
     requires { slot < length table.now.slots }
-    ensures value { MatchResult result (λ _. first_error (kernel_call_reasons table.now slot (requests.Vircopy from at to place count)) ≡ None) (λ e. first_error (kernel_call_reasons table.now slot (requests.Vircopy from at to place count)) ≡ Some e) }
-    ensures permitted { IfOk result (λ _. IsPermitted table.now (requests.Vircopy from at to place count)) }
+    ensures value { MatchResult result (λ _.
+        first_error (kernel_call_reasons table.now slot (requests.Vircopy from at to place count))
+        ≡ None) (λ e. first_error
+        (kernel_call_reasons table.now slot (requests.Vircopy from at to place count)) ≡ Some e) }
+    ensures permitted { IfOk result (λ _.
+        IsPermitted table.now (requests.Vircopy from at to place count)) }
 {
     if count > 65_536 {
         return Err(Errno::Invalid);
@@ -134,7 +144,9 @@ fn check_vircopy(
 
 /// KILL's refusals.
 fn check_kill(table: &Table, slot: Slot, endpoint: Endpoint) -> Result<(), Errno>
-    ensures value { MatchResult result (λ _. first_error (kernel_call_reasons table.now slot (requests.Kill endpoint)) ≡ None) (λ e. first_error (kernel_call_reasons table.now slot (requests.Kill endpoint)) ≡ Some e) }
+    ensures value { MatchResult result (λ _.
+        first_error (kernel_call_reasons table.now slot (requests.Kill endpoint)) ≡ None) (λ e.
+        first_error (kernel_call_reasons table.now slot (requests.Kill endpoint)) ≡ Some e) }
     ensures permitted { IfOk result (λ _. IsPermitted table.now (requests.Kill endpoint)) }
 {
     let victim = check_endpoint(table, endpoint)?;
@@ -146,7 +158,9 @@ fn check_kill(table: &Table, slot: Slot, endpoint: Endpoint) -> Result<(), Errno
 
 /// WHOIS's refusals.
 fn check_whois(table: &Table, slot: Slot, named: u32) -> Result<(), Errno>
-    ensures value { MatchResult result (λ _. first_error (kernel_call_reasons table.now slot (requests.Whois named)) ≡ None) (λ e. first_error (kernel_call_reasons table.now slot (requests.Whois named)) ≡ Some e) }
+    ensures value { MatchResult result (λ _.
+        first_error (kernel_call_reasons table.now slot (requests.Whois named)) ≡ None) (λ e.
+        first_error (kernel_call_reasons table.now slot (requests.Whois named)) ≡ Some e) }
     ensures permitted { IfOk result (λ _. named < length table.now.slots) }
 {
     if named >= u32::from(table.used()) {
@@ -168,8 +182,13 @@ fn check_grant(
     access: u32,
 ) -> Result<(), Errno>
     requires { slot < length table.now.slots }
-    ensures value { MatchResult result (λ _. first_error (kernel_call_reasons table.now slot (requests.Grant endpoint place count access)) ≡ None) (λ e. first_error (kernel_call_reasons table.now slot (requests.Grant endpoint place count access)) ≡ Some e) }
-    ensures permitted { IfOk result (λ _. IsPermitted table.now (requests.Grant endpoint place count access)) }
+    ensures value { MatchResult result (λ _.
+        first_error (kernel_call_reasons table.now slot
+        (requests.Grant endpoint place count access)) ≡ None) (λ e.
+        first_error (kernel_call_reasons table.now slot
+        (requests.Grant endpoint place count access)) ≡ Some e) }
+    ensures permitted { IfOk result (λ _.
+        IsPermitted table.now (requests.Grant endpoint place count access)) }
 {
     if access > 3 || endpoint == table.endpoint(slot) {
         return Err(Errno::Invalid);
@@ -185,7 +204,8 @@ fn check_grant(
 #[tactic(auto, unfolding(crate::specs::Refusals::refusal_of_kernel_call))]
 fn check_request(table: &Table, slot: Slot, request: KernelCall) -> Result<(), Errno>
     requires { slot < length table.now.slots }
-    ensures value { MatchResult result (λ _. refusal_of_kernel_call table.now slot request ≡ None) (λ e. refusal_of_kernel_call table.now slot request ≡ Some e) }
+    ensures value { MatchResult result (λ _. refusal_of_kernel_call table.now slot request
+        ≡ None) (λ e. refusal_of_kernel_call table.now slot request ≡ Some e) }
     ensures permitted { IfOk result (λ _. IsPermitted table.now request) }
 {
     match request {
@@ -225,7 +245,10 @@ fn check_request(table: &Table, slot: Slot, request: KernelCall) -> Result<(), E
 pub(crate) fn check(table: &Table, slot: Slot) -> Result<KernelCall, Errno>
     requires slot { slot < length table.now.slots }
     requires inside { HasBuffer (process_at table.now slot) }
-    ensures value { MatchResult result (λ r. (kernel_call_under table.now.rules (message_words_at table.now slot) ≡ Some r) × (kernel_call_refusal table.now slot ≡ None)) (λ e. kernel_call_refusal table.now slot ≡ Some e) }
+    ensures value { MatchResult result (λ r.
+        (kernel_call_under table.now.rules (message_words_at table.now slot) ≡ Some r)
+        × (kernel_call_refusal table.now slot ≡ None)) (λ e. kernel_call_refusal table.now slot
+        ≡ Some e) }
     ensures permitted { IfOk result (λ r. IsPermitted table.now r) }
 {
     let request = match request_under(table.rules(), words_at(table, slot)) {

@@ -7,7 +7,8 @@ ghost use Rattle.mx_lex.specs.Tokens.{Gap, IsOver, IsReadAs, IsLexFault};
 
 /// Law: a gap that ends where no other begins has one end.
 pub fn gap_has_one_end()
-    ensures { (t : List ℕ) (a b c : ℕ) → Gap t a b → Gap t a c → b ≤ length t → c ≤ length t → IsOver t b → IsOver t c → b ≡ c }
+    ensures { (t : List ℕ) (a b c : ℕ) → Gap t a b → Gap t a c → b ≤ length t → c ≤ length t
+        → IsOver t b → IsOver t c → b ≡ c }
 {}
 
 /// Law: a text is parted into tokens in at most one way.
@@ -17,8 +18,10 @@ pub fn one_reading()
 
 /// Law: a text has a reading or a fault, and not both: none has neither.
 pub fn reading_or_fault()
-    ensures not_both { (t : List ℕ) (ks : List Token) (e : LexError) → IsReadAs t ks → IsLexFault t e → ⊥ }
-    ensures not_neither { (t : List ℕ) → ((ks : List Token) → IsReadAs t ks → ⊥) → ((e : LexError) → IsLexFault t e → ⊥) → ⊥ }
+    ensures not_both { (t : List ℕ) (ks : List Token) (e : LexError) → IsReadAs t ks
+        → IsLexFault t e → ⊥ }
+    ensures not_neither { (t : List ℕ) → ((ks : List Token) → IsReadAs t ks → ⊥)
+        → ((e : LexError) → IsLexFault t e → ⊥) → ⊥ }
 {}
 
 /// Law: a text has at most one first fault of its tokens.

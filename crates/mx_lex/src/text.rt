@@ -17,7 +17,8 @@ fn is_escape(byte: u8) -> bool
 /// Where the quote stands that ends a quoted text.
 pub fn quote_at(bytes: &[u8], start: usize) -> Result<usize, LexError>
     requires { start ≤ length bytes.now }
-    ensures quote { IfOk result (λ e. (e < length bytes.now) × Body bytes.now start e × (slice_index bytes.now e ≡ 34)) }
+    ensures quote { IfOk result (λ e. (e < length bytes.now) × Body bytes.now start e
+        × (slice_index bytes.now e ≡ 34)) }
     ensures fault { IfErr result (λ e. IsBrokenText bytes.now start e) }
 {
     let mut at = start;

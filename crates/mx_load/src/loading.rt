@@ -18,7 +18,8 @@ use std::alloc::Global;
 /// Copies bytes to a place where they lie inside.
 fn fill(segment: &mut Segment, at: u32, bytes: &[u8])
     requires { at + length bytes.now ≤ length segment.old }
-    ensures value { segment.new ≡ take at segment.old ++ bytes.now ++ drop (at + length bytes.now) segment.old }
+    ensures value { segment.new ≡ take at segment.old ++ bytes.now
+        ++ drop (at + length bytes.now) segment.old }
     ensures limit { length segment.new ≡ length segment.old }
 {
     match segment.fill_from(at, bytes) {
@@ -30,7 +31,8 @@ fn fill(segment: &mut Segment, at: u32, bytes: &[u8])
 /// The data segment's limit.
 fn limit_of(program: &Program) -> u32
     ensures value { result ≡ rounded_to_pages program.now.total }
-    ensures within { IsWithin program.now.sep program.now.total (length program.now.text) (length program.now.init) program.now.bss (length program.now.symbols) }
+    ensures within { IsWithin program.now.sep program.now.total (length program.now.text)
+        (length program.now.init) program.now.bss (length program.now.symbols) }
 {
     ((u64::from(program.total) + 4095) / 4096 * 4096) as u32
 }
@@ -53,8 +55,10 @@ struct Room {
 
 /// Takes all pages that a program's image needs, and writes none of them.
 fn room_for(alloc: Global, program: &Program) -> Result<Room, NoMemory>
-    ensures memory { IfOk result (λ room. room.memory ≡ replicate (rounded_to_pages program.now.total) 0) }
-    ensures text { IfOk result (λ room. room.text ≡ room_for_text program.now.sep program.now.text) }
+    ensures memory { IfOk result (λ room. room.memory
+        ≡ replicate (rounded_to_pages program.now.total) 0) }
+    ensures text { IfOk result (λ room. room.text
+        ≡ room_for_text program.now.sep program.now.text) }
 {
     let memory = Segment::new(alloc, limit_of(program))?;
     let text = if program.sep {
@@ -108,7 +112,13 @@ pub fn load(alloc: Global, program: &Program) -> Result<Image, NoMemory>
 
 /// An image with all flags 0.
 fn image(eip: u32, regs: Regs, memory: Segment, code: Code) -> Image
-    ensures { result ≡ record { regs = regs; eip = eip; flags = values_of 0; memory = memory; code = code } }
+    ensures { result ≡ record {
+      regs = regs;
+      eip = eip;
+      flags = values_of 0;
+      memory = memory;
+      code = code;
+    } }
 {
     Image {
         regs,

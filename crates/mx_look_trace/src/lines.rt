@@ -131,7 +131,8 @@ fn push_told_words(out: &mut Vec<u8>, numbers: &[u32]) -> Result<(), AllocError>
 /// Appends the words p0 to p6 that came to a slot.
 #[tactic(auto, unfolding(crate::specs::Trace::delivered_words))]
 fn push_delivered_words(out: &mut Vec<u8>, step: &Step, slot: u32) -> Result<(), AllocError>
-    ensures { OnOk result (out.new.items ≡ out.old.items ++ delivered_words (slot_in step.now.after slot)) }
+    ensures { OnOk result (out.new.items ≡ out.old.items
+        ++ delivered_words (slot_in step.now.after slot)) }
 {
     let Some(seen) = slot_in(&step.after, slot) else {
         return Ok(());
@@ -185,7 +186,8 @@ fn push_changed(
     before: &SlotGlance,
     after: &SlotGlance,
 ) -> Result<(), AllocError>
-    ensures { OnOk result (out.new.items ≡ out.old.items ++ changed step.now slot before.now after.now) }
+    ensures { OnOk result (out.new.items ≡ out.old.items
+        ++ changed step.now slot before.now after.now) }
 {
     push_margin(out, step)?;
     push_who_of(out, after)?;

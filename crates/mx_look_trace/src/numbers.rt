@@ -11,7 +11,8 @@ use std::alloc::AllocError;
 
 /// Appends a number with its sign.
 pub(crate) fn push_signed(out: &mut Vec<u8>, number: u32) -> Result<(), AllocError>
-    ensures { OnOk result (out.new.items ≡ out.old.items ++ signed_decimal (cast_signed w32 number)) }
+    ensures { OnOk result (out.new.items ≡ out.old.items
+        ++ signed_decimal (cast_signed w32 number)) }
 {
     out.extend_from_slice(Buffer::new().format(number.cast_signed()).as_bytes())
 }

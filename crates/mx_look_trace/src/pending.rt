@@ -29,7 +29,8 @@ fn push_kept(
     after: &SlotGlance,
     place: u32,
 ) -> Result<(), AllocError>
-    ensures { OnOk result (out.new.items ≡ out.old.items ++ kept_line step.now before.now after.now place) }
+    ensures { OnOk result (out.new.items ≡ out.old.items
+        ++ kept_line step.now before.now after.now place) }
 {
     if !is_new_bit(before, after, place) {
         return Ok(());
@@ -49,7 +50,8 @@ fn push_kept_between(
     before: &SlotGlance,
     after: &SlotGlance,
 ) -> Result<(), AllocError>
-    ensures { OnOk result (out.new.items ≡ out.old.items ++ kept_between step.now before.now after.now) }
+    ensures { OnOk result (out.new.items ≡ out.old.items
+        ++ kept_between step.now before.now after.now) }
 {
     for place in 0..34u32 {
         push_kept(out, step, before, after, place)?;

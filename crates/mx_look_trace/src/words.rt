@@ -11,7 +11,8 @@ use std::alloc::AllocError;
 
 /// Appends a word and a number, parted by a space.
 pub(crate) fn push_counted(out: &mut Vec<u8>, word: &[u8], number: u32) -> Result<(), AllocError>
-    ensures { OnOk result (out.new.items ≡ out.old.items ++ (word.now ++ codes " " ++ decimal number)) }
+    ensures { OnOk result (out.new.items ≡ out.old.items
+        ++ (word.now ++ codes " " ++ decimal number)) }
 {
     out.extend_from_slice(word)?;
     out.push(b' ')?;

@@ -15,7 +15,8 @@ use mx_machine_world::actors_stay;
 /// Law: while a processor has a process, its step may change places with any event but its own
 /// steps, takes and returns.
 pub fn steps_change_places()
-    ensures { (w : World) (c a : ℕ) (x : Event) (l : HeldProcess) → held_by w c ≡ Some l → IsOthers c a x → ChangePlaces w c e.Step a x }
+    ensures { (w : World) (c a : ℕ) (x : Event) (l : HeldProcess) → held_by w c ≡ Some l
+        → IsOthers c a x → ChangePlaces w c e.Step a x }
 {}
 
 /// Law: a history whose events are accepted, as every kernel's are, replays.

@@ -41,7 +41,8 @@ impl Model for Machine {
 /// The endpoint of the process that is on a processor.
 fn endpoint_on(kernel: &Kernel, cpu: u8) -> Endpoint
     requires { IsSome (held_by (replay kernel.now) cpu) }
-    ensures { IfSome (held_by (replay kernel.now) cpu) (λ l. result ≡ endpoint_of (replay kernel.now).table l.slot) }
+    ensures { IfSome (held_by (replay kernel.now) cpu) (λ l.
+        result ≡ endpoint_of (replay kernel.now).table l.slot) }
 {
     kernel.opened();
     match kernel.slot_on(cpu) {
@@ -101,7 +102,8 @@ impl Machine {
 
     /// What a processor holds, as it is now.
     pub fn held(&self, cpu: u8) -> Option<&Out>
-        ensures { MatchOption result (held_by (world_of self.now) cpu ≡ None) (λ out. (l : HeldProcess) × (held_by (world_of self.now) cpu ≡ Some l) × (out.now ≡ l.out)) }
+        ensures { MatchOption result (held_by (world_of self.now) cpu ≡ None) (λ out.
+            (l : HeldProcess) × (held_by (world_of self.now) cpu ≡ Some l) × (out.now ≡ l.out)) }
     {
         self.opened();
         if cpu as usize >= self.outs.len() {
@@ -115,7 +117,9 @@ impl Machine {
 
     /// The image that a processor of the machine holds, as it is now.
     pub fn image(&self, cpu: u8) -> Option<&Image>
-        ensures { MatchOption result (held_by (world_of self.now) cpu ≡ None) (λ image. (l : HeldProcess) × (held_by (world_of self.now) cpu ≡ Some l) × (image.now ≡ l.out.image)) }
+        ensures { MatchOption result (held_by (world_of self.now) cpu ≡ None) (λ image.
+            (l : HeldProcess) × (held_by (world_of self.now) cpu ≡ Some l)
+            × (image.now ≡ l.out.image)) }
     {
         match self.held(cpu) {
             Some(out) => Some(&out.image),
@@ -125,15 +129,20 @@ impl Machine {
 
     /// The slot whose process a processor of the machine holds.
     pub fn slot_on(&self, cpu: u8) -> Option<Slot>
-        ensures { result ≡ option_map (λ (l : HeldProcess). l.slot) (held_by (world_of self.now) cpu) }
+        ensures { result ≡ option_map (λ (l : HeldProcess).
+            l.slot) (held_by (world_of self.now) cpu) }
     {
         self.kernel.slot_on(cpu)
     }
 
     /// Lends what a processor of the machine holds to a tool.
     pub fn work<T: Tool>(&mut self, cpu: u8, tool: &mut T) -> Result<(), Refusal>
-        ensures ok { OnOk result ((l : HeldProcess) × HasWorked (world_of self.old) (world_of self.new) cpu (T.steps tool.old l.out) l × T.Becomes tool.old l.out tool.new) }
-        ensures err { IfErr result (λ refusal. (refusal ≡ CpuEmpty) × (held_by (world_of self.old) cpu ≡ None) × (self.new ≡ self.old) × (tool.new ≡ tool.old)) }
+        ensures ok { OnOk result ((l : HeldProcess)
+            × HasWorked (world_of self.old) (world_of self.new) cpu (T.steps tool.old l.out) l
+            × T.Becomes tool.old l.out tool.new) }
+        ensures err { IfErr result (λ refusal. (refusal ≡ CpuEmpty)
+            × (held_by (world_of self.old) cpu ≡ None) × (self.new ≡ self.old)
+            × (tool.new ≡ tool.old)) }
         ensures kernel { self.new.kernel ≡ self.old.kernel }
         ensures actors { actors (world_of self.new) ≡ actors (world_of self.old) }
     {
@@ -221,10 +230,14 @@ impl Machine {
         answers: &mut Vec<Result<Answer, Refusal>>,
     ) -> Result<(), NoMemory>
         requires { All (λ x. IsActor (world_of self.old) x.0 x.1) events.now }
-        ensures ok { OnOk result ((answers.new.items ≡ answers.old.items ++ (moves (world_of self.old) events.now).0) × (world_of self.new ≡ (moves (world_of self.old) events.now).1)) }
+        ensures ok { OnOk result ((answers.new.items ≡ answers.old.items
+            ++ (moves (world_of self.old) events.now).0)
+            × (world_of self.new ≡ (moves (world_of self.old) events.now).1)) }
         ensures sound { OnOk result (AreSound (world_of self.old) events.now) }
-        ensures recorded { OnOk result (self.new.kernel ≡ kept_along self.old.kernel events.now (moves (world_of self.old) events.now).0) }
-        ensures err { OnErr result ((answers.new.items ≡ answers.old.items) × (self.new ≡ self.old)) }
+        ensures recorded { OnOk result (self.new.kernel
+            ≡ kept_along self.old.kernel events.now (moves (world_of self.old) events.now).0) }
+        ensures err { OnErr result ((answers.new.items ≡ answers.old.items)
+            × (self.new ≡ self.old)) }
         ensures actors { actors (world_of self.new) ≡ actors (world_of self.old) }
     {
         answers.reserve(events.len())?;

@@ -51,8 +51,10 @@ fn at_stop(out: &Out) -> bool
 /// One step of what a processor holds, unless it is at a stop.
 #[tactic(auto, unfolding(mx_machine_world::specs::Held::out_after_step, mx_machine_world::specs::Held::outcome_of_step))]
 fn step_of(out: &mut Out) -> Result<Answer, Refusal>
-    ensures stop { IfErr result (λ refusal. (refusal ≡ AtStop) × (at_stop out.old ≡ true) × (out.new ≡ out.old)) }
-    ensures went { IfOk result (λ answer. (answer ≡ Went (outcome_of_step out.old)) × (at_stop out.old ≡ false) × (out.new ≡ out_after_step out.old)) }
+    ensures stop { IfErr result (λ refusal. (refusal ≡ AtStop) × (at_stop out.old ≡ true)
+        × (out.new ≡ out.old)) }
+    ensures went { IfOk result (λ answer. (answer ≡ Went (outcome_of_step out.old))
+        × (at_stop out.old ≡ false) × (out.new ≡ out_after_step out.old)) }
 {
     if at_stop(out) {
         return Err(Refusal::AtStop);
@@ -75,8 +77,10 @@ pub(crate) fn step_held(held: &mut Option<Out>) -> Result<Answer, Refusal>
 
 /// Lends what a processor holds to a tool, if it holds anything.
 pub(crate) fn work_held<T: Tool>(tool: &mut T, held: &mut Option<Out>) -> Result<(), Refusal>
-    ensures none { IfErr result (λ refusal. (refusal ≡ CpuEmpty) × (held.old ≡ None) × (held.new ≡ None) × (tool.new ≡ tool.old)) }
-    ensures some { OnOk result ((o : Out) × (p : Out) × (held.old ≡ Some o) × (held.new ≡ Some p) × (p ≡ (held_run (T.steps tool.old o) o).1) × T.Becomes tool.old o tool.new) }
+    ensures none { IfErr result (λ refusal. (refusal ≡ CpuEmpty) × (held.old ≡ None)
+        × (held.new ≡ None) × (tool.new ≡ tool.old)) }
+    ensures some { OnOk result ((o : Out) × (p : Out) × (held.old ≡ Some o) × (held.new ≡ Some p)
+        × (p ≡ (held_run (T.steps tool.old o) o).1) × T.Becomes tool.old o tool.new) }
 {
     match held {
         Some(out) => {

@@ -24,21 +24,26 @@ pub fn held_runs_join()
 /// Law: a run of what a processor holds is that many steps of the processor as the run makes, none of
 /// which is refused.
 pub fn runs_are_steps()
-    ensures { (w : World) (a k : ℕ) (l : HeldProcess) → held_by w a ≡ Some l → l.out.count ≤ l.out.budget → StepsTo w a (held_run k l.out).0.0 l (held_run k l.out).1 }
+    ensures { (w : World) (a k : ℕ) (l : HeldProcess) → held_by w a ≡ Some l
+        → l.out.count ≤ l.out.budget → StepsTo w a (held_run k l.out).0.0 l (held_run k l.out).1 }
 {}
 
 /// Law: an event, whether it is refused or not, leaves how many actors there are, and so do events in a row.
 pub fn actors_stay()
     ensures event { (w : World) (a : ℕ) (x : Event) → actors (move w a x).1 ≡ actors w }
-    ensures events { (w : World) (xs : List (ℕ × Event)) → actors (world_after_events w xs) ≡ actors w }
+    ensures events { (w : World) (xs : List (ℕ × Event)) → actors (world_after_events w xs)
+        ≡ actors w }
 {}
 
 /// Law: an event that any actor may do leaves what the processors hold, and no event of one actor
 /// changes what another processor holds, whether it is refused or not.
 pub fn others_keep()
-    ensures all { (w : World) (a : ℕ) (x : Event) → is_for_all x ≡ true → (world_after_event w a x).cpus ≡ w.cpus }
-    ensures other { (w : World) (a c : ℕ) (x : Event) → a ≢ c → held_by (world_after_event w a x) c ≡ held_by w c }
-    ensures moved { (w : World) (a c : ℕ) (x : Event) → a ≢ c → held_by (move w a x).1 c ≡ held_by w c }
+    ensures all { (w : World) (a : ℕ) (x : Event) → is_for_all x ≡ true
+        → (world_after_event w a x).cpus ≡ w.cpus }
+    ensures other { (w : World) (a c : ℕ) (x : Event) → a ≢ c → held_by (world_after_event w a x) c
+        ≡ held_by w c }
+    ensures moved { (w : World) (a c : ℕ) (x : Event) → a ≢ c
+        → held_by (move w a x).1 c ≡ held_by w c }
 {}
 
 /// Law: after a return the processor holds nothing.
@@ -50,7 +55,11 @@ pub fn back_empties()
 /// second. So its part of a front is a front of its part, and one record more is one more of the
 /// part of the actor that it names, and of no other's.
 pub fn parts_join()
-    ensures both { (xs ys : List Record) (a : ℕ) → part_of (xs ++ ys) a ≡ part_of xs a ++ part_of ys a }
-    ensures own { (xs : List Record) (a : ℕ) (e : Recorded) → part_of (xs ++ record { actor = a; event = e } ∷ []) a ≡ part_of xs a ++ record { actor = a; event = e } ∷ [] }
-    ensures other { (xs : List Record) (a b : ℕ) (e : Recorded) → b ≢ a → part_of (xs ++ record { actor = b; event = e } ∷ []) a ≡ part_of xs a }
+    ensures both { (xs ys : List Record) (a : ℕ) → part_of (xs ++ ys) a ≡ part_of xs a
+        ++ part_of ys a }
+    ensures own { (xs : List Record) (a : ℕ) (e : Recorded)
+        → part_of (xs ++ record { actor = a; event = e } ∷ []) a ≡ part_of xs a
+        ++ record { actor = a; event = e } ∷ [] }
+    ensures other { (xs : List Record) (a b : ℕ) (e : Recorded) → b ≢ a
+        → part_of (xs ++ record { actor = b; event = e } ∷ []) a ≡ part_of xs a }
 {}

@@ -219,7 +219,8 @@ impl Segment {
     pub fn write(&mut self, at: u32, size: Size, value: u32) -> Result<(), OutOfLimit>
         requires { value < 2 ^ width size }
         ensures ok { OnOk result (bytes_after_write self.old at size value ≡ Ok self.new) }
-        ensures err { OnErr result ((bytes_after_write self.old at size value ≡ Err (record {})) × (self.new ≡ self.old)) }
+        ensures err { OnErr result ((bytes_after_write self.old at size value ≡ Err (record {}))
+            × (self.new ≡ self.old)) }
     {
         if !self.holds(at, size) {
             return Err(OutOfLimit);
@@ -236,7 +237,8 @@ impl Segment {
     /// Copies bytes to an address of the segment. A refusal changes nothing.
     pub fn fill_from(&mut self, at: u32, bytes: &[u8]) -> Result<(), OutOfLimit>
         ensures ok { OnOk result (bytes_after_copy self.old at bytes.now ≡ Ok self.new) }
-        ensures err { OnErr result ((bytes_after_copy self.old at bytes.now ≡ Err (record {})) × (self.new ≡ self.old)) }
+        ensures err { OnErr result ((bytes_after_copy self.old at bytes.now ≡ Err (record {}))
+            × (self.new ≡ self.old)) }
     {
         let place = at as usize;
         if place > self.limit() || bytes.len() > self.limit() - place {

@@ -32,7 +32,8 @@ fn push_delivery(out: &mut String, delivery: Delivery) -> Result<(), AllocError>
 
 /// Appends the lines of the deliveries that are kept, the oldest first: `1 0 0 message`.
 pub fn push_messages(out: &mut String, kernel: &Kernel) -> Result<(), AllocError>
-    ensures { OnOk result (string_bytes out.new ≡ string_bytes out.old ++ delivery_lines (replay kernel.now).table.deliveries) }
+    ensures { OnOk result (string_bytes out.new ≡ string_bytes out.old
+        ++ delivery_lines (replay kernel.now).table.deliveries) }
 {
     let mut index = 0;
     while let Some(delivery) = message(kernel, index) {

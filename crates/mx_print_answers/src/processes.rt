@@ -24,7 +24,8 @@ fn push_not_here(out: &mut String) -> Result<(), AllocError>
 
 /// Appends the registers of a process, if there is one.
 pub fn push_process(out: &mut String, image: Option<&Image>) -> Result<(), AllocError>
-    ensures { OnOk result (string_bytes out.new ≡ string_bytes out.old ++ registers_text (option_map (λ m. m.now) image.entry)) }
+    ensures { OnOk result (string_bytes out.new ≡ string_bytes out.old
+        ++ registers_text (option_map (λ m. m.now) image.entry)) }
 {
     match image {
         Some(image) => push_registers(out, image),
@@ -34,7 +35,8 @@ pub fn push_process(out: &mut String, image: Option<&Image>) -> Result<(), Alloc
 
 /// Appends the byte at an address in two digits after a space, if there is one.
 fn push_byte(out: &mut String, memory: &Segment, at: u32) -> Result<(), AllocError>
-    ensures { OnOk result (string_bytes out.new ≡ string_bytes out.old ++ flat_map byte_field (take 1 (drop at memory.now))) }
+    ensures { OnOk result (string_bytes out.new ≡ string_bytes out.old
+        ++ flat_map byte_field (take 1 (drop at memory.now))) }
 {
     match memory.get(at) {
         Some(byte) => write!(out, " {byte:02x}"),
@@ -45,7 +47,8 @@ fn push_byte(out: &mut String, memory: &Segment, at: u32) -> Result<(), AllocErr
 /// Appends the line of this many bytes from an address on.
 fn push_row(out: &mut String, memory: &Segment, from: u32, count: u32) -> Result<(), AllocError>
     requires { from + count < 2 ^ 32 }
-    ensures { OnOk result (string_bytes out.new ≡ string_bytes out.old ++ memory_row from (take count (drop from memory.now))) }
+    ensures { OnOk result (string_bytes out.new ≡ string_bytes out.old
+        ++ memory_row from (take count (drop from memory.now))) }
 {
     push_eight_digits(out, from)?;
     for at in from..from + count {
@@ -58,7 +61,8 @@ fn push_row(out: &mut String, memory: &Segment, from: u32, count: u32) -> Result
 fn push_rows(out: &mut String, memory: &Segment, from: u32, count: u32) -> Result<(), AllocError>
     requires short { from + count < 2 ^ 32 }
     requires inside { from + count ≤ length memory.now }
-    ensures { OnOk result (string_bytes out.new ≡ string_bytes out.old ++ memory_rows from (take count (drop from memory.now))) }
+    ensures { OnOk result (string_bytes out.new ≡ string_bytes out.old
+        ++ memory_rows from (take count (drop from memory.now))) }
 {
     for row in 0..count.div_ceil(16) {
         let above = 16 * row;
@@ -76,7 +80,8 @@ pub fn push_memory(
     from: u32,
     count: u32,
 ) -> Result<(), AllocError>
-    ensures { OnOk result (string_bytes out.new ≡ string_bytes out.old ++ memory_text (option_map (λ m. m.now) image.entry) from count) }
+    ensures { OnOk result (string_bytes out.new ≡ string_bytes out.old
+        ++ memory_text (option_map (λ m. m.now) image.entry) from count) }
 {
     let Some(image) = image else {
         return push_not_here(out);

@@ -27,7 +27,8 @@ fn stop_of(halt: Halt) -> Stop
 
 /// Appends the line of a run after which the process stands at an address.
 fn push_halt(text: &mut String, halt: Halt, eip: u32) -> Result<(), AllocError>
-    ensures { OnOk result (string_bytes text.new ≡ string_bytes text.old ++ halt_line halt.count halt.cause eip ++ codes "\n") }
+    ensures { OnOk result (string_bytes text.new ≡ string_bytes text.old
+        ++ halt_line halt.count halt.cause eip ++ codes "\n") }
 {
     let count = halt.count;
     if let HaltCause::Breakpoint = halt.cause {

@@ -33,7 +33,8 @@ fn push_index(out: &mut String, index: Index) -> Result<(), AllocError>
 
 /// After a base or an index.
 fn push_displacement(out: &mut String, displacement: u32) -> Result<(), AllocError>
-    ensures { OnOk result (string_bytes out.new ≡ string_bytes out.old ++ (if displacement == 0 then [] else codes "+" ++ number_text displacement)) }
+    ensures { OnOk result (string_bytes out.new ≡ string_bytes out.old
+        ++ (if displacement == 0 then [] else codes "+" ++ number_text displacement)) }
 {
     if displacement == 0 {
         return Ok(());
@@ -83,7 +84,8 @@ fn push_operand(out: &mut String, operand: Written) -> Result<(), AllocError>
 
 /// Two operands, and a comma between them.
 fn push_two(out: &mut String, first: Written, second: Written) -> Result<(), AllocError>
-    ensures { OnOk result (string_bytes out.new ≡ string_bytes out.old ++ (operand_text first ++ (codes ", " ++ operand_text second))) }
+    ensures { OnOk result (string_bytes out.new ≡ string_bytes out.old
+        ++ (operand_text first ++ (codes ", " ++ operand_text second))) }
 {
     push_operand(out, first)?;
     out.push_str(", ")?;
@@ -92,7 +94,8 @@ fn push_two(out: &mut String, first: Written, second: Written) -> Result<(), All
 
 /// Appends a space and an instruction's operands, if it has any.
 pub fn push_operands(out: &mut String, operands: WrittenOperands) -> Result<(), AllocError>
-    ensures { OnOk result (string_bytes out.new ≡ string_bytes out.old ++ operands_text (written_list operands)) }
+    ensures { OnOk result (string_bytes out.new ≡ string_bytes out.old
+        ++ operands_text (written_list operands)) }
 {
     match operands {
         WrittenOperands::Nothing => Ok(()),

@@ -120,7 +120,8 @@ fn push_mnemonic(out: &mut String, mnemonic: Mnemonic) -> Result<(), AllocError>
 /// at the address `next`: jumps name the address that they go to. On an error a part of it may stand
 /// in `out`.
 pub fn push_statement(out: &mut String, insn: &Insn, next: u32) -> Result<(), AllocError>
-    ensures { OnOk result (string_bytes out.new ≡ string_bytes out.old ++ statement_text next insn.now) }
+    ensures { OnOk result (string_bytes out.new ≡ string_bytes out.old
+        ++ statement_text next insn.now) }
 {
     push_prefix(out, prefix(insn))?;
     push_mnemonic(out, mnemonic(insn))?;

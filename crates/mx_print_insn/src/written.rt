@@ -148,7 +148,8 @@ fn of_return(count: u16) -> WrittenOperands
 
 /// An operand and a register of its size.
 fn with_register(size: Size, operand: Operand, register: Register) -> WrittenOperands
-    ensures { written_list result ≡ written_operand size operand ∷ Written.Register size register ∷ [] }
+    ensures { written_list result ≡ written_operand size operand ∷ Written.Register size register
+        ∷ [] }
 {
     Two(of_operand(size, operand), Written::Register(size, register))
 }
@@ -162,7 +163,8 @@ fn to_register(size: Size, to: Register, from: Operand) -> WrittenOperands
 
 /// Of LEA.
 fn of_address(size: OperandSize, to: Register, memory: Memory) -> WrittenOperands
-    ensures { written_list result ≡ Written.Register (written_size size) to ∷ Written.Address memory ∷ [] }
+    ensures { written_list result ≡ Written.Register (written_size size) to ∷ Written.Address memory
+        ∷ [] }
 {
     Two(
         Written::Register(of_size(size), to),
@@ -179,7 +181,8 @@ fn of_shift(size: Size, operand: Operand, count: Count) -> WrittenOperands
 
 /// Of SHLD or SHRD.
 fn of_double_shift(operand: Operand, register: Register, count: Count) -> WrittenOperands
-    ensures { written_list result ≡ written_operand Size.Dword operand ∷ Written.Register Size.Dword register ∷ written_count count ∷ [] }
+    ensures { written_list result ≡ written_operand Size.Dword operand
+        ∷ Written.Register Size.Dword register ∷ written_count count ∷ [] }
 {
     Three(
         of_operand(Size::Dword, operand),
@@ -190,7 +193,8 @@ fn of_double_shift(operand: Operand, register: Register, count: Count) -> Writte
 
 /// Of a bit test with a number in the instruction.
 fn of_bit(operand: Operand, number: u8) -> WrittenOperands
-    ensures { written_list result ≡ written_operand Size.Dword operand ∷ Written.Number number ∷ [] }
+    ensures { written_list result ≡ written_operand Size.Dword operand ∷ Written.Number number
+        ∷ [] }
 {
     Two(
         of_operand(Size::Dword, operand),

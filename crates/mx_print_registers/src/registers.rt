@@ -32,7 +32,8 @@ fn push_register<R: Runs>(
     process: &R,
     register: Register,
 ) -> Result<(), AllocError>
-    ensures { OnOk result (string_bytes out.new ≡ string_bytes out.old ++ register_field (R.image process.now).regs register) }
+    ensures { OnOk result (string_bytes out.new ≡ string_bytes out.old
+        ++ register_field (R.image process.now).regs register) }
 {
     out.push_str(register_name(register))?;
     out.push_str(" ")?;
@@ -49,7 +50,8 @@ fn push_four<R: Runs>(
     third: Register,
     fourth: Register,
 ) -> Result<(), AllocError>
-    ensures { OnOk result (string_bytes out.new ≡ string_bytes out.old ++ register_line (R.image process.now).regs first second third fourth) }
+    ensures { OnOk result (string_bytes out.new ≡ string_bytes out.old
+        ++ register_line (R.image process.now).regs first second third fourth) }
 {
     push_register(out, process, first)?;
     out.push_str(" ")?;
@@ -63,7 +65,8 @@ fn push_four<R: Runs>(
 
 /// Appends a flag's name and its value, after a space.
 fn push_flag(out: &mut String, name: &str, is_set: bool) -> Result<(), AllocError>
-    ensures { OnOk result (string_bytes out.new ≡ string_bytes out.old ++ flag_field name.now is_set) }
+    ensures { OnOk result (string_bytes out.new ≡ string_bytes out.old
+        ++ flag_field name.now is_set) }
 {
     let value = u8::from(is_set);
     write!(out, " {name} {value}")
@@ -85,7 +88,8 @@ fn push_flags(out: &mut String, flags: FlagValues) -> Result<(), AllocError>
 /// Appends three lines: the eight registers, four a line, and EIP with the seven flags. Numbers are
 /// eight digits of lower-case hexadecimal, and flags 0 or 1.
 pub fn push_registers<R: Runs>(out: &mut String, process: &R) -> Result<(), AllocError>
-    ensures { OnOk result (string_bytes out.new ≡ string_bytes out.old ++ register_lines (R.image process.now)) }
+    ensures { OnOk result (string_bytes out.new ≡ string_bytes out.old
+        ++ register_lines (R.image process.now)) }
 {
     use Register::{Eax, Ebp, Ebx, Ecx, Edi, Edx, Esi, Esp};
     push_four(out, process, Eax, Ecx, Edx, Ebx)?;

@@ -107,7 +107,8 @@ pub fn push_state(
     slot: Slot,
     state: State,
 ) -> Result<(), AllocError>
-    ensures { OnOk result (out.new.items ≡ out.old.items ++ spaced_fields (state_words table.now slot state)) }
+    ensures { OnOk result (out.new.items ≡ out.old.items
+        ++ spaced_fields (state_words table.now slot state)) }
 {
     match state {
         State::Home => push_field(out, b"home"),

@@ -40,7 +40,8 @@ fn push_slots(out: &mut Vec<u8>, table: &Table, services: &[Service]) -> Result<
 
 /// Appends a line that counts something.
 fn push_count(out: &mut Vec<u8>, word: &[u8], count: u32) -> Result<(), AllocError>
-    ensures { OnOk result (out.new.items ≡ out.old.items ++ (word.now ++ decimal count ++ codes "\n")) }
+    ensures { OnOk result (out.new.items ≡ out.old.items
+        ++ (word.now ++ decimal count ++ codes "\n")) }
 {
     out.extend_from_slice(word)?;
     push_decimal(out, count)?;

@@ -39,7 +39,11 @@ impl Console {
     /// Writes a byte; of those that are kept the oldest past 4,096 goes.
     pub fn push(&mut self, byte: u8)
         requires { self.old.count + 1 < 2 ^ 32 }
-        ensures { self.new ≡ record { kept = keep_last 4096 (self.old.kept ++ byte ∷ []); count = self.old.count + 1 } }
+        ensures { self.new ≡ record {
+          kept = keep_last 4096 (self.old.kept ++ byte
+              ∷ []);
+          count = self.old.count + 1;
+        } }
     {
         self.kept.push_back(byte);
         self.count += 1;

@@ -94,11 +94,15 @@ impl<const LISTS: usize> Way<LISTS> {
 fn push<const LISTS: usize>(near: &mut Way<LISTS>, far: &mut Way<LISTS>, list: usize, slot: u8)
     requires list { list < LISTS }
     requires slot { slot < 32 }
-    requires first { slice_index near.old.firsts list ≢ 255 → slice_index near.old.firsts list < 32 }
+    requires first { slice_index near.old.firsts list ≢ 255 → slice_index near.old.firsts list
+        < 32 }
     ensures firsts { near.new.firsts ≡ slice_set near.old.firsts list slot }
-    ensures nexts { near.new.nexts ≡ slice_set near.old.nexts slot (slice_index near.old.firsts list) }
-    ensures lasts { far.new.firsts ≡ firsts_with far.old.firsts list (slice_index near.old.firsts list) slot }
-    ensures prevs { far.new.nexts ≡ nexts_with (slice_set far.old.nexts slot 255) (slice_index near.old.firsts list) slot }
+    ensures nexts { near.new.nexts
+        ≡ slice_set near.old.nexts slot (slice_index near.old.firsts list) }
+    ensures lasts { far.new.firsts
+        ≡ firsts_with far.old.firsts list (slice_index near.old.firsts list) slot }
+    ensures prevs { far.new.nexts
+        ≡ nexts_with (slice_set far.old.nexts slot 255) (slice_index near.old.firsts list) slot }
 {
     let first = near.first(list);
     near.set_next(slot, first);
@@ -123,7 +127,9 @@ impl<const LISTS: usize> Model for Links<LISTS> {
 
     ghost view = { λ l. chains l.forward.nexts l.forward.firsts };
 
-    ghost invariant = { λ l. Linked LISTS l.forward.nexts l.backward.nexts l.forward.firsts l.backward.firsts (chains l.forward.nexts l.forward.firsts) };
+    ghost invariant = { λ l.
+        Linked LISTS l.forward.nexts l.backward.nexts l.forward.firsts l.backward.firsts
+        (chains l.forward.nexts l.forward.firsts) };
 }
 
 impl<const LISTS: usize> Links<LISTS> {

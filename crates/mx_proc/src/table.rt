@@ -47,9 +47,28 @@ impl Model for Table {
 
     ghost Value = { TableState };
 
-    ghost view = { λ t. record { slots = t.slots.items; ready = t.ready; waits = t.waits; renewed = t.renewed; uptime = t.uptime; devices = t.devices; deliveries = t.deliveries; rules = t.rules } };
+    ghost view = { λ t. record {
+      slots = t.slots.items;
+      ready = t.ready;
+      waits = t.waits;
+      renewed = t.renewed;
+      uptime = t.uptime;
+      devices = t.devices;
+      deliveries = t.deliveries;
+      rules = t.rules;
+    } };
 
-    ghost invariant = { λ t. Sound (record { slots = t.slots.items; ready = t.ready; waits = t.waits; renewed = t.renewed; uptime = t.uptime; devices = t.devices; deliveries = t.deliveries; rules = t.rules }) };
+    ghost invariant = { λ t.
+        Sound (record {
+          slots = t.slots.items;
+          ready = t.ready;
+          waits = t.waits;
+          renewed = t.renewed;
+          uptime = t.uptime;
+          devices = t.devices;
+          deliveries = t.deliveries;
+          rules = t.rules;
+        }) };
 }
 
 impl Table {
@@ -92,7 +111,9 @@ impl Table {
         requires some { 0 < quantum }
         requires quantum { quantum ≤ 65535 }
         ensures slot { IfOk result (λ slot. slot ≡ length self.old.slots) }
-        ensures ok { OnOk result ((self.new ≡ table_after_add self.old image.old masks level best quantum) × (image.new ≡ blank)) }
+        ensures ok { OnOk result
+            ((self.new ≡ table_after_add self.old image.old masks level best quantum)
+            × (image.new ≡ blank)) }
         ensures err { OnErr result ((self.new ≡ self.old) × (image.new ≡ image.old)) }
     {
         let slot = self.slots.as_slice().len() as u8;
@@ -153,11 +174,13 @@ impl Table {
     pub fn process(&self, slot: Slot) -> &Process
         requires { slot < length self.now.slots }
         ensures value { result.now ≡ process_at self.now slot }
-        ensures buffer { is_blocked (process_at self.now slot).state ≡ true → HasBuffer (process_at self.now slot) }
+        ensures buffer { is_blocked (process_at self.now slot).state ≡ true
+            → HasBuffer (process_at self.now slot) }
         ensures generation { (process_at self.now slot).generation < 2 ^ 20 }
         ensures level { (process_at self.now slot).level ≤ 14 }
         ensures best { (process_at self.now slot).best ≤ (process_at self.now slot).level }
-        ensures alarm { IfSome (process_at self.now slot).alarm (λ due. due < self.now.uptime + 2 ^ 32) }
+        ensures alarm { IfSome (process_at self.now slot).alarm (λ due.
+            due < self.now.uptime + 2 ^ 32) }
     {
         &self.slots[slot as usize]
     }

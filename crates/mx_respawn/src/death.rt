@@ -53,7 +53,8 @@ fn free_callers(table: &mut Table, slot: Slot)
     ensures frame { frame table.new ≡ frame table.old }
     ensures own { process_at table.new slot ≡ process_at table.old slot }
     ensures used { length table.new.slots ≡ length table.old.slots }
-    ensures others { (s : ℕ) → (process_at table.old s).state ≡ Home → process_at table.new s ≡ process_at table.old s }
+    ensures others { (s : ℕ) → (process_at table.old s).state ≡ Home
+        → process_at table.new s ≡ process_at table.old s }
     ensures receivers { receivers slot 0 table.new.slots ≡ receivers slot 0 table.old.slots }
     ensures settled { NoneComesHome table.old table.new }
 {
@@ -71,7 +72,8 @@ fn wake(table: &mut Table, slot: Slot, other: Slot)
     ensures frame { frame table.new ≡ frame table.old }
     ensures own { process_at table.new slot ≡ process_at table.old slot }
     ensures others { (s : ℕ) → s ≢ other → process_at table.new s ≡ process_at table.old s }
-    ensures home { (process_at table.old other).state ≡ Home → process_at table.new other ≡ process_at table.old other }
+    ensures home { (process_at table.old other).state ≡ Home → process_at table.new other
+        ≡ process_at table.old other }
     ensures used { length table.new.slots ≡ length table.old.slots }
     ensures settled { NoneComesHome table.old table.new }
 {
@@ -83,10 +85,12 @@ fn wake(table: &mut Table, slot: Slot, other: Slot)
 
 /// Those that receive from a slot alone go on, in slot order.
 fn wake_receivers(table: &mut Table, slot: Slot)
-    ensures value { table.new ≡ table_after_freeing_all table.old (receivers slot 0 table.old.slots) }
+    ensures value { table.new
+        ≡ table_after_freeing_all table.old (receivers slot 0 table.old.slots) }
     ensures frame { frame table.new ≡ frame table.old }
     ensures own { process_at table.new slot ≡ process_at table.old slot }
-    ensures others { (s : ℕ) → (process_at table.old s).state ≡ Home → process_at table.new s ≡ process_at table.old s }
+    ensures others { (s : ℕ) → (process_at table.old s).state ≡ Home
+        → process_at table.new s ≡ process_at table.old s }
     ensures used { length table.new.slots ≡ length table.old.slots }
     ensures settled { NoneComesHome table.old table.new }
 {
@@ -102,7 +106,8 @@ pub fn die(table: &mut Table, slot: Slot, cause: DeathCause)
     ensures value { table.new ≡ table_after_death table.old slot cause }
     ensures frame { frame table.new ≡ record (frame table.old) { devices = table.new.devices } }
     ensures used { length table.new.slots ≡ length table.old.slots }
-    ensures home { (s : ℕ) → s ≢ slot → (process_at table.old s).state ≡ Home → process_at table.new s ≡ without_bit_of slot (process_at table.old s) }
+    ensures home { (s : ℕ) → s ≢ slot → (process_at table.old s).state ≡ Home
+        → process_at table.new s ≡ without_bit_of slot (process_at table.old s) }
     ensures console { table.new.devices.console ≡ table.old.devices.console }
     ensures down { (process_at table.new slot).state ≡ Down cause }
     ensures settled { NoneComesHome table.old table.new }

@@ -18,7 +18,9 @@ pub struct Label {
 impl Label {
     /// The label that a word is, if it is a name and isn't reserved.
     pub fn new(word: &[u8]) -> Option<Label>
-        ensures { MatchOption result ((n : Name) → name_of word.now ≡ Some n → IsReserved word.now) (λ l. (name_of word.now ≡ Some l.name) × (IsReserved word.now → ⊥)) }
+        ensures { MatchOption result ((n : Name) → name_of word.now ≡ Some n
+            → IsReserved word.now) (λ l. (name_of word.now ≡ Some l.name)
+            × (IsReserved word.now → ⊥)) }
     {
         match register_named(word) {
             Some(_) => return None,

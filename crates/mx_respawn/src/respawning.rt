@@ -57,7 +57,9 @@ pub fn respawn(table: &mut Table, slot: Slot, service: &Service)
     requires fresh { is_worn (process_at table.old slot) service.now ≡ false }
     requires from { IsLoadedFrom (process_at table.old slot).image service.now.program }
     ensures value { table.new ≡ table_after_respawn table.old slot service.now }
-    ensures frame { frame table.new ≡ frame_with_process (frame table.old) slot (next_process (process_at table.old slot) service.now) }
+    ensures frame { frame table.new
+        ≡ frame_with_process (frame table.old) slot
+        (next_process (process_at table.old slot) service.now) }
     ensures from { IsLoadedFrom (process_at table.new slot).image service.now.program }
     ensures used { length table.new.slots ≡ length table.old.slots }
     ensures settled { NoneComesHome table.old table.new }

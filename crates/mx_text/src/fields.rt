@@ -33,7 +33,8 @@ fn length_of_field(line: &[u8]) -> usize
 
 /// The first field of a line, and what stands after it. None where there is none.
 pub fn next_field(line: &[u8]) -> Option<(&[u8], &[u8])>
-    ensures field { MatchOption result (fields line.now ≡ []) (λ p. fields line.now ≡ p.0.now ∷ fields p.1.now) }
+    ensures field { MatchOption result (fields line.now ≡ []) (λ p. fields line.now ≡ p.0.now
+        ∷ fields p.1.now) }
     ensures shorter { IfSome result (λ p. length p.1.now < length line.now) }
 {
     let start = spaces_at_front(line);
@@ -47,7 +48,8 @@ pub fn next_field(line: &[u8]) -> Option<(&[u8], &[u8])>
 
 /// The field of a line that has just one field.
 pub fn one_field(line: &[u8]) -> Option<&[u8]>
-    ensures { MatchOption result (only (fields line.now) ≡ None) (λ f. only (fields line.now) ≡ Some f.now) }
+    ensures { MatchOption result (only (fields line.now) ≡ None) (λ f. only (fields line.now)
+        ≡ Some f.now) }
 {
     let (field, rest) = next_field(line)?;
     match next_field(rest) {
@@ -58,7 +60,8 @@ pub fn one_field(line: &[u8]) -> Option<&[u8]>
 
 /// The fields of a line that has just two fields.
 pub fn two_fields(line: &[u8]) -> Option<(&[u8], &[u8])>
-    ensures { MatchOption result (pair (fields line.now) ≡ None) (λ p. pair (fields line.now) ≡ Some (p.0.now, p.1.now)) }
+    ensures { MatchOption result (pair (fields line.now) ≡ None) (λ p. pair (fields line.now)
+        ≡ Some (p.0.now, p.1.now)) }
 {
     let (first, rest) = next_field(line)?;
     let second = one_field(rest)?;

@@ -6,7 +6,8 @@ ghost use Rattle.mx_text.specs.Lines.{lines};
 /// The first line, without the line feed that ends it, and what follows that line feed. None
 /// where nothing is left.
 pub fn next_line(text: &[u8]) -> Option<(&[u8], &[u8])>
-    ensures line { MatchOption result (lines text.now ≡ []) (λ p. lines text.now ≡ p.0.now ∷ lines p.1.now) }
+    ensures line { MatchOption result (lines text.now ≡ []) (λ p. lines text.now ≡ p.0.now
+        ∷ lines p.1.now) }
     ensures shorter { IfSome result (λ p. length p.1.now < length text.now) }
 {
     if text.is_empty() {

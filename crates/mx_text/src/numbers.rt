@@ -27,7 +27,8 @@ fn digit_value(byte: u8) -> u8
 fn value_of(digits: &[u8], base: u8) -> Option<u32>
     requires low { 10 ≤ base }
     requires high { base ≤ 16 }
-    ensures { MatchOption result (IsNoValue base digits.now) (λ n. AreDigits base digits.now × (n ≡ value_from base 0 digits.now)) }
+    ensures { MatchOption result (IsNoValue base digits.now) (λ n. AreDigits base digits.now
+        × (n ≡ value_from base 0 digits.now)) }
 {
     let mut value: u32 = 0;
     for byte in digits {
@@ -49,7 +50,8 @@ fn value_of(digits: &[u8], base: u8) -> Option<u32>
 pub fn number_in_base(digits: &[u8], base: u8) -> Option<u32>
     requires low { 10 ≤ base }
     requires high { base ≤ 16 }
-    ensures { MatchOption result ((n : ℕ) → IsNumberInBase base digits.now n → ⊥) (λ n. IsNumberInBase base digits.now n) }
+    ensures { MatchOption result ((n : ℕ) → IsNumberInBase base digits.now n
+        → ⊥) (λ n. IsNumberInBase base digits.now n) }
 {
     if digits.is_empty() {
         None

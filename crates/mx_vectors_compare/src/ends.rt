@@ -145,7 +145,8 @@ pub fn wanted_flags(case: &Case<'_>) -> u32
 
 /// Whether the flags to compare are as the case has them.
 fn are_flags_same(case: &Case<'_>, flags: &Flags) -> bool
-    ensures { IsTrue result ↔ SameBits (compared_flags case.now.mask) (bits_of flags.now) (wanted_flags case.now) }
+    ensures { IsTrue result ↔ SameBits (compared_flags case.now.mask) (bits_of flags.now)
+        (wanted_flags case.now) }
 {
     let compared = compared_flags(case.mask);
     flags.to_bits() & compared == wanted_flags(case) & compared

@@ -105,7 +105,8 @@ fn check_line<W: Write>(
 ) -> Result<Tally, CompareFailure>
     ensures counted { IfOk result (λ after. (case : Case) × IsCaseSpelled case
         × ((same : Bool) × (IsTrue same ↔ DoesAgree case) × (after ≡ with_case tally same))) }
-    ensures err { IfErr result (λ failure. (failure ≡ CompareFailure.Line (one_more tally.cases)) ⊎ IsCaseWanting failure) }
+    ensures err { IfErr result (λ failure. (failure ≡ CompareFailure.Line (one_more tally.cases))
+        ⊎ IsCaseWanting failure) }
 {
     match parse_case(alloc, line) {
         Ok(case) => Ok(tally.with_case(check_case(alloc, &case, cache, out)?)),

@@ -18,14 +18,16 @@ fn read_number(text: &str) -> Result<u32, CaseError>
 
 /// What spaces part.
 fn parted<'a>(alloc: Global, text: &'a str) -> Result<Vec<&'a str>, AllocError>
-    ensures { IfOk result (λ words. map (λ x. x.now) words.items ≡ slice_split (λ b. b == 32) text.now) }
+    ensures { IfOk result (λ words. map (λ x. x.now) words.items
+        ≡ slice_split (λ b. b == 32) text.now) }
 {
     text.split(' ').collect(alloc)
 }
 
 /// Eight numbers, of this many words.
 fn eight_numbers(words: &[&str]) -> Result<[u32; 8], CaseError>
-    ensures { IfOk result (λ numbers. (length numbers ≡ 8) × AreNumbers (map (λ word. word.now) words.now) numbers) }
+    ensures { IfOk result (λ numbers. (length numbers ≡ 8)
+        × AreNumbers (map (λ word. word.now) words.now) numbers) }
 {
     if words.len() != 8 {
         return Err(CaseError::Malformed);

@@ -19,7 +19,8 @@ impl Table {
         requires home { (process_at self.old slot).state ≡ Home }
         ensures value { self.new ≡ table_after_move_out self.old slot }
         ensures image { result ≡ (process_at self.old slot).image }
-        ensures frame { frame self.new ≡ frame_with_process (frame self.old) slot (process_at self.new slot) }
+        ensures frame { frame self.new
+            ≡ frame_with_process (frame self.old) slot (process_at self.new slot) }
     {
         let blank = Image::blank(*self.slots.allocator());
         let process = &mut self.slots[slot as usize];
@@ -32,7 +33,8 @@ impl Table {
         requires slot { slot < length self.old.slots }
         requires out { is_out (process_at self.old slot).state ≡ true }
         ensures value { self.new ≡ table_after_move_home self.old slot image }
-        ensures frame { frame self.new ≡ frame_with_process (frame self.old) slot (process_at self.new slot) }
+        ensures frame { frame self.new
+            ≡ frame_with_process (frame self.old) slot (process_at self.new slot) }
     {
         let process = &mut self.slots[slot as usize];
         process.state = State::Home;
@@ -46,7 +48,8 @@ impl Table {
         requires ticks { steps ≤ (process_at self.old slot).ticks }
         requires room { (process_at self.old slot).steps + steps < 2 ^ 64 }
         ensures value { self.new ≡ table_after_steps self.old slot steps }
-        ensures frame { frame self.new ≡ frame_with_process (frame self.old) slot (process_at self.new slot) }
+        ensures frame { frame self.new
+            ≡ frame_with_process (frame self.old) slot (process_at self.new slot) }
     {
         let process = &mut self.slots[slot as usize];
         process.ticks -= steps;
@@ -69,7 +72,8 @@ impl Table {
         requires down { is_down (process_at self.old slot).state ≡ true }
         ensures value { self.new ≡ with_image self.old slot blank }
         ensures image { result ≡ (process_at self.old slot).image }
-        ensures frame { frame self.new ≡ frame_with_process (frame self.old) slot (process_at self.new slot) }
+        ensures frame { frame self.new
+            ≡ frame_with_process (frame self.old) slot (process_at self.new slot) }
     {
         let blank = Image::blank(*self.slots.allocator());
         let process = &mut self.slots[slot as usize];

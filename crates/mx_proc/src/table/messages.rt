@@ -101,7 +101,8 @@ impl Table {
     fn clear_pending(&mut self, slot: Slot, source: Source) -> u32
         requires slot { slot < length self.old.slots }
         requires source { IsUsedSource self.old source }
-        ensures value { self.new ≡ with_process self.old slot (without_pending (process_at self.old slot) source) }
+        ensures value { self.new
+            ≡ with_process self.old slot (without_pending (process_at self.old slot) source) }
         ensures lines { result ≡ lines_in_notification source (process_at self.old slot).lines }
         ensures frame { frame self.new ≡ frame self.old }
     {

@@ -190,7 +190,8 @@ fn give_up(owners: &mut [Option<Slot>], slot: Slot)
 fn copy_across(source: &Process, at: u32, target: &mut Process, place: u32, count: u32)
     requires source { at + count ≤ length source.now.image.memory }
     requires destination { place + count ≤ length target.old.image.memory }
-    ensures { target.new ≡ process_after_copy target.old place (part source.now.image.memory at count) }
+    ensures { target.new ≡ process_after_copy target.old place
+        (part source.now.image.memory at count) }
 {
     target
         .image
@@ -203,8 +204,12 @@ fn copy_between(processes: &mut [Process], from: usize, at: u32, to: usize, plac
     requires from { from < length processes.old }
     requires to { to < length processes.old }
     requires source { at + count ≤ length (slice_index_or processes.old from nobody).image.memory }
-    requires destination { place + count ≤ length (slice_index_or processes.old to nobody).image.memory }
-    ensures { processes.new ≡ slice_set processes.old to (process_after_copy (slice_index_or processes.old to nobody) place (part (slice_index_or processes.old from nobody).image.memory at count)) }
+    requires destination { place + count
+        ≤ length (slice_index_or processes.old to nobody).image.memory }
+    ensures { processes.new
+        ≡ slice_set processes.old to
+        (process_after_copy (slice_index_or processes.old to nobody) place
+        (part (slice_index_or processes.old from nobody).image.memory at count)) }
 {
     if from == to {
         processes[to].image.memory.copy_within(at, place, count);
