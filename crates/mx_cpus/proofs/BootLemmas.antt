@@ -42,3 +42,13 @@ blank_at_boot d k rules v n o c desk words kernel = (
 pub new_seats_at : (z : TableId) (n : ℕ) → All (λ s. s.table ≡ z) (new_seats z n)
 new_seats_at z zero = λ k d below. absurd (omega arith)
 new_seats_at z (suc n) = All-push (λ (s : SeatView). s.table ≡ z) (new_seats z n) (new_seat z n) (new_seats_at z n) refl
+
+-- they hold nothing
+pub new_seats_empty : (z : TableId) (n : ℕ) → All (λ s. s.held ≡ None) (new_seats z n)
+new_seats_empty z zero = λ k d below. absurd (omega arith)
+new_seats_empty z (suc n) = All-push (λ (s : SeatView). s.held ≡ None) (new_seats z n) (new_seat z n) (new_seats_empty z n) refl
+
+-- they have recorded and seen nothing
+pub new_seats_fresh : (z : TableId) (n : ℕ) → All (λ s. (s.mine ≡ []) × (s.seen ≡ [])) (new_seats z n)
+new_seats_fresh z zero = λ k d below. absurd (omega arith)
+new_seats_fresh z (suc n) = All-push (λ (s : SeatView). (s.mine ≡ []) × (s.seen ≡ [])) (new_seats z n) (new_seat z n) (new_seats_fresh z n) (refl, refl)

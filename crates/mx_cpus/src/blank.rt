@@ -1,6 +1,6 @@
 //! Booting a machine that threads share.
 
-ghost use Rattle.std.specs.Prelude.{◌≡◌, ◌<◌, ◌≤◌, [], All, IfOk, OnErr, OnOk, length};
+ghost use Rattle.std.specs.Prelude.{◌≡◌, ◌<◌, ◌≤◌, [], All, IfOk, None, OnErr, OnOk, length};
 ghost use Rattle.mx_machine_world.specs.Boot.{world_at_boot};
 ghost use Rattle.mx_cpus.specs.Boots.{all_seats};
 
@@ -29,9 +29,10 @@ impl Model for Blank {
 }
 
 /// Boots a machine from a configuration and its services, with an empty history, and gives the seats of
-/// all actors in order: the processors, then the others. The services are moved out of the list, which
-/// is left empty; if memory runs out, they stay.
-#[tactic(auto, using(crate::proofs::BootLemmas::new_seats_at))]
+/// all actors in order: the processors, then the others. Each seat is new: it holds nothing, and has
+/// recorded and seen nothing. The services are moved out of the list, which is left empty; if memory runs
+/// out, they stay.
+#[tactic(auto, using(crate::proofs::BootLemmas::new_seats_at, crate::proofs::BootLemmas::new_seats_empty, crate::proofs::BootLemmas::new_seats_fresh,))]
 pub fn boot(
     alloc: Global,
     config: &Config,
@@ -43,6 +44,8 @@ pub fn boot(
     ensures history { IfOk result (λ r. r.0.history ≡ []) }
     ensures seats { IfOk result (λ r. r.1.items ≡ all_seats config.now r.0.table) }
     ensures tables { IfOk result (λ r. All (λ s. s.table ≡ r.0.table) r.1.items) }
+    ensures empties { IfOk result (λ r. All (λ s. s.held ≡ None) r.1.items) }
+    ensures fresh { IfOk result (λ r. All (λ s. (s.mine ≡ []) × (s.seen ≡ [])) r.1.items) }
     ensures emptied { OnOk result (services.new.items ≡ []) }
     ensures same { OnErr result (services.new.items ≡ services.old.items) }
 {
