@@ -12,3 +12,4 @@ pub use Rattle.mx_look_glance.specs.declared.glance.CpuGlance
 pub use Rattle.mx_look_glance.specs.declared.slots.SlotGlance
 pub use Rattle.mx_look_glance.specs.declared.doing.Doing
 pub use Rattle.mx_look_glance.specs.declared.doing.Awaited
+pub use Rattle.mx_look_glance.specs.Kept
