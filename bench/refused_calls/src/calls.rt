@@ -58,7 +58,12 @@ fn made_after(alloc: Global, count: u32, call: Call, example: &Example) -> Resul
 }
 
 /// Makes a call after that many allocations. That it was refused, and all was as it has to be, is a success.
-pub(crate) fn refused(alloc: Global, count: u32, call: Call, example: &Example) -> Result<(), Fail> {
+pub(crate) fn refused(
+    alloc: Global,
+    count: u32,
+    call: Call,
+    example: &Example,
+) -> Result<(), Fail> {
     match made_after(alloc, count, call, example) {
         Ok(Ended::Refused) => Ok(()),
         Ok(Ended::Whole) => Err(Fail::from("whole")),

@@ -9,8 +9,7 @@ pub(crate) struct Example {
 }
 
 /// A sum in a loop.
-const SUM_TEXT: &str =
-    ".sep\n.text\nstart: mov eax, 5\nadd eax, 0x7b\nloop start\nint 33\n";
+const SUM_TEXT: &str = ".sep\n.text\nstart: mov eax, 5\nadd eax, 0x7b\nloop start\nint 33\n";
 
 const SUM_FILE: [u8; 60] = [
     0x01, 0x03, 0x30, 0x10, 0x20, 0, 0, 0, 12, 0, 0, 0, 0, 0, 0, 0, 0, 0, 0, 0, 0, 0, 0, 0, 0,

@@ -6,12 +6,13 @@ use crate::ended::{Ended, Own, after_refusal};
 use crate::files::{CLIENT_FILE, CONFIG_FILE, DRIVER_FILE};
 use crate::texts::is_pair;
 use mx_app_start::{
-    Config, Event, Failure, Machine, NamedFile, NamedFiles, Script, Started, report, setup_of, start,
+    Config, Event, Failure, Machine, NamedFile, NamedFiles, Script, Started, report, setup_of,
+    start,
 };
+use mx_boot::ScriptLine;
 use mx_cpus::{ActorSeat, Blank, Naming, Shared, boot};
 use mx_machine_kernel::Kernel;
 use mx_machine_world::{Answer, Refusal};
-use mx_boot::ScriptLine;
 use mx_respawn::Service;
 use mx_word::NoMemory;
 use std::alloc::Global;
@@ -167,8 +168,7 @@ pub(crate) fn ran(alloc: Global) -> Result<Ended, Own> {
 }
 
 /// The report after the turns.
-const REPORT: &[u8] =
-    b"0 drv 0 receiving any 4 8\n1 cli 1 down exit 7 12\nuptime 0\nconsole 0\n";
+const REPORT: &[u8] = b"0 drv 0 receiving any 4 8\n1 cli 1 down exit 7 12\nuptime 0\nconsole 0\n";
 
 fn is_reported(alloc: Global, kernel: &Kernel) -> bool {
     match report(alloc, kernel) {
