@@ -23,12 +23,12 @@ pub(crate) const CLIENT: [u8; 123] = [
     0x62, 0x75, 0x66, 0, 0, 0, 0, 0, 0, 0, 0, 0, 3, 0, 0, 0,
 ];
 
-/// A sum, and a trap that fails.
 /// A driver, and who calls it.
 pub(crate) const PAIR: &[u8] = b"cpus 1\nlog 64\n\
     service drv drv.out traps 1e send 2 calls 0 level 4 best 4 quantum 20 restarts 0\n\
     service cli cli.out traps 1e send 1 calls 1 level 7 best 7 quantum 20 restarts 0\n";
 
+/// A sum, and a trap that fails.
 pub(crate) const SUM: [u8; 78] = [
     1, 3, 0x30, 0x10, 0x20, 0, 0, 0, 0xA, 0, 0, 0, 0x24, 0, 0, 0, 0, 0, 0, 0, 0, 0, 0, 0, 0, 0x10,
     0, 0, 0, 0, 0, 0, 0xB8, 5, 0, 0, 0, 0x83, 0xC0, 0x7B, 0xCD, 0x21, 0, 0, 0, 0, 0, 0, 0, 0, 0, 0,
@@ -480,14 +480,12 @@ pub(crate) fn small_reader() -> NamedFiles<'static> {
 }
 
 /// A file with a separate text and an entry, 128 bytes of bss and a total of 4096.
-pub(crate) fn separate_file(alloc: Global, text: &[u8], entry: u8) -> Result<Vec<u8>, Fail> {
-    let size = u8::try_from(text.len()).map_err(|_| "size")?;
-    let header = [
-        1, 3, 0x30, 0x10, 0x20, 0, 0, 0, size, 0, 0, 0, 0, 0, 0, 0, 0x80, 0, 0, 0, entry, 0, 0, 0,
-        0, 0x10, 0, 0, 0, 0, 0, 0,
-    ];
-    let mut file = Vec::new(alloc);
-    file.extend_from_slice(&header)?;
+pub(crate) fn separate_file(alloc: Global, text: &[u8], entry: u32) -> Result<Vec<u8>, Fail> {
+    let size = u32::try_from(text.len()).map_err(|_| "size")?;
+    let mut file = Vec::from_slice(alloc, &[1, 3, 0x30, 0x10, 0x20, 0, 0, 0])?;
+    for number in [size, 0, 0x80, entry, 0x1000, 0] {
+        file.extend_from_slice(&number.to_le_bytes())?;
+    }
     file.extend_from_slice(text)?;
     Ok(file)
 }

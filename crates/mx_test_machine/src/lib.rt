@@ -18,6 +18,10 @@ mod events;
 #[cfg(test)]
 mod files;
 #[cfg(test)]
+mod narrow;
+#[cfg(test)]
+mod no_texts;
+#[cfg(test)]
 mod pages;
 #[cfg(test)]
 mod patterns;

@@ -10,7 +10,7 @@ use std::test::Fail;
 /// A program's text and entry, how many steps are made, and what is printed.
 struct Row {
     text: &'static [u8],
-    entry: u8,
+    entry: u32,
     steps: u32,
     printed: &'static str,
 }
@@ -19,7 +19,7 @@ const COUNT: [u8; 15] = [
     0xB9, 0x03, 0, 0, 0, 0x83, 0xC0, 0x05, 0x83, 0xE9, 0x01, 0x75, 0xF8, 0xCD, 0x21,
 ];
 
-static ROWS: [Row; 6] = [
+static ROWS: [Row; 7] = [
     Row {
         text: &[0xB8, 0x05, 0, 0, 0, 0x83, 0xC0, 0x7B, 0xCD, 0x21],
         entry: 0,
@@ -72,6 +72,16 @@ static ROWS: [Row; 6] = [
         printed: "EAX 00000000 ECX 00000000 EDX 00000000 EBX 00000000\n\
                   ESP 00001000 EBP 00000000 ESI 00000000 EDI 00000000\n\
                   EIP 00000002 CF 0 PF 0 AF 0 ZF 0 SF 0 DF 0 OF 0\n\
+                  stop fault 13 after 1\n",
+    },
+    // An entry far past the text.
+    Row {
+        text: &[0xCD, 0x21],
+        entry: u32::MAX,
+        steps: 9,
+        printed: "EAX 00000000 ECX 00000000 EDX 00000000 EBX 00000000\n\
+                  ESP 00001000 EBP 00000000 ESI 00000000 EDI 00000000\n\
+                  EIP ffffffff CF 0 PF 0 AF 0 ZF 0 SF 0 DF 0 OF 0\n\
                   stop fault 13 after 1\n",
     },
 ];

@@ -13,7 +13,7 @@ use std::test::Fail;
 /// A configuration, and what is told.
 struct Setup(&'static str, Option<BootError>);
 
-static SETUPS: [Setup; 24] = [
+static SETUPS: [Setup; 35] = [
     Setup("", Some(BootError::BadLine(1))),
     Setup("cpus 1\n# x\n", Some(BootError::BadLine(2))),
     Setup(
@@ -71,6 +71,45 @@ static SETUPS: [Setup; 24] = [
     ),
     Setup(
         "service a a.out traps 1e send 0 calls ff level 7 best 5 quantum 1 restarts 1",
+        None,
+    ),
+    Setup(
+        "service a a.out traps 1e send 0 calls ff level 15 best 5 quantum 5 restarts 1",
+        Some(BootError::BadLine(1)),
+    ),
+    Setup(
+        "service a a.out traps 1e send 0 calls ff level 14 best 0 quantum 5 restarts 0",
+        None,
+    ),
+    Setup(
+        "service a a.out traps 1e send 0 calls ff level 7 best 5 quantum 5 restarts 1048576",
+        Some(BootError::BadLine(1)),
+    ),
+    Setup(
+        "service a a.out traps 1e send 0 calls ff level 7 best 5 quantum 5 restarts 1048575",
+        None,
+    ),
+    Setup(
+        "service a a.out traps 00000001e send 0 calls ff level 7 best 5 quantum 5 restarts 1",
+        Some(BootError::BadLine(1)),
+    ),
+    Setup(
+        "service a a.out traps 0000001e send ffffffff calls 0 level 7 best 5 quantum 5 restarts 1",
+        None,
+    ),
+    Setup(
+        "service abcdefghi a.out traps 1e send 0 calls ff level 7 best 5 quantum 5 restarts 1",
+        Some(BootError::BadLine(1)),
+    ),
+    Setup(
+        "service abcdefgh a.out traps 1e send 0 calls ff level 7 best 5 quantum 5 restarts 1",
+        None,
+    ),
+    Setup("cpus 0", Some(BootError::BadLine(1))),
+    Setup("cpus 1\nothers 0", Some(BootError::BadLine(2))),
+    Setup(
+        "cpus 8\nothers 4\nlog 1\n\
+         service a a.out traps 1e send 0 calls ff level 7 best 5 quantum 5 restarts 1",
         None,
     ),
     Setup("cpus 1\ncpus 1", Some(BootError::TwiceNamed(2))),
@@ -270,9 +309,9 @@ fn is_script_read(alloc: Global) -> bool {
 
 /// A writer that takes that many bytes, at most three at a time, and then fails.
 #[derive(Drop)]
-struct Narrow {
-    bytes: Vec<u8>,
-    room: usize,
+pub(crate) struct Narrow {
+    pub bytes: Vec<u8>,
+    pub room: usize,
 }
 
 impl Write for Narrow {

@@ -246,7 +246,7 @@ const INIT_RELOCATIONS: usize = 36;
 
 /// A size at a limit is accepted where the file has the bytes, and told as the next fault where it
 /// hasn't; one more is too large. The dword at 4 is the header's length, an unused byte, and the version.
-static LIMITS: [Sizes; 19] = [
+static LIMITS: [Sizes; 21] = [
     Sizes {
         dwords: &[(SYMBOLS, 17)],
         told: Some(FileError::BadSymbols),
@@ -279,6 +279,17 @@ static LIMITS: [Sizes; 19] = [
     },
     Sizes {
         dwords: &[(TEXT, 0xFFFF_FFFF)],
+        told: Some(FileError::TooLarge),
+        ..SIZES
+    },
+    // The data have the total's room.
+    Sizes {
+        dwords: &[(INIT, 4096)],
+        told: Some(FileError::Truncated),
+        ..SIZES
+    },
+    Sizes {
+        dwords: &[(INIT, 4097)],
         told: Some(FileError::TooLarge),
         ..SIZES
     },
