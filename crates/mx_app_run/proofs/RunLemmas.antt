@@ -1,10 +1,9 @@
 -- From loops to a run, and from its text to its replay.
-use Rattle.std.proofs.Common.{◌≡◌, ◌≢◌, ◌∙◌, ◌+◌, ℕ, zero, suc, List, [], ◌∷◌, ◌++◌, length, Option, Some, None, Result, Ok, Err, IfErr, OnOk, All, refl, sym, ap, subst, inl, inr, arith, append_assoc}
+use Rattle.std.proofs.Common.{◌≡◌, ◌≢◌, ◌∙◌, ◌+◌, ℕ, suc, List, [], ◌∷◌, ◌++◌, length, Option, Some, None, Result, Ok, Err, IfErr, OnOk, All, refl, sym, ap, subst, inl, inr, append_assoc}
 use Rattle.std.specs.Prelude.{IsErrAnd}
 use Rattle.std.specs.declared.io.ErrorKind.{ErrorKind}
 use Rattle.std.specs.Io.KnownBytes.{Appends}
 use Rattle.std.proofs.lemmas.List.{length-replicate}
-use Rattle.std.proofs.lemmas.List.Elements.{All-push}
 use Rattle.atomic_table.specs.Seated.{TableId}
 use Rattle.mx_machine_world.specs.declared.config.Config.{Config}
 use Rattle.mx_machine_world.specs.declared.events.Event.{Event}
@@ -16,7 +15,7 @@ use Rattle.mx_machine_world.specs.Move.{world_after_event}
 use Rattle.mx_machine_world.specs.Rules.{Rules}
 use Rattle.mx_machine_world.specs.World.{World, actors}
 use Rattle.mx_kcall.specs.Service.{Service}
-use Rattle.mx_cpus_drive.specs.Seats.{SeatView, new_seat, new_seats}
+use Rattle.mx_cpus_drive.specs.Seats.{SeatView}
 use Rattle.mx_cpus_drive.specs.Boots.{all_seats}
 use Rattle.mx_app_step.specs.Asked.{Asked}
 use Rattle.mx_app_step.specs.ServiceLine.{ServiceLine}
@@ -32,14 +31,6 @@ use Rattle.mx_app_step.specs.Records.{IsFirstRefusal, IsRefusedAt, IsReplayPrint
 use Rattle.mx_app_step.specs.declared.records.Replayed.{Replayed}
 use Rattle.mx_app_step.specs.declared.records.Replayed.TheVariants as replayed
 use Rattle.mx_app_run.specs.Run.{EndsDriven, IsRun, Runs}
-
--- new seats hold nothing
-pub new_seats_empty : (z : TableId) (n : ℕ) → All (λ s. s.held ≡ None) (new_seats z n)
-new_seats_empty z zero = λ k d below. absurd (omega arith)
-new_seats_empty z (suc n) = All-push (λ (s : SeatView). s.held ≡ None) (new_seats z n) (new_seat z n) (new_seats_empty z n) refl
-
-pub seats_empty : (z : TableId) (c : Config) (seats : List SeatView) → seats ≡ all_seats c z → All (λ s. s.held ≡ None) seats
-seats_empty z c seats is = subst (λ (l : List SeatView). All (λ s. s.held ≡ None) l) (sym is) (new_seats_empty z (c.cpus + c.others))
 
 -- a kernel whose loops have ended is what a run comes to
 pub run_of : (c : Config) (vs : List Service) (ticks : ℕ) (k : BootAndHistory) (boot : World) (z : TableId) (seats : List SeatView)

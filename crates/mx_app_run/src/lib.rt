@@ -8,5 +8,6 @@ mod running;
 pub use laws::{replay_again, run_again};
 pub use mx_app_step::{
     Failure, FileWriter, KeptFile, MemoryWriter, NamedFile, NamedFiles, Reader, Replayed, replay,
+    report, saved_text, setup_of,
 };
 pub use running::run;

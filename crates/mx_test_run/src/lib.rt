@@ -2,4 +2,10 @@
 #![tactic(auto)]
 
 #[cfg(test)]
+mod counts;
+#[cfg(test)]
+mod killed;
+#[cfg(test)]
+mod machine;
+#[cfg(test)]
 mod pairs;

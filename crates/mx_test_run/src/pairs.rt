@@ -1,39 +1,13 @@
 //! A driver and a client, whose processors are threads: what their runs leave, whatever the schedule.
 
-use mx_app_run::{MemoryWriter, NamedFile, NamedFiles, Replayed, replay, run};
+use crate::machine::{Log, RUNS, Row, files_of, is_left};
+use mx_app_run::{MemoryWriter, NamedFiles, run};
 use std::alloc::Global;
 use std::process::Abort;
 use std::sync::Wait;
 use std::test::Fail;
 use std::thread::Threads;
 use std::time::Clock;
-
-/// A file of the driver: it receives from anyone, answers, and begins again.
-const DRIVER: [u8; 103] = [
-    1, 3, 0x30, 0x10, 0x20, 0, 0, 0, 0x23, 0, 0, 0, 0x24, 0, 0, 0, 0, 0, 0, 0, 0, 0, 0, 0, 0, 0x10,
-    0, 0, 0, 0, 0, 0, 0xB9, 2, 0, 0, 0, 0xB8, 0xCE, 0x7A, 0, 0, 0xBB, 0, 0, 0, 0, 0xCD, 0x21, 0x8B,
-    5, 0, 0, 0, 0, 0xB9, 1, 0, 0, 0, 0xCD, 0x21, 0xE9, 0xDD, 0xFF, 0xFF, 0xFF, 0, 0, 0, 0, 0, 0, 0,
-    0, 0, 0, 0, 0, 0, 0, 0, 0, 0, 0, 0, 0, 0, 0, 0, 0, 0, 0, 0, 0, 0, 0, 0, 0, 0, 0, 0, 0,
-];
-
-/// A file of the client: it asks the driver, and then the kernel to end it.
-const CLIENT: [u8; 107] = [
-    1, 3, 0x30, 0x10, 0x20, 0, 0, 0, 0x27, 0, 0, 0, 0x24, 0, 0, 0, 0, 0, 0, 0, 0, 0, 0, 0, 0, 0x10,
-    0, 0, 0, 0, 0, 0, 0xB9, 3, 0, 0, 0, 0xB8, 0, 0, 0, 0, 0xBB, 0, 0, 0, 0, 0xCD, 0x21, 0xC7, 5, 4,
-    0, 0, 0, 0, 6, 0, 0, 0xB9, 3, 0, 0, 0, 0xB8, 0xFE, 0xFF, 0xFF, 0xFF, 0xCD, 0x21, 0, 0, 0, 0, 0,
-    0, 0, 0, 0, 0, 0, 0, 0, 0, 0, 0, 0, 0, 0, 0, 0, 0, 0, 0, 0, 0, 0, 0, 0, 0, 0, 0, 0, 0, 0, 0,
-];
-
-/// A machine of both, and what every run of it leaves.
-struct Row {
-    config: &'static str,
-    ticks: u32,
-    /// The lines of the history: the rules, and the records.
-    lines: usize,
-    report: &'static str,
-    /// How many runs are made.
-    runs: u32,
-}
 
 const TWO_PROCESSORS: &str = "cpus 2
 log 64
@@ -42,109 +16,65 @@ service cli cli.out traps 1e send 1 calls 1 level 7 best 7 quantum 20 restarts 0
 ";
 
 /// Two processors.
-static TALK: Row = Row {
+pub(crate) static TALK: Row = Row {
     config: TWO_PROCESSORS,
     ticks: 0,
-    lines: 11,
+    log: Log::Records(10),
     report: "0 drv 0 receiving any 4 8
 1 cli 1 down exit 7 12
 uptime 0
 console 0
 ",
-    runs: 200,
 };
 
 /// Two processors, and three ticks.
-static TALK_AND_TICK: Row = Row {
+pub(crate) static TALK_AND_TICK: Row = Row {
     config: TWO_PROCESSORS,
     ticks: 3,
-    lines: 14,
+    log: Log::Records(13),
     report: "0 drv 0 receiving any 4 8
 1 cli 1 down exit 7 12
 uptime 3
 console 0
 ",
-    runs: 200,
 };
 
 /// The client is put back twice.
-static TALK_AGAIN: Row = Row {
+pub(crate) static TALK_AGAIN: Row = Row {
     config: "cpus 2
 log 64
 service drv drv.out traps 1e send 2 calls 0 level 4 best 4 quantum 20 restarts 0
 service cli cli.out traps 1e send 1 calls 1 level 7 best 7 quantum 20 restarts 2
 ",
     ticks: 0,
-    lines: 29,
+    log: Log::Records(28),
     report: "0 drv 0 receiving any 4 12
 1 cli 2049 down exit 7 12
 uptime 0
 console 0
 ",
-    runs: 200,
 };
 
 /// One processor, and a history that is soon full.
-static FULL: Row = Row {
+pub(crate) static FULL: Row = Row {
     config: "cpus 1
 log 3
 service drv drv.out traps 1e send 2 calls 0 level 4 best 4 quantum 20 restarts 0
 service cli cli.out traps 1e send 1 calls 1 level 7 best 7 quantum 20 restarts 0
 ",
     ticks: 0,
-    lines: 3,
+    log: Log::Text(
+        "rules 2
+0 take
+0 back 4
+",
+    ),
     report: "0 drv 0 receiving any 4 16
 1 cli 1 ready 7 20
 uptime 0
 console 0
 ",
-    runs: 200,
 };
-
-/// The files of a row's machine.
-fn files_of(row: &Row) -> [NamedFile<'static>; 3] {
-    [
-        NamedFile {
-            name: "config",
-            bytes: row.config.as_bytes(),
-        },
-        NamedFile {
-            name: "drv.out",
-            bytes: &DRIVER,
-        },
-        NamedFile {
-            name: "cli.out",
-            bytes: &CLIENT,
-        },
-    ]
-}
-
-/// How many line feeds there are.
-fn lines_in(text: &[u8]) -> usize {
-    text.iter().filter(|byte| **byte == b'\n').count()
-}
-
-/// What a replay of a history prints.
-fn replayed(alloc: Global, row: &Row, log: &[u8]) -> Result<Vec<u8>, Fail> {
-    let [config, driver, client] = files_of(row);
-    let history = NamedFile {
-        name: "log",
-        bytes: log,
-    };
-    let files = [config, driver, client, history];
-    let mut out = Vec::new(alloc);
-    let how = replay(
-        alloc,
-        &mut NamedFiles::new(&files),
-        "config",
-        "log",
-        &mut out,
-    );
-    match how {
-        Ok(Replayed::Whole) => Ok(out),
-        _ => Err(Fail::new("the history isn't replayed")),
-    }
-}
 
 /// What a run leaves: the file that it wrote, and what it printed.
 #[derive(Drop)]
@@ -179,21 +109,19 @@ fn left_by<R: Threads + Wait + Clock + Sync>(
     }
 }
 
-/// Whether a run left what its row wants, and a replay of its history prints the same report.
+/// Whether a run left what its row wants.
 fn is_wanted(alloc: Global, row: &Row, left: &RunLeft) -> Result<bool, Fail> {
     let files = left.files.files();
     if files.len() != 1 {
         return Ok(false);
     }
-    let log = files[0].bytes.as_slice();
-    let again = replayed(alloc, row, log)?;
-    let wanted = row.report.as_bytes();
-    Ok(
-        files[0].name.as_str() == "log"
-            && lines_in(log) == row.lines
-            && left.printed.as_slice() == wanted
-            && again.as_slice() == wanted,
-    )
+    let is_left = is_left(
+        alloc,
+        row,
+        files[0].bytes.as_slice(),
+        left.printed.as_slice(),
+    )?;
+    Ok(is_left && files[0].name.as_str() == "log")
 }
 
 /// How many of a row's runs leave something else.
@@ -203,7 +131,7 @@ fn wrong_runs<R: Threads + Wait + Clock + Sync>(
     row: &Row,
 ) -> Result<u32, Fail> {
     let mut wrong: u32 = 0;
-    for _ in 0..row.runs {
+    for _ in 0..RUNS {
         let left = left_by(rt, alloc, row)?;
         if !is_wanted(alloc, row, &left)? {
             wrong = wrong.saturating_add(1);
