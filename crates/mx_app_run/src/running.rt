@@ -30,7 +30,8 @@ fn drive_blank<M: Naming + Send + Sync, R: Threads + Wait + Clock + Sync>(
     requires tables { All (λ s. s.table ≡ M.table) seats.items }
     requires empties { All (λ s. s.held ≡ None) seats.items }
     ensures boot { IfOk result (λ kernel. kernel.boot ≡ blank.boot) }
-    ensures driven { IfOk result (λ kernel. EndsDriven (length blank.boot.cpus) ticks seats.items kernel.history) }
+    ensures driven { IfOk result (λ kernel.
+        EndsDriven (length blank.boot.cpus) ticks seats.items kernel.history) }
 {
     let shared: Shared<M> = blank.open();
     let gate = RunGate::new(rt, shared.cpus(), ticks);

@@ -78,7 +78,8 @@ impl<M: Naming> Shared<M> {
     ) -> (ActorSeat, Result<Answer, Refusal>)
         requires table { seat.table ≡ M.table }
         ensures ok { IfOk result.1 (λ x. IsAnsweredCall M.boot seat result.0 (events.Line line) x) }
-        ensures err { IfErr result.1 (λ r. IsRefusedCall M.boot seat result.0 (events.Line line) r) }
+        ensures err { IfErr result.1 (λ r.
+            IsRefusedCall M.boot seat result.0 (events.Line line) r) }
     {
         self.lock.lock(rt).event(seat, Event::Line(line))
     }
@@ -100,8 +101,10 @@ impl<M: Naming> Shared<M> {
         endpoint: u32,
     ) -> (ActorSeat, Result<Answer, Refusal>)
         requires table { seat.table ≡ M.table }
-        ensures ok { IfOk result.1 (λ x. IsAnsweredCall M.boot seat result.0 (events.Kill endpoint) x) }
-        ensures err { IfErr result.1 (λ r. IsRefusedCall M.boot seat result.0 (events.Kill endpoint) r) }
+        ensures ok { IfOk result.1 (λ x.
+            IsAnsweredCall M.boot seat result.0 (events.Kill endpoint) x) }
+        ensures err { IfErr result.1 (λ r.
+            IsRefusedCall M.boot seat result.0 (events.Kill endpoint) r) }
     {
         self.lock.lock(rt).event(seat, Event::Kill(endpoint))
     }
@@ -114,8 +117,10 @@ impl<M: Naming> Shared<M> {
         slot: u32,
     ) -> (ActorSeat, Result<Answer, Refusal>)
         requires table { seat.table ≡ M.table }
-        ensures ok { IfOk result.1 (λ x. IsAnsweredCall M.boot seat result.0 (events.Respawn slot) x) }
-        ensures err { IfErr result.1 (λ r. IsRefusedCall M.boot seat result.0 (events.Respawn slot) r) }
+        ensures ok { IfOk result.1 (λ x.
+            IsAnsweredCall M.boot seat result.0 (events.Respawn slot) x) }
+        ensures err { IfErr result.1 (λ r.
+            IsRefusedCall M.boot seat result.0 (events.Respawn slot) r) }
     {
         self.lock.lock(rt).event(seat, Event::Respawn(slot))
     }

@@ -61,7 +61,8 @@ fn start<'s, E, M: Naming + Send + Sync, G: Gate + Sync, R: Wait + Sync>(
     requires table { seat.table ≡ M.table }
     requires empty { seat.held ≡ None }
     requires actor { seat.actor ≤ length M.boot.cpus }
-    ensures { IfOk result (λ h. (h.promise.from.value ≡ seat) × (h.promise.cpus ≡ length M.boot.cpus) × (h.promise.ticks ≡ ticks)) }
+    ensures { IfOk result (λ h. (h.promise.from.value ≡ seat)
+        × (h.promise.cpus ≡ length M.boot.cpus) × (h.promise.ticks ≡ ticks)) }
 {
     let actor = seat.actor();
     let promise = Follower {
@@ -96,7 +97,8 @@ fn drive_all<'s, E, M: Naming + Send + Sync, G: Gate + Sync, R: Threads + Wait +
 ) -> Result<(), NoMemory>
     requires tables { All (λ s. s.table ≡ M.table) seats.old.items }
     requires empties { All (λ s. s.held ≡ None) seats.old.items }
-    ensures driven { OnOk result (AreDriven (length M.boot.cpus) ticks seats.old.items seats.new.items) }
+    ensures driven { OnOk result
+        (AreDriven (length M.boot.cpus) ticks seats.old.items seats.new.items) }
     ensures tables { OnOk result (All (λ s. s.table ≡ M.table) seats.new.items) }
     ensures len { OnOk result (vec_len seats.new ≡ vec_len seats.old) }
     ensures room { vec_capacity seats.new ≡ vec_capacity seats.old }
@@ -140,7 +142,8 @@ pub fn drive<M: Naming + Send + Sync, G: Gate + Sync, R: Threads + Wait + Sync>(
         move |scope| -> Result<Vec<ActorSeat>, NoMemory>
             requires tables { All (λ s. s.table ≡ M.table) seats.items }
             requires empties { All (λ s. s.held ≡ None) seats.items }
-            ensures driven { IfOk result (λ v. AreDriven (length M.boot.cpus) ticks seats.items v.items) }
+            ensures driven { IfOk result (λ v.
+                AreDriven (length M.boot.cpus) ticks seats.items v.items) }
             ensures tables { IfOk result (λ v. All (λ s. s.table ≡ M.table) v.items) }
         {
             let mut seats = seats;

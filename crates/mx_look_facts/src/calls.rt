@@ -30,7 +30,8 @@ fn is_served(seen: &SlotGlance) -> bool
 /// A kernel call that is made: what is seen of its caller's trap, by which processor it came back.
 #[tactic(auto, unfolding(crate::specs::Calls::kernel_call))]
 pub fn kernel_call(step: &Step) -> Option<&CpuGlance>
-    ensures { MatchOption result (kernel_call step.now ≡ None) (λ held. kernel_call step.now ≡ Some held.now) }
+    ensures { MatchOption result (kernel_call step.now ≡ None) (λ held. kernel_call step.now
+        ≡ Some held.now) }
 {
     let held = acting(step)?;
     match slot_in(&step.after, u32::from(held.slot)) {

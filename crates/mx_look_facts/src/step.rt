@@ -20,7 +20,8 @@ pub struct Step {
 
 /// What is seen of a slot.
 pub fn slot_in(glance: &Glance, slot: u32) -> Option<&SlotGlance>
-    ensures { MatchOption result (slot_in glance.now slot ≡ None) (λ seen. slot_in glance.now slot ≡ Some seen.now) }
+    ensures { MatchOption result (slot_in glance.now slot ≡ None) (λ seen. slot_in glance.now slot
+        ≡ Some seen.now) }
 {
     if slot as usize >= glance.slots.len() {
         return None;
@@ -33,7 +34,8 @@ pub fn slot_in(glance: &Glance, slot: u32) -> Option<&SlotGlance>
 
 /// What is seen of a processor.
 fn cpu_in(glance: &Glance, cpu: u8) -> Option<&CpuGlance>
-    ensures { MatchOption result (cpu_in glance.now cpu ≡ None) (λ seen. cpu_in glance.now cpu ≡ Some seen.now) }
+    ensures { MatchOption result (cpu_in glance.now cpu ≡ None) (λ seen. cpu_in glance.now cpu
+        ≡ Some seen.now) }
 {
     if cpu as usize >= glance.cpus.len() {
         return None;
@@ -46,14 +48,16 @@ fn cpu_in(glance: &Glance, cpu: u8) -> Option<&CpuGlance>
 
 /// What the actor holds before the event.
 pub fn held_before(step: &Step) -> Option<&CpuGlance>
-    ensures { MatchOption result (held_before step.now ≡ None) (λ seen. held_before step.now ≡ Some seen.now) }
+    ensures { MatchOption result (held_before step.now ≡ None) (λ seen. held_before step.now
+        ≡ Some seen.now) }
 {
     cpu_in(&step.before, step.actor)
 }
 
 /// What the actor holds after the event.
 pub fn held_after(step: &Step) -> Option<&CpuGlance>
-    ensures { MatchOption result (held_after step.now ≡ None) (λ seen. held_after step.now ≡ Some seen.now) }
+    ensures { MatchOption result (held_after step.now ≡ None) (λ seen. held_after step.now
+        ≡ Some seen.now) }
 {
     cpu_in(&step.after, step.actor)
 }

@@ -12,7 +12,8 @@ use mx_isolation_diary::diaries_tell_images;
 /// Law: a slot has gone on with a result, as it is told of a record, exactly if the event of the record
 /// put that result into its EAX.
 pub fn told_gone_on()
-    ensures { (w : World) (n : ℕ) (x : Record) (s : ℕ) → IsMadeIn w x → IsServed w x s → ToldGoneOn w n x s }
+    ensures { (w : World) (n : ℕ) (x : Record) (s : ℕ) → IsMadeIn w x → IsServed w x s
+        → ToldGoneOn w n x s }
 {
     diaries_tell_images();
 }

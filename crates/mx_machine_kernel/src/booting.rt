@@ -59,7 +59,9 @@ pub(crate) fn first_present(
     services: &mut Vec<Service>,
 ) -> Result<CurrentState, NoMemory>
     requires { length services.old.items ≤ 32 }
-    ensures booted { IfOk result (λ present. present ≡ kernel_state_at_boot config.now.rules services.old.items config.now.cpus config.now.others config.now.log) }
+    ensures booted { IfOk result (λ present.
+        present ≡ kernel_state_at_boot config.now.rules services.old.items config.now.cpus
+        config.now.others config.now.log) }
     ensures emptied { OnOk result (services.new.items ≡ []) }
     ensures same { OnErr result (services.new.items ≡ services.old.items) }
 {

@@ -41,9 +41,17 @@ impl Model for CurrentState {
 
     ghost Value = { KernelState };
 
-    ghost view = { λ p. record { table = p.table; leases = p.leases.items; others = p.others; services = p.services.items; records = p.records; capacity = p.capacity } };
+    ghost view = { λ p. record {
+      table = p.table;
+      leases = p.leases.items;
+      others = p.others;
+      services = p.services.items;
+      records = p.records;
+      capacity = p.capacity;
+    } };
 
-    ghost invariant = { λ p. IsConsistent p.table p.leases.items p.services.items p.records p.capacity };
+    ghost invariant = { λ p.
+        IsConsistent p.table p.leases.items p.services.items p.records p.capacity };
 }
 
 /// How many processors hold a process.
@@ -69,7 +77,14 @@ impl CurrentState {
         capacity: u32,
     ) -> CurrentState
         requires { IsConsistent table leases.items services.items 0 capacity }
-        ensures { result ≡ record { table = table; leases = leases.items; others = others; services = services.items; records = 0; capacity = capacity } }
+        ensures { result ≡ record {
+          table = table;
+          leases = leases.items;
+          others = others;
+          services = services.items;
+          records = 0;
+          capacity = capacity;
+        } }
     {
         CurrentState {
             table,
@@ -91,7 +106,8 @@ impl CurrentState {
     /// Opens to a proof what always holds.
     pub(crate) fn opened(&self)
         ensures sound { Sound self.now.table }
-        ensures holds { IsConsistent self.now.table self.now.leases self.now.services self.now.records self.now.capacity }
+        ensures holds { IsConsistent self.now.table self.now.leases self.now.services
+            self.now.records self.now.capacity }
     {
         self.table.sound();
     }
@@ -151,8 +167,10 @@ impl CurrentState {
 
     /// Fewer records are free than an event needs.
     fn if_full(&self, needed: usize) -> Result<(), Refusal>
-        ensures ok { OnOk result ((if_full (records_left self.now) needed ≡ None) × (needed ≤ records_left self.now)) }
-        ensures err { IfErr result (λ refusal. if_full (records_left self.now) needed ≡ Some refusal) }
+        ensures ok { OnOk result ((if_full (records_left self.now) needed ≡ None)
+            × (needed ≤ records_left self.now)) }
+        ensures err { IfErr result (λ refusal. if_full (records_left self.now) needed
+            ≡ Some refusal) }
     {
         if self.free() < needed {
             Err(Refusal::LogFull)
@@ -205,7 +223,8 @@ impl CurrentState {
     pub(crate) fn come_back(&mut self, cpu: u8, lease: Lease, out: Out)
         requires lease { lease_at self.old.leases cpu ≡ Some lease }
         requires count { out.count ≤ lease.budget }
-        requires loaded { (v : Service) → slice_get self.old.services lease.slot ≡ Some v → IsLoadedFrom out.image v.program }
+        requires loaded { (v : Service) → slice_get self.old.services lease.slot ≡ Some v
+            → IsLoadedFrom out.image v.program }
         ensures value { self.new ≡ state_after_back self.old cpu lease.slot out }
         ensures few { out.count ≤ 65535 }
     {
@@ -281,7 +300,8 @@ impl CurrentState {
     /// The endpoint of the process that a slot gets next, or why it gets none.
     fn next_endpoint(&self, slot: u32) -> Result<Endpoint, Refusal>
         ensures ok { IfOk result (λ endpoint. MayRespawn self.now slot endpoint) }
-        ensures err { IfErr result (λ refusal. refusal_to self.now (events.Respawn slot) ≡ Some refusal) }
+        ensures err { IfErr result (λ refusal. refusal_to self.now (events.Respawn slot)
+            ≡ Some refusal) }
     {
         if slot >= u32::from(self.table.used()) {
             return Err(Refusal::NoService);
@@ -310,7 +330,9 @@ impl CurrentState {
 
     /// Whether nothing is ready, nothing is out, and no slot that is down can be respawned.
     pub(crate) fn at_rest(&self) -> bool
-        ensures { result ≡ (is_none (first_ready self.now.table.ready) && (out_count self.now.leases == 0) && down_are_worn self.now.table.slots self.now.services) }
+        ensures { result ≡ (is_none (first_ready self.now.table.ready) &&
+            (out_count self.now.leases == 0) && down_are_worn self.now.table.slots
+            self.now.services) }
     {
         pick(&self.table).is_none()
             && count_out(self.leases.as_slice()) == 0

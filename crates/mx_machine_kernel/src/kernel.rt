@@ -46,15 +46,26 @@ impl Model for Kernel {
 
     ghost Value = { BootAndHistory };
 
-    ghost view = { λ k. record { boot = world_at_boot_with k.rules k.present.services k.processors k.present.others k.present.capacity; history = k.records.items } };
+    ghost view = { λ k. record {
+      boot = world_at_boot_with k.rules k.present.services k.processors
+          k.present.others k.present.capacity;
+      history = k.records.items;
+    } };
 
-    ghost invariant = { λ k. IsAtReplay k.present (vec_capacity k.records) (record { boot = world_at_boot_with k.rules k.present.services k.processors k.present.others k.present.capacity; history = k.records.items }) };
+    ghost invariant = { λ k.
+        IsAtReplay k.present (vec_capacity k.records)
+        (record {
+          boot = world_at_boot_with k.rules k.present.services k.processors k.present.others
+              k.present.capacity;
+          history = k.records.items;
+        }) };
 }
 
 /// Adds a record, where there is room.
 fn note(records: &mut Vec<Record>, actor: u8, event: Recorded)
     requires { vec_len records.old < vec_capacity records.old }
-    ensures items { records.new.items ≡ records.old.items ++ record { actor = actor; event = event } ∷ [] }
+    ensures items { records.new.items ≡ records.old.items ++ record { actor = actor; event = event }
+        ∷ [] }
     ensures room { vec_capacity records.old ≤ vec_capacity records.new }
 {
     match records.push(Record { actor, event }) {
@@ -85,7 +96,8 @@ impl Kernel {
     ) -> Result<Kernel, NoMemory>
         requires some { 0 < length services.old.items }
         requires few { length services.old.items ≤ 32 }
-        ensures booted { IfOk result (λ kernel. kernel ≡ record { boot = world_at_boot config.now services.old.items; history = [] }) }
+        ensures booted { IfOk result (λ kernel.
+            kernel ≡ record { boot = world_at_boot config.now services.old.items; history = [] }) }
         ensures emptied { OnOk result (services.new.items ≡ []) }
         ensures same { OnErr result (services.new.items ≡ services.old.items) }
     {
@@ -105,8 +117,10 @@ impl Kernel {
     /// processor keeps of decoded instructions.
     pub fn take(&mut self, cpu: u8) -> Result<Out, Refusal>
         ensures ok { OnOk result (IsEventAccepted self.old self.new cpu events.Take recorded.Take) }
-        ensures lent { IfOk result (λ out. (l : HeldProcess) × (held_by (replay self.new) cpu ≡ Some l) × (l.out ≡ out)) }
-        ensures err { IfErr result (λ refusal. IsEventRefused self.old self.new cpu events.Take refusal) }
+        ensures lent { IfOk result (λ out. (l : HeldProcess)
+            × (held_by (replay self.new) cpu ≡ Some l) × (l.out ≡ out)) }
+        ensures err { IfErr result (λ refusal.
+            IsEventRefused self.old self.new cpu events.Take refusal) }
     {
         self.present.opened();
         let mut out = self.present.take(cpu)?;
@@ -121,7 +135,9 @@ impl Kernel {
         requires { (l : HeldProcess) × (held_by (replay self.old) cpu ≡ Some l) × IsBack l.out out }
         ensures count { result ≡ out.count }
         ensures recorded { self.new ≡ with_record self.old cpu (recorded.Back out.count) }
-        ensures world { (l : HeldProcess) → held_by (replay self.old) cpu ≡ Some l → replay self.new ≡ world_after_event (with_held (replay self.old) cpu (Some (record l { out = out }))) cpu events.Back }
+        ensures world { (l : HeldProcess) → held_by (replay self.old) cpu ≡ Some l
+            → replay self.new ≡ world_after_event
+            (with_held (replay self.old) cpu (Some (record l { out = out }))) cpu events.Back }
     {
         runs_are_steps();
         let count = out.count;
@@ -140,8 +156,10 @@ impl Kernel {
     pub fn event(&mut self, actor: u8, event: Event) -> Result<Answer, Refusal>
         requires event { is_for_all event ≡ true }
         requires actor { actor < actors (replay self.old) }
-        ensures ok { IfOk result (λ answer. (answer ≡ event_answer (replay self.old) actor event) × IsEventAccepted self.old self.new actor event (recorded_as event)) }
-        ensures err { IfErr result (λ refusal. IsEventRefused self.old self.new actor event refusal) }
+        ensures ok { IfOk result (λ answer. (answer ≡ event_answer (replay self.old) actor event)
+            × IsEventAccepted self.old self.new actor event (recorded_as event)) }
+        ensures err { IfErr result (λ refusal.
+            IsEventRefused self.old self.new actor event refusal) }
     {
         let answer = self.present.act(event)?;
         self.present.opened();
@@ -215,7 +233,8 @@ impl Kernel {
 
     /// The slot whose process the kernel has lent to a processor.
     pub fn slot_on(&self, cpu: u8) -> Option<Slot>
-        ensures { result ≡ option_map (λ (l : HeldProcess). l.slot) (held_by (replay self.now) cpu) }
+        ensures { result ≡ option_map (λ (l : HeldProcess).
+            l.slot) (held_by (replay self.now) cpu) }
     {
         match self.present.lease(cpu) {
             Some(lease) => Some(lease.slot),
@@ -236,7 +255,8 @@ impl Kernel {
         ensures few { length (replay self.now).cpus ≤ 8 }
         ensures accepted { AreAccepted self.now.boot (events_of_history self.now.history) }
         ensures written { All (IsWritable (actors (replay self.now))) self.now.history }
-        ensures fresh { (a : ℕ) (l : HeldProcess) → held_by (replay self.now) a ≡ Some l → IsFresh (replay self.now) l }
+        ensures fresh { (a : ℕ) (l : HeldProcess) → held_by (replay self.now) a ≡ Some l
+            → IsFresh (replay self.now) l }
     {
         self.present.opened();
     }

@@ -36,7 +36,8 @@ fn act(table: &mut Table, slot: Slot)
     requires slot { slot < length table.old.slots }
     requires home { (process_at table.old slot).state ≡ Home }
     requires room { table.old.devices.console.count + 1 < 2 ^ 32 }
-    ensures value { table.new ≡ table_after_trap_at_back table.old slot (trap_answer table.old slot) }
+    ensures value { table.new
+        ≡ table_after_trap_at_back table.old slot (trap_answer table.old slot) }
     ensures frame { frame table.new ≡ record (frame table.old) { devices = table.new.devices } }
     ensures console { WritesAtMostOne table.old table.new }
     ensures settled { SettledBut slot table.old → Settled table.new }
