@@ -4,8 +4,6 @@
 #[cfg(test)]
 mod counts;
 #[cfg(test)]
-mod killed;
-#[cfg(test)]
 mod machine;
 #[cfg(test)]
 mod pairs;
