@@ -31,7 +31,7 @@ static TAILS: [&[u8]; 3] = [
     b"\xBD\x00\x00\x00\x00\x00\x00\x00\x00",
 ];
 
-/// The byte after an opcode: each mode with each register, and as the other register ECX, ESP, which
+/// The byte after an opcode: each mode with each register, and as the other register EBX, ESP, which
 /// stands for a SIB byte, and EBP.
 const SHAPES: u16 = 4 * 8 * 3;
 
@@ -80,12 +80,7 @@ fn is_read_again(alloc: Global, bytes: &[u8]) -> bool {
 
 /// The byte after an opcode, by its number.
 fn shape(number: u16) -> u8 {
-    let other = match number % 3 {
-        0 => 1,
-        1 => 4,
-        _ => 5,
-    };
-    (number / 24 * 64 + number / 3 % 8 * 8 + other) as u8
+    (number / 24 % 4 * 64 + number / 3 % 8 * 8 + number % 3 + 3) as u8
 }
 
 /// The bytes of an instruction, from its parts.
