@@ -52,6 +52,7 @@ use Rattle.mx_look_laws.specs.Told.{IsMadeIn, result_written, ToldGoneOn, world_
 use Rattle.mx_look_laws.proofs.Readies.{flag, IsIdle, queueing_readies, readies, readies-at, readies-set}
 use Rattle.mx_look_laws.proofs.ReadyCalls.{and_false, and_true, death_tells, gives, IsQueued, kill_tells, line_tells, misses_waiting, Tells, tick_tells, trap_tells}
 use Rattle.mx_look_laws.proofs.Results.{entries_no_result, entries_no_step, has_result, HaveNoStep, none_written, result_for, result_played}
+use Rattle.mx_look_laws.proofs.Returned.{held_out, holds_in, home_idle, home_long, home_other, home_own, home_queued, out_within, sound_queued}
 use Rattle.mx_look_laws.proofs.Seen.{cpu_seen, out_seen, result_seen, waiting_seen}
 
 -- ---- states
@@ -100,46 +101,8 @@ out_unblocked (Receiving p) e = cc
 out_unblocked (Awaiting d) e = cc
 out_unblocked (Down c) e = cc
 
-out_unsending : (st : State) → is_out st ≡ true → is_sending st ≡ false
-out_unsending Home e = cc
-out_unsending Ready e = cc
-out_unsending Out e = refl
-out_unsending Doomed e = refl
-out_unsending Sending e = cc
-out_unsending Calling e = cc
-out_unsending (Receiving p) e = cc
-out_unsending (Awaiting d) e = cc
-out_unsending (Down c) e = cc
-
 true_false : {b : Bool} → b ≡ true → b ≡ false → ⊥
 true_false e f = cc
-
-sound_queued : (t : TableState) → Sound t → IsQueued t
-sound_queued t h = record { each = λ p e. (h.each p).waiting ∙ ap tally e }
-
--- ---- what a processor holds
-
-leases_at : (xs : List (Option HeldProcess)) (a : ℕ) → lease_at (map lease_of xs) a ≡ lease_of (get_or xs a None)
-leases_at [] a = refl
-leases_at (x ∷ xs) zero = refl
-leases_at (x ∷ xs) (suc a) = leases_at xs a
-
-held_out : (v : World) (a : ℕ) (l : HeldProcess) → IsSound v → held_by v a ≡ Some l → is_out (process_at v.table l.slot).state ≡ true
-held_out v a l h e = by_bool (is_out (process_at v.table l.slot).state) (h.holds.leased a (record { slot = l.slot; budget = l.out.budget }) (leases_at v.cpus a ∙ ap lease_of e))
-  where
-    by_bool : (b : Bool) → cond b (Some (process_at v.table l.slot).ticks) None ≡ Some l.out.budget → b ≡ true
-    by_bool true f = refl
-    by_bool false f = cc
-
-out_within : (ps : List Process) (s : ℕ) → is_out (get_or ps s nobody).state ≡ true → s < length ps
-out_within [] s e = cc
-out_within (p ∷ ps) zero e = omega arith
-out_within (p ∷ ps) (suc s) e = let h = out_within ps s e in omega arith
-
-holds_in : (xs : List (Option HeldProcess)) (a : ℕ) (l : HeldProcess) → get_or xs a None ≡ Some l → a < length xs
-holds_in [] a l e = cc
-holds_in (x ∷ xs) zero l e = omega arith
-holds_in (x ∷ xs) (suc a) l e = let h = holds_in xs a l e in omega arith
 
 -- ---- one slot
 
@@ -253,40 +216,6 @@ module _ (v : World) (a n s : ℕ) (p : Service) (sound : IsSound v) (few : leng
     out : is_out (process_at v.table l.slot).state ≡ true
     out = held_out v a l sound held
 
-    -- ---- the process that comes home
-
-    home_other : (q : ℕ) → q ≢ l.slot → process_at home q ≡ process_at v.table q
-    unfolding table_after_coming_home
-    home_other q m = get_or-set_other (table_after_move_home v.table l.slot l.out.image).slots l.slot q _ nobody m ∙ get_or-set_other v.table.slots l.slot q _ nobody m
-
-    home_own : (process_at home l.slot).state ≡ Home
-    unfolding table_after_coming_home
-    home_own =
-        let lies = out_within v.table.slots l.slot out in
-        let moved = table_after_move_home v.table l.slot l.out.image in
-        let first : (process_at moved l.slot).state ≡ Home = ap (λ (x : Process). x.state) (get_or-set_same v.table.slots l.slot _ nobody lies) in
-        let room : l.slot < length moved.slots = omega (arith, lies, length-set v.table.slots l.slot (record (process_at v.table l.slot) { state = Home; image = l.out.image })) in
-        ap (λ (x : Process). x.state) (get_or-set_same moved.slots l.slot _ nobody room) ∙ first
-
-    home_long : length home.slots ≡ length v.table.slots
-    unfolding table_after_coming_home
-    home_long = length-set (table_after_move_home v.table l.slot l.out.image).slots l.slot _ ∙ length-set v.table.slots l.slot _
-
-    home_waits : home.waits ≡ v.table.waits
-    unfolding table_after_coming_home
-    home_waits = refl
-
-    home_queued : IsQueued home
-    home_queued = record {
-      each = λ q e. ap (sends_of q) home_waits ∙ elim (cases_eq q l.slot) [
-        | inl g ↦ (sound_queued v.table sound.table).each q (subst (λ z. is_sending (process_at v.table z).state ≡ false) (sym g) (out_unsending (process_at v.table l.slot).state out))
-        | inr m ↦ (sound_queued v.table sound.table).each q (ap (λ (x : Process). is_sending x.state) (sym (home_other q m)) ∙ e)
-      ];
-    }
-
-    home_idle : IsIdle home l.slot
-    home_idle = readies-at home.slots l.slot ∙ ap is_ready home_own
-
     -- ---- whose trap is acted
 
     acting_is : (b : Bool) → (is_trap l.out.stop && seen_is is_out_doing (slot_in (glance_of v) l.slot)) ≡ b → is_acted step s ≡ (b && (l.slot == s))
@@ -305,15 +234,15 @@ module _ (v : World) (a n s : ℕ) (p : Service) (sound : IsSound v) (few : leng
     end_tells q m = by_end doomed l.out.stop
       where
         by_end : (b : Bool) (x : Stop) → Tells home (table_after_end_of_turn home l.slot b x) (items_of_end_of_turn home l.slot b x) q
-        by_end true x = death_tells home l.slot cause.Kill q home_queued
+        by_end true x = death_tells home l.slot cause.Kill q (home_queued v a l sound held)
         by_end false Spent = λ lies rests. ap (λ fs. flag fs q) (queueing_readies home l.slot) ∙ get_or-set_other (readies home) l.slot q true false m ∙ rests
-        by_end false Trap = trap_tells home l.slot (trap_answer home l.slot) q home_queued home_own home_idle
-        by_end false (Fault w) = death_tells home l.slot (cause.Fault w) q home_queued
+        by_end false Trap = trap_tells home l.slot (trap_answer home l.slot) q (home_queued v a l sound held) (home_own v a l sound held) (home_idle v a l sound held)
+        by_end false (Fault w) = death_tells home l.slot (cause.Fault w) q (home_queued v a l sound held)
 
     image_at : (q : ℕ) (b : Bool) (x : Stop) → q < length v.table.slots
         → (process_at (table_after_end_of_turn home l.slot b x) q).image ≡ play (items_for q (items_of_end_of_turn home l.slot b x)) (process_at home q).image
     image_at q b x lies =
-        let room : q < length (images home) = omega (arith, lies, home_long, length-map home.slots image_of) in
+        let room : q < length (images home) = omega (arith, lies, (home_long v a l sound held), length-map home.slots image_of) in
         let made = items_of_end_of_turn home l.slot b x in
         sym (get_or-images (table_after_end_of_turn home l.slot b x).slots q) ∙ ap (λ ms. get_or ms q blank) (end_of_turn_images home l.slot b x)
         ∙ play_all-at made (images home) q room ∙ ap (play (items_for q made)) (get_or-images home.slots q)
@@ -351,8 +280,8 @@ module _ (v : World) (a n s : ℕ) (p : Service) (sound : IsSound v) (few : leng
         waiting : is_blocked state ≡ true → (is_ready (process_at back.table s).state ≡ has_result d) × (cond (has_result d) (Some (process_at back.table s).image.regs.eax) None ≡ result_written d)
         waiting b =
             let own : d ≡ items_for s items = ap (λ z. cond z (items_for s items) (unless_held (image_held_in s v.cpus) (items_for s items))) (ne_eqb l.slot s m) ∙ ap (λ o. unless_held o (items_for s items)) (not_out b) in
-            let rests : IsIdle home s = readies-at home.slots s ∙ ap (λ (x : Process). is_ready x.state) (home_other s (λ e. m (sym e))) ∙ blocked_idle state b in
-            let lies : s < length home.slots = omega (arith, within, home_long) in
+            let rests : IsIdle home s = readies-at home.slots s ∙ ap (λ (x : Process). is_ready x.state) ((home_other v a l sound held) s (λ e. m (sym e))) ∙ blocked_idle state b in
+            let lies : s < length home.slots = omega (arith, within, (home_long v a l sound held)) in
             let image : (process_at back.table s).image ≡ play d (process_at home s).image =
             ap (λ (t : TableState). (process_at t s).image) back_table ∙ image_at s doomed l.out.stop within ∙ ap (λ xs. play xs (process_at home s).image) (sym own) in (
               ap (λ (t : TableState). is_ready (process_at t s).state) back_table ∙ sym (readies-at (table_after_end_of_turn home l.slot doomed l.out.stop).slots s)
@@ -367,17 +296,17 @@ module _ (v : World) (a n s : ℕ) (p : Service) (sound : IsSound v) (few : leng
         ≡ result_written (items_for l.slot (items_of_end_of_turn home l.slot b x))
     own_end true x steps =
         ap (λ z. cond z (cond (is_ready (process_at (table_after_end_of_turn home l.slot true x) l.slot).state) (Some (process_at (table_after_end_of_turn home l.slot true x) l.slot).image.regs.eax) None) None) (and_false (is_trap x))
-        ∙ sym (none_written (items_for l.slot (items_of_death home l.slot)) (process_at home l.slot).image steps (result_for l.slot (items_of_death home l.slot) ∙ misses_waiting home l.slot home_queued))
+        ∙ sym (none_written (items_for l.slot (items_of_death home l.slot)) (process_at home l.slot).image steps (result_for l.slot (items_of_death home l.slot) ∙ misses_waiting home l.slot (home_queued v a l sound held)))
     own_end false Spent steps = refl
     own_end false (Fault w) steps =
-        sym (none_written (items_for l.slot (items_of_death home l.slot)) (process_at home l.slot).image steps (result_for l.slot (items_of_death home l.slot) ∙ misses_waiting home l.slot home_queued))
+        sym (none_written (items_for l.slot (items_of_death home l.slot)) (process_at home l.slot).image steps (result_for l.slot (items_of_death home l.slot) ∙ misses_waiting home l.slot (home_queued v a l sound held)))
     own_end false Trap steps =
         let made = items_of_end_of_turn home l.slot false Trap in
         let end = table_after_end_of_turn home l.slot false Trap in
         let lies = out_within v.table.slots l.slot out in
-        let room : l.slot < length home.slots = omega (arith, lies, home_long) in
+        let room : l.slot < length home.slots = omega (arith, lies, (home_long v a l sound held)) in
         let ready : is_ready (process_at end l.slot).state ≡ has_result (items_for l.slot made) =
-        sym (readies-at end.slots l.slot) ∙ trap_tells home l.slot (trap_answer home l.slot) l.slot home_queued home_own home_idle room home_idle ∙ sym (result_for l.slot made) in
+        sym (readies-at end.slots l.slot) ∙ trap_tells home l.slot (trap_answer home l.slot) l.slot (home_queued v a l sound held) (home_own v a l sound held) (home_idle v a l sound held) room (home_idle v a l sound held) ∙ sym (result_for l.slot made) in
         ap (λ z. cond z (Some (process_at end l.slot).image.regs.eax) None) ready
         ∙ ap (λ (x : Image). cond (has_result (items_for l.slot made)) (Some x.regs.eax) None) (image_at l.slot false Trap lies)
         ∙ result_played (items_for l.slot made) (process_at home l.slot).image steps
@@ -462,7 +391,7 @@ last_accepted : (w : World) (xs ys : List (ℕ × Event)) → AreAccepted w (xs 
 last_accepted w [] ys h = h
 last_accepted w (x ∷ xs) ys h = last_accepted (world_after_event w x.0 x.1) xs ys h.1
 
-own_accepted : (w : World) (a : ℕ) (r : Recorded) → AreAccepted w (events_of a r) → event_refusal (world_after_events w (steps_before a r)) a (own_event r) ≡ None
+pub own_accepted : (w : World) (a : ℕ) (r : Recorded) → AreAccepted w (events_of a r) → event_refusal (world_after_events w (steps_before a r)) a (own_event r) ≡ None
 own_accepted w a recorded.Take h = h.0
 own_accepted w a (recorded.Back k) h = (last_accepted w (replicate k (a, event.Step)) ((a, event.Back) ∷ []) h).0
 own_accepted w a (recorded.Line l) h = h.0
@@ -470,7 +399,7 @@ own_accepted w a recorded.Tick h = h.0
 own_accepted w a (recorded.Kill e) h = h.0
 own_accepted w a (recorded.Respawn q) h = h.0
 
-own_after : (w : World) (a : ℕ) (r : Recorded) → world_after_events w (events_of a r) ≡ world_after_event (world_after_events w (steps_before a r)) a (own_event r)
+pub own_after : (w : World) (a : ℕ) (r : Recorded) → world_after_events w (events_of a r) ≡ world_after_event (world_after_events w (steps_before a r)) a (own_event r)
 own_after w a recorded.Take = refl
 own_after w a (recorded.Back k) = after_both w (replicate k (a, event.Step)) ((a, event.Back) ∷ [])
 own_after w a (recorded.Line l) = refl
@@ -478,17 +407,17 @@ own_after w a recorded.Tick = refl
 own_after w a (recorded.Kill e) = refl
 own_after w a (recorded.Respawn q) = refl
 
-service_at : (vs : List Service) (s : ℕ) → s < length vs → (p : Service) × (slice_get vs s ≡ Some p)
+pub service_at : (vs : List Service) (s : ℕ) → s < length vs → (p : Service) × (slice_get vs s ≡ Some p)
 service_at [] s lt = absurd (omega (arith, lt))
 service_at (x ∷ vs) zero lt = (x, refl)
 service_at (x ∷ vs) (suc s) lt = service_at vs s (omega (arith, lt))
 
-pub gone_on_told : ((w : World) (a : ℕ) (e : Event) (s : ℕ) → IsSlot w s → IsWritten w a e s) → (w : World) (n : ℕ) (x : Record) (s : ℕ) → IsMadeIn w x s → ToldGoneOn w n x s
-gone_on_told written w n x s h =
+pub gone_on_told : ((w : World) (a : ℕ) (e : Event) (s : ℕ) → IsSlot w s → IsWritten w a e s) → (w : World) (n : ℕ) (x : Record) (s : ℕ) → IsMadeIn w x → s < length (world_before w x).services → ToldGoneOn w n x s
+gone_on_told written w n x s h served =
     let v = world_before w x in
-    let service = service_at v.services s h.served in
-    let within : s < length v.table.slots = omega (arith, h.served, h.sound.holds.served) in
+    let service = service_at v.services s served in
+    let within : s < length v.table.slots = omega (arith, served, h.sound.holds.served) in
     let lt : s < 32 = omega (arith, within, h.sound.table.few) in
-    let slot : IsSlot v s = record { sound = h.sound; served = h.served } in
+    let slot : IsSlot v s = record { sound = h.sound; served = served } in
     let told = by_event v x.actor n s service.0 h.sound h.few lt within service.1 x.event (own_accepted w x.actor x.event h.accepted) (written v x.actor (own_event x.event) s slot) in
     ap (λ (u : World). gone_on (record { number = n; before = glance_of v; actor = x.actor; event = x.event; after = glance_of u }) s) (own_after w x.actor x.event) ∙ told

@@ -1,5 +1,11 @@
 mod Readies
 mod ReadyCalls
 mod Results
+mod Returned
 mod Seen
 mod GoneOn
+mod Keeping
+mod Latest
+mod Getting
+mod Ordered
+mod AreMade

@@ -87,17 +87,20 @@ caller_sends s x (a ∷ rest) p e = by_bool ((a.1 == s) && may_be x (2 + a.0)) (
     by_bool true f e = omega (arith, ap tally (eq-eqb a.0 p (some_is a.0 p e)))
     by_bool false f e = omega (arith, f e)
 
+-- who is taken from is sending
+pub sending_caller : (t : TableState) (s : ℕ) (x : Partner) → IsQueued t → (p : ℕ) → caller_of s x t.waits ≡ Some p → is_sending (process_at t p).state ≡ true
+sending_caller t s x h p e = by_bool (is_sending (process_at t p).state) refl (caller_sends s x t.waits p e)
+  where
+    by_bool : (b : Bool) → is_sending (process_at t p).state ≡ b → 1 ≤ sends_of p t.waits → b ≡ true
+    by_bool true f le = refl
+    by_bool false f le = absurd (omega (arith, h.each p f, le))
+
 idle_caller : (t : TableState) (s : ℕ) (x : Partner) → IsQueued t → IsIdleIfAny t (caller_of s x t.waits)
 idle_caller t s x h = by_option (caller_of s x t.waits) refl
   where
-    by_bool : (p : ℕ) (b : Bool) → is_sending (process_at t p).state ≡ b → 1 ≤ sends_of p t.waits → is_sending (process_at t p).state ≡ true
-    by_bool p true e le = e
-    by_bool p false e le = absurd (omega (arith, h.each p e, le))
-
     by_option : (o : Option ℕ) → caller_of s x t.waits ≡ o → IsIdleIfAny t o
     by_option None e = tt
-    by_option (Some p) e =
-        readies-at t.slots p ∙ sending_idle (process_at t p).state (by_bool p (is_sending (process_at t p).state) refl (caller_sends s x t.waits p e))
+    by_option (Some p) e = readies-at t.slots p ∙ sending_idle (process_at t p).state (sending_caller t s x h p e)
 
 -- nobody else is taken from d alone, if d stands in no blocked send
 no_caller : (s d : ℕ) (pairs : List (ℕ × ℕ)) → sends_of d pairs ≡ 0 → caller_of s (partner.Only (source.Slot d)) pairs ≡ None
@@ -147,6 +150,13 @@ delivery_waits : (t : TableState) (s d : ℕ) → (table_after_delivery t s d).w
 unfolding table_after_delivery
 delivery_waits t s d = refl
 
+-- who was asked by a SENDREC hasn't sent
+pub asking_caller : (t : TableState) (s d : ℕ) → IsQueued t → accepts (process_at t d).state s ≡ true
+    → caller_of s (partner.Only (source.Slot d)) (goes_on (table_after_delivery t s d) d 0).waits ≡ None
+asking_caller t s d h e =
+    let waits = goes_on_waits (table_after_delivery t s d) d 0 ∙ delivery_waits t s d in
+    no_caller s d (goes_on (table_after_delivery t s d) d 0).waits (ap (sends_of d) waits ∙ h.each d (accepting (process_at t d).state s e))
+
 flag_other : (fs : List Bool) (d s : ℕ) → s ≢ d → flag (slice_set fs d true) s ≡ flag fs s
 flag_other fs d s n = get_or-set_other fs d s true false n
 
@@ -160,9 +170,6 @@ sendrec_readies t s d h home idle = by_bool (accepts (process_at t d).state s) r
     made : readies v ≡ slice_set (readies t) d true
     made = goes_on_readies (table_after_delivery t s d) d 0 ∙ ap (λ fs. slice_set fs d true) (delivery_readies t s d)
 
-    waits : v.waits ≡ t.waits
-    waits = goes_on_waits (table_after_delivery t s d) d 0 ∙ delivery_waits t s d
-
     true_false : {b : Bool} → b ≡ true → b ≡ false → ⊥
     true_false e f = cc
 
@@ -173,7 +180,7 @@ sendrec_readies t s d h home idle = by_bool (accepts (process_at t d).state s) r
         → readies (cond b (table_after_taking v s (partner.Only (source.Slot d)) (Awaiting d)) (table_after_block t s d Calling))
         ≡ mark (cond b ((d, Message (message_of t s)) ∷ (d, Result 0) ∷ items_of_taking v s (caller_of s (partner.Only (source.Slot d)) v.waits)) []) (readies t)
     by_bool true e =
-        let none : caller_of s (partner.Only (source.Slot d)) v.waits ≡ None = no_caller s d v.waits (ap (sends_of d) waits ∙ h.each d (accepting (process_at t d).state s e)) in
+        let none : caller_of s (partner.Only (source.Slot d)) v.waits ≡ None = asking_caller t s d h e in
         let quiet : IsIdle v s = ap (λ fs. flag fs s) made ∙ flag_other (readies t) d s (apart e) ∙ idle in
         taking_readies v s (partner.Only (source.Slot d)) (Awaiting d) refl quiet (subst (IsIdleIfAny v) (sym none) tt)
         ∙ ap (mark (items_of_taking v s (caller_of s (partner.Only (source.Slot d)) v.waits))) made
@@ -357,7 +364,7 @@ misses_waiting t s h =
     let left = table_after_taking_out t s in
     freed s (waiting_for left s) (misses-append s (callers s left.waits) (receivers s 0 left.slots) (misses_callers s left.waits (left_sends t s h)) (misses_receivers s 0 left.slots))
 
-length_mark : (xs : List (ℕ × Item)) (fs : List Bool) → length (mark xs fs) ≡ length fs
+pub length_mark : (xs : List (ℕ × Item)) (fs : List Bool) → length (mark xs fs) ≡ length fs
 length_mark [] fs = refl
 length_mark (x ∷ xs) fs = length_mark xs (marked x.1 x.0 fs) ∙ length_marked x.1 x.0 fs
 

@@ -14,13 +14,15 @@ use Rattle.mx_app_step.specs.Traces.{own_event, step_of, steps_before}
 abbrev pub world_before : World → Record → World
 world_before w x = world_after_events w (steps_before x.actor x.event)
 
--- A record that is made in a world, and a slot of it. The machine is sound when its event is made, and has at most
--- eight processors.
-pub record IsMadeIn (w : World) (x : Record) (s : ℕ) : Type 0 where
+-- A record that is made in a world. The machine is sound when its event is made, and has at most eight processors.
+pub record IsMadeIn (w : World) (x : Record) : Type 0 where
   pub accepted : AreAccepted w (events_of x.actor x.event)
   pub sound : IsSound (world_before w x)
   pub few : length (world_before w x).cpus ≤ 8
-  pub served : s < length (world_before w x).services
+
+-- a slot that has a service then
+abbrev pub IsServed : World → Record → ℕ → Type 0
+IsServed w x s = s < length (world_before w x).services
 
 -- ---- results
 

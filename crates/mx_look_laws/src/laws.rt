@@ -4,14 +4,23 @@
 ghost use Rattle.std.specs.Prelude.{ℕ};
 ghost use Rattle.mx_machine_world.specs.declared.history.Record.{Record};
 ghost use Rattle.mx_machine_world.specs.World.{World};
-ghost use Rattle.mx_look_laws.specs.Told.{IsMadeIn, ToldGoneOn};
+ghost use Rattle.mx_look_laws.specs.Made.{ToldAreMade};
+ghost use Rattle.mx_look_laws.specs.Told.{IsMadeIn, IsServed, ToldGoneOn};
 
 use mx_isolation_diary::diaries_tell_images;
 
 /// Law: a slot has gone on with a result, as it is told of a record, exactly if the event of the record
 /// put that result into its EAX.
 pub fn told_gone_on()
-    ensures { (w : World) (n : ℕ) (x : Record) (s : ℕ) → IsMadeIn w x s → ToldGoneOn w n x s }
+    ensures { (w : World) (n : ℕ) (x : Record) (s : ℕ) → IsMadeIn w x → IsServed w x s → ToldGoneOn w n x s }
+{
+    diaries_tell_images();
+}
+
+/// Law: the deliveries that are told of a record are those that its event makes, each told of the slot that
+/// it came to.
+pub fn told_are_made()
+    ensures { (w : World) (n : ℕ) (x : Record) → IsMadeIn w x → ToldAreMade w n x }
 {
     diaries_tell_images();
 }

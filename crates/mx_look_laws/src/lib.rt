@@ -3,4 +3,4 @@
 
 mod laws;
 
-pub use laws::told_gone_on;
+pub use laws::{told_are_made, told_gone_on};
