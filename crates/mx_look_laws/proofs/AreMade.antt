@@ -1,10 +1,9 @@
 -- The deliveries that are told are those that the event makes.
-use Rattle.std.proofs.Common.{◌≡◌, ◌≢◌, ◌∙◌, ℕ, zero, suc, ◌+◌, ◌<◌, ◌≤◌, ◌%◌, ◌==◌, ◌&&◌, ◌||◌, not, nat_lt, Bool, true, false, cond, List, [], ◌∷◌, ◌++◌, length, length-append, length-set, map, Option, Some, None, refl, sym, ap, ap₂, subst, get_or, slice_get, slice_set, inl, inr, arith}
+use Rattle.std.proofs.Common.{◌≡◌, ◌≢◌, ◌∙◌, ℕ, zero, suc, ◌<◌, ◌≤◌, ◌%◌, ◌==◌, ◌&&◌, ◌||◌, not, nat_lt, Bool, true, false, cond, List, [], ◌∷◌, ◌++◌, length, length-append, length-set, map, Option, Some, None, refl, sym, ap, ap₂, subst, get_or, slice_get, slice_set, inl, inr, arith}
 use Rattle.std.proofs.lemmas.Bool.{cases_eq, eq-eqb, lt-ltb, ltb-false, ltb-true, ne_eqb}
 use Rattle.std.proofs.lemmas.Option.{slice_get_past}
 use Rattle.std.proofs.lemmas.List.FromFn.{get_or-map-range_with_len}
 use Rattle.std.specs.Option.{option_map}
-use Rattle.mx_exec.specs.declared.image.Image.{Image}
 use Rattle.mx_image.specs.declared.runs.Stop.{Stop}
 use Rattle.mx_image.specs.declared.runs.Stop.TheVariants.{Spent, Trap, Fault}
 use Rattle.mx_proc.specs.declared.deliveries.Delivery.{Delivery}
@@ -62,7 +61,6 @@ true_false e f = cc
 or_false : (b : Bool) → (b || false) ≡ b
 or_false true = refl
 or_false false = refl
-
 
 blocked_stays : (st : State) → is_blocked st ≡ true → is_out st ≡ false
 blocked_stays Home e = cc
@@ -194,11 +192,11 @@ module _ (v : World) (a n : ℕ) (sound : IsSound v) (few : length v.cpus ≤ 8)
       let x = step_to r u in
       let b = seen_is is_waiting (slot_in x.before s) || is_acted x s in
       let later = unseen u s lt (subst (λ vs. length vs ≤ s) (sym same) past) in
-      ap (λ o. is_zero o && (seen_is is_listening (slot_in x.before s) || (is_acted x s && calls_receive x))) (ap (λ o. cond b (result_in o) None) later ∙ either b)
+      ap (λ o. is_zero o && (seen_is is_listening (slot_in x.before s) || (is_acted x s && calls_receive x))) (ap (λ o. cond b (result_in o) None) later ∙ either b (result_in None) refl)
     where
-      either : (b : Bool) → cond b {Option ℕ} None None ≡ None
-      either true = refl
-      either false = refl
+      either : (c : Bool) (o : Option ℕ) → o ≡ None → cond c o None ≡ None
+      either true o e = e
+      either false o e = refl
 
   module _ (l : HeldProcess) (held : held_by v a ≡ Some l) (k : ℕ) where
     abbrev home : TableState

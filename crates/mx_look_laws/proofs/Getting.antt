@@ -1,12 +1,11 @@
 -- Who gets a message by a call is whom it makes a delivery to.
-use Rattle.std.proofs.Common.{◌≡◌, ◌≢◌, ◌∙◌, ℕ, zero, suc, ◌+◌, ◌<◌, ◌≤◌, ◌%◌, ◌==◌, ◌&&◌, ◌||◌, Bool, true, false, cond, List, [], ◌∷◌, ◌++◌, length, Option, Some, None, refl, sym, ap, subst, get_or, arith}
-use Rattle.std.proofs.lemmas.Bool.{cases_eq, eq-eqb, eqb-true, ne_eqb}
+use Rattle.std.proofs.Common.{◌≡◌, ◌≢◌, ◌∙◌, ℕ, zero, suc, ◌+◌, ◌*◌, ◌<◌, ◌≤◌, ◌%◌, ◌==◌, ◌&&◌, ◌||◌, Bool, true, false, cond, List, [], ◌∷◌, ◌++◌, length, Option, Some, None, refl, sym, ap, subst, get_or, arith}
+use Rattle.std.proofs.lemmas.Bool.{eq-eqb, eqb-true, ne_eqb}
 use Rattle.std.proofs.lemmas.Nat.{mod-mul-add}
 use Rattle.mx_mem.specs.Segment.{part}
 use Rattle.mx_proc.specs.declared.errors.Errno.{Errno}
 use Rattle.mx_proc.specs.declared.errors.Errno.TheVariants.{NotPermitted, BadAddress, Invalid, Locked, BadEndpoint, Denied, Dead, NotReady, BadRequest}
 use Rattle.mx_proc.specs.declared.deliveries.Delivery.{Delivery}
-use Rattle.mx_proc.specs.declared.process.DeathCause.TheVariants as cause
 use Rattle.mx_proc.specs.declared.process.Partner.{Partner}
 use Rattle.mx_proc.specs.declared.process.Partner.TheVariants as partner
 use Rattle.mx_proc.specs.declared.process.Process.{Process}
@@ -36,7 +35,7 @@ use Rattle.mx_kcall.specs.declared.request.ReplyWords.{ReplyWords}
 use Rattle.mx_isolation_diary.specs.Diary.{Item, items_for}
 use Rattle.mx_isolation_diary.specs.Diary.Item.{Ran, Result, Message, Copy}
 use Rattle.mx_isolation_diary.specs.Entries.{is_receiving}
-use Rattle.mx_isolation_diary.specs.Items.{bytes_of_notice, items_of_call, items_of_change, items_of_checked_call, items_of_death, items_of_freeing, items_of_kernel_call, items_of_notifying, items_of_receive, items_of_release, items_of_reply, items_of_send, items_of_sendrec, items_of_serving, items_of_taking, items_of_trap, items_of_trap_by}
+use Rattle.mx_isolation_diary.specs.Items.{bytes_of_notice, items_of_call, items_of_change, items_of_checked_call, items_of_death, items_of_freeing, items_of_kernel_call, items_of_notifying, items_of_receive, items_of_release, items_of_reply, items_of_send, items_of_sendrec, items_of_taking, items_of_trap, items_of_trap_by}
 use Rattle.mx_look_facts.specs.Going.{is_zero}
 use Rattle.mx_look_laws.specs.Made.{slot_to}
 use Rattle.mx_look_laws.specs.Told.{result_after, result_written}
@@ -236,7 +235,7 @@ taking_got : (t : TableState) (s : ℕ) (o : Option ℕ) (q : ℕ) → s < 1024 
 taking_got t s None q lt n sends = refl
 taking_got t s (Some p) q lt n sends =
     let rest = items_of_release p (process_at t p).state ++ (s, Result 0) ∷ [] in
-    ap (λ b. is_told_zero (cond b (Message _ ∷ items_for q rest) (items_for q rest)) && is_receiving (process_at t q).state) (ne_eqb s q n)
+    ap (λ b. is_told_zero (cond b (Message (message_of t p) ∷ items_for q rest) (items_for q rest)) && is_receiving (process_at t q).state) (ne_eqb s q n)
     ∙ with_other t (items_of_release p (process_at t p).state) [] s 0 q n (release_got t p q (process_at t p).state sends)
     ∙ sym (to_one (message_made t p s) s q (message_slot t p s lt) ∙ ne_eqb s q n)
 
@@ -249,10 +248,10 @@ receive_got t s p (Some x) q lt n sends =
 sendrec_got : (t : TableState) (s d q : ℕ) → AreFew t → IsQueued t → s ≢ q → IsGot t (items_of_sendrec t s d) (made_of_sendrec t s d) q
 sendrec_got t s d q few queued n = by_case (accepts (process_at t d).state s) t _ [] _ [] q
     (λ e.
-      let v = table_after_asking t s d in
-      let none : caller_of s (partner.Only (source.Slot d)) v.waits ≡ None = asking_caller t s d queued e in
-      subst (λ o. IsGot t ((d, Message (message_of t s)) ∷ (d, Result 0) ∷ items_of_taking v s o) (message_made t s d ∷ made_of_taking v s o) q) (sym none)
-        (pair_got t d q (message_of t s) [] (message_made t s d) few (accepts_receiving (process_at t d).state s e) (message_slot t s d) refl))
+    let v = table_after_asking t s d in
+    let none : caller_of s (partner.Only (source.Slot d)) v.waits ≡ None = asking_caller t s d queued e in
+    subst (λ o. IsGot t ((d, Message (message_of t s)) ∷ (d, Result 0) ∷ items_of_taking v s o) (message_made t s d ∷ made_of_taking v s o) q) (sym none)
+    (pair_got t d q (message_of t s) [] (message_made t s d) few (accepts_receiving (process_at t d).state s e) (message_slot t s d) refl))
     (λ e. refl)
 
 checked_call_got : (t : TableState) (s : ℕ) (c : Call) (x : Party) (q : ℕ) → AreFew t → IsQueued t → s < 1024 → s ≢ q → IsGot t (items_of_checked_call t s c x) (made_of_checked_call t s c x) q
@@ -291,11 +290,11 @@ trap_by_got t s (Some c) n q few queued lt m = call_got t s c (party_of t n) (ca
 -- who is freed has another result than 0
 freed_some : (q : ℕ) (ps : List ℕ) (r : Option ℕ) → is_zero r ≡ false → is_zero (result_after r (items_for q (items_of_freeing ps))) ≡ false
 freed_some q [] r e = e
-freed_some q (p ∷ ps) r e = by_bool (p == q)
+freed_some q (p ∷ ps) r e = by_bool (p == q) (freed_some q ps)
   where
-    by_bool : (b : Bool) → is_zero (result_after r (cond b (Result (errno_bits Dead) ∷ items_for q (items_of_freeing ps)) (items_for q (items_of_freeing ps)))) ≡ false
-    by_bool true = freed_some q ps (Some (errno_bits Dead)) (errno_some Dead)
-    by_bool false = freed_some q ps r e
+    by_bool : (b : Bool) → ((o : Option ℕ) → is_zero o ≡ false → is_zero (result_after o (items_for q (items_of_freeing ps))) ≡ false) → is_zero (result_after r (cond b (Result (errno_bits Dead) ∷ items_for q (items_of_freeing ps)) (items_for q (items_of_freeing ps)))) ≡ false
+    by_bool true rest = rest (Some (errno_bits Dead)) (errno_some Dead)
+    by_bool false rest = rest r e
 
 pub death_zero : (t : TableState) (s q : ℕ) → is_told_zero (items_for q (items_of_death t s)) ≡ false
 death_zero t s q = freed_some q (waiting_for (table_after_taking_out t s) s) None refl
@@ -406,17 +405,17 @@ sendrec_misses t s d few queued home = by_bool (accepts (process_at t d).state s
 -- the last item is the caller's result
 last_zero : (xs : List (ℕ × Item)) (s : ℕ) (r : Option ℕ) → result_after r (items_for s (xs ++ (s, Result 0) ∷ [])) ≡ Some 0
 last_zero [] s r = ap (λ b. result_after r (cond b (Result 0 ∷ []) [])) (eq-eqb s s refl)
-last_zero (x ∷ xs) s r = by_item (x.0 == s) x.1
+last_zero (x ∷ xs) s r = by_item (x.0 == s) x.1 (last_zero xs s)
   where
     rest : List Item
     rest = items_for s (xs ++ (s, Result 0) ∷ [])
 
-    by_item : (b : Bool) (i : Item) → result_after r (cond b (i ∷ rest) rest) ≡ Some 0
-    by_item false i = last_zero xs s r
-    by_item true Ran = last_zero xs s r
-    by_item true (Result n) = last_zero xs s (Some n)
-    by_item true (Message m) = last_zero xs s r
-    by_item true (Copy at m) = last_zero xs s r
+    by_item : (b : Bool) (i : Item) → ((o : Option ℕ) → result_after o rest ≡ Some 0) → result_after r (cond b (i ∷ rest) rest) ≡ Some 0
+    by_item false i f = f r
+    by_item true Ran f = f r
+    by_item true (Result n) f = f (Some n)
+    by_item true (Message m) f = f r
+    by_item true (Copy at m) f = f r
 
 and_true : (b : Bool) → (b && true) ≡ b
 and_true true = refl

@@ -1,5 +1,5 @@
 -- Who has gone on is whose EAX the event set.
-use Rattle.std.proofs.Common.{◌≡◌, ◌≢◌, ◌∙◌, ℕ, zero, suc, ◌<◌, ◌≤◌, ◌%◌, ◌==◌, ◌&&◌, ◌||◌, not, Bool, true, false, cond, List, [], ◌∷◌, ◌++◌, length, map, replicate, Option, Some, None, refl, sym, ap, ap₂, subst, get_or, slice_set, slice_get, get_or-set_same, get_or-set_other, length-set, inl, inr, arith}
+use Rattle.std.proofs.Common.{◌≡◌, ◌≢◌, ◌∙◌, ℕ, zero, suc, ◌<◌, ◌≤◌, ◌%◌, ◌==◌, ◌&&◌, ◌||◌, not, Bool, true, false, cond, List, [], ◌∷◌, ◌++◌, length, replicate, Option, Some, None, refl, sym, ap, ap₂, subst, get_or, slice_set, slice_get, get_or-set_other, inl, inr, arith}
 use Rattle.std.proofs.lemmas.Bool.{cases_eq, eq-eqb, ne_eqb}
 use Rattle.std.proofs.lemmas.List.{length-map}
 use Rattle.std.specs.Option.{option_map}
@@ -11,12 +11,9 @@ use Rattle.mx_proc.specs.declared.process.DeathCause.TheVariants as cause
 use Rattle.mx_proc.specs.declared.process.Process.{Process}
 use Rattle.mx_proc.specs.declared.process.State.{State}
 use Rattle.mx_proc.specs.declared.process.State.TheVariants.{Home, Ready, Out, Doomed, Sending, Calling, Receiving, Awaiting, Down}
-use Rattle.mx_proc.specs.Frame.{loan_of}
-use Rattle.mx_proc.specs.Queues.{first_ready, tally}
-use Rattle.mx_proc.specs.Sound.{Sound}
-use Rattle.mx_proc.specs.States.{is_blocked, is_down, is_out, is_ready, is_sending}
-use Rattle.mx_proc.specs.TableState.{TableState, nobody, process_at, table_after_dequeue, table_after_move_home}
-use Rattle.mx_proc.specs.Waits.{sends_of}
+use Rattle.mx_proc.specs.Queues.{first_ready}
+use Rattle.mx_proc.specs.States.{is_blocked, is_down, is_out, is_ready}
+use Rattle.mx_proc.specs.TableState.{TableState, nobody, process_at, table_after_dequeue}
 use Rattle.mx_kcall.specs.Calls.{trap_answer}
 use Rattle.mx_kcall.specs.Refusals.{owner_of}
 use Rattle.mx_kcall.specs.Respawn.{is_worn, next_process, table_after_respawn}
@@ -28,12 +25,12 @@ use Rattle.mx_machine_world.specs.declared.history.Record.{Record}
 use Rattle.mx_machine_world.specs.declared.history.Recorded.{Recorded}
 use Rattle.mx_machine_world.specs.declared.history.Recorded.TheVariants as recorded
 use Rattle.mx_machine_world.specs.History.{AreAccepted, events_of, world_after_events}
-use Rattle.mx_machine_world.specs.Move.{back_refusal, event_refusal, is_doomed, line_refusal, respawn_refusal, if_full, table_after_back, table_after_coming_home, table_after_end_of_turn, table_after_sending_out, take_refusal, world_after_back, world_after_event, world_after_line, world_after_respawn, world_after_take}
-use Rattle.mx_machine_world.specs.Sound.{IsSound, lease_at, lease_of}
+use Rattle.mx_machine_world.specs.Move.{back_refusal, event_refusal, is_doomed, respawn_refusal, if_full, table_after_back, table_after_coming_home, table_after_end_of_turn, table_after_sending_out, world_after_back, world_after_event, world_after_line, world_after_respawn, world_after_take}
+use Rattle.mx_machine_world.specs.Sound.{IsSound}
 use Rattle.mx_machine_world.specs.World.{World, HeldProcess, free_records, held_by}
 use Rattle.mx_isolation_diary.specs.Diary.{Item, image_of, items_for, images, play}
-use Rattle.mx_isolation_diary.specs.Diaries.{diary, diary_of_back, image_held_in, image_now, image_or, IsNoRespawnOf, items_of_event, items_of_line, unless_held}
-use Rattle.mx_isolation_diary.specs.Entries.{AreEntries, caller_in, slot_on}
+use Rattle.mx_isolation_diary.specs.Diaries.{diary, diary_of_back, image_held_in, image_now, image_or, items_of_event, items_of_line, unless_held}
+use Rattle.mx_isolation_diary.specs.Entries.{AreEntries, caller_in}
 use Rattle.mx_isolation_diary.specs.Items.{items_of_death, items_of_end_of_turn}
 use Rattle.mx_isolation_diary.specs.Laws.{IsSlot, IsWritten}
 use Rattle.mx_isolation_diary.proofs.DiaryLemmas.{get_or-images, play_all-at}
@@ -41,16 +38,15 @@ use Rattle.mx_isolation_diary.proofs.EventEntries.{event_entries}
 use Rattle.mx_isolation_diary.proofs.ItemLemmas.{end_of_turn_images}
 use Rattle.mx_isolation_diary.proofs.SoundDiaries.{not_held}
 use Rattle.mx_look_glance.specs.Glance.{glance_of, held_glance}
-use Rattle.mx_look_glance.specs.declared.glance.CpuGlance.{CpuGlance}
 use Rattle.mx_look_facts.specs.declared.step.Step.{Step}
-use Rattle.mx_look_facts.specs.Doings.{is_out as is_out_doing, is_waiting, seen_is}
-use Rattle.mx_look_facts.specs.Going.{acting, acting_of, gone_on, is_acted, is_acted_by, is_trap, is_trapped, result_in}
+use Rattle.mx_look_facts.specs.Doings.{is_out as is_out_doing, seen_is}
+use Rattle.mx_look_facts.specs.Going.{acting, acting_of, gone_on, is_acted, is_acted_by, is_trap, result_in}
 use Rattle.mx_look_facts.specs.Step.{slot_in}
-use Rattle.mx_app_step.specs.Traces.{own_event, step_of, steps_before}
+use Rattle.mx_app_step.specs.Traces.{own_event, steps_before}
 use Rattle.mx_app_step.proofs.RecordLemmas.{after_both}
 use Rattle.mx_look_laws.specs.Told.{IsMadeIn, result_written, ToldGoneOn, world_before}
 use Rattle.mx_look_laws.proofs.Readies.{flag, IsIdle, queueing_readies, readies, readies-at, readies-set}
-use Rattle.mx_look_laws.proofs.ReadyCalls.{and_false, and_true, death_tells, gives, IsQueued, kill_tells, line_tells, misses_waiting, Tells, tick_tells, trap_tells}
+use Rattle.mx_look_laws.proofs.ReadyCalls.{and_false, and_true, death_tells, kill_tells, line_tells, misses_waiting, Tells, tick_tells, trap_tells}
 use Rattle.mx_look_laws.proofs.Results.{entries_no_result, entries_no_step, has_result, HaveNoStep, none_written, result_for, result_played}
 use Rattle.mx_look_laws.proofs.Returned.{held_out, holds_in, home_idle, home_long, home_other, home_own, home_queued, out_within, sound_queued}
 use Rattle.mx_look_laws.proofs.Seen.{cpu_seen, out_seen, result_seen, waiting_seen}

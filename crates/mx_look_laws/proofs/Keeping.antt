@@ -1,5 +1,5 @@
 -- No event reads the deliveries that are kept: whichever they are, it makes the same ones, and else does the same.
-use Rattle.std.proofs.Common.{◌≡◌, ◌∙◌, ℕ, ◌+◌, ◌%◌, ◌==◌, nat_lt, not, slice_get, Bool, true, false, cond, List, [], ◌∷◌, ◌++◌, Option, Some, None, refl, sym, ap}
+use Rattle.std.proofs.Common.{◌≡◌, ◌∙◌, ℕ, ◌%◌, ◌==◌, nat_lt, not, slice_get, Bool, true, false, cond, List, [], ◌∷◌, ◌++◌, Option, Some, None, refl, sym, ap}
 use Rattle.circular_buffer.specs.Buffer.{keep_last}
 use Rattle.mx_image.specs.declared.runs.Stop.{Stop}
 use Rattle.mx_image.specs.declared.runs.Stop.TheVariants.{Spent, Trap, Fault}
@@ -29,7 +29,7 @@ use Rattle.mx_ipc.specs.declared.calls.Party.{Party}
 use Rattle.mx_ipc.specs.declared.calls.Party.TheVariants.{Any, Hardware, Clock, System, Process as Named}
 use Rattle.mx_ipc.specs.Checks.{call_of, call_refusal, first_error, has_bit, party_of}
 use Rattle.mx_kcall.specs.Calls.{accepts, call_answer, goes_on, hears, partner_of, trap_answer, table_after_call, table_after_call_by, table_after_checked_call, table_after_notifying, table_after_receive, table_after_receive_by, table_after_release, table_after_send, table_after_sendrec, table_after_taking, table_after_taking_from, table_after_trap, table_after_trap_by}
-use Rattle.mx_kcall.specs.Clock.{due_slots, table_after_line, table_after_ring, table_after_rings, table_after_tick}
+use Rattle.mx_kcall.specs.Clock.{due_slots, table_after_ring, table_after_rings, table_after_tick}
 use Rattle.mx_kcall.specs.Death.{table_after_death, table_after_freeing, table_after_freeing_all, table_after_taking_out, waiting_for}
 use Rattle.mx_kcall.specs.Queueing.{is_last_renewed, next_level, table_after_queueing}
 use Rattle.mx_kcall.specs.Refusals.{kernel_call_reasons, kernel_call_refusal, kernel_call_refusal_by, owner_of}

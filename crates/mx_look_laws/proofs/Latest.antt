@@ -1,5 +1,5 @@
 -- Deliveries that were made stand last among those that are kept, and are told of their slots.
-use Rattle.std.proofs.Common.{◌≡◌, ◌≢◌, ◌∙◌, ℕ, zero, suc, ◌+◌, ◌-◌, ◌<◌, ◌≤◌, ◌%◌, ◌==◌, ◌||◌, nat_lt, min, Bool, true, false, cond, List, [], ◌∷◌, ◌++◌, append_assoc, length, length-append, length-drop, map, filter, drop, Option, Some, None, refl, sym, ap, get_or, slice_get, arith}
+use Rattle.std.proofs.Common.{◌≡◌, ◌≢◌, ◌∙◌, ℕ, zero, suc, ◌+◌, ◌-◌, ◌<◌, ◌≤◌, ◌==◌, ◌||◌, nat_lt, Bool, true, false, cond, List, [], ◌∷◌, ◌++◌, append_assoc, length, length-append, length-drop, map, filter, drop, Some, None, refl, sym, ap, get_or, slice_get, arith}
 use Rattle.std.specs.List.{count_by, range_with_len}
 use Rattle.std.proofs.lemmas.Bool.{eqb-false, eqb-true, lt-ltb, ltb-false, ltb-true, ne_eqb}
 use Rattle.std.proofs.lemmas.List.{append-nil, drop-append-le}
@@ -37,7 +37,7 @@ keep_ends (d ∷ ds) es first few =
 
 pub made_last : (xs ds : List Delivery) → length ds ≤ 1024 → Ends (keep xs ds) ds
 made_last xs ds few =
-    let ends = keep_ends ds [] xs few in
+    let ends = keep_ends ds [] xs (omega (arith, few)) in
     record { first = ends.first; whole = ap (λ l. keep l ds) (sym (append-nil xs)) ∙ ends.whole }
 
 keep_short : (ds xs : List Delivery) → length xs ≤ 1024 → length (keep xs ds) ≤ 1024
@@ -78,7 +78,7 @@ seen_at (x ∷ xs) ys d = seen_at xs ys d
 latest_is : (xs first before after : List Delivery) (d : Delivery) → xs ≡ first ++ (before ++ d ∷ after) → length xs ≤ 1024 → latest xs (kept_count xs) (length after) ≡ Some d
 unfolding latest
 latest_is xs first before after d e few =
-    let long : length xs ≡ length first + (length before + (1 + length after)) = ap length e ∙ length-append first (before ++ d ∷ after) ∙ ap (λ n. length first + n) (length-append before (d ∷ after)) in
+    let long : length xs ≡ length first + (length before + (1 + length after)) = omega (arith, ap length e, length-append first (before ++ d ∷ after), length-append before (d ∷ after)) in
     let count : kept_count xs ≡ length xs = min-eq_left few in
     let place : length xs - 1 - length after ≡ length (first ++ before) = omega (arith, long, length-append first before) in
     ap (λ n. cond (nat_lt (length after) n) (slice_get xs (n - 1 - length after)) None) count
@@ -108,28 +108,28 @@ is_to q (d ∷ ds) = (slot_to d == q) || is_to q ds
 -- from a later slot on
 pub ascend_from : (s r n : ℕ) (ds : List Delivery) → r ≤ s → Ascend s n ds → Ascend r n ds
 ascend_from s r n [] le h = tt
-ascend_from s r n (d ∷ ds) le h = (omega (arith, le, h.0), h.1.0, h.1.1)
+ascend_from s r n (d ∷ ds) le h = (omega (arith, le, h.0), h.1, h.2)
 
 -- below a higher bound
 pub ascend_within : (s n m : ℕ) (ds : List Delivery) → n ≤ m → Ascend s n ds → Ascend s m ds
 ascend_within s n m [] le h = tt
-ascend_within s n m (d ∷ ds) le h = (h.0, omega (arith, le, h.1.0), ascend_within (slot_to d + 1) n m ds le h.1.1)
+ascend_within s n m (d ∷ ds) le h = (h.0, omega (arith, le, h.1), ascend_within (slot_to d + 1) n m ds le h.2)
 
 not_below : (s n q : ℕ) (ds : List Delivery) → q < s → Ascend s n ds → is_to q ds ≡ false
 not_below s n q [] lt h = refl
 not_below s n q (d ∷ ds) lt h =
     ap (λ b. b || is_to q ds) (ne_eqb (slot_to d) q (λ e. omega (arith, e, lt, h.0)))
-    ∙ not_below (slot_to d + 1) n q ds (omega (arith, lt, h.0)) h.1.1
+    ∙ not_below (slot_to d + 1) n q ds (omega (arith, lt, h.0)) h.2
 
 pub not_beyond : (s n q : ℕ) (ds : List Delivery) → n ≤ q → Ascend s n ds → is_to q ds ≡ false
 not_beyond s n q [] le h = refl
 not_beyond s n q (d ∷ ds) le h =
-    ap (λ b. b || is_to q ds) (ne_eqb (slot_to d) q (λ e. omega (arith, e, le, h.1.0)))
-    ∙ not_beyond (slot_to d + 1) n q ds le h.1.1
+    ap (λ b. b || is_to q ds) (ne_eqb (slot_to d) q (λ e. omega (arith, e, le, h.1)))
+    ∙ not_beyond (slot_to d + 1) n q ds le h.2
 
 pub ascend_length : (s n : ℕ) (ds : List Delivery) → s ≤ n → Ascend s n ds → length ds + s ≤ n
 ascend_length s n [] le h = omega (arith, le)
-ascend_length s n (d ∷ ds) le h = omega (arith, ascend_length (slot_to d + 1) n ds (omega (arith, h.1.0)) h.1.1, h.0)
+ascend_length s n (d ∷ ds) le h = omega (arith, ascend_length (slot_to d + 1) n ds (omega (arith, h.1)) h.2, h.0)
 
 -- ---- what is told
 
@@ -152,25 +152,26 @@ above a b le n = by_bool (nat_lt a b) refl
 
 count_is : (x : Step) (n s : ℕ) (ds : List Delivery) → s + n ≡ 32 → Ascend s 32 ds → Gets x s ds → length (filter (got x) (range_with_len s n)) ≡ length ds
 count_is x zero s [] e h g = refl
-count_is x zero s (d ∷ ds) e h g = absurd (omega (arith, e, h.0, h.1.0))
+count_is x zero s (d ∷ ds) e h g = absurd (omega (arith, e, h.0, h.1))
 count_is x (suc n) s [] e h g =
     ap (λ b. length (cond b (s ∷ filter (got x) (range_with_len (s + 1) n)) (filter (got x) (range_with_len (s + 1) n)))) (g s (omega arith) (omega (arith, e)))
     ∙ count_is x n (s + 1) [] (omega (arith, e)) tt (later_gets x s [] g)
-count_is x (suc n) s (d ∷ ds) e h g = by_slot (slot_to d == s) refl
+count_is x (suc n) s (d ∷ ds) e h g = by_slot (slot_to d == s) refl (λ es. count_is x n (s + 1) es (omega (arith, e)))
   where
     rest : List ℕ
     rest = filter (got x) (range_with_len (s + 1) n)
 
-    by_slot : (b : Bool) → (slot_to d == s) ≡ b → length (cond (got x s) (s ∷ rest) rest) ≡ 1 + length ds
-    by_slot true f =
+    by_slot : (b : Bool) → (slot_to d == s) ≡ b → ((es : List Delivery) → Ascend (s + 1) 32 es → Gets x (s + 1) es → length rest ≡ length es)
+        → length (cond (got x s) (s ∷ rest) rest) ≡ suc (length ds)
+    by_slot true f later =
         let own : slot_to d ≡ s = eqb-true (slot_to d) s f in
         ap (λ c. length (cond c (s ∷ rest) rest)) (g s (omega arith) (omega (arith, e)) ∙ ap (λ c. c || is_to s ds) f)
-        ∙ ap (λ k. 1 + k) (count_is x n (s + 1) ds (omega (arith, e)) (ascend_from (slot_to d + 1) (s + 1) 32 ds (omega (arith, own)) h.1.1) (rest_gets x s n d ds own g))
-    by_slot false f =
+        ∙ ap (λ k. suc k) (later ds (ascend_from (slot_to d + 1) (s + 1) 32 ds (omega (arith, own)) h.2) (rest_gets x s n d ds own g))
+    by_slot false f later =
         let apart : slot_to d ≢ s = eqb-false (slot_to d) s f in
-        let none : is_to s ds ≡ false = not_below (slot_to d + 1) 32 s ds (omega (arith, h.0)) h.1.1 in
+        let none : is_to s ds ≡ false = not_below (slot_to d + 1) 32 s ds (omega (arith, h.0)) h.2 in
         ap (λ c. length (cond c (s ∷ rest) rest)) (g s (omega arith) (omega (arith, e)) ∙ ap (λ c. c || is_to s ds) f ∙ none)
-        ∙ count_is x n (s + 1) (d ∷ ds) (omega (arith, e)) (above s (slot_to d) h.0 apart, h.1.0, h.1.1) (later_gets x s (d ∷ ds) g)
+        ∙ later (d ∷ ds) (above s (slot_to d) h.0 apart, h.1, h.2) (later_gets x s (d ∷ ds) g)
 
 -- the latest deliveries that are seen are these, the last one first
 abbrev pub Shows : Step → List Delivery → Type 0
@@ -194,26 +195,27 @@ told_one x s k d e f h =
 
 pub told_slots : (x : Step) (n s : ℕ) (before ds all : List Delivery) → s + n ≡ 32 → Ascend s 32 ds → Gets x s ds → before ++ ds ≡ all → Shows x all → told_of_slots x (range_with_len s n) ≡ map with_slot ds
 told_slots x zero s before [] all e h g w shows = refl
-told_slots x zero s before (d ∷ ds) all e h g w shows = absurd (omega (arith, e, h.0, h.1.0))
+told_slots x zero s before (d ∷ ds) all e h g w shows = absurd (omega (arith, e, h.0, h.1))
 told_slots x (suc n) s before [] all e h g w shows =
     ap (λ l. l ++ told_of_slots x (range_with_len (s + 1) n)) (told_none x s (g s (omega arith) (omega (arith, e))))
     ∙ told_slots x n (s + 1) before [] all (omega (arith, e)) tt (later_gets x s [] g) w shows
-told_slots x (suc n) s before (d ∷ ds) all e h g w shows = by_slot (slot_to d == s) refl
+told_slots x (suc n) s before (d ∷ ds) all e h g w shows = by_slot (slot_to d == s) refl (λ first es up next parts. told_slots x n (s + 1) first es all (omega (arith, e)) up next parts shows)
   where
     rest : List (ℕ × Delivery)
     rest = told_of_slots x (range_with_len (s + 1) n)
 
-    by_slot : (b : Bool) → (slot_to d == s) ≡ b → told_of_slot s (delivery_to x s) ++ rest ≡ with_slot d ∷ map with_slot ds
-    by_slot true f =
+    by_slot : (b : Bool) → (slot_to d == s) ≡ b → ((first es : List Delivery) → Ascend (s + 1) 32 es → Gets x (s + 1) es → first ++ es ≡ all → rest ≡ map with_slot es)
+        → told_of_slot s (delivery_to x s) ++ rest ≡ with_slot d ∷ map with_slot ds
+    by_slot true f later =
         let own : slot_to d ≡ s = eqb-true (slot_to d) s f in
-        let up : Ascend (s + 1) 32 ds = ascend_from (slot_to d + 1) (s + 1) 32 ds (omega (arith, own)) h.1.1 in
+        let up : Ascend (s + 1) 32 ds = ascend_from (slot_to d + 1) (s + 1) 32 ds (omega (arith, own)) h.2 in
         let next : Gets x (s + 1) ds = rest_gets x s n d ds own g in
         let one = told_one x s (length ds) d (g s (omega arith) (omega (arith, e)) ∙ ap (λ c. c || is_to s ds) f) (got_count x n (s + 1) ds (omega (arith, e)) up next) (shows before ds d w) in
         ap (λ l. l ++ rest) one
-        ∙ ap (λ l. (s, d) ∷ l) (told_slots x n (s + 1) (before ++ d ∷ []) ds all (omega (arith, e)) up next (append_assoc before (d ∷ []) ds ∙ w) shows)
+        ∙ ap (λ l. (s, d) ∷ l) (later (before ++ d ∷ []) ds up next (append_assoc before (d ∷ []) ds ∙ w))
         ∙ ap (λ k. (k, d) ∷ map with_slot ds) (sym own)
-    by_slot false f =
+    by_slot false f later =
         let apart : slot_to d ≢ s = eqb-false (slot_to d) s f in
-        let none : is_to s ds ≡ false = not_below (slot_to d + 1) 32 s ds (omega (arith, h.0)) h.1.1 in
+        let none : is_to s ds ≡ false = not_below (slot_to d + 1) 32 s ds (omega (arith, h.0)) h.2 in
         ap (λ l. l ++ rest) (told_none x s (g s (omega arith) (omega (arith, e)) ∙ ap (λ c. c || is_to s ds) f ∙ none))
-        ∙ told_slots x n (s + 1) before (d ∷ ds) all (omega (arith, e)) (above s (slot_to d) h.0 apart, h.1.0, h.1.1) (later_gets x s (d ∷ ds) g) w shows
+        ∙ later before (d ∷ ds) (above s (slot_to d) h.0 apart, h.1, h.2) (later_gets x s (d ∷ ds) g) w

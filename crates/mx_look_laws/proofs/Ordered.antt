@@ -1,5 +1,5 @@
 -- Deliveries of one event are to different slots, in their order; alarms one after another.
-use Rattle.std.proofs.Common.{◌≡◌, ◌≢◌, ◌∙◌, ℕ, zero, suc, ◌+◌, ◌<◌, ◌≤◌, ◌%◌, ◌==◌, ◌&&◌, ◌||◌, nat_lt, Bool, true, false, cond, List, [], ◌∷◌, ◌++◌, length, Option, Some, None, refl, sym, ap, subst, get_or, inl, inr, arith}
+use Rattle.std.proofs.Common.{◌≡◌, ◌∙◌, ℕ, ◌+◌, ◌<◌, ◌≤◌, ◌==◌, ◌&&◌, ◌||◌, nat_lt, Bool, true, false, cond, List, [], ◌∷◌, ◌++◌, length, Option, Some, None, refl, sym, ap, subst, inl, inr, arith}
 use Rattle.std.proofs.lemmas.Bool.{cases_eq, ne_eqb}
 use Rattle.std.proofs.lemmas.List.{length-map}
 use Rattle.mx_proc.specs.declared.deliveries.Delivery.{Delivery}
@@ -90,11 +90,11 @@ notified_receives t x d q few e = by_bool (hears (process_at t d).state x) refl 
 
 to-append : (q : ℕ) (xs ys : List Delivery) → is_to q (xs ++ ys) ≡ (is_to q xs || is_to q ys)
 to-append q [] ys = refl
-to-append q (x ∷ xs) ys = by_bool (slot_to x == q)
+to-append q (x ∷ xs) ys = by_bool (slot_to x == q) (to-append q xs ys)
   where
-    by_bool : (b : Bool) → (b || is_to q (xs ++ ys)) ≡ (b || is_to q xs || is_to q ys)
-    by_bool true = refl
-    by_bool false = to-append q xs ys
+    by_bool : (b : Bool) → is_to q (xs ++ ys) ≡ (is_to q xs || is_to q ys) → (b || is_to q (xs ++ ys)) ≡ (b || is_to q xs || is_to q ys)
+    by_bool true e = refl
+    by_bool false e = e
 
 -- the table after an alarm has as many slots
 ring_long : (t : TableState) (s : ℕ) → length (table_after_ring t s).slots ≡ length t.slots
@@ -153,7 +153,7 @@ rings_result (s ∷ ps) t q r few =
 
 rings_receives : (ps : List ℕ) (t : TableState) (q : ℕ) → AreFew t → is_to q (made_of_rings ps t) ≡ true → Receives (process_at t q)
 rings_receives [] t q few e = cc
-rings_receives (s ∷ ps) t q few e = by_bool (is_to q made) refl (sym (to-append q made more) ∙ e)
+rings_receives (s ∷ ps) t q few e = by_bool (is_to q made) refl (sym (to-append q made more) ∙ e) (rings_receives ps (table_after_ring t s) q (ring_few t s few))
   where
     v : TableState
     v = with_alarm t s None
@@ -164,9 +164,9 @@ rings_receives (s ∷ ps) t q few e = by_bool (is_to q made) refl (sym (to-appen
     more : List Delivery
     more = made_of_rings ps (table_after_ring t s)
 
-    by_bool : (b : Bool) → is_to q made ≡ b → (b || is_to q more) ≡ true → Receives (process_at t q)
-    by_bool true f k = alarm_receives t s q (notified_receives v source.Clock s q (alarm_few t s few) f)
-    by_bool false f k = alarm_receives t s q (notifying_receives v source.Clock s q (rings_receives ps (table_after_ring t s) q (ring_few t s few) k))
+    by_bool : (b : Bool) → is_to q made ≡ b → (b || is_to q more) ≡ true → (is_to q more ≡ true → Receives (process_at (table_after_ring t s) q)) → Receives (process_at t q)
+    by_bool true f k rest = alarm_receives t s q (notified_receives v source.Clock s q (alarm_few t s few) f)
+    by_bool false f k rest = alarm_receives t s q (notifying_receives v source.Clock s q (rest k))
 
 -- who is told of a tick
 pub rings_got : (ps : List ℕ) (t : TableState) (q : ℕ) → AreFew t → (is_zero (result_after None (items_for q (items_of_rings ps t))) && is_receiving (process_at t q).state) ≡ is_to q (made_of_rings ps t)
@@ -208,8 +208,8 @@ sendrec_ascends : (t : TableState) (s d : ℕ) → AreFew t → IsQueued t → A
 sendrec_ascends t s d few queued =
     let v = table_after_asking t s d in
     case_ascends (accepts (process_at t d).state s) (length t.slots) (message_made t s d ∷ made_of_taking v s (caller_of s (partner.Only (source.Slot d)) v.waits)) (λ e.
-      subst (λ o. Ascend 0 (length t.slots) (message_made t s d ∷ made_of_taking v s o)) (sym (asking_caller t s d queued e))
-        (message_ascends t s d few (accepts_receiving (process_at t d).state s e)))
+    subst (λ o. Ascend 0 (length t.slots) (message_made t s d ∷ made_of_taking v s o)) (sym (asking_caller t s d queued e))
+    (message_ascends t s d few (accepts_receiving (process_at t d).state s e)))
 
 checked_call_ascends : (t : TableState) (s : ℕ) (c : Call) (x : Party) → AreFew t → IsQueued t → (process_at t s).state ≡ Home → Ascend 0 (length t.slots) (made_of_checked_call t s c x)
 checked_call_ascends t s call.Send Any few queued home = tt
@@ -245,13 +245,10 @@ trap_ascends t s trap_ends.Done few queued home = by_option (call_of (process_at
 -- alarms ring in slot order
 pub rings_ascend : (ps : List Process) (uptime n bound : ℕ) (t : TableState) → n + length ps ≤ bound → bound ≤ 32 → Ascend n bound (made_of_rings (due_slots uptime n ps) t)
 rings_ascend [] uptime n bound t within few = tt
-rings_ascend (p ∷ ps) uptime n bound t within few = by_due (is_due uptime p.alarm)
+rings_ascend (p ∷ ps) uptime n bound t within few = by_due (is_due uptime p.alarm) (λ u. rings_ascend ps uptime (n + 1) bound u (omega (arith, within)) few)
   where
     v : TableState
     v = with_alarm t n None
-
-    later : (u : TableState) → Ascend (n + 1) bound (made_of_rings (due_slots uptime (n + 1) ps) u)
-    later u = rings_ascend ps uptime (n + 1) bound u (omega (arith, within)) few
 
     own : slot_to (notice_made v source.Clock n) ≡ n
     own = notice_slot v source.Clock n (omega (arith, within, few))
@@ -260,6 +257,6 @@ rings_ascend (p ∷ ps) uptime n bound t within few = by_due (is_due uptime p.al
     by_hears true ds h = (omega (arith, own), omega (arith, own, within), subst (λ k. Ascend (k + 1) bound ds) (sym own) h)
     by_hears false ds h = ascend_from (n + 1) n bound ds (omega arith) h
 
-    by_due : (b : Bool) → Ascend n bound (made_of_rings (cond b (n ∷ due_slots uptime (n + 1) ps) (due_slots uptime (n + 1) ps)) t)
-    by_due true = by_hears (hears (process_at v n).state source.Clock) (made_of_rings (due_slots uptime (n + 1) ps) (table_after_ring t n)) (later (table_after_ring t n))
-    by_due false = ascend_from (n + 1) n bound (made_of_rings (due_slots uptime (n + 1) ps) t) (omega arith) (later t)
+    by_due : (b : Bool) → ((u : TableState) → Ascend (n + 1) bound (made_of_rings (due_slots uptime (n + 1) ps) u)) → Ascend n bound (made_of_rings (cond b (n ∷ due_slots uptime (n + 1) ps) (due_slots uptime (n + 1) ps)) t)
+    by_due true later = by_hears (hears (process_at v n).state source.Clock) (made_of_rings (due_slots uptime (n + 1) ps) (table_after_ring t n)) (later (table_after_ring t n))
+    by_due false later = ascend_from (n + 1) n bound (made_of_rings (due_slots uptime (n + 1) ps) t) (omega arith) (later t)

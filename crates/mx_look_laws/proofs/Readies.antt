@@ -1,6 +1,5 @@
 -- Who is ready after a call: who was, and who has a result.
-use Rattle.std.proofs.Common.{◌≡◌, ◌≢◌, ◌∙◌, ℕ, zero, suc, ◌<◌, ◌==◌, ◌&&◌, ◌||◌, Bool, true, false, cond, nat_lt, List, [], ◌∷◌, ◌++◌, length, map, Option, Some, None, refl, sym, ap, subst, get_or, slice_set, get_or-set_same, get_or-set_other, length-set, inl, inr, arith}
-use Rattle.std.proofs.lemmas.Bool.{cases_eq, eq-eqb, ne_eqb}
+use Rattle.std.proofs.Common.{◌≡◌, ◌∙◌, ℕ, zero, suc, Bool, true, false, cond, nat_lt, List, [], ◌∷◌, ◌++◌, map, Option, Some, None, refl, sym, ap, get_or, slice_set}
 use Rattle.mx_proc.specs.declared.process.DeathCause.{DeathCause}
 use Rattle.mx_proc.specs.declared.process.Process.{Process}
 use Rattle.mx_proc.specs.declared.process.Source.{Source}
@@ -10,7 +9,7 @@ use Rattle.mx_proc.specs.declared.errors.Errno.TheVariants.{Dead}
 use Rattle.mx_proc.specs.Errors.{errno_bits}
 use Rattle.mx_proc.specs.States.{is_ready, is_sending}
 use Rattle.mx_proc.specs.Serving.{without_bit_of, table_after_forgetting}
-use Rattle.mx_proc.specs.TableState.{TableState, nobody, process_at, with_process, with_state, with_result, table_after_block, table_after_delivery, table_after_notice, without_pending, table_after_unblock, table_after_dequeue}
+use Rattle.mx_proc.specs.TableState.{TableState, nobody, process_at, with_process, with_result, table_after_delivery, table_after_notice, without_pending, table_after_unblock, table_after_dequeue}
 use Rattle.mx_kcall.specs.Queueing.{table_after_queueing}
 use Rattle.mx_kcall.specs.Calls.{goes_on, accepts, hears, table_after_send, table_after_notifying, table_after_release, table_after_taking_from}
 use Rattle.mx_kcall.specs.Death.{table_after_taking_out, table_after_freeing, table_after_freeing_all, waiting_for, table_after_death}

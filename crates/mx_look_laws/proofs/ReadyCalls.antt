@@ -1,9 +1,9 @@
 -- Who is ready after the end of a turn, and after each other event.
-use Rattle.std.proofs.Common.{◌≡◌, ◌≢◌, ◌∙◌, ℕ, zero, suc, ◌+◌, ◌<◌, ◌≤◌, ◌%◌, ◌==◌, ◌&&◌, ◌||◌, not, Bool, true, false, cond, List, [], ◌∷◌, ◌++◌, map, filter, Option, Some, None, refl, sym, ap, subst, get_or, slice_set, length, get_or-set_same, get_or-set_other, length-set, inl, inr, arith}
+use Rattle.std.proofs.Common.{◌≡◌, ◌≢◌, ◌∙◌, ℕ, ◌+◌, ◌<◌, ◌≤◌, ◌%◌, ◌==◌, ◌&&◌, ◌||◌, not, Bool, true, false, cond, List, [], ◌∷◌, ◌++◌, map, filter, Option, Some, None, refl, sym, ap, subst, slice_set, length, get_or-set_same, get_or-set_other, length-set, inl, inr, arith}
 use Rattle.std.proofs.lemmas.Bool.{cases_eq, eq-eqb, ne_eqb}
 use Rattle.std.proofs.lemmas.List.{length-map}
 use Rattle.mx_proc.specs.declared.errors.Errno.{Errno}
-use Rattle.mx_proc.specs.declared.errors.Errno.TheVariants.{Denied, Dead}
+use Rattle.mx_proc.specs.declared.errors.Errno.TheVariants.{Denied}
 use Rattle.mx_proc.specs.declared.process.DeathCause.{DeathCause}
 use Rattle.mx_proc.specs.declared.process.DeathCause.TheVariants as cause
 use Rattle.mx_proc.specs.declared.process.Partner.{Partner}
@@ -18,14 +18,14 @@ use Rattle.mx_proc.specs.Partners.{may_be}
 use Rattle.mx_proc.specs.Queues.{tally}
 use Rattle.mx_proc.specs.Serving.{with_alarm, with_console_byte, with_device_register, with_line, with_tick}
 use Rattle.mx_proc.specs.States.{is_out, is_ready, is_sending}
-use Rattle.mx_proc.specs.TableState.{TableState, message_of, nobody, process_at, pending_source, table_after_block, table_after_delivery, table_after_dequeue, table_after_unblock, with_message, with_state}
+use Rattle.mx_proc.specs.TableState.{TableState, message_of, process_at, pending_source, table_after_block, table_after_delivery, table_after_dequeue, table_after_unblock, with_message, with_state}
 use Rattle.mx_proc.specs.Waits.{caller_of, sends_of, without_from}
 use Rattle.mx_ipc.specs.declared.calls.Call.{Call}
 use Rattle.mx_ipc.specs.declared.calls.Call.TheVariants as call
 use Rattle.mx_ipc.specs.declared.calls.Party.{Party}
 use Rattle.mx_ipc.specs.declared.calls.Party.TheVariants.{Any, Hardware, Clock, System, Process as Named}
 use Rattle.mx_ipc.specs.Checks.{call_of, party_of, call_refusal}
-use Rattle.mx_kcall.specs.Calls.{accepts, goes_on, partner_of, trap_answer, table_after_taking, table_after_receive_by, table_after_receive, table_after_sendrec, table_after_notifying, table_after_checked_call, table_after_call_by, table_after_call, table_after_trap_by, table_after_trap}
+use Rattle.mx_kcall.specs.Calls.{accepts, goes_on, partner_of, table_after_taking, table_after_receive_by, table_after_receive, table_after_sendrec, table_after_notifying, table_after_checked_call, table_after_call_by, table_after_call, table_after_trap_by, table_after_trap}
 use Rattle.mx_kcall.specs.Clock.{due_slots, table_after_line, table_after_ring, table_after_rings, table_after_tick}
 use Rattle.mx_kcall.specs.Death.{callers, receivers, receives_from_alone, table_after_taking_out, waiting_for, table_after_death}
 use Rattle.mx_kcall.specs.Queueing.{table_after_queueing}
@@ -42,7 +42,7 @@ use Rattle.mx_isolation_diary.specs.Diary.{Item}
 use Rattle.mx_isolation_diary.specs.Diary.Item.{Ran, Result, Message, Copy}
 use Rattle.mx_isolation_diary.specs.Diaries.{items_of_kill, items_of_line, items_of_rings}
 use Rattle.mx_isolation_diary.specs.Items.{items_of_call, items_of_change, items_of_checked_call, items_of_death, items_of_freeing, items_of_kernel_call, items_of_notifying, items_of_receive, items_of_reply, items_of_sendrec, items_of_serving, items_of_taking, items_of_trap, items_of_trap_by}
-use Rattle.mx_look_laws.proofs.Readies.{by_case, death_readies, delivery_readies, flag, goes_on_readies, idle_set, IsIdle, IsIdleIfAny, mark, mark-append, marked, notice_readies, notifying_readies, queueing_readies, readies, readies-at, readies-kept, readies-set, ready_of, send_readies, set-own, taking_from_readies, then_goes_on}
+use Rattle.mx_look_laws.proofs.Readies.{death_readies, delivery_readies, flag, goes_on_readies, idle_set, IsIdle, IsIdleIfAny, mark, mark-append, marked, notice_readies, notifying_readies, readies, readies-at, readies-kept, ready_of, send_readies, taking_from_readies, then_goes_on}
 
 -- ---- blocked sends
 

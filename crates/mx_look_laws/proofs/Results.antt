@@ -1,5 +1,5 @@
 -- The result that items leave in EAX.
-use Rattle.std.proofs.Common.{◌≡◌, ◌≢◌, ◌∙◌, ℕ, ◌==◌, ◌&&◌, ◌||◌, Bool, true, false, cond, List, [], ◌∷◌, Option, Some, None, refl, sym, ap, inl, inr}
+use Rattle.std.proofs.Common.{◌≡◌, ◌≢◌, ◌∙◌, ℕ, ◌==◌, ◌&&◌, ◌||◌, Bool, true, false, cond, List, [], ◌∷◌, Some, None, refl, sym, ap, inl, inr}
 use Rattle.mx_exec.specs.declared.image.Image.{Image}
 use Rattle.mx_proc.specs.States.{is_blocked}
 use Rattle.mx_proc.specs.TableState.{process_at}

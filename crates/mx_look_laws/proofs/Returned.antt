@@ -70,18 +70,20 @@ module _ (v : World) (a : ℕ) (l : HeldProcess) (sound : IsSound v) (held : hel
   home_as = let p = process_at home l.slot in (p.state, p.image)
 
   home_is : home_as ≡ (Home, l.out.image)
-  unfolding table_after_coming_home
+  unfolding table_after_coming_home home_as
   home_is =
-      let as : Process → State × Image = λ (x : Process). (x.state, x.image) in
+      let seen : Process → State × Image = λ (x : Process). (x.state, x.image) in
       let lies = out_within v.table.slots l.slot out in
       let moved = table_after_move_home v.table l.slot l.out.image in
       let room : l.slot < length moved.slots = omega (arith, lies, length-set v.table.slots l.slot (record (process_at v.table l.slot) { state = Home; image = l.out.image })) in
-      ap as (get_or-set_same moved.slots l.slot _ nobody room) ∙ ap as (get_or-set_same v.table.slots l.slot _ nobody lies)
+      ap seen (get_or-set_same moved.slots l.slot _ nobody room) ∙ ap seen (get_or-set_same v.table.slots l.slot _ nobody lies)
 
   pub home_own : (process_at home l.slot).state ≡ Home
+  unfolding home_as
   home_own = ap (λ x. x.0) home_is
 
   pub home_ecx : (process_at home l.slot).image.regs.ecx ≡ l.out.image.regs.ecx
+  unfolding home_as
   home_ecx = ap (λ x. x.1.regs.ecx) home_is
 
   pub home_long : length home.slots ≡ length v.table.slots

@@ -1,17 +1,15 @@
 -- What is seen of a world, slot by slot.
-use Rattle.std.proofs.Common.{◌≡◌, ◌∙◌, ℕ, ◌<◌, ◌≤◌, ◌==◌, ◌&&◌, ◌||◌, not, nat_lt, Bool, true, false, cond, List, length, map, Option, Some, None, refl, sym, ap, get_or, slice_get, arith}
+use Rattle.std.proofs.Common.{◌≡◌, ◌∙◌, ℕ, ◌<◌, ◌&&◌, not, cond, Some, None, refl, ap, get_or, slice_get, arith}
 use Rattle.std.proofs.lemmas.Bool.{lt-ltb}
 use Rattle.std.proofs.lemmas.List.FromFn.{get_or-map-range_with_len}
 use Rattle.std.specs.Option.{option_map}
-use Rattle.mx_image.specs.declared.runs.Stop.{Stop}
 use Rattle.mx_proc.specs.declared.process.State.{State}
 use Rattle.mx_proc.specs.declared.process.State.TheVariants.{Home, Ready, Out, Doomed, Sending, Calling, Receiving, Awaiting, Down}
 use Rattle.mx_proc.specs.States.{is_blocked, is_out, is_ready}
 use Rattle.mx_proc.specs.TableState.{TableState, process_at}
 use Rattle.mx_kcall.specs.Service.{Service}
-use Rattle.mx_machine_world.specs.declared.history.Recorded.{Recorded}
 use Rattle.mx_machine_world.specs.Move.{is_doomed}
-use Rattle.mx_machine_world.specs.World.{World, HeldProcess, held_by}
+use Rattle.mx_machine_world.specs.World.{World, held_by}
 use Rattle.mx_look_glance.specs.Doing.{doing_of}
 use Rattle.mx_look_glance.specs.Glance.{cpu_glance, cpu_glances, glance_of, glance_of_slot, held_glance, slot_glance, slot_glances}
 use Rattle.mx_look_glance.specs.Images.{image_glance}
