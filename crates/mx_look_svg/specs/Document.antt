@@ -1,20 +1,20 @@
 -- THE DRAWING AS TEXT (SVG 1.1): its head, a title, a style sheet, the paper, and the values.
 use Rattle.std.specs.Prelude.{ℕ, List, ◌++◌, codes}
 use Rattle.std.specs.List.{flat_map}
-use Rattle.std.specs.Fmt.{decimal}
 use Rattle.mx_look_values.specs.declared.scene.Scene.{Scene}
 use Rattle.mx_look_values.specs.declared.values.Drawing.{Drawing}
-use Rattle.mx_look_svg.specs.Shown.{shown, attribute}
+use Rattle.mx_look_svg.specs.Shown.{shown, attribute, pair}
 use Rattle.mx_look_svg.specs.Texts.{title_text}
 use Rattle.mx_look_svg.specs.Figures.{value_text}
 
 unfoldable pub size_text : ℕ → ℕ → List ℕ
 size_text width height = attribute (codes "width") width ++ attribute (codes "height") height
 
+abbrev pub document_head : List ℕ
+document_head = codes "<?xml version=\"1.0\" encoding=\"UTF-8\"?>\n<svg xmlns=\"http://www.w3.org/2000/svg\" version=\"1.1\""
+
 unfoldable pub opening_text : ℕ → ℕ → List ℕ
-opening_text width height =
-    codes "<?xml version=\"1.0\" encoding=\"UTF-8\"?>\n" ++ codes "<svg xmlns=\"http://www.w3.org/2000/svg\" version=\"1.1\"" ++ size_text width height
-    ++ codes " viewBox=\"0 0 " ++ decimal width ++ codes " " ++ decimal height ++ codes "\">\n"
+opening_text width height = document_head ++ size_text width height ++ codes " viewBox=\"0 0 " ++ pair width height ++ codes "\">\n"
 
 abbrev pub description : List ℕ
 description = codes "<desc>Time runs from left to right, one column a record. Each service has a row, whose bars show its state; arrows are messages and notifications; the lowest row has what was written to the console. mx trace prints the same records in words.</desc>\n"
@@ -32,11 +32,14 @@ letters_style =
     ++ codes ".out{fill:#0060a0}.doomed{fill:#d55e00}.ready{fill:#56b4e9}.sending{fill:#e69f00}.awaiting{fill:#cc79a7}.receiving{fill:#999}\n"
     ++ codes ".title{font-size:13px;font-weight:bold}.name{font-size:12px;font-weight:bold}.end,.key{font-size:11px}.axis,.call,.note,.bad,.byte{font-size:9px}\n"
 
-unfoldable pub figures_style : List ℕ
-figures_style =
+unfoldable pub words_style : List ℕ
+words_style =
     codes ".axis{fill:#6b6b6b}.call{fill:#555}.bad,.refused{font-weight:bold;fill:#b34000}.refused{font-size:12px}.char{font-size:14px;font-weight:bold}\n"
     ++ codes ".cpu{font-size:10px;font-weight:bold;fill:#fff;pointer-events:none}\n"
-    ++ codes ".message,.notify,.pending,.tick,.line{stroke:#222;fill:#222}.notify .stem,.pending .stem{stroke-dasharray:3 2}.notify .head,.pending .head{fill:#fff}\n"
+
+unfoldable pub figures_style : List ℕ
+figures_style =
+    codes ".message,.notify,.pending,.tick,.line{stroke:#222;fill:#222}.notify .stem,.pending .stem{stroke-dasharray:3 2}.notify .head,.pending .head{fill:#fff}\n"
     ++ codes ".kill{stroke:#d55e00;fill:#d55e00}.respawn,.birth{stroke:#009e73;fill:#009e73}.death{stroke:#d55e00;stroke-width:3}.halo{stroke:#fff;stroke-width:7}\n"
 
 unfoldable pub dark_style : List ℕ
@@ -52,5 +55,5 @@ paper_text width height = codes "<rect class=\"paper\" x=\"0\" y=\"0\"" ++ size_
 -- THE DRAWING OF A RUN
 unfoldable pub drawing_text : Scene → Drawing → List ℕ
 drawing_text v d =
-    opening_text d.width d.height ++ told_title v ++ letters_style ++ figures_style ++ dark_style ++ paper_text d.width d.height
+    opening_text d.width d.height ++ told_title v ++ letters_style ++ words_style ++ figures_style ++ dark_style ++ paper_text d.width d.height
     ++ flat_map (value_text v) d.values.items ++ codes "</svg>\n"

@@ -2,6 +2,7 @@
 use Rattle.std.specs.Prelude.{ℕ, ◌+◌, ◌-◌, nat_lt, if◌then◌else◌, List, [], ◌∷◌, ◌++◌, codes}
 use Rattle.std.specs.Fmt.{decimal}
 use Rattle.mx_look_values.specs.declared.scene.Scene.{Scene}
+use Rattle.mx_look_values.specs.declared.values.Anchor.{Anchor}
 use Rattle.mx_look_values.specs.declared.values.Bar.{Bar}
 use Rattle.mx_look_values.specs.declared.values.Arrow.{Arrow}
 use Rattle.mx_look_values.specs.declared.values.ArrowKind.{ArrowKind}
@@ -12,7 +13,7 @@ use Rattle.mx_look_values.specs.declared.values.MarkKind.TheVariants as marked
 use Rattle.mx_look_values.specs.declared.values.Label.{Label}
 use Rattle.mx_look_values.specs.declared.values.Value.{Value}
 use Rattle.mx_look_values.specs.declared.values.Value.TheVariants as value
-use Rattle.mx_look_svg.specs.Shown.{shown, attribute}
+use Rattle.mx_look_svg.specs.Shown.{shown, attribute, pair}
 use Rattle.mx_look_svg.specs.Texts.{text_words}
 use Rattle.mx_look_svg.specs.Hints.{hint_text, end_text}
 use Rattle.mx_look_svg.specs.Classes.{bar_class, arrow_class, label_class, anchor_word}
@@ -25,15 +26,22 @@ bar_text v b =
     class (codes "rect") (bar_class b.kind) ++ attribute (codes "x") b.x ++ attribute (codes "y") b.y
     ++ attribute (codes "width") b.width ++ attribute (codes "height") b.height ++ end_text v (codes "rect") b.hint
 
+unfoldable pub anchored : Anchor → List ℕ
+anchored a = codes " text-anchor=\"" ++ anchor_word a ++ codes "\">"
+
+unfoldable pub placed : Label → List ℕ
+placed l = class (codes "text") (label_class l.kind) ++ attribute (codes "x") l.x ++ attribute (codes "y") l.y ++ anchored l.anchor
+
 unfoldable pub label_text : Scene → Label → List ℕ
-label_text v l =
-    class (codes "text") (label_class l.kind) ++ attribute (codes "x") l.x ++ attribute (codes "y") l.y
-    ++ codes " text-anchor=\"" ++ anchor_word l.anchor ++ codes "\">" ++ hint_text v l.hint ++ shown (text_words v l.text) ++ codes "</text>\n"
+label_text v l = placed l ++ hint_text v l.hint ++ shown (text_words v l.text) ++ codes "</text>\n"
 
 -- ---- arrows: a stem with a dot at its tail, and an end
 
 unfoldable pub point : ℕ → ℕ → ℕ → List ℕ
-point letter x y = letter ∷ decimal x ++ codes " " ++ decimal y
+point letter x y = letter ∷ pair x y
+
+unfoldable pub circle : ℕ → ℕ → ℕ → List ℕ
+circle x y r = attribute (codes "cx") x ++ attribute (codes "cy") y ++ attribute (codes "r") r
 
 abbrev pub head_base : ℕ → ℕ → ℕ
 head_base from to = if nat_lt from to then to - 7 else to + 7
@@ -45,7 +53,7 @@ head_text a =
 
 unfoldable pub ring_text : Arrow → List ℕ
 ring_text a =
-    codes "<circle class=\"head\"" ++ attribute (codes "cx") a.x ++ attribute (codes "cy") a.to ++ attribute (codes "r") 3 ++ codes "/>"
+    codes "<circle class=\"head\"" ++ circle a.x a.to 3 ++ codes "/>"
 
 abbrev pub arrow_end_by : Arrow → ArrowKind → List ℕ
 arrow_end_by a drawn.Message = head_text a
@@ -56,10 +64,11 @@ arrow_end_by a _ = []
 unfoldable pub arrow_end : Arrow → List ℕ
 arrow_end a = arrow_end_by a a.kind
 
+unfoldable pub line_text : Arrow → List ℕ
+line_text a = codes "<path class=\"stem\" d=\"" ++ point 77 a.x a.y ++ codes "V" ++ decimal a.to ++ codes "\"/>"
+
 unfoldable pub stem_text : Arrow → List ℕ
-stem_text a =
-    codes "<path class=\"stem\" d=\"" ++ point 77 a.x a.y ++ codes "V" ++ decimal a.to ++ codes "\"/><circle"
-    ++ attribute (codes "cx") a.x ++ attribute (codes "cy") a.y ++ attribute (codes "r") 2 ++ codes "/>"
+stem_text a = line_text a ++ codes "<circle" ++ circle a.x a.y 2 ++ codes "/>"
 
 unfoldable pub arrow_text : Scene → Arrow → List ℕ
 arrow_text v a =
@@ -68,7 +77,7 @@ arrow_text v a =
 -- ---- marks, drawn around 0 and moved
 
 unfoldable pub moved : Mark → List ℕ
-moved m = codes " transform=\"translate(" ++ decimal m.x ++ codes " " ++ decimal m.y ++ codes ")\""
+moved m = codes " transform=\"translate(" ++ pair m.x m.y ++ codes ")\""
 
 -- of a class, and along a path
 unfoldable pub path_text : Mark → List ℕ → List ℕ → List ℕ

@@ -1,13 +1,13 @@
 //! The figures: each value's element.
 
 ghost use Rattle.std.specs.Prelude.{◌≡◌, ◌++◌, OnOk};
-ghost use Rattle.mx_look_svg.specs.Figures.{class, bar_text, label_text, point, head_base, head_text, ring_text, arrow_end, stem_text, arrow_text, moved, path_text, death_text, mark_text, value_text};
+ghost use Rattle.mx_look_svg.specs.Figures.{class, bar_text, anchored, placed, label_text, point, circle, head_base, head_text, ring_text, arrow_end, line_text, stem_text, arrow_text, moved, path_text, death_text, mark_text, value_text};
 
 use crate::classes::{anchor_word, arrow_class, bar_class, label_class};
 use crate::hints::{push_end, push_hint};
-use crate::shown::{push_attribute, push_number, push_shown};
+use crate::shown::{push_attribute, push_pair, push_shown};
 use crate::texts::push_words;
-use mx_look_values::{Arrow, ArrowKind, Bar, Label, Mark, MarkKind, Scene, Value};
+use mx_look_values::{Anchor, Arrow, ArrowKind, Bar, Label, Mark, MarkKind, Scene, Value};
 use mx_print_report::push_decimal;
 use std::alloc::{AllocError, Global};
 
@@ -26,12 +26,7 @@ fn push_class(out: &mut Vec<u8>, tag: &[u8], name: &[u8]) -> Result<(), AllocErr
 
 /// Appends a rectangle.
 #[tactic(auto, unfolding(crate::specs::Figures::bar_text))]
-fn push_bar(
-    alloc: Global,
-    out: &mut Vec<u8>,
-    scene: &Scene,
-    bar: Bar,
-) -> Result<(), AllocError>
+fn push_bar(alloc: Global, out: &mut Vec<u8>, scene: &Scene, bar: Bar) -> Result<(), AllocError>
     ensures { OnOk result (out.new.items ≡ out.old.items ++ bar_text scene.now bar) }
 {
     push_class(out, b"rect", bar_class(bar.kind))?;
@@ -40,6 +35,27 @@ fn push_bar(
     push_attribute(out, b"width", bar.width)?;
     push_attribute(out, b"height", bar.height)?;
     push_end(alloc, out, scene, b"rect", bar.hint)
+}
+
+/// Appends which point of a text is at its place.
+#[tactic(auto, unfolding(crate::specs::Figures::anchored))]
+fn push_anchored(out: &mut Vec<u8>, anchor: Anchor) -> Result<(), AllocError>
+    ensures { OnOk result (out.new.items ≡ out.old.items ++ anchored anchor) }
+{
+    out.extend_from_slice(b" text-anchor=\"")?;
+    out.extend_from_slice(anchor_word(anchor))?;
+    out.extend_from_slice(b"\">")
+}
+
+/// Appends the begin of a text: what it is for, and where it stands.
+#[tactic(auto, unfolding(crate::specs::Figures::placed))]
+fn push_placed(out: &mut Vec<u8>, label: Label) -> Result<(), AllocError>
+    ensures { OnOk result (out.new.items ≡ out.old.items ++ placed label) }
+{
+    push_class(out, b"text", label_class(label.kind))?;
+    push_attribute(out, b"x", label.x)?;
+    push_attribute(out, b"y", label.y)?;
+    push_anchored(out, label.anchor)
 }
 
 /// Appends a text.
@@ -54,12 +70,7 @@ fn push_label(
 {
     let mut words = Vec::new(alloc);
     push_words(&mut words, scene, label.text)?;
-    push_class(out, b"text", label_class(label.kind))?;
-    push_attribute(out, b"x", label.x)?;
-    push_attribute(out, b"y", label.y)?;
-    out.extend_from_slice(b" text-anchor=\"")?;
-    out.extend_from_slice(anchor_word(label.anchor))?;
-    out.extend_from_slice(b"\">")?;
+    push_placed(out, label)?;
     push_hint(alloc, out, scene, label.hint)?;
     push_shown(out, words.as_slice())?;
     out.extend_from_slice(b"</text>\n")
@@ -71,9 +82,17 @@ fn push_point(out: &mut Vec<u8>, letter: u8, x: u64, y: u64) -> Result<(), Alloc
     ensures { OnOk result (out.new.items ≡ out.old.items ++ point letter x y) }
 {
     out.push(letter)?;
-    push_number(out, x)?;
-    out.push(b' ')?;
-    push_number(out, y)
+    push_pair(out, x, y)
+}
+
+/// Appends where a circle stands, and how large it is.
+#[tactic(auto, unfolding(crate::specs::Figures::circle))]
+fn push_circle(out: &mut Vec<u8>, x: u32, y: u32, radius: u32) -> Result<(), AllocError>
+    ensures { OnOk result (out.new.items ≡ out.old.items ++ circle x y radius) }
+{
+    push_attribute(out, b"cx", x)?;
+    push_attribute(out, b"cy", y)?;
+    push_attribute(out, b"r", radius)
 }
 
 /// Where the head of an arrow begins: 7 before its point.
@@ -107,9 +126,7 @@ fn push_ring(out: &mut Vec<u8>, arrow: Arrow) -> Result<(), AllocError>
     ensures { OnOk result (out.new.items ≡ out.old.items ++ ring_text arrow) }
 {
     out.extend_from_slice(b"<circle class=\"head\"")?;
-    push_attribute(out, b"cx", arrow.x)?;
-    push_attribute(out, b"cy", arrow.to)?;
-    push_attribute(out, b"r", 3)?;
+    push_circle(out, arrow.x, arrow.to, 3)?;
     out.extend_from_slice(b"/>")
 }
 
@@ -125,19 +142,26 @@ fn push_arrow_end(out: &mut Vec<u8>, arrow: Arrow) -> Result<(), AllocError>
     }
 }
 
+/// Appends the line of an arrow.
+#[tactic(auto, unfolding(crate::specs::Figures::line_text))]
+fn push_line(out: &mut Vec<u8>, arrow: Arrow) -> Result<(), AllocError>
+    ensures { OnOk result (out.new.items ≡ out.old.items ++ line_text arrow) }
+{
+    out.extend_from_slice(b"<path class=\"stem\" d=\"")?;
+    push_point(out, b'M', u64::from(arrow.x), u64::from(arrow.y))?;
+    out.extend_from_slice(b"V")?;
+    push_decimal(out, arrow.to)?;
+    out.extend_from_slice(b"\"/>")
+}
+
 /// Appends the line of an arrow, and the dot at its tail.
 #[tactic(auto, unfolding(crate::specs::Figures::stem_text))]
 fn push_stem(out: &mut Vec<u8>, arrow: Arrow) -> Result<(), AllocError>
     ensures { OnOk result (out.new.items ≡ out.old.items ++ stem_text arrow) }
 {
-    out.extend_from_slice(b"<path class=\"stem\" d=\"")?;
-    push_point(out, b'M', u64::from(arrow.x), u64::from(arrow.y))?;
-    out.push(b'V')?;
-    push_decimal(out, arrow.to)?;
-    out.extend_from_slice(b"\"/><circle")?;
-    push_attribute(out, b"cx", arrow.x)?;
-    push_attribute(out, b"cy", arrow.y)?;
-    push_attribute(out, b"r", 2)?;
+    push_line(out, arrow)?;
+    out.extend_from_slice(b"<circle")?;
+    push_circle(out, arrow.x, arrow.y, 2)?;
     out.extend_from_slice(b"/>")
 }
 
@@ -165,9 +189,7 @@ fn push_moved(out: &mut Vec<u8>, mark: Mark) -> Result<(), AllocError>
     ensures { OnOk result (out.new.items ≡ out.old.items ++ moved mark) }
 {
     out.extend_from_slice(b" transform=\"translate(")?;
-    push_decimal(out, mark.x)?;
-    out.push(b' ')?;
-    push_decimal(out, mark.y)?;
+    push_pair(out, u64::from(mark.x), u64::from(mark.y))?;
     out.extend_from_slice(b")\"")
 }
 
@@ -186,12 +208,7 @@ fn push_path(out: &mut Vec<u8>, mark: Mark, class: &[u8], path: &[u8]) -> Result
 
 /// Appends the cross of a death, on a ground that sets it off.
 #[tactic(auto, unfolding(crate::specs::Figures::death_text))]
-fn push_death(
-    alloc: Global,
-    out: &mut Vec<u8>,
-    scene: &Scene,
-    mark: Mark,
-) -> Result<(), AllocError>
+fn push_death(alloc: Global, out: &mut Vec<u8>, scene: &Scene, mark: Mark) -> Result<(), AllocError>
     ensures { OnOk result (out.new.items ≡ out.old.items ++ death_text scene.now mark) }
 {
     out.extend_from_slice(b"<g")?;
@@ -204,12 +221,7 @@ fn push_death(
 
 /// Appends a mark.
 #[tactic(auto, unfolding(crate::specs::Figures::mark_text))]
-fn push_mark(
-    alloc: Global,
-    out: &mut Vec<u8>,
-    scene: &Scene,
-    mark: Mark,
-) -> Result<(), AllocError>
+fn push_mark(alloc: Global, out: &mut Vec<u8>, scene: &Scene, mark: Mark) -> Result<(), AllocError>
     ensures { OnOk result (out.new.items ≡ out.old.items ++ mark_text scene.now mark) }
 {
     match mark.kind {

@@ -1,24 +1,19 @@
 //! What a value tells when it is asked.
 
 ghost use Rattle.std.specs.Prelude.{◌≡◌, ◌++◌, OnOk};
-ghost use Rattle.mx_look_svg.specs.Hints.{step_line, kept_hint, standing_hint, placed_line, hint_line, told, hint_text, end_text};
+ghost use Rattle.mx_look_svg.specs.Hints.{step_line, kept_hint, on_processor, standing_hint, placed_line, hint_line, told, hint_text, end_text};
 
 use crate::shown::push_shown;
 use crate::texts::push_standing;
 use mx_look_facts::slot_in;
-use mx_look_values::{Hint, Scene, Standing, Step};
 use mx_look_trace::{push_change, push_console_line, push_delivery, push_head, push_kept};
+use mx_look_values::{Hint, Scene, Standing, Step};
 use mx_print_report::push_decimal;
 use std::alloc::{AllocError, Global};
 
 /// Appends the line of a notification that is kept for a slot, if it is.
 #[tactic(auto, unfolding(crate::specs::Hints::kept_hint))]
-fn push_kept_hint(
-    out: &mut Vec<u8>,
-    step: &Step,
-    slot: u32,
-    place: u32,
-) -> Result<(), AllocError>
+fn push_kept_hint(out: &mut Vec<u8>, step: &Step, slot: u32, place: u32) -> Result<(), AllocError>
     ensures { OnOk result (out.new.items ≡ out.old.items ++ kept_hint step.now slot place) }
 {
     match (slot_in(&step.before, slot), slot_in(&step.after, slot)) {
@@ -42,20 +37,24 @@ fn push_step_line(out: &mut Vec<u8>, step: &Step, hint: Hint) -> Result<(), Allo
     }
 }
 
+/// Appends the processor that a process is on, if it is on one.
+fn push_on_processor(out: &mut Vec<u8>, cpu: Option<u8>) -> Result<(), AllocError>
+    ensures { OnOk result (out.new.items ≡ out.old.items ++ on_processor cpu) }
+{
+    let Some(cpu) = cpu else {
+        return Ok(());
+    };
+    out.extend_from_slice(b" on processor ")?;
+    push_decimal(out, u32::from(cpu))
+}
+
 /// Appends what a process does after a record.
 #[tactic(auto, unfolding(crate::specs::Hints::standing_hint))]
-fn push_standing_hint(
-    out: &mut Vec<u8>,
-    seen: &Standing,
-    number: u32,
-) -> Result<(), AllocError>
+fn push_standing_hint(out: &mut Vec<u8>, seen: &Standing, number: u32) -> Result<(), AllocError>
     ensures { OnOk result (out.new.items ≡ out.old.items ++ standing_hint seen.now number) }
 {
     push_standing(out, seen)?;
-    if let Some(cpu) = seen.cpu {
-        out.extend_from_slice(b" on processor ")?;
-        push_decimal(out, u32::from(cpu))?;
-    }
+    push_on_processor(out, seen.cpu)?;
     out.extend_from_slice(b" after record ")?;
     push_decimal(out, number)
 }
@@ -93,12 +92,7 @@ fn push_hint_line(out: &mut Vec<u8>, scene: &Scene, hint: Hint) -> Result<(), Al
 }
 
 /// Appends what a hint tells, as a title.
-fn push_told(
-    alloc: Global,
-    out: &mut Vec<u8>,
-    scene: &Scene,
-    hint: Hint,
-) -> Result<(), AllocError>
+fn push_told(alloc: Global, out: &mut Vec<u8>, scene: &Scene, hint: Hint) -> Result<(), AllocError>
     ensures { OnOk result (out.new.items ≡ out.old.items ++ told scene.now hint) }
 {
     let mut line = Vec::new(alloc);

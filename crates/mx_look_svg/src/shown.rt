@@ -2,17 +2,27 @@
 
 ghost use Rattle.std.specs.Prelude.{◌≡◌, ◌<◌, ◌++◌, length, OnOk};
 ghost use Rattle.std.specs.Fmt.{decimal};
-ghost use Rattle.mx_look_svg.specs.Shown.{escaped, is_left_out, shown_byte, shown, attribute};
+ghost use Rattle.mx_look_svg.specs.Shown.{pair, escaped, is_left_out, shown_byte, shown, attribute};
 
 use itoa::Buffer;
 use mx_print_report::push_decimal;
 use std::alloc::AllocError;
 
 /// Appends a number.
-pub(crate) fn push_number(out: &mut Vec<u8>, number: u64) -> Result<(), AllocError>
+fn push_number(out: &mut Vec<u8>, number: u64) -> Result<(), AllocError>
     ensures { OnOk result (out.new.items ≡ out.old.items ++ decimal number) }
 {
     out.extend_from_slice(Buffer::new().format(number).as_bytes())
+}
+
+/// Appends two numbers, parted by a space.
+#[tactic(auto, unfolding(crate::specs::Shown::pair))]
+pub(crate) fn push_pair(out: &mut Vec<u8>, first: u64, second: u64) -> Result<(), AllocError>
+    ensures { OnOk result (out.new.items ≡ out.old.items ++ pair first second) }
+{
+    push_number(out, first)?;
+    out.push(b' ')?;
+    push_number(out, second)
 }
 
 /// Appends a byte that stands between tags.
@@ -52,6 +62,7 @@ fn push_shown_byte(out: &mut Vec<u8>, line: &[u8], index: usize) -> Result<(), A
 }
 
 /// Appends a line as it is shown between tags.
+#[tactic(auto, unfolding(crate::specs::Shown::shown))]
 pub(crate) fn push_shown(out: &mut Vec<u8>, line: &[u8]) -> Result<(), AllocError>
     ensures { OnOk result (out.new.items ≡ out.old.items ++ shown line.now) }
 {
@@ -63,11 +74,7 @@ pub(crate) fn push_shown(out: &mut Vec<u8>, line: &[u8]) -> Result<(), AllocErro
 
 /// Appends an attribute with a number.
 #[tactic(auto, unfolding(crate::specs::Shown::attribute))]
-pub(crate) fn push_attribute(
-    out: &mut Vec<u8>,
-    name: &[u8],
-    number: u32,
-) -> Result<(), AllocError>
+pub(crate) fn push_attribute(out: &mut Vec<u8>, name: &[u8], number: u32) -> Result<(), AllocError>
     ensures { OnOk result (out.new.items ≡ out.old.items ++ attribute name.now number) }
 {
     out.push(b' ')?;
