@@ -3,6 +3,7 @@ use Rattle.std.specs.Prelude.{ℕ, List, ◌++◌, codes}
 use Rattle.std.specs.List.{flat_map}
 use Rattle.mx_look_values.specs.declared.scene.Scene.{Scene}
 use Rattle.mx_look_values.specs.declared.values.Drawing.{Drawing}
+use Rattle.mx_look_values.specs.declared.values.Value.{Value}
 use Rattle.mx_look_svg.specs.Shown.{shown, attribute, pair}
 use Rattle.mx_look_svg.specs.Texts.{title_text}
 use Rattle.mx_look_svg.specs.Figures.{value_text}
@@ -52,8 +53,12 @@ dark_style =
 unfoldable pub paper_text : ℕ → ℕ → List ℕ
 paper_text width height = codes "<rect class=\"paper\" x=\"0\" y=\"0\"" ++ size_text width height ++ codes "/>\n"
 
+-- each value's text, in their order
+abbrev pub values_text : Scene → List Value → List ℕ
+values_text v values = flat_map (value_text v) values
+
 -- THE DRAWING OF A RUN
 unfoldable pub drawing_text : Scene → Drawing → List ℕ
 drawing_text v d =
     opening_text d.width d.height ++ told_title v ++ letters_style ++ words_style ++ figures_style ++ dark_style ++ paper_text d.width d.height
-    ++ flat_map (value_text v) d.values.items ++ codes "</svg>\n"
+    ++ values_text v d.values.items ++ codes "</svg>\n"

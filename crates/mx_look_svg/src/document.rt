@@ -1,9 +1,7 @@
 //! The whole drawing.
 
 ghost use Rattle.std.specs.Prelude.{◌≡◌, ◌++◌, OnOk};
-ghost use Rattle.std.specs.List.{flat_map};
-ghost use Rattle.mx_look_svg.specs.Figures.{value_text};
-ghost use Rattle.mx_look_svg.specs.Document.{size_text, document_head, opening_text, description, told_title, paper_text, letters_style, words_style, figures_style, dark_style, drawing_text};
+ghost use Rattle.mx_look_svg.specs.Document.{size_text, document_head, opening_text, description, told_title, paper_text, letters_style, words_style, figures_style, dark_style, values_text, drawing_text};
 
 use crate::figures::push_value;
 use crate::shown::{push_attribute, push_pair, push_shown};
@@ -131,7 +129,7 @@ fn push_values(
     scene: &Scene,
     values: &[Value],
 ) -> Result<(), AllocError>
-    ensures { OnOk result (out.new.items ≡ out.old.items ++ flat_map (value_text scene.now) values.now) }
+    ensures { OnOk result (out.new.items ≡ out.old.items ++ values_text scene.now values.now) }
 {
     for value in values {
         push_value(alloc, out, scene, *value)?;
@@ -139,8 +137,8 @@ fn push_values(
     Ok(())
 }
 
-/// Appends the drawing of a run as a document: SVG 1.1, with no script, and nothing from outside. An error
-/// says that there is no memory.
+/// Appends the drawing of a run as a document: SVG 1.1, with no script, and nothing from outside.
+/// An error says that there is no memory.
 #[tactic(auto, unfolding(crate::specs::Document::drawing_text))]
 pub fn push_drawing(
     alloc: Global,
