@@ -31,7 +31,7 @@ fn digit(number: u8) -> u8
 
 /// Appends a byte in hexadecimal digits.
 #[tactic(auto, unfolding(crate::specs::Numbers::hex_text))]
-pub(crate) fn push_hex(out: &mut Vec<u8>, byte: u8) -> Result<(), AllocError>
+pub fn push_hex(out: &mut Vec<u8>, byte: u8) -> Result<(), AllocError>
     ensures { OnOk result (out.new.items ≡ out.old.items ++ hex_text byte) }
 {
     if byte >= 16 {
