@@ -25,11 +25,12 @@ use Rattle.mx_look_values.specs.declared.values.Text.TheVariants as text
 use Rattle.mx_look_values.specs.declared.values.MarkKind.{MarkKind}
 use Rattle.mx_look_values.specs.declared.values.MarkKind.TheVariants as marked
 use Rattle.mx_look_values.specs.declared.values.Value.{Value}
-use Rattle.mx_look_picture.specs.declared.layout.Spot.{Spot}
+use Rattle.mx_look_picture.specs.declared.spots.Spot.{Spot}
 use Rattle.mx_look_picture.specs.Figures.{label_at}
 use Rattle.mx_look_picture.specs.Inside.{IsInside}
 use Rattle.mx_look_picture.specs.Layout.{row, row_of, toward}
-use Rattle.mx_look_picture.specs.Fates.{height_of, line_to, note, outside_mark, outside_by, outside_values, other_height, killer_by, killer, has_fallen, kill_from, kill_values, death_values, birth_values, passage, passage_by, fate_values, error_note, freed_values}
+use Rattle.mx_look_picture.specs.Spots.{height_of, line_to, note}
+use Rattle.mx_look_picture.specs.Fates.{outside_mark, outside_by, outside_values, other_height, killer_by, killer, has_fallen, kill_from, kill_values, death_values, birth_values, passage, passage_by, fate_values, error_note, freed_values}
 use Rattle.mx_look_picture.specs.Messages.{party_height, source_height, is_message, type_note, delivery_by, delivery_values, is_kept, kept_arrow, kept_values}
 use Rattle.mx_look_picture.specs.Returns.{return_of, return_by, return_values}
 use Rattle.mx_look_picture.specs.Record.{console_row, byte_label, console_by, console_values, fates, deliveries, all_kept, freed, record_values}

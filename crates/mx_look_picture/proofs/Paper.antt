@@ -15,14 +15,14 @@ use Rattle.mx_look_values.specs.declared.values.Item.TheVariants as item
 use Rattle.mx_look_values.specs.declared.scene.Scene.{Scene}
 use Rattle.mx_look_values.specs.declared.scene.Standing.{Standing}
 use Rattle.mx_look_picture.specs.declared.layout.Strip.{Strip}
-use Rattle.mx_look_picture.specs.declared.layout.Spot.{Spot}
+use Rattle.mx_look_picture.specs.declared.spots.Spot.{Spot}
 use Rattle.mx_look_picture.specs.declared.bars.Span.{Span}
 use Rattle.mx_look_picture.specs.declared.figures.Point.{Point}
 use Rattle.mx_look_picture.specs.Figures.{bar_at, label_at}
 use Rattle.mx_look_picture.specs.Inside.{IsInside}
 use Rattle.mx_look_picture.specs.Layout.{column, row, rows, strip_height, strip_top, strip_count, strip_at, paper_width, items_abreast, legend_top, paper_height}
 use Rattle.mx_look_picture.specs.Bars.{cpu_label, state_bar_by, state_bar, seen_at, begins, next_run, run_end, span_of, run_bar, bar_here, bars_of_slot, bars}
-use Rattle.mx_look_picture.specs.Strips.{band, bands, step_at, is_marked, axis_values, axis_by, axis_at, axis, name_if, end_if, name_values, service_names, names, came_by, came_at, came, strip_values}
+use Rattle.mx_look_picture.specs.Strips.{band, bands, step_at, is_marked, axis_mark, axis_by, axis_at, axis, name_if, end_if, name_values, service_names, names, came_by, came_at, came, strip_values}
 use Rattle.mx_look_picture.specs.Legend.{item_at, sample, second_sample, item_values, corner_of, legend_item, legend}
 use Rattle.mx_look_picture.specs.Picture.{strip_of, strips, refused_values, picture}
 use Rattle.std.proofs.Math.Nat.{mod-lt, div-mul-le_self, mul-le-mul_right}
@@ -42,8 +42,8 @@ band_within w h services strip r p low =
     let below : strip.top + strip_height services ≤ h = p.below in
     all_if w h (r % 2 == 1) (bar_at kind.Band 0 (row strip.top r - 16) w 32 hint.Nothing ∷ []) [] ((omega arith, omega arith), tt) tt
 
-mark_within : (w h services : ℕ) (strip : Strip) (i number : ℕ) → StripWithin w h services strip → i < strip.count → AllInside w h (axis_values strip services i number)
-unfolding axis_values
+mark_within : (w h services : ℕ) (strip : Strip) (i number : ℕ) → StripWithin w h services strip → i < strip.count → AllInside w h (axis_mark strip services i number)
+unfolding axis_mark
 mark_within w h services strip i number p low =
     let below : strip.top + strip_height services ≤ h = p.below in
     let right : column (strip.count + 1) + 8 ≤ w = p.right in

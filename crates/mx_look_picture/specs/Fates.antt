@@ -1,5 +1,5 @@
 -- At a record (our own): ticks and interrupt lines, who is killed, dies, is born again, or goes on with an error.
-use Rattle.std.specs.Prelude.{ℕ, ◌+◌, ◌-◌, ◌≤◌, ◌==◌, ◌&&◌, not, if◌then◌else◌, Bool, true, false, List, [], ◌∷◌, ◌++◌, Option, Some, None}
+use Rattle.std.specs.Prelude.{ℕ, ◌-◌, ◌==◌, ◌&&◌, not, if◌then◌else◌, Bool, true, false, List, [], ◌∷◌, ◌++◌, Option, Some, None}
 use Rattle.mx_proc.specs.declared.process.DeathCause.{DeathCause}
 use Rattle.mx_proc.specs.declared.process.DeathCause.TheVariants as cause
 use Rattle.mx_machine_world.specs.declared.history.Recorded.{Recorded}
@@ -12,37 +12,18 @@ use Rattle.mx_look_facts.specs.declared.step.Step.{Step}
 use Rattle.mx_look_facts.specs.Step.{slot_in, held_before}
 use Rattle.mx_look_facts.specs.Slots.{both}
 use Rattle.mx_look_facts.specs.Going.{gone_on, is_acted}
-use Rattle.mx_look_values.specs.declared.values.Hint.{Hint}
 use Rattle.mx_look_values.specs.declared.values.Hint.TheVariants as hint
-use Rattle.mx_look_values.specs.declared.values.ArrowKind.{ArrowKind}
 use Rattle.mx_look_values.specs.declared.values.ArrowKind.TheVariants as drawn
 use Rattle.mx_look_values.specs.declared.values.MarkKind.{MarkKind}
 use Rattle.mx_look_values.specs.declared.values.MarkKind.TheVariants as marked
-use Rattle.mx_look_values.specs.declared.values.LabelKind.{LabelKind}
 use Rattle.mx_look_values.specs.declared.values.LabelKind.TheVariants as written
 use Rattle.mx_look_values.specs.declared.values.Anchor.TheVariants as anchor
-use Rattle.mx_look_values.specs.declared.values.Text.{Text}
 use Rattle.mx_look_values.specs.declared.values.Text.TheVariants as text
 use Rattle.mx_look_values.specs.declared.values.Value.{Value}
-use Rattle.mx_look_picture.specs.declared.layout.Spot.{Spot}
-use Rattle.mx_look_picture.specs.Figures.{arrow_at, mark_at, label_at}
-use Rattle.mx_look_picture.specs.Layout.{row, row_of, toward}
-
--- the columns of the widest strip, and the strips of at most 1,000 records
-abbrev pub IsOnPaper : Spot → Type 0
-IsOnPaper at = (4 ≤ at.x) × (at.x ≤ 30000) × (at.top ≤ 30000) × (at.services ≤ 32)
-
--- the middle of a service's row at a record; of whatever is no service, that of the row outside
-abbrev pub height_of : Spot → ℕ → ℕ
-height_of at s = row at.top (row_of at.services s)
-
--- a line from a row to that of a service
-abbrev pub line_to : Spot → ArrowKind → ℕ → ℕ → Hint → Value
-line_to at k from s t = arrow_at k at.x from (toward from (height_of at s)) t
-
--- a text beside the row of a service
-abbrev pub note : LabelKind → Spot → ℕ → Text → Hint → Value
-note k at s what t = label_at k (at.x + 6) (height_of at s - 8) anchor.Start what t
+use Rattle.mx_look_picture.specs.declared.spots.Spot.{Spot}
+use Rattle.mx_look_picture.specs.Figures.{mark_at, label_at}
+use Rattle.mx_look_picture.specs.Layout.{row}
+use Rattle.mx_look_picture.specs.Spots.{height_of, line_to, note}
 
 -- ---- outside
 

@@ -1,6 +1,7 @@
 pub mod Figures
 pub mod Inside
 pub mod Layout
+pub mod Spots
 pub mod Scene
 pub mod Bars
 pub mod Fates

@@ -14,9 +14,9 @@ use Rattle.mx_look_values.specs.declared.values.ArrowKind.TheVariants as drawn
 use Rattle.mx_look_values.specs.declared.values.LabelKind.TheVariants as written
 use Rattle.mx_look_values.specs.declared.values.Text.TheVariants as text
 use Rattle.mx_look_values.specs.declared.values.Value.{Value}
-use Rattle.mx_look_picture.specs.declared.layout.Spot.{Spot}
+use Rattle.mx_look_picture.specs.declared.spots.Spot.{Spot}
 use Rattle.mx_look_picture.specs.Layout.{row}
-use Rattle.mx_look_picture.specs.Fates.{height_of, line_to, note}
+use Rattle.mx_look_picture.specs.Spots.{height_of, line_to, note}
 
 -- the row of whom an endpoint names: HARDWARE and CLOCK are no service
 abbrev pub party_height : Spot → ℕ → ℕ

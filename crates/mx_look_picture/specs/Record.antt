@@ -7,7 +7,7 @@ use Rattle.mx_look_values.specs.declared.values.LabelKind.TheVariants as written
 use Rattle.mx_look_values.specs.declared.values.Anchor.TheVariants as anchor
 use Rattle.mx_look_values.specs.declared.values.Text.TheVariants as text
 use Rattle.mx_look_values.specs.declared.values.Value.{Value}
-use Rattle.mx_look_picture.specs.declared.layout.Spot.{Spot}
+use Rattle.mx_look_picture.specs.declared.spots.Spot.{Spot}
 use Rattle.mx_look_picture.specs.Figures.{label_at}
 use Rattle.mx_look_picture.specs.Layout.{row}
 use Rattle.mx_look_picture.specs.Fates.{outside_values, fate_values, freed_values}

@@ -23,9 +23,9 @@ use Rattle.mx_look_values.specs.declared.values.LabelKind.TheVariants as written
 use Rattle.mx_look_values.specs.declared.values.Anchor.TheVariants as anchor
 use Rattle.mx_look_values.specs.declared.values.Text.TheVariants as text
 use Rattle.mx_look_values.specs.declared.values.Value.{Value}
-use Rattle.mx_look_picture.specs.declared.layout.Spot.{Spot}
+use Rattle.mx_look_picture.specs.declared.spots.Spot.{Spot}
 use Rattle.mx_look_picture.specs.Figures.{label_at}
-use Rattle.mx_look_picture.specs.Fates.{height_of}
+use Rattle.mx_look_picture.specs.Spots.{height_of}
 
 -- ---- what it did
 

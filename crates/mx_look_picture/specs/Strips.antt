@@ -33,8 +33,8 @@ step_at v strip i = slice_get v.steps.items (strip.place + i)
 abbrev pub is_marked : ℕ → ℕ → Bool
 is_marked i number = (number % 5 == 0) || ((i == 0) && not (number % 5 == 4))
 
-unfoldable pub axis_values : Strip → ℕ → ℕ → ℕ → List Value
-axis_values strip services i number =
+unfoldable pub axis_mark : Strip → ℕ → ℕ → ℕ → List Value
+axis_mark strip services i number =
     if is_marked i number then
     bar_at kind.Grid (column (i + 1)) (strip.top + 16) 1 (32 * rows services + 8) hint.Nothing
     ∷ label_at written.Axis (column (i + 1)) (strip.top + 12) anchor.Middle (text.Number number) hint.Nothing ∷ []
@@ -42,7 +42,7 @@ axis_values strip services i number =
 
 abbrev pub axis_by : Scene → Strip → ℕ → Option Step → List Value
 axis_by v strip i None = []
-axis_by v strip i (Some x) = axis_values strip v.services i x.number
+axis_by v strip i (Some x) = axis_mark strip v.services i x.number
 
 unfoldable pub axis_at : Scene → Strip → ℕ → List Value
 axis_at v strip i = axis_by v strip i (step_at v strip i)

@@ -1,4 +1,5 @@
-//! The bars of a strip: of each service one for each longest run of columns in which it does the same.
+//! The bars of a strip: of each service one for each longest run of columns in which it does the
+//! same.
 
 ghost use Rattle.std.specs.Prelude.{◌≡◌, ◌<◌, ◌≤◌, ◌+◌, ◌++◌, OnOk, IfSome};
 ghost use Rattle.mx_look_picture.specs.Bars.{IsWithin, part, cpu_label, state_bar, seen_at, begins, next_run, run_end, bar_here, bars_of_slot, bars};

@@ -1,14 +1,15 @@
 //! All that is drawn at a record.
 
 ghost use Rattle.std.specs.Prelude.{◌≡◌, ◌≤◌, ◌++◌, OnOk};
-ghost use Rattle.mx_look_picture.specs.Fates.{IsOnPaper};
+ghost use Rattle.mx_look_picture.specs.Spots.{IsOnPaper};
 ghost use Rattle.mx_look_picture.specs.Record.{byte_label, console_values, fates, deliveries, all_kept, freed, record_values};
 
 use crate::fates::{push_fate, push_freed, push_outside};
 use crate::figures::{Point, label};
-use crate::layout::{Spot, row};
+use crate::layout::row;
 use crate::messages::{push_delivery, push_kept};
 use crate::returns::push_return;
+use crate::spots::Spot;
 use mx_look_facts::Step;
 use mx_look_values::{Anchor, Hint, LabelKind, Text, Value};
 use std::alloc::AllocError;

@@ -1,45 +1,16 @@
 //! Ticks and interrupt lines, and who is killed, dies, is born again or goes on with an error.
 
 ghost use Rattle.std.specs.Prelude.{◌≡◌, ◌<◌, ◌≤◌, ◌++◌, OnOk, IfSome};
-ghost use Rattle.mx_look_picture.specs.Fates.{IsOnPaper, height_of, line_to, note, outside_mark, outside_values, killer, is_gone, has_fallen, kill_values, middle_mark, death_values, birth_values, fate_values, freed_values};
+ghost use Rattle.mx_look_picture.specs.Spots.{IsOnPaper};
+ghost use Rattle.mx_look_picture.specs.Fates.{outside_mark, outside_values, killer, is_gone, has_fallen, kill_values, middle_mark, death_values, birth_values, fate_values, freed_values};
 
-use crate::figures::{Point, arrow, label, mark};
-use crate::layout::{Spot, row, row_of, toward};
+use crate::figures::{Point, label, mark};
+use crate::layout::row;
+use crate::spots::{Spot, height_of, line_to, note};
 use mx_look_facts::{DeathCause, Doing, Step, gone_on, held_before, is_acted, slot_in};
 use mx_look_values::{Anchor, ArrowKind, Hint, LabelKind, MarkKind, Text, Value};
 use mx_machine_world::Recorded;
 use std::alloc::AllocError;
-
-/// The middle of a service's row at a record; of whatever is no service, that of the row outside.
-pub(crate) fn height_of(spot: Spot, slot: u32) -> u32
-    requires { IsOnPaper spot }
-    ensures height { result ≡ height_of spot slot }
-    ensures above { 40 ≤ result }
-    ensures below { result ≤ 40000 }
-{
-    row(spot.top, row_of(spot.services, slot))
-}
-
-/// A line from a height to the row of a service.
-pub(crate) fn line_to(spot: Spot, kind: ArrowKind, from: u32, slot: u32, hint: Hint) -> Value
-    requires { IsOnPaper spot }
-    ensures { result ≡ line_to spot kind from slot hint }
-{
-    let tail = Point { x: spot.x, y: from };
-    arrow(kind, tail, toward(from, height_of(spot, slot)), hint)
-}
-
-/// A text beside the row of a service.
-pub(crate) fn note(kind: LabelKind, spot: Spot, slot: u32, text: Text, hint: Hint) -> Value
-    requires { IsOnPaper spot }
-    ensures { result ≡ note kind spot slot text hint }
-{
-    let beside = Point {
-        x: spot.x + 6,
-        y: height_of(spot, slot) - 8,
-    };
-    label(kind, beside, Anchor::Start, text, hint)
-}
 
 /// Appends a mark outside, and a number above it.
 fn push_outside_mark(
@@ -84,7 +55,8 @@ pub(crate) fn push_outside(out: &mut Vec<Value>, step: &Step, spot: Spot) -> Res
     }
 }
 
-/// The height from where a slot is killed: from outside, or by another slot's process that comes back.
+/// The height from where a slot is killed: from outside, or by another slot's process that comes
+/// back.
 #[tactic(auto, unfolding(crate::specs::Fates::killer))]
 fn killer(step: &Step, spot: Spot, slot: u32) -> Option<u32>
     requires { IsOnPaper spot }

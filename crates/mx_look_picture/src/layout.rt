@@ -1,5 +1,5 @@
-//! Where things stand. A strip has at most 40 records, a column each, and below one another its rows:
-//! outside, the services, the console.
+//! Where things stand. A strip has at most 40 records, a column each, and below one another its
+//! rows: outside, the services, the console.
 
 ghost use Rattle.std.specs.Prelude.{◌≡◌, ◌<◌, ◌≤◌, ◌+◌};
 ghost use Rattle.mx_look_picture.specs.Layout.{column, row, rows, row_of, strip_top, strip_count, paper_width, items_abreast, legend_top, paper_height, strip_at, toward};
@@ -13,16 +13,6 @@ pub(crate) struct Strip {
     pub(crate) place: u32,
     pub(crate) count: u32,
     pub(crate) top: u32,
-}
-
-/// Where a record is drawn: its place in the list of steps, its column, where its strip begins, and
-/// how many services this has.
-#[derive(Clone, Copy)]
-pub(crate) struct Spot {
-    pub(crate) place: u32,
-    pub(crate) x: u32,
-    pub(crate) top: u32,
-    pub(crate) services: u32,
 }
 
 /// Where a column begins.

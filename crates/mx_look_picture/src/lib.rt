@@ -11,6 +11,7 @@ mod legend;
 mod messages;
 mod returns;
 mod scene;
+mod spots;
 mod strips;
 
 pub use drawing::picture;

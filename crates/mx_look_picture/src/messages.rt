@@ -1,11 +1,11 @@
 //! Messages, notifications, and notifications that are kept.
 
 ghost use Rattle.std.specs.Prelude.{◌≡◌, ◌<◌, ◌≤◌, ◌++◌, OnOk};
-ghost use Rattle.mx_look_picture.specs.Fates.{IsOnPaper};
+ghost use Rattle.mx_look_picture.specs.Spots.{IsOnPaper};
 ghost use Rattle.mx_look_picture.specs.Messages.{party_height, source_height, arrow_kind, type_note, delivery_values, is_kept, kept_arrow, kept_values};
 
-use crate::fates::{height_of, line_to, note};
-use crate::layout::{Spot, row};
+use crate::layout::row;
+use crate::spots::{Spot, height_of, line_to, note};
 use mx_look_facts::{Delivery, DeliveryKind, Step, delivery_to, is_new_bit, slot_in};
 use mx_look_values::{ArrowKind, Hint, LabelKind, Text, Value};
 use std::alloc::AllocError;

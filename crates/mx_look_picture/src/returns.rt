@@ -1,12 +1,11 @@
 //! What a process did that comes back.
 
 ghost use Rattle.std.specs.Prelude.{◌≡◌, ◌++◌, OnOk};
-ghost use Rattle.mx_look_picture.specs.Fates.{IsOnPaper};
+ghost use Rattle.mx_look_picture.specs.Spots.{IsOnPaper};
 ghost use Rattle.mx_look_picture.specs.Returns.{trap_deed, deed_of, is_doomed_in, has_gone_wrong, is_refused_answer, has_failed_call, manner_of, deed_kind, return_values};
 
-use crate::fates::height_of;
 use crate::figures::{Point, label};
-use crate::layout::Spot;
+use crate::spots::{Spot, height_of};
 use mx_image::Stop;
 use mx_look_facts::{
     CpuGlance, Doing, SlotGlance, Step, asks_kernel, gone_on, held_before, is_acted, is_ready,

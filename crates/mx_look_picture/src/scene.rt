@@ -6,7 +6,8 @@ ghost use Rattle.mx_look_picture.specs.Scene.{world_at, number_at, holds, cpu_of
 use mx_look_facts::{cpu_in, same_doing, slot_in};
 use mx_look_values::{Glance, Scene, Standing};
 
-/// Of a strip that begins at a place: the world of a column. Column 0 has the world before the strip.
+/// Of a strip that begins at a place: the world of a column. Column 0 has the world before the
+/// strip.
 #[tactic(auto, unfolding(crate::specs::Scene::world_at))]
 pub(crate) fn world_at(scene: &Scene, place: u32, column: u32) -> &Glance
     ensures { result.now ≡ world_at scene.now place column }

@@ -2,13 +2,14 @@
 
 ghost use Rattle.std.specs.Prelude.{◌≡◌, ◌<◌, ◌≤◌, ◌++◌, None, Some, MatchOption, OnOk};
 ghost use Rattle.mx_look_picture.specs.Bars.{IsWithin};
-ghost use Rattle.mx_look_picture.specs.Strips.{band, bands, step_at, is_marked, axis_values, axis_at, axis, name_label, end_label, name_values, service_names, names, came_at, came, strip_values};
+ghost use Rattle.mx_look_picture.specs.Strips.{band, bands, step_at, is_marked, axis_mark, axis_at, axis, name_label, end_label, name_values, service_names, names, came_at, came, strip_values};
 
 use crate::bars::{push_bars, seen_at};
 use crate::came::push_record;
 use crate::figures::{Point, bar, label};
-use crate::layout::{Spot, Strip, column, row, rows};
+use crate::layout::{Strip, column, row, rows};
 use crate::scene::world_at;
+use crate::spots::Spot;
 use mx_look_facts::Step;
 use mx_look_values::{Anchor, BarKind, Hint, LabelKind, Scene, Text, Value};
 use std::alloc::AllocError;
@@ -54,7 +55,7 @@ fn is_marked(index: u32, number: u32) -> bool
 }
 
 /// Appends the line and the number of a record in a column, if it has them.
-#[tactic(auto, unfolding(crate::specs::Strips::axis_values))]
+#[tactic(auto, unfolding(crate::specs::Strips::axis_mark))]
 fn push_axis_mark(
     out: &mut Vec<Value>,
     strip: Strip,
@@ -65,7 +66,7 @@ fn push_axis_mark(
     requires strip { IsWithin strip }
     requires services { services ≤ 32 }
     requires index { index ≤ 40 }
-    ensures { OnOk result (out.new.items ≡ out.old.items ++ axis_values strip services index number) }
+    ensures { OnOk result (out.new.items ≡ out.old.items ++ axis_mark strip services index number) }
 {
     if !is_marked(index, number) {
         return Ok(());
@@ -87,7 +88,7 @@ fn push_axis_mark(
 
 /// The step of a column.
 fn step_at(scene: &Scene, strip: Strip, index: u32) -> Option<&Step>
-    ensures { MatchOption result (step_at scene.now strip index ≡ None) (λ step. step_at scene.now strip index ≡ Some step.now) }
+    ensures { let found = step_at scene.now strip index in MatchOption result (found ≡ None) (λ x. found ≡ Some x.now) }
 {
     scene.steps.get(strip.place as usize + index as usize)
 }
