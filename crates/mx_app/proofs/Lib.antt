@@ -1,3 +1,5 @@
 mod Shown
 mod Done
 mod Explained
+mod Told
+mod Grown
