@@ -3,3 +3,4 @@ mod Done
 mod Explained
 mod Told
 mod Grown
+mod Moved

@@ -1,5 +1,5 @@
 -- What is done and told of the words of the command line (our own).
-use Rattle.std.specs.Prelude.{◌≡◌, ◌⊎◌, ◌++◌, ℕ, Bool, true, List, [], codes, Option, Some, None, Result, Ok, Err, MatchResult, String, string_bytes}
+use Rattle.std.specs.Prelude.{◌≡◌, ◌⊎◌, ◌++◌, ℕ, Bool, true, false, List, [], codes, Option, Some, None, Result, Ok, Err, MatchResult, String, string_bytes}
 use Rattle.std.specs.declared.alloc.Global.{Global}
 use Rattle.std.specs.declared.io.ErrorKind.{ErrorKind}
 use Rattle.std.specs.declared.io.ErrorKind.TheVariants as kinds
@@ -18,7 +18,7 @@ use Rattle.mx_app_db.specs.Written.{Written}
 use Rattle.mx_app.specs.Noting.{Noted}
 use Rattle.mx_app.specs.Requests.{Performs}
 use Rattle.mx_app.specs.declared.complaint.Complaint.{Complaint}
-use Rattle.mx_app.specs.declared.complaint.Complaint.TheVariants.{Mistaken, Failed, Explained}
+use Rattle.mx_app.specs.declared.complaint.Complaint.TheVariants.{Mistaken, Failed, Explained, Unexplained}
 
 -- why they can't be had
 abbrev pub words_failure_of : ErrorKind → Kind
@@ -30,12 +30,14 @@ abbrev pub complaint_status : Complaint → ℕ
 complaint_status (Mistaken e) = 2
 complaint_status (Failed f) = status_of f
 complaint_status (Explained f s) = status_of f
+complaint_status (Unexplained f) = status_of f
 
--- what standard error gets: of a mistake what clap says, which isn't pinned here; of a failure its line, and the line that explains it
+-- what standard error gets: of a mistake what clap says, which isn't pinned here; of a failure its line, and the line that explains it, or that there is no memory for this line
 abbrev pub complaint_told : Complaint → Option (List ℕ)
 complaint_told (Mistaken e) = None
 complaint_told (Failed f) = Some (failure_line f ++ codes "\n")
 complaint_told (Explained f s) = Some (failure_line f ++ codes "\n" ++ string_bytes s ++ codes "\n")
+complaint_told (Unexplained f) = Some (failure_line f ++ codes "\nmx: memory: wanted more of it\n")
 
 -- ---- words that ask for nothing
 
@@ -55,10 +57,11 @@ Explains e r = ExplainsKind (kind_of e) e r
 
 -- ---- all words
 
--- a failure is told; where that is asked for its line explains it, or there was no memory for this line
+-- a failure is told alone; or, if that is asked for, with the line that explains it, unless there was no memory for this line
 abbrev pub IsTold : CommandLine → Kind → Noted → Complaint → Type 0
 IsTold line f noted c =
-    (c ≡ Failed f)
+    ((line.explains ≡ false) × (c ≡ Failed f))
+    ⊎ ((line.explains ≡ true) × (c ≡ Unexplained f))
     ⊎ ((s : String Global) × (line.explains ≡ true) × (c ≡ Explained f s)
     × (string_bytes s ≡ explained line.request f noted.last noted.is_missed noted.is_unwritten))
 

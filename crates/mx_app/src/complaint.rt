@@ -15,6 +15,8 @@ pub enum Complaint {
     Failed(Failure),
     /// The same, with the line that explains it, without its end.
     Explained(Failure, String),
+    /// The same, if there is no memory for the line that explains it.
+    Unexplained(Failure),
 }
 
 impl Complaint {
@@ -26,6 +28,7 @@ impl Complaint {
             Complaint::Mistaken(_) => 2,
             Complaint::Failed(failure) => failure.status(),
             Complaint::Explained(failure, _) => failure.status(),
+            Complaint::Unexplained(failure) => failure.status(),
         }
     }
 }
@@ -41,6 +44,9 @@ impl fmt::Display for Complaint {
             Complaint::Mistaken(error) => write!(f, "{error}"),
             Complaint::Failed(failure) => write!(f, "{failure}\n"),
             Complaint::Explained(failure, line) => write!(f, "{failure}\n{line}\n"),
+            Complaint::Unexplained(failure) => {
+                write!(f, "{failure}\nmx: memory: wanted more of it\n")
+            }
         }
     }
 }

@@ -1,6 +1,8 @@
 //! What a reader at a terminal gets beside a command's text.
 
 ghost use Rattle.std.specs.Prelude.{◌≡◌, IfErr, IfOk, None};
+ghost use Rattle.std.specs.Io.{WritesAtMost};
+ghost use Rattle.std.specs.Io.KnownBytes.{WriteAppends};
 ghost use Rattle.mx_app.specs.Ending.{last_taken, symbols_note, text_end};
 
 use std::io;
@@ -69,6 +71,8 @@ impl<W: Write + Drop> Write for NotingOutput<W> {
     ghost contents = { λ noting. W.contents noting.out };
 
     fn write(&mut self, buf: &[u8]) -> io::Result<usize>
+        ensures bound { WritesAtMost result buf.now }
+        ensures bytes { WriteAppends (W.contents self.old.out) (W.contents self.new.out) result buf.now }
         ensures noted { IfOk result (λ count. self.new.last ≡ last_taken self.old.last buf.now count) }
         ensures kept { IfErr result (λ _. self.new.last ≡ self.old.last) }
     {

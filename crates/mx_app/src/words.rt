@@ -46,8 +46,8 @@ fn explain<W: Write>(alloc: Global, error: Error, out: &mut W) -> Result<u8, Com
     Ok(0)
 }
 
-/// What is told of a failure, with what explains it if that is asked for and there is memory for it.
-#[tactic(auto, using(crate::proofs::Told::told_so))]
+/// What is told of a failure, with what explains it if that is asked for.
+#[tactic(auto, using(crate::proofs::Told::told_alone, crate::proofs::Told::told_short))]
 fn told<'a>(alloc: Global, line: CommandLine<'a>, failure: Failure, notes: Notes<'a>) -> Complaint
     ensures { IsTold line.entry failure (noted_in notes.entry) result }
 {
@@ -56,7 +56,7 @@ fn told<'a>(alloc: Global, line: CommandLine<'a>, failure: Failure, notes: Notes
     }
     match explain_failure(line.request, failure, notes).to_string(alloc) {
         Ok(text) => Complaint::Explained(failure, text),
-        Err(_) => Complaint::Failed(failure),
+        Err(_) => Complaint::Unexplained(failure),
     }
 }
 

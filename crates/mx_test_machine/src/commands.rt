@@ -2,7 +2,8 @@
 
 use crate::files::{SUM, reader};
 use mx_app::{
-    Channels, KeptFile, MemoryWriter, NamedFiles, NotingFiles, NotingReader, perform_words,
+    Channels, Complaint, Failure, KeptFile, MemoryWriter, NamedFiles, NotingFiles, NotingReader,
+    perform_words,
 };
 use std::alloc::Global;
 use std::fmt::Write as _;
@@ -645,6 +646,16 @@ fn writing_explained(rt: HostRuntime) {
     for (words, told) in UNWRITABLE {
         assert!(rt; is_told(&rt, rt.alloc(), words, broken, 3, told));
     }
+}
+
+/// A failure for whose line there is no memory says so, and keeps its status.
+#[test]
+fn nothing_explained(rt: HostRuntime) -> Result<(), Fail> {
+    let complaint = Complaint::Unexplained(Failure::File);
+    let told = complaint.to_string(rt.alloc())?;
+    assert!(rt; told.as_str() == "mx: 80 File\nmx: memory: wanted more of it\n");
+    assert!(rt; complaint.status() == 3);
+    Ok(())
 }
 
 /// Words that write, and what is told where nothing can be written.

@@ -10,7 +10,7 @@ returns-in-Err g c = ([], [], sym (append-nil _), sym (append-nil _), inr (c.in-
 
 pub returns-in-Ok : goal.returns-in-Ok
 returns-in-Ok g c =
-    let done = c.perform.ensures in
+    let done = c.perform-done.ensures in
     let same = noted_same c.noted.result _ _ _ c.noted.ensures.last c.noted.ensures.missed c.noted.ensures.unwritten in (
       done.0,
       done.1,
@@ -18,10 +18,10 @@ returns-in-Ok g c =
       done.3,
       inl (
         c.in-Ok.line,
-        c.perform.result,
+        c.perform-done.result,
         c.in-Ok.ensures.asks,
         c.in-Ok.ensures.explains,
         done.4,
-        subst (λ (n : Noted). IsAnswered c.in-Ok.line c.perform.result n c.answer.result) same c.answer.ensures,
+        subst (λ (n : Noted). IsAnswered c.in-Ok.line c.perform-done.result n c.answer.result) same c.answer.ensures,
       ),
     )
