@@ -15,6 +15,7 @@ pub use mx_app_db::{
     FileWriter, KeptFile, MemoryWriter, NamedFile, NamedFiles, Reader, Replayed, db, replay, step,
     step_saved, trace,
 };
+pub use mx_app_draw::draw;
 pub use mx_app_failure::{BootError, Failure, FileError};
 pub use mx_app_program::{assemble_file, one, print_listing, print_names, print_one};
 pub use mx_app_run::run;

@@ -15,7 +15,7 @@ use Rattle.clap.specs.Faults.{defaults_fault, entered_fault, level_fault, settle
 use Rattle.clap.specs.Walk.{answers_to, finished, nothing_held, rows_after, settled, stop_after, walk, walk_from}
 use Rattle.clap.specs.declared.builder.value_parser.ValueParser.TheVariants.{Signed}
 use Rattle.clap.proofs.ValueTestLemmas.{accepts-Accepts}
-use Rattle.mx_app_command.specs.Words.{HasNumber, IsAsked, IsGiven, MayHaveNumber, looking_shape, mx_grammar, number_after, of_one, of_two, one_shape, run_shape, step_shape, wanted, wanted_number}
+use Rattle.mx_app_command.specs.Words.{HasNumber, IsAsked, IsGiven, MayHaveNumber, MayHaveRange, looking_shape, mx_grammar, number_after, of_one, of_two, one_shape, run_shape, step_shape, wanted, wanted_number}
 use Rattle.mx_app_command.proofs.Given.{IsOnly, SetsValue, all_found, has_wanted, no_fault, value_given, value_if_given}
 
 -- the grammar as a parse sees it: with the help flag, and each argument's place
@@ -205,8 +205,8 @@ replay_fits : Fits (whole_of (of_two (codes "replay") (codes "CONFIG") (codes "L
 replay_fits words fine = let given = two_texts_given (codes "replay") (codes "CONFIG") (codes "LOG") refl refl refl refl words fine in
     ((λ e. (given.0, inr (inr (inl (refl, given.1))))), (λ e. absurd (true≢false e)))
 
-abbrev trace_whole : Shape
-trace_whole = whole_of (looking_shape (codes "trace"))
+abbrev looking_whole : Text → Shape
+looking_whole name = whole_of (looking_shape name)
 
 abbrev from_rule : Rule
 from_rule = with_index 3 (filled (number_after (codes "from") (codes "A")))
@@ -214,32 +214,45 @@ from_rule = with_index 3 (filled (number_after (codes "from") (codes "A")))
 abbrev to_rule : Rule
 to_rule = with_index 4 (filled (number_after (codes "to") (codes "B")))
 
-only_trace_config : IsOnly config_rule trace_whole.rules
-only_trace_config = ((λ e. refl), ((λ e. cc), ((λ e. cc), ((λ e. cc), ((λ e. cc), tt)))))
+only_looking_config : (name : Text) → IsOnly config_rule (looking_whole name).rules
+only_looking_config name = ((λ e. refl), ((λ e. cc), ((λ e. cc), ((λ e. cc), ((λ e. cc), tt)))))
 
-only_trace_log : IsOnly log_rule trace_whole.rules
-only_trace_log = ((λ e. cc), ((λ e. refl), ((λ e. cc), ((λ e. cc), ((λ e. cc), tt)))))
+only_looking_log : (name : Text) → IsOnly log_rule (looking_whole name).rules
+only_looking_log name = ((λ e. cc), ((λ e. refl), ((λ e. cc), ((λ e. cc), ((λ e. cc), tt)))))
 
-only_from : IsOnly from_rule trace_whole.rules
-only_from = ((λ e. cc), ((λ e. cc), ((λ e. refl), ((λ e. cc), ((λ e. cc), tt)))))
+only_from : (name : Text) → IsOnly from_rule (looking_whole name).rules
+only_from name = ((λ e. cc), ((λ e. cc), ((λ e. refl), ((λ e. cc), ((λ e. cc), tt)))))
 
-only_to : IsOnly to_rule trace_whole.rules
-only_to = ((λ e. cc), ((λ e. cc), ((λ e. cc), ((λ e. refl), ((λ e. cc), tt)))))
+only_to : (name : Text) → IsOnly to_rule (looking_whole name).rules
+only_to name = ((λ e. cc), ((λ e. cc), ((λ e. cc), ((λ e. refl), ((λ e. cc), tt)))))
 
-trace_fits : Fits trace_whole
-trace_fits words fine =
-    let config = value_given config_rule (wanted_sets (codes "CONFIG") 1) trace_whole only_trace_config words refl (inl refl) refl fine in
-    let log = value_given log_rule (wanted_sets (codes "LOG") 2) trace_whole only_trace_log words refl (inr (inl refl)) refl fine in
-    let from = number_if_given trace_whole (codes "from") (codes "A") 3 only_from words fine in
-    let to = number_if_given trace_whole (codes "to") (codes "B") 4 only_to words fine in
-    ((λ e. (ap is_some config.1, inr (inr (inr (inl (refl, ap is_some log.1, (from, to))))))), (λ e. absurd (true≢false e)))
+-- what looks at records has a configuration and a history, and may have two numbers
+abbrev Looks : List Row → Type 0
+Looks rows = IsGiven (codes "CONFIG") rows × IsGiven (codes "LOG") rows × MayHaveRange rows
+
+looking_values : (name : Text) (words : List Text) → level_fault (looking_whole name) [] nothing_held words false [] ≡ [] → Looks (rows_after (looking_whole name).rules [] words)
+looking_values name words fine =
+    let s = looking_whole name in
+    let config = value_given config_rule (wanted_sets (codes "CONFIG") 1) s (only_looking_config name) words refl (inl refl) refl fine in
+    let log = value_given log_rule (wanted_sets (codes "LOG") 2) s (only_looking_log name) words refl (inr (inl refl)) refl fine in
+    let from = number_if_given s (codes "from") (codes "A") 3 (only_from name) words fine in
+    let to = number_if_given s (codes "to") (codes "B") 4 (only_to name) words fine in
+    (ap is_some config.1, ap is_some log.1, (from, to))
+
+trace_fits : Fits (looking_whole (codes "trace"))
+trace_fits words fine = let given = looking_values (codes "trace") words fine in
+    ((λ e. (given.0, inr (inr (inr (inl (refl, given.1, given.2)))))), (λ e. absurd (true≢false e)))
+
+draw_fits : Fits (looking_whole (codes "draw"))
+draw_fits words fine = let given = looking_values (codes "draw") words fine in
+    ((λ e. (given.0, inr (inr (inr (inr (inl (refl, given.1, given.2))))))), (λ e. absurd (true≢false e)))
 
 db_fits : Fits (whole_of (of_two (codes "db") (codes "CONFIG") (codes "SCRIPT")))
 db_fits words fine = let given = two_texts_given (codes "db") (codes "CONFIG") (codes "SCRIPT") refl refl refl refl words fine in
-    ((λ e. (given.0, inr (inr (inr (inr (refl, given.1)))))), (λ e. absurd (true≢false e)))
+    ((λ e. (given.0, inr (inr (inr (inr (inr (refl, given.1))))))), (λ e. absurd (true≢false e)))
 
 all_fit : AllByRecursion Fits whole.subs
-all_fit = (one_fits, (as_fits, (dis_fits, (nm_fits, (step_fits, (run_fits, (replay_fits, (trace_fits, (db_fits, tt)))))))))
+all_fit = (one_fits, (as_fits, (dis_fits, (nm_fits, (step_fits, (run_fits, (replay_fits, (trace_fits, (draw_fits, (db_fits, tt))))))))))
 
 -- ---- the words of a command line
 

@@ -11,7 +11,7 @@ use Rattle.clap.specs.declared.builder.command.Command.TheViews.{out-Command}
 use Rattle.clap.specs.declared.builder.value_parser.ValueParser.TheVariants.{Signed}
 use Rattle.mx_app_command.specs.declared.words.CommandRequest.{CommandRequest}
 use Rattle.mx_app_command.specs.declared.words.RecordRange.{RecordRange}
-use Rattle.mx_app_command.specs.declared.words.CommandRequest.TheVariants.{One, As, Dis, Nm, Step, Run, Replay, Trace, Db}
+use Rattle.mx_app_command.specs.declared.words.CommandRequest.TheVariants.{One, As, Dis, Nm, Step, Run, Replay, Trace, Draw, Db}
 
 -- ---- the grammar
 
@@ -91,6 +91,7 @@ mx_grammar = record {
       ∷ run_shape
       ∷ of_two (codes "replay") (codes "CONFIG") (codes "LOG")
       ∷ looking_shape (codes "trace")
+      ∷ looking_shape (codes "draw")
       ∷ of_two (codes "db") (codes "CONFIG") (codes "SCRIPT")
       ∷ [];
 }
@@ -137,6 +138,8 @@ AsksBy (Replay config log) name rows =
     (name ≡ codes "replay") × HasText (codes "CONFIG") rows config.now × HasText (codes "LOG") rows log.now
 AsksBy (Trace config log range) name rows =
     (name ≡ codes "trace") × HasText (codes "CONFIG") rows config.now × HasText (codes "LOG") rows log.now × HasRange rows range
+AsksBy (Draw config log range) name rows =
+    (name ≡ codes "draw") × HasText (codes "CONFIG") rows config.now × HasText (codes "LOG") rows log.now × HasRange rows range
 AsksBy (Db config script) name rows =
     (name ≡ codes "db") × HasText (codes "CONFIG") rows config.now × HasText (codes "SCRIPT") rows script.now
 
@@ -166,7 +169,7 @@ IsProgramAsked name rows =
     ⊎ (((name ≡ codes "as") × IsGiven (codes "TEXT") rows)
     ⊎ ((name ≡ codes "dis") ⊎ (name ≡ codes "nm"))))
 
--- those that work on a machine: each has a configuration, and a script or a history; `run` may have a number, and `trace` two
+-- those that work on a machine: each has a configuration, and a script or a history; `run` may have a number, `trace` and `draw` two
 abbrev pub IsMachineAsked : Text → List Row → Type 0
 IsMachineAsked name rows =
     IsGiven (codes "CONFIG") rows
@@ -174,14 +177,16 @@ IsMachineAsked name rows =
     ⊎ (((name ≡ codes "run") × IsGiven (codes "LOG") rows × MayHaveNumber (codes "T") rows)
     ⊎ (((name ≡ codes "replay") × IsGiven (codes "LOG") rows)
     ⊎ (((name ≡ codes "trace") × IsGiven (codes "LOG") rows × MayHaveRange rows)
-    ⊎ ((name ≡ codes "db") × IsGiven (codes "SCRIPT") rows)))))
+    ⊎ (((name ≡ codes "draw") × IsGiven (codes "LOG") rows × MayHaveRange rows)
+    ⊎ ((name ≡ codes "db") × IsGiven (codes "SCRIPT") rows))))))
 
 abbrev pub is_machine : Text → Bool
 is_machine name =
     bytes_eq name (codes "step")
     || (bytes_eq name (codes "run")
     || (bytes_eq name (codes "replay")
-    || (bytes_eq name (codes "trace") || bytes_eq name (codes "db"))))
+    || (bytes_eq name (codes "trace")
+    || (bytes_eq name (codes "draw") || bytes_eq name (codes "db")))))
 
 abbrev pub IsAsked : Text → List Row → Type 0
 IsAsked name rows =

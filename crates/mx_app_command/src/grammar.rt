@@ -109,17 +109,17 @@ const TICKS: CommandArgument<'static> = CommandArgument {
     form: ArgumentForm::NumberAfter("ticks"),
 };
 
-/// The first record that is told.
+/// The first record that is told or drawn.
 const FROM: CommandArgument<'static> = CommandArgument {
     name: "A",
-    help: "The first record that is told, 1 by default; records are counted from 1",
+    help: "The first record that is shown, 1 by default; records are counted from 1",
     form: ArgumentForm::NumberAfter("from"),
 };
 
-/// The last record that is told.
+/// The last record that is told or drawn.
 const TO: CommandArgument<'static> = CommandArgument {
     name: "B",
-    help: "The last record that is told, the history's last by default",
+    help: "The last record that is shown, the history's last by default",
     form: ArgumentForm::NumberAfter("to"),
 };
 
@@ -131,7 +131,7 @@ const COMMANDS: CommandArgument<'static> = CommandArgument {
 };
 
 /// The subcommands, those that work on one program first.
-static SUBCOMMANDS: [Subcommand<'static>; 9] = [
+static SUBCOMMANDS: [Subcommand<'static>; 10] = [
     Subcommand {
         name: "one",
         help: "Runs one program for at most N steps and prints its registers, flags and how it stopped",
@@ -179,6 +179,12 @@ static SUBCOMMANDS: [Subcommand<'static>; 9] = [
         help: "Runs a saved history again and prints what each record did",
         arguments: &[CONFIG, LOG, FROM, TO],
         example: Example::Trace,
+    },
+    Subcommand {
+        name: "draw",
+        help: "Runs a saved history again and prints a picture of it as SVG",
+        arguments: &[CONFIG, LOG, FROM, TO],
+        example: Example::Draw,
     },
     Subcommand {
         name: "db",

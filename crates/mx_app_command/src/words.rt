@@ -63,6 +63,12 @@ pub enum CommandRequest<'a> {
         log: &'a str,
         range: RecordRange,
     },
+    /// `draw CONFIG LOG`, with `--from A` and `--to B` or without.
+    Draw {
+        config: &'a str,
+        log: &'a str,
+        range: RecordRange,
+    },
     /// `db CONFIG SCRIPT`.
     Db {
         config: &'a str,
@@ -151,6 +157,11 @@ fn machine_request<'a>(name: &str, matches: &ArgMatches<'a>) -> CommandRequest<'
         let range = range_asked(matches);
         return CommandRequest::Trace { config, log, range };
     }
+    if name == "draw" {
+        let log = value_asked(matches, "LOG");
+        let range = range_asked(matches);
+        return CommandRequest::Draw { config, log, range };
+    }
     let script = value_asked(matches, "SCRIPT");
     if name == "step" {
         let save = value_if_asked(matches, "LOG");
@@ -168,7 +179,12 @@ fn machine_request<'a>(name: &str, matches: &ArgMatches<'a>) -> CommandRequest<'
 fn is_machine(name: &str) -> bool
     ensures { result ≡ is_machine name.now }
 {
-    name == "step" || name == "run" || name == "replay" || name == "trace" || name == "db"
+    name == "step"
+        || name == "run"
+        || name == "replay"
+        || name == "trace"
+        || name == "draw"
+        || name == "db"
 }
 
 /// What a subcommand's words ask for.
