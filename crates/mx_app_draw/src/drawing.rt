@@ -94,6 +94,12 @@ pub fn draw<R: Reader, W: Write>(
     let records = first_records(started.lines.as_slice(), last_drawn(from, to));
     let processors = u32::from(started.other);
     print_drawing(
-        alloc, &mut started.machine, processors, records, total, from, out,
+        alloc,
+        &mut started.machine,
+        processors,
+        records,
+        total,
+        from,
+        out,
     )
 }

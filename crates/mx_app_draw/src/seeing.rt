@@ -64,10 +64,18 @@ pub(crate) fn see_records(
             Ok(step) => keep_step(&mut steps, step, from)?,
             Err(refusal) => {
                 let refused = Some((number as usize, refusal));
-                return Ok(Seen { steps, world, refused });
+                return Ok(Seen {
+                    steps,
+                    world,
+                    refused,
+                });
             }
         }
         world = Glance::of(machine);
     }
-    Ok(Seen { steps, world, refused: None })
+    Ok(Seen {
+        steps,
+        world,
+        refused: None,
+    })
 }
