@@ -1,7 +1,7 @@
 -- What is seen of records, one more.
-use Rattle.std.proofs.Common.{◌≡◌, ◌∙◌, ◌<◌, ◌≤◌, ℕ, ◌+◌, ◌-◌, nat_lt, Bool, true, false, cond, List, [], ◌∷◌, ◌++◌, length, take, get_or, append_assoc, refl, ap, sym, subst, arith}
-use Rattle.std.proofs.lemmas.Bool.{ltb-true}
-use Rattle.std.proofs.lemmas.List.{append-nil, length-append, length-take-le, take_more, take_all}
+use Rattle.std.proofs.Common.{◌≡◌, ◌∙◌, ◌<◌, ◌≤◌, ℕ, ◌+◌, ◌-◌, nat_lt, Bool, true, false, cond, List, [], ◌∷◌, ◌++◌, length, take, get_or, append_assoc, max, refl, ap, sym, subst, arith}
+use Rattle.std.proofs.lemmas.Bool.{ltb-false}
+use Rattle.std.proofs.lemmas.List.{append-nil, length-take-le, take_more, take_all}
 use Rattle.mx_machine_world.specs.declared.events.Refusal.{Refusal}
 use Rattle.mx_machine_world.specs.declared.history.Record.{Record}
 use Rattle.mx_machine_world.specs.History.{AreAccepted, world_after_events, events_of, events_of_history}
@@ -69,3 +69,23 @@ drawn_from from w n (x ∷ xs) = by_bool (nat_lt n from) refl
 -- at most 1,000
 pub drawn_few : (from : ℕ) (w : World) (made : List Record) (k : ℕ) → length made ≤ k → k ≤ max from 1 + 999 → length (steps_drawn from w 1 made) ≤ 1000
 drawn_few from w made k short most = omega (arith, drawn_least from w 1 made, drawn_from from w 1 made, short, most)
+
+-- ---- at the end
+
+pub all_seen : (from : ℕ) (w : World) (records : List Record) (i : ℕ) (steps : List Step) (g : Glance) → length records ≤ i
+    → AreAccepted w (events_of_history (take i records)) → steps ≡ steps_drawn from w 1 (take i records)
+    → g ≡ glance_of (world_after_events w (events_of_history (take i records)))
+    → (made : List Record) × (AreAccepted w (events_of_history records) × (made ≡ records))
+    × (steps ≡ steps_drawn from w 1 made) × (g ≡ glance_of (world_after_events w (events_of_history made)))
+all_seen from w records i steps g over accepted drawn seen =
+    let all : take i records ≡ records = take_all i records over in
+    (take i records, (subst (λ (rs : List Record). AreAccepted w (events_of_history rs)) all accepted, all), drawn, seen)
+
+pub refused_seen : (from : ℕ) (w : World) (records : List Record) (i n : ℕ) (r : Refusal) (steps : List Step) (g : Glance) → n ≡ i + 1
+    → IsRefusedAt w records n r → steps ≡ steps_drawn from w 1 (take i records)
+    → g ≡ glance_of (world_after_events w (events_of_history (take i records)))
+    → (made : List Record) × (IsRefusedAt w records n r × (made ≡ take (n - 1) records))
+    × (steps ≡ steps_drawn from w 1 made) × (g ≡ glance_of (world_after_events w (events_of_history made)))
+refused_seen from w records i n r steps g e refused drawn seen =
+    let one : i ≡ n - 1 = omega (arith, e) in
+    (take i records, (refused, ap (λ (k : ℕ). take k records) one), drawn, seen)

@@ -1,0 +1,31 @@
+use Rattle.std.proofs.Common.{◌∙◌, ap, length, arith}
+use Rattle.mx_app_step.specs.Machine.{world_of}
+use Rattle.mx_app_draw.specs.Scenes.{refused_line}
+use Rattle.mx_app_draw.proofs.Seeing.{drawn_few}
+use Rattle.mx_app_draw.proofs.Drawn.{made_few}
+use Rattle.mx_app_draw.proofs.scene.scene_of.Goals as goal
+
+pub returns-clause-scene : goal.returns-clause-scene
+returns-clause-scene c =
+    let s = c.in_ok-seen.ensures.seen in (
+      c.in_ok-seen.seen.refused,
+      s.0,
+      s.1,
+      record {
+        first = refl;
+        total = c.told_number.ensures;
+        processors = refl;
+        services = c.service_count.ensures.count;
+        world = s.3;
+        steps = s.2;
+        refused = c.refused_line.ensures ∙ ap (λ above. refused_line above c.in_ok-seen.seen.refused) (c.lines_above.ensures.value);
+      },
+    )
+
+pub returns-clause-drawable : goal.returns-clause-drawable
+returns-clause-drawable c =
+    let s = c.in_ok-seen.ensures.seen in
+    let w = world_of c.args.machine.now in
+    let few = drawn_few c.args.from w s.0 (length c.args.records.now) (made_few w c.args.records.now s.0 c.in_ok-seen.seen.refused s.1) c.requires.drawn in
+    let n = ap length s.2 in
+    (omega (arith, few, n), c.service_count.ensures.few)
