@@ -268,6 +268,11 @@ static FAILED: [Failed; 46] = [
         told: "mx: 73 BadRecord line 1\n",
     },
     Failed {
+        words: &["mx", "draw", "one", "look", "--from", "2"],
+        status: 1,
+        told: "mx: 73 BadRecord line 1\n",
+    },
+    Failed {
         words: &["mx", "db", "bad", "look"],
         status: 1,
         told: "mx: 70 BadLine line 2\n",
@@ -334,6 +339,11 @@ static FAILED: [Failed; 46] = [
     },
     Failed {
         words: &["mx", "replay", "one"],
+        status: 2,
+        told: "",
+    },
+    Failed {
+        words: &["mx", "draw", "one", "whole", "--to", "-1"],
         status: 2,
         told: "",
     },
@@ -615,7 +625,7 @@ fn helps(rt: HostRuntime) -> Result<(), Fail> {
     Ok(())
 }
 
-const HELPS: [(&[&str], &str); 11] = [
+const HELPS: [(&[&str], &str); 12] = [
     (&["mx", "--help"], "  -V, --version  Print version\n"),
     (&["mx", "--version"], "mx 0.1\n"),
     (
@@ -676,6 +686,13 @@ docs/REFERENCE.md.
 ",
     ),
     (
+        &["mx", "draw", "--help"],
+        "Status: 0 done; 1 a text or a program's file is refused, or an event, which the picture
+tells at its top right; 2 a mistake in the words; 3 a file can't be read; 4 no memory.
+Formats: docs/REFERENCE.md.
+",
+    ),
+    (
         &["mx", "replay", "--help"],
         "Status: 0 done; 1 a text or a program's file is refused, or an event, which is told
 by its line; 2 a mistake in the words; 3 a file can't be read; 4 no memory. Formats:
@@ -706,5 +723,84 @@ fn ends_so<R: Threads + Wait + Clock + Sync>(
     status == 0
         && told.is_empty()
         && out.bytes.ends_with(ending.as_bytes())
+        && out.flushed == out.bytes.len()
+}
+
+/// A picture is a whole document, whose title says which records it has; that a record is refused is told
+/// in it, and by the status.
+#[test]
+fn pictures(rt: HostRuntime) -> Result<(), Fail> {
+    for (words, status, title) in PICTURES {
+        assert!(rt; is_drawn(&rt, rt.alloc(), words, status, title), "{title}");
+    }
+    Ok(())
+}
+
+/// Of one service on one processor, with at most 12 records.
+const SMALL_PICTURE: &str = "<?xml version=\"1.0\" encoding=\"UTF-8\"?>
+<svg xmlns=\"http://www.w3.org/2000/svg\" version=\"1.1\" width=\"684\" height=\"276\" viewBox=\"0 0 684 276\">
+";
+
+const PICTURES: [(&[&str], u8, &str); 6] = [
+    (
+        &["mx", "draw", "one", "whole"],
+        0,
+        "<title>Records 1 to 4 of 4, 1 service, 1 processor</title>\n",
+    ),
+    (
+        &["mx", "draw", "one", "whole", "--from", "0", "--to", "2"],
+        0,
+        "<title>Records 1 to 2 of 4, 1 service, 1 processor</title>\n",
+    ),
+    (
+        &[
+            "mx",
+            "draw",
+            "--to",
+            "4294967295",
+            "one",
+            "whole",
+            "--from",
+            "3",
+        ],
+        0,
+        "<title>Records 3 to 4 of 4, 1 service, 1 processor</title>\n",
+    ),
+    // No record: past the end, and a range that ends before it begins.
+    (
+        &["mx", "draw", "one", "whole", "--from", "4294967295"],
+        0,
+        "<title>No record of 4, 1 service, 1 processor</title>\n",
+    ),
+    (
+        &["mx", "draw", "one", "whole", "--from", "3", "--to", "2"],
+        0,
+        "<title>No record of 4, 1 service, 1 processor</title>\n",
+    ),
+    (
+        &["mx", "draw", "one", "early"],
+        1,
+        "<title>No record of 1, 1 service, 1 processor</title>\n",
+    ),
+];
+
+fn is_drawn<R: Threads + Wait + Clock + Sync>(
+    rt: &R,
+    alloc: Global,
+    words: &'static [&'static str],
+    status: u8,
+    title: &str,
+) -> bool {
+    let mut channels = channels(alloc, None);
+    let mut told = String::new(alloc);
+    let ended = perform(&mut channels, rt, alloc, words, &mut told);
+    let out = &channels.out;
+    let Some(rest) = out.bytes.as_slice().strip_prefix(SMALL_PICTURE.as_bytes()) else {
+        return false;
+    };
+    ended == status
+        && told.is_empty()
+        && rest.starts_with(title.as_bytes())
+        && rest.ends_with(b"</text>\n</svg>\n")
         && out.flushed == out.bytes.len()
 }
