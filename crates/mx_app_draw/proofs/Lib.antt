@@ -1,2 +1,2 @@
-mod Seeing
-mod Drawn
+mod SeenLemmas
+mod DrawnLemmas

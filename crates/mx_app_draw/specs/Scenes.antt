@@ -50,14 +50,14 @@ refused_line above None = None
 refused_line above (Some p) = Some (told_number (above + p.0), p.1)
 
 -- THE SCENE of the records that were made of a history of so many: each field of it
-pub record IsSceneOf (w : World) (cpus total : ℕ) (made : List Record) (from : ℕ) (refused : Option (ℕ × Refusal)) (v : Scene) : Type 0 where
+pub record IsSceneOf (w : World) (cpus count : ℕ) (made : List Record) (from : ℕ) (why : Option (ℕ × Refusal)) (v : Scene) : Type 0 where
   pub first : v.first ≡ max from 1
-  pub total : v.total ≡ told_number total
+  pub total : v.total ≡ told_number count
   pub processors : v.processors ≡ cpus
   pub services : v.services ≡ length w.services
   pub world : v.world ≡ glance_of (world_after_events w (events_of_history made))
   pub steps : v.steps.items ≡ steps_drawn from w 1 made
-  pub refused : v.refused ≡ refused_line (lines_above w.table.rules) refused
+  pub refused : v.refused ≡ refused_line (lines_above w.table.rules) why
 
 abbrev pub IsHistoryScene : World → ℕ → ℕ → List Record → ℕ → Scene → Type 0
 IsHistoryScene w cpus total records from v =

@@ -7,7 +7,7 @@ use Rattle.mx_machine_world.specs.World.{actors}
 use Rattle.mx_machine_world.specs.declared.history.Record.{Record}
 use Rattle.mx_app_step.proofs.ReplayLemmas.{saved_by_actors}
 use Rattle.mx_app_step.proofs.TraceLemmas.{front_by_actors}
-use Rattle.mx_app_draw.proofs.Drawn.{drawing_printed, front_few}
+use Rattle.mx_app_draw.proofs.DrawnLemmas.{drawing_printed, front_few}
 use Rattle.mx_app_draw.proofs.drawing.draw.Goals as goal
 
 pub returns-in_err-started-clause-fault : goal.returns-in_err-started-clause-fault

@@ -1,8 +1,8 @@
 use Rattle.std.proofs.Common.{◌∙◌, ap, length, arith}
 use Rattle.mx_app_step.specs.Machine.{world_of}
 use Rattle.mx_app_draw.specs.Scenes.{refused_line}
-use Rattle.mx_app_draw.proofs.Seeing.{drawn_few}
-use Rattle.mx_app_draw.proofs.Drawn.{made_few}
+use Rattle.mx_app_draw.proofs.SeenLemmas.{drawn_few}
+use Rattle.mx_app_draw.proofs.DrawnLemmas.{made_few}
 use Rattle.mx_app_draw.proofs.scene.scene_of.Goals as goal
 
 pub returns-clause-scene : goal.returns-clause-scene

@@ -40,18 +40,18 @@ next_seen from w v records i n d x old new within e world is so_far more =
 
 drawn_least : (from : ℕ) (w : World) (n : ℕ) (xs : List Record) → length (steps_drawn from w n xs) ≤ length xs
 drawn_least from w n [] = omega arith
-drawn_least from w n (x ∷ xs) = by_bool (nat_lt n from)
+drawn_least from w n (x ∷ xs) = by_bool (nat_lt n from) (drawn_least from (world_after_events w (events_of x.actor x.event)) (n + 1) xs)
   where
     rest : List Step
     rest = steps_drawn from (world_after_events w (events_of x.actor x.event)) (n + 1) xs
 
-    by_bool : (b : Bool) → length (cond b [] (step_of w n x ∷ []) ++ rest) ≤ length (x ∷ xs)
-    by_bool true = let few = drawn_least from (world_after_events w (events_of x.actor x.event)) (n + 1) xs in omega (arith, few)
-    by_bool false = let few = drawn_least from (world_after_events w (events_of x.actor x.event)) (n + 1) xs in omega (arith, few)
+    by_bool : (b : Bool) → length rest ≤ length xs → length (cond b [] (step_of w n x ∷ []) ++ rest) ≤ length (x ∷ xs)
+    by_bool true few = omega (arith, few)
+    by_bool false few = omega (arith, few)
 
 drawn_from : (from : ℕ) (w : World) (n : ℕ) (xs : List Record) → length (steps_drawn from w n xs) ≤ (n + length xs) - from
 drawn_from from w n [] = omega arith
-drawn_from from w n (x ∷ xs) = by_bool (nat_lt n from) refl
+drawn_from from w n (x ∷ xs) = by_bool (nat_lt n from) refl (drawn_from from (world_after_events w (events_of x.actor x.event)) (n + 1) xs)
   where
     rest : List Step
     rest = steps_drawn from (world_after_events w (events_of x.actor x.event)) (n + 1) xs
@@ -59,12 +59,9 @@ drawn_from from w n (x ∷ xs) = by_bool (nat_lt n from) refl
     least : length rest ≤ length xs
     least = drawn_least from (world_after_events w (events_of x.actor x.event)) (n + 1) xs
 
-    few : length rest ≤ (n + 1 + length xs) - from
-    few = drawn_from from (world_after_events w (events_of x.actor x.event)) (n + 1) xs
-
-    by_bool : (b : Bool) → nat_lt n from ≡ b → length (cond b [] (step_of w n x ∷ []) ++ rest) ≤ (n + length (x ∷ xs)) - from
-    by_bool true e = omega (arith, few)
-    by_bool false e = let not_below : from ≤ n = ltb-false n from e in omega (arith, least, not_below)
+    by_bool : (b : Bool) → nat_lt n from ≡ b → length rest ≤ (n + 1 + length xs) - from → length (cond b [] (step_of w n x ∷ []) ++ rest) ≤ (n + length (x ∷ xs)) - from
+    by_bool true e few = omega (arith, few)
+    by_bool false e few = let not_below : from ≤ n = ltb-false n from e in omega (arith, least, not_below)
 
 -- at most 1,000
 pub drawn_few : (from : ℕ) (w : World) (made : List Record) (k : ℕ) → length made ≤ k → k ≤ max from 1 + 999 → length (steps_drawn from w 1 made) ≤ 1000
