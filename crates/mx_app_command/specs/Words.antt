@@ -5,7 +5,7 @@ use Rattle.std.specs.Str.Parse.{ParsesUnsigned}
 use Rattle.std.specs.declared.num.ParseIntError.{ParseIntError}
 use Rattle.clap.specs.Words.{App, Row, Rule, Shape, Text, first_of, new_rule, one_of}
 use Rattle.clap.specs.Simple.{new_shape}
-use Rattle.clap.specs.declared.builder.action.ArgAction.TheVariants.{Set}
+use Rattle.clap.specs.declared.builder.action.ArgAction.TheVariants.{Set, SetTrue}
 use Rattle.clap.specs.declared.builder.command.Command.{Command}
 use Rattle.clap.specs.declared.builder.command.Command.TheViews.{out-Command}
 use Rattle.clap.specs.declared.builder.value_parser.ValueParser.TheVariants.{Signed}
@@ -31,9 +31,13 @@ after_name long id = record (new_rule id) { long = Some long; action = Some Set 
 abbrev pub number_after : Text → Text → Rule
 number_after long id = record (after_name long id) { parser = Some (Signed (pos 0) (pos 4294967295)) }
 
--- a subcommand, by its name and its arguments
+-- a flag, by its name
+abbrev pub flag : Text → Rule
+flag id = record (new_rule id) { long = Some id; action = Some SetTrue }
+
+-- a subcommand, by its name and its arguments; each may be asked to explain a failure
 abbrev pub subcommand : Text → List Rule → Shape
-subcommand name arguments = record (new_shape name) { rules = arguments }
+subcommand name arguments = record (new_shape name) { rules = arguments ++ flag (codes "explain") ∷ [] }
 
 -- a subcommand of one text, and of two, by its name and theirs
 abbrev pub of_one : Text → Text → Shape
@@ -142,6 +146,18 @@ AsksBy (Draw config log range) name rows =
     (name ≡ codes "draw") × HasText (codes "CONFIG") rows config.now × HasText (codes "LOG") rows log.now × HasRange rows range
 AsksBy (Db config script) name rows =
     (name ≡ codes "db") × HasText (codes "CONFIG") rows config.now × HasText (codes "SCRIPT") rows script.now
+
+-- the flag is given, or it isn't
+abbrev pub IsFlag : Text → List Row → Bool → Type 0
+IsFlag id rows given =
+    (one_of id rows ≡ Some (codes "true") → given ≡ true)
+    × ((one_of id rows ≡ Some (codes "false") → given ≡ false)
+    × (one_of id rows ≡ None → given ≡ false))
+
+-- the words ask that a failure is explained, or they don't
+abbrev pub AsksToExplain : Bool → Option (Text × List Row) → Type 0
+AsksToExplain explains (Some found) = IsFlag (codes "explain") found.1 explains
+AsksToExplain explains None = ⊥
 
 abbrev pub Asks : CommandRequest → Option (Text × List Row) → Type 0
 Asks request (Some found) = AsksBy request found.0 found.1
