@@ -13,8 +13,8 @@ returns-clause-texts c =
       | then-begin_with+in_ok-push w ↦
           let same : map (λ s. s.now) c.if-begin_with.texts.items ≡ map (λ s. s.now) w.push.new.self.items = (λ k. map (λ s. s.now) (w.texts-is k).items) in
           same
-          ∙ moved (λ (s : Bor (List ℕ)). s.now) had w.push.new.self.items _ (asked ∙ w.if-begin_with.true)
-          (w.in_ok-push.ensures.items ∙ ap (λ (ts : List (Bor (List ℕ))). ts ++ _ ∷ []) w.remove.ensures.items) refl
+          ∙ moved (λ (s : Bor (List ℕ)). s.now) had _ w.push.new.self.items _ (asked ∙ w.if-begin_with.true)
+          w.remove.ensures.items w.in_ok-push.ensures.items refl
           ∙ ap help_last c.in_ok-texts.ensures.texts
       | else-begin_with w ↦
           let same : map (λ s. s.now) c.if-begin_with.texts.items ≡ map (λ s. s.now) had = (λ k. map (λ s. s.now) (w.texts-is k).items) in
