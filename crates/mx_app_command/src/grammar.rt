@@ -192,7 +192,7 @@ static SUBCOMMANDS: [Subcommand<'static>; 10] = [
     Subcommand {
         name: "draw",
         help: "Runs a saved history again and prints a picture of it as SVG",
-        arguments: &[CONFIG, LOG, FROM, TO],
+        arguments: &[CONFIG, LOG, FROM, TO, EXPLAIN],
         example: Example::Draw,
     },
     Subcommand {

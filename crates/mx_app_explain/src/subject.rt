@@ -64,6 +64,7 @@ fn first_name(request: CommandRequest<'_>) -> &str
         CommandRequest::Run { config, .. } => config,
         CommandRequest::Replay { config, .. } => config,
         CommandRequest::Trace { config, .. } => config,
+        CommandRequest::Draw { config, .. } => config,
         CommandRequest::Db { config, .. } => config,
     }
 }
@@ -81,6 +82,7 @@ fn second_name(request: CommandRequest<'_>) -> &str
         CommandRequest::Run { log, .. } => log,
         CommandRequest::Replay { log, .. } => log,
         CommandRequest::Trace { log, .. } => log,
+        CommandRequest::Draw { log, .. } => log,
         CommandRequest::Db { script, .. } => script,
     }
 }
