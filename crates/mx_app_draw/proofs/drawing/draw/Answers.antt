@@ -1,4 +1,4 @@
-use Rattle.std.proofs.Common.{List, ℕ, ◌∙◌, ◌<◌, ap, take, inl, inr, length}
+use Rattle.std.proofs.Common.{List, ℕ, ◌≡◌, ◌∙◌, ◌<◌, ap, take, inl, inr, length, rules, vec_len}
 use Rattle.std.proofs.lemmas.Result.{IfErr-weaker, IfOk-weaker, err_from_is_err_and}
 use Rattle.std.specs.Io.KnownBytes.{Appends}
 use Rattle.mx_app_step.specs.Failure.{IsWanting}
@@ -29,6 +29,8 @@ print_drawing-requires-clause-drawn g c =
 pub returns-clause-printed : goal.returns-clause-printed
 returns-clause-printed g c =
     let s = c.in_ok-started.ensures.started in
+    let total : vec_len c.in_ok-started.started.lines ≡ length c.in_ok-started.started.lines.items = search rules in
+    let processors : c.from-processors.result ≡ c.in_ok-started.started.other = search rules in
     IfOk-weaker c.print_drawing.result _ _ (λ replayed b. (
       s.0,
       s.1,
@@ -37,7 +39,7 @@ returns-clause-printed g c =
       s.3,
       s.4,
       drawing_printed (λ (text : List ℕ). Appends (g.W.Write.contents c.args.out.now) (g.W.Write.contents c.print_drawing.new.out) text) s.1 s.2 c.in_ok-started.started.lines.items c.first_records-records.result.now (world_of c.in_ok-started.started.machine) _ _ c.args.from c.args.to c.last_drawn.result replayed
-          c.last_drawn.ensures (c.first_records-records.ensures.first ∙ ap (λ (rs : List Record). take c.last_drawn.result rs) c.as_slice.ensures.value) s.5 s.6 c.len-total.ensures b,
+          c.last_drawn.ensures (c.first_records-records.ensures.first ∙ ap (λ (rs : List Record). take c.last_drawn.result rs) c.as_slice.ensures.value) s.5 (processors ∙ s.6) (c.len-total.ensures ∙ total) b,
     )) c.print_drawing.ensures.printed
 
 pub returns-clause-fault : goal.returns-clause-fault
