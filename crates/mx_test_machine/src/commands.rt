@@ -223,7 +223,7 @@ struct Failed {
     told: &'static str,
 }
 
-static FAILED: [Failed; 46] = [
+static FAILED: [Failed; 48] = [
     Failed {
         words: &["mx", "one", "cut", "9"],
         status: 1,
