@@ -146,8 +146,13 @@ fn killed<M: Naming + Send + Sync, R: Threads + Wait + Sync>(
         Runner::Processor => {
             thread::join(
                 rt,
-                || drive(rt, &shared, seats, &gate, 0).is_ok(),
-                || kill_when_held(rt, &shared, other, &gate),
+                || -> bool
+                    requires tables { All (λ s. s.table ≡ M.table) seats.items }
+                    requires empties { All (λ s. s.held ≡ None) seats.items }
+                { drive(rt, &shared, seats, &gate, 0).is_ok() },
+                || -> bool
+                    requires { other.table ≡ M.table }
+                { kill_when_held(rt, &shared, other, &gate) },
             )
         }
         Runner::Debugger => {
@@ -156,8 +161,12 @@ fn killed<M: Naming + Send + Sync, R: Threads + Wait + Sync>(
             };
             thread::join(
                 rt,
-                || debug_turns(rt, &shared, processor, &gate),
-                || kill_when_held(rt, &shared, other, &gate),
+                || -> bool
+                    requires { processor.table ≡ M.table }
+                { debug_turns(rt, &shared, processor, &gate) },
+                || -> bool
+                    requires { other.table ≡ M.table }
+                { kill_when_held(rt, &shared, other, &gate) },
             )
         }
     };
