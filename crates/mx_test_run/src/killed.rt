@@ -1,6 +1,6 @@
 //! A process that is killed while a processor's thread holds it.
 
-ghost use Rattle.std.specs.Prelude.{◌≡◌, All, None};
+ghost use Rattle.std.specs.Prelude.{◌≡◌, All, IfSome, None};
 
 use crate::machine::{Log, RUNS, Row, booted, is_end};
 use mx_cpus_drive::{ActorSeat, Blank, Gate, Kernel, Naming, Shared, drive};
@@ -123,6 +123,17 @@ fn debug_turns<M: Naming>(
     is_added
 }
 
+/// The seat of the last actor.
+fn last_seat<M: Naming>(seats: &mut Vec<ActorSeat>) -> Option<ActorSeat>
+    requires tables { All (λ s. s.table ≡ M.table) seats.old.items }
+    requires empties { All (λ s. s.held ≡ None) seats.old.items }
+    ensures tables { All (λ s. s.table ≡ M.table) seats.new.items }
+    ensures empties { All (λ s. s.held ≡ None) seats.new.items }
+    ensures last { IfSome result (λ s. s.table ≡ M.table) }
+{
+    seats.pop()
+}
+
 /// A machine at its end, and whether the driver was killed while it was held.
 fn killed<M: Naming + Send + Sync, R: Threads + Wait + Sync>(
     rt: &R,
@@ -139,7 +150,7 @@ fn killed<M: Naming + Send + Sync, R: Threads + Wait + Sync>(
     let mut seats = seats;
     let shared: Shared<M> = blank.open();
     let gate = Waiting::new();
-    let Some(other) = seats.pop() else {
+    let Some(other) = last_seat::<M>(&mut seats) else {
         return (shared.into_kernel(seats), false);
     };
     let (ended, killed) = match runner {
@@ -156,7 +167,7 @@ fn killed<M: Naming + Send + Sync, R: Threads + Wait + Sync>(
             )
         }
         Runner::Debugger => {
-            let Some(processor) = seats.pop() else {
+            let Some(processor) = last_seat::<M>(&mut seats) else {
                 return (shared.into_kernel(seats), false);
             };
             thread::join(
