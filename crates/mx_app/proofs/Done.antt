@@ -27,9 +27,10 @@ use Rattle.mx_app_db.specs.Traces.{IsTracePrinted}
 use Rattle.mx_app_db.specs.Replayed.{Replayed}
 use Rattle.mx_app_db.specs.DebugLines.{DebuggedWorld, debug_lines_made}
 use Rattle.mx_app_db.specs.Told.{debug_lines_text}
+use Rattle.mx_app_draw.specs.Scenes.{IsDrawingPrinted}
 use Rattle.mx_app_run.specs.Run.{Runs}
 use Rattle.mx_app.specs.Named.{Assembles, ShowsFile}
-use Rattle.mx_app.specs.Requests.{Debugs, Performs, Replays, SavesSteps, Shows, Steps, Traces, status_after_replay, status_after_work}
+use Rattle.mx_app.specs.Requests.{Debugs, Draws, Performs, Replays, SavesSteps, Shows, Steps, Traces, status_after_replay, status_after_work}
 
 -- nothing is printed where a writer wasn't touched
 pub appends_nothing : (known : Option (List ℕ)) → Appends known known []
@@ -125,3 +126,13 @@ module _ (asked now : List Asked) (files : List Written) where
       → WritesNone (λ qs ws. (e : Result Replayed Kind) × (ws ≡ []) × Traces config log range qs (λ text. Appends x y text) e × (r ≡ status_after_replay e))
   traces config log range x y (Ok how) r p f e = (p.0, [], p.4, sym (append-nil files), (Ok how, refl, (p.1, p.2, p.3, p.5, p.6), e))
   traces config log range x y (Err why) r p f e = (f.0, [], f.1, sym (append-nil files), (Err why, refl, f.2, e))
+
+  pub draws : (config log : List ℕ) (range : RecordRange) (x y : Option (List ℕ)) (d : Result Replayed Kind) (r : Result ℕ Kind)
+      → IfOk d (λ how. (qs : List Asked) × (c : Config) × (vs : List Service) × (records : List Record)
+      × (now ≡ asked ++ qs) × IsStart IsSaved config log qs c vs records
+      × IsDrawingPrinted (world_at_boot c vs) c.cpus records range.from range.to how (λ text. Appends x y text))
+      → IfErr d (λ f. (qs : List Asked) × (now ≡ asked ++ qs) × IsTold IsSaved TellsSaved config log qs f)
+      → r ≡ status_after_replay d
+      → WritesNone (λ qs ws. (e : Result Replayed Kind) × (ws ≡ []) × Draws config log range qs (λ text. Appends x y text) e × (r ≡ status_after_replay e))
+  draws config log range x y (Ok how) r p f e = (p.0, [], p.4, sym (append-nil files), (Ok how, refl, (p.1, p.2, p.3, p.5, p.6), e))
+  draws config log range x y (Err why) r p f e = (f.0, [], f.1, sym (append-nil files), (Err why, refl, f.2, e))

@@ -1,3 +1,6 @@
 mod Shown
 mod Done
 mod Explained
+mod Told
+mod Grown
+mod Moved

@@ -1,3 +1,6 @@
+pub mod Asking
+pub mod Ending
 pub mod Named
+pub mod Noting
 pub mod Requests
 pub mod Words

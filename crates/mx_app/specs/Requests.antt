@@ -2,7 +2,7 @@
 use Rattle.std.specs.Prelude.{◌≡◌, ◌⊎◌, ℕ, List, [], ◌∷◌, ◌++◌, Some, None, Result, Ok, Err, take}
 use Rattle.mx_app_command.specs.declared.words.CommandRequest.{CommandRequest}
 use Rattle.mx_app_command.specs.declared.words.RecordRange.{RecordRange}
-use Rattle.mx_app_command.specs.declared.words.CommandRequest.TheVariants.{One, As, Dis, Nm, Step, Run, Replay, Trace, Db}
+use Rattle.mx_app_command.specs.declared.words.CommandRequest.TheVariants.{One, As, Dis, Nm, Step, Run, Replay, Trace, Draw, Db}
 use Rattle.mx_app_db.specs.ScriptLine.{ScriptLine}
 use Rattle.mx_app_db.specs.DebugLine.{DebugLine}
 use Rattle.mx_app_failure.specs.declared.failure.Failure.{Failure as Kind}
@@ -26,6 +26,7 @@ use Rattle.mx_app_db.specs.Records.{IsReplayPrinted as IsReplayPrinted}
 use Rattle.mx_app_db.specs.Traces.{IsTracePrinted}
 use Rattle.mx_app_db.specs.Replayed.{Replayed}
 use Rattle.mx_app_db.specs.Replayed.TheVariants as replayed
+use Rattle.mx_app_draw.specs.Scenes.{IsDrawingPrinted}
 use Rattle.mx_app_run.specs.Run.{Runs}
 use Rattle.mx_app_db.specs.DebugLines.{DebuggedWorld, debug_lines_made}
 use Rattle.mx_app_db.specs.Told.{debug_lines_text}
@@ -83,6 +84,13 @@ Traces config log range qs Prints (Ok how) =
     × IsTracePrinted (world_at_boot c vs) (take range.to records) range.from how Prints
 Traces config log range qs Prints (Err f) = IsTold IsSaved TellsSaved config log qs f
 
+-- the same records, as a picture
+abbrev pub Draws : List ℕ → List ℕ → RecordRange → List Asked → (List ℕ → Type 0) → Result Replayed Kind → Type 0
+Draws config log range qs Prints (Ok how) =
+    (c : Config) × (vs : List Service) × (records : List Record) × IsStart IsSaved config log qs c vs records
+    × IsDrawingPrinted (world_at_boot c vs) c.cpus records range.from range.to how Prints
+Draws config log range qs Prints (Err f) = IsTold IsSaved TellsSaved config log qs f
+
 -- ---- requests
 
 -- a file is read, shown, and none is written
@@ -107,5 +115,7 @@ Performs (Replay config log) qs ws Prints r =
     (d : Result Replayed Kind) × (ws ≡ []) × Replays config.now log.now qs Prints d × (r ≡ status_after_replay d)
 Performs (Trace config log range) qs ws Prints r =
     (d : Result Replayed Kind) × (ws ≡ []) × Traces config.now log.now range qs Prints d × (r ≡ status_after_replay d)
+Performs (Draw config log range) qs ws Prints r =
+    (d : Result Replayed Kind) × (ws ≡ []) × Draws config.now log.now range qs Prints d × (r ≡ status_after_replay d)
 Performs (Db config script) qs ws Prints r =
     (d : Result (Unit {0}) Kind) × (ws ≡ []) × Debugs config.now script.now qs Prints d × (r ≡ status_after_work d)

@@ -13,6 +13,10 @@ pub enum Complaint {
     Mistaken(clap::Error),
     /// What they ask for failed.
     Failed(Failure),
+    /// The same, with the line that explains it, without its end.
+    Explained(Failure, String),
+    /// The same, if there is no memory for the line that explains it.
+    Unexplained(Failure),
 }
 
 impl Complaint {
@@ -23,16 +27,26 @@ impl Complaint {
         match self {
             Complaint::Mistaken(_) => 2,
             Complaint::Failed(failure) => failure.status(),
+            Complaint::Explained(failure, _) => failure.status(),
+            Complaint::Unexplained(failure) => failure.status(),
         }
     }
 }
 
 /// What standard error gets, in whole lines.
 impl fmt::Display for Complaint {
+    ghost use Rattle.mx_app.specs.Words.{complaint_told};
+
+    ghost output = { complaint_told };
+
     fn fmt<W: fmt::Write>(&self, f: &mut fmt::Formatter<W>) -> fmt::Result {
         match self {
             Complaint::Mistaken(error) => write!(f, "{error}"),
             Complaint::Failed(failure) => write!(f, "{failure}\n"),
+            Complaint::Explained(failure, line) => write!(f, "{failure}\n{line}\n"),
+            Complaint::Unexplained(failure) => {
+                write!(f, "{failure}\nmx: memory: wanted more of it\n")
+            }
         }
     }
 }

@@ -1,24 +1,31 @@
 //! All subcommands of `mx`: what the words of a command line do, from files to status.
 #![tactic(auto)]
 
+mod asking;
 mod channels;
 mod complaint;
+mod ending;
 mod named;
+mod noting;
 mod performing;
 mod program;
 mod words;
 
+pub use asking::texts_asked;
 pub use channels::Channels;
 pub use complaint::Complaint;
-pub use mx_app_command::{CommandRequest, RecordRange, command};
+pub use ending::{NotingOutput, Terminals};
+pub use mx_app_command::{CommandLine, CommandRequest, RecordRange, command};
 pub use mx_app_db::{
     FileWriter, KeptFile, MemoryWriter, NamedFile, NamedFiles, Reader, Replayed, db, replay, step,
     step_saved, trace,
 };
+pub use mx_app_draw::draw;
 pub use mx_app_failure::{BootError, Failure, FileError};
 pub use mx_app_program::{assemble_file, one, print_listing, print_names, print_one};
 pub use mx_app_run::run;
 pub use named::{as_named, dis_named, nm_named, one_named};
+pub use noting::{NotingFiles, NotingReader};
 pub use performing::perform;
 pub use program::run_program;
 pub use words::perform_words;

@@ -10,6 +10,7 @@ use crate::channels::Channels;
 use crate::named::{as_named, dis_named, nm_named, one_named};
 use mx_app_command::CommandRequest;
 use mx_app_db::{FileWriter, Reader, Replayed, db, replay, step, step_saved, trace};
+use mx_app_draw::draw;
 use mx_app_failure::Failure;
 use mx_app_run::run;
 use std::alloc::Global;
@@ -98,6 +99,9 @@ pub fn perform<
             status_after_replay(replay(alloc, reader, config, log, out))
         }
         CommandRequest::Trace { config, log, range } => status_after_replay(trace(
+            alloc, reader, config, log, range.from, range.to, out,
+        )),
+        CommandRequest::Draw { config, log, range } => status_after_replay(draw(
             alloc, reader, config, log, range.from, range.to, out,
         )),
         CommandRequest::Db { config, script } => status_after_work(db(

@@ -4,12 +4,14 @@ ghost use Rattle.std.specs.Prelude.{◌≡◌, ◌⊎◌, IfErr};
 ghost use Rattle.std.specs.IoError.{error_kind};
 ghost use Rattle.mx_app.specs.Words.{words_failure_of};
 
+use crate::asking::{begin_with, texts_asked};
 use crate::channels::Channels;
 use crate::complaint::Complaint;
+use crate::ending::{NotingOutput, Terminals};
+use crate::noting::{NotingFiles, NotingReader};
 use crate::words::perform_words;
 use mx_app_db::{RuntimeFiles, RuntimeWriter};
 use mx_app_failure::Failure;
-use std::alloc::Global;
 use std::rt::{Env, Files};
 use std::sync::Wait;
 use std::thread::Threads;
@@ -41,37 +43,40 @@ fn arguments(rt: &(impl Env + AllocGlobal)) -> Result<Vec<String>, Failure>
     Ok(arguments)
 }
 
-/// The texts of words.
-fn texts_of(alloc: Global, words: &[String]) -> Result<Vec<&str>, Failure> {
-    let mut texts = Vec::new(alloc);
-    for word in words {
-        texts.push(word.as_str())?;
-    }
-    Ok(texts)
+/// Helps a reader at a terminal after a command that printed up to this byte.
+fn help_reader(rt: &(impl Print + Eprint), terminals: Terminals, last: Option<u8>, is_nm: bool) {
+    let end = terminals.text_end(last);
+    let note = terminals.symbols_note(is_nm, last);
+    let _ = print!(rt; "{end}");
+    let _ = eprint!(rt; "{note}");
 }
 
 /// Does what the program's words ask for, and answers the status to end with, or what to tell.
-fn perform_arguments<R>(rt: &R) -> Result<u8, Complaint>
+fn perform_arguments<R>(rt: &R, terminals: Terminals) -> Result<u8, Complaint>
 where
-    R: Env + Files + Print + AllocGlobal + Threads + Wait + Clock + Sync,
+    R: Env + Files + Print + Eprint + AllocGlobal + Threads + Wait + Clock + Sync,
 {
     let arguments = arguments(rt)?;
-    let words = texts_of(rt.alloc(), arguments.as_slice())?;
+    let texts = texts_asked(rt.alloc(), arguments.as_slice())?;
+    let words = texts.as_slice();
     let mut channels = Channels {
-        reader: RuntimeFiles::new(rt),
-        files: RuntimeWriter::new(rt),
-        out: io::writer(rt),
+        reader: NotingReader::new(RuntimeFiles::new(rt)),
+        files: NotingFiles::new(RuntimeWriter::new(rt)),
+        out: NotingOutput::new(io::writer(rt)),
     };
-    perform_words(rt, rt.alloc(), words.as_slice(), &mut channels)
+    let answer = perform_words(rt, rt.alloc(), words, &mut channels);
+    let is_nm = answer.is_ok() && begin_with(words, "nm");
+    help_reader(rt, terminals, channels.out.last(), is_nm);
+    answer
 }
 
 /// Does what the program's words ask for with the files and the streams of the runtime; where it doesn't,
 /// it tells why on standard error. Answers the status to end with.
-pub fn run_program<R>(rt: &R) -> u8
+pub fn run_program<R>(rt: &R, terminals: Terminals) -> u8
 where
     R: Env + Files + Print + Eprint + AllocGlobal + Threads + Wait + Clock + Sync,
 {
-    match perform_arguments(rt) {
+    match perform_arguments(rt, terminals) {
         Ok(status) => status,
         Err(complaint) => {
             let _ = eprint!(rt; "{complaint}");

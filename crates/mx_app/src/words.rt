@@ -5,15 +5,18 @@ ghost use Rattle.std.specs.Io.KnownBytes.{Appends};
 ghost use Rattle.mx_app_failure.specs.Failure.{IsWanting};
 ghost use Rattle.mx_app_db.specs.Asked.{Asked};
 ghost use Rattle.mx_app_db.specs.Written.{Written};
-ghost use Rattle.mx_app.specs.Words.{Explains, IsPerformed};
+ghost use Rattle.mx_app.specs.Noting.{noted_by, noted_in};
+ghost use Rattle.mx_app.specs.Words.{Explains, IsAnswered, IsPerformed, IsTold};
 
 use crate::channels::Channels;
 use crate::complaint::Complaint;
+use crate::noting::{NotingFiles, NotingReader, noted};
 use crate::performing::perform;
 use clap::Error;
 use clap::error::ErrorKind;
-use mx_app_command::command;
+use mx_app_command::{CommandLine, command};
 use mx_app_db::{FileWriter, Reader};
+use mx_app_explain::{Notes, explain_failure};
 use mx_app_failure::{Failure, print_text};
 use std::alloc::Global;
 use std::io::Write;
@@ -43,6 +46,35 @@ fn explain<W: Write>(alloc: Global, error: Error, out: &mut W) -> Result<u8, Com
     Ok(0)
 }
 
+/// What is told of a failure, with what explains it if that is asked for.
+#[tactic(auto, using(crate::proofs::Told::told_alone, crate::proofs::Told::told_short))]
+fn told<'a>(alloc: Global, line: CommandLine<'a>, failure: Failure, notes: Notes<'a>) -> Complaint
+    ensures { IsTold line.entry failure (noted_in notes.entry) result }
+{
+    if !line.explains {
+        return Complaint::Failed(failure);
+    }
+    match explain_failure(line.request, failure, notes).to_string(alloc) {
+        Ok(text) => Complaint::Explained(failure, text),
+        Err(_) => Complaint::Unexplained(failure),
+    }
+}
+
+/// The answer to a request that was done or that failed.
+fn answer<'a>(
+    alloc: Global,
+    line: CommandLine<'a>,
+    done: Result<u8, Failure>,
+    notes: Notes<'a>,
+) -> Result<u8, Complaint>
+    ensures { IsAnswered line.entry done (noted_in notes.entry) result }
+{
+    match done {
+        Ok(status) => Ok(status),
+        Err(failure) => Err(told(alloc, line, failure, notes)),
+    }
+}
+
 /// Does what the words of a command line ask for, the program's own name first, and answers the status to
 /// end with, or what to tell on standard error.
 pub fn perform_words<
@@ -55,16 +87,20 @@ pub fn perform_words<
     rt: &T,
     alloc: Global,
     words: &'a [&'a str],
-    channels: &mut Channels<R, F, W>,
+    channels: &mut Channels<NotingReader<R>, NotingFiles<F>, W>,
 ) -> Result<u8, Complaint>
     ensures { (qs : List Asked) × (ws : List Written)
-        × (R.asked channels.new.reader ≡ R.asked channels.old.reader ++ qs)
-        × (F.written channels.new.files ≡ F.written channels.old.files ++ ws)
+        × (R.asked channels.new.reader.reader ≡ R.asked channels.old.reader.reader ++ qs)
+        × (F.written channels.new.files.files ≡ F.written channels.old.files.files ++ ws)
         × IsPerformed (map (λ s. s.now) words.now) qs ws
+        (noted_by channels.new.reader.last channels.new.reader.is_missed channels.new.files.is_unwritten)
         (λ text. Appends (W.contents channels.old.out) (W.contents channels.new.out) text) result }
 {
     match command(alloc, words) {
-        Ok(request) => Ok(perform(rt, alloc, channels, request)?),
+        Ok(line) => {
+            let done = perform(rt, alloc, channels, line.request);
+            answer(alloc, line, done, noted(&channels.reader, &channels.files))
+        }
         Err(error) => explain(alloc, error, &mut channels.out),
     }
 }

@@ -15,7 +15,7 @@ use Rattle.clap.specs.Faults.{defaults_fault, entered_fault, level_fault, settle
 use Rattle.clap.specs.Walk.{answers_to, finished, nothing_held, rows_after, settled, stop_after, walk, walk_from}
 use Rattle.clap.specs.declared.builder.value_parser.ValueParser.TheVariants.{Signed}
 use Rattle.clap.proofs.ValueTestLemmas.{accepts-Accepts}
-use Rattle.mx_app_command.specs.Words.{HasNumber, IsAsked, IsGiven, MayHaveNumber, looking_shape, mx_grammar, number_after, of_one, of_two, one_shape, run_shape, step_shape, wanted, wanted_number}
+use Rattle.mx_app_command.specs.Words.{HasNumber, IsAsked, IsGiven, MayHaveNumber, MayHaveRange, looking_shape, mx_grammar, number_after, of_one, of_two, one_shape, run_shape, step_shape, wanted, wanted_number}
 use Rattle.mx_app_command.proofs.Given.{IsOnly, SetsValue, all_found, has_wanted, no_fault, value_given, value_if_given}
 
 -- the grammar as a parse sees it: with the help flag, and each argument's place
@@ -67,16 +67,16 @@ number_of t passed =
 wanted_sets : (id : Text) (n : ℕ) → SetsValue (with_index n (filled (wanted id)))
 wanted_sets id n = record { set = refl; least = omega arith; defaults = refl }
 
--- a text's name is none that the help flag has
+-- a text's name is none that the two flags have
 abbrev IsOwn : Text → Type 0
-IsOwn id = bytes_eq (codes "help") id ≡ false
+IsOwn id = (bytes_eq (codes "explain") id ≡ false) × (bytes_eq (codes "help") id ≡ false)
 
 one_text_given : (name first : Text) → IsOwn first → (words : List Text)
     → level_fault (whole_of (of_one name first)) [] nothing_held words false [] ≡ []
     → IsGiven first (rows_after (whole_of (of_one name first)).rules [] words)
 one_text_given name first own words fine =
     let only : IsOnly (with_index 1 (filled (wanted first))) (whole_of (of_one name first)).rules =
-    ((λ e. refl), ((λ e. absurd (true≢false (sym e ∙ own))), tt)) in
+    ((λ e. refl), ((λ e. absurd (true≢false (sym e ∙ own.0))), ((λ e. absurd (true≢false (sym e ∙ own.1))), tt))) in
     ap is_some (value_given (with_index 1 (filled (wanted first))) (wanted_sets first 1) (whole_of (of_one name first)) only words refl (inl refl) refl fine).1
 
 two_texts_given : (name first second : Text) → IsOwn first → IsOwn second → bytes_eq second first ≡ false → bytes_eq first second ≡ false
@@ -87,8 +87,10 @@ two_texts_given name first second own other apart back words fine =
     let s = whole_of (of_two name first second) in
     let a = with_index 1 (filled (wanted first)) in
     let b = with_index 2 (filled (wanted second)) in
-    let only_a : IsOnly a s.rules = ((λ e. refl), ((λ e. absurd (true≢false (sym e ∙ apart))), ((λ e. absurd (true≢false (sym e ∙ own))), tt))) in
-    let only_b : IsOnly b s.rules = ((λ e. absurd (true≢false (sym e ∙ back))), ((λ e. refl), ((λ e. absurd (true≢false (sym e ∙ other))), tt))) in
+    let only_a : IsOnly a s.rules =
+    ((λ e. refl), ((λ e. absurd (true≢false (sym e ∙ apart))), ((λ e. absurd (true≢false (sym e ∙ own.0))), ((λ e. absurd (true≢false (sym e ∙ own.1))), tt)))) in
+    let only_b : IsOnly b s.rules =
+    ((λ e. absurd (true≢false (sym e ∙ back))), ((λ e. refl), ((λ e. absurd (true≢false (sym e ∙ other.0))), ((λ e. absurd (true≢false (sym e ∙ other.1))), tt)))) in
     (ap is_some (value_given a (wanted_sets first 1) s only_a words refl (inl refl) refl fine).1, ap is_some (value_given b (wanted_sets second 2) s only_b words refl (inr (inl refl)) refl fine).1)
 
 -- ---- `one`
@@ -106,10 +108,10 @@ steps_sets : SetsValue steps_rule
 steps_sets = record { set = refl; least = omega arith; defaults = refl }
 
 only_file : IsOnly file_rule one_whole.rules
-only_file = ((λ e. refl), ((λ e. cc), ((λ e. cc), tt)))
+only_file = ((λ e. refl), ((λ e. cc), ((λ e. cc), ((λ e. cc), tt))))
 
 only_steps : IsOnly steps_rule one_whole.rules
-only_steps = ((λ e. cc), ((λ e. refl), ((λ e. cc), tt)))
+only_steps = ((λ e. cc), ((λ e. refl), ((λ e. cc), ((λ e. cc), tt))))
 
 one_values : (words : List Text) → level_fault one_whole [] nothing_held words false [] ≡ []
     → IsGiven (codes "FILE") (rows_after one_whole.rules [] words) × ((n : ℕ) × HasNumber (codes "N") (rows_after one_whole.rules [] words) n)
@@ -130,15 +132,15 @@ one_fits words fine = let given = one_values words fine in
     ((λ e. absurd (true≢false (sym e))), (λ e. (given.0, inl (refl, given.1))))
 
 as_fits : Fits (whole_of (of_two (codes "as") (codes "TEXT") (codes "FILE")))
-as_fits words fine = let given = two_texts_given (codes "as") (codes "TEXT") (codes "FILE") refl refl refl refl words fine in
+as_fits words fine = let given = two_texts_given (codes "as") (codes "TEXT") (codes "FILE") (refl, refl) (refl, refl) refl refl words fine in
     ((λ e. absurd (true≢false (sym e))), (λ e. (given.1, inr (inl (refl, given.0)))))
 
 dis_fits : Fits (whole_of (of_one (codes "dis") (codes "FILE")))
-dis_fits words fine = let given = one_text_given (codes "dis") (codes "FILE") refl words fine in
+dis_fits words fine = let given = one_text_given (codes "dis") (codes "FILE") (refl, refl) words fine in
     ((λ e. absurd (true≢false (sym e))), (λ e. (given, inr (inr (inl refl)))))
 
 nm_fits : Fits (whole_of (of_one (codes "nm") (codes "FILE")))
-nm_fits words fine = let given = one_text_given (codes "nm") (codes "FILE") refl words fine in
+nm_fits words fine = let given = one_text_given (codes "nm") (codes "FILE") (refl, refl) words fine in
     ((λ e. absurd (true≢false (sym e))), (λ e. (given, inr (inr (inr refl)))))
 
 abbrev step_whole : Shape
@@ -151,10 +153,10 @@ abbrev script_rule : Rule
 script_rule = with_index 2 (filled (wanted (codes "SCRIPT")))
 
 only_config : IsOnly config_rule step_whole.rules
-only_config = ((λ e. refl), ((λ e. cc), ((λ e. cc), ((λ e. cc), tt))))
+only_config = ((λ e. refl), ((λ e. cc), ((λ e. cc), ((λ e. cc), ((λ e. cc), tt)))))
 
 only_script : IsOnly script_rule step_whole.rules
-only_script = ((λ e. cc), ((λ e. refl), ((λ e. cc), ((λ e. cc), tt))))
+only_script = ((λ e. cc), ((λ e. refl), ((λ e. cc), ((λ e. cc), ((λ e. cc), tt)))))
 
 step_fits : Fits step_whole
 step_fits words fine =
@@ -175,13 +177,13 @@ number_sets : (long id : Text) (n : ℕ) → SetsValue (with_index n (filled (nu
 number_sets long id n = record { set = refl; least = omega arith; defaults = refl }
 
 only_run_config : IsOnly config_rule run_whole.rules
-only_run_config = ((λ e. refl), ((λ e. cc), ((λ e. cc), ((λ e. cc), tt))))
+only_run_config = ((λ e. refl), ((λ e. cc), ((λ e. cc), ((λ e. cc), ((λ e. cc), tt)))))
 
 only_log : IsOnly log_rule run_whole.rules
-only_log = ((λ e. cc), ((λ e. refl), ((λ e. cc), ((λ e. cc), tt))))
+only_log = ((λ e. cc), ((λ e. refl), ((λ e. cc), ((λ e. cc), ((λ e. cc), tt)))))
 
 only_ticks : IsOnly ticks_rule run_whole.rules
-only_ticks = ((λ e. cc), ((λ e. cc), ((λ e. refl), ((λ e. cc), tt))))
+only_ticks = ((λ e. cc), ((λ e. cc), ((λ e. refl), ((λ e. cc), ((λ e. cc), tt)))))
 
 -- a number after a long name, of which the argument is the only one
 number_if_given : (s : Shape) (long id : Text) (n : ℕ) → IsOnly (with_index n (filled (number_after long id))) s.rules
@@ -202,11 +204,11 @@ run_fits words fine =
     ((λ e. (ap is_some config.1, inr (inl (refl, ap is_some log.1, number_if_given run_whole (codes "ticks") (codes "T") 3 only_ticks words fine)))), (λ e. absurd (true≢false e)))
 
 replay_fits : Fits (whole_of (of_two (codes "replay") (codes "CONFIG") (codes "LOG")))
-replay_fits words fine = let given = two_texts_given (codes "replay") (codes "CONFIG") (codes "LOG") refl refl refl refl words fine in
+replay_fits words fine = let given = two_texts_given (codes "replay") (codes "CONFIG") (codes "LOG") (refl, refl) (refl, refl) refl refl words fine in
     ((λ e. (given.0, inr (inr (inl (refl, given.1))))), (λ e. absurd (true≢false e)))
 
-abbrev trace_whole : Shape
-trace_whole = whole_of (looking_shape (codes "trace"))
+abbrev looking_whole : Text → Shape
+looking_whole name = whole_of (looking_shape name)
 
 abbrev from_rule : Rule
 from_rule = with_index 3 (filled (number_after (codes "from") (codes "A")))
@@ -214,32 +216,45 @@ from_rule = with_index 3 (filled (number_after (codes "from") (codes "A")))
 abbrev to_rule : Rule
 to_rule = with_index 4 (filled (number_after (codes "to") (codes "B")))
 
-only_trace_config : IsOnly config_rule trace_whole.rules
-only_trace_config = ((λ e. refl), ((λ e. cc), ((λ e. cc), ((λ e. cc), ((λ e. cc), tt)))))
+only_looking_config : (name : Text) → IsOnly config_rule (looking_whole name).rules
+only_looking_config name = ((λ e. refl), ((λ e. cc), ((λ e. cc), ((λ e. cc), ((λ e. cc), ((λ e. cc), tt))))))
 
-only_trace_log : IsOnly log_rule trace_whole.rules
-only_trace_log = ((λ e. cc), ((λ e. refl), ((λ e. cc), ((λ e. cc), ((λ e. cc), tt)))))
+only_looking_log : (name : Text) → IsOnly log_rule (looking_whole name).rules
+only_looking_log name = ((λ e. cc), ((λ e. refl), ((λ e. cc), ((λ e. cc), ((λ e. cc), ((λ e. cc), tt))))))
 
-only_from : IsOnly from_rule trace_whole.rules
-only_from = ((λ e. cc), ((λ e. cc), ((λ e. refl), ((λ e. cc), ((λ e. cc), tt)))))
+only_from : (name : Text) → IsOnly from_rule (looking_whole name).rules
+only_from name = ((λ e. cc), ((λ e. cc), ((λ e. refl), ((λ e. cc), ((λ e. cc), ((λ e. cc), tt))))))
 
-only_to : IsOnly to_rule trace_whole.rules
-only_to = ((λ e. cc), ((λ e. cc), ((λ e. cc), ((λ e. refl), ((λ e. cc), tt)))))
+only_to : (name : Text) → IsOnly to_rule (looking_whole name).rules
+only_to name = ((λ e. cc), ((λ e. cc), ((λ e. cc), ((λ e. refl), ((λ e. cc), ((λ e. cc), tt))))))
 
-trace_fits : Fits trace_whole
-trace_fits words fine =
-    let config = value_given config_rule (wanted_sets (codes "CONFIG") 1) trace_whole only_trace_config words refl (inl refl) refl fine in
-    let log = value_given log_rule (wanted_sets (codes "LOG") 2) trace_whole only_trace_log words refl (inr (inl refl)) refl fine in
-    let from = number_if_given trace_whole (codes "from") (codes "A") 3 only_from words fine in
-    let to = number_if_given trace_whole (codes "to") (codes "B") 4 only_to words fine in
-    ((λ e. (ap is_some config.1, inr (inr (inr (inl (refl, ap is_some log.1, (from, to))))))), (λ e. absurd (true≢false e)))
+-- what looks at records has a configuration and a history, and may have two numbers
+abbrev Looks : List Row → Type 0
+Looks rows = IsGiven (codes "CONFIG") rows × IsGiven (codes "LOG") rows × MayHaveRange rows
+
+looking_values : (name : Text) (words : List Text) → level_fault (looking_whole name) [] nothing_held words false [] ≡ [] → Looks (rows_after (looking_whole name).rules [] words)
+looking_values name words fine =
+    let s = looking_whole name in
+    let config = value_given config_rule (wanted_sets (codes "CONFIG") 1) s (only_looking_config name) words refl (inl refl) refl fine in
+    let log = value_given log_rule (wanted_sets (codes "LOG") 2) s (only_looking_log name) words refl (inr (inl refl)) refl fine in
+    let from = number_if_given s (codes "from") (codes "A") 3 (only_from name) words fine in
+    let to = number_if_given s (codes "to") (codes "B") 4 (only_to name) words fine in
+    (ap is_some config.1, ap is_some log.1, (from, to))
+
+trace_fits : Fits (looking_whole (codes "trace"))
+trace_fits words fine = let given = looking_values (codes "trace") words fine in
+    ((λ e. (given.0, inr (inr (inr (inl (refl, given.1, given.2)))))), (λ e. absurd (true≢false e)))
+
+draw_fits : Fits (looking_whole (codes "draw"))
+draw_fits words fine = let given = looking_values (codes "draw") words fine in
+    ((λ e. (given.0, inr (inr (inr (inr (inl (refl, given.1, given.2))))))), (λ e. absurd (true≢false e)))
 
 db_fits : Fits (whole_of (of_two (codes "db") (codes "CONFIG") (codes "SCRIPT")))
-db_fits words fine = let given = two_texts_given (codes "db") (codes "CONFIG") (codes "SCRIPT") refl refl refl refl words fine in
-    ((λ e. (given.0, inr (inr (inr (inr (refl, given.1)))))), (λ e. absurd (true≢false e)))
+db_fits words fine = let given = two_texts_given (codes "db") (codes "CONFIG") (codes "SCRIPT") (refl, refl) (refl, refl) refl refl words fine in
+    ((λ e. (given.0, inr (inr (inr (inr (inr (refl, given.1))))))), (λ e. absurd (true≢false e)))
 
 all_fit : AllByRecursion Fits whole.subs
-all_fit = (one_fits, (as_fits, (dis_fits, (nm_fits, (step_fits, (run_fits, (replay_fits, (trace_fits, (db_fits, tt)))))))))
+all_fit = (one_fits, (as_fits, (dis_fits, (nm_fits, (step_fits, (run_fits, (replay_fits, (trace_fits, (draw_fits, (db_fits, tt))))))))))
 
 -- ---- the words of a command line
 

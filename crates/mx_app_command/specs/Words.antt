@@ -5,13 +5,13 @@ use Rattle.std.specs.Str.Parse.{ParsesUnsigned}
 use Rattle.std.specs.declared.num.ParseIntError.{ParseIntError}
 use Rattle.clap.specs.Words.{App, Row, Rule, Shape, Text, first_of, new_rule, one_of}
 use Rattle.clap.specs.Simple.{new_shape}
-use Rattle.clap.specs.declared.builder.action.ArgAction.TheVariants.{Set}
+use Rattle.clap.specs.declared.builder.action.ArgAction.TheVariants.{Set, SetTrue}
 use Rattle.clap.specs.declared.builder.command.Command.{Command}
 use Rattle.clap.specs.declared.builder.command.Command.TheViews.{out-Command}
 use Rattle.clap.specs.declared.builder.value_parser.ValueParser.TheVariants.{Signed}
 use Rattle.mx_app_command.specs.declared.words.CommandRequest.{CommandRequest}
 use Rattle.mx_app_command.specs.declared.words.RecordRange.{RecordRange}
-use Rattle.mx_app_command.specs.declared.words.CommandRequest.TheVariants.{One, As, Dis, Nm, Step, Run, Replay, Trace, Db}
+use Rattle.mx_app_command.specs.declared.words.CommandRequest.TheVariants.{One, As, Dis, Nm, Step, Run, Replay, Trace, Draw, Db}
 
 -- ---- the grammar
 
@@ -31,9 +31,13 @@ after_name long id = record (new_rule id) { long = Some long; action = Some Set 
 abbrev pub number_after : Text → Text → Rule
 number_after long id = record (after_name long id) { parser = Some (Signed (pos 0) (pos 4294967295)) }
 
--- a subcommand, by its name and its arguments
+-- a flag, by its name
+abbrev pub flag : Text → Rule
+flag id = record (new_rule id) { long = Some id; action = Some SetTrue }
+
+-- a subcommand, by its name and its arguments; each may be asked to explain a failure
 abbrev pub subcommand : Text → List Rule → Shape
-subcommand name arguments = record (new_shape name) { rules = arguments }
+subcommand name arguments = record (new_shape name) { rules = arguments ++ flag (codes "explain") ∷ [] }
 
 -- a subcommand of one text, and of two, by its name and theirs
 abbrev pub of_one : Text → Text → Shape
@@ -91,6 +95,7 @@ mx_grammar = record {
       ∷ run_shape
       ∷ of_two (codes "replay") (codes "CONFIG") (codes "LOG")
       ∷ looking_shape (codes "trace")
+      ∷ looking_shape (codes "draw")
       ∷ of_two (codes "db") (codes "CONFIG") (codes "SCRIPT")
       ∷ [];
 }
@@ -137,8 +142,22 @@ AsksBy (Replay config log) name rows =
     (name ≡ codes "replay") × HasText (codes "CONFIG") rows config.now × HasText (codes "LOG") rows log.now
 AsksBy (Trace config log range) name rows =
     (name ≡ codes "trace") × HasText (codes "CONFIG") rows config.now × HasText (codes "LOG") rows log.now × HasRange rows range
+AsksBy (Draw config log range) name rows =
+    (name ≡ codes "draw") × HasText (codes "CONFIG") rows config.now × HasText (codes "LOG") rows log.now × HasRange rows range
 AsksBy (Db config script) name rows =
     (name ≡ codes "db") × HasText (codes "CONFIG") rows config.now × HasText (codes "SCRIPT") rows script.now
+
+-- the flag is given, or it isn't
+abbrev pub IsFlag : Text → List Row → Bool → Type 0
+IsFlag id rows given =
+    (one_of id rows ≡ Some (codes "true") → given ≡ true)
+    × ((one_of id rows ≡ Some (codes "false") → given ≡ false)
+    × (one_of id rows ≡ None → given ≡ false))
+
+-- the words ask that a failure is explained, or they don't
+abbrev pub AsksToExplain : Bool → Option (Text × List Row) → Type 0
+AsksToExplain explains (Some found) = IsFlag (codes "explain") found.1 explains
+AsksToExplain explains None = ⊥
 
 abbrev pub Asks : CommandRequest → Option (Text × List Row) → Type 0
 Asks request (Some found) = AsksBy request found.0 found.1
@@ -166,7 +185,7 @@ IsProgramAsked name rows =
     ⊎ (((name ≡ codes "as") × IsGiven (codes "TEXT") rows)
     ⊎ ((name ≡ codes "dis") ⊎ (name ≡ codes "nm"))))
 
--- those that work on a machine: each has a configuration, and a script or a history; `run` may have a number, and `trace` two
+-- those that work on a machine: each has a configuration, and a script or a history; `run` may have a number, `trace` and `draw` two
 abbrev pub IsMachineAsked : Text → List Row → Type 0
 IsMachineAsked name rows =
     IsGiven (codes "CONFIG") rows
@@ -174,14 +193,16 @@ IsMachineAsked name rows =
     ⊎ (((name ≡ codes "run") × IsGiven (codes "LOG") rows × MayHaveNumber (codes "T") rows)
     ⊎ (((name ≡ codes "replay") × IsGiven (codes "LOG") rows)
     ⊎ (((name ≡ codes "trace") × IsGiven (codes "LOG") rows × MayHaveRange rows)
-    ⊎ ((name ≡ codes "db") × IsGiven (codes "SCRIPT") rows)))))
+    ⊎ (((name ≡ codes "draw") × IsGiven (codes "LOG") rows × MayHaveRange rows)
+    ⊎ ((name ≡ codes "db") × IsGiven (codes "SCRIPT") rows))))))
 
 abbrev pub is_machine : Text → Bool
 is_machine name =
     bytes_eq name (codes "step")
     || (bytes_eq name (codes "run")
     || (bytes_eq name (codes "replay")
-    || (bytes_eq name (codes "trace") || bytes_eq name (codes "db"))))
+    || (bytes_eq name (codes "trace")
+    || (bytes_eq name (codes "draw") || bytes_eq name (codes "db")))))
 
 abbrev pub IsAsked : Text → List Row → Type 0
 IsAsked name rows =

@@ -18,6 +18,8 @@ enum ArgumentForm<'a> {
     Number,
     /// A text that may be given, after this long name.
     After(&'a str),
+    /// A flag that may be given, by its own name.
+    Flag,
     /// A number of 32 bits that may be given, after this long name.
     NumberAfter(&'a str),
 }
@@ -109,17 +111,17 @@ const TICKS: CommandArgument<'static> = CommandArgument {
     form: ArgumentForm::NumberAfter("ticks"),
 };
 
-/// The first record that is told.
+/// The first record that is told or drawn.
 const FROM: CommandArgument<'static> = CommandArgument {
     name: "A",
-    help: "The first record that is told, 1 by default; records are counted from 1",
+    help: "The first record that is shown, 1 by default; records are counted from 1",
     form: ArgumentForm::NumberAfter("from"),
 };
 
-/// The last record that is told.
+/// The last record that is told or drawn.
 const TO: CommandArgument<'static> = CommandArgument {
     name: "B",
-    help: "The last record that is told, the history's last by default",
+    help: "The last record that is shown, the history's last by default",
     form: ArgumentForm::NumberAfter("to"),
 };
 
@@ -130,60 +132,73 @@ const COMMANDS: CommandArgument<'static> = CommandArgument {
     form: ArgumentForm::Text,
 };
 
+/// Whether a failure is explained.
+const EXPLAIN: CommandArgument<'static> = CommandArgument {
+    name: "explain",
+    help: "If it fails, tells in a second line which file it is about and what was wanted",
+    form: ArgumentForm::Flag,
+};
+
 /// The subcommands, those that work on one program first.
-static SUBCOMMANDS: [Subcommand<'static>; 9] = [
+static SUBCOMMANDS: [Subcommand<'static>; 10] = [
     Subcommand {
         name: "one",
         help: "Runs one program for at most N steps and prints its registers, flags and how it stopped",
-        arguments: &[FILE, STEPS],
+        arguments: &[FILE, STEPS, EXPLAIN],
         example: Example::One,
     },
     Subcommand {
         name: "as",
         help: "Assembles a text to a program",
-        arguments: &[TEXT, WRITTEN],
+        arguments: &[TEXT, WRITTEN, EXPLAIN],
         example: Example::As,
     },
     Subcommand {
         name: "dis",
         help: "Prints the instructions of a program, one a line",
-        arguments: &[FILE],
+        arguments: &[FILE, EXPLAIN],
         example: Example::Dis,
     },
     Subcommand {
         name: "nm",
         help: "Prints the symbols of a program, one a line",
-        arguments: &[FILE],
+        arguments: &[FILE, EXPLAIN],
         example: Example::Nm,
     },
     Subcommand {
         name: "step",
         help: "Runs a machine by a script and prints its answers and a report",
-        arguments: &[CONFIG, SCRIPT, SAVED],
+        arguments: &[CONFIG, SCRIPT, SAVED, EXPLAIN],
         example: Example::Step,
     },
     Subcommand {
         name: "run",
         help: "Runs a machine, each processor in a thread, writes its history and prints a report",
-        arguments: &[CONFIG, RECORDED, TICKS],
+        arguments: &[CONFIG, RECORDED, TICKS, EXPLAIN],
         example: Example::Run,
     },
     Subcommand {
         name: "replay",
         help: "Runs a saved history again and prints the report",
-        arguments: &[CONFIG, LOG],
+        arguments: &[CONFIG, LOG, EXPLAIN],
         example: Example::Replay,
     },
     Subcommand {
         name: "trace",
         help: "Runs a saved history again and prints what each record did",
-        arguments: &[CONFIG, LOG, FROM, TO],
+        arguments: &[CONFIG, LOG, FROM, TO, EXPLAIN],
         example: Example::Trace,
+    },
+    Subcommand {
+        name: "draw",
+        help: "Runs a saved history again and prints a picture of it as SVG",
+        arguments: &[CONFIG, LOG, FROM, TO, EXPLAIN],
+        example: Example::Draw,
     },
     Subcommand {
         name: "db",
         help: "Runs a machine by a script with breakpoints, and looks into it",
-        arguments: &[CONFIG, COMMANDS],
+        arguments: &[CONFIG, COMMANDS, EXPLAIN],
         example: Example::Db,
     },
 ];
@@ -198,6 +213,7 @@ fn argument_of<'a>(alloc: Global, argument: &CommandArgument<'a>) -> Arg<'a>
         .help(argument.help);
     match argument.form {
         ArgumentForm::Text => arg.required(true),
+        ArgumentForm::Flag => arg.action(ArgAction::SetTrue).long(argument.name),
         ArgumentForm::Number => arg.required(true).value_parser(clap::value_parser!(u32)),
         ArgumentForm::After(name) => arg.long(name),
         ArgumentForm::NumberAfter(name) => { arg.long(name).value_parser(clap::value_parser!(u32)) }
@@ -232,6 +248,11 @@ fn with_all<'a>(
     Ok(line)
 }
 
+/// What the help of all subcommands ends with.
+const MORE_HELP: &str =
+    "mx help SUBCOMMAND, or mx SUBCOMMAND --help, tells the words, examples and statuses of one.
+Each takes --explain: if it fails, a second line tells what was wanted.";
+
 /// What `mx --version` prints beside the name.
 const VERSION: &str = "0.1";
 
@@ -241,6 +262,7 @@ pub fn grammar<'a>(alloc: Global) -> Result<Command<'a>, AllocError>
 {
     let line = Command::new(alloc, "mx")
         .about("A machine for the process layer of MINIX 3.1")
+        .after_help(MORE_HELP)
         .version(VERSION)
         .subcommand_required(true)
         .disable_help_subcommand(true);

@@ -20,6 +20,8 @@ pub(crate) enum Example {
     Replay,
     /// What a history's records did.
     Trace,
+    /// A picture of a history.
+    Draw,
     /// A debugger's script.
     Db,
 }
@@ -36,6 +38,7 @@ impl Example {
             Example::Run => RUN_EXAMPLE,
             Example::Replay => REPLAY_EXAMPLE,
             Example::Trace => TRACE_EXAMPLE,
+            Example::Draw => DRAW_EXAMPLE,
             Example::Db => DB_EXAMPLE,
         }
     }
@@ -261,3 +264,19 @@ $ mx trace pair.config pair.log --from 6 --to 6
 Status: 0 done; 1 a text or a program's file is refused, or an event, which is told
 by its line; 2 a mistake in the words; 3 a file can't be read; 4 no memory. Formats:
 docs/REFERENCE.md.";
+
+/// A picture of a history.
+const DRAW_EXAMPLE: &str = "In the folder examples:
+
+$ mx draw restart.config restart.log >/tmp/restart.svg
+$ mx draw restart.config restart.log --from 19 --to 30 >/tmp/killed.svg
+
+The picture is SVG 1.1, which a browser shows. It has a column for each record and a
+row for each service. Bars show what a service does, arrows are messages and
+notifications, and the lowest row has what was written to the console. Under the
+pointer stands the line that mx trace has of the same. A picture has at most 1,000
+records: of a longer history it has those from A on, and its title says which.
+
+Status: 0 done; 1 a text or a program's file is refused, or an event, which the picture
+tells at its top right; 2 a mistake in the words; 3 a file can't be read; 4 no memory.
+Formats: docs/REFERENCE.md.";

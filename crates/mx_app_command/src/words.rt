@@ -1,8 +1,8 @@
 //! The command line.
 
-ghost use Rattle.std.specs.Prelude.{◌≡◌, ℕ, IfErr, IfOk, codes, false, is_some, map, option_map, true};
+ghost use Rattle.std.specs.Prelude.{◌≡◌, ℕ, Bool, IfErr, IfOk, codes, false, is_some, map, option_map, true};
 ghost use Rattle.clap.specs.Words.{FailsBy, HasMatchesOf, fault_of, first_of, found_of, kind_of, rows_of, subcommand_of, takes};
-ghost use Rattle.mx_app_command.specs.Words.{Asks, AsksBy, HasNumber, HasNumberOr, HasRange, HasText, MayHaveNumber, MayHaveRange, MayHaveText, IsAsked, IsMachineAsked, IsProgramAsked, is_machine, mx_grammar};
+ghost use Rattle.mx_app_command.specs.Words.{Asks, AsksBy, AsksToExplain, HasNumber, HasNumberOr, HasRange, HasText, IsFlag, MayHaveNumber, MayHaveRange, MayHaveText, IsAsked, IsMachineAsked, IsProgramAsked, is_machine, mx_grammar};
 
 use crate::grammar::grammar;
 use clap::error::ErrorKind;
@@ -63,11 +63,25 @@ pub enum CommandRequest<'a> {
         log: &'a str,
         range: RecordRange,
     },
+    /// `draw CONFIG LOG`, with `--from A` and `--to B` or without.
+    Draw {
+        config: &'a str,
+        log: &'a str,
+        range: RecordRange,
+    },
     /// `db CONFIG SCRIPT`.
     Db {
         config: &'a str,
         script: &'a str,
     },
+}
+
+/// What a command line asks for.
+#[derive(Clone, Copy, Debug, PartialEq, Eq)]
+pub struct CommandLine<'a> {
+    pub request: CommandRequest<'a>,
+    /// Whether a failure is to be explained.
+    pub explains: bool,
 }
 
 /// The value that an argument has, which is there.
@@ -112,6 +126,13 @@ fn range_asked(matches: &ArgMatches<'_>) -> RecordRange
     }
 }
 
+/// Whether a flag is given.
+fn flag_asked(matches: &ArgMatches<'_>, id: &str) -> bool
+    ensures { IsFlag id.now (rows_of (found_of matches.now)) result }
+{
+    matches.get_flag(id)
+}
+
 /// What the words of a subcommand on one program ask for.
 fn program_request<'a>(name: &str, matches: &ArgMatches<'a>) -> CommandRequest<'a>
     requires { IsProgramAsked name.now (rows_of (found_of matches.now)) }
@@ -151,6 +172,11 @@ fn machine_request<'a>(name: &str, matches: &ArgMatches<'a>) -> CommandRequest<'
         let range = range_asked(matches);
         return CommandRequest::Trace { config, log, range };
     }
+    if name == "draw" {
+        let log = value_asked(matches, "LOG");
+        let range = range_asked(matches);
+        return CommandRequest::Draw { config, log, range };
+    }
     let script = value_asked(matches, "SCRIPT");
     if name == "step" {
         let save = value_if_asked(matches, "LOG");
@@ -168,7 +194,12 @@ fn machine_request<'a>(name: &str, matches: &ArgMatches<'a>) -> CommandRequest<'
 fn is_machine(name: &str) -> bool
     ensures { result ≡ is_machine name.now }
 {
-    name == "step" || name == "run" || name == "replay" || name == "trace" || name == "db"
+    name == "step"
+        || name == "run"
+        || name == "replay"
+        || name == "trace"
+        || name == "draw"
+        || name == "db"
 }
 
 /// What a subcommand's words ask for.
@@ -194,15 +225,19 @@ fn matches_of<'a>(alloc: Global, words: &'a [&'a str]) -> Result<ArgMatches<'a>,
 }
 
 /// Reads the words of a command line, the program's own name first.
-pub fn command<'a>(alloc: Global, words: &'a [&'a str]) -> Result<CommandRequest<'a>, Error>
-    ensures asks { IfOk result (λ r. Asks r (subcommand_of mx_grammar (map (λ s. s.now) words.now))) }
+pub fn command<'a>(alloc: Global, words: &'a [&'a str]) -> Result<CommandLine<'a>, Error>
+    ensures asks { IfOk result (λ l. Asks l.request (subcommand_of mx_grammar (map (λ s. s.now) words.now))) }
+    ensures explains { IfOk result (λ l. AsksToExplain l.explains (subcommand_of mx_grammar (map (λ s. s.now) words.now))) }
     ensures passes { IfErr result (λ e. takes mx_grammar (map (λ s. s.now) words.now) ≡ true
         → kind_of e ≡ ErrorKind.OutOfMemory) }
     ensures kinds { FailsBy (fault_of mx_grammar (map (λ s. s.now) words.now)) result }
 {
     let matches = matches_of(alloc, words)?;
     match matches.subcommand() {
-        Some((name, found)) => Ok(request_of(name, found)),
+        Some((name, found)) => Ok(CommandLine {
+            request: request_of(name, found),
+            explains: flag_asked(found, "explain"),
+        }),
         None => unreachable!(),
     }
 }

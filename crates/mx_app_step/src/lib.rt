@@ -21,4 +21,4 @@ pub use printing::{pieces_join, print_piece, print_report};
 pub use records::{Replayed, replay};
 pub use saving::step_saved;
 pub use stepping::make_steps;
-pub use tracing::trace;
+pub use tracing::{first_records, look_record, trace};

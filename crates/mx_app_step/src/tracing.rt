@@ -58,7 +58,7 @@ fn begin_record(machine: &mut Machine, actor: u8, event: Recorded) -> Result<(),
 }
 
 /// A record as a step: it is looked at after the steps, and after its own event.
-fn look_record(machine: &mut Machine, number: u32, entry: Record) -> Result<Step, Refusal>
+pub fn look_record(machine: &mut Machine, number: u32, entry: Record) -> Result<Step, Refusal>
     requires { entry.actor < actors (world_of machine.old) }
     ensures ok { OnOk result (AreAccepted (world_of machine.old) (events_of entry.actor entry.event)
         × (world_of machine.new
@@ -149,7 +149,7 @@ fn print_trace<W: Write>(
 }
 
 /// At most that many of the first records.
-fn first_records(records: &[Record], count: u32) -> &[Record]
+pub fn first_records(records: &[Record], count: u32) -> &[Record]
     ensures first { result.now ≡ take count records.entry.now }
     ensures few { length result.now < 2 ^ 32 }
 {

@@ -69,7 +69,7 @@ fn same_awaited(a: Awaited, b: Awaited) -> bool
 }
 
 /// Whether two processes do the same.
-pub(crate) fn same_doing(a: Doing, b: Doing) -> bool
+pub fn same_doing(a: Doing, b: Doing) -> bool
     ensures { result ≡ same_doing a b }
 {
     match (a, b) {

@@ -11,11 +11,11 @@ mod step;
 
 pub use calls::{asks_kernel, kernel_call};
 pub use deliveries::{delivery_to, is_new_bit};
-pub use doings::is_ready;
+pub use doings::{is_ready, same_doing};
 pub use going::{gone_on, got, is_acted};
 pub use mx_look_glance::{
     Awaited, CpuGlance, DeathCause, Delivery, DeliveryKind, Doing, Glance, ImageGlance, Machine,
     SlotGlance,
 };
 pub use slots::{has_changed, has_rung, is_renewed};
-pub use step::{Step, about, held_after, held_before, slot_in};
+pub use step::{Step, about, cpu_in, held_after, held_before, slot_in};

@@ -33,7 +33,7 @@ pub fn slot_in(glance: &Glance, slot: u32) -> Option<&SlotGlance>
 }
 
 /// What is seen of a processor.
-fn cpu_in(glance: &Glance, cpu: u8) -> Option<&CpuGlance>
+pub fn cpu_in(glance: &Glance, cpu: u8) -> Option<&CpuGlance>
     ensures { MatchOption result (cpu_in glance.now cpu ≡ None) (λ seen. cpu_in glance.now cpu
         ≡ Some seen.now) }
 {

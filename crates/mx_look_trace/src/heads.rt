@@ -123,7 +123,7 @@ fn push_about(out: &mut Vec<u8>, step: &Step) -> Result<(), AllocError>
 
 /// Appends a record's own line: its number, its actor, its event, and what it is about.
 #[tactic(auto, unfolding(crate::specs::Trace::head_line))]
-pub(crate) fn push_head(out: &mut Vec<u8>, step: &Step) -> Result<(), AllocError>
+pub fn push_head(out: &mut Vec<u8>, step: &Step) -> Result<(), AllocError>
     ensures { OnOk result (out.new.items ≡ out.old.items ++ head_line step.now) }
 {
     push_decimal(out, step.number)?;

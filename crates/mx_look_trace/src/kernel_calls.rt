@@ -11,7 +11,7 @@ use std::alloc::AllocError;
 
 /// The name of the request of a type, or nothing.
 #[tactic(auto, unfolding(crate::specs::KernelCalls::request_name))]
-fn request_name(kind: u32) -> &'static [u8]
+pub fn request_name(kind: u32) -> &'static [u8]
     ensures { result.now ≡ request_name kind }
 {
     match kind {

@@ -75,7 +75,7 @@ fn push_console_text(out: &mut Vec<u8>, byte: u8) -> Result<(), AllocError>
 
 /// Appends the line of a byte that was written to the console, if one was.
 #[tactic(auto, unfolding(crate::specs::Trace::console_line))]
-pub(crate) fn push_console_line(out: &mut Vec<u8>, step: &Step) -> Result<(), AllocError>
+pub fn push_console_line(out: &mut Vec<u8>, step: &Step) -> Result<(), AllocError>
     ensures { OnOk result (out.new.items ≡ out.old.items ++ console_line step.now) }
 {
     if step.before.written == step.after.written {
@@ -145,7 +145,7 @@ fn push_delivered_words(out: &mut Vec<u8>, step: &Step, slot: u32) -> Result<(),
 
 /// Appends the line of what a slot got, if it got anything.
 #[tactic(auto, unfolding(crate::specs::Trace::delivery_line))]
-pub(crate) fn push_delivery(out: &mut Vec<u8>, step: &Step, slot: u32) -> Result<(), AllocError>
+pub fn push_delivery(out: &mut Vec<u8>, step: &Step, slot: u32) -> Result<(), AllocError>
     requires { slot < 32 }
     ensures { OnOk result (out.new.items ≡ out.old.items ++ delivery_line step.now slot) }
 {
@@ -202,7 +202,7 @@ fn push_changed(
 
 /// Appends the line of a slot whose process does something else, if it does.
 #[tactic(auto, unfolding(crate::specs::Trace::change_line))]
-pub(crate) fn push_change(out: &mut Vec<u8>, step: &Step, slot: u32) -> Result<(), AllocError>
+pub fn push_change(out: &mut Vec<u8>, step: &Step, slot: u32) -> Result<(), AllocError>
     ensures { OnOk result (out.new.items ≡ out.old.items ++ change_line step.now slot) }
 {
     if !has_changed(step, slot) {

@@ -10,7 +10,7 @@ use mx_print_report::push_decimal;
 use std::alloc::AllocError;
 
 /// Appends a number with its sign.
-pub(crate) fn push_signed(out: &mut Vec<u8>, number: u32) -> Result<(), AllocError>
+pub fn push_signed(out: &mut Vec<u8>, number: u32) -> Result<(), AllocError>
     ensures { OnOk result (out.new.items ≡ out.old.items
         ++ signed_decimal (cast_signed w32 number)) }
 {
@@ -31,7 +31,7 @@ fn digit(number: u8) -> u8
 
 /// Appends a byte in hexadecimal digits.
 #[tactic(auto, unfolding(crate::specs::Numbers::hex_text))]
-pub(crate) fn push_hex(out: &mut Vec<u8>, byte: u8) -> Result<(), AllocError>
+pub fn push_hex(out: &mut Vec<u8>, byte: u8) -> Result<(), AllocError>
     ensures { OnOk result (out.new.items ≡ out.old.items ++ hex_text byte) }
 {
     if byte >= 16 {

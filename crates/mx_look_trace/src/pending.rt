@@ -22,7 +22,7 @@ fn push_source(out: &mut Vec<u8>, glance: &Glance, place: u32) -> Result<(), All
 
 /// Appends the line of a notification that is kept, if it is.
 #[tactic(auto, unfolding(crate::specs::Trace::kept_line))]
-fn push_kept(
+pub fn push_kept(
     out: &mut Vec<u8>,
     step: &Step,
     before: &SlotGlance,

@@ -99,7 +99,7 @@ fn push_cause(out: &mut Vec<u8>, cause: DeathCause) -> Result<(), AllocError>
 
 /// Appends what a process does, in a report's words.
 #[tactic(auto, unfolding(crate::specs::Words::doing_text))]
-pub(crate) fn push_doing(out: &mut Vec<u8>, doing: Doing) -> Result<(), AllocError>
+pub fn push_doing(out: &mut Vec<u8>, doing: Doing) -> Result<(), AllocError>
     ensures { OnOk result (out.new.items ≡ out.old.items ++ doing_text doing) }
 {
     match doing {

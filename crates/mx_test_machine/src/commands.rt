@@ -1,7 +1,10 @@
 //! From the words of a command line to the status, to what is printed and told, and to the files.
 
 use crate::files::{SUM, reader};
-use mx_app::{Channels, KeptFile, MemoryWriter, NamedFiles, perform_words};
+use mx_app::{
+    Channels, Complaint, Failure, KeptFile, MemoryWriter, NamedFiles, NotingFiles, NotingReader,
+    perform_words,
+};
 use std::alloc::Global;
 use std::fmt::Write as _;
 use std::io;
@@ -33,7 +36,7 @@ impl Write for Sink {
     }
 }
 
-type Held = Channels<NamedFiles<'static>, MemoryWriter, Sink>;
+type Held = Channels<NotingReader<NamedFiles<'static>>, NotingFiles<MemoryWriter>, Sink>;
 
 /// Channels over lists of bytes, of which those that take bytes may be broken.
 fn channels(alloc: Global, refusal: Option<io::ErrorKind>) -> Held {
@@ -42,8 +45,8 @@ fn channels(alloc: Global, refusal: Option<io::ErrorKind>) -> Held {
         None => MemoryWriter::new(alloc),
     };
     Channels {
-        reader: reader(),
-        files,
+        reader: NotingReader::new(reader()),
+        files: NotingFiles::new(files),
         out: Sink {
             bytes: Vec::new(alloc),
             flushed: 0,
@@ -220,7 +223,7 @@ struct Failed {
     told: &'static str,
 }
 
-static FAILED: [Failed; 46] = [
+static FAILED: [Failed; 48] = [
     Failed {
         words: &["mx", "one", "cut", "9"],
         status: 1,
@@ -264,6 +267,11 @@ static FAILED: [Failed; 46] = [
     // A text that is no history is refused wherever its bad line stands.
     Failed {
         words: &["mx", "trace", "one", "look", "--to", "0"],
+        status: 1,
+        told: "mx: 73 BadRecord line 1\n",
+    },
+    Failed {
+        words: &["mx", "draw", "one", "look", "--from", "2"],
         status: 1,
         told: "mx: 73 BadRecord line 1\n",
     },
@@ -334,6 +342,11 @@ static FAILED: [Failed; 46] = [
     },
     Failed {
         words: &["mx", "replay", "one"],
+        status: 2,
+        told: "",
+    },
+    Failed {
+        words: &["mx", "draw", "one", "whole", "--to", "-1"],
         status: 2,
         told: "",
     },
@@ -455,6 +468,92 @@ static FAILED: [Failed; 46] = [
     },
 ];
 
+/// Words that fail, each with `--explain` somewhere among them.
+static EXPLAINED: [Failed; 13] = [
+    Failed {
+        words: &["mx", "one", "--explain", "cut", "9"],
+        status: 1,
+        told: "mx: 20 Truncated\n\
+               mx: FILE cut: wanted a whole header, and a file as long as it says\n",
+    },
+    Failed {
+        words: &["mx", "as", "wrong.s", "new.out", "--explain"],
+        status: 1,
+        told: "mx: 11 BadOperands line 2\n\
+               mx: TEXT wrong.s: wanted operands that the statement takes\n",
+    },
+    Failed {
+        words: &["mx", "as", "sum.s", "sum.s", "--explain"],
+        status: 3,
+        told: "mx: 80 File\nmx: FILE sum.s: wanted another file than the one that is read\n",
+    },
+    Failed {
+        words: &["mx", "dis", "nothing", "--explain"],
+        status: 3,
+        told: "mx: 80 File\nmx: FILE nothing: wanted a file that can be read\n",
+    },
+    Failed {
+        words: &["mx", "--explain", "nm", "cut"],
+        status: 2,
+        told: "",
+    },
+    Failed {
+        words: &["mx", "step", "one", "tock", "--explain"],
+        status: 1,
+        told: "mx: 73 BadRecord line 2\nmx: SCRIPT tock: \
+               wanted an event: take C, step C K, back C, line L, tick, kill E or respawn S\n",
+    },
+    Failed {
+        words: &["mx", "step", "--explain", "one", "no_text"],
+        status: 3,
+        told: "mx: 80 File\nmx: SCRIPT no_text: \
+               wanted UTF-8 in what is read, and room for what is printed\n",
+    },
+    Failed {
+        words: &["mx", "run", "none_first", "new.log", "--explain"],
+        status: 3,
+        told: "mx: 80 File\nmx: a service's program none: wanted a file that can be read\n",
+    },
+    Failed {
+        words: &[
+            "mx",
+            "run",
+            "cut_first",
+            "new.log",
+            "--explain",
+            "--ticks",
+            "2",
+        ],
+        status: 1,
+        told: "mx: 20 Truncated\n\
+               mx: a service's program cut: \
+               wanted a whole header, and a file as long as it says\n",
+    },
+    Failed {
+        words: &["mx", "replay", "one", "look", "--explain"],
+        status: 1,
+        told: "mx: 73 BadRecord line 1\nmx: LOG look: \
+               wanted a record and its line feed: A take, A back N, A line L, A tick, A kill E or \
+               A respawn S; or rules 2 on line 1\n",
+    },
+    Failed {
+        words: &["mx", "trace", "one", "nothing", "--from", "2", "--explain"],
+        status: 3,
+        told: "mx: 80 File\nmx: LOG nothing: wanted a file that can be read\n",
+    },
+    Failed {
+        words: &["mx", "nm", "--explain", "nothing"],
+        status: 3,
+        told: "mx: 80 File\nmx: FILE nothing: wanted a file that can be read\n",
+    },
+    Failed {
+        words: &["mx", "db", "bad", "look", "--explain"],
+        status: 1,
+        told: "mx: 70 BadLine line 2\nmx: CONFIG bad: \
+               wanted an item: cpus, others, log, rules or service; and at least one service\n",
+    },
+];
+
 /// Performs words, and answers the status; what is to be told is appended.
 fn perform<R: Threads + Wait + Clock + Sync>(
     channels: &mut Held,
@@ -493,7 +592,7 @@ fn is_done<R: Threads + Wait + Clock + Sync>(rt: &R, alloc: Global, row: &Done) 
     perform(&mut channels, rt, alloc, row.words, &mut told) == row.status
         && told.is_empty()
         && is_printed(&channels.out, row.printed)
-        && is_kept(channels.files.files(), row.file)
+        && is_kept(channels.files.writer().files(), row.file)
 }
 
 /// Whether words end so, with nothing printed or written, where this breaks; a mistake in the words is told
@@ -517,7 +616,7 @@ fn is_told<R: Threads + Wait + Clock + Sync>(
     ended == status
         && is_told
         && is_printed(&channels.out, "")
-        && is_kept(channels.files.files(), None)
+        && is_kept(channels.files.writer().files(), None)
 }
 
 #[test]
@@ -538,6 +637,52 @@ fn commands_failed(rt: HostRuntime) -> Result<(), Fail> {
     }
     Ok(())
 }
+
+#[test]
+fn failures_explained(rt: HostRuntime) -> Result<(), Fail> {
+    for (number, row) in EXPLAINED.iter().enumerate() {
+        assert!(rt;
+            is_told(&rt, rt.alloc(), row.words, None, row.status, row.told),
+            "row {number}"
+        );
+    }
+    Ok(())
+}
+
+/// A history that can't be written is told by its word, and so is an output that takes nothing.
+#[test]
+fn writing_explained(rt: HostRuntime) {
+    let broken = Some(io::ErrorKind::BrokenPipe);
+    for (words, told) in UNWRITABLE {
+        assert!(rt; is_told(&rt, rt.alloc(), words, broken, 3, told));
+    }
+}
+
+/// A failure for whose line there is no memory says so, and keeps its status.
+#[test]
+fn nothing_explained(rt: HostRuntime) -> Result<(), Fail> {
+    let complaint = Complaint::Unexplained(Failure::File);
+    let told = complaint.to_string(rt.alloc())?;
+    assert!(rt; told.as_str() == "mx: 80 File\nmx: memory: wanted more of it\n");
+    assert!(rt; complaint.status() == 3);
+    Ok(())
+}
+
+/// Words that write, and what is told where nothing can be written.
+const UNWRITABLE: [(&[&str], &str); 3] = [
+    (
+        &["mx", "as", "sum.s", "new.out", "--explain"],
+        "mx: 80 File\nmx: FILE new.out: wanted a file that can be written\n",
+    ),
+    (
+        &["mx", "run", "one", "new.log", "--explain"],
+        "mx: 80 File\nmx: LOG new.log: wanted a file that can be written\n",
+    ),
+    (
+        &["mx", "dis", "a.out", "--explain"],
+        "mx: 80 File\nmx: standard output: wanted room for what is printed\n",
+    ),
+];
 
 /// What takes bytes is broken, or has no memory for them.
 #[test]
@@ -567,11 +712,16 @@ fn history_unwritten(rt: HostRuntime) {
     let alloc = rt.alloc();
     for (words, printed) in UNWRITTEN {
         let mut channels = channels(alloc, None);
-        channels.files = MemoryWriter::refusing(alloc, io::ErrorKind::PermissionDenied);
+        channels.files = NotingFiles::new(MemoryWriter::refusing(
+            alloc,
+            io::ErrorKind::PermissionDenied,
+        ));
         let mut told = String::new(alloc);
         let status = perform(&mut channels, &rt, alloc, words, &mut told);
         assert!(rt; status == 3 && told.as_str() == "mx: 80 File\n");
-        assert!(rt; is_printed(&channels.out, printed) && is_kept(channels.files.files(), None));
+        assert!(rt;
+            is_printed(&channels.out, printed) && is_kept(channels.files.writer().files(), None)
+        );
     }
 }
 
@@ -597,7 +747,7 @@ fn run_with_ticks(rt: HostRuntime) {
             "0 a 0 down fault 13 7 1\nuptime 3\nconsole 0\n"
         )
     );
-    let files = channels.files.files();
+    let files = channels.files.writer().files();
     assert!(rt; files.len() == 1 && lines_in(files[0].bytes.as_slice()) == 8);
 }
 
@@ -615,8 +765,15 @@ fn helps(rt: HostRuntime) -> Result<(), Fail> {
     Ok(())
 }
 
-const HELPS: [(&[&str], &str); 11] = [
-    (&["mx", "--help"], "  -V, --version  Print version\n"),
+const HELPS: [(&[&str], &str); 12] = [
+    (
+        &["mx", "--help"],
+        "  -V, --version  Print version
+
+mx help SUBCOMMAND, or mx SUBCOMMAND --help, tells the words, examples and statuses of one.
+Each takes --explain: if it fails, a second line tells what was wanted.
+",
+    ),
     (&["mx", "--version"], "mx 0.1\n"),
     (
         &["mx", "one", "--help"],
@@ -676,6 +833,13 @@ docs/REFERENCE.md.
 ",
     ),
     (
+        &["mx", "draw", "--help"],
+        "Status: 0 done; 1 a text or a program's file is refused, or an event, which the picture
+tells at its top right; 2 a mistake in the words; 3 a file can't be read; 4 no memory.
+Formats: docs/REFERENCE.md.
+",
+    ),
+    (
         &["mx", "replay", "--help"],
         "Status: 0 done; 1 a text or a program's file is refused, or an event, which is told
 by its line; 2 a mistake in the words; 3 a file can't be read; 4 no memory. Formats:
@@ -706,5 +870,84 @@ fn ends_so<R: Threads + Wait + Clock + Sync>(
     status == 0
         && told.is_empty()
         && out.bytes.ends_with(ending.as_bytes())
+        && out.flushed == out.bytes.len()
+}
+
+/// A picture is a whole document, whose title says which records it has; that a record is refused is told
+/// in it, and by the status.
+#[test]
+fn pictures(rt: HostRuntime) -> Result<(), Fail> {
+    for (words, status, title) in PICTURES {
+        assert!(rt; is_drawn(&rt, rt.alloc(), words, status, title), "{title}");
+    }
+    Ok(())
+}
+
+/// Of one service on one processor, with at most 12 records.
+const SMALL_PICTURE: &str = "<?xml version=\"1.0\" encoding=\"UTF-8\"?>
+<svg xmlns=\"http://www.w3.org/2000/svg\" version=\"1.1\" width=\"684\" height=\"276\" viewBox=\"0 0 684 276\">
+";
+
+const PICTURES: [(&[&str], u8, &str); 6] = [
+    (
+        &["mx", "draw", "one", "whole"],
+        0,
+        "<title>Records 1 to 4 of 4, 1 service, 1 processor</title>\n",
+    ),
+    (
+        &["mx", "draw", "one", "whole", "--from", "0", "--to", "2"],
+        0,
+        "<title>Records 1 to 2 of 4, 1 service, 1 processor</title>\n",
+    ),
+    (
+        &[
+            "mx",
+            "draw",
+            "--to",
+            "4294967295",
+            "one",
+            "whole",
+            "--from",
+            "3",
+        ],
+        0,
+        "<title>Records 3 to 4 of 4, 1 service, 1 processor</title>\n",
+    ),
+    // No record: past the end, and a range that ends before it begins.
+    (
+        &["mx", "draw", "one", "whole", "--from", "4294967295"],
+        0,
+        "<title>No record of 4, 1 service, 1 processor</title>\n",
+    ),
+    (
+        &["mx", "draw", "one", "whole", "--from", "3", "--to", "2"],
+        0,
+        "<title>No record of 4, 1 service, 1 processor</title>\n",
+    ),
+    (
+        &["mx", "draw", "one", "early"],
+        1,
+        "<title>No record of 1, 1 service, 1 processor</title>\n",
+    ),
+];
+
+fn is_drawn<R: Threads + Wait + Clock + Sync>(
+    rt: &R,
+    alloc: Global,
+    words: &'static [&'static str],
+    status: u8,
+    title: &str,
+) -> bool {
+    let mut channels = channels(alloc, None);
+    let mut told = String::new(alloc);
+    let ended = perform(&mut channels, rt, alloc, words, &mut told);
+    let out = &channels.out;
+    let Some(rest) = out.bytes.as_slice().strip_prefix(SMALL_PICTURE.as_bytes()) else {
+        return false;
+    };
+    ended == status
+        && told.is_empty()
+        && rest.starts_with(title.as_bytes())
+        && rest.ends_with(b"</text>\n</svg>\n")
         && out.flushed == out.bytes.len()
 }

@@ -161,7 +161,11 @@ static LINES: [Line; 9] = [
 ];
 
 fn is_asked(alloc: Global, line: &Line) -> bool {
-    command(alloc, line.words).map_err(|error| error.kind()) == line.asked
+    match (command(alloc, line.words), line.asked) {
+        (Ok(found), Ok(request)) => found.request == request && !found.explains,
+        (Err(error), Err(kind)) => error.kind() == kind,
+        _ => false,
+    }
 }
 
 #[test]

@@ -4,6 +4,8 @@
 #[cfg(test)]
 mod counts;
 #[cfg(test)]
+mod killed;
+#[cfg(test)]
 mod machine;
 #[cfg(test)]
 mod pairs;

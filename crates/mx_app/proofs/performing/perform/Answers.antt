@@ -2,7 +2,7 @@ use Rattle.mx_app_program.specs.One.{IsPrinted}
 use Rattle.mx_app_program.specs.Shown.{HasListing, HasNames, IsShown}
 use Rattle.std.proofs.Common.{◌∙◌, ap, Option}
 use Rattle.mx_app_command.specs.declared.words.CommandRequest.TheVariants.{Step}
-use Rattle.mx_app.proofs.Done.{as_asked, assembled, debugs, replays, runs, saves, shows, steps, traces}
+use Rattle.mx_app.proofs.Done.{as_asked, assembled, debugs, draws, replays, runs, saves, shows, steps, traces}
 use Rattle.mx_app.proofs.performing.perform.Goals as goal
 
 pub returns-in-One : goal.returns-in-One
@@ -40,3 +40,6 @@ returns-in-Db g c = as_asked _ _ _ _ _ _ _ _ c.in-Db.is (debugs _ _ _ c.in-Db.co
 
 pub returns-in-Trace : goal.returns-in-Trace
 returns-in-Trace g c = as_asked _ _ _ _ _ _ _ _ c.in-Trace.is (traces _ _ _ c.in-Trace.config.now c.in-Trace.log.now c.in-Trace.range _ _ c.trace.result c.status_after_replay-in-Trace.result c.trace.ensures.printed c.trace.ensures.fault c.status_after_replay-in-Trace.ensures)
+
+pub returns-in-Draw : goal.returns-in-Draw
+returns-in-Draw g c = as_asked _ _ _ _ _ _ _ _ c.in-Draw.is (draws _ _ _ c.in-Draw.config.now c.in-Draw.log.now c.in-Draw.range _ _ c.draw.result c.status_after_replay-in-Draw.result c.draw.ensures.printed c.draw.ensures.fault c.status_after_replay-in-Draw.ensures)

@@ -1,6 +1,27 @@
-use Rattle.std.proofs.Common.{[], inr, refl, sym}
+use Rattle.std.proofs.Common.{[], inl, inr, refl, subst, sym}
 use Rattle.std.proofs.lemmas.List.{append-nil}
+use Rattle.mx_app.specs.Noting.{Noted}
+use Rattle.mx_app.specs.Words.{IsAnswered}
+use Rattle.mx_app.proofs.Told.{noted_same}
 use Rattle.mx_app.proofs.words.perform_words.Goals as goal
 
 pub returns-in-Err : goal.returns-in-Err
 returns-in-Err g c = ([], [], sym (append-nil _), sym (append-nil _), inr (c.in-Err.error, c.in-Err.ensures.kinds, refl, refl, c.explain.ensures))
+
+pub returns-in-Ok : goal.returns-in-Ok
+returns-in-Ok g c =
+    let done = c.perform-done.ensures in
+    let same = noted_same c.noted.result _ _ _ c.noted.ensures.last c.noted.ensures.missed c.noted.ensures.unwritten in (
+      done.0,
+      done.1,
+      done.2,
+      done.3,
+      inl (
+        c.in-Ok.line,
+        c.perform-done.result,
+        c.in-Ok.ensures.asks,
+        c.in-Ok.ensures.explains,
+        done.4,
+        subst (λ (n : Noted). IsAnswered c.in-Ok.line c.perform-done.result n c.answer.result) same c.answer.ensures,
+      ),
+    )

@@ -1,9 +1,9 @@
-use Rattle.std.proofs.Common.{◌≡◌, ◌∙◌, ap, map, subst, sym, List, refl}
+use Rattle.std.proofs.Common.{◌≡◌, ◌∙◌, ap, codes, map, subst, sym, List, refl}
 use Rattle.std.specs.Prelude.{None, Option, Some, option_map, unwrap_or}
 use Rattle.clap.specs.Words.{Row, Text, found_of, rows_of, subcommand_name_of, subcommand_rows_of}
 use Rattle.clap.specs.declared.parser.matches.ArgMatches.{ArgMatches}
 use Rattle.clap.specs.declared.parser.matches.ArgMatches.TheViews.{out-ArgMatches}
-use Rattle.mx_app_command.specs.Words.{Asks, AsksBy, IsAsked}
+use Rattle.mx_app_command.specs.Words.{Asks, AsksBy, AsksToExplain, IsAsked, IsFlag}
 use Rattle.mx_app_command.proofs.AskedWords.{words_asked}
 use Rattle.mx_app_command.proofs.words.command.Goals as goal
 
@@ -53,3 +53,13 @@ unreachable-requires c =
     let entered : subcommand_rows_of c.in_ok-matches.matches ≡ Some (asked.0, asked.1) = (c.in_ok-matches.ensures.matches refl).1 ∙ asked.2 in
     let met : None ≡ Some asked.1 = c.in-None.ensures.rows ∙ ap (option_map (λ (q : Text × List Row). q.1)) entered in
     cc
+
+pub returns-clause-explains : goal.returns-clause-explains
+returns-clause-explains c =
+    let words : List Text = map (λ s. s.now) c.args.words.now in
+    let asked = words_asked words c.in_ok-matches.ensures.kinds in
+    let entered : subcommand_rows_of c.in_ok-matches.matches ≡ Some (asked.0, asked.1) = (c.in_ok-matches.ensures.matches refl).1 ∙ asked.2 in
+    let rows = rows_of (found_of c.in-Some.found.now) in
+    let rows_same = rows_is c.in_ok-matches.matches (asked.0, asked.1) entered c.in-Some.name.now rows c.in-Some.ensures.name c.in-Some.ensures.rows in
+    let by : IsFlag (codes "explain") asked.1 c.flag_asked.result = subst (λ (r : List Row). IsFlag (codes "explain") r c.flag_asked.result) rows_same c.flag_asked.ensures in
+    subst (AsksToExplain c.flag_asked.result) (sym asked.2) by

@@ -1,0 +1,2 @@
+mod SeenLemmas
+mod DrawnLemmas

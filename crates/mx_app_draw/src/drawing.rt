@@ -1,0 +1,105 @@
+//! The picture of a history, from files' names to its text.
+
+ghost use Rattle.std.specs.Prelude.{◌≡◌, ◌<◌, ◌≤◌, ◌+◌, ◌^◌, ◌++◌, ℕ, List, All, IfOk, IfErr, OnOk, length, max};
+ghost use Rattle.std.specs.Io.KnownBytes.{Appends};
+ghost use Rattle.mx_app_step.specs.Failure.{IsWanting};
+ghost use Rattle.mx_app_step.specs.Machine.{world_of};
+ghost use Rattle.mx_app_step.specs.Service.{Service};
+ghost use Rattle.mx_app_step.specs.Config.{Config};
+ghost use Rattle.mx_app_step.specs.Asked.{Asked};
+ghost use Rattle.mx_app_step.specs.Course.{IsSaved, TellsSaved};
+ghost use Rattle.mx_app_step.specs.Setup.{IsStart};
+ghost use Rattle.mx_app_step.specs.Telling.{IsTold};
+ghost use Rattle.mx_machine_world.specs.declared.history.Record.{Record as Noted};
+ghost use Rattle.mx_machine_world.specs.Boot.{world_at_boot};
+ghost use Rattle.mx_machine_world.specs.World.{actors};
+ghost use Rattle.mx_look_picture.specs.Picture.{IsDrawable};
+ghost use Rattle.mx_app_draw.specs.Scenes.{IsDrawing, IsDrawingPrinted, IsPictureText};
+
+use crate::scene::scene_of;
+use crate::seeing::last_drawn;
+use mx_app_start::{Failure, History, Machine, Reader, Record, print_text, start};
+use mx_app_step::{Replayed, first_records};
+use mx_look_picture::picture;
+use mx_look_svg::push_drawing;
+use mx_look_values::Scene;
+use std::alloc::Global;
+use std::io::Write;
+
+/// Prints the picture of a run.
+fn print_picture<W: Write>(alloc: Global, scene: &Scene, out: &mut W) -> Result<(), Failure>
+    requires { IsDrawable scene.now }
+    ensures err { IfErr result IsWanting }
+    ensures printed { OnOk result ((text : List ℕ) × IsPictureText scene.now text
+        × Appends (W.contents out.old) (W.contents out.new) text) }
+{
+    let drawing = picture(alloc, scene)?;
+    let mut text = Vec::new(alloc);
+    push_drawing(alloc, &mut text, scene, &drawing)?;
+    print_text(text.as_slice(), out)
+}
+
+/// Makes records, the first of a history of so many, and prints the picture of those from `from` on; at
+/// an event that is refused, of those above it.
+fn print_drawing<W: Write>(
+    alloc: Global,
+    machine: &mut Machine,
+    processors: u32,
+    records: &[Record],
+    total: usize,
+    from: u32,
+    out: &mut W,
+) -> Result<Replayed, Failure>
+    requires few { length records.now < 2 ^ 32 }
+    requires actors { All (λ (x : Noted). x.actor < actors (world_of machine.old)) records.now }
+    requires drawn { length records.now ≤ max from 1 + 999 }
+    ensures err { IfErr result IsWanting }
+    ensures printed { IfOk result (λ replayed.
+        IsDrawing (world_of machine.old) processors total records.now from replayed (λ text.
+        Appends (W.contents out.old) (W.contents out.new) text)) }
+{
+    let scene = scene_of(alloc, machine, processors, records, total, from)?;
+    print_picture(alloc, &scene, out)?;
+    match scene.refused {
+        None => Ok(Replayed::Whole),
+        Some(_) => Ok(Replayed::Refused),
+    }
+}
+
+/// Starts a machine by the names of its configuration and of a saved history, makes the records up to
+/// `to`, and prints the picture of those from `from` on, of at most 1,000; both are places in the
+/// history, the first being 1. At an event that is refused it prints the picture of the records above
+/// it, which has the number of the record's line and the refusal.
+pub fn draw<R: Reader, W: Write>(
+    alloc: Global,
+    reader: &mut R,
+    config: &str,
+    log: &str,
+    from: u32,
+    to: u32,
+    out: &mut W,
+) -> Result<Replayed, Failure>
+    ensures printed { IfOk result (λ replayed. (qs : List Asked) × (c : Config)
+        × (vs : List Service) × (records : List Noted)
+        × (R.asked reader.new ≡ R.asked reader.old ++ qs)
+        × IsStart IsSaved config.now log.now qs c vs records
+        × IsDrawingPrinted (world_at_boot c vs) c.cpus records from to replayed (λ text.
+        Appends (W.contents out.old) (W.contents out.new) text)) }
+    ensures fault { IfErr result (λ f. (qs : List Asked)
+        × (R.asked reader.new ≡ R.asked reader.old ++ qs)
+        × IsTold IsSaved TellsSaved config.now log.now qs f) }
+{
+    let mut started = start::<History, R>(alloc, reader, config, log)?;
+    let total = started.lines.len();
+    let records = first_records(started.lines.as_slice(), last_drawn(from, to));
+    let processors = u32::from(started.other);
+    print_drawing(
+        alloc,
+        &mut started.machine,
+        processors,
+        records,
+        total,
+        from,
+        out,
+    )
+}

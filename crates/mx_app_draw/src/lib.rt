@@ -1,0 +1,8 @@
+//! `mx draw`: the picture of a saved history.
+#![tactic(auto)]
+
+mod drawing;
+mod scene;
+mod seeing;
+
+pub use drawing::draw;

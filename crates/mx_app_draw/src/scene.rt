@@ -1,0 +1,71 @@
+//! The scene of a history: what is drawn of it.
+
+ghost use Rattle.std.specs.Prelude.{◌≡◌, ◌<◌, ◌≤◌, ◌+◌, ◌^◌, All, IfOk, length, max};
+ghost use Rattle.mx_app_step.specs.Machine.{world_of};
+ghost use Rattle.mx_machine_world.specs.declared.history.Record.{Record as Noted};
+ghost use Rattle.mx_machine_world.specs.World.{actors};
+ghost use Rattle.mx_look_picture.specs.Picture.{IsDrawable};
+ghost use Rattle.mx_app_draw.specs.Scenes.{IsHistoryScene, refused_line, told_number};
+
+use crate::seeing::see_records;
+use mx_app_start::{Machine, Record, lines_above};
+use mx_look_values::Scene;
+use mx_machine_world::Refusal;
+use std::alloc::{AllocError, Global};
+
+/// A number as one of 32 bits: a larger one is told as the largest.
+fn told_number(number: usize) -> u32
+    ensures { result ≡ told_number number }
+{
+    number.min(u32::MAX as usize) as u32
+}
+
+/// How many services a machine has.
+#[tactic(auto, unfolding(mx_machine::specs::Machine::world_of))]
+fn service_count(machine: &Machine) -> u32
+    ensures count { result ≡ length (world_of machine.now).services }
+    ensures few { result ≤ 32 }
+{
+    machine.sound();
+    machine.kernel().services().len() as u32
+}
+
+/// The line of a record by its number, where so many lines stand above the first record.
+fn refused_line(above: usize, refused: Option<(usize, Refusal)>) -> Option<(u32, Refusal)>
+    requires { above ≤ 1 }
+    ensures { result ≡ refused_line above refused }
+{
+    let (number, refusal) = refused?;
+    Some((told_number(above.saturating_add(number)), refusal))
+}
+
+/// Makes records, the first of a history of so many, up to the first that is refused, and answers what
+/// is drawn of them from `from` on.
+pub(crate) fn scene_of(
+    alloc: Global,
+    machine: &mut Machine,
+    processors: u32,
+    records: &[Record],
+    total: usize,
+    from: u32,
+) -> Result<Scene, AllocError>
+    requires few { length records.now < 2 ^ 32 }
+    requires actors { All (λ (x : Noted). x.actor < actors (world_of machine.old)) records.now }
+    requires drawn { length records.now ≤ max from 1 + 999 }
+    ensures scene { IfOk result (λ scene.
+        IsHistoryScene (world_of machine.old) processors total records.now from scene) }
+    ensures drawable { IfOk result (λ scene. IsDrawable scene) }
+{
+    let services = service_count(machine);
+    let above = lines_above(machine.rules());
+    let seen = see_records(alloc, machine, records, from)?;
+    Ok(Scene {
+        first: from.max(1),
+        total: told_number(total),
+        processors,
+        services,
+        world: seen.world,
+        steps: seen.steps,
+        refused: refused_line(above, seen.refused),
+    })
+}

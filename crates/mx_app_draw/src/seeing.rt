@@ -1,0 +1,81 @@
+//! What is seen of a history's records.
+
+ghost use Rattle.std.specs.Prelude.{◌≡◌, ◌<◌, ◌≤◌, ◌^◌, ◌++◌, All, IfOk, IfSome, OnOk, length};
+ghost use Rattle.mx_app_step.specs.Machine.{world_of};
+ghost use Rattle.mx_machine_world.specs.declared.history.Record.{Record as Noted};
+ghost use Rattle.mx_machine_world.specs.World.{actors};
+ghost use Rattle.mx_app_draw.specs.Scenes.{IsSeen, drawn_of, last_drawn};
+
+use mx_app_start::{Machine, Record};
+use mx_app_step::look_record;
+use mx_look_values::{Glance, Step};
+use mx_machine_world::{Refusal, actors_stay};
+use std::alloc::{AllocError, Global};
+
+/// At most so many records are drawn.
+const MOST_DRAWN: u32 = 1000;
+
+/// What is seen of records that are made one after the other.
+#[derive(Drop)]
+pub(crate) struct Seen {
+    /// The records that are drawn.
+    pub(crate) steps: Vec<Step>,
+    /// The world behind the records that were made.
+    pub(crate) world: Glance,
+    /// The number of the record that is refused, the first having the number 1, and why.
+    pub(crate) refused: Option<(usize, Refusal)>,
+}
+
+/// The last record that is drawn of those from `from` to `to`.
+pub(crate) fn last_drawn(from: u32, to: u32) -> u32
+    ensures { result ≡ last_drawn from to }
+{
+    from.max(1).saturating_add(MOST_DRAWN - 1).min(to)
+}
+
+/// Keeps a step, if it is one from `from` on.
+fn keep_step(steps: &mut Vec<Step>, step: Step, from: u32) -> Result<(), AllocError>
+    ensures { OnOk result (steps.new.items ≡ steps.old.items ++ drawn_of from step) }
+{
+    if step.number >= from {
+        steps.push(step)?;
+    }
+    Ok(())
+}
+
+/// Makes records up to the first that is refused, and keeps each from `from` on as a step.
+pub(crate) fn see_records(
+    alloc: Global,
+    machine: &mut Machine,
+    records: &[Record],
+    from: u32,
+) -> Result<Seen, AllocError>
+    requires few { length records.now < 2 ^ 32 }
+    requires actors { All (λ (x : Noted). x.actor < actors (world_of machine.old)) records.now }
+    ensures seen { IfOk result (λ seen. IsSeen (world_of machine.old) records.now from seen) }
+    ensures few { IfOk result (λ seen. IfSome seen.refused (λ p. p.0 ≤ length records.now)) }
+{
+    actors_stay();
+    let mut steps = Vec::new(alloc);
+    let mut world = Glance::of(machine);
+    for (index, entry) in records.iter().enumerate() {
+        let number = index as u32 + 1;
+        match look_record(machine, number, *entry) {
+            Ok(step) => keep_step(&mut steps, step, from)?,
+            Err(refusal) => {
+                let refused = Some((number as usize, refusal));
+                return Ok(Seen {
+                    steps,
+                    world,
+                    refused,
+                });
+            }
+        }
+        world = Glance::of(machine);
+    }
+    Ok(Seen {
+        steps,
+        world,
+        refused: None,
+    })
+}

@@ -1,0 +1,191 @@
+-- The second line of a failure: what it is about, and what was wanted (our own).
+use Rattle.std.specs.Prelude.{◌++◌, ◌||◌, ℕ, Bool, true, false, if◌then◌else◌, List, codes, Option, Some, None}
+use Rattle.std.specs.Str.{bytes_eq}
+use Rattle.mx_aout.specs.declared.program.FileError.TheVariants as errors
+use Rattle.mx_text.specs.declared.error.BootError.{BootError}
+use Rattle.mx_text.specs.declared.error.BootError.TheVariants as lines
+use Rattle.mx_app_command.specs.declared.words.CommandRequest.{CommandRequest}
+use Rattle.mx_app_command.specs.declared.words.CommandRequest.TheVariants.{One, As, Dis, Nm, Step, Run, Replay, Trace, Draw, Db}
+use Rattle.mx_app_failure.specs.declared.failure.Failure.{Failure as Kind}
+use Rattle.mx_app_failure.specs.declared.failure.Failure.TheVariants.{Refused, Faulty, Misstated, NotText, File, NoMemory}
+use Rattle.mx_app_explain.specs.Wanting.{problem_wanted, refusal_wanted}
+use Rattle.mx_app_explain.specs.declared.explaining.Explanation.{Explanation}
+use Rattle.mx_app_explain.specs.declared.subject.Subject.{Subject}
+use Rattle.mx_app_explain.specs.declared.subject.Subject.TheVariants.{Word, Service, Unknown, Output, Memory}
+
+-- ---- words
+
+-- a word of the command line as its help has it, and its text
+abbrev pub word_told : List ℕ → List ℕ → List ℕ
+word_told label name = label ++ codes " " ++ name
+
+abbrev pub service_told : List ℕ → List ℕ
+service_told name = codes "a service's program " ++ name
+
+abbrev pub unknown_told : List ℕ
+unknown_told = codes "a file"
+
+abbrev pub output_told : List ℕ
+output_told = codes "standard output"
+
+abbrev pub memory_told : List ℕ
+memory_told = codes "memory"
+
+abbrev pub subject_told : Subject → List ℕ
+subject_told (Word label name) = word_told label.now name.now
+subject_told (Service name) = service_told name.now
+subject_told Unknown = unknown_told
+subject_told Output = output_told
+subject_told Memory = memory_told
+
+-- the file that is read first, or assembled
+abbrev pub first_name : CommandRequest → List ℕ
+first_name (One file steps) = file.now
+first_name (As text file) = text.now
+first_name (Dis file) = file.now
+first_name (Nm file) = file.now
+first_name (Step config script save) = config.now
+first_name (Run config log ticks) = config.now
+first_name (Replay config log) = config.now
+first_name (Trace config log range) = config.now
+first_name (Draw config log range) = config.now
+first_name (Db config script) = config.now
+
+abbrev pub first_label : CommandRequest → List ℕ
+first_label (One file steps) = codes "FILE"
+first_label (As text file) = codes "TEXT"
+first_label (Dis file) = codes "FILE"
+first_label (Nm file) = codes "FILE"
+first_label r = codes "CONFIG"
+
+-- the file that drives the machine, or is written
+abbrev pub second_name : CommandRequest → List ℕ
+second_name (One file steps) = file.now
+second_name (As text file) = file.now
+second_name (Dis file) = file.now
+second_name (Nm file) = file.now
+second_name (Step config script save) = script.now
+second_name (Run config log ticks) = log.now
+second_name (Replay config log) = log.now
+second_name (Trace config log range) = log.now
+second_name (Draw config log range) = log.now
+second_name (Db config script) = script.now
+
+abbrev pub second_label : CommandRequest → List ℕ
+second_label (One file steps) = codes "FILE"
+second_label (As text file) = codes "FILE"
+second_label (Dis file) = codes "FILE"
+second_label (Nm file) = codes "FILE"
+second_label (Step config script save) = codes "SCRIPT"
+second_label (Db config script) = codes "SCRIPT"
+second_label r = codes "LOG"
+
+abbrev pub first_word : CommandRequest → List ℕ
+first_word r = word_told (first_label r) (first_name r)
+
+abbrev pub second_word : CommandRequest → List ℕ
+second_word r = word_told (second_label r) (second_name r)
+
+-- the file that is written
+abbrev pub written_word : CommandRequest → List ℕ
+written_word (Step config script (Some log)) = word_told (codes "LOG") log.now
+written_word r = second_word r
+
+-- one program is read, and nothing else
+abbrev pub reads_one_program : CommandRequest → Bool
+reads_one_program (One file steps) = true
+reads_one_program (Dis file) = true
+reads_one_program (Nm file) = true
+reads_one_program r = false
+
+-- what is read would be written over
+abbrev pub writes_over : CommandRequest → Bool
+writes_over (As text file) = bytes_eq text.now file.now
+writes_over (Run config log ticks) = bytes_eq config.now log.now
+writes_over r = false
+
+abbrev pub is_run : CommandRequest → Bool
+is_run (Run config log ticks) = true
+is_run r = false
+
+-- ---- what a failure is about
+
+-- a service's program has the name of no word
+abbrev pub asked_subject : CommandRequest → Option (List ℕ) → List ℕ
+asked_subject r None = unknown_told
+asked_subject r (Some name) =
+    if bytes_eq name (first_name r) then first_word r
+    else (if bytes_eq name (second_name r) then second_word r else service_told name)
+
+abbrev pub refused_subject : CommandRequest → Option (List ℕ) → List ℕ
+refused_subject r last = if reads_one_program r then first_word r else asked_subject r last
+
+-- a text that was given isn't UTF-8, or standard output takes nothing
+abbrev pub given_subject : CommandRequest → Option (List ℕ) → List ℕ
+given_subject r last = if reads_one_program r || is_run r then output_told else asked_subject r last
+
+abbrev pub file_subject : CommandRequest → Option (List ℕ) → Bool → Bool → List ℕ
+file_subject r last is_missed is_unwritten =
+    if writes_over r then second_word r
+    else (if is_unwritten then written_word r
+    else (if is_missed then asked_subject r last else given_subject r last))
+
+abbrev pub subject_of : CommandRequest → Kind → Option (List ℕ) → Bool → Bool → List ℕ
+subject_of r (Refused errors.NoMemory) last m u = memory_told
+subject_of r (Refused e) last m u = refused_subject r last
+subject_of r (Faulty f) last m u = first_word r
+subject_of r (Misstated lines.NoMemory) last m u = memory_told
+subject_of r (Misstated (lines.BadRecord n)) last m u = second_word r
+subject_of r (Misstated e) last m u = first_word r
+subject_of r NotText last m u = first_word r
+subject_of r File last m u = file_subject r last m u
+subject_of r NoMemory last m u = memory_told
+
+-- ---- what was wanted
+
+-- the lines of a script, of a debugger's script, and of a history
+abbrev pub record_wanted : CommandRequest → List ℕ
+record_wanted (Step config script save) =
+    codes "an event: take C, step C K, back C, line L, tick, kill E or respawn S"
+record_wanted (Db config script) =
+    codes "an event, or break S PLACE, clear S PLACE, go C K, regs C, mem C M N or messages"
+record_wanted r =
+    codes "a record and its line feed: A take, A back N, A line L, A tick, A kill E or A respawn S; or rules 2 on line 1"
+
+abbrev pub lines_wanted : CommandRequest → BootError → List ℕ
+lines_wanted r (lines.BadLine n) =
+    codes "an item: cpus, others, log, rules or service; and at least one service"
+lines_wanted r (lines.TwiceNamed n) =
+    codes "each item once, and a name of its own for each service"
+lines_wanted r (lines.TooMany n) = codes "at most 32 services"
+lines_wanted r (lines.BadRecord n) = record_wanted r
+lines_wanted r lines.NoMemory = codes "more of it"
+
+abbrev pub file_wanted : CommandRequest → Bool → Bool → List ℕ
+file_wanted r is_missed is_unwritten =
+    if writes_over r then codes "another file than the one that is read"
+    else (if is_unwritten then codes "a file that can be written"
+    else (if is_missed then codes "a file that can be read"
+    else (if reads_one_program r || is_run r then codes "room for what is printed"
+    else codes "UTF-8 in what is read, and room for what is printed")))
+
+abbrev pub wanted_of : CommandRequest → Kind → Bool → Bool → List ℕ
+wanted_of r (Refused e) m u = refusal_wanted e
+wanted_of r (Faulty f) m u = problem_wanted f.problem
+wanted_of r (Misstated e) m u = lines_wanted r e
+wanted_of r NotText m u = codes "UTF-8"
+wanted_of r File m u = file_wanted r m u
+wanted_of r NoMemory m u = codes "more of it"
+
+-- ---- the line, without its end
+
+abbrev pub line_told : List ℕ → List ℕ → List ℕ
+line_told subject wanted = codes "mx: " ++ subject ++ codes ": wanted " ++ wanted
+
+abbrev pub explanation_told : Explanation → List ℕ
+explanation_told e = line_told (subject_told e.subject) e.wanted.now
+
+-- WHAT EXPLAINS A FAILURE, by the request, the name of the file that was asked for last, whether it was missed, and whether a file wasn't written
+abbrev pub explained : CommandRequest → Kind → Option (List ℕ) → Bool → Bool → List ℕ
+explained r f last is_missed is_unwritten =
+    line_told (subject_of r f last is_missed is_unwritten) (wanted_of r f is_missed is_unwritten)

@@ -1,0 +1,30 @@
+-- What is wanted of a program's file, and of a line of a text for the assembler (our own words).
+use Rattle.std.specs.Prelude.{ℕ, List, codes}
+use Rattle.mx_aout.specs.declared.program.FileError.{FileError}
+use Rattle.mx_aout.specs.declared.program.FileError.TheVariants as errors
+use Rattle.mx_asm.specs.declared.fault.Problem.{Problem}
+use Rattle.mx_asm.specs.declared.fault.Problem.TheVariants as problems
+
+abbrev pub refusal_wanted : FileError → List ℕ
+refusal_wanted errors.Truncated = codes "a whole header, and a file as long as it says"
+refusal_wanted errors.BadMagic = codes "an a.out file, which begins with the bytes 01 03"
+refusal_wanted errors.BadCpu = codes "a program for the 80386, whose byte 3 is 10 hex"
+refusal_wanted errors.BadFlags = codes "no flag but A_NSYM, A_EXEC and A_SEP"
+refusal_wanted errors.BadHeader = codes "a header of 32 or 48 bytes"
+refusal_wanted errors.NoTotal = codes "a total above 0"
+refusal_wanted errors.TooLarge = codes "a total within the limits that holds all parts"
+refusal_wanted errors.BadSymbols = codes "symbols of 16 bytes each"
+refusal_wanted errors.NoMemory = codes "more of it"
+
+abbrev pub problem_wanted : Problem → List ℕ
+problem_wanted problems.BadByte = codes "a token, or an escape that is known"
+problem_wanted problems.BadNumber = codes "a number of 32 bits, decimal or after 0x"
+problem_wanted problems.OpenText = codes "the quote that ends a text"
+problem_wanted problems.UnknownWord = codes "an instruction or a directive"
+problem_wanted problems.BadOperands = codes "operands that the statement takes"
+problem_wanted problems.Twice = codes "each label, .sep, .entry and .stack once"
+problem_wanted problems.Undefined = codes "a name that a line defines"
+problem_wanted problems.TooFar = codes "a target at most 127 bytes ahead or 128 back"
+problem_wanted problems.WrongSection = codes "a statement that may stand in this section"
+problem_wanted problems.TooLarge = codes "a program within the limits of a file"
+problem_wanted problems.LongName = codes "a name of at most 8 bytes"

@@ -1,0 +1,9 @@
+//! `--explain`: the second line of a failure: which file, which word has its name, and what was wanted.
+#![tactic(auto)]
+
+mod explaining;
+mod subject;
+mod wanting;
+
+pub use explaining::{Explanation, explain_failure};
+pub use subject::{Notes, Subject};

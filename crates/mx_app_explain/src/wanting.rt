@@ -1,0 +1,117 @@
+//! What was wanted in place of what a command met.
+
+ghost use Rattle.std.specs.Prelude.{◌≡◌};
+ghost use Rattle.mx_app_explain.specs.Wanting.{problem_wanted, refusal_wanted};
+ghost use Rattle.mx_app_explain.specs.Explaining.{file_wanted, lines_wanted, record_wanted, wanted_of};
+
+use crate::subject::{Notes, is_run, reads_one_program, writes_over};
+use mx_app_command::CommandRequest;
+use mx_app_failure::{BootError, Failure, FileError};
+use mx_asm::Problem;
+
+/// What is wanted of memory.
+const MORE: &str = "more of it";
+
+/// What is wanted of a program's file.
+fn refusal_wanted(error: FileError) -> &'static str
+    ensures { result.now ≡ refusal_wanted error }
+{
+    match error {
+        FileError::Truncated => "a whole header, and a file as long as it says",
+        FileError::BadMagic => "an a.out file, which begins with the bytes 01 03",
+        FileError::BadCpu => "a program for the 80386, whose byte 3 is 10 hex",
+        FileError::BadFlags => "no flag but A_NSYM, A_EXEC and A_SEP",
+        FileError::BadHeader => "a header of 32 or 48 bytes",
+        FileError::NoTotal => "a total above 0",
+        FileError::TooLarge => "a total within the limits that holds all parts",
+        FileError::BadSymbols => "symbols of 16 bytes each",
+        FileError::NoMemory => MORE,
+    }
+}
+
+/// What is wanted of a line of a text for the assembler.
+fn problem_wanted(problem: Problem) -> &'static str
+    ensures { result.now ≡ problem_wanted problem }
+{
+    match problem {
+        Problem::BadByte => "a token, or an escape that is known",
+        Problem::BadNumber => "a number of 32 bits, decimal or after 0x",
+        Problem::OpenText => "the quote that ends a text",
+        Problem::UnknownWord => "an instruction or a directive",
+        Problem::BadOperands => "operands that the statement takes",
+        Problem::Twice => "each label, .sep, .entry and .stack once",
+        Problem::Undefined => "a name that a line defines",
+        Problem::TooFar => "a target at most 127 bytes ahead or 128 back",
+        Problem::WrongSection => "a statement that may stand in this section",
+        Problem::TooLarge => "a program within the limits of a file",
+        Problem::LongName => "a name of at most 8 bytes",
+    }
+}
+
+/// What is wanted of a line of a script or of a history.
+fn record_wanted(request: CommandRequest<'_>) -> &'static str
+    ensures { result.now ≡ record_wanted request.entry }
+{
+    match request {
+        CommandRequest::Step { .. } => {
+            "an event: take C, step C K, back C, line L, tick, kill E or respawn S"
+        }
+        CommandRequest::Db { .. } => {
+            "an event, or break S PLACE, clear S PLACE, go C K, regs C, mem C M N or messages"
+        }
+        _ => {
+            "a record and its line feed: A take, A back N, A line L, A tick, A kill E or \
+             A respawn S; or rules 2 on line 1"
+        }
+    }
+}
+
+/// What is wanted of the lines of a text that starts or drives a machine.
+fn lines_wanted(request: CommandRequest<'_>, error: BootError) -> &'static str
+    ensures { result.now ≡ lines_wanted request.entry error }
+{
+    match error {
+        BootError::BadLine(_) => {
+            "an item: cpus, others, log, rules or service; and at least one service"
+        }
+        BootError::TwiceNamed(_) => "each item once, and a name of its own for each service",
+        BootError::TooMany(_) => "at most 32 services",
+        BootError::BadRecord(_) => record_wanted(request),
+        BootError::NoMemory => MORE,
+    }
+}
+
+/// What is wanted of a file that can't be read or written.
+fn file_wanted(request: CommandRequest<'_>, notes: Notes<'_>) -> &'static str
+    ensures { result.now ≡ file_wanted request.entry notes.entry.is_missed notes.entry.is_unwritten }
+{
+    if writes_over(request) {
+        "another file than the one that is read"
+    } else if notes.is_unwritten {
+        "a file that can be written"
+    } else if notes.is_missed {
+        "a file that can be read"
+    } else if reads_one_program(request) || is_run(request) {
+        "room for what is printed"
+    } else {
+        "UTF-8 in what is read, and room for what is printed"
+    }
+}
+
+/// What was wanted in place of what failed.
+pub(crate) fn wanted_of(
+    request: CommandRequest<'_>,
+    failure: Failure,
+    notes: Notes<'_>,
+) -> &'static str
+    ensures { result.now ≡ wanted_of request.entry failure notes.entry.is_missed notes.entry.is_unwritten }
+{
+    match failure {
+        Failure::Refused(error) => refusal_wanted(error),
+        Failure::Faulty(fault) => problem_wanted(fault.problem),
+        Failure::Misstated(error) => lines_wanted(request, error),
+        Failure::NotText => "UTF-8",
+        Failure::File => file_wanted(request, notes),
+        Failure::NoMemory => MORE,
+    }
+}

@@ -1,0 +1,12 @@
+pub mod Figures
+pub mod Inside
+pub mod Layout
+pub mod Scene
+pub mod Bars
+pub mod Fates
+pub mod Messages
+pub mod Returns
+pub mod Record
+pub mod Strips
+pub mod Legend
+pub mod Picture

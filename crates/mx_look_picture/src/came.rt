@@ -1,0 +1,123 @@
+//! All that is drawn at a record.
+
+ghost use Rattle.std.specs.Prelude.{◌≡◌, ◌≤◌, ◌++◌, OnOk};
+ghost use Rattle.mx_look_picture.specs.Fates.{IsOnPaper};
+ghost use Rattle.mx_look_picture.specs.Record.{byte_label, console_values, fates, deliveries, all_kept, freed, record_values};
+
+use crate::fates::{push_fate, push_freed, push_outside};
+use crate::figures::{Point, label};
+use crate::layout::{Spot, row};
+use crate::messages::{push_delivery, push_kept};
+use crate::returns::push_return;
+use mx_look_facts::Step;
+use mx_look_values::{Anchor, Hint, LabelKind, Text, Value};
+use std::alloc::AllocError;
+
+/// A byte of the console: its character, if it has one, or two digits.
+#[tactic(auto, unfolding(crate::specs::Record::byte_label))]
+fn byte_label(spot: Spot, byte: u8) -> Value
+    requires { IsOnPaper spot }
+    ensures { result ≡ byte_label spot byte }
+{
+    let middle = row(spot.top, spot.services + 1);
+    let hint = Hint::Console(spot.place);
+    if byte > 0x20 && byte < 0x7F {
+        let at = Point {
+            x: spot.x,
+            y: middle + 5,
+        };
+        label(
+            LabelKind::Character,
+            at,
+            Anchor::Middle,
+            Text::Character(byte),
+            hint,
+        )
+    } else {
+        let at = Point {
+            x: spot.x,
+            y: middle + 4,
+        };
+        label(
+            LabelKind::Byte,
+            at,
+            Anchor::Middle,
+            Text::Hexadecimal(byte),
+            hint,
+        )
+    }
+}
+
+/// Appends the byte that was written to the console, if one was.
+#[tactic(auto, unfolding(crate::specs::Record::console_values))]
+fn push_console(out: &mut Vec<Value>, step: &Step, spot: Spot) -> Result<(), AllocError>
+    requires { IsOnPaper spot }
+    ensures { OnOk result (out.new.items ≡ out.old.items ++ console_values step.now spot) }
+{
+    if step.before.written == step.after.written {
+        return Ok(());
+    }
+    if let Some(byte) = step.after.last_byte {
+        out.push(byte_label(spot, byte))?;
+    }
+    Ok(())
+}
+
+/// Appends what became of the slots.
+fn push_fates(out: &mut Vec<Value>, step: &Step, spot: Spot) -> Result<(), AllocError>
+    requires { IsOnPaper spot }
+    ensures { OnOk result (out.new.items ≡ out.old.items ++ fates step.now spot) }
+{
+    for slot in 0..spot.services {
+        push_fate(out, step, spot, slot)?;
+    }
+    Ok(())
+}
+
+/// Appends what the slots got.
+fn push_deliveries(out: &mut Vec<Value>, step: &Step, spot: Spot) -> Result<(), AllocError>
+    requires { IsOnPaper spot }
+    ensures { OnOk result (out.new.items ≡ out.old.items ++ deliveries step.now spot) }
+{
+    for slot in 0..spot.services {
+        push_delivery(out, step, spot, slot)?;
+    }
+    Ok(())
+}
+
+/// Appends the notifications that are kept for the slots.
+fn push_all_kept(out: &mut Vec<Value>, step: &Step, spot: Spot) -> Result<(), AllocError>
+    requires { IsOnPaper spot }
+    ensures { OnOk result (out.new.items ≡ out.old.items ++ all_kept step.now spot) }
+{
+    for slot in 0..spot.services {
+        push_kept(out, step, spot, slot)?;
+    }
+    Ok(())
+}
+
+/// Appends the errors with which processes go on that were waiting.
+fn push_all_freed(out: &mut Vec<Value>, step: &Step, spot: Spot) -> Result<(), AllocError>
+    requires { IsOnPaper spot }
+    ensures { OnOk result (out.new.items ≡ out.old.items ++ freed step.now spot) }
+{
+    for slot in 0..spot.services {
+        push_freed(out, step, spot, slot)?;
+    }
+    Ok(())
+}
+
+/// Appends what came of a record.
+#[tactic(auto, unfolding(crate::specs::Record::record_values))]
+pub(crate) fn push_record(out: &mut Vec<Value>, step: &Step, spot: Spot) -> Result<(), AllocError>
+    requires { IsOnPaper spot }
+    ensures { OnOk result (out.new.items ≡ out.old.items ++ record_values step.now spot) }
+{
+    push_outside(out, step, spot)?;
+    push_fates(out, step, spot)?;
+    push_deliveries(out, step, spot)?;
+    push_all_kept(out, step, spot)?;
+    push_return(out, step, spot)?;
+    push_all_freed(out, step, spot)?;
+    push_console(out, step, spot)
+}

@@ -1,0 +1,68 @@
+//! The figures of a picture, made of their parts.
+
+ghost use Rattle.std.specs.Prelude.{◌≡◌};
+ghost use Rattle.mx_look_picture.specs.Figures.{bar_at, arrow_at, mark_at, label_at};
+
+use mx_look_values::{
+    Anchor, Arrow, ArrowKind, Bar, BarKind, Hint, Label, LabelKind, Mark, MarkKind, Text, Value,
+};
+
+/// A point of the paper.
+#[derive(Clone, Copy)]
+pub(crate) struct Point {
+    pub(crate) x: u32,
+    pub(crate) y: u32,
+}
+
+/// A rectangle whose top left corner is at a point.
+pub(crate) fn bar(kind: BarKind, at: Point, width: u32, height: u32, hint: Hint) -> Value
+    ensures { result ≡ bar_at kind at.x at.y width height hint }
+{
+    Value::Bar(Bar {
+        kind,
+        x: at.x,
+        y: at.y,
+        width,
+        height,
+        hint,
+    })
+}
+
+/// A line from a point up or down to another height.
+pub(crate) fn arrow(kind: ArrowKind, at: Point, to: u32, hint: Hint) -> Value
+    ensures { result ≡ arrow_at kind at.x at.y to hint }
+{
+    Value::Arrow(Arrow {
+        kind,
+        x: at.x,
+        y: at.y,
+        to,
+        hint,
+    })
+}
+
+/// A small figure around a point.
+pub(crate) fn mark(kind: MarkKind, at: Point, hint: Hint) -> Value
+    ensures { result ≡ mark_at kind at.x at.y hint }
+{
+    Value::Mark(Mark {
+        kind,
+        x: at.x,
+        y: at.y,
+        hint,
+    })
+}
+
+/// A text at a point.
+pub(crate) fn label(kind: LabelKind, at: Point, anchor: Anchor, text: Text, hint: Hint) -> Value
+    ensures { result ≡ label_at kind at.x at.y anchor text hint }
+{
+    Value::Label(Label {
+        kind,
+        x: at.x,
+        y: at.y,
+        anchor,
+        text,
+        hint,
+    })
+}

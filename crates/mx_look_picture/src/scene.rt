@@ -1,0 +1,101 @@
+//! What is looked at in the worlds between the steps of a run.
+
+ghost use Rattle.std.specs.Prelude.{◌≡◌};
+ghost use Rattle.mx_look_picture.specs.Scene.{world_at, number_at, holds, cpu_of, standing_of, same_cpu, same_standing, same_seen};
+
+use mx_look_facts::{cpu_in, same_doing, slot_in};
+use mx_look_values::{Glance, Scene, Standing};
+
+/// Of a strip that begins at a place: the world of a column. Column 0 has the world before the strip.
+#[tactic(auto, unfolding(crate::specs::Scene::world_at))]
+pub(crate) fn world_at(scene: &Scene, place: u32, column: u32) -> &Glance
+    ensures { result.now ≡ world_at scene.now place column }
+{
+    if column == 0 {
+        return match scene.steps.get(place as usize) {
+            Some(step) => &step.before,
+            None => &scene.world,
+        };
+    }
+    match scene.steps.get(place as usize + column as usize - 1) {
+        Some(step) => &step.after,
+        None => &scene.world,
+    }
+}
+
+/// The number of the record after which the world of a column stands.
+#[tactic(auto, unfolding(crate::specs::Scene::number_at))]
+pub(crate) fn number_at(scene: &Scene, place: u32, column: u32) -> u32
+    ensures { result ≡ number_at scene.now place column }
+{
+    if column == 0 {
+        return match scene.steps.get(place as usize) {
+            Some(step) => step.number.saturating_sub(1),
+            None => scene.first.saturating_sub(1),
+        };
+    }
+    match scene.steps.get(place as usize + column as usize - 1) {
+        Some(step) => step.number,
+        None => scene.first,
+    }
+}
+
+/// Whether a processor holds the process of a slot.
+fn holds(glance: &Glance, slot: u32, cpu: u8) -> bool
+    ensures { result ≡ holds glance.now slot cpu }
+{
+    match cpu_in(glance, cpu) {
+        Some(held) => u32::from(held.slot) == slot,
+        None => false,
+    }
+}
+
+/// The processor that holds the process of a slot.
+fn cpu_of(glance: &Glance, slot: u32) -> Option<u8>
+    ensures { result ≡ cpu_of glance.now slot }
+{
+    (0..8u8).find(|cpu| holds(glance, slot, *cpu))
+}
+
+/// What is drawn of a slot.
+#[tactic(auto, unfolding(crate::specs::Scene::standing_of))]
+pub(crate) fn standing_of(glance: &Glance, slot: u32) -> Option<Standing>
+    ensures { result ≡ standing_of glance.now slot }
+{
+    let seen = slot_in(glance, slot)?;
+    Some(Standing {
+        name: seen.name,
+        endpoint: seen.endpoint,
+        doing: seen.doing,
+        cpu: cpu_of(glance, slot),
+    })
+}
+
+/// Whether both are on the same processor, or on none.
+fn same_cpu(a: Option<u8>, b: Option<u8>) -> bool
+    ensures { result ≡ same_cpu a b }
+{
+    match (a, b) {
+        (None, None) => true,
+        (Some(a), Some(b)) => a == b,
+        _ => false,
+    }
+}
+
+/// Whether two are drawn as one bar.
+fn same_standing(a: &Standing, b: &Standing) -> bool
+    ensures { result ≡ same_standing a.now b.now }
+{
+    a.endpoint == b.endpoint && same_doing(a.doing, b.doing) && same_cpu(a.cpu, b.cpu)
+}
+
+/// Whether nothing is seen twice, or two that are drawn as one bar.
+pub(crate) fn same_seen(a: &Option<Standing>, b: &Option<Standing>) -> bool
+    ensures { result ≡ same_seen a.now b.now }
+{
+    match (a, b) {
+        (None, None) => true,
+        (Some(a), Some(b)) => same_standing(a, b),
+        _ => false,
+    }
+}

@@ -1,0 +1,6 @@
+pub mod Shown
+pub mod Texts
+pub mod Hints
+pub mod Classes
+pub mod Figures
+pub mod Document

@@ -1,0 +1,86 @@
+//! Help that is asked for by its own word, and what a reader at a terminal gets.
+
+use mx_app::{NotingOutput, Terminals, texts_asked};
+use std::alloc::Global;
+use std::io::Write;
+use std::test::Fail;
+
+/// Words, and the texts that they stand for.
+const ASKED: [(&[&str], &[&str]); 7] = [
+    (&["mx", "help"], &["mx", "--help"]),
+    (&["mx", "help", "one"], &["mx", "one", "--help"]),
+    (
+        &["mx", "help", "one", "help"],
+        &["mx", "one", "help", "--help"],
+    ),
+    (&["mx", "help", "--version"], &["mx", "--version", "--help"]),
+    // The word is no help after a subcommand, or as the program's own name.
+    (&["mx", "nm", "help"], &["mx", "nm", "help"]),
+    (&["help", "nm"], &["help", "nm"]),
+    (&[], &[]),
+];
+
+/// The words of a command line as the system gives them.
+fn words_of(alloc: Global, texts: &[&str]) -> Result<Vec<String>, Fail> {
+    let mut words = Vec::new(alloc);
+    for text in texts {
+        words.push(String::from_str(alloc, text)?)?;
+    }
+    Ok(words)
+}
+
+#[test]
+fn help_asked(rt: HostRuntime) -> Result<(), Fail> {
+    for (number, (words, texts)) in ASKED.iter().enumerate() {
+        let words = words_of(rt.alloc(), words)?;
+        let asked = texts_asked(rt.alloc(), words.as_slice())?;
+        assert!(rt; asked.as_slice() == *texts, "row {number}");
+    }
+    Ok(())
+}
+
+/// Streams of which this one is a terminal.
+fn terminals(out: bool, err: bool) -> Terminals {
+    Terminals { out, err }
+}
+
+/// A text that ends within a line gets its end at a terminal, and no other text.
+#[test]
+fn ends_of_texts(rt: HostRuntime) {
+    for err in [false, true] {
+        assert!(rt; terminals(true, err).text_end(Some(b'1')) == "\n");
+        assert!(rt; terminals(true, err).text_end(Some(b'\n')).is_empty());
+        assert!(rt; terminals(true, err).text_end(None).is_empty());
+        assert!(rt; terminals(false, err).text_end(Some(b'1')).is_empty());
+    }
+}
+
+/// That there are no symbols is told at a terminal, of a listing of symbols that is empty.
+#[test]
+fn notes_of_symbols(rt: HostRuntime) {
+    for out in [false, true] {
+        assert!(rt; terminals(out, true).symbols_note(true, None) == "mx: no symbols\n");
+        assert!(rt;
+            terminals(out, true)
+                .symbols_note(true, Some(b'\n'))
+                .is_empty()
+        );
+        assert!(rt; terminals(out, true).symbols_note(false, None).is_empty());
+        assert!(rt; terminals(out, false).symbols_note(true, None).is_empty());
+    }
+}
+
+/// The last byte of what was written is noted, also after a text of no bytes.
+#[test]
+fn last_bytes(rt: HostRuntime) -> Result<(), Fail> {
+    let mut out = NotingOutput::new(Vec::new(rt.alloc()));
+    assert!(rt; out.last().is_none());
+    out.write_all(b"console 3\n121")?;
+    assert!(rt; out.last() == Some(b'1'));
+    out.write_all(b"")?;
+    out.flush()?;
+    assert!(rt; out.last() == Some(b'1'));
+    out.write_all(b"\n")?;
+    assert!(rt; out.last() == Some(b'\n'));
+    Ok(())
+}
