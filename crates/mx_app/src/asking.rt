@@ -18,7 +18,8 @@ pub(crate) fn begin_with(words: &[&str], word: &str) -> bool
 
 /// The texts of the program's words, its own name first.
 fn texts(alloc: Global, words: &[String]) -> Result<Vec<&str>, Failure>
-    ensures texts { IfOk result (λ texts. map (λ s. s.now) texts.items ≡ map string_bytes words.now) }
+    ensures texts { IfOk result (λ texts. map (λ s. s.now) texts.items
+        ≡ map string_bytes words.now) }
     ensures memory { IfErr result (λ failure. failure ≡ Failure.NoMemory) }
 {
     let mut texts = Vec::new(alloc);
@@ -30,7 +31,8 @@ fn texts(alloc: Global, words: &[String]) -> Result<Vec<&str>, Failure>
 
 /// The texts of the program's words, its own name first. `help` before words is `--help` after them.
 pub fn texts_asked(alloc: Global, words: &[String]) -> Result<Vec<&str>, Failure>
-    ensures texts { IfOk result (λ texts. map (λ s. s.now) texts.items ≡ help_last (map string_bytes words.now)) }
+    ensures texts { IfOk result (λ texts. map (λ s. s.now) texts.items
+        ≡ help_last (map string_bytes words.now)) }
     ensures memory { IfErr result (λ failure. failure ≡ Failure.NoMemory) }
 {
     let mut texts = texts(alloc, words)?;

@@ -72,8 +72,10 @@ impl<W: Write + Drop> Write for NotingOutput<W> {
 
     fn write(&mut self, buf: &[u8]) -> io::Result<usize>
         ensures bound { WritesAtMost result buf.now }
-        ensures bytes { WriteAppends (W.contents self.old.out) (W.contents self.new.out) result buf.now }
-        ensures noted { IfOk result (λ count. self.new.last ≡ last_taken self.old.last buf.now count) }
+        ensures bytes { WriteAppends (W.contents self.old.out)
+            (W.contents self.new.out) result buf.now }
+        ensures noted { IfOk result (λ count. self.new.last
+            ≡ last_taken self.old.last buf.now count) }
         ensures kept { IfErr result (λ _. self.new.last ≡ self.old.last) }
     {
         let count = self.out.write(buf)?;

@@ -240,7 +240,8 @@ fn with_all<'a>(
     mut line: Command<'a>,
     subcommands: &[Subcommand<'a>],
 ) -> Result<Command<'a>, AllocError>
-    ensures app { IfOk result (λ c. app_of c ≡ fold with_subcommand (app_of line.entry) (map shape_of_subcommand subcommands.now)) }
+    ensures app { IfOk result (λ c. app_of c ≡ fold with_subcommand (app_of line.entry)
+        (map shape_of_subcommand subcommands.now)) }
 {
     for subcommand in subcommands {
         line = line.subcommand(made(alloc, subcommand)?)?;

@@ -226,8 +226,10 @@ fn matches_of<'a>(alloc: Global, words: &'a [&'a str]) -> Result<ArgMatches<'a>,
 
 /// Reads the words of a command line, the program's own name first.
 pub fn command<'a>(alloc: Global, words: &'a [&'a str]) -> Result<CommandLine<'a>, Error>
-    ensures asks { IfOk result (λ l. Asks l.request (subcommand_of mx_grammar (map (λ s. s.now) words.now))) }
-    ensures explains { IfOk result (λ l. AsksToExplain l.explains (subcommand_of mx_grammar (map (λ s. s.now) words.now))) }
+    ensures asks { IfOk result (λ l. Asks l.request
+        (subcommand_of mx_grammar (map (λ s. s.now) words.now))) }
+    ensures explains { IfOk result (λ l. AsksToExplain l.explains
+        (subcommand_of mx_grammar (map (λ s. s.now) words.now))) }
     ensures passes { IfErr result (λ e. takes mx_grammar (map (λ s. s.now) words.now) ≡ true
         → kind_of e ≡ ErrorKind.OutOfMemory) }
     ensures kinds { FailsBy (fault_of mx_grammar (map (λ s. s.now) words.now)) result }

@@ -6,9 +6,9 @@ use Rattle.mx_machine_world.specs.declared.events.Refusal.{Refusal}
 use Rattle.mx_machine_world.specs.declared.history.Record.{Record}
 use Rattle.mx_machine_world.specs.History.{AreAccepted, world_after_events, events_of, events_of_history}
 use Rattle.mx_machine_world.specs.World.{World}
-use Rattle.mx_look_trace.specs.Step.{Step}
-use Rattle.mx_look_trace.specs.Glance.{Glance}
-use Rattle.mx_look_trace.specs.Glances.{glance_of}
+use Rattle.mx_app_step.specs.Step.{Step}
+use Rattle.mx_app_step.specs.Glance.{Glance}
+use Rattle.mx_app_step.specs.Glances.{glance_of}
 use Rattle.mx_app_step.specs.Records.{IsRefusedAt}
 use Rattle.mx_app_step.specs.Traces.{step_of}
 use Rattle.mx_app_step.proofs.RecordLemmas.{after_both}

@@ -4,11 +4,11 @@ use Rattle.mx_machine_world.specs.declared.events.Refusal.{Refusal}
 use Rattle.mx_machine_world.specs.declared.history.Record.{Record}
 use Rattle.mx_machine_world.specs.History.{AreAccepted, world_after_events, events_of, events_of_history}
 use Rattle.mx_machine_world.specs.World.{World}
-use Rattle.mx_app_start.specs.Log.{lines_above}
-use Rattle.mx_look_trace.specs.Glances.{glance_of}
-use Rattle.mx_look_trace.specs.Step.{Step}
-use Rattle.mx_look_values.specs.declared.scene.Scene.{Scene}
-use Rattle.mx_look_values.specs.declared.values.Drawing.{Drawing}
+use Rattle.mx_app_step.specs.Log.{lines_above}
+use Rattle.mx_app_step.specs.Glances.{glance_of}
+use Rattle.mx_app_step.specs.Step.{Step}
+use Rattle.mx_look_svg.specs.Scene.{Scene}
+use Rattle.mx_look_svg.specs.Drawing.{Drawing}
 use Rattle.mx_look_picture.specs.Picture.{IsPicture}
 use Rattle.mx_look_svg.specs.Document.{drawing_text}
 use Rattle.mx_app_step.specs.declared.records.Replayed.{Replayed}
@@ -49,7 +49,7 @@ abbrev pub refused_line : ℕ → Option (ℕ × Refusal) → Option (ℕ × Ref
 refused_line above None = None
 refused_line above (Some p) = Some (told_number (above + p.0), p.1)
 
--- THE SCENE of the records that were made of a history of so many: each field of it
+-- THE SCENE of the records that were made of a history with this count: each field of it
 pub record IsSceneOf (w : World) (cpus count : ℕ) (made : List Record) (from : ℕ) (why : Option (ℕ × Refusal)) (v : Scene) : Type 0 where
   pub first : v.first ≡ max from 1
   pub total : v.total ≡ told_number count
@@ -72,7 +72,7 @@ abbrev pub replayed_by : {X : Type 0} → Option X → Replayed
 replayed_by None = replayed.Whole
 replayed_by (Some x) = replayed.Refused
 
--- what is printed of the first records of a history of so many
+-- what is printed of the first records of a history with this total
 abbrev pub IsDrawing : World → ℕ → ℕ → List Record → ℕ → Replayed → (List ℕ → Type 0) → Type 0
 IsDrawing w cpus total records from how Prints =
     (refused : Option (ℕ × Refusal)) × (made : List Record) × (v : Scene) × (text : List ℕ)

@@ -18,11 +18,11 @@ ghost use Rattle.mx_app_draw.specs.Scenes.{IsDrawing, IsDrawingPrinted, IsPictur
 
 use crate::scene::scene_of;
 use crate::seeing::last_drawn;
-use mx_app_start::{Failure, History, Machine, Reader, Record, print_text, start};
-use mx_app_step::{Replayed, first_records};
+use mx_app_step::{
+    Failure, History, Machine, Reader, Record, Replayed, first_records, print_text, start,
+};
 use mx_look_picture::picture;
-use mx_look_svg::push_drawing;
-use mx_look_values::Scene;
+use mx_look_svg::{Scene, push_drawing};
 use std::alloc::Global;
 use std::io::Write;
 
@@ -39,8 +39,8 @@ fn print_picture<W: Write>(alloc: Global, scene: &Scene, out: &mut W) -> Result<
     print_text(text.as_slice(), out)
 }
 
-/// Makes records, the first of a history of so many, and prints the picture of those from `from` on; at
-/// an event that is refused, of those above it.
+/// Makes records, which are the first of a history of `total`, and prints the picture of those from
+/// `from` on; at an event that is refused, of those above it.
 fn print_drawing<W: Write>(
     alloc: Global,
     machine: &mut Machine,

@@ -8,8 +8,8 @@ ghost use Rattle.mx_look_picture.specs.Picture.{IsDrawable};
 ghost use Rattle.mx_app_draw.specs.Scenes.{IsHistoryScene, refused_line, told_number};
 
 use crate::seeing::see_records;
-use mx_app_start::{Machine, Record, lines_above};
-use mx_look_values::Scene;
+use mx_app_step::{Machine, Record, lines_above};
+use mx_look_svg::Scene;
 use mx_machine_world::Refusal;
 use std::alloc::{AllocError, Global};
 
@@ -30,7 +30,7 @@ fn service_count(machine: &Machine) -> u32
     machine.kernel().services().len() as u32
 }
 
-/// The line of a record by its number, where so many lines stand above the first record.
+/// The line of a record by its number, if `above` lines stand above the first record.
 fn refused_line(above: usize, refused: Option<(usize, Refusal)>) -> Option<(u32, Refusal)>
     requires { above ≤ 1 }
     ensures { result ≡ refused_line above refused }
@@ -39,8 +39,8 @@ fn refused_line(above: usize, refused: Option<(usize, Refusal)>) -> Option<(u32,
     Some((told_number(above.saturating_add(number)), refusal))
 }
 
-/// Makes records, the first of a history of so many, up to the first that is refused, and answers what
-/// is drawn of them from `from` on.
+/// Makes records, which are the first of a history of `total`, up to the first that is refused, and
+/// answers what is drawn of them from `from` on.
 pub(crate) fn scene_of(
     alloc: Global,
     machine: &mut Machine,

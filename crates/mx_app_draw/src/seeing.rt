@@ -6,13 +6,12 @@ ghost use Rattle.mx_machine_world.specs.declared.history.Record.{Record as Noted
 ghost use Rattle.mx_machine_world.specs.World.{actors};
 ghost use Rattle.mx_app_draw.specs.Scenes.{IsSeen, drawn_of, last_drawn};
 
-use mx_app_start::{Machine, Record};
-use mx_app_step::look_record;
-use mx_look_values::{Glance, Step};
+use mx_app_step::{Machine, Record, look_record, resting_step};
+use mx_look_svg::{Glance, Step};
 use mx_machine_world::{Refusal, actors_stay};
 use std::alloc::{AllocError, Global};
 
-/// At most so many records are drawn.
+/// The most records that are drawn.
 const MOST_DRAWN: u32 = 1000;
 
 /// What is seen of records that are made one after the other.
@@ -20,7 +19,7 @@ const MOST_DRAWN: u32 = 1000;
 pub(crate) struct Seen {
     /// The records that are drawn.
     pub(crate) steps: Vec<Step>,
-    /// The world behind the records that were made.
+    /// The world after the records that were made.
     pub(crate) world: Glance,
     /// The number of the record that is refused, the first having the number 1, and why.
     pub(crate) refused: Option<(usize, Refusal)>,
@@ -34,11 +33,11 @@ pub(crate) fn last_drawn(from: u32, to: u32) -> u32
 }
 
 /// Keeps a step, if it is one from `from` on.
-fn keep_step(steps: &mut Vec<Step>, step: Step, from: u32) -> Result<(), AllocError>
-    ensures { OnOk result (steps.new.items ≡ steps.old.items ++ drawn_of from step) }
+fn keep_step(steps: &mut Vec<Step>, step: &Step, from: u32) -> Result<(), AllocError>
+    ensures { OnOk result (steps.new.items ≡ steps.old.items ++ drawn_of from step.now) }
 {
     if step.number >= from {
-        steps.push(step)?;
+        steps.push(*step)?;
     }
     Ok(())
 }
@@ -57,11 +56,12 @@ pub(crate) fn see_records(
 {
     actors_stay();
     let mut steps = Vec::new(alloc);
-    let mut world = Glance::of(machine);
+    let mut step = resting_step(machine);
+    let mut world = step.after;
     for (index, entry) in records.iter().enumerate() {
         let number = index as u32 + 1;
-        match look_record(machine, number, *entry) {
-            Ok(step) => keep_step(&mut steps, step, from)?,
+        match look_record(machine, number, *entry, &mut step) {
+            Ok(()) => keep_step(&mut steps, &step, from)?,
             Err(refusal) => {
                 let refused = Some((number as usize, refusal));
                 return Ok(Seen {
@@ -71,7 +71,7 @@ pub(crate) fn see_records(
                 });
             }
         }
-        world = Glance::of(machine);
+        world = step.after;
     }
     Ok(Seen {
         steps,

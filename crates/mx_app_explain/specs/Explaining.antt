@@ -8,7 +8,7 @@ use Rattle.mx_app_command.specs.declared.words.CommandRequest.{CommandRequest}
 use Rattle.mx_app_command.specs.declared.words.CommandRequest.TheVariants.{One, As, Dis, Nm, Step, Run, Replay, Trace, Draw, Db}
 use Rattle.mx_app_failure.specs.declared.failure.Failure.{Failure as Kind}
 use Rattle.mx_app_failure.specs.declared.failure.Failure.TheVariants.{Refused, Faulty, Misstated, NotText, File, NoMemory}
-use Rattle.mx_app_explain.specs.Wanting.{problem_wanted, refusal_wanted}
+use Rattle.mx_app_explain.specs.Wanted.{problem_wanted, refusal_wanted}
 use Rattle.mx_app_explain.specs.declared.explaining.Explanation.{Explanation}
 use Rattle.mx_app_explain.specs.declared.subject.Subject.{Subject}
 use Rattle.mx_app_explain.specs.declared.subject.Subject.TheVariants.{Word, Service, Unknown, Output, Memory}

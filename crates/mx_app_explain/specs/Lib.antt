@@ -1,2 +1,2 @@
 pub mod Explaining
-pub mod Wanting
+pub mod Wanted

@@ -4,7 +4,7 @@ ghost use Rattle.std.specs.Prelude.{◌≡◌, option_map};
 ghost use Rattle.mx_app_explain.specs.Explaining.{explained, explanation_told};
 
 use crate::subject::{Notes, Subject, subject_of};
-use crate::wanting::wanted_of;
+use crate::wanted::wanted_of;
 use mx_app_command::CommandRequest;
 use mx_app_failure::Failure;
 use std::fmt;
@@ -36,7 +36,8 @@ pub fn explain_failure<'a>(
     failure: Failure,
     notes: Notes<'a>,
 ) -> Explanation<'a>
-    ensures { explanation_told result ≡ explained request.entry failure (option_map (λ s. s.now) notes.entry.last) notes.entry.is_missed notes.entry.is_unwritten }
+    ensures { explanation_told result ≡ explained request.entry failure
+        (option_map (λ s. s.now) notes.entry.last) notes.entry.is_missed notes.entry.is_unwritten }
 {
     Explanation {
         subject: subject_of(request, failure, notes),

@@ -3,7 +3,7 @@
 
 mod explaining;
 mod subject;
-mod wanting;
+mod wanted;
 
 pub use explaining::{Explanation, explain_failure};
 pub use subject::{Notes, Subject};

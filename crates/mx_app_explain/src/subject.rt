@@ -181,7 +181,8 @@ fn asked_subject<'a>(request: CommandRequest<'a>, last: Option<&'a str>) -> Subj
 
 /// What is about a file that can't be read or written.
 fn file_subject<'a>(request: CommandRequest<'a>, notes: Notes<'a>) -> Subject<'a>
-    ensures { subject_told result ≡ file_subject request.entry (option_map (λ s. s.now) notes.entry.last) notes.entry.is_missed notes.entry.is_unwritten }
+    ensures { subject_told result ≡ file_subject request.entry
+        (option_map (λ s. s.now) notes.entry.last) notes.entry.is_missed notes.entry.is_unwritten }
 {
     if writes_over(request) {
         second_word(request)
@@ -202,7 +203,8 @@ pub(crate) fn subject_of<'a>(
     failure: Failure,
     notes: Notes<'a>,
 ) -> Subject<'a>
-    ensures { subject_told result ≡ subject_of request.entry failure (option_map (λ s. s.now) notes.entry.last) notes.entry.is_missed notes.entry.is_unwritten }
+    ensures { subject_told result ≡ subject_of request.entry failure
+        (option_map (λ s. s.now) notes.entry.last) notes.entry.is_missed notes.entry.is_unwritten }
 {
     match failure {
         Failure::Refused(FileError::NoMemory)

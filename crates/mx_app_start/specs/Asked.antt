@@ -1,7 +1,7 @@
 -- What a reader was asked for (our own).
 use Rattle.std.specs.Prelude.{ℕ, List, map, Result, Ok, Err}
 use Rattle.std.specs.declared.io.ErrorKind.{ErrorKind}
-use Rattle.http_server.specs.declared.log.Log.{Log}
+use Rattle.mx_app_start.specs.declared.noted.Noted.{Noted}
 
 -- A file's name, and the bytes that were answered, or why there are none.
 pub record Asked : Type 0 where
@@ -18,15 +18,15 @@ file_missed name kind = record { name = name; answer = Err kind }
 
 -- ---- what is remembered, byte by byte
 
-abbrev pub logged_bytes : Log ℕ (Unit {0}) → List ℕ
-logged_bytes log = map (λ (p : ℕ × Unit {0}). p.0) log.items
+abbrev pub noted_bytes : Noted ℕ → List ℕ
+noted_bytes noted = noted.items
 
-abbrev pub answer_of : Result (Log ℕ (Unit {0})) ErrorKind → Result (List ℕ) ErrorKind
-answer_of (Ok bytes) = Ok (logged_bytes bytes)
+abbrev pub answer_of : Result (Noted ℕ) ErrorKind → Result (List ℕ) ErrorKind
+answer_of (Ok bytes) = Ok (noted_bytes bytes)
 answer_of (Err kind) = Err kind
 
-abbrev pub asked_of : Log ℕ (Unit {0}) × Result (Log ℕ (Unit {0})) ErrorKind → Asked
-asked_of p = record { name = logged_bytes p.0; answer = answer_of p.1 }
+abbrev pub asked_of : Noted ℕ × Result (Noted ℕ) ErrorKind → Asked
+asked_of p = record { name = noted_bytes p.0; answer = answer_of p.1 }
 
-abbrev pub asked_in : List (Log ℕ (Unit {0}) × Result (Log ℕ (Unit {0})) ErrorKind) → List Asked
+abbrev pub asked_in : List (Noted ℕ × Result (Noted ℕ) ErrorKind) → List Asked
 asked_in answers = map asked_of answers

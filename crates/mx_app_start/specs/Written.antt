@@ -2,8 +2,8 @@
 use Rattle.std.specs.Prelude.{◌≡◌, ℕ, List, map, Option, Some, None, Result, Ok, Err, string_bytes}
 use Rattle.std.specs.declared.io.ErrorKind.{ErrorKind}
 use Rattle.std.specs.declared.io.ErrorKind.TheVariants.{OutOfMemory}
-use Rattle.http_server.specs.declared.log.Log.{Log}
-use Rattle.mx_app_start.specs.Asked.{logged_bytes}
+use Rattle.mx_app_start.specs.declared.noted.Noted.{Noted}
+use Rattle.mx_app_start.specs.Asked.{noted_bytes}
 use Rattle.mx_app_start.specs.declared.memory.KeptFile.{KeptFile}
 
 -- A file's name and its bytes, and that it was written, or why it wasn't.
@@ -22,10 +22,10 @@ unkept name bytes kind = record { name = name; bytes = bytes; answer = Err kind 
 
 -- ---- what is remembered, byte by byte
 
-abbrev pub written_of : (Log ℕ (Unit {0}) × Log ℕ (Unit {0})) × Result (Unit {0}) ErrorKind → Written
-written_of p = record { name = logged_bytes p.0.0; bytes = logged_bytes p.0.1; answer = p.1 }
+abbrev pub written_of : (Noted ℕ × Noted ℕ) × Result (Unit {0}) ErrorKind → Written
+written_of p = record { name = noted_bytes p.0.0; bytes = noted_bytes p.0.1; answer = p.1 }
 
-abbrev pub written_in : List ((Log ℕ (Unit {0}) × Log ℕ (Unit {0})) × Result (Unit {0}) ErrorKind) → List Written
+abbrev pub written_in : List ((Noted ℕ × Noted ℕ) × Result (Unit {0}) ErrorKind) → List Written
 written_in writes = map written_of writes
 
 -- ---- files in memory

@@ -5,6 +5,7 @@ mod course;
 mod limits;
 mod memory;
 mod named;
+mod noted;
 mod noting;
 mod reader;
 mod replacing;

@@ -4,9 +4,9 @@ ghost use Rattle.std.specs.Prelude.{◌≡◌, ◌++◌, ◌∷◌, [], IfErr, I
 ghost use Rattle.std.specs.IoError.{error_kind};
 ghost use Rattle.mx_app_start.specs.Written.{IsUnkept, files_of, kept, unkept, written_in};
 
+use crate::noted::Noted;
 use crate::noting::{Writes, with_write};
 use crate::writer::FileWriter;
-use http_server::Log;
 use std::alloc::{AllocError, Global};
 use std::io;
 
@@ -34,7 +34,7 @@ impl MemoryWriter {
         MemoryWriter {
             files: Vec::new(alloc),
             refusal: None,
-            writes: Log::new(),
+            writes: Noted::new(),
         }
     }
 
@@ -46,7 +46,7 @@ impl MemoryWriter {
         MemoryWriter {
             files: Vec::new(alloc),
             refusal: Some(kind),
-            writes: Log::new(),
+            writes: Noted::new(),
         }
     }
 

@@ -5,9 +5,9 @@ ghost use Rattle.std.specs.IoError.{error_kind};
 ghost use Rattle.mx_app_start.specs.Asked.{asked_in};
 ghost use Rattle.mx_app_start.specs.Named.{IsAbsent, bytes_named};
 
+use crate::noted::Noted;
 use crate::noting::{Answers, with_answer};
 use crate::reader::Reader;
-use http_server::Log;
 use std::alloc::Global;
 use std::io;
 
@@ -34,7 +34,7 @@ impl<'a> NamedFiles<'a> {
     {
         NamedFiles {
             files,
-            answers: Log::new(),
+            answers: Noted::new(),
         }
     }
 

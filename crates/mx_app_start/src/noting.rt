@@ -3,30 +3,30 @@
 
 ghost use Rattle.std.specs.Prelude.{◌≡◌, ◌++◌, ◌∷◌, [], List, Ok, Err, IfOk, IfErr};
 ghost use Rattle.std.specs.IoError.{error_kind};
-ghost use Rattle.mx_app_start.specs.Asked.{Asked, asked_in, logged_bytes};
+ghost use Rattle.mx_app_start.specs.Asked.{Asked, asked_in, noted_bytes};
 ghost use Rattle.mx_app_start.specs.Written.{kept, unkept, written_in};
 
-use http_server::Log;
+use crate::noted::Noted;
 use std::io;
 
 /// Bytes that a contract remembers.
-type Bytes = Log<u8, ()>;
+type Bytes = Noted<u8>;
 
 /// The names that a reader was asked for, and its answers.
-pub(crate) type Answers = Log<Bytes, Result<Bytes, io::ErrorKind>>;
+pub(crate) type Answers = Noted<(Bytes, Result<Bytes, io::ErrorKind>)>;
 
 /// The names and the bytes that a writer was given, and what came of them.
-pub(crate) type Writes = Log<(Bytes, Bytes), Result<(), io::ErrorKind>>;
+pub(crate) type Writes = Noted<((Bytes, Bytes), Result<(), io::ErrorKind>)>;
 
 /// Remembers bytes.
 fn bytes_noted(bytes: &[u8]) -> Bytes
-    ensures { logged_bytes result ≡ bytes.now }
+    ensures { noted_bytes result ≡ bytes.now }
 {
-    let mut log = Log::new();
+    let mut noted = Noted::new();
     for byte in bytes {
-        log = log.and(byte, &());
+        noted = noted.and(byte);
     }
-    log
+    noted
 }
 
 /// Remembers an answer after others.
@@ -41,7 +41,7 @@ pub(crate) fn with_answer(answers: &Answers, name: &str, answer: &io::Result<Vec
         Ok(bytes) => Ok(bytes_noted(bytes.as_slice())),
         Err(error) => Err(error.kind()),
     };
-    answers.and(&name, &answer)
+    answers.and(&(name, answer))
 }
 
 /// Remembers what came of a write after others.
@@ -61,5 +61,5 @@ pub(crate) fn with_write(
         Ok(()) => Ok(()),
         Err(error) => Err(error.kind()),
     };
-    writes.and(&file, &answer)
+    writes.and(&(file, answer))
 }

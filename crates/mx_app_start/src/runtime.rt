@@ -3,11 +3,11 @@
 ghost use Rattle.std.specs.Prelude.{◌≡◌, []};
 
 use crate::limits::{read_program, read_text};
+use crate::noted::Noted;
 use crate::noting::{Answers, Writes, with_answer, with_write};
 use crate::reader::Reader;
 use crate::replacing::replace_file;
 use crate::writer::FileWriter;
-use http_server::Log;
 use std::alloc::Global;
 use std::io;
 use std::rt::Files;
@@ -27,7 +27,7 @@ impl<'a, R> RuntimeFiles<'a, R> {
     {
         RuntimeFiles {
             rt,
-            answers: Log::new(),
+            answers: Noted::new(),
         }
     }
 }
@@ -66,7 +66,7 @@ impl<'a, R> RuntimeWriter<'a, R> {
     {
         RuntimeWriter {
             rt,
-            writes: Log::new(),
+            writes: Noted::new(),
         }
     }
 }

@@ -40,6 +40,16 @@ step_of w n x = record {
   after = glance_of (world_after_events w (events_of x.actor x.event));
 }
 
+-- nothing happens, and a world is seen as it stands
+abbrev pub resting_step : World → Step
+resting_step w = record {
+  number = 0;
+  before = glance_of w;
+  actor = 0;
+  event = recorded.Tick;
+  after = glance_of w;
+}
+
 -- what is told of a step: nothing of one before `from`
 abbrev pub told_of : ℕ → Step → List ℕ
 told_of from x = if nat_lt x.number from then [] else record_text x

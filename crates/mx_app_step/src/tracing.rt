@@ -15,7 +15,7 @@ ghost use Rattle.mx_machine_world.specs.Boot.{world_at_boot};
 ghost use Rattle.mx_machine_world.specs.History.{AreAccepted, world_after_events, events_of};
 ghost use Rattle.mx_machine_world.specs.World.{actors};
 ghost use Rattle.mx_app_step.specs.Records.{IsFirstRefusal};
-ghost use Rattle.mx_app_step.specs.Traces.{IsTracePrinted, IsTraced, own_event, step_of, steps_before, told_of};
+ghost use Rattle.mx_app_step.specs.Traces.{IsTracePrinted, IsTraced, own_event, resting_step, step_of, steps_before, told_of};
 
 use crate::records::{Replayed, event_again, print_refusal, steps_again};
 use mx_app_start::{
@@ -57,39 +57,61 @@ fn begin_record(machine: &mut Machine, actor: u8, event: Recorded) -> Result<(),
     }
 }
 
-/// A record as a step: it is looked at after the steps, and after its own event.
-pub fn look_record(machine: &mut Machine, number: u32, entry: Record) -> Result<Step, Refusal>
+/// A step to be filled: nothing happens, and the machine is seen as it stands.
+pub fn resting_step(machine: &Machine) -> Step
+    ensures { result ≡ resting_step (world_of machine.now) }
+{
+    let glance = Glance::of(machine);
+    Step {
+        number: 0,
+        before: glance,
+        actor: 0,
+        event: Recorded::Tick,
+        after: glance,
+    }
+}
+
+/// Makes a record, and fills a step with it: the machine is looked at after the record's steps, and
+/// after its own event.
+pub fn look_record(
+    machine: &mut Machine,
+    number: u32,
+    entry: Record,
+    step: &mut Step,
+) -> Result<(), Refusal>
     requires { entry.actor < actors (world_of machine.old) }
     ensures ok { OnOk result (AreAccepted (world_of machine.old) (events_of entry.actor entry.event)
         × (world_of machine.new
         ≡ world_after_events (world_of machine.old) (events_of entry.actor entry.event))) }
-    ensures step { IfOk result (λ step. step ≡ step_of (world_of machine.old) number entry) }
+    ensures step { OnOk result (step.new ≡ step_of (world_of machine.old) number entry) }
     ensures err { IfErr result
         (IsFirstRefusal (world_of machine.old) (events_of entry.actor entry.event)) }
 {
     actors_stay();
     begin_record(machine, entry.actor, entry.event)?;
-    let before = Glance::of(machine);
+    step.before.look(machine);
     event_again(machine, entry.actor, own_event(entry.event))?;
-    let after = Glance::of(machine);
-    Ok(Step {
-        number,
-        before,
-        actor: entry.actor,
-        event: entry.event,
-        after,
-    })
+    step.after.look(machine);
+    step.number = number;
+    step.actor = entry.actor;
+    step.event = entry.event;
+    Ok(())
 }
 
-/// Prints what is told of a step: nothing of one before `from`.
-fn print_step<W: Write>(alloc: Global, step: &Step, from: u32, out: &mut W) -> Result<(), Failure>
+/// Prints what is told of a step: nothing of one before `from`. What was in the text is lost.
+fn print_step<W: Write>(
+    text: &mut Vec<u8>,
+    step: &Step,
+    from: u32,
+    out: &mut W,
+) -> Result<(), Failure>
     ensures err { IfErr result IsWanting }
     ensures bytes { OnOk result (Appends (W.contents out.old) (W.contents out.new)
         (told_of from step.now)) }
 {
-    let mut text = Vec::new(alloc);
+    text.clear();
     if step.number >= from {
-        push_record(&mut text, step)?;
+        push_record(text, step)?;
     }
     print_text(text.as_slice(), out)
 }
@@ -112,10 +134,12 @@ fn print_steps<W: Write>(
     ensures few { IfOk result (λ refused. IfSome refused (λ p. p.0 ≤ length records.now)) }
 {
     actors_stay();
+    let mut step = resting_step(machine);
+    let mut text = Vec::new(alloc);
     for (index, entry) in records.iter().enumerate() {
         let number = index as u32 + 1;
-        match look_record(machine, number, *entry) {
-            Ok(step) => print_step(alloc, &step, from, out)?,
+        match look_record(machine, number, *entry, &mut step) {
+            Ok(()) => print_step(&mut text, &step, from, out)?,
             Err(refusal) => return Ok(Some((number as usize, refusal))),
         }
     }

@@ -8,7 +8,7 @@ use mx_look_glance::{CpuGlance, Glance, SlotGlance};
 use mx_machine_world::Recorded;
 
 /// A record of a history, with the world in which its event is made, and the world after it.
-#[derive(Drop)]
+#[derive(Clone, Copy)]
 pub struct Step {
     /// Its place in the history, counted from 1.
     pub number: u32,

@@ -6,8 +6,8 @@ ghost use Rattle.mx_machine.specs.Machine.{world_of};
 ghost use Rattle.mx_look_glance.specs.Glances.{glance_of, held_glance, cpu_glance, cpu_glances};
 
 use crate::images::{ImageGlance, image_glance};
-use crate::kept::{last_byte, latest_deliveries};
-use crate::slots::{SlotGlance, slot_glances};
+use crate::kept::{last_byte, look_at_deliveries};
+use crate::slots::{SlotGlance, look_at_slots};
 use mx_image::Stop;
 use mx_machine::{Machine, Out};
 use mx_proc::{Delivery, Slot};
@@ -24,7 +24,7 @@ pub struct CpuGlance {
 }
 
 /// What is looked at in a machine. Slots, processors and deliveries that there aren't are none.
-#[derive(Drop)]
+#[derive(Clone, Copy)]
 pub struct Glance {
     pub slots: [Option<SlotGlance>; 32],
     pub cpus: [Option<CpuGlance>; 8],
@@ -63,36 +63,48 @@ fn cpu_glance(machine: &Machine, cpu: u8) -> Option<CpuGlance>
     }
 }
 
-/// What is looked at of the processors.
-fn cpu_glances(machine: &Machine) -> [Option<CpuGlance>; 8]
-    ensures { result ≡ cpu_glances (world_of machine.now) }
+/// Looks at the processors.
+fn look_at_cpus(cpus: &mut [Option<CpuGlance>; 8], machine: &Machine)
+    ensures { cpus.new ≡ cpu_glances (world_of machine.now) }
 {
-    let mut cpus = [None; 8];
     for cpu in 0..8u8 {
         cpus[cpu as usize] = cpu_glance(machine, cpu);
     }
-    cpus
 }
 
 impl Glance {
     /// Looks at a machine. Takes no memory.
-    #[tactic(auto, unfolding(mx_machine::specs::Machine::world_of))]
     pub fn of(machine: &Machine) -> Glance
         ensures { result ≡ glance_of (world_of machine.now) }
     {
-        let cpus = cpu_glances(machine);
+        let mut glance = Glance {
+            slots: [None; 32],
+            cpus: [None; 8],
+            owners: [None; 16],
+            uptime: 0,
+            written: 0,
+            last_byte: None,
+            deliveries: [None; 32],
+        };
+        glance.look(machine);
+        glance
+    }
+
+    /// Looks at a machine, and forgets what was seen before. It moves less than a new glance does.
+    #[tactic(auto, unfolding(mx_machine::specs::Machine::world_of))]
+    pub fn look(&mut self, machine: &Machine)
+        ensures { self.new ≡ glance_of (world_of machine.now) }
+    {
+        look_at_cpus(&mut self.cpus, machine);
         let kernel = machine.kernel();
         kernel.opened();
         let table = kernel.table();
         let console = &table.devices().console;
-        Glance {
-            slots: slot_glances(table, kernel.services()),
-            cpus,
-            owners: table.devices().owners,
-            uptime: table.uptime(),
-            written: console.count(),
-            last_byte: last_byte(console),
-            deliveries: latest_deliveries(table),
-        }
+        look_at_slots(&mut self.slots, table, kernel.services());
+        look_at_deliveries(&mut self.deliveries, table);
+        self.owners = table.devices().owners;
+        self.uptime = table.uptime();
+        self.written = console.count();
+        self.last_byte = last_byte(console);
     }
 }

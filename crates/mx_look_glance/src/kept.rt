@@ -45,14 +45,13 @@ fn latest(table: &Table, count: usize, back: usize) -> Option<Delivery>
     }
 }
 
-/// The deliveries that are kept, the latest first, and of these at most 32: no event makes more.
-pub(crate) fn latest_deliveries(table: &Table) -> [Option<Delivery>; 32]
-    ensures { result ≡ latest_deliveries table.now.deliveries }
+/// Looks at the deliveries that are kept, the latest first, and of these at most 32: no event makes
+/// more.
+pub(crate) fn look_at_deliveries(deliveries: &mut [Option<Delivery>; 32], table: &Table)
+    ensures { deliveries.new ≡ latest_deliveries table.now.deliveries }
 {
     let count = kept_count(table);
-    let mut deliveries = [None; 32];
     for back in 0..32usize {
         deliveries[back] = latest(table, count, back);
     }
-    deliveries
 }

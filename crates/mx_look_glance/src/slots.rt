@@ -48,25 +48,28 @@ fn glance_of_slot(table: &Table, slot: Slot, service: &Service) -> SlotGlance
     }
 }
 
-/// What is looked at of a slot, if it has a service.
-fn slot_glance(table: &Table, services: &[Service], slot: Slot) -> Option<SlotGlance>
+/// Looks at a slot, if it has a service.
+fn look_at_slot(seen: &mut Option<SlotGlance>, table: &Table, services: &[Service], slot: Slot)
     requires { length services.now ≡ length table.now.slots }
-    ensures { result ≡ slot_glance table.now services.now slot }
+    ensures { seen.new ≡ slot_glance table.now services.now slot }
 {
-    if slot as usize >= services.len() {
-        return None;
+    if (slot as usize) < services.len() {
+        *seen = Some(glance_of_slot(table, slot, &services[slot as usize]));
+    } else if seen.is_some() {
+        *seen = None;
     }
-    Some(glance_of_slot(table, slot, &services[slot as usize]))
 }
 
-/// What is looked at of the slots.
-pub(crate) fn slot_glances(table: &Table, services: &[Service]) -> [Option<SlotGlance>; 32]
+/// Looks at the slots.
+pub(crate) fn look_at_slots(
+    slots: &mut [Option<SlotGlance>; 32],
+    table: &Table,
+    services: &[Service],
+)
     requires { length services.now ≡ length table.now.slots }
-    ensures { result ≡ slot_glances table.now services.now }
+    ensures { slots.new ≡ slot_glances table.now services.now }
 {
-    let mut slots = [None; 32];
     for slot in 0..32u8 {
-        slots[slot as usize] = slot_glance(table, services, slot);
+        look_at_slot(&mut slots[slot as usize], table, services, slot);
     }
-    slots
 }

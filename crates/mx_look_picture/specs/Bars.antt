@@ -2,8 +2,8 @@
 -- endpoint and on the same processor. Who is down has none.
 use Rattle.std.specs.Prelude.{ℕ, IsTrue, find, ◌≡◌, ◌+◌, ◌-◌, ◌*◌, ◌<◌, ◌≤◌, ◌==◌, ◌||◌, not, unwrap_or, if◌then◌else◌, Bool, List, [], ◌∷◌, Option, Some, None}
 use Rattle.std.specs.List.{flat_map, range_with_len}
-use Rattle.mx_look_glance.specs.declared.doing.Doing.{Doing}
-use Rattle.mx_look_glance.specs.declared.doing.Doing.TheVariants as doing
+use Rattle.mx_look_facts.specs.Doing.{Doing}
+use Rattle.mx_look_facts.specs.Doing.TheVariants as doing
 use Rattle.mx_look_values.specs.declared.values.Hint.{Hint}
 use Rattle.mx_look_values.specs.declared.values.Hint.TheVariants as hint
 use Rattle.mx_look_values.specs.declared.values.BarKind.{BarKind}

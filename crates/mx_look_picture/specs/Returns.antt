@@ -4,10 +4,10 @@ use Rattle.mx_image.specs.declared.runs.Stop.{Stop}
 use Rattle.mx_image.specs.declared.runs.Stop.TheVariants as stop
 use Rattle.mx_machine_world.specs.declared.history.Recorded.{Recorded}
 use Rattle.mx_machine_world.specs.declared.history.Recorded.TheVariants.{Back}
-use Rattle.mx_look_glance.specs.declared.doing.Doing.{Doing}
-use Rattle.mx_look_glance.specs.declared.doing.Doing.TheVariants as doing
-use Rattle.mx_look_glance.specs.declared.slots.SlotGlance.{SlotGlance}
-use Rattle.mx_look_glance.specs.declared.glance.CpuGlance.{CpuGlance}
+use Rattle.mx_look_facts.specs.Doing.{Doing}
+use Rattle.mx_look_facts.specs.Doing.TheVariants as doing
+use Rattle.mx_look_facts.specs.SlotGlance.{SlotGlance}
+use Rattle.mx_look_facts.specs.CpuGlance.{CpuGlance}
 use Rattle.mx_look_facts.specs.declared.step.Step.{Step}
 use Rattle.mx_look_facts.specs.Step.{slot_in, held_before}
 use Rattle.mx_look_facts.specs.Doings.{is_ready, seen_is}

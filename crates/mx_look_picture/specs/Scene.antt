@@ -1,9 +1,9 @@
 -- What is drawn: the steps of a run, and what is seen in the worlds between them (our own).
 use Rattle.std.specs.Prelude.{ℕ, find, ◌+◌, ◌-◌, ◌==◌, ◌&&◌, Bool, true, false, Option, Some, None, slice_get, if◌then◌else◌}
 use Rattle.std.specs.List.{range_with_len}
-use Rattle.mx_look_glance.specs.declared.slots.SlotGlance.{SlotGlance}
-use Rattle.mx_look_glance.specs.declared.glance.CpuGlance.{CpuGlance}
-use Rattle.mx_look_glance.specs.declared.glance.Glance.{Glance}
+use Rattle.mx_look_facts.specs.SlotGlance.{SlotGlance}
+use Rattle.mx_look_facts.specs.CpuGlance.{CpuGlance}
+use Rattle.mx_look_facts.specs.Glance.{Glance}
 use Rattle.mx_look_facts.specs.declared.step.Step.{Step}
 use Rattle.mx_look_facts.specs.Step.{slot_in, cpu_in}
 use Rattle.mx_look_facts.specs.Doings.{same_doing}

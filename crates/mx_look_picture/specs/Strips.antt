@@ -18,7 +18,7 @@ use Rattle.mx_look_picture.specs.Scene.{world_at}
 use Rattle.mx_look_picture.specs.Bars.{seen_at, bars}
 use Rattle.mx_look_picture.specs.Record.{record_values}
 
--- behind each second row
+-- under each second row
 unfoldable pub band : ℕ → ℕ → ℕ → List Value
 band top width r = if r % 2 == 1 then bar_at kind.Band 0 (row top r - 16) width 32 hint.Nothing ∷ [] else []
 

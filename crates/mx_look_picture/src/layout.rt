@@ -67,7 +67,7 @@ pub(crate) fn toward(from: u32, to: u32) -> u32
     if from < to { to - 4 } else { to + 4 }
 }
 
-/// How many strips so many records have.
+/// How many strips `count` records have.
 pub(crate) fn strip_count(count: u32) -> u32
     requires { count ≤ 1000 }
     ensures count { result ≡ strip_count count }
@@ -87,7 +87,7 @@ pub(crate) fn strip_top(services: u32, index: u32) -> u32
     32 + index * (32 * rows(services) + 40)
 }
 
-/// A strip of so many records in all.
+/// One of the strips of `count` records.
 pub(crate) fn strip_at(services: u32, count: u32, index: u32) -> Strip
     requires services { services ≤ 32 }
     requires count { count ≤ 1000 }
@@ -102,7 +102,7 @@ pub(crate) fn strip_at(services: u32, count: u32, index: u32) -> Strip
     }
 }
 
-/// How wide the paper is for so many records.
+/// How wide the paper is for `count` records.
 pub(crate) fn paper_width(count: u32) -> u32
     ensures width { result ≡ paper_width count }
     ensures within { result ≤ 1468 }
@@ -130,7 +130,7 @@ pub(crate) fn legend_top(services: u32, count: u32) -> u32
     strip_top(services, strip_count(count))
 }
 
-/// How high the paper is for so many records.
+/// How high the paper is for `count` records.
 #[tactic(auto, using(crate::proofs::Within::quotient_within))]
 pub(crate) fn paper_height(services: u32, count: u32) -> u32
     requires services { services ≤ 32 }

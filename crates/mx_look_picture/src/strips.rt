@@ -16,7 +16,7 @@ use std::alloc::AllocError;
 /// Where names begin.
 const MARGIN: u32 = 8;
 
-/// Appends the band behind a row, if it has one.
+/// Appends the band under a row, if it has one.
 #[tactic(auto, unfolding(crate::specs::Strips::band))]
 fn push_band(out: &mut Vec<Value>, top: u32, width: u32, index: u32) -> Result<(), AllocError>
     requires top { top ≤ 30000 }
@@ -33,7 +33,7 @@ fn push_band(out: &mut Vec<Value>, top: u32, width: u32, index: u32) -> Result<(
     Ok(())
 }
 
-/// Appends the bands behind each second row.
+/// Appends the bands under each second row.
 fn push_bands(out: &mut Vec<Value>, top: u32, width: u32, services: u32) -> Result<(), AllocError>
     requires top { top ≤ 30000 }
     requires services { services ≤ 32 }
@@ -65,7 +65,8 @@ fn push_axis_mark(
     requires strip { IsWithin strip }
     requires services { services ≤ 32 }
     requires index { index ≤ 40 }
-    ensures { OnOk result (out.new.items ≡ out.old.items ++ axis_values strip services index number) }
+    ensures { OnOk result (out.new.items ≡ out.old.items
+        ++ axis_values strip services index number) }
 {
     if !is_marked(index, number) {
         return Ok(());
@@ -87,7 +88,8 @@ fn push_axis_mark(
 
 /// The step of a column.
 fn step_at(scene: &Scene, strip: Strip, index: u32) -> Option<&Step>
-    ensures { MatchOption result (step_at scene.now strip index ≡ None) (λ step. step_at scene.now strip index ≡ Some step.now) }
+    ensures { MatchOption result (step_at scene.now strip index ≡ None)
+        (λ step. step_at scene.now strip index ≡ Some step.now) }
 {
     scene.steps.get(strip.place as usize + index as usize)
 }

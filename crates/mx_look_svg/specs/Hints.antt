@@ -1,7 +1,7 @@
 -- What a value tells when it is asked (our own): a line of the trace, or what a process does after a record.
 use Rattle.std.specs.Prelude.{ℕ, nat_lt, if◌then◌else◌, List, [], ◌++◌, codes, Option, Some, None, slice_get}
 use Rattle.std.specs.Fmt.{decimal}
-use Rattle.mx_look_glance.specs.declared.slots.SlotGlance.{SlotGlance}
+use Rattle.mx_look_facts.specs.SlotGlance.{SlotGlance}
 use Rattle.mx_look_facts.specs.declared.step.Step.{Step}
 use Rattle.mx_look_facts.specs.Step.{slot_in}
 use Rattle.mx_look_trace.specs.Trace.{head_line, change_line, delivery_line, kept_line, console_line}

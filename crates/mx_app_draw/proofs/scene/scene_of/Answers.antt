@@ -1,6 +1,6 @@
 use Rattle.std.proofs.Common.{◌≡◌, ◌∙◌, ap, length, max, refl, rules, arith}
 use Rattle.mx_app_step.specs.Machine.{world_of}
-use Rattle.mx_app_start.specs.Log.{lines_above}
+use Rattle.mx_app_step.specs.Log.{lines_above}
 use Rattle.mx_app_draw.specs.Scenes.{refused_line}
 use Rattle.mx_app_draw.proofs.SeenLemmas.{drawn_few}
 use Rattle.mx_app_draw.proofs.DrawnLemmas.{made_few}

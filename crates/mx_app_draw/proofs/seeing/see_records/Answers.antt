@@ -1,6 +1,7 @@
-use Rattle.std.proofs.Common.{◌+◌, ◌∙◌, ap, refl}
+use Rattle.std.proofs.Common.{◌+◌, ◌∙◌, ap, refl, sym}
 use Rattle.mx_app_step.specs.Machine.{world_of}
-use Rattle.mx_look_trace.specs.Glances.{glance_of}
+use Rattle.mx_app_step.specs.Glances.{glance_of}
+use Rattle.mx_app_step.specs.Step.{Step}
 use Rattle.mx_app_step.proofs.RecordLemmas.{next_accepted, next_world, refused_at}
 use Rattle.mx_app_draw.proofs.SeenLemmas.{all_seen, next_seen, refused_seen}
 use Rattle.mx_app_draw.proofs.seeing.see_records.Goals as goal
@@ -25,8 +26,8 @@ loop-index-preserved c =
     record {
       accepted = next_accepted w v c.args.records.now i _ c.loop-index-test.true inv.accepted inv.reached done.0;
       reached = reached;
-      glanced = c.of-world-in-loop-index.ensures ∙ ap glance_of reached;
-      drawn = next_seen c.args.from w v c.args.records.now i (i + 1) _ c.in-Ok.step c.loop-index.steps.items c.keep_step.new.steps.items
+      glanced = ap (λ (s : Step). s.after) c.in-Ok.ensures.step ∙ ap glance_of (sym done.1) ∙ ap glance_of reached;
+      drawn = next_seen c.args.from w v c.args.records.now i (i + 1) _ c.look_record.new.step c.loop-index.steps.items c.keep_step.new.steps.items
           c.loop-index-test.true refl inv.reached c.in-Ok.ensures.step inv.drawn c.in_ok-keep_step-in-Ok.ensures;
     }
 

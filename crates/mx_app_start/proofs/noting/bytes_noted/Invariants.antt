@@ -1,7 +1,7 @@
 use Rattle.std.proofs.Common.{◌≡◌, take}
-use Rattle.mx_app_start.specs.Asked.{logged_bytes}
+use Rattle.mx_app_start.specs.Asked.{noted_bytes}
 use Rattle.mx_app_start.proofs.noting.bytes_noted.Given as goal
 
 -- the bytes so far are remembered
 abbrev pub invariant-loop-byte : goal.invariant-loop-byte
-invariant-loop-byte l = logged_bytes l.log ≡ take l.byte-index l.bytes
+invariant-loop-byte l = noted_bytes l.noted ≡ take l.byte-index l.bytes

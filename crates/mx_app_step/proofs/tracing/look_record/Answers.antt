@@ -33,5 +33,5 @@ returns-clause-step c =
     let w = world_of c.args.machine.now in
     let v = world_of c.begin_record.new.machine in
     let u = world_of c.event_again.new.machine in
-    step_is w v u c.args.number c.args.entry c.of-before.result c.of-after.result c.of-before.ensures begun.1 c.of-after.ensures
+    step_is w v u c.args.number c.args.entry c.look.new.self c.look-2.new.self c.look.ensures begun.1 c.look-2.ensures
     (look_world w v u c.args.entry.actor c.args.entry.event begun.0 begun.1 (rw c.own_event.ensures at done.1))

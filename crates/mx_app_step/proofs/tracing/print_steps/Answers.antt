@@ -23,6 +23,6 @@ loop-index-preserved g c =
     record {
       accepted = next_accepted w v c.args.records.now i _ c.loop-index-test.true inv.accepted inv.world done.0;
       world = next_world w v c.args.records.now i _ c.loop-index-test.true inv.accepted inv.world (world_of c.look_record.new.machine) done.1;
-      printed = next_printed c.args.from w v c.args.records.now i (i + 1) _ c.in-Ok.step (g.W.Write.contents c.args.out.now) (g.W.Write.contents c.loop-index.out) (g.W.Write.contents c.print_step.new.out)
+      printed = next_printed c.args.from w v c.args.records.now i (i + 1) _ c.look_record.new.step (g.W.Write.contents c.args.out.now) (g.W.Write.contents c.loop-index.out) (g.W.Write.contents c.print_step.new.out)
           c.loop-index-test.true refl inv.world c.in-Ok.ensures.step inv.printed c.in_ok-print_step-in-Ok.ensures.bytes;
     }

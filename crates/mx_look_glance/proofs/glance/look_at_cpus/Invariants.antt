@@ -1,7 +1,7 @@
 use Rattle.std.proofs.Common.{◌≡◌, ℕ, ◌<◌, length, get_or, None}
 use Rattle.mx_machine.specs.Machine.{world_of}
 use Rattle.mx_look_glance.specs.Glances.{cpu_glance}
-use Rattle.mx_look_glance.proofs.glance.cpu_glances.Given as goal
+use Rattle.mx_look_glance.proofs.glance.look_at_cpus.Given as goal
 
 -- the places so far
 abbrev pub invariant-loop-cpu : goal.invariant-loop-cpu

@@ -1,6 +1,6 @@
 use Rattle.std.proofs.Common.{◌≡◌, ℕ, ◌<◌, length, get_or, None}
 use Rattle.mx_look_glance.specs.Glances.{slot_glance}
-use Rattle.mx_look_glance.proofs.slots.slot_glances.Given as goal
+use Rattle.mx_look_glance.proofs.slots.look_at_slots.Given as goal
 
 -- the places so far
 abbrev pub invariant-loop-slot : goal.invariant-loop-slot

@@ -4,7 +4,7 @@ use Rattle.std.proofs.lemmas.List.FromFn.{fill_by_all}
 use Rattle.mx_machine.specs.Machine.{world_of}
 use Rattle.mx_look_glance.specs.Glances.{cpu_glance, cpu_glances}
 use Rattle.mx_look_glance.proofs.Filled.{filled_more}
-use Rattle.mx_look_glance.proofs.glance.cpu_glances.Goals as goal
+use Rattle.mx_look_glance.proofs.glance.look_at_cpus.Goals as goal
 
 pub loop-cpu-preserved : goal.loop-cpu-preserved
 loop-cpu-preserved c =

@@ -4,7 +4,7 @@ use Rattle.std.specs.List.{range_with_len}
 use Rattle.std.proofs.lemmas.List.FromFn.{fill_by_all}
 use Rattle.mx_look_glance.specs.Kept.{latest, latest_deliveries}
 use Rattle.mx_look_glance.proofs.Filled.{filled_more}
-use Rattle.mx_look_glance.proofs.kept.latest_deliveries.Goals as goal
+use Rattle.mx_look_glance.proofs.kept.look_at_deliveries.Goals as goal
 
 pub loop-back-preserved : goal.loop-back-preserved
 loop-back-preserved c =

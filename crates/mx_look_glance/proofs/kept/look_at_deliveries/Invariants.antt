@@ -1,6 +1,6 @@
 use Rattle.std.proofs.Common.{◌≡◌, ℕ, ◌<◌, length, get_or, None}
 use Rattle.mx_look_glance.specs.Kept.{latest}
-use Rattle.mx_look_glance.proofs.kept.latest_deliveries.Given as goal
+use Rattle.mx_look_glance.proofs.kept.look_at_deliveries.Given as goal
 
 -- the places so far
 abbrev pub invariant-loop-back : goal.invariant-loop-back

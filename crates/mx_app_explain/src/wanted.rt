@@ -1,7 +1,7 @@
 //! What was wanted in place of what a command met.
 
 ghost use Rattle.std.specs.Prelude.{◌≡◌};
-ghost use Rattle.mx_app_explain.specs.Wanting.{problem_wanted, refusal_wanted};
+ghost use Rattle.mx_app_explain.specs.Wanted.{problem_wanted, refusal_wanted};
 ghost use Rattle.mx_app_explain.specs.Explaining.{file_wanted, lines_wanted, record_wanted, wanted_of};
 
 use crate::subject::{Notes, is_run, reads_one_program, writes_over};
