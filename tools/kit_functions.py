@@ -9,14 +9,24 @@ import shutil
 import sys
 
 
-def load():
-    """The module of these functions."""
-    folder = os.path.dirname(os.path.realpath(shutil.which("rt")))
-    loader = importlib.machinery.SourceFileLoader("rtlib", f"{folder}/rtlib.py")
-    made = importlib.util.module_from_spec(importlib.util.spec_from_loader("rtlib", loader))
-    sys.modules["rtlib"] = made
+def load_script(path, name):
+    """A script as a module of this name."""
+    loader = importlib.machinery.SourceFileLoader(name, path)
+    made = importlib.util.module_from_spec(importlib.util.spec_from_loader(name, loader))
+    made.__file__ = path
+    sys.modules[name] = made
     loader.exec_module(made)
     return made
+
+
+def kit_file(name):
+    """The path of a file that stands beside the command `rt`."""
+    return os.path.join(os.path.dirname(os.path.realpath(shutil.which("rt"))), name)
+
+
+def load():
+    """The module of these functions."""
+    return load_script(kit_file("rtlib.py"), "rtlib")
 
 
 def main(words):
