@@ -1,6 +1,7 @@
 //! The words that say what a line is about.
 
-ghost use Rattle.std.specs.Prelude.{◌≡◌, ◌≢◌, MatchOption};
+ghost use Rattle.std.specs.Prelude.{◌≡◌, find, option_copied};
+ghost use Rattle.std.specs.Str.{bytes_eq};
 ghost use Rattle.mx_boot_script.specs.declared.verb.Verb.{Verb};
 ghost use Rattle.mx_boot_script.specs.Verbs.{verb_word, verb_of};
 
@@ -22,31 +23,57 @@ pub enum Verb {
     Messages,
 }
 
-fn matching(word: &[u8]) -> Option<Verb>
-    ensures { MatchOption result ((v : Verb) → word.now ≢ verb_word v) (λ v.
-        word.now ≡ verb_word v) }
-{
-    match word {
-        b"step" => Some(Verb::Step),
-        b"take" => Some(Verb::Take),
-        b"back" => Some(Verb::Back),
-        b"line" => Some(Verb::Line),
-        b"tick" => Some(Verb::Tick),
-        b"kill" => Some(Verb::Kill),
-        b"respawn" => Some(Verb::Respawn),
-        b"break" => Some(Verb::Break),
-        b"clear" => Some(Verb::Clear),
-        b"go" => Some(Verb::Go),
-        b"regs" => Some(Verb::Registers),
-        b"mem" => Some(Verb::Memory),
-        b"messages" => Some(Verb::Messages),
-        _ => None,
+/// All verbs.
+const VERBS: [Verb; 13] = [
+    Verb::Step,
+    Verb::Take,
+    Verb::Back,
+    Verb::Line,
+    Verb::Tick,
+    Verb::Kill,
+    Verb::Respawn,
+    Verb::Break,
+    Verb::Clear,
+    Verb::Go,
+    Verb::Registers,
+    Verb::Memory,
+    Verb::Messages,
+];
+
+impl Verb {
+    /// The word that begins a line about it.
+    fn word(self) -> &'static [u8]
+        ensures { result.now ≡ verb_word self }
+    {
+        match self {
+            Verb::Step => b"step",
+            Verb::Take => b"take",
+            Verb::Back => b"back",
+            Verb::Line => b"line",
+            Verb::Tick => b"tick",
+            Verb::Kill => b"kill",
+            Verb::Respawn => b"respawn",
+            Verb::Break => b"break",
+            Verb::Clear => b"clear",
+            Verb::Go => b"go",
+            Verb::Registers => b"regs",
+            Verb::Memory => b"mem",
+            Verb::Messages => b"messages",
+        }
     }
 }
 
+/// The first of these verbs that a word is.
+fn first_named<'a>(verbs: &'a [Verb], word: &[u8]) -> Option<&'a Verb>
+    ensures { option_copied result ≡ find (λ v. bytes_eq word.now (verb_word v)) verbs.now }
+{
+    verbs.iter().find(|verb| word == verb.word())
+}
+
 /// The verb of a script's line that a word is.
+#[tactic(auto, unfolding(crate::specs::Verbs::verb_of))]
 pub fn verb_named(word: &[u8]) -> Option<Verb>
     ensures { result ≡ verb_of word.now }
 {
-    matching(word)
+    first_named(&VERBS, word).copied()
 }
