@@ -1,5 +1,5 @@
 -- A GLANCE at a world: all that is looked at when it is told what an event did (our own).
-use Rattle.std.specs.Prelude.{ℕ, List, map, Option, slice_get}
+use Rattle.std.specs.Prelude.{ℕ, List, length, map, Option, slice_get}
 use Rattle.std.specs.List.{range_with_len}
 use Rattle.std.specs.Option.{option_map}
 use Rattle.mx_proc.specs.TableState.{TableState, process_at, endpoint_of}
@@ -57,5 +57,5 @@ glance_of w = record {
   uptime = w.table.uptime;
   written = w.table.devices.console.count;
   last_byte = last_byte w.table.devices.console;
-  deliveries = latest_deliveries w.table.deliveries;
+  deliveries = latest_deliveries w.table.deliveries (length w.services);
 }

@@ -1,5 +1,5 @@
 -- What is looked at of the console and of the deliveries that are kept (our own).
-use Rattle.std.specs.Prelude.{ℕ, ◌-◌, ◌==◌, nat_lt, min, List, length, map, Option, None, slice_get, if◌then◌else◌}
+use Rattle.std.specs.Prelude.{ℕ, ◌-◌, ◌==◌, ◌&&◌, nat_lt, min, List, length, map, Option, None, slice_get, if◌then◌else◌}
 use Rattle.std.specs.List.{range_with_len}
 use Rattle.mx_proc.specs.Console.{ConsoleState}
 use Rattle.mx_proc.specs.declared.deliveries.Delivery.{Delivery}
@@ -12,10 +12,10 @@ last_byte c = if c.count == 0 then None else slice_get c.kept (min c.count 4096 
 abbrev pub kept_count : List Delivery → ℕ
 kept_count ds = min (length ds) 1024
 
--- of this many the one at a place, counted back from the latest
-unfoldable pub latest : List Delivery → ℕ → ℕ → Option Delivery
-latest ds count back = if nat_lt back count then slice_get ds (count - 1 - back) else None
+-- of this many the one at a place, counted back from the latest, if it is among the latest `most`
+unfoldable pub latest : List Delivery → ℕ → ℕ → ℕ → Option Delivery
+latest ds count most back = if nat_lt back most && nat_lt back count then slice_get ds (count - 1 - back) else None
 
--- the latest 32, the latest first
-unfoldable pub latest_deliveries : List Delivery → List (Option Delivery)
-latest_deliveries ds = map (latest ds (kept_count ds)) (range_with_len 0 32)
+-- the latest `most`, and at most 32, the latest first
+unfoldable pub latest_deliveries : List Delivery → ℕ → List (Option Delivery)
+latest_deliveries ds most = map (latest ds (kept_count ds) most) (range_with_len 0 32)

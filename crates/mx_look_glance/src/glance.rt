@@ -35,7 +35,8 @@ pub struct Glance {
     /// How many bytes were ever written to the console, and the last of them.
     pub written: u32,
     pub last_byte: Option<u8>,
-    /// The deliveries that are kept, the latest first, and of these the first 32.
+    /// The deliveries that are kept, the latest first, and of these as many as there are services: no event
+    /// makes more.
     pub deliveries: [Option<Delivery>; 32],
 }
 
@@ -100,8 +101,9 @@ impl Glance {
         kernel.opened();
         let table = kernel.table();
         let console = &table.devices().console;
-        look_at_slots(&mut self.slots, table, kernel.services());
-        look_at_deliveries(&mut self.deliveries, table);
+        let services = kernel.services();
+        look_at_slots(&mut self.slots, table, services);
+        look_at_deliveries(&mut self.deliveries, table, services.len());
         self.owners = table.devices().owners;
         self.uptime = table.uptime();
         self.written = console.count();

@@ -33,25 +33,29 @@ fn kept_count(table: &Table) -> usize
     low
 }
 
-/// Of `count` deliveries that are kept the one at a place, counted back from the latest, which is at 0.
+/// Of `count` deliveries that are kept the one at a place, counted back from the latest, which is at 0, if it is
+/// among the latest `most`.
 #[tactic(auto, unfolding(crate::specs::Kept::latest))]
-fn latest(table: &Table, count: usize, back: usize) -> Option<Delivery>
-    ensures { result ≡ latest table.now.deliveries count back }
+fn latest(table: &Table, count: usize, most: usize, back: usize) -> Option<Delivery>
+    ensures { result ≡ latest table.now.deliveries count most back }
 {
-    if back < count {
+    if back < most && back < count {
         table.delivery(count - 1 - back)
     } else {
         None
     }
 }
 
-/// Looks at the deliveries that are kept, the latest first, and of these at most 32: no event makes
-/// more.
-pub(crate) fn look_at_deliveries(deliveries: &mut [Option<Delivery>; 32], table: &Table)
-    ensures { deliveries.new ≡ latest_deliveries table.now.deliveries }
+/// Looks at the deliveries that are kept, the latest first, and of these at most `most`, and at most 32.
+pub(crate) fn look_at_deliveries(
+    deliveries: &mut [Option<Delivery>; 32],
+    table: &Table,
+    most: usize,
+)
+    ensures { deliveries.new ≡ latest_deliveries table.now.deliveries most }
 {
     let count = kept_count(table);
     for back in 0..32usize {
-        deliveries[back] = latest(table, count, back);
+        deliveries[back] = latest(table, count, most, back);
     }
 }

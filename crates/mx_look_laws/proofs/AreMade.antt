@@ -354,13 +354,14 @@ module _ (v : World) (a n : ℕ) (sound : IsSound v) (few : length v.cpus ≤ 8)
 -- ---- a record
 
 -- it ends with what was made, and is short enough that all of this is seen
-shown : (u : World) (xs ds : List Delivery) → u.table.deliveries ≡ keep xs ds → length ds ≤ 32 → (before after : List Delivery) (d : Delivery) → before ++ d ∷ after ≡ ds
-    → get_or (latest_deliveries u.table.deliveries) (length after) None ≡ Some d
-shown u xs ds e few before after d parts =
+shown : (u : World) (xs ds : List Delivery) → u.table.deliveries ≡ keep xs ds → length ds ≤ 32 → length ds ≤ length u.services → (before after : List Delivery) (d : Delivery) → before ++ d ∷ after ≡ ds
+    → get_or (latest_deliveries u.table.deliveries (length u.services)) (length after) None ≡ Some d
+shown u xs ds e few served before after d parts =
     let ends = made_last xs ds (omega (arith, few)) in
     let long = length-append before (d ∷ after) in
-    latest_seen u.table.deliveries ends.first before after d (e ∙ ends.whole ∙ ap (λ l. ends.first ++ l) (sym parts))
+    latest_seen u.table.deliveries ends.first before after d (length u.services) (e ∙ ends.whole ∙ ap (λ l. ends.first ++ l) (sym parts))
     (subst (λ l. length l ≤ 1024) (sym e) (short ds parts))
+    (omega (arith, served, long, ap length parts))
     (omega (arith, few, long, ap length parts))
   where
     short : (es : List Delivery) → before ++ d ∷ after ≡ es → length (keep xs es) ≤ 1024
@@ -370,7 +371,7 @@ shown u xs ds e few before after d parts =
 pub are_made_told : ((w : World) (a : ℕ) (e : Event) (s : ℕ) → IsSlot w s → IsWritten w a e s) → (w : World) (n : ℕ) (x : Record) → IsMadeIn w x → ToldAreMade w n x
 are_made_told written w n x h =
     told_slots (step_of w n x) 32 0 [] ds ds refl (ascend_within 0 (length v.table.slots) 32 ds h.sound.table.few told.ascends) gets refl
-    (shown u v.table.deliveries ds kept few)
+    (shown u v.table.deliveries ds kept few enough)
     ∙ ap (map with_slot) (sym (event_keeps v x.actor e [] ∙ only_made ds (omega (arith, few))))
   where
     v : World
@@ -394,6 +395,12 @@ are_made_told written w n x h =
     few : length ds ≤ 32
     few = omega (arith, ascend_length 0 (length v.table.slots) ds (omega arith) told.ascends, h.sound.table.few)
 
+    services : u.services ≡ v.services
+    services = ap (λ (z : World). z.services) after ∙ same_services v x.actor e
+
+    enough : length ds ≤ length u.services
+    enough = omega (arith, ascend_length 0 (length v.table.slots) ds (omega arith) told.ascends, h.sound.holds.served, ap length services)
+
     kept : u.table.deliveries ≡ keep v.table.deliveries ds
     kept = ap (λ (z : World). z.table.deliveries) after ∙ event_keeps v x.actor e v.table.deliveries
 
@@ -407,5 +414,5 @@ are_made_told written w n x h =
             told.gets q p.0 lt p.1 (gone_on_told written w n x q h served)
         by_bool false f =
             let past = ltb-false q (length v.services) f in
-            got_unserved v x.actor n h.sound h.few x.event u q lt past (ap (λ (z : World). z.services) after ∙ same_services v x.actor e)
+            got_unserved v x.actor n h.sound h.few x.event u q lt past services
             ∙ sym (not_beyond 0 (length v.table.slots) q ds (omega (arith, past, h.sound.holds.served)) told.ascends)

@@ -1,5 +1,5 @@
 -- Deliveries that were made stand last among those that are kept, and are told of their slots.
-use Rattle.std.proofs.Common.{◌≡◌, ◌≢◌, ◌∙◌, ℕ, zero, suc, ◌+◌, ◌-◌, ◌<◌, ◌≤◌, ◌==◌, ◌||◌, nat_lt, Bool, true, false, cond, List, [], ◌∷◌, ◌++◌, append_assoc, length, length-append, length-drop, map, filter, drop, Some, None, refl, sym, ap, get_or, slice_get, arith}
+use Rattle.std.proofs.Common.{◌≡◌, ◌≢◌, ◌∙◌, ℕ, zero, suc, ◌+◌, ◌-◌, ◌<◌, ◌≤◌, ◌==◌, ◌&&◌, ◌||◌, nat_lt, Bool, true, false, cond, List, [], ◌∷◌, ◌++◌, append_assoc, length, length-append, length-drop, map, filter, drop, Some, None, refl, sym, ap, get_or, slice_get, arith}
 use Rattle.std.specs.List.{count_by, range_with_len}
 use Rattle.std.proofs.lemmas.Bool.{eqb-false, eqb-true, lt-ltb, ltb-false, ltb-true, ne_eqb}
 use Rattle.std.proofs.lemmas.List.{append-nil, drop-append-le}
@@ -75,23 +75,25 @@ seen_at : (xs ys : List Delivery) (d : Delivery) → slice_get (xs ++ d ∷ ys) 
 seen_at [] ys d = refl
 seen_at (x ∷ xs) ys d = seen_at xs ys d
 
-latest_is : (xs first before after : List Delivery) (d : Delivery) → xs ≡ first ++ (before ++ d ∷ after) → length xs ≤ 1024 → latest xs (kept_count xs) (length after) ≡ Some d
+latest_is : (xs first before after : List Delivery) (d : Delivery) (most : ℕ) → xs ≡ first ++ (before ++ d ∷ after) → length xs ≤ 1024 → length after < most
+    → latest xs (kept_count xs) most (length after) ≡ Some d
 unfolding latest
-latest_is xs first before after d e few =
+latest_is xs first before after d most e few asked =
     let long : length xs ≡ length first + (length before + (1 + length after)) = omega (arith, ap length e, length-append first (before ++ d ∷ after), length-append before (d ∷ after)) in
     let count : kept_count xs ≡ length xs = min-eq_left few in
     let place : length xs - 1 - length after ≡ length (first ++ before) = omega (arith, long, length-append first before) in
-    ap (λ n. cond (nat_lt (length after) n) (slice_get xs (n - 1 - length after)) None) count
+    ap (λ b. cond (b && nat_lt (length after) (kept_count xs)) (slice_get xs (kept_count xs - 1 - length after)) None) (lt-ltb (length after) most asked)
+    ∙ ap (λ n. cond (nat_lt (length after) n) (slice_get xs (n - 1 - length after)) None) count
     ∙ ap (λ b. cond b (slice_get xs (length xs - 1 - length after)) None) (lt-ltb (length after) (length xs) (omega (arith, long)))
     ∙ ap (slice_get xs) place
     ∙ ap (λ l. slice_get l (length (first ++ before))) (e ∙ sym (append_assoc first before (d ∷ after)))
     ∙ seen_at (first ++ before) after d
 
-pub latest_seen : (xs first before after : List Delivery) (d : Delivery) → xs ≡ first ++ (before ++ d ∷ after) → length xs ≤ 1024 → length after < 32
-    → get_or (latest_deliveries xs) (length after) None ≡ Some d
+pub latest_seen : (xs first before after : List Delivery) (d : Delivery) (most : ℕ) → xs ≡ first ++ (before ++ d ∷ after) → length xs ≤ 1024 → length after < most → length after < 32
+    → get_or (latest_deliveries xs most) (length after) None ≡ Some d
 unfolding latest_deliveries
-latest_seen xs first before after d e few lt =
-    get_or-map-range_with_len (latest xs (kept_count xs)) 0 32 (length after) (length after) None lt (omega arith) ∙ latest_is xs first before after d e few
+latest_seen xs first before after d most e few asked lt =
+    get_or-map-range_with_len (latest xs (kept_count xs) most) 0 32 (length after) (length after) None lt (omega arith) ∙ latest_is xs first before after d most e few asked
 
 -- ---- slots in order
 

@@ -1,5 +1,5 @@
 -- Lines of numbers in a row, and of a list's items, one more.
-use Rattle.std.proofs.Common.{◌≡◌, ◌∙◌, ℕ, zero, suc, ◌+◌, List, ◌++◌, append_assoc, ap, sym, subst, arith}
+use Rattle.std.proofs.Common.{◌≡◌, ◌∙◌, ℕ, zero, suc, ◌+◌, List, [], ◌++◌, append_assoc, ap, sym, subst, arith}
 use Rattle.std.specs.List.{flat_map, range_with_len}
 use Rattle.std.proofs.lemmas.List.{append-nil}
 
@@ -19,6 +19,10 @@ next_row f i t y z line e g h =
     g ∙ ap (λ (v : List ℕ). v ++ line) e ∙ append_assoc t (flat_map f (range_with_len 0 i)) line
     ∙ ap (λ (v : List ℕ). t ++ (flat_map f (range_with_len 0 i) ++ v)) (h ∙ ap f here)
     ∙ ap (λ (v : List ℕ). t ++ v) (sym (next_number f 0 i)) ∙ ap (λ (n : ℕ). t ++ flat_map f (range_with_len 0 n)) one
+
+-- and with that of i, if it is empty
+pub empty_row : (f : ℕ → List ℕ) (i : ℕ) (t y : List ℕ) → y ≡ t ++ flat_map f (range_with_len 0 i) → f i ≡ [] → y ≡ t ++ flat_map f (range_with_len 0 (i + 1))
+empty_row f i t y e h = next_row f i t y y [] e (sym (append-nil y)) (sym h)
 
 pub all_rows : (f : ℕ → List ℕ) (i n : ℕ) (t y : List ℕ) → i ≡ n → y ≡ t ++ flat_map f (range_with_len 0 i) → y ≡ t ++ flat_map f (range_with_len 0 n)
 all_rows f i n t y same e = subst (λ (k : ℕ). y ≡ t ++ flat_map f (range_with_len 0 k)) same e

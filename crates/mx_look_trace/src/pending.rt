@@ -54,7 +54,9 @@ fn push_kept_between(
         ++ kept_between step.now before.now after.now) }
 {
     for place in 0..34u32 {
-        push_kept(out, step, before, after, place)?;
+        if is_new_bit(before, after, place) {
+            push_kept(out, step, before, after, place)?;
+        }
     }
     Ok(())
 }

@@ -1,6 +1,7 @@
 //! All that is told of a record.
 
-ghost use Rattle.std.specs.Prelude.{◌≡◌, ◌++◌, OnOk};
+ghost use Rattle.std.specs.Prelude.{◌≡◌, ◌++◌, OnOk, is_some};
+ghost use Rattle.mx_look_facts.specs.Step.{slot_in};
 ghost use Rattle.mx_look_trace.specs.Trace.{alarm_lines, delivery_lines, all_kept_lines, change_lines, record_text};
 
 use crate::heads::push_head;
@@ -8,8 +9,15 @@ use crate::lines::{
     push_alarm, push_answer_line, push_change, push_console_line, push_delivery, push_quantum,
 };
 use crate::pending::push_kept_lines;
-use mx_look_facts::Step;
+use mx_look_facts::{Step, slot_in};
 use std::alloc::AllocError;
+
+/// Whether a slot has a service: of one without nothing is told.
+fn has_service(step: &Step, slot: u32) -> bool
+    ensures { result ≡ is_some (slot_in step.now.after slot) }
+{
+    slot_in(&step.after, slot).is_some()
+}
 
 /// Appends the lines of alarms.
 fn push_alarms(out: &mut Vec<u8>, step: &Step) -> Result<(), AllocError>
@@ -26,7 +34,9 @@ fn push_deliveries(out: &mut Vec<u8>, step: &Step) -> Result<(), AllocError>
     ensures { OnOk result (out.new.items ≡ out.old.items ++ delivery_lines step.now) }
 {
     for slot in 0..32u32 {
-        push_delivery(out, step, slot)?;
+        if has_service(step, slot) {
+            push_delivery(out, step, slot)?;
+        }
     }
     Ok(())
 }
@@ -36,7 +46,9 @@ fn push_all_kept(out: &mut Vec<u8>, step: &Step) -> Result<(), AllocError>
     ensures { OnOk result (out.new.items ≡ out.old.items ++ all_kept_lines step.now) }
 {
     for slot in 0..32u32 {
-        push_kept_lines(out, step, slot)?;
+        if has_service(step, slot) {
+            push_kept_lines(out, step, slot)?;
+        }
     }
     Ok(())
 }
@@ -46,8 +58,10 @@ fn push_changes(out: &mut Vec<u8>, step: &Step) -> Result<(), AllocError>
     ensures { OnOk result (out.new.items ≡ out.old.items ++ change_lines step.now) }
 {
     for slot in 0..32u32 {
-        push_change(out, step, slot)?;
-        push_quantum(out, step, slot)?;
+        if has_service(step, slot) {
+            push_change(out, step, slot)?;
+            push_quantum(out, step, slot)?;
+        }
     }
     Ok(())
 }

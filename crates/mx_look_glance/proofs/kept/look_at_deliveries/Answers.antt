@@ -12,7 +12,7 @@ loop-back-preserved c =
     let within : c.loop-back.back < length c.loop-back.deliveries = omega (arith, inv.long) in
     record {
       long = length-set c.loop-back.deliveries c.loop-back.back c.latest.result ∙ inv.long;
-      filled = filled_more (latest c.args.table.now.deliveries c.kept_count-count.result) c.loop-back.deliveries c.loop-back.back c.latest.result None within c.latest.ensures inv.filled;
+      filled = filled_more (latest c.args.table.now.deliveries c.kept_count-count.result c.args.most) c.loop-back.deliveries c.loop-back.back c.latest.result None within c.latest.ensures inv.filled;
     }
 
 pub returns : goal.returns
@@ -20,5 +20,5 @@ unfolding latest_deliveries
 returns c =
     let inv = c.loop-back.invariant in
     let all : c.loop-back.back ≡ 32 = omega arith in
-    subst (λ n. c.loop-back.deliveries ≡ map (latest c.args.table.now.deliveries n) (range_with_len 0 32)) c.kept_count-count.ensures.count
-    (fill_by_all (latest c.args.table.now.deliveries c.kept_count-count.result) c.loop-back.deliveries 32 None inv.long (λ k b. inv.filled k (omega arith)))
+    subst (λ n. c.loop-back.deliveries ≡ map (latest c.args.table.now.deliveries n c.args.most) (range_with_len 0 32)) c.kept_count-count.ensures.count
+    (fill_by_all (latest c.args.table.now.deliveries c.kept_count-count.result c.args.most) c.loop-back.deliveries 32 None inv.long (λ k b. inv.filled k (omega arith)))

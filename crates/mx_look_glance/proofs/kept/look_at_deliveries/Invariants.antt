@@ -6,5 +6,5 @@ use Rattle.mx_look_glance.proofs.kept.look_at_deliveries.Given as goal
 abbrev pub invariant-loop-back : goal.invariant-loop-back
 invariant-loop-back l = record {
   long : length l.deliveries ≡ 32;
-  filled : (k : ℕ) → k < l.back → get_or l.deliveries k None ≡ latest l.table.deliveries l.count k;
+  filled : (k : ℕ) → k < l.back → get_or l.deliveries k None ≡ latest l.table.deliveries l.count l.most k;
 }
