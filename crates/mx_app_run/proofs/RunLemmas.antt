@@ -14,7 +14,7 @@ use Rattle.mx_machine_world.specs.History.{AreAccepted, BootAndHistory, IsWritab
 use Rattle.mx_machine_world.specs.Move.{world_after_event}
 use Rattle.mx_machine_world.specs.Rules.{Rules}
 use Rattle.mx_machine_world.specs.World.{World, actors}
-use Rattle.mx_kcall.specs.Service.{Service}
+use Rattle.mx_machine_world.specs.Service.{Service}
 use Rattle.mx_cpus_drive.specs.Seats.{SeatView}
 use Rattle.mx_cpus_drive.specs.Boots.{all_seats}
 use Rattle.mx_app_step.specs.Asked.{Asked}

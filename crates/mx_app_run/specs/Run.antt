@@ -8,7 +8,7 @@ use Rattle.mx_machine_world.specs.declared.history.Record.{Record}
 use Rattle.mx_machine_world.specs.Boot.{world_at_boot}
 use Rattle.mx_machine_world.specs.History.{AreAccepted, BootAndHistory, IsWritable, events_of_history, replay}
 use Rattle.mx_machine_world.specs.World.{actors}
-use Rattle.mx_kcall.specs.Service.{Service}
+use Rattle.mx_machine_world.specs.Service.{Service}
 use Rattle.mx_cpus_drive.specs.Seats.{SeatView}
 use Rattle.mx_cpus_drive.specs.Calls.{StandsIn}
 use Rattle.mx_cpus_drive.specs.Boots.{all_seats}

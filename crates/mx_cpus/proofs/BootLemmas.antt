@@ -3,8 +3,8 @@ use Rattle.std.proofs.Common.{◌≡◌, ◌∙◌, ℕ, zero, suc, ◌+◌, Lis
 use Rattle.std.specs.Prelude.{All}
 use Rattle.std.proofs.lemmas.List.{length-replicate}
 use Rattle.std.proofs.lemmas.List.Elements.{All-push}
-use Rattle.mx_kcall.specs.Service.{Service}
-use Rattle.mx_kcall.specs.Rules.{Rules}
+use Rattle.mx_machine_world.specs.Service.{Service}
+use Rattle.mx_machine_world.specs.Rules.{Rules}
 use Rattle.mx_machine_world.specs.declared.holding.Out.{Out}
 use Rattle.mx_machine_world.specs.Boot.{world_at_boot_with}
 use Rattle.mx_machine_world.specs.History.{BootAndHistory, replay}

@@ -2,10 +2,10 @@
 use Rattle.std.proofs.Common.{◌≡◌, ◌∙◌, ℕ, zero, suc, ◌<◌, ◌+◌, nat_lt, if◌then◌else◌, Bool, true, false, true≢false, List, [], ◌∷◌, ◌++◌, map, replicate, length, Option, Some, None, get_or, slice_set, slice_get, refl, sym, ap, subst, inl, inr, arith, get_or-set_same, append_assoc}
 use Rattle.std.proofs.lemmas.Bool.{cases_lt, le-ltb}
 use Rattle.std.proofs.lemmas.List.{length-map, length-replicate}
-use Rattle.mx_image.specs.declared.runs.Stop.TheVariants.{Spent}
+use Rattle.mx_machine_world.specs.Stop.TheVariants.{Spent}
 use Rattle.mx_proc.specs.Queues.{first_ready}
-use Rattle.mx_kcall.specs.Service.{Service}
-use Rattle.mx_kcall.specs.Refusals.{owner_of}
+use Rattle.mx_machine_kernel.specs.Service.{Service}
+use Rattle.mx_machine_kernel.specs.Refusals.{owner_of}
 use Rattle.mx_machine_world.specs.declared.events.Event.{Event}
 use Rattle.mx_machine_world.specs.declared.events.Event.TheVariants as events
 use Rattle.mx_machine_world.specs.declared.events.Refusal.{Refusal}

@@ -1,17 +1,17 @@
 -- What SEND, RECEIVE, SENDREC and NOTIFY do (book, 2.6.3; proc.c), and a trap.
 use Rattle.std.specs.Prelude.{ℕ, ◌≡◌, ◌<◌, ◌%◌, length, ◌==◌, Bool, true, false, Option, Some, None, if◌then◌else◌}
-use Rattle.mx_proc.specs.declared.errors.Errno.{Errno}
-use Rattle.mx_proc.specs.declared.errors.Errno.TheVariants.{Denied}
-use Rattle.mx_proc.specs.declared.process.State.{State}
-use Rattle.mx_proc.specs.declared.process.State.TheVariants.{Home, Sending, Calling, Receiving, Awaiting}
-use Rattle.mx_proc.specs.declared.process.Partner.{Partner}
-use Rattle.mx_proc.specs.declared.process.Partner.TheVariants as partner
-use Rattle.mx_proc.specs.declared.process.Source.{Source}
-use Rattle.mx_proc.specs.declared.process.Source.TheVariants as source
-use Rattle.mx_proc.specs.Errors.{errno_bits}
-use Rattle.mx_proc.specs.Partners.{order_of_source, may_be}
-use Rattle.mx_proc.specs.Waits.{caller_of}
-use Rattle.mx_proc.specs.TableState.{TableState, process_at, with_state, with_result, with_pending, table_after_block, table_after_unblock, table_after_delivery, table_after_notice, pending_source}
+use Rattle.mx_sched.specs.Proc.declared.errors.Errno.{Errno}
+use Rattle.mx_sched.specs.Proc.declared.errors.Errno.TheVariants.{Denied}
+use Rattle.mx_sched.specs.Proc.declared.process.State.{State}
+use Rattle.mx_sched.specs.Proc.declared.process.State.TheVariants.{Home, Sending, Calling, Receiving, Awaiting}
+use Rattle.mx_sched.specs.Proc.declared.process.Partner.{Partner}
+use Rattle.mx_sched.specs.Proc.declared.process.Partner.TheVariants as partner
+use Rattle.mx_sched.specs.Proc.declared.process.Source.{Source}
+use Rattle.mx_sched.specs.Proc.declared.process.Source.TheVariants as source
+use Rattle.mx_sched.specs.Proc.Errors.{errno_bits}
+use Rattle.mx_sched.specs.Proc.Partners.{order_of_source, may_be}
+use Rattle.mx_sched.specs.Proc.Waits.{caller_of}
+use Rattle.mx_sched.specs.Proc.TableState.{TableState, process_at, with_state, with_result, with_pending, table_after_block, table_after_unblock, table_after_delivery, table_after_notice, pending_source}
 use Rattle.mx_sched.specs.Queueing.{table_after_queueing}
 use Rattle.mx_ipc.specs.declared.calls.Call.{Call}
 use Rattle.mx_ipc.specs.declared.calls.Call.TheVariants as call

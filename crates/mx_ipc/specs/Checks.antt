@@ -1,11 +1,11 @@
 -- The six checks of a trap (book, 2.6.3; proc.c, sys_call and mini_send).
 use Rattle.std.specs.Prelude.{ℕ, ◌≡◌, ◌≢◌, ◌<◌, ◌+◌, ◌/◌, ◌%◌, ◌^◌, ◌-◌, ◌==◌, nat_lt, not, ◌&&◌, ◌||◌, Bool, true, false, List, [], ◌∷◌, Option, Some, None, if◌then◌else◌, length, drop, is_none}
-use Rattle.mx_proc.specs.declared.errors.Errno.{Errno}
-use Rattle.mx_proc.specs.declared.errors.Errno.TheVariants.{BadAddress, Locked, BadEndpoint, Denied, Dead}
-use Rattle.mx_proc.specs.Endpoints.{names_slot, is_current}
-use Rattle.mx_proc.specs.Sound.{HasBuffer}
-use Rattle.mx_proc.specs.Waits.{leads, Reaches}
-use Rattle.mx_proc.specs.TableState.{TableState, process_at, buffer_at, memory_at}
+use Rattle.mx_sched.specs.Proc.declared.errors.Errno.{Errno}
+use Rattle.mx_sched.specs.Proc.declared.errors.Errno.TheVariants.{BadAddress, Locked, BadEndpoint, Denied, Dead}
+use Rattle.mx_sched.specs.Proc.Endpoints.{names_slot, is_current}
+use Rattle.mx_sched.specs.Proc.Sound.{HasBuffer}
+use Rattle.mx_sched.specs.Proc.Waits.{leads, Reaches}
+use Rattle.mx_sched.specs.Proc.TableState.{TableState, process_at, buffer_at, memory_at}
 use Rattle.mx_ipc.specs.declared.calls.Call.{Call}
 use Rattle.mx_ipc.specs.declared.calls.Call.TheVariants.{Send, Receive, Sendrec, Notify}
 use Rattle.mx_ipc.specs.declared.calls.Party.{Party}

@@ -2,11 +2,11 @@
 
 ghost use Rattle.std.specs.Prelude.{◌≡◌, ℕ, ◌<◌, ◌^◌, length, Some, None, MatchResult, IfOk};
 ghost use Rattle.std.specs.Option.{ForSome};
-ghost use Rattle.mx_proc.specs.TableState.{process_at};
+ghost use Rattle.mx_sched.specs.Proc.TableState.{process_at};
 ghost use Rattle.mx_ipc.specs.Checks.{party_of, has_bit, to_pseudo, out_of_place, is_send, is_receive, is_notify, is_outside, is_masked, call_refusal, Passed, HasUsedSlot, MayBeSentTo, PassedProcess, process_refusal, party_refusal};
 
 use crate::calls::{Call, Party};
-use mx_proc::{Errno, Slot, Table};
+use mx_sched::{Errno, Slot, Table};
 use mx_word::Register;
 
 /// Whom a number names.

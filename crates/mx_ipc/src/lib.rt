@@ -2,14 +2,14 @@
 #![tactic(auto)]
 
 ghost use Rattle.std.specs.Prelude.{◌≡◌, ◌≢◌, ℕ, ◌%◌, ◌<◌, ◌^◌, ◌-◌, Some, None, true, false, length};
-ghost use Rattle.mx_proc.specs.Frame.{frame};
-ghost use Rattle.mx_proc.specs.Sound.{HasBuffer, NoneComesHome};
-ghost use Rattle.mx_proc.specs.States.{IsAlone, is_ready, is_sending, is_blocked, is_out};
-ghost use Rattle.mx_proc.specs.Waits.{Reaches, without_from};
-ghost use Rattle.mx_proc.specs.Partners.{order_of_source};
-ghost use Rattle.mx_proc.specs.TableState.{process_at, IsUsedSource};
-ghost use Rattle.mx_proc.specs.Endpoints.{names_slot};
-ghost use Rattle.mx_proc.specs.declared.process.State.TheVariants.{Home, Ready};
+ghost use Rattle.mx_sched.specs.Proc.Frame.{frame};
+ghost use Rattle.mx_sched.specs.Proc.Sound.{HasBuffer, NoneComesHome};
+ghost use Rattle.mx_sched.specs.Proc.States.{IsAlone, is_ready, is_sending, is_blocked, is_out};
+ghost use Rattle.mx_sched.specs.Proc.Waits.{Reaches, without_from};
+ghost use Rattle.mx_sched.specs.Proc.Partners.{order_of_source};
+ghost use Rattle.mx_sched.specs.Proc.TableState.{process_at, IsUsedSource};
+ghost use Rattle.mx_sched.specs.Proc.Endpoints.{names_slot};
+ghost use Rattle.mx_sched.specs.Proc.declared.process.State.TheVariants.{Home, Ready};
 ghost use Rattle.mx_ipc.specs.Checks.{Passed};
 ghost use Rattle.mx_ipc.specs.Calls.{goes_on, accepts, hears, table_after_send, table_after_release, table_after_taking, table_after_receive, table_after_sendrec, table_after_notifying, partner_of, table_after_checked_call, table_after_call, call_answer, table_after_trap, trap_answer, table_after_notify, call_answer_by, MayNotify};
 ghost use Rattle.mx_ipc.specs.declared.calls.Call.TheVariants as calls;
@@ -20,8 +20,10 @@ mod checks;
 
 pub use calls::{Call, Party, TrapAnswer};
 use checks::check;
-use mx_proc::{Endpoint, Errno, Partner, Slot, Source, State, Table};
-use mx_sched::enqueue;
+pub use mx_sched::{
+    Access, DeathCause, Delivery, Endpoint, Errno, Masks, Partner, Process, Rules, Slot, Source,
+    Stale, State, Table, Window, enqueue, pick,
+};
 use mx_word::Register;
 
 /// A process goes on with a result: it is put into EAX, and the process is queued.

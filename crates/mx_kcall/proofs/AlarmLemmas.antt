@@ -2,11 +2,11 @@ use Rattle.std.proofs.Common.{◌≡◌, ◌∙◌, ◌<◌, ◌≤◌, ◌+◌,
 use Rattle.std.proofs.lemmas.Bool.{cases_Bool}
 use Rattle.std.proofs.Math.Seq.{drop-cons}
 use Rattle.std.proofs.Math.ListN.{drop_of_length-le}
-use Rattle.mx_proc.specs.declared.process.Process.{Process}
-use Rattle.mx_proc.specs.declared.process.Source.{Source}
-use Rattle.mx_proc.specs.TableState.{TableState, process_at, nobody, table_after_notice, with_result, with_process, without_pending}
-use Rattle.mx_ipc.specs.Queueing.{table_after_queueing, next_level, is_last_renewed}
-use Rattle.mx_ipc.specs.Calls.{goes_on, table_after_notifying, hears}
+use Rattle.mx_respawn.specs.Proc.declared.process.Process.{Process}
+use Rattle.mx_respawn.specs.Proc.declared.process.Source.{Source}
+use Rattle.mx_respawn.specs.Proc.TableState.{TableState, process_at, nobody, table_after_notice, with_result, with_process, without_pending}
+use Rattle.mx_respawn.specs.Queueing.{table_after_queueing, next_level, is_last_renewed}
+use Rattle.mx_respawn.specs.Calls.{goes_on, table_after_notifying, hears}
 use Rattle.mx_kcall.specs.Clock.{is_due, due_slots, table_after_ring, table_after_rings}
 use Rattle.mx_kcall.specs.Ringing.{table_after_ring_if_due}
 

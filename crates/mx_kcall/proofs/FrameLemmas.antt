@@ -1,7 +1,7 @@
 use Rattle.std.proofs.Common.{◌≡◌, ◌∙◌, ap, sym, length}
 use Rattle.std.proofs.lemmas.List.{length-map}
-use Rattle.mx_proc.specs.Frame.{Frame, frame, fixed_of}
-use Rattle.mx_proc.specs.TableState.{TableState}
+use Rattle.mx_respawn.specs.Proc.Frame.{Frame, frame, fixed_of}
+use Rattle.mx_respawn.specs.Proc.TableState.{TableState}
 
 -- a frame that stays has its devices
 pub kept_frame : (w n : TableState) → frame w ≡ frame n → frame w ≡ record (frame n) { devices = w.devices }

@@ -1,10 +1,10 @@
 -- Interrupt lines and the clock (our choice).
 use Rattle.std.specs.Prelude.{ℕ, ◌+◌, nat_le, Bool, false, List, [], ◌∷◌, Option, Some, None, if◌then◌else◌}
-use Rattle.mx_proc.specs.declared.process.Process.{Process}
-use Rattle.mx_proc.specs.declared.process.Source.TheVariants.{Hardware, Clock}
-use Rattle.mx_proc.specs.TableState.{TableState}
-use Rattle.mx_proc.specs.Serving.{with_line, with_alarm, with_tick}
-use Rattle.mx_ipc.specs.Calls.{table_after_notifying}
+use Rattle.mx_respawn.specs.Proc.declared.process.Process.{Process}
+use Rattle.mx_respawn.specs.Proc.declared.process.Source.TheVariants.{Hardware, Clock}
+use Rattle.mx_respawn.specs.Proc.TableState.{TableState}
+use Rattle.mx_respawn.specs.Proc.Serving.{with_line, with_alarm, with_tick}
+use Rattle.mx_respawn.specs.Calls.{table_after_notifying}
 
 -- a line is raised: its owner has its bit, and is notified by HARDWARE
 abbrev pub table_after_line : TableState → ℕ → ℕ → TableState

@@ -5,10 +5,13 @@ pub mod Serving
 pub mod Clock
 pub mod Ringing
 pub use Rattle.mx_respawn.specs.declared.service.Service
-pub use Rattle.mx_proc.specs.declared.windows.Rules
+pub use Rattle.mx_respawn.specs.Proc.declared.windows.Rules
 pub use Rattle.mx_respawn.specs.Death
 pub use Rattle.mx_respawn.specs.Respawn
 pub use Rattle.mx_respawn.specs.Load
-pub use Rattle.mx_ipc.specs.Queueing
-pub use Rattle.mx_ipc.specs.declared.calls.TrapAnswer
-pub use Rattle.mx_ipc.specs.Calls
+pub use Rattle.mx_respawn.specs.Queueing
+pub use Rattle.mx_respawn.specs.TrapAnswer
+pub use Rattle.mx_respawn.specs.Calls
+pub use Rattle.mx_respawn.specs.Labels
+pub use Rattle.mx_respawn.specs.declared.label.Label
+pub use Rattle.mx_respawn.specs.Proc

@@ -1,12 +1,12 @@
 -- Why a kernel call is refused (our choice).
 use Rattle.std.specs.Prelude.{ℕ, ◌≡◌, ◌<◌, ◌≤◌, ◌+◌, ◌%◌, ◌==◌, nat_lt, nat_le, not, ◌&&◌, ◌||◌, Bool, true, false, List, [], ◌∷◌, length, Option, Some, None, slice_index_or}
-use Rattle.mx_mem.specs.Segment.{inside}
-use Rattle.mx_proc.specs.declared.errors.Errno.{Errno}
-use Rattle.mx_proc.specs.declared.errors.Errno.TheVariants.{NotPermitted, BadAddress, Invalid, BadEndpoint, Denied, Dead, NotReady, BadRequest}
-use Rattle.mx_proc.specs.Endpoints.{names_slot, is_alive}
-use Rattle.mx_proc.specs.States.{is_down, is_out}
-use Rattle.mx_proc.specs.TableState.{TableState, process_at, endpoint_of, memory_at}
-use Rattle.mx_ipc.specs.Checks.{has_bit, first_error}
+use Rattle.mx_respawn.specs.Segment.{inside}
+use Rattle.mx_respawn.specs.Proc.declared.errors.Errno.{Errno}
+use Rattle.mx_respawn.specs.Proc.declared.errors.Errno.TheVariants.{NotPermitted, BadAddress, Invalid, BadEndpoint, Denied, Dead, NotReady, BadRequest}
+use Rattle.mx_respawn.specs.Proc.Endpoints.{names_slot, is_alive}
+use Rattle.mx_respawn.specs.Proc.States.{is_down, is_out}
+use Rattle.mx_respawn.specs.Proc.TableState.{TableState, process_at, endpoint_of, memory_at}
+use Rattle.mx_respawn.specs.Checks.{has_bit, first_error}
 use Rattle.mx_kcall.specs.declared.request.KernelCall.{KernelCall}
 use Rattle.mx_kcall.specs.declared.request.KernelCall.TheVariants.{Exit, Times, SetAlarm, Irqctl, Devio, Vircopy, Kill, Whois, Grant}
 use Rattle.mx_kcall.specs.Requests.{kernel_call_under, message_words_at, bit_of}

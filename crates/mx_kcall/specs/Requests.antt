@@ -1,8 +1,8 @@
 -- Kernel calls as messages to SYSTEM, and their replies (our choice).
 use Rattle.std.specs.Prelude.{ℕ, ◌-◌, ◌^◌, ◌++◌, ◌==◌, List, drop, take, replicate, ◌&&◌, Option, Some, None, if◌then◌else◌}
 use Rattle.mx_word.specs.Word.{value_at, bytes_of}
-use Rattle.mx_proc.specs.declared.windows.Rules.{Rules}
-use Rattle.mx_proc.specs.TableState.{TableState, buffer_at, memory_at}
+use Rattle.mx_respawn.specs.Proc.declared.windows.Rules.{Rules}
+use Rattle.mx_respawn.specs.Proc.TableState.{TableState, buffer_at, memory_at}
 use Rattle.mx_kcall.specs.Windows.{is_strict}
 use Rattle.mx_kcall.specs.declared.request.MessageWords.{MessageWords}
 use Rattle.mx_kcall.specs.declared.request.ReplyWords.{ReplyWords}

@@ -1,11 +1,11 @@
 -- What a kernel call does and answers (our choice).
 use Rattle.std.specs.Prelude.{ℕ, ◌+◌, ◌-◌, ◌/◌, ◌%◌, ◌^◌, ◌==◌, not, ◌&&◌, Bool, true, false, Option, Some, None, if◌then◌else◌, slice_index}
-use Rattle.mx_proc.specs.declared.errors.Errno.{Errno}
-use Rattle.mx_proc.specs.declared.process.DeathCause.TheVariants as cause
-use Rattle.mx_proc.specs.Errors.{errno_bits}
-use Rattle.mx_proc.specs.TableState.{TableState, process_at, endpoint_of, with_message}
-use Rattle.mx_proc.specs.Serving.{with_alarm, with_owner, with_window, with_device_register, with_console_byte, with_copy}
-use Rattle.mx_ipc.specs.Calls.{goes_on}
+use Rattle.mx_respawn.specs.Proc.declared.errors.Errno.{Errno}
+use Rattle.mx_respawn.specs.Proc.declared.process.DeathCause.TheVariants as cause
+use Rattle.mx_respawn.specs.Proc.Errors.{errno_bits}
+use Rattle.mx_respawn.specs.Proc.TableState.{TableState, process_at, endpoint_of, with_message}
+use Rattle.mx_respawn.specs.Proc.Serving.{with_alarm, with_owner, with_window, with_device_register, with_console_byte, with_copy}
+use Rattle.mx_respawn.specs.Calls.{goes_on}
 use Rattle.mx_respawn.specs.Death.{table_after_death}
 use Rattle.mx_kcall.specs.declared.request.ReplyWords.{ReplyWords}
 use Rattle.mx_kcall.specs.declared.request.After.{After}

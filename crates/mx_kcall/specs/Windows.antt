@@ -1,12 +1,12 @@
 -- Windows: what a process lets another copy out of its memory or into it (our choice).
 use Rattle.std.specs.Prelude.{ℕ, ◌+◌, ◌%◌, ◌==◌, nat_le, not, ◌&&◌, Bool, true, false, Option, Some, None, if◌then◌else◌}
 use Rattle.std.specs.Option.{option_map}
-use Rattle.mx_proc.specs.declared.windows.Access.{Access}
-use Rattle.mx_proc.specs.declared.windows.Access.TheVariants.{Read, Write, Both}
-use Rattle.mx_proc.specs.declared.windows.Window.{Window}
-use Rattle.mx_proc.specs.declared.windows.Rules.{Rules}
-use Rattle.mx_proc.specs.declared.windows.Rules.TheVariants.{Lenient, Strict}
-use Rattle.mx_proc.specs.TableState.{TableState, window_of}
+use Rattle.mx_respawn.specs.Proc.declared.windows.Access.{Access}
+use Rattle.mx_respawn.specs.Proc.declared.windows.Access.TheVariants.{Read, Write, Both}
+use Rattle.mx_respawn.specs.Proc.declared.windows.Window.{Window}
+use Rattle.mx_respawn.specs.Proc.declared.windows.Rules.{Rules}
+use Rattle.mx_respawn.specs.Proc.declared.windows.Rules.TheVariants.{Lenient, Strict}
+use Rattle.mx_respawn.specs.Proc.TableState.{TableState, window_of}
 
 -- rules 2
 abbrev pub is_strict : Rules → Bool

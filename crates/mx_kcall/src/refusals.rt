@@ -2,13 +2,13 @@
 
 ghost use Rattle.std.specs.Prelude.{◌≡◌, ◌∷◌, [], ◌<◌, ◌+◌, ◌%◌, ◌≤◌, ◌||◌, ◌&&◌, nat_lt, not, false, length, Some, None, MatchResult, IfOk};
 ghost use Rattle.std.specs.Option.{ForSome};
-ghost use Rattle.mx_mem.specs.Segment.{inside};
-ghost use Rattle.mx_proc.specs.Endpoints.{names_slot, is_alive};
-ghost use Rattle.mx_proc.specs.Sound.{HasBuffer};
-ghost use Rattle.mx_proc.specs.States.{is_out};
-ghost use Rattle.mx_proc.specs.TableState.{process_at, memory_at};
-ghost use Rattle.mx_proc.specs.declared.errors.Errno.TheVariants.{BadEndpoint, Dead};
-ghost use Rattle.mx_ipc.specs.Checks.{has_bit, first_error};
+ghost use Rattle.mx_respawn.specs.Segment.{inside};
+ghost use Rattle.mx_respawn.specs.Proc.Endpoints.{names_slot, is_alive};
+ghost use Rattle.mx_respawn.specs.Proc.Sound.{HasBuffer};
+ghost use Rattle.mx_respawn.specs.Proc.States.{is_out};
+ghost use Rattle.mx_respawn.specs.Proc.TableState.{process_at, memory_at};
+ghost use Rattle.mx_respawn.specs.Proc.declared.errors.Errno.TheVariants.{BadEndpoint, Dead};
+ghost use Rattle.mx_respawn.specs.Checks.{has_bit, first_error};
 ghost use Rattle.mx_kcall.specs.Refusals.{kernel_call_reasons, refusal_of_kernel_call, kernel_call_refusal, is_away, IsPermitted};
 ghost use Rattle.mx_kcall.specs.Requests.{kernel_call_under, message_words_at};
 ghost use Rattle.mx_kcall.specs.Windows.{allows, is_barred};
@@ -16,7 +16,7 @@ ghost use Rattle.mx_kcall.specs.declared.request.KernelCall.TheVariants as reque
 
 use crate::request::{KernelCall, request_under, words_at};
 use crate::windows::{is_strict, window_allows};
-use mx_proc::{Access, Endpoint, Errno, Slot, Stale, State, Table};
+use mx_respawn::{Access, Endpoint, Errno, Slot, Stale, State, Table};
 
 /// Whether a mask has a bit.
 fn has_bit(mask: u32, bit: u32) -> bool

@@ -1,12 +1,12 @@
 //! Requests and replies as bytes and as values.
 
 ghost use Rattle.std.specs.Prelude.{◌≡◌, ◌+◌, ◌<◌, ◌≤◌, length};
-ghost use Rattle.mx_proc.specs.Sound.{HasBuffer};
-ghost use Rattle.mx_proc.specs.TableState.{process_at};
+ghost use Rattle.mx_respawn.specs.Proc.Sound.{HasBuffer};
+ghost use Rattle.mx_respawn.specs.Proc.TableState.{process_at};
 ghost use Rattle.mx_kcall.specs.Requests.{word_at, message_words_of, message_words_at, kernel_call_of, bit_of, kernel_call_under, no_reply_words, reply_bytes};
 
 use crate::windows::is_strict;
-use mx_proc::{Endpoint, Rules, Slot, Table};
+use mx_respawn::{Endpoint, Rules, Slot, Table};
 use mx_word::{Register, read_dword, write_dword};
 
 /// The type of a message to SYSTEM, and the first of its words.

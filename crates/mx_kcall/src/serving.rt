@@ -1,10 +1,10 @@
 //! What kernel calls do.
 
 ghost use Rattle.std.specs.Prelude.{◌≡◌, ◌≢◌, ℕ, ◌+◌, ◌<◌, ◌≤◌, ◌^◌, ◌==◌, false, Some, None, IfSome, length};
-ghost use Rattle.mx_proc.specs.Frame.{frame};
-ghost use Rattle.mx_proc.specs.Sound.{HasBuffer, NoneComesHome};
-ghost use Rattle.mx_proc.specs.TableState.{process_at};
-ghost use Rattle.mx_proc.specs.declared.process.State.TheVariants.{Home};
+ghost use Rattle.mx_respawn.specs.Proc.Frame.{frame};
+ghost use Rattle.mx_respawn.specs.Proc.Sound.{HasBuffer, NoneComesHome};
+ghost use Rattle.mx_respawn.specs.Proc.TableState.{process_at};
+ghost use Rattle.mx_respawn.specs.Proc.declared.process.State.TheVariants.{Home};
 ghost use Rattle.mx_kcall.specs.Refusals.{IsPermitted};
 ghost use Rattle.mx_kcall.specs.Requests.{no_reply_words};
 ghost use Rattle.mx_kcall.specs.Serving.{due_after, ticks_left, table_after_change, words_of_reply, ends_caller, table_after_reply, table_after_serving, answer_of_serving, table_after_kernel_call, answer_of_kernel_call};
@@ -12,9 +12,7 @@ ghost use Rattle.mx_kcall.specs.Serving.{due_after, ticks_left, table_after_chan
 use crate::refusals::check;
 use crate::request::{After, KernelCall, ReplyWords, reply_bytes};
 use crate::windows::granted;
-use mx_ipc::go_on;
-use mx_proc::{DeathCause, Slot, Table};
-use mx_respawn::die;
+use mx_respawn::{DeathCause, Slot, Table, die, go_on};
 
 /// When an alarm rings that is set for a delay; never where that is 0.
 fn due_after(uptime: u32, delay: u32) -> Option<u64>

@@ -4,3 +4,5 @@
 mod loading;
 
 pub use loading::{load, refill};
+pub use mx_aout::Program;
+pub use mx_exec::Image;

@@ -1,6 +1,6 @@
 -- What was lent just now.
 use Rattle.std.proofs.Common.{◌≡◌, refl}
-use Rattle.mx_image.specs.declared.runs.Stop.TheVariants.{Spent}
+use Rattle.mx_machine_world.specs.Stop.TheVariants.{Spent}
 use Rattle.mx_machine_world.specs.declared.holding.Out.{Out}
 use Rattle.mx_machine_world.specs.Held.{IsRunOf}
 use Rattle.mx_machine_world.proofs.LentLemmas.{run_none}

@@ -1,7 +1,7 @@
 //! The kernel's desk, which lends processes to actors and takes them back.
 
 ghost use Rattle.std.specs.Prelude.{◌≡◌, ◌<◌, None, Some, IfOk, length};
-ghost use Rattle.mx_image.specs.declared.runs.Stop.TheVariants.{Spent};
+ghost use Rattle.mx_machine_world.specs.Stop.TheVariants.{Spent};
 ghost use Rattle.mx_machine_world.specs.Held.{IsRunOf};
 ghost use Rattle.mx_loan_rule.specs.Rule.{lent_to};
 ghost use Rattle.mx_loan.specs.Seats.{IsSeatOf, empty_desk, new_seats, new_loan};

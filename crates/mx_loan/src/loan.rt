@@ -4,9 +4,8 @@ ghost use Rattle.std.specs.Prelude.{◌≡◌};
 ghost use Rattle.mx_machine_world.specs.Held.{IsRunOf};
 
 use mx_exec::Image;
-use mx_image::Stop;
 use mx_loan_shown::Shown;
-use mx_machine_world::{Held, Out, held_runs_join};
+use mx_machine_world::{Held, Out, Stop, held_runs_join};
 use std::marker::Model;
 
 /// A process that is lent to an actor. It can't be dropped or copied: `Desk::redeem` alone ends it.

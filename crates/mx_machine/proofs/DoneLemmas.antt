@@ -13,9 +13,9 @@ use Rattle.mx_machine_world.specs.declared.holding.Out.{Out}
 use Rattle.mx_machine_world.specs.Held.{held_run, outcome_of_step, out_after_step, then_held}
 use Rattle.mx_machine_world.specs.History.{BootAndHistory, replay, with_record}
 use Rattle.std.specs.Option.{option_map}
-use Rattle.mx_proc.specs.Queues.{first_ready}
-use Rattle.mx_proc.specs.Frame.{loan_of}
-use Rattle.mx_proc.specs.TableState.{nobody, process_at}
+use Rattle.mx_machine_world.specs.Proc.Queues.{first_ready}
+use Rattle.mx_machine_world.specs.Proc.Frame.{loan_of}
+use Rattle.mx_machine_world.specs.Proc.TableState.{nobody, process_at}
 use Rattle.mx_machine_kernel.specs.Agrees.{IsEventAccepted, IsEventRefused}
 use Rattle.mx_machine_kernel.specs.KernelState.{recorded_as}
 use Rattle.mx_machine_world.specs.declared.history.Recorded.{Recorded}

@@ -2,12 +2,12 @@
 use Rattle.std.proofs.Common.{◌≡◌, ◌∙◌, ◌<◌, ℕ, zero, suc, ◌+◌, ◌-◌, ◌*◌, cond, nat_lt, Bool, true, false, List, [], ◌∷◌, ◌++◌, length, Option, Some, None, Result, Ok, Err, slice_get, slice_set, get_or, refl, sym, ap, arith}
 use Rattle.std.specs.Option.{option_map}
 use Rattle.std.proofs.lemmas.List.{set-get_or, set-set, get_or-set_same, length-set}
-use Rattle.mx_proc.specs.Queues.{first_ready}
-use Rattle.mx_proc.specs.Endpoints.{is_alive}
+use Rattle.mx_machine_world.specs.Proc.Queues.{first_ready}
+use Rattle.mx_machine_world.specs.Proc.Endpoints.{is_alive}
 use Rattle.mx_exec.specs.Image.{blank}
-use Rattle.mx_proc.specs.TableState.{TableState, process_at, nobody, endpoint_of, table_after_dequeue}
-use Rattle.mx_proc.specs.declared.process.State.TheVariants.{Home, Out as OnProcessor}
-use Rattle.mx_proc.specs.declared.process.Process.{Process}
+use Rattle.mx_machine_world.specs.Proc.TableState.{TableState, process_at, nobody, endpoint_of, table_after_dequeue}
+use Rattle.mx_machine_world.specs.Proc.declared.process.State.TheVariants.{Home, Out as OnProcessor}
+use Rattle.mx_machine_world.specs.Proc.declared.process.Process.{Process}
 use Rattle.mx_machine_kernel.specs.Refusals.{owner_of}
 use Rattle.mx_machine_kernel.specs.Service.{Service}
 use Rattle.mx_machine_world.specs.declared.events.Event.{Event}

@@ -6,9 +6,9 @@ use Rattle.mx_exec.specs.declared.image.Image.{Image}
 use Rattle.mx_exec.specs.declared.image.Outcome.{Outcome}
 use Rattle.mx_exec.specs.declared.image.Outcome.TheVariants.{Go, Trap, Fault}
 use Rattle.mx_exec.specs.Step.{one_step}
-use Rattle.mx_image.specs.Run.{run_of, run_end_from}
-use Rattle.mx_image.specs.declared.runs.Stop.{Stop}
-use Rattle.mx_image.specs.declared.runs.Stop.TheVariants as stop
+use Rattle.mx_machine_world.specs.Run.{run_of, run_end_from}
+use Rattle.mx_machine_world.specs.Stop.{Stop}
+use Rattle.mx_machine_world.specs.Stop.TheVariants as stop
 use Rattle.mx_machine_world.specs.declared.holding.Out.{Out}
 use Rattle.mx_machine_world.specs.Held.{out_after_run, out_after_outcome, held_run, run_by_stop, out_after_step}
 use Rattle.mx_machine_world.specs.Move.{at_stop, is_stop}

@@ -1,9 +1,9 @@
 -- A step of one processor, and what else happens.
 use Rattle.std.proofs.Common.{◌≡◌, ◌≢◌, ◌∙◌, ℕ, zero, suc, ◌+◌, ◌-◌, cond, nat_lt, Bool, true, false, List, [], ◌∷◌, length, Option, Some, None, Result, Ok, Err, slice_get, slice_set, get_or, refl, sym, ap}
 use Rattle.std.proofs.lemmas.List.{set_comm, get_or-set_other, length-set}
-use Rattle.mx_proc.specs.Queues.{first_ready}
-use Rattle.mx_proc.specs.Endpoints.{is_alive}
-use Rattle.mx_proc.specs.TableState.{process_at}
+use Rattle.mx_machine_world.specs.Proc.Queues.{first_ready}
+use Rattle.mx_machine_world.specs.Proc.Endpoints.{is_alive}
+use Rattle.mx_machine_world.specs.Proc.TableState.{process_at}
 use Rattle.mx_machine_kernel.specs.Refusals.{owner_of}
 use Rattle.mx_machine_kernel.specs.Service.{Service}
 use Rattle.mx_machine_world.specs.declared.events.Event.{Event}

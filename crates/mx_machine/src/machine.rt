@@ -2,7 +2,7 @@
 
 ghost use Rattle.std.specs.Prelude.{◌≡◌, ℕ, true, ◌+◌, ◌<◌, ◌≤◌, ◌++◌, ◌∷◌, [], All, Ok, None, Some, IsSome, IfSome, IfErr, OnOk, OnErr, MatchOption, vec_len, vec_capacity};
 ghost use Rattle.std.specs.Option.{option_map};
-ghost use Rattle.mx_proc.specs.TableState.{endpoint_of};
+ghost use Rattle.mx_machine_world.specs.Proc.TableState.{endpoint_of};
 ghost use Rattle.mx_machine_world.specs.declared.events.Event.TheVariants as events;
 ghost use Rattle.mx_machine_world.specs.declared.events.Refusal.TheVariants.{CpuEmpty};
 ghost use Rattle.mx_machine_world.specs.History.{replay};
@@ -15,8 +15,9 @@ ghost use Rattle.mx_machine.specs.Machine.{AreSound, HasWorked, IsActor, IsMachi
 use crate::steps::{Tool, step_held, work_held};
 use mx_exec::Image;
 use mx_machine_kernel::Kernel;
-use mx_machine_world::{Answer, Event, Out, Refusal, actors_stay, held_runs_join, runs_are_steps};
-use mx_proc::{Endpoint, Rules, Slot};
+use mx_machine_world::{
+    Answer, Endpoint, Event, Out, Refusal, Rules, Slot, actors_stay, held_runs_join, runs_are_steps,
+};
 use mx_word::NoMemory;
 use std::marker::Model;
 use std::mem;

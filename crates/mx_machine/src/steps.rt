@@ -9,8 +9,7 @@ ghost use Rattle.mx_machine_world.specs.Move.{at_stop};
 ghost use Rattle.mx_machine.specs.Machine.{hold_after_step};
 
 use mx_exec::{Outcome, step};
-use mx_image::Stop;
-use mx_machine_world::{Answer, Out, Refusal};
+use mx_machine_world::{Answer, Out, Refusal, Stop};
 
 /// What makes steps with what a processor holds, as a debugger does.
 pub trait Tool {

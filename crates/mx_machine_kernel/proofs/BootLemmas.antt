@@ -8,14 +8,14 @@ use Rattle.std.proofs.lemmas.List.FromFn.{get_or-map-range_with_len}
 use Rattle.mx_aout.specs.Limits.{rounded_to_pages, used_of}
 use Rattle.mx_aout.specs.declared.program.Program.{Program}
 use Rattle.mx_exec.specs.declared.image.Code.{Code}
-use Rattle.mx_load.specs.Load.{image_of_program, contents_of, filled_to, code_of_text, IsLoadedFrom}
-use Rattle.mx_proc.specs.declared.process.Process.{Process}
-use Rattle.mx_proc.specs.declared.process.State.TheVariants.{Home}
-use Rattle.mx_proc.specs.declared.windows.Rules.{Rules}
-use Rattle.mx_proc.specs.TableState.{TableState, empty_table, table_after_add, nobody}
-use Rattle.mx_proc.specs.Frame.{loan_of}
-use Rattle.mx_proc.specs.Queues.{list_at}
-use Rattle.mx_respawn.specs.declared.service.Service.{Service}
+use Rattle.mx_machine_world.specs.Load.{image_of_program, contents_of, filled_to, code_of_text, IsLoadedFrom}
+use Rattle.mx_ipc.specs.Proc.declared.process.Process.{Process}
+use Rattle.mx_ipc.specs.Proc.declared.process.State.TheVariants.{Home}
+use Rattle.mx_ipc.specs.Proc.declared.windows.Rules.{Rules}
+use Rattle.mx_ipc.specs.Proc.TableState.{TableState, empty_table, table_after_add, nobody}
+use Rattle.mx_ipc.specs.Proc.Frame.{loan_of}
+use Rattle.mx_ipc.specs.Proc.Queues.{list_at}
+use Rattle.mx_machine_world.specs.Service.{Service}
 use Rattle.mx_machine_world.specs.declared.holding.Lease.{Lease}
 use Rattle.mx_machine_world.specs.declared.history.Record.{Record}
 use Rattle.mx_machine_world.specs.World.{HeldProcess, out_count}

@@ -7,16 +7,16 @@ use Rattle.mx_aout.specs.declared.program.Program.{Program}
 use Rattle.mx_aout.specs.Limits.{rounded_to_pages, used_of}
 use Rattle.mx_exec.specs.declared.image.Code.{Code}
 use Rattle.mx_exec.specs.Lasting.{lasting}
-use Rattle.mx_load.specs.Load.{IsLoadedFrom, filled_to, contents_of, code_of_text, image_of_program}
-use Rattle.mx_proc.specs.declared.process.Process.{Process}
-use Rattle.mx_proc.specs.declared.process.State.{State}
-use Rattle.mx_proc.specs.declared.process.State.TheVariants.{Home, Ready, Out, Doomed, Sending, Calling, Receiving, Awaiting, Down}
-use Rattle.mx_proc.specs.Frame.{Frame, frame, frame_with_process, loan_of}
-use Rattle.mx_proc.specs.Sound.{Sound, NoneComesHome}
-use Rattle.mx_proc.specs.States.{is_ready, is_out, is_down}
-use Rattle.mx_proc.specs.TableState.{TableState, nobody, process_at}
-use Rattle.mx_respawn.specs.declared.service.Service.{Service}
-use Rattle.mx_respawn.specs.Respawn.{is_worn, next_process, table_after_respawn}
+use Rattle.mx_machine_world.specs.Load.{IsLoadedFrom, filled_to, contents_of, code_of_text, image_of_program}
+use Rattle.mx_ipc.specs.Proc.declared.process.Process.{Process}
+use Rattle.mx_ipc.specs.Proc.declared.process.State.{State}
+use Rattle.mx_ipc.specs.Proc.declared.process.State.TheVariants.{Home, Ready, Out, Doomed, Sending, Calling, Receiving, Awaiting, Down}
+use Rattle.mx_ipc.specs.Proc.Frame.{Frame, frame, frame_with_process, loan_of}
+use Rattle.mx_ipc.specs.Proc.Sound.{Sound, NoneComesHome}
+use Rattle.mx_ipc.specs.Proc.States.{is_ready, is_out, is_down}
+use Rattle.mx_ipc.specs.Proc.TableState.{TableState, nobody, process_at}
+use Rattle.mx_machine_world.specs.Service.{Service}
+use Rattle.mx_machine_world.specs.Respawn.{is_worn, next_process, table_after_respawn}
 use Rattle.mx_machine_world.specs.declared.events.Answer.{Answer}
 use Rattle.mx_machine_world.specs.declared.events.Answer.TheVariants.{Respawned}
 use Rattle.mx_machine_world.specs.declared.events.Event.TheVariants as events

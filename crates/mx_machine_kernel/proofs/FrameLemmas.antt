@@ -1,11 +1,11 @@
 -- What frames say of each slot.
 use Rattle.std.proofs.Common.{◌≡◌, ◌∙◌, ℕ, zero, suc, List, [], ◌∷◌, map, length, None, get_or, slice_set, get_or-set_other, length-set, refl, ap, sym, arith}
 use Rattle.std.proofs.lemmas.List.{length-map}
-use Rattle.mx_proc.specs.declared.process.Process.{Process}
-use Rattle.mx_proc.specs.declared.devices.Devices.{Devices}
-use Rattle.mx_proc.specs.Console.{ConsoleState}
-use Rattle.mx_proc.specs.Frame.{Frame, fixed_of, loan_of, frame, frame_with_process}
-use Rattle.mx_proc.specs.TableState.{TableState, nobody, process_at}
+use Rattle.mx_ipc.specs.Proc.declared.process.Process.{Process}
+use Rattle.mx_ipc.specs.Proc.declared.devices.Devices.{Devices}
+use Rattle.mx_ipc.specs.Proc.Console.{ConsoleState}
+use Rattle.mx_ipc.specs.Proc.Frame.{Frame, fixed_of, loan_of, frame, frame_with_process}
+use Rattle.mx_ipc.specs.Proc.TableState.{TableState, nobody, process_at}
 use Rattle.mx_machine_kernel.specs.Serving.{KeepsBut, WritesAtMostOne}
 
 -- All slots keep what is fixed of them, and whether they are out.

@@ -1,10 +1,10 @@
 -- What always holds of a kernel, after an event.
 use Rattle.std.proofs.Common.{◌≡◌, ◌≢◌, ◌∙◌, ℕ, zero, suc, ◌+◌, ◌-◌, ◌<◌, ◌≤◌, List, [], ◌∷◌, length, Option, Some, None, get_or, slice_set, slice_get, get_or-set_same, get_or-set_other, inl, inr, refl, ap, sym, subst, arith}
 use Rattle.std.proofs.lemmas.Bool.{cases_eq}
-use Rattle.mx_load.specs.Load.{IsLoadedFrom}
-use Rattle.mx_proc.specs.Frame.{FixedOfProcess, loan_of}
-use Rattle.mx_proc.specs.TableState.{TableState, process_at}
-use Rattle.mx_respawn.specs.declared.service.Service.{Service}
+use Rattle.mx_machine_world.specs.Load.{IsLoadedFrom}
+use Rattle.mx_ipc.specs.Proc.Frame.{FixedOfProcess, loan_of}
+use Rattle.mx_ipc.specs.Proc.TableState.{TableState, process_at}
+use Rattle.mx_machine_world.specs.Service.{Service}
 use Rattle.mx_machine_world.specs.declared.holding.Lease.{Lease}
 use Rattle.mx_machine_world.specs.Sound.{IsConsistent, lease_at}
 use Rattle.mx_machine_world.specs.World.{out_count}

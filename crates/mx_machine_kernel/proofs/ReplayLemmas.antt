@@ -3,14 +3,14 @@ use Rattle.std.proofs.Common.{◌≡◌, ◌∙◌, ℕ, zero, suc, ◌+◌, ◌
 use Rattle.std.proofs.lemmas.Bool.{cases_eq}
 use Rattle.std.proofs.lemmas.List.{length-map}
 use Rattle.std.proofs.lemmas.List.Elements.{All-append}
-use Rattle.mx_load.specs.Load.{IsLoadedFrom}
-use Rattle.mx_proc.specs.Endpoints.{is_alive}
-use Rattle.mx_proc.specs.Queues.{first_ready}
-use Rattle.mx_proc.specs.Sound.{Sound}
-use Rattle.mx_proc.specs.declared.process.Process.{Process}
-use Rattle.mx_proc.specs.TableState.{process_at}
-use Rattle.mx_respawn.specs.declared.service.Service.{Service}
-use Rattle.mx_kcall.specs.Refusals.{owner_of}
+use Rattle.mx_machine_world.specs.Load.{IsLoadedFrom}
+use Rattle.mx_ipc.specs.Proc.Endpoints.{is_alive}
+use Rattle.mx_ipc.specs.Proc.Queues.{first_ready}
+use Rattle.mx_ipc.specs.Proc.Sound.{Sound}
+use Rattle.mx_ipc.specs.Proc.declared.process.Process.{Process}
+use Rattle.mx_ipc.specs.Proc.TableState.{process_at}
+use Rattle.mx_machine_world.specs.Service.{Service}
+use Rattle.mx_machine_world.specs.CallRefusals.{owner_of}
 use Rattle.mx_machine_world.specs.declared.events.Answer.{Answer}
 use Rattle.mx_machine_world.specs.declared.events.Event.{Event}
 use Rattle.mx_machine_world.specs.declared.events.Event.TheVariants as events
@@ -20,7 +20,7 @@ use Rattle.mx_machine_world.specs.declared.history.Recorded.{Recorded}
 use Rattle.mx_machine_world.specs.declared.history.Recorded.TheVariants as recorded
 use Rattle.mx_machine_world.specs.declared.holding.Lease.{Lease}
 use Rattle.mx_machine_world.specs.declared.holding.Out.{Out}
-use Rattle.mx_proc.specs.declared.windows.Rules.{Rules}
+use Rattle.mx_ipc.specs.Proc.declared.windows.Rules.{Rules}
 use Rattle.mx_machine_world.specs.Boot.{world_at_boot_with}
 use Rattle.mx_machine_world.specs.Held.{held_run, IsBack}
 use Rattle.mx_machine_world.specs.History.{BootAndHistory, AreAccepted, IsWritable, events_of, events_of_history, world_after_events, replay, with_record}

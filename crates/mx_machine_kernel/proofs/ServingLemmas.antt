@@ -3,14 +3,14 @@ use Rattle.std.proofs.Common.{◌≡◌, ◌≢◌, ◌∙◌, ℕ, ◌+◌, ◌
 use Rattle.std.proofs.lemmas.Bool.{cases_eq}
 use Rattle.mx_exec.specs.Image.{blank}
 use Rattle.mx_exec.specs.Lasting.{lasting}
-use Rattle.mx_proc.specs.declared.devices.Devices.{Devices}
-use Rattle.mx_proc.specs.declared.process.Process.{Process}
-use Rattle.mx_proc.specs.declared.process.DeathCause.{DeathCause}
-use Rattle.mx_proc.specs.declared.process.State.{State}
-use Rattle.mx_proc.specs.declared.process.State.TheVariants.{Home, Out, Doomed, Down}
-use Rattle.mx_proc.specs.Frame.{Frame, FixedOfProcess, fixed_of, loan_of, frame}
-use Rattle.mx_proc.specs.Sound.{NoneComesHome}
-use Rattle.mx_proc.specs.TableState.{TableState, nobody, process_at, with_process, with_state, table_after_dequeue, table_after_move_home, table_after_steps}
+use Rattle.mx_ipc.specs.Proc.declared.devices.Devices.{Devices}
+use Rattle.mx_ipc.specs.Proc.declared.process.Process.{Process}
+use Rattle.mx_ipc.specs.Proc.declared.process.DeathCause.{DeathCause}
+use Rattle.mx_ipc.specs.Proc.declared.process.State.{State}
+use Rattle.mx_ipc.specs.Proc.declared.process.State.TheVariants.{Home, Out, Doomed, Down}
+use Rattle.mx_ipc.specs.Proc.Frame.{Frame, FixedOfProcess, fixed_of, loan_of, frame}
+use Rattle.mx_ipc.specs.Proc.Sound.{NoneComesHome}
+use Rattle.mx_ipc.specs.Proc.TableState.{TableState, nobody, process_at, with_process, with_state, table_after_dequeue, table_after_move_home, table_after_steps}
 use Rattle.mx_machine_world.specs.Move.{table_after_sending_out, table_after_coming_home}
 use Rattle.mx_machine_world.specs.World.{HeldProcess}
 use Rattle.mx_machine_world.specs.declared.holding.Out.{Out as Held}

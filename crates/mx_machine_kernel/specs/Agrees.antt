@@ -1,8 +1,8 @@
 -- What a kernel's parts say of its history, and what its calls answer.
 use Rattle.std.specs.Prelude.{◌≡◌, ◌≤◌, ℕ, All, Some, None, length, slice_get}
-use Rattle.mx_image.specs.declared.runs.Stop.TheVariants.{Spent}
-use Rattle.mx_load.specs.Load.{IsLoadedFrom}
-use Rattle.mx_respawn.specs.declared.service.Service.{Service}
+use Rattle.mx_machine_world.specs.Stop.TheVariants.{Spent}
+use Rattle.mx_machine_world.specs.Load.{IsLoadedFrom}
+use Rattle.mx_machine_world.specs.Service.{Service}
 use Rattle.mx_machine_world.specs.declared.events.Event.{Event}
 use Rattle.mx_machine_world.specs.declared.events.Refusal.{Refusal}
 use Rattle.mx_machine_world.specs.declared.history.Recorded.{Recorded}

@@ -1,14 +1,14 @@
 -- Where a kernel stands, by what it keeps in mind: of what is out it knows slot and budget.
 use Rattle.std.specs.Prelude.{◌≡◌, ◌<◌, ◌≤◌, ℕ, ◌+◌, ◌-◌, ◌*◌, ◌%◌, ◌^◌, true, false, nat_lt, if◌then◌else◌, List, map, length, replicate, Option, Some, None, Result, Ok, Err, slice_get, slice_set}
-use Rattle.mx_proc.specs.declared.windows.Rules.{Rules}
-use Rattle.mx_proc.specs.Endpoints.{is_alive}
-use Rattle.mx_proc.specs.Queues.{first_ready}
-use Rattle.mx_proc.specs.States.{is_ready, is_down}
-use Rattle.mx_proc.specs.TableState.{TableState, process_at}
-use Rattle.mx_respawn.specs.declared.service.Service.{Service}
-use Rattle.mx_respawn.specs.Respawn.{is_worn, table_after_respawn}
-use Rattle.mx_kcall.specs.Clock.{table_after_line, table_after_tick}
-use Rattle.mx_kcall.specs.Refusals.{owner_of}
+use Rattle.mx_ipc.specs.Proc.declared.windows.Rules.{Rules}
+use Rattle.mx_ipc.specs.Proc.Endpoints.{is_alive}
+use Rattle.mx_ipc.specs.Proc.Queues.{first_ready}
+use Rattle.mx_ipc.specs.Proc.States.{is_ready, is_down}
+use Rattle.mx_ipc.specs.Proc.TableState.{TableState, process_at}
+use Rattle.mx_machine_world.specs.Service.{Service}
+use Rattle.mx_machine_world.specs.Respawn.{is_worn, table_after_respawn}
+use Rattle.mx_machine_world.specs.Clock.{table_after_line, table_after_tick}
+use Rattle.mx_machine_world.specs.CallRefusals.{owner_of}
 use Rattle.mx_machine_world.specs.declared.events.Answer.{Answer}
 use Rattle.mx_machine_world.specs.declared.events.Answer.TheVariants.{Done, Respawned}
 use Rattle.mx_machine_world.specs.declared.events.Event.{Event}

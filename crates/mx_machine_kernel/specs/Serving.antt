@@ -1,9 +1,9 @@
 -- What an event leaves alone of a table.
 use Rattle.std.specs.Prelude.{◌≡◌, ◌≢◌, ◌≤◌, ◌+◌, ℕ, Some, None, length}
-use Rattle.mx_proc.specs.declared.process.State.TheVariants.{Home}
+use Rattle.mx_ipc.specs.Proc.declared.process.State.TheVariants.{Home}
 use Rattle.mx_exec.specs.Lasting.{lasting}
-use Rattle.mx_proc.specs.Frame.{fixed_of, loan_of}
-use Rattle.mx_proc.specs.TableState.{TableState, process_at}
+use Rattle.mx_ipc.specs.Proc.Frame.{fixed_of, loan_of}
+use Rattle.mx_ipc.specs.Proc.TableState.{TableState, process_at}
 use Rattle.mx_machine_world.specs.declared.holding.Out.{Out}
 
 -- The slots but one keep what is fixed of them, and whether they are out.

@@ -1,15 +1,13 @@
 //! What a kernel begins with.
 
 ghost use Rattle.std.specs.Prelude.{◌≡◌, ◌≤◌, [], IfOk, OnOk, OnErr, None, length, replicate};
-ghost use Rattle.mx_proc.specs.TableState.{empty_table};
+ghost use Rattle.mx_ipc.specs.Proc.TableState.{empty_table};
 ghost use Rattle.mx_machine_world.specs.Boot.{first_table};
 ghost use Rattle.mx_machine_kernel.specs.KernelState.{kernel_state_at_boot};
 
 use crate::current::CurrentState;
-use mx_load::load;
-use mx_machine_world::{Config, Lease};
-use mx_proc::{Rules, Table};
-use mx_respawn::Service;
+use mx_ipc::{Rules, Table};
+use mx_machine_world::{Config, Lease, Service, load};
 use mx_word::NoMemory;
 use std::alloc::Global;
 use std::mem;

@@ -1,13 +1,13 @@
 //! Where a kernel stands, without its history.
 
 ghost use Rattle.std.specs.Prelude.{◌≡◌, ℕ, ◌+◌, ◌-◌, ◌<◌, ◌≤◌, ◌^◌, ◌==◌, ◌&&◌, true, Some, None, IsSome, IfOk, IfErr, OnOk, is_none, length, slice_get};
-ghost use Rattle.mx_load.specs.Load.{IsLoadedFrom};
-ghost use Rattle.mx_proc.specs.Queues.{first_ready};
-ghost use Rattle.mx_proc.specs.Sound.{Sound};
-ghost use Rattle.mx_proc.specs.States.{is_ready};
-ghost use Rattle.mx_proc.specs.TableState.{process_at};
-ghost use Rattle.mx_respawn.specs.declared.service.Service.{Service};
-ghost use Rattle.mx_kcall.specs.Refusals.{owner_of};
+ghost use Rattle.mx_machine_world.specs.Load.{IsLoadedFrom};
+ghost use Rattle.mx_ipc.specs.Proc.Queues.{first_ready};
+ghost use Rattle.mx_ipc.specs.Proc.Sound.{Sound};
+ghost use Rattle.mx_ipc.specs.Proc.States.{is_ready};
+ghost use Rattle.mx_ipc.specs.Proc.TableState.{process_at};
+ghost use Rattle.mx_machine_world.specs.Service.{Service};
+ghost use Rattle.mx_machine_world.specs.CallRefusals.{owner_of};
 ghost use Rattle.mx_machine_world.specs.declared.events.Event.TheVariants as events;
 ghost use Rattle.mx_machine_world.specs.Move.{if_full, held_at_take};
 ghost use Rattle.mx_machine_world.specs.Rest.{down_are_worn};
@@ -16,12 +16,10 @@ ghost use Rattle.mx_machine_world.specs.World.{out_count};
 ghost use Rattle.mx_machine_kernel.specs.KernelState.{is_for_all, records_left, refusal_to, MayRespawn, state_after_take, state_after_back, AnswersTake, AnswersEvent};
 
 use crate::serving::{come_home, kill, send_out};
-use mx_image::Stop;
-use mx_kcall::{raise, tick};
-use mx_machine_world::{Answer, Decoded, Event, Lease, Out, Refusal};
-use mx_proc::{Endpoint, Slot, Table};
-use mx_respawn::{Service, is_worn, respawn};
-use mx_sched::pick;
+use mx_ipc::{Endpoint, Slot, Table, pick};
+use mx_machine_world::{
+    Answer, Decoded, Event, Lease, Out, Refusal, Service, Stop, is_worn, raise, respawn, tick,
+};
 use std::marker::Model;
 
 /// A kernel's table, and what it keeps in mind of its processors.

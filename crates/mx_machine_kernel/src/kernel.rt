@@ -17,11 +17,10 @@ ghost use Rattle.mx_machine_kernel.specs.KernelState.{is_for_all, recorded_as};
 use crate::booting::first_present;
 use crate::caches::Caches;
 use crate::current::CurrentState;
+use mx_ipc::{Delivery, Rules, Slot, Table};
 use mx_machine_world::{
-    Answer, Config, Decoded, Event, Out, Record, Recorded, Refusal, runs_are_steps,
+    Answer, Config, Decoded, Event, Out, Record, Recorded, Refusal, Service, runs_are_steps,
 };
-use mx_proc::{Delivery, Rules, Slot, Table};
-use mx_respawn::Service;
 use mx_word::NoMemory;
 use std::alloc::Global;
 use std::marker::Model;

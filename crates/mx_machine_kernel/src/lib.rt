@@ -8,5 +8,4 @@ mod kernel;
 mod serving;
 
 pub use kernel::{Kernel, recorded_as};
-pub use mx_machine_world::{Held, held_runs_join};
-pub use mx_respawn::Service;
+pub use mx_machine_world::{Held, Service, held_runs_join};

@@ -1,22 +1,17 @@
 //! What events do to the table.
 
 ghost use Rattle.std.specs.Prelude.{◌≡◌, ◌+◌, ◌<◌, ◌≤◌, ◌^◌, true, length};
-ghost use Rattle.mx_proc.specs.Frame.{frame};
-ghost use Rattle.mx_proc.specs.States.{is_ready, is_out};
-ghost use Rattle.mx_proc.specs.TableState.{process_at};
-ghost use Rattle.mx_proc.specs.declared.process.State.TheVariants.{Home};
+ghost use Rattle.mx_ipc.specs.Proc.Frame.{frame};
+ghost use Rattle.mx_ipc.specs.Proc.States.{is_ready, is_out};
+ghost use Rattle.mx_ipc.specs.Proc.TableState.{process_at};
+ghost use Rattle.mx_ipc.specs.Proc.declared.process.State.TheVariants.{Home};
 ghost use Rattle.mx_ipc.specs.Calls.{trap_answer};
 ghost use Rattle.mx_machine_world.specs.Move.{table_after_sending_out, table_after_trap_at_back, table_after_end_of_turn, table_after_coming_home, table_after_back, table_after_kill};
 ghost use Rattle.mx_machine_kernel.specs.Serving.{IsReturned, IsSent, Settled, SettledBut, WritesAtMostOne};
 
 use mx_exec::Image;
-use mx_image::Stop;
-use mx_ipc::{TrapAnswer, trap};
-use mx_kcall::call;
-use mx_machine_world::Out;
-use mx_proc::{DeathCause, Slot, State, Table};
-use mx_respawn::die;
-use mx_sched::enqueue;
+use mx_ipc::{DeathCause, Slot, State, Table, TrapAnswer, enqueue, trap};
+use mx_machine_world::{Out, Stop, call, die};
 
 /// Moves the image of a ready process out.
 #[tactic(auto, unfolding(mx_machine_world::specs::Move::table_after_sending_out), using(crate::proofs::ServingLemmas::is_sent))]

@@ -1,7 +1,7 @@
 -- Events leave how many actors there are.
 use Rattle.std.proofs.Common.{◌≡◌, ◌∙◌, ℕ, ◌+◌, List, [], ◌∷◌, Option, Some, None, slice_get, refl, ap}
 use Rattle.std.proofs.lemmas.List.{length-set}
-use Rattle.mx_proc.specs.Queues.{first_ready}
+use Rattle.mx_kcall.specs.Proc.Queues.{first_ready}
 use Rattle.mx_kcall.specs.Service.{Service}
 use Rattle.mx_kcall.specs.Refusals.{owner_of}
 use Rattle.mx_machine_world.specs.declared.events.Event.{Event}

@@ -1,6 +1,6 @@
 -- Runs of what is held, one after another.
 use Rattle.std.proofs.Common.{◌≡◌, ◌∙◌, ℕ, ◌+◌, ◌-◌, min, refl, ap, sym, arith}
-use Rattle.mx_exec.specs.declared.image.Image.{Image}
+use Rattle.mx_image.specs.Image.{Image}
 use Rattle.mx_image.specs.declared.runs.Stop.{Stop}
 use Rattle.mx_image.specs.declared.runs.Stop.TheVariants as stop
 use Rattle.mx_image.specs.Run.{run_of, RunEnd, run_end_after, on_with, then_run}

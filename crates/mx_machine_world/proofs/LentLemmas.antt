@@ -1,11 +1,11 @@
 -- What was lent, and what a run has made of it.
 use Rattle.std.proofs.Common.{◌≡◌, ◌∙◌, ◌≤◌, ℕ, zero, suc, ◌+◌, ◌-◌, min, refl, sym, ap, arith}
-use Rattle.mx_exec.specs.Lasting.{lasting}
-use Rattle.mx_exec.specs.declared.image.Image.{Image}
-use Rattle.mx_exec.specs.declared.image.Outcome.{Outcome}
-use Rattle.mx_exec.specs.declared.image.Outcome.TheVariants.{Go, Trap, Fault}
-use Rattle.mx_exec.specs.Step.{one_step}
-use Rattle.mx_exec.proofs.Lasting.{step_keeps}
+use Rattle.mx_image.specs.Lasting.{lasting}
+use Rattle.mx_image.specs.Image.{Image}
+use Rattle.mx_image.specs.Outcome.{Outcome}
+use Rattle.mx_image.specs.Outcome.TheVariants.{Go, Trap, Fault}
+use Rattle.mx_image.specs.Step.{one_step}
+use Rattle.mx_image.proofs.Lasting.{step_keeps}
 use Rattle.mx_image.specs.Run.{run_of, run_end_from, run_end_after}
 use Rattle.mx_image.specs.declared.runs.Stop.{Stop}
 use Rattle.mx_image.specs.declared.runs.Stop.TheVariants as stop

@@ -1,7 +1,7 @@
 -- What events leave of what processors hold.
 use Rattle.std.proofs.Common.{◌≡◌, ◌≢◌, ◌∙◌, ℕ, List, Option, Some, None, true, slice_get, get_or, inl, inr, refl, sym, ap}
 use Rattle.std.proofs.lemmas.List.{get_or-set_other, get_or-set_same}
-use Rattle.mx_proc.specs.Queues.{first_ready}
+use Rattle.mx_kcall.specs.Proc.Queues.{first_ready}
 use Rattle.mx_kcall.specs.Service.{Service}
 use Rattle.mx_kcall.specs.Refusals.{owner_of}
 use Rattle.mx_machine_world.specs.declared.events.Event.{Event}

@@ -1,9 +1,9 @@
 -- Runs, counted.
 use Rattle.std.proofs.Common.{◌≡◌, ℕ, zero, suc, ◌+◌, ◌-◌, ◌≤◌, min, refl, arith}
-use Rattle.mx_exec.specs.declared.image.Image.{Image}
-use Rattle.mx_exec.specs.declared.image.Outcome.{Outcome}
-use Rattle.mx_exec.specs.declared.image.Outcome.TheVariants.{Go, Trap, Fault}
-use Rattle.mx_exec.specs.Step.{one_step}
+use Rattle.mx_image.specs.Image.{Image}
+use Rattle.mx_image.specs.Outcome.{Outcome}
+use Rattle.mx_image.specs.Outcome.TheVariants.{Go, Trap, Fault}
+use Rattle.mx_image.specs.Step.{one_step}
 use Rattle.mx_image.specs.declared.runs.Stop.TheVariants as stop
 use Rattle.mx_image.specs.Run.{run_of, run_end_from}
 

@@ -1,10 +1,10 @@
 -- Runs as steps of a processor.
 use Rattle.std.proofs.Common.{◌≡◌, ◌∙◌, ℕ, zero, suc, ◌+◌, ◌-◌, ◌≤◌, ◌<◌, min, List, [], ◌∷◌, length, Option, Some, None, get_or, slice_set, get_or-set_same, refl, ap, sym, subst, arith}
 use Rattle.std.proofs.lemmas.Bool.{lt-leb}
-use Rattle.mx_exec.specs.declared.image.Image.{Image}
-use Rattle.mx_exec.specs.declared.image.Outcome.{Outcome}
-use Rattle.mx_exec.specs.declared.image.Outcome.TheVariants.{Go, Trap, Fault}
-use Rattle.mx_exec.specs.Step.{one_step}
+use Rattle.mx_image.specs.Image.{Image}
+use Rattle.mx_image.specs.Outcome.{Outcome}
+use Rattle.mx_image.specs.Outcome.TheVariants.{Go, Trap, Fault}
+use Rattle.mx_image.specs.Step.{one_step}
 use Rattle.mx_image.specs.declared.runs.Stop.{Stop}
 use Rattle.mx_image.specs.declared.runs.Stop.TheVariants as stop
 use Rattle.mx_image.specs.Run.{run_of, RunEnd, run_end_from}

@@ -3,9 +3,9 @@
 use Rattle.std.specs.Prelude.{ℕ, ◌+◌, ◌==◌, List, [], ◌∷◌, None, map, replicate, if◌then◌else◌}
 use Rattle.std.specs.List.{range_with_len}
 use Rattle.mx_kcall.specs.Load.{image_of_program}
-use Rattle.mx_proc.specs.declared.process.Process.{Process}
-use Rattle.mx_proc.specs.declared.windows.Rules.{Rules}
-use Rattle.mx_proc.specs.TableState.{TableState, empty_table, new_process}
+use Rattle.mx_kcall.specs.Proc.declared.process.Process.{Process}
+use Rattle.mx_kcall.specs.Proc.declared.windows.Rules.{Rules}
+use Rattle.mx_kcall.specs.Proc.TableState.{TableState, empty_table, new_process}
 use Rattle.mx_kcall.specs.Service.{Service}
 use Rattle.mx_machine_world.specs.declared.config.Config.{Config}
 use Rattle.mx_machine_world.specs.World.{World}

@@ -1,9 +1,9 @@
 -- Steps of a process that is on a processor.
 use Rattle.std.specs.Prelude.{◌≡◌, ◌≤◌, ℕ, ◌+◌, ◌-◌, min}
-use Rattle.mx_exec.specs.declared.image.Image.{Image}
-use Rattle.mx_exec.specs.declared.image.Outcome.{Outcome}
-use Rattle.mx_exec.specs.declared.image.Outcome.TheVariants.{Go, Trap, Fault}
-use Rattle.mx_exec.specs.Step.{one_step}
+use Rattle.mx_image.specs.Image.{Image}
+use Rattle.mx_image.specs.Outcome.{Outcome}
+use Rattle.mx_image.specs.Outcome.TheVariants.{Go, Trap, Fault}
+use Rattle.mx_image.specs.Step.{one_step}
 use Rattle.mx_image.specs.declared.runs.Stop.{Stop}
 use Rattle.mx_image.specs.declared.runs.Stop.TheVariants as stop
 use Rattle.mx_image.specs.Run.{run_of, RunEnd}

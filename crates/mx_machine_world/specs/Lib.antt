@@ -1,6 +1,6 @@
-pub use Rattle.mx_respawn.specs.Labels
-pub use Rattle.mx_proc.specs.declared.windows.Rules
-pub use Rattle.mx_respawn.specs.declared.label.Label
+pub use Rattle.mx_kcall.specs.Labels
+pub use Rattle.mx_kcall.specs.Proc.declared.windows.Rules
+pub use Rattle.mx_kcall.specs.Label
 pub mod Refusals
 pub mod Held
 pub mod World
@@ -10,3 +10,11 @@ pub mod Move
 pub mod History
 pub mod Rest
 pub mod Steps
+pub use Rattle.mx_kcall.specs.Refusals as CallRefusals
+pub use Rattle.mx_kcall.specs.Clock
+pub use Rattle.mx_kcall.specs.Respawn
+pub use Rattle.mx_kcall.specs.Service
+pub use Rattle.mx_image.specs.declared.runs.Stop
+pub use Rattle.mx_image.specs.Run
+pub use Rattle.mx_kcall.specs.Proc
+pub use Rattle.mx_kcall.specs.Load

@@ -2,14 +2,14 @@
 use Rattle.std.specs.Prelude.{ℕ, ◌+◌, ◌%◌, ◌*◌, nat_lt, nat_le, not, ◌||◌, Bool, true, false, List, [], ◌∷◌, length, Option, Some, None, Result, Ok, Err, slice_get, slice_set, if◌then◌else◌}
 use Rattle.mx_image.specs.declared.runs.Stop.{Stop}
 use Rattle.mx_image.specs.declared.runs.Stop.TheVariants.{Spent, Trap, Fault}
-use Rattle.mx_proc.specs.declared.process.Process.{Process}
-use Rattle.mx_proc.specs.declared.process.State.{State}
-use Rattle.mx_proc.specs.declared.process.State.TheVariants.{Doomed}
-use Rattle.mx_proc.specs.declared.process.DeathCause.TheVariants as cause
-use Rattle.mx_proc.specs.Endpoints.{is_alive}
-use Rattle.mx_proc.specs.Queues.{first_ready}
-use Rattle.mx_proc.specs.States.{is_down, is_out}
-use Rattle.mx_proc.specs.TableState.{TableState, process_at, with_state, endpoint_of, table_after_dequeue, table_after_move_out, table_after_move_home, table_after_steps}
+use Rattle.mx_kcall.specs.Proc.declared.process.Process.{Process}
+use Rattle.mx_kcall.specs.Proc.declared.process.State.{State}
+use Rattle.mx_kcall.specs.Proc.declared.process.State.TheVariants.{Doomed}
+use Rattle.mx_kcall.specs.Proc.declared.process.DeathCause.TheVariants as cause
+use Rattle.mx_kcall.specs.Proc.Endpoints.{is_alive}
+use Rattle.mx_kcall.specs.Proc.Queues.{first_ready}
+use Rattle.mx_kcall.specs.Proc.States.{is_down, is_out}
+use Rattle.mx_kcall.specs.Proc.TableState.{TableState, process_at, with_state, endpoint_of, table_after_dequeue, table_after_move_out, table_after_move_home, table_after_steps}
 use Rattle.mx_kcall.specs.Queueing.{table_after_queueing}
 use Rattle.mx_kcall.specs.TrapAnswer.{TrapAnswer}
 use Rattle.mx_kcall.specs.TrapAnswer.TheVariants as trap_ends

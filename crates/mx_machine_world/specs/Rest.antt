@@ -1,8 +1,8 @@
 -- A machine at rest: nothing can happen any more but ticks and lines.
 use Rattle.std.specs.Prelude.{◌==◌, ◌&&◌, ◌||◌, not, Bool, true, List, ◌∷◌, is_none}
-use Rattle.mx_proc.specs.declared.process.Process.{Process}
-use Rattle.mx_proc.specs.Queues.{first_ready}
-use Rattle.mx_proc.specs.States.{is_down}
+use Rattle.mx_kcall.specs.Proc.declared.process.Process.{Process}
+use Rattle.mx_kcall.specs.Proc.Queues.{first_ready}
+use Rattle.mx_kcall.specs.Proc.States.{is_down}
 use Rattle.mx_kcall.specs.Service.{Service}
 use Rattle.mx_kcall.specs.Respawn.{is_worn}
 use Rattle.mx_machine_world.specs.World.{World, out_count}

@@ -1,10 +1,10 @@
 -- What always holds of a machine.
 use Rattle.std.specs.Prelude.{◌≡◌, ◌≢◌, ◌≤◌, ◌+◌, ◌*◌, ◌^◌, ℕ, List, length, map, Option, Some, None, slice_get, slice_index_or}
 use Rattle.mx_kcall.specs.Load.{IsLoadedFrom}
-use Rattle.mx_proc.specs.declared.process.State.TheVariants.{Home}
-use Rattle.mx_proc.specs.Frame.{loan_of}
-use Rattle.mx_proc.specs.Sound.{Sound}
-use Rattle.mx_proc.specs.TableState.{TableState, process_at}
+use Rattle.mx_kcall.specs.Proc.declared.process.State.TheVariants.{Home}
+use Rattle.mx_kcall.specs.Proc.Frame.{loan_of}
+use Rattle.mx_kcall.specs.Proc.Sound.{Sound}
+use Rattle.mx_kcall.specs.Proc.TableState.{TableState, process_at}
 use Rattle.mx_kcall.specs.Service.{Service}
 use Rattle.mx_machine_world.specs.declared.holding.Lease.{Lease}
 use Rattle.mx_machine_world.specs.World.{World, HeldProcess, held_by, out_count}

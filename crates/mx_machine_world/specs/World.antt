@@ -1,6 +1,6 @@
 -- The whole machine: the table of processes and what stands beside it.
 use Rattle.std.specs.Prelude.{ℕ, suc, ◌+◌, ◌-◌, List, [], ◌∷◌, Option, Some, None, length, slice_index_or}
-use Rattle.mx_proc.specs.TableState.{TableState}
+use Rattle.mx_kcall.specs.Proc.TableState.{TableState}
 use Rattle.mx_kcall.specs.Service.{Service}
 use Rattle.mx_machine_world.specs.declared.holding.Out.{Out}
 

@@ -2,8 +2,7 @@
 
 ghost use Rattle.std.specs.Prelude.{◌≡◌, ◌<◌, ◌≤◌, length, string_bytes};
 
-use mx_proc::{Masks, Rules};
-use mx_respawn::Label;
+use mx_kcall::{Label, Masks, Rules};
 use std::marker::Model;
 
 /// The name of a file, as a configuration has it.

@@ -3,8 +3,8 @@
 ghost use Rattle.std.specs.Prelude.{◌≡◌};
 ghost use Rattle.mx_machine_world.specs.Refusals.{code_of_refusal, name_of_refusal};
 
-use mx_exec::Outcome;
-use mx_proc::Endpoint;
+use mx_image::Outcome;
+use mx_kcall::Endpoint;
 
 /// What an actor does. A processor makes steps, takes processes and brings them back; any actor
 /// does the other four.

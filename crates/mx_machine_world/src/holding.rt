@@ -5,9 +5,8 @@ ghost use Rattle.mx_machine_world.specs.declared.holding.Out.{Out};
 ghost use Rattle.mx_machine_world.specs.Held.{held_run};
 
 use crate::decoded::Decoded;
-use mx_exec::Image;
-use mx_image::Stop;
-use mx_proc::Slot;
+use mx_image::{Image, Stop};
+use mx_kcall::Slot;
 
 /// A process that is on a processor: its image, how many steps it may make, how many it has made,
 /// how the last of them ended, and what its processor keeps of decoded instructions.

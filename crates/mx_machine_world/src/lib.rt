@@ -17,5 +17,7 @@ pub use holding::{Held, Lease, Out};
 pub use laws::{
     actors_stay, back_empties, held_runs_join, others_keep, parts_join, runs_are_steps,
 };
-pub use mx_proc::{Masks, Rules};
-pub use mx_respawn::Label;
+pub use mx_image::Stop;
+pub use mx_kcall::{
+    Endpoint, Label, Masks, Rules, Service, Slot, call, die, is_worn, load, raise, respawn, tick,
+};

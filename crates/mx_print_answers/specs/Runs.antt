@@ -1,8 +1,8 @@
 -- What is told of a run up to a breakpoint (our own).
 use Rattle.std.specs.Prelude.{ℕ, suc, List, ◌++◌, codes, Result, Ok, Err}
 use Rattle.std.specs.Fmt.{decimal}
-use Rattle.mx_image.specs.declared.runs.Stop.{Stop}
-use Rattle.mx_image.specs.declared.runs.Stop.TheVariants as stop
+use Rattle.mx_machine_world.specs.Stop.{Stop}
+use Rattle.mx_machine_world.specs.Stop.TheVariants as stop
 use Rattle.mx_print_insn.specs.Numbers.{eight_digits}
 use Rattle.mx_machine_world.specs.declared.events.Refusal.{Refusal}
 use Rattle.mx_debug.specs.declared.halt.HaltCause.{HaltCause}

@@ -2,8 +2,8 @@
 use Rattle.std.specs.Prelude.{ℕ, List, ◌++◌, codes, Result, Ok, Err}
 use Rattle.std.specs.List.{flat_map}
 use Rattle.std.specs.Fmt.{decimal}
-use Rattle.mx_image.specs.declared.runs.Stop.{Stop}
-use Rattle.mx_image.specs.declared.runs.Stop.TheVariants.{Spent, Trap, Fault}
+use Rattle.mx_machine_world.specs.Stop.{Stop}
+use Rattle.mx_machine_world.specs.Stop.TheVariants.{Spent, Trap, Fault}
 use Rattle.mx_machine_world.specs.declared.events.Answer.{Answer}
 use Rattle.mx_machine_world.specs.declared.events.Answer.TheVariants.{Went, Taken, Returned, Done, Respawned}
 use Rattle.mx_machine_world.specs.declared.events.Refusal.{Refusal}

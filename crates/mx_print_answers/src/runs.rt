@@ -5,8 +5,7 @@ ghost use Rattle.mx_print_answers.specs.Runs.{stop_of_halt, halt_line, run_line}
 
 use crate::said::Said;
 use mx_debug::{Halt, HaltCause};
-use mx_image::Stop;
-use mx_machine_world::Refusal;
+use mx_machine_world::{Refusal, Stop};
 use mx_print_insn::push_eight_digits;
 use std::alloc::AllocError;
 use std::fmt::Write;

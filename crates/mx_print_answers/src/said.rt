@@ -4,8 +4,7 @@ ghost use Rattle.std.specs.Prelude.{◌≡◌};
 ghost use Rattle.mx_print_answers.specs.Said.{said_of_answer};
 
 use mx_exec::Outcome;
-use mx_image::Stop;
-use mx_machine_world::{Answer, Refusal};
+use mx_machine_world::{Answer, Refusal, Stop};
 use std::fmt;
 
 /// What is said of a line of a script.

@@ -8,7 +8,7 @@ use Rattle.mx_word.specs.declared.names.Register.TheVariants.{Eax, Ecx, Edx, Ebx
 use Rattle.mx_flags.specs.declared.FlagValues.{FlagValues}
 use Rattle.mx_regs.specs.Regs.{word_of_register}
 use Rattle.mx_regs.specs.RegisterValues.{RegisterValues}
-use Rattle.mx_exec.specs.declared.image.Image.{Image}
+use Rattle.mx_image.specs.Image.{Image}
 use Rattle.mx_print_insn.specs.Numbers.{eight_digits}
 
 abbrev pub register_name : Register → List ℕ

@@ -2,23 +2,23 @@ use Rattle.std.proofs.Common.{◌≡◌, ◌≢◌, ℕ, zero, suc, ◌+◌, ◌
 use Rattle.std.proofs.lemmas.Bool.{cases_eq, cases_Bool, cases_lt, eq-eqb, ne_eqb}
 use Rattle.std.proofs.Math.Seq.{drop-cons}
 use Rattle.std.proofs.Math.ListN.{drop_of_length-le, get_or-eq_default}
-use Rattle.mx_proc.specs.declared.process.Process.{Process}
-use Rattle.mx_proc.specs.declared.process.State.{State}
-use Rattle.mx_proc.specs.declared.process.State.TheVariants.{Home, Ready, Out, Doomed, Sending, Calling, Receiving, Awaiting, Down}
-use Rattle.mx_proc.specs.declared.process.Partner.TheVariants.{Any}
-use Rattle.mx_proc.specs.declared.errors.Errno.TheVariants.{Dead}
-use Rattle.mx_proc.specs.Errors.{errno_bits}
-use Rattle.mx_proc.specs.Queues.{tally}
-use Rattle.mx_proc.specs.Waits.{sends_of, without_from, caller_of}
-use Rattle.mx_proc.specs.States.{is_ready, is_sending, IsAlone}
-use Rattle.mx_proc.specs.Frame.{Frame, frame}
-use Rattle.mx_proc.specs.TableState.{TableState, process_at, nobody, table_after_dequeue, table_after_unblock}
-use Rattle.mx_proc.specs.Sound.{Sound}
+use Rattle.mx_ipc.specs.Proc.declared.process.Process.{Process}
+use Rattle.mx_ipc.specs.Proc.declared.process.State.{State}
+use Rattle.mx_ipc.specs.Proc.declared.process.State.TheVariants.{Home, Ready, Out, Doomed, Sending, Calling, Receiving, Awaiting, Down}
+use Rattle.mx_ipc.specs.Proc.declared.process.Partner.TheVariants.{Any}
+use Rattle.mx_ipc.specs.Proc.declared.errors.Errno.TheVariants.{Dead}
+use Rattle.mx_ipc.specs.Proc.Errors.{errno_bits}
+use Rattle.mx_ipc.specs.Proc.Queues.{tally}
+use Rattle.mx_ipc.specs.Proc.Waits.{sends_of, without_from, caller_of}
+use Rattle.mx_ipc.specs.Proc.States.{is_ready, is_sending, IsAlone}
+use Rattle.mx_ipc.specs.Proc.Frame.{Frame, frame}
+use Rattle.mx_ipc.specs.Proc.TableState.{TableState, process_at, nobody, table_after_dequeue, table_after_unblock}
+use Rattle.mx_ipc.specs.Proc.Sound.{Sound}
 use Rattle.mx_ipc.specs.Calls.{goes_on}
 use Rattle.std.proofs.lemmas.List.{length-map, get_or-map}
-use Rattle.mx_proc.specs.declared.process.DeathCause.{DeathCause}
-use Rattle.mx_proc.specs.declared.process.DeathCause.TheVariants.{Exit}
-use Rattle.mx_proc.specs.Serving.{without_bit_of, table_after_forgetting, table_after_burial}
+use Rattle.mx_ipc.specs.Proc.declared.process.DeathCause.{DeathCause}
+use Rattle.mx_ipc.specs.Proc.declared.process.DeathCause.TheVariants.{Exit}
+use Rattle.mx_ipc.specs.Proc.Serving.{without_bit_of, table_after_forgetting, table_after_burial}
 use Rattle.mx_respawn.specs.Death.{callers, receivers, receives_from_alone, table_after_taking_out, table_after_freeing, table_after_freeing_all, waiting_for, table_after_death}
 use Rattle.mx_respawn.specs.Waking.{table_after_waking}
 

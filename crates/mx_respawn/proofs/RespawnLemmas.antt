@@ -1,10 +1,10 @@
 use Rattle.std.proofs.Common.{◌≡◌, ◌∙◌, ℕ, ◌<◌, ◌++◌, ◌∷◌, [], length, slice_set, length-set, get_or-set_same, sym, ap, subst}
 use Rattle.std.proofs.lemmas.List.{set-set}
-use Rattle.mx_exec.specs.Image.{blank}
-use Rattle.mx_proc.specs.declared.process.Process.{Process}
-use Rattle.mx_proc.specs.Frame.{Frame, frame_with_process}
-use Rattle.mx_proc.specs.Queues.{list_at}
-use Rattle.mx_proc.specs.TableState.{TableState, nobody, process_at, with_image, table_after_revival}
+use Rattle.mx_load.specs.Image.{blank}
+use Rattle.mx_ipc.specs.Proc.declared.process.Process.{Process}
+use Rattle.mx_ipc.specs.Proc.Frame.{Frame, frame_with_process}
+use Rattle.mx_ipc.specs.Proc.Queues.{list_at}
+use Rattle.mx_ipc.specs.Proc.TableState.{TableState, nobody, process_at, with_image, table_after_revival}
 use Rattle.mx_respawn.specs.declared.service.Service.{Service}
 use Rattle.mx_respawn.specs.Respawn.{next_process, table_after_respawn}
 

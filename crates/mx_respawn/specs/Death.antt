@@ -1,16 +1,16 @@
 -- Death (our choice: MINIX 3.1 has no such thing in its kernel).
 use Rattle.std.specs.Prelude.{ℕ, ◌+◌, ◌==◌, ◌&&◌, ◌++◌, Bool, false, not, List, [], ◌∷◌, map, filter, if◌then◌else◌}
-use Rattle.mx_proc.specs.declared.process.Process.{Process}
-use Rattle.mx_proc.specs.declared.process.DeathCause.{DeathCause}
-use Rattle.mx_proc.specs.declared.process.State.{State}
-use Rattle.mx_proc.specs.declared.process.State.TheVariants.{Receiving, Awaiting}
-use Rattle.mx_proc.specs.declared.process.Partner.TheVariants.{Only}
-use Rattle.mx_proc.specs.declared.process.Source.TheVariants.{Slot}
-use Rattle.mx_proc.specs.declared.errors.Errno.TheVariants.{Dead}
-use Rattle.mx_proc.specs.Errors.{errno_bits}
-use Rattle.mx_proc.specs.States.{is_ready, is_sending}
-use Rattle.mx_proc.specs.TableState.{TableState, process_at, table_after_dequeue, table_after_unblock}
-use Rattle.mx_proc.specs.Serving.{table_after_forgetting, table_after_burial}
+use Rattle.mx_ipc.specs.Proc.declared.process.Process.{Process}
+use Rattle.mx_ipc.specs.Proc.declared.process.DeathCause.{DeathCause}
+use Rattle.mx_ipc.specs.Proc.declared.process.State.{State}
+use Rattle.mx_ipc.specs.Proc.declared.process.State.TheVariants.{Receiving, Awaiting}
+use Rattle.mx_ipc.specs.Proc.declared.process.Partner.TheVariants.{Only}
+use Rattle.mx_ipc.specs.Proc.declared.process.Source.TheVariants.{Slot}
+use Rattle.mx_ipc.specs.Proc.declared.errors.Errno.TheVariants.{Dead}
+use Rattle.mx_ipc.specs.Proc.Errors.{errno_bits}
+use Rattle.mx_ipc.specs.Proc.States.{is_ready, is_sending}
+use Rattle.mx_ipc.specs.Proc.TableState.{TableState, process_at, table_after_dequeue, table_after_unblock}
+use Rattle.mx_ipc.specs.Proc.Serving.{table_after_forgetting, table_after_burial}
 use Rattle.mx_ipc.specs.Calls.{goes_on}
 
 -- the slots that send to a slot, in order of blocking

@@ -3,3 +3,9 @@ pub mod Death
 pub mod Waking
 pub mod Respawn
 pub use Rattle.mx_load.specs.Load
+pub use Rattle.mx_ipc.specs.Proc
+pub use Rattle.mx_ipc.specs.Calls
+pub use Rattle.mx_ipc.specs.Checks
+pub use Rattle.mx_ipc.specs.Queueing
+pub use Rattle.mx_ipc.specs.declared.calls.TrapAnswer
+pub use Rattle.mx_load.specs.Segment

@@ -1,9 +1,9 @@
 -- Respawn (our choice): the slot of a dead process gets a new one from its service.
 use Rattle.std.specs.Prelude.{ℕ, ◌+◌, ◌-◌, ◌^◌, ◌++◌, ◌∷◌, [], ◌||◌, nat_le, Bool, false, None, slice_set, replicate}
-use Rattle.mx_proc.specs.declared.process.Process.{Process}
-use Rattle.mx_proc.specs.declared.process.State.TheVariants.{Ready}
-use Rattle.mx_proc.specs.Queues.{list_at}
-use Rattle.mx_proc.specs.TableState.{TableState, process_at}
+use Rattle.mx_ipc.specs.Proc.declared.process.Process.{Process}
+use Rattle.mx_ipc.specs.Proc.declared.process.State.TheVariants.{Ready}
+use Rattle.mx_ipc.specs.Proc.Queues.{list_at}
+use Rattle.mx_ipc.specs.Proc.TableState.{TableState, process_at}
 use Rattle.mx_load.specs.Load.{image_of_program}
 use Rattle.mx_respawn.specs.declared.service.Service.{Service}
 

@@ -1,6 +1,6 @@
 -- One receiver, as `die` goes over them.
 use Rattle.std.specs.Prelude.{ℕ, ◌==◌, ◌&&◌, not, if◌then◌else◌}
-use Rattle.mx_proc.specs.TableState.{TableState, process_at}
+use Rattle.mx_ipc.specs.Proc.TableState.{TableState, process_at}
 use Rattle.mx_respawn.specs.Death.{receives_from_alone, table_after_freeing}
 
 -- a process goes on where it receives from a slot alone

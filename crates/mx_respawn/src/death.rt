@@ -1,17 +1,16 @@
 //! Death.
 
 ghost use Rattle.std.specs.Prelude.{◌≡◌, ◌≢◌, ℕ, ◌++◌, ◌<◌, false, true, length};
-ghost use Rattle.mx_proc.specs.Frame.{frame};
-ghost use Rattle.mx_proc.specs.Serving.{without_bit_of};
-ghost use Rattle.mx_proc.specs.Sound.{NoneComesHome};
-ghost use Rattle.mx_proc.specs.States.{IsAlone, is_out, is_ready, is_sending};
-ghost use Rattle.mx_proc.specs.TableState.{process_at};
-ghost use Rattle.mx_proc.specs.declared.process.State.TheVariants.{Home, Down};
+ghost use Rattle.mx_ipc.specs.Proc.Frame.{frame};
+ghost use Rattle.mx_ipc.specs.Proc.Serving.{without_bit_of};
+ghost use Rattle.mx_ipc.specs.Proc.Sound.{NoneComesHome};
+ghost use Rattle.mx_ipc.specs.Proc.States.{IsAlone, is_out, is_ready, is_sending};
+ghost use Rattle.mx_ipc.specs.Proc.TableState.{process_at};
+ghost use Rattle.mx_ipc.specs.Proc.declared.process.State.TheVariants.{Home, Down};
 ghost use Rattle.mx_respawn.specs.Death.{receives_from_alone, table_after_taking_out, callers, receivers, table_after_freeing_all, table_after_death};
 ghost use Rattle.mx_respawn.specs.Waking.{table_after_waking};
 
-use mx_ipc::go_on;
-use mx_proc::{DeathCause, Errno, Partner, Slot, Source, State, Table};
+use mx_ipc::{DeathCause, Errno, Partner, Slot, Source, State, Table, go_on};
 
 /// Whether a process in this state receives from a slot alone.
 fn names(state: State, slot: Slot) -> bool

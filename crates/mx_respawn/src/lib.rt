@@ -8,5 +8,10 @@ mod service;
 
 pub use death::die;
 pub use label::Label;
+pub use mx_ipc::{
+    Access, DeathCause, Endpoint, Errno, Masks, Rules, Slot, Source, Stale, State, Table, Window,
+    go_on, notify,
+};
+pub use mx_load::load;
 pub use respawning::{is_worn, respawn};
 pub use service::Service;

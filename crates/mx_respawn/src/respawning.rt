@@ -2,16 +2,15 @@
 
 ghost use Rattle.std.specs.Prelude.{◌≡◌, ◌<◌, true, false, length};
 ghost use Rattle.mx_load.specs.Load.{IsLoadedFrom};
-ghost use Rattle.mx_proc.specs.Frame.{frame, frame_with_process};
-ghost use Rattle.mx_proc.specs.Sound.{NoneComesHome};
-ghost use Rattle.mx_proc.specs.States.{is_down};
-ghost use Rattle.mx_proc.specs.TableState.{process_at};
+ghost use Rattle.mx_ipc.specs.Proc.Frame.{frame, frame_with_process};
+ghost use Rattle.mx_ipc.specs.Proc.Sound.{NoneComesHome};
+ghost use Rattle.mx_ipc.specs.Proc.States.{is_down};
+ghost use Rattle.mx_ipc.specs.Proc.TableState.{process_at};
 ghost use Rattle.mx_respawn.specs.Respawn.{is_worn, next_process, table_after_respawn};
 
 use crate::service::Service;
-use mx_exec::Image;
-use mx_load::refill;
-use mx_proc::{Process, Slot, State, Table};
+use mx_ipc::{Process, Slot, State, Table};
+use mx_load::{Image, refill};
 
 /// Whether a process can have none after it: the restarts of its service are used up, or its
 /// generation is the last one.

@@ -3,8 +3,8 @@
 ghost use Rattle.std.specs.Prelude.{◌<◌, ◌≤◌};
 
 use crate::label::Label;
-use mx_aout::Program;
-use mx_proc::Masks;
+use mx_ipc::Masks;
+use mx_load::Program;
 
 /// What a slot is booted and respawned from.
 #[derive(Drop)]

@@ -1,1 +1,2 @@
 pub mod Queueing
+pub use Rattle.mx_proc.specs as Proc

@@ -9,7 +9,10 @@ ghost use Rattle.mx_proc.specs.TableState.{process_at, table_after_dequeue};
 ghost use Rattle.mx_proc.specs.declared.process.State.TheVariants.{Ready};
 ghost use Rattle.mx_sched.specs.Queueing.{table_after_queueing};
 
-use mx_proc::{Slot, Table};
+pub use mx_proc::{
+    Access, DeathCause, Delivery, Endpoint, Errno, Masks, Partner, Process, Rules, Slot, Source,
+    Stale, State, Table, Window,
+};
 
 /// The lowest level of a process. The list below it, 15, is the idle list, and stays empty.
 const LOWEST: u8 = 14;

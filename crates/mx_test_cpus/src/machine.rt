@@ -3,7 +3,7 @@
 ghost use Rattle.std.specs.Prelude.{◌≡◌, ◌<◌, ◌≤◌, All, IfOk, IfSome, length};
 
 use mx_aout::read;
-use mx_cpus::{ActorSeat, Naming};
+use mx_cpus_drive::{ActorSeat, Naming};
 use mx_machine_world::{Config, FileName, Record, Recorded, Rules, ServiceLine, ServiceLines};
 use mx_proc::Masks;
 use mx_respawn::{Label, Service};

@@ -1,7 +1,7 @@
 use Rattle.std.proofs.Common.{◌∙◌, ap, get_or-set_other}
-use Rattle.mx_proc.specs.declared.process.Process.{Process}
-use Rattle.mx_proc.specs.declared.process.Source.TheVariants.{Clock}
-use Rattle.mx_proc.specs.TableState.{TableState, process_at, nobody}
+use Rattle.mx_respawn.specs.Proc.declared.process.Process.{Process}
+use Rattle.mx_respawn.specs.Proc.declared.process.Source.TheVariants.{Clock}
+use Rattle.mx_respawn.specs.Proc.TableState.{TableState, process_at, nobody}
 use Rattle.mx_kcall.proofs.AlarmLemmas.{told-alarm}
 use Rattle.mx_kcall.proofs.clock.ring.Goals as goal
 

@@ -1,5 +1,5 @@
 use Rattle.std.proofs.Common.{◌≢◌, ◌∙◌, ◌<◌, ap, sym, subst, length, arith}
-use Rattle.mx_proc.specs.TableState.{TableState}
+use Rattle.mx_respawn.specs.Proc.TableState.{TableState}
 use Rattle.mx_kcall.specs.Clock.{table_after_rings, table_after_tick, due_slots}
 use Rattle.mx_kcall.proofs.FrameLemmas.{same_used, same_uptime}
 use Rattle.mx_kcall.proofs.AlarmLemmas.{rung_next, none_due}

@@ -1,7 +1,7 @@
 use Rattle.std.proofs.Common.{◌≡◌, ◌≤◌, ℕ, length, drop}
-use Rattle.mx_proc.specs.Frame.{frame}
-use Rattle.mx_proc.specs.Sound.{NoneComesHome}
-use Rattle.mx_proc.specs.TableState.{process_at}
+use Rattle.mx_respawn.specs.Proc.Frame.{frame}
+use Rattle.mx_respawn.specs.Proc.Sound.{NoneComesHome}
+use Rattle.mx_respawn.specs.Proc.TableState.{process_at}
 use Rattle.mx_kcall.specs.Clock.{due_slots, table_after_rings}
 use Rattle.mx_kcall.proofs.clock.tick.Given as goal
 

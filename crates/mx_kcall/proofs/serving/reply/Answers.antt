@@ -1,6 +1,6 @@
 use Rattle.std.proofs.Common.{◌∙◌, ap}
-use Rattle.mx_proc.specs.TableState.{with_message}
-use Rattle.mx_ipc.specs.Calls.{goes_on}
+use Rattle.mx_respawn.specs.Proc.TableState.{with_message}
+use Rattle.mx_respawn.specs.Calls.{goes_on}
 use Rattle.mx_kcall.specs.Serving.{table_after_reply}
 use Rattle.mx_kcall.proofs.FrameLemmas.{same_devices}
 use Rattle.mx_kcall.proofs.serving.reply.Goals as goal

@@ -1,8 +1,8 @@
 use Rattle.std.proofs.Common.{◌∙◌, ◌<◌, [], ◌∷◌, ◌++◌, length, take, sym, ap, subst, arith}
 use Rattle.std.proofs.lemmas.List.{take_more, length-take-le}
 use Rattle.mx_exec.specs.declared.image.Image.{Image}
-use Rattle.mx_proc.specs.TableState.{TableState, table_after_add}
-use Rattle.mx_load.specs.Load.{image_of_program}
+use Rattle.mx_ipc.specs.Proc.TableState.{TableState, table_after_add}
+use Rattle.mx_machine_world.specs.Load.{image_of_program}
 use Rattle.mx_machine_world.specs.Boot.{first_table}
 use Rattle.mx_machine_kernel.proofs.BootLemmas.{first-empty, first-more, first-used}
 use Rattle.mx_machine_kernel.proofs.booting.enter.Goals as goal

@@ -1,6 +1,6 @@
 use Rattle.std.proofs.Common.{◌≡◌, ◌∙◌, List, replicate, None, Option, sym, ap, subst}
-use Rattle.mx_proc.specs.TableState.{TableState}
-use Rattle.mx_respawn.specs.declared.service.Service.{Service}
+use Rattle.mx_ipc.specs.Proc.TableState.{TableState}
+use Rattle.mx_machine_world.specs.Service.{Service}
 use Rattle.mx_machine_world.specs.declared.holding.Lease.{Lease}
 use Rattle.mx_machine_world.specs.Boot.{first_table}
 use Rattle.mx_machine_world.specs.Sound.{IsConsistent}

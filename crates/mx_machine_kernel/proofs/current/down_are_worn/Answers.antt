@@ -1,7 +1,7 @@
 use Rattle.std.proofs.Common.{◌<◌, ◌∙◌, length, ap, sym, arith}
-use Rattle.mx_proc.specs.declared.process.Process.{Process}
-use Rattle.mx_proc.specs.States.{is_down}
-use Rattle.mx_respawn.specs.Respawn.{is_worn}
+use Rattle.mx_ipc.specs.Proc.declared.process.Process.{Process}
+use Rattle.mx_ipc.specs.Proc.States.{is_down}
+use Rattle.mx_machine_world.specs.Respawn.{is_worn}
 use Rattle.mx_machine_kernel.proofs.CurrentLemmas.{one_worn, one_not_down, or_true}
 use Rattle.mx_machine_kernel.proofs.current.down_are_worn.Goals.{else-is_down-via-then-is_down+else-not-is_worn, else-is_down-via-else-is_down}
 use Rattle.mx_machine_kernel.proofs.current.down_are_worn.Goals as goal

@@ -1,5 +1,5 @@
 use Rattle.std.proofs.Common.{subst}
-use Rattle.mx_proc.specs.TableState.{TableState}
+use Rattle.mx_ipc.specs.Proc.TableState.{TableState}
 use Rattle.mx_machine_kernel.specs.Serving.{WritesAtMostOne}
 use Rattle.mx_machine_kernel.proofs.FrameLemmas.{kept_frame, same_written}
 use Rattle.mx_machine_kernel.proofs.ServingLemmas.{goes_on_settled}

@@ -1,12 +1,12 @@
 use Rattle.std.proofs.Common.{◌≡◌, ◌≢◌, ◌∙◌, ◌<◌, inl, inr, ap, sym, subst, length, length-set}
 use Rattle.std.proofs.lemmas.Bool.{cases_eq}
-use Rattle.mx_proc.specs.declared.process.State.TheVariants.{Home, Down}
-use Rattle.mx_proc.specs.declared.process.Process.{Process}
-use Rattle.mx_proc.specs.declared.devices.Devices.{Devices}
-use Rattle.mx_proc.specs.Frame.{Frame, frame}
-use Rattle.mx_proc.specs.TableState.{TableState, process_at}
-use Rattle.mx_proc.specs.Serving.{without_bit_of}
-use Rattle.mx_proc.specs.States.{IsAlone, is_out}
+use Rattle.mx_ipc.specs.Proc.declared.process.State.TheVariants.{Home, Down}
+use Rattle.mx_ipc.specs.Proc.declared.process.Process.{Process}
+use Rattle.mx_ipc.specs.Proc.declared.devices.Devices.{Devices}
+use Rattle.mx_ipc.specs.Proc.Frame.{Frame, frame}
+use Rattle.mx_ipc.specs.Proc.TableState.{TableState, process_at}
+use Rattle.mx_ipc.specs.Proc.Serving.{without_bit_of}
+use Rattle.mx_ipc.specs.Proc.States.{IsAlone, is_out}
 use Rattle.mx_respawn.proofs.DeathLemmas.{died_is, forgotten-at, forgotten-used, forgotten-state, buried-state, same_devices, apart_at, home_used}
 use Rattle.mx_respawn.proofs.death.die.Goals as goal
 

@@ -1,11 +1,11 @@
 use Rattle.std.proofs.Common.{◌≡◌, ◌≢◌, ◌∙◌, ℕ, true, false, ap, sym, subst, length, length-set, inl, inr}
 use Rattle.std.proofs.lemmas.Bool.{cases_eq}
-use Rattle.mx_proc.specs.declared.process.Process.{Process}
-use Rattle.mx_proc.specs.declared.process.State.TheVariants.{Ready, Home}
-use Rattle.mx_proc.specs.declared.errors.Errno.TheVariants.{Dead}
-use Rattle.mx_proc.specs.Errors.{errno_bits}
-use Rattle.mx_proc.specs.TableState.{TableState, process_at}
-use Rattle.mx_proc.specs.States.{is_sending}
+use Rattle.mx_ipc.specs.Proc.declared.process.Process.{Process}
+use Rattle.mx_ipc.specs.Proc.declared.process.State.TheVariants.{Ready, Home}
+use Rattle.mx_ipc.specs.Proc.declared.errors.Errno.TheVariants.{Dead}
+use Rattle.mx_ipc.specs.Proc.Errors.{errno_bits}
+use Rattle.mx_ipc.specs.Proc.TableState.{TableState, process_at}
+use Rattle.mx_ipc.specs.Proc.States.{is_sending}
 use Rattle.mx_ipc.specs.Calls.{goes_on}
 use Rattle.mx_respawn.specs.Death.{receives_from_alone}
 use Rattle.mx_respawn.proofs.DeathLemmas.{freed_next, fewer_wait, freed_all, sending_names, apart_at, receivers-same, home_sending}

@@ -1,8 +1,8 @@
 use Rattle.std.proofs.Common.{◌≡◌, ℕ, false, length}
-use Rattle.mx_proc.specs.Frame.{frame}
-use Rattle.mx_proc.specs.Sound.{NoneComesHome}
-use Rattle.mx_proc.specs.States.{is_sending}
-use Rattle.mx_proc.specs.TableState.{process_at}
+use Rattle.mx_ipc.specs.Proc.Frame.{frame}
+use Rattle.mx_ipc.specs.Proc.Sound.{NoneComesHome}
+use Rattle.mx_ipc.specs.Proc.States.{is_sending}
+use Rattle.mx_ipc.specs.Proc.TableState.{process_at}
 use Rattle.mx_respawn.specs.Death.{table_after_freeing_all, callers, receives_from_alone}
 use Rattle.mx_respawn.proofs.death.free_callers.Given as goal
 

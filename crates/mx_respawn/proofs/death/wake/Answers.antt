@@ -1,6 +1,6 @@
 use Rattle.std.proofs.Common.{◌∙◌, ap, sym, subst}
-use Rattle.mx_proc.specs.declared.process.Process.{Process}
-use Rattle.mx_proc.specs.States.{IsAlone}
+use Rattle.mx_ipc.specs.Proc.declared.process.Process.{Process}
+use Rattle.mx_ipc.specs.Proc.States.{IsAlone}
 use Rattle.mx_respawn.specs.Death.{receives_from_alone}
 use Rattle.mx_respawn.proofs.DeathLemmas.{woken_goes}
 use Rattle.mx_respawn.proofs.death.wake.Goals as goal

@@ -1,6 +1,6 @@
 use Rattle.std.proofs.Common.{◌≢◌, ◌∙◌, ◌<◌, ap, sym, length, arith, inl, inr}
 use Rattle.std.proofs.lemmas.Bool.{cases_eq}
-use Rattle.mx_proc.specs.TableState.{process_at}
+use Rattle.mx_ipc.specs.Proc.TableState.{process_at}
 use Rattle.mx_respawn.specs.Death.{table_after_freeing_all}
 use Rattle.mx_respawn.proofs.DeathLemmas.{woken_next, none_left}
 use Rattle.mx_respawn.proofs.death.wake_receivers.Goals as goal

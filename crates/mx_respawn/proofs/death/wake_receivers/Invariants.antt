@@ -1,8 +1,8 @@
 use Rattle.std.proofs.Common.{◌≡◌, ◌≤◌, ℕ, length, drop}
-use Rattle.mx_proc.specs.Frame.{frame}
-use Rattle.mx_proc.specs.Sound.{NoneComesHome}
-use Rattle.mx_proc.specs.TableState.{process_at}
-use Rattle.mx_proc.specs.declared.process.State.TheVariants.{Home}
+use Rattle.mx_ipc.specs.Proc.Frame.{frame}
+use Rattle.mx_ipc.specs.Proc.Sound.{NoneComesHome}
+use Rattle.mx_ipc.specs.Proc.TableState.{process_at}
+use Rattle.mx_ipc.specs.Proc.declared.process.State.TheVariants.{Home}
 use Rattle.mx_respawn.specs.Death.{table_after_freeing_all, receivers}
 use Rattle.mx_respawn.proofs.death.wake_receivers.Given as goal
 

@@ -1,8 +1,8 @@
 use Rattle.std.proofs.Common.{◌≡◌, ◌∙◌, ap, sym, subst}
 use Rattle.mx_load.specs.Load.{IsLoadedFrom}
-use Rattle.mx_proc.specs.declared.process.Process.{Process}
-use Rattle.mx_proc.specs.Frame.{frame, frame_with_process}
-use Rattle.mx_proc.specs.TableState.{process_at}
+use Rattle.mx_ipc.specs.Proc.declared.process.Process.{Process}
+use Rattle.mx_ipc.specs.Proc.Frame.{frame, frame_with_process}
+use Rattle.mx_ipc.specs.Proc.TableState.{process_at}
 use Rattle.mx_respawn.specs.Respawn.{next_process}
 use Rattle.mx_respawn.proofs.RespawnLemmas.{next_is, respawned_is, reframed_twice, stands}
 use Rattle.mx_respawn.proofs.respawning.respawn.Goals as goal

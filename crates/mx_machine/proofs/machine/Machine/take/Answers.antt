@@ -1,6 +1,6 @@
 use Rattle.std.proofs.Common.{◌≡◌, ◌∙◌, ◌<◌, length, Option, Some, Result, Ok, IfSome, slice_set, ap, subst, arith}
 use Rattle.std.proofs.lemmas.Result.{err_from_is_err_and}
-use Rattle.mx_proc.specs.TableState.{endpoint_of}
+use Rattle.mx_machine_world.specs.Proc.TableState.{endpoint_of}
 use Rattle.mx_machine_world.specs.declared.events.Answer.{Answer}
 use Rattle.mx_machine_world.specs.declared.events.Answer.TheVariants.{Taken}
 use Rattle.mx_machine_world.specs.declared.events.Event.TheVariants.{Take}

@@ -1,6 +1,6 @@
 use Rattle.std.proofs.Common.{◌<◌, ◌≡◌, ◌∙◌, true, length, ap, sym, subst, arith}
-use Rattle.mx_proc.specs.States.{is_down}
-use Rattle.mx_proc.specs.TableState.{process_at}
+use Rattle.mx_ipc.specs.Proc.States.{is_down}
+use Rattle.mx_ipc.specs.Proc.TableState.{process_at}
 use Rattle.mx_machine_kernel.specs.KernelState.{KernelState}
 use Rattle.mx_machine_kernel.proofs.CurrentLemmas.{get-at, respawned_holds, respawn_acted}
 use Rattle.mx_machine_kernel.proofs.current.CurrentState.respawn.Goals as goal

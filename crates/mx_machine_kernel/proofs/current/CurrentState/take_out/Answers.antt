@@ -1,5 +1,5 @@
 use Rattle.std.proofs.Common.{ap}
-use Rattle.mx_proc.specs.declared.process.Process.{Process}
+use Rattle.mx_ipc.specs.Proc.declared.process.Process.{Process}
 use Rattle.mx_machine_kernel.proofs.CurrentLemmas.{taken_holds}
 use Rattle.mx_machine_kernel.proofs.current.CurrentState.take_out.Goals as goal
 
