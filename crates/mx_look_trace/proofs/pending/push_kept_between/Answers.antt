@@ -11,12 +11,12 @@ loop-place-preserved c =
     let place = c.loop-place.place in
     elim c.if-is_new_bit.branch [
       | then-is_new_bit+in_ok-push_kept w ↦
-        ap (λ (v : Vec ℕ Global). v.items) w.out-is
-        ∙ next_row line place c.args.out.now.items c.loop-place.out.items w.push_kept.new.out.items _ c.loop-place.invariant w.in_ok-push_kept.ensures refl
+          ap (λ (v : Vec ℕ Global). v.items) w.out-is
+          ∙ next_row line place c.args.out.now.items c.loop-place.out.items w.push_kept.new.out.items _ c.loop-place.invariant w.in_ok-push_kept.ensures refl
       | else-is_new_bit w ↦
-        ap (λ (v : Vec ℕ Global). v.items) w.out-is
-        ∙ empty_row line place c.args.out.now.items c.loop-place.out.items c.loop-place.invariant
-        (not_new c.args.step.now c.args.before.now c.args.after.now place (sym c.is_new_bit.ensures ∙ w.if-is_new_bit.false))
+          ap (λ (v : Vec ℕ Global). v.items) w.out-is
+          ∙ empty_row line place c.args.out.now.items c.loop-place.out.items c.loop-place.invariant
+          (not_new c.args.step.now c.args.before.now c.args.after.now place (sym c.is_new_bit.ensures ∙ w.if-is_new_bit.false))
     ]
 
 pub returns : goal.returns

@@ -11,12 +11,12 @@ loop-slot-preserved c =
     let slot = c.loop-slot.slot in
     elim c.if-has_service.branch [
       | then-has_service+in_ok-push_kept_lines w ↦
-        ap (λ (v : Vec ℕ Global). v.items) w.out-is
-        ∙ next_row line slot c.args.out.now.items c.loop-slot.out.items w.push_kept_lines.new.out.items _ c.loop-slot.invariant w.in_ok-push_kept_lines.ensures refl
+          ap (λ (v : Vec ℕ Global). v.items) w.out-is
+          ∙ next_row line slot c.args.out.now.items c.loop-slot.out.items w.push_kept_lines.new.out.items _ c.loop-slot.invariant w.in_ok-push_kept_lines.ensures refl
       | else-has_service w ↦
-        ap (λ (v : Vec ℕ Global). v.items) w.out-is
-        ∙ empty_row line slot c.args.out.now.items c.loop-slot.out.items c.loop-slot.invariant
-        (none_kept c.args.step.now slot (sym c.has_service.ensures ∙ w.if-has_service.false))
+          ap (λ (v : Vec ℕ Global). v.items) w.out-is
+          ∙ empty_row line slot c.args.out.now.items c.loop-slot.out.items c.loop-slot.invariant
+          (none_kept c.args.step.now slot (sym c.has_service.ensures ∙ w.if-has_service.false))
     ]
 
 pub returns : goal.returns

@@ -11,12 +11,12 @@ loop-slot-preserved c =
     let slot = c.loop-slot.slot in
     elim c.if-has_service.branch [
       | then-has_service+in_ok-push_change+in_ok-push_quantum w ↦
-        ap (λ (v : Vec ℕ Global). v.items) w.out-is
-        ∙ next_row lines slot c.args.out.now.items c.loop-slot.out.items w.push_quantum.new.out.items _ c.loop-slot.invariant (w.in_ok-push_quantum.ensures ∙ ap (λ (v : List ℕ). v ++ quantum_line c.args.step.now slot) w.in_ok-push_change.ensures ∙ append_assoc c.loop-slot.out.items (change_line c.args.step.now slot) (quantum_line c.args.step.now slot)) refl
+          ap (λ (v : Vec ℕ Global). v.items) w.out-is
+          ∙ next_row lines slot c.args.out.now.items c.loop-slot.out.items w.push_quantum.new.out.items _ c.loop-slot.invariant (w.in_ok-push_quantum.ensures ∙ ap (λ (v : List ℕ). v ++ quantum_line c.args.step.now slot) w.in_ok-push_change.ensures ∙ append_assoc c.loop-slot.out.items (change_line c.args.step.now slot) (quantum_line c.args.step.now slot)) refl
       | else-has_service w ↦
-        ap (λ (v : Vec ℕ Global). v.items) w.out-is
-        ∙ empty_row lines slot c.args.out.now.items c.loop-slot.out.items c.loop-slot.invariant
-        (none_changed c.args.step.now slot (sym c.has_service.ensures ∙ w.if-has_service.false))
+          ap (λ (v : Vec ℕ Global). v.items) w.out-is
+          ∙ empty_row lines slot c.args.out.now.items c.loop-slot.out.items c.loop-slot.invariant
+          (none_changed c.args.step.now slot (sym c.has_service.ensures ∙ w.if-has_service.false))
     ]
 
 pub returns : goal.returns
