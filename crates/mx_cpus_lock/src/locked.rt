@@ -65,6 +65,8 @@ impl<M: Naming> Locked<M> {
         requires table { seat.table ≡ M.table }
         ensures kernel { self.new ≡ self.old }
         ensures stands { StandsIn self.old.history seat }
+        ensures follows { Follows seat result }
+        ensures same { IsSameSeat seat result }
     {
         self.desk.note(seat)
     }
