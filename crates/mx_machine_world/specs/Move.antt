@@ -32,7 +32,7 @@ use Rattle.mx_machine_world.specs.World.{World, HeldProcess, held_by, free_recor
 
 -- ---- kinds of events
 
--- true of Line, Tick, Kill and Respawn, which every actor may make; false of a processor's Step, Take and Back
+-- true of Line, Tick, Kill and Respawn, which every actor may make; false of Step, Take and Back
 abbrev pub is_for_all : Event → Bool
 is_for_all Step = false
 is_for_all Take = false
