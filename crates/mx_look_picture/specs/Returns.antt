@@ -80,7 +80,7 @@ has_failed_call x s = has_failed_by (kernel_call x) (slot_in x.after s)
 abbrev pub trap_manner : Step → ℕ → Manner
 trap_manner x s = if is_doomed_in x s then manner.Unmade else if has_gone_wrong x s || has_failed_call x s then manner.Wrong else manner.Plain
 
--- how the deed ended. Only a trap can be left unmade: by a process that was killed
+-- how the deed ended. Only a trap can be left unmade, if its process was killed
 abbrev pub manner_by : Step → ℕ → Deed → Manner
 manner_by x s (deed.Call n) = trap_manner x s
 manner_by x s (deed.Kernel t) = trap_manner x s

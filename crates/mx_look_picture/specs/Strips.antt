@@ -50,7 +50,7 @@ axis_at v strip i = axis_by v strip i (step_at v strip i)
 unfoldable pub axis : Scene → Strip → List Value
 axis v strip = flat_map (axis_at v strip) (range_with_len 0 strip.count)
 
--- at the left each name as it is before the strip; at the right what each service does after it
+-- left of a row: the service's name in the strip's first world. Right of it: what it does in the last world
 abbrev pub name_label : Strip → ℕ → Text → Value
 name_label strip r what = label_at written.Name 8 (row strip.top r + 4) anchor.Start what hint.Nothing
 
