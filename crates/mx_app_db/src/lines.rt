@@ -28,7 +28,8 @@ fn eip_on(machine: &Machine, cpu: u8) -> u32
     }
 }
 
-/// Performs a line `go`: runs the process on a processor up to a breakpoint, and appends the answer to `text`.
+/// Performs a line `go`: runs the process on a processor up to a breakpoint, and appends the answer to
+/// `text`.
 fn perform_go(
     machine: &mut Machine,
     debugger: &Debugger,

@@ -29,11 +29,11 @@ held_run k o = run_by_stop o.stop k o
 abbrev pub then_held : (ℕ × Stop) × Out → ℕ → (ℕ × Stop) × Out
 then_held first k = let second = held_run k first.1 in ((first.0.0 + second.0.0, second.0.1), second.1)
 
--- A processor was lent `lent` and brings back `out`. A run of out.count steps makes `out` of `lent`.
+-- A processor was lent `lent` and brings back `out`. A run of out.count steps turns `lent` into `out`.
 pub record IsBack (lent out : Out) : Type 0 where
   pub run : (held_run out.count lent).1 ≡ out
 
--- The same of what the processor holds at any time before the Back; and its steps are within the budget.
+-- The same for what the processor holds (`out`) at any time before its Back; the steps are within the budget.
 pub record IsRunOf (lent out : Out) : Type 0 where
   pub back : IsBack lent out
   pub within : out.count ≤ out.budget

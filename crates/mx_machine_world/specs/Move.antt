@@ -112,7 +112,7 @@ abbrev pub is_doomed : State → Bool
 is_doomed Doomed = true
 is_doomed _ = false
 
--- after a trap: its SEND, RECEIVE, SENDREC or NOTIFY is made; or, if it asks for one, its kernel call
+-- the table after a trap's SEND, RECEIVE, SENDREC or NOTIFY, or after the kernel call that it asks for
 abbrev pub table_after_trap_at_back : TableState → ℕ → TrapAnswer → TableState
 table_after_trap_at_back t s trap_ends.Done = table_after_trap t s
 table_after_trap_at_back t s trap_ends.Kernel = table_after_kernel_call t s

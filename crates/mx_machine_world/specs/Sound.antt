@@ -23,7 +23,7 @@ pub record IsConsistent (t : TableState) (leases : List (Option Lease)) (service
   -- for each process that is out (on a processor) one record is kept free, for its Back
   pub room : records + out_count leases ≤ capacity
   pub size : capacity ≤ 2 ^ 20
-  -- a record is of an event, and an event makes at most one tick, one byte on the console and 65,535 steps
+  -- each record is of one event, which made at most one tick, one byte on the console and 65,535 steps
   pub uptime : t.uptime ≤ records
   pub console : t.devices.console.count ≤ records
   pub steps : (s : ℕ) → (process_at t s).steps ≤ 65535 * records

@@ -38,7 +38,7 @@ pub enum Answer {
     Taken(Endpoint, u32),
     /// To `Back`: how many steps the process made since its `Take`.
     Returned(u32),
-    /// To `Line`, `Tick` and `Kill`: it is done, and there is no more to say.
+    /// To `Line`, `Tick` and `Kill`: the event is made, and there is no more to say.
     Done,
     /// To `Respawn`: the endpoint of the new process.
     Respawned(Endpoint),

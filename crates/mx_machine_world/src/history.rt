@@ -6,7 +6,7 @@
 pub enum Recorded {
     /// A processor took a process.
     Take,
-    /// A processor brought its process back. The number counts the steps since its `Take`.
+    /// A processor brought its process back. The number counts the steps since the `Take`.
     Back(u32),
     /// An actor raised the interrupt line with this number, 0 to 15.
     Line(u32),
