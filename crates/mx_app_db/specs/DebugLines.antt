@@ -1,4 +1,4 @@
--- What the lines of a debugger's script do with a machine and with the debugger's breakpoints (our own).
+-- What each line of a debugger's script does to a machine and to the debugger's breakpoints (our own).
 use Rattle.std.specs.Prelude.{ℕ, List, [], ◌∷◌, Option, Some, None}
 use Rattle.mx_boot_script.specs.declared.debug.DebugLine.{DebugLine}
 use Rattle.mx_boot_script.specs.declared.debug.DebugLine.TheVariants.{Plain, Break, Clear, Go, Registers, Memory, Messages}
@@ -10,7 +10,7 @@ use Rattle.mx_print_answers.specs.Breakpoint.{Breakpoint}
 use Rattle.mx_print_answers.specs.Halts.{steps_to_halt}
 use Rattle.mx_app_db.specs.Places.{place_found, breakpoints_after_break, breakpoints_after_clear}
 
--- the world after a processor's steps up to a breakpoint
+-- the world after processor c's steps up to a breakpoint, at most k of them
 abbrev pub world_after_go : World → List Breakpoint → ℕ → ℕ → Option HeldProcess → World
 world_after_go w points c k None = w
 world_after_go w points c k (Some l) = world_after_events w (steps_of c (steps_to_halt points l.slot k l.out))
@@ -20,7 +20,7 @@ pub record DebuggedWorld : Type 0 where
   pub world : World
   pub points : List Breakpoint
 
--- WHAT A LINE DOES, where `other` is the actor of the lines that name none; the lines that only show something do nothing
+-- WHAT A LINE DOES. If it names no actor, `other` is its actor. A line that only shows something does nothing
 unfoldable pub debug_line_made : ℕ → DebuggedWorld → DebugLine → DebuggedWorld
 debug_line_made other d (Plain l) = record d { world = (line_made d.world other l).1 }
 debug_line_made other d (Break s place) = record d { points = (breakpoints_after_break d.points (place_found d.world.services s place)).1 }
@@ -30,7 +30,7 @@ debug_line_made other d (Registers c) = d
 debug_line_made other d (Memory c m n) = d
 debug_line_made other d Messages = d
 
--- and lines in a row
+-- what lines in a row do
 abbrev pub debug_lines_made : ℕ → DebuggedWorld → List DebugLine → DebuggedWorld
 debug_lines_made other d [] = d
 debug_lines_made other d (l ∷ ls) = debug_lines_made other (debug_line_made other d l) ls

@@ -8,14 +8,14 @@ use Rattle.mx_print_answers.specs.Halt.{Halt}
 use Rattle.mx_print_answers.specs.Breakpoint.{Breakpoint}
 use Rattle.mx_print_answers.specs.Halts.{Halts, held_after, steps_to_halt}
 
--- What a processor holds has made the steps up to where the debugger halts it. Where steps are asked for, one is made.
+-- Processor a's process ran until the debugger halted it. If k isn't 0, it made at least one step.
 pub record HasGone (w u : World) (points : List Breakpoint) (a k : ℕ) (h : Halt) : Type 0 where
   pub lent : HeldProcess
   pub worked : HasWorked w u a h.count lent
   pub halts : Halts points lent.slot k lent.out h (held_after h.count lent.out)
   pub some : k ≢ 0 → h.count ≢ 0
 
--- it holds nothing; or steps are asked for, and none can be made
+-- processor a holds nothing; or k isn't 0, and its process can make no step
 abbrev pub IsStuck : World → List Breakpoint → ℕ → ℕ → Refusal → Type 0
 IsStuck w points a k CpuEmpty = held_by w a ≡ None
 IsStuck w points a k AtStop = (l : HeldProcess) × (held_by w a ≡ Some l) × (k ≢ 0) × (steps_to_halt points l.slot k l.out ≡ 0)

@@ -1,4 +1,4 @@
--- Breakpoints by slot and place (our own).
+-- Breakpoints, each named by a slot and a place (our own).
 use Rattle.std.specs.Prelude.{ℕ, List, Option, Some, None, Result, Ok, Err, slice_get}
 use Rattle.mx_aout.specs.declared.program.Program.{Program}
 use Rattle.mx_app_step.specs.Service.{Service}
@@ -12,7 +12,7 @@ use Rattle.mx_print_answers.specs.Points.{with_point, without_point}
 use Rattle.mx_print_answers.specs.declared.refused.Refused.{Refused as Kind}
 use Rattle.mx_print_answers.specs.declared.refused.Refused.TheVariants.{ByMachine, ByDebugger}
 
--- the address of a place: itself, or the value of the first symbol of the name
+-- the address of a place: the address itself, or the value of the first symbol with the name
 abbrev pub address_of_place : Program → CodePlace → Option ℕ
 address_of_place p (Address at) = Some at
 address_of_place p (Symbol name) = first_named p.symbols name
@@ -26,7 +26,8 @@ abbrev pub of_service : Option Service → ℕ → CodePlace → Result (ℕ × 
 of_service None slot place = Err (ByMachine NoService)
 of_service (Some s) slot place = at_address slot (address_of_place s.program place)
 
--- where a place lies in the program of a slot's service: no service is told before no symbol
+-- the slot and address of a place in the program of a slot's service. The refusal is NoService if there is no
+-- service, and NoSymbol if there is a service but no symbol
 abbrev pub place_found : List Service → ℕ → CodePlace → Result (ℕ × ℕ) Kind
 place_found services slot place = of_service (slice_get services slot) slot place
 
@@ -34,7 +35,7 @@ abbrev pub with_breakpoint_added : List Breakpoint → Option (List Breakpoint) 
 with_breakpoint_added points None = (Err (ByDebugger TooMany), points)
 with_breakpoint_added points (Some more) = (Ok tt, more)
 
--- `break`, and `clear`: what is refused changes nothing
+-- the lines `break` and `clear`: the answer or refusal, and the breakpoints after. A refusal changes nothing
 abbrev pub breakpoints_after_break : List Breakpoint → Result (ℕ × ℕ) Kind → Result (Unit {0}) Kind × List Breakpoint
 breakpoints_after_break points (Err r) = (Err r, points)
 breakpoints_after_break points (Ok at) = with_breakpoint_added points (with_point points at.0 at.1)

@@ -1,4 +1,4 @@
--- What is printed of the lines of a debugger's script (our own).
+-- What `mx db` prints for each line of a debugger's script (our own).
 use Rattle.std.specs.Prelude.{ℕ, zero, suc, List, [], ◌∷◌, ◌++◌, codes, Option, Some, None}
 use Rattle.std.specs.Option.{option_map}
 use Rattle.mx_exec.specs.declared.image.Image.{Image}
@@ -17,7 +17,7 @@ use Rattle.mx_print_answers.specs.Said.{refusal_line, said_line}
 use Rattle.mx_app_db.specs.Places.{place_found, breakpoints_after_break, breakpoints_after_clear}
 use Rattle.mx_app_db.specs.DebugLines.{DebuggedWorld, debug_line_made}
 
--- ---- of what a processor holds
+-- ---- from what a processor holds
 
 abbrev pub image_held : Option HeldProcess → Option Image
 image_held held = option_map (λ (l : HeldProcess). l.out.image) held
@@ -26,9 +26,9 @@ abbrev pub eip_of : Option HeldProcess → ℕ
 eip_of None = 0
 eip_of (Some l) = l.out.image.eip
 
--- ---- of a run up to a breakpoint, by how many steps are asked for and how many are made
+-- ---- for a run up to a breakpoint: at most k steps, of which it made n
 
--- where some are asked for and none can be made, the refusal
+-- if k isn't 0 and no step is made, it is the refusal AtStop
 abbrev pub halt_text : List Breakpoint → ℕ → ℕ → HeldProcess → List ℕ
 halt_text points (suc k) zero l = refusal_line AtStop ++ codes "\n"
 halt_text points k n l =
@@ -38,9 +38,9 @@ abbrev pub go_text : List Breakpoint → ℕ → Option HeldProcess → List ℕ
 go_text points k None = refusal_line CpuEmpty ++ codes "\n"
 go_text points k (Some l) = halt_text points k (steps_to_halt points l.slot k l.out) l
 
--- ---- of a line
+-- ---- for a line
 
--- WHAT IS PRINTED OF A LINE, where `other` is the actor of the lines that name none
+-- WHAT A LINE PRINTS. If the line names no actor, `other` is its actor
 unfoldable pub debug_line_text : ℕ → DebuggedWorld → DebugLine → List ℕ
 debug_line_text other d (Plain l) = said_line (line_made d.world other l).0 ++ codes "\n"
 debug_line_text other d (Break s place) = done_line (breakpoints_after_break d.points (place_found d.world.services s place)).0
@@ -50,7 +50,7 @@ debug_line_text other d (Registers c) = registers_text (image_held (held_by d.wo
 debug_line_text other d (Memory c m n) = memory_text (image_held (held_by d.world c)) m n
 debug_line_text other d Messages = delivery_lines d.world.table.deliveries
 
--- and of lines in a row
+-- what lines in a row print
 abbrev pub debug_lines_text : ℕ → DebuggedWorld → List DebugLine → List ℕ
 debug_lines_text other d [] = []
 debug_lines_text other d (l ∷ ls) = debug_line_text other d l ++ debug_lines_text other (debug_line_made other d l) ls

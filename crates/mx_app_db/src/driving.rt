@@ -1,4 +1,4 @@
-//! `mx db`.
+//! The command `mx db`: it runs a debugger's script, and prints what each line gives and then the report.
 
 ghost use Rattle.std.specs.Prelude.{◌≡◌, ◌<◌, ◌++◌, List, [], IfErr, OnOk};
 ghost use Rattle.std.specs.Io.KnownBytes.{Appends};
@@ -26,8 +26,8 @@ use mx_print_answers::Debugger;
 use std::alloc::Global;
 use std::io::Write;
 
-/// Does what lines say to a machine with no breakpoints, and prints what is said of each. What was made before
-/// memory ran out is printed too; a writer that has failed isn't tried again.
+/// Performs these lines on a machine that has no breakpoints yet, and prints the answer to each. If memory
+/// runs out, it still prints the answers so far. If a write fails, it writes nothing more.
 fn print_said<W: Write>(
     alloc: Global,
     machine: &mut Machine,
@@ -55,7 +55,8 @@ fn print_said<W: Write>(
     Ok(())
 }
 
-/// Does what lines say to a machine with no breakpoints, prints what is said of each, and then the report.
+/// Performs these lines on a machine that has no breakpoints yet, prints the answer to each, and then prints
+/// the report.
 fn print_lines<W: Write>(
     alloc: Global,
     machine: &mut Machine,
@@ -75,8 +76,9 @@ fn print_lines<W: Write>(
     print_report(alloc, machine, out)
 }
 
-/// Starts a machine by the names of its configuration and of a debugger's script, prints what is said of
-/// each line of the script, and then the report. What stands printed after a failure isn't promised.
+/// Boots a machine from the file named `config`, performs the lines of the debugger's script in the file
+/// named `script`, prints the answer to each line, and then the report. After a failure it promises nothing
+/// about what it has written to `out`.
 pub fn db<R: Reader, W: Write>(
     alloc: Global,
     reader: &mut R,

@@ -11,13 +11,13 @@ use mx_machine_world::Refusal;
 use mx_print_answers::{Debugger, Halt, HaltCause};
 use mx_proc::Slot;
 
-/// A debugger that works with the process of a slot, for at most that many steps.
+/// A debugger that runs the process of this slot for at most `steps` steps.
 #[derive(Drop)]
 struct Resuming<'a> {
     debugger: &'a Debugger,
     slot: Slot,
     steps: u32,
-    /// How it halted.
+    /// How the run halted. `work` sets it.
     halt: Halt,
 }
 
@@ -34,8 +34,10 @@ impl<'a> Tool for Resuming<'a> {
     }
 }
 
-/// Runs what a processor holds for at most that many steps, up to one of the breakpoints of its slot.
-/// Refused are `CpuEmpty`, and `AtStop` where no step can be made.
+/// Runs the process on processor `cpu` for at most `steps` steps, and halts at a breakpoint of its slot.
+/// Answers how many steps it made and why it halted. If `steps` isn't 0, it makes at least one step, or
+/// refuses with `AtStop` if the process can make none. Refuses with `CpuEmpty` if the processor holds no
+/// process.
 #[tactic(auto, using(crate::proofs::Worlds::gone_steps, crate::proofs::Worlds::gone_nothing, crate::proofs::Worlds::gone_no_slot))]
 pub fn go(machine: &mut Machine, debugger: &Debugger, cpu: u8, steps: u32) -> Result<Halt, Refusal>
     ensures gone { IfOk result (λ halt.

@@ -18,7 +18,7 @@ use std::alloc::AllocError;
 use std::fmt::Write;
 use std::io;
 
-/// Where the process stands that a processor holds.
+/// The address of the next instruction of the process on a processor, or 0 if there is none.
 fn eip_on(machine: &Machine, cpu: u8) -> u32
     ensures { result ≡ eip_of (held_by (world_of machine.now) cpu) }
 {
@@ -28,7 +28,8 @@ fn eip_on(machine: &Machine, cpu: u8) -> u32
     }
 }
 
-/// Runs what a processor holds up to a breakpoint, and appends what is said of it.
+/// Performs a line `go`: runs the process on a processor up to a breakpoint, and appends the answer to
+/// `text`.
 fn perform_go(
     machine: &mut Machine,
     debugger: &Debugger,
@@ -47,7 +48,7 @@ fn perform_go(
     push_run(text, run, eip)
 }
 
-/// Appends the registers of the process that a processor holds.
+/// Performs a line that shows registers: appends those of the process on a processor.
 fn show_registers(machine: &Machine, cpu: u8, text: &mut String) -> Result<(), AllocError>
     ensures { OnOk result (string_bytes text.new ≡ string_bytes text.old
         ++ registers_text (image_held (held_by (world_of machine.now) cpu))) }
@@ -55,7 +56,7 @@ fn show_registers(machine: &Machine, cpu: u8, text: &mut String) -> Result<(), A
     push_process(text, machine.image(cpu))
 }
 
-/// Appends that many bytes, from an address on, of the process that a processor holds.
+/// Performs a line that shows memory: appends `count` bytes of the process on a processor, from `from` on.
 fn show_memory(
     machine: &Machine,
     cpu: u8,
@@ -69,8 +70,8 @@ fn show_memory(
     push_memory(text, machine.image(cpu), from, count)
 }
 
-/// Does what a line of a debugger's script says, and appends what is said of it. The lines that name
-/// no actor are the events of `other`.
+/// Performs a line of a debugger's script, and appends the answer to `text`. If the line names no actor,
+/// `other` is the actor of its event.
 #[tactic(auto, using(crate::proofs::Made::plain_made, crate::proofs::Made::broken_made, crate::proofs::Made::cleared_made, crate::proofs::Made::gone_made, crate::proofs::Made::registers_made, crate::proofs::Made::memory_made, crate::proofs::Made::messages_made))]
 fn perform_debug_line(
     machine: &mut Machine,
@@ -112,8 +113,8 @@ fn perform_debug_line(
     }
 }
 
-/// Does what lines say, and prints what is said of each, in pieces. What the text has at the end is still to be
-/// printed.
+/// Performs lines of a debugger's script, and prints the answers piece by piece. `text` ends with the last
+/// piece, which isn't printed yet: the caller prints it.
 pub fn perform_debug_lines<W: io::Write>(
     machine: &mut Machine,
     debugger: &mut Debugger,

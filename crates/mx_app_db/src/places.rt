@@ -1,4 +1,4 @@
-//! Breakpoints by the slots of services and the names of their programs.
+//! Breakpoints: the script names each by a slot, and an address or a symbol in the program of its service.
 
 ghost use Rattle.std.specs.Prelude.{◌≡◌, Some, None, MatchResult};
 ghost use Rattle.mx_machine_world.specs.History.{replay};
@@ -11,7 +11,8 @@ use mx_machine_world::Refusal;
 use mx_print_answers::{DebugError, Debugger, Kernel, Refused, address};
 use mx_proc::Slot;
 
-/// The address of a place in a program.
+/// The address that a place of a script names in a program: an address names itself, and a symbol its
+/// value.
 fn address_of(program: &Program, place: &CodePlace) -> Result<u32, DebugError>
     ensures { MatchResult result (λ at. address_of_place program.now place.now ≡ Some at) (λ e.
         (address_of_place program.now place.now ≡ None) × (e ≡ errors.NoSymbol)) }
@@ -23,7 +24,7 @@ fn address_of(program: &Program, place: &CodePlace) -> Result<u32, DebugError>
     }
 }
 
-/// The slot and the address that a line names.
+/// The slot and the address that a line of a script names, or why there is none.
 fn found(kernel: &Kernel, slot: u32, place: &CodePlace) -> Result<(Slot, u32), Refused>
     ensures { result ≡ place_found (replay kernel.now).services slot place.now }
 {
@@ -35,7 +36,8 @@ fn found(kernel: &Kernel, slot: u32, place: &CodePlace) -> Result<(Slot, u32), R
     Ok((slot as Slot, at))
 }
 
-/// Sets a breakpoint in the process of a slot.
+/// Sets a breakpoint at a place in the program of a slot's service. Refuses if there is no such slot or
+/// symbol, or if it would be the 65th breakpoint, and then changes nothing.
 pub fn set_breakpoint(
     kernel: &Kernel,
     debugger: &mut Debugger,
@@ -50,7 +52,8 @@ pub fn set_breakpoint(
     Ok(())
 }
 
-/// Removes a slot's breakpoint, if one stands there.
+/// Removes the breakpoint at a place in the program of a slot's service, if there is one. Refuses if there
+/// is no such slot or symbol.
 pub fn clear_breakpoint(
     kernel: &Kernel,
     debugger: &mut Debugger,

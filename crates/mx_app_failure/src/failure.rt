@@ -13,22 +13,23 @@ use std::{fmt, io};
 /// Why a command fails.
 #[derive(Clone, Copy, Debug, PartialEq, Eq)]
 pub enum Failure {
-    /// The file is refused.
+    /// A program file isn't right, for this reason.
     Refused(FileError),
-    /// A text for the assembler has a fault.
+    /// A text for the assembler has this fault, at the line that the fault names.
     Faulty(Fault),
-    /// A configuration, a script or a saved history has a line at fault.
+    /// A configuration, a script or a saved history has a wrong line: this one, for this reason.
     Misstated(BootError),
-    /// A word of the command line isn't text.
+    /// A word of the command line isn't text: its bytes aren't UTF-8.
     NotText,
-    /// A file or standard output can't be read or written.
+    /// The program can't read or write a file, or write to standard output.
     File,
-    /// Out of memory.
+    /// There isn't enough memory.
     NoMemory,
 }
 
 impl Failure {
-    /// The program's exit status for a failure.
+    /// The program's exit status: 1 if a file or a text isn't right, 2 if a word isn't text, 3 if a file
+    /// can't be read or written, 4 if there isn't enough memory.
     pub fn status(self) -> u8
         ensures { result ≡ status_of self }
     {
@@ -43,7 +44,7 @@ impl Failure {
     }
 }
 
-/// The name that a fault's line has.
+/// The name of a problem, as it stands in the line of a failure: `BadByte`, for example.
 fn problem_name(problem: Problem) -> &'static str
     ensures { result.now ≡ problem_name problem }
 {
@@ -62,7 +63,8 @@ fn problem_name(problem: Problem) -> &'static str
     }
 }
 
-/// The line without its end, as `mx: 20 Truncated`: a code and its name.
+/// The line that `mx` prints, without its line feed. It has a code and a name, and the number of the wrong
+/// line if a text has one: `mx: 20 Truncated`, `mx: 10 UnknownWord line 3`.
 impl fmt::Display for Failure {
     ghost use Rattle.std.specs.Prelude.{Some};
     ghost use Rattle.mx_app_failure.specs.Failure.{failure_line};

@@ -7,7 +7,8 @@ ghost use Rattle.mx_app_failure.specs.Failure.{IsWanting};
 use crate::failure::Failure;
 use std::io::Write;
 
-/// Prints bytes to standard output, and flushes.
+/// Writes the text to `out`, as to standard output, and flushes it. If it can't, answers
+/// `Failure::File` or `Failure::NoMemory`.
 pub fn print_text<W: Write>(text: &[u8], out: &mut W) -> Result<(), Failure>
     ensures err { IfErr result IsWanting }
     ensures bytes { OnOk result (Appends (W.contents out.old) (W.contents out.new) text.now) }

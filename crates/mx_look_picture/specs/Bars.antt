@@ -1,5 +1,5 @@
--- The bars of a strip (our own): of each service one for each longest run of columns in which it does the same, with the same
--- endpoint and on the same processor. Who is down has none.
+-- The bars of a strip (our own). As long as a service does the same, with the same endpoint and on the same
+-- processor, it has one bar; when one of these changes, a new bar begins. A dead process has no bar.
 use Rattle.std.specs.Prelude.{ℕ, IsTrue, find, ◌≡◌, ◌+◌, ◌-◌, ◌*◌, ◌<◌, ◌≤◌, ◌==◌, ◌||◌, not, unwrap_or, if◌then◌else◌, Bool, List, [], ◌∷◌, Option, Some, None}
 use Rattle.std.specs.List.{flat_map, range_with_len}
 use Rattle.mx_look_facts.specs.Doing.{Doing}
@@ -20,13 +20,13 @@ use Rattle.mx_look_picture.specs.Figures.{bar_at, label_at}
 use Rattle.mx_look_picture.specs.Layout.{column, row}
 use Rattle.mx_look_picture.specs.Scene.{world_at, number_at, standing_of, same_seen}
 
--- the strips of at most 1,000 records
+-- strips as they are in a picture of at most 1,000 records
 abbrev pub IsWithin : Strip → Type 0
 IsWithin strip = (strip.place ≤ 960) × (strip.count ≤ 40) × (strip.top ≤ 30000)
 
--- ---- a bar's shape says what its process does, as its colour does
+-- ---- the shape of a bar, and its colour too, says what its process does
 
--- it begins this far above the middle of its row, and is this high
+-- its top is `above` pixels above the middle of its row, and it is `height` pixels high
 abbrev pub part : Span → BarKind → ℕ → ℕ → Hint → Value
 part at k above height t = bar_at k at.x (at.y - above) at.width height t
 
@@ -48,7 +48,7 @@ state_bar_by at cpu t _ = []
 unfoldable pub state_bar : Span → Standing → Hint → List Value
 state_bar at a t = state_bar_by at a.cpu t a.doing
 
--- ---- a run of columns: it begins where a slot stands otherwise than in the column before, and ends where the next run begins
+-- ---- a run of columns: the slot shows the same in all of them. It ends where the next run begins
 
 unfoldable pub seen_at : Scene → Strip → ℕ → ℕ → Option Standing
 seen_at v strip s c = standing_of (world_at v strip.place c) s
@@ -78,7 +78,7 @@ bars_of_slot v strip s = flat_map (bar_here v strip s) (range_with_len 0 (strip.
 unfoldable pub bars : Scene → Strip → List Value
 bars v strip = flat_map (bars_of_slot v strip) (range_with_len 0 v.services)
 
--- ---- the law: EACH COLUMN IS IN JUST ONE RUN, and the slot stands in it as where the run begins
+-- ---- the law: EACH COLUMN IS IN EXACTLY ONE RUN, and shows the same as the run's first column
 
 abbrev pub Covers : Scene → Strip → ℕ → ℕ → ℕ → Type 0
 Covers v strip s b c = IsTrue (begins v strip s b) × (b ≤ c) × (c < run_end v strip s b)

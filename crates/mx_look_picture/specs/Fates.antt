@@ -1,4 +1,5 @@
--- At a record (our own): ticks and interrupt lines, who is killed, dies, is born again, or goes on with an error.
+-- Values of a record (our own): ticks, interrupt lines, and processes that are killed, die, are born again,
+-- or go on with an error.
 use Rattle.std.specs.Prelude.{ℕ, ◌+◌, ◌-◌, ◌≤◌, ◌==◌, ◌&&◌, not, if◌then◌else◌, Bool, true, false, List, [], ◌∷◌, ◌++◌, Option, Some, None}
 use Rattle.mx_proc.specs.declared.process.DeathCause.{DeathCause}
 use Rattle.mx_proc.specs.declared.process.DeathCause.TheVariants as cause
@@ -28,15 +29,15 @@ use Rattle.mx_look_picture.specs.declared.layout.Spot.{Spot}
 use Rattle.mx_look_picture.specs.Figures.{arrow_at, mark_at, label_at}
 use Rattle.mx_look_picture.specs.Layout.{row, row_of, toward}
 
--- the columns of the widest strip, and the strips of at most 1,000 records
+-- spots as they are in a picture of at most 1,000 records
 abbrev pub IsOnPaper : Spot → Type 0
 IsOnPaper at = (4 ≤ at.x) × (at.x ≤ 30000) × (at.top ≤ 30000) × (at.services ≤ 32)
 
--- the middle of a service's row at a record; of whatever is no service, that of the row outside
+-- the middle of a service's row; for a slot that is no service, of the row outside
 abbrev pub height_of : Spot → ℕ → ℕ
 height_of at s = row at.top (row_of at.services s)
 
--- a line from a row to that of a service
+-- a vertical line from a height to the row of a service
 abbrev pub line_to : Spot → ArrowKind → ℕ → ℕ → Hint → Value
 line_to at k from s t = arrow_at k at.x from (toward from (height_of at s)) t
 
@@ -59,7 +60,7 @@ outside_by x at _ = []
 unfoldable pub outside_values : Step → Spot → List Value
 outside_values x at = outside_by x at x.event
 
--- ---- who is killed: from outside, or by the process of another slot that comes back
+-- ---- kills: by an event from outside, or by another slot's process that comes back
 
 abbrev pub other_height : Spot → ℕ → Option CpuGlance → Option ℕ
 other_height at s None = None
@@ -70,7 +71,7 @@ killer_by x at s (recorded.Kill e) = Some (row at.top 0)
 killer_by x at s (recorded.Back n) = other_height at s (held_before x)
 killer_by x at s _ = None
 
--- the row from where a slot is killed
+-- the height where the line of a kill begins
 unfoldable pub killer : Step → Spot → ℕ → Option ℕ
 killer x at s = killer_by x at s x.event
 
@@ -79,7 +80,7 @@ is_gone doing.Doomed = true
 is_gone (doing.Down c) = true
 is_gone _ = false
 
--- it dies, or is doomed
+-- the slot's process dies or gets doomed at this step
 abbrev pub has_fallen : Step → ℕ → Bool
 has_fallen x s = both (λ v u. not (is_gone v.doing) && is_gone u.doing) (slot_in x.before s) (slot_in x.after s)
 
@@ -90,7 +91,7 @@ kill_from at s (Some from) = line_to at drawn.Kill from s (hint.Change at.place 
 unfoldable pub kill_values : Step → Spot → ℕ → List Value
 kill_values x at s = if has_fallen x s then kill_from at s (killer x at s) else []
 
--- ---- who dies, and who is born again
+-- ---- deaths and births
 
 abbrev pub kill_note : Spot → ℕ → DeathCause → List Value
 kill_note at s cause.Kill = note written.Bad at s text.Killed (hint.Change at.place s) ∷ []
@@ -121,7 +122,7 @@ passage_by at s _ _ = []
 unfoldable pub fate_values : Step → Spot → ℕ → List Value
 fate_values x at s = kill_values x at s ++ passage_by at s (slot_in x.before s) (slot_in x.after s)
 
--- ---- who was waiting, and goes on with an error
+-- ---- processes that were waiting, and go on with an error
 
 abbrev pub error_note : Spot → ℕ → Option ℕ → List Value
 error_note at s None = []

@@ -1,4 +1,4 @@
--- WHAT LIES ON THE PAPER (our own): no coordinate is beyond its right or its lower edge.
+-- INSIDE THE PAPER (our own): no coordinate of a value is beyond the right or the lower edge of the paper.
 use Rattle.std.specs.Prelude.{ℕ, ◌+◌, ◌≤◌}
 use Rattle.mx_look_values.specs.declared.values.Value.{Value}
 use Rattle.mx_look_values.specs.declared.values.Value.TheVariants as value

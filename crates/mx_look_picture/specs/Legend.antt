@@ -22,7 +22,7 @@ use Rattle.mx_look_picture.specs.declared.figures.Point.{Point}
 use Rattle.mx_look_picture.specs.Figures.{bar_at, arrow_at, mark_at, label_at}
 use Rattle.mx_look_picture.specs.Layout.{items_abreast, legend_top}
 
--- where an item can stand: its left end, and the middle of its line
+-- where an item can be: the left end, and the middle of its height
 abbrev pub IsCorner : Point → Type 0
 IsCorner at = (at.x ≤ 60000) × (8 ≤ at.y) × (at.y ≤ 60000)
 
@@ -34,7 +34,7 @@ item_at j =
     if j == 10 then item.Tick else if j == 11 then item.Line else if j == 12 then item.Death else if j == 13 then item.Birth else
     if j == 14 then item.Wrong else item.Unmade
 
--- ---- what shows an item, around the middle of its line
+-- ---- the sample of an item
 
 abbrev pub sample_bar : Point → BarKind → ℕ → ℕ → Value
 sample_bar at k above height = bar_at k at.x (at.y - above) 24 height hint.Nothing
@@ -69,7 +69,7 @@ sample at item.Birth = sample_mark at marked.Birth
 sample at item.Wrong = sample_text at written.Bad (text.Deed (deed.Call 1) manner.Wrong)
 sample at item.Unmade = sample_text at written.Call (text.Deed (deed.Call 1) manner.Unmade)
 
--- a bar with a processor's number, and one of two colours, have a second value
+-- some samples have a second value: the number of a processor, or the lower half of a bar of two colours
 abbrev pub second_sample : Point → Item → List Value
 second_sample at item.Out = sample_cpu at ∷ []
 second_sample at item.Doomed = sample_cpu at ∷ []
@@ -80,7 +80,7 @@ unfoldable pub item_values : Point → Item → List Value
 item_values at i =
     sample at i ∷ second_sample at i ++ label_at written.Key (at.x + 32) (at.y + 4) anchor.Start (text.Key i) hint.Nothing ∷ []
 
--- ---- as many items side by side as the paper has room for
+-- ---- the paper has room for some items in a row; the others come below
 
 abbrev pub corner_of : ℕ → ℕ → ℕ → Point
 corner_of services n j =

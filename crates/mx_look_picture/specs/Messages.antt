@@ -1,4 +1,4 @@
--- Messages, notifications, and notifications that are kept, as arrows at a record (our own).
+-- Arrows at a record (our own): messages, notifications, and notifications that begin to wait.
 use Rattle.std.specs.Prelude.{ℕ, ◌-◌, ◌%◌, ◌==◌, ◌&&◌, not, nat_lt, if◌then◌else◌, Bool, true, false, List, [], ◌∷◌, Option, Some, None}
 use Rattle.std.specs.List.{flat_map, range_with_len}
 use Rattle.mx_proc.specs.declared.deliveries.Delivery.{Delivery}
@@ -18,7 +18,7 @@ use Rattle.mx_look_picture.specs.declared.layout.Spot.{Spot}
 use Rattle.mx_look_picture.specs.Layout.{row}
 use Rattle.mx_look_picture.specs.Fates.{height_of, line_to, note}
 
--- the row of whom an endpoint names: HARDWARE and CLOCK are no service
+-- the row of the party that an endpoint names. HARDWARE and CLOCK are no services, so theirs is outside
 abbrev pub party_height : Spot → ℕ → ℕ
 party_height at e = height_of at (e % 1024)
 
@@ -46,7 +46,7 @@ delivery_by at s (Some d) =
 unfoldable pub delivery_values : Step → Spot → ℕ → List Value
 delivery_values x at s = delivery_by at s (delivery_to x s)
 
--- ---- notifications that are kept
+-- ---- notifications that begin to wait
 
 abbrev pub is_kept : Step → ℕ → ℕ → Bool
 is_kept x s place = both (λ v u. is_new_bit v u place) (slot_in x.before s) (slot_in x.after s)

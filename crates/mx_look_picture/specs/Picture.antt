@@ -1,4 +1,4 @@
--- THE PICTURE of a run (our own): one function of what is drawn.
+-- THE PICTURE of a run (our own): one function, from a run to all values of its picture.
 use Rattle.std.specs.Prelude.{ℕ, ◌≡◌, ◌-◌, ◌≤◌, ◌<◌, if◌then◌else◌, List, [], ◌∷◌, ◌++◌, length, is_some}
 use Rattle.std.specs.List.{All, flat_map, range_with_len}
 use Rattle.mx_look_values.specs.declared.values.Hint.TheVariants as hint
@@ -15,7 +15,7 @@ use Rattle.mx_look_picture.specs.Layout.{strip_count, strip_at, paper_width, pap
 use Rattle.mx_look_picture.specs.Strips.{strip_values}
 use Rattle.mx_look_picture.specs.Legend.{legend}
 
--- a viewer ends at 32,767 in both directions
+-- the runs that `picture` is for. Their pictures are at most 32,767 pixels wide and high, as viewers ask
 abbrev pub IsDrawable : Scene → Type 0
 IsDrawable v = (length v.steps.items ≤ 1000) × (v.services ≤ 32)
 
@@ -28,7 +28,7 @@ strip_of v width n k = strip_values v width (strip_at v.services n k)
 unfoldable pub strips : Scene → ℕ → ℕ → List Value
 strips v width n = flat_map (strip_of v width n) (range_with_len 0 (strip_count n))
 
--- the line of the record that is refused, at the top right
+-- the text about the refused record, at the top right
 unfoldable pub refused_values : Scene → ℕ → List Value
 refused_values v width =
     if is_some v.refused then label_at written.Refused (width - 8) 20 anchor.End text.Refused hint.Nothing ∷ [] else []
@@ -49,7 +49,7 @@ IsPicture v d =
 abbrev pub IsOnItsPaper : Drawing → Type 0
 IsOnItsPaper d = All (IsInside d.width d.height) d.values.items
 
--- in each strip each column of a service is in just one run
+-- in each strip each column of a service is in exactly one run of columns
 abbrev pub AllAreCovered : Scene → Type 0
 AllAreCovered v =
     let n = length v.steps.items in

@@ -1,4 +1,4 @@
--- WHAT CAME OF A RECORD, in its column (our own).
+-- WHAT A RECORD CHANGED, in its column (our own).
 use Rattle.std.specs.Prelude.{ℕ, ◌+◌, ◌==◌, ◌&&◌, nat_lt, if◌then◌else◌, List, [], ◌∷◌, ◌++◌, Option, Some, None}
 use Rattle.std.specs.List.{flat_map, range_with_len}
 use Rattle.mx_look_facts.specs.declared.step.Step.{Step}
@@ -14,11 +14,11 @@ use Rattle.mx_look_picture.specs.Fates.{outside_values, fate_values, freed_value
 use Rattle.mx_look_picture.specs.Messages.{delivery_values, kept_values}
 use Rattle.mx_look_picture.specs.Returns.{return_values}
 
--- below all services
+-- the row below all services
 abbrev pub console_row : Spot → ℕ
 console_row at = row at.top (at.services + 1)
 
--- a byte's character from ! to ~, or its two digits
+-- a byte: its character if it is one from ! to ~, else its two hexadecimal digits
 unfoldable pub byte_label : Spot → ℕ → Value
 byte_label at b =
     if nat_lt 32 b && nat_lt b 127 then label_at written.Character at.x (console_row at + 5) anchor.Middle (text.Character b) (hint.Console at.place)
@@ -31,7 +31,7 @@ console_by at (Some b) = byte_label at b ∷ []
 unfoldable pub console_values : Step → Spot → List Value
 console_values x at = if x.before.written == x.after.written then [] else console_by at x.after.last_byte
 
--- of each service
+-- the values of all services, in order
 abbrev pub of_services : Spot → (ℕ → List Value) → List Value
 of_services at f = flat_map f (range_with_len 0 at.services)
 

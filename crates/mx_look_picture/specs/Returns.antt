@@ -1,4 +1,4 @@
--- What a process did that comes back (our own).
+-- What a process did on its processor before it came back (our own).
 use Rattle.std.specs.Prelude.{ℕ, ◌+◌, ◌-◌, ◌==◌, ◌&&◌, ◌||◌, not, nat_lt, if◌then◌else◌, Bool, true, false, List, [], ◌∷◌, Option, Some, None, slice_index}
 use Rattle.mx_image.specs.declared.runs.Stop.{Stop}
 use Rattle.mx_image.specs.declared.runs.Stop.TheVariants as stop
@@ -58,7 +58,7 @@ abbrev pub is_error : Option ℕ → Bool
 is_error None = false
 is_error (Some r) = not (r == 0)
 
--- its trap was answered with an error
+-- the kernel answered the trap with an error
 abbrev pub has_gone_wrong : Step → ℕ → Bool
 has_gone_wrong x s = is_error (gone_on x s) && is_acted x s
 
@@ -73,14 +73,14 @@ abbrev pub has_failed_by : Option CpuGlance → Option SlotGlance → Bool
 has_failed_by (Some h) (Some u) = is_refused_answer u
 has_failed_by _ _ = false
 
--- its kernel call was
+-- the kernel answered the kernel call with an error
 abbrev pub has_failed_call : Step → ℕ → Bool
 has_failed_call x s = has_failed_by (kernel_call x) (slot_in x.after s)
 
 abbrev pub trap_manner : Step → ℕ → Manner
 trap_manner x s = if is_doomed_in x s then manner.Unmade else if has_gone_wrong x s || has_failed_call x s then manner.Wrong else manner.Plain
 
--- only a trap can be left unmade
+-- how the deed ended. Only a trap can be left unmade, if its process was killed
 abbrev pub manner_by : Step → ℕ → Deed → Manner
 manner_by x s (deed.Call n) = trap_manner x s
 manner_by x s (deed.Kernel t) = trap_manner x s
@@ -94,7 +94,7 @@ deed_kind (deed.Fault v) _ = written.Bad
 deed_kind _ manner.Wrong = written.Bad
 deed_kind _ _ = written.Call
 
--- ---- it stands below the row, before the column
+-- ---- its text is below the middle of the row, and left of the column
 
 abbrev pub deed_label : Spot → ℕ → Deed → Manner → List Value
 deed_label at s d m =

@@ -1,4 +1,4 @@
--- What is drawn: the steps of a run, and what is seen in the worlds between them (our own).
+-- What the picture shows of a run: its steps, and the worlds between them (our own).
 use Rattle.std.specs.Prelude.{ℕ, find, ◌+◌, ◌-◌, ◌==◌, ◌&&◌, Bool, true, false, Option, Some, None, slice_get, if◌then◌else◌}
 use Rattle.std.specs.List.{range_with_len}
 use Rattle.mx_look_facts.specs.SlotGlance.{SlotGlance}
@@ -10,8 +10,8 @@ use Rattle.mx_look_facts.specs.Doings.{same_doing}
 use Rattle.mx_look_values.specs.declared.scene.Scene.{Scene}
 use Rattle.mx_look_values.specs.declared.scene.Standing.{Standing}
 
--- ---- worlds: of a strip that begins at a place, column 0 has the world before its first step, and column c
--- the world after its c-th
+-- ---- worlds. Take the strip whose first step has the index `place`: its column 0 has the world before that
+-- step, and column c the world after the strip's c-th step
 
 abbrev pub before_or : Glance → Option Step → Glance
 before_or g None = g
@@ -25,7 +25,7 @@ unfoldable pub world_at : Scene → ℕ → ℕ → Glance
 world_at v place c =
     if c == 0 then before_or v.world (slice_get v.steps.items place) else after_or v.world (slice_get v.steps.items (place + c - 1))
 
--- the number of the record after which a world stands
+-- the number of the last record before a world
 abbrev pub number_before_or : ℕ → Option Step → ℕ
 number_before_or first None = first - 1
 number_before_or first (Some x) = x.number - 1
@@ -38,7 +38,7 @@ unfoldable pub number_at : Scene → ℕ → ℕ → ℕ
 number_at v place c =
     if c == 0 then number_before_or v.first (slice_get v.steps.items place) else number_or v.first (slice_get v.steps.items (place + c - 1))
 
--- ---- what is seen of a slot
+-- ---- what the picture shows of a slot
 
 abbrev pub holds_by : ℕ → Option CpuGlance → Bool
 holds_by s None = false
@@ -58,7 +58,7 @@ standing_by g s (Some u) = Some (record { name = u.name; endpoint = u.endpoint; 
 unfoldable pub standing_of : Glance → ℕ → Option Standing
 standing_of g s = standing_by g s (slot_in g s)
 
--- ---- two are drawn as one: the same endpoint, the same doing, on the same processor
+-- ---- two columns of a slot belong to one bar: same endpoint, same doing, same processor
 
 abbrev pub same_cpu : Option ℕ → Option ℕ → Bool
 same_cpu None None = true

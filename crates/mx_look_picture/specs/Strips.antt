@@ -1,4 +1,4 @@
--- A STRIP (our own): bands, axis, names, bars, and what came of each record.
+-- A STRIP (our own): bands, axis, names, bars, and what each record changed.
 use Rattle.std.specs.Prelude.{ℕ, ◌+◌, ◌-◌, ◌*◌, ◌%◌, ◌==◌, ◌&&◌, ◌||◌, not, if◌then◌else◌, Bool, List, [], ◌∷◌, ◌++◌, Option, Some, None, slice_get}
 use Rattle.std.specs.List.{flat_map, range_with_len}
 use Rattle.mx_look_facts.specs.declared.step.Step.{Step}
@@ -18,7 +18,7 @@ use Rattle.mx_look_picture.specs.Scene.{world_at}
 use Rattle.mx_look_picture.specs.Bars.{seen_at, bars}
 use Rattle.mx_look_picture.specs.Record.{record_values}
 
--- under each second row
+-- a band of colour under each second row
 unfoldable pub band : ℕ → ℕ → ℕ → List Value
 band top width r = if r % 2 == 1 then bar_at kind.Band 0 (row top r - 16) width 32 hint.Nothing ∷ [] else []
 
@@ -29,7 +29,7 @@ bands top width services = flat_map (band top width) (range_with_len 0 (rows ser
 abbrev pub step_at : Scene → Strip → ℕ → Option Step
 step_at v strip i = slice_get v.steps.items (strip.place + i)
 
--- each fifth record has its number, and the first of a strip unless the next one has
+-- every fifth record shows its number; so does a strip's first record, but not if the one after it does
 abbrev pub is_marked : ℕ → ℕ → Bool
 is_marked i number = (number % 5 == 0) || ((i == 0) && not (number % 5 == 4))
 
@@ -50,7 +50,7 @@ axis_at v strip i = axis_by v strip i (step_at v strip i)
 unfoldable pub axis : Scene → Strip → List Value
 axis v strip = flat_map (axis_at v strip) (range_with_len 0 strip.count)
 
--- names as before the strip; at its end what they do
+-- left of a row: the service's name in the strip's first world. Right of it: what it does in the last world
 abbrev pub name_label : Strip → ℕ → Text → Value
 name_label strip r what = label_at written.Name 8 (row strip.top r + 4) anchor.Start what hint.Nothing
 
@@ -77,7 +77,7 @@ names v strip =
     ++ name_label strip (v.services + 1) text.Console
     ∷ end_label strip (v.services + 1) (text.Bytes (world_at v strip.place strip.count).written) ∷ []
 
--- what came of each record
+-- what each record changed
 abbrev pub came_by : Scene → Strip → ℕ → Option Step → List Value
 came_by v strip i None = []
 came_by v strip i (Some x) = record_values x (record { place = strip.place + i; x = column (i + 1); top = strip.top; services = v.services })

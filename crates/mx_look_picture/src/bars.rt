@@ -1,4 +1,5 @@
-//! The bars of a strip: of each service one for each longest run of columns in which it does the same.
+//! The bars of a strip. As long as a service does the same, from column to column, it has one bar; when it
+//! begins to do something else, a new bar begins.
 
 ghost use Rattle.std.specs.Prelude.{◌≡◌, ◌<◌, ◌≤◌, ◌+◌, ◌++◌, OnOk, IfSome};
 ghost use Rattle.mx_look_picture.specs.Bars.{IsWithin, part, cpu_label, state_bar, seen_at, begins, next_run, run_end, bar_here, bars_of_slot, bars};
@@ -10,7 +11,7 @@ use mx_look_facts::Doing;
 use mx_look_values::{Anchor, BarKind, Hint, LabelKind, Scene, Standing, Text, Value};
 use std::alloc::AllocError;
 
-/// Where a bar stands: from `x` on, around `y`.
+/// Where a bar is: its left end is at `x`, and its middle at height `y`.
 #[derive(Clone, Copy)]
 pub(crate) struct Span {
     pub(crate) x: u32,
@@ -18,7 +19,7 @@ pub(crate) struct Span {
     pub(crate) y: u32,
 }
 
-/// A bar that begins this far above the middle of its row, and is this high.
+/// A bar. Its top is `above` pixels above the middle of its row, and it is `height` pixels high.
 fn part(span: Span, kind: BarKind, above: u32, height: u32, hint: Hint) -> Value
     requires { above ≤ span.y }
     ensures { result ≡ part span kind above height hint }
@@ -48,7 +49,7 @@ fn push_cpu(out: &mut Vec<Value>, span: Span, cpu: Option<u8>) -> Result<(), All
     Ok(())
 }
 
-/// Appends the bar of what a process does.
+/// Appends the bar that shows what a process does, and for one on a processor the processor's number.
 #[tactic(auto, unfolding(crate::specs::Bars::state_bar))]
 fn push_state_bar(
     out: &mut Vec<Value>,
@@ -83,7 +84,7 @@ fn push_state_bar(
     Ok(())
 }
 
-/// What is drawn of a slot in a column.
+/// What the picture shows of a slot in a column, or `None` if there is no such slot.
 #[tactic(auto, unfolding(crate::specs::Bars::seen_at))]
 pub(crate) fn seen_at(scene: &Scene, strip: Strip, slot: u32, index: u32) -> Option<Standing>
     ensures { result ≡ seen_at scene.now strip slot index }
@@ -91,7 +92,8 @@ pub(crate) fn seen_at(scene: &Scene, strip: Strip, slot: u32, index: u32) -> Opt
     standing_of(world_at(scene, strip.place, index), slot)
 }
 
-/// Whether a run of a slot begins in a column: the slot stands otherwise in the one before.
+/// Whether a run of a slot begins in a column. A run is columns side by side in which the slot shows the
+/// same: so one begins in column 0, and in each column that shows another thing than the column before.
 #[tactic(auto, unfolding(crate::specs::Bars::begins))]
 fn begins(scene: &Scene, strip: Strip, slot: u32, index: u32) -> bool
     ensures { result ≡ begins scene.now strip slot index }
@@ -104,7 +106,7 @@ fn begins(scene: &Scene, strip: Strip, slot: u32, index: u32) -> bool
     !same_seen(&before, &here)
 }
 
-/// Where the next run of a slot begins after a column, if one does.
+/// The column where the next run of a slot begins after this column, if one does.
 #[tactic(auto, unfolding(crate::specs::Bars::next_run))]
 fn next_run(scene: &Scene, strip: Strip, slot: u32, index: u32) -> Option<u32>
     requires count { strip.count ≤ 40 }
@@ -116,8 +118,8 @@ fn next_run(scene: &Scene, strip: Strip, slot: u32, index: u32) -> Option<u32>
     (index + 1..strip.count + 1).find(|later| begins(scene, strip, slot, *later))
 }
 
-/// Where the run ends that begins in a column: where the next one begins, or after the strip's last
-/// column.
+/// The first column after the run that begins in this column: the next run's first one, or the one after
+/// the strip's last column.
 #[tactic(auto, unfolding(crate::specs::Bars::run_end))]
 fn run_end(scene: &Scene, strip: Strip, slot: u32, index: u32) -> u32
     requires count { strip.count ≤ 40 }
@@ -132,7 +134,7 @@ fn run_end(scene: &Scene, strip: Strip, slot: u32, index: u32) -> u32
     }
 }
 
-/// Appends the bar of the run of a slot that begins in a column, if one does.
+/// Appends the bar of a slot's run that begins in this column, if one begins there.
 #[tactic(auto, unfolding(crate::specs::Bars::bar_here))]
 fn push_bar_here(
     out: &mut Vec<Value>,

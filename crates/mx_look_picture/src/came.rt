@@ -1,4 +1,4 @@
-//! All that is drawn at a record.
+//! All values that the picture has in the column of a record.
 
 ghost use Rattle.std.specs.Prelude.{◌≡◌, ◌≤◌, ◌++◌, OnOk};
 ghost use Rattle.mx_look_picture.specs.Fates.{IsOnPaper};
@@ -13,7 +13,7 @@ use mx_look_facts::Step;
 use mx_look_values::{Anchor, Hint, LabelKind, Text, Value};
 use std::alloc::AllocError;
 
-/// A byte of the console: its character, if it has one, or two digits.
+/// A byte of the console: its character if it is one from ! to ~, else two hexadecimal digits.
 #[tactic(auto, unfolding(crate::specs::Record::byte_label))]
 fn byte_label(spot: Spot, byte: u8) -> Value
     requires { IsOnPaper spot }
@@ -48,7 +48,7 @@ fn byte_label(spot: Spot, byte: u8) -> Value
     }
 }
 
-/// Appends the byte that was written to the console, if one was.
+/// Appends the byte that the step wrote to the console, if it wrote one.
 #[tactic(auto, unfolding(crate::specs::Record::console_values))]
 fn push_console(out: &mut Vec<Value>, step: &Step, spot: Spot) -> Result<(), AllocError>
     requires { IsOnPaper spot }
@@ -63,7 +63,7 @@ fn push_console(out: &mut Vec<Value>, step: &Step, spot: Spot) -> Result<(), All
     Ok(())
 }
 
-/// Appends what became of the slots.
+/// Appends who is killed, dies or is born again, slot by slot.
 fn push_fates(out: &mut Vec<Value>, step: &Step, spot: Spot) -> Result<(), AllocError>
     requires { IsOnPaper spot }
     ensures { OnOk result (out.new.items ≡ out.old.items ++ fates step.now spot) }
@@ -74,7 +74,7 @@ fn push_fates(out: &mut Vec<Value>, step: &Step, spot: Spot) -> Result<(), Alloc
     Ok(())
 }
 
-/// Appends what the slots got.
+/// Appends the arrows of messages and notifications that the slots got.
 fn push_deliveries(out: &mut Vec<Value>, step: &Step, spot: Spot) -> Result<(), AllocError>
     requires { IsOnPaper spot }
     ensures { OnOk result (out.new.items ≡ out.old.items ++ deliveries step.now spot) }
@@ -85,7 +85,7 @@ fn push_deliveries(out: &mut Vec<Value>, step: &Step, spot: Spot) -> Result<(), 
     Ok(())
 }
 
-/// Appends the notifications that are kept for the slots.
+/// Appends the arrows of notifications that wait for a process from this step on.
 fn push_all_kept(out: &mut Vec<Value>, step: &Step, spot: Spot) -> Result<(), AllocError>
     requires { IsOnPaper spot }
     ensures { OnOk result (out.new.items ≡ out.old.items ++ all_kept step.now spot) }
@@ -96,7 +96,7 @@ fn push_all_kept(out: &mut Vec<Value>, step: &Step, spot: Spot) -> Result<(), Al
     Ok(())
 }
 
-/// Appends the errors with which processes go on that were waiting.
+/// Appends the errors of processes that stop waiting, and go on with an error.
 fn push_all_freed(out: &mut Vec<Value>, step: &Step, spot: Spot) -> Result<(), AllocError>
     requires { IsOnPaper spot }
     ensures { OnOk result (out.new.items ≡ out.old.items ++ freed step.now spot) }
@@ -107,7 +107,7 @@ fn push_all_freed(out: &mut Vec<Value>, step: &Step, spot: Spot) -> Result<(), A
     Ok(())
 }
 
-/// Appends what came of a record.
+/// Appends all that a record changed.
 #[tactic(auto, unfolding(crate::specs::Record::record_values))]
 pub(crate) fn push_record(out: &mut Vec<Value>, step: &Step, spot: Spot) -> Result<(), AllocError>
     requires { IsOnPaper spot }

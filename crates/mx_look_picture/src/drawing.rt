@@ -41,7 +41,7 @@ fn push_strips(
     Ok(())
 }
 
-/// Appends the line of the record that is refused, if one is.
+/// Appends the text about the refused record, if the run ends before one: its line and why.
 #[tactic(auto, unfolding(crate::specs::Picture::refused_values))]
 fn push_refused(out: &mut Vec<Value>, scene: &Scene, width: u32) -> Result<(), AllocError>
     requires { 8 ≤ width }
@@ -63,7 +63,8 @@ fn push_refused(out: &mut Vec<Value>, scene: &Scene, width: u32) -> Result<(), A
     Ok(())
 }
 
-/// The picture of a run: a title, strips of at most 40 records each, and a legend.
+/// The picture of a run: a title, strips of at most 40 records each, one below the other, and a legend. For
+/// at most 1,000 records and 32 services.
 #[tactic(auto, unfolding(crate::specs::Picture::picture))]
 pub fn picture(alloc: Global, scene: &Scene) -> Result<Drawing, AllocError>
     requires { IsDrawable scene.now }

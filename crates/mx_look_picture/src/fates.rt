@@ -1,4 +1,4 @@
-//! Ticks and interrupt lines, and who is killed, dies, is born again or goes on with an error.
+//! Ticks and interrupt lines; and processes that are killed, die, are born again, or go on with an error.
 
 ghost use Rattle.std.specs.Prelude.{◌≡◌, ◌<◌, ◌≤◌, ◌++◌, OnOk, IfSome};
 ghost use Rattle.mx_look_picture.specs.Fates.{IsOnPaper, height_of, line_to, note, outside_mark, outside_values, killer, is_gone, has_fallen, kill_values, middle_mark, death_values, birth_values, fate_values, freed_values};
@@ -10,7 +10,7 @@ use mx_look_values::{Anchor, ArrowKind, Hint, LabelKind, MarkKind, Text, Value};
 use mx_machine_world::Recorded;
 use std::alloc::AllocError;
 
-/// The middle of a service's row at a record; of whatever is no service, that of the row outside.
+/// The height of the middle of a service's row. For a slot that is no service: of the row `outside`.
 pub(crate) fn height_of(spot: Spot, slot: u32) -> u32
     requires { IsOnPaper spot }
     ensures height { result ≡ height_of spot slot }
@@ -20,7 +20,7 @@ pub(crate) fn height_of(spot: Spot, slot: u32) -> u32
     row(spot.top, row_of(spot.services, slot))
 }
 
-/// A line from a height to the row of a service.
+/// A vertical line from this height to the row of a service.
 pub(crate) fn line_to(spot: Spot, kind: ArrowKind, from: u32, slot: u32, hint: Hint) -> Value
     requires { IsOnPaper spot }
     ensures { result ≡ line_to spot kind from slot hint }
@@ -29,7 +29,7 @@ pub(crate) fn line_to(spot: Spot, kind: ArrowKind, from: u32, slot: u32, hint: H
     arrow(kind, tail, toward(from, height_of(spot, slot)), hint)
 }
 
-/// A text beside the row of a service.
+/// A text beside the record, just above the middle of a service's row.
 pub(crate) fn note(kind: LabelKind, spot: Spot, slot: u32, text: Text, hint: Hint) -> Value
     requires { IsOnPaper spot }
     ensures { result ≡ note kind spot slot text hint }
@@ -41,7 +41,7 @@ pub(crate) fn note(kind: LabelKind, spot: Spot, slot: u32, text: Text, hint: Hin
     label(kind, beside, Anchor::Start, text, hint)
 }
 
-/// Appends a mark outside, and a number above it.
+/// Appends a mark in the row `outside`, and a number above the mark.
 fn push_outside_mark(
     out: &mut Vec<Value>,
     spot: Spot,
@@ -84,7 +84,8 @@ pub(crate) fn push_outside(out: &mut Vec<Value>, step: &Step, spot: Spot) -> Res
     }
 }
 
-/// The height from where a slot is killed: from outside, or by another slot's process that comes back.
+/// The height where the line of a kill begins: the row `outside` for an event, or the row of the process
+/// whose `Back` killed it.
 #[tactic(auto, unfolding(crate::specs::Fates::killer))]
 fn killer(step: &Step, spot: Spot, slot: u32) -> Option<u32>
     requires { IsOnPaper spot }
@@ -110,7 +111,7 @@ fn is_gone(doing: Doing) -> bool
     matches!(doing, Doing::Doomed | Doing::Down(_))
 }
 
-/// Whether a slot's process dies, or is doomed.
+/// Whether a slot's process dies or gets doomed at this step. A doomed one that now dies doesn't count.
 fn has_fallen(step: &Step, slot: u32) -> bool
     ensures { result ≡ has_fallen step.now slot }
 {
@@ -120,7 +121,7 @@ fn has_fallen(step: &Step, slot: u32) -> bool
     }
 }
 
-/// Appends the line from the killer to whom it kills, if it kills a slot's process.
+/// Appends the line from a killer to this slot, if the slot's process is killed at this step.
 #[tactic(auto, unfolding(crate::specs::Fates::kill_values))]
 fn push_kill(out: &mut Vec<Value>, step: &Step, spot: Spot, slot: u32) -> Result<(), AllocError>
     requires { IsOnPaper spot }
@@ -148,7 +149,7 @@ fn middle_mark(spot: Spot, slot: u32, kind: MarkKind) -> Value
     mark(kind, middle, Hint::Change(spot.place, slot))
 }
 
-/// Appends the cross of a death, and whether it was a kill.
+/// Appends the cross of a death, and the word for a kill if it was one.
 #[tactic(auto, unfolding(crate::specs::Fates::death_values))]
 fn push_death(
     out: &mut Vec<Value>,
@@ -204,7 +205,7 @@ pub(crate) fn push_fate(
     }
 }
 
-/// Appends the error with which a slot's process goes on that was waiting, if it does.
+/// Appends an error, if the slot's process was waiting and goes on with this error.
 #[tactic(auto, unfolding(crate::specs::Fates::freed_values))]
 pub(crate) fn push_freed(
     out: &mut Vec<Value>,

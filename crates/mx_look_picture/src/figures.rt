@@ -1,4 +1,4 @@
-//! The figures of a picture, made of their parts.
+//! The four figures of a picture: bars, arrows, marks and labels.
 
 ghost use Rattle.std.specs.Prelude.{◌≡◌};
 ghost use Rattle.mx_look_picture.specs.Figures.{bar_at, arrow_at, mark_at, label_at};
@@ -7,7 +7,7 @@ use mx_look_values::{
     Anchor, Arrow, ArrowKind, Bar, BarKind, Hint, Label, LabelKind, Mark, MarkKind, Text, Value,
 };
 
-/// A point of the paper.
+/// A point of the paper: `x` pixels from the left, `y` pixels from the top.
 #[derive(Clone, Copy)]
 pub(crate) struct Point {
     pub(crate) x: u32,
@@ -28,7 +28,7 @@ pub(crate) fn bar(kind: BarKind, at: Point, width: u32, height: u32, hint: Hint)
     })
 }
 
-/// A line from a point up or down to another height.
+/// A vertical line from a point up or down to the height `to`.
 pub(crate) fn arrow(kind: ArrowKind, at: Point, to: u32, hint: Hint) -> Value
     ensures { result ≡ arrow_at kind at.x at.y to hint }
 {

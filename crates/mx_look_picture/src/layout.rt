@@ -1,5 +1,5 @@
-//! Where things stand. A strip has at most 40 records, a column each, and below one another its rows:
-//! outside, the services, the console.
+//! Where the figures are, in pixels from the top left corner. A strip has a column for each of its records,
+//! at most 40. Its rows are, from the top: outside, one for each service, the console.
 
 ghost use Rattle.std.specs.Prelude.{◌≡◌, ◌<◌, ◌≤◌, ◌+◌};
 ghost use Rattle.mx_look_picture.specs.Layout.{column, row, rows, row_of, strip_top, strip_count, paper_width, items_abreast, legend_top, paper_height, strip_at, toward};
@@ -7,7 +7,7 @@ ghost use Rattle.mx_look_picture.specs.Layout.{column, row, rows, row_of, strip_
 /// How many records a strip has at most.
 pub(crate) const STRIP_RECORDS: u32 = 40;
 
-/// A strip: the place of its first step in the list of steps, how many it has, and where it begins.
+/// A strip: the index of its first step in the list of steps, the number of its steps, and its top.
 #[derive(Clone, Copy)]
 pub(crate) struct Strip {
     pub(crate) place: u32,
@@ -15,8 +15,8 @@ pub(crate) struct Strip {
     pub(crate) top: u32,
 }
 
-/// Where a record is drawn: its place in the list of steps, its column, where its strip begins, and
-/// how many services this has.
+/// Where a record is drawn: the index of its step in the list of steps, the `x` of its column, the top of
+/// its strip, and how many services the strip has.
 #[derive(Clone, Copy)]
 pub(crate) struct Spot {
     pub(crate) place: u32,
@@ -25,7 +25,7 @@ pub(crate) struct Spot {
     pub(crate) services: u32,
 }
 
-/// Where a column begins.
+/// Where a column is: its `x`. Column 0 is at 120, and each next column is 28 further right.
 pub(crate) fn column(index: u32) -> u32
     requires { index ≤ 42 }
     ensures { result ≡ column index }
@@ -33,7 +33,7 @@ pub(crate) fn column(index: u32) -> u32
     120 + 28 * index
 }
 
-/// The middle of a row.
+/// The middle of a row: its `y`.
 pub(crate) fn row(top: u32, index: u32) -> u32
     requires top { top ≤ 30000 }
     requires index { index ≤ 33 }
@@ -50,7 +50,7 @@ pub(crate) fn rows(services: u32) -> u32
     services + 2
 }
 
-/// The row of a slot. Whatever is no service stands outside.
+/// The number of a slot's row, or 0, the row `outside`, if the slot is no service.
 pub(crate) fn row_of(services: u32, slot: u32) -> u32
     ensures row { result ≡ row_of services slot }
     ensures within { result ≤ services }
@@ -58,7 +58,8 @@ pub(crate) fn row_of(services: u32, slot: u32) -> u32
     if slot < services { 1 + slot } else { 0 }
 }
 
-/// Up to where an arrow goes: it ends 4 before the middle of a row.
+/// The height where an arrow from the height `from` to the middle of a row, `to`, ends: 4 pixels before it
+/// gets there.
 pub(crate) fn toward(from: u32, to: u32) -> u32
     requires below { 40 ≤ to }
     requires to { to ≤ 60000 }
@@ -67,7 +68,7 @@ pub(crate) fn toward(from: u32, to: u32) -> u32
     if from < to { to - 4 } else { to + 4 }
 }
 
-/// How many strips `count` records have.
+/// How many strips `count` records need, at least 1.
 pub(crate) fn strip_count(count: u32) -> u32
     requires { count ≤ 1000 }
     ensures count { result ≡ strip_count count }
@@ -76,7 +77,7 @@ pub(crate) fn strip_count(count: u32) -> u32
     ((count + STRIP_RECORDS - 1) / STRIP_RECORDS).max(1)
 }
 
-/// Where a strip begins; the one after the last is the legend.
+/// The top of strip `index`. If `index` is the number of strips, that is the top of the legend.
 #[tactic(auto, using(crate::proofs::Within::strips_within))]
 pub(crate) fn strip_top(services: u32, index: u32) -> u32
     requires services { services ≤ 32 }
@@ -87,7 +88,7 @@ pub(crate) fn strip_top(services: u32, index: u32) -> u32
     32 + index * (32 * rows(services) + 40)
 }
 
-/// One of the strips of `count` records.
+/// Strip `index` of a picture of `count` records.
 pub(crate) fn strip_at(services: u32, count: u32, index: u32) -> Strip
     requires services { services ≤ 32 }
     requires count { count ≤ 1000 }
@@ -102,7 +103,7 @@ pub(crate) fn strip_at(services: u32, count: u32, index: u32) -> Strip
     }
 }
 
-/// How wide the paper is for `count` records.
+/// The width of the paper for `count` records, in pixels.
 pub(crate) fn paper_width(count: u32) -> u32
     ensures width { result ≡ paper_width count }
     ensures within { result ≤ 1468 }
@@ -120,7 +121,7 @@ pub(crate) fn items_abreast(count: u32) -> u32
     (paper_width(count) - 16) / 136
 }
 
-/// Where the legend begins.
+/// The top of the legend.
 pub(crate) fn legend_top(services: u32, count: u32) -> u32
     requires services { services ≤ 32 }
     requires count { count ≤ 1000 }
@@ -130,7 +131,7 @@ pub(crate) fn legend_top(services: u32, count: u32) -> u32
     strip_top(services, strip_count(count))
 }
 
-/// How high the paper is for `count` records.
+/// The height of the paper for `count` records, in pixels.
 #[tactic(auto, using(crate::proofs::Within::quotient_within))]
 pub(crate) fn paper_height(services: u32, count: u32) -> u32
     requires services { services ≤ 32 }

@@ -1,4 +1,4 @@
-//! The legend.
+//! The legend: a line for each figure, with a sample and its meaning.
 
 ghost use Rattle.std.specs.Prelude.{◌≡◌, ◌<◌, ◌≤◌, ◌++◌, OnOk};
 ghost use Rattle.mx_look_picture.specs.Legend.{IsCorner, item_at, sample_bar, sample_cpu, sample_arrow, sample_mark, sample_text, sample, item_values, corner_of, legend_item, legend};
@@ -13,7 +13,7 @@ use std::alloc::AllocError;
 /// How many items the legend has.
 const ITEMS: u32 = 16;
 
-/// The item at a place.
+/// The legend's item number `index`, from 0.
 #[tactic(auto, unfolding(crate::specs::Legend::item_at))]
 fn item_at(index: u32) -> Item
     ensures { result ≡ item_at index }
@@ -38,7 +38,7 @@ fn item_at(index: u32) -> Item
     }
 }
 
-/// A bar that shows a state. It begins this far above the middle, and is this high.
+/// A sample bar. Its top is `above` pixels above the middle, and it is `height` pixels high.
 fn sample_bar(at: Point, kind: BarKind, above: u32, height: u32) -> Value
     requires corner { IsCorner at }
     requires above { above ≤ 6 }
@@ -95,7 +95,7 @@ fn sample_text(at: Point, kind: LabelKind, text: Text) -> Value
     label(kind, middle, Anchor::Middle, text, Hint::Nothing)
 }
 
-/// What shows an item.
+/// The sample that shows what an item looks like in the picture.
 #[tactic(auto, unfolding(crate::specs::Legend::sample))]
 fn sample(at: Point, item: Item) -> Value
     requires { IsCorner at }
@@ -125,7 +125,7 @@ fn sample(at: Point, item: Item) -> Value
     }
 }
 
-/// Appends an item: what shows it, and what it means.
+/// Appends an item: its sample and its meaning.
 #[tactic(auto, unfolding(crate::specs::Legend::item_values))]
 fn push_item(out: &mut Vec<Value>, at: Point, item: Item) -> Result<(), AllocError>
     requires { IsCorner at }
@@ -151,7 +151,7 @@ fn push_item(out: &mut Vec<Value>, at: Point, item: Item) -> Result<(), AllocErr
     Ok(())
 }
 
-/// Where the item at a place stands.
+/// Where item `index` is.
 #[tactic(auto, using(crate::proofs::Within::quotient_within, crate::proofs::Within::rest_within))]
 fn corner_of(services: u32, count: u32, index: u32) -> Point
     requires services { services ≤ 32 }
@@ -166,7 +166,7 @@ fn corner_of(services: u32, count: u32, index: u32) -> Point
     }
 }
 
-/// Appends the item at a place.
+/// Appends the legend's item number `index`.
 #[tactic(auto, unfolding(crate::specs::Legend::legend_item))]
 fn push_legend_item(
     out: &mut Vec<Value>,

@@ -1,4 +1,4 @@
-//! Messages, notifications, and notifications that are kept.
+//! Arrows of messages, of notifications, and of notifications that begin to wait.
 
 ghost use Rattle.std.specs.Prelude.{◌≡◌, ◌<◌, ◌≤◌, ◌++◌, OnOk};
 ghost use Rattle.mx_look_picture.specs.Fates.{IsOnPaper};
@@ -13,7 +13,7 @@ use std::alloc::AllocError;
 /// How many sources a notification can have: HARDWARE, CLOCK, and 32 slots.
 const SOURCES: u32 = 34;
 
-/// The middle of the row of whom an endpoint names. HARDWARE and CLOCK stand outside.
+/// The middle of the row of the party that an endpoint names. HARDWARE and CLOCK have the row `outside`.
 fn party_height(spot: Spot, endpoint: u32) -> u32
     requires { IsOnPaper spot }
     ensures { result ≡ party_height spot endpoint }
@@ -21,7 +21,7 @@ fn party_height(spot: Spot, endpoint: u32) -> u32
     height_of(spot, endpoint % 1024)
 }
 
-/// The middle of the row of the source that has a place among the pending bits.
+/// The middle of the row of the source whose pending bit has this place.
 fn source_height(spot: Spot, place: u32) -> u32
     requires { IsOnPaper spot }
     ensures { result ≡ source_height spot place }
@@ -61,7 +61,7 @@ fn push_type(
     Ok(())
 }
 
-/// Appends the arrow of what a slot got, if it got anything.
+/// Appends the arrow of the message or notification that a slot got, if it got one.
 #[tactic(auto, unfolding(crate::specs::Messages::delivery_values))]
 pub(crate) fn push_delivery(
     out: &mut Vec<Value>,
@@ -82,7 +82,7 @@ pub(crate) fn push_delivery(
     push_type(out, spot, slot, delivery)
 }
 
-/// Whether a notification is kept for a slot, by the place of its source.
+/// Whether a notification by the source with this place begins to wait for a slot.
 fn is_kept(step: &Step, slot: u32, place: u32) -> bool
     ensures { result ≡ is_kept step.now slot place }
 {
@@ -92,7 +92,7 @@ fn is_kept(step: &Step, slot: u32, place: u32) -> bool
     }
 }
 
-/// Appends the arrow of a notification that is kept, if it is.
+/// Appends the arrow of a notification that begins to wait, if there is one.
 #[tactic(auto, unfolding(crate::specs::Messages::kept_arrow))]
 fn push_kept_arrow(
     out: &mut Vec<Value>,
@@ -112,7 +112,7 @@ fn push_kept_arrow(
     Ok(())
 }
 
-/// Appends the arrows of the notifications that are kept for a slot.
+/// Appends the arrows of all notifications that begin to wait for a slot.
 pub(crate) fn push_kept(
     out: &mut Vec<Value>,
     step: &Step,

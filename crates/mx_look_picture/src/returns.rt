@@ -1,4 +1,4 @@
-//! What a process did that comes back.
+//! What a process did on its processor before it comes back.
 
 ghost use Rattle.std.specs.Prelude.{◌≡◌, ◌++◌, OnOk};
 ghost use Rattle.mx_look_picture.specs.Fates.{IsOnPaper};
@@ -19,7 +19,8 @@ use std::alloc::AllocError;
 /// The number of the call SENDREC.
 const SENDREC: u32 = 3;
 
-/// The call of a trap; of a kernel call its type, if its words lie inside the memory.
+/// What a trap asked for: a call, by its number; or a kernel call, by the type in its message, if the
+/// message is inside the memory.
 #[tactic(auto, unfolding(crate::specs::Returns::trap_deed))]
 fn trap_deed(held: &CpuGlance) -> Deed
     ensures { result ≡ trap_deed held.now }
@@ -33,7 +34,7 @@ fn trap_deed(held: &CpuGlance) -> Deed
     }
 }
 
-/// What a process did on its processor.
+/// What a process did last: it trapped or faulted, spent its budget, or stopped early.
 #[tactic(auto, unfolding(crate::specs::Returns::deed_of))]
 fn deed_of(held: &CpuGlance) -> Deed
     ensures { result ≡ deed_of held.now }
@@ -55,7 +56,7 @@ fn is_doomed_in(step: &Step, slot: u32) -> bool
     }
 }
 
-/// Whether a slot's trap was answered with an error.
+/// Whether the kernel answered a slot's trap with an error.
 fn has_gone_wrong(step: &Step, slot: u32) -> bool
     ensures { result ≡ has_gone_wrong step.now slot }
 {
@@ -65,7 +66,7 @@ fn has_gone_wrong(step: &Step, slot: u32) -> bool
     }
 }
 
-/// Whether the reply that a slot has is an error.
+/// Whether the reply to a kernel call, in the slot's buffer, is an error.
 fn is_refused_answer(seen: &SlotGlance) -> bool
     ensures { result ≡ is_refused_answer seen.now }
 {
@@ -75,7 +76,7 @@ fn is_refused_answer(seen: &SlotGlance) -> bool
     }
 }
 
-/// Whether a kernel call was answered with an error.
+/// Whether the kernel answered a slot's kernel call with an error.
 fn has_failed_call(step: &Step, slot: u32) -> bool
     ensures { result ≡ has_failed_call step.now slot }
 {
@@ -85,7 +86,8 @@ fn has_failed_call(step: &Step, slot: u32) -> bool
     }
 }
 
-/// How what a process did ended. Only a trap can be left unmade.
+/// How the deed ended: well, with an error, or not made because the process was killed. Only a trap can be
+/// left unmade.
 #[tactic(auto, unfolding(crate::specs::Returns::manner_of))]
 fn manner_of(step: &Step, slot: u32, deed: Deed) -> Manner
     ensures { result ≡ manner_of step.now slot deed }
@@ -113,7 +115,7 @@ fn deed_kind(deed: Deed, manner: Manner) -> LabelKind
     }
 }
 
-/// Appends what the process did that comes back, if one does.
+/// Appends what a process did, if the step is its `Back`.
 #[tactic(auto, unfolding(crate::specs::Returns::return_values))]
 pub(crate) fn push_return(out: &mut Vec<Value>, step: &Step, spot: Spot) -> Result<(), AllocError>
     requires { IsOnPaper spot }

@@ -1,4 +1,4 @@
-//! What is looked at in the worlds between the steps of a run.
+//! What the picture shows of the worlds between the steps of a run.
 
 ghost use Rattle.std.specs.Prelude.{◌≡◌};
 ghost use Rattle.mx_look_picture.specs.Scene.{world_at, number_at, holds, cpu_of, standing_of, same_cpu, same_standing, same_seen};
@@ -6,7 +6,8 @@ ghost use Rattle.mx_look_picture.specs.Scene.{world_at, number_at, holds, cpu_of
 use mx_look_facts::{cpu_in, same_doing, slot_in};
 use mx_look_values::{Glance, Scene, Standing};
 
-/// Of a strip that begins at a place: the world of a column. Column 0 has the world before the strip.
+/// The world of a column in the strip whose first step has the index `place`. Column 0 has the world before
+/// the strip, and column c the world after the strip's c-th step.
 #[tactic(auto, unfolding(crate::specs::Scene::world_at))]
 pub(crate) fn world_at(scene: &Scene, place: u32, column: u32) -> &Glance
     ensures { result.now ≡ world_at scene.now place column }
@@ -23,7 +24,7 @@ pub(crate) fn world_at(scene: &Scene, place: u32, column: u32) -> &Glance
     }
 }
 
-/// The number of the record after which the world of a column stands.
+/// The number of the last record before the world of a column.
 #[tactic(auto, unfolding(crate::specs::Scene::number_at))]
 pub(crate) fn number_at(scene: &Scene, place: u32, column: u32) -> u32
     ensures { result ≡ number_at scene.now place column }
@@ -57,7 +58,7 @@ fn cpu_of(glance: &Glance, slot: u32) -> Option<u8>
     (0..8u8).find(|cpu| holds(glance, slot, *cpu))
 }
 
-/// What is drawn of a slot.
+/// What the picture shows of a slot in this world, or `None` if there is no such slot.
 #[tactic(auto, unfolding(crate::specs::Scene::standing_of))]
 pub(crate) fn standing_of(glance: &Glance, slot: u32) -> Option<Standing>
     ensures { result ≡ standing_of glance.now slot }
@@ -82,14 +83,14 @@ fn same_cpu(a: Option<u8>, b: Option<u8>) -> bool
     }
 }
 
-/// Whether two are drawn as one bar.
+/// Whether two columns of a slot belong to one bar: same endpoint, same doing, same processor.
 fn same_standing(a: &Standing, b: &Standing) -> bool
     ensures { result ≡ same_standing a.now b.now }
 {
     a.endpoint == b.endpoint && same_doing(a.doing, b.doing) && same_cpu(a.cpu, b.cpu)
 }
 
-/// Whether nothing is seen twice, or two that are drawn as one bar.
+/// The same for what may be missing: two columns without such a slot belong together too.
 pub(crate) fn same_seen(a: &Option<Standing>, b: &Option<Standing>) -> bool
     ensures { result ≡ same_seen a.now b.now }
 {

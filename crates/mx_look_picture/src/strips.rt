@@ -1,4 +1,4 @@
-//! A strip: its bands, its axis, its names, its bars, and what came of its records.
+//! A strip: its bands, its axis, its names, its bars, and what its records changed.
 
 ghost use Rattle.std.specs.Prelude.{◌≡◌, ◌<◌, ◌≤◌, ◌++◌, None, Some, MatchOption, OnOk};
 ghost use Rattle.mx_look_picture.specs.Bars.{IsWithin};
@@ -13,7 +13,7 @@ use mx_look_facts::Step;
 use mx_look_values::{Anchor, BarKind, Hint, LabelKind, Scene, Text, Value};
 use std::alloc::AllocError;
 
-/// Where names begin.
+/// The `x` where names begin, in pixels.
 const MARGIN: u32 = 8;
 
 /// Appends the band under a row, if it has one.
@@ -45,15 +45,15 @@ fn push_bands(out: &mut Vec<Value>, top: u32, width: u32, services: u32) -> Resu
     Ok(())
 }
 
-/// Whether the record in a column has its number above it: each fifth has, and the first of a strip
-/// unless the next one has.
+/// Whether a record has its number above its column. Every fifth record has, and so does the first record
+/// of a strip, but not if the one after it has.
 fn is_marked(index: u32, number: u32) -> bool
     ensures { result ≡ is_marked index number }
 {
     number % 5 == 0 || index == 0 && number % 5 != 4
 }
 
-/// Appends the line and the number of a record in a column, if it has them.
+/// Appends a record's vertical line and its number above, if the record is marked.
 #[tactic(auto, unfolding(crate::specs::Strips::axis_values))]
 fn push_axis_mark(
     out: &mut Vec<Value>,
@@ -138,7 +138,7 @@ fn name(strip: Strip, index: u32, text: Text) -> Value
     label(LabelKind::Name, at, Anchor::Start, text, Hint::Nothing)
 }
 
-/// What stands at the end of a row.
+/// The text at the end of a row.
 fn end(strip: Strip, index: u32, text: Text) -> Value
     requires strip { IsWithin strip }
     requires index { index ≤ 33 }
@@ -151,7 +151,7 @@ fn end(strip: Strip, index: u32, text: Text) -> Value
     label(LabelKind::End, at, Anchor::Start, text, Hint::Nothing)
 }
 
-/// Appends a service's name, and what it does at the end of the strip.
+/// Appends a service's name before its row, and after the row what it does in the strip's last world.
 #[tactic(auto, unfolding(crate::specs::Strips::name_values))]
 fn push_name(out: &mut Vec<Value>, scene: &Scene, strip: Strip, slot: u32) -> Result<(), AllocError>
     requires strip { IsWithin strip }
@@ -167,7 +167,7 @@ fn push_name(out: &mut Vec<Value>, scene: &Scene, strip: Strip, slot: u32) -> Re
     Ok(())
 }
 
-/// Appends the names of the services.
+/// Appends the names of the services, and what each does in the strip's last world.
 fn push_services(out: &mut Vec<Value>, scene: &Scene, strip: Strip) -> Result<(), AllocError>
     requires strip { IsWithin strip }
     requires services { scene.now.services ≤ 32 }
@@ -195,7 +195,7 @@ fn push_names(out: &mut Vec<Value>, scene: &Scene, strip: Strip) -> Result<(), A
     Ok(())
 }
 
-/// Appends what came of a step of a strip.
+/// Appends what a step of a strip changed.
 #[tactic(auto, unfolding(crate::specs::Strips::came_at))]
 fn push_came_at(
     out: &mut Vec<Value>,
@@ -220,7 +220,7 @@ fn push_came_at(
     push_record(out, step, spot)
 }
 
-/// Appends what came of the steps of a strip.
+/// Appends what the steps of a strip changed.
 fn push_came(out: &mut Vec<Value>, scene: &Scene, strip: Strip) -> Result<(), AllocError>
     requires strip { IsWithin strip }
     requires services { scene.now.services ≤ 32 }

@@ -1,5 +1,5 @@
--- Where a machine begins (MINIX 3.1's main.c enters the boot image's processes and readies them; what they begin with
--- is our choice).
+-- Where a machine begins. MINIX 3.1's main.c puts the processes of the boot image into the table and makes
+-- them ready. Their first values are our choice.
 use Rattle.std.specs.Prelude.{ℕ, ◌+◌, ◌==◌, List, [], ◌∷◌, None, map, replicate, if◌then◌else◌}
 use Rattle.std.specs.List.{range_with_len}
 use Rattle.mx_kcall.specs.Load.{image_of_program}
@@ -10,23 +10,24 @@ use Rattle.mx_kcall.specs.Service.{Service}
 use Rattle.mx_machine_world.specs.declared.config.Config.{Config}
 use Rattle.mx_machine_world.specs.World.{World}
 
--- a service's process: its program's image, ready with a full quantum, of generation 0
+-- the first process of a service: ready, with its program's image, a full quantum and generation 0
 abbrev pub first_process : Service → Process
 first_process s = new_process (image_of_program s.program) s.masks s.level s.best s.quantum
 
--- the slots, counted from n, of the services that begin at a level
+-- the slots of those services that begin at this level. The first service has slot n, the next n + 1
 abbrev pub slots_from : ℕ → ℕ → List Service → List ℕ
 slots_from n level [] = []
 slots_from n level (s ∷ ss) = if s.level == level then n ∷ slots_from (n + 1) level ss else slots_from (n + 1) level ss
 
--- one slot for each service, queued in slot order; all else is as in an empty table
+-- one slot for each service, in their order; each ready list has its slots in slot order; all else is
+-- as in an empty table
 unfoldable pub first_table : Rules → List Service → TableState
 first_table rules services = record (empty_table rules) {
   slots = map first_process services;
   ready = map (λ level. slots_from 0 level services) (range_with_len 0 16);
 }
 
--- BOOT: no processor has a process, and there are no records
+-- BOOT: the first table; no processor has a process, and there are no records
 abbrev pub world_at_boot_with : Rules → List Service → ℕ → ℕ → ℕ → World
 world_at_boot_with rules services cpus others capacity = record {
   table = first_table rules services;
@@ -37,5 +38,6 @@ world_at_boot_with rules services cpus others capacity = record {
   capacity = capacity;
 }
 
+-- boot by the values of a configuration
 abbrev pub world_at_boot : Config → List Service → World
 world_at_boot config services = world_at_boot_with config.rules services config.cpus config.others config.log

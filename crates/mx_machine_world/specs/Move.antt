@@ -1,4 +1,4 @@
--- What each event does to the whole machine (our choice), over the calls that the crates below define.
+-- What each event does to the whole machine (our choice). The crates below define the calls that it makes.
 use Rattle.std.specs.Prelude.{ℕ, ◌+◌, ◌%◌, ◌*◌, nat_lt, nat_le, not, ◌||◌, Bool, true, false, List, [], ◌∷◌, length, Option, Some, None, Result, Ok, Err, slice_get, slice_set, if◌then◌else◌}
 use Rattle.mx_image.specs.declared.runs.Stop.{Stop}
 use Rattle.mx_image.specs.declared.runs.Stop.TheVariants.{Spent, Trap, Fault}
@@ -32,7 +32,7 @@ use Rattle.mx_machine_world.specs.World.{World, HeldProcess, held_by, free_recor
 
 -- ---- kinds of events
 
--- the events that any actor may do
+-- true of Line, Tick, Kill and Respawn, which every actor may make; false of Step, Take and Back
 abbrev pub is_for_all : Event → Bool
 is_for_all Step = false
 is_for_all Take = false
@@ -41,50 +41,53 @@ is_for_all _ = true
 
 -- ---- refusals
 
--- fewer records are free than an event needs
+-- LogFull if fewer records are left than an event needs
 abbrev pub if_full : ℕ → ℕ → Option Refusal
 if_full left needed = if nat_lt left needed then Some LogFull else None
 
+-- the last step was a trap or a fault
 abbrev pub is_stop : Stop → Bool
 is_stop Spent = false
 is_stop Trap = true
 is_stop (Fault v) = true
 
--- no further step can be made
+-- the process can make no further step: it trapped, it faulted, or its budget is spent
 abbrev pub at_stop : Out → Bool
 at_stop o = is_stop o.stop || nat_le o.budget o.count
 
+-- a Step's refusal, by what the processor holds
 abbrev pub step_refusal : Option HeldProcess → Option Refusal
 step_refusal None = Some CpuEmpty
 step_refusal (Some l) = if at_stop l.out then Some AtStop else None
 
+-- a Back's refusal, by what the processor holds. Never LogFull: a record was kept free for this Back
 abbrev pub back_refusal : Option HeldProcess → Option Refusal
 back_refusal None = Some CpuEmpty
 back_refusal (Some l) = None
 
--- by the free records, what the processor holds, and who is first to run
+-- a Take's refusal, by the free records, what the processor holds, and the slot that runs next
 abbrev pub take_refusal : {X : Type 0} → ℕ → Option X → Option ℕ → Option Refusal
 take_refusal left (Some x) first = Some CpuBusy
 take_refusal left None None = Some NoProcess
--- a record of its own, and one for its return
+-- one record for this Take, and one for the Back after it
 take_refusal left None (Some s) = if_full left 2
 
--- by who owns the line
+-- a Line's refusal, by how many records are free, and the slot that owns the line
 abbrev pub line_refusal : ℕ → Option ℕ → Option Refusal
 line_refusal left None = Some NoLine
 line_refusal left (Some s) = if_full left 1
 
--- by whether a process that is alive has the endpoint
+-- a Kill's refusal, by how many records are free, and whether a process that is alive has the endpoint
 abbrev pub kill_refusal : ℕ → Bool → Option Refusal
 kill_refusal left true = if_full left 1
 kill_refusal left false = Some NoProcess
 
--- by the slot's process, and what the slot is made from
+-- a Respawn's refusal, by how many records are free, the slot's process, and the slot's service
 abbrev pub respawn_refusal : ℕ → Process → Option Service → Option Refusal
 respawn_refusal left p None = Some NoService
 respawn_refusal left p (Some v) = if not (is_down p.state) then Some NotDown else if is_worn p v then Some Worn else if_full left 1
 
--- THE REFUSAL: the first that holds, or none
+-- THE REFUSAL of actor a's event at world w: the first reason that holds, or none
 unfoldable pub event_refusal : World → ℕ → Event → Option Refusal
 event_refusal w a Step = step_refusal (held_by w a)
 event_refusal w a Take = if nat_lt a (length w.cpus) then take_refusal (free_records w) (held_by w a) (first_ready w.table.ready) else Some CpuBusy
@@ -96,48 +99,51 @@ event_refusal w a (Respawn s) = respawn_refusal (free_records w) (process_at w.t
 
 -- ---- what the table becomes
 
--- a process leaves its list, and its image the table
+-- the process of slot s leaves its ready list, and its image leaves the table
 unfoldable pub table_after_sending_out : TableState → ℕ → TableState
 table_after_sending_out t s = table_after_move_out (table_after_dequeue t s) s
 
--- a process on a processor, that has made no step yet
+-- what a processor holds just after a Take: the budget is the ticks that the process has left
 abbrev pub held_at_take : TableState → ℕ → HeldProcess
 held_at_take t s = let p = process_at t s in record { slot = s; out = record { image = p.image; budget = p.ticks; count = 0; stop = Spent; decoded = tt } }
 
+-- killed while on a processor
 abbrev pub is_doomed : State → Bool
 is_doomed Doomed = true
 is_doomed _ = false
 
--- a trap, or the kernel call that it leaves to make
+-- the table after a trap's SEND, RECEIVE, SENDREC or NOTIFY, or after the kernel call that it asks for
 abbrev pub table_after_trap_at_back : TableState → ℕ → TrapAnswer → TableState
 table_after_trap_at_back t s trap_ends.Done = table_after_trap t s
 table_after_trap_at_back t s trap_ends.Kernel = table_after_kernel_call t s
 
--- a doomed process dies, and its trap isn't acted; else a trap is acted, a fault is a death, and who has done neither is queued
+-- the end of a turn. A doomed process dies, whatever its last step was. Any other process: after a fault it
+-- dies; after a trap the call is made that it asks for; else it goes back to a ready list
 abbrev pub table_after_end_of_turn : TableState → ℕ → Bool → Stop → TableState
 table_after_end_of_turn t s true stop = table_after_death t s cause.Kill
 table_after_end_of_turn t s false Spent = table_after_queueing t s
 table_after_end_of_turn t s false Trap = table_after_trap_at_back t s (trap_answer t s)
 table_after_end_of_turn t s false (Fault v) = table_after_death t s (cause.Fault v)
 
--- an image is home again, and its steps are counted
+-- the image is in the table again, and the process's steps are counted there
 unfoldable pub table_after_coming_home : TableState → HeldProcess → TableState
 table_after_coming_home t l = table_after_steps (table_after_move_home t l.slot l.out.image) l.slot l.out.count
 
--- A RETURN
+-- A RETURN, which is a Back: the image comes home, and the turn ends
 unfoldable pub table_after_back : TableState → HeldProcess → TableState
 table_after_back t l = table_after_end_of_turn (table_after_coming_home t l) l.slot (is_doomed (process_at t l.slot).state) l.out.stop
 
--- A KILL: death, or doom for who is out
+-- A KILL of slot s's process: if it is on a processor, it is doomed, and dies at its Back; else it dies now
 unfoldable pub table_after_kill : TableState → ℕ → TableState
 table_after_kill t s = if is_out (process_at t s).state then with_state t s Doomed else table_after_death t s cause.Kill
 
--- ---- what the machine becomes
+-- ---- what the machine becomes (a row with None is of a refused event: nobody uses what it gives)
 
--- one record more
+-- the machine with this table and one more record
 abbrev pub world_with_record : World → TableState → World
 world_with_record w t = record w { table = t; records = w.records + 1 }
 
+-- the machine where processor a holds this
 abbrev pub with_held : World → ℕ → Option HeldProcess → World
 with_held w a held = record w { cpus = slice_set w.cpus a held }
 
@@ -161,7 +167,7 @@ abbrev pub world_after_respawn : World → ℕ → Option Service → World
 world_after_respawn w s None = w
 world_after_respawn w s (Some v) = world_with_record w (table_after_respawn w.table s v)
 
--- THE WORLD after an event that isn't refused
+-- THE WORLD after actor a's event at world w, if it isn't refused
 unfoldable pub world_after_event : World → ℕ → Event → World
 world_after_event w a Step = world_after_step w a (held_by w a)
 world_after_event w a Take = world_after_take w a (first_ready w.table.ready)
@@ -185,7 +191,7 @@ abbrev pub back_answer : Option HeldProcess → Answer
 back_answer None = Done
 back_answer (Some l) = Returned l.out.count
 
--- THE ANSWER to an event that isn't refused
+-- THE ANSWER to actor a's event at world w, if it isn't refused. A new process has the next generation
 unfoldable pub event_answer : World → ℕ → Event → Answer
 event_answer w a Step = step_answer (held_by w a)
 event_answer w a Take = take_answer w.table (first_ready w.table.ready)
@@ -195,15 +201,16 @@ event_answer w a _ = Done
 
 -- ---- events
 
+-- a move with this refusal, or with none
 abbrev pub move_by : World → ℕ → Event → Option Refusal → Result Answer Refusal × World
 move_by w a e (Some r) = (Err r, w)
 move_by w a e None = (Ok (event_answer w a e), world_after_event w a e)
 
--- MOVE: a refusal, and the world as it was; or an answer, and the world after it
+-- MOVE: actor a's event at world w. It gives a refusal and the same world, or an answer and the new world
 unfoldable pub move : World → ℕ → Event → Result Answer Refusal × World
 move w a e = move_by w a e (event_refusal w a e)
 
--- MOVES along a list: each answer, and the world after the last
+-- MOVES: events in a row. They give each event's answer or refusal, and the world after the last event
 abbrev pub moves : World → List (ℕ × Event) → List (Result Answer Refusal) × World
 moves w [] = ([], w)
 moves w (x ∷ xs) = let m = move w x.0 x.1 in let r = moves m.1 xs in (m.0 ∷ r.0, r.1)

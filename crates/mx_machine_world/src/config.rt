@@ -1,11 +1,11 @@
-//! The configuration of a machine.
+//! The configuration of a machine: the values that it is booted from.
 
 ghost use Rattle.std.specs.Prelude.{◌≡◌, ◌<◌, ◌≤◌, length, string_bytes};
 
 use mx_kcall::{Label, Masks, Rules};
 use std::marker::Model;
 
-/// The name of a file, as a configuration has it.
+/// The name of a file, exactly as it stands in a configuration.
 #[derive(Drop)]
 pub struct FileName {
     name: String,
@@ -20,14 +20,14 @@ impl Model for FileName {
 }
 
 impl FileName {
-    /// A service's file name, from a text. Takes no memory.
+    /// The file name with this text. Takes no memory.
     pub fn from_string(name: String) -> FileName
         ensures { result ≡ string_bytes name }
     {
         FileName { name }
     }
 
-    /// A service's file name, as a text.
+    /// The text of the file name.
     pub fn as_str(&self) -> &str
         ensures { result.now ≡ self.now }
     {
@@ -35,19 +35,22 @@ impl FileName {
     }
 }
 
-/// The line of a service: what its slot is booted from, but for the file's program.
+/// The line of a service in a configuration: all that its slot is booted from, except the program. It
+/// has the name of the program's file.
 #[derive(Drop)]
 pub struct ServiceLine {
     pub name: Label,
+    /// The file that its program is in.
     pub file: FileName,
-    /// What its process may do.
+    /// Which traps and kernel calls its process may make, and to which slots it may send.
     pub masks: Masks,
-    /// The level of its ready list at first, and the highest that it may rise to. 0 is the highest.
+    /// The ready list that its process begins in, 0 to 14. List 0 is the highest.
     pub level: u8,
+    /// The highest list that its process may rise to, 0 to `level`.
     pub best: u8,
-    /// The ticks of its quantum.
+    /// How many steps its process gets at a time, 1 to 65,535.
     pub quantum: u32,
-    /// How often it may be respawned.
+    /// How often its slot may get a new process, 0 to 1,048,575.
     pub restarts: u32,
     ghost lowest: { level ≤ 14 },
     ghost best_above: { best ≤ level },
@@ -56,7 +59,7 @@ pub struct ServiceLine {
     ghost restarts_fit: { restarts ≤ 1048575 },
 }
 
-/// The lines of services, in slot order.
+/// A configuration's lines of services, in slot order: the first line is that of slot 0.
 #[derive(Drop)]
 pub struct ServiceLines {
     lines: Vec<ServiceLine>,
@@ -72,14 +75,14 @@ impl Model for ServiceLines {
 }
 
 impl ServiceLines {
-    /// A configuration's lines of services, from a vector. Takes no memory.
+    /// The lines in this vector, in the same order. Takes no memory.
     pub fn from_vec(lines: Vec<ServiceLine>) -> ServiceLines
         ensures { result ≡ lines.items }
     {
         ServiceLines { lines }
     }
 
-    /// A configuration's lines of services, in order.
+    /// The lines, in slot order.
     pub fn as_slice(&self) -> &[ServiceLine]
         ensures { result.now ≡ self.now }
     {
@@ -87,18 +90,18 @@ impl ServiceLines {
     }
 }
 
-/// What a machine is booted from, but for its services' programs.
+/// What a machine is booted from, except the programs of its services.
 #[derive(Drop)]
 pub struct Config {
-    /// The processors.
+    /// How many processors there are, 1 to 8.
     pub cpus: u8,
-    /// The other actors: those that raise lines, tick, kill and respawn.
+    /// How many other actors there are, 1 to 4. They raise lines, tick, kill and respawn.
     pub others: u8,
-    /// How many records the history has room for.
+    /// How many records the history has room for, 1 to 1,048,576.
     pub log: u32,
-    /// By which it copies between processes.
+    /// The rules for copies from one process's memory to another's.
     pub rules: Rules,
-    /// One line for each service.
+    /// One line for each service, 1 to 32 of them.
     pub lines: ServiceLines,
     ghost some_cpus: { 0 < cpus },
     ghost cpus_fit: { cpus ≤ 8 },

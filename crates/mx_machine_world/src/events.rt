@@ -1,4 +1,4 @@
-//! Events, and how they are answered.
+//! Events, the answers to them, and the reasons to refuse them.
 
 ghost use Rattle.std.specs.Prelude.{◌≡◌};
 ghost use Rattle.mx_machine_world.specs.Refusals.{code_of_refusal, name_of_refusal};
@@ -6,72 +6,77 @@ ghost use Rattle.mx_machine_world.specs.Refusals.{code_of_refusal, name_of_refus
 use mx_image::Outcome;
 use mx_kcall::Endpoint;
 
-/// What an actor does. A processor makes steps, takes processes and brings them back; any actor
-/// does the other four.
+/// What an actor does to a machine. Only a processor can make a `Step`, a `Take` or a `Back`. Every
+/// actor, and so a processor too, can make the other four events.
 #[derive(Clone, Copy, PartialEq, Eq)]
 pub enum Event {
-    /// One step of the process on the processor.
+    /// The processor makes one step (one instruction) of its process.
     Step,
-    /// The processor takes the process that is first to run.
+    /// The processor takes the process at the front of the highest ready list that isn't empty. List 0
+    /// is the highest.
     Take,
-    /// The processor brings its process back.
+    /// The processor brings its process back to the table.
     Back,
-    /// An interrupt line is raised.
+    /// The actor raises the interrupt line with this number, 0 to 15.
     Line(u32),
-    /// The clock ticks.
+    /// The clock ticks once.
     Tick,
-    /// The process of an endpoint is killed.
+    /// The actor kills the process with this endpoint. If that process is on a processor, it dies at its
+    /// `Back`.
     Kill(u32),
-    /// A slot whose process is dead gets a new one.
+    /// The actor gives the slot with this number a new process. The old process must be dead.
     Respawn(u32),
 }
 
-/// How an event is answered.
+/// What the machine answers to an accepted event.
 #[derive(Clone, Copy, PartialEq, Eq)]
 pub enum Answer {
-    /// How the step ended.
+    /// To `Step`: how the step ended.
     Went(Outcome),
-    /// The endpoint of the process that was taken, and how many steps it may make.
+    /// To `Take`: the endpoint of the process, and its budget. The budget is how many steps it may make
+    /// before it has to come back.
     Taken(Endpoint, u32),
-    /// How many steps the process made that came back.
+    /// To `Back`: how many steps the process made since its `Take`.
     Returned(u32),
+    /// To `Line`, `Tick` and `Kill`: the event is made, and there is no more to say.
     Done,
-    /// The endpoint of the new process.
+    /// To `Respawn`: the endpoint of the new process.
     Respawned(Endpoint),
 }
 
-/// Why an event is refused. It changes nothing then.
+/// Why the machine refuses an event. A refused event changes nothing.
 #[derive(Clone, Copy, PartialEq, Eq)]
 pub enum Refusal {
-    /// The slot's process isn't dead.
+    /// `Respawn`: the slot's process isn't dead.
     NotDown = 40,
-    /// The slot's restarts are used up, or its last generation is.
+    /// `Respawn`: the slot has no restart left, or its dead process was of the last generation.
     Worn = 41,
-    /// The slot has no service.
+    /// `Respawn`: the slot has no service, because there is no such slot.
     NoService = 42,
-    /// There is no such processor, or it has a process.
+    /// `Take`: there is no such processor, or it has a process already.
     CpuBusy = 50,
-    /// There is no such processor, or it has no process.
+    /// `Step` and `Back`: there is no such processor, or it has no process.
     CpuEmpty = 51,
-    /// Fewer records are free than the event needs.
+    /// `Take`: fewer than two records are free, one for the `Take` and one for its `Back`. `Line`,
+    /// `Tick`, `Kill` and `Respawn`: no record is free.
     LogFull = 52,
-    /// There is no such interrupt line, or nobody owns it.
+    /// `Line`: there is no such interrupt line, or no process owns it.
     NoLine = 53,
-    /// No process is ready, or none that is alive has the endpoint.
+    /// `Take`: no process is ready. `Kill`: no process that is alive has the endpoint.
     NoProcess = 54,
-    /// The process has ended in a trap or a fault, or has made all the steps that it may make.
+    /// `Step`: the last step was a trap or a fault, or the process has spent its budget.
     AtStop = 55,
 }
 
 impl Refusal {
-    /// The number with which a refused event is told.
+    /// The number of this reason: 52 for `LogFull`, for example.
     pub fn code(self) -> u8
         ensures { result ≡ code_of_refusal self }
     {
         self as u8
     }
 
-    /// The name with which a refused event is told.
+    /// The name of this reason, as a text: `LogFull`, for example.
     pub fn name(self) -> &'static str
         ensures { result.now ≡ name_of_refusal self }
     {

@@ -1,4 +1,5 @@
-//! Laws of runs and events.
+//! Laws of runs and events. A law is a function that does nothing: a caller calls it for what its
+//! `ensures` says, and can use that in a proof.
 
 ghost use Rattle.std.specs.Prelude.{◌≡◌, ◌≢◌, ◌≤◌, ℕ, ◌+◌, List, [], ◌∷◌, ◌++◌, Some, None, true};
 ghost use Rattle.mx_machine_world.specs.declared.events.Event.{Event};
@@ -14,29 +15,33 @@ ghost use Rattle.mx_machine_world.specs.World.{World, HeldProcess, actors, held_
 
 use mx_image::runs_join;
 
-/// Law: whatever is held, a run of `a` steps and then one of `b` steps are one run of `a + b` steps.
+/// Law: a run of at most `a` steps, and after it a run of at most `b` steps, are together one run of at
+/// most `a + b` steps. This holds for every process that a processor can hold.
 pub fn held_runs_join()
     ensures { (a b : ℕ) (o : Out) → held_run (a + b) o ≡ then_held (held_run a o) b }
 {
     runs_join();
 }
 
-/// Law: a run of what a processor holds is that many steps of the processor as the run makes, none of
-/// which is refused.
+/// Law: a run is the same as `Step` events. Take a processor that holds a process, with no more steps
+/// counted than its budget. If a run of that process makes `n` steps, then the machine accepts `n` `Step`s
+/// of that processor, and after them it holds what the run leaves.
 pub fn runs_are_steps()
     ensures { (w : World) (a k : ℕ) (l : HeldProcess) → held_by w a ≡ Some l
         → l.out.count ≤ l.out.budget → StepsTo w a (held_run k l.out).0.0 l (held_run k l.out).1 }
 {}
 
-/// Law: an event, whether it is refused or not, leaves how many actors there are, and so do events in a row.
+/// Law: no event changes how many actors there are. `event` says it of one event, accepted or refused;
+/// `events` says it of events in a row.
 pub fn actors_stay()
     ensures event { (w : World) (a : ℕ) (x : Event) → actors (move w a x).1 ≡ actors w }
     ensures events { (w : World) (xs : List (ℕ × Event)) → actors (world_after_events w xs)
         ≡ actors w }
 {}
 
-/// Law: an event that any actor may do leaves what the processors hold, and no event of one actor
-/// changes what another processor holds, whether it is refused or not.
+/// Law: nobody changes what another processor holds. `all`: a `Line`, `Tick`, `Kill` or `Respawn` changes
+/// what no processor holds. `other`: no event of actor `a` changes what processor `c` holds, if `c` isn't
+/// `a`. `moved` says the same of an event that may be refused.
 pub fn others_keep()
     ensures all { (w : World) (a : ℕ) (x : Event) → is_for_all x ≡ true
         → (world_after_event w a x).cpus ≡ w.cpus }
@@ -46,14 +51,15 @@ pub fn others_keep()
         → held_by (move w a x).1 c ≡ held_by w c }
 {}
 
-/// Law: after a return the processor holds nothing.
+/// Law: after a `Back` the processor holds nothing.
 pub fn back_empties()
     ensures { (w : World) (a : ℕ) → held_by (world_after_event w a events.Back) a ≡ None }
 {}
 
-/// Law: an actor's part of two histories in a row is its part of the first and then that of the
-/// second. So its part of a front is a front of its part, and one record more is one more of the
-/// part of the actor that it names, and of no other's.
+/// Law: an actor's part of a history is the list of its own records, in order. `both`: its part of two
+/// histories in a row is its part of the first, and after it its part of the second. So its part of a
+/// history's beginning is the beginning of its part. `own`: a new record of the actor comes to the end of
+/// its part. `other`: a new record of somebody else doesn't change its part.
 pub fn parts_join()
     ensures both { (xs ys : List Record) (a : ℕ) → part_of (xs ++ ys) a ≡ part_of xs a
         ++ part_of ys a }

@@ -1,4 +1,5 @@
-//! A segment: bytes from 0 up to a limit.
+//! A segment: bytes at the addresses from 0 up to a limit. The limit here is the number of bytes: an address
+//! is inside if it is below the limit. In the 80386 manual the limit is the last address inside.
 
 ghost use Rattle.std.specs.Prelude.{◌≡◌, ◌+◌, ◌%◌, ◌^◌, ◌<◌, ◌≤◌, Ok, Err, OnOk, OnErr, IfOk, IfSome, [], length, slice_get, ℕ, slice_index, slice_set, replicate, take, drop};
 ghost use Rattle.mx_word.specs.Word.{width, bytes_in, value_at};
@@ -13,15 +14,15 @@ use page::{PAGE, Page, qword_at, value_in};
 use std::alloc::Global;
 use std::marker::Model;
 
-/// An access past the limit.
+/// Why a segment refuses an access: some of its bytes aren't inside.
 #[derive(Clone, Copy, Debug, PartialEq, Eq)]
 pub struct OutOfLimit;
 
-/// A segment of memory. Its limit never changes, and neither do the pages that it owns: as many as
-/// the limit needs.
+/// A segment of memory. Its limit never changes. It owns as many pages of 4,096 bytes as its limit needs:
+/// `new` takes them all, and no other call takes memory.
 #[derive(Drop)]
 pub struct Segment {
-    /// The bytes, and zeros after the limit up to the last page's end.
+    /// The bytes up to the limit, and then zeros up to the end of the last page.
     pages: Vec<Page>,
     limit: usize,
 }
@@ -37,7 +38,8 @@ impl Model for Segment {
     ghost invariant = { λ s. IsPaged s.limit s.pages.items };
 }
 
-/// A number of pages of zeros. A refusal gives up what was taken.
+/// Makes this many pages of zeros. If there is no memory for one of them, gives back those before it and
+/// answers `NoMemory`.
 fn zero_pages(alloc: Global, count: usize) -> Result<Vec<Page>, NoMemory>
     ensures { IfOk result (λ pages. pages.items ≡ replicate count zero_page) }
 {
@@ -50,7 +52,8 @@ fn zero_pages(alloc: Global, count: usize) -> Result<Vec<Page>, NoMemory>
     Ok(pages)
 }
 
-/// How many of the bytes from a place on, at least one of them, lie in its page.
+/// How many of the `count` bytes from `at` on lie in the page of `at`: at least one. For example, if `at`
+/// is 4,090 and `count` is 10, then 6.
 fn piece(at: usize, count: usize) -> usize
     requires { 0 < count }
     ensures some { 0 < result }
@@ -62,7 +65,7 @@ fn piece(at: usize, count: usize) -> usize
 }
 
 impl Segment {
-    /// A segment of zeros up to its limit, in bytes.
+    /// Makes a segment of `limit` bytes, all zero. Takes memory: answers `NoMemory` if there isn't enough.
     #[tactic(auto, unfolding(crate::specs::Segment::up_to, crate::specs::Segment::IsPaged))]
     pub fn new(alloc: Global, limit: u32) -> Result<Segment, NoMemory>
         ensures { IfOk result (λ s. s ≡ replicate limit 0) }
@@ -81,7 +84,7 @@ impl Segment {
         self.limit
     }
 
-    /// The byte of the segment at an address, if it lies inside.
+    /// The byte at an address, or `None` if the address isn't inside.
     pub fn get(&self, at: u32) -> Option<u8>
         ensures { result ≡ slice_get self.now at }
     {
@@ -93,7 +96,7 @@ impl Segment {
         }
     }
 
-    /// The byte at a place inside.
+    /// The byte at an address inside.
     #[tactic(auto, unfolding(crate::specs::Segment::up_to, crate::specs::Segment::IsPaged))]
     #[inline(always)]
     fn byte(&self, at: usize) -> u8
@@ -103,14 +106,14 @@ impl Segment {
         self.pages[at / PAGE].bytes()[at % PAGE]
     }
 
-    /// The byte at a place, or zero outside.
+    /// The byte at an address, or 0 if the address isn't inside.
     fn byte_or_zero(&self, at: usize) -> u8
         ensures { result ≡ slice_index self.now at }
     {
         if at < self.limit() { self.byte(at) } else { 0 }
     }
 
-    /// Writes the byte at a place inside.
+    /// Writes a byte at an address inside.
     #[tactic(auto, unfolding(crate::specs::Segment::up_to, crate::specs::Segment::IsPaged))]
     fn set_byte(&mut self, at: usize, byte: u8)
         requires { at < length self.old }
@@ -120,7 +123,7 @@ impl Segment {
         self.pages[at / PAGE].set(at % PAGE, byte);
     }
 
-    /// Whether an access of a size at a place lies inside.
+    /// Whether the 1, 2 or 4 bytes of this size, from an address on, are all inside.
     #[inline(always)]
     pub fn holds(&self, at: u32, size: Size) -> bool
         ensures { result ≡ inside self.now at (bytes_in size) }
@@ -128,7 +131,7 @@ impl Segment {
         at as usize + size.bytes() as usize <= self.limit()
     }
 
-    /// The number at a place, where its bytes lie in one page.
+    /// The number at an address. All its bytes must lie in one page.
     #[tactic(auto, unfolding(crate::specs::Segment::up_to, crate::specs::Segment::IsPaged))]
     #[inline(always)]
     fn read_in_page(&self, at: usize, size: Size) -> u32
@@ -140,7 +143,7 @@ impl Segment {
         value_in(self.pages[at / PAGE].bytes(), at % PAGE, size)
     }
 
-    /// The number at a place, byte for byte.
+    /// The number at an address, read byte by byte: so its bytes may lie in two pages.
     #[cold]
     #[inline(never)]
     fn read_across(&self, at: u32, size: Size) -> u32
@@ -163,8 +166,10 @@ impl Segment {
         }
     }
 
-    /// The number at an address of the segment, lowest byte first. Inlined, as `write`, so that a
-    /// caller who knows the size looks at none.
+    /// The number of this size at an address, lowest byte first. If some of its bytes aren't inside,
+    /// answers `OutOfLimit`. For example, the bytes 34 12 are the word 0x1234.
+    ///
+    /// It is inlined, and so is `write`: a caller with a constant size then needs no test of the size.
     #[inline(always)]
     pub fn read(&self, at: u32, size: Size) -> Result<u32, OutOfLimit>
         ensures value { result ≡ read_at self.now at size }
@@ -181,7 +186,7 @@ impl Segment {
         })
     }
 
-    /// Writes a number at a place, where its bytes lie in one page.
+    /// Writes a number at an address. All its bytes must lie in one page.
     #[tactic(auto, unfolding(crate::specs::Segment::up_to, crate::specs::Segment::IsPaged))]
     #[inline(always)]
     fn write_in_page(&mut self, at: usize, size: Size, value: u32)
@@ -193,7 +198,7 @@ impl Segment {
         self.pages[at / PAGE].write(at % PAGE, size, value);
     }
 
-    /// Writes a number at a place, byte for byte.
+    /// Writes a number at an address, byte by byte: so its bytes may lie in two pages.
     #[cold]
     #[inline(never)]
     fn write_across(&mut self, at: u32, size: Size, value: u32)
@@ -214,7 +219,8 @@ impl Segment {
         }
     }
 
-    /// Writes a number at an address of the segment, lowest byte first. A refusal changes nothing.
+    /// Writes a number of this size at an address, lowest byte first. If some of its bytes aren't inside,
+    /// answers `OutOfLimit` and changes nothing.
     #[inline(always)]
     pub fn write(&mut self, at: u32, size: Size, value: u32) -> Result<(), OutOfLimit>
         requires { value < 2 ^ width size }
@@ -234,7 +240,8 @@ impl Segment {
         Ok(())
     }
 
-    /// Copies bytes to an address of the segment. A refusal changes nothing.
+    /// Writes bytes into the segment, from an address on. If they don't all fit, answers `OutOfLimit` and
+    /// changes nothing. A caller who knows that they fit can call `put`.
     pub fn fill_from(&mut self, at: u32, bytes: &[u8]) -> Result<(), OutOfLimit>
         ensures ok { OnOk result (bytes_after_copy self.old at bytes.now ≡ Ok self.new) }
         ensures err { OnErr result ((bytes_after_copy self.old at bytes.now ≡ Err (record {}))
@@ -248,7 +255,7 @@ impl Segment {
         Ok(())
     }
 
-    /// Some bytes from a place on that lie in one page.
+    /// The `count` bytes from `at` on. All of them must lie in one page.
     #[tactic(auto, unfolding(crate::specs::Segment::up_to, crate::specs::Segment::IsPaged))]
     #[inline(always)]
     fn part_of_page(&self, at: usize, count: usize) -> &[u8]
@@ -261,7 +268,8 @@ impl Segment {
         &self.pages[at / PAGE].bytes()[start..start + count]
     }
 
-    /// The bytes from a place on, at most 15 of them, where they lie together.
+    /// The bytes from an address on, without a copy: at most 15, since no instruction is longer, and fewer
+    /// if the segment ends before. `None` if they lie in two pages: then call `copy_of_front`.
     #[inline(always)]
     pub fn front(&self, at: u32) -> Option<&[u8]>
         ensures { IfSome result (λ front. front.now ≡ take 15 (drop at self.now)) }
@@ -278,8 +286,8 @@ impl Segment {
         Some(self.part_of_page(at, count))
     }
 
-    /// The number in the eight bytes from a place inside on, with zeros for those outside, where they
-    /// lie in one page.
+    /// The number in the eight bytes from an address on. The address must be inside, and all eight bytes must
+    /// lie in one page. Bytes after the limit are taken as zeros.
     #[tactic(auto, unfolding(crate::specs::Segment::up_to, crate::specs::Segment::IsPaged))]
     #[inline(always)]
     fn qword_in_page(&self, at: usize) -> u64
@@ -290,7 +298,8 @@ impl Segment {
         qword_at(self.pages[at / PAGE].bytes(), at % PAGE)
     }
 
-    /// The number in the eight bytes from a place on, with zeros for those outside, byte for byte.
+    /// The number in the eight bytes from an address on, read byte by byte: so they may lie in two pages.
+    /// Bytes that aren't inside are taken as zeros.
     #[cold]
     #[inline(never)]
     fn qword_across(&self, at: u32) -> u64
@@ -310,7 +319,7 @@ impl Segment {
         qword_at(&bytes[..], 0)
     }
 
-    /// Each byte is below 256. A fact for callers, and no code.
+    /// Does nothing: a caller gets, for its proof, that each byte is below 256.
     #[tactic(auto, unfolding(crate::specs::Segment::up_to, crate::specs::Segment::IsPaged))]
     #[inline(always)]
     fn are_bytes(&self)
@@ -319,7 +328,8 @@ impl Segment {
         let _limit = self.limit;
     }
 
-    /// The number in the eight bytes from a place inside on, with zeros for those outside.
+    /// The number in the eight bytes from an address on, lowest byte first. The address must be inside.
+    /// Bytes after the limit are taken as zeros.
     #[inline(always)]
     pub fn qword_from(&self, at: u32) -> u64
         requires { at < length self.now }
@@ -335,7 +345,8 @@ impl Segment {
         }
     }
 
-    /// The number in the eight bytes from a place on, with zeros for those outside.
+    /// The number in the eight bytes from an address on, lowest byte first. Any address is allowed.
+    /// Bytes that aren't inside are taken as zeros.
     #[inline(always)]
     pub fn padded_qword(&self, at: u32) -> u64
         ensures value { result ≡ value_at self.now at 8 }
@@ -348,7 +359,7 @@ impl Segment {
         self.qword_from(at)
     }
 
-    /// A copy of the bytes from a place on, at most 15 of them.
+    /// A copy of the bytes from an address on: at most 15, and fewer if the segment ends before.
     pub fn copy_of_front(&self, at: u32) -> ArrayVec<u8, 15>
         ensures { result.items ≡ take 15 (drop at self.now) }
     {
@@ -365,7 +376,7 @@ impl Segment {
 }
 
 impl Segment {
-    /// A segment of no bytes at all. Takes no memory.
+    /// Makes a segment of 0 bytes. Takes no memory.
     #[tactic(auto, unfolding(crate::specs::Segment::up_to, crate::specs::Segment::IsPaged))]
     pub fn empty(alloc: Global) -> Segment
         ensures { result ≡ [] }
@@ -376,7 +387,7 @@ impl Segment {
         }
     }
 
-    /// A copy of the 36 bytes from a place on, byte for byte.
+    /// A copy of the 36 bytes from an address on, made byte by byte: so they may lie in two pages.
     #[cold]
     #[inline(never)]
     fn message_across(&self, at: u32) -> [u8; 36]
@@ -391,7 +402,7 @@ impl Segment {
         message
     }
 
-    /// A copy of a message's 36 bytes from an address on.
+    /// A copy of the 36 bytes from an address on: a MINIX message has 36. All must be inside.
     pub fn message(&self, at: u32) -> [u8; 36]
         requires { at + 36 ≤ length self.now }
         ensures { result ≡ take 36 (drop at self.now) }
@@ -405,7 +416,7 @@ impl Segment {
         message
     }
 
-    /// Writes some bytes over those from a place on, which lie in one page.
+    /// Writes these bytes from an address on: at least one byte, and all into one page.
     #[tactic(auto, unfolding(crate::specs::Segment::up_to, crate::specs::Segment::IsPaged))]
     fn put_in_page(&mut self, at: usize, bytes: &[u8])
         requires some { 0 < length bytes.now }
@@ -416,7 +427,7 @@ impl Segment {
         self.pages[at / PAGE].put(at % PAGE, bytes);
     }
 
-    /// Writes bytes over those from a place on, page after page.
+    /// Writes bytes from an address on, one page after another.
     #[cold]
     #[inline(never)]
     fn put_across(&mut self, at: u32, bytes: &[u8])
@@ -432,7 +443,7 @@ impl Segment {
         }
     }
 
-    /// Writes bytes over those of the segment from an address on.
+    /// Writes bytes into the segment, from an address on. They must fit; `fill_from` checks that.
     pub fn put(&mut self, at: u32, bytes: &[u8])
         requires { at + length bytes.now ≤ length self.old }
         ensures value { self.new ≡ with_bytes_at self.old at bytes.now }

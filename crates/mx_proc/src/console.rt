@@ -9,7 +9,7 @@ use mx_word::NoMemory;
 use std::alloc::Global;
 use std::marker::Model;
 
-/// The last 4,096 bytes that were written, and the count of all.
+/// The console: the last 4,096 bytes that were written to it, and how many were ever written.
 #[derive(Drop)]
 pub struct Console {
     kept: HeapCircularBuffer<u8>,
@@ -28,7 +28,7 @@ impl Model for Console {
 }
 
 impl Console {
-    /// Nothing written yet, with room for all that is kept.
+    /// An empty console. Takes memory for 4,096 bytes: answers `NoMemory` if there isn't enough.
     pub fn new(alloc: Global) -> Result<Console, NoMemory>
         ensures { IfOk result (λ console. console ≡ empty_console) }
     {
@@ -36,7 +36,7 @@ impl Console {
         Ok(Console { kept, count: 0 })
     }
 
-    /// Writes a byte; of those that are kept the oldest past 4,096 goes.
+    /// Writes a byte. If 4,096 bytes are kept already, the oldest of them goes.
     pub fn push(&mut self, byte: u8)
         requires { self.old.count + 1 < 2 ^ 32 }
         ensures { self.new ≡ record {
@@ -49,7 +49,7 @@ impl Console {
         self.count += 1;
     }
 
-    /// A byte of the console that is kept, counted from the oldest.
+    /// A kept byte of the console: index 0 is the oldest. `None` if the index is too high.
     pub fn get(&self, index: usize) -> Option<u8>
         ensures { result ≡ slice_get self.now.kept index }
     {

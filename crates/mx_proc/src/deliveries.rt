@@ -11,11 +11,13 @@ use std::marker::Model;
 /// What was delivered.
 #[derive(Clone, Copy, PartialEq, Eq)]
 pub enum DeliveryKind {
+    /// A message that a process sent.
     Message,
+    /// A notification, by a process, by an interrupt line or by the clock.
     Notification,
 }
 
-/// A delivery: the endpoints that sender and receiver then had, and the message's type.
+/// A delivery: the endpoints that the sender and the receiver had at that time, and the message's type.
 #[derive(Clone, Copy, PartialEq, Eq)]
 pub struct Delivery {
     pub from: u32,
@@ -42,7 +44,7 @@ impl Model for Deliveries {
 }
 
 impl Deliveries {
-    /// No deliveries yet, with room for all that are kept.
+    /// No deliveries. Takes memory for 1,024 of them: answers `NoMemory` if there isn't enough.
     pub fn new(alloc: Global) -> Result<Deliveries, NoMemory>
         ensures { IfOk result (λ deliveries. deliveries ≡ []) }
     {
@@ -50,14 +52,14 @@ impl Deliveries {
         Ok(Deliveries { kept })
     }
 
-    /// Keeps one delivery more; of 1,025 the oldest goes.
+    /// Keeps one delivery more. If 1,024 are kept already, the oldest of them goes.
     pub fn push(&mut self, delivery: Delivery)
         ensures { self.new ≡ keep_last 1024 (self.old ++ delivery ∷ []) }
     {
         self.kept.push_back(delivery);
     }
 
-    /// A kept delivery, counted from the oldest.
+    /// A kept delivery: index 0 is the oldest. `None` if the index is too high.
     pub fn get(&self, index: usize) -> Option<Delivery>
         ensures { result ≡ slice_get self.now index }
     {

@@ -7,7 +7,7 @@ use crate::console::Console;
 use mx_word::NoMemory;
 use std::alloc::Global;
 
-/// Who owns which interrupt line, the machine's registers and its console.
+/// The owner of each interrupt line (a slot, or nobody), the machine's registers, and its console.
 #[derive(Drop)]
 pub struct Devices {
     pub owners: [Option<u8>; 16],
@@ -16,7 +16,8 @@ pub struct Devices {
 }
 
 impl Devices {
-    /// Lines without owners, registers of 0 and an empty console.
+    /// Lines without owners, registers that are 0, and an empty console. Takes memory: answers `NoMemory`
+    /// if there isn't enough.
     pub fn new(alloc: Global) -> Result<Devices, NoMemory>
         ensures { IfOk result (λ devices. devices ≡ no_devices) }
     {

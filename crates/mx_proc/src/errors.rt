@@ -1,4 +1,4 @@
-//! Results of calls.
+//! The reasons to refuse a call, as a process sees them.
 
 ghost use Rattle.std.specs.Prelude.{◌≡◌};
 ghost use Rattle.mx_proc.specs.Errors.{errno_bits};
@@ -6,7 +6,7 @@ ghost use Rattle.mx_proc.specs.Errors.{errno_bits};
 /// Why a call is refused, with the name that C programs have for it.
 #[derive(Clone, Copy, PartialEq, Eq)]
 pub enum Errno {
-    /// EPERM: taken by another, or not one's own.
+    /// EPERM: another process has it, or it isn't the caller's own.
     NotPermitted,
     /// EFAULT: bytes that lie outside the data segment.
     BadAddress,
@@ -14,9 +14,9 @@ pub enum Errno {
     Invalid,
     /// ELOCKED: the processes would wait for one another for ever.
     Locked,
-    /// EBADSRCDST: a source or destination that isn't one.
+    /// EBADSRCDST: the number can't be a source, or a destination, of this call.
     BadEndpoint,
-    /// ECALLDENIED: a call or destination that the masks don't allow.
+    /// ECALLDENIED: the caller's masks don't allow this call or this destination.
     Denied,
     /// EDEADDST: the process is dead, or another has its slot.
     Dead,
@@ -27,7 +27,8 @@ pub enum Errno {
 }
 
 impl Errno {
-    /// A call's result as a process finds it in EAX: a negative number of 32 bits.
+    /// The result that a refused caller finds in EAX: the 32 bits of a negative number. EPERM is -1, so
+    /// 0xFFFF_FFFF.
     pub fn bits(self) -> u32
         ensures { result ≡ errno_bits self }
     {

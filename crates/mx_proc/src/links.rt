@@ -1,4 +1,4 @@
-//! Lists of slots, linked by index both ways.
+//! Lists of slots, doubly linked: a link is a slot's number.
 
 ghost use Rattle.std.specs.Prelude.{◌≡◌, ◌≢◌, ◌<◌, ◌≤◌, [], ◌∷◌, ◌++◌, replicate, slice_get, slice_index, slice_set};
 ghost use Rattle.mx_proc.specs.Chains.{firsts_with, nexts_with};
@@ -6,14 +6,14 @@ ghost use Rattle.mx_proc.specs.Queues.{without, list_at, times, InNoList};
 
 use std::marker::Model;
 
-/// Stands where no slot is.
+/// The link that leads to no slot.
 const NONE: u8 = 255;
 
 /// Where the slots' cells begin.
 const SLOTS: usize = 32;
 
-/// One way through the lists: the slot that each begins with, and the next of each slot. Of the cells
-/// the first are the lists', and from `SLOTS` on stand the slots', so that one write changes either.
+/// One direction through the lists. Cell l has the slot that list l begins with, and cell `SLOTS` + s has
+/// the slot after slot s. Both are cells of one array, so that `lead` sets either of them by one write.
 #[derive(Drop)]
 struct Way<const LISTS: usize> {
     cells: [u8; 64],
@@ -40,7 +40,7 @@ impl<const LISTS: usize> Way<LISTS> {
         Way { cells: [NONE; 64] }
     }
 
-    /// The slot that a list begins with.
+    /// The slot that a list begins with, or `NONE`.
     fn first(&self, list: usize) -> u8
         requires list { list < LISTS }
         ensures { result ≡ slice_index self.now.firsts list }
@@ -48,7 +48,7 @@ impl<const LISTS: usize> Way<LISTS> {
         self.cells[list]
     }
 
-    /// The next of a slot.
+    /// The slot after this one, or `NONE`.
     fn next(&self, slot: u8) -> u8
         requires slot { slot < 32 }
         ensures { result ≡ slice_index self.now.nexts slot }
@@ -74,7 +74,7 @@ impl<const LISTS: usize> Way<LISTS> {
         self.cells[SLOTS + slot as usize] = next;
     }
 
-    /// The slot `after` comes after `before`; if that is none, the list begins with `after`.
+    /// Makes `after` come after `before`. If `before` is `NONE`, makes the list begin with `after`.
     fn lead(&mut self, list: usize, before: u8, after: u8)
         requires list { list < LISTS }
         requires before { before ≢ 255 → before < 32 }
@@ -90,7 +90,7 @@ impl<const LISTS: usize> Way<LISTS> {
     }
 }
 
-/// Puts a slot to the near end of a list.
+/// Puts a slot at one end of a list: at the end where the direction `near` begins.
 fn push<const LISTS: usize>(near: &mut Way<LISTS>, far: &mut Way<LISTS>, list: usize, slot: u8)
     requires list { list < LISTS }
     requires slot { slot < 32 }
@@ -111,8 +111,8 @@ fn push<const LISTS: usize>(near: &mut Way<LISTS>, far: &mut Way<LISTS>, list: u
     far.lead(list, first, slot);
 }
 
-/// Lists of slots; a slot stands in one of them, or in none. Each change takes as many steps however
-/// long the lists are.
+/// Lists of slots. A slot is in one of them, or in none. The time of a change doesn't depend on how long
+/// the lists are.
 #[derive(Drop)]
 pub struct Links<const LISTS: usize> {
     forward: Way<LISTS>,
@@ -153,7 +153,7 @@ impl<const LISTS: usize> Links<LISTS> {
         if first == NONE { None } else { Some(first) }
     }
 
-    /// Puts a slot that stands in no list to the front of a list.
+    /// Puts a slot at the front of a list. It must be in no list before.
     pub fn push_front(&mut self, list: usize, slot: u8)
         requires list { list < LISTS }
         requires slot { slot < 32 }
@@ -163,7 +163,7 @@ impl<const LISTS: usize> Links<LISTS> {
         push(&mut self.forward, &mut self.backward, list, slot);
     }
 
-    /// Puts a slot that stands in no list to the end of a list.
+    /// Puts a slot at the end of a list. It must be in no list before.
     pub fn push_back(&mut self, list: usize, slot: u8)
         requires list { list < LISTS }
         requires slot { slot < 32 }

@@ -1,4 +1,4 @@
-//! What a slot holds.
+//! Processes, which the table's slots hold; and the numbers that name them.
 
 ghost use Rattle.std.specs.Prelude.{◌≡◌, ◌<◌, ◌≤◌, length, IfSome};
 ghost use Rattle.mx_proc.specs.Partners.{order_of_source, source_in_order, lines_in_notification, may_be, first_pending};
@@ -7,14 +7,14 @@ ghost use Rattle.mx_proc.specs.States.{is_ready, is_down};
 use crate::windows::Window;
 use mx_exec::Image;
 
-/// A slot of the table, 0 to 31.
+/// The number of a slot of the table, 0 to 31.
 pub type Slot = u8;
 
-/// An endpoint as its 32 bits: a generation times 1024 and a slot; or HARDWARE, SYSTEM and CLOCK,
-/// which as signed numbers are -1, -2 and -3; or ANY, 31438.
+/// The 32 bits of an endpoint: a generation times 1,024, plus a slot. Or HARDWARE, SYSTEM or CLOCK, which
+/// are -1, -2 and -3 as signed numbers. Or ANY, which is 31438.
 pub type Endpoint = u32;
 
-/// Who notifies.
+/// Who can notify a process.
 #[derive(Clone, Copy, PartialEq, Eq)]
 pub enum Source {
     /// The interrupt lines.
@@ -26,7 +26,7 @@ pub enum Source {
 }
 
 impl Source {
-    /// Its place among the pending bits: HARDWARE, CLOCK, slot 0 and up.
+    /// The place of its pending bit: 0 for HARDWARE, 1 for CLOCK, 2 + s for slot s.
     pub fn place(self) -> u32
         ensures { result ≡ order_of_source self }
     {
@@ -37,7 +37,7 @@ impl Source {
         }
     }
 
-    /// Of the lines that were raised those that its notification tells.
+    /// Which of these raised lines a notification by it tells: all of them if it is HARDWARE, else none.
     pub fn lines_told(self, lines: u32) -> u32
         ensures value { result ≡ lines_in_notification self lines }
         ensures below { result ≤ lines }
@@ -48,7 +48,7 @@ impl Source {
         }
     }
 
-    /// The source of notifications that has a place among the pending bits.
+    /// The source whose pending bit has this place. The reverse of `place`.
     pub fn of_place(place: u32) -> Source
         requires { place < 258 }
         ensures { result ≡ source_in_order place }
@@ -61,19 +61,19 @@ impl Source {
     }
 }
 
-/// Whom a process receives from.
+/// From whom a process is willing to receive.
 #[derive(Clone, Copy, PartialEq, Eq)]
 pub enum Partner {
     /// Anybody.
     Any,
     /// SYSTEM, which never sends.
     System,
-    /// This one alone.
+    /// This source alone.
     Only(Source),
 }
 
 impl Partner {
-    /// Whether this may be the source whose pending bit has this place.
+    /// Whether this partner allows the source whose pending bit has this place.
     pub fn may_be(self, place: u32) -> bool
         ensures { result ≡ may_be self place }
     {
@@ -84,7 +84,7 @@ impl Partner {
         }
     }
 
-    /// The first place with a pending bit that this may be.
+    /// The first place whose pending bit is set and whose source this partner allows.
     pub fn first_pending(self, pending: &[bool]) -> Option<u32>
         requires { length pending.now ≤ 34 }
         ensures value { result ≡ first_pending self 0 pending.now }
@@ -103,39 +103,39 @@ impl Partner {
 /// Why a process died.
 #[derive(Clone, Copy, PartialEq, Eq)]
 pub enum DeathCause {
-    /// By its own EXIT.
+    /// It called EXIT.
     Exit,
-    /// Killed.
+    /// Somebody killed it.
     Kill,
-    /// A fault with its vector.
+    /// It faulted, with this vector.
     Fault(u8),
 }
 
-/// What a process does.
+/// What a process does at present.
 #[derive(Clone, Copy, PartialEq, Eq)]
 pub enum State {
-    /// At home while the kernel serves it, in no queue. No process is so once an event is over.
+    /// The kernel serves it, and it is in no queue. No process has this state between two events.
     Home,
     /// In the ready list of its level.
     Ready,
-    /// On a processor, which has its image.
+    /// On a processor. The processor has its image.
     Out,
-    /// On a processor, and killed.
+    /// On a processor, and already killed: it dies when it comes back.
     Doomed,
-    /// Its SEND waits.
+    /// Its SEND waits until the receiver takes the message.
     Sending,
-    /// Its SENDREC waits for its message to be taken.
+    /// Its SENDREC waits until the receiver takes the message.
     Calling,
-    /// Its RECEIVE waits.
+    /// Its RECEIVE waits for a message from this partner.
     Receiving(Partner),
-    /// Its SENDREC waits for the reply of a slot.
+    /// Its SENDREC has sent, and waits for the reply of this slot's process.
     Awaiting(u8),
     /// Dead.
     Down(DeathCause),
 }
 
-/// What a process may do: bit n of `traps` is call n, bit s of `sends` is slot s, bit i of `calls`
-/// is kernel call i.
+/// What a process may do. Bit n of `traps` allows call n, bit s of `sends` allows to send to slot s, and
+/// bit i of `calls` allows kernel call i.
 #[derive(Clone, Copy, PartialEq, Eq)]
 pub struct Masks {
     pub traps: u32,
@@ -143,29 +143,32 @@ pub struct Masks {
     pub calls: u32,
 }
 
-/// A process. While it is on a processor a blank image stands in place of its own.
+/// A process. While it is on a processor, `image` is blank: the processor has the real one.
 #[derive(Drop)]
 pub struct Process {
     pub state: State,
+    /// How often the slot's process was replaced.
     pub generation: u32,
-    /// The restarts that are used up.
+    /// How many of the service's restarts are used up.
     pub restarts_used: u32,
     pub masks: Masks,
-    /// Its ready list, 0 to 14, and the highest that it may rise to.
+    /// The number of its ready list, 0 to 14. List 0 is the highest.
     pub level: u8,
+    /// The highest list that it may rise to, 0 to `level`.
     pub best: u8,
-    /// The ticks of a new quantum, and those left.
+    /// How many ticks a new quantum has. Each step takes one tick.
     pub quantum: u32,
+    /// How many ticks of the quantum are left.
     pub ticks: u32,
-    /// The steps of this generation.
+    /// How many steps this process has made. (The one before it in the slot doesn't count.)
     pub steps: u64,
-    /// Notifications that wait: HARDWARE, CLOCK, slot 0 and up.
+    /// Which sources' notifications wait for this process. `Source::place` says which bit is whose.
     pub pending: [bool; 34],
-    /// Interrupt lines that were raised, bit l for line l.
+    /// Which interrupt lines were raised for it and not yet told: bit l is for line l.
     pub lines: u32,
-    /// The uptime at which the alarm rings.
+    /// The uptime, in ticks of the clock, at which its alarm rings; `None` if it has no alarm.
     pub alarm: Option<u64>,
-    /// What the process of each slot may use of this one's memory.
+    /// For the process of each slot: the window of this process's memory that it may use, if any.
     pub windows: [Option<Window>; 32],
     pub image: Image,
 }
@@ -178,7 +181,7 @@ impl State {
         matches!(self, State::Ready)
     }
 
-    /// Whether a process's state says that it is dead.
+    /// Whether the process is dead.
     pub fn is_down(self) -> bool
         ensures { result ≡ is_down self }
     {

@@ -6,8 +6,8 @@ ghost use Rattle.mx_proc.specs.Queues.{InNoList, without, list_at, first_ready, 
 use crate::links::Links;
 use std::marker::Model;
 
-/// The ready lists, the highest level first, linked by index; and a word whose bit l says that list l
-/// isn't empty. Each call takes as many steps however many slots there are.
+/// The ready lists of slots, list 0 first, which is the highest; and a word whose bit l says that list l
+/// isn't empty. The time of a call doesn't depend on how many slots there are.
 #[derive(Drop)]
 pub struct Ready {
     lists: Links<16>,
@@ -36,7 +36,7 @@ impl Ready {
         }
     }
 
-    /// Puts a slot that stands in no list to the front of a list.
+    /// Puts a slot at the front of a list. It must be in no list before.
     pub fn push_front(&mut self, level: u8, slot: u8)
         requires level { level < 16 }
         requires slot { slot < 32 }
@@ -47,7 +47,7 @@ impl Ready {
         self.filled |= 1 << level;
     }
 
-    /// Puts a slot that stands in no list to the end of a list.
+    /// Puts a slot at the end of a list. It must be in no list before.
     pub fn push_back(&mut self, level: u8, slot: u8)
         requires level { level < 16 }
         requires slot { slot < 32 }
@@ -70,7 +70,8 @@ impl Ready {
         }
     }
 
-    /// The front of the lowest ready list that isn't empty.
+    /// The slot at the front of the first ready list that isn't empty: of list 0, else of list 1, and so
+    /// on.
     pub fn pick(&self) -> Option<u8>
         ensures { result ≡ first_ready self.now }
     {

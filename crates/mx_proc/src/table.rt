@@ -23,12 +23,11 @@ mod messages;
 mod queues;
 mod serving;
 
-/// An endpoint whose process is dead, or that never was one.
+/// Why an endpoint has no slot: its process is dead, or no process ever had it.
 #[derive(Clone, Copy, PartialEq, Eq)]
 pub struct Stale;
 
-/// The processes with their queues, the devices and the last deliveries. All the room that they need
-/// is taken by `new` and `add`.
+/// The processes with their queues, the devices, and the last deliveries. Only `new` and `add` take memory.
 #[derive(Drop)]
 pub struct Table {
     slots: Vec<Process>,
@@ -75,7 +74,7 @@ impl Table {
     ghost use Rattle.mx_proc.specs.TableState.{empty_table, table_after_add, process_at, endpoint_of};
     ghost use Rattle.mx_proc.specs.Endpoints.{is_current};
 
-    /// A table without processes, with room for all that it keeps.
+    /// A table without processes. Takes memory: answers `NoMemory` if there isn't enough.
     pub fn new(alloc: Global, rules: Rules) -> Result<Table, NoMemory>
         ensures { IfOk result (λ table. table ≡ empty_table rules) }
     {
@@ -94,8 +93,9 @@ impl Table {
         })
     }
 
-    /// Gives a process the next slot: ready, with a full quantum, at the end of the list of its level.
-    /// A blank image takes the place of the one that it is given.
+    /// Makes a process with this image in the next slot, and answers the slot. The process is ready, with a
+    /// full quantum, at the end of the ready list of its level. `image` is blank after the call. If there
+    /// is no memory, nothing changes.
     pub fn add(
         &mut self,
         alloc: Global,
@@ -145,7 +145,7 @@ impl Table {
         }
     }
 
-    /// The slot of an endpoint, where its process is alive.
+    /// The slot of an endpoint if its process is alive, else `Stale`.
     pub fn look(&self, endpoint: Endpoint) -> Result<Slot, Stale>
         ensures { result ≡ slot_of_endpoint self.now endpoint }
     {
@@ -160,7 +160,7 @@ impl Table {
         }
     }
 
-    /// Whether a slot's process isn't down and has this generation.
+    /// Whether a slot's process is alive and has this generation.
     pub fn is_current(&self, slot: Slot, generation: u32) -> bool
         requires { slot < length self.now.slots }
         ensures { result ≡ is_current self.now slot generation }
@@ -203,7 +203,7 @@ impl Table {
         self.slots.len() as u8
     }
 
-    /// The slot whose quantum was renewed last.
+    /// The slot whose quantum `to_end` renewed last, or `None` if it renewed none yet.
     pub fn renewed(&self) -> Option<Slot>
         ensures { result ≡ self.now.renewed }
     {
@@ -217,21 +217,21 @@ impl Table {
         self.uptime
     }
 
-    /// By which rules the machine copies.
+    /// The rules for copies between processes.
     pub fn rules(&self) -> Rules
         ensures { result ≡ self.now.rules }
     {
         self.rules
     }
 
-    /// A delivery that is kept, counted from the oldest.
+    /// A kept delivery: index 0 is the oldest. `None` if the index is too high.
     pub fn delivery(&self, index: usize) -> Option<Delivery>
         ensures { result ≡ slice_get self.now.deliveries index }
     {
         self.deliveries.get(index)
     }
 
-    /// Opens what always holds of a table to a proof.
+    /// Does nothing: a caller gets, for its proof, all that always holds of a table.
     pub fn sound(&self)
         ensures { Sound self.now }
     {

@@ -8,12 +8,12 @@ use crate::links::Links;
 use crate::process::{Partner, Source};
 use std::marker::Model;
 
-/// Stands where a slot sends to nobody.
+/// The entry in `to` of a slot that sends to nobody.
 const NOBODY: u8 = 255;
 
-/// The blocked sends: who sends, in order of blocking, and to whom; and the caller queue of each slot,
-/// those that send to it. All are linked by index, so each call but `reaches` takes as many steps
-/// however many sends there are.
+/// The blocked sends: who sends, in order of blocking, and to whom. Each slot has a caller queue: the slots
+/// that send to it. The time of a call doesn't depend on how many sends there are, except that of
+/// `reaches`.
 #[derive(Drop)]
 pub struct Waits {
     /// One list: all that send.
@@ -48,7 +48,7 @@ impl Waits {
         }
     }
 
-    /// A slot that sends to nobody waits for another, after the others.
+    /// Blocks the send of `from` to `to`, after all others. `from` must have no blocked send before.
     pub fn push(&mut self, from: u8, to: u8)
         requires from { from < 32 }
         requires to { to < 32 }
@@ -61,7 +61,7 @@ impl Waits {
         self.count += 1;
     }
 
-    /// A slot that waits does so no more; the others stay in order.
+    /// Takes away the blocked send of a slot. The others stay in their order.
     pub fn remove(&mut self, from: u8)
         requires { 1 ≤ sends_of from self.old }
         ensures { self.new ≡ without_from from self.old }
@@ -73,7 +73,7 @@ impl Waits {
         self.count -= 1;
     }
 
-    /// The slot to which a blocked slot sends.
+    /// The slot that `from` sends to, or `None` if it has no blocked send.
     pub fn next(&self, from: u8) -> Option<u8>
         ensures { result ≡ next_of from self.now }
     {
@@ -85,7 +85,7 @@ impl Waits {
         if to == NOBODY { None } else { Some(to) }
     }
 
-    /// The first of the caller queue of a slot.
+    /// The first slot in the caller queue of `to`, if there is one.
     fn first_caller(&self, to: u8) -> Option<u8>
         ensures { result ≡ caller_of to Any self.now }
     {
@@ -96,7 +96,7 @@ impl Waits {
         }
     }
 
-    /// The slot that is this source, if it waits for a slot.
+    /// The slot that is this source, if it has a blocked send to `to`.
     fn caller_from(&self, to: u8, source: Source) -> Option<u8>
         ensures { result ≡ caller_of to (Only source) self.now }
     {
@@ -112,7 +112,7 @@ impl Waits {
         }
     }
 
-    /// Of those that the partner may be, the first that waits for a slot.
+    /// The first slot with a blocked send to `to` that the partner allows, or `None`.
     pub fn caller(&self, to: u8, partner: Partner) -> Option<u8>
         ensures { result ≡ caller_of to partner self.now }
     {
@@ -123,7 +123,8 @@ impl Waits {
         }
     }
 
-    /// Whether the pairs lead from one slot to another.
+    /// Whether blocked sends lead from one slot to another. For example, slot 1 sends to 2, and 2 sends to
+    /// 3: then 1 reaches 3. The time grows with the number of blocked sends.
     pub fn reaches(&self, from: u8, to: u8) -> bool
         ensures { result ≡ walk (length self.now) self.now from to }
     {

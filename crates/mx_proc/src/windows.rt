@@ -1,10 +1,13 @@
-//! What processes let one another copy, and by which rules a machine copies.
+//! Windows, by which processes let one another copy their memory; and the rules for such copies.
 
 /// How a window may be used.
 #[derive(Clone, Copy, PartialEq, Eq)]
 pub enum Access {
+    /// The other process may copy from it.
     Read,
+    /// The other process may copy to it.
     Write,
+    /// The other process may do both.
     Both,
 }
 
@@ -18,11 +21,12 @@ pub struct Window {
     pub access: Access,
 }
 
-/// By which rules a machine copies between processes.
+/// The rules for copies between processes. A machine has one of them from its boot on.
 #[derive(Clone, Copy, PartialEq, Eq)]
 pub enum Rules {
-    /// Rules 1: whoever may make the call copies between any processes, and there are no grants.
+    /// Rules 1: a process that may make the call can copy between any two processes. Nobody opens windows.
     Lenient,
-    /// Rules 2: another's memory is copied through a window that it has granted.
+    /// Rules 2: a process can copy from or to another's memory only through a window. The other process has
+    /// to open it.
     Strict,
 }

@@ -1,4 +1,4 @@
-//! Copies of bytes within a segment and from one to another, and a segment's clearing.
+//! Copies bytes within a segment, copies them from one segment to another, and clears a segment.
 
 ghost use Rattle.std.specs.Prelude.{◌≡◌, ◌+◌, ◌-◌, ◌%◌, ◌<◌, ◌≤◌, length, replicate};
 ghost use Rattle.mx_mem.specs.Segment.{with_bytes_at, part, zero_page};
@@ -15,7 +15,8 @@ fn clear_pages(pages: &mut [Page])
     }
 }
 
-/// How many of the bytes before a place, at least one of them, lie in the page of the last.
+/// How many of the `count` bytes just before `end` lie in the same page as the byte at `end - 1`: at least
+/// one. For example, if `end` is 4,098 and `count` is 10, then 2.
 fn piece_before(end: usize, count: usize) -> usize
     requires some { 0 < count }
     requires room { count ≤ end }
@@ -28,7 +29,8 @@ fn piece_before(end: usize, count: usize) -> usize
 }
 
 impl Segment {
-    /// Copies bytes that lie in one page to a place where they lie in one page, through a buffer.
+    /// Copies `count` bytes from address `from` to address `to`, through a buffer. All bytes that it reads
+    /// must lie in one page, and so must all bytes that it writes.
     #[inline(always)]
     fn move_piece(&mut self, from: usize, to: usize, count: usize, buffer: &mut [u8])
         requires some { 0 < count }
@@ -44,7 +46,8 @@ impl Segment {
         self.put_in_page(to, &buffer[..count]);
     }
 
-    /// Copies bytes to a place at or below them, the lowest first.
+    /// Copies bytes to the same or a lower address. The lowest bytes go first, so that each is read before
+    /// another is written over it.
     fn move_down(&mut self, from: u32, to: u32, count: u32)
         requires order { to ≤ from }
         requires inside { from + count ≤ length self.old }
@@ -63,7 +66,8 @@ impl Segment {
         }
     }
 
-    /// Copies bytes to a place above them, the highest first.
+    /// Copies bytes to a higher address. The highest bytes go first, so that each is read before another is
+    /// written over it.
     fn move_up(&mut self, from: u32, to: u32, count: u32)
         requires order { from < to }
         requires inside { to + count ≤ length self.old }
@@ -82,7 +86,8 @@ impl Segment {
         }
     }
 
-    /// Copies bytes from one place to another, as if they were all read first: the two may overlap.
+    /// Copies `count` bytes from address `from` to address `to`. Both ranges must be inside. They may
+    /// overlap: what arrives is always the bytes as they were before the call.
     pub fn copy_within(&mut self, from: u32, to: u32, count: u32)
         requires from { from + count ≤ length self.old }
         requires to { to + count ≤ length self.old }
@@ -96,7 +101,8 @@ impl Segment {
         }
     }
 
-    /// Copies bytes of another segment to an address of this one.
+    /// Copies `count` bytes from address `from` of another segment to address `to` of this one. Both ranges
+    /// must be inside.
     pub fn copy_from(&mut self, source: &Segment, from: u32, to: u32, count: u32)
         requires from { from + count ≤ length source.now }
         requires to { to + count ≤ length self.old }
@@ -115,7 +121,7 @@ impl Segment {
         }
     }
 
-    /// Makes every byte of the segment zero.
+    /// Makes every byte of the segment zero. The limit stays, and so do the pages.
     #[tactic(auto, unfolding(crate::specs::Segment::up_to, crate::specs::Segment::IsPaged))]
     pub fn clear(&mut self)
         ensures { self.new ≡ replicate (length self.old) 0 }

@@ -1,4 +1,4 @@
-//! A page of a segment: 4,096 bytes in a block of their own.
+//! A page of a segment: 4,096 bytes in an allocation of their own.
 
 ghost use Rattle.std.specs.Prelude.{◌≡◌, ◌+◌, ◌^◌, ◌<◌, ◌≤◌, IfOk, ℕ, length, slice_index, slice_set, replicate};
 ghost use Rattle.mx_word.specs.Word.{width, bytes_in, value_at};
@@ -9,10 +9,10 @@ use mx_word::{NoMemory, Size};
 use std::alloc::{AllocError, Global};
 use std::marker::Model;
 
-/// The bytes of a page.
+/// How many bytes a page has.
 pub(crate) const PAGE: usize = 4096;
 
-/// A page.
+/// A page, seen as a list of 4,096 bytes.
 #[derive(Drop)]
 pub(crate) struct Page {
     bytes: Box<[u8; 4096]>,
@@ -27,7 +27,7 @@ impl Model for Page {
 }
 
 impl Page {
-    /// Zeros.
+    /// Makes a page of zeros. Takes memory: answers `NoMemory` if there isn't enough.
     pub(crate) fn zeros(alloc: Global) -> Result<Page, NoMemory>
         ensures { IfOk result (λ p. p ≡ replicate 4096 0) }
     {
@@ -37,7 +37,7 @@ impl Page {
         }
     }
 
-    /// The bytes.
+    /// The 4,096 bytes.
     #[inline(always)]
     pub(crate) fn bytes(&self) -> &[u8]
         ensures value { result.now ≡ self.now }
@@ -46,7 +46,7 @@ impl Page {
         &self.bytes[..]
     }
 
-    /// Writes a byte.
+    /// Writes a byte at a place of the page, 0 to 4,095.
     #[inline(always)]
     pub(crate) fn set(&mut self, at: usize, byte: u8)
         requires { at < 4096 }
@@ -55,7 +55,7 @@ impl Page {
         self.bytes[at] = byte;
     }
 
-    /// Writes a number from a place on, lowest byte first.
+    /// Writes a number at a place of the page, lowest byte first.
     #[inline(always)]
     pub(crate) fn write(&mut self, at: usize, size: Size, value: u32)
         requires inside { at + bytes_in size ≤ 4096 }
@@ -65,7 +65,7 @@ impl Page {
         write_value(&mut self.bytes[..], at, size, value);
     }
 
-    /// Writes bytes over those from a place on.
+    /// Writes bytes at a place of the page. They must fit.
     #[inline(always)]
     pub(crate) fn put(&mut self, at: usize, source: &[u8])
         requires { at + length source.now ≤ 4096 }
@@ -83,7 +83,7 @@ impl Page {
     }
 }
 
-/// Writes a number over the bytes from a place on, lowest byte first.
+/// Writes a number at a place of these bytes, lowest byte first.
 #[inline(always)]
 fn write_value(bytes: &mut [u8], at: usize, size: Size, value: u32)
     requires inside { at + bytes_in size ≤ length bytes.old }
@@ -102,7 +102,7 @@ fn write_value(bytes: &mut [u8], at: usize, size: Size, value: u32)
     }
 }
 
-/// Writes bytes over those from a place on.
+/// Writes the bytes of `source` at a place of `bytes`.
 #[inline(always)]
 fn overwrite(bytes: &mut [u8], at: usize, source: &[u8])
     requires { at + length source.now ≤ length bytes.old }
@@ -112,7 +112,7 @@ fn overwrite(bytes: &mut [u8], at: usize, source: &[u8])
     bytes[at..at + source.len()].copy_from_slice(source);
 }
 
-/// The number of a size in the bytes from a place on.
+/// The number of this size at a place of these bytes, lowest byte first.
 #[inline(always)]
 pub(crate) fn value_in(bytes: &[u8], at: usize, size: Size) -> u32
     requires { at + bytes_in size ≤ length bytes.now }
@@ -131,7 +131,7 @@ pub(crate) fn value_in(bytes: &[u8], at: usize, size: Size) -> u32
     }
 }
 
-/// The number in the eight bytes from a place on.
+/// The number in the eight bytes from a place on, lowest byte first.
 #[inline(always)]
 pub(crate) fn qword_at(bytes: &[u8], at: usize) -> u64
     requires { at + 8 ≤ length bytes.now }

@@ -1,4 +1,4 @@
-//! Images out and home.
+//! Images that leave the table for a processor, and come home.
 
 ghost use Rattle.std.specs.Prelude.{◌≡◌, false, true, ◌+◌, ◌<◌, ◌≤◌, ◌^◌, IfSome, length};
 ghost use Rattle.mx_exec.specs.Image.{blank};
@@ -13,7 +13,8 @@ use mx_exec::Image;
 use std::mem;
 
 impl Table {
-    /// Moves a process's image out, to be lent to a processor. Takes no memory.
+    /// Takes a process's image out of the table, for a processor. The process's state is `Out` after that.
+    /// Takes no memory.
     pub fn lend(&mut self, slot: Slot) -> Image
         requires slot { slot < length self.old.slots }
         requires home { (process_at self.old slot).state ≡ Home }
@@ -28,7 +29,7 @@ impl Table {
         mem::replace(&mut process.image, blank)
     }
 
-    /// Moves a process's image home.
+    /// Puts the image of a process that is out into the table again. The process's state is then `Home`.
     pub fn take_home(&mut self, slot: Slot, image: Image)
         requires slot { slot < length self.old.slots }
         requires out { is_out (process_at self.old slot).state ≡ true }
@@ -41,7 +42,7 @@ impl Table {
         process.image = image;
     }
 
-    /// Counts steps against a process's quantum.
+    /// Counts steps of a process: takes them off its ticks, and adds them to its steps.
     pub fn spend(&mut self, slot: Slot, steps: u32)
         requires slot { slot < length self.old.slots }
         requires home { (process_at self.old slot).state ≡ Home }
@@ -56,7 +57,7 @@ impl Table {
         process.steps += u64::from(steps);
     }
 
-    /// Marks a process that is out: it dies when it comes home.
+    /// Marks a process that is out as doomed: so it dies when it comes back.
     pub fn doom(&mut self, slot: Slot)
         requires slot { slot < length self.old.slots }
         requires out { is_out (process_at self.old slot).state ≡ true }
@@ -66,7 +67,8 @@ impl Table {
         let process = &mut self.slots[slot as usize];
         process.state = State::Doomed;
     }
-    /// Moves the image of a dead process out, to be made new for `revive`. Takes no memory.
+    /// Takes the image of a dead process out of the table: so the caller can fill it anew for `revive`.
+    /// Takes no memory.
     pub fn take_image(&mut self, slot: Slot) -> Image
         requires slot { slot < length self.old.slots }
         requires down { is_down (process_at self.old slot).state ≡ true }
@@ -80,8 +82,8 @@ impl Table {
         mem::replace(&mut process.image, blank)
     }
 
-    /// Puts a new process, which is ready, in the place of a dead one, and at the end of the list of its
-    /// level.
+    /// Puts a new process in the slot of a dead one. The new process must be ready; it comes to the end of
+    /// the ready list of its level.
     pub fn revive(&mut self, slot: Slot, process: Process)
         requires slot { slot < length self.old.slots }
         requires down { is_down (process_at self.old slot).state ≡ true }

@@ -26,7 +26,7 @@ impl Table {
         process.image.regs.set(Size::Dword, Register::Eax, value);
     }
 
-    /// Writes a message to a process's buffer.
+    /// Writes a message into a process's buffer: the 36 bytes from the address in EBX on.
     pub fn receive(&mut self, slot: Slot, message: &[u8; 36])
         requires slot { slot < length self.old.slots }
         requires inside { HasBuffer (process_at self.old slot) }
@@ -38,7 +38,7 @@ impl Table {
         process.image.memory.put(at, message);
     }
 
-    /// Keeps a delivery; the oldest past 1,024 goes.
+    /// Keeps a delivery. If 1,024 are kept already, the oldest of them goes.
     fn log(&mut self, from: u32, to: u32, message_type: u32, kind: DeliveryKind)
         ensures value { self.new ≡ with_delivery_kept self.old from to message_type kind }
         ensures frame { frame self.new ≡ frame self.old }
@@ -51,7 +51,7 @@ impl Table {
         });
     }
 
-    /// The message at the buffer of a process, with the source written by the kernel.
+    /// The message in a process's buffer, but with the process's endpoint as its source.
     fn message(&self, slot: Slot) -> [u8; 36]
         requires slot { slot < length self.now.slots }
         requires inside { HasBuffer (process_at self.now slot) }
@@ -64,7 +64,8 @@ impl Table {
         sent
     }
 
-    /// Brings the message of one process to another.
+    /// Copies the message from the sender's buffer to the receiver's, with the sender's endpoint as its
+    /// source, and keeps the delivery.
     #[tactic(auto, unfolding(crate::specs::TableState::table_after_delivery))]
     pub fn deliver(&mut self, from: Slot, to: Slot)
         requires from { from < length self.old.slots }
@@ -85,7 +86,7 @@ impl Table {
         self.log(source, destination, message_type, DeliveryKind::Message);
     }
 
-    /// The number that a notification has as its source.
+    /// The endpoint that a notification by this source has as its source.
     fn source_endpoint(&self, source: Source) -> u32
         requires { IsUsedSource self.now source }
         ensures { result ≡ source_endpoint self.now source }
@@ -97,7 +98,8 @@ impl Table {
         }
     }
 
-    /// Clears the pending bit of a source and the lines that it tells, which are the answer.
+    /// Clears a process's pending bit of this source, and those of its raised lines that the notification
+    /// tells. Answers these lines.
     fn clear_pending(&mut self, slot: Slot, source: Source) -> u32
         requires slot { slot < length self.old.slots }
         requires source { IsUsedSource self.old source }
@@ -113,7 +115,8 @@ impl Table {
         told
     }
 
-    /// Brings a notification to a process, whose pending bit for it is cleared.
+    /// Writes a notification by this source into a process's buffer, clears the source's pending bit there,
+    /// and keeps the delivery.
     #[tactic(auto, unfolding(crate::specs::TableState::table_after_notice))]
     pub fn notice(&mut self, slot: Slot, source: Source)
         requires slot { slot < length self.old.slots }
@@ -134,7 +137,7 @@ impl Table {
         self.log(from, to, 4096, DeliveryKind::Notification);
     }
 
-    /// Sets the pending bit of a source of notifications.
+    /// Sets a process's pending bit of this source: so a notification waits for the process.
     pub fn set_pending(&mut self, slot: Slot, source: Source)
         requires slot { slot < length self.old.slots }
         requires source { IsUsedSource self.old source }
@@ -148,7 +151,7 @@ impl Table {
         process.pending[source.place() as usize] = true;
     }
 
-    /// The first source that has a pending bit at a slot and that the partner may be.
+    /// The first source whose pending bit is set at this slot's process and that the partner allows.
     pub fn first_pending(&self, slot: Slot, partner: Partner) -> Option<Source>
         requires { slot < length self.now.slots }
         ensures value { result ≡ pending_source self.now slot partner }

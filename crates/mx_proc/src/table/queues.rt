@@ -12,7 +12,8 @@ use super::Table;
 use crate::process::{Partner, Slot, State};
 
 impl Table {
-    /// Makes a process that is in no queue wait for a message, or the like: it stays in none.
+    /// Sets the state of a process that is in no queue to another state without a queue: to one that waits
+    /// for a message, for example.
     pub fn set_state(&mut self, slot: Slot, state: State)
         requires slot { slot < length self.old.slots }
         requires alone { IsAlone (process_at self.old slot).state }
@@ -59,7 +60,7 @@ impl Table {
         self.renewed = Some(slot);
     }
 
-    /// Takes a ready process out of the list of its level.
+    /// Takes a ready process out of the list of its level. Its state is `Home` after that.
     pub fn unqueue(&mut self, slot: Slot)
         requires slot { slot < length self.old.slots }
         requires ready { is_ready (process_at self.old slot).state ≡ true }
@@ -72,7 +73,8 @@ impl Table {
         self.ready.remove(level, slot);
     }
 
-    /// The front of the lowest ready list that isn't empty.
+    /// The slot at the front of the first ready list that isn't empty: of list 0, else of list 1, and so
+    /// on.
     pub fn pick(&self) -> Option<Slot>
         ensures value { result ≡ first_ready self.now.ready }
         ensures used { IfSome result (λ s. s < length self.now.slots) }
@@ -81,8 +83,8 @@ impl Table {
         self.ready.pick()
     }
 
-    /// Blocks a send, after all that are blocked already. A chain of blocked sends from its destination
-    /// must not lead back to it.
+    /// Blocks a send of `from` to `to`, after all that are blocked already. Blocked sends must not lead
+    /// from `to` back to `from`.
     pub fn block(&mut self, from: Slot, to: Slot, state: State)
         requires slot { from < length self.old.slots }
         requires to { to < length self.old.slots }
@@ -101,7 +103,7 @@ impl Table {
         self.waits.push(from, to);
     }
 
-    /// Takes a blocked send away.
+    /// Takes a blocked send away. The sender's state is `Home` after that.
     pub fn unblock(&mut self, from: Slot)
         requires slot { from < length self.old.slots }
         requires sends { is_sending (process_at self.old from).state ≡ true }
@@ -113,7 +115,7 @@ impl Table {
         self.waits.remove(from);
     }
 
-    /// Of those that the partner may be, the first that waits for a slot.
+    /// The first slot with a blocked send to `to` that the partner allows, or `None`.
     pub fn caller(&self, to: Slot, partner: Partner) -> Option<Slot>
         ensures value { result ≡ caller_of to partner self.now.waits }
         ensures used { IfSome result (λ p. p < length self.now.slots) }
@@ -123,14 +125,15 @@ impl Table {
         self.waits.caller(to, partner)
     }
 
-    /// The slot to which a blocked process sends.
+    /// The slot that `from` sends to, or `None` if it has no blocked send.
     pub fn next(&self, from: Slot) -> Option<Slot>
         ensures { result ≡ next_of from self.now.waits }
     {
         self.waits.next(from)
     }
 
-    /// Whether a chain of blocked sends leads from one slot to another.
+    /// Whether blocked sends lead from one slot to another. For example, slot 1 sends to 2, and 2 sends to 3:
+    /// then 1 reaches 3.
     pub fn reaches(&self, from: Slot, to: Slot) -> bool
         ensures value { result ≡ leads self.now.waits from to }
         ensures law { IsTrue result ↔ Reaches self.now.waits from to }

@@ -1,4 +1,4 @@
-//! What death, kernel calls, interrupt lines and the clock change.
+//! The changes that deaths, kernel calls, interrupt lines and the clock make.
 
 ghost use Rattle.std.specs.Prelude.{◌≡◌, ◌≢◌, ℕ, false, ◌+◌, ◌<◌, ◌≤◌, ◌^◌, ◌==◌, Some, None, IfSome, length, map, slice_set, slice_index_or, bit_or};
 ghost use Rattle.mx_mem.specs.Segment.{with_bytes_at, part};
@@ -28,8 +28,8 @@ impl Table {
         endpoint < 0x8000_0000 && endpoint % 1024 < self.slots.len() as u32
     }
 
-    /// Clears the bits of a slot at every process and the windows that were opened for it, and gives up
-    /// its lines.
+    /// Makes all forget a slot: no process has a pending bit of it or a window for it any more, and it owns
+    /// no interrupt line.
     pub fn forget(&mut self, slot: Slot)
         requires { slot < length self.old.slots }
         ensures value { self.new ≡ table_after_forgetting self.old slot }
@@ -39,7 +39,8 @@ impl Table {
         give_up(&mut self.devices.owners, slot);
     }
 
-    /// A process that is at home and in no queue is down, with nothing pending and no windows.
+    /// Makes a process dead. It must be in no queue and not out. After that it has no pending bits, no
+    /// raised lines, no alarm and no windows.
     pub fn bury(&mut self, slot: Slot, cause: DeathCause)
         requires slot { slot < length self.old.slots }
         requires alone { IsAlone (process_at self.old slot).state }
@@ -55,8 +56,8 @@ impl Table {
         process.windows = [None; 32];
     }
 
-    /// Sets the uptime at which the alarm of a process rings, fewer than 2^32 ticks from now, or clears
-    /// it.
+    /// Sets the uptime at which a process's alarm rings: fewer than 2^32 ticks from now. `None` clears the
+    /// alarm.
     pub fn set_alarm(&mut self, slot: Slot, due: Option<u64>)
         requires slot { slot < length self.old.slots }
         requires due { IfSome due (λ d. d < self.old.uptime + 2 ^ 32) }
@@ -67,7 +68,7 @@ impl Table {
         process.alarm = due;
     }
 
-    /// What the process of one slot may use of another's memory.
+    /// The window of `owner`'s memory that `user` may use, if it has one.
     pub fn window(&self, owner: Slot, user: Slot) -> Option<Window>
         requires owner { owner < length self.now.slots }
         requires user { user < length self.now.slots }
@@ -76,8 +77,8 @@ impl Table {
         self.slots[owner as usize].windows[user as usize]
     }
 
-    /// Opens a window of one slot's process for another's, in place of the one that it had, or closes
-    /// that.
+    /// Opens a window of `owner`'s memory for `user`, in place of the one before. `None` closes the one
+    /// before.
     pub fn set_window(&mut self, owner: Slot, user: Slot, window: Option<Window>)
         requires owner { owner < length self.old.slots }
         requires user { user < length self.old.slots }
@@ -88,7 +89,7 @@ impl Table {
         process.windows[user as usize] = window;
     }
 
-    /// Sets an interrupt line's bit at a process.
+    /// Notes at a process that this interrupt line was raised.
     pub fn set_line(&mut self, slot: Slot, line: u8)
         requires slot { slot < length self.old.slots }
         requires line { line < 16 }
@@ -108,7 +109,7 @@ impl Table {
         self.uptime += 1;
     }
 
-    /// Gives an interrupt line an owner, or none.
+    /// Sets the owner of an interrupt line. With `None` nobody owns it.
     pub fn set_owner(&mut self, line: u8, owner: Option<Slot>)
         requires line { line < 16 }
         requires used { IfSome owner (λ s. s < length self.old.slots) }
@@ -126,7 +127,7 @@ impl Table {
         self.devices.registers[register as usize] = value;
     }
 
-    /// Writes a byte to the console; of those that are kept the oldest past 4,096 goes.
+    /// Writes a byte to the console. If 4,096 bytes are kept already, the oldest of them goes.
     pub fn write_console(&mut self, byte: u8)
         requires { self.old.devices.console.count + 1 < 2 ^ 32 }
         ensures value { self.new ≡ with_console_byte self.old byte }
@@ -135,7 +136,8 @@ impl Table {
         self.devices.console.push(byte);
     }
 
-    /// Copies bytes of one process to another or to itself, as if they were all read first.
+    /// Copies `count` bytes from address `at` of one process to address `place` of another, or of the same.
+    /// The ranges may overlap: what arrives is always the bytes as they were before the call.
     pub fn copy(&mut self, from: Slot, at: u32, to: Slot, place: u32, count: u32)
         requires from { from < length self.old.slots }
         requires to { to < length self.old.slots }
@@ -155,7 +157,7 @@ impl Table {
     }
 }
 
-/// Clears the bits of a slot, and the windows for it.
+/// Clears each process's pending bit of a slot, and its window for it.
 fn clear_bits(processes: &mut [Process], slot: Slot)
     requires { slot < 32 }
     ensures { processes.new ≡ map (without_bit_of slot) processes.old }
@@ -167,7 +169,7 @@ fn clear_bits(processes: &mut [Process], slot: Slot)
     }
 }
 
-/// An owner, unless it is this slot.
+/// The same owner, or nobody if the owner is this slot.
 fn owner_but(owner: Option<Slot>, slot: Slot) -> Option<Slot>
     ensures { result ≡ owner_but slot owner }
 {
@@ -177,7 +179,7 @@ fn owner_but(owner: Option<Slot>, slot: Slot) -> Option<Slot>
     }
 }
 
-/// Gives up the lines of a slot.
+/// Takes all its interrupt lines from a slot.
 fn give_up(owners: &mut [Option<Slot>], slot: Slot)
     ensures { owners.new ≡ map (owner_but slot) owners.old }
 {
