@@ -1,9 +1,9 @@
 //! What a row says of the fields.
 
-ghost use Rattle.std.specs.Prelude.{◌≡◌, ◌<◌, ◌^◌, if◌then◌else◌};
+ghost use Rattle.std.specs.Prelude.{◌≡◌, ◌<◌, ◌^◌, true, false, if◌then◌else◌};
 ghost use Rattle.mx_word.specs.Word.{width};
-ghost use Rattle.mx_insn.specs.Spelling.{arithmetic, condition, immediate_of, wide_immediate, port_size, operand_size, byte_extension, to_rm, memory_of, register_of, at, shift_count, made};
-ghost use Rattle.mx_decode.specs.Given.{narrow_bound, shift_bound, parts_in};
+ghost use Rattle.mx_insn.specs.Spelling.{arithmetic, condition, immediate_of, wide_immediate, port_size, byte_extension, to_rm, memory_of, register_of, at, shift_count, made};
+ghost use Rattle.mx_decode.specs.Given.{narrow_bound, shift_bound, is_resized, parts_in, is_of_two, is_of_control};
 
 use crate::fields::register;
 use mx_insn::{
@@ -14,7 +14,7 @@ use mx_insn::{
 /// What stands in an instruction's bytes beside the row.
 #[derive(Clone, Copy)]
 pub struct FieldValues {
-    pub resized: bool,
+    pub operand_size: OperandSize,
     pub repeat: Option<Repeat>,
     pub number: u8,
     pub reg: u8,
@@ -71,33 +71,22 @@ fn immediate_of(size: Size, number: u32) -> Immediate
     }
 }
 
-fn wide_immediate(resized: bool, number: u32) -> WideImmediate
-    requires { number < (if resized then 65536 else 2 ^ 32) }
-    ensures { result ≡ wide_immediate resized number }
+fn wide_immediate(operand_size: OperandSize, number: u32) -> WideImmediate
+    requires { number < (if is_resized operand_size then 65536 else 2 ^ 32) }
+    ensures { result ≡ wide_immediate (is_resized operand_size) number }
 {
-    if resized {
-        return WideImmediate::Word(number as u16);
-    }
-    WideImmediate::Dword(number)
-}
-
-fn operand_size(resized: bool) -> OperandSize
-    ensures { result ≡ operand_size resized }
-{
-    if resized {
-        OperandSize::Word
-    } else {
-        OperandSize::Dword
+    match operand_size {
+        OperandSize::Word => WideImmediate::Word(number as u16),
+        OperandSize::Dword => WideImmediate::Dword(number),
     }
 }
 
-fn byte_extension(resized: bool) -> Extension
-    ensures { result ≡ byte_extension resized }
+fn byte_extension(operand_size: OperandSize) -> Extension
+    ensures { result ≡ byte_extension (is_resized operand_size) }
 {
-    if resized {
-        Extension::ByteToWord
-    } else {
-        Extension::ByteToDword
+    match operand_size {
+        OperandSize::Word => Extension::ByteToWord,
+        OperandSize::Dword => Extension::ByteToDword,
     }
 }
 
@@ -165,17 +154,13 @@ fn shift_count(column: CountColumn, immediate: u32) -> Count
 const ACCUMULATOR: Operand = Operand::Register(Register::Eax);
 
 /// The instruction that a row's instruction column makes.
+#[tactic(auto, using(crate::proofs::Sizes::size_again))]
 pub fn insn_of(pattern: Pattern, size: Size, values: FieldValues) -> Insn
-    requires narrow { values.immediate < narrow_bound pattern size values.resized }
+    requires narrow { values.immediate < narrow_bound pattern size (is_resized values.operand_size) }
     requires number { values.number < 255 }
     ensures { result ≡ made pattern size (parts_in values) }
 {
-    let FieldValues {
-        resized,
-        rm,
-        immediate,
-        ..
-    } = values;
+    let FieldValues { rm, immediate, .. } = values;
     let reg = register(values.reg);
     match pattern {
         Pattern::ArithmeticRmReg => Insn::Arithmetic {
@@ -252,10 +237,25 @@ pub fn insn_of(pattern: Pattern, size: Size, values: FieldValues) -> Insn
             register: Register::Eax,
         },
         Pattern::LoadAddress => Insn::LoadAddress {
-            size: operand_size(resized),
+            size: values.operand_size,
             to: reg,
             memory: memory_of(rm),
         },
+        _ => calculation_of(pattern, size, values),
+    }
+}
+
+/// The instruction of another pattern than those of ADD, MOV, TEST, XCHG and LEA.
+#[tactic(auto, using(crate::proofs::Sizes::size_again))]
+fn calculation_of(pattern: Pattern, size: Size, values: FieldValues) -> Insn
+    requires other { is_of_two pattern ≡ false }
+    requires narrow { values.immediate < narrow_bound pattern size (is_resized values.operand_size) }
+    requires number { values.number < 255 }
+    ensures { result ≡ made pattern size (parts_in values) }
+{
+    let FieldValues { rm, immediate, .. } = values;
+    let reg = register(values.reg);
+    match pattern {
         Pattern::UnaryReg(operation) => Insn::Unary {
             operation,
             size,
@@ -272,14 +272,14 @@ pub fn insn_of(pattern: Pattern, size: Size, values: FieldValues) -> Insn
             operand: rm,
         },
         Pattern::MultiplyRegRm => Insn::Multiply {
-            size: operand_size(resized),
+            size: values.operand_size,
             to: reg,
             from: rm,
         },
         Pattern::MultiplyRegRmImmediate => Insn::MultiplyImmediate {
             to: reg,
             from: rm,
-            by: wide_immediate(resized, immediate),
+            by: wide_immediate(values.operand_size, immediate),
         },
         Pattern::ShiftRm(operation, column) => Insn::Shift {
             operation,
@@ -309,7 +309,7 @@ pub fn insn_of(pattern: Pattern, size: Size, values: FieldValues) -> Insn
             from: rm,
         },
         Pattern::ZeroExtendByte => Insn::ZeroExtend {
-            extension: byte_extension(resized),
+            extension: byte_extension(values.operand_size),
             to: reg,
             from: rm,
         },
@@ -319,7 +319,7 @@ pub fn insn_of(pattern: Pattern, size: Size, values: FieldValues) -> Insn
             from: rm,
         },
         Pattern::SignExtendByte => Insn::SignExtend {
-            extension: byte_extension(resized),
+            extension: byte_extension(values.operand_size),
             to: reg,
             from: rm,
         },
@@ -332,6 +332,20 @@ pub fn insn_of(pattern: Pattern, size: Size, values: FieldValues) -> Insn
             condition: condition(values.number),
             operand: rm,
         },
+        _ => control_of(pattern, size, values),
+    }
+}
+
+/// The instruction of a pattern of the stack, jumps, strings, ports, or one without operands.
+#[tactic(auto, using(crate::proofs::Sizes::size_again))]
+fn control_of(pattern: Pattern, size: Size, values: FieldValues) -> Insn
+    requires pattern { is_of_control pattern ≡ true }
+    requires narrow { values.immediate < narrow_bound pattern size (is_resized values.operand_size) }
+    requires number { values.number < 255 }
+    ensures { result ≡ made pattern size (parts_in values) }
+{
+    let FieldValues { rm, immediate, .. } = values;
+    match pattern {
         Pattern::PushReg => Insn::Push(Operand::Register(register(values.number))),
         Pattern::PushRm => Insn::Push(rm),
         Pattern::PushImmediate => Insn::PushImmediate(immediate),
@@ -350,8 +364,8 @@ pub fn insn_of(pattern: Pattern, size: Size, values: FieldValues) -> Insn
         },
         Pattern::Return => Insn::Return(immediate as u16),
         Pattern::Interrupt => Insn::Interrupt(immediate as u8),
-        Pattern::ExtendAccumulator => Insn::ExtendAccumulator(operand_size(resized)),
-        Pattern::SpreadSign => Insn::SpreadSign(operand_size(resized)),
+        Pattern::ExtendAccumulator => Insn::ExtendAccumulator(values.operand_size),
+        Pattern::SpreadSign => Insn::SpreadSign(values.operand_size),
         Pattern::Transfer(operation) => Insn::Transfer {
             operation,
             size,
@@ -379,5 +393,6 @@ pub fn insn_of(pattern: Pattern, size: Size, values: FieldValues) -> Insn
             port: Port::Dx,
         },
         Pattern::Plain(operation) => Insn::Plain(operation),
+        _ => unreachable!(),
     }
 }
