@@ -3,7 +3,7 @@
 ghost use Rattle.std.specs.Prelude.{◌≡◌, ◌<◌, ◌^◌, true, false, if◌then◌else◌};
 ghost use Rattle.mx_word.specs.Word.{width};
 ghost use Rattle.mx_insn.specs.Spelling.{arithmetic, condition, immediate_of, wide_immediate, port_size, byte_extension, to_rm, memory_of, register_of, at, shift_count, made};
-ghost use Rattle.mx_decode.specs.Given.{narrow_bound, shift_bound, is_resized, parts_in, is_of_two, is_of_control};
+ghost use Rattle.mx_decode.specs.Given.{narrow_bound, shift_bound, is_resized, parts_in, is_of_two, is_of_calculation, is_of_control};
 
 use crate::fields::register;
 use mx_insn::{
@@ -154,7 +154,6 @@ fn shift_count(column: CountColumn, immediate: u32) -> Count
 const ACCUMULATOR: Operand = Operand::Register(Register::Eax);
 
 /// The instruction that a row's instruction column makes.
-#[tactic(auto, using(crate::proofs::Sizes::size_again))]
 pub fn insn_of(pattern: Pattern, size: Size, values: FieldValues) -> Insn
     requires narrow { values.immediate < narrow_bound pattern size (is_resized values.operand_size) }
     requires number { values.number < 255 }
@@ -213,6 +212,32 @@ pub fn insn_of(pattern: Pattern, size: Size, values: FieldValues) -> Insn
             to: rm,
             value: immediate_of(size, immediate),
         }),
+        Pattern::ExchangeRmReg => Insn::Exchange {
+            size,
+            operand: rm,
+            register: reg,
+        },
+        Pattern::ExchangeRegAcc => Insn::Exchange {
+            size,
+            operand: Operand::Register(register(values.number + 1)),
+            register: Register::Eax,
+        },
+        _ => calculation_of(pattern, size, values),
+    }
+}
+
+/// The instruction of a pattern that `insn_of` leaves: of TEST and LEA, of what has one operand, of
+/// products and shifts; else `conversion_of`.
+#[tactic(auto, using(crate::proofs::Sizes::size_again))]
+fn calculation_of(pattern: Pattern, size: Size, values: FieldValues) -> Insn
+    requires not_of_two { is_of_two pattern ≡ false }
+    requires narrow { values.immediate < narrow_bound pattern size (is_resized values.operand_size) }
+    requires number { values.number < 255 }
+    ensures { result ≡ made pattern size (parts_in values) }
+{
+    let FieldValues { rm, immediate, .. } = values;
+    let reg = register(values.reg);
+    match pattern {
         Pattern::TestRmReg => Insn::Test {
             size,
             operand: rm,
@@ -226,36 +251,11 @@ pub fn insn_of(pattern: Pattern, size: Size, values: FieldValues) -> Insn
             operand: rm,
             value: immediate_of(size, immediate),
         },
-        Pattern::ExchangeRmReg => Insn::Exchange {
-            size,
-            operand: rm,
-            register: reg,
-        },
-        Pattern::ExchangeRegAcc => Insn::Exchange {
-            size,
-            operand: Operand::Register(register(values.number + 1)),
-            register: Register::Eax,
-        },
         Pattern::LoadAddress => Insn::LoadAddress {
             size: values.operand_size,
             to: reg,
             memory: memory_of(rm),
         },
-        _ => calculation_of(pattern, size, values),
-    }
-}
-
-/// The instruction of another pattern than those of ADD, MOV, TEST, XCHG and LEA.
-#[tactic(auto, using(crate::proofs::Sizes::size_again))]
-fn calculation_of(pattern: Pattern, size: Size, values: FieldValues) -> Insn
-    requires other { is_of_two pattern ≡ false }
-    requires narrow { values.immediate < narrow_bound pattern size (is_resized values.operand_size) }
-    requires number { values.number < 255 }
-    ensures { result ≡ made pattern size (parts_in values) }
-{
-    let FieldValues { rm, immediate, .. } = values;
-    let reg = register(values.reg);
-    match pattern {
         Pattern::UnaryReg(operation) => Insn::Unary {
             operation,
             size,
@@ -293,6 +293,23 @@ fn calculation_of(pattern: Pattern, size: Size, values: FieldValues) -> Insn
             register: reg,
             count: shift_count(column, immediate),
         },
+        _ => conversion_of(pattern, size, values),
+    }
+}
+
+/// The instruction of a pattern that `calculation_of` leaves: of bits, of extensions, of SETcc and the
+/// stack; else `control_of`.
+#[tactic(auto, using(crate::proofs::Sizes::size_again))]
+fn conversion_of(pattern: Pattern, size: Size, values: FieldValues) -> Insn
+    requires not_of_two { is_of_two pattern ≡ false }
+    requires not_calculation { is_of_calculation pattern ≡ false }
+    requires narrow { values.immediate < narrow_bound pattern size (is_resized values.operand_size) }
+    requires number { values.number < 255 }
+    ensures { result ≡ made pattern size (parts_in values) }
+{
+    let FieldValues { rm, immediate, .. } = values;
+    let reg = register(values.reg);
+    match pattern {
         Pattern::BitTestRmImmediate(operation) => Insn::BitTest {
             operation,
             operand: rm,
@@ -328,28 +345,29 @@ fn calculation_of(pattern: Pattern, size: Size, values: FieldValues) -> Insn
             to: reg,
             from: rm,
         },
+        Pattern::ExtendAccumulator => Insn::ExtendAccumulator(values.operand_size),
+        Pattern::SpreadSign => Insn::SpreadSign(values.operand_size),
         Pattern::SetCondition => Insn::SetCondition {
             condition: condition(values.number),
             operand: rm,
         },
+        Pattern::PushReg => Insn::Push(Operand::Register(register(values.number))),
+        Pattern::PushRm => Insn::Push(rm),
+        Pattern::PushImmediate => Insn::PushImmediate(immediate),
+        Pattern::PopReg => Insn::Pop(register(values.number)),
         _ => control_of(pattern, size, values),
     }
 }
 
-/// The instruction of a pattern of the stack, jumps, strings, ports, or one without operands.
-#[tactic(auto, using(crate::proofs::Sizes::size_again))]
+/// The instruction of a pattern of control transfer, of strings and ports, or without operands.
 fn control_of(pattern: Pattern, size: Size, values: FieldValues) -> Insn
-    requires pattern { is_of_control pattern ≡ true }
+    requires control { is_of_control pattern ≡ true }
     requires narrow { values.immediate < narrow_bound pattern size (is_resized values.operand_size) }
     requires number { values.number < 255 }
     ensures { result ≡ made pattern size (parts_in values) }
 {
     let FieldValues { rm, immediate, .. } = values;
     match pattern {
-        Pattern::PushReg => Insn::Push(Operand::Register(register(values.number))),
-        Pattern::PushRm => Insn::Push(rm),
-        Pattern::PushImmediate => Insn::PushImmediate(immediate),
-        Pattern::PopReg => Insn::Pop(register(values.number)),
         Pattern::JumpIf => Insn::JumpIf {
             condition: condition(values.number),
             displacement: immediate,
@@ -364,8 +382,6 @@ fn control_of(pattern: Pattern, size: Size, values: FieldValues) -> Insn
         },
         Pattern::Return => Insn::Return(immediate as u16),
         Pattern::Interrupt => Insn::Interrupt(immediate as u8),
-        Pattern::ExtendAccumulator => Insn::ExtendAccumulator(values.operand_size),
-        Pattern::SpreadSign => Insn::SpreadSign(values.operand_size),
         Pattern::Transfer(operation) => Insn::Transfer {
             operation,
             size,
