@@ -9,3 +9,4 @@ pub mod Answer
 pub mod Map
 pub mod Agrees
 pub mod Front
+pub mod Sizes

@@ -3,10 +3,12 @@
 ghost use Rattle.std.specs.Prelude.{◌≡◌, ◌<◌, ◌^◌, ◌/◌, ◌%◌, IfOk, Some};
 ghost use Rattle.mx_word.specs.Word.{width};
 ghost use Rattle.mx_insn.specs.Spelling.{register, scale, base_of, index_of, sign_extended, row_size};
-ghost use Rattle.mx_decode.specs.Given.{Gives, number_at, displacement_at, immediate_at, sib_parts, base_field_parts, memory_field, operand_field, modrm_at, place_code, immediate_bound};
+ghost use Rattle.mx_decode.specs.Given.{Gives, number_at, displacement_at, immediate_at, sib_parts, base_field_parts, memory_field, operand_field, modrm_at, place_code, immediate_bound, is_resized};
 
 use crate::DecodeFault;
-use mx_insn::{ImmediateColumn, Index, Memory, ModRm, Operand, Register, Scale, Size, SizeMark};
+use mx_insn::{
+    ImmediateColumn, Index, Memory, ModRm, Operand, OperandSize, Register, Scale, Size, SizeMark,
+};
 use mx_word::signed;
 
 #[inline(always)]
@@ -194,13 +196,13 @@ pub fn place(column: ModRm, bytes: &[u8]) -> Result<(u8, Operand, &[u8]), Decode
     }
 }
 
-pub fn row_size(sizes: SizeMark, resized: bool) -> Size
-    ensures { result ≡ row_size sizes resized }
+pub fn row_size(sizes: SizeMark, operand_size: OperandSize) -> Size
+    ensures { result ≡ row_size sizes (is_resized operand_size) }
 {
-    match sizes {
-        SizeMark::Byte => Size::Byte,
-        SizeMark::Variable if resized => Size::Word,
-        SizeMark::Variable | SizeMark::Dword => Size::Dword,
+    match (sizes, operand_size) {
+        (SizeMark::Byte, _) => Size::Byte,
+        (SizeMark::Variable, OperandSize::Word) => Size::Word,
+        (SizeMark::Variable, OperandSize::Dword) | (SizeMark::Dword, _) => Size::Dword,
     }
 }
 
@@ -208,12 +210,12 @@ pub fn row_size(sizes: SizeMark, resized: bool) -> Size
 pub fn immediate(
     column: ImmediateColumn,
     size: Size,
-    resized: bool,
+    operand_size: OperandSize,
     bytes: &[u8],
 ) -> Result<(u32, &[u8]), DecodeFault>
     ensures value { Gives (λ x.
-        (x.0, x.1.now)) result (immediate_at column size resized bytes.now) }
-    ensures bound { IfOk result (λ x. x.0 < immediate_bound column size resized) }
+        (x.0, x.1.now)) result (immediate_at column size (is_resized operand_size) bytes.now) }
+    ensures bound { IfOk result (λ x. x.0 < immediate_bound column size (is_resized operand_size)) }
 {
     match column {
         ImmediateColumn::Nothing => Ok((0, bytes)),
@@ -224,6 +226,9 @@ pub fn immediate(
         }
         ImmediateColumn::Word => word(bytes),
         ImmediateColumn::Dword => dword(bytes),
-        ImmediateColumn::Variable => { if resized { word(bytes) } else { dword(bytes) } }
+        ImmediateColumn::Variable => match operand_size {
+            OperandSize::Word => word(bytes),
+            OperandSize::Dword => dword(bytes),
+        },
     }
 }

@@ -1,37 +1,46 @@
 //! Prefixes and opcode.
 
-ghost use Rattle.std.specs.Prelude.{None, Some, true};
+ghost use Rattle.std.specs.Prelude.{None, Some};
 ghost use Rattle.mx_insn.specs.declared.insn.Repeat.TheVariants as repeats;
 ghost use Rattle.mx_decode.specs.Reading.{escaped_at, opcode_at, resized_then, repeat_then, head_at};
-ghost use Rattle.mx_decode.specs.Given.{Gives};
+ghost use Rattle.mx_decode.specs.Given.{Gives, is_resized, head_seen};
 
 use crate::DecodeFault;
-use mx_insn::Repeat;
+use mx_insn::{OperandSize, Repeat};
+
+/// An opcode map: that of the opcodes of one byte, or of those that follow 0F.
+#[derive(Clone, Copy)]
+pub enum OpcodeMap {
+    OneByte,
+    TwoByte,
+}
 
 /// What stands before the operands.
 #[derive(Clone, Copy)]
 pub struct Head {
-    pub resized: bool,
+    /// A word if the operand-size prefix, 66, stands, else a dword.
+    pub operand_size: OperandSize,
     pub repeat: Option<Repeat>,
-    pub escaped: bool,
+    pub map: OpcodeMap,
     pub opcode: u8,
 }
 
-fn escaped(
-    resized: bool,
+fn after_0f(
+    operand_size: OperandSize,
     repeat: Option<Repeat>,
     bytes: &[u8],
 ) -> Result<(Head, &[u8]), DecodeFault>
-    ensures { Gives (λ x. (x.0, x.1.now)) result (escaped_at resized repeat bytes.now) }
+    ensures { Gives (λ x. (head_seen x.0, x.1.now)) result
+        (escaped_at (is_resized operand_size) repeat bytes.now) }
 {
     match (repeat, bytes) {
         (Some(_), _) => Err(DecodeFault::NotInTable),
         (None, []) => Err(DecodeFault::Short),
         (None, [opcode, rest @ ..]) => {
             let head = Head {
-                resized,
+                operand_size,
                 repeat: None,
-                escaped: true,
+                map: OpcodeMap::TwoByte,
                 opcode: *opcode,
             };
             Ok((head, rest))
@@ -39,17 +48,22 @@ fn escaped(
     }
 }
 
-fn opcode(resized: bool, repeat: Option<Repeat>, bytes: &[u8]) -> Result<(Head, &[u8]), DecodeFault>
-    ensures { Gives (λ x. (x.0, x.1.now)) result (opcode_at resized repeat bytes.now) }
+fn opcode(
+    operand_size: OperandSize,
+    repeat: Option<Repeat>,
+    bytes: &[u8],
+) -> Result<(Head, &[u8]), DecodeFault>
+    ensures { Gives (λ x. (head_seen x.0, x.1.now)) result
+        (opcode_at (is_resized operand_size) repeat bytes.now) }
 {
     match bytes {
         [] => Err(DecodeFault::Short),
-        [0x0F, rest @ ..] => escaped(resized, repeat, rest),
+        [0x0F, rest @ ..] => after_0f(operand_size, repeat, rest),
         [opcode, rest @ ..] => {
             let head = Head {
-                resized,
+                operand_size,
                 repeat,
-                escaped: false,
+                map: OpcodeMap::OneByte,
                 opcode: *opcode,
             };
             Ok((head, rest))
@@ -58,36 +72,36 @@ fn opcode(resized: bool, repeat: Option<Repeat>, bytes: &[u8]) -> Result<(Head, 
 }
 
 fn after_66(bytes: &[u8]) -> Result<(Head, &[u8]), DecodeFault>
-    ensures { Gives (λ x. (x.0, x.1.now)) result (resized_then bytes.now) }
+    ensures { Gives (λ x. (head_seen x.0, x.1.now)) result (resized_then bytes.now) }
 {
     match bytes {
         [] => Err(DecodeFault::Short),
-        [0xF3, rest @ ..] => opcode(true, Some(Repeat::Repe), rest),
-        [0xF2, rest @ ..] => opcode(true, Some(Repeat::Repne), rest),
-        _ => opcode(true, None, bytes),
+        [0xF3, rest @ ..] => opcode(OperandSize::Word, Some(Repeat::Repe), rest),
+        [0xF2, rest @ ..] => opcode(OperandSize::Word, Some(Repeat::Repne), rest),
+        _ => opcode(OperandSize::Word, None, bytes),
     }
 }
 
 fn after_repeat(repeat: Repeat, bytes: &[u8]) -> Result<(Head, &[u8]), DecodeFault>
-    ensures { Gives (λ x. (x.0, x.1.now)) result (repeat_then repeat bytes.now) }
+    ensures { Gives (λ x. (head_seen x.0, x.1.now)) result (repeat_then repeat bytes.now) }
 {
     match bytes {
         [] => Err(DecodeFault::Short),
-        [0x66, rest @ ..] => opcode(true, Some(repeat), rest),
-        _ => opcode(false, Some(repeat), bytes),
+        [0x66, rest @ ..] => opcode(OperandSize::Word, Some(repeat), rest),
+        _ => opcode(OperandSize::Dword, Some(repeat), bytes),
     }
 }
 
 /// The prefixes and the opcode at the front, and what follows.
 #[tactic(auto, unfolding(crate::specs::Reading::head_at))]
 pub fn read_head(bytes: &[u8]) -> Result<(Head, &[u8]), DecodeFault>
-    ensures { Gives (λ x. (x.0, x.1.now)) result (head_at bytes.now) }
+    ensures { Gives (λ x. (head_seen x.0, x.1.now)) result (head_at bytes.now) }
 {
     match bytes {
         [] => Err(DecodeFault::Short),
         [0x66, rest @ ..] => after_66(rest),
         [0xF3, rest @ ..] => after_repeat(Repeat::Repe, rest),
         [0xF2, rest @ ..] => after_repeat(Repeat::Repne, rest),
-        _ => opcode(false, None, bytes),
+        _ => opcode(OperandSize::Dword, None, bytes),
     }
 }

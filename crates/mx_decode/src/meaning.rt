@@ -1,9 +1,9 @@
 //! What a row says of the fields.
 
-ghost use Rattle.std.specs.Prelude.{◌≡◌, ◌<◌, ◌^◌, if◌then◌else◌};
+ghost use Rattle.std.specs.Prelude.{◌≡◌, ◌<◌, ◌^◌, true, false, if◌then◌else◌};
 ghost use Rattle.mx_word.specs.Word.{width};
-ghost use Rattle.mx_insn.specs.Spelling.{arithmetic, condition, immediate_of, wide_immediate, port_size, operand_size, byte_extension, to_rm, memory_of, register_of, at, shift_count, made};
-ghost use Rattle.mx_decode.specs.Given.{narrow_bound, shift_bound, parts_in};
+ghost use Rattle.mx_insn.specs.Spelling.{arithmetic, condition, immediate_of, wide_immediate, port_size, byte_extension, to_rm, memory_of, register_of, at, shift_count, made};
+ghost use Rattle.mx_decode.specs.Given.{narrow_bound, shift_bound, is_resized, parts_in, is_of_two, is_of_calculation, is_of_control};
 
 use crate::fields::register;
 use mx_insn::{
@@ -14,7 +14,7 @@ use mx_insn::{
 /// What stands in an instruction's bytes beside the row.
 #[derive(Clone, Copy)]
 pub struct FieldValues {
-    pub resized: bool,
+    pub operand_size: OperandSize,
     pub repeat: Option<Repeat>,
     pub number: u8,
     pub reg: u8,
@@ -71,33 +71,22 @@ fn immediate_of(size: Size, number: u32) -> Immediate
     }
 }
 
-fn wide_immediate(resized: bool, number: u32) -> WideImmediate
-    requires { number < (if resized then 65536 else 2 ^ 32) }
-    ensures { result ≡ wide_immediate resized number }
+fn wide_immediate(operand_size: OperandSize, number: u32) -> WideImmediate
+    requires { number < (if is_resized operand_size then 65536 else 2 ^ 32) }
+    ensures { result ≡ wide_immediate (is_resized operand_size) number }
 {
-    if resized {
-        return WideImmediate::Word(number as u16);
-    }
-    WideImmediate::Dword(number)
-}
-
-fn operand_size(resized: bool) -> OperandSize
-    ensures { result ≡ operand_size resized }
-{
-    if resized {
-        OperandSize::Word
-    } else {
-        OperandSize::Dword
+    match operand_size {
+        OperandSize::Word => WideImmediate::Word(number as u16),
+        OperandSize::Dword => WideImmediate::Dword(number),
     }
 }
 
-fn byte_extension(resized: bool) -> Extension
-    ensures { result ≡ byte_extension resized }
+fn byte_extension(operand_size: OperandSize) -> Extension
+    ensures { result ≡ byte_extension (is_resized operand_size) }
 {
-    if resized {
-        Extension::ByteToWord
-    } else {
-        Extension::ByteToDword
+    match operand_size {
+        OperandSize::Word => Extension::ByteToWord,
+        OperandSize::Dword => Extension::ByteToDword,
     }
 }
 
@@ -166,16 +155,11 @@ const ACCUMULATOR: Operand = Operand::Register(Register::Eax);
 
 /// The instruction that a row's instruction column makes.
 pub fn insn_of(pattern: Pattern, size: Size, values: FieldValues) -> Insn
-    requires narrow { values.immediate < narrow_bound pattern size values.resized }
+    requires narrow { values.immediate < narrow_bound pattern size (is_resized values.operand_size) }
     requires number { values.number < 255 }
     ensures { result ≡ made pattern size (parts_in values) }
 {
-    let FieldValues {
-        resized,
-        rm,
-        immediate,
-        ..
-    } = values;
+    let FieldValues { rm, immediate, .. } = values;
     let reg = register(values.reg);
     match pattern {
         Pattern::ArithmeticRmReg => Insn::Arithmetic {
@@ -228,6 +212,32 @@ pub fn insn_of(pattern: Pattern, size: Size, values: FieldValues) -> Insn
             to: rm,
             value: immediate_of(size, immediate),
         }),
+        Pattern::ExchangeRmReg => Insn::Exchange {
+            size,
+            operand: rm,
+            register: reg,
+        },
+        Pattern::ExchangeRegAcc => Insn::Exchange {
+            size,
+            operand: Operand::Register(register(values.number + 1)),
+            register: Register::Eax,
+        },
+        _ => calculation_of(pattern, size, values),
+    }
+}
+
+/// The instruction of a pattern that `insn_of` leaves: of TEST and LEA, of what has one operand, of
+/// products and shifts; else `conversion_of`.
+#[tactic(auto, using(crate::proofs::Sizes::size_again))]
+fn calculation_of(pattern: Pattern, size: Size, values: FieldValues) -> Insn
+    requires not_of_two { is_of_two pattern ≡ false }
+    requires narrow { values.immediate < narrow_bound pattern size (is_resized values.operand_size) }
+    requires number { values.number < 255 }
+    ensures { result ≡ made pattern size (parts_in values) }
+{
+    let FieldValues { rm, immediate, .. } = values;
+    let reg = register(values.reg);
+    match pattern {
         Pattern::TestRmReg => Insn::Test {
             size,
             operand: rm,
@@ -241,18 +251,8 @@ pub fn insn_of(pattern: Pattern, size: Size, values: FieldValues) -> Insn
             operand: rm,
             value: immediate_of(size, immediate),
         },
-        Pattern::ExchangeRmReg => Insn::Exchange {
-            size,
-            operand: rm,
-            register: reg,
-        },
-        Pattern::ExchangeRegAcc => Insn::Exchange {
-            size,
-            operand: Operand::Register(register(values.number + 1)),
-            register: Register::Eax,
-        },
         Pattern::LoadAddress => Insn::LoadAddress {
-            size: operand_size(resized),
+            size: values.operand_size,
             to: reg,
             memory: memory_of(rm),
         },
@@ -272,14 +272,14 @@ pub fn insn_of(pattern: Pattern, size: Size, values: FieldValues) -> Insn
             operand: rm,
         },
         Pattern::MultiplyRegRm => Insn::Multiply {
-            size: operand_size(resized),
+            size: values.operand_size,
             to: reg,
             from: rm,
         },
         Pattern::MultiplyRegRmImmediate => Insn::MultiplyImmediate {
             to: reg,
             from: rm,
-            by: wide_immediate(resized, immediate),
+            by: wide_immediate(values.operand_size, immediate),
         },
         Pattern::ShiftRm(operation, column) => Insn::Shift {
             operation,
@@ -293,6 +293,23 @@ pub fn insn_of(pattern: Pattern, size: Size, values: FieldValues) -> Insn
             register: reg,
             count: shift_count(column, immediate),
         },
+        _ => conversion_of(pattern, size, values),
+    }
+}
+
+/// The instruction of a pattern that `calculation_of` leaves: of bits, of extensions, of SETcc and the
+/// stack; else `control_of`.
+#[tactic(auto, using(crate::proofs::Sizes::size_again))]
+fn conversion_of(pattern: Pattern, size: Size, values: FieldValues) -> Insn
+    requires not_of_two { is_of_two pattern ≡ false }
+    requires not_calculation { is_of_calculation pattern ≡ false }
+    requires narrow { values.immediate < narrow_bound pattern size (is_resized values.operand_size) }
+    requires number { values.number < 255 }
+    ensures { result ≡ made pattern size (parts_in values) }
+{
+    let FieldValues { rm, immediate, .. } = values;
+    let reg = register(values.reg);
+    match pattern {
         Pattern::BitTestRmImmediate(operation) => Insn::BitTest {
             operation,
             operand: rm,
@@ -309,7 +326,7 @@ pub fn insn_of(pattern: Pattern, size: Size, values: FieldValues) -> Insn
             from: rm,
         },
         Pattern::ZeroExtendByte => Insn::ZeroExtend {
-            extension: byte_extension(resized),
+            extension: byte_extension(values.operand_size),
             to: reg,
             from: rm,
         },
@@ -319,7 +336,7 @@ pub fn insn_of(pattern: Pattern, size: Size, values: FieldValues) -> Insn
             from: rm,
         },
         Pattern::SignExtendByte => Insn::SignExtend {
-            extension: byte_extension(resized),
+            extension: byte_extension(values.operand_size),
             to: reg,
             from: rm,
         },
@@ -328,6 +345,8 @@ pub fn insn_of(pattern: Pattern, size: Size, values: FieldValues) -> Insn
             to: reg,
             from: rm,
         },
+        Pattern::ExtendAccumulator => Insn::ExtendAccumulator(values.operand_size),
+        Pattern::SpreadSign => Insn::SpreadSign(values.operand_size),
         Pattern::SetCondition => Insn::SetCondition {
             condition: condition(values.number),
             operand: rm,
@@ -336,6 +355,19 @@ pub fn insn_of(pattern: Pattern, size: Size, values: FieldValues) -> Insn
         Pattern::PushRm => Insn::Push(rm),
         Pattern::PushImmediate => Insn::PushImmediate(immediate),
         Pattern::PopReg => Insn::Pop(register(values.number)),
+        _ => control_of(pattern, size, values),
+    }
+}
+
+/// The instruction of a pattern of control transfer, of strings and ports, or without operands.
+fn control_of(pattern: Pattern, size: Size, values: FieldValues) -> Insn
+    requires control { is_of_control pattern ≡ true }
+    requires narrow { values.immediate < narrow_bound pattern size (is_resized values.operand_size) }
+    requires number { values.number < 255 }
+    ensures { result ≡ made pattern size (parts_in values) }
+{
+    let FieldValues { rm, immediate, .. } = values;
+    match pattern {
         Pattern::JumpIf => Insn::JumpIf {
             condition: condition(values.number),
             displacement: immediate,
@@ -350,8 +382,6 @@ pub fn insn_of(pattern: Pattern, size: Size, values: FieldValues) -> Insn
         },
         Pattern::Return => Insn::Return(immediate as u16),
         Pattern::Interrupt => Insn::Interrupt(immediate as u8),
-        Pattern::ExtendAccumulator => Insn::ExtendAccumulator(operand_size(resized)),
-        Pattern::SpreadSign => Insn::SpreadSign(operand_size(resized)),
         Pattern::Transfer(operation) => Insn::Transfer {
             operation,
             size,
@@ -379,5 +409,6 @@ pub fn insn_of(pattern: Pattern, size: Size, values: FieldValues) -> Insn
             port: Port::Dx,
         },
         Pattern::Plain(operation) => Insn::Plain(operation),
+        _ => unreachable!(),
     }
 }

@@ -2,31 +2,41 @@
 
 ghost use Rattle.std.specs.Prelude.{◌≡◌, ℕ, List, [], ◌∷◌, find, option_copied};
 ghost use Rattle.mx_insn.specs.Spelling.{allows_resized, allows_repeat};
-ghost use Rattle.mx_decode.specs.Reading.{has_opcode, is_absent, stands, chosen, rows_of};
+ghost use Rattle.mx_decode.specs.Reading.{same, has_opcode, is_absent, stands, row_after};
 ghost use Rattle.mx_decode.specs.Map.{may_follow, begins};
-ghost use Rattle.mx_decode.specs.Given.{Gives};
+ghost use Rattle.mx_decode.specs.Given.{Gives, is_resized, is_escaped, head_seen};
 
 use crate::DecodeFault;
-use crate::head::Head;
+use crate::head::{Head, OpcodeMap};
 use crate::table::rows_near;
-use mx_insn::{ModRm, Repeat, Repeats, Row, SizeMark};
+use mx_insn::{ModRm, OperandSize, Repeat, Repeats, Row, SizeMark};
 
-fn has_opcode(row: &Row, escaped: bool, opcode: u8) -> bool
-    ensures { result ≡ has_opcode escaped opcode row.now }
+fn is_in_map(row: &Row, map: OpcodeMap) -> bool
+    ensures { result ≡ same (is_escaped map) row.now.escaped }
 {
-    row.escaped == escaped
+    match map {
+        OpcodeMap::OneByte => !row.escaped,
+        OpcodeMap::TwoByte => row.escaped,
+    }
+}
+
+fn has_opcode(row: &Row, map: OpcodeMap, opcode: u8) -> bool
+    ensures { result ≡ has_opcode (is_escaped map) opcode row.now }
+{
+    is_in_map(row, map)
         && row.first <= opcode
         && 0 < row.step
         && (opcode - row.first) / row.step < row.count
         && (opcode - row.first) % row.step == 0
 }
 
-fn allows_resized(sizes: SizeMark, resized: bool) -> bool
-    ensures { result ≡ allows_resized sizes resized }
+/// The operand-size prefix stands only before a row that has a form for words.
+fn allows_size(sizes: SizeMark, operand_size: OperandSize) -> bool
+    ensures { result ≡ allows_resized sizes (is_resized operand_size) }
 {
-    match sizes {
-        SizeMark::Variable => true,
-        SizeMark::Byte | SizeMark::Dword => !resized,
+    match (sizes, operand_size) {
+        (SizeMark::Variable, _) | (SizeMark::Byte | SizeMark::Dword, OperandSize::Dword) => true,
+        (SizeMark::Byte | SizeMark::Dword, OperandSize::Word) => false,
     }
 }
 
@@ -61,33 +71,32 @@ fn may_follow(column: ModRm, next: Option<u8>) -> bool
 }
 
 /// The prefixes may stand before the row.
-fn stands(row: &Row, resized: bool, repeat: Option<Repeat>) -> bool
-    ensures { result ≡ stands resized repeat row.now }
+fn stands(row: &Row, operand_size: OperandSize, repeat: Option<Repeat>) -> bool
+    ensures { result ≡ stands (is_resized operand_size) repeat row.now }
 {
-    allows_resized(row.sizes, resized) && allows_repeat(row.repeats, repeat)
+    allows_size(row.sizes, operand_size) && allows_repeat(row.repeats, repeat)
 }
 
 /// The row may be that of the head and of what stands after it.
 fn begins(row: &Row, head: Head, next: Option<u8>) -> bool
-    ensures { result ≡ begins head next row.now }
+    ensures { result ≡ begins (head_seen head) next row.now }
 {
-    has_opcode(row, head.escaped, head.opcode)
-        && stands(row, head.resized, head.repeat)
+    has_opcode(row, head.map, head.opcode)
+        && stands(row, head.operand_size, head.repeat)
         && may_follow(row.modrm, next)
 }
 
 fn first(rows: &'static [Row], head: Head, next: Option<u8>) -> Option<&'static Row>
-    ensures { option_copied result ≡ find (begins head next) rows.now }
+    ensures { option_copied result ≡ find (begins (head_seen head) next) rows.now }
 {
     rows.iter().find(|row| begins(row, head, next))
 }
 
 /// The row where nothing follows the opcode.
 fn bare(head: Head) -> Result<&'static Row, DecodeFault>
-    ensures { Gives (λ x.
-        x.now) result (chosen head.resized head.repeat (rows_of head.escaped head.opcode) []) }
+    ensures { Gives (λ x. x.now) result (row_after (head_seen head) []) }
 {
-    match first(rows_near(head.escaped, head.opcode), head, None) {
+    match first(rows_near(head.map, head.opcode), head, None) {
         None => Err(DecodeFault::NotInTable),
         Some(row) => {
             if is_absent(row.modrm) {
@@ -101,10 +110,9 @@ fn bare(head: Head) -> Result<&'static Row, DecodeFault>
 /// The row where this byte follows.
 fn followed(head: Head, modrm: u8) -> Result<&'static Row, DecodeFault>
     ensures { (rest : List ℕ)
-        → Gives (λ x. x.now) result
-        (chosen head.resized head.repeat (rows_of head.escaped head.opcode) (modrm ∷ rest)) }
+        → Gives (λ x. x.now) result (row_after (head_seen head) (modrm ∷ rest)) }
 {
-    match first(rows_near(head.escaped, head.opcode), head, Some(modrm)) {
+    match first(rows_near(head.map, head.opcode), head, Some(modrm)) {
         None => Err(DecodeFault::NotInTable),
         Some(row) => Ok(row),
     }
@@ -112,9 +120,7 @@ fn followed(head: Head, modrm: u8) -> Result<&'static Row, DecodeFault>
 
 /// The row that the bytes after the opcode are of.
 pub fn row_of(head: Head, bytes: &[u8]) -> Result<&'static Row, DecodeFault>
-    ensures { Gives (λ x.
-        x.now) result (chosen head.resized head.repeat (rows_of head.escaped head.opcode)
-        bytes.now) }
+    ensures { Gives (λ x. x.now) result (row_after (head_seen head) bytes.now) }
 {
     match bytes {
         [] => bare(head),

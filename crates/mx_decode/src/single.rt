@@ -5,7 +5,7 @@ ghost use Rattle.mx_insn.specs.declared.insn.Insn.{Insn};
 ghost use Rattle.mx_insn.specs.Spelling.{IsOpen, row_size};
 ghost use Rattle.mx_decode.specs.Decode.{SpellsFirst, NoneFirst, front};
 ghost use Rattle.mx_decode.specs.Reading.{opcode_number, reading};
-ghost use Rattle.mx_decode.specs.Given.{Gives, immediate_bound, narrow_bound, operands_code};
+ghost use Rattle.mx_decode.specs.Given.{Gives, immediate_bound, narrow_bound, operands_code, is_resized, head_seen};
 
 use crate::DecodeFault;
 use crate::fields::{immediate, place, row_size};
@@ -19,16 +19,18 @@ fn operands<'a>(head: Head, row: &Row, bytes: &'a [u8]) -> Result<(Insn, &'a [u8
     requires first { row.now.first ≤ head.opcode }
     requires step { 0 < row.now.step }
     requires number { opcode_number row.now head.opcode < 255 }
-    requires narrow { immediate_bound row.now.immediate (row_size row.now.sizes head.resized)
-        head.resized ≤ narrow_bound row.now.pattern (row_size row.now.sizes head.resized)
-        head.resized }
-    ensures { Gives (λ x. (x.0, x.1.now)) result (operands_code head row.now bytes.now) }
+    requires narrow { immediate_bound row.now.immediate
+        (row_size row.now.sizes (is_resized head.operand_size)) (is_resized head.operand_size)
+        ≤ narrow_bound row.now.pattern (row_size row.now.sizes (is_resized head.operand_size))
+        (is_resized head.operand_size) }
+    ensures { Gives (λ x. (x.0, x.1.now)) result
+        (operands_code (head_seen head) row.now bytes.now) }
 {
-    let size = row_size(row.sizes, head.resized);
+    let size = row_size(row.sizes, head.operand_size);
     let (reg, rm, rest) = place(row.modrm, bytes)?;
-    let (immediate, rest) = immediate(row.immediate, size, head.resized, rest)?;
+    let (immediate, rest) = immediate(row.immediate, size, head.operand_size, rest)?;
     let values = FieldValues {
-        resized: head.resized,
+        operand_size: head.operand_size,
         repeat: head.repeat,
         number: (head.opcode - row.first) / row.step,
         reg,

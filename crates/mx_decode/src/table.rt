@@ -2,7 +2,9 @@
 
 ghost use Rattle.std.specs.Prelude.{◌≡◌, ◌≤◌, ◌<◌, true, false};
 ghost use Rattle.mx_decode.specs.Map.{map_part, rows_in};
+ghost use Rattle.mx_decode.specs.Given.{is_escaped};
 
+use crate::head::OpcodeMap;
 use mx_insn::{
     BitScan, BitTest, Comparison, CountColumn, DoubleShift, ImmediateColumn, Loop, ModRm, Pattern,
     Plain, Product, Repeats, Row, Shift, SizeMark, Transfer, Unary,
@@ -294,20 +296,16 @@ fn escaped_rows(part: u8) -> &'static [Row]
     }
 }
 
-/// The rows of the map, after 0F or not, in the part where the opcode stands.
+/// The rows of the map, in the part where the opcode stands.
 #[inline(always)]
-pub fn rows_near(escaped: bool, opcode: u8) -> &'static [Row]
-    ensures { result.now ≡ rows_in escaped (map_part escaped opcode) }
+pub fn rows_near(map: OpcodeMap, opcode: u8) -> &'static [Row]
+    ensures { result.now ≡ rows_in (is_escaped map) (map_part (is_escaped map) opcode) }
 {
-    if escaped {
-        escaped_rows(opcode / 64)
-    } else if opcode < 0x40 {
-        column_rows(8 + opcode % 8)
-    } else if opcode < 0x80 {
-        low_rows(opcode / 16)
-    } else if opcode < 0xC0 {
-        middle_rows(opcode / 8)
-    } else {
-        high_rows(opcode / 8)
+    match map {
+        OpcodeMap::TwoByte => escaped_rows(opcode / 64),
+        OpcodeMap::OneByte if opcode < 0x40 => column_rows(8 + opcode % 8),
+        OpcodeMap::OneByte if opcode < 0x80 => low_rows(opcode / 16),
+        OpcodeMap::OneByte if opcode < 0xC0 => middle_rows(opcode / 8),
+        OpcodeMap::OneByte => high_rows(opcode / 8),
     }
 }

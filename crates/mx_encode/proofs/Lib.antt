@@ -10,3 +10,4 @@ pub mod Formless
 pub mod Lengths
 pub mod Formed
 pub mod Filling
+pub mod Sizes

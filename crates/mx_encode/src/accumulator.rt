@@ -1,27 +1,28 @@
 //! Instructions on registers that they don't name, and those without operands.
 
-ghost use Rattle.std.specs.Prelude.{◌≡◌, ◌<◌};
+ghost use Rattle.std.specs.Prelude.{◌≡◌, ◌<◌, false};
 ghost use Rattle.mx_insn.specs.Table.{compare_opcode, plain_opcode, transfer_opcode};
-ghost use Rattle.mx_encode.specs.Choice.{rep, transfer_choice, compare_choice, extend_accumulator, spread_sign, in_choice, out_choice, plain_choice};
+ghost use Rattle.mx_encode.specs.Choice.{transfer_choice, compare_choice, extend_accumulator, spread_sign, in_choice, out_choice, plain_choice};
 ghost use Rattle.mx_encode.specs.Given.{laid, PortFits};
 
 use crate::fields::Number;
-use crate::forms::{Encoding, is_word, sized_opcode};
-use crate::numbers::is_word_size;
+use crate::forms::{Encoding, operand_size, sized_opcode};
 use mx_insn::{Comparison, OperandSize, Plain, Port, PortSize, Repeat, Size, Transfer};
 
 /// How CBW or CWDE is encoded.
+#[tactic(auto, using(crate::proofs::Sizes::size_again))]
 pub fn extend_accumulator(size: OperandSize) -> Encoding
     ensures { result ≡ laid (extend_accumulator size) }
 {
-    Encoding::bare(0x98).resized(is_word_size(size))
+    Encoding::bare(0x98).with_operand_size(size)
 }
 
 /// How CWD or CDQ is encoded.
+#[tactic(auto, using(crate::proofs::Sizes::size_again))]
 pub fn spread_sign(size: OperandSize) -> Encoding
     ensures { result ≡ laid (spread_sign size) }
 {
-    Encoding::bare(0x99).resized(is_word_size(size))
+    Encoding::bare(0x99).with_operand_size(size)
 }
 
 fn transfer_opcode(operation: Transfer) -> u8
@@ -35,19 +36,13 @@ fn transfer_opcode(operation: Transfer) -> u8
     }
 }
 
-fn rep(repeated: bool) -> Option<Repeat>
-    ensures { result ≡ rep repeated }
-{
-    if repeated { Some(Repeat::Repe) } else { None }
-}
-
 /// How MOVS, STOS and LODS are encoded.
-pub fn transfer(operation: Transfer, size: Size, repeated: bool) -> Encoding
-    ensures { result ≡ laid (transfer_choice operation size repeated) }
+pub fn transfer(operation: Transfer, size: Size, repeat: Option<Repeat>) -> Encoding
+    ensures { result ≡ record (laid (transfer_choice operation size false)) { repeat = repeat } }
 {
     Encoding::bare(sized_opcode(size, transfer_opcode(operation)))
-        .resized(is_word(size))
-        .repeated(rep(repeated))
+        .with_operand_size(operand_size(size))
+        .repeated(repeat)
 }
 
 fn compare_opcode(operation: Comparison) -> u8
@@ -65,7 +60,7 @@ pub fn compare(operation: Comparison, size: Size, repeat: Option<Repeat>) -> Enc
     ensures { result ≡ laid (compare_choice operation size repeat) }
 {
     Encoding::bare(sized_opcode(size, compare_opcode(operation)))
-        .resized(is_word(size))
+        .with_operand_size(operand_size(size))
         .repeated(repeat)
 }
 

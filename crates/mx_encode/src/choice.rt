@@ -5,7 +5,7 @@ ghost use Rattle.mx_encode.specs.Given.{GivesBytes, Fits};
 
 use crate::forms::Encoding;
 use crate::{NoForm, Wide, accumulator, bits, jumps, operands, single};
-use mx_insn::Insn;
+use mx_insn::{Insn, Repeat};
 
 /// The encoding that is chosen for an instruction. Only how far LOOP and JECXZ go can rule one out.
 pub fn form_of(insn: Insn, wide: Wide) -> Result<Encoding, NoForm>
@@ -16,7 +16,7 @@ pub fn form_of(insn: Insn, wide: Wide) -> Result<Encoding, NoForm>
         Insn::Arithmetic {
             operation,
             operands,
-        } => Ok(operands::arithmetic(operation, operands, wide.immediate)),
+        } => Ok(operands::arithmetic(operation, operands, wide.immediate_form())),
         Insn::Move(operands) => Ok(operands::movement(operands)),
         Insn::Test {
             size,
@@ -42,7 +42,7 @@ pub fn form_of(insn: Insn, wide: Wide) -> Result<Encoding, NoForm>
         } => Ok(single::product(operation, size, operand)),
         Insn::Multiply { size, to, from } => Ok(operands::multiply(size, to, from)),
         Insn::MultiplyImmediate { to, from, by } => {
-            Ok(operands::multiply_immediate(to, from, by, wide.immediate))
+            Ok(operands::multiply_immediate(to, from, by, wide.immediate_form()))
         }
         Insn::Shift {
             operation,
@@ -83,13 +83,13 @@ pub fn form_of(insn: Insn, wide: Wide) -> Result<Encoding, NoForm>
         } => Ok(operands::sign_extend(extension, to, from)),
         Insn::SetCondition { condition, operand } => Ok(single::set_condition(condition, operand)),
         Insn::Push(operand) => Ok(single::push(operand)),
-        Insn::PushImmediate(number) => Ok(single::push_immediate(number, wide.immediate)),
+        Insn::PushImmediate(number) => Ok(single::push_immediate(number, wide.immediate_form())),
         Insn::Pop(register) => Ok(single::pop(register)),
         Insn::JumpIf {
             condition,
             displacement,
-        } => Ok(jumps::jump_if(condition, displacement, wide.displacement)),
-        Insn::Jump(displacement) => Ok(jumps::jump(displacement, wide.displacement)),
+        } => Ok(jumps::jump_if(condition, displacement, wide.displacement_form())),
+        Insn::Jump(displacement) => Ok(jumps::jump(displacement, wide.displacement_form())),
         Insn::Call(displacement) => Ok(jumps::call(displacement)),
         Insn::JumpTo(operand) => Ok(jumps::jump_to(operand)),
         Insn::CallTo(operand) => Ok(jumps::call_to(operand)),
@@ -104,8 +104,13 @@ pub fn form_of(insn: Insn, wide: Wide) -> Result<Encoding, NoForm>
         Insn::Transfer {
             operation,
             size,
-            repeated,
-        } => Ok(accumulator::transfer(operation, size, repeated)),
+            repeated: false,
+        } => Ok(accumulator::transfer(operation, size, None)),
+        Insn::Transfer {
+            operation,
+            size,
+            repeated: true,
+        } => Ok(accumulator::transfer(operation, size, Some(Repeat::Repe))),
         Insn::Compare {
             operation,
             size,

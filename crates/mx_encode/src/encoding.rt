@@ -7,7 +7,7 @@ ghost use Rattle.mx_encode.specs.Chosen.{Chosen};
 
 use crate::choice::form_of;
 use crate::places::has_place;
-use crate::writing::bytes_of_form;
+use crate::writing::bytes_of_encoding;
 use crate::{NoForm, Wide};
 use mx_insn::{ArrayVec, Insn};
 
@@ -21,5 +21,5 @@ pub fn encode(insn: &Insn, wide: Wide) -> Result<ArrayVec<u8, 15>, NoForm>
     if !has_place(form.rm) {
         return Err(NoForm);
     }
-    Ok(bytes_of_form(form, wide.displacement))
+    Ok(bytes_of_encoding(form, wide.displacement_form()))
 }

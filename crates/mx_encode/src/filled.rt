@@ -1,9 +1,9 @@
 //! Numbers put into an instruction in place of others.
 
 ghost use Rattle.std.specs.Prelude.{◌≡◌};
-ghost use Rattle.mx_encode.specs.Filled.{value_with, factor_with, operands_with_value, with_immediate, memory_with_displacement, operand_with_displacement, operands_with_displacement, with_displacement};
+ghost use Rattle.mx_encode.specs.Filled.{value_with, factor_with, operands_with_value, with_immediate, operand_with_displacement, operands_with_displacement, with_displacement};
 
-use mx_insn::{Immediate, Insn, Memory, Operand, Operands, WideImmediate};
+use mx_insn::{Immediate, Insn, Operand, Operands, WideImmediate};
 
 fn value_with(value: Immediate, number: u32) -> Immediate
     ensures { result ≡ value_with value number }
@@ -63,42 +63,50 @@ pub fn with_immediate(insn: Insn, number: u32) -> Insn
     }
 }
 
-fn memory_at(memory: Memory, displacement: u32) -> Memory
-    ensures { result ≡ memory_with_displacement memory displacement }
-{
-    Memory {
-        displacement,
-        ..memory
-    }
-}
-
-fn operand_at(operand: Operand, displacement: u32) -> Operand
-    ensures { result ≡ operand_with_displacement operand displacement }
+fn displace_operand(operand: &mut Operand, displacement: u32)
+    ensures { operand.new ≡ operand_with_displacement operand.old displacement }
 {
     match operand {
-        Operand::Register(_) => operand,
-        Operand::Memory(memory) => Operand::Memory(memory_at(memory, displacement)),
+        Operand::Register(_) => {}
+        Operand::Memory(memory) => memory.displacement = displacement,
     }
 }
 
-fn operands_at(operands: Operands, displacement: u32) -> Operands
-    ensures { result ≡ operands_with_displacement operands displacement }
+fn displace_operands(operands: &mut Operands, displacement: u32)
+    ensures { operands.new ≡ operands_with_displacement operands.old displacement }
 {
     match operands {
-        Operands::ToRegister { size, to, from } => Operands::ToRegister {
-            size,
-            to,
-            from: operand_at(from, displacement),
-        },
-        Operands::ToMemory { size, to, from } => Operands::ToMemory {
-            size,
-            to: memory_at(to, displacement),
-            from,
-        },
-        Operands::Immediate { to, value } => Operands::Immediate {
-            to: operand_at(to, displacement),
-            value,
-        },
+        Operands::ToRegister { from, .. } => displace_operand(from, displacement),
+        Operands::ToMemory { to, .. } => to.displacement = displacement,
+        Operands::Immediate { to, .. } => displace_operand(to, displacement),
+    }
+}
+
+fn displace(insn: &mut Insn, displacement: u32)
+    ensures { insn.new ≡ with_displacement insn.old displacement }
+{
+    match insn {
+        Insn::Arithmetic { operands, .. } => displace_operands(operands, displacement),
+        Insn::Move(operands) => displace_operands(operands, displacement),
+        Insn::Test { operand, .. } => displace_operand(operand, displacement),
+        Insn::TestImmediate { operand, .. } => displace_operand(operand, displacement),
+        Insn::Exchange { operand, .. } => displace_operand(operand, displacement),
+        Insn::LoadAddress { memory, .. } => memory.displacement = displacement,
+        Insn::Unary { operand, .. } => displace_operand(operand, displacement),
+        Insn::Product { operand, .. } => displace_operand(operand, displacement),
+        Insn::Multiply { from, .. } => displace_operand(from, displacement),
+        Insn::MultiplyImmediate { from, .. } => displace_operand(from, displacement),
+        Insn::Shift { operand, .. } => displace_operand(operand, displacement),
+        Insn::DoubleShift { operand, .. } => displace_operand(operand, displacement),
+        Insn::BitTest { operand, .. } => displace_operand(operand, displacement),
+        Insn::BitScan { from, .. } => displace_operand(from, displacement),
+        Insn::ZeroExtend { from, .. } => displace_operand(from, displacement),
+        Insn::SignExtend { from, .. } => displace_operand(from, displacement),
+        Insn::SetCondition { operand, .. } => displace_operand(operand, displacement),
+        Insn::Push(operand) => displace_operand(operand, displacement),
+        Insn::JumpTo(operand) => displace_operand(operand, displacement),
+        Insn::CallTo(operand) => displace_operand(operand, displacement),
+        _ => {}
     }
 }
 
@@ -106,150 +114,7 @@ fn operands_at(operands: Operands, displacement: u32) -> Operands
 pub fn with_displacement(insn: Insn, displacement: u32) -> Insn
     ensures { result ≡ with_displacement insn displacement }
 {
-    match insn {
-        Insn::Arithmetic {
-            operation,
-            operands,
-        } => Insn::Arithmetic {
-            operation,
-            operands: operands_at(operands, displacement),
-        },
-        Insn::Move(operands) => Insn::Move(operands_at(operands, displacement)),
-        Insn::Test {
-            size,
-            operand,
-            register,
-        } => Insn::Test {
-            size,
-            operand: operand_at(operand, displacement),
-            register,
-        },
-        Insn::TestImmediate { operand, value } => Insn::TestImmediate {
-            operand: operand_at(operand, displacement),
-            value,
-        },
-        Insn::Exchange {
-            size,
-            operand,
-            register,
-        } => Insn::Exchange {
-            size,
-            operand: operand_at(operand, displacement),
-            register,
-        },
-        Insn::LoadAddress { size, to, memory } => Insn::LoadAddress {
-            size,
-            to,
-            memory: memory_at(memory, displacement),
-        },
-        Insn::Unary {
-            operation,
-            size,
-            operand,
-        } => Insn::Unary {
-            operation,
-            size,
-            operand: operand_at(operand, displacement),
-        },
-        Insn::Product {
-            operation,
-            size,
-            operand,
-        } => Insn::Product {
-            operation,
-            size,
-            operand: operand_at(operand, displacement),
-        },
-        Insn::Multiply { size, to, from } => Insn::Multiply {
-            size,
-            to,
-            from: operand_at(from, displacement),
-        },
-        Insn::MultiplyImmediate { to, from, by } => Insn::MultiplyImmediate {
-            to,
-            from: operand_at(from, displacement),
-            by,
-        },
-        Insn::Shift {
-            operation,
-            size,
-            operand,
-            count,
-        } => Insn::Shift {
-            operation,
-            size,
-            operand: operand_at(operand, displacement),
-            count,
-        },
-        Insn::DoubleShift {
-            operation,
-            operand,
-            register,
-            count,
-        } => Insn::DoubleShift {
-            operation,
-            operand: operand_at(operand, displacement),
-            register,
-            count,
-        },
-        Insn::BitTest {
-            operation,
-            operand,
-            number,
-        } => Insn::BitTest {
-            operation,
-            operand: operand_at(operand, displacement),
-            number,
-        },
-        Insn::BitScan {
-            operation,
-            to,
-            from,
-        } => Insn::BitScan {
-            operation,
-            to,
-            from: operand_at(from, displacement),
-        },
-        Insn::ZeroExtend {
-            extension,
-            to,
-            from,
-        } => Insn::ZeroExtend {
-            extension,
-            to,
-            from: operand_at(from, displacement),
-        },
-        Insn::SignExtend {
-            extension,
-            to,
-            from,
-        } => Insn::SignExtend {
-            extension,
-            to,
-            from: operand_at(from, displacement),
-        },
-        Insn::SetCondition { condition, operand } => Insn::SetCondition {
-            condition,
-            operand: operand_at(operand, displacement),
-        },
-        Insn::Push(operand) => Insn::Push(operand_at(operand, displacement)),
-        Insn::JumpTo(operand) => Insn::JumpTo(operand_at(operand, displacement)),
-        Insn::CallTo(operand) => Insn::CallTo(operand_at(operand, displacement)),
-        Insn::BitTestRegister { .. }
-        | Insn::PushImmediate(_)
-        | Insn::Pop(_)
-        | Insn::JumpIf { .. }
-        | Insn::Jump(_)
-        | Insn::Call(_)
-        | Insn::Loop { .. }
-        | Insn::Return(_)
-        | Insn::Interrupt(_)
-        | Insn::ExtendAccumulator(_)
-        | Insn::SpreadSign(_)
-        | Insn::Transfer { .. }
-        | Insn::Compare { .. }
-        | Insn::In { .. }
-        | Insn::Out { .. }
-        | Insn::Plain(_) => insn,
-    }
+    let mut displaced = insn;
+    displace(&mut displaced, displacement);
+    displaced
 }

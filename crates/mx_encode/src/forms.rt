@@ -1,20 +1,27 @@
 //! What an instruction's bytes are made of.
 
-ghost use Rattle.std.specs.Prelude.{◌≡◌, ◌<◌, true, false, None, Some};
+ghost use Rattle.std.specs.Prelude.{◌≡◌, ◌<◌, None, Some};
+ghost use Rattle.mx_insn.specs.Spelling.{operand_size};
 ghost use Rattle.mx_insn.specs.Table.{sized_opcode};
 ghost use Rattle.mx_encode.specs.Numbers.{is_word};
 
 use crate::fields::{Number, Rm};
-use mx_insn::{Operand, Repeat, Size};
+use mx_insn::{Operand, OperandSize, Repeat, Size};
+
+/// An opcode map: that of the opcodes of one byte, or of those that follow 0F.
+#[derive(Clone, Copy)]
+pub enum OpcodeMap {
+    OneByte,
+    TwoByte,
+}
 
 /// An opcode and its prefixes, the operand that mod and rm name, and the immediate.
 #[derive(Clone, Copy)]
 pub struct Encoding {
-    /// 66 stands.
-    pub resized: bool,
+    /// A word if the operand-size prefix, 66, stands, else a dword.
+    pub operand_size: OperandSize,
     pub repeat: Option<Repeat>,
-    /// After 0F.
-    pub escaped: bool,
+    pub map: OpcodeMap,
     pub opcode: u8,
     pub rm: Option<Rm>,
     pub immediate: Number,
@@ -24,18 +31,18 @@ impl Encoding {
     /// An encoding of an opcode alone.
     pub fn bare(opcode: u8) -> Encoding
         ensures { result ≡ record {
-          resized = false;
+          operand_size = OperandSize.Dword;
           repeat = None;
-          escaped = false;
+          map = OpcodeMap.OneByte;
           opcode = opcode;
           rm = None;
           immediate = Number.Nothing;
         } }
     {
         Encoding {
-            resized: false,
+            operand_size: OperandSize::Dword,
             repeat: None,
-            escaped: false,
+            map: OpcodeMap::OneByte,
             opcode,
             rm: None,
             immediate: Number::Nothing,
@@ -45,18 +52,18 @@ impl Encoding {
     /// An encoding of an opcode with a reg field and an operand.
     pub fn with_rm(opcode: u8, reg: u8, operand: Operand) -> Encoding
         ensures { result ≡ record {
-          resized = false;
+          operand_size = OperandSize.Dword;
           repeat = None;
-          escaped = false;
+          map = OpcodeMap.OneByte;
           opcode = opcode;
           rm = Some (record { reg = reg; operand = operand });
           immediate = Number.Nothing;
         } }
     {
         Encoding {
-            resized: false,
+            operand_size: OperandSize::Dword,
             repeat: None,
-            escaped: false,
+            map: OpcodeMap::OneByte,
             opcode,
             rm: Some(Rm { reg, operand }),
             immediate: Number::Nothing,
@@ -68,30 +75,34 @@ impl Encoding {
     pub fn sized(size: Size, opcode: u8, reg: u8, operand: Operand) -> Encoding
         requires { opcode < 255 }
         ensures { result ≡ record {
-          resized = is_word size;
+          operand_size = operand_size (is_word size);
           repeat = None;
-          escaped = false;
+          map = OpcodeMap.OneByte;
           opcode = sized_opcode size opcode;
           rm = Some (record { reg = reg; operand = operand });
           immediate = Number.Nothing;
         } }
     {
-        Encoding::with_rm(sized_opcode(size, opcode), reg, operand).resized(is_word(size))
+        let encoding = Encoding::with_rm(sized_opcode(size, opcode), reg, operand);
+        encoding.with_operand_size(operand_size(size))
     }
 
-    /// The same encoding with the prefix 66, or without.
-    pub fn resized(self, resized: bool) -> Encoding
-        ensures { result ≡ record self { resized = resized } }
+    /// The same encoding with the prefix 66 for words, or without it for dwords.
+    pub fn with_operand_size(self, operand_size: OperandSize) -> Encoding
+        ensures { result ≡ record self { operand_size = operand_size } }
     {
-        Encoding { resized, ..self }
+        Encoding {
+            operand_size,
+            ..self
+        }
     }
 
     /// The same encoding, its opcode after 0F.
     pub fn escaped(self) -> Encoding
-        ensures { result ≡ record self { escaped = true } }
+        ensures { result ≡ record self { map = OpcodeMap.TwoByte } }
     {
         Encoding {
-            escaped: true,
+            map: OpcodeMap::TwoByte,
             ..self
         }
     }
@@ -111,12 +122,13 @@ impl Encoding {
     }
 }
 
-pub fn is_word(size: Size) -> bool
-    ensures { result ≡ is_word size }
+/// The operand size of an instruction whose operands have a size: one on bytes has no prefix.
+pub fn operand_size(size: Size) -> OperandSize
+    ensures { result ≡ operand_size (is_word size) }
 {
     match size {
-        Size::Word => true,
-        Size::Byte | Size::Dword => false,
+        Size::Word => OperandSize::Word,
+        Size::Byte | Size::Dword => OperandSize::Dword,
     }
 }
 

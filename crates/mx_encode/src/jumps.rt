@@ -3,19 +3,19 @@
 ghost use Rattle.std.specs.Prelude.{◌≡◌};
 ghost use Rattle.mx_insn.specs.Table.{loop_opcode};
 ghost use Rattle.mx_encode.specs.Choice.{jump_if, jump_choice, call_choice, jump_to, call_to, loop_choice, return_choice, interrupt_choice};
-ghost use Rattle.mx_encode.specs.Given.{laid, GivesBytes, OperandFits};
+ghost use Rattle.mx_encode.specs.Given.{is_wide, laid, GivesBytes, OperandFits};
 
 use crate::NoForm;
 use crate::fields::Number;
 use crate::forms::Encoding;
-use crate::numbers::{is_short, short, shortens};
+use crate::numbers::{NumberForm, is_short, short, shortens};
 use mx_insn::{Condition, Loop, Operand, Size};
 
 /// How a Jcc is encoded, with 8 bits or with all.
-pub fn jump_if(condition: Condition, displacement: u32, long: bool) -> Encoding
-    ensures { result ≡ laid (jump_if condition displacement long) }
+pub fn jump_if(condition: Condition, displacement: u32, form: NumberForm) -> Encoding
+    ensures { result ≡ laid (jump_if condition displacement (is_wide form)) }
 {
-    if shortens(Size::Dword, displacement, long) {
+    if shortens(Size::Dword, displacement, form) {
         Encoding::bare(0x70 + condition.code()).with_immediate(short(displacement))
     } else {
         Encoding::bare(0x80 + condition.code())
@@ -25,10 +25,10 @@ pub fn jump_if(condition: Condition, displacement: u32, long: bool) -> Encoding
 }
 
 /// How a JMP is encoded, with 8 bits or with all.
-pub fn jump(displacement: u32, long: bool) -> Encoding
-    ensures { result ≡ laid (jump_choice displacement long) }
+pub fn jump(displacement: u32, form: NumberForm) -> Encoding
+    ensures { result ≡ laid (jump_choice displacement (is_wide form)) }
 {
-    if shortens(Size::Dword, displacement, long) {
+    if shortens(Size::Dword, displacement, form) {
         Encoding::bare(0xeb).with_immediate(short(displacement))
     } else {
         Encoding::bare(0xe9).with_immediate(Number::Dword(displacement))

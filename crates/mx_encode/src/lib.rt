@@ -1,6 +1,9 @@
 //! From an instruction to bytes: of all spellings of it, the chosen one.
 #![tactic(auto)]
 
+ghost use Rattle.std.specs.Prelude.{◌≡◌};
+ghost use Rattle.mx_encode.specs.Given.{is_wide};
+
 mod accumulator;
 mod bits;
 mod choice;
@@ -22,6 +25,7 @@ pub use laws::{
     chosen_spells, displacement_is_held, displacement_keeps_length, filled_fits, immediate_is_held,
     immediate_keeps_length, one_chosen, some_chosen, spelled_has_form, target_keeps_length,
 };
+use numbers::NumberForm;
 
 /// What is asked for where a shorter form would do. A mark asks for nothing where an instruction
 /// has nothing to widen.
@@ -31,6 +35,28 @@ pub struct Wide {
     pub immediate: bool,
     /// A displacement of 32 bits, in memory after a base or in a jump.
     pub displacement: bool,
+}
+
+impl Wide {
+    fn immediate_form(self) -> NumberForm
+        ensures { is_wide result ≡ self.immediate }
+    {
+        if self.immediate {
+            NumberForm::Wide
+        } else {
+            NumberForm::Shortest
+        }
+    }
+
+    fn displacement_form(self) -> NumberForm
+        ensures { is_wide result ≡ self.displacement }
+    {
+        if self.displacement {
+            NumberForm::Wide
+        } else {
+            NumberForm::Shortest
+        }
+    }
 }
 
 /// No bytes spell the instruction: ESP is an index, or a LOOP or JECXZ goes further than a

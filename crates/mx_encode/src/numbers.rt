@@ -3,11 +3,21 @@
 ghost use Rattle.std.specs.Prelude.{◌≡◌, ◌<◌, ◌^◌};
 ghost use Rattle.mx_word.specs.Word.{width};
 ghost use Rattle.mx_insn.specs.Table.{shift_number};
-ghost use Rattle.mx_encode.specs.Numbers.{scale_number, arithmetic_number, is_word_size, is_short, shortens, short};
+ghost use Rattle.mx_encode.specs.Numbers.{scale_number, arithmetic_number, is_short, shortens, short};
+ghost use Rattle.mx_encode.specs.Given.{is_wide};
 
 use crate::fields::Number;
-use mx_insn::{Arithmetic, OperandSize, Scale, Shift, Size};
+use mx_insn::{Arithmetic, Scale, Shift, Size};
 use mx_word::signed;
+
+/// The form of an immediate, or of a displacement, where a byte with its sign extended may do.
+#[derive(Clone, Copy)]
+pub enum NumberForm {
+    /// A byte, if it does.
+    Shortest,
+    /// Never a byte: the number is marked wide.
+    Wide,
+}
 
 pub fn scale_number(scale: Scale) -> u8
     ensures value { result ≡ scale_number scale }
@@ -50,15 +60,6 @@ pub fn shift_number(operation: Shift) -> u8
     }
 }
 
-pub fn is_word_size(size: OperandSize) -> bool
-    ensures { result ≡ is_word_size size }
-{
-    match size {
-        OperandSize::Word => true,
-        OperandSize::Dword => false,
-    }
-}
-
 /// Whether a number is a byte with its sign extended.
 pub fn is_short(size: Size, number: u32) -> bool
     ensures { result ≡ is_short (width size) number }
@@ -66,11 +67,14 @@ pub fn is_short(size: Size, number: u32) -> bool
     size.modulo(signed(Size::Byte, number % 256)) == number
 }
 
-/// Whether a byte stands for a number that may be marked wide.
-pub fn shortens(size: Size, number: u32, long: bool) -> bool
-    ensures { result ≡ shortens (width size) number long }
+/// Whether a byte stands for a number in the form.
+pub fn shortens(size: Size, number: u32, form: NumberForm) -> bool
+    ensures { result ≡ shortens (width size) number (is_wide form) }
 {
-    !long && is_short(size, number)
+    match form {
+        NumberForm::Shortest => is_short(size, number),
+        NumberForm::Wide => false,
+    }
 }
 
 /// The low byte of an immediate, where the rest is its sign.

@@ -2,11 +2,11 @@
 
 ghost use Rattle.std.specs.Prelude.{◌≡◌, ◌<◌, ◌^◌};
 ghost use Rattle.mx_encode.specs.Choice.{arithmetic_immediate, arithmetic_choice, move_immediate, move_choice, test_choice, test_immediate, exchange_choice, load_address, multiply_choice, multiply_immediate, zero_extension, sign_extension};
-ghost use Rattle.mx_encode.specs.Given.{laid, value_into, OperandFits, OperandsFit, ImmediateFits, WideImmediateFits};
+ghost use Rattle.mx_encode.specs.Given.{is_wide, laid, value_into, OperandFits, OperandsFit, ImmediateFits, WideImmediateFits};
 
 use crate::fields::Number;
 use crate::forms::Encoding;
-use crate::numbers::{arithmetic_number, is_word_size, short, shortens};
+use crate::numbers::{NumberForm, arithmetic_number, short, shortens};
 use mx_insn::{
     Arithmetic, Extension, Immediate, Memory, Operand, OperandSize, Operands, Register, Size,
     WideImmediate,
@@ -16,9 +16,9 @@ fn arithmetic_immediate(
     operation: Arithmetic,
     to: Operand,
     value: Immediate,
-    long: bool,
+    form: NumberForm,
 ) -> Encoding
-    ensures form { result ≡ laid (arithmetic_immediate operation to value long) }
+    ensures form { result ≡ laid (arithmetic_immediate operation to value (is_wide form)) }
     ensures to_fits { OperandFits to }
     ensures value_fits { ImmediateFits value }
 {
@@ -28,14 +28,18 @@ fn arithmetic_immediate(
     match value {
         Immediate::Byte(n) => Encoding::with_rm(0x80, reg, to).with_immediate(Number::Byte(n)),
         Immediate::Word(n) => {
-            if shortens(Size::Word, u32::from(n), long) {
-                short_form.resized(true).with_immediate(short(u32::from(n)))
+            if shortens(Size::Word, u32::from(n), form) {
+                short_form
+                    .with_operand_size(OperandSize::Word)
+                    .with_immediate(short(u32::from(n)))
             } else {
-                long_form.resized(true).with_immediate(Number::Word(n))
+                long_form
+                    .with_operand_size(OperandSize::Word)
+                    .with_immediate(Number::Word(n))
             }
         }
         Immediate::Dword(n) => {
-            if shortens(Size::Dword, n, long) {
+            if shortens(Size::Dword, n, form) {
                 short_form.with_immediate(short(n))
             } else {
                 long_form.with_immediate(Number::Dword(n))
@@ -45,8 +49,8 @@ fn arithmetic_immediate(
 }
 
 /// How ADD and its like are encoded, by their operands.
-pub fn arithmetic(operation: Arithmetic, operands: Operands, long: bool) -> Encoding
-    ensures form { result ≡ laid (arithmetic_choice operation operands long) }
+pub fn arithmetic(operation: Arithmetic, operands: Operands, form: NumberForm) -> Encoding
+    ensures form { result ≡ laid (arithmetic_choice operation operands (is_wide form)) }
     ensures fits { OperandsFit operands }
 {
     let group = 8 * arithmetic_number(operation);
@@ -60,7 +64,7 @@ pub fn arithmetic(operation: Arithmetic, operands: Operands, long: bool) -> Enco
         Operands::ToMemory { size, to, from } => {
             Encoding::sized(size, group, from.number(), Operand::Memory(to))
         }
-        Operands::Immediate { to, value } => arithmetic_immediate(operation, to, value, long),
+        Operands::Immediate { to, value } => arithmetic_immediate(operation, to, value, form),
     }
 }
 
@@ -75,7 +79,7 @@ fn move_immediate(to: Operand, value: Immediate) -> Encoding
                 Encoding::bare(0xb0 + to.number()).with_immediate(Number::Byte(n))
             }
             Immediate::Word(n) => Encoding::bare(0xb8 + to.number())
-                .resized(true)
+                .with_operand_size(OperandSize::Word)
                 .with_immediate(Number::Word(n)),
             Immediate::Dword(n) => {
                 Encoding::bare(0xb8 + to.number()).with_immediate(Number::Dword(n))
@@ -95,7 +99,7 @@ fn value_into(opcode: u8, to: Operand, value: Immediate) -> Encoding
     match value {
         Immediate::Byte(n) => Encoding::with_rm(opcode, 0, to).with_immediate(Number::Byte(n)),
         Immediate::Word(n) => Encoding::with_rm(opcode + 1, 0, to)
-            .resized(true)
+            .with_operand_size(OperandSize::Word)
             .with_immediate(Number::Word(n)),
         Immediate::Dword(n) => {
             Encoding::with_rm(opcode + 1, 0, to).with_immediate(Number::Dword(n))
@@ -148,26 +152,33 @@ pub fn exchange(size: Size, operand: Operand, register: Register) -> Encoding
 }
 
 /// How a LEA is encoded.
+#[tactic(auto, using(crate::proofs::Sizes::size_again))]
 pub fn load_address(size: OperandSize, to: Register, memory: Memory) -> Encoding
     ensures form { result ≡ laid (load_address size to memory) }
     ensures fits { memory.displacement < 2 ^ 32 }
 {
-    Encoding::with_rm(0x8d, to.number(), Operand::Memory(memory)).resized(is_word_size(size))
+    Encoding::with_rm(0x8d, to.number(), Operand::Memory(memory)).with_operand_size(size)
 }
 
 /// How an IMUL with two operands is encoded.
+#[tactic(auto, using(crate::proofs::Sizes::size_again))]
 pub fn multiply(size: OperandSize, to: Register, from: Operand) -> Encoding
     ensures form { result ≡ laid (multiply_choice size to from) }
     ensures fits { OperandFits from }
 {
     Encoding::with_rm(0xaf, to.number(), from)
         .escaped()
-        .resized(is_word_size(size))
+        .with_operand_size(size)
 }
 
 /// How an IMUL with three operands is encoded.
-pub fn multiply_immediate(to: Register, from: Operand, value: WideImmediate, long: bool) -> Encoding
-    ensures form { result ≡ laid (multiply_immediate to from value long) }
+pub fn multiply_immediate(
+    to: Register,
+    from: Operand,
+    value: WideImmediate,
+    form: NumberForm,
+) -> Encoding
+    ensures form { result ≡ laid (multiply_immediate to from value (is_wide form)) }
     ensures from_fits { OperandFits from }
     ensures value_fits { WideImmediateFits value }
 {
@@ -176,14 +187,18 @@ pub fn multiply_immediate(to: Register, from: Operand, value: WideImmediate, lon
     let long_form = Encoding::with_rm(0x69, reg, from);
     match value {
         WideImmediate::Word(n) => {
-            if shortens(Size::Word, u32::from(n), long) {
-                short_form.resized(true).with_immediate(short(u32::from(n)))
+            if shortens(Size::Word, u32::from(n), form) {
+                short_form
+                    .with_operand_size(OperandSize::Word)
+                    .with_immediate(short(u32::from(n)))
             } else {
-                long_form.resized(true).with_immediate(Number::Word(n))
+                long_form
+                    .with_operand_size(OperandSize::Word)
+                    .with_immediate(Number::Word(n))
             }
         }
         WideImmediate::Dword(n) => {
-            if shortens(Size::Dword, n, long) {
+            if shortens(Size::Dword, n, form) {
                 short_form.with_immediate(short(n))
             } else {
                 long_form.with_immediate(Number::Dword(n))
@@ -199,7 +214,7 @@ pub fn zero_extend(extension: Extension, to: Register, from: Operand) -> Encodin
 {
     let from_byte = Encoding::with_rm(0xb6, to.number(), from).escaped();
     match extension {
-        Extension::ByteToWord => from_byte.resized(true),
+        Extension::ByteToWord => from_byte.with_operand_size(OperandSize::Word),
         Extension::ByteToDword => from_byte,
         Extension::WordToDword => Encoding::with_rm(0xb7, to.number(), from).escaped(),
     }
@@ -212,7 +227,7 @@ pub fn sign_extend(extension: Extension, to: Register, from: Operand) -> Encodin
 {
     let from_byte = Encoding::with_rm(0xbe, to.number(), from).escaped();
     match extension {
-        Extension::ByteToWord => from_byte.resized(true),
+        Extension::ByteToWord => from_byte.with_operand_size(OperandSize::Word),
         Extension::ByteToDword => from_byte,
         Extension::WordToDword => Encoding::with_rm(0xbf, to.number(), from).escaped(),
     }

@@ -6,10 +6,10 @@ ghost use Rattle.mx_word.specs.Names.{register_number};
 ghost use Rattle.mx_insn.specs.Spelling.{displacement_length};
 ghost use Rattle.mx_encode.specs.Numbers.{number_bytes};
 ghost use Rattle.mx_encode.specs.Places.{base_number, sib_of, rm_number, mode_after, mode_of, memory_place, place_written, can_index, can_stand, has_place};
-ghost use Rattle.mx_encode.specs.Given.{sib_seen, place_seen};
+ghost use Rattle.mx_encode.specs.Given.{is_wide, sib_seen, place_seen};
 
 use crate::fields::{Number, Rm, RmFields, Sib};
-use crate::numbers::{is_short, scale_number};
+use crate::numbers::{NumberForm, is_short, scale_number};
 use mx_insn::{Index, Memory, Operand, Register, Size};
 
 /// Without a base the base field is 101.
@@ -43,28 +43,25 @@ fn sib_of(base: Option<Register>, index: Option<Index>) -> Option<Sib>
     }
 }
 
-fn mode_after(base: Register, displacement: u32, long: bool) -> u8
-    ensures value { result ≡ mode_after (register_number base) displacement long }
+fn mode_after(base: Register, displacement: u32, form: NumberForm) -> u8
+    ensures value { result ≡ mode_after (register_number base) displacement (is_wide form) }
     ensures below { result < 3 }
 {
-    if long {
-        2
-    } else if displacement == 0 && base.number() != 5 {
-        0
-    } else if is_short(Size::Dword, displacement) {
-        1
-    } else {
-        2
+    match form {
+        NumberForm::Wide => 2,
+        NumberForm::Shortest if displacement == 0 && base.number() != 5 => 0,
+        NumberForm::Shortest if is_short(Size::Dword, displacement) => 1,
+        NumberForm::Shortest => 2,
     }
 }
 
-fn mode_of(base: Option<Register>, displacement: u32, long: bool) -> u8
-    ensures value { result ≡ mode_of base displacement long }
+fn mode_of(base: Option<Register>, displacement: u32, form: NumberForm) -> u8
+    ensures value { result ≡ mode_of base displacement (is_wide form) }
     ensures below { result < 3 }
 {
     match base {
         None => 0,
-        Some(base) => mode_after(base, displacement, long),
+        Some(base) => mode_after(base, displacement, form),
     }
 }
 
@@ -79,11 +76,11 @@ fn displacement_of(mode: u8, base: u8, displacement: u32) -> Number
     }
 }
 
-fn memory_place(reg: u8, memory: Memory, long: bool) -> RmFields
+fn memory_place(reg: u8, memory: Memory, form: NumberForm) -> RmFields
     requires { reg < 8 }
-    ensures { place_seen result ≡ memory_place reg memory long }
+    ensures { place_seen result ≡ memory_place reg memory (is_wide form) }
 {
-    let mode = mode_of(memory.base, memory.displacement, long);
+    let mode = mode_of(memory.base, memory.displacement, form);
     let base = base_number(memory.base);
     let sib = sib_of(memory.base, memory.index);
     RmFields {
@@ -96,9 +93,9 @@ fn memory_place(reg: u8, memory: Memory, long: bool) -> RmFields
 }
 
 /// How a ModRM byte and its SIB say where an operand stands.
-pub fn place_of(rm: Rm, long: bool) -> RmFields
+pub fn place_of(rm: Rm, form: NumberForm) -> RmFields
     requires { rm.reg < 8 }
-    ensures { place_seen result ≡ place_written rm.reg rm.operand long }
+    ensures { place_seen result ≡ place_written rm.reg rm.operand (is_wide form) }
 {
     match rm.operand {
         Operand::Register(register) => RmFields {
@@ -108,7 +105,7 @@ pub fn place_of(rm: Rm, long: bool) -> RmFields
             sib: None,
             displacement: Number::Nothing,
         },
-        Operand::Memory(memory) => memory_place(rm.reg, memory, long),
+        Operand::Memory(memory) => memory_place(rm.reg, memory, form),
     }
 }
 

@@ -3,12 +3,12 @@
 ghost use Rattle.std.specs.Prelude.{◌≡◌, ◌<◌, ◌^◌, true, false, None, Some, Bool};
 ghost use Rattle.mx_insn.specs.Table.{product_number};
 ghost use Rattle.mx_encode.specs.Choice.{step_choice, unary_choice, product_choice, shift_choice, set_condition, push_choice, push_immediate, pop_choice};
-ghost use Rattle.mx_encode.specs.Given.{laid, step_form, OperandFits, CountFits};
+ghost use Rattle.mx_encode.specs.Given.{is_wide, laid, step_form, OperandFits, CountFits};
 
 use crate::fields::Number;
-use crate::forms::{Encoding, is_word};
-use crate::numbers::{shift_number, short, shortens};
-use mx_insn::{Condition, Count, Operand, Product, Register, Shift, Size, Unary};
+use crate::forms::Encoding;
+use crate::numbers::{NumberForm, shift_number, short, shortens};
+use mx_insn::{Condition, Count, Operand, OperandSize, Product, Register, Shift, Size, Unary};
 
 /// INC or DEC, by the opcode for words and dwords in a register or else under /n of FE and FF.
 fn step(opcode: u8, reg: u8, size: Size, operand: Operand) -> Encoding
@@ -19,7 +19,9 @@ fn step(opcode: u8, reg: u8, size: Size, operand: Operand) -> Encoding
     match operand {
         Operand::Register(register) => match size {
             Size::Byte => Encoding::with_rm(0xfe, reg, operand),
-            Size::Word => Encoding::bare(opcode + register.number()).resized(true),
+            Size::Word => Encoding::bare(opcode + register.number()).with_operand_size(
+                OperandSize::Word,
+            ),
             Size::Dword => Encoding::bare(opcode + register.number()),
         },
         Operand::Memory(_) => Encoding::sized(size, 0xfe, reg, operand),
@@ -98,10 +100,10 @@ pub fn push(operand: Operand) -> Encoding
 }
 
 /// How a PUSH of an immediate is encoded.
-pub fn push_immediate(number: u32, long: bool) -> Encoding
-    ensures { result ≡ laid (push_immediate number long) }
+pub fn push_immediate(number: u32, form: NumberForm) -> Encoding
+    ensures { result ≡ laid (push_immediate number (is_wide form)) }
 {
-    if shortens(Size::Dword, number, long) {
+    if shortens(Size::Dword, number, form) {
         Encoding::bare(0x6a).with_immediate(short(number))
     } else {
         Encoding::bare(0x68).with_immediate(Number::Dword(number))

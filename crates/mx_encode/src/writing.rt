@@ -3,14 +3,15 @@
 ghost use Rattle.std.specs.Prelude.{◌≡◌, ◌+◌, ◌≤◌, ◌++◌, length, false};
 ghost use Rattle.mx_word.specs.Word.{bytes_of};
 ghost use Rattle.mx_insn.specs.Spelling.{resized_bytes, repeat_bytes, escape_bytes, place_bytes, modrm_bytes, sib_bytes};
-ghost use Rattle.mx_encode.specs.Numbers.{number_bytes};
+ghost use Rattle.mx_encode.specs.Numbers.{is_word_size, number_bytes};
 ghost use Rattle.mx_encode.specs.Places.{place_for};
-ghost use Rattle.mx_encode.specs.Given.{RegFits, form_bytes, sib_seen, place_seen};
+ghost use Rattle.mx_encode.specs.Given.{is_escaped, is_wide, RegFits, form_bytes, sib_seen, place_seen};
 
 use crate::fields::{Number, Rm, RmFields, Sib};
-use crate::forms::Encoding;
+use crate::forms::{Encoding, OpcodeMap};
+use crate::numbers::NumberForm;
 use crate::places::place_of;
-use mx_insn::{ArrayVec, Repeat};
+use mx_insn::{ArrayVec, OperandSize, Repeat};
 
 /// A spelling has at most 14 bytes.
 type Bytes = ArrayVec<u8, 15>;
@@ -44,13 +45,15 @@ fn put_number(bytes: &mut Bytes, number: Number)
     }
 }
 
-fn put_resized(bytes: &mut Bytes, resized: bool)
+/// The operand-size prefix.
+fn put_operand_size(bytes: &mut Bytes, operand_size: OperandSize)
     requires { length bytes.old.items + 1 ≤ 15 }
-    ensures bytes { bytes.new.items ≡ bytes.old.items ++ resized_bytes resized }
+    ensures bytes { bytes.new.items ≡ bytes.old.items ++ resized_bytes (is_word_size operand_size) }
     ensures room { length bytes.new.items ≤ length bytes.old.items + 1 }
 {
-    if resized {
-        bytes.push(0x66);
+    match operand_size {
+        OperandSize::Word => bytes.push(0x66),
+        OperandSize::Dword => {}
     }
 }
 
@@ -66,13 +69,14 @@ fn put_repeat(bytes: &mut Bytes, repeat: Option<Repeat>)
     }
 }
 
-fn put_escape(bytes: &mut Bytes, escaped: bool)
+fn put_escape(bytes: &mut Bytes, map: OpcodeMap)
     requires { length bytes.old.items + 1 ≤ 15 }
-    ensures bytes { bytes.new.items ≡ bytes.old.items ++ escape_bytes escaped }
+    ensures bytes { bytes.new.items ≡ bytes.old.items ++ escape_bytes (is_escaped map) }
     ensures room { length bytes.new.items ≤ length bytes.old.items + 1 }
 {
-    if escaped {
-        bytes.push(0x0f);
+    match map {
+        OpcodeMap::OneByte => {}
+        OpcodeMap::TwoByte => bytes.push(0x0f),
     }
 }
 
@@ -96,28 +100,28 @@ fn put_place(bytes: &mut Bytes, place: RmFields)
     put_number(bytes, place.displacement);
 }
 
-fn put_rm(bytes: &mut Bytes, rm: Option<Rm>, long: bool)
+fn put_rm(bytes: &mut Bytes, rm: Option<Rm>, form: NumberForm)
     requires reg { RegFits rm }
     requires room { length bytes.old.items + 6 ≤ 15 }
-    ensures bytes { bytes.new.items ≡ bytes.old.items ++ modrm_bytes (place_for rm long) }
+    ensures bytes { bytes.new.items ≡ bytes.old.items ++ modrm_bytes (place_for rm (is_wide form)) }
     ensures room { length bytes.new.items ≤ length bytes.old.items + 6 }
 {
     if let Some(rm) = rm {
-        put_place(bytes, place_of(rm, long));
+        put_place(bytes, place_of(rm, form));
     }
 }
 
-/// The bytes of an encoding.
-pub fn bytes_of_form(form: Encoding, long: bool) -> Bytes
-    requires { RegFits form.rm }
-    ensures { result.items ≡ form_bytes form (place_for form.rm long) }
+/// The bytes of an encoding, with its displacement in the form.
+pub fn bytes_of_encoding(encoding: Encoding, form: NumberForm) -> Bytes
+    requires { RegFits encoding.rm }
+    ensures { result.items ≡ form_bytes encoding (place_for encoding.rm (is_wide form)) }
 {
     let mut bytes = Bytes::new();
-    put_resized(&mut bytes, form.resized);
-    put_repeat(&mut bytes, form.repeat);
-    put_escape(&mut bytes, form.escaped);
-    bytes.push(form.opcode);
-    put_rm(&mut bytes, form.rm, long);
-    put_number(&mut bytes, form.immediate);
+    put_operand_size(&mut bytes, encoding.operand_size);
+    put_repeat(&mut bytes, encoding.repeat);
+    put_escape(&mut bytes, encoding.map);
+    bytes.push(encoding.opcode);
+    put_rm(&mut bytes, encoding.rm, form);
+    put_number(&mut bytes, encoding.immediate);
     bytes
 }

@@ -1,19 +1,20 @@
 use Rattle.mx_decode.specs.Reading.{reading}
+use Rattle.mx_decode.specs.Given.{head_seen}
 use Rattle.mx_decode.proofs.Agrees.{row_fits, operands_same}
 use Rattle.mx_decode.proofs.single.read.Goals as goal
 
 pub operands-requires-clause-first : goal.operands-requires-clause-first
-operands-requires-clause-first c = (row_fits c.in_ok-head.head c.in_ok-head.rest.now c.in_ok-row.row.now c.in_ok-row.ensures).first
+operands-requires-clause-first c = (row_fits (head_seen c.in_ok-head.head) c.in_ok-head.rest.now c.in_ok-row.row.now c.in_ok-row.ensures).first
 
 pub operands-requires-clause-step : goal.operands-requires-clause-step
-operands-requires-clause-step c = (row_fits c.in_ok-head.head c.in_ok-head.rest.now c.in_ok-row.row.now c.in_ok-row.ensures).step
+operands-requires-clause-step c = (row_fits (head_seen c.in_ok-head.head) c.in_ok-head.rest.now c.in_ok-row.row.now c.in_ok-row.ensures).step
 
 pub operands-requires-clause-number : goal.operands-requires-clause-number
-operands-requires-clause-number c = (row_fits c.in_ok-head.head c.in_ok-head.rest.now c.in_ok-row.row.now c.in_ok-row.ensures).number
+operands-requires-clause-number c = (row_fits (head_seen c.in_ok-head.head) c.in_ok-head.rest.now c.in_ok-row.row.now c.in_ok-row.ensures).number
 
 pub operands-requires-clause-narrow : goal.operands-requires-clause-narrow
-operands-requires-clause-narrow c = (row_fits c.in_ok-head.head c.in_ok-head.rest.now c.in_ok-row.row.now c.in_ok-row.ensures).narrow
+operands-requires-clause-narrow c = (row_fits (head_seen c.in_ok-head.head) c.in_ok-head.rest.now c.in_ok-row.row.now c.in_ok-row.ensures).narrow
 
 pub returns : goal.returns
 unfolding reading
-returns c = rw (c.in_ok-head.ensures, c.in_ok-row.ensures, ← operands_same c.in_ok-head.head c.in_ok-row.row.now c.in_ok-head.rest.now) c.operands.ensures
+returns c = rw (c.in_ok-head.ensures, c.in_ok-row.ensures, ← operands_same (head_seen c.in_ok-head.head) c.in_ok-row.row.now c.in_ok-head.rest.now) c.operands.ensures
