@@ -12,14 +12,14 @@ pub enum Scale {
 }
 
 /// An index register and its scale. ESP is no index: no bytes spell it.
-#[derive(Clone, Copy, PartialEq, Eq)]
+#[derive(Clone, Copy)]
 pub struct Index {
     pub register: Register,
     pub scale: Scale,
 }
 
 /// A place in memory: base + index * scale + displacement, modulo 2^32.
-#[derive(Clone, Copy, PartialEq, Eq)]
+#[derive(Clone, Copy)]
 pub struct Memory {
     pub base: Option<Register>,
     pub index: Option<Index>,
@@ -27,21 +27,21 @@ pub struct Memory {
 }
 
 /// What mod and rm name: a register or a place in memory.
-#[derive(Clone, Copy, PartialEq, Eq)]
+#[derive(Clone, Copy)]
 pub enum Operand {
     Register(Register),
     Memory(Memory),
 }
 
 /// The operand size of a row that has no byte form.
-#[derive(Clone, Copy, PartialEq, Eq)]
+#[derive(Clone, Copy)]
 pub enum OperandSize {
     Word,
     Dword,
 }
 
 /// A number in the instruction, with its size.
-#[derive(Clone, Copy, PartialEq, Eq)]
+#[derive(Clone, Copy)]
 pub enum Immediate {
     Byte(u8),
     Word(u16),
@@ -49,14 +49,14 @@ pub enum Immediate {
 }
 
 /// A number in an instruction that has no byte form.
-#[derive(Clone, Copy, PartialEq, Eq)]
+#[derive(Clone, Copy)]
 pub enum WideImmediate {
     Word(u16),
     Dword(u32),
 }
 
 /// Two operands of one size, of which at most one is memory.
-#[derive(Clone, Copy, PartialEq, Eq)]
+#[derive(Clone, Copy)]
 pub enum Operands {
     ToRegister {
         size: Size,
@@ -84,14 +84,14 @@ pub enum Product {
 }
 
 /// How far a shift or a rotate goes.
-#[derive(Clone, Copy, PartialEq, Eq)]
+#[derive(Clone, Copy)]
 pub enum Count {
     Cl,
     Immediate(u8),
 }
 
 /// What MOVZX and MOVSX extend, and to which size.
-#[derive(Clone, Copy, PartialEq, Eq)]
+#[derive(Clone, Copy)]
 pub enum Extension {
     ByteToWord,
     ByteToDword,
@@ -123,21 +123,21 @@ pub enum Comparison {
 }
 
 /// F3 or F2 before a comparison of strings: on while equal, or while not equal.
-#[derive(Clone, Copy, PartialEq, Eq)]
+#[derive(Clone, Copy)]
 pub enum Repeat {
     Repe,
     Repne,
 }
 
 /// Where IN and OUT find the port's number.
-#[derive(Clone, Copy, PartialEq, Eq)]
+#[derive(Clone, Copy)]
 pub enum Port {
     Dx,
     Immediate(u8),
 }
 
 /// What IN and OUT move: AL or EAX.
-#[derive(Clone, Copy, PartialEq, Eq)]
+#[derive(Clone, Copy)]
 pub enum PortSize {
     Byte,
     Dword,
@@ -168,8 +168,8 @@ pub enum Plain {
 
 /// An instruction. Displacements of jumps are relative to the next instruction, modulo 2^32.
 /// No bytes spell a LOOP or JECXZ whose displacement isn't a signed byte, nor ESP as an index;
-/// every other value has a spelling.
-#[derive(Clone, Copy, PartialEq, Eq)]
+/// every other value has a spelling. Bytes spell at most one, so two are compared by their bytes.
+#[derive(Clone, Copy)]
 pub enum Insn {
     /// ADD, OR, ADC, SBB, AND, SUB, XOR, CMP.
     Arithmetic {

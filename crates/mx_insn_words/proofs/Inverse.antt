@@ -1,7 +1,8 @@
 -- Each row of the tables is found again by its word, so no two have one word.
-use Rattle.std.proofs.Common.{◌≡◌, ◌≢◌, ℕ, Bool, true, false, cond, List, [], ◌∷◌, Option, Some, None, MatchOption, refl, sym, ap, ◌∙◌}
+use Rattle.std.proofs.Common.{◌≡◌, ◌≢◌, ℕ, Bool, true, false, cond, List, [], ◌∷◌, filter, not, Option, Some, None, MatchOption, refl, sym, ap, ◌∙◌}
 use Rattle.std.specs.Prelude.{nat_eq}
 use Rattle.std.specs.Cmp.Lexicographic.{pointwise, bytes_decides}
+use Rattle.std.proofs.lemmas.Bool.{true≢false}
 use Rattle.mx_word.specs.declared.size.Size.{Size}
 use Rattle.mx_word.specs.declared.size.Size.TheVariants as size
 use Rattle.mx_word.specs.declared.names.Register.{Register}
@@ -27,7 +28,7 @@ use Rattle.mx_insn_words.specs.declared.start.Directive.{Directive}
 use Rattle.mx_insn_words.specs.declared.start.Directive.TheVariants as directive
 use Rattle.mx_insn_words.specs.declared.start.WordStart.{WordStart}
 use Rattle.mx_insn_words.specs.declared.start.WordStart.TheVariants as starts
-use Rattle.mx_insn_words.specs.Words.{word_of, prefix_word, directive_word, start_word}
+use Rattle.mx_insn_words.specs.Words.{word_of, prefix_word, directive_word, is_operation, start_word}
 use Rattle.mx_insn_words.specs.Registers.{register_word, size_word}
 
 -- the first whose word it is
@@ -317,8 +318,39 @@ start_again (starts.Directive directive.Sep) = refl
 start_again (starts.Directive directive.Entry) = refl
 start_again (starts.Directive directive.Stack) = refl
 
-pub start_found : (w : List ℕ) (r : Option WordStart) → r ≡ first_named start_word all_starts w → MatchOption r ((x : WordStart) → w ≢ start_word x) (λ x. w ≡ start_word x)
-start_found = found start_word all_starts start_again
+-- what is found among all is found among those that pass a test, if it passes
+filtered : {T : Type 0} (word : T → List ℕ) (p : T → Bool) (xs : List T) (w : List ℕ) (x : T) → p x ≡ true → first_named word xs w ≡ Some x → first_named word (filter p xs) w ≡ Some x
+filtered word p [] w x e f = absurd cc
+filtered {T} word p (y ∷ xs) w x e f = go (pointwise nat_eq (word y) w) (p y) refl refl f (filtered word p xs w x e)
+  where
+    go : (b c : Bool) → pointwise nat_eq (word y) w ≡ b → p y ≡ c → cond b (Some y) (first_named word xs w) ≡ Some x → (first_named word xs w ≡ Some x → first_named word (filter p xs) w ≡ Some x) → first_named word (cond c (y ∷ filter p xs) (filter p xs)) w ≡ Some x
+    go true true g h f more = rw g f
+    go true false g h f more = let value : y ≡ x = cc in absurd (true≢false (sym (ap p value ∙ e) ∙ h))
+    go false true g h f more = rw g (more f)
+    go false false g h f more = more f
+
+passing_found : (p : WordStart → Bool) (w : List ℕ) (r : Option WordStart) → r ≡ first_named start_word (filter p all_starts) w → MatchOption r ((x : WordStart) → p x ≡ true → w ≢ start_word x) (λ x. w ≡ start_word x)
+passing_found p w (Some x) e = named start_word (filter p all_starts) w x (sym e)
+passing_found p w None e = λ x h g.
+    let f : first_named start_word (filter p all_starts) w ≡ Some x = filtered start_word p all_starts w x h (ap (first_named start_word all_starts) g ∙ start_again x) in
+    absurd cc
+
+pub operation_found : (w : List ℕ) (r : Option WordStart) → r ≡ first_named start_word (filter is_operation all_starts) w → MatchOption r ((x : WordStart) → is_operation x ≡ true → w ≢ start_word x) (λ x. w ≡ start_word x)
+operation_found = passing_found is_operation
+
+abbrev pub is_other : WordStart → Bool
+is_other x = not (is_operation x)
+
+pub other_found : (w : List ℕ) (r : Option WordStart) → r ≡ first_named start_word (filter is_other all_starts) w → MatchOption r ((x : WordStart) → is_operation x ≡ false → w ≢ start_word x) (λ x. w ≡ start_word x)
+other_found w (Some x) e = passing_found is_other w (Some x) e
+other_found w None e = λ x h. passing_found is_other w None e x (ap not h)
+
+pub neither : (w : List ℕ) → ((x : WordStart) → is_operation x ≡ true → w ≢ start_word x) → ((x : WordStart) → is_operation x ≡ false → w ≢ start_word x) → (x : WordStart) → w ≢ start_word x
+neither w f g x = go (is_operation x) refl
+  where
+    go : (b : Bool) → is_operation x ≡ b → w ≢ start_word x
+    go true e = f x e
+    go false e = g x e
 
 pub one_start : (a b : WordStart) → start_word a ≡ start_word b → a ≡ b
 one_start a b e = let f : first_named start_word all_starts (start_word a) ≡ first_named start_word all_starts (start_word b) = ap (first_named start_word all_starts) e in cc (start_again a, start_again b)

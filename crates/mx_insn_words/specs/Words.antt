@@ -1,7 +1,7 @@
 -- Which word is which: mnemonics, what may stand around them, and directives (mnemonics: manual, chapter 17; of the
 -- names that the manual has for one condition we take one. `.text`, `.data`, `.bss`, `.data1`, `.data2`, `.data4`, `.ascii`
 -- and `.space` are those of MINIX's assembler; `.sep`, `.entry`, `.stack` and `short` are our own).
-use Rattle.std.specs.Prelude.{ℕ, List, ◌++◌, codes}
+use Rattle.std.specs.Prelude.{ℕ, Bool, true, false, List, ◌++◌, codes}
 use Rattle.mx_word.specs.declared.size.Size.{Size}
 use Rattle.mx_word.specs.declared.size.Size.TheVariants.{Byte, Word, Dword}
 use Rattle.mx_word.specs.declared.names.Arithmetic.{Arithmetic}
@@ -210,3 +210,13 @@ abbrev pub start_word : WordStart → List ℕ
 start_word (starts.Mnemonic x) = word_of x
 start_word (starts.Repeat x) = prefix_word x
 start_word (starts.Directive x) = directive_word x
+
+-- an operation's word holds neither a condition nor a size
+abbrev pub is_operation : WordStart → Bool
+is_operation (starts.Mnemonic (mnemonics.JumpIf c)) = false
+is_operation (starts.Mnemonic (mnemonics.SetCondition c)) = false
+is_operation (starts.Mnemonic (mnemonics.Transfer x s)) = false
+is_operation (starts.Mnemonic (mnemonics.Compare x s)) = false
+is_operation (starts.Mnemonic m) = true
+is_operation (starts.Repeat x) = false
+is_operation (starts.Directive x) = false

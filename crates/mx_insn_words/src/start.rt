@@ -1,13 +1,13 @@
 //! Prefixes and directives, and all that a statement begins with.
 
-ghost use Rattle.std.specs.Prelude.{◌≡◌, ◌≢◌, MatchOption};
+ghost use Rattle.std.specs.Prelude.{◌≡◌, ◌≢◌, true, false, MatchOption};
 ghost use Rattle.mx_insn_words.specs.declared.mnemonic.Mnemonic.{Mnemonic};
 ghost use Rattle.mx_insn_words.specs.declared.start.WordStart.{WordStart};
-ghost use Rattle.mx_insn_words.specs.Words.{start_word, word_of};
+ghost use Rattle.mx_insn_words.specs.Words.{is_operation, start_word, word_of};
 
 use crate::mnemonic::Mnemonic;
 use crate::named::found;
-use crate::table::STARTS;
+use crate::table::{OPERATIONS, OTHER_STARTS};
 
 /// What stands before a string instruction.
 #[derive(Clone, Copy, PartialEq, Eq)]
@@ -41,12 +41,32 @@ pub enum WordStart {
     Directive(Directive),
 }
 
+/// The operation that a word is.
+fn operation_named(word: &[u8]) -> Option<WordStart>
+    ensures { MatchOption result ((x : WordStart) → is_operation x ≡ true
+        → word.now ≢ start_word x) (λ x. word.now ≡ start_word x) }
+{
+    found(&OPERATIONS, word)
+}
+
+/// What else than an operation a word begins a statement as.
+fn other_named(word: &[u8]) -> Option<WordStart>
+    ensures { MatchOption result ((x : WordStart) → is_operation x ≡ false
+        → word.now ≢ start_word x) (λ x. word.now ≡ start_word x) }
+{
+    found(&OTHER_STARTS, word)
+}
+
 /// What a word begins a statement as.
+#[tactic(auto, using(crate::proofs::Inverse::neither))]
 pub fn start_named(word: &[u8]) -> Option<WordStart>
     ensures { MatchOption result ((x : WordStart) → word.now ≢ start_word x) (λ x.
         word.now ≡ start_word x) }
 {
-    found(&STARTS, word)
+    match operation_named(word) {
+        Some(start) => Some(start),
+        None => other_named(word),
+    }
 }
 
 /// The mnemonic that a word is.

@@ -11,7 +11,7 @@ use crate::lines::CompareFailure;
 use crate::telling::{tell_decoding, tell_end};
 use crate::{Case, image_of, is_end_same};
 use mx_decode::decode;
-use mx_encode::{Wide, encode, spelled_has_form};
+use mx_encode::{Wide, encode, one_chosen, spelled_has_form};
 use mx_exec::{Image, Outcome, step};
 use mx_exec_cache::{Cache, run_down};
 use mx_insn::Insn;
@@ -49,11 +49,16 @@ fn decoded_again(insn: &Insn, wide: Wide) -> Option<Insn>
     }
 }
 
-/// Whether two values are equal: where they are the same, by the law of `Eq`.
-fn is_equal<T: Eq>(found: &T, wanted: &T) -> bool
-    ensures { found.now ≡ wanted.now → IsTrue result }
+/// Whether two instructions have one spelling: if they are the same, and have one. Bytes spell at
+/// most one instruction.
+fn is_spelled_alike(found: &Insn, wanted: &Insn, wide: Wide) -> bool
+    ensures { IsTrue (has_form wanted.now) → found.now ≡ wanted.now → IsTrue result }
 {
-    found == wanted
+    one_chosen();
+    match (encode(found, wide), encode(wanted, wide)) {
+        (Ok(found), Ok(wanted)) => found.as_slice() == wanted.as_slice(),
+        _ => false,
+    }
 }
 
 /// Whether an instruction's spelling decodes as the instruction.
@@ -65,7 +70,7 @@ fn is_again(insn: &Insn, immediate: bool, displacement: bool) -> bool
         displacement,
     };
     match decoded_again(insn, wide) {
-        Some(again) => is_equal(&again, insn),
+        Some(again) => is_spelled_alike(&again, insn, wide),
         None => false,
     }
 }
