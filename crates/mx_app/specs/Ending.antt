@@ -1,6 +1,8 @@
 -- What a reader at a terminal gets beside a command's text (our own).
-use Rattle.std.specs.Prelude.{◌==◌, ◌&&◌, ◌-◌, ℕ, Bool, not, if◌then◌else◌, List, [], codes, Option, Some, None, slice_get}
+use Rattle.std.specs.Prelude.{◌==◌, ◌&&◌, ◌-◌, ℕ, not, if◌then◌else◌, List, [], codes, Option, Some, None, slice_get}
 use Rattle.mx_app.specs.declared.ending.Terminals.{Terminals}
+use Rattle.mx_app.specs.declared.ending.PrintedText.{PrintedText}
+use Rattle.mx_app.specs.declared.ending.PrintedText.TheVariants.{Symbols}
 
 -- the last byte that was taken, after this many of these bytes
 abbrev pub last_taken : Option ℕ → List ℕ → ℕ → Option ℕ
@@ -11,7 +13,7 @@ abbrev pub text_end : Terminals → Option ℕ → List ℕ
 text_end terminals None = []
 text_end terminals (Some byte) = if terminals.out && not (byte == 10) then codes "\n" else []
 
--- standard error, by whether it is about symbols, and by the last byte that standard output got
-abbrev pub symbols_note : Terminals → Bool → Option ℕ → List ℕ
-symbols_note terminals is_nm None = if terminals.err && is_nm then codes "mx: no symbols\n" else []
-symbols_note terminals is_nm (Some byte) = []
+-- standard error, by what was printed, and by the last byte that standard output got
+abbrev pub symbols_note : Terminals → PrintedText → Option ℕ → List ℕ
+symbols_note terminals Symbols None = if terminals.err then codes "mx: no symbols\n" else []
+symbols_note terminals _ _ = []

@@ -8,6 +8,15 @@ ghost use Rattle.mx_app.specs.Ending.{last_taken, symbols_note, text_end};
 use std::io;
 use std::io::Write;
 
+/// What a command that is done has printed.
+#[derive(Clone, Copy)]
+pub enum PrintedText {
+    /// A program's symbols, one a line, or nothing if it has none.
+    Symbols,
+    /// Any other text.
+    Other,
+}
+
 /// Which of the streams are terminals.
 #[derive(Clone, Copy)]
 pub struct Terminals {
@@ -27,18 +36,14 @@ impl Terminals {
         }
     }
 
-    /// What standard error gets after a command that is done: that a program has no symbols, if `nm`
-    /// printed nothing.
-    pub fn symbols_note(self, is_nm: bool, last: Option<u8>) -> &'static str
-        ensures { result.now ≡ symbols_note self is_nm last }
+    /// What standard error gets after a command that is done: that a program has no symbols, if they
+    /// were asked for and nothing was printed.
+    pub fn symbols_note(self, printed: PrintedText, last: Option<u8>) -> &'static str
+        ensures { result.now ≡ symbols_note self printed last }
     {
-        match last {
-            Some(_) => "",
-            None => if self.err && is_nm {
-                "mx: no symbols\n"
-            } else {
-                ""
-            },
+        match (printed, last) {
+            (PrintedText::Symbols, None) => if self.err { "mx: no symbols\n" } else { "" },
+            _ => "",
         }
     }
 }

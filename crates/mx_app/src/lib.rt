@@ -14,7 +14,7 @@ mod words;
 pub use asking::texts_asked;
 pub use channels::Channels;
 pub use complaint::Complaint;
-pub use ending::{NotingOutput, Terminals};
+pub use ending::{NotingOutput, PrintedText, Terminals};
 pub use mx_app_command::{CommandLine, CommandRequest, RecordRange, command};
 pub use mx_app_db::{
     FileWriter, KeptFile, MemoryWriter, NamedFile, NamedFiles, Reader, Replayed, db, replay, step,

@@ -7,7 +7,7 @@ ghost use Rattle.mx_app.specs.Words.{words_failure_of};
 use crate::asking::{begin_with, texts_asked};
 use crate::channels::Channels;
 use crate::complaint::Complaint;
-use crate::ending::{NotingOutput, Terminals};
+use crate::ending::{NotingOutput, PrintedText, Terminals};
 use crate::noting::{NotingFiles, NotingReader};
 use crate::words::perform_words;
 use mx_app_db::{RuntimeFiles, RuntimeWriter};
@@ -43,10 +43,15 @@ fn arguments(rt: &(impl Env + AllocGlobal)) -> Result<Vec<String>, Failure>
     Ok(arguments)
 }
 
-/// Helps a reader at a terminal after a command that printed up to this byte.
-fn help_reader(rt: &(impl Print + Eprint), terminals: Terminals, last: Option<u8>, is_nm: bool) {
+/// Helps a reader at a terminal after a command that printed such a text up to this byte.
+fn help_reader(
+    rt: &(impl Print + Eprint),
+    terminals: Terminals,
+    printed: PrintedText,
+    last: Option<u8>,
+) {
     let end = terminals.text_end(last);
-    let note = terminals.symbols_note(is_nm, last);
+    let note = terminals.symbols_note(printed, last);
     let _ = print!(rt; "{end}");
     let _ = eprint!(rt; "{note}");
 }
@@ -65,8 +70,12 @@ where
         out: NotingOutput::new(io::writer(rt)),
     };
     let answer = perform_words(rt, rt.alloc(), words, &mut channels);
-    let is_nm = answer.is_ok() && begin_with(words, "nm");
-    help_reader(rt, terminals, channels.out.last(), is_nm);
+    let printed = if answer.is_ok() && begin_with(words, "nm") {
+        PrintedText::Symbols
+    } else {
+        PrintedText::Other
+    };
+    help_reader(rt, terminals, printed, channels.out.last());
     answer
 }
 

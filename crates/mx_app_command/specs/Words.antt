@@ -185,16 +185,21 @@ IsProgramAsked name rows =
     ⊎ (((name ≡ codes "as") × IsGiven (codes "TEXT") rows)
     ⊎ ((name ≡ codes "dis") ⊎ (name ≡ codes "nm"))))
 
--- those that work on a machine: each has a configuration, and a script or a history; `run` may have a number, `trace` and `draw` two
+-- those with a script
+abbrev pub IsScriptAsked : Text → List Row → Type 0
+IsScriptAsked name rows = IsGiven (codes "SCRIPT") rows × ((name ≡ codes "step") ⊎ (name ≡ codes "db"))
+
+-- those with a history: `run` may have a number, `trace` and `draw` two
+abbrev pub IsHistoryAsked : Text → List Row → Type 0
+IsHistoryAsked name rows =
+    IsGiven (codes "LOG") rows
+    × (((name ≡ codes "run") × MayHaveNumber (codes "T") rows)
+    ⊎ ((name ≡ codes "replay")
+    ⊎ (((name ≡ codes "trace") ⊎ (name ≡ codes "draw")) × MayHaveRange rows)))
+
+-- those that work on a machine: each has a configuration, and a script or a history
 abbrev pub IsMachineAsked : Text → List Row → Type 0
-IsMachineAsked name rows =
-    IsGiven (codes "CONFIG") rows
-    × (((name ≡ codes "step") × IsGiven (codes "SCRIPT") rows)
-    ⊎ (((name ≡ codes "run") × IsGiven (codes "LOG") rows × MayHaveNumber (codes "T") rows)
-    ⊎ (((name ≡ codes "replay") × IsGiven (codes "LOG") rows)
-    ⊎ (((name ≡ codes "trace") × IsGiven (codes "LOG") rows × MayHaveRange rows)
-    ⊎ (((name ≡ codes "draw") × IsGiven (codes "LOG") rows × MayHaveRange rows)
-    ⊎ ((name ≡ codes "db") × IsGiven (codes "SCRIPT") rows))))))
+IsMachineAsked name rows = IsGiven (codes "CONFIG") rows × (IsScriptAsked name rows ⊎ IsHistoryAsked name rows)
 
 abbrev pub is_machine : Text → Bool
 is_machine name =

@@ -2,7 +2,7 @@
 
 ghost use Rattle.std.specs.Prelude.{◌≡◌, IfOk, false, fold, map};
 ghost use Rattle.clap.specs.Words.{app_of, rule_of, shape_of, with_subcommand};
-ghost use Rattle.mx_app_command.specs.Words.{IsLocal, mx_grammar};
+ghost use Rattle.mx_app_command.specs.Words.{IsLocal, mx_grammar, top_app};
 ghost use Rattle.mx_app_command.specs.Tables.{rule_of_argument, shape_of_subcommand};
 
 use crate::help::Example;
@@ -234,6 +234,18 @@ fn made<'a>(alloc: Global, subcommand: &Subcommand<'a>) -> Result<Command<'a>, A
     Ok(command)
 }
 
+/// Adds a subcommand.
+fn with_one<'a>(
+    alloc: Global,
+    line: Command<'a>,
+    subcommand: &Subcommand<'a>,
+) -> Result<Command<'a>, AllocError>
+    ensures { IfOk result (λ c. app_of c ≡ with_subcommand (app_of line.entry)
+        (shape_of_subcommand subcommand.now)) }
+{
+    line.subcommand(made(alloc, subcommand)?)
+}
+
 /// Adds subcommands in turn.
 fn with_all<'a>(
     alloc: Global,
@@ -244,7 +256,7 @@ fn with_all<'a>(
         (map shape_of_subcommand subcommands.now)) }
 {
     for subcommand in subcommands {
-        line = line.subcommand(made(alloc, subcommand)?)?;
+        line = with_one(alloc, line, subcommand)?;
     }
     Ok(line)
 }
@@ -257,15 +269,21 @@ Each takes --explain: if it fails, a second line tells what was wanted.";
 /// What `mx --version` prints beside the name.
 const VERSION: &str = "0.1";
 
-/// The command line's grammar, with its help.
-pub fn grammar<'a>(alloc: Global) -> Result<Command<'a>, AllocError>
-    ensures app { IfOk result (λ c. app_of c ≡ mx_grammar) }
+/// The program without its subcommands.
+fn program<'a>(alloc: Global) -> Command<'a>
+    ensures { app_of result ≡ top_app }
 {
-    let line = Command::new(alloc, "mx")
+    Command::new(alloc, "mx")
         .about("A machine for the process layer of MINIX 3.1")
         .after_help(MORE_HELP)
         .version(VERSION)
         .subcommand_required(true)
-        .disable_help_subcommand(true);
-    with_all(alloc, line, &SUBCOMMANDS)
+        .disable_help_subcommand(true)
+}
+
+/// The command line's grammar, with its help.
+pub fn grammar<'a>(alloc: Global) -> Result<Command<'a>, AllocError>
+    ensures app { IfOk result (λ c. app_of c ≡ mx_grammar) }
+{
+    with_all(alloc, program(alloc), &SUBCOMMANDS)
 }

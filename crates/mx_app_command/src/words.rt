@@ -2,7 +2,7 @@
 
 ghost use Rattle.std.specs.Prelude.{◌≡◌, ℕ, Bool, IfErr, IfOk, codes, false, is_some, map, option_map, true};
 ghost use Rattle.clap.specs.Words.{FailsBy, HasMatchesOf, fault_of, first_of, found_of, kind_of, rows_of, subcommand_of, takes};
-ghost use Rattle.mx_app_command.specs.Words.{Asks, AsksBy, AsksToExplain, HasNumber, HasNumberOr, HasRange, HasText, IsFlag, MayHaveNumber, MayHaveRange, MayHaveText, IsAsked, IsMachineAsked, IsProgramAsked, is_machine, mx_grammar};
+ghost use Rattle.mx_app_command.specs.Words.{Asks, AsksBy, AsksToExplain, HasNumber, HasNumberOr, HasRange, HasText, IsFlag, MayHaveNumber, MayHaveRange, MayHaveText, IsAsked, IsHistoryAsked, IsMachineAsked, IsProgramAsked, IsScriptAsked, is_machine, mx_grammar};
 
 use crate::grammar::grammar;
 use clap::error::ErrorKind;
@@ -152,31 +152,12 @@ fn program_request<'a>(name: &str, matches: &ArgMatches<'a>) -> CommandRequest<'
     }
 }
 
-/// What the words of a subcommand on a machine ask for.
-fn machine_request<'a>(name: &str, matches: &ArgMatches<'a>) -> CommandRequest<'a>
-    requires { IsMachineAsked name.now (rows_of (found_of matches.now)) }
+/// What the words of a subcommand with a script ask for.
+fn script_request<'a>(name: &str, config: &'a str, matches: &ArgMatches<'a>) -> CommandRequest<'a>
+    requires config { HasText (codes "CONFIG") (rows_of (found_of matches.now)) config.now }
+    requires asked { IsScriptAsked name.now (rows_of (found_of matches.now)) }
     ensures { AsksBy result name.now (rows_of (found_of matches.now)) }
 {
-    let config = value_asked(matches, "CONFIG");
-    if name == "run" {
-        let log = value_asked(matches, "LOG");
-        let ticks = number_or(matches, "T", 0);
-        return CommandRequest::Run { config, log, ticks };
-    }
-    if name == "replay" {
-        let log = value_asked(matches, "LOG");
-        return CommandRequest::Replay { config, log };
-    }
-    if name == "trace" {
-        let log = value_asked(matches, "LOG");
-        let range = range_asked(matches);
-        return CommandRequest::Trace { config, log, range };
-    }
-    if name == "draw" {
-        let log = value_asked(matches, "LOG");
-        let range = range_asked(matches);
-        return CommandRequest::Draw { config, log, range };
-    }
     let script = value_asked(matches, "SCRIPT");
     if name == "step" {
         let save = value_if_asked(matches, "LOG");
@@ -187,6 +168,41 @@ fn machine_request<'a>(name: &str, matches: &ArgMatches<'a>) -> CommandRequest<'
         }
     } else {
         CommandRequest::Db { config, script }
+    }
+}
+
+/// What the words of a subcommand with a history ask for.
+fn history_request<'a>(name: &str, config: &'a str, matches: &ArgMatches<'a>) -> CommandRequest<'a>
+    requires config { HasText (codes "CONFIG") (rows_of (found_of matches.now)) config.now }
+    requires asked { IsHistoryAsked name.now (rows_of (found_of matches.now)) }
+    ensures { AsksBy result name.now (rows_of (found_of matches.now)) }
+{
+    let log = value_asked(matches, "LOG");
+    if name == "run" {
+        let ticks = number_or(matches, "T", 0);
+        return CommandRequest::Run { config, log, ticks };
+    }
+    if name == "replay" {
+        return CommandRequest::Replay { config, log };
+    }
+    let range = range_asked(matches);
+    if name == "trace" {
+        CommandRequest::Trace { config, log, range }
+    } else {
+        CommandRequest::Draw { config, log, range }
+    }
+}
+
+/// What the words of a subcommand on a machine ask for.
+fn machine_request<'a>(name: &str, matches: &ArgMatches<'a>) -> CommandRequest<'a>
+    requires { IsMachineAsked name.now (rows_of (found_of matches.now)) }
+    ensures { AsksBy result name.now (rows_of (found_of matches.now)) }
+{
+    let config = value_asked(matches, "CONFIG");
+    if name == "step" || name == "db" {
+        script_request(name, config, matches)
+    } else {
+        history_request(name, config, matches)
     }
 }
 

@@ -1,6 +1,6 @@
 //! The bytes of statements, where all labels stand.
 
-ghost use Rattle.std.specs.Prelude.{◌≡◌, ◌++◌, true, false, map, None, Some, OnOk, IfOk};
+ghost use Rattle.std.specs.Prelude.{◌≡◌, ◌++◌, true, false, map, None, replicate, Some, OnOk, IfOk};
 ghost use Rattle.std.specs.List.{list_any};
 ghost use Rattle.mx_word.specs.Word.{bytes_of, bytes_in};
 ghost use Rattle.mx_encode.specs.Forms.{has_form};
@@ -13,7 +13,7 @@ ghost use Rattle.mx_asm.specs.Bytes.{named_under, BytesOf, Pushes, PutsOut, AreP
 
 use crate::numbered::NumberedLine;
 use crate::{Layout, SectionSizes, branch_bytes};
-use mx_asm_statement::{Instruction, Line, Section, Statement, Value};
+use mx_asm_statement::{Branch, Instruction, Line, Section, Statement, Value};
 use mx_encode::{
     displacement_keeps_length, encode, immediate_keeps_length, with_displacement, with_immediate,
 };
@@ -97,6 +97,25 @@ fn instruction_bytes(layout: &Layout, instruction: &Instruction) -> ArrayVec<u8,
     }
 }
 
+/// Puts this many zeros after other bytes.
+fn push_zeros(count: u32, out: &mut Vec<u8>) -> Result<(), AllocError>
+    ensures { OnOk result (out.new.items ≡ out.old.items ++ replicate count 0) }
+{
+    let length = out.len() + count as usize;
+    out.resize(length, 0)
+}
+
+/// The bytes of a jump at an address.
+fn jump_bytes(layout: &Layout, at: u32, branch: Branch, target: Value) -> ArrayVec<u8, 15>
+    requires { problem_at (above_of layout.now) at (Statement.Branch branch target) ≡ None }
+    ensures { BytesOf (above_of layout.now) at (Statement.Branch branch target) result.items }
+{
+    let Some(target) = layout.value(target) else {
+        unreachable!()
+    };
+    branch_bytes(branch, at, target)
+}
+
 /// The bytes of a line's statement at an address, after others.
 fn push_line(layout: &Layout, at: u32, line: &Line, out: &mut Vec<u8>) -> Result<(), AllocError>
     requires { problem_at (above_of layout.now) at (statement_said line.now) ≡ None }
@@ -106,18 +125,12 @@ fn push_line(layout: &Layout, at: u32, line: &Line, out: &mut Vec<u8>) -> Result
     match &line.statement {
         Some(Statement::Data(size, values)) => push_values(layout, *size, values.as_slice(), out),
         Some(Statement::Ascii(bytes)) => out.extend_from_slice(bytes.as_slice()),
-        Some(Statement::Space(count)) => {
-            let length = out.len() + *count as usize;
-            out.resize(length, 0)
-        }
+        Some(Statement::Space(count)) => push_zeros(*count, out),
         Some(Statement::Instruction(instruction)) => {
             out.extend_from_slice(instruction_bytes(layout, instruction).as_slice())
         }
         Some(Statement::Branch(branch, target)) => {
-            let Some(target) = layout.value(*target) else {
-                unreachable!()
-            };
-            out.extend_from_slice(branch_bytes(*branch, at, target).as_slice())
+            out.extend_from_slice(jump_bytes(layout, at, *branch, *target).as_slice())
         }
         _ => Ok(()),
     }

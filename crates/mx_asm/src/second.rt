@@ -3,7 +3,7 @@
 ghost use Rattle.std.specs.Prelude.{◌≡◌, List, length, false, None};
 ghost use Rattle.std.specs.List.{list_any};
 ghost use Rattle.mx_asm.specs.Layout.{no_lines_above, statement_said, laid_by};
-ghost use Rattle.mx_asm.specs.Faults.{is_undefined, is_undefined_if, undefined_where, problem_at, fault_after, is_program_too_large, too_large_in};
+ghost use Rattle.mx_asm.specs.Faults.{is_undefined, is_undefined_if, problem_at, fault_after, is_program_too_large, too_large_in};
 ghost use Rattle.mx_asm.specs.Kept.{AreKept, first_problem_kept};
 ghost use Rattle.mx_asm_statement.specs.declared.line.Line.{Line};
 ghost use Rattle.mx_asm.specs.View.{above_of};
@@ -14,16 +14,6 @@ use crate::layout::Layout;
 use crate::numbered::NumberedLine;
 use crate::sizes::SectionSizes;
 use mx_asm_statement::{Branch, Line, Statement, Value};
-
-fn undefined_where(undefined: bool) -> Option<Problem>
-    ensures { result ≡ undefined_where undefined }
-{
-    if undefined {
-        Some(Problem::Undefined)
-    } else {
-        None
-    }
-}
 
 impl Layout {
     fn is_undefined(&self, value: Value) -> bool
@@ -73,13 +63,18 @@ impl Layout {
     {
         match &line.statement {
             Some(Statement::Data(_, values)) => {
-                undefined_where(self.any_undefined(values.as_slice()))
+                let is_undefined = self.any_undefined(values.as_slice());
+                is_undefined.then_some(Problem::Undefined)
             }
-            Some(Statement::Entry(name)) => undefined_where(self.spot_named(name).is_none()),
-            Some(Statement::Instruction(instruction)) => undefined_where(
-                self.is_undefined_if(instruction.immediate)
-                    || self.is_undefined_if(instruction.displacement),
-            ),
+            Some(Statement::Entry(name)) => {
+                let is_undefined = self.spot_named(name).is_none();
+                is_undefined.then_some(Problem::Undefined)
+            }
+            Some(Statement::Instruction(instruction)) => {
+                let is_undefined = self.is_undefined_if(instruction.immediate)
+                    || self.is_undefined_if(instruction.displacement);
+                is_undefined.then_some(Problem::Undefined)
+            }
             Some(Statement::Branch(branch, target)) => self.branch_problem(at, *branch, *target),
             _ => None,
         }

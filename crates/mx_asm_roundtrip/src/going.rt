@@ -1,7 +1,9 @@
 //! Goes around with a text.
 
-ghost use Rattle.std.specs.Prelude.{◌≡◌, ◌<◌, ◌^◌, length, IfOk, IfErr};
+ghost use Rattle.std.specs.Prelude.{◌≡◌, ◌<◌, ◌^◌, length, string_bytes, IfOk, IfErr};
 ghost use Rattle.mx_aout.specs.File.{FileIs};
+ghost use Rattle.mx_load.specs.Load.{image_of_program};
+ghost use Rattle.mx_dis.specs.Listing.{IsListing};
 ghost use Rattle.mx_asm_roundtrip.specs.Failure.{TellsWhy};
 ghost use Rattle.mx_asm_roundtrip.specs.Around.{GoesAround};
 
@@ -39,6 +41,22 @@ fn read_written(alloc: Global, file: &[u8], program: &Program) -> Result<Program
     }
 }
 
+/// Reads the file that was written of a program, and loads and lists what was read.
+fn image_and_listing(
+    alloc: Global,
+    file: &[u8],
+    program: &Program,
+) -> Result<(Image, String), NoMemory>
+    requires { FileIs file.now program.now }
+    ensures image { IfOk result (λ made. made.0 ≡ image_of_program program.now) }
+    ensures listing { IfOk result (λ made. IsListing 0 program.now.text (string_bytes made.1)) }
+{
+    let again = read_written(alloc, file, program)?;
+    let image = load(alloc, &again)?;
+    let listing = list(alloc, &again)?;
+    Ok((image, listing))
+}
+
 /// No program's text is too long for an address of 32 bits.
 fn text_is_short(program: &Program)
     ensures { length program.now.text < 2 ^ 32 }
@@ -51,9 +69,7 @@ pub fn around(alloc: Global, text: &str) -> Result<Journey, AroundError>
 {
     let program = assemble(alloc, text)?;
     let file = write(alloc, &program)?;
-    let again = read_written(alloc, file.as_slice(), &program)?;
-    let image = load(alloc, &again)?;
-    let listing = list(alloc, &again)?;
+    let (image, listing) = image_and_listing(alloc, file.as_slice(), &program)?;
     one_program();
     code_keeps();
     listing_keeps();

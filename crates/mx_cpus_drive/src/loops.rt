@@ -1,6 +1,6 @@
 //! What a processor does, turn after turn, and the respawner, round after round.
 
-ghost use Rattle.std.specs.Prelude.{◌≡◌, ◌<◌, None, if◌then◌else◌, length};
+ghost use Rattle.std.specs.Prelude.{◌≡◌, ◌<◌, None, if◌then◌else◌, length, nat_lt};
 ghost use Rattle.mx_cpus_drive.specs.Loops.{HasMadeTurns, HasTickedAndRespawned};
 
 use crate::gate::Gate;
@@ -81,18 +81,18 @@ fn sweep<M: Naming, R: Wait>(rt: &R, shared: &Shared<M>, seat: ActorSeat) -> (Ac
     (seat, Progress::GoesOn)
 }
 
-/// One tick, if some are left, and one sweep.
+/// One tick, if `left` are left and not none, and one sweep.
 fn make_round<M: Naming, R: Wait>(
     rt: &R,
     shared: &Shared<M>,
     seat: ActorSeat,
-    has_tick: bool,
+    left: u32,
 ) -> (ActorSeat, Progress)
     requires table { seat.table ≡ M.table }
     requires empty { seat.held ≡ None }
-    ensures { HasTickedAndRespawned (if has_tick then 1 else 0) seat result.0 }
+    ensures { HasTickedAndRespawned (if nat_lt 0 left then 1 else 0) seat result.0 }
 {
-    if !has_tick {
+    if left == 0 {
         return sweep(rt, shared, seat);
     }
     seat.opened();
@@ -122,7 +122,7 @@ pub fn respawner<M: Naming, G: Gate, R: Wait>(
     let mut seat = seat;
     let mut left = ticks;
     for _ in rt.forever() {
-        let (next, progress) = make_round(rt, shared, seat, left > 0);
+        let (next, progress) = make_round(rt, shared, seat, left);
         left = left.saturating_sub(1);
         if progress == Progress::Full {
             seat = next;

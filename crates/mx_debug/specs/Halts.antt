@@ -7,6 +7,8 @@ use Rattle.mx_machine_kernel.specs.Held.{held_run}
 use Rattle.mx_debug.specs.declared.points.Breakpoint.{Breakpoint}
 use Rattle.mx_debug.specs.declared.halt.HaltCause.{HaltCause}
 use Rattle.mx_debug.specs.declared.halt.HaltCause.TheVariants as cause
+use Rattle.mx_debug.specs.declared.halt.NextPlace.{NextPlace}
+use Rattle.mx_debug.specs.declared.halt.NextPlace.TheVariants as place
 use Rattle.mx_debug.specs.declared.halt.Halt.{Halt}
 use Rattle.mx_debug.specs.Points.{has_breakpoint}
 
@@ -38,6 +40,10 @@ least_from test n (suc more) = if test n then n else least_from test (n + 1) mor
 -- k, or the least number of steps before it that is an end
 unfoldable pub steps_to_halt : List Breakpoint → ℕ → ℕ → Out → ℕ
 steps_to_halt points slot k o = least_from (is_end points slot o) 0 k
+
+abbrev pub is_breakpoint : NextPlace → Bool
+is_breakpoint place.Breakpoint = true
+is_breakpoint place.Elsewhere = false
 
 -- a trap or a fault is told before a breakpoint, a breakpoint before a spent budget
 abbrev pub cause_of : Stop → Bool → HaltCause

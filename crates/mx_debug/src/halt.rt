@@ -1,7 +1,7 @@
 //! How a run under breakpoints ends.
 
 ghost use Rattle.std.specs.Prelude.{◌≡◌};
-ghost use Rattle.mx_debug.specs.Halts.{is_spent, cause_of};
+ghost use Rattle.mx_debug.specs.Halts.{is_breakpoint, is_spent, cause_of};
 
 use mx_image::Stop;
 
@@ -37,19 +37,25 @@ pub struct Halt {
     pub cause: HaltCause,
 }
 
+/// Where the next instruction stands.
+#[derive(Clone, Copy)]
+pub enum NextPlace {
+    /// At a breakpoint.
+    Breakpoint,
+    /// Anywhere else.
+    Elsewhere,
+}
+
 /// A trap or a fault is told before a breakpoint, a breakpoint before a spent budget.
-pub fn cause_of(stop: Stop, reached: bool) -> HaltCause
-    ensures { result ≡ cause_of stop reached }
+pub fn cause_of(stop: Stop, place: NextPlace) -> HaltCause
+    ensures { result ≡ cause_of stop (is_breakpoint place) }
 {
     match stop {
         Stop::Trap => HaltCause::Trap,
         Stop::Fault(vector) => HaltCause::Fault(vector),
-        Stop::Spent => {
-            if reached {
-                HaltCause::Breakpoint
-            } else {
-                HaltCause::Spent
-            }
-        }
+        Stop::Spent => match place {
+            NextPlace::Breakpoint => HaltCause::Breakpoint,
+            NextPlace::Elsewhere => HaltCause::Spent,
+        },
     }
 }

@@ -3,9 +3,9 @@
 ghost use Rattle.std.specs.Prelude.{◌≡◌, ◌≢◌, ◌⊎◌, ℕ, ◌%◌, true, false, List, slice_index_or};
 ghost use Rattle.mx_debug.specs.declared.points.Breakpoint.{Breakpoint};
 ghost use Rattle.mx_debug.specs.Points.{has_breakpoint, has_any};
-ghost use Rattle.mx_debug.specs.Halts.{Halts};
+ghost use Rattle.mx_debug.specs.Halts.{Halts, is_breakpoint};
 
-use crate::halt::{Halt, HaltCause, cause_of};
+use crate::halt::{Halt, HaltCause, NextPlace, cause_of};
 use crate::points::Debugger;
 use mx_machine_kernel::{Held, held_runs_join};
 use mx_proc::Slot;
@@ -20,7 +20,7 @@ fn run_on<H: Held>(held: &mut H, k: u32) -> Halt
     let (count, stop) = held.run(k);
     Halt {
         count,
-        cause: cause_of(stop, false),
+        cause: cause_of(stop, NextPlace::Elsewhere),
     }
 }
 
@@ -51,6 +51,19 @@ impl Debugger {
         self.stands(slot, address)
     }
 
+    /// Where an address stands, at which the slot's next instruction is.
+    fn next_place(&self, marks: &[bool; 1024], slot: Slot, address: u32) -> NextPlace
+        requires { (a : ℕ) → has_breakpoint self.now slot a ≡ true
+            → slice_index_or marks.now (a % 1024) false ≡ true }
+        ensures { is_breakpoint result ≡ has_breakpoint self.now slot address }
+    {
+        if self.is_reached(marks, slot, address) {
+            NextPlace::Breakpoint
+        } else {
+            NextPlace::Elsewhere
+        }
+    }
+
     /// Steps one after another, up to a breakpoint.
     fn step_on<H: Held>(&self, slot: Slot, held: &mut H, k: u32) -> Halt
         requires { k ≢ 0 }
@@ -64,11 +77,11 @@ impl Debugger {
             if made == 0 {
                 return Halt {
                     count,
-                    cause: cause_of(stop, false),
+                    cause: cause_of(stop, NextPlace::Elsewhere),
                 };
             }
-            let reached = self.is_reached(&marks, slot, held.image().eip);
-            let cause = cause_of(stop, reached);
+            let place = self.next_place(&marks, slot, held.image().eip);
+            let cause = cause_of(stop, place);
             if !cause.is_spent() {
                 return Halt {
                     count: count + 1,

@@ -1,6 +1,6 @@
 -- How registers and flags are printed (our own; the names are those of the 80386 Programmer's
 -- Reference Manual, 2.3).
-use Rattle.std.specs.Prelude.{ℕ, Bool, List, ◌++◌, codes}
+use Rattle.std.specs.Prelude.{ℕ, List, ◌++◌, codes}
 use Rattle.std.specs.Fmt.{decimal}
 use Rattle.std.specs.Int.{from_bool}
 use Rattle.mx_word.specs.declared.names.Register.{Register}
@@ -30,13 +30,13 @@ unfoldable pub register_line : RegisterValues → Register → Register → Regi
 register_line w a b c d = register_field w a ++ codes " " ++ register_field w b ++ codes " " ++ register_field w c ++ codes " " ++ register_field w d ++ codes "\n"
 
 -- a flag's name and its value, after a space
-abbrev pub flag_field : List ℕ → Bool → List ℕ
-flag_field name value = codes " " ++ name ++ codes " " ++ decimal (from_bool value)
+abbrev pub flag_field : List ℕ → ℕ → List ℕ
+flag_field name value = codes " " ++ name ++ codes " " ++ decimal value
 
 unfoldable pub flag_fields : FlagValues → List ℕ
 flag_fields f =
-    flag_field (codes "CF") f.carry ++ flag_field (codes "PF") f.parity ++ flag_field (codes "AF") f.auxiliary ++ flag_field (codes "ZF") f.zero
-    ++ flag_field (codes "SF") f.sign ++ flag_field (codes "DF") f.direction ++ flag_field (codes "OF") f.overflow
+    flag_field (codes "CF") (from_bool f.carry) ++ flag_field (codes "PF") (from_bool f.parity) ++ flag_field (codes "AF") (from_bool f.auxiliary) ++ flag_field (codes "ZF") (from_bool f.zero)
+    ++ flag_field (codes "SF") (from_bool f.sign) ++ flag_field (codes "DF") (from_bool f.direction) ++ flag_field (codes "OF") (from_bool f.overflow)
 
 -- three lines: the registers, four a line, and EIP with the flags
 abbrev pub register_lines : Image → List ℕ

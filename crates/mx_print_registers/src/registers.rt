@@ -64,11 +64,10 @@ fn push_four<R: Runs>(
 }
 
 /// Appends a flag's name and its value, after a space.
-fn push_flag(out: &mut String, name: &str, is_set: bool) -> Result<(), AllocError>
+fn push_flag(out: &mut String, name: &str, value: u8) -> Result<(), AllocError>
     ensures { OnOk result (string_bytes out.new ≡ string_bytes out.old
-        ++ flag_field name.now is_set) }
+        ++ flag_field name.now value) }
 {
-    let value = u8::from(is_set);
     write!(out, " {name} {value}")
 }
 
@@ -76,13 +75,13 @@ fn push_flag(out: &mut String, name: &str, is_set: bool) -> Result<(), AllocErro
 fn push_flags(out: &mut String, flags: FlagValues) -> Result<(), AllocError>
     ensures { OnOk result (string_bytes out.new ≡ string_bytes out.old ++ flag_fields flags) }
 {
-    push_flag(out, "CF", flags.carry)?;
-    push_flag(out, "PF", flags.parity)?;
-    push_flag(out, "AF", flags.auxiliary)?;
-    push_flag(out, "ZF", flags.zero)?;
-    push_flag(out, "SF", flags.sign)?;
-    push_flag(out, "DF", flags.direction)?;
-    push_flag(out, "OF", flags.overflow)
+    push_flag(out, "CF", flags.carry.into())?;
+    push_flag(out, "PF", flags.parity.into())?;
+    push_flag(out, "AF", flags.auxiliary.into())?;
+    push_flag(out, "ZF", flags.zero.into())?;
+    push_flag(out, "SF", flags.sign.into())?;
+    push_flag(out, "DF", flags.direction.into())?;
+    push_flag(out, "OF", flags.overflow.into())
 }
 
 /// Appends three lines: the eight registers, four a line, and EIP with the seven flags. Numbers are

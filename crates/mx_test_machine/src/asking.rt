@@ -1,6 +1,6 @@
 //! Help that is asked for by its own word, and what a reader at a terminal gets.
 
-use mx_app::{NotingOutput, Terminals, texts_asked};
+use mx_app::{NotingOutput, PrintedText, Terminals, texts_asked};
 use std::alloc::Global;
 use std::io::Write;
 use std::test::Fail;
@@ -59,14 +59,16 @@ fn ends_of_texts(rt: HostRuntime) {
 #[test]
 fn notes_of_symbols(rt: HostRuntime) {
     for out in [false, true] {
-        assert!(rt; terminals(out, true).symbols_note(true, None) == "mx: no symbols\n");
+        let shown = terminals(out, true);
+        let hidden = terminals(out, false);
+        assert!(rt; shown.symbols_note(PrintedText::Symbols, None) == "mx: no symbols\n");
         assert!(rt;
-            terminals(out, true)
-                .symbols_note(true, Some(b'\n'))
+            shown
+                .symbols_note(PrintedText::Symbols, Some(b'\n'))
                 .is_empty()
         );
-        assert!(rt; terminals(out, true).symbols_note(false, None).is_empty());
-        assert!(rt; terminals(out, false).symbols_note(true, None).is_empty());
+        assert!(rt; shown.symbols_note(PrintedText::Other, None).is_empty());
+        assert!(rt; hidden.symbols_note(PrintedText::Symbols, None).is_empty());
     }
 }
 

@@ -9,8 +9,8 @@ use Rattle.mx_app_command.proofs.grammar.with_all.Goals as goal
 
 pub loop-subcommand-preserved : goal.loop-subcommand-preserved
 loop-subcommand-preserved c =
-    subcommand_added c.loop-subcommand.line c.in_ok-line.line c.in_ok-made.field-0 c.args.subcommands.now c.loop-subcommand.subcommand-index _
-    c.loop-subcommand-test.true c.in_ok-made.ensures.local c.in_ok-made.ensures.shape c.in_ok-line.ensures ∙ c.loop-subcommand.invariant
+    subcommand_added c.loop-subcommand.line c.in_ok-line.line c.args.subcommands.now c.loop-subcommand.subcommand-index _ c.loop-subcommand-test.true
+    c.in_ok-line.ensures ∙ c.loop-subcommand.invariant
 
 pub returns : goal.returns
 returns c = record {

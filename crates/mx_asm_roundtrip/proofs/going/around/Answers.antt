@@ -1,10 +1,7 @@
-use Rattle.std.proofs.Common.{◌≡◌, ◌∙◌, ℕ, List, sym, ap, subst}
-use Rattle.mx_aout.specs.declared.program.Program.{Program}
+use Rattle.std.proofs.Common.{ℕ, List, ◌∙◌, sym, subst}
 use Rattle.mx_aout.specs.File.{FileIs}
 use Rattle.mx_exec.specs.declared.image.Image.{Image}
 use Rattle.mx_exec.specs.Image.{code_bytes}
-use Rattle.mx_load.specs.Load.{image_of_program}
-use Rattle.mx_dis.specs.Parting.{IsParting}
 use Rattle.mx_asm_roundtrip.specs.Around.{CodeKeeps}
 use Rattle.mx_asm_roundtrip.proofs.going.around.Goals as goal
 
@@ -13,9 +10,8 @@ returns-clause-around c =
     let p = c.in_ok-program.program in
     let assembled = c.in_ok-program.ensures.program in
     let file : FileIs c.from_vec.result p = subst (λ (b : List ℕ). FileIs b p) (sym c.from_vec.ensures) c.in_ok-file.ensures.file in
-    let image : c.in_ok-image.image ≡ image_of_program p = c.in_ok-image.ensures.image ∙ ap image_of_program c.in_ok-again.ensures in
-    let found = c.in_ok-listing.ensures in
-    let parting : IsParting p.text found.0 = subst (λ (q : Program). IsParting q.text found.0) c.in_ok-again.ensures found.1 in
+    let image = c.in_ok-image.ensures.image in
+    let found = c.in_ok-image.ensures.listing in
     record {
       program = p;
       assembled = assembled;
@@ -25,7 +21,7 @@ returns-clause-around c =
       image = image;
       code = subst (λ (m : Image). CodeKeeps assembled.0 p assembled.2 (code_bytes m)) (sym image) (c.code_keeps.ensures assembled.0 p assembled.2 c.text_is_short.ensures);
       parts = found.0;
-      parting = parting;
+      parting = found.1;
       listing = found.2;
-      instructions = c.listing_keeps.ensures assembled.0 p assembled.2 found.0 c.text_is_short.ensures parting;
+      instructions = c.listing_keeps.ensures assembled.0 p assembled.2 found.0 c.text_is_short.ensures found.1;
     }
