@@ -97,7 +97,7 @@ items_of_death w s = items_of_freeing (waiting_for (table_after_taking_out w s) 
 
 -- what a kernel call writes for others: a copy, or a death
 abbrev pub items_of_change : TableState → KernelCall → List (ℕ × Item)
-items_of_change w (Vircopy from at to place count) = (to % 1024, Copy place (part (memory_at w (from % 1024)) at count)) ∷ []
+items_of_change w (Vircopy c) = (c.target.endpoint % 1024, Copy c.target.offset (part (memory_at w (c.source.endpoint % 1024)) c.source.offset c.count)) ∷ []
 items_of_change w (Kill e) = items_of_death w (e % 1024)
 items_of_change w _ = []
 

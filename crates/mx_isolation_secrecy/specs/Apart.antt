@@ -25,8 +25,8 @@ sender_at_trap t s = let regs = (process_at t s).image.regs in sender_of_trap t 
 
 -- a kernel call by s that doesn't copy from q, or is refused; or the rules are strict, and q has no window open for it
 abbrev pub CopyIsApart : ℕ → TableState → ℕ → Option KernelCall → Option Errno → Type 0
-CopyIsApart q t s (Some (Vircopy from at to place count)) None =
-    from % 1024 ≡ q → (is_strict t.rules ≡ true) × (is_open allows_reading (window_of t q s) at count ≡ false)
+CopyIsApart q t s (Some (Vircopy c)) None =
+    c.source.endpoint % 1024 ≡ q → (is_strict t.rules ≡ true) × (is_open allows_reading (window_of t q s) c.source.offset c.count ≡ false)
 CopyIsApart q t s _ _ = Unit {0}
 
 -- a trap that takes no message of q, or a kernel call that can't copy from it

@@ -33,10 +33,10 @@ table_after_change w s (SetAlarm delay) = with_alarm w s (due_after w.uptime del
 table_after_change w s (Irqctl action line) = with_owner w line (if action == 1 then Some s else None)
 -- register 0 is the console
 table_after_change w s (Devio action register value) = if action == 0 then w else if register == 0 then with_console_byte w (value % 256) else with_device_register w register value
-table_after_change w s (Vircopy from at to place count) = with_copy w (from % 1024) at (to % 1024) place count
+table_after_change w s (Vircopy copy) = with_copy w (copy.source.endpoint % 1024) copy.source.offset (copy.target.endpoint % 1024) copy.target.offset copy.count
 table_after_change w s (Kill endpoint) = table_after_death w (endpoint % 1024) cause.Kill
 table_after_change w s (Whois slot) = w
-table_after_change w s (Grant endpoint place count access) = with_window w s (endpoint % 1024) (granted place count access)
+table_after_change w s (Grant grant) = with_window w s (grant.user % 1024) (granted grant.place grant.count grant.access)
 
 -- THE WORDS OF EACH REPLY
 abbrev pub words_of_reply : TableState → ℕ → KernelCall → ReplyWords

@@ -10,7 +10,7 @@ ghost use Rattle.mx_kcall.specs.Requests.{no_reply_words};
 ghost use Rattle.mx_kcall.specs.Serving.{due_after, ticks_left, table_after_change, words_of_reply, ends_caller, table_after_reply, table_after_serving, answer_of_serving, table_after_kernel_call, answer_of_kernel_call};
 
 use crate::refusals::check;
-use crate::request::{After, KernelCall, ReplyWords, reply_bytes};
+use crate::request::{After, KernelCall, ReplyWords, reply_bytes, slot_of};
 use crate::windows::granted;
 use mx_respawn::{DeathCause, Slot, Table, die, go_on};
 
@@ -82,8 +82,6 @@ fn change(table: &mut Table, slot: Slot, request: KernelCall)
     ensures settled { NoneComesHome table.old table.new }
     ensures console { table.new.devices.console.count ≤ table.old.devices.console.count + 1 }
 {
-    // So few that a slot fits a byte.
-    let _used = table.used();
     match request {
         KernelCall::Exit | KernelCall::Times | KernelCall::Whois(_) => {}
         KernelCall::SetAlarm(delay) => table.set_alarm(slot, due_after(table.uptime(), delay)),
@@ -101,20 +99,16 @@ fn change(table: &mut Table, slot: Slot, request: KernelCall)
                 table.set_register(register as u8, value);
             }
         }
-        KernelCall::Vircopy {
-            from,
-            at,
-            to,
-            place,
-            count,
-        } => table.copy((from % 1024) as u8, at, (to % 1024) as u8, place, count),
-        KernelCall::Kill(endpoint) => die(table, (endpoint % 1024) as u8, DeathCause::Kill),
-        KernelCall::Grant {
-            endpoint,
-            place,
-            count,
-            access,
-        } => table.set_window(slot, (endpoint % 1024) as u8, granted(place, count, access)),
+        KernelCall::Vircopy(copied) => {
+            let (source, target) = (copied.source, copied.target);
+            let from = slot_of(table, source.endpoint);
+            let to = slot_of(table, target.endpoint);
+            table.copy(from, source.offset, to, target.offset, copied.count);
+        }
+        KernelCall::Kill(endpoint) => die(table, slot_of(table, endpoint), DeathCause::Kill),
+        KernelCall::Grant(grant) => {
+            table.set_window(slot, slot_of(table, grant.user), granted(grant));
+        }
     }
 }
 
