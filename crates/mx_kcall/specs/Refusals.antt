@@ -1,8 +1,9 @@
 -- Why a kernel call is refused (our choice).
-use Rattle.std.specs.Prelude.{ℕ, ◌≡◌, ◌<◌, ◌≤◌, ◌+◌, ◌%◌, ◌==◌, nat_lt, nat_le, not, ◌&&◌, ◌||◌, Bool, true, false, List, [], ◌∷◌, length, Option, Some, None, slice_index_or}
+use Rattle.std.specs.Prelude.{ℕ, ◌≡◌, ◌<◌, ◌≤◌, ◌+◌, ◌==◌, nat_lt, nat_le, not, ◌&&◌, ◌||◌, Bool, true, false, List, [], ◌∷◌, length, Option, Some, None, slice_index_or}
 use Rattle.mx_respawn.specs.Segment.{inside}
 use Rattle.mx_respawn.specs.Proc.declared.errors.Errno.{Errno}
 use Rattle.mx_respawn.specs.Proc.declared.errors.Errno.TheVariants.{NotPermitted, BadAddress, Invalid, BadEndpoint, Denied, Dead, NotReady, BadRequest}
+use Rattle.mx_respawn.specs.Proc.EndpointNumbers.{slot_of}
 use Rattle.mx_respawn.specs.Proc.Endpoints.{names_slot, is_alive}
 use Rattle.mx_respawn.specs.Proc.States.{is_down, is_out}
 use Rattle.mx_respawn.specs.Proc.TableState.{TableState, process_at, endpoint_of, memory_at}
@@ -26,7 +27,7 @@ is_owned (Some t) = true
 
 -- the process of an endpoint's slot is on a processor
 abbrev pub is_away : TableState → ℕ → Bool
-is_away w e = is_out (process_at w (e % 1024)).state
+is_away w e = is_out (process_at w (slot_of e)).state
 
 -- THE REASONS of each call in order, and whether each holds
 abbrev pub kernel_call_reasons : TableState → ℕ → KernelCall → List (Bool × Errno)
@@ -48,8 +49,8 @@ kernel_call_reasons w s (Vircopy copy) =
     ∷ (is_away w copy.source.endpoint || is_away w copy.target.endpoint, NotReady)
     ∷ (is_barred w allows_reading s copy.source copy.count, NotPermitted)
     ∷ (is_barred w allows_writing s copy.target copy.count, NotPermitted)
-    ∷ (not (inside (memory_at w (copy.source.endpoint % 1024)) copy.source.offset copy.count), BadAddress)
-    ∷ (not (inside (memory_at w (copy.target.endpoint % 1024)) copy.target.offset copy.count), BadAddress)
+    ∷ (not (inside (memory_at w (slot_of copy.source.endpoint)) copy.source.offset copy.count), BadAddress)
+    ∷ (not (inside (memory_at w (slot_of copy.target.endpoint)) copy.target.offset copy.count), BadAddress)
     ∷ []
 kernel_call_reasons w s (Kill endpoint) =
     (not (names_slot w endpoint), BadEndpoint)
@@ -87,9 +88,9 @@ IsPermitted w (SetAlarm delay) = Unit {0}
 IsPermitted w (Irqctl action line) = line < 16
 IsPermitted w (Devio action register value) = register < 256
 IsPermitted w (Vircopy copy) =
-    (copy.source.endpoint % 1024 < length w.slots) × (copy.target.endpoint % 1024 < length w.slots)
-    × (copy.source.offset + copy.count ≤ length (memory_at w (copy.source.endpoint % 1024)))
-    × (copy.target.offset + copy.count ≤ length (memory_at w (copy.target.endpoint % 1024)))
-IsPermitted w (Kill endpoint) = (endpoint % 1024 < length w.slots) × (is_out (process_at w (endpoint % 1024)).state ≡ false)
+    (slot_of copy.source.endpoint < length w.slots) × (slot_of copy.target.endpoint < length w.slots)
+    × (copy.source.offset + copy.count ≤ length (memory_at w (slot_of copy.source.endpoint)))
+    × (copy.target.offset + copy.count ≤ length (memory_at w (slot_of copy.target.endpoint)))
+IsPermitted w (Kill endpoint) = (slot_of endpoint < length w.slots) × (is_out (process_at w (slot_of endpoint)).state ≡ false)
 IsPermitted w (Whois slot) = slot < length w.slots
-IsPermitted w (Grant grant) = grant.user % 1024 < length w.slots
+IsPermitted w (Grant grant) = slot_of grant.user < length w.slots

@@ -1,7 +1,8 @@
 -- Kernel calls as messages to SYSTEM, and their replies (our choice).
-use Rattle.std.specs.Prelude.{ℕ, ◌-◌, ◌^◌, ◌++◌, ◌==◌, List, drop, take, replicate, ◌&&◌, Option, Some, None, if◌then◌else◌}
+use Rattle.std.specs.Prelude.{ℕ, ◌++◌, ◌==◌, List, drop, take, replicate, ◌&&◌, Option, Some, None, if◌then◌else◌}
 use Rattle.mx_word.specs.Word.{value_at, bytes_of}
 use Rattle.mx_respawn.specs.Proc.declared.windows.Rules.{Rules}
+use Rattle.mx_respawn.specs.Proc.EndpointNumbers.{system_endpoint}
 use Rattle.mx_respawn.specs.Proc.TableState.{TableState, buffer_at, memory_at}
 use Rattle.mx_kcall.specs.Windows.{is_strict}
 use Rattle.mx_kcall.specs.declared.request.MessageWords.{MessageWords}
@@ -62,4 +63,4 @@ no_reply_words = record { p0 = 0; p1 = 0; p2 = 0 }
 
 -- a reply: from SYSTEM (-2), with the result as its type, then words, zeros else
 abbrev pub reply_bytes : ℕ → ReplyWords → List ℕ
-reply_bytes result a = bytes_of 4 (2 ^ 32 - 2) ++ bytes_of 4 result ++ bytes_of 4 a.p0 ++ bytes_of 4 a.p1 ++ bytes_of 4 a.p2 ++ replicate 16 0
+reply_bytes result a = bytes_of 4 system_endpoint ++ bytes_of 4 result ++ bytes_of 4 a.p0 ++ bytes_of 4 a.p1 ++ bytes_of 4 a.p2 ++ replicate 16 0

@@ -1,11 +1,12 @@
 -- Windows: what a process lets another copy out of its memory or into it (our choice).
-use Rattle.std.specs.Prelude.{ℕ, ◌+◌, ◌%◌, ◌==◌, nat_le, not, ◌&&◌, Bool, true, false, Option, Some, None, if◌then◌else◌}
+use Rattle.std.specs.Prelude.{ℕ, ◌+◌, ◌==◌, nat_le, not, ◌&&◌, Bool, true, false, Option, Some, None, if◌then◌else◌}
 use Rattle.std.specs.Option.{option_map}
 use Rattle.mx_respawn.specs.Proc.declared.windows.Access.{Access}
 use Rattle.mx_respawn.specs.Proc.declared.windows.Access.TheVariants.{Read, Write, Both}
 use Rattle.mx_respawn.specs.Proc.declared.windows.Window.{Window}
 use Rattle.mx_respawn.specs.Proc.declared.windows.Rules.{Rules}
 use Rattle.mx_respawn.specs.Proc.declared.windows.Rules.TheVariants.{Lenient, Strict}
+use Rattle.mx_respawn.specs.Proc.EndpointNumbers.{slot_of}
 use Rattle.mx_respawn.specs.Proc.TableState.{TableState, window_of}
 use Rattle.mx_kcall.specs.declared.request.VirtualAddress.{VirtualAddress}
 
@@ -37,7 +38,7 @@ is_open allows (Some window) at count = allows window.access && nat_le window.pl
 
 -- under the strict rules another's memory is barred to s but for an open window
 abbrev pub is_barred : TableState → (Access → Bool) → ℕ → VirtualAddress → ℕ → Bool
-is_barred w allows s at count = is_strict w.rules && not (at.endpoint % 1024 == s) && not (is_open allows (window_of w (at.endpoint % 1024) s) at.offset count)
+is_barred w allows s at count = is_strict w.rules && not (slot_of at.endpoint == s) && not (is_open allows (window_of w (slot_of at.endpoint) s) at.offset count)
 
 -- the access that a grant's number says, 0 none
 abbrev pub access_of : ℕ → Option Access

@@ -1,8 +1,9 @@
 //! Why kernel calls are refused.
 
-ghost use Rattle.std.specs.Prelude.{◌≡◌, ◌∷◌, [], ◌<◌, ◌+◌, ◌%◌, ◌≤◌, ◌||◌, ◌&&◌, nat_lt, not, false, drop, length, Some, None, MatchResult, IfOk};
+ghost use Rattle.std.specs.Prelude.{◌≡◌, ◌∷◌, [], ◌<◌, ◌+◌, ◌≤◌, ◌||◌, ◌&&◌, nat_lt, not, false, drop, length, Some, None, MatchResult, IfOk};
 ghost use Rattle.std.specs.Option.{ForSome};
 ghost use Rattle.mx_respawn.specs.Segment.{inside};
+ghost use Rattle.mx_respawn.specs.Proc.EndpointNumbers.{slot_of};
 ghost use Rattle.mx_respawn.specs.Proc.Endpoints.{names_slot, is_alive};
 ghost use Rattle.mx_respawn.specs.Proc.Sound.{HasBuffer};
 ghost use Rattle.mx_respawn.specs.Proc.States.{is_out};
@@ -14,9 +15,7 @@ ghost use Rattle.mx_kcall.specs.Requests.{kernel_call_under, message_words_at};
 ghost use Rattle.mx_kcall.specs.Windows.{allows, is_barred};
 ghost use Rattle.mx_kcall.specs.declared.request.KernelCall.TheVariants as requests;
 
-use crate::request::{
-    CopyRange, KernelCall, VirtualAddress, WindowGrant, request_under, slot_of, words_at,
-};
+use crate::request::{CopyRange, KernelCall, VirtualAddress, WindowGrant, request_under, words_at};
 use crate::windows::{is_strict, window_allows};
 use mx_respawn::{Access, Endpoint, Errno, Slot, Stale, State, Table};
 
@@ -38,7 +37,7 @@ fn check_endpoint(table: &Table, endpoint: Endpoint) -> Result<Slot, Errno>
         ∷ (not (is_alive table.now endpoint), Dead) ∷ []) ≡ None) (λ e.
         first_error ((not (names_slot table.now endpoint), BadEndpoint)
         ∷ (not (is_alive table.now endpoint), Dead) ∷ []) ≡ Some e) }
-    ensures slot { IfOk result (λ s. (s ≡ endpoint % 1024) × (s < length table.now.slots)) }
+    ensures slot { IfOk result (λ s. (s ≡ slot_of endpoint) × (s < length table.now.slots)) }
 {
     if !table.names_slot(endpoint) {
         return Err(Errno::BadEndpoint);
@@ -71,10 +70,10 @@ fn holds(table: &Table, slot: Slot, at: u32, count: u32) -> bool
 /// Whether an endpoint's memory is barred to a slot for an access to that many bytes from an address on.
 fn is_barred(table: &Table, slot: Slot, access: Access, at: VirtualAddress, count: u32) -> bool
     requires slot { slot < length table.now.slots }
-    requires endpoint { at.endpoint % 1024 < length table.now.slots }
+    requires endpoint { slot_of at.endpoint < length table.now.slots }
     ensures { result ≡ is_barred table.now (allows access) slot at count }
 {
-    let owner = slot_of(table, at.endpoint);
+    let owner = table.slot_of(at.endpoint);
     is_strict(table.rules())
         && owner != slot
         && !window_allows(table.window(owner, slot), access, at.offset, count)
@@ -104,8 +103,8 @@ fn check_irqctl(table: &Table, slot: Slot, action: u32, line: u32) -> Result<(),
 /// VIRCOPY's refusals that ask about what is copied, after all that ask about the endpoints.
 fn check_copied_bytes(table: &Table, slot: Slot, copy: CopyRange) -> Result<(), Errno>
     requires slot { slot < length table.now.slots }
-    requires source { copy.source.endpoint % 1024 < length table.now.slots }
-    requires target { copy.target.endpoint % 1024 < length table.now.slots }
+    requires source { slot_of copy.source.endpoint < length table.now.slots }
+    requires target { slot_of copy.target.endpoint < length table.now.slots }
     ensures value { MatchResult result (λ _.
         first_error (drop 6 (kernel_call_reasons table.now slot (requests.Vircopy copy))) ≡ None) (λ e.
         first_error (drop 6 (kernel_call_reasons table.now slot (requests.Vircopy copy))) ≡ Some e) }
@@ -116,8 +115,8 @@ fn check_copied_bytes(table: &Table, slot: Slot, copy: CopyRange) -> Result<(), 
     {
         return Err(Errno::NotPermitted);
     }
-    let source = slot_of(table, copy.source.endpoint);
-    let target = slot_of(table, copy.target.endpoint);
+    let source = table.slot_of(copy.source.endpoint);
+    let target = table.slot_of(copy.target.endpoint);
     if !holds(table, source, copy.source.offset, copy.count)
         || !holds(table, target, copy.target.offset, copy.count)
     {
@@ -129,7 +128,7 @@ fn check_copied_bytes(table: &Table, slot: Slot, copy: CopyRange) -> Result<(), 
 /// VIRCOPY's refusals after those of its source's endpoint.
 fn check_copy_target(table: &Table, slot: Slot, copy: CopyRange) -> Result<(), Errno>
     requires slot { slot < length table.now.slots }
-    requires source { copy.source.endpoint % 1024 < length table.now.slots }
+    requires source { slot_of copy.source.endpoint < length table.now.slots }
     ensures value { MatchResult result (λ _.
         first_error (drop 3 (kernel_call_reasons table.now slot (requests.Vircopy copy))) ≡ None)
         (λ e. first_error (drop 3 (kernel_call_reasons table.now slot (requests.Vircopy copy)))
@@ -137,7 +136,7 @@ fn check_copy_target(table: &Table, slot: Slot, copy: CopyRange) -> Result<(), E
     ensures permitted { IfOk result (λ _. IsPermitted table.now (requests.Vircopy copy)) }
 {
     let target = check_endpoint(table, copy.target.endpoint)?;
-    let source = slot_of(table, copy.source.endpoint);
+    let source = table.slot_of(copy.source.endpoint);
     if is_away(table, source) || is_away(table, target) {
         return Err(Errno::NotReady);
     }

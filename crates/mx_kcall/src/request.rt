@@ -1,12 +1,12 @@
 //! Requests and replies as bytes and as values.
 
-ghost use Rattle.std.specs.Prelude.{◌≡◌, ◌+◌, ◌%◌, ◌<◌, ◌≤◌, length};
+ghost use Rattle.std.specs.Prelude.{◌≡◌, ◌+◌, ◌<◌, ◌≤◌, length};
 ghost use Rattle.mx_respawn.specs.Proc.Sound.{HasBuffer};
 ghost use Rattle.mx_respawn.specs.Proc.TableState.{process_at};
 ghost use Rattle.mx_kcall.specs.Requests.{word_at, message_words_of, message_words_at, kernel_call_of, bit_of, kernel_call_under, no_reply_words, reply_bytes};
 
 use crate::windows::is_strict;
-use mx_respawn::{Endpoint, Rules, Slot, Table};
+use mx_respawn::{Endpoint, Rules, SYSTEM, Slot, Table};
 use mx_word::{Register, read_dword, write_dword};
 
 /// The type of a message to SYSTEM, and the first of its words.
@@ -73,16 +73,6 @@ pub enum KernelCall {
     Whois(u32),
     /// Lets a process use a part of the caller's memory.
     Grant(WindowGrant),
-}
-
-/// The slot of an endpoint, where that slot is used.
-pub(crate) fn slot_of(table: &Table, endpoint: Endpoint) -> Slot
-    requires { endpoint % 1024 < length table.now.slots }
-    ensures { result ≡ endpoint % 1024 }
-{
-    // So few that a slot fits a byte.
-    let _used = table.used();
-    (endpoint % 1024) as Slot
 }
 
 /// The words of a reply.
@@ -222,7 +212,7 @@ pub(crate) fn reply_bytes(outcome: u32, answer: ReplyWords) -> [u8; 36]
     ensures { result ≡ reply_bytes outcome answer }
 {
     let mut message = [0; 36];
-    write_dword(&mut message, 0xFFFF_FFFE);
+    write_dword(&mut message, SYSTEM);
     write_dword(&mut message[4..], outcome);
     write_dword(&mut message[8..], answer.p0);
     write_dword(&mut message[12..], answer.p1);

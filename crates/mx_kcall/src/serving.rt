@@ -10,9 +10,9 @@ ghost use Rattle.mx_kcall.specs.Requests.{no_reply_words};
 ghost use Rattle.mx_kcall.specs.Serving.{due_after, ticks_left, table_after_change, words_of_reply, ends_caller, table_after_reply, table_after_serving, answer_of_serving, table_after_kernel_call, answer_of_kernel_call};
 
 use crate::refusals::check;
-use crate::request::{After, KernelCall, ReplyWords, reply_bytes, slot_of};
+use crate::request::{After, KernelCall, ReplyWords, reply_bytes};
 use crate::windows::granted;
-use mx_respawn::{DeathCause, Slot, Table, die, go_on};
+use mx_respawn::{DeathCause, Slot, Table, die, go_on, slot_of};
 
 /// When an alarm rings that is set for a delay; never where that is 0.
 fn due_after(uptime: u32, delay: u32) -> Option<u64>
@@ -101,13 +101,13 @@ fn change(table: &mut Table, slot: Slot, request: KernelCall)
         }
         KernelCall::Vircopy(copied) => {
             let (source, target) = (copied.source, copied.target);
-            let from = slot_of(table, source.endpoint);
-            let to = slot_of(table, target.endpoint);
+            let from = table.slot_of(source.endpoint);
+            let to = table.slot_of(target.endpoint);
             table.copy(from, source.offset, to, target.offset, copied.count);
         }
-        KernelCall::Kill(endpoint) => die(table, slot_of(table, endpoint), DeathCause::Kill),
+        KernelCall::Kill(endpoint) => die(table, table.slot_of(endpoint), DeathCause::Kill),
         KernelCall::Grant(grant) => {
-            table.set_window(slot, slot_of(table, grant.user), granted(grant));
+            table.set_window(slot, table.slot_of(grant.user), granted(grant));
         }
     }
 }
@@ -134,7 +134,7 @@ fn ends(slot: Slot, request: KernelCall) -> bool
 {
     match request {
         KernelCall::Exit => true,
-        KernelCall::Kill(endpoint) => endpoint % 1024 == u32::from(slot),
+        KernelCall::Kill(endpoint) => slot_of(endpoint) == u32::from(slot),
         _ => false,
     }
 }

@@ -10,10 +10,6 @@ use mx_exec::Image;
 /// A slot of the table, 0 to 31.
 pub type Slot = u8;
 
-/// An endpoint as its 32 bits: a generation times 1024 and a slot; or HARDWARE, SYSTEM and CLOCK,
-/// which as signed numbers are -1, -2 and -3; or ANY, 31438.
-pub type Endpoint = u32;
-
 /// Who notifies.
 #[derive(Clone, Copy, PartialEq, Eq)]
 pub enum Source {

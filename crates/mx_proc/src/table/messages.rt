@@ -10,6 +10,7 @@ ghost use Rattle.mx_proc.specs.TableState.{process_at, endpoint_of, buffer_at, m
 
 use super::Table;
 use crate::deliveries::{Delivery, DeliveryKind};
+use crate::endpoints::{CLOCK, HARDWARE};
 use crate::process::{Partner, Slot, Source};
 use mx_word::{Register, Size, read_dword, write_dword};
 
@@ -91,8 +92,8 @@ impl Table {
         ensures { result ≡ source_endpoint self.now source }
     {
         match source {
-            Source::Hardware => 0xFFFF_FFFF,
-            Source::Clock => 0xFFFF_FFFD,
+            Source::Hardware => HARDWARE,
+            Source::Clock => CLOCK,
             Source::Slot(slot) => self.endpoint(slot),
         }
     }
