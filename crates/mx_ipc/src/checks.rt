@@ -6,7 +6,7 @@ ghost use Rattle.mx_sched.specs.Proc.TableState.{process_at};
 ghost use Rattle.mx_ipc.specs.Checks.{party_of, has_bit, to_pseudo, out_of_place, is_send, is_receive, is_notify, is_outside, is_masked, call_refusal, Passed, HasUsedSlot, MayBeSentTo, PassedProcess, process_refusal, party_refusal};
 
 use crate::calls::{Call, Party};
-use mx_sched::{ANY, CLOCK, Errno, HARDWARE, SYSTEM, Slot, Table, generation_of};
+use mx_sched::{ANY, CLOCK, Errno, HARDWARE, MESSAGE_SIZE, SYSTEM, Slot, Table, generation_of};
 use mx_word::Register;
 
 /// Whom a number names.
@@ -89,7 +89,7 @@ fn is_outside(table: &Table, slot: Slot) -> bool
     ensures { result ≡ is_outside table.now slot }
 {
     let image = &table.process(slot).image;
-    image.memory.limit() < image.register(Register::Ebx) as usize + 36
+    image.memory.limit() < image.register(Register::Ebx) as usize + MESSAGE_SIZE
 }
 
 /// The last three checks, which ask about a process that is named.

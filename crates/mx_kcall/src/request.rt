@@ -6,7 +6,7 @@ ghost use Rattle.mx_respawn.specs.Proc.TableState.{process_at};
 ghost use Rattle.mx_kcall.specs.Requests.{word_at, message_words_of, message_words_at, kernel_call_of, bit_of, kernel_call_under, no_reply_words, reply_bytes};
 
 use crate::windows::is_strict;
-use mx_respawn::{Endpoint, Rules, SYSTEM, Slot, Table};
+use mx_respawn::{Endpoint, MESSAGE_SIZE, Rules, SYSTEM, Slot, Table};
 use mx_word::{Register, read_dword, write_dword};
 
 /// The type of a message to SYSTEM, and the first of its words.
@@ -106,14 +106,14 @@ pub enum After {
 }
 
 /// The word at a place of a message.
-fn word_at(message: &[u8; 36], at: usize) -> u32
-    requires { at + 4 ≤ 36 }
+fn word_at(message: &[u8; MESSAGE_SIZE], at: usize) -> u32
+    requires { at + 4 ≤ MESSAGE_SIZE }
     ensures { result ≡ word_at message.now at }
 {
     read_dword(&message[at..])
 }
 
-fn words_of(message: &[u8; 36]) -> MessageWords
+fn words_of(message: &[u8; MESSAGE_SIZE]) -> MessageWords
     ensures { result ≡ message_words_of message.now }
 {
     MessageWords {
@@ -208,10 +208,10 @@ impl KernelCall {
 }
 
 /// The bytes of a reply.
-pub(crate) fn reply_bytes(outcome: u32, answer: ReplyWords) -> [u8; 36]
+pub(crate) fn reply_bytes(outcome: u32, answer: ReplyWords) -> [u8; MESSAGE_SIZE]
     ensures { result ≡ reply_bytes outcome answer }
 {
-    let mut message = [0; 36];
+    let mut message = [0; MESSAGE_SIZE];
     write_dword(&mut message, SYSTEM);
     write_dword(&mut message[4..], outcome);
     write_dword(&mut message[8..], answer.p0);

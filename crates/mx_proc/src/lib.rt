@@ -21,5 +21,5 @@ pub use endpoints::{
 };
 pub use errors::Errno;
 pub use process::{DeathCause, Masks, Partner, Process, Slot, Source, State};
-pub use table::{Stale, Table};
+pub use table::{MESSAGE_SIZE, Stale, Table};
 pub use windows::{Access, Rules, Window};

@@ -25,6 +25,8 @@ mod messages;
 mod queues;
 mod serving;
 
+pub use messages::MESSAGE_SIZE;
+
 /// An endpoint whose process is dead, or that never was one.
 #[derive(Clone, Copy, PartialEq, Eq)]
 pub struct Stale;

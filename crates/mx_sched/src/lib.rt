@@ -10,9 +10,9 @@ ghost use Rattle.mx_proc.specs.declared.process.State.TheVariants.{Ready};
 ghost use Rattle.mx_sched.specs.Queueing.{table_after_queueing};
 
 pub use mx_proc::{
-    ANY, Access, CLOCK, DeathCause, Delivery, Endpoint, Errno, HARDWARE, Masks, Partner, Process,
-    Rules, SYSTEM, Slot, Source, Stale, State, Table, Window, endpoint_from, generation_of,
-    slot_of,
+    ANY, Access, CLOCK, DeathCause, Delivery, Endpoint, Errno, HARDWARE, MESSAGE_SIZE, Masks,
+    Partner, Process, Rules, SYSTEM, Slot, Source, Stale, State, Table, Window, endpoint_from,
+    generation_of, slot_of,
 };
 
 /// The lowest level of a process. The list below it, 15, is the idle list, and stays empty.

@@ -14,6 +14,12 @@ use crate::endpoints::{CLOCK, HARDWARE};
 use crate::process::{Partner, Slot, Source};
 use mx_word::{Register, Size, read_dword, write_dword};
 
+/// The bytes of a message: its source, its type and seven words.
+pub const MESSAGE_SIZE: usize = 36;
+
+/// The type of each notification.
+const NOTIFICATION_TYPE: u32 = 4096;
+
 impl Table {
     /// Sets the result of a process's trap, in EAX.
     pub fn set_result(&mut self, slot: Slot, value: u32)
@@ -28,7 +34,7 @@ impl Table {
     }
 
     /// Writes a message to a process's buffer.
-    pub fn receive(&mut self, slot: Slot, message: &[u8; 36])
+    pub fn receive(&mut self, slot: Slot, message: &[u8; MESSAGE_SIZE])
         requires slot { slot < length self.old.slots }
         requires inside { HasBuffer (process_at self.old slot) }
         ensures value { self.new ≡ with_message self.old slot message.now }
@@ -53,7 +59,7 @@ impl Table {
     }
 
     /// The message at the buffer of a process, with the source written by the kernel.
-    fn message(&self, slot: Slot) -> [u8; 36]
+    fn message(&self, slot: Slot) -> [u8; MESSAGE_SIZE]
         requires slot { slot < length self.now.slots }
         requires inside { HasBuffer (process_at self.now slot) }
         ensures { result ≡ message_of self.now slot }
@@ -132,7 +138,7 @@ impl Table {
         let uptime = self.uptime();
         let lines = self.clear_pending(slot, source);
         self.receive(slot, &notification(from, uptime, lines));
-        self.log(from, to, 4096, DeliveryKind::Notification);
+        self.log(from, to, NOTIFICATION_TYPE, DeliveryKind::Notification);
     }
 
     /// Sets the pending bit of a source of notifications.
@@ -162,12 +168,12 @@ impl Table {
 }
 
 /// The bytes of a notification.
-fn notification(source: u32, uptime: u32, lines: u32) -> [u8; 36]
+fn notification(source: u32, uptime: u32, lines: u32) -> [u8; MESSAGE_SIZE]
     ensures { result ≡ notification source uptime lines }
 {
-    let mut message = [0; 36];
+    let mut message = [0; MESSAGE_SIZE];
     write_dword(&mut message, source);
-    write_dword(&mut message[4..], 4096);
+    write_dword(&mut message[4..], NOTIFICATION_TYPE);
     write_dword(&mut message[8..], uptime);
     write_dword(&mut message[12..], lines);
     message
