@@ -1,10 +1,11 @@
 -- What may stand in a diary: whose doing each item is.
-use Rattle.std.specs.Prelude.{◌≡◌, ◌≢◌, ◌<◌, ◌≤◌, ◌⊎◌, ◌+◌, ◌%◌, ℕ, Bool, true, false, List, [], ◌∷◌, length, Option, Some, None, slice_index_or}
+use Rattle.std.specs.Prelude.{◌≡◌, ◌≢◌, ◌<◌, ◌≤◌, ◌⊎◌, ◌+◌, ℕ, Bool, true, false, List, [], ◌∷◌, length, Option, Some, None, slice_index_or}
 use Rattle.std.specs.Option.{option_map}
 use Rattle.mx_exec.specs.declared.image.Image.{Image}
 use Rattle.mx_image.specs.declared.runs.Stop.{Stop}
 use Rattle.mx_image.specs.declared.runs.Stop.TheVariants.{Trap}
 use Rattle.mx_proc.specs.declared.errors.Errno.{Errno}
+use Rattle.mx_proc.specs.EndpointNumbers.{slot_of}
 use Rattle.mx_proc.specs.declared.process.State.{State}
 use Rattle.mx_proc.specs.declared.process.State.TheVariants.{Receiving, Awaiting}
 use Rattle.mx_proc.specs.States.{is_blocked}
@@ -46,7 +47,7 @@ pub record CopyMade : Type 0 where
   pub count : ℕ
 
 abbrev pub copy_made : CopyRange → CopyMade
-copy_made c = record { from = c.source.endpoint % 1024; address = c.source.offset; to = c.target.endpoint % 1024; place = c.target.offset; count = c.count }
+copy_made c = record { from = slot_of c.source.endpoint; address = c.source.offset; to = slot_of c.target.endpoint; place = c.target.offset; count = c.count }
 
 -- a VIRCOPY that isn't refused
 abbrev pub copy_by : Option KernelCall → Option Errno → Option CopyMade
