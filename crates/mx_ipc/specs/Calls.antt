@@ -1,5 +1,5 @@
 -- What SEND, RECEIVE, SENDREC and NOTIFY do (book, 2.6.3; proc.c), and a trap.
-use Rattle.std.specs.Prelude.{ℕ, ◌≡◌, ◌<◌, ◌%◌, length, ◌==◌, Bool, true, false, Option, Some, None, if◌then◌else◌}
+use Rattle.std.specs.Prelude.{ℕ, ◌≡◌, ◌<◌, length, ◌==◌, Bool, true, false, Option, Some, None, if◌then◌else◌}
 use Rattle.mx_sched.specs.Proc.declared.errors.Errno.{Errno}
 use Rattle.mx_sched.specs.Proc.declared.errors.Errno.TheVariants.{Denied}
 use Rattle.mx_sched.specs.Proc.declared.process.State.{State}
@@ -8,6 +8,7 @@ use Rattle.mx_sched.specs.Proc.declared.process.Partner.{Partner}
 use Rattle.mx_sched.specs.Proc.declared.process.Partner.TheVariants as partner
 use Rattle.mx_sched.specs.Proc.declared.process.Source.{Source}
 use Rattle.mx_sched.specs.Proc.declared.process.Source.TheVariants as source
+use Rattle.mx_sched.specs.Proc.EndpointNumbers.{slot_of}
 use Rattle.mx_sched.specs.Proc.Errors.{errno_bits}
 use Rattle.mx_sched.specs.Proc.Partners.{order_of_source, may_be}
 use Rattle.mx_sched.specs.Proc.Waits.{caller_of}
@@ -121,10 +122,10 @@ trap_answer w s = let regs = (process_at w s).image.regs in trap_answer_by w s (
 -- has now
 abbrev pub table_after_notify : TableState → Source → ℕ → TableState
 table_after_notify w (source.Slot s) n = table_after_call w s call.Notify n
-table_after_notify w source.Hardware n = table_after_notifying w source.Hardware (n % 1024)
-table_after_notify w source.Clock n = table_after_notifying w source.Clock (n % 1024)
+table_after_notify w source.Hardware n = table_after_notifying w source.Hardware (slot_of n)
+table_after_notify w source.Clock n = table_after_notifying w source.Clock (slot_of n)
 
 -- a slot that notifies is at home while the kernel serves it; HARDWARE and CLOCK notify a slot that is used
 abbrev pub MayNotify : TableState → Source → ℕ → Type 0
 MayNotify w (source.Slot s) n = (s < length w.slots) × ((process_at w s).state ≡ Home)
-MayNotify w _ n = n % 1024 < length w.slots
+MayNotify w _ n = slot_of n < length w.slots

@@ -1,7 +1,8 @@
 -- The six checks of a trap (book, 2.6.3; proc.c, sys_call and mini_send).
-use Rattle.std.specs.Prelude.{ℕ, ◌≡◌, ◌≢◌, ◌<◌, ◌+◌, ◌/◌, ◌%◌, ◌^◌, ◌-◌, ◌==◌, nat_lt, not, ◌&&◌, ◌||◌, Bool, true, false, List, [], ◌∷◌, Option, Some, None, if◌then◌else◌, length, drop, is_none}
+use Rattle.std.specs.Prelude.{ℕ, ◌≡◌, ◌≢◌, ◌<◌, ◌+◌, ◌/◌, ◌%◌, ◌^◌, ◌==◌, nat_lt, not, ◌&&◌, ◌||◌, Bool, true, false, List, [], ◌∷◌, Option, Some, None, if◌then◌else◌, length, drop, is_none}
 use Rattle.mx_sched.specs.Proc.declared.errors.Errno.{Errno}
 use Rattle.mx_sched.specs.Proc.declared.errors.Errno.TheVariants.{BadAddress, Locked, BadEndpoint, Denied, Dead}
+use Rattle.mx_sched.specs.Proc.EndpointNumbers.{slot_of, generation_of, any_endpoint, hardware_endpoint, system_endpoint, clock_endpoint}
 use Rattle.mx_sched.specs.Proc.Endpoints.{names_slot, is_current}
 use Rattle.mx_sched.specs.Proc.Sound.{HasBuffer}
 use Rattle.mx_sched.specs.Proc.Waits.{leads, Reaches}
@@ -21,14 +22,14 @@ call_number Receive = 2
 call_number Sendrec = 3
 call_number Notify = 4
 
--- what EAX names: ANY is 31438, HARDWARE -1, SYSTEM -2 and CLOCK -3; a process by its slot and generation
+-- what EAX names: one of the pseudo-endpoints, or a process by its slot and generation
 unfoldable pub party_of : TableState → ℕ → Option Party
 party_of w n =
-    if n == 31438 then Some Any else
-    if n == 2 ^ 32 - 1 then Some Hardware else
-    if n == 2 ^ 32 - 2 then Some System else
-    if n == 2 ^ 32 - 3 then Some Clock else
-    if names_slot w n then Some (Process (n % 1024) (n / 1024)) else None
+    if n == any_endpoint then Some Any else
+    if n == hardware_endpoint then Some Hardware else
+    if n == system_endpoint then Some System else
+    if n == clock_endpoint then Some Clock else
+    if names_slot w n then Some (Process (slot_of n) (generation_of n)) else None
 
 abbrev pub has_bit : ℕ → ℕ → Bool
 has_bit mask n = (mask / 2 ^ n) % 2 == 1

@@ -6,7 +6,7 @@ ghost use Rattle.mx_sched.specs.Proc.TableState.{process_at};
 ghost use Rattle.mx_ipc.specs.Checks.{party_of, has_bit, to_pseudo, out_of_place, is_send, is_receive, is_notify, is_outside, is_masked, call_refusal, Passed, HasUsedSlot, MayBeSentTo, PassedProcess, process_refusal, party_refusal};
 
 use crate::calls::{Call, Party};
-use mx_sched::{Errno, Slot, Table};
+use mx_sched::{ANY, CLOCK, Errno, HARDWARE, MESSAGE_SIZE, SYSTEM, Slot, Table, generation_of};
 use mx_word::Register;
 
 /// Whom a number names.
@@ -16,12 +16,12 @@ pub(crate) fn party_of(table: &Table, number: u32) -> Option<Party>
     ensures used { ForSome result (λ party. HasUsedSlot table.now party) }
 {
     match number {
-        31438 => Some(Party::Any),
-        0xFFFF_FFFF => Some(Party::Hardware),
-        0xFFFF_FFFE => Some(Party::System),
-        0xFFFF_FFFD => Some(Party::Clock),
-        _ if number < 0x8000_0000 && number % 1024 < u32::from(table.used()) => {
-            Some(Party::Process((number % 1024) as u8, number / 1024))
+        ANY => Some(Party::Any),
+        HARDWARE => Some(Party::Hardware),
+        SYSTEM => Some(Party::System),
+        CLOCK => Some(Party::Clock),
+        _ if table.names_slot(number) => {
+            Some(Party::Process(table.slot_of(number), generation_of(number)))
         }
         _ => None,
     }
@@ -89,7 +89,7 @@ fn is_outside(table: &Table, slot: Slot) -> bool
     ensures { result ≡ is_outside table.now slot }
 {
     let image = &table.process(slot).image;
-    image.memory.limit() < image.register(Register::Ebx) as usize + 36
+    image.memory.limit() < image.register(Register::Ebx) as usize + MESSAGE_SIZE
 }
 
 /// The last three checks, which ask about a process that is named.

@@ -1,13 +1,14 @@
 //! The traps SEND, RECEIVE, SENDREC and NOTIFY: checks, delivery, blocking.
 #![tactic(auto)]
 
-ghost use Rattle.std.specs.Prelude.{◌≡◌, ◌≢◌, ℕ, ◌%◌, ◌<◌, ◌^◌, ◌-◌, Some, None, true, false, length};
+ghost use Rattle.std.specs.Prelude.{◌≡◌, ◌≢◌, ℕ, ◌<◌, Some, None, true, false, length};
 ghost use Rattle.mx_sched.specs.Proc.Frame.{frame};
 ghost use Rattle.mx_sched.specs.Proc.Sound.{HasBuffer, NoneComesHome};
 ghost use Rattle.mx_sched.specs.Proc.States.{IsAlone, is_ready, is_sending, is_blocked, is_out};
 ghost use Rattle.mx_sched.specs.Proc.Waits.{Reaches, without_from};
 ghost use Rattle.mx_sched.specs.Proc.Partners.{order_of_source};
 ghost use Rattle.mx_sched.specs.Proc.TableState.{process_at, IsUsedSource};
+ghost use Rattle.mx_sched.specs.Proc.EndpointNumbers.{system_endpoint};
 ghost use Rattle.mx_sched.specs.Proc.Endpoints.{names_slot};
 ghost use Rattle.mx_sched.specs.Proc.declared.process.State.TheVariants.{Home, Ready};
 ghost use Rattle.mx_ipc.specs.Checks.{Passed};
@@ -21,8 +22,8 @@ mod checks;
 pub use calls::{Call, Party, TrapAnswer};
 use checks::check;
 pub use mx_sched::{
-    Access, DeathCause, Delivery, Endpoint, Errno, Masks, Partner, Process, Rules, Slot, Source,
-    Stale, State, Table, Window, enqueue, pick,
+    Access, DeathCause, Delivery, Endpoint, Errno, MESSAGE_SIZE, Masks, Partner, Process, Rules,
+    SYSTEM, Slot, Source, Stale, State, Table, Window, endpoint_from, enqueue, pick, slot_of,
 };
 use mx_word::Register;
 
@@ -297,7 +298,7 @@ pub fn receive(table: &mut Table, slot: Slot, from: Endpoint)
 pub fn sendrec(table: &mut Table, slot: Slot, to: Endpoint)
     requires slot { slot < length table.old.slots }
     requires home { (process_at table.old slot).state ≡ Home }
-    requires process { to ≢ 2 ^ 32 - 2 }
+    requires process { to ≢ system_endpoint }
     ensures value { table.new ≡ table_after_call table.old slot calls.Sendrec to }
     ensures frame { frame table.new ≡ frame table.old }
 {
@@ -313,13 +314,11 @@ pub fn notify(table: &mut Table, source: Source, to: Endpoint)
     ensures frame { frame table.new ≡ frame table.old }
     ensures settled { NoneComesHome table.old table.new }
 {
-    // So few that a slot fits a byte.
-    let _used = table.used();
     match source {
         Source::Slot(slot) => {
             perform(table, slot, Call::Notify, to);
         }
-        Source::Hardware | Source::Clock => tell(table, source, (to % 1024) as u8),
+        Source::Hardware | Source::Clock => tell(table, source, table.slot_of(to)),
     }
 }
 

@@ -13,6 +13,7 @@ use Rattle.mx_proc.specs.declared.process.Process.{Process}
 use Rattle.mx_proc.specs.declared.windows.Window.{Window}
 use Rattle.mx_proc.specs.TableState.{TableState, memory_at, nobody, window_of, table_after_move_home}
 use Rattle.mx_ipc.specs.Checks.{first_error, has_bit}
+use Rattle.mx_kcall.specs.declared.request.CopyRange.{CopyRange}
 use Rattle.mx_kcall.specs.declared.request.KernelCall.{KernelCall}
 use Rattle.mx_kcall.specs.declared.request.KernelCall.TheVariants.{Exit, Times, SetAlarm, Irqctl, Devio, Vircopy, Whois, Grant}
 use Rattle.mx_kcall.specs.declared.request.KernelCall.TheVariants as kernel_call
@@ -24,7 +25,7 @@ use Rattle.mx_kcall.specs.Windows.{allows_reading, allows_writing, is_open, is_s
 use Rattle.mx_kcall.specs.TrapAnswer.TheVariants as trap_ends
 use Rattle.mx_machine_world.specs.Move.{is_doomed, table_after_coming_home}
 use Rattle.mx_machine_world.specs.World.{HeldProcess, held_by}
-use Rattle.mx_isolation_diary.specs.Entries.{IsClosedToWriting, IsThroughWindows, slot_on, copy_at_back, copy_at_end, copy_at_trap, copy_by, IsOutsideCopy}
+use Rattle.mx_isolation_diary.specs.Entries.{IsClosedToWriting, IsThroughWindows, slot_on, copy_made, copy_at_back, copy_at_end, copy_at_trap, copy_by, IsOutsideCopy}
 use Rattle.mx_exec.specs.declared.image.Image.{Image}
 use Rattle.mx_exec.specs.Image.{blank}
 use Rattle.mx_mem.specs.Segment.{with_bytes_at}
@@ -205,16 +206,17 @@ record IsAllowed (t : TableState) (s : ℕ) (c : CopyMade) : Type 0 where
   home : is_out (process_at t c.to).state ≡ false
   room : c.place + c.count ≤ length (memory_at t c.to)
 
-copy_fits : (t : TableState) (s from at to place count : ℕ) → kernel_call_refusal_by t s (Some (Vircopy from at to place count)) ≡ None → IsAllowed t s (record { from = from % 1024; address = at; to = to % 1024; place = place; count = count })
-copy_fits t s from at to place count e =
-    let h = none_holds ((not (has_bit (process_at t s).masks.calls 5), Denied) ∷ kernel_call_reasons t s (Vircopy from at to place count)) e in
+copy_fits : (t : TableState) (s : ℕ) (c : CopyRange) → kernel_call_refusal_by t s (Some (Vircopy c)) ≡ None → IsAllowed t s (copy_made c)
+copy_fits t s c e =
+    let h = none_holds ((not (has_bit (process_at t s).masks.calls 5), Denied) ∷ kernel_call_reasons t s (Vircopy c)) e in
+    let from = c.source.endpoint in let to = c.target.endpoint in
     record {
       windows = λ strict. record {
-        read = λ n. open_of (is_strict t.rules) (from % 1024 == s) (is_open allows_reading (window_of t (from % 1024) s) at count) h.1.1.1.1.1.1.1.0 strict (ne_eqb (from % 1024) s n);
-        written = λ n. open_of (is_strict t.rules) (to % 1024 == s) (is_open allows_writing (window_of t (to % 1024) s) place count) h.1.1.1.1.1.1.1.1.0 strict (ne_eqb (to % 1024) s n);
+        read = λ n. open_of (is_strict t.rules) (from % 1024 == s) (is_open allows_reading (window_of t (from % 1024) s) c.source.offset c.count) h.1.1.1.1.1.1.1.0 strict (ne_eqb (from % 1024) s n);
+        written = λ n. open_of (is_strict t.rules) (to % 1024 == s) (is_open allows_writing (window_of t (to % 1024) s) c.target.offset c.count) h.1.1.1.1.1.1.1.1.0 strict (ne_eqb (to % 1024) s n);
       };
       home = second_false (is_away t from) (is_away t to) h.1.1.1.1.1.1.0;
-      room = leb-true (place + count) (length (memory_at t (to % 1024))) (not_false _ h.1.1.1.1.1.1.1.1.1.1.0);
+      room = leb-true (c.target.offset + c.count) (length (memory_at t (to % 1024))) (not_false _ h.1.1.1.1.1.1.1.1.1.1.0);
     }
 
 abbrev the_copy : CopyMade → Option CopyMade → CopyMade
@@ -228,11 +230,11 @@ copy_inside_by t s (Some Times) e c f g = cc
 copy_inside_by t s (Some (SetAlarm delay)) e c f g = cc
 copy_inside_by t s (Some (Irqctl action line)) e c f g = cc
 copy_inside_by t s (Some (Devio action register value)) e c f g = cc
-copy_inside_by t s (Some (Vircopy from at to place count)) (Some x) c f g = cc
-copy_inside_by t s (Some (Vircopy from at to place count)) None c f g = subst (IsAllowed t s) (ap (the_copy c) g) (copy_fits t s from at to place count f)
+copy_inside_by t s (Some (Vircopy copied)) (Some x) c f g = cc
+copy_inside_by t s (Some (Vircopy copied)) None c f g = subst (IsAllowed t s) (ap (the_copy c) g) (copy_fits t s copied f)
 copy_inside_by t s (Some (kernel_call.Kill n)) e c f g = cc
 copy_inside_by t s (Some (Whois slot)) e c f g = cc
-copy_inside_by t s (Some (Grant endpoint place count access)) e c f g = cc
+copy_inside_by t s (Some (Grant grant)) e c f g = cc
 
 copy_inside_trap : (t : TableState) (s : ℕ) (x : TrapAnswer) (c : CopyMade) → copy_at_trap t s x ≡ Some c → IsAllowed t s c
 unfolding kernel_call_refusal

@@ -39,7 +39,7 @@ use Rattle.mx_kcall.specs.TrapAnswer.TheVariants as trap_ends
 use Rattle.mx_isolation_diary.specs.Diary.{Item}
 use Rattle.mx_isolation_diary.specs.Diary.Item.{Ran, Result, Message, Copy}
 use Rattle.mx_isolation_diary.specs.Items.{bytes_of_notice, items_of_call, items_of_change, items_of_checked_call, items_of_death, items_of_end_of_turn, items_of_freeing, items_of_kernel_call, items_of_notifying, items_of_receive, items_of_release, items_of_reply, items_of_send, items_of_sendrec, items_of_taking, items_of_trap, items_of_trap_by}
-use Rattle.mx_isolation_diary.specs.Entries.{CopyMade, copy_at_end, copy_at_trap, copy_by, is_receiving, IsOfCopy}
+use Rattle.mx_isolation_diary.specs.Entries.{CopyMade, copy_made, copy_at_end, copy_at_trap, copy_by, is_receiving, IsOfCopy}
 
 -- ---- items of several slots
 
@@ -320,10 +320,10 @@ change_each h made Times e = tt
 change_each h made (SetAlarm delay) e = tt
 change_each h made (Irqctl action line) e = tt
 change_each h made (Devio action register value) e = tt
-change_each {w} h made (Vircopy from at to place count) e = (record { copy = record { from = from % 1024; address = at; to = to % 1024; place = place; count = count }; is_made = e; slot = refl; place = refl; few = part_short (memory_at w (from % 1024)) at count }, tt)
+change_each {w} h made (Vircopy c) e = (record { copy = copy_made c; is_made = e; slot = refl; place = refl; few = part_short (memory_at w (c.source.endpoint % 1024)) c.source.offset c.count }, tt)
 change_each h made (Kill n) e = death_each h made (n % 1024)
 change_each h made (Whois slot) e = tt
-change_each h made (Grant endpoint place count access) e = tt
+change_each h made (Grant grant) e = tt
 
 kernel_call_each : {w : TableState} {R M : ℕ → Type 0} → Scene w R M → (made : Option CopyMade) (s : ℕ) (r : Option KernelCall) (e : Option Errno) → made ≡ copy_by r e → R s → M s → Each (Goes R M made) (items_of_kernel_call w s r e)
 kernel_call_each {w} {R} {M} h made s r (Some e) f own heard = reply_each R M made s (errno_bits e) no_reply_words own heard

@@ -97,10 +97,10 @@ change_images w s Times = refl
 change_images w s (SetAlarm delay) = images-kept w.slots s _ refl
 change_images w s (Irqctl action line) = refl
 change_images w s (Devio action register value) = same_case (action == 0) w _ (images w) refl (same_case (register == 0) (with_console_byte w (value % 256)) (with_device_register w register value) (images w) refl refl)
-change_images w s (Vircopy from at to place count) = one_given w (to % 1024) (Copy place (part (memory_at w (from % 1024)) at count)) _ refl
+change_images w s (Vircopy c) = one_given w (c.target.endpoint % 1024) (Copy c.target.offset (part (memory_at w (c.source.endpoint % 1024)) c.source.offset c.count)) _ refl
 change_images w s (Kill e) = death_images w (e % 1024) cause.Kill
 change_images w s (Whois slot) = refl
-change_images w s (Grant endpoint place count access) = images-kept w.slots s _ refl
+change_images w s (Grant grant) = images-kept w.slots s _ refl
 
 reply_images : (w : TableState) (s n : ℕ) (a : ReplyWords) → images (table_after_reply w s n a) ≡ play_all (items_of_reply s n a) (images w)
 unfolding table_after_reply

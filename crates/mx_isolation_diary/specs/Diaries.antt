@@ -1,8 +1,9 @@
 -- The image of a slot, at home or on a processor, and its diary over one event.
-use Rattle.std.specs.Prelude.{◌≢◌, ℕ, ◌%◌, ◌==◌, ◌++◌, List, [], ◌∷◌, Option, Some, None, slice_index_or, if◌then◌else◌}
+use Rattle.std.specs.Prelude.{◌≢◌, ℕ, ◌==◌, ◌++◌, List, [], ◌∷◌, Option, Some, None, slice_index_or, if◌then◌else◌}
 use Rattle.mx_exec.specs.declared.image.Image.{Image}
 use Rattle.mx_exec.specs.Image.{blank}
 use Rattle.mx_proc.specs.declared.process.Source.TheVariants.{Hardware, Clock}
+use Rattle.mx_proc.specs.EndpointNumbers.{slot_of}
 use Rattle.mx_proc.specs.States.{is_out}
 use Rattle.mx_proc.specs.Serving.{with_line, with_alarm, with_tick}
 use Rattle.mx_proc.specs.TableState.{TableState, process_at}
@@ -57,7 +58,7 @@ items_of_kill t s = if is_out (process_at t s).state then [] else items_of_death
 abbrev pub items_of_event : World → Event → List (ℕ × Item)
 items_of_event w (Line l) = items_of_line w.table l (owner_of w.table l)
 items_of_event w Tick = let later = with_tick w.table in items_of_rings (due_slots later.uptime 0 later.slots) later
-items_of_event w (Kill e) = items_of_kill w.table (e % 1024)
+items_of_event w (Kill e) = items_of_kill w.table (slot_of e)
 items_of_event w _ = []
 
 -- nothing for who is on a processor

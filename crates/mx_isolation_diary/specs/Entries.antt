@@ -1,16 +1,18 @@
 -- What may stand in a diary: whose doing each item is.
-use Rattle.std.specs.Prelude.{◌≡◌, ◌≢◌, ◌<◌, ◌≤◌, ◌⊎◌, ◌+◌, ◌%◌, ℕ, Bool, true, false, List, [], ◌∷◌, length, Option, Some, None, slice_index_or}
+use Rattle.std.specs.Prelude.{◌≡◌, ◌≢◌, ◌<◌, ◌≤◌, ◌⊎◌, ◌+◌, ℕ, Bool, true, false, List, [], ◌∷◌, length, Option, Some, None, slice_index_or}
 use Rattle.std.specs.Option.{option_map}
 use Rattle.mx_exec.specs.declared.image.Image.{Image}
 use Rattle.mx_image.specs.declared.runs.Stop.{Stop}
 use Rattle.mx_image.specs.declared.runs.Stop.TheVariants.{Trap}
 use Rattle.mx_proc.specs.declared.errors.Errno.{Errno}
+use Rattle.mx_proc.specs.EndpointNumbers.{slot_of}
 use Rattle.mx_proc.specs.declared.process.State.{State}
 use Rattle.mx_proc.specs.declared.process.State.TheVariants.{Receiving, Awaiting}
 use Rattle.mx_proc.specs.States.{is_blocked}
 use Rattle.mx_proc.specs.declared.windows.Window.{Window}
 use Rattle.mx_proc.specs.TableState.{TableState, process_at, window_of}
 use Rattle.mx_kcall.specs.declared.request.KernelCall.{KernelCall}
+use Rattle.mx_kcall.specs.declared.request.CopyRange.{CopyRange}
 use Rattle.mx_kcall.specs.declared.request.KernelCall.TheVariants.{Vircopy}
 use Rattle.mx_kcall.specs.Calls.{trap_answer}
 use Rattle.mx_kcall.specs.Refusals.{kernel_call_refusal}
@@ -44,9 +46,12 @@ pub record CopyMade : Type 0 where
   pub place : ℕ
   pub count : ℕ
 
+abbrev pub copy_made : CopyRange → CopyMade
+copy_made c = record { from = slot_of c.source.endpoint; address = c.source.offset; to = slot_of c.target.endpoint; place = c.target.offset; count = c.count }
+
 -- a VIRCOPY that isn't refused
 abbrev pub copy_by : Option KernelCall → Option Errno → Option CopyMade
-copy_by (Some (Vircopy from at to place count)) None = Some (record { from = from % 1024; address = at; to = to % 1024; place = place; count = count })
+copy_by (Some (Vircopy c)) None = Some (copy_made c)
 copy_by _ _ = None
 
 -- by the trap of s

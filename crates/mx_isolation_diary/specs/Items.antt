@@ -1,9 +1,10 @@
 -- What each call, a death and a return write down for each slot: the items, in order.
-use Rattle.std.specs.Prelude.{ℕ, ◌%◌, ◌++◌, Bool, true, false, List, [], ◌∷◌, Option, Some, None, if◌then◌else◌}
+use Rattle.std.specs.Prelude.{ℕ, ◌++◌, Bool, true, false, List, [], ◌∷◌, Option, Some, None, if◌then◌else◌}
 use Rattle.mx_image.specs.declared.runs.Stop.{Stop}
 use Rattle.mx_image.specs.declared.runs.Stop.TheVariants.{Spent, Trap, Fault}
 use Rattle.mx_mem.specs.Segment.{part}
 use Rattle.mx_proc.specs.declared.errors.Errno.{Errno}
+use Rattle.mx_proc.specs.EndpointNumbers.{slot_of}
 use Rattle.mx_proc.specs.declared.errors.Errno.TheVariants.{Denied, Dead}
 use Rattle.mx_proc.specs.declared.process.Partner.{Partner}
 use Rattle.mx_proc.specs.declared.process.Partner.TheVariants as partner
@@ -97,8 +98,8 @@ items_of_death w s = items_of_freeing (waiting_for (table_after_taking_out w s) 
 
 -- what a kernel call writes for others: a copy, or a death
 abbrev pub items_of_change : TableState → KernelCall → List (ℕ × Item)
-items_of_change w (Vircopy from at to place count) = (to % 1024, Copy place (part (memory_at w (from % 1024)) at count)) ∷ []
-items_of_change w (Kill e) = items_of_death w (e % 1024)
+items_of_change w (Vircopy c) = (slot_of c.target.endpoint, Copy c.target.offset (part (memory_at w (slot_of c.source.endpoint)) c.source.offset c.count)) ∷ []
+items_of_change w (Kill e) = items_of_death w (slot_of e)
 items_of_change w _ = []
 
 -- a reply: its bytes, and 0

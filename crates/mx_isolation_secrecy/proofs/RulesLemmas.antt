@@ -163,10 +163,10 @@ change_keeps w s Times = refl
 change_keeps w s (SetAlarm delay) = refl
 change_keeps w s (Irqctl action line) = refl
 change_keeps w s (Devio action register value) = by_case w (action == 0) w _ refl (by_case w (register == 0) (with_console_byte w (value % 256)) (with_device_register w register value) refl refl)
-change_keeps w s (Vircopy from at to place count) = refl
+change_keeps w s (Vircopy c) = refl
 change_keeps w s (KillCall e) = death_keeps w (e % 1024) cause.Kill
 change_keeps w s (Whois slot) = refl
-change_keeps w s (Grant endpoint place count access) = refl
+change_keeps w s (Grant grant) = refl
 
 reply_keeps : (w : TableState) (s n : ℕ) (a : ReplyWords) → Keep w (table_after_reply w s n a)
 unfolding table_after_reply

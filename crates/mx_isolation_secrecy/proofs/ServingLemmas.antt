@@ -18,6 +18,8 @@ use Rattle.mx_proc.specs.TableState.{TableState, process_at, with_process, memor
 use Rattle.mx_ipc.specs.Checks.{first_error, has_bit}
 use Rattle.mx_kcall.specs.declared.request.KernelCall.{KernelCall}
 use Rattle.mx_kcall.specs.declared.request.KernelCall.TheVariants.{Exit, Times, SetAlarm, Irqctl, Devio, Vircopy, Kill, Whois, Grant}
+use Rattle.mx_kcall.specs.declared.request.CopyRange.{CopyRange}
+use Rattle.mx_kcall.specs.declared.request.WindowGrant.{WindowGrant}
 use Rattle.mx_kcall.specs.declared.request.ReplyWords.{ReplyWords}
 use Rattle.mx_kcall.specs.declared.request.MessageWords.{MessageWords}
 use Rattle.mx_kcall.specs.Requests.{kernel_call_under, message_words_at, message_words_of, bit_of, no_reply_words, reply_bytes}
@@ -62,29 +64,29 @@ windows_same : {q : ℕ} {w v : TableState} → Twins q w v → (s : ℕ) → wi
 windows_same h s = λ i d. (ap (λ (p : Process). get_or p.windows s None) (all_but_image_at h d)) i
 
 -- what a copy's reasons read
-abbrev copy_reasons : ℕ → Rules → (ℕ → Option Window) → (ℕ → Bool) → (ℕ → Bool) → (ℕ → Bool) → (ℕ → ℕ) → ℕ → ℕ → ℕ → ℕ → ℕ → List (Bool × Errno)
-copy_reasons s rules windows named alive away limit from at to place count =
-    (nat_lt 65536 count, Invalid)
-    ∷ (not (named from), BadEndpoint)
-    ∷ (not (alive from), Dead)
-    ∷ (not (named to), BadEndpoint)
-    ∷ (not (alive to), Dead)
-    ∷ (away from || away to, NotReady)
-    ∷ (is_strict rules && not (from % 1024 == s) && not (is_open allows_reading (windows (from % 1024)) at count), NotPermitted)
-    ∷ (is_strict rules && not (to % 1024 == s) && not (is_open allows_writing (windows (to % 1024)) place count), NotPermitted)
-    ∷ (not (nat_le (at + count) (limit (from % 1024))), BadAddress)
-    ∷ (not (nat_le (place + count) (limit (to % 1024))), BadAddress)
+abbrev copy_reasons : ℕ → Rules → (ℕ → Option Window) → (ℕ → Bool) → (ℕ → Bool) → (ℕ → Bool) → (ℕ → ℕ) → CopyRange → List (Bool × Errno)
+copy_reasons s rules windows named alive away limit c =
+    (nat_lt 65536 c.count, Invalid)
+    ∷ (not (named c.source.endpoint), BadEndpoint)
+    ∷ (not (alive c.source.endpoint), Dead)
+    ∷ (not (named c.target.endpoint), BadEndpoint)
+    ∷ (not (alive c.target.endpoint), Dead)
+    ∷ (away c.source.endpoint || away c.target.endpoint, NotReady)
+    ∷ (is_strict rules && not (c.source.endpoint % 1024 == s) && not (is_open allows_reading (windows (c.source.endpoint % 1024)) c.source.offset c.count), NotPermitted)
+    ∷ (is_strict rules && not (c.target.endpoint % 1024 == s) && not (is_open allows_writing (windows (c.target.endpoint % 1024)) c.target.offset c.count), NotPermitted)
+    ∷ (not (nat_le (c.source.offset + c.count) (limit (c.source.endpoint % 1024))), BadAddress)
+    ∷ (not (nat_le (c.target.offset + c.count) (limit (c.target.endpoint % 1024))), BadAddress)
     ∷ []
 
 abbrev kill_reasons : (ℕ → Bool) → (ℕ → Bool) → (ℕ → Bool) → ℕ → List (Bool × Errno)
 kill_reasons named alive away e = (not (named e), BadEndpoint) ∷ (not (alive e), Dead) ∷ (away e, NotReady) ∷ []
 
-abbrev grant_reasons : (ℕ → Bool) → (ℕ → Bool) → (ℕ → ℕ) → ℕ → ℕ → ℕ → ℕ → ℕ → ℕ → List (Bool × Errno)
-grant_reasons named alive limit own s endpoint place count access =
-    (nat_lt 3 access || (endpoint == own), Invalid)
-    ∷ (not (named endpoint), BadEndpoint)
-    ∷ (not (alive endpoint), Dead)
-    ∷ (not (access == 0) && not (nat_le (place + count) (limit s)), BadAddress)
+abbrev grant_reasons : (ℕ → Bool) → (ℕ → Bool) → (ℕ → ℕ) → ℕ → ℕ → WindowGrant → List (Bool × Errno)
+grant_reasons named alive limit own s grant =
+    (nat_lt 3 grant.access || (grant.user == own), Invalid)
+    ∷ (not (named grant.user), BadEndpoint)
+    ∷ (not (alive grant.user), Dead)
+    ∷ (not (grant.access == 0) && not (nat_le (grant.place + grant.count) (limit s)), BadAddress)
     ∷ []
 
 reasons_same : {q : ℕ} {w v : TableState} → Twins q w v → (s : ℕ) (r : KernelCall) → kernel_call_reasons w s r ≡ kernel_call_reasons v s r
@@ -93,22 +95,22 @@ reasons_same h s Times = refl
 reasons_same h s (SetAlarm delay) = refl
 reasons_same h s (Irqctl action line) = ap (λ (x : TableState). kernel_call_reasons x s (Irqctl action line)) h.rest
 reasons_same h s (Devio action register value) = refl
-reasons_same {q} {w} {v} h s (Vircopy from at to place count) =
-    ap (λ f. copy_reasons s w.rules (windows_for w s) f (is_alive w) (is_away w) (limit_at w) from at to place count) (names_same h)
-    ∙ ap (λ f. copy_reasons s w.rules (windows_for w s) (names_slot v) f (is_away w) (limit_at w) from at to place count) (alive_same h)
-    ∙ ap (λ f. copy_reasons s w.rules (windows_for w s) (names_slot v) (is_alive v) f (limit_at w) from at to place count) (away_same h)
-    ∙ ap (λ f. copy_reasons s w.rules (windows_for w s) (names_slot v) (is_alive v) (is_away v) f from at to place count) (limits_same h)
-    ∙ ap (λ f. copy_reasons s w.rules f (names_slot v) (is_alive v) (is_away v) (limit_at v) from at to place count) (windows_same h s)
-    ∙ ap (λ r. copy_reasons s r (windows_for v s) (names_slot v) (is_alive v) (is_away v) (limit_at v) from at to place count) (rules_of h)
+reasons_same {q} {w} {v} h s (Vircopy c) =
+    ap (λ f. copy_reasons s w.rules (windows_for w s) f (is_alive w) (is_away w) (limit_at w) c) (names_same h)
+    ∙ ap (λ f. copy_reasons s w.rules (windows_for w s) (names_slot v) f (is_away w) (limit_at w) c) (alive_same h)
+    ∙ ap (λ f. copy_reasons s w.rules (windows_for w s) (names_slot v) (is_alive v) f (limit_at w) c) (away_same h)
+    ∙ ap (λ f. copy_reasons s w.rules (windows_for w s) (names_slot v) (is_alive v) (is_away v) f c) (limits_same h)
+    ∙ ap (λ f. copy_reasons s w.rules f (names_slot v) (is_alive v) (is_away v) (limit_at v) c) (windows_same h s)
+    ∙ ap (λ r. copy_reasons s r (windows_for v s) (names_slot v) (is_alive v) (is_away v) (limit_at v) c) (rules_of h)
 reasons_same {q} {w} {v} h s (Kill e) =
     ap (λ f. kill_reasons f (is_alive w) (is_away w) e) (names_same h)
     ∙ ap (λ f. kill_reasons (names_slot v) f (is_away w) e) (alive_same h)
     ∙ ap (λ f. kill_reasons (names_slot v) (is_alive v) f e) (away_same h)
-reasons_same {q} {w} {v} h s (Grant endpoint place count access) =
-    ap (λ f. grant_reasons f (is_alive w) (limit_at w) (endpoint_of w s) s endpoint place count access) (names_same h)
-    ∙ ap (λ f. grant_reasons (names_slot v) f (limit_at w) (endpoint_of w s) s endpoint place count access) (alive_same h)
-    ∙ ap (λ f. grant_reasons (names_slot v) (is_alive v) f (endpoint_of w s) s endpoint place count access) (limits_same h)
-    ∙ ap (λ own. grant_reasons (names_slot v) (is_alive v) (limit_at v) own s endpoint place count access) (endpoint_same h s)
+reasons_same {q} {w} {v} h s (Grant grant) =
+    ap (λ f. grant_reasons f (is_alive w) (limit_at w) (endpoint_of w s) s grant) (names_same h)
+    ∙ ap (λ f. grant_reasons (names_slot v) f (limit_at w) (endpoint_of w s) s grant) (alive_same h)
+    ∙ ap (λ f. grant_reasons (names_slot v) (is_alive v) f (endpoint_of w s) s grant) (limits_same h)
+    ∙ ap (λ own. grant_reasons (names_slot v) (is_alive v) (limit_at v) own s grant) (endpoint_same h s)
 reasons_same {q} {w} {v} h s (Whois slot) =
     ap (λ n. (nat_le n slot, Invalid) ∷ (is_down (process_at w slot).state, Dead) ∷ []) (slots_of h)
     ∙ ap (λ (p : Process). (nat_le (length v.slots) slot, Invalid) ∷ (is_down p.state, Dead) ∷ []) (all_but_image_at h slot)
@@ -148,10 +150,10 @@ inside_of n k e = leb-true n k (true_of (nat_le n k) e)
     true_of true e = refl
     true_of false e = cc
 
-copy_fits : (w : TableState) (s from at to place count : ℕ) → kernel_call_refusal_by w s (Some (Vircopy from at to place count)) ≡ None → place + count ≤ limit_at w (to % 1024)
-copy_fits w s from at to place count e =
-    let h = none_holds ((not (has_bit (process_at w s).masks.calls 5), Denied) ∷ kernel_call_reasons w s (Vircopy from at to place count)) e in
-    inside_of (place + count) (limit_at w (to % 1024)) h.1.1.1.1.1.1.1.1.1.1.0
+copy_fits : (w : TableState) (s : ℕ) (c : CopyRange) → kernel_call_refusal_by w s (Some (Vircopy c)) ≡ None → c.target.offset + c.count ≤ limit_at w (c.target.endpoint % 1024)
+copy_fits w s c e =
+    let h = none_holds ((not (has_bit (process_at w s).masks.calls 5), Denied) ∷ kernel_call_reasons w s (Vircopy c)) e in
+    inside_of (c.target.offset + c.count) (limit_at w (c.target.endpoint % 1024)) h.1.1.1.1.1.1.1.1.1.1.0
 
 -- a copy that isn't refused, under strict rules and of another's memory, reads through an open window
 read_open : (strict own is_read : Bool) → (strict && not own && not is_read) ≡ false → strict ≡ true → own ≡ false → is_read ≡ true
@@ -161,13 +163,14 @@ read_open true true x f e g = cc
 read_open false own x f e g = cc
 
 -- so where q grants none, its source is another
-source_is_other : (w : TableState) (q s from at to place count : ℕ) → is_slot q s ≡ false → kernel_call_refusal_by w s (Some (Vircopy from at to place count)) ≡ None → CopyIsApart q w s (Some (Vircopy from at to place count)) None → q ≢ from % 1024
-source_is_other w q s from at to place count n e m g =
+source_is_other : (w : TableState) (q s : ℕ) (c : CopyRange) → is_slot q s ≡ false → kernel_call_refusal_by w s (Some (Vircopy c)) ≡ None → CopyIsApart q w s (Some (Vircopy c)) None → q ≢ c.source.endpoint % 1024
+source_is_other w q s c n e m g =
     let k = m (sym g) in
-    let h = none_holds ((not (has_bit (process_at w s).masks.calls 5), Denied) ∷ kernel_call_reasons w s (Vircopy from at to place count)) e in
-    let own : (from % 1024 == s) ≡ false = ne_eqb (from % 1024) s (λ z. is_not_itself q s n (g ∙ z)) in
-    let reads = read_open (is_strict w.rules) (from % 1024 == s) (is_open allows_reading (window_of w (from % 1024) s) at count) h.1.1.1.1.1.1.1.0 k.0 own in
-    true_false (sym reads ∙ ap (λ z. is_open allows_reading (window_of w z s) at count) (sym g) ∙ k.1)
+    let h = none_holds ((not (has_bit (process_at w s).masks.calls 5), Denied) ∷ kernel_call_reasons w s (Vircopy c)) e in
+    let owner = c.source.endpoint % 1024 in
+    let own : (owner == s) ≡ false = ne_eqb owner s (λ z. is_not_itself q s n (g ∙ z)) in
+    let reads = read_open (is_strict w.rules) (owner == s) (is_open allows_reading (window_of w owner s) c.source.offset c.count) h.1.1.1.1.1.1.1.0 k.0 own in
+    true_false (sym reads ∙ ap (λ z. is_open allows_reading (window_of w z s) c.source.offset c.count) (sym g) ∙ k.1)
   where
     true_false : true ≡ false → ⊥
     true_false z = cc
@@ -203,10 +206,11 @@ change_twins h s (Irqctl action line) n e m = device_twins h (λ (d : Devices). 
 change_twins h s (Devio action register value) n e m = by_test (action == 0) (action == 0) refl (λ t. h) (λ t. by_test (register == 0) (register == 0) refl
     (λ u. device_twins h (λ (d : Devices). let x : Devices = record d { console = record { kept = keep_last 4096 (d.console.kept ++ (value % 256) ∷ []); count = d.console.count + 1 } } in x))
     (λ u. device_twins h (λ (d : Devices). let x : Devices = record d { registers = slice_set d.registers register value } in x)))
-change_twins {q} {w} {v} h s (Vircopy from k to place count) n e m = copy_twins h (from % 1024) k (to % 1024) place count (other_slot q (from % 1024) (source_is_other w q s from k to place count n e m)) (copy_fits w s from k to place count e)
+change_twins {q} {w} {v} h s (Vircopy c) n e m =
+    let from = c.source.endpoint % 1024 in copy_twins h from c.source.offset (c.target.endpoint % 1024) c.target.offset c.count (other_slot q from (source_is_other w q s c n e m)) (copy_fits w s c e)
 change_twins h s (Kill e) n x m = death_twins h (e % 1024) cause.Kill
 change_twins h s (Whois slot) n e m = h
-change_twins h s (Grant endpoint place count access) n e m = quiet h s (λ (p : Process). let x : Process = record p { windows = slice_set p.windows (endpoint % 1024) (granted place count access) } in x) (λ b p. refl) (λ p. refl) (λ p. refl)
+change_twins h s (Grant grant) n e m = quiet h s (λ (p : Process). let x : Process = record p { windows = slice_set p.windows (grant.user % 1024) (granted grant.place grant.count grant.access) } in x) (λ b p. refl) (λ p. refl) (λ p. refl)
 
 reply_words_same : {q : ℕ} {w v : TableState} → Twins q w v → (s : ℕ) (r : KernelCall) → is_slot q s ≡ false → words_of_reply w s r ≡ words_of_reply v s r
 reply_words_same h s Exit n = refl
@@ -218,9 +222,9 @@ reply_words_same {q} {w} {v} h s (SetAlarm delay) n =
     ∙ ap (λ (p : Process). let x : ReplyWords = record { p0 = ticks_left v.uptime p.alarm; p1 = 0; p2 = 0 } in x) (all_but_image_at h s)
 reply_words_same h s (Irqctl action line) n = refl
 reply_words_same h s (Devio action register value) n = ap (λ (d : Devices). let x : ReplyWords = record { p0 = cond (action == 0 && not (register == 0)) (slice_index d.registers register) 0; p1 = 0; p2 = 0 } in x) (devices_of h)
-reply_words_same h s (Vircopy from k to place count) n = refl
+reply_words_same h s (Vircopy c) n = refl
 reply_words_same h s (Kill e) n = refl
-reply_words_same h s (Grant endpoint place count access) n = refl
+reply_words_same h s (Grant grant) n = refl
 reply_words_same h s (Whois slot) n = ap (λ e. let x : ReplyWords = record { p0 = e; p1 = 0; p2 = 0 } in x) (endpoint_same h slot)
 
 reply_twins : {q : ℕ} {w v : TableState} → Twins q w v → (s k : ℕ) (a : ReplyWords) → is_slot q s ≡ false → Twins q (table_after_reply w s k a) (table_after_reply v s k a)

@@ -1,8 +1,9 @@
 -- Why a kernel call is refused (our choice).
-use Rattle.std.specs.Prelude.{ℕ, ◌≡◌, ◌<◌, ◌≤◌, ◌+◌, ◌%◌, ◌==◌, nat_lt, nat_le, not, ◌&&◌, ◌||◌, Bool, true, false, List, [], ◌∷◌, length, Option, Some, None, slice_index_or}
+use Rattle.std.specs.Prelude.{ℕ, ◌≡◌, ◌<◌, ◌≤◌, ◌+◌, ◌==◌, nat_lt, nat_le, not, ◌&&◌, ◌||◌, Bool, true, false, List, [], ◌∷◌, length, Option, Some, None, slice_index_or}
 use Rattle.mx_respawn.specs.Segment.{inside}
 use Rattle.mx_respawn.specs.Proc.declared.errors.Errno.{Errno}
 use Rattle.mx_respawn.specs.Proc.declared.errors.Errno.TheVariants.{NotPermitted, BadAddress, Invalid, BadEndpoint, Denied, Dead, NotReady, BadRequest}
+use Rattle.mx_respawn.specs.Proc.EndpointNumbers.{slot_of}
 use Rattle.mx_respawn.specs.Proc.Endpoints.{names_slot, is_alive}
 use Rattle.mx_respawn.specs.Proc.States.{is_down, is_out}
 use Rattle.mx_respawn.specs.Proc.TableState.{TableState, process_at, endpoint_of, memory_at}
@@ -26,7 +27,7 @@ is_owned (Some t) = true
 
 -- the process of an endpoint's slot is on a processor
 abbrev pub is_away : TableState → ℕ → Bool
-is_away w e = is_out (process_at w (e % 1024)).state
+is_away w e = is_out (process_at w (slot_of e)).state
 
 -- THE REASONS of each call in order, and whether each holds
 abbrev pub kernel_call_reasons : TableState → ℕ → KernelCall → List (Bool × Errno)
@@ -39,17 +40,17 @@ kernel_call_reasons w s (Irqctl action line) =
     ∷ ((is_owned (owner_of w line) || action == 0) && not (is_owned_by s (owner_of w line)), NotPermitted)
     ∷ []
 kernel_call_reasons w s (Devio action register value) = (nat_lt 1 action || nat_lt 255 register, Invalid) ∷ []
-kernel_call_reasons w s (Vircopy from at to place count) =
-    (nat_lt 65536 count, Invalid)
-    ∷ (not (names_slot w from), BadEndpoint)
-    ∷ (not (is_alive w from), Dead)
-    ∷ (not (names_slot w to), BadEndpoint)
-    ∷ (not (is_alive w to), Dead)
-    ∷ (is_away w from || is_away w to, NotReady)
-    ∷ (is_barred w allows_reading s from at count, NotPermitted)
-    ∷ (is_barred w allows_writing s to place count, NotPermitted)
-    ∷ (not (inside (memory_at w (from % 1024)) at count), BadAddress)
-    ∷ (not (inside (memory_at w (to % 1024)) place count), BadAddress)
+kernel_call_reasons w s (Vircopy copy) =
+    (nat_lt 65536 copy.count, Invalid)
+    ∷ (not (names_slot w copy.source.endpoint), BadEndpoint)
+    ∷ (not (is_alive w copy.source.endpoint), Dead)
+    ∷ (not (names_slot w copy.target.endpoint), BadEndpoint)
+    ∷ (not (is_alive w copy.target.endpoint), Dead)
+    ∷ (is_away w copy.source.endpoint || is_away w copy.target.endpoint, NotReady)
+    ∷ (is_barred w allows_reading s copy.source copy.count, NotPermitted)
+    ∷ (is_barred w allows_writing s copy.target copy.count, NotPermitted)
+    ∷ (not (inside (memory_at w (slot_of copy.source.endpoint)) copy.source.offset copy.count), BadAddress)
+    ∷ (not (inside (memory_at w (slot_of copy.target.endpoint)) copy.target.offset copy.count), BadAddress)
     ∷ []
 kernel_call_reasons w s (Kill endpoint) =
     (not (names_slot w endpoint), BadEndpoint)
@@ -60,11 +61,11 @@ kernel_call_reasons w s (Whois slot) =
     (nat_le (length w.slots) slot, Invalid)
     ∷ (is_down (process_at w slot).state, Dead)
     ∷ []
-kernel_call_reasons w s (Grant endpoint place count access) =
-    (nat_lt 3 access || (endpoint == endpoint_of w s), Invalid)
-    ∷ (not (names_slot w endpoint), BadEndpoint)
-    ∷ (not (is_alive w endpoint), Dead)
-    ∷ (not (access == 0) && not (inside (memory_at w s) place count), BadAddress)
+kernel_call_reasons w s (Grant grant) =
+    (nat_lt 3 grant.access || (grant.user == endpoint_of w s), Invalid)
+    ∷ (not (names_slot w grant.user), BadEndpoint)
+    ∷ (not (is_alive w grant.user), Dead)
+    ∷ (not (grant.access == 0) && not (inside (memory_at w s) grant.place grant.count), BadAddress)
     ∷ []
 
 -- the first that holds; before them all comes the mask of calls, and before that the type
@@ -86,8 +87,10 @@ IsPermitted w Times = Unit {0}
 IsPermitted w (SetAlarm delay) = Unit {0}
 IsPermitted w (Irqctl action line) = line < 16
 IsPermitted w (Devio action register value) = register < 256
-IsPermitted w (Vircopy from at to place count) =
-    (from % 1024 < length w.slots) × (to % 1024 < length w.slots) × (at + count ≤ length (memory_at w (from % 1024))) × (place + count ≤ length (memory_at w (to % 1024)))
-IsPermitted w (Kill endpoint) = (endpoint % 1024 < length w.slots) × (is_out (process_at w (endpoint % 1024)).state ≡ false)
+IsPermitted w (Vircopy copy) =
+    (slot_of copy.source.endpoint < length w.slots) × (slot_of copy.target.endpoint < length w.slots)
+    × (copy.source.offset + copy.count ≤ length (memory_at w (slot_of copy.source.endpoint)))
+    × (copy.target.offset + copy.count ≤ length (memory_at w (slot_of copy.target.endpoint)))
+IsPermitted w (Kill endpoint) = (slot_of endpoint < length w.slots) × (is_out (process_at w (slot_of endpoint)).state ≡ false)
 IsPermitted w (Whois slot) = slot < length w.slots
-IsPermitted w (Grant endpoint place count access) = endpoint % 1024 < length w.slots
+IsPermitted w (Grant grant) = slot_of grant.user < length w.slots

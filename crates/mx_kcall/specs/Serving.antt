@@ -2,6 +2,7 @@
 use Rattle.std.specs.Prelude.{ℕ, ◌+◌, ◌-◌, ◌/◌, ◌%◌, ◌^◌, ◌==◌, not, ◌&&◌, Bool, true, false, Option, Some, None, if◌then◌else◌, slice_index}
 use Rattle.mx_respawn.specs.Proc.declared.errors.Errno.{Errno}
 use Rattle.mx_respawn.specs.Proc.declared.process.DeathCause.TheVariants as cause
+use Rattle.mx_respawn.specs.Proc.EndpointNumbers.{slot_of}
 use Rattle.mx_respawn.specs.Proc.Errors.{errno_bits}
 use Rattle.mx_respawn.specs.Proc.TableState.{TableState, process_at, endpoint_of, with_message}
 use Rattle.mx_respawn.specs.Proc.Serving.{with_alarm, with_owner, with_window, with_device_register, with_console_byte, with_copy}
@@ -33,10 +34,10 @@ table_after_change w s (SetAlarm delay) = with_alarm w s (due_after w.uptime del
 table_after_change w s (Irqctl action line) = with_owner w line (if action == 1 then Some s else None)
 -- register 0 is the console
 table_after_change w s (Devio action register value) = if action == 0 then w else if register == 0 then with_console_byte w (value % 256) else with_device_register w register value
-table_after_change w s (Vircopy from at to place count) = with_copy w (from % 1024) at (to % 1024) place count
-table_after_change w s (Kill endpoint) = table_after_death w (endpoint % 1024) cause.Kill
+table_after_change w s (Vircopy copy) = with_copy w (slot_of copy.source.endpoint) copy.source.offset (slot_of copy.target.endpoint) copy.target.offset copy.count
+table_after_change w s (Kill endpoint) = table_after_death w (slot_of endpoint) cause.Kill
 table_after_change w s (Whois slot) = w
-table_after_change w s (Grant endpoint place count access) = with_window w s (endpoint % 1024) (granted place count access)
+table_after_change w s (Grant grant) = with_window w s (slot_of grant.user) (granted grant.place grant.count grant.access)
 
 -- THE WORDS OF EACH REPLY
 abbrev pub words_of_reply : TableState → ℕ → KernelCall → ReplyWords
@@ -49,7 +50,7 @@ words_of_reply w s _ = no_reply_words
 -- a caller that exits, or kills itself
 abbrev pub ends_caller : ℕ → KernelCall → Bool
 ends_caller s Exit = true
-ends_caller s (Kill endpoint) = endpoint % 1024 == s
+ends_caller s (Kill endpoint) = slot_of endpoint == s
 ends_caller s _ = false
 
 -- the reply is written to the caller's buffer, and the caller goes on; it is no delivery

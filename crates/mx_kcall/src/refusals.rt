@@ -1,8 +1,9 @@
 //! Why kernel calls are refused.
 
-ghost use Rattle.std.specs.Prelude.{◌≡◌, ◌∷◌, [], ◌<◌, ◌+◌, ◌%◌, ◌≤◌, ◌||◌, ◌&&◌, nat_lt, not, false, length, Some, None, MatchResult, IfOk};
+ghost use Rattle.std.specs.Prelude.{◌≡◌, ◌∷◌, [], ◌<◌, ◌+◌, ◌≤◌, ◌||◌, ◌&&◌, nat_lt, not, false, drop, length, Some, None, MatchResult, IfOk};
 ghost use Rattle.std.specs.Option.{ForSome};
 ghost use Rattle.mx_respawn.specs.Segment.{inside};
+ghost use Rattle.mx_respawn.specs.Proc.EndpointNumbers.{slot_of};
 ghost use Rattle.mx_respawn.specs.Proc.Endpoints.{names_slot, is_alive};
 ghost use Rattle.mx_respawn.specs.Proc.Sound.{HasBuffer};
 ghost use Rattle.mx_respawn.specs.Proc.States.{is_out};
@@ -14,9 +15,12 @@ ghost use Rattle.mx_kcall.specs.Requests.{kernel_call_under, message_words_at};
 ghost use Rattle.mx_kcall.specs.Windows.{allows, is_barred};
 ghost use Rattle.mx_kcall.specs.declared.request.KernelCall.TheVariants as requests;
 
-use crate::request::{KernelCall, request_under, words_at};
+use crate::request::{CopyRange, KernelCall, VirtualAddress, WindowGrant, request_under, words_at};
 use crate::windows::{is_strict, window_allows};
 use mx_respawn::{Access, Endpoint, Errno, Slot, Stale, State, Table};
+
+/// The most bytes that one VIRCOPY copies.
+const LONGEST_COPY: u32 = 65_536;
 
 /// Whether a mask has a bit.
 fn has_bit(mask: u32, bit: u32) -> bool
@@ -33,7 +37,7 @@ fn check_endpoint(table: &Table, endpoint: Endpoint) -> Result<Slot, Errno>
         ∷ (not (is_alive table.now endpoint), Dead) ∷ []) ≡ None) (λ e.
         first_error ((not (names_slot table.now endpoint), BadEndpoint)
         ∷ (not (is_alive table.now endpoint), Dead) ∷ []) ≡ Some e) }
-    ensures slot { IfOk result (λ s. (s ≡ endpoint % 1024) × (s < length table.now.slots)) }
+    ensures slot { IfOk result (λ s. (s ≡ slot_of endpoint) × (s < length table.now.slots)) }
 {
     if !table.names_slot(endpoint) {
         return Err(Errno::BadEndpoint);
@@ -64,24 +68,15 @@ fn holds(table: &Table, slot: Slot, at: u32, count: u32) -> bool
 }
 
 /// Whether an endpoint's memory is barred to a slot for an access to that many bytes from an address on.
-fn is_barred(
-    table: &Table,
-    access: Access,
-    slot: Slot,
-    endpoint: Endpoint,
-    at: u32,
-    count: u32,
-) -> bool
+fn is_barred(table: &Table, slot: Slot, access: Access, at: VirtualAddress, count: u32) -> bool
     requires slot { slot < length table.now.slots }
-    requires endpoint { endpoint % 1024 < length table.now.slots }
-    ensures { result ≡ is_barred table.now (allows access) slot endpoint at count }
+    requires endpoint { slot_of at.endpoint < length table.now.slots }
+    ensures { result ≡ is_barred table.now (allows access) slot at count }
 {
-    // So few that a slot fits a byte.
-    let _used = table.used();
-    let owner = (endpoint % 1024) as Slot;
+    let owner = table.slot_of(at.endpoint);
     is_strict(table.rules())
         && owner != slot
-        && !window_allows(table.window(owner, slot), access, at, count)
+        && !window_allows(table.window(owner, slot), access, at.offset, count)
 }
 
 /// IRQCTL's refusals.
@@ -105,41 +100,62 @@ fn check_irqctl(table: &Table, slot: Slot, action: u32, line: u32) -> Result<(),
     }
 }
 
-/// VIRCOPY's refusals.
-fn check_vircopy(
-    table: &Table,
-    slot: Slot,
-    from: Endpoint,
-    at: u32,
-    to: Endpoint,
-    place: u32,
-    count: u32,
-) -> Result<(), Errno>
-    requires { slot < length table.now.slots }
+/// VIRCOPY's refusals that ask about what is copied, after all that ask about the endpoints.
+fn check_copied_bytes(table: &Table, slot: Slot, copy: CopyRange) -> Result<(), Errno>
+    requires slot { slot < length table.now.slots }
+    requires source { slot_of copy.source.endpoint < length table.now.slots }
+    requires target { slot_of copy.target.endpoint < length table.now.slots }
     ensures value { MatchResult result (λ _.
-        first_error (kernel_call_reasons table.now slot (requests.Vircopy from at to place count))
-        ≡ None) (λ e. first_error
-        (kernel_call_reasons table.now slot (requests.Vircopy from at to place count)) ≡ Some e) }
-    ensures permitted { IfOk result (λ _.
-        IsPermitted table.now (requests.Vircopy from at to place count)) }
+        first_error (drop 6 (kernel_call_reasons table.now slot (requests.Vircopy copy))) ≡ None) (λ e.
+        first_error (drop 6 (kernel_call_reasons table.now slot (requests.Vircopy copy))) ≡ Some e) }
+    ensures permitted { IfOk result (λ _. IsPermitted table.now (requests.Vircopy copy)) }
 {
-    if count > 65_536 {
-        return Err(Errno::Invalid);
-    }
-    let source = check_endpoint(table, from)?;
-    let destination = check_endpoint(table, to)?;
-    if is_away(table, source) || is_away(table, destination) {
-        return Err(Errno::NotReady);
-    }
-    if is_barred(table, Access::Read, slot, from, at, count)
-        || is_barred(table, Access::Write, slot, to, place, count)
+    if is_barred(table, slot, Access::Read, copy.source, copy.count)
+        || is_barred(table, slot, Access::Write, copy.target, copy.count)
     {
         return Err(Errno::NotPermitted);
     }
-    if !holds(table, source, at, count) || !holds(table, destination, place, count) {
+    let source = table.slot_of(copy.source.endpoint);
+    let target = table.slot_of(copy.target.endpoint);
+    if !holds(table, source, copy.source.offset, copy.count)
+        || !holds(table, target, copy.target.offset, copy.count)
+    {
         return Err(Errno::BadAddress);
     }
     Ok(())
+}
+
+/// VIRCOPY's refusals after those of its source's endpoint.
+fn check_copy_target(table: &Table, slot: Slot, copy: CopyRange) -> Result<(), Errno>
+    requires slot { slot < length table.now.slots }
+    requires source { slot_of copy.source.endpoint < length table.now.slots }
+    ensures value { MatchResult result (λ _.
+        first_error (drop 3 (kernel_call_reasons table.now slot (requests.Vircopy copy))) ≡ None)
+        (λ e. first_error (drop 3 (kernel_call_reasons table.now slot (requests.Vircopy copy)))
+        ≡ Some e) }
+    ensures permitted { IfOk result (λ _. IsPermitted table.now (requests.Vircopy copy)) }
+{
+    let target = check_endpoint(table, copy.target.endpoint)?;
+    let source = table.slot_of(copy.source.endpoint);
+    if is_away(table, source) || is_away(table, target) {
+        return Err(Errno::NotReady);
+    }
+    check_copied_bytes(table, slot, copy)
+}
+
+/// VIRCOPY's refusals.
+fn check_vircopy(table: &Table, slot: Slot, copy: CopyRange) -> Result<(), Errno>
+    requires { slot < length table.now.slots }
+    ensures value { MatchResult result (λ _.
+        first_error (kernel_call_reasons table.now slot (requests.Vircopy copy)) ≡ None) (λ e.
+        first_error (kernel_call_reasons table.now slot (requests.Vircopy copy)) ≡ Some e) }
+    ensures permitted { IfOk result (λ _. IsPermitted table.now (requests.Vircopy copy)) }
+{
+    if copy.count > LONGEST_COPY {
+        return Err(Errno::Invalid);
+    }
+    check_endpoint(table, copy.source.endpoint)?;
+    check_copy_target(table, slot, copy)
 }
 
 /// KILL's refusals.
@@ -173,28 +189,18 @@ fn check_whois(table: &Table, slot: Slot, named: u32) -> Result<(), Errno>
 }
 
 /// GRANT's refusals.
-fn check_grant(
-    table: &Table,
-    slot: Slot,
-    endpoint: Endpoint,
-    place: u32,
-    count: u32,
-    access: u32,
-) -> Result<(), Errno>
+fn check_grant(table: &Table, slot: Slot, grant: WindowGrant) -> Result<(), Errno>
     requires { slot < length table.now.slots }
     ensures value { MatchResult result (λ _.
-        first_error (kernel_call_reasons table.now slot
-        (requests.Grant endpoint place count access)) ≡ None) (λ e.
-        first_error (kernel_call_reasons table.now slot
-        (requests.Grant endpoint place count access)) ≡ Some e) }
-    ensures permitted { IfOk result (λ _.
-        IsPermitted table.now (requests.Grant endpoint place count access)) }
+        first_error (kernel_call_reasons table.now slot (requests.Grant grant)) ≡ None) (λ e.
+        first_error (kernel_call_reasons table.now slot (requests.Grant grant)) ≡ Some e) }
+    ensures permitted { IfOk result (λ _. IsPermitted table.now (requests.Grant grant)) }
 {
-    if access > 3 || endpoint == table.endpoint(slot) {
+    if grant.access > 3 || grant.user == table.endpoint(slot) {
         return Err(Errno::Invalid);
     }
-    check_endpoint(table, endpoint)?;
-    if access != 0 && !holds(table, slot, place, count) {
+    check_endpoint(table, grant.user)?;
+    if grant.access != 0 && !holds(table, slot, grant.place, grant.count) {
         return Err(Errno::BadAddress);
     }
     Ok(())
@@ -221,21 +227,10 @@ fn check_request(table: &Table, slot: Slot, request: KernelCall) -> Result<(), E
             }
             Ok(())
         }
-        KernelCall::Vircopy {
-            from,
-            at,
-            to,
-            place,
-            count,
-        } => check_vircopy(table, slot, from, at, to, place, count),
+        KernelCall::Vircopy(copy) => check_vircopy(table, slot, copy),
         KernelCall::Kill(endpoint) => check_kill(table, slot, endpoint),
         KernelCall::Whois(named) => check_whois(table, slot, named),
-        KernelCall::Grant {
-            endpoint,
-            place,
-            count,
-            access,
-        } => check_grant(table, slot, endpoint, place, count, access),
+        KernelCall::Grant(grant) => check_grant(table, slot, grant),
     }
 }
 

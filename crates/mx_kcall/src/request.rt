@@ -6,7 +6,7 @@ ghost use Rattle.mx_respawn.specs.Proc.TableState.{process_at};
 ghost use Rattle.mx_kcall.specs.Requests.{word_at, message_words_of, message_words_at, kernel_call_of, bit_of, kernel_call_under, no_reply_words, reply_bytes};
 
 use crate::windows::is_strict;
-use mx_respawn::{Endpoint, Rules, Slot, Table};
+use mx_respawn::{Endpoint, MESSAGE_SIZE, Rules, SYSTEM, Slot, Table};
 use mx_word::{Register, read_dword, write_dword};
 
 /// The type of a message to SYSTEM, and the first of its words.
@@ -18,6 +18,31 @@ pub struct MessageWords {
     pub p2: u32,
     pub p3: u32,
     pub p4: u32,
+}
+
+/// An address in the memory of an endpoint's process.
+#[derive(Clone, Copy)]
+pub struct VirtualAddress {
+    pub endpoint: Endpoint,
+    pub offset: u32,
+}
+
+/// What VIRCOPY copies: that many bytes from the source on, to the target.
+#[derive(Clone, Copy)]
+pub struct CopyRange {
+    pub source: VirtualAddress,
+    pub target: VirtualAddress,
+    pub count: u32,
+}
+
+/// What GRANT lets another process do in the caller's memory: read (1), write (2) or both (3) in that
+/// many bytes from an address on, and in no others; 0 ends what it was let.
+#[derive(Clone, Copy)]
+pub struct WindowGrant {
+    pub user: Endpoint,
+    pub place: u32,
+    pub count: u32,
+    pub access: u32,
 }
 
 /// A kernel call.
@@ -40,26 +65,14 @@ pub enum KernelCall {
         register: u32,
         value: u32,
     },
-    /// Copies that many bytes from one process's address to another's.
-    Vircopy {
-        from: Endpoint,
-        at: u32,
-        to: Endpoint,
-        place: u32,
-        count: u32,
-    },
+    /// Copies bytes from one process's address to another's.
+    Vircopy(CopyRange),
     /// Kills a process.
     Kill(Endpoint),
     /// Tells the endpoint of a slot.
     Whois(u32),
-    /// Lets a process read (1), write (2) or do both (3) in that many bytes from an address on, and no
-    /// others; 0 ends what it was let.
-    Grant {
-        endpoint: Endpoint,
-        place: u32,
-        count: u32,
-        access: u32,
-    },
+    /// Lets a process use a part of the caller's memory.
+    Grant(WindowGrant),
 }
 
 /// The words of a reply.
@@ -93,14 +106,14 @@ pub enum After {
 }
 
 /// The word at a place of a message.
-fn word_at(message: &[u8; 36], at: usize) -> u32
-    requires { at + 4 ≤ 36 }
+fn word_at(message: &[u8; MESSAGE_SIZE], at: usize) -> u32
+    requires { at + 4 ≤ MESSAGE_SIZE }
     ensures { result ≡ word_at message.now at }
 {
     read_dword(&message[at..])
 }
 
-fn words_of(message: &[u8; 36]) -> MessageWords
+fn words_of(message: &[u8; MESSAGE_SIZE]) -> MessageWords
     ensures { result ≡ message_words_of message.now }
 {
     MessageWords {
@@ -141,13 +154,17 @@ fn request_of(words: MessageWords) -> Option<KernelCall>
             register: words.p1,
             value: words.p2,
         },
-        0x605 => KernelCall::Vircopy {
-            from: words.p0,
-            at: words.p1,
-            to: words.p2,
-            place: words.p3,
+        0x605 => KernelCall::Vircopy(CopyRange {
+            source: VirtualAddress {
+                endpoint: words.p0,
+                offset: words.p1,
+            },
+            target: VirtualAddress {
+                endpoint: words.p2,
+                offset: words.p3,
+            },
             count: words.p4,
-        },
+        }),
         0x606 => KernelCall::Kill(words.p0),
         0x607 => KernelCall::Whois(words.p0),
         _ => return None,
@@ -160,12 +177,12 @@ pub(crate) fn request_under(rules: Rules, words: MessageWords) -> Option<KernelC
     ensures { result ≡ kernel_call_under rules words }
 {
     if is_strict(rules) && words.kind == 0x608 {
-        return Some(KernelCall::Grant {
-            endpoint: words.p0,
+        return Some(KernelCall::Grant(WindowGrant {
+            user: words.p0,
             place: words.p1,
             count: words.p2,
             access: words.p3,
-        });
+        }));
     }
     request_of(words)
 }
@@ -182,20 +199,20 @@ impl KernelCall {
             KernelCall::SetAlarm(_) => 2,
             KernelCall::Irqctl { .. } => 3,
             KernelCall::Devio { .. } => 4,
-            KernelCall::Vircopy { .. } => 5,
+            KernelCall::Vircopy(_) => 5,
             KernelCall::Kill(_) => 6,
             KernelCall::Whois(_) => 7,
-            KernelCall::Grant { .. } => 8,
+            KernelCall::Grant(_) => 8,
         }
     }
 }
 
 /// The bytes of a reply.
-pub(crate) fn reply_bytes(outcome: u32, answer: ReplyWords) -> [u8; 36]
+pub(crate) fn reply_bytes(outcome: u32, answer: ReplyWords) -> [u8; MESSAGE_SIZE]
     ensures { result ≡ reply_bytes outcome answer }
 {
-    let mut message = [0; 36];
-    write_dword(&mut message, 0xFFFF_FFFE);
+    let mut message = [0; MESSAGE_SIZE];
+    write_dword(&mut message, SYSTEM);
     write_dword(&mut message[4..], outcome);
     write_dword(&mut message[8..], answer.p0);
     write_dword(&mut message[12..], answer.p1);

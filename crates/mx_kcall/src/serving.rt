@@ -12,7 +12,7 @@ ghost use Rattle.mx_kcall.specs.Serving.{due_after, ticks_left, table_after_chan
 use crate::refusals::check;
 use crate::request::{After, KernelCall, ReplyWords, reply_bytes};
 use crate::windows::granted;
-use mx_respawn::{DeathCause, Slot, Table, die, go_on};
+use mx_respawn::{DeathCause, Slot, Table, die, go_on, slot_of};
 
 /// When an alarm rings that is set for a delay; never where that is 0.
 fn due_after(uptime: u32, delay: u32) -> Option<u64>
@@ -82,8 +82,6 @@ fn change(table: &mut Table, slot: Slot, request: KernelCall)
     ensures settled { NoneComesHome table.old table.new }
     ensures console { table.new.devices.console.count ≤ table.old.devices.console.count + 1 }
 {
-    // So few that a slot fits a byte.
-    let _used = table.used();
     match request {
         KernelCall::Exit | KernelCall::Times | KernelCall::Whois(_) => {}
         KernelCall::SetAlarm(delay) => table.set_alarm(slot, due_after(table.uptime(), delay)),
@@ -101,20 +99,16 @@ fn change(table: &mut Table, slot: Slot, request: KernelCall)
                 table.set_register(register as u8, value);
             }
         }
-        KernelCall::Vircopy {
-            from,
-            at,
-            to,
-            place,
-            count,
-        } => table.copy((from % 1024) as u8, at, (to % 1024) as u8, place, count),
-        KernelCall::Kill(endpoint) => die(table, (endpoint % 1024) as u8, DeathCause::Kill),
-        KernelCall::Grant {
-            endpoint,
-            place,
-            count,
-            access,
-        } => table.set_window(slot, (endpoint % 1024) as u8, granted(place, count, access)),
+        KernelCall::Vircopy(copied) => {
+            let (source, target) = (copied.source, copied.target);
+            let from = table.slot_of(source.endpoint);
+            let to = table.slot_of(target.endpoint);
+            table.copy(from, source.offset, to, target.offset, copied.count);
+        }
+        KernelCall::Kill(endpoint) => die(table, table.slot_of(endpoint), DeathCause::Kill),
+        KernelCall::Grant(grant) => {
+            table.set_window(slot, table.slot_of(grant.user), granted(grant));
+        }
     }
 }
 
@@ -140,7 +134,7 @@ fn ends(slot: Slot, request: KernelCall) -> bool
 {
     match request {
         KernelCall::Exit => true,
-        KernelCall::Kill(endpoint) => endpoint % 1024 == u32::from(slot),
+        KernelCall::Kill(endpoint) => slot_of(endpoint) == u32::from(slot),
         _ => false,
     }
 }

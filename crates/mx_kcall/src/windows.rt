@@ -3,6 +3,7 @@
 ghost use Rattle.std.specs.Prelude.{◌≡◌};
 ghost use Rattle.mx_kcall.specs.Windows.{allows, is_open, is_strict, access_of, granted};
 
+use crate::request::WindowGrant;
 use mx_respawn::{Access, Rules, Window};
 
 /// Whether these are the rules under which windows are asked for.
@@ -52,13 +53,13 @@ fn access_of(number: u32) -> Option<Access>
 }
 
 /// What a grant opens.
-pub(crate) fn granted(place: u32, count: u32, access: u32) -> Option<Window>
-    ensures { result ≡ granted place count access }
+pub(crate) fn granted(grant: WindowGrant) -> Option<Window>
+    ensures { result ≡ granted grant.place grant.count grant.access }
 {
-    match access_of(access) {
+    match access_of(grant.access) {
         Some(access) => Some(Window {
-            place,
-            count,
+            place: grant.place,
+            count: grant.count,
             access,
         }),
         None => None,

@@ -305,14 +305,14 @@ change_zero t Times q = refl
 change_zero t (SetAlarm delay) q = refl
 change_zero t (Irqctl action line) q = refl
 change_zero t (Devio action register value) q = refl
-change_zero t (Vircopy from at to place count) q = by_bool (to % 1024 == q)
+change_zero t (Vircopy c) q = by_bool (c.target.endpoint % 1024 == q)
   where
-    by_bool : (b : Bool) → is_told_zero (cond b (Copy place (part (memory_at t (from % 1024)) at count) ∷ []) []) ≡ false
+    by_bool : (b : Bool) → is_told_zero (cond b (Copy c.target.offset (part (memory_at t (c.source.endpoint % 1024)) c.source.offset c.count) ∷ []) []) ≡ false
     by_bool true = refl
     by_bool false = refl
 change_zero t (Kill e) q = death_zero t (e % 1024) q
 change_zero t (Whois slot) q = refl
-change_zero t (Grant endpoint place count access) q = refl
+change_zero t (Grant grant) q = refl
 
 reply_other : (s n : ℕ) (a : ReplyWords) (q : ℕ) → s ≢ q → items_for q (items_of_reply s n a) ≡ []
 reply_other s n a q m = ap (λ b. cond b (Message (reply_bytes n a) ∷ cond b (Result 0 ∷ []) []) (cond b (Result 0 ∷ []) [])) (ne_eqb s q m)

@@ -295,10 +295,10 @@ change_kept t s (Devio action register value) xs =
     let console = with_console_byte t (value % 256) in
     let device = with_device_register t register value in
     quiet (action == 0) _ _ t (cond (register == 0) console device) xs refl (quiet (register == 0) _ _ console device xs refl refl)
-change_kept t s (Vircopy from at to place count) xs = refl
+change_kept t s (Vircopy copied) xs = refl
 change_kept t s (Kill e) xs = death_kept t (e % 1024) cause.Kill xs
 change_kept t s (Whois slot) xs = refl
-change_kept t s (Grant endpoint place count access) xs = refl
+change_kept t s (Grant grant) xs = refl
 
 reply_kept : (t : TableState) (s n : ℕ) (a : ReplyWords) (xs : List Delivery) → table_after_reply (kept t xs) s n a ≡ kept (table_after_reply t s n a) xs
 unfolding table_after_reply
@@ -310,10 +310,10 @@ words_kept t s Times xs = refl
 words_kept t s (SetAlarm delay) xs = refl
 words_kept t s (Irqctl action line) xs = refl
 words_kept t s (Devio action register value) xs = refl
-words_kept t s (Vircopy from at to place count) xs = refl
+words_kept t s (Vircopy copied) xs = refl
 words_kept t s (Kill e) xs = refl
 words_kept t s (Whois slot) xs = refl
-words_kept t s (Grant endpoint place count access) xs = refl
+words_kept t s (Grant grant) xs = refl
 
 serving_kept : (t : TableState) (s : ℕ) (r : KernelCall) (xs : List Delivery) → table_after_serving (kept t xs) s r ≡ kept (table_after_serving t s r) xs
 unfolding table_after_serving
@@ -334,10 +334,10 @@ reasons_kept t s Times xs = refl
 reasons_kept t s (SetAlarm delay) xs = refl
 reasons_kept t s (Irqctl action line) xs = refl
 reasons_kept t s (Devio action register value) xs = refl
-reasons_kept t s (Vircopy from at to place count) xs = refl
+reasons_kept t s (Vircopy copied) xs = refl
 reasons_kept t s (Kill e) xs = refl
 reasons_kept t s (Whois slot) xs = refl
-reasons_kept t s (Grant endpoint place count access) xs = refl
+reasons_kept t s (Grant grant) xs = refl
 
 refusal_by_kept : (t : TableState) (s : ℕ) (r : Option KernelCall) (xs : List Delivery) → kernel_call_refusal_by (kept t xs) s r ≡ kernel_call_refusal_by t s r
 refusal_by_kept t s None xs = refl

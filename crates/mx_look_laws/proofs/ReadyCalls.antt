@@ -406,10 +406,10 @@ change_tells t s Times q h = quiet t (table_after_change t s Times) (items_of_ch
 change_tells t s (SetAlarm delay) q h = quiet t (table_after_change t s (SetAlarm delay)) (items_of_change t (SetAlarm delay)) q (readies-kept t.slots s _ refl) refl
 change_tells t s (Irqctl action line) q h = quiet t (table_after_change t s (Irqctl action line)) (items_of_change t (Irqctl action line)) q refl refl
 change_tells t s (Devio action register value) q h = quiet t (table_after_change t s (Devio action register value)) (items_of_change t (Devio action register value)) q (device_readies t action register value) refl
-change_tells t s (Vircopy from at to place count) q h = quiet t (table_after_change t s (Vircopy from at to place count)) (items_of_change t (Vircopy from at to place count)) q (readies-kept t.slots (to % 1024) _ refl) (ap (λ z. z || false) (and_false (to % 1024 == q)))
+change_tells t s (Vircopy c) q h = quiet t (table_after_change t s (Vircopy c)) (items_of_change t (Vircopy c)) q (readies-kept t.slots (c.target.endpoint % 1024) _ refl) (ap (λ z. z || false) (and_false (c.target.endpoint % 1024 == q)))
 change_tells t s (Kill e) q h = death_tells t (e % 1024) cause.Kill q h
 change_tells t s (Whois slot) q h = quiet t (table_after_change t s (Whois slot)) (items_of_change t (Whois slot)) q refl refl
-change_tells t s (Grant endpoint place count access) q h = quiet t (table_after_change t s (Grant endpoint place count access)) (items_of_change t (Grant endpoint place count access)) q (readies-kept t.slots s _ refl) refl
+change_tells t s (Grant grant) q h = quiet t (table_after_change t s (Grant grant)) (items_of_change t (Grant grant)) q (readies-kept t.slots s _ refl) refl
 
 change_long : (t : TableState) (s : ℕ) (r : KernelCall) → length (readies (table_after_change t s r)) ≡ length (readies t)
 change_long t s Exit = refl
@@ -417,10 +417,10 @@ change_long t s Times = refl
 change_long t s (SetAlarm delay) = ap length (readies-kept t.slots s _ refl)
 change_long t s (Irqctl action line) = refl
 change_long t s (Devio action register value) = ap length (device_readies t action register value)
-change_long t s (Vircopy from at to place count) = ap length (readies-kept t.slots (to % 1024) _ refl)
+change_long t s (Vircopy c) = ap length (readies-kept t.slots (c.target.endpoint % 1024) _ refl)
 change_long t s (Kill e) = death_long t (e % 1024) cause.Kill
 change_long t s (Whois slot) = refl
-change_long t s (Grant endpoint place count access) = ap length (readies-kept t.slots s _ refl)
+change_long t s (Grant grant) = ap length (readies-kept t.slots s _ refl)
 
 reply_readies : (t : TableState) (s n : ℕ) (a : ReplyWords) → readies (table_after_reply t s n a) ≡ slice_set (readies t) s true
 unfolding table_after_reply

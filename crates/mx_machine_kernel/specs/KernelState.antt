@@ -1,6 +1,7 @@
 -- Where a kernel stands, by what it keeps in mind: of what is out it knows slot and budget.
-use Rattle.std.specs.Prelude.{◌≡◌, ◌<◌, ◌≤◌, ℕ, ◌+◌, ◌-◌, ◌*◌, ◌%◌, ◌^◌, true, false, nat_lt, if◌then◌else◌, List, map, length, replicate, Option, Some, None, Result, Ok, Err, slice_get, slice_set}
+use Rattle.std.specs.Prelude.{◌≡◌, ◌<◌, ◌≤◌, ℕ, ◌+◌, ◌-◌, ◌^◌, true, false, nat_lt, if◌then◌else◌, List, map, length, replicate, Option, Some, None, Result, Ok, Err, slice_get, slice_set}
 use Rattle.mx_ipc.specs.Proc.declared.windows.Rules.{Rules}
+use Rattle.mx_ipc.specs.Proc.EndpointNumbers.{slot_of, endpoint_from}
 use Rattle.mx_ipc.specs.Proc.Endpoints.{is_alive}
 use Rattle.mx_ipc.specs.Proc.Queues.{first_ready}
 use Rattle.mx_ipc.specs.Proc.States.{is_ready, is_down}
@@ -99,12 +100,12 @@ table_after_respawn_by t s (Some v) = table_after_respawn t s v
 abbrev pub table_after : KernelState → Event → TableState
 table_after d (Line l) = table_after_line_by d.table l (owner_of d.table l)
 table_after d Tick = table_after_tick d.table
-table_after d (Kill e) = table_after_kill d.table (e % 1024)
+table_after d (Kill e) = table_after_kill d.table (slot_of e)
 table_after d (Respawn s) = table_after_respawn_by d.table s (slice_get d.services s)
 table_after d _ = d.table
 
 abbrev pub answer_to : KernelState → Event → Answer
-answer_to d (Respawn s) = Respawned (((process_at d.table s).generation + 1) * 1024 + s)
+answer_to d (Respawn s) = Respawned (endpoint_from ((process_at d.table s).generation + 1) s)
 answer_to d _ = Done
 
 -- how each of them is recorded
@@ -129,7 +130,7 @@ pub record MayRespawn (d : KernelState) (s e : ℕ) : Type 0 where
   pub down : is_down (process_at d.table s).state ≡ true
   pub fresh : (v : Service) → slice_get d.services s ≡ Some v → is_worn (process_at d.table s) v ≡ false
   pub room : 1 ≤ records_left d
-  pub endpoint : e ≡ ((process_at d.table s).generation + 1) * 1024 + s
+  pub endpoint : e ≡ endpoint_from ((process_at d.table s).generation + 1) s
 
 abbrev pub AnswersEvent : KernelState → KernelState → Event → Result Answer Refusal → Type 0
 AnswersEvent d n e (Ok x) = HasAccepted d n e x

@@ -16,7 +16,7 @@ ghost use Rattle.mx_machine_world.specs.World.{out_count};
 ghost use Rattle.mx_machine_kernel.specs.KernelState.{is_for_all, records_left, refusal_to, MayRespawn, state_after_take, state_after_back, AnswersTake, AnswersEvent};
 
 use crate::serving::{come_home, kill, send_out};
-use mx_ipc::{Endpoint, Slot, Table, pick};
+use mx_ipc::{Endpoint, Slot, Table, endpoint_from, pick};
 use mx_machine_world::{
     Answer, Decoded, Event, Lease, Out, Refusal, Service, Stop, is_worn, raise, respawn, tick,
 };
@@ -311,7 +311,7 @@ impl CurrentState {
         if is_worn(process, &self.services[slot as usize]) {
             return Err(Refusal::Worn);
         }
-        let endpoint = (process.generation + 1) * 1024 + slot;
+        let endpoint = endpoint_from(process.generation + 1, slot);
         self.if_full(1)?;
         Ok(endpoint)
     }

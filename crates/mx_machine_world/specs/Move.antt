@@ -1,11 +1,12 @@
 -- What each event does to the whole machine (our choice). The crates below define the calls that it makes.
-use Rattle.std.specs.Prelude.{ℕ, ◌+◌, ◌%◌, ◌*◌, nat_lt, nat_le, not, ◌||◌, Bool, true, false, List, [], ◌∷◌, length, Option, Some, None, Result, Ok, Err, slice_get, slice_set, if◌then◌else◌}
+use Rattle.std.specs.Prelude.{ℕ, ◌+◌, nat_lt, nat_le, not, ◌||◌, Bool, true, false, List, [], ◌∷◌, length, Option, Some, None, Result, Ok, Err, slice_get, slice_set, if◌then◌else◌}
 use Rattle.mx_image.specs.declared.runs.Stop.{Stop}
 use Rattle.mx_image.specs.declared.runs.Stop.TheVariants.{Spent, Trap, Fault}
 use Rattle.mx_kcall.specs.Proc.declared.process.Process.{Process}
 use Rattle.mx_kcall.specs.Proc.declared.process.State.{State}
 use Rattle.mx_kcall.specs.Proc.declared.process.State.TheVariants.{Doomed}
 use Rattle.mx_kcall.specs.Proc.declared.process.DeathCause.TheVariants as cause
+use Rattle.mx_kcall.specs.Proc.EndpointNumbers.{slot_of, endpoint_from}
 use Rattle.mx_kcall.specs.Proc.Endpoints.{is_alive}
 use Rattle.mx_kcall.specs.Proc.Queues.{first_ready}
 use Rattle.mx_kcall.specs.Proc.States.{is_down, is_out}
@@ -174,7 +175,7 @@ world_after_event w a Take = world_after_take w a (first_ready w.table.ready)
 world_after_event w a Back = world_after_back w a (held_by w a)
 world_after_event w a (Line l) = world_after_line w l (owner_of w.table l)
 world_after_event w a Tick = world_with_record w (table_after_tick w.table)
-world_after_event w a (Kill e) = world_with_record w (table_after_kill w.table (e % 1024))
+world_after_event w a (Kill e) = world_with_record w (table_after_kill w.table (slot_of e))
 world_after_event w a (Respawn s) = world_after_respawn w s (slice_get w.services s)
 
 -- ---- answers
@@ -196,7 +197,7 @@ unfoldable pub event_answer : World → ℕ → Event → Answer
 event_answer w a Step = step_answer (held_by w a)
 event_answer w a Take = take_answer w.table (first_ready w.table.ready)
 event_answer w a Back = back_answer (held_by w a)
-event_answer w a (Respawn s) = Respawned (((process_at w.table s).generation + 1) * 1024 + s)
+event_answer w a (Respawn s) = Respawned (endpoint_from ((process_at w.table s).generation + 1) s)
 event_answer w a _ = Done
 
 -- ---- events

@@ -9,6 +9,7 @@ pub mod Devices
 pub mod Messages
 pub mod States
 pub mod TableState
+pub mod EndpointNumbers
 pub mod Endpoints
 pub mod Sound
 pub mod Frame

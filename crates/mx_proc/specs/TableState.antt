@@ -20,6 +20,7 @@ use Rattle.mx_proc.specs.declared.devices.Devices.{Devices}
 use Rattle.mx_proc.specs.declared.windows.Window.{Window}
 use Rattle.mx_proc.specs.declared.windows.Rules.{Rules}
 use Rattle.mx_proc.specs.Devices.{no_devices}
+use Rattle.mx_proc.specs.EndpointNumbers.{endpoint_from, hardware_endpoint, clock_endpoint}
 use Rattle.mx_proc.specs.Messages.{with_source, type_of, notification}
 use Rattle.mx_proc.specs.Partners.{order_of_source, source_in_order, lines_in_notification, first_pending}
 use Rattle.mx_proc.specs.Queues.{list_at, without}
@@ -97,7 +98,7 @@ window_of w s t = slice_index_or (process_at w s).windows t None
 
 -- the endpoint of the process in a slot
 abbrev pub endpoint_of : TableState → ℕ → ℕ
-endpoint_of w s = (process_at w s).generation * 1024 + s
+endpoint_of w s = endpoint_from (process_at w s).generation s
 
 -- ---- queues
 
@@ -146,10 +147,10 @@ message_of w s = with_source (endpoint_of w s) (take 36 (drop (buffer_at w s) (m
 unfoldable pub table_after_delivery : TableState → ℕ → ℕ → TableState
 table_after_delivery w from to = let message = message_of w from in with_delivery_kept (with_message w to message) (endpoint_of w from) (endpoint_of w to) (type_of message) Message
 
--- HARDWARE is -1 and CLOCK -3
+-- the endpoint of a source of notifications
 abbrev pub source_endpoint : TableState → Source → ℕ
-source_endpoint w Hardware = 2 ^ 32 - 1
-source_endpoint w Clock = 2 ^ 32 - 3
+source_endpoint w Hardware = hardware_endpoint
+source_endpoint w Clock = clock_endpoint
 source_endpoint w (Slot s) = endpoint_of w s
 
 -- a source that is a slot is one that is used

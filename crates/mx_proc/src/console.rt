@@ -9,6 +9,9 @@ use mx_word::NoMemory;
 use std::alloc::Global;
 use std::marker::Model;
 
+/// How many bytes the console keeps.
+const KEPT_BYTES: usize = 4096;
+
 /// The console: the last 4,096 bytes that were written to it, and how many were ever written.
 #[derive(Drop)]
 pub struct Console {
@@ -32,7 +35,7 @@ impl Console {
     pub fn new(alloc: Global) -> Result<Console, NoMemory>
         ensures { IfOk result (λ console. console ≡ empty_console) }
     {
-        let kept = HeapCircularBuffer::with_capacity(alloc, 4096)?;
+        let kept = HeapCircularBuffer::with_capacity(alloc, KEPT_BYTES)?;
         Ok(Console { kept, count: 0 })
     }
 

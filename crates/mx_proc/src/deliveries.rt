@@ -8,6 +8,9 @@ use mx_word::NoMemory;
 use std::alloc::Global;
 use std::marker::Model;
 
+/// How many deliveries are kept.
+const KEPT_DELIVERIES: usize = 1024;
+
 /// What was delivered.
 #[derive(Clone, Copy, PartialEq, Eq)]
 pub enum DeliveryKind {
@@ -48,7 +51,7 @@ impl Deliveries {
     pub fn new(alloc: Global) -> Result<Deliveries, NoMemory>
         ensures { IfOk result (λ deliveries. deliveries ≡ []) }
     {
-        let kept = HeapCircularBuffer::with_capacity(alloc, 1024)?;
+        let kept = HeapCircularBuffer::with_capacity(alloc, KEPT_DELIVERIES)?;
         Ok(Deliveries { kept })
     }
 

@@ -4,6 +4,7 @@
 mod console;
 mod deliveries;
 mod devices;
+mod endpoints;
 mod errors;
 mod links;
 mod process;
@@ -15,7 +16,10 @@ mod windows;
 pub use console::Console;
 pub use deliveries::{Deliveries, Delivery, DeliveryKind};
 pub use devices::Devices;
+pub use endpoints::{
+    ANY, CLOCK, Endpoint, HARDWARE, SYSTEM, endpoint_from, generation_of, slot_of,
+};
 pub use errors::Errno;
-pub use process::{DeathCause, Endpoint, Masks, Partner, Process, Slot, Source, State};
-pub use table::{Stale, Table};
+pub use process::{DeathCause, Masks, Partner, Process, Slot, Source, State};
+pub use table::{MESSAGE_SIZE, Stale, Table};
 pub use windows::{Access, Rules, Window};

@@ -10,10 +10,6 @@ use mx_exec::Image;
 /// The number of a slot of the table, 0 to 31.
 pub type Slot = u8;
 
-/// The 32 bits of an endpoint: a generation times 1,024, plus a slot. Or HARDWARE, SYSTEM or CLOCK, which
-/// are -1, -2 and -3 as signed numbers. Or ANY, which is 31438.
-pub type Endpoint = u32;
-
 /// Who can notify a process.
 #[derive(Clone, Copy, PartialEq, Eq)]
 pub enum Source {

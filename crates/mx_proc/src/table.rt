@@ -2,13 +2,15 @@
 
 ghost use Rattle.std.specs.Prelude.{◌≡◌, ℕ, ◌+◌, ◌*◌, ◌<◌, ◌≤◌, ◌^◌, true, IfSome, IfOk, IfErr, OnErr, OnOk, IsOk, MatchResult, length, slice_get};
 ghost use Rattle.mx_exec.specs.Image.{blank};
-ghost use Rattle.mx_proc.specs.Endpoints.{slot_of_endpoint};
+ghost use Rattle.mx_proc.specs.EndpointNumbers.{slot_of, endpoint_from};
+ghost use Rattle.mx_proc.specs.Endpoints.{names_slot, slot_of_endpoint};
 ghost use Rattle.mx_proc.specs.Sound.{Sound, HasBuffer};
 ghost use Rattle.mx_proc.specs.States.{is_blocked, is_down};
 
 use crate::deliveries::{Deliveries, Delivery};
 use crate::devices::Devices;
-use crate::process::{Endpoint, Masks, Process, Slot, State};
+use crate::endpoints::{Endpoint, FIRST_NEGATIVE, endpoint_from, generation_of, slot_of};
+use crate::process::{Masks, Process, Slot, State};
 use crate::ready::Ready;
 use crate::waits::Waits;
 use crate::windows::Rules;
@@ -22,6 +24,8 @@ mod lending;
 mod messages;
 mod queues;
 mod serving;
+
+pub use messages::MESSAGE_SIZE;
 
 /// Why an endpoint has no slot: its process is dead, or no process ever had it.
 #[derive(Clone, Copy, PartialEq, Eq)]
@@ -149,15 +153,32 @@ impl Table {
     pub fn look(&self, endpoint: Endpoint) -> Result<Slot, Stale>
         ensures { result ≡ slot_of_endpoint self.now endpoint }
     {
-        if endpoint >= 0x8000_0000 {
+        if !self.names_slot(endpoint) {
             return Err(Stale);
         }
-        let slot = endpoint % 1024;
-        if slot < self.slots.len() as u32 && self.is_current(slot as u8, endpoint / 1024) {
-            Ok(slot as u8)
+        let slot = self.slot_of(endpoint);
+        if self.is_current(slot, generation_of(endpoint)) {
+            Ok(slot)
         } else {
             Err(Stale)
         }
+    }
+
+    /// Whether an endpoint names a slot that is used, whatever its generation.
+    pub fn names_slot(&self, endpoint: Endpoint) -> bool
+        ensures { result ≡ names_slot self.now endpoint }
+    {
+        endpoint < FIRST_NEGATIVE && slot_of(endpoint) < self.slots.len() as u32
+    }
+
+    /// The slot that an endpoint names, where it is used.
+    pub fn slot_of(&self, endpoint: Endpoint) -> Slot
+        requires { slot_of endpoint < length self.now.slots }
+        ensures { result ≡ slot_of endpoint }
+    {
+        // So few that a slot fits a byte.
+        let _used = self.used();
+        slot_of(endpoint) as Slot
     }
 
     /// Whether a slot's process is alive and has this generation.
@@ -190,9 +211,9 @@ impl Table {
         requires { slot < length self.now.slots }
         ensures value { result ≡ endpoint_of self.now slot }
         ensures below { result < 2 ^ 31 }
-        ensures slot { result ≡ (process_at self.now slot).generation * 1024 + slot }
+        ensures slot { result ≡ endpoint_from (process_at self.now slot).generation slot }
     {
-        self.process(slot).generation * 1024 + u32::from(slot)
+        endpoint_from(self.process(slot).generation, u32::from(slot))
     }
 
     /// How many slots of the table are used.

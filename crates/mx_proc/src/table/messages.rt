@@ -10,8 +10,15 @@ ghost use Rattle.mx_proc.specs.TableState.{process_at, endpoint_of, buffer_at, m
 
 use super::Table;
 use crate::deliveries::{Delivery, DeliveryKind};
+use crate::endpoints::{CLOCK, HARDWARE};
 use crate::process::{Partner, Slot, Source};
 use mx_word::{Register, Size, read_dword, write_dword};
+
+/// The bytes of a message: its source, its type and seven words.
+pub const MESSAGE_SIZE: usize = 36;
+
+/// The type of each notification.
+const NOTIFICATION_TYPE: u32 = 4096;
 
 impl Table {
     /// Sets the result of a process's trap, in EAX.
@@ -27,7 +34,7 @@ impl Table {
     }
 
     /// Writes a message into a process's buffer: the 36 bytes from the address in EBX on.
-    pub fn receive(&mut self, slot: Slot, message: &[u8; 36])
+    pub fn receive(&mut self, slot: Slot, message: &[u8; MESSAGE_SIZE])
         requires slot { slot < length self.old.slots }
         requires inside { HasBuffer (process_at self.old slot) }
         ensures value { self.new ≡ with_message self.old slot message.now }
@@ -52,7 +59,7 @@ impl Table {
     }
 
     /// The message in a process's buffer, but with the process's endpoint as its source.
-    fn message(&self, slot: Slot) -> [u8; 36]
+    fn message(&self, slot: Slot) -> [u8; MESSAGE_SIZE]
         requires slot { slot < length self.now.slots }
         requires inside { HasBuffer (process_at self.now slot) }
         ensures { result ≡ message_of self.now slot }
@@ -92,8 +99,8 @@ impl Table {
         ensures { result ≡ source_endpoint self.now source }
     {
         match source {
-            Source::Hardware => 0xFFFF_FFFF,
-            Source::Clock => 0xFFFF_FFFD,
+            Source::Hardware => HARDWARE,
+            Source::Clock => CLOCK,
             Source::Slot(slot) => self.endpoint(slot),
         }
     }
@@ -134,7 +141,7 @@ impl Table {
         let uptime = self.uptime();
         let lines = self.clear_pending(slot, source);
         self.receive(slot, &notification(from, uptime, lines));
-        self.log(from, to, 4096, DeliveryKind::Notification);
+        self.log(from, to, NOTIFICATION_TYPE, DeliveryKind::Notification);
     }
 
     /// Sets a process's pending bit of this source: so a notification waits for the process.
@@ -164,12 +171,12 @@ impl Table {
 }
 
 /// The bytes of a notification.
-fn notification(source: u32, uptime: u32, lines: u32) -> [u8; 36]
+fn notification(source: u32, uptime: u32, lines: u32) -> [u8; MESSAGE_SIZE]
     ensures { result ≡ notification source uptime lines }
 {
-    let mut message = [0; 36];
+    let mut message = [0; MESSAGE_SIZE];
     write_dword(&mut message, source);
-    write_dword(&mut message[4..], 4096);
+    write_dword(&mut message[4..], NOTIFICATION_TYPE);
     write_dword(&mut message[8..], uptime);
     write_dword(&mut message[12..], lines);
     message

@@ -2,7 +2,6 @@
 
 ghost use Rattle.std.specs.Prelude.{◌≡◌, ◌≢◌, ℕ, false, ◌+◌, ◌<◌, ◌≤◌, ◌^◌, ◌==◌, Some, None, IfSome, length, map, slice_set, slice_index_or, bit_or};
 ghost use Rattle.mx_mem.specs.Segment.{with_bytes_at, part};
-ghost use Rattle.mx_proc.specs.Endpoints.{names_slot};
 ghost use Rattle.mx_proc.specs.Frame.{frame};
 ghost use Rattle.mx_proc.specs.Serving.{without_bit_of, owner_but, table_after_forgetting, table_after_burial, with_alarm, with_line, with_owner, with_window, with_tick, with_device_register, with_console_byte, with_copy, process_after_copy};
 ghost use Rattle.mx_proc.specs.States.{IsAlone, is_out};
@@ -10,7 +9,7 @@ ghost use Rattle.mx_proc.specs.TableState.{process_at, memory_at, window_of, nob
 
 use super::Table;
 use crate::devices::Devices;
-use crate::process::{DeathCause, Endpoint, Process, Slot, State};
+use crate::process::{DeathCause, Process, Slot, State};
 use crate::windows::Window;
 
 impl Table {
@@ -19,13 +18,6 @@ impl Table {
         ensures { result.now ≡ self.now.devices }
     {
         &self.devices
-    }
-
-    /// Whether an endpoint names a slot that is used, whatever its generation.
-    pub fn names_slot(&self, endpoint: Endpoint) -> bool
-        ensures { result ≡ names_slot self.now endpoint }
-    {
-        endpoint < 0x8000_0000 && endpoint % 1024 < self.slots.len() as u32
     }
 
     /// Makes all forget a slot: no process has a pending bit of it or a window for it any more, and it owns
