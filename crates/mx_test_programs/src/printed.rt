@@ -119,8 +119,8 @@ fn first_lost(alloc: Global, front: &[u8], tail: &[u8]) -> Option<u16> {
     None
 }
 
-/// The same, behind any of these fronts.
-fn first_lost_behind(alloc: Global, fronts: &[&[u8]]) -> Option<u16> {
+/// The same, after any of these fronts.
+fn first_lost_after(alloc: Global, fronts: &[&[u8]]) -> Option<u16> {
     for front in fronts {
         for tail in &TAILS {
             let lost = first_lost(alloc, *front, *tail);
@@ -134,10 +134,10 @@ fn first_lost_behind(alloc: Global, fronts: &[&[u8]]) -> Option<u16> {
 
 #[test]
 fn instructions_are_read_again(rt: HostRuntime) {
-    assert!(rt; first_lost_behind(rt.alloc(), &FRONTS).is_none());
+    assert!(rt; first_lost_after(rt.alloc(), &FRONTS).is_none());
 }
 
 #[test]
 fn instructions_after_66_are_read_again(rt: HostRuntime) {
-    assert!(rt; first_lost_behind(rt.alloc(), &MARKED_FRONTS).is_none());
+    assert!(rt; first_lost_after(rt.alloc(), &MARKED_FRONTS).is_none());
 }
