@@ -83,7 +83,8 @@ fn lines_wanted(request: CommandRequest<'_>, error: BootError) -> &'static str
 
 /// What is wanted of a file that can't be read or written.
 fn file_wanted(request: CommandRequest<'_>, notes: Notes<'_>) -> &'static str
-    ensures { result.now ≡ file_wanted request.entry notes.entry.is_missed notes.entry.is_unwritten }
+    ensures { result.now
+        ≡ file_wanted request.entry notes.entry.is_missed notes.entry.is_unwritten }
 {
     if writes_over(request) {
         "another file than the one that is read"
@@ -104,7 +105,8 @@ pub(crate) fn wanted_of(
     failure: Failure,
     notes: Notes<'_>,
 ) -> &'static str
-    ensures { result.now ≡ wanted_of request.entry failure notes.entry.is_missed notes.entry.is_unwritten }
+    ensures { result.now
+        ≡ wanted_of request.entry failure notes.entry.is_missed notes.entry.is_unwritten }
 {
     match failure {
         Failure::Refused(error) => refusal_wanted(error),

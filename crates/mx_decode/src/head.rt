@@ -3,17 +3,11 @@
 ghost use Rattle.std.specs.Prelude.{None, Some};
 ghost use Rattle.mx_insn.specs.declared.insn.Repeat.TheVariants as repeats;
 ghost use Rattle.mx_decode.specs.Reading.{escaped_at, opcode_at, resized_then, repeat_then, head_at};
-ghost use Rattle.mx_decode.specs.Given.{Gives, is_resized, head_seen};
+ghost use Rattle.mx_insn.specs.Spelling.{is_resized};
+ghost use Rattle.mx_decode.specs.Given.{Gives, head_seen};
 
 use crate::DecodeFault;
-use mx_insn::{OperandSize, Repeat};
-
-/// An opcode map: that of the opcodes of one byte, or of those that follow 0F.
-#[derive(Clone, Copy)]
-pub enum OpcodeMap {
-    OneByte,
-    TwoByte,
-}
+use mx_insn::{OpcodeMap, OperandSize, Repeat};
 
 /// What stands before the operands.
 #[derive(Clone, Copy)]

@@ -2,8 +2,8 @@
 
 ghost use Rattle.std.specs.Prelude.{◌≡◌, ◌<◌, ◌^◌, true, false, if◌then◌else◌};
 ghost use Rattle.mx_word.specs.Word.{width};
-ghost use Rattle.mx_insn.specs.Spelling.{arithmetic, condition, immediate_of, wide_immediate, port_size, byte_extension, to_rm, memory_of, register_of, at, shift_count, made};
-ghost use Rattle.mx_decode.specs.Given.{narrow_bound, shift_bound, is_resized, parts_in, is_of_two, is_of_calculation, is_of_control};
+ghost use Rattle.mx_insn.specs.Spelling.{arithmetic, condition, immediate_of, wide_immediate, port_size, byte_extension, to_rm, memory_of, register_of, at, shift_count, made, is_resized};
+ghost use Rattle.mx_decode.specs.Given.{narrow_bound, shift_bound, parts_in, is_of_two, is_of_calculation, is_of_control};
 
 use crate::fields::register;
 use mx_insn::{
@@ -155,7 +155,8 @@ const ACCUMULATOR: Operand = Operand::Register(Register::Eax);
 
 /// The instruction that a row's instruction column makes.
 pub fn insn_of(pattern: Pattern, size: Size, values: FieldValues) -> Insn
-    requires narrow { values.immediate < narrow_bound pattern size (is_resized values.operand_size) }
+    requires narrow { values.immediate
+        < narrow_bound pattern size (is_resized values.operand_size) }
     requires number { values.number < 255 }
     ensures { result ≡ made pattern size (parts_in values) }
 {
@@ -231,7 +232,8 @@ pub fn insn_of(pattern: Pattern, size: Size, values: FieldValues) -> Insn
 #[tactic(auto, using(crate::proofs::Sizes::size_again))]
 fn calculation_of(pattern: Pattern, size: Size, values: FieldValues) -> Insn
     requires not_of_two { is_of_two pattern ≡ false }
-    requires narrow { values.immediate < narrow_bound pattern size (is_resized values.operand_size) }
+    requires narrow { values.immediate
+        < narrow_bound pattern size (is_resized values.operand_size) }
     requires number { values.number < 255 }
     ensures { result ≡ made pattern size (parts_in values) }
 {
@@ -303,7 +305,8 @@ fn calculation_of(pattern: Pattern, size: Size, values: FieldValues) -> Insn
 fn conversion_of(pattern: Pattern, size: Size, values: FieldValues) -> Insn
     requires not_of_two { is_of_two pattern ≡ false }
     requires not_calculation { is_of_calculation pattern ≡ false }
-    requires narrow { values.immediate < narrow_bound pattern size (is_resized values.operand_size) }
+    requires narrow { values.immediate
+        < narrow_bound pattern size (is_resized values.operand_size) }
     requires number { values.number < 255 }
     ensures { result ≡ made pattern size (parts_in values) }
 {
@@ -362,7 +365,8 @@ fn conversion_of(pattern: Pattern, size: Size, values: FieldValues) -> Insn
 /// The instruction of a pattern of control transfer, of strings and ports, or without operands.
 fn control_of(pattern: Pattern, size: Size, values: FieldValues) -> Insn
     requires control { is_of_control pattern ≡ true }
-    requires narrow { values.immediate < narrow_bound pattern size (is_resized values.operand_size) }
+    requires narrow { values.immediate
+        < narrow_bound pattern size (is_resized values.operand_size) }
     requires number { values.number < 255 }
     ensures { result ≡ made pattern size (parts_in values) }
 {

@@ -1,15 +1,15 @@
 //! The row of the bytes.
 
 ghost use Rattle.std.specs.Prelude.{◌≡◌, ℕ, List, [], ◌∷◌, find, option_copied};
-ghost use Rattle.mx_insn.specs.Spelling.{allows_resized, allows_repeat};
+ghost use Rattle.mx_insn.specs.Spelling.{allows_resized, allows_repeat, is_resized, is_escaped};
 ghost use Rattle.mx_decode.specs.Reading.{same, has_opcode, is_absent, stands, row_after};
 ghost use Rattle.mx_decode.specs.Map.{may_follow, begins};
-ghost use Rattle.mx_decode.specs.Given.{Gives, is_resized, is_escaped, head_seen};
+ghost use Rattle.mx_decode.specs.Given.{Gives, head_seen};
 
 use crate::DecodeFault;
-use crate::head::{Head, OpcodeMap};
+use crate::head::Head;
 use crate::table::rows_near;
-use mx_insn::{ModRm, OperandSize, Repeat, Repeats, Row, SizeMark};
+use mx_insn::{ModRm, OpcodeMap, OperandSize, Repeat, Repeats, Row, SizeMark};
 
 fn is_in_map(row: &Row, map: OpcodeMap) -> bool
     ensures { result ≡ same (is_escaped map) row.now.escaped }

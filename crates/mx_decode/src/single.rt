@@ -2,10 +2,10 @@
 
 ghost use Rattle.std.specs.Prelude.{◌≡◌, ◌<◌, ◌≤◌, ◌↔◌, ℕ, Ok};
 ghost use Rattle.mx_insn.specs.declared.insn.Insn.{Insn};
-ghost use Rattle.mx_insn.specs.Spelling.{IsOpen, row_size};
+ghost use Rattle.mx_insn.specs.Spelling.{IsOpen, row_size, is_resized};
 ghost use Rattle.mx_decode.specs.Decode.{SpellsFirst, NoneFirst, front};
 ghost use Rattle.mx_decode.specs.Reading.{opcode_number, reading};
-ghost use Rattle.mx_decode.specs.Given.{Gives, immediate_bound, narrow_bound, operands_code, is_resized, head_seen};
+ghost use Rattle.mx_decode.specs.Given.{Gives, immediate_bound, narrow_bound, operands_code, head_seen};
 
 use crate::DecodeFault;
 use crate::fields::{immediate, place, row_size};

@@ -1,13 +1,12 @@
 //! The rows of the table, by parts of the opcode maps, in the table's order within a part.
 
 ghost use Rattle.std.specs.Prelude.{◌≡◌, ◌≤◌, ◌<◌, true, false};
+ghost use Rattle.mx_insn.specs.Spelling.{is_escaped};
 ghost use Rattle.mx_decode.specs.Map.{map_part, rows_in};
-ghost use Rattle.mx_decode.specs.Given.{is_escaped};
 
-use crate::head::OpcodeMap;
 use mx_insn::{
-    BitScan, BitTest, Comparison, CountColumn, DoubleShift, ImmediateColumn, Loop, ModRm, Pattern,
-    Plain, Product, Repeats, Row, Shift, SizeMark, Transfer, Unary,
+    BitScan, BitTest, Comparison, CountColumn, DoubleShift, ImmediateColumn, Loop, ModRm,
+    OpcodeMap, Pattern, Plain, Product, Repeats, Row, Shift, SizeMark, Transfer, Unary,
 };
 
 macro_rules! row {

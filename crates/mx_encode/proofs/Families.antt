@@ -294,7 +294,7 @@ unfolding rows
 spread_sign_suits operand_sizes.Word = record { listed = (opcode_at 0x99, lit< tt, refl); resized = refl; repeat = refl; number = lit< tt; rm = tt; value = 0; reads = reads_nothing true Word; means = refl }
 spread_sign_suits operand_sizes.Dword = record { listed = (opcode_at 0x99, lit< tt, refl); resized = refl; repeat = refl; number = lit< tt; rm = tt; value = 0; reads = reads_nothing false Dword; means = refl }
 
-transfer_suits : (o : Transfer) (size : Size) (repeated : Bool) → Suits (transfer_choice o size repeated) (insns.Transfer o size repeated)
+transfer_suits : (o : Transfer) (size : Size) (repeated : Bool) → Suits (transfer_choice o size (rep repeated)) (insns.Transfer o size repeated)
 transfer_suits o size true = record { listed = transfer_listed o size; resized = (sized_again size).0; repeat = refl; number = lit< tt; rm = tt; value = 0; reads = reads_nothing (is_word size) (row_size (sized_column size) (is_word size)); means = rw ((sized_again size).1) refl }
 transfer_suits o size false = record { listed = transfer_listed o size; resized = (sized_again size).0; repeat = refl; number = lit< tt; rm = tt; value = 0; reads = reads_nothing (is_word size) (row_size (sized_column size) (is_word size)); means = rw ((sized_again size).1) refl }
 

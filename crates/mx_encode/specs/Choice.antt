@@ -45,7 +45,8 @@ use Rattle.mx_encode.specs.declared.Wide.{Wide}
 use Rattle.mx_encode.specs.declared.fields.Number.{Number}
 use Rattle.mx_encode.specs.declared.fields.Number.TheVariants as numbers
 use Rattle.mx_encode.specs.declared.fields.Rm.{Rm}
-use Rattle.mx_encode.specs.Numbers.{arithmetic_number, is_word, is_word_size, is_short, shortens, short}
+use Rattle.mx_insn.specs.Spelling.{is_resized}
+use Rattle.mx_encode.specs.Numbers.{arithmetic_number, is_word, is_short, shortens, short}
 
 -- a row, and what stands in its fields
 pub record Choice : Type 0 where
@@ -153,10 +154,10 @@ double_shift_choice o operand r (counts.Immediate n) = with_rm (double_shift_imm
 -- ---- into a register
 
 abbrev pub load_address : OperandSize → Register → Memory → Choice
-load_address size to m = with_rm load_address_row (is_word_size size) 0 (register_number to) (operand.Memory m) numbers.Nothing
+load_address size to m = with_rm load_address_row (is_resized size) 0 (register_number to) (operand.Memory m) numbers.Nothing
 
 abbrev pub multiply_choice : OperandSize → Register → Operand → Choice
-multiply_choice size to from = with_rm multiply_reg_rm_row (is_word_size size) 0 (register_number to) from numbers.Nothing
+multiply_choice size to from = with_rm multiply_reg_rm_row (is_resized size) 0 (register_number to) from numbers.Nothing
 
 abbrev pub bit_scan_choice : BitScan → Register → Operand → Choice
 bit_scan_choice o to from = with_rm (bit_scan_row o) false 0 (register_number to) from numbers.Nothing
@@ -236,19 +237,19 @@ interrupt_choice n = bare interrupt_row false 0 (numbers.Byte n)
 -- ---- the accumulator, strings and ports
 
 abbrev pub extend_accumulator : OperandSize → Choice
-extend_accumulator size = bare extend_accumulator_row (is_word_size size) 0 numbers.Nothing
+extend_accumulator size = bare extend_accumulator_row (is_resized size) 0 numbers.Nothing
 
 abbrev pub spread_sign : OperandSize → Choice
-spread_sign size = bare spread_sign_row (is_word_size size) 0 numbers.Nothing
+spread_sign size = bare spread_sign_row (is_resized size) 0 numbers.Nothing
 
 -- F3, as REP
 abbrev pub rep : Bool → Option Repeat
 rep true = Some Repe
 rep false = None
 
-abbrev pub transfer_choice : Transfer → Size → Bool → Choice
-transfer_choice o size repeated =
-    record (bare (transfer_row o size) (is_word size) 0 numbers.Nothing) { repeat = rep repeated }
+abbrev pub transfer_choice : Transfer → Size → Option Repeat → Choice
+transfer_choice o size repeat =
+    record (bare (transfer_row o size) (is_word size) 0 numbers.Nothing) { repeat = repeat }
 
 abbrev pub compare_choice : Comparison → Size → Option Repeat → Choice
 compare_choice o size repeat =
@@ -306,7 +307,7 @@ choice (insns.Return n) wide = Some (return_choice n)
 choice (insns.Interrupt n) wide = Some (interrupt_choice n)
 choice (insns.ExtendAccumulator size) wide = Some (extend_accumulator size)
 choice (insns.SpreadSign size) wide = Some (spread_sign size)
-choice (insns.Transfer o size repeated) wide = Some (transfer_choice o size repeated)
+choice (insns.Transfer o size repeated) wide = Some (transfer_choice o size (rep repeated))
 choice (insns.Compare o size repeat) wide = Some (compare_choice o size repeat)
 choice (insns.In size port) wide = Some (in_choice size port)
 choice (insns.Out size port) wide = Some (out_choice size port)

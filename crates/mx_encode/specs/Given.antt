@@ -18,27 +18,23 @@ use Rattle.mx_insn.specs.declared.insn.Port.{Port}
 use Rattle.mx_insn.specs.declared.insn.Port.TheVariants as ports
 use Rattle.mx_insn.specs.declared.insn.Insn.{Insn}
 use Rattle.mx_insn.specs.declared.insn.Insn.TheVariants as insns
-use Rattle.mx_insn.specs.Spelling.{Sib, opcode, Place, operand_size, prefix_bytes, escape_bytes, modrm_bytes}
+use Rattle.mx_insn.specs.Spelling.{Sib, opcode, Place, operand_size, is_resized, is_escaped, prefix_bytes, escape_bytes, modrm_bytes}
 use Rattle.mx_encode.specs.declared.NoForm.{NoForm}
 use Rattle.mx_encode.specs.declared.fields.Sib as code_sib
 use Rattle.mx_encode.specs.declared.fields.RmFields as code_place
-use Rattle.mx_encode.specs.declared.forms.OpcodeMap.{OpcodeMap}
-use Rattle.mx_encode.specs.declared.forms.OpcodeMap.TheVariants as opcode_maps
+use Rattle.mx_insn.specs.declared.row.OpcodeMap.{OpcodeMap}
+use Rattle.mx_insn.specs.declared.row.OpcodeMap.TheVariants as opcode_maps
 use Rattle.mx_encode.specs.declared.forms.Encoding.{Encoding}
 use Rattle.mx_encode.specs.declared.numbers.NumberForm.{NumberForm}
 use Rattle.mx_encode.specs.declared.numbers.NumberForm.TheVariants as number_forms
 use Rattle.mx_encode.specs.declared.fields.Rm.{Rm}
 use Rattle.mx_encode.specs.declared.fields.Number.TheVariants as numbers
-use Rattle.mx_encode.specs.Numbers.{is_word_size, number_bytes}
+use Rattle.mx_encode.specs.Numbers.{number_bytes}
 use Rattle.mx_encode.specs.Choice.{Choice}
 
 abbrev pub opcode_map : Bool → OpcodeMap
 opcode_map true = opcode_maps.TwoByte
 opcode_map false = opcode_maps.OneByte
-
-abbrev pub is_escaped : OpcodeMap → Bool
-is_escaped opcode_maps.TwoByte = true
-is_escaped opcode_maps.OneByte = false
 
 -- the number is marked wide
 abbrev pub is_wide : NumberForm → Bool
@@ -56,13 +52,30 @@ GivesBytes (Ok f) None = ⊥
 GivesBytes (Err e) (Some c) = ⊥
 GivesBytes (Err e) None = Unit {0}
 
+-- what moves, tests or calculates: all but control transfer, strings, ports and what has no operands
+abbrev pub is_calculation : Insn → Bool
+is_calculation (insns.JumpIf c n) = false
+is_calculation (insns.Jump n) = false
+is_calculation (insns.Call n) = false
+is_calculation (insns.JumpTo o) = false
+is_calculation (insns.CallTo o) = false
+is_calculation (insns.Loop o n) = false
+is_calculation (insns.Return n) = false
+is_calculation (insns.Interrupt n) = false
+is_calculation (insns.Transfer o size repeated) = false
+is_calculation (insns.Compare o size repeat) = false
+is_calculation (insns.In size port) = false
+is_calculation (insns.Out size port) = false
+is_calculation (insns.Plain o) = false
+is_calculation _ = true
+
 -- a reg field has three bits
 abbrev pub RegFits : Option Rm → Type 0
 RegFits None = Unit {0}
 RegFits (Some rm) = rm.reg < 8
 
 abbrev pub form_bytes : Encoding → Option Place → List ℕ
-form_bytes f place = prefix_bytes (is_word_size f.operand_size) f.repeat false ++ (escape_bytes (is_escaped f.map) ++ (f.opcode ∷ (modrm_bytes place ++ number_bytes f.immediate)))
+form_bytes f place = prefix_bytes (is_resized f.operand_size) f.repeat false ++ (escape_bytes (is_escaped f.map) ++ (f.opcode ∷ (modrm_bytes place ++ number_bytes f.immediate)))
 
 -- a value by an opcode for bytes and the next, for words and dwords, under /0
 abbrev pub value_into : ℕ → Operand → Immediate → Encoding

@@ -7,8 +7,6 @@ use Rattle.mx_word.specs.declared.names.Arithmetic.{Arithmetic}
 use Rattle.mx_word.specs.declared.names.Arithmetic.TheVariants.{Add, Or, Adc, Sbb, And, Sub, Xor, Cmp}
 use Rattle.mx_insn.specs.declared.insn.Scale.{Scale}
 use Rattle.mx_insn.specs.declared.insn.Scale.TheVariants.{One, Two, Four, Eight}
-use Rattle.mx_insn.specs.declared.insn.OperandSize.{OperandSize}
-use Rattle.mx_insn.specs.declared.insn.OperandSize.TheVariants as operand_sizes
 use Rattle.mx_insn.specs.Spelling.{sign_extended}
 use Rattle.mx_encode.specs.declared.fields.Number.{Number}
 use Rattle.mx_encode.specs.declared.fields.Number.TheVariants as numbers
@@ -36,10 +34,6 @@ abbrev pub is_word : Size → Bool
 is_word Byte = false
 is_word Word = true
 is_word Dword = false
-
-abbrev pub is_word_size : OperandSize → Bool
-is_word_size operand_sizes.Word = true
-is_word_size operand_sizes.Dword = false
 
 -- ---- numbers
 

@@ -1,6 +1,6 @@
 //! Instructions on registers that they don't name, and those without operands.
 
-ghost use Rattle.std.specs.Prelude.{◌≡◌, ◌<◌, false};
+ghost use Rattle.std.specs.Prelude.{◌≡◌, ◌<◌};
 ghost use Rattle.mx_insn.specs.Table.{compare_opcode, plain_opcode, transfer_opcode};
 ghost use Rattle.mx_encode.specs.Choice.{transfer_choice, compare_choice, extend_accumulator, spread_sign, in_choice, out_choice, plain_choice};
 ghost use Rattle.mx_encode.specs.Given.{laid, PortFits};
@@ -38,7 +38,7 @@ fn transfer_opcode(operation: Transfer) -> u8
 
 /// How MOVS, STOS and LODS are encoded.
 pub fn transfer(operation: Transfer, size: Size, repeat: Option<Repeat>) -> Encoding
-    ensures { result ≡ record (laid (transfer_choice operation size false)) { repeat = repeat } }
+    ensures { result ≡ laid (transfer_choice operation size repeat) }
 {
     Encoding::bare(sized_opcode(size, transfer_opcode(operation)))
         .with_operand_size(operand_size(size))

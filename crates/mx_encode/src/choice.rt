@@ -1,7 +1,8 @@
 //! The form that an instruction and its marks take.
 
+ghost use Rattle.std.specs.Prelude.{◌≡◌, true, Ok};
 ghost use Rattle.mx_encode.specs.Choice.{choice};
-ghost use Rattle.mx_encode.specs.Given.{GivesBytes, Fits};
+ghost use Rattle.mx_encode.specs.Given.{GivesBytes, Fits, is_calculation};
 
 use crate::forms::Encoding;
 use crate::{NoForm, Wide, accumulator, bits, jumps, operands, single};
@@ -13,78 +14,6 @@ pub fn form_of(insn: Insn, wide: Wide) -> Result<Encoding, NoForm>
     ensures fits { Fits insn }
 {
     match insn {
-        Insn::Arithmetic {
-            operation,
-            operands,
-        } => Ok(operands::arithmetic(operation, operands, wide.immediate_form())),
-        Insn::Move(operands) => Ok(operands::movement(operands)),
-        Insn::Test {
-            size,
-            operand,
-            register,
-        } => Ok(operands::test(size, operand, register)),
-        Insn::TestImmediate { operand, value } => Ok(operands::test_immediate(operand, value)),
-        Insn::Exchange {
-            size,
-            operand,
-            register,
-        } => Ok(operands::exchange(size, operand, register)),
-        Insn::LoadAddress { size, to, memory } => Ok(operands::load_address(size, to, memory)),
-        Insn::Unary {
-            operation,
-            size,
-            operand,
-        } => Ok(single::unary(operation, size, operand)),
-        Insn::Product {
-            operation,
-            size,
-            operand,
-        } => Ok(single::product(operation, size, operand)),
-        Insn::Multiply { size, to, from } => Ok(operands::multiply(size, to, from)),
-        Insn::MultiplyImmediate { to, from, by } => {
-            Ok(operands::multiply_immediate(to, from, by, wide.immediate_form()))
-        }
-        Insn::Shift {
-            operation,
-            size,
-            operand,
-            count,
-        } => Ok(single::shift(operation, size, operand, count)),
-        Insn::DoubleShift {
-            operation,
-            operand,
-            register,
-            count,
-        } => Ok(bits::double_shift(operation, operand, register, count)),
-        Insn::BitTest {
-            operation,
-            operand,
-            number,
-        } => Ok(bits::bit_test(operation, operand, number)),
-        Insn::BitTestRegister {
-            operation,
-            register,
-            number,
-        } => Ok(bits::register_bit_test(operation, register, number)),
-        Insn::BitScan {
-            operation,
-            to,
-            from,
-        } => Ok(bits::bit_scan(operation, to, from)),
-        Insn::ZeroExtend {
-            extension,
-            to,
-            from,
-        } => Ok(operands::zero_extend(extension, to, from)),
-        Insn::SignExtend {
-            extension,
-            to,
-            from,
-        } => Ok(operands::sign_extend(extension, to, from)),
-        Insn::SetCondition { condition, operand } => Ok(single::set_condition(condition, operand)),
-        Insn::Push(operand) => Ok(single::push(operand)),
-        Insn::PushImmediate(number) => Ok(single::push_immediate(number, wide.immediate_form())),
-        Insn::Pop(register) => Ok(single::pop(register)),
         Insn::JumpIf {
             condition,
             displacement,
@@ -99,18 +28,14 @@ pub fn form_of(insn: Insn, wide: Wide) -> Result<Encoding, NoForm>
         } => jumps::looping(operation, displacement),
         Insn::Return(number) => Ok(jumps::returning(number)),
         Insn::Interrupt(number) => Ok(jumps::interrupt(number)),
-        Insn::ExtendAccumulator(size) => Ok(accumulator::extend_accumulator(size)),
-        Insn::SpreadSign(size) => Ok(accumulator::spread_sign(size)),
         Insn::Transfer {
             operation,
             size,
-            repeated: false,
-        } => Ok(accumulator::transfer(operation, size, None)),
-        Insn::Transfer {
-            operation,
-            size,
-            repeated: true,
-        } => Ok(accumulator::transfer(operation, size, Some(Repeat::Repe))),
+            repeated,
+        } => {
+            let repeat = if repeated { Some(Repeat::Repe) } else { None };
+            Ok(accumulator::transfer(operation, size, repeat))
+        }
         Insn::Compare {
             operation,
             size,
@@ -119,5 +44,91 @@ pub fn form_of(insn: Insn, wide: Wide) -> Result<Encoding, NoForm>
         Insn::In { size, port } => Ok(accumulator::input(size, port)),
         Insn::Out { size, port } => Ok(accumulator::output(size, port)),
         Insn::Plain(operation) => Ok(accumulator::plain(operation)),
+        _ => Ok(calculation_form(insn, wide)),
+    }
+}
+
+/// The encoding of an instruction that `form_of` leaves: it moves, tests or calculates.
+fn calculation_form(insn: Insn, wide: Wide) -> Encoding
+    requires calculation { is_calculation insn ≡ true }
+    ensures form { GivesBytes (Ok result) (choice insn wide) }
+    ensures fits { Fits insn }
+{
+    match insn {
+        Insn::Arithmetic {
+            operation,
+            operands,
+        } => operands::arithmetic(operation, operands, wide.immediate_form()),
+        Insn::Move(operands) => operands::movement(operands),
+        Insn::Test {
+            size,
+            operand,
+            register,
+        } => operands::test(size, operand, register),
+        Insn::TestImmediate { operand, value } => operands::test_immediate(operand, value),
+        Insn::Exchange {
+            size,
+            operand,
+            register,
+        } => operands::exchange(size, operand, register),
+        Insn::LoadAddress { size, to, memory } => operands::load_address(size, to, memory),
+        Insn::Unary {
+            operation,
+            size,
+            operand,
+        } => single::unary(operation, size, operand),
+        Insn::Product {
+            operation,
+            size,
+            operand,
+        } => single::product(operation, size, operand),
+        Insn::Multiply { size, to, from } => operands::multiply(size, to, from),
+        Insn::MultiplyImmediate { to, from, by } => {
+            operands::multiply_immediate(to, from, by, wide.immediate_form())
+        }
+        Insn::Shift {
+            operation,
+            size,
+            operand,
+            count,
+        } => single::shift(operation, size, operand, count),
+        Insn::DoubleShift {
+            operation,
+            operand,
+            register,
+            count,
+        } => bits::double_shift(operation, operand, register, count),
+        Insn::BitTest {
+            operation,
+            operand,
+            number,
+        } => bits::bit_test(operation, operand, number),
+        Insn::BitTestRegister {
+            operation,
+            register,
+            number,
+        } => bits::register_bit_test(operation, register, number),
+        Insn::BitScan {
+            operation,
+            to,
+            from,
+        } => bits::bit_scan(operation, to, from),
+        Insn::ZeroExtend {
+            extension,
+            to,
+            from,
+        } => operands::zero_extend(extension, to, from),
+        Insn::SignExtend {
+            extension,
+            to,
+            from,
+        } => operands::sign_extend(extension, to, from),
+        Insn::SetCondition { condition, operand } => single::set_condition(condition, operand),
+        Insn::Push(operand) => single::push(operand),
+        Insn::PushImmediate(number) => single::push_immediate(number, wide.immediate_form()),
+        Insn::Pop(register) => single::pop(register),
+        Insn::ExtendAccumulator(size) => accumulator::extend_accumulator(size),
+        Insn::SpreadSign(size) => accumulator::spread_sign(size),
+        _ => unreachable!(),
     }
 }

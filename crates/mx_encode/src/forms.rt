@@ -6,14 +6,7 @@ ghost use Rattle.mx_insn.specs.Table.{sized_opcode};
 ghost use Rattle.mx_encode.specs.Numbers.{is_word};
 
 use crate::fields::{Number, Rm};
-use mx_insn::{Operand, OperandSize, Repeat, Size};
-
-/// An opcode map: that of the opcodes of one byte, or of those that follow 0F.
-#[derive(Clone, Copy)]
-pub enum OpcodeMap {
-    OneByte,
-    TwoByte,
-}
+use mx_insn::{OpcodeMap, Operand, OperandSize, Repeat, Size};
 
 /// An opcode and its prefixes, the operand that mod and rm name, and the immediate.
 #[derive(Clone, Copy)]

@@ -2,16 +2,16 @@
 
 ghost use Rattle.std.specs.Prelude.{◌≡◌, ◌+◌, ◌≤◌, ◌++◌, length, false};
 ghost use Rattle.mx_word.specs.Word.{bytes_of};
-ghost use Rattle.mx_insn.specs.Spelling.{resized_bytes, repeat_bytes, escape_bytes, place_bytes, modrm_bytes, sib_bytes};
-ghost use Rattle.mx_encode.specs.Numbers.{is_word_size, number_bytes};
+ghost use Rattle.mx_insn.specs.Spelling.{is_resized, is_escaped, resized_bytes, repeat_bytes, escape_bytes, place_bytes, modrm_bytes, sib_bytes};
+ghost use Rattle.mx_encode.specs.Numbers.{number_bytes};
 ghost use Rattle.mx_encode.specs.Places.{place_for};
-ghost use Rattle.mx_encode.specs.Given.{is_escaped, is_wide, RegFits, form_bytes, sib_seen, place_seen};
+ghost use Rattle.mx_encode.specs.Given.{is_wide, RegFits, form_bytes, sib_seen, place_seen};
 
 use crate::fields::{Number, Rm, RmFields, Sib};
-use crate::forms::{Encoding, OpcodeMap};
+use crate::forms::Encoding;
 use crate::numbers::NumberForm;
 use crate::places::place_of;
-use mx_insn::{ArrayVec, OperandSize, Repeat};
+use mx_insn::{ArrayVec, OpcodeMap, OperandSize, Repeat};
 
 /// A spelling has at most 14 bytes.
 type Bytes = ArrayVec<u8, 15>;
@@ -48,7 +48,7 @@ fn put_number(bytes: &mut Bytes, number: Number)
 /// The operand-size prefix.
 fn put_operand_size(bytes: &mut Bytes, operand_size: OperandSize)
     requires { length bytes.old.items + 1 ≤ 15 }
-    ensures bytes { bytes.new.items ≡ bytes.old.items ++ resized_bytes (is_word_size operand_size) }
+    ensures bytes { bytes.new.items ≡ bytes.old.items ++ resized_bytes (is_resized operand_size) }
     ensures room { length bytes.new.items ≤ length bytes.old.items + 1 }
 {
     match operand_size {

@@ -12,4 +12,4 @@ pub use insn::{
 pub use mx_word::{
     Arithmetic, BitScan, BitTest, Condition, DoubleShift, Register, Shift, Size, Unary,
 };
-pub use row::{CountColumn, ImmediateColumn, ModRm, Pattern, Repeats, Row, SizeMark};
+pub use row::{CountColumn, ImmediateColumn, ModRm, OpcodeMap, Pattern, Repeats, Row, SizeMark};

@@ -3,6 +3,13 @@
 use crate::insn::{Comparison, Loop, Plain, Product, Transfer};
 use mx_word::{BitScan, BitTest, DoubleShift, Shift, Unary};
 
+/// An opcode map: that of the opcodes of one byte, or of those that follow 0F.
+#[derive(Clone, Copy)]
+pub enum OpcodeMap {
+    OneByte,
+    TwoByte,
+}
+
 /// The operand size of a row: b, v (word after 66, else dword), or d (also where it has no mark).
 #[derive(Clone, Copy)]
 pub enum SizeMark {

@@ -119,25 +119,22 @@ fn first_lost(alloc: Global, front: &[u8], tail: &[u8]) -> Option<u16> {
     None
 }
 
-/// The same, after any of these fronts.
-fn first_lost_after(alloc: Global, fronts: &[&[u8]]) -> Option<u16> {
-    for front in fronts {
+/// Sees that every instruction after these fronts is read again.
+fn see_all_read_again(rt: &(impl Abort + AllocGlobal), fronts: &[&[u8]]) {
+    for (number, front) in fronts.iter().enumerate() {
         for tail in &TAILS {
-            let lost = first_lost(alloc, *front, *tail);
-            if lost.is_some() {
-                return lost;
-            }
+            let lost = first_lost(rt.alloc(), *front, *tail);
+            assert!(rt; lost.is_none(), "front {number}");
         }
     }
-    None
 }
 
 #[test]
 fn instructions_are_read_again(rt: HostRuntime) {
-    assert!(rt; first_lost_after(rt.alloc(), &FRONTS).is_none());
+    see_all_read_again(&rt, &FRONTS);
 }
 
 #[test]
 fn instructions_after_66_are_read_again(rt: HostRuntime) {
-    assert!(rt; first_lost_after(rt.alloc(), &MARKED_FRONTS).is_none());
+    see_all_read_again(&rt, &MARKED_FRONTS);
 }
