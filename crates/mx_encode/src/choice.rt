@@ -1,8 +1,9 @@
 //! The form that an instruction and its marks take.
 
 ghost use Rattle.std.specs.Prelude.{◌≡◌, true, Ok};
+ghost use Rattle.mx_insn.specs.Families.{is_calculation};
 ghost use Rattle.mx_encode.specs.Choice.{choice};
-ghost use Rattle.mx_encode.specs.Given.{GivesBytes, Fits, is_calculation};
+ghost use Rattle.mx_encode.specs.Given.{GivesBytes, Fits};
 
 use crate::forms::Encoding;
 use crate::{NoForm, Wide, accumulator, bits, jumps, operands, single};

@@ -1,7 +1,8 @@
 //! One step.
 
-ghost use Rattle.std.specs.Prelude.{◌≡◌, drop, Ok, Err};
+ghost use Rattle.std.specs.Prelude.{◌≡◌, true, drop, Ok, Err};
 ghost use Rattle.mx_decode.specs.Decode.{front};
+ghost use Rattle.mx_insn.specs.Families.{is_calculation};
 ghost use Rattle.mx_exec.specs.Image.{code_bytes, Performs};
 ghost use Rattle.mx_exec.specs.Lasting.{lasting};
 ghost use Rattle.mx_exec.specs.Step.{after, outcome_of, one_step};
@@ -22,10 +23,10 @@ pub fn outcome(insn: &Insn) -> Outcome
     }
 }
 
-/// Performs an instruction, or answers its vector and changes nothing. Inlined, so that a step has
-/// no registers to save.
+/// Performs an instruction that moves, tests or calculates.
 #[inline(always)]
-pub fn perform(image: &mut Image, insn: &Insn, next: u32) -> Result<(), u8>
+fn calculate(image: &mut Image, insn: &Insn, next: u32) -> Result<(), u8>
+    requires { is_calculation insn.now ≡ true }
     ensures { Performs image.old (after insn.now next image.old) result image.new }
 {
     match insn {
@@ -110,6 +111,27 @@ pub fn perform(image: &mut Image, insn: &Insn, next: u32) -> Result<(), u8>
         Insn::Push(operand) => moves::push_operand(image, operand, next),
         Insn::PushImmediate(value) => moves::push_immediate(image, *value, next),
         Insn::Pop(register) => moves::pop(image, *register, next),
+        Insn::ExtendAccumulator(size) => {
+            moves::extend_accumulator(image, *size);
+            image.eip = next;
+            Ok(())
+        }
+        Insn::SpreadSign(size) => {
+            moves::spread_accumulator(image, *size);
+            image.eip = next;
+            Ok(())
+        }
+        _ => unreachable!(),
+    }
+}
+
+/// Performs an instruction, or answers its vector and changes nothing. Inlined, so that a step has
+/// no registers to save.
+#[inline(always)]
+pub fn perform(image: &mut Image, insn: &Insn, next: u32) -> Result<(), u8>
+    ensures { Performs image.old (after insn.now next image.old) result image.new }
+{
+    match insn {
         Insn::JumpIf {
             condition,
             displacement,
@@ -124,16 +146,6 @@ pub fn perform(image: &mut Image, insn: &Insn, next: u32) -> Result<(), u8>
         } => { jumps::loop_to(image, *operation, *displacement, next) }
         Insn::Return(count) => jumps::return_from(image, *count),
         Insn::Interrupt(number) => jumps::interrupt(image, *number, next),
-        Insn::ExtendAccumulator(size) => {
-            moves::extend_accumulator(image, *size);
-            image.eip = next;
-            Ok(())
-        }
-        Insn::SpreadSign(size) => {
-            moves::spread_accumulator(image, *size);
-            image.eip = next;
-            Ok(())
-        }
         Insn::Transfer {
             operation,
             size,
@@ -146,6 +158,7 @@ pub fn perform(image: &mut Image, insn: &Insn, next: u32) -> Result<(), u8>
         } => { strings::compare(image, *operation, *size, *repeat, next) }
         Insn::In { .. } | Insn::Out { .. } => Err(13),
         Insn::Plain(operation) => plain::perform_plain(image, *operation, next),
+        _ => calculate(image, insn, next),
     }
 }
 
