@@ -1,19 +1,11 @@
 //! Single bits of dwords, the search for a one, and shifts of two dwords.
 
 ghost use Rattle.std.specs.Prelude.{◌≡◌, ◌+◌, ◌-◌, ◌*◌, ◌^◌, ◌<◌};
-ghost use Rattle.mx_alu.specs.Bits.{has_bit, bit_changed, bit_test_value, bit_test_flags, found_one, bit_scan_flags, double_shift_of, last_bit_out, double_shift_value, double_shift_flags};
+ghost use Rattle.mx_alu.specs.Bits.{bit_changed, bit_test_value, bit_test_flags, found_one, bit_scan_flags, double_shift_of, last_bit_out, double_shift_value, double_shift_flags};
 
 use crate::numbers::lifted;
 use mx_flags::Flags;
-use mx_word::{BitScan, BitTest, DoubleShift, Size};
-
-/// Whether a bit is one.
-fn has_bit(x: u32, place: u32) -> bool
-    requires { place < 32 }
-    ensures { result ≡ has_bit x place }
-{
-    (x >> place) % 2 == 1
-}
+use mx_word::{BitScan, BitTest, DoubleShift, Size, has_bit};
 
 /// The word whose only one stands at a place.
 fn one_at(place: u32) -> u32

@@ -1,5 +1,5 @@
 -- The six checks of a trap (book, 2.6.3; proc.c, sys_call and mini_send).
-use Rattle.std.specs.Prelude.{ℕ, ◌≡◌, ◌≢◌, ◌<◌, ◌+◌, ◌/◌, ◌%◌, ◌^◌, ◌==◌, nat_lt, not, ◌&&◌, ◌||◌, Bool, true, false, List, [], ◌∷◌, Option, Some, None, if◌then◌else◌, length, drop, is_none}
+use Rattle.std.specs.Prelude.{ℕ, ◌≡◌, ◌≢◌, ◌<◌, ◌+◌, ◌==◌, nat_lt, not, ◌&&◌, ◌||◌, Bool, true, false, List, [], ◌∷◌, Option, Some, None, if◌then◌else◌, length, drop, is_none}
 use Rattle.mx_sched.specs.Proc.declared.errors.Errno.{Errno}
 use Rattle.mx_sched.specs.Proc.declared.errors.Errno.TheVariants.{BadAddress, Locked, BadEndpoint, Denied, Dead}
 use Rattle.mx_sched.specs.Proc.EndpointNumbers.{slot_of, generation_of, any_endpoint, hardware_endpoint, system_endpoint, clock_endpoint}
@@ -7,6 +7,7 @@ use Rattle.mx_sched.specs.Proc.Endpoints.{names_slot, is_current}
 use Rattle.mx_sched.specs.Proc.Sound.{HasBuffer}
 use Rattle.mx_sched.specs.Proc.Waits.{leads, Reaches}
 use Rattle.mx_sched.specs.Proc.TableState.{TableState, process_at, buffer_at, memory_at}
+use Rattle.mx_word.specs.Bits.{has_bit}
 use Rattle.mx_ipc.specs.declared.calls.Call.{Call}
 use Rattle.mx_ipc.specs.declared.calls.Call.TheVariants.{Send, Receive, Sendrec, Notify}
 use Rattle.mx_ipc.specs.declared.calls.Party.{Party}
@@ -30,9 +31,6 @@ party_of w n =
     if n == system_endpoint then Some System else
     if n == clock_endpoint then Some Clock else
     if names_slot w n then Some (Process (slot_of n) (generation_of n)) else None
-
-abbrev pub has_bit : ℕ → ℕ → Bool
-has_bit mask n = (mask / 2 ^ n) % 2 == 1
 
 -- a pseudo-process in SEND or NOTIFY
 abbrev pub to_pseudo : Call → Party → Bool

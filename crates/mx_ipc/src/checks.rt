@@ -3,11 +3,11 @@
 ghost use Rattle.std.specs.Prelude.{◌≡◌, ℕ, ◌<◌, ◌^◌, length, Some, None, MatchResult, IfOk};
 ghost use Rattle.std.specs.Option.{ForSome};
 ghost use Rattle.mx_sched.specs.Proc.TableState.{process_at};
-ghost use Rattle.mx_ipc.specs.Checks.{party_of, has_bit, to_pseudo, out_of_place, is_send, is_receive, is_notify, is_outside, is_masked, call_refusal, Passed, HasUsedSlot, MayBeSentTo, PassedProcess, process_refusal, party_refusal};
+ghost use Rattle.mx_ipc.specs.Checks.{party_of, to_pseudo, out_of_place, is_send, is_receive, is_notify, is_outside, is_masked, call_refusal, Passed, HasUsedSlot, MayBeSentTo, PassedProcess, process_refusal, party_refusal};
 
 use crate::calls::{Call, Party};
 use mx_sched::{ANY, CLOCK, Errno, HARDWARE, MESSAGE_SIZE, SYSTEM, Slot, Table, generation_of};
-use mx_word::Register;
+use mx_word::{Register, has_bit};
 
 /// Whom a number names.
 #[tactic(auto, unfolding(crate::specs::Checks::party_of))]
@@ -25,14 +25,6 @@ pub(crate) fn party_of(table: &Table, number: u32) -> Option<Party>
         }
         _ => None,
     }
-}
-
-/// Whether a mask has a bit.
-fn has_bit(mask: u32, bit: u32) -> bool
-    requires { bit < 32 }
-    ensures { result ≡ has_bit mask bit }
-{
-    (mask >> bit) % 2 == 1
 }
 
 /// A pseudo-process in SEND or NOTIFY.

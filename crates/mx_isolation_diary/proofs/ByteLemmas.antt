@@ -12,7 +12,8 @@ use Rattle.mx_proc.specs.declared.errors.Errno.TheVariants.{Denied}
 use Rattle.mx_proc.specs.declared.process.Process.{Process}
 use Rattle.mx_proc.specs.declared.windows.Window.{Window}
 use Rattle.mx_proc.specs.TableState.{TableState, memory_at, nobody, window_of, table_after_move_home}
-use Rattle.mx_ipc.specs.Checks.{first_error, has_bit}
+use Rattle.mx_ipc.specs.Checks.{first_error}
+use Rattle.mx_word.specs.Bits.{has_bit}
 use Rattle.mx_kcall.specs.declared.request.CopyRange.{CopyRange}
 use Rattle.mx_kcall.specs.declared.request.KernelCall.{KernelCall}
 use Rattle.mx_kcall.specs.declared.request.KernelCall.TheVariants.{Exit, Times, SetAlarm, Irqctl, Devio, Vircopy, Whois, Grant}

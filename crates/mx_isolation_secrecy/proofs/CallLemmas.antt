@@ -24,7 +24,8 @@ use Rattle.mx_ipc.specs.declared.calls.Call.{Call}
 use Rattle.mx_ipc.specs.declared.calls.Call.TheVariants as call
 use Rattle.mx_ipc.specs.declared.calls.Party.{Party}
 use Rattle.mx_ipc.specs.declared.calls.Party.TheVariants.{Any, Hardware, Clock, System, Process as Named}
-use Rattle.mx_ipc.specs.Checks.{call_of, party_of, call_refusal, first_error, call_number, has_bit, of_party, of_process, out_of_place, to_pseudo, is_notify, is_outside, is_receive, is_send}
+use Rattle.mx_word.specs.Bits.{has_bit}
+use Rattle.mx_ipc.specs.Checks.{call_of, party_of, call_refusal, first_error, call_number, of_party, of_process, out_of_place, to_pseudo, is_notify, is_outside, is_receive, is_send}
 use Rattle.mx_kcall.specs.Calls.{goes_on, accepts, hears, table_after_send, table_after_release, table_after_taking_from, table_after_taking, table_after_receive_by, table_after_receive, table_after_sendrec, table_after_notifying, partner_of, table_after_checked_call, table_after_call_by, table_after_call, call_answer_by, call_answer, table_after_trap_by, trap_answer_by, table_after_trap, trap_answer}
 use Rattle.mx_isolation_secrecy.specs.Twins.{is_slot, Twins}
 use Rattle.mx_isolation_secrecy.specs.Senders.{IsNot, sender_of_receive, sender_of_sendrec, sender_of_checked_call, sender_of_call, sender_of_trap}

@@ -15,7 +15,8 @@ use Rattle.mx_proc.specs.Endpoints.{names_slot, is_alive, is_current}
 use Rattle.mx_proc.specs.States.{is_down, is_out}
 use Rattle.mx_proc.specs.Serving.{with_alarm, with_copy}
 use Rattle.mx_proc.specs.TableState.{TableState, process_at, with_process, memory_at, endpoint_of, window_of}
-use Rattle.mx_ipc.specs.Checks.{first_error, has_bit}
+use Rattle.mx_ipc.specs.Checks.{first_error}
+use Rattle.mx_word.specs.Bits.{has_bit}
 use Rattle.mx_kcall.specs.declared.request.KernelCall.{KernelCall}
 use Rattle.mx_kcall.specs.declared.request.KernelCall.TheVariants.{Exit, Times, SetAlarm, Irqctl, Devio, Vircopy, Kill, Whois, Grant}
 use Rattle.mx_kcall.specs.declared.request.CopyRange.{CopyRange}

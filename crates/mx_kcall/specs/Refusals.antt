@@ -7,7 +7,8 @@ use Rattle.mx_respawn.specs.Proc.EndpointNumbers.{slot_of}
 use Rattle.mx_respawn.specs.Proc.Endpoints.{names_slot, is_alive}
 use Rattle.mx_respawn.specs.Proc.States.{is_down, is_out}
 use Rattle.mx_respawn.specs.Proc.TableState.{TableState, process_at, endpoint_of, memory_at}
-use Rattle.mx_respawn.specs.Checks.{has_bit, first_error}
+use Rattle.mx_respawn.specs.Checks.{first_error}
+use Rattle.mx_word.specs.Bits.{has_bit}
 use Rattle.mx_kcall.specs.declared.request.KernelCall.{KernelCall}
 use Rattle.mx_kcall.specs.declared.request.KernelCall.TheVariants.{Exit, Times, SetAlarm, Irqctl, Devio, Vircopy, Kill, Whois, Grant}
 use Rattle.mx_kcall.specs.Requests.{kernel_call_under, message_words_at, bit_of}

@@ -9,7 +9,7 @@ ghost use Rattle.mx_respawn.specs.Proc.Sound.{HasBuffer};
 ghost use Rattle.mx_respawn.specs.Proc.States.{is_out};
 ghost use Rattle.mx_respawn.specs.Proc.TableState.{process_at, memory_at};
 ghost use Rattle.mx_respawn.specs.Proc.declared.errors.Errno.TheVariants.{BadEndpoint, Dead};
-ghost use Rattle.mx_respawn.specs.Checks.{has_bit, first_error};
+ghost use Rattle.mx_respawn.specs.Checks.{first_error};
 ghost use Rattle.mx_kcall.specs.Refusals.{kernel_call_reasons, refusal_of_kernel_call, kernel_call_refusal, is_away, IsPermitted};
 ghost use Rattle.mx_kcall.specs.Requests.{kernel_call_under, message_words_at};
 ghost use Rattle.mx_kcall.specs.Windows.{allows, is_barred};
@@ -18,17 +18,10 @@ ghost use Rattle.mx_kcall.specs.declared.request.KernelCall.TheVariants as reque
 use crate::request::{CopyRange, KernelCall, VirtualAddress, WindowGrant, request_under, words_at};
 use crate::windows::{is_strict, window_allows};
 use mx_respawn::{Access, Endpoint, Errno, Slot, Stale, State, Table};
+use mx_word::has_bit;
 
 /// The most bytes that one VIRCOPY copies.
 const LONGEST_COPY: u32 = 65_536;
-
-/// Whether a mask has a bit.
-fn has_bit(mask: u32, bit: u32) -> bool
-    requires { bit < 32 }
-    ensures { result ≡ has_bit mask bit }
-{
-    (mask >> bit) % 2 == 1
-}
 
 /// The slot of an endpoint that is alive.
 fn check_endpoint(table: &Table, endpoint: Endpoint) -> Result<Slot, Errno>

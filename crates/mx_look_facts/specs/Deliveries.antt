@@ -16,9 +16,9 @@ delivery_to x s = if got x s then slice_index_or x.after.deliveries (got_from x 
 
 -- ---- notifications that wait: HARDWARE at 0, CLOCK at 1, slot 0 from 2 on
 
-abbrev pub has_bit : SlotGlance → ℕ → Bool
-has_bit g place = nat_lt place 34 && slice_index_or g.pending place false
+abbrev pub is_pending : SlotGlance → ℕ → Bool
+is_pending g place = nat_lt place 34 && slice_index_or g.pending place false
 
 -- A NOTIFICATION IS KEPT: it waits and didn't, or it is of other interrupt lines
 unfoldable pub is_new_bit : SlotGlance → SlotGlance → ℕ → Bool
-is_new_bit v u place = has_bit u place && (not (has_bit v place) || ((place == 0) && not (v.lines == u.lines)))
+is_new_bit v u place = is_pending u place && (not (is_pending v place) || ((place == 0) && not (v.lines == u.lines)))

@@ -1,7 +1,7 @@
 //! Deliveries, and notifications that are kept.
 
 ghost use Rattle.std.specs.Prelude.{◌≡◌, ◌≤◌, ◌<◌, ◌+◌};
-ghost use Rattle.mx_look_facts.specs.Deliveries.{got_from, delivery_to, has_bit, is_new_bit};
+ghost use Rattle.mx_look_facts.specs.Deliveries.{got_from, delivery_to, is_pending, is_new_bit};
 
 use crate::going::got;
 use crate::step::Step;
@@ -30,8 +30,8 @@ pub fn delivery_to(step: &Step, slot: u32) -> Option<Delivery>
 }
 
 /// Whether a notification waits.
-fn has_bit(seen: &SlotGlance, place: u32) -> bool
-    ensures { result ≡ has_bit seen.now place }
+fn is_pending(seen: &SlotGlance, place: u32) -> bool
+    ensures { result ≡ is_pending seen.now place }
 {
     place < 34 && seen.pending[place as usize]
 }
@@ -42,5 +42,6 @@ fn has_bit(seen: &SlotGlance, place: u32) -> bool
 pub fn is_new_bit(before: &SlotGlance, after: &SlotGlance, place: u32) -> bool
     ensures { result ≡ is_new_bit before.now after.now place }
 {
-    has_bit(after, place) && (!has_bit(before, place) || place == 0 && before.lines != after.lines)
+    is_pending(after, place)
+        && (!is_pending(before, place) || place == 0 && before.lines != after.lines)
 }

@@ -27,7 +27,8 @@ use Rattle.mx_ipc.specs.declared.calls.Call.{Call}
 use Rattle.mx_ipc.specs.declared.calls.Call.TheVariants as call
 use Rattle.mx_ipc.specs.declared.calls.Party.{Party}
 use Rattle.mx_ipc.specs.declared.calls.Party.TheVariants.{Any, Hardware, Clock, System, Process as Named}
-use Rattle.mx_ipc.specs.Checks.{call_of, call_refusal, first_error, has_bit, party_of}
+use Rattle.mx_ipc.specs.Checks.{call_of, call_refusal, first_error, party_of}
+use Rattle.mx_word.specs.Bits.{has_bit}
 use Rattle.mx_kcall.specs.Calls.{accepts, call_answer, goes_on, hears, partner_of, trap_answer, table_after_call, table_after_call_by, table_after_checked_call, table_after_notifying, table_after_receive, table_after_receive_by, table_after_release, table_after_send, table_after_sendrec, table_after_taking, table_after_taking_from, table_after_trap, table_after_trap_by}
 use Rattle.mx_kcall.specs.Clock.{due_slots, table_after_ring, table_after_rings, table_after_tick}
 use Rattle.mx_kcall.specs.Death.{table_after_death, table_after_freeing, table_after_freeing_all, table_after_taking_out, waiting_for}

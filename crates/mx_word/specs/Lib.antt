@@ -1,2 +1,3 @@
+pub mod Bits
 pub mod Word
 pub mod Names
