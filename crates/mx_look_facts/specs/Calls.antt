@@ -1,5 +1,6 @@
 -- Kernel calls that are made (our own).
-use Rattle.std.specs.Prelude.{◌-◌, ◌^◌, ◌==◌, ◌&&◌, ◌||◌, Bool, false, Option, Some, None, if◌then◌else◌}
+use Rattle.std.specs.Prelude.{◌==◌, ◌&&◌, ◌||◌, Bool, false, Option, Some, None, if◌then◌else◌}
+use Rattle.mx_proc.specs.EndpointNumbers.{system_endpoint}
 use Rattle.mx_look_glance.specs.declared.slots.SlotGlance.{SlotGlance}
 use Rattle.mx_look_glance.specs.declared.glance.CpuGlance.{CpuGlance}
 use Rattle.mx_look_facts.specs.declared.step.Step.{Step}
@@ -9,7 +10,7 @@ use Rattle.mx_look_facts.specs.Going.{acting}
 
 -- SENDREC, call 3, to SYSTEM, -2
 abbrev pub asks_kernel : CpuGlance → Bool
-asks_kernel h = (h.image.ecx == 3) && (h.image.eax == 2 ^ 32 - 2)
+asks_kernel h = (h.image.ecx == 3) && (h.image.eax == system_endpoint)
 
 -- the caller is dead, or ready with the result 0
 abbrev pub is_served : SlotGlance → Bool

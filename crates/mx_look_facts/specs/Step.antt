@@ -1,9 +1,10 @@
 -- Whom a record is about, and who holds what (our own).
-use Rattle.std.specs.Prelude.{ℕ, ◌%◌, nat_lt, Option, Some, None, slice_index_or, if◌then◌else◌}
+use Rattle.std.specs.Prelude.{ℕ, nat_lt, Option, Some, None, slice_index_or, if◌then◌else◌}
 use Rattle.std.specs.Option.{option_map}
 use Rattle.mx_machine_world.specs.declared.history.Recorded.{Recorded}
 use Rattle.mx_machine_world.specs.declared.history.Recorded.TheVariants.{Take, Back, Line, Tick, Kill, Respawn}
 use Rattle.mx_look_glance.specs.declared.slots.SlotGlance.{SlotGlance}
+use Rattle.mx_proc.specs.EndpointNumbers.{slot_of}
 use Rattle.mx_look_glance.specs.declared.glance.CpuGlance.{CpuGlance}
 use Rattle.mx_look_glance.specs.declared.glance.Glance.{Glance}
 use Rattle.mx_look_facts.specs.declared.step.Step.{Step}
@@ -33,7 +34,7 @@ about_by x Take = slot_held (held_after x)
 about_by x (Back n) = slot_held (held_before x)
 about_by x (Line l) = owner_in x.before l
 about_by x Tick = None
-about_by x (Kill e) = Some (e % 1024)
+about_by x (Kill e) = Some (slot_of e)
 about_by x (Respawn s) = Some s
 
 -- WHOM A RECORD IS ABOUT

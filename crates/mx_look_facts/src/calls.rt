@@ -7,11 +7,10 @@ use crate::doings::{is_down, is_ready};
 use crate::going::acting;
 use crate::step::{Step, slot_in};
 use mx_look_glance::{CpuGlance, SlotGlance};
+use mx_proc::SYSTEM;
 
-/// The number of the call SENDREC, and the endpoint SYSTEM.
+/// The number of the call SENDREC.
 const SENDREC: u32 = 3;
-
-const SYSTEM: u32 = 0xFFFF_FFFE;
 
 /// Whether a trap is a SENDREC to SYSTEM.
 pub fn asks_kernel(held: &CpuGlance) -> bool

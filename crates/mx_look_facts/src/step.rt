@@ -6,6 +6,7 @@ ghost use Rattle.mx_look_facts.specs.Step.{slot_in, cpu_in, owner_in, slot_held,
 
 use mx_look_glance::{CpuGlance, Glance, SlotGlance};
 use mx_machine_world::Recorded;
+use mx_proc::slot_of;
 
 /// A record of a history, with the world in which its event is made, and the world after it.
 #[derive(Clone, Copy)]
@@ -96,7 +97,7 @@ pub fn about(step: &Step) -> Option<u32>
         Recorded::Back(_) => slot_held(held_before(step)),
         Recorded::Line(line) => owner_in(&step.before, line),
         Recorded::Tick => None,
-        Recorded::Kill(endpoint) => Some(endpoint % 1024),
+        Recorded::Kill(endpoint) => Some(slot_of(endpoint)),
         Recorded::Respawn(slot) => Some(slot),
     }
 }

@@ -1,9 +1,10 @@
 -- Arrows at a record (our own): messages, notifications, and notifications that begin to wait.
-use Rattle.std.specs.Prelude.{ℕ, ◌-◌, ◌%◌, ◌==◌, ◌&&◌, not, nat_lt, if◌then◌else◌, Bool, true, false, List, [], ◌∷◌, Option, Some, None}
+use Rattle.std.specs.Prelude.{ℕ, ◌-◌, ◌==◌, ◌&&◌, not, nat_lt, if◌then◌else◌, Bool, true, false, List, [], ◌∷◌, Option, Some, None}
 use Rattle.std.specs.List.{flat_map, range_with_len}
 use Rattle.mx_proc.specs.declared.deliveries.Delivery.{Delivery}
 use Rattle.mx_proc.specs.declared.deliveries.DeliveryKind.{DeliveryKind}
 use Rattle.mx_proc.specs.declared.deliveries.DeliveryKind.TheVariants.{Message, Notification}
+use Rattle.mx_proc.specs.EndpointNumbers.{slot_of}
 use Rattle.mx_look_facts.specs.declared.step.Step.{Step}
 use Rattle.mx_look_facts.specs.Step.{slot_in}
 use Rattle.mx_look_facts.specs.Slots.{both}
@@ -20,7 +21,7 @@ use Rattle.mx_look_picture.specs.Fates.{height_of, line_to, note}
 
 -- the row of the party that an endpoint names. HARDWARE and CLOCK are no services, so theirs is outside
 abbrev pub party_height : Spot → ℕ → ℕ
-party_height at e = height_of at (e % 1024)
+party_height at e = height_of at (slot_of e)
 
 -- the row of a source by its place among the pending bits: HARDWARE and CLOCK come before slot 0
 abbrev pub source_height : Spot → ℕ → ℕ

@@ -8,6 +8,7 @@ use crate::fates::{height_of, line_to, note};
 use crate::layout::{Spot, row};
 use mx_look_facts::{Delivery, DeliveryKind, Step, delivery_to, is_new_bit, slot_in};
 use mx_look_values::{ArrowKind, Hint, LabelKind, Text, Value};
+use mx_proc::slot_of;
 use std::alloc::AllocError;
 
 /// How many sources a notification can have: HARDWARE, CLOCK, and 32 slots.
@@ -18,7 +19,7 @@ fn party_height(spot: Spot, endpoint: u32) -> u32
     requires { IsOnPaper spot }
     ensures { result ≡ party_height spot endpoint }
 {
-    height_of(spot, endpoint % 1024)
+    height_of(spot, slot_of(endpoint))
 }
 
 /// The middle of the row of the source whose pending bit has this place.

@@ -1,9 +1,10 @@
 -- Who, and what it does, as a trace has them (our own).
-use Rattle.std.specs.Prelude.{ℕ, ◌-◌, ◌^◌, ◌%◌, ◌==◌, nat_lt, if◌then◌else◌, List, [], ◌++◌, codes, Option, Some, None}
+use Rattle.std.specs.Prelude.{ℕ, ◌==◌, nat_lt, if◌then◌else◌, List, [], ◌++◌, codes, Option, Some, None}
 use Rattle.std.specs.Fmt.{decimal, signed_decimal}
 use Rattle.std.specs.Int.{w32, cast_signed}
 use Rattle.mx_proc.specs.declared.process.DeathCause.{DeathCause}
 use Rattle.mx_proc.specs.declared.process.DeathCause.TheVariants as cause
+use Rattle.mx_proc.specs.EndpointNumbers.{slot_of, any_endpoint, hardware_endpoint, system_endpoint, clock_endpoint}
 use Rattle.mx_print_report.specs.Report.{name_bytes}
 use Rattle.mx_look_facts.specs.Awaited.{Awaited}
 use Rattle.mx_look_facts.specs.Awaited.TheVariants.{Any, System, Hardware, Clock, Process}
@@ -36,15 +37,15 @@ named_party_by None e = signed_decimal (cast_signed w32 e)
 named_party_by (Some g) e = if nat_lt e 2147483648 then named g e else signed_decimal (cast_signed w32 e)
 
 unfoldable pub named_party : Glance → ℕ → List ℕ
-named_party g e = named_party_by (slot_in g (e % 1024)) e
+named_party g e = named_party_by (slot_in g (slot_of e)) e
 
 -- WHOM AN ENDPOINT NAMES
 unfoldable pub party_text : Glance → ℕ → List ℕ
 party_text g e =
-    if e == 31438 then codes "any" else
-    if e == 2 ^ 32 - 1 then codes "HARDWARE" else
-    if e == 2 ^ 32 - 2 then codes "SYSTEM" else
-    if e == 2 ^ 32 - 3 then codes "CLOCK" else
+    if e == any_endpoint then codes "any" else
+    if e == hardware_endpoint then codes "HARDWARE" else
+    if e == system_endpoint then codes "SYSTEM" else
+    if e == clock_endpoint then codes "CLOCK" else
     named_party g e
 
 -- ---- what it does, in a report's words

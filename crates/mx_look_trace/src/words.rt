@@ -7,6 +7,7 @@ ghost use Rattle.mx_look_trace.specs.Words.{named, who_of, who, party_text, name
 use crate::numbers::push_signed;
 use mx_look_facts::{Awaited, DeathCause, Doing, Glance, SlotGlance, slot_in};
 use mx_print_report::{push_decimal, push_name};
+use mx_proc::{ANY, CLOCK, HARDWARE, SYSTEM, slot_of};
 use std::alloc::AllocError;
 
 /// Appends a word and a number, parted by a space.
@@ -51,7 +52,7 @@ pub(crate) fn push_who(out: &mut Vec<u8>, glance: &Glance, slot: u32) -> Result<
 fn push_named_party(out: &mut Vec<u8>, glance: &Glance, endpoint: u32) -> Result<(), AllocError>
     ensures { OnOk result (out.new.items ≡ out.old.items ++ named_party glance.now endpoint) }
 {
-    match slot_in(glance, endpoint % 1024) {
+    match slot_in(glance, slot_of(endpoint)) {
         Some(seen) if endpoint < 0x8000_0000 => push_named(out, seen, endpoint),
         _ => push_signed(out, endpoint),
     }
@@ -67,10 +68,10 @@ pub(crate) fn push_party(
     ensures { OnOk result (out.new.items ≡ out.old.items ++ party_text glance.now endpoint) }
 {
     match endpoint {
-        31438 => out.extend_from_slice(b"any"),
-        0xFFFF_FFFF => out.extend_from_slice(b"HARDWARE"),
-        0xFFFF_FFFE => out.extend_from_slice(b"SYSTEM"),
-        0xFFFF_FFFD => out.extend_from_slice(b"CLOCK"),
+        ANY => out.extend_from_slice(b"any"),
+        HARDWARE => out.extend_from_slice(b"HARDWARE"),
+        SYSTEM => out.extend_from_slice(b"SYSTEM"),
+        CLOCK => out.extend_from_slice(b"CLOCK"),
         _ => push_named_party(out, glance, endpoint),
     }
 }
