@@ -54,7 +54,7 @@ use Rattle.mx_insn.specs.Spelling.{to_rm, row_size, allows_resized, allows_repea
 use Rattle.mx_encode.specs.declared.Wide.{Wide}
 use Rattle.mx_encode.specs.declared.fields.Number.TheVariants as numbers
 use Rattle.mx_encode.specs.Numbers.{arithmetic_number, is_word, is_short, shortens, short}
-use Rattle.mx_encode.specs.Choice.{Choice, bare, with_rm, choice, arithmetic_immediate, arithmetic_choice, move_immediate, move_choice, test_choice, test_immediate, exchange_choice, unary_choice, product_choice, shift_choice, load_address, multiply_choice, multiply_immediate, zero_extension, sign_extension, set_condition, push_choice, push_immediate, pop_choice, jump_if, jump_choice, call_choice, jump_to, call_to, loop_choice, return_choice, interrupt_choice, extend_accumulator, spread_sign, transfer_choice, compare_choice, in_choice, out_choice, plain_choice, bit_test_choice, register_bit_test, bit_scan_choice, double_shift_choice}
+use Rattle.mx_encode.specs.Choice.{Choice, bare, with_rm, choice, rep, arithmetic_immediate, arithmetic_choice, move_immediate, move_choice, test_choice, test_immediate, exchange_choice, unary_choice, product_choice, shift_choice, load_address, multiply_choice, multiply_immediate, zero_extension, sign_extension, set_condition, push_choice, push_immediate, pop_choice, jump_if, jump_choice, call_choice, jump_to, call_to, loop_choice, return_choice, interrupt_choice, extend_accumulator, spread_sign, transfer_choice, compare_choice, in_choice, out_choice, plain_choice, bit_test_choice, register_bit_test, bit_scan_choice, double_shift_choice}
 use Rattle.mx_encode.specs.Given.{OperandFits, ImmediateFits, WideImmediateFits, OperandsFit, CountFits, PortFits, Fits}
 use Rattle.mx_encode.proofs.Digits.{register_below, register_again, arithmetic_below, arithmetic_again, condition_below, condition_again}
 use Rattle.mx_encode.proofs.Listed.{opcode_at, under_at, escaped_at, arithmetic_rm_reg, arithmetic_reg_rm, move_rm_reg, move_reg_rm, test_rm_reg, exchange_rm_reg, inc_rm, dec_rm, not_rm, neg_rm, product_rm, shift_immediate, shift_one, shift_cl, transfer_listed, compare_listed, loop_listed, plain_listed, bit_test_immediate, bit_test_register, bit_scan, double_shift_immediate, double_shift_cl}
