@@ -7,7 +7,7 @@ ghost use Rattle.mx_exec.specs.Accumulator.{upper_register, with_halves, image_a
 ghost use Rattle.mx_exec.specs.Step.{after, image_with_result, image_after_test, image_after_factor, count_of_shift};
 
 use crate::Image;
-use crate::operands::{immediate_size, immediate_value, size_of, wide_size, wide_value};
+use crate::operands::{Part, immediate_size, immediate_value, wide_size, wide_value};
 use mx_alu::{Signedness, alu, divide, multiply, multiply_low, shift, unary};
 use mx_insn::{
     Count, Immediate, Insn, Memory, Operand, OperandSize, Operands, Product, WideImmediate,
@@ -43,20 +43,19 @@ fn keep(
 fn operate_registers(
     image: &mut Image,
     operation: Arithmetic,
-    size: Size,
-    to: Register,
+    to: Part,
     from: &Operand,
     next: u32,
 ) -> Result<(), u8>
     ensures { Performs image.old
-        (after (Insn.Arithmetic operation (Operands.ToRegister size to from.now)) next image.old)
-        result image.new }
+        (after (Insn.Arithmetic operation (Operands.ToRegister to.size to.register from.now)) next
+        image.old) result image.new }
 {
-    let y = image.value(from, size)?;
-    let x = image.regs.get(size, to);
-    let (value, flags) = alu(operation, size, x, y, &image.flags);
+    let y = image.value(from, to.size)?;
+    let x = image.regs.get(to.size, to.register);
+    let (value, flags) = alu(operation, to.size, x, y, &image.flags);
     if operation != Arithmetic::Cmp {
-        image.regs.set(size, to, value);
+        image.regs.set(to.size, to.register, value);
     }
     image.flags = flags;
     image.eip = next;
@@ -67,19 +66,18 @@ fn operate_registers(
 fn operate_on_register(
     image: &mut Image,
     operation: Arithmetic,
-    size: Size,
-    to: Register,
+    to: Part,
     from: &Operand,
     next: u32,
 ) -> Result<(), u8>
     ensures { Performs image.old
-        (after (Insn.Arithmetic operation (Operands.ToRegister size to from.now)) next image.old)
-        result image.new }
+        (after (Insn.Arithmetic operation (Operands.ToRegister to.size to.register from.now)) next
+        image.old) result image.new }
 {
-    match size {
-        Size::Byte => operate_registers(image, operation, Size::Byte, to, from, next),
-        Size::Word => operate_registers(image, operation, Size::Word, to, from, next),
-        Size::Dword => operate_registers(image, operation, Size::Dword, to, from, next),
+    match to.size {
+        Size::Byte => operate_registers(image, operation, to.with_size(Size::Byte), from, next),
+        Size::Word => operate_registers(image, operation, to.with_size(Size::Word), from, next),
+        Size::Dword => operate_registers(image, operation, to.with_size(Size::Dword), from, next),
     }
 }
 
@@ -87,20 +85,19 @@ fn operate_on_register(
 fn operate_on_memory(
     image: &mut Image,
     operation: Arithmetic,
-    size: Size,
     to: &Memory,
-    from: Register,
+    from: Part,
     next: u32,
 ) -> Result<(), u8>
     ensures { Performs image.old
-        (after (Insn.Arithmetic operation (Operands.ToMemory size to.now from)) next image.old)
-        result image.new }
+        (after (Insn.Arithmetic operation (Operands.ToMemory from.size to.now from.register)) next
+        image.old) result image.new }
 {
     let operand = Operand::Memory(*to);
-    let x = image.value(&operand, size)?;
-    let y = image.regs.get(size, from);
-    let (value, flags) = alu(operation, size, x, y, &image.flags);
-    keep(image, operation, &operand, size, value)?;
+    let x = image.value(&operand, from.size)?;
+    let y = image.regs.get(from.size, from.register);
+    let (value, flags) = alu(operation, from.size, x, y, &image.flags);
+    keep(image, operation, &operand, from.size, value)?;
     image.flags = flags;
     image.eip = next;
     Ok(())
@@ -159,10 +156,18 @@ pub fn operate(
 {
     match operands {
         Operands::ToRegister { size, to, from } => {
-            operate_on_register(image, operation, *size, *to, from, next)
+            let to = Part {
+                size: *size,
+                register: *to,
+            };
+            operate_on_register(image, operation, to, from, next)
         }
         Operands::ToMemory { size, to, from } => {
-            operate_on_memory(image, operation, *size, to, *from, next)
+            let from = Part {
+                size: *size,
+                register: *from,
+            };
+            operate_on_memory(image, operation, to, from, next)
         }
         Operands::Immediate { to, value } => {
             operate_immediate(image, operation, to, *value, next)
@@ -259,20 +264,27 @@ pub fn count_of(image: &Image, count: Count) -> u32
     }
 }
 
+/// A shift or a rotate, and how far it goes.
+#[derive(Clone, Copy)]
+pub struct CountedShift {
+    pub operation: Shift,
+    pub count: Count,
+}
+
 pub fn shift_operand(
     image: &mut Image,
-    operation: Shift,
+    by: CountedShift,
     size: Size,
     operand: &Operand,
-    count: Count,
     next: u32,
 ) -> Result<(), u8>
     ensures { Performs image.old
-        (after (Insn.Shift operation size operand.now count) next image.old) result image.new }
+        (after (Insn.Shift by.operation size operand.now by.count) next image.old) result
+        image.new }
 {
     let x = image.value(operand, size)?;
-    let count = count_of(image, count);
-    let (value, flags) = shift(operation, size, x, count, &image.flags);
+    let count = count_of(image, by.count);
+    let (value, flags) = shift(by.operation, size, x, count, &image.flags);
     image.store(operand, size, value)?;
     image.flags = flags;
     image.eip = next;
@@ -358,13 +370,13 @@ pub fn product(
 }
 
 /// IMUL into a register.
-fn set_product(image: &mut Image, size: Size, to: Register, x: u32, y: u32, next: u32)
-    requires left { x < 2 ^ width size }
-    requires right { y < 2 ^ width size }
-    ensures { image_after_factor size to x y next image.old ≡ Ok image.new }
+fn set_product(image: &mut Image, to: Part, x: u32, y: u32, next: u32)
+    requires left { x < 2 ^ width to.size }
+    requires right { y < 2 ^ width to.size }
+    ensures { image_after_factor to.size to.register x y next image.old ≡ Ok image.new }
 {
-    let (product, flags) = multiply_low(size, x, y, &image.flags);
-    image.regs.set(size, to, product);
+    let (product, flags) = multiply_low(to.size, x, y, &image.flags);
+    image.regs.set(to.size, to.register, product);
     image.flags = flags;
     image.eip = next;
 }
@@ -379,10 +391,10 @@ pub fn multiply_register(
     ensures { Performs image.old (after (Insn.Multiply size to from.now) next image.old) result
         image.new }
 {
-    let size = size_of(size);
+    let size = size.size();
     let y = image.value(from, size)?;
     let x = image.regs.get(size, to);
-    set_product(image, size, to, x, y, next);
+    set_product(image, Part { size, register: to }, x, y, next);
     Ok(())
 }
 
@@ -398,6 +410,6 @@ pub fn multiply_immediate(
 {
     let size = wide_size(by);
     let x = image.value(from, size)?;
-    set_product(image, size, to, x, wide_value(by), next);
+    set_product(image, Part { size, register: to }, x, wide_value(by), next);
     Ok(())
 }

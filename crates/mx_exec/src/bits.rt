@@ -73,22 +73,28 @@ pub fn scan(
     Ok(())
 }
 
+/// What a double shift fills its operand with: a register's bits, and how many.
+#[derive(Clone, Copy)]
+pub struct Filler {
+    pub register: Register,
+    pub count: Count,
+}
+
 pub fn shift_double(
     image: &mut Image,
     operation: DoubleShift,
     operand: &Operand,
-    register: Register,
-    count: Count,
+    filler: Filler,
     next: u32,
 ) -> Result<(), u8>
     ensures { Performs image.old
-        (after (Insn.DoubleShift operation operand.now register count) next image.old) result
-        image.new }
+        (after (Insn.DoubleShift operation operand.now filler.register filler.count) next
+        image.old) result image.new }
 {
     let x = image.value(operand, Size::Dword)?;
-    let filler = image.register(register);
-    let count = count_of(image, count);
-    let (value, flags) = double_shift(operation, x, filler, count, &image.flags);
+    let bits = image.register(filler.register);
+    let count = count_of(image, filler.count);
+    let (value, flags) = double_shift(operation, x, bits, count, &image.flags);
     image.store(operand, Size::Dword, value)?;
     image.flags = flags;
     image.eip = next;

@@ -8,6 +8,8 @@ ghost use Rattle.mx_exec.specs.Lasting.{lasting};
 ghost use Rattle.mx_exec.specs.Step.{after, outcome_of, one_step};
 ghost use Rattle.mx_exec.specs.Text.{Fetches};
 
+use crate::arithmetic::CountedShift;
+use crate::bits::Filler;
 use crate::image::dword_sum;
 use crate::{Image, Outcome, arithmetic, bits, jumps, moves, plain, strings};
 use mx_decode::DecodeFault;
@@ -73,13 +75,25 @@ fn calculate(image: &mut Image, insn: &Insn, next: u32) -> Result<(), u8>
             size,
             operand,
             count,
-        } => { arithmetic::shift_operand(image, *operation, *size, operand, *count, next) }
+        } => {
+            let by = CountedShift {
+                operation: *operation,
+                count: *count,
+            };
+            arithmetic::shift_operand(image, by, *size, operand, next)
+        }
         Insn::DoubleShift {
             operation,
             operand,
             register,
             count,
-        } => { bits::shift_double(image, *operation, operand, *register, *count, next) }
+        } => {
+            let filler = Filler {
+                register: *register,
+                count: *count,
+            };
+            bits::shift_double(image, *operation, operand, filler, next)
+        }
         Insn::BitTest {
             operation,
             operand,
@@ -150,7 +164,13 @@ pub fn perform(image: &mut Image, insn: &Insn, next: u32) -> Result<(), u8>
             operation,
             size,
             repeated,
-        } => { strings::transfer(image, *operation, *size, *repeated, next) }
+        } => {
+            if *repeated {
+                strings::repeat_transfer(image, *operation, *size, next)
+            } else {
+                strings::transfer(image, *operation, *size, next)
+            }
+        }
         Insn::Compare {
             operation,
             size,

@@ -1,6 +1,6 @@
 //! String instructions: one value, or one iteration of a repeat.
 
-ghost use Rattle.std.specs.Prelude.{◌≡◌, ◌^◌, ◌<◌, Ok, Err, IfOk};
+ghost use Rattle.std.specs.Prelude.{◌≡◌, ◌^◌, ◌<◌, true, false, Ok, Err, IfOk};
 ghost use Rattle.mx_word.specs.Word.{width};
 ghost use Rattle.mx_exec.specs.Image.{Performs};
 ghost use Rattle.mx_exec.specs.Strings.{read_by, written_by, pointer_after, image_after_transfer, image_after_comparison, counted_down, is_counted_out, ends_repeat, transfer, compare};
@@ -112,21 +112,24 @@ fn is_counted_out(image: &Image) -> bool
     image.register(Register::Ecx) == 0
 }
 
-pub fn transfer(
+/// A transfer alone.
+pub fn transfer(image: &mut Image, operation: Transfer, size: Size, next: u32) -> Result<(), u8>
+    ensures { Performs image.old (transfer operation size false next image.old) result image.new }
+{
+    transfer_once(image, operation, size)?;
+    image.eip = next;
+    Ok(())
+}
+
+/// A transfer after REP: one iteration.
+pub fn repeat_transfer(
     image: &mut Image,
     operation: Transfer,
     size: Size,
-    repeated: bool,
     next: u32,
 ) -> Result<(), u8>
-    ensures { Performs image.old (transfer operation size repeated next image.old) result
-        image.new }
+    ensures { Performs image.old (transfer operation size true next image.old) result image.new }
 {
-    if !repeated {
-        transfer_once(image, operation, size)?;
-        image.eip = next;
-        return Ok(());
-    }
     if is_counted_out(image) {
         image.eip = next;
         return Ok(());

@@ -1,5 +1,8 @@
 //! Instructions as values: operation, size and operands, and not the form that spelled them.
 
+ghost use Rattle.std.specs.Prelude.{◌≡◌};
+ghost use Rattle.mx_insn.specs.Sizes.{size_of_operands};
+
 use mx_word::{Arithmetic, BitScan, BitTest, Condition, DoubleShift, Register, Shift, Size, Unary};
 
 /// What an index register is multiplied by.
@@ -38,6 +41,19 @@ pub enum Operand {
 pub enum OperandSize {
     Word,
     Dword,
+}
+
+impl OperandSize {
+    /// The same size, among those of all rows.
+    #[inline(always)]
+    pub fn size(self) -> Size
+        ensures { result ≡ size_of_operands self }
+    {
+        match self {
+            OperandSize::Word => Size::Word,
+            OperandSize::Dword => Size::Dword,
+        }
+    }
 }
 
 /// A number in the instruction, with its size.

@@ -27,6 +27,7 @@ use Rattle.mx_insn.specs.declared.insn.PortSize.{PortSize}
 use Rattle.mx_insn.specs.declared.insn.PortSize.TheVariants as port_sizes
 use Rattle.mx_insn.specs.declared.insn.Insn.{Insn}
 use Rattle.mx_insn.specs.declared.insn.Insn.TheVariants as insns
+use Rattle.mx_insn.specs.Sizes.{size_of_operands}
 use Rattle.mx_insn_words.specs.declared.mnemonic.Single.TheVariants.{Mov, Test, Xchg, Lea, Movzx, Movsx, Push, Pop, Jmp, Call, Ret, Int, Cbw, Cwde, Cwd, Cdq, In, Out}
 use Rattle.mx_insn_words.specs.declared.mnemonic.Mnemonic.{Mnemonic}
 use Rattle.mx_insn_words.specs.declared.mnemonic.Mnemonic.TheVariants.{Arithmetic, Unary, Product, Shift, DoubleShift, BitTest, BitScan, Loop, Plain, Single, JumpIf, SetCondition, Transfer, Compare}
@@ -103,10 +104,6 @@ abbrev pub written_operand : Size → Operand → Written
 written_operand size (operand.Register r) = written.Register size r
 written_operand size (operand.Memory m) = written.Memory size m
 
-abbrev pub written_size : OperandSize → Size
-written_size operand_sizes.Word = Word
-written_size operand_sizes.Dword = Dword
-
 -- a number's size and the number itself, unsigned
 abbrev pub printed_size : Immediate → Size
 printed_size (immediates.Byte n) = Byte
@@ -163,10 +160,10 @@ written_operands next (insns.Move x) = written_pair x
 written_operands next (insns.Test size x r) = written_operand size x ∷ written.Register size r ∷ []
 written_operands next (insns.TestImmediate x n) = written_pair (operands.Immediate x n)
 written_operands next (insns.Exchange size x r) = written_operand size x ∷ written.Register size r ∷ []
-written_operands next (insns.LoadAddress size r m) = written.Register (written_size size) r ∷ written.Address m ∷ []
+written_operands next (insns.LoadAddress size r m) = written.Register (size_of_operands size) r ∷ written.Address m ∷ []
 written_operands next (insns.Unary o size x) = written_operand size x ∷ []
 written_operands next (insns.Product o size x) = written_operand size x ∷ []
-written_operands next (insns.Multiply size r x) = written.Register (written_size size) r ∷ written_operand (written_size size) x ∷ []
+written_operands next (insns.Multiply size r x) = written.Register (size_of_operands size) r ∷ written_operand (size_of_operands size) x ∷ []
 written_operands next (insns.MultiplyImmediate r x n) = written_product r x n
 written_operands next (insns.Shift o size x n) = written_operand size x ∷ written_count n ∷ []
 written_operands next (insns.DoubleShift o x r n) = written_operand Dword x ∷ written.Register Dword r ∷ written_count n ∷ []

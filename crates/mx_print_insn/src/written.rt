@@ -1,7 +1,8 @@
 //! The operands of an instruction as they are written.
 
 ghost use Rattle.std.specs.Prelude.{◌≡◌, [], ◌∷◌};
-ghost use Rattle.mx_print_insn.specs.Statement.{written_operand, written_size, written_pair, written_product, written_count, written_extension, written_accumulator, written_port, written_target, written_return, written_operands};
+ghost use Rattle.mx_insn.specs.Sizes.{size_of_operands};
+ghost use Rattle.mx_print_insn.specs.Statement.{written_operand, written_pair, written_product, written_count, written_extension, written_accumulator, written_port, written_target, written_return, written_operands};
 ghost use Rattle.mx_print_insn.specs.Listed.{written_list};
 
 use WrittenOperands::{Nothing, One, Three, Two};
@@ -35,15 +36,6 @@ fn of_operand(size: Size, operand: Operand) -> Written
     match operand {
         Operand::Register(register) => Written::Register(size, register),
         Operand::Memory(memory) => Written::Memory(size, memory),
-    }
-}
-
-fn of_size(size: OperandSize) -> Size
-    ensures { result ≡ written_size size }
-{
-    match size {
-        OperandSize::Word => Size::Word,
-        OperandSize::Dword => Size::Dword,
     }
 }
 
@@ -163,13 +155,10 @@ fn to_register(size: Size, to: Register, from: Operand) -> WrittenOperands
 
 /// Of LEA.
 fn of_address(size: OperandSize, to: Register, memory: Memory) -> WrittenOperands
-    ensures { written_list result ≡ Written.Register (written_size size) to ∷ Written.Address memory
-        ∷ [] }
+    ensures { written_list result ≡ Written.Register (size_of_operands size) to
+        ∷ Written.Address memory ∷ [] }
 {
-    Two(
-        Written::Register(of_size(size), to),
-        Written::Address(memory),
-    )
+    Two(Written::Register(size.size(), to), Written::Address(memory))
 }
 
 /// Of a rotate or a shift.
@@ -223,7 +212,7 @@ pub fn of_insn(insn: &Insn, next: u32) -> WrittenOperands
         Insn::Unary { size, operand, .. } | Insn::Product { size, operand, .. } => {
             One(of_operand(size, operand))
         }
-        Insn::Multiply { size, to, from } => to_register(of_size(size), to, from),
+        Insn::Multiply { size, to, from } => to_register(size.size(), to, from),
         Insn::MultiplyImmediate { to, from, by } => of_product(to, from, by),
         Insn::Shift {
             size,

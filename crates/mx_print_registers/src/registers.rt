@@ -40,26 +40,24 @@ fn push_register<R: Runs>(
     push_eight_digits(out, process.reg(register))
 }
 
-/// Appends a line of four registers.
+/// Appends a line of four registers, two on its left and two on its right.
 #[tactic(auto, unfolding(crate::specs::Registers::register_line))]
 fn push_four<R: Runs>(
     out: &mut String,
     process: &R,
-    first: Register,
-    second: Register,
-    third: Register,
-    fourth: Register,
+    left: (Register, Register),
+    right: (Register, Register),
 ) -> Result<(), AllocError>
     ensures { OnOk result (string_bytes out.new ≡ string_bytes out.old
-        ++ register_line (R.image process.now).regs first second third fourth) }
+        ++ register_line (R.image process.now).regs left.0 left.1 right.0 right.1) }
 {
-    push_register(out, process, first)?;
+    push_register(out, process, left.0)?;
     out.push_str(" ")?;
-    push_register(out, process, second)?;
+    push_register(out, process, left.1)?;
     out.push_str(" ")?;
-    push_register(out, process, third)?;
+    push_register(out, process, right.0)?;
     out.push_str(" ")?;
-    push_register(out, process, fourth)?;
+    push_register(out, process, right.1)?;
     out.push_str("\n")
 }
 
@@ -91,8 +89,8 @@ pub fn push_registers<R: Runs>(out: &mut String, process: &R) -> Result<(), Allo
         ++ register_lines (R.image process.now)) }
 {
     use Register::{Eax, Ebp, Ebx, Ecx, Edi, Edx, Esi, Esp};
-    push_four(out, process, Eax, Ecx, Edx, Ebx)?;
-    push_four(out, process, Esp, Ebp, Esi, Edi)?;
+    push_four(out, process, (Eax, Ecx), (Edx, Ebx))?;
+    push_four(out, process, (Esp, Ebp), (Esi, Edi))?;
     out.push_str("EIP ")?;
     push_eight_digits(out, process.eip())?;
     push_flags(out, process.flags())?;
