@@ -118,14 +118,14 @@ named_sound law a i fits h k =
 -- ---- jumps
 
 branch_fits : (k : Branch) (d : ℕ) → d < 2 ^ 32 → Fits (branch_by k d)
-branch_fits (branches.Jump short) d lt = lt
-branch_fits (branches.JumpIf c short) d lt = lt
+branch_fits (branches.Jump length) d lt = lt
+branch_fits (branches.JumpIf c length) d lt = lt
 branch_fits branches.Call d lt = lt
 branch_fits (branches.Loop o) d lt = lt
 
 branch_form : (k : Branch) (d : ℕ) → is_too_far k d ≡ false → has_form (branch_by k d) ≡ true
-branch_form (branches.Jump short) d h = refl
-branch_form (branches.JumpIf c short) d h = refl
+branch_form (branches.Jump length) d h = refl
+branch_form (branches.JumpIf c length) d h = refl
 branch_form branches.Call d h = refl
 branch_form (branches.Loop o) d h = not-false (is_short 32 d) h
 

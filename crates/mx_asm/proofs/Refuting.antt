@@ -20,7 +20,7 @@ use Rattle.mx_asm_statement.specs.declared.line.Line.{Line}
 use Rattle.mx_asm_statement.specs.declared.line.Reason.{Reason}
 use Rattle.mx_asm_statement.specs.declared.line.StatementStart.{StatementStart}
 use Rattle.mx_asm_statement.specs.declared.line.StatementStart.TheVariants as beginnings
-use Rattle.mx_asm_statement.specs.Reasons.{statement_refusal, is_unknown, is_misplaced}
+use Rattle.mx_asm_statement.specs.Reasons.{statement_refusal, is_second, is_unknown, is_misplaced}
 use Rattle.mx_asm_line.specs.Beginnings.{begins_with}
 use Rattle.mx_asm_line.specs.Lines.{IsLine}
 use Rattle.mx_aout.specs.Limits.{rounded_to_pages}
@@ -32,7 +32,7 @@ use Rattle.mx_asm.specs.declared.fault.Problem.TheVariants.{TooFar, TooLarge}
 use Rattle.mx_asm.specs.declared.fault.Fault.{Fault}
 use Rattle.mx_asm.specs.Branches.{branch_by, branch_marks, branch_length, distance, is_too_far}
 use Rattle.mx_asm.specs.Lengths.{statement_length}
-use Rattle.mx_asm.specs.Layout.{LinesAbove, Seen, no_lines_above, unseen, seen_of, seen_with, is_defined, is_defined_twice, refusal_of_line, statement_said, above_with, left_by, laid_by, address_of_offset, address_of_label, section_offset_of, label_named, sizes_after, entry_with, value_under}
+use Rattle.mx_asm.specs.Layout.{LinesAbove, Seen, no_lines_above, unseen, seen_of, seen_with, is_defined, is_defined_twice, says_again, saying_of, refusal_of_line, statement_said, above_with, left_by, laid_by, address_of_offset, address_of_label, section_offset_of, label_named, sizes_after, entry_with, value_under}
 use Rattle.mx_asm.specs.Faults.{is_undefined, is_undefined_if, undefined_where, undefined_or, problem_at, fault_or, first_problem, total_of, is_program_too_large, number_of_last_line, too_large_in, first_of, fault_after}
 use Rattle.mx_asm.specs.Bytes.{put_in, put_under, then_put, named_under, BytesOf, StandsIn, AllStand, contents}
 use Rattle.mx_asm.specs.Assembled.{AreAssembled, symbol_under, entry_under}
@@ -40,7 +40,7 @@ use Rattle.mx_asm.specs.Text.{AreLinesTaken}
 use Rattle.mx_asm.proofs.Lengths.{KeepsLength, stands_length}
 use Rattle.mx_asm.proofs.Emitting.{lengths_same}
 use Rattle.mx_asm.proofs.Fitting.{contents_size}
-use Rattle.mx_asm.proofs.Seeing.{false_right, none_refused, seen_after}
+use Rattle.mx_asm.proofs.Seeing.{false_right, first_said, none_refused, seen_after}
 
 -- what is known of lines and of the encoder
 pub record Refutes : Type 0 where
@@ -135,11 +135,11 @@ said_is (Some t) h = refl
 
 line_placed : Refutes → (s : Seen) (t : List ℕ) (l : Line) → IsLine t l → refusal_of_line s l ≡ None → Placed s (statement_said l)
 line_placed law s t l line clean =
-    let none = none_refused l.long (is_defined s.names l.label || is_defined_twice s l.beginning) (is_unknown l.beginning) (is_misplaced s.section l.beginning) (is_none l.statement) _ _ _ _ _ clean in
+    let none = none_refused l.long (is_second (saying_of s l)) (is_unknown l.beginning) (is_misplaced s.section l.beginning) (is_none l.statement) _ _ _ _ _ clean in
     let begins : l.beginning ≡ begins_with (statement_said l) = law.begins t l (statement_said l) line (said_is l.statement none.2) in
     record {
       placed = ap (is_misplaced s.section) (sym begins) ∙ none.1;
-      first = ap (is_defined_twice s) (sym begins) ∙ false_right (is_defined s.names l.label) (is_defined_twice s l.beginning) none.0;
+      first = ap (is_defined_twice s) (sym begins) ∙ false_right (is_defined s.names l.label) (is_defined_twice s l.beginning) (first_said (says_again s l) none.0);
     }
 
 abbrev pub AllPlaced : Seen → List Line → Type 0

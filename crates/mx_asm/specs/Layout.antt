@@ -15,6 +15,8 @@ use Rattle.mx_asm_statement.specs.declared.line.StatementStart.{StatementStart}
 use Rattle.mx_asm_statement.specs.declared.line.StatementStart.TheVariants as beginnings
 use Rattle.mx_asm_statement.specs.declared.line.Reason.{Reason}
 use Rattle.mx_asm_statement.specs.Values.{whole_of}
+use Rattle.mx_asm_statement.specs.declared.line.Saying.{Saying}
+use Rattle.mx_asm_statement.specs.declared.line.Saying.TheVariants.{First, Second}
 use Rattle.mx_asm_statement.specs.Reasons.{statement_refusal}
 use Rattle.mx_asm.specs.Lengths.{statement_length}
 use Rattle.mx_asm.specs.declared.sizes.SectionSizes.{SectionSizes}
@@ -188,8 +190,14 @@ is_defined_twice s beginnings.Entry = s.entry
 is_defined_twice s beginnings.Stack = s.stack
 is_defined_twice s _ = false
 
+abbrev pub says_again : Seen → Line → Bool
+says_again s l = is_defined s.names l.label || is_defined_twice s l.beginning
+
+abbrev pub saying_of : Seen → Line → Saying
+saying_of s l = if says_again s l then Second else First
+
 abbrev pub refusal_of_line : Seen → Line → Option Reason
-refusal_of_line s l = statement_refusal s.section (is_defined s.names l.label || is_defined_twice s l.beginning) l
+refusal_of_line s l = statement_refusal s.section (saying_of s l) l
 
 -- ---- bounds
 

@@ -6,7 +6,7 @@ ghost use Rattle.mx_encode.specs.Numbers.{is_short};
 ghost use Rattle.mx_asm_statement.specs.declared.branch.Branch.{Branch};
 ghost use Rattle.mx_asm.specs.Branches.{is_near, branch_by, branch_marks, branch_length, distance, is_too_far};
 
-use mx_asm_statement::Branch;
+use mx_asm_statement::{Branch, JumpLength};
 use mx_encode::{Wide, encode};
 use mx_insn::{ArrayVec, Insn};
 
@@ -14,7 +14,10 @@ fn is_near(branch: Branch) -> bool
     ensures { result ≡ is_near branch }
 {
     match branch {
-        Branch::Jump { short } | Branch::JumpIf { short, .. } => short,
+        Branch::Jump { length } | Branch::JumpIf { length, .. } => match length {
+            JumpLength::Short => true,
+            JumpLength::Long => false,
+        },
         Branch::Call => false,
         Branch::Loop(_) => true,
     }

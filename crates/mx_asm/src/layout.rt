@@ -2,7 +2,7 @@
 
 ghost use Rattle.std.specs.Prelude.{OnOk, ◌≡◌, ◌+◌, ◌%◌, ◌^◌, ◌≤◌, nat_lt, false, None, IfErr};
 ghost use Rattle.mx_asm.specs.Lengths.{statement_length};
-ghost use Rattle.mx_asm.specs.Layout.{section_offset_of, seen_of, is_defined, is_defined_twice, refusal_of_line, labels_with, no_lines_above, above_with, statement_said, SizesWithin, GrowsWithin, label_named, start_of, address_of_offset, value_under};
+ghost use Rattle.mx_asm.specs.Layout.{section_offset_of, seen_of, is_defined, is_defined_twice, saying_of, refusal_of_line, labels_with, no_lines_above, above_with, statement_said, SizesWithin, GrowsWithin, label_named, start_of, address_of_offset, value_under};
 ghost use Rattle.mx_asm.specs.Faults.{total_of, is_program_too_large};
 ghost use Rattle.mx_asm.specs.View.{above_of};
 
@@ -10,7 +10,7 @@ use crate::fault::AsmError;
 use crate::hashing::HashedByText;
 use crate::sizes::{SectionOffset, SectionSizes};
 use indexmap::IndexMap;
-use mx_asm_statement::{Line, Reason, Section, Statement, StatementStart, Value, refusal};
+use mx_asm_statement::{Line, Reason, Saying, Section, Statement, StatementStart, Value, refusal};
 use mx_text::Name;
 use mx_word::Size;
 use std::alloc::Global;
@@ -73,12 +73,22 @@ impl Layout {
         }
     }
 
+    /// Whether the lines above a line say already what it says.
+    fn saying_of(&self, line: &Line) -> Saying
+        ensures { result ≡ saying_of (seen_of (above_of self.now)) line.now }
+    {
+        if self.stands(line.label) || self.is_second(line.beginning) {
+            Saying::Second
+        } else {
+            Saying::First
+        }
+    }
+
     /// Why a line is refused after those above it, if it is.
     pub fn reason_of(&self, line: &Line) -> Option<Reason>
         ensures { result ≡ refusal_of_line (seen_of (above_of self.now)) line.now }
     {
-        let twice = self.stands(line.label) || self.is_second(line.beginning);
-        refusal(line, self.sizes.section, twice)
+        refusal(line, self.sizes.section, self.saying_of(line))
     }
 
     /// A label that stands here.

@@ -34,6 +34,8 @@ use Rattle.mx_insn_words.specs.declared.mnemonic.Single.TheVariants.{Mov, Test, 
 use Rattle.mx_insn_words.specs.declared.start.Prefix.{Prefix}
 use Rattle.mx_insn_words.specs.declared.start.Prefix.TheVariants.{Rep, Repe, Repne}
 use Rattle.mx_asm_statement.specs.declared.argument.Argument.{Argument}
+use Rattle.mx_asm_statement.specs.declared.branch.JumpLength.{JumpLength}
+use Rattle.mx_asm_statement.specs.declared.branch.JumpLength.TheVariants.{Short, Long}
 use Rattle.mx_asm_statement.specs.declared.argument.Argument.TheVariants as arguments
 use Rattle.mx_asm_statement.specs.declared.memory.Address.{Address}
 use Rattle.mx_asm_statement.specs.Items.{◌>>=◌}
@@ -448,26 +450,26 @@ out_port (x ∷ y ∷ z ∷ zs) = tt
 jumped : (x : Argument) → If StatementFits (operand_of_size Dword x >>= λ spot. statement_of_insn (insns.JumpTo spot.operand) None spot.displacement)
 jumped x = with_spot (operand_of_size Dword x) _ (sized_fits Dword x) (λ spot h. says_fits (insns.JumpTo spot.operand) None spot.displacement h)
 
-jump_fits : (short : Bool) (xs : List Argument) → If StatementFits (jump short xs)
-jump_fits short [] = elim short as (λ b. If StatementFits (jump b [])) [ true ↦ tt | false ↦ tt ]
-jump_fits short (arguments.Value v ∷ []) = tt
-jump_fits false (arguments.Register s r ∷ []) = jumped (arguments.Register s r)
-jump_fits false (arguments.Memory n a ∷ []) = jumped (arguments.Memory n a)
-jump_fits true (arguments.Register s r ∷ []) = tt
-jump_fits true (arguments.Memory n a ∷ []) = tt
-jump_fits false (arguments.Value v ∷ y ∷ ys) = tt
-jump_fits false (arguments.Register s r ∷ y ∷ ys) = tt
-jump_fits false (arguments.Memory n a ∷ y ∷ ys) = tt
-jump_fits true (arguments.Value v ∷ y ∷ ys) = tt
-jump_fits true (arguments.Register s r ∷ y ∷ ys) = tt
-jump_fits true (arguments.Memory n a ∷ y ∷ ys) = tt
+jump_fits : (length : JumpLength) (xs : List Argument) → If StatementFits (jump length xs)
+jump_fits length [] = elim length as (λ b. If StatementFits (jump b [])) [ Short ↦ tt | Long ↦ tt ]
+jump_fits length (arguments.Value v ∷ []) = tt
+jump_fits Long (arguments.Register s r ∷ []) = jumped (arguments.Register s r)
+jump_fits Long (arguments.Memory n a ∷ []) = jumped (arguments.Memory n a)
+jump_fits Short (arguments.Register s r ∷ []) = tt
+jump_fits Short (arguments.Memory n a ∷ []) = tt
+jump_fits Long (arguments.Value v ∷ y ∷ ys) = tt
+jump_fits Long (arguments.Register s r ∷ y ∷ ys) = tt
+jump_fits Long (arguments.Memory n a ∷ y ∷ ys) = tt
+jump_fits Short (arguments.Value v ∷ y ∷ ys) = tt
+jump_fits Short (arguments.Register s r ∷ y ∷ ys) = tt
+jump_fits Short (arguments.Memory n a ∷ y ∷ ys) = tt
 
-jump_if_fits : (short : Bool) (c : Condition) (xs : List Argument) → If StatementFits (jump_if_statement short c xs)
-jump_if_fits short c [] = tt
-jump_if_fits short c (arguments.Value v ∷ []) = tt
-jump_if_fits short c (arguments.Value v ∷ y ∷ ys) = tt
-jump_if_fits short c (arguments.Register s r ∷ ys) = tt
-jump_if_fits short c (arguments.Memory n a ∷ ys) = tt
+jump_if_fits : (length : JumpLength) (c : Condition) (xs : List Argument) → If StatementFits (jump_if_statement length c xs)
+jump_if_fits length c [] = tt
+jump_if_fits length c (arguments.Value v ∷ []) = tt
+jump_if_fits length c (arguments.Value v ∷ y ∷ ys) = tt
+jump_if_fits length c (arguments.Register s r ∷ ys) = tt
+jump_if_fits length c (arguments.Memory n a ∷ ys) = tt
 
 called : (x : Argument) → If StatementFits (operand_of_size Dword x >>= λ spot. statement_of_insn (insns.CallTo spot.operand) None spot.displacement)
 called x = with_spot (operand_of_size Dword x) _ (sized_fits Dword x) (λ spot h. says_fits (insns.CallTo spot.operand) None spot.displacement h)
@@ -490,41 +492,41 @@ looping_fits o (arguments.Memory n a ∷ ys) = tt
 
 -- ---- every statement
 
-single_fits : (short : Bool) (o : Single) (xs : List Argument) → If StatementFits (statement_for_single short o xs)
-single_fits short Mov xs = moved_fits xs
-single_fits short Test xs = test_fits xs
-single_fits short Xchg xs = exchange_fits xs
-single_fits short Lea xs = load_fits xs
-single_fits short Movzx xs = zero_extend_fits xs
-single_fits short Movsx xs = sign_extend_fits xs
-single_fits short Push xs = push_fits xs
-single_fits short Pop xs = pop_fits xs
-single_fits short Jmp xs = jump_fits short xs
-single_fits short Call xs = call_fits xs
-single_fits short Ret xs = return_fits xs
-single_fits short Int xs = interrupt_fits xs
-single_fits short Cbw xs = alone_fits (insns.ExtendAccumulator operand_sizes.Word) xs tt
-single_fits short Cwde xs = alone_fits (insns.ExtendAccumulator operand_sizes.Dword) xs tt
-single_fits short Cwd xs = alone_fits (insns.SpreadSign operand_sizes.Word) xs tt
-single_fits short Cdq xs = alone_fits (insns.SpreadSign operand_sizes.Dword) xs tt
-single_fits short In xs = in_port xs
-single_fits short Out xs = out_port xs
+single_fits : (length : JumpLength) (o : Single) (xs : List Argument) → If StatementFits (statement_for_single length o xs)
+single_fits length Mov xs = moved_fits xs
+single_fits length Test xs = test_fits xs
+single_fits length Xchg xs = exchange_fits xs
+single_fits length Lea xs = load_fits xs
+single_fits length Movzx xs = zero_extend_fits xs
+single_fits length Movsx xs = sign_extend_fits xs
+single_fits length Push xs = push_fits xs
+single_fits length Pop xs = pop_fits xs
+single_fits length Jmp xs = jump_fits length xs
+single_fits length Call xs = call_fits xs
+single_fits length Ret xs = return_fits xs
+single_fits length Int xs = interrupt_fits xs
+single_fits length Cbw xs = alone_fits (insns.ExtendAccumulator operand_sizes.Word) xs tt
+single_fits length Cwde xs = alone_fits (insns.ExtendAccumulator operand_sizes.Dword) xs tt
+single_fits length Cwd xs = alone_fits (insns.SpreadSign operand_sizes.Word) xs tt
+single_fits length Cdq xs = alone_fits (insns.SpreadSign operand_sizes.Dword) xs tt
+single_fits length In xs = in_port xs
+single_fits length Out xs = out_port xs
 
-pub stated_fits : (short : Bool) (m : Mnemonic) (xs : List Argument) → If StatementFits (statement_for short m xs)
-stated_fits short (mnemonics.Arithmetic o) xs = arithmetic_fits o xs
-stated_fits short (mnemonics.Unary o) xs = unary_fits o xs
-stated_fits short (mnemonics.Product o) xs = product_fits o xs
-stated_fits short (mnemonics.Shift o) xs = shift_fits o xs
-stated_fits short (mnemonics.DoubleShift o) xs = double_shift_fits o xs
-stated_fits short (mnemonics.BitTest o) xs = bit_test_fits o xs
-stated_fits short (mnemonics.BitScan o) xs = bit_scan_fits o xs
-stated_fits short (mnemonics.Loop o) xs = looping_fits o xs
-stated_fits short (mnemonics.Plain o) xs = alone_fits (insns.Plain o) xs tt
-stated_fits short (mnemonics.Single o) xs = single_fits short o xs
-stated_fits short (mnemonics.JumpIf c) xs = jump_if_fits short c xs
-stated_fits short (mnemonics.SetCondition c) xs = condition_fits c xs
-stated_fits short (mnemonics.Transfer o s) xs = alone_fits (insns.Transfer o s false) xs tt
-stated_fits short (mnemonics.Compare o s) xs = alone_fits (insns.Compare o s None) xs tt
+pub stated_fits : (length : JumpLength) (m : Mnemonic) (xs : List Argument) → If StatementFits (statement_for length m xs)
+stated_fits length (mnemonics.Arithmetic o) xs = arithmetic_fits o xs
+stated_fits length (mnemonics.Unary o) xs = unary_fits o xs
+stated_fits length (mnemonics.Product o) xs = product_fits o xs
+stated_fits length (mnemonics.Shift o) xs = shift_fits o xs
+stated_fits length (mnemonics.DoubleShift o) xs = double_shift_fits o xs
+stated_fits length (mnemonics.BitTest o) xs = bit_test_fits o xs
+stated_fits length (mnemonics.BitScan o) xs = bit_scan_fits o xs
+stated_fits length (mnemonics.Loop o) xs = looping_fits o xs
+stated_fits length (mnemonics.Plain o) xs = alone_fits (insns.Plain o) xs tt
+stated_fits length (mnemonics.Single o) xs = single_fits length o xs
+stated_fits length (mnemonics.JumpIf c) xs = jump_if_fits length c xs
+stated_fits length (mnemonics.SetCondition c) xs = condition_fits c xs
+stated_fits length (mnemonics.Transfer o s) xs = alone_fits (insns.Transfer o s false) xs tt
+stated_fits length (mnemonics.Compare o s) xs = alone_fits (insns.Compare o s None) xs tt
 
 pub repeated_fits : (p : Prefix) (m : Mnemonic) → If StatementFits (statement_after_prefix p m)
 repeated_fits Rep (mnemonics.Transfer o s) = says_fits (insns.Transfer o s true) None None tt

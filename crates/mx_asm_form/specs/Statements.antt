@@ -1,5 +1,5 @@
 -- Which statement a mnemonic and its arguments are.
-use Rattle.std.specs.Prelude.{Bool, true, false, Option, Some, None, List, ⊤}
+use Rattle.std.specs.Prelude.{true, false, Option, Some, None, List, ⊤}
 use Rattle.mx_word.specs.declared.names.Arithmetic.{Arithmetic}
 use Rattle.mx_insn.specs.declared.insn.OperandSize.TheVariants.{Word, Dword}
 use Rattle.mx_insn.specs.declared.insn.Repeat.TheVariants as repeats
@@ -11,6 +11,7 @@ use Rattle.mx_insn_words.specs.declared.mnemonic.Single.TheVariants.{Mov, Test, 
 use Rattle.mx_insn_words.specs.declared.start.Prefix.{Prefix}
 use Rattle.mx_insn_words.specs.declared.start.Prefix.TheVariants.{Rep, Repe, Repne}
 use Rattle.mx_asm_statement.specs.declared.argument.Argument.{Argument}
+use Rattle.mx_asm_statement.specs.declared.branch.JumpLength.{JumpLength}
 use Rattle.mx_asm_statement.specs.Items.{◌>>=◌}
 use Rattle.mx_asm_statement.specs.declared.statement.Statement.{Statement}
 use Rattle.mx_asm_statement.specs.declared.statement.Statement.TheVariants as statements
@@ -37,42 +38,42 @@ move_statement xs = do
   pair ← operands_of xs
   statement_of_insn (insns.Move pair.operands) pair.immediate pair.displacement
 
-abbrev pub statement_for_single : Bool → Single → List Argument → Option Statement
-statement_for_single short Mov xs = move_statement xs
-statement_for_single short Test xs = test xs
-statement_for_single short Xchg xs = exchange xs
-statement_for_single short Lea xs = load_address_statement xs
-statement_for_single short Movzx xs = zero_extend xs
-statement_for_single short Movsx xs = sign_extend xs
-statement_for_single short Push xs = push xs
-statement_for_single short Pop xs = pop xs
-statement_for_single short Jmp xs = jump short xs
-statement_for_single short Call xs = call xs
-statement_for_single short Ret xs = return_of xs
-statement_for_single short Int xs = interrupt xs
-statement_for_single short Cbw xs = statement_without_arguments (insns.ExtendAccumulator Word) xs
-statement_for_single short Cwde xs = statement_without_arguments (insns.ExtendAccumulator Dword) xs
-statement_for_single short Cwd xs = statement_without_arguments (insns.SpreadSign Word) xs
-statement_for_single short Cdq xs = statement_without_arguments (insns.SpreadSign Dword) xs
-statement_for_single short In xs = port_in xs
-statement_for_single short Out xs = port_out xs
+abbrev pub statement_for_single : JumpLength → Single → List Argument → Option Statement
+statement_for_single length Mov xs = move_statement xs
+statement_for_single length Test xs = test xs
+statement_for_single length Xchg xs = exchange xs
+statement_for_single length Lea xs = load_address_statement xs
+statement_for_single length Movzx xs = zero_extend xs
+statement_for_single length Movsx xs = sign_extend xs
+statement_for_single length Push xs = push xs
+statement_for_single length Pop xs = pop xs
+statement_for_single length Jmp xs = jump length xs
+statement_for_single length Call xs = call xs
+statement_for_single length Ret xs = return_of xs
+statement_for_single length Int xs = interrupt xs
+statement_for_single length Cbw xs = statement_without_arguments (insns.ExtendAccumulator Word) xs
+statement_for_single length Cwde xs = statement_without_arguments (insns.ExtendAccumulator Dword) xs
+statement_for_single length Cwd xs = statement_without_arguments (insns.SpreadSign Word) xs
+statement_for_single length Cdq xs = statement_without_arguments (insns.SpreadSign Dword) xs
+statement_for_single length In xs = port_in xs
+statement_for_single length Out xs = port_out xs
 
--- a mnemonic, with `short` after it or without, and its arguments
-abbrev pub statement_for : Bool → Mnemonic → List Argument → Option Statement
-statement_for short (mnemonics.Arithmetic o) xs = arithmetic_statement o xs
-statement_for short (mnemonics.Unary o) xs = unary o xs
-statement_for short (mnemonics.Product o) xs = product o xs
-statement_for short (mnemonics.Shift o) xs = shift o xs
-statement_for short (mnemonics.DoubleShift o) xs = double_shift o xs
-statement_for short (mnemonics.BitTest o) xs = bit_test o xs
-statement_for short (mnemonics.BitScan o) xs = bit_scan o xs
-statement_for short (mnemonics.Loop o) xs = loop_statement o xs
-statement_for short (mnemonics.Plain o) xs = statement_without_arguments (insns.Plain o) xs
-statement_for short (mnemonics.Single o) xs = statement_for_single short o xs
-statement_for short (mnemonics.JumpIf c) xs = jump_if_statement short c xs
-statement_for short (mnemonics.SetCondition c) xs = set_condition_statement c xs
-statement_for short (mnemonics.Transfer o s) xs = statement_without_arguments (insns.Transfer o s false) xs
-statement_for short (mnemonics.Compare o s) xs = statement_without_arguments (insns.Compare o s None) xs
+-- a mnemonic, the length of a jump, and its arguments
+abbrev pub statement_for : JumpLength → Mnemonic → List Argument → Option Statement
+statement_for length (mnemonics.Arithmetic o) xs = arithmetic_statement o xs
+statement_for length (mnemonics.Unary o) xs = unary o xs
+statement_for length (mnemonics.Product o) xs = product o xs
+statement_for length (mnemonics.Shift o) xs = shift o xs
+statement_for length (mnemonics.DoubleShift o) xs = double_shift o xs
+statement_for length (mnemonics.BitTest o) xs = bit_test o xs
+statement_for length (mnemonics.BitScan o) xs = bit_scan o xs
+statement_for length (mnemonics.Loop o) xs = loop_statement o xs
+statement_for length (mnemonics.Plain o) xs = statement_without_arguments (insns.Plain o) xs
+statement_for length (mnemonics.Single o) xs = statement_for_single length o xs
+statement_for length (mnemonics.JumpIf c) xs = jump_if_statement length c xs
+statement_for length (mnemonics.SetCondition c) xs = set_condition_statement c xs
+statement_for length (mnemonics.Transfer o s) xs = statement_without_arguments (insns.Transfer o s false) xs
+statement_for length (mnemonics.Compare o s) xs = statement_without_arguments (insns.Compare o s None) xs
 
 -- after rep a string instruction that moves, after repe and repne one that compares
 abbrev pub statement_after_prefix : Prefix → Mnemonic → Option Statement

@@ -10,7 +10,7 @@ use crate::{
     call, exchange, jump, jump_if, load_address, looping, operands_of, says, sign_extend,
     zero_extend,
 };
-use mx_asm_statement::{Argument, Statement};
+use mx_asm_statement::{Argument, JumpLength, Statement};
 use mx_insn::{Arithmetic, Insn, OperandSize, Repeat};
 use mx_insn_words::{Mnemonic, Prefix, Single};
 
@@ -32,8 +32,8 @@ fn moved(arguments: &[Argument]) -> Option<Statement>
     says(Insn::Move(pair.operands), pair.immediate, pair.displacement)
 }
 
-fn stated_single(short: bool, single: Single, arguments: &[Argument]) -> Option<Statement>
-    ensures { result ≡ statement_for_single short single arguments.now }
+fn stated_single(length: JumpLength, single: Single, arguments: &[Argument]) -> Option<Statement>
+    ensures { result ≡ statement_for_single length single arguments.now }
 {
     match single {
         Single::Mov => moved(arguments),
@@ -44,7 +44,7 @@ fn stated_single(short: bool, single: Single, arguments: &[Argument]) -> Option<
         Single::Movsx => sign_extend(arguments),
         Single::Push => push(arguments),
         Single::Pop => pop(arguments),
-        Single::Jmp => jump(short, arguments),
+        Single::Jmp => jump(length, arguments),
         Single::Call => call(arguments),
         Single::Ret => return_of(arguments),
         Single::Int => interrupt(arguments),
@@ -57,9 +57,9 @@ fn stated_single(short: bool, single: Single, arguments: &[Argument]) -> Option<
     }
 }
 
-/// The statement that a mnemonic and its arguments are. Short: `short` stands after JMP or Jcc.
-pub fn stated(short: bool, mnemonic: Mnemonic, arguments: &[Argument]) -> Option<Statement>
-    ensures { result ≡ statement_for short mnemonic arguments.now }
+/// The statement that a mnemonic and its arguments are. The length is that of JMP or Jcc.
+pub fn stated(length: JumpLength, mnemonic: Mnemonic, arguments: &[Argument]) -> Option<Statement>
+    ensures { result ≡ statement_for length mnemonic arguments.now }
 {
     match mnemonic {
         Mnemonic::Arithmetic(operation) => arithmetic(operation, arguments),
@@ -71,8 +71,8 @@ pub fn stated(short: bool, mnemonic: Mnemonic, arguments: &[Argument]) -> Option
         Mnemonic::BitScan(operation) => bit_scan(operation, arguments),
         Mnemonic::Loop(operation) => looping(operation, arguments),
         Mnemonic::Plain(plain) => alone(Insn::Plain(plain), arguments),
-        Mnemonic::Single(single) => stated_single(short, single, arguments),
-        Mnemonic::JumpIf(condition) => jump_if(short, condition, arguments),
+        Mnemonic::Single(single) => stated_single(length, single, arguments),
+        Mnemonic::JumpIf(condition) => jump_if(length, condition, arguments),
         Mnemonic::SetCondition(condition) => set_condition(condition, arguments),
         Mnemonic::Transfer(operation, size) => alone(
             Insn::Transfer {

@@ -1,10 +1,11 @@
 //! Laws of forms.
 
-ghost use Rattle.std.specs.Prelude.{◌≡◌, Bool, List, Some};
+ghost use Rattle.std.specs.Prelude.{◌≡◌, List, Some};
 ghost use Rattle.mx_encode.specs.Given.{Fits};
 ghost use Rattle.mx_insn_words.specs.declared.mnemonic.Mnemonic.{Mnemonic};
 ghost use Rattle.mx_insn_words.specs.declared.start.Prefix.{Prefix};
 ghost use Rattle.mx_asm_statement.specs.declared.argument.Argument.{Argument};
+ghost use Rattle.mx_asm_statement.specs.declared.branch.JumpLength.{JumpLength};
 ghost use Rattle.mx_asm_statement.specs.declared.instruction.Instruction.{Instruction};
 ghost use Rattle.mx_asm_statement.specs.declared.statement.Statement.{Statement};
 ghost use Rattle.mx_asm_statement.specs.declared.statement.Statement.TheVariants as statements;
@@ -12,16 +13,16 @@ ghost use Rattle.mx_asm_form.specs.Statements.{IsCode, statement_for, statement_
 
 /// Law: the numbers of an instruction are as wide as their types.
 pub fn numbers_fit()
-    ensures stated { (short : Bool) (m : Mnemonic) (xs : List Argument) (i : Instruction)
-        → statement_for short m xs ≡ Some (statements.Instruction i) → Fits i.insn }
+    ensures stated { (length : JumpLength) (m : Mnemonic) (xs : List Argument) (i : Instruction)
+        → statement_for length m xs ≡ Some (statements.Instruction i) → Fits i.insn }
     ensures repeated { (p : Prefix) (m : Mnemonic) (i : Instruction) → statement_after_prefix p m
         ≡ Some (statements.Instruction i) → Fits i.insn }
 {}
 
 /// Law: a mnemonic says an instruction or a jump, and no directive.
 pub fn code_is_stated()
-    ensures stated { (short : Bool) (m : Mnemonic) (xs : List Argument) (s : Statement)
-        → statement_for short m xs ≡ Some s → IsCode s }
+    ensures stated { (length : JumpLength) (m : Mnemonic) (xs : List Argument) (s : Statement)
+        → statement_for length m xs ≡ Some s → IsCode s }
     ensures repeated { (p : Prefix) (m : Mnemonic) (s : Statement) → statement_after_prefix p m
         ≡ Some s → IsCode s }
 {}

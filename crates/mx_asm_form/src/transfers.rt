@@ -4,16 +4,16 @@ ghost use Rattle.std.specs.Prelude.{◌≡◌, ◌∷◌, []};
 ghost use Rattle.mx_asm_form.specs.Transfers.{jump, jump_if_statement, call, loop_statement};
 
 use crate::sized_operand::{goes, says, spot_of_size};
-use mx_asm_statement::{Argument, Branch, Statement};
+use mx_asm_statement::{Argument, Branch, JumpLength, Statement};
 use mx_insn::{Condition, Insn, Loop, Size};
 
-fn jump_one(short: bool, first: Argument) -> Option<Statement>
-    ensures { result ≡ jump short (first ∷ []) }
+fn jump_one(length: JumpLength, first: Argument) -> Option<Statement>
+    ensures { result ≡ jump length (first ∷ []) }
 {
-    match (short, first) {
-        (_, Argument::Value(target)) => goes(Branch::Jump { short }, target),
-        (true, _) => None,
-        (false, _) => {
+    match (length, first) {
+        (_, Argument::Value(target)) => goes(Branch::Jump { length }, target),
+        (JumpLength::Short, _) => None,
+        (JumpLength::Long, _) => {
             let spot = spot_of_size(Size::Dword, first)?;
             says(Insn::JumpTo(spot.operand), None, spot.displacement)
         }
@@ -21,21 +21,25 @@ fn jump_one(short: bool, first: Argument) -> Option<Statement>
 }
 
 /// The statement of JMP with its arguments.
-pub fn jump(short: bool, arguments: &[Argument]) -> Option<Statement>
-    ensures { result ≡ jump short arguments.now }
+pub fn jump(length: JumpLength, arguments: &[Argument]) -> Option<Statement>
+    ensures { result ≡ jump length arguments.now }
 {
     match arguments {
-        [first] => jump_one(short, *first),
+        [first] => jump_one(length, *first),
         _ => None,
     }
 }
 
 /// The statement of Jcc with its arguments.
-pub fn jump_if(short: bool, condition: Condition, arguments: &[Argument]) -> Option<Statement>
-    ensures { result ≡ jump_if_statement short condition arguments.now }
+pub fn jump_if(
+    length: JumpLength,
+    condition: Condition,
+    arguments: &[Argument],
+) -> Option<Statement>
+    ensures { result ≡ jump_if_statement length condition arguments.now }
 {
     match arguments {
-        [Argument::Value(target)] => goes(Branch::JumpIf { condition, short }, *target),
+        [Argument::Value(target)] => goes(Branch::JumpIf { condition, length }, *target),
         _ => None,
     }
 }

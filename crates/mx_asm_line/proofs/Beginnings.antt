@@ -9,6 +9,7 @@ use Rattle.mx_insn_words.specs.declared.start.Directive.{Directive}
 use Rattle.mx_insn_words.specs.declared.start.Directive.TheVariants as directives
 use Rattle.mx_insn_words.specs.declared.start.WordStart.TheVariants as starts
 use Rattle.mx_asm_statement.specs.declared.argument.Argument.{Argument}
+use Rattle.mx_asm_statement.specs.declared.branch.JumpLength.{JumpLength}
 use Rattle.mx_asm_statement.specs.declared.item.Item.{Item}
 use Rattle.mx_asm_statement.specs.declared.item.Item.TheVariants as items
 use Rattle.mx_asm_statement.specs.Items.{◌>>=◌}
@@ -24,12 +25,12 @@ use Rattle.mx_asm_line.specs.declared.opening.LineStart.{LineStart}
 use Rattle.mx_asm_line.specs.declared.opening.LineStart.TheVariants as begun
 use Rattle.mx_asm_line.specs.Beginnings.{begins_with}
 use Rattle.mx_asm_line.specs.Opening.{after_label, after_first}
-use Rattle.mx_asm_line.specs.Statements.{is_marked, without_short_mark, after_mnemonic, after_prefix, standing_alone, number_alone, entry_of, after_directive, text_alone, statement_of}
+use Rattle.mx_asm_line.specs.Statements.{length_asked, without_short_mark, after_mnemonic, after_prefix, standing_alone, number_alone, entry_of, after_directive, text_alone, statement_of}
 use Rattle.mx_asm_line.specs.Lines.{beginning_of, beginning_after, where_named, IsLine}
 
 -- of the forms
 pub record StatesCode : Type 0 where
-  pub stated : (short : Bool) (m : Mnemonic) (xs : List Argument) (s : Statement) → statement_for short m xs ≡ Some s → IsCode s
+  pub stated : (length : JumpLength) (m : Mnemonic) (xs : List Argument) (s : Statement) → statement_for length m xs ≡ Some s → IsCode s
   pub repeated : (p : Prefix) (m : Mnemonic) (s : Statement) → statement_after_prefix p m ≡ Some s → IsCode s
 
 -- if it is a statement, it begins so
@@ -65,7 +66,7 @@ next b (Some a) f k = k a
 
 mnemonic_agrees : StatesCode → (m : Mnemonic) (ts : List Item) → Agrees beginnings.Instruction (after_mnemonic m ts)
 mnemonic_agrees law m ts =
-    next beginnings.Instruction (arguments_of (without_short_mark m ts)) _ (λ xs s e. code_agrees s (law.stated (is_marked m ts) m xs s e))
+    next beginnings.Instruction (arguments_of (without_short_mark m ts)) _ (λ xs s e. code_agrees s (law.stated (length_asked m ts) m xs s e))
 
 prefix_agrees : StatesCode → (p : Prefix) (m : Option Mnemonic) (ts : List Item) → Agrees beginnings.Instruction (after_prefix p m ts)
 prefix_agrees law p None ts = none_agrees beginnings.Instruction

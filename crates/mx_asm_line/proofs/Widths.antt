@@ -10,6 +10,7 @@ use Rattle.mx_insn_words.specs.declared.start.Directive.{Directive}
 use Rattle.mx_insn_words.specs.declared.start.Directive.TheVariants as directives
 use Rattle.mx_insn_words.specs.declared.start.WordStart.TheVariants as starts
 use Rattle.mx_asm_statement.specs.declared.argument.Argument.{Argument}
+use Rattle.mx_asm_statement.specs.declared.branch.JumpLength.{JumpLength}
 use Rattle.mx_asm_statement.specs.declared.item.Item.{Item}
 use Rattle.mx_asm_statement.specs.declared.item.Item.TheVariants as items
 use Rattle.mx_asm_statement.specs.Items.{◌>>=◌}
@@ -23,12 +24,12 @@ use Rattle.mx_asm_form.specs.Statements.{statement_for, statement_after_prefix}
 use Rattle.mx_asm_line.specs.declared.opening.LineStart.{LineStart}
 use Rattle.mx_asm_line.specs.declared.opening.LineStart.TheVariants as begun
 use Rattle.mx_asm_line.specs.Opening.{after_label, after_first}
-use Rattle.mx_asm_line.specs.Statements.{is_marked, without_short_mark, after_mnemonic, after_prefix, standing_alone, number_alone, entry_of, after_directive, text_alone, statement_of}
+use Rattle.mx_asm_line.specs.Statements.{length_asked, without_short_mark, after_mnemonic, after_prefix, standing_alone, number_alone, entry_of, after_directive, text_alone, statement_of}
 use Rattle.mx_asm_line.specs.Lines.{where_named, IsLine}
 
 -- of the forms
 pub record NumbersFit : Type 0 where
-  pub stated : (short : Bool) (m : Mnemonic) (xs : List Argument) (i : Instruction) → statement_for short m xs ≡ Some (statements.Instruction i) → Fits i.insn
+  pub stated : (length : JumpLength) (m : Mnemonic) (xs : List Argument) (i : Instruction) → statement_for length m xs ≡ Some (statements.Instruction i) → Fits i.insn
   pub repeated : (p : Prefix) (m : Mnemonic) (i : Instruction) → statement_after_prefix p m ≡ Some (statements.Instruction i) → Fits i.insn
 
 abbrev AllFit : Option Statement → Type 0
@@ -55,7 +56,7 @@ next (Some a) f k = k a
 -- ---- after a mnemonic
 
 mnemonic_fits : NumbersFit → (m : Mnemonic) (ts : List Item) → AllFit (after_mnemonic m ts)
-mnemonic_fits law m ts = next (arguments_of (without_short_mark m ts)) _ (λ xs. law.stated (is_marked m ts) m xs)
+mnemonic_fits law m ts = next (arguments_of (without_short_mark m ts)) _ (λ xs. law.stated (length_asked m ts) m xs)
 
 prefix_fits : NumbersFit → (p : Prefix) (m : Option Mnemonic) (ts : List Item) → AllFit (after_prefix p m ts)
 prefix_fits law p None ts = none_fits

@@ -17,6 +17,8 @@ use Rattle.mx_insn_words.specs.declared.start.Directive.TheVariants as directive
 use Rattle.mx_insn_words.specs.declared.start.WordStart.TheVariants as starts
 use Rattle.mx_asm_statement.specs.declared.item.Item.{Item}
 use Rattle.mx_asm_statement.specs.declared.item.Item.TheVariants as items
+use Rattle.mx_asm_statement.specs.declared.branch.JumpLength.{JumpLength}
+use Rattle.mx_asm_statement.specs.declared.branch.JumpLength.TheVariants.{Short, Long}
 use Rattle.mx_asm_statement.specs.Items.{◌>>=◌}
 use Rattle.mx_asm_statement.specs.Lists.{arguments_of}
 use Rattle.mx_asm_statement.specs.declared.statement.Section.TheVariants as sections
@@ -39,22 +41,25 @@ takes_short (mnemonics.Single Jmp) = true
 takes_short (mnemonics.JumpIf c) = true
 takes_short _ = false
 
-abbrev pub statement_by : Bool → Mnemonic → List Item → Option Statement
-statement_by short m ts = do
+abbrev pub statement_by : JumpLength → Mnemonic → List Item → Option Statement
+statement_by length m ts = do
   xs ← arguments_of ts
-  statement_for short m xs
+  statement_for length m xs
 
 -- right after JMP and Jcc `short` is always the mark, and elsewhere a name
 abbrev pub is_marked : Mnemonic → List Item → Bool
 is_marked m [] = false
 is_marked m (t ∷ ts) = takes_short m && is_short_word t
 
+abbrev pub length_asked : Mnemonic → List Item → JumpLength
+length_asked m ts = if is_marked m ts then Short else Long
+
 abbrev pub without_short_mark : Mnemonic → List Item → List Item
 without_short_mark m [] = []
 without_short_mark m (t ∷ ts) = if takes_short m && is_short_word t then ts else t ∷ ts
 
 abbrev pub after_mnemonic : Mnemonic → List Item → Option Statement
-after_mnemonic m ts = statement_by (is_marked m ts) m (without_short_mark m ts)
+after_mnemonic m ts = statement_by (length_asked m ts) m (without_short_mark m ts)
 
 -- a string instruction, alone
 abbrev pub after_prefix : Prefix → Option Mnemonic → List Item → Option Statement

@@ -6,7 +6,7 @@ ghost use Rattle.mx_asm_line.specs.Statements.{is_short_word, takes_short, state
 
 use crate::opening::LineStart;
 use mx_asm_form::{data_of, repeated, stated};
-use mx_asm_statement::{Item, Section, Statement, arguments_of};
+use mx_asm_statement::{Item, JumpLength, Section, Statement, arguments_of};
 use mx_insn_words::{Directive, Mnemonic, Prefix, Single, WordStart};
 use mx_lex::{Token, TokenKind, text_bytes};
 use mx_word::{Bytes, Size};
@@ -34,15 +34,15 @@ fn is_short(item: Item) -> bool
 
 fn stated_by(
     alloc: Global,
-    short: bool,
+    length: JumpLength,
     mnemonic: Mnemonic,
     items: &[Item],
 ) -> Result<Option<Statement>, AllocError>
-    ensures { IfOk result (λ s. s ≡ statement_by short mnemonic items.now) }
+    ensures { IfOk result (λ s. s ≡ statement_by length mnemonic items.now) }
 {
     match arguments_of(alloc, items)? {
         None => Ok(None),
-        Some(arguments) => Ok(stated(short, mnemonic, arguments.as_slice())),
+        Some(arguments) => Ok(stated(length, mnemonic, arguments.as_slice())),
     }
 }
 
@@ -55,12 +55,12 @@ fn after_mnemonic(
     ensures { IfOk result (λ s. s ≡ after_mnemonic mnemonic items.now) }
 {
     let Some((first, rest)) = items.split_first() else {
-        return stated_by(alloc, false, mnemonic, items);
+        return stated_by(alloc, JumpLength::Long, mnemonic, items);
     };
     if takes_short(mnemonic) & is_short(*first) {
-        stated_by(alloc, true, mnemonic, rest)
+        stated_by(alloc, JumpLength::Short, mnemonic, rest)
     } else {
-        stated_by(alloc, false, mnemonic, items)
+        stated_by(alloc, JumpLength::Long, mnemonic, items)
     }
 }
 

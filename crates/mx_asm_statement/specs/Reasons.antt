@@ -5,6 +5,8 @@ use Rattle.mx_asm_statement.specs.declared.statement.Section.TheVariants as sect
 use Rattle.mx_asm_statement.specs.declared.line.StatementStart.{StatementStart}
 use Rattle.mx_asm_statement.specs.declared.line.StatementStart.TheVariants as beginnings
 use Rattle.mx_asm_statement.specs.declared.line.Line.{Line}
+use Rattle.mx_asm_statement.specs.declared.line.Saying.{Saying}
+use Rattle.mx_asm_statement.specs.declared.line.Saying.TheVariants.{First, Second}
 use Rattle.mx_asm_statement.specs.declared.line.Reason.{Reason}
 use Rattle.mx_asm_statement.specs.declared.line.Reason.TheVariants.{LongName, Twice, Unknown, WrongSection, NoForm}
 
@@ -30,11 +32,15 @@ abbrev pub first_reason : List (Bool × Reason) → Option Reason
 first_reason [] = None
 first_reason (r ∷ rest) = if r.0 then Some r.1 else first_reason rest
 
+abbrev pub is_second : Saying → Bool
+is_second First = false
+is_second Second = true
+
 -- the first that stands
-abbrev pub statement_refusal : Section → Bool → Line → Option Reason
-statement_refusal section twice line = first_reason (
+abbrev pub statement_refusal : Section → Saying → Line → Option Reason
+statement_refusal section saying line = first_reason (
     (line.long, LongName)
-    ∷ (twice, Twice)
+    ∷ (is_second saying, Twice)
     ∷ (is_unknown line.beginning, Unknown)
     ∷ (is_misplaced section line.beginning, WrongSection)
     ∷ (is_none line.statement, NoForm)

@@ -2,12 +2,25 @@
 
 use mx_insn::{Condition, Loop};
 
-/// A jump, call or loop to a target that stands beside it. Short: a displacement of 8 bits is asked
-/// for.
+/// How long the displacement of a jump is.
+#[derive(Clone, Copy)]
+pub enum JumpLength {
+    /// 8 bits, which the word `short` asks for.
+    Short,
+    /// 32 bits.
+    Long,
+}
+
+/// A jump, call or loop to a target that stands beside it.
 #[derive(Clone, Copy)]
 pub enum Branch {
-    Jump { short: bool },
-    JumpIf { condition: Condition, short: bool },
+    Jump {
+        length: JumpLength,
+    },
+    JumpIf {
+        condition: Condition,
+        length: JumpLength,
+    },
     Call,
     Loop(Loop),
 }

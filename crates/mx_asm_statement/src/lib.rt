@@ -15,10 +15,10 @@ mod value;
 mod value_items;
 
 pub use argument::{Argument, argument_of};
-pub use branch::Branch;
+pub use branch::{Branch, JumpLength};
 pub use instruction::Instruction;
 pub use item::{Item, is_long};
-pub use line::{Line, Reason, StatementStart, refusal};
+pub use line::{Line, Reason, Saying, StatementStart, refusal};
 pub use list::{arguments_of, parted};
 pub use memory::{Address, address_of};
 pub use mx_insn::{Index, Register, Scale, Size};

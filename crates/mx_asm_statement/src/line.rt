@@ -1,7 +1,7 @@
 //! Lines, and the reasons to refuse one.
 
 ghost use Rattle.std.specs.Prelude.{◌≡◌};
-ghost use Rattle.mx_asm_statement.specs.Reasons.{reason_code, is_unknown, is_misplaced, statement_refusal};
+ghost use Rattle.mx_asm_statement.specs.Reasons.{reason_code, is_unknown, is_misplaced, is_second, statement_refusal};
 
 use crate::statement::{Section, Statement};
 use mx_text::Name;
@@ -82,15 +82,31 @@ fn is_misplaced(section: Section, beginning: StatementStart) -> bool
     }
 }
 
-/// The first reason to refuse a line, where it stands in a section. Twice: its label stands above
-/// it already, or it is a second `.sep`, `.entry` or `.stack`.
-pub fn refusal(line: &Line, section: Section, twice: bool) -> Option<Reason>
-    ensures { result ≡ statement_refusal section twice line.now }
+/// Whether the lines above a line say already what it says: its label, its `.sep`, its `.entry` or its
+/// `.stack`.
+#[derive(Clone, Copy)]
+pub enum Saying {
+    First,
+    Second,
+}
+
+fn is_second(saying: Saying) -> bool
+    ensures { result ≡ is_second saying }
+{
+    match saying {
+        Saying::First => false,
+        Saying::Second => true,
+    }
+}
+
+/// The first reason to refuse a line, where it stands in a section.
+pub fn refusal(line: &Line, section: Section, saying: Saying) -> Option<Reason>
+    ensures { result ≡ statement_refusal section saying line.now }
 {
     if line.long {
         return Some(Reason::LongName);
     }
-    if twice {
+    if is_second(saying) {
         return Some(Reason::Twice);
     }
     if is_unknown(line.beginning) {

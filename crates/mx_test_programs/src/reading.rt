@@ -1,12 +1,12 @@
 //! Lines of every kind.
 
 use mx_asm_line::read_line;
-use mx_asm_statement::{Section, Statement, refusal};
+use mx_asm_statement::{Saying, Section, Statement, refusal};
 use std::alloc::Global;
 
 fn told(alloc: Global, text: &[u8]) -> Option<u8> {
     match read_line(alloc, text) {
-        Ok(line) => match refusal(&line, Section::Text, false) {
+        Ok(line) => match refusal(&line, Section::Text, Saying::First) {
             Some(reason) => Some(reason.code()),
             None => None,
         },

@@ -1,12 +1,12 @@
 //! The order of the reasons.
 
-use mx_asm_statement::{Line, Reason, Section, StatementStart, Value, refusal};
+use mx_asm_statement::{Line, Reason, Saying, Section, StatementStart, Value, refusal};
 
-/// A section, whether a label stands twice, and what is told of an instruction.
-static REASONS: [(Section, bool, Reason); 3] = [
-    (Section::Text, true, Reason::Twice),
-    (Section::Data, false, Reason::WrongSection),
-    (Section::Text, false, Reason::NoForm),
+/// A section, whether a label stands above already, and what is told of an instruction.
+static REASONS: [(Section, Saying, Reason); 3] = [
+    (Section::Text, Saying::Second, Reason::Twice),
+    (Section::Data, Saying::First, Reason::WrongSection),
+    (Section::Text, Saying::First, Reason::NoForm),
 ];
 
 const LESS_TWO: Value = Value {
@@ -23,8 +23,8 @@ fn reasons(rt: HostRuntime) {
         beginning: StatementStart::Instruction,
         statement: None,
     };
-    for (section, twice, reason) in &REASONS {
-        assert!(rt; refusal(&line, *section, *twice) == Some(*reason));
+    for (section, saying, reason) in &REASONS {
+        assert!(rt; refusal(&line, *section, *saying) == Some(*reason));
     }
     assert!(rt; Reason::NoForm.code() == 11 && LESS_TWO.whole() == -2);
 }

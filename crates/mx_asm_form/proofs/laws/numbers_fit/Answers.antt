@@ -3,7 +3,7 @@ use Rattle.mx_asm_form.proofs.Widths.{fits_where, stated_fits, repeated_fits}
 use Rattle.mx_asm_form.proofs.laws.numbers_fit.Goals as goal
 
 pub returns-clause-stated : goal.returns-clause-stated
-returns-clause-stated c short m xs i e = fits_where (statement_for short m xs) i (stated_fits short m xs) e
+returns-clause-stated c length m xs i e = fits_where (statement_for length m xs) i (stated_fits length m xs) e
 
 pub returns-clause-repeated : goal.returns-clause-repeated
 returns-clause-repeated c p m i e = fits_where (statement_after_prefix p m) i (repeated_fits p m) e

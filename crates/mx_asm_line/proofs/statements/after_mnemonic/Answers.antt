@@ -1,14 +1,15 @@
 use Rattle.std.proofs.Common.{◌≡◌, ◌∙◌, Bool, true, false, ◌&&◌, cond, List, ◌∷◌, refl, sym, ap, subst, rules}
 use Rattle.mx_insn_words.specs.declared.mnemonic.Mnemonic.{Mnemonic}
+use Rattle.mx_asm_statement.specs.declared.branch.JumpLength.TheVariants.{Short, Long}
 use Rattle.mx_asm_statement.specs.declared.item.Item.{Item}
 use Rattle.mx_asm_line.specs.Statements.{is_short_word, takes_short, statement_by, after_mnemonic}
 use Rattle.mx_asm_line.proofs.statements.after_mnemonic.Goals as goal
 
 -- what stands after a mnemonic, by whether the mark stands first
-parted : (m : Mnemonic) (ts us xs : List Item) (t : Item) (b : Bool) → ts ≡ t ∷ us → xs ≡ cond b us ts → (takes_short m && is_short_word t) ≡ b → statement_by b m xs ≡ after_mnemonic m ts
+parted : (m : Mnemonic) (ts us xs : List Item) (t : Item) (b : Bool) → ts ≡ t ∷ us → xs ≡ cond b us ts → (takes_short m && is_short_word t) ≡ b → statement_by (cond b Short Long) m xs ≡ after_mnemonic m ts
 parted m ts us xs t b e f h =
-    ap (statement_by b m) (f ∙ ap (cond b us) e)
-    ∙ (subst (λ (d : Bool). statement_by d m (cond d us (t ∷ us)) ≡ after_mnemonic m (t ∷ us)) h refl ∙ ap (after_mnemonic m) (sym e))
+    ap (statement_by (cond b Short Long) m) (f ∙ ap (cond b us) e)
+    ∙ (subst (λ (d : Bool). statement_by (cond d Short Long) m (cond d us (t ∷ us)) ≡ after_mnemonic m (t ∷ us)) h refl ∙ ap (after_mnemonic m) (sym e))
 
 pub returns-then-takes_short-is_short : goal.returns-then-takes_short-is_short
 returns-then-takes_short-is_short c =
