@@ -16,7 +16,7 @@ ghost use Rattle.mx_machine_world.specs.World.{actors};
 ghost use Rattle.mx_look_picture.specs.Picture.{IsDrawable};
 ghost use Rattle.mx_app_draw.specs.Scenes.{IsDrawing, IsDrawingPrinted, IsPictureText};
 
-use crate::scene::scene_of;
+use crate::scene::{DrawnPart, scene_of};
 use crate::seeing::last_drawn;
 use mx_app_step::{
     Failure, History, Machine, Reader, Record, Replayed, first_records, print_text, start,
@@ -39,26 +39,24 @@ fn print_picture<W: Write>(alloc: Global, scene: &Scene, out: &mut W) -> Result<
     print_text(text.as_slice(), out)
 }
 
-/// Makes records, which are the first of a history of `total`, and prints the picture of those from
-/// `from` on; at an event that is refused, of those above it.
+/// Makes records, which are the first of a history, and prints the picture of a part of it; at an event that
+/// is refused, of the records above it.
 fn print_drawing<W: Write>(
     alloc: Global,
     machine: &mut Machine,
-    processors: u32,
     records: &[Record],
-    total: usize,
-    from: u32,
+    part: DrawnPart,
     out: &mut W,
 ) -> Result<Replayed, Failure>
     requires few { length records.now < 2 ^ 32 }
     requires actors { All (λ (x : Noted). x.actor < actors (world_of machine.old)) records.now }
-    requires drawn { length records.now ≤ max from 1 + 999 }
+    requires drawn { length records.now ≤ max part.from 1 + 999 }
     ensures err { IfErr result IsWanting }
     ensures printed { IfOk result (λ replayed.
-        IsDrawing (world_of machine.old) processors total records.now from replayed (λ text.
-        Appends (W.contents out.old) (W.contents out.new) text)) }
+        IsDrawing (world_of machine.old) part.processors part.total records.now part.from replayed
+        (λ text. Appends (W.contents out.old) (W.contents out.new) text)) }
 {
-    let scene = scene_of(alloc, machine, processors, records, total, from)?;
+    let scene = scene_of(alloc, machine, records, part)?;
     print_picture(alloc, &scene, out)?;
     match scene.refused {
         None => Ok(Replayed::Whole),
@@ -93,13 +91,10 @@ pub fn draw<R: Reader, W: Write>(
     let total = started.lines.len();
     let records = first_records(started.lines.as_slice(), last_drawn(from, to));
     let processors = u32::from(started.other);
-    print_drawing(
-        alloc,
-        &mut started.machine,
+    let part = DrawnPart {
         processors,
-        records,
         total,
         from,
-        out,
-    )
+    };
+    print_drawing(alloc, &mut started.machine, records, part, out)
 }

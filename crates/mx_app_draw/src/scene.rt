@@ -39,30 +39,40 @@ fn refused_line(above: usize, refused: Option<(usize, Refusal)>) -> Option<(u32,
     Some((told_number(above.saturating_add(number)), refusal))
 }
 
-/// Makes records, which are the first of a history of `total`, up to the first that is refused, and
-/// answers what is drawn of them from `from` on.
+/// Which part of which history a picture shows.
+#[derive(Clone, Copy)]
+pub(crate) struct DrawnPart {
+    /// How many processors the machine has.
+    pub processors: u32,
+    /// How many records the whole history has.
+    pub total: usize,
+    /// The place of the first record that is drawn. The first of the history is 1.
+    pub from: u32,
+}
+
+/// Makes records, which are the first of a history, up to the first that is refused, and answers what is
+/// drawn of them.
 pub(crate) fn scene_of(
     alloc: Global,
     machine: &mut Machine,
-    processors: u32,
     records: &[Record],
-    total: usize,
-    from: u32,
+    part: DrawnPart,
 ) -> Result<Scene, AllocError>
     requires few { length records.now < 2 ^ 32 }
     requires actors { All (λ (x : Noted). x.actor < actors (world_of machine.old)) records.now }
-    requires drawn { length records.now ≤ max from 1 + 999 }
+    requires drawn { length records.now ≤ max part.from 1 + 999 }
     ensures scene { IfOk result (λ scene.
-        IsHistoryScene (world_of machine.old) processors total records.now from scene) }
+        IsHistoryScene (world_of machine.old) part.processors part.total records.now part.from
+        scene) }
     ensures drawable { IfOk result (λ scene. IsDrawable scene) }
 {
     let services = service_count(machine);
     let above = lines_above(machine.rules());
-    let seen = see_records(alloc, machine, records, from)?;
+    let seen = see_records(alloc, machine, records, part.from)?;
     Ok(Scene {
-        first: from.max(1),
-        total: told_number(total),
-        processors,
+        first: part.from.max(1),
+        total: told_number(part.total),
+        processors: part.processors,
         services,
         world: seen.world,
         steps: seen.steps,

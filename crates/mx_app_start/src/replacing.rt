@@ -37,20 +37,26 @@ fn name_beside(alloc: Global, name: &str) -> Result<String, AllocError> {
     format!(in alloc; "{name}.part")
 }
 
+/// The name that a file has while it isn't whole, and its own.
+#[derive(Clone, Copy)]
+struct Names<'a> {
+    beside: &'a str,
+    whole: &'a str,
+}
+
 /// Fills a new file with bytes and gives it permissions and its name.
 fn fill_and_rename<R: Files>(
     rt: &R,
     mut file: R::File,
-    beside: &str,
+    names: Names<'_>,
     permissions: Option<Permissions>,
-    name: &str,
     bytes: &[u8],
 ) -> io::Result<()> {
     file.write_all(bytes)?;
     if let Some(permissions) = permissions {
-        fs::set_permissions(rt, beside, permissions)?;
+        fs::set_permissions(rt, names.beside, permissions)?;
     }
-    fs::rename(rt, beside, name)
+    fs::rename(rt, names.beside, names.whole)
 }
 
 /// Writes bytes to the file that has a name, in place of what it had. Where the file is regular or new and a
@@ -71,9 +77,13 @@ pub(crate) fn replace_file<R: Files>(
     let Ok(file) = fs::File::create_new(rt, beside.as_str()) else {
         return fs::write(rt, name, bytes);
     };
-    let done = fill_and_rename(rt, file, beside.as_str(), permissions, name, bytes);
+    let names = Names {
+        beside: beside.as_str(),
+        whole: name,
+    };
+    let done = fill_and_rename(rt, file, names, permissions, bytes);
     if done.is_err() {
-        let _ = fs::remove_file(rt, beside.as_str());
+        let _ = fs::remove_file(rt, names.beside);
     }
     done
 }

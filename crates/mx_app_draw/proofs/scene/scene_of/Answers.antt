@@ -9,7 +9,7 @@ use Rattle.mx_app_draw.proofs.scene.scene_of.Goals as goal
 pub returns-clause-scene : goal.returns-clause-scene
 returns-clause-scene c =
     let s = c.in_ok-seen.ensures.seen in
-    let first : c.max.result ≡ max c.args.from 1 = search rules in (
+    let first : c.max.result ≡ max c.args.part.from 1 = search rules in (
       c.in_ok-seen.seen.refused,
       s.0,
       s.1,
@@ -28,6 +28,6 @@ pub returns-clause-drawable : goal.returns-clause-drawable
 returns-clause-drawable c =
     let s = c.in_ok-seen.ensures.seen in
     let w = world_of c.args.machine.now in
-    let few = drawn_few c.args.from w s.0 (length c.args.records.now) (made_few w c.args.records.now s.0 c.in_ok-seen.seen.refused s.1) c.requires.drawn in
+    let few = drawn_few c.args.part.from w s.0 (length c.args.records.now) (made_few w c.args.records.now s.0 c.in_ok-seen.seen.refused s.1) c.requires.drawn in
     let n = ap length s.2 in
     (omega (arith, few, n), c.service_count-services.ensures.few)
