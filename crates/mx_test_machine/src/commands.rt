@@ -600,20 +600,18 @@ fn is_done<R: Threads + Wait + Clock + Sync>(rt: &R, alloc: Global, row: &Done) 
 fn is_told<R: Threads + Wait + Clock + Sync>(
     rt: &R,
     alloc: Global,
-    words: &'static [&'static str],
     refusal: Option<io::ErrorKind>,
-    status: u8,
-    text: &str,
+    row: &Failed,
 ) -> bool {
     let mut channels = channels(alloc, refusal);
     let mut told = String::new(alloc);
-    let ended = perform(&mut channels, rt, alloc, words, &mut told);
-    let is_told = if status == 2 {
+    let ended = perform(&mut channels, rt, alloc, row.words, &mut told);
+    let is_told = if row.status == 2 {
         told.as_str().starts_with("error: ")
     } else {
-        told.as_str() == text
+        told.as_str() == row.told
     };
-    ended == status
+    ended == row.status
         && is_told
         && is_printed(&channels.out, "")
         && is_kept(channels.files.writer().files(), None)
@@ -630,10 +628,7 @@ fn commands_done(rt: HostRuntime) -> Result<(), Fail> {
 #[test]
 fn commands_failed(rt: HostRuntime) -> Result<(), Fail> {
     for (number, row) in FAILED.iter().enumerate() {
-        assert!(rt;
-            is_told(&rt, rt.alloc(), row.words, None, row.status, row.told),
-            "row {number}"
-        );
+        assert!(rt; is_told(&rt, rt.alloc(), None, row), "row {number}");
     }
     Ok(())
 }
@@ -641,10 +636,7 @@ fn commands_failed(rt: HostRuntime) -> Result<(), Fail> {
 #[test]
 fn failures_explained(rt: HostRuntime) -> Result<(), Fail> {
     for (number, row) in EXPLAINED.iter().enumerate() {
-        assert!(rt;
-            is_told(&rt, rt.alloc(), row.words, None, row.status, row.told),
-            "row {number}"
-        );
+        assert!(rt; is_told(&rt, rt.alloc(), None, row), "row {number}");
     }
     Ok(())
 }
@@ -653,8 +645,8 @@ fn failures_explained(rt: HostRuntime) -> Result<(), Fail> {
 #[test]
 fn writing_explained(rt: HostRuntime) {
     let broken = Some(io::ErrorKind::BrokenPipe);
-    for (words, told) in UNWRITABLE {
-        assert!(rt; is_told(&rt, rt.alloc(), words, broken, 3, told));
+    for (number, row) in UNWRITABLE.iter().enumerate() {
+        assert!(rt; is_told(&rt, rt.alloc(), broken, row), "row {number}");
     }
 }
 
@@ -669,19 +661,22 @@ fn nothing_explained(rt: HostRuntime) -> Result<(), Fail> {
 }
 
 /// Words that write, and what is told where nothing can be written.
-const UNWRITABLE: [(&[&str], &str); 3] = [
-    (
-        &["mx", "as", "sum.s", "new.out", "--explain"],
-        "mx: 80 File\nmx: FILE new.out: wanted a file that can be written\n",
-    ),
-    (
-        &["mx", "run", "one", "new.log", "--explain"],
-        "mx: 80 File\nmx: LOG new.log: wanted a file that can be written\n",
-    ),
-    (
-        &["mx", "dis", "a.out", "--explain"],
-        "mx: 80 File\nmx: standard output: wanted room for what is printed\n",
-    ),
+static UNWRITABLE: [Failed; 3] = [
+    Failed {
+        words: &["mx", "as", "sum.s", "new.out", "--explain"],
+        status: 3,
+        told: "mx: 80 File\nmx: FILE new.out: wanted a file that can be written\n",
+    },
+    Failed {
+        words: &["mx", "run", "one", "new.log", "--explain"],
+        status: 3,
+        told: "mx: 80 File\nmx: LOG new.log: wanted a file that can be written\n",
+    },
+    Failed {
+        words: &["mx", "dis", "a.out", "--explain"],
+        status: 3,
+        told: "mx: 80 File\nmx: standard output: wanted room for what is printed\n",
+    },
 ];
 
 /// What takes bytes is broken, or has no memory for them.
@@ -694,12 +689,22 @@ fn commands_broken(rt: HostRuntime) -> Result<(), Fail> {
         if row.printed.is_empty() && row.file.is_none() {
             continue;
         }
+        let unwritten = Failed {
+            words: row.words,
+            status: 3,
+            told: "mx: 80 File\n",
+        };
+        let without_memory = Failed {
+            words: row.words,
+            status: 4,
+            told: "mx: 90 NoMemory\n",
+        };
         assert!(rt;
-            is_told(&rt, rt.alloc(), row.words, broken, 3, "mx: 80 File\n"),
+            is_told(&rt, rt.alloc(), broken, &unwritten),
             "row {number}"
         );
         assert!(rt;
-            is_told(&rt, rt.alloc(), row.words, full, 4, "mx: 90 NoMemory\n"),
+            is_told(&rt, rt.alloc(), full, &without_memory),
             "row {number}"
         );
     }
