@@ -217,6 +217,7 @@ static DONE: [Done; 20] = [
 ];
 
 /// Words of which nothing comes: the status, and what standard error gets.
+#[derive(Clone, Copy)]
 struct Failed {
     words: &'static [&'static str],
     status: u8,
