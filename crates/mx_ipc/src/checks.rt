@@ -99,8 +99,6 @@ fn check_process(
         ≡ None) (λ e. process_refusal table.now slot call to generation ≡ Some e) }
     ensures free { IfOk result (λ _. PassedProcess table.now slot call to) }
 {
-    // So few that each has a bit in a mask.
-    let _used = table.used();
     if !is_receive(call) && !has_bit(table.process(slot).masks.sends, u32::from(to)) {
         return Err(Errno::Denied);
     }

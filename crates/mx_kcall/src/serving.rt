@@ -1,6 +1,7 @@
 //! What kernel calls do.
 
 ghost use Rattle.std.specs.Prelude.{◌≡◌, ◌≢◌, ℕ, ◌+◌, ◌<◌, ◌≤◌, ◌^◌, ◌==◌, false, Some, None, IfSome, length};
+ghost use Rattle.mx_respawn.specs.Proc.EndpointNumbers.{slot_of};
 ghost use Rattle.mx_respawn.specs.Proc.Frame.{frame};
 ghost use Rattle.mx_respawn.specs.Proc.Sound.{HasBuffer, NoneComesHome};
 ghost use Rattle.mx_respawn.specs.Proc.TableState.{process_at};
@@ -10,9 +11,9 @@ ghost use Rattle.mx_kcall.specs.Requests.{no_reply_words};
 ghost use Rattle.mx_kcall.specs.Serving.{due_after, ticks_left, table_after_change, words_of_reply, ends_caller, table_after_reply, table_after_serving, answer_of_serving, table_after_kernel_call, answer_of_kernel_call};
 
 use crate::refusals::check;
-use crate::request::{After, KernelCall, ReplyWords, reply_bytes};
+use crate::request::{After, KernelCall, ReplyWords, VirtualAddress, reply_bytes};
 use crate::windows::granted;
-use mx_respawn::{DeathCause, Slot, Table, die, go_on, slot_of};
+use mx_respawn::{DeathCause, ProcessAddress, Slot, Table, die, go_on, slot_of};
 
 /// When an alarm rings that is set for a delay; never where that is 0.
 fn due_after(uptime: u32, delay: u32) -> Option<u64>
@@ -43,18 +44,17 @@ fn answer(table: &Table, slot: Slot, request: KernelCall) -> ReplyWords
     requires permitted { IsPermitted table.now request }
     ensures { result ≡ words_of_reply table.now slot request }
 {
-    // So few that a slot fits a byte.
-    let _used = table.used();
+    let process = table.process(slot);
     let p0 = match request {
         KernelCall::Times => {
-            let steps = table.process(slot).steps;
+            let steps = process.steps;
             return ReplyWords {
                 p0: table.uptime(),
                 p1: (steps % 0x1_0000_0000) as u32,
                 p2: (steps / 0x1_0000_0000) as u32,
             };
         }
-        KernelCall::SetAlarm(_) => ticks_left(table.uptime(), table.process(slot).alarm),
+        KernelCall::SetAlarm(_) => ticks_left(table.uptime(), process.alarm),
         KernelCall::Devio {
             action: 0,
             register,
@@ -64,6 +64,18 @@ fn answer(table: &Table, slot: Slot, request: KernelCall) -> ReplyWords
         _ => 0,
     };
     ReplyWords { p0, p1: 0, p2: 0 }
+}
+
+/// The address in the process that a virtual address names.
+fn address_of(table: &Table, address: VirtualAddress) -> ProcessAddress
+    requires { slot_of address.endpoint < length table.now.slots }
+    ensures slot { result.slot ≡ slot_of address.endpoint }
+    ensures offset { result.offset ≡ address.offset }
+{
+    ProcessAddress {
+        slot: table.slot_of(address.endpoint),
+        offset: address.offset,
+    }
 }
 
 /// Does what a request asks of a table.
@@ -100,10 +112,9 @@ fn change(table: &mut Table, slot: Slot, request: KernelCall)
             }
         }
         KernelCall::Vircopy(copied) => {
-            let (source, target) = (copied.source, copied.target);
-            let from = table.slot_of(source.endpoint);
-            let to = table.slot_of(target.endpoint);
-            table.copy(from, source.offset, to, target.offset, copied.count);
+            let source = address_of(table, copied.source);
+            let target = address_of(table, copied.target);
+            table.copy(source, target, copied.count);
         }
         KernelCall::Kill(endpoint) => die(table, table.slot_of(endpoint), DeathCause::Kill),
         KernelCall::Grant(grant) => {

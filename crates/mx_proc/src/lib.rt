@@ -20,6 +20,6 @@ pub use endpoints::{
     ANY, CLOCK, Endpoint, HARDWARE, SYSTEM, endpoint_from, generation_of, slot_of,
 };
 pub use errors::Errno;
-pub use process::{DeathCause, Masks, Partner, Process, Slot, Source, State};
+pub use process::{DeathCause, Masks, Partner, Process, ProcessAddress, Slot, Source, State};
 pub use table::{MESSAGE_SIZE, Stale, Table};
 pub use windows::{Access, Rules, Window};

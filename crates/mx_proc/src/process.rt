@@ -10,6 +10,13 @@ use mx_exec::Image;
 /// The number of a slot of the table, 0 to 31.
 pub type Slot = u8;
 
+/// An address in the memory of a slot's process.
+#[derive(Clone, Copy)]
+pub struct ProcessAddress {
+    pub slot: Slot,
+    pub offset: u32,
+}
+
 /// Who can notify a process.
 #[derive(Clone, Copy, PartialEq, Eq)]
 pub enum Source {

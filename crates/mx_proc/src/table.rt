@@ -195,6 +195,7 @@ impl Table {
     pub fn process(&self, slot: Slot) -> &Process
         requires { slot < length self.now.slots }
         ensures value { result.now ≡ process_at self.now slot }
+        ensures few { length self.now.slots ≤ 32 }
         ensures buffer { is_blocked (process_at self.now slot).state ≡ true
             → HasBuffer (process_at self.now slot) }
         ensures generation { (process_at self.now slot).generation < 2 ^ 20 }

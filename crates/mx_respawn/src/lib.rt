@@ -9,8 +9,8 @@ mod service;
 pub use death::die;
 pub use label::Label;
 pub use mx_ipc::{
-    Access, DeathCause, Endpoint, Errno, MESSAGE_SIZE, Masks, Rules, SYSTEM, Slot, Source, Stale,
-    State, Table, Window, go_on, notify, slot_of,
+    Access, DeathCause, Endpoint, Errno, MESSAGE_SIZE, Masks, ProcessAddress, Rules, SYSTEM, Slot,
+    Source, Stale, State, Table, Window, go_on, notify, slot_of,
 };
 pub use mx_load::load;
 pub use respawning::{is_worn, respawn};

@@ -9,7 +9,7 @@ ghost use Rattle.mx_proc.specs.TableState.{process_at, memory_at, window_of, nob
 
 use super::Table;
 use crate::devices::Devices;
-use crate::process::{DeathCause, Process, Slot, State};
+use crate::process::{DeathCause, Process, ProcessAddress, Slot, State};
 use crate::windows::Window;
 
 impl Table {
@@ -128,24 +128,18 @@ impl Table {
         self.devices.console.push(byte);
     }
 
-    /// Copies `count` bytes from address `at` of one process to address `place` of another, or of the same.
-    /// The ranges may overlap: what arrives is always the bytes as they were before the call.
-    pub fn copy(&mut self, from: Slot, at: u32, to: Slot, place: u32, count: u32)
-        requires from { from < length self.old.slots }
-        requires to { to < length self.old.slots }
-        requires source { at + count ≤ length (memory_at self.old from) }
-        requires destination { place + count ≤ length (memory_at self.old to) }
-        ensures value { self.new ≡ with_copy self.old from at to place count }
+    /// Copies `count` bytes from one address to another, of the same process or not. The ranges may overlap:
+    /// what arrives is always the bytes as they were before the call.
+    pub fn copy(&mut self, source: ProcessAddress, target: ProcessAddress, count: u32)
+        requires from { source.slot < length self.old.slots }
+        requires to { target.slot < length self.old.slots }
+        requires source { source.offset + count ≤ length (memory_at self.old source.slot) }
+        requires destination { target.offset + count ≤ length (memory_at self.old target.slot) }
+        ensures value { self.new
+            ≡ with_copy self.old source.slot source.offset target.slot target.offset count }
         ensures frame { frame self.new ≡ frame self.old }
     {
-        copy_between(
-            self.slots.as_mut_slice(),
-            from as usize,
-            at,
-            to as usize,
-            place,
-            count,
-        );
+        copy_between(self.slots.as_mut_slice(), source, target, count);
     }
 }
 
@@ -194,17 +188,26 @@ fn copy_across(source: &Process, at: u32, target: &mut Process, place: u32, coun
 }
 
 /// Copies bytes of one process to another or to itself.
-fn copy_between(processes: &mut [Process], from: usize, at: u32, to: usize, place: u32, count: u32)
-    requires from { from < length processes.old }
-    requires to { to < length processes.old }
-    requires source { at + count ≤ length (slice_index_or processes.old from nobody).image.memory }
-    requires destination { place + count
-        ≤ length (slice_index_or processes.old to nobody).image.memory }
+fn copy_between(
+    processes: &mut [Process],
+    source: ProcessAddress,
+    target: ProcessAddress,
+    count: u32,
+)
+    requires from { source.slot < length processes.old }
+    requires to { target.slot < length processes.old }
+    requires source { source.offset + count
+        ≤ length (slice_index_or processes.old source.slot nobody).image.memory }
+    requires destination { target.offset + count
+        ≤ length (slice_index_or processes.old target.slot nobody).image.memory }
     ensures { processes.new
-        ≡ slice_set processes.old to
-        (process_after_copy (slice_index_or processes.old to nobody) place
-        (part (slice_index_or processes.old from nobody).image.memory at count)) }
+        ≡ slice_set processes.old target.slot
+        (process_after_copy (slice_index_or processes.old target.slot nobody) target.offset
+        (part (slice_index_or processes.old source.slot nobody).image.memory source.offset count)) }
 {
+    let from = source.slot as usize;
+    let to = target.slot as usize;
+    let (at, place) = (source.offset, target.offset);
     if from == to {
         processes[to].image.memory.copy_within(at, place, count);
     } else if from < to {

@@ -10,17 +10,17 @@ returns-then-from-to-2 c =
     let low = c.split_at_mut-low.result.0.now in
     let high = c.split_at_mut-low.result.1.now in
     let e = c.split_at_mut-low.ensures in
-    let f = λ (p : Process) (q : Process). process_after_copy q c.args.place (part p.image.memory c.args.at c.args.count) in
+    let f = λ (p : Process) (q : Process). process_after_copy q c.args.target.offset (part p.image.memory c.args.source.offset c.args.count) in
     ap (λ x. low ++ slice_set high 0 x) c.copy_across.ensures
-    ∙ changed_later f c.args.processes.now low high c.args.from c.args.to _ _ e.value e.front_len c.if-from-to-2.true c.requires.to
+    ∙ changed_later f c.args.processes.now low high c.args.source.slot c.args.target.slot _ _ e.value e.front_len c.if-from-to-2.true c.requires.to
 
 pub returns-else-from-to-2 : goal.returns-else-from-to-2
 returns-else-from-to-2 c =
     let low = c.split_at_mut-low-else-from-to-2.result.0.now in
     let high = c.split_at_mut-low-else-from-to-2.result.1.now in
     let e = c.split_at_mut-low-else-from-to-2.ensures in
-    let f = λ (p : Process) (q : Process). process_after_copy q c.args.place (part p.image.memory c.args.at c.args.count) in
-    let apart : c.args.from ≢ c.args.to = c.if-from-to.false in
-    let less : c.args.to < c.args.from = omega (arith, c.if-from-to-2.false) in
-    ap (λ x. slice_set low c.args.to x ++ high) c.copy_across-else-from-to-2.ensures
-    ∙ changed_earlier f c.args.processes.now low high c.args.from c.args.to _ _ e.value e.front_len less c.requires.from
+    let f = λ (p : Process) (q : Process). process_after_copy q c.args.target.offset (part p.image.memory c.args.source.offset c.args.count) in
+    let apart : c.args.source.slot ≢ c.args.target.slot = c.if-from-to.false in
+    let less : c.args.target.slot < c.args.source.slot = omega (arith, c.if-from-to-2.false) in
+    ap (λ x. slice_set low c.args.target.slot x ++ high) c.copy_across-else-from-to-2.ensures
+    ∙ changed_earlier f c.args.processes.now low high c.args.source.slot c.args.target.slot _ _ e.value e.front_len less c.requires.from
