@@ -18,7 +18,7 @@ pub use course::{Course, DebugScript, History, Script};
 pub use memory::{KeptFile, MemoryWriter};
 pub use mx_app_failure::{Failure, print_text};
 pub use mx_boot::{BootError, Config, DebugLine, ScriptLine, lines_above, report, saved_text};
-pub use mx_machine::{Event, Held, Machine, Out, Record, Recorded, Tool};
+pub use mx_machine::{Event, Held, Machine, Out, Record, Recorded, Tool, at_stop};
 pub use named::{NamedFile, NamedFiles};
 pub use reader::Reader;
 pub use runtime::{RuntimeFiles, RuntimeWriter};

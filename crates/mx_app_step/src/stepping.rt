@@ -1,14 +1,14 @@
 //! Steps of a processor.
 
 ghost use Rattle.std.specs.Prelude.{◌≡◌, ◌<◌, Some, false};
-ghost use Rattle.mx_machine_world.specs.Move.{at_stop, move};
+ghost use Rattle.mx_machine_world.specs.Move.{move};
 ghost use Rattle.mx_machine_world.specs.World.{HeldProcess, actors, held_by};
 ghost use Rattle.mx_app_start.specs.KernelState.{is_for_all};
 ghost use Rattle.mx_app_start.specs.Machine.{HasWorked, world_of};
 ghost use Rattle.mx_app_step.specs.Kept.{kept_by};
 ghost use Rattle.mx_app_step.specs.Lines.{event_made, run_made, steps_made};
 
-use mx_app_start::{Event, Held, Machine, Out, Tool};
+use mx_app_start::{Event, Held, Machine, Out, Tool, at_stop};
 use mx_image::Stop;
 use mx_machine_world::Refusal;
 use mx_print_answers::{Said, said_of};
@@ -18,16 +18,6 @@ use mx_print_answers::{Said, said_of};
 struct Stepper {
     steps: u32,
     said: Said,
-}
-
-/// Whether no further step can be made.
-fn at_stop(out: &Out) -> bool
-    ensures { result ≡ at_stop out.now }
-{
-    match out.stop {
-        Stop::Spent => out.budget <= out.count,
-        Stop::Trap | Stop::Fault(_) => true,
-    }
 }
 
 impl Tool for Stepper {

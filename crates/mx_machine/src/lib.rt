@@ -12,4 +12,4 @@ pub use mx_machine_world::{
     Answer, Config, Event, FileName, Held, Out, Record, Recorded, Refusal, ServiceLine,
     ServiceLines,
 };
-pub use steps::Tool;
+pub use steps::{Tool, at_stop};

@@ -36,8 +36,8 @@ fn stop_of(outcome: Outcome) -> Stop
     }
 }
 
-/// Whether no further step can be made.
-fn at_stop(out: &Out) -> bool
+/// Whether no further step can be made: the budget is spent, or the last step ended in a trap or a fault.
+pub fn at_stop(out: &Out) -> bool
     ensures value { result ≡ at_stop out.now }
     ensures left { result ≡ false → out.now.count + 1 < 2 ^ 32 }
 {
