@@ -6,7 +6,7 @@ TOP = os.path.dirname(os.path.dirname(os.path.abspath(__file__)))
 PROGRAM = "mx"
 # A proof takes so much memory at most, in bytes, but for a few.
 MEMORY = 2_500_000_000
-# Pages with a table of what a proof costs, in seconds of one processor.
+# Pages with a table of what a proof costs, in seconds of processor.
 PAGES = ("docs/EVIDENCE.md", "docs/ARCHITECTURE.md")
 ROW = re.compile(r"^\| `(\w+)` \| (\d+) \|", re.M)
 # What compiling and linking the program adds, in seconds.
@@ -45,7 +45,8 @@ def seconds_of_proofs(names):
         file = os.path.join(TOP, page)
         if os.path.isfile(file):
             with open(file, encoding="utf-8") as it:
-                known = {**dict(ROW.findall(it.read())), **known}
+                # The first row of a crate counts.
+                known = {**dict(reversed(ROW.findall(it.read()))), **known}
     seconds = {name: int(known[name]) for name in names if name in known}
     usual = sum(seconds.values()) // len(seconds) if seconds else 60
     return {name: seconds.get(name, usual) for name in names}
