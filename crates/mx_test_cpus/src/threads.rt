@@ -129,7 +129,7 @@ struct Row {
     ending: Ending,
 }
 
-static ROWS: [Row; 3] = [
+static ROWS: &[Row] = &[
     // Two processors hold a process at the same time. Each is taken once more, and dies then; a tick
     // has room.
     Row {

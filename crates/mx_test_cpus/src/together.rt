@@ -49,7 +49,7 @@ struct Row {
     records: usize,
 }
 
-static ROWS: [Row; 3] = [
+static ROWS: &[Row] = &[
     Row {
         cpus: 8,
         log: 64,
@@ -112,13 +112,13 @@ enum Meanwhile {
     Resume,
 }
 
-static KILLED: [(u8, Recorded); 3] = [
+static KILLED: &[(u8, Recorded)] = &[
     (0, Recorded::Take),
     (1, Recorded::Kill(0)),
     (0, Recorded::Back(0)),
 ];
 
-static RESUMED: [(u8, Recorded); 2] = [(0, Recorded::Take), (0, Recorded::Back(1))];
+static RESUMED: &[(u8, Recorded)] = &[(0, Recorded::Take), (0, Recorded::Back(1))];
 
 /// The state of the process in slot 0.
 fn state(kernel: &Kernel) -> Option<State> {
@@ -132,8 +132,8 @@ fn state(kernel: &Kernel) -> Option<State> {
 /// Whether the history and slot 0 show what was done.
 fn shows(kernel: &Kernel, meanwhile: Meanwhile) -> bool {
     let (history, wanted) = match meanwhile {
-        Meanwhile::Kill => (KILLED.as_slice(), State::Down(DeathCause::Kill)),
-        Meanwhile::Resume => (RESUMED.as_slice(), State::Ready),
+        Meanwhile::Kill => (KILLED, State::Down(DeathCause::Kill)),
+        Meanwhile::Resume => (RESUMED, State::Ready),
     };
     is_history(kernel.history(), history) && state(kernel) == Some(wanted)
 }

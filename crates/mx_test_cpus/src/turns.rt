@@ -52,7 +52,7 @@ const PROCESSOR: u8 = 0;
 
 const OTHER: u8 = 1;
 
-static ROWS: [Row; 4] = [
+static ROWS: &[Row] = &[
     // A kill, a respawn, and a loan that is given back after no step.
     Row {
         log: 8,

@@ -56,7 +56,7 @@ struct Row {
     eip: u32,
 }
 
-static ROWS: [Row; 6] = [
+static ROWS: &[Row] = &[
     Row {
         slot: 3,
         steps: 9,
@@ -103,7 +103,7 @@ static ROWS: [Row; 6] = [
 
 /// Whether each row's run ends as it says, in turn.
 fn are_halted(debugger: &Debugger, out: &mut Out) -> bool {
-    for row in &ROWS {
+    for row in ROWS {
         let halt = debugger.resume(row.slot, out, row.steps);
         if (halt.count, halt.cause) != (row.count, row.cause) || out.image.eip != row.eip {
             return false;

@@ -44,7 +44,7 @@ enum Case {
 
 use Case::{Alarm, Call, Clock, Console, Copies, Kills, OwnLine, Registers};
 
-static CASES: [Case; 58] = [
+static CASES: &[Case] = &[
     // The type is tried before the mask, and the mask before the call's own reasons.
     Call(Row(0xFF, [0x608, 0, 0, 0, 0, 0], 0xFFFF_FF95, 0)),
     Call(Row(0, [0x608, 0, 0, 0, 0, 0], 0xFFFF_FF95, 0)),

@@ -72,7 +72,7 @@ const SUMMED: &str = "EAX 00000080 ECX 00000000 EDX 00000000 EBX 00000000\n\
 const KILLED: &str = "done\ndone\nrefused 54 NoProcess\nrefused 41 Worn\nrefused 53 NoLine\n\
     refused 42 NoService\n";
 
-static DONE: [Done; 20] = [
+static DONE: &[Done] = &[
     Done {
         words: &["mx", "one", "a.out", "9"],
         status: 0,
@@ -224,7 +224,7 @@ struct Failed {
     told: &'static str,
 }
 
-static FAILED: [Failed; 48] = [
+static FAILED: &[Failed] = &[
     Failed {
         words: &["mx", "one", "cut", "9"],
         status: 1,
@@ -470,7 +470,7 @@ static FAILED: [Failed; 48] = [
 ];
 
 /// Words that fail, each with `--explain` somewhere among them.
-static EXPLAINED: [Failed; 13] = [
+static EXPLAINED: &[Failed] = &[
     Failed {
         words: &["mx", "one", "--explain", "cut", "9"],
         status: 1,
@@ -662,7 +662,7 @@ fn nothing_explained(rt: HostRuntime) -> Result<(), Fail> {
 }
 
 /// Words that write, and what is told where nothing can be written.
-static UNWRITABLE: [Failed; 3] = [
+static UNWRITABLE: &[Failed] = &[
     Failed {
         words: &["mx", "as", "sum.s", "new.out", "--explain"],
         status: 3,

@@ -15,10 +15,10 @@ const STRICT_TURNS: &str =
      0 take\n0 back 4\n";
 
 /// Each, and how many of its lines are above the records.
-static TEXTS: [(&str, usize); 2] = [(TURNS, 0), (STRICT_TURNS, 1)];
+static TEXTS: &[(&str, usize)] = &[(TURNS, 0), (STRICT_TURNS, 1)];
 
 /// The report by the number of records that are left.
-static REPORTS: [&str; 11] = [
+static REPORTS: &[&str] = &[
     "0 drv 0 ready 4 20\n1 cli 1 ready 7 20\nuptime 0\nconsole 0\n",
     "0 drv 0 out 4 20\n1 cli 1 ready 7 20\nuptime 0\nconsole 0\n",
     "0 drv 0 receiving any 4 16\n1 cli 1 ready 7 20\nuptime 0\nconsole 0\n",
@@ -80,7 +80,7 @@ fn cut_at_each_byte(rt: &impl Abort, alloc: Global, text: &[u8], above: usize) {
 
 #[test]
 fn history_cut_at_each_byte(rt: HostRuntime) {
-    for (text, above) in &TEXTS {
+    for (text, above) in TEXTS {
         cut_at_each_byte(&rt, rt.alloc(), text.as_bytes(), *above);
     }
 }

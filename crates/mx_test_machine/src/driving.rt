@@ -22,7 +22,7 @@ struct Row {
 
 const DONE: Result<Replayed, Failure> = Ok(Replayed::Whole);
 
-static ROWS: [Row; 24] = [
+static ROWS: &[Row] = &[
     Row {
         config: "pair",
         text: "turns",

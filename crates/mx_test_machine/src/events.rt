@@ -36,7 +36,7 @@ enum Task {
 /// The actor that is none of the eight processors.
 const OTHER: u8 = 8;
 
-static ROWS: [Row; 21] = [
+static ROWS: &[Row] = &[
     // A call and its answer.
     Row {
         config: "asked",
@@ -563,7 +563,7 @@ const ROUND: [(u8, Event); 8] = [
 ];
 
 /// Five rounds of who asks and who answers: whose process it is, its budget and its steps.
-static ROUNDS: [(u32, u32, u32); 5] = [(0, 20, 4), (1, 20, 4), (0, 16, 3), (0, 13, 5), (1, 16, 4)];
+static ROUNDS: &[(u32, u32, u32)] = &[(0, 20, 4), (1, 20, 4), (0, 16, 3), (0, 13, 5), (1, 16, 4)];
 
 /// Whether a round's answers are those of this many steps, the last of them a trap.
 fn is_round(answers: &[Result<Answer, Refusal>], round: &(u32, u32, u32)) -> bool {
@@ -577,7 +577,7 @@ fn is_round(answers: &[Result<Answer, Refusal>], round: &(u32, u32, u32)) -> boo
 
 fn are_rounds(alloc: Global, machine: &mut Machine) -> bool {
     let mut answers = Vec::new(alloc);
-    for round in &ROUNDS {
+    for round in ROUNDS {
         answers.clear();
         if machine.run(&ROUND, &mut answers).is_err() || !is_round(answers.as_slice(), round) {
             return false;
@@ -599,7 +599,7 @@ fn is_lent(machine: &mut Machine) -> bool {
 }
 
 /// The last generation, and the last restart: no event reaches the former in a history's length.
-static WORN: [(u32, u32, bool); 4] = [
+static WORN: &[(u32, u32, bool)] = &[
     (0, 0, false),
     (1, 1, true),
     (1_048_574, 0, false),
@@ -632,7 +632,7 @@ fn is_worn_so(alloc: Global, service: &Service, worn: &(u32, u32, bool)) -> bool
 }
 
 fn are_worn(alloc: Global, service: &Service) -> bool {
-    for worn in &WORN {
+    for worn in WORN {
         if !is_worn_so(alloc, service, worn) {
             return false;
         }

@@ -132,7 +132,7 @@ const GRANTS: [u8; 101] = [
     0x21,
 ];
 
-static FILES: [NamedFile<'static>; 46] = [
+static FILES: &[NamedFile<'static>] = &[
     NamedFile {
         name: "pair",
         bytes: PAIR,
@@ -351,10 +351,10 @@ static FILES: [NamedFile<'static>; 46] = [
 
 /// What reads the files of machines that texts drive.
 pub(crate) fn reader() -> NamedFiles<'static> {
-    NamedFiles::new(&FILES)
+    NamedFiles::new(FILES)
 }
 
-static SMALL: [NamedFile<'static>; 23] = [
+static SMALL: &[NamedFile<'static>] = &[
     NamedFile {
         name: "empty",
         bytes: b"",
@@ -476,7 +476,7 @@ static SMALL: [NamedFile<'static>; 23] = [
 
 /// What reads the files of machines that are worked by hand; the text that drives them is "empty".
 pub(crate) fn small_reader() -> NamedFiles<'static> {
-    NamedFiles::new(&SMALL)
+    NamedFiles::new(SMALL)
 }
 
 /// A file with a separate text and an entry, 128 bytes of bss and a total of 4096.

@@ -23,7 +23,7 @@ const KILLED: &str = "done\ndone\nrefused 54 NoProcess\nrefused 41 Worn\nrefused
 
 const FAULTED: &str = "0 a 0 down fault 13 7 1\nuptime 0\nconsole 0\n";
 
-static ROWS: [Row; 9] = [
+static ROWS: &[Row] = &[
     Row {
         request: CommandRequest::One {
             file: "a.out",

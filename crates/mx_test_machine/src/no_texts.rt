@@ -12,7 +12,7 @@ use std::time::Clock;
 
 /// Bytes that aren't UTF-8: one that begins no letter, one that only goes on, a letter that is cut, one in
 /// more bytes than it needs, half of a pair of UTF-16, and a number past the last letter.
-static NO_LETTERS: [&[u8]; 6] = [
+static NO_LETTERS: &[&[u8]] = &[
     b"\xFF",
     b"\x80",
     b"\xC3",
@@ -50,7 +50,7 @@ const LINE: &[u8] = b"tick\n";
 
 const RECORD: &[u8] = b"1 tick\n";
 
-static ROWS: [Row; 14] = [
+static ROWS: &[Row] = &[
     // A letter may stand in a comment and in a text, which has no end here; no other word begins with it.
     Row {
         request: ASSEMBLED,
@@ -204,7 +204,7 @@ fn status(answer: Result<u8, Failure>) -> u8 {
 #[test]
 fn no_texts(rt: HostRuntime) -> Result<(), Fail> {
     for (number, row) in ROWS.iter().enumerate() {
-        for end in &NO_LETTERS {
+        for end in NO_LETTERS {
             let (answer, is_silent) = answer(&rt, rt.alloc(), row, *end)?;
             assert!(rt; answer == Err(Failure::File) && is_silent, "row {number}");
         }

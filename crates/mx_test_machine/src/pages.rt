@@ -20,13 +20,13 @@ const BUFFER: u32 = 0x3FF0;
 const END: u32 = 0x3000;
 
 /// What stands in the buffers of slots 0 and 1.
-static WORDS: [[u32; 9]; 2] = [[0xEE, 1, 2, 3, 4, 5, 6, 7, 8], [0xEE; 9]];
+static WORDS: &[[u32; 9]] = &[[0xEE, 1, 2, 3, 4, 5, 6, 7, 8], [0xEE; 9]];
 
 /// A copy out of slot 0: to which slot, from, to, how many bytes.
 struct Copied(Slot, u32, u32, u32);
 
 /// Over three pages: up and down within the process, and to another.
-static COPIES: [Copied; 3] = [
+static COPIES: &[Copied] = &[
     Copied(0, 5, 1_003, 9_216),
     Copied(0, 1_003, 5, 9_216),
     Copied(1, 4_095, 90, 8_193),
@@ -54,7 +54,7 @@ fn image_of(alloc: Global, words: &[u32; 9]) -> Result<Image, Fail> {
 
 fn two_processes(rt: &impl Abort, alloc: Global) -> Result<Table, Fail> {
     let mut table = Table::new(alloc, Rules::Lenient)?;
-    for words in &WORDS {
+    for words in WORDS {
         let mut image = image_of(alloc, words)?;
         let masks = Masks {
             traps: 0x1E,
@@ -111,7 +111,7 @@ fn is_copied(rt: &impl Abort, table: &mut Table, copy: &Copied) -> bool {
 
 #[test]
 fn pages(rt: HostRuntime) -> Result<(), Fail> {
-    for copy in &COPIES {
+    for copy in COPIES {
         let mut table = two_processes(&rt, rt.alloc())?;
         assert!(rt; is_sent(&rt, &mut table));
         assert!(rt; is_told(&rt, &mut table));

@@ -16,7 +16,7 @@ struct Row {
 }
 
 /// With a text of its own, and with the text in the data. The digests are those of an independent model.
-static ROWS: [Row; 2] = [
+static ROWS: &[Row] = &[
     Row {
         flags: 0x30,
         total: LENGTH,
@@ -64,7 +64,7 @@ fn digest_of(alloc: Global, row: &Row) -> Result<[u8; 32], Fail> {
 
 #[test]
 fn pattern_from_each_entry(rt: HostRuntime) -> Result<(), Fail> {
-    for row in &ROWS {
+    for row in ROWS {
         let digest = digest_of(rt.alloc(), row)?;
         assert!(rt; digest == row.digest, "flags {}", row.flags);
     }

@@ -19,7 +19,7 @@ const COUNT: [u8; 15] = [
     0xB9, 0x03, 0, 0, 0, 0x83, 0xC0, 0x05, 0x83, 0xE9, 0x01, 0x75, 0xF8, 0xCD, 0x21,
 ];
 
-static ROWS: [Row; 7] = [
+static ROWS: &[Row] = &[
     Row {
         text: &[0xB8, 0x05, 0, 0, 0, 0x83, 0xC0, 0x7B, 0xCD, 0x21],
         entry: 0,
@@ -109,7 +109,7 @@ struct Line {
     asked: Result<CommandRequest<'static>, ErrorKind>,
 }
 
-static LINES: [Line; 9] = [
+static LINES: &[Line] = &[
     Line {
         words: &["mx", "one", "sum.out", "4294967295"],
         asked: Ok(CommandRequest::One {

@@ -128,7 +128,7 @@ fn perform(rt: &impl Abort, table: &mut Table, slot: Slot, deed: Deed) {
 }
 
 /// Senders to slot 0 in their order, which of them is killed, and from whom slot 0 then receives.
-static KILLED: [(&[Slot], Slot, &[u32]); 4] = [
+static KILLED: &[(&[Slot], Slot, &[u32])] = &[
     (
         &[
             1, 2, 3, 4, 5, 6, 7, 8, 9, 10, 11, 12, 13, 14, 15, 16, 17, 18, 19, 20, 21, 22, 23, 24,

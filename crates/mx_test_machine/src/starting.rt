@@ -15,7 +15,7 @@ const TRUNCATED: Failure = Failure::Refused(FileError::Truncated);
 /// A configuration and a script by name, and what is told.
 struct Row(&'static str, &'static str, Option<Failure>);
 
-static ROWS: [Row; 10] = [
+static ROWS: &[Row] = &[
     Row("nothing", "bad_script", Some(Failure::File)),
     Row("no_text", "bad_script", Some(Failure::File)),
     Row("bad", "nothing", Some(BAD_LINE)),

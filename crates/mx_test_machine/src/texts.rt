@@ -13,7 +13,7 @@ use std::test::Fail;
 /// A configuration, and what is told.
 struct Setup(&'static str, Option<BootError>);
 
-static SETUPS: [Setup; 35] = [
+static SETUPS: &[Setup] = &[
     Setup("", Some(BootError::BadLine(1))),
     Setup("cpus 1\n# x\n", Some(BootError::BadLine(2))),
     Setup(
@@ -228,7 +228,7 @@ use Kind::{DebugScript, History, Script};
 /// A text, and what is told of it.
 struct Text(Kind, &'static str, Result<usize, (u8, usize)>);
 
-static TEXTS: [Text; 39] = [
+static TEXTS: &[Text] = &[
     Text(Script, "tick\n\ntick\n", Err((73, 2))),
     Text(Script, "tick\nfoo", Err((73, 2))),
     Text(Script, "step 0", Err((73, 1))),
@@ -294,7 +294,7 @@ fn told_of(alloc: Global, machine: &Config, text: &Text) -> Result<usize, (u8, u
     }
 }
 
-static LINES: [ScriptLine; 3] = [
+static LINES: &[ScriptLine] = &[
     ScriptLine::Take(0),
     ScriptLine::Step(0, 99),
     ScriptLine::Tick,
@@ -302,7 +302,7 @@ static LINES: [ScriptLine; 3] = [
 
 fn is_script_read(alloc: Global) -> bool {
     match script(alloc, "take 0\nstep 0 99\ntick") {
-        Ok(read) => read.as_slice() == LINES.as_slice(),
+        Ok(read) => read.as_slice() == LINES,
         Err(_) => false,
     }
 }
@@ -331,7 +331,7 @@ impl Write for Narrow {
     }
 }
 
-static RECORDS: [Record; 6] = [
+static RECORDS: &[Record] = &[
     Record {
         actor: 1,
         event: Recorded::Take,
@@ -378,7 +378,7 @@ rules 2
 ";
 
 /// By which rules a machine was booted, and what is saved of it.
-static BY_RULES: [(Rules, &str); 2] = [(Rules::Lenient, SAVED), (Rules::Strict, SAVED_STRICT)];
+static BY_RULES: &[(Rules, &str)] = &[(Rules::Lenient, SAVED), (Rules::Strict, SAVED_STRICT)];
 
 /// Whether a writer that fails after that many bytes got just these of the text, or all if it has room.
 fn is_saved_to(alloc: Global, rules: Rules, text: &str, room: usize) -> bool {
@@ -387,7 +387,7 @@ fn is_saved_to(alloc: Global, rules: Rules, text: &str, room: usize) -> bool {
         room,
     };
     let mut sink = Over::new(narrow);
-    let is_whole = save_history(rules, &RECORDS, &mut sink).is_ok();
+    let is_whole = save_history(rules, RECORDS, &mut sink).is_ok();
     let text = text.as_bytes();
     let front = &text[..room.min(text.len())];
     is_whole == (room >= text.len()) && sink.into_writer().bytes.as_slice() == front
@@ -395,14 +395,14 @@ fn is_saved_to(alloc: Global, rules: Rules, text: &str, room: usize) -> bool {
 
 fn is_read_again(alloc: Global, machine: &Config, rules: Rules, text: &str) -> bool {
     match log(alloc, text, machine) {
-        Ok((again, records)) => again == rules && records.as_slice() == RECORDS.as_slice(),
+        Ok((again, records)) => again == rules && records.as_slice() == RECORDS,
         Err(_) => false,
     }
 }
 
 #[test]
 fn saves_histories(rt: HostRuntime) {
-    for (rules, text) in &BY_RULES {
+    for (rules, text) in BY_RULES {
         for room in 0..SAVED_STRICT.len() + 2 {
             assert!(rt; is_saved_to(rt.alloc(), *rules, *text, room), "room {room}");
         }
@@ -418,7 +418,7 @@ fn read_all(rt: &impl Abort, alloc: Global, machine: &Config) {
         assert!(rt; told_of(alloc, machine, text) == text.2, "text {number}");
     }
     assert!(rt; is_script_read(alloc));
-    for (rules, text) in &BY_RULES {
+    for (rules, text) in BY_RULES {
         assert!(rt; is_read_again(alloc, machine, *rules, *text));
     }
 }

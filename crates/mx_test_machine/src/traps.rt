@@ -50,7 +50,7 @@ const WAITS: Seen = Stays(State::Receiving(Partner::Any));
 const SENDS: Seen = Stays(State::Sending);
 
 /// Traps in turn, each time on a new table.
-static RUNS: [&[Step]; 12] = [
+static RUNS: &[&[Step]] = &[
     // Two that send to each other, one that sends to itself, and three in a ring.
     &[
         Step(0, SEND, 1, 0, SENDS, 1, Goes(0)),
@@ -184,7 +184,7 @@ static RUNS: [&[Step]; 12] = [
 
 /// The masks of traps and of sends of five processes: slot 3 may make no call, slot 4 may send to
 /// nobody.
-static MASKS: [(u32, u32); 5] = [
+static MASKS: &[(u32, u32)] = &[
     (0x1E, 0x1F),
     (0x1E, 0x1F),
     (0x1E, 0x1F),
@@ -194,7 +194,7 @@ static MASKS: [(u32, u32); 5] = [
 
 fn five_processes(rt: &impl Abort, alloc: Global) -> Result<Table, Fail> {
     let mut table = Table::new(alloc, Rules::Lenient)?;
-    for (traps, sends) in &MASKS {
+    for (traps, sends) in MASKS {
         let masks = Masks {
             traps: *traps,
             sends: *sends,
@@ -253,7 +253,7 @@ fn make_all(rt: &impl Abort, table: &mut Table, steps: &[Step]) {
 
 #[test]
 fn traps(rt: HostRuntime) -> Result<(), Fail> {
-    for steps in &RUNS {
+    for steps in RUNS {
         let mut table = five_processes(&rt, rt.alloc())?;
         make_all(&rt, &mut table, *steps);
     }
@@ -267,7 +267,7 @@ static MESSAGE: [u8; 36] = [
 ];
 
 /// What then stands in the buffer of slot 1, and what of a notification by slot 0.
-static DELIVERED: [[u32; 9]; 2] = [
+static DELIVERED: &[[u32; 9]] = &[
     [2, 7, 9, 0xFF, 0x8000_0001, 2, 3, 4, 0x7F00_0005],
     [0, 4096, 0, 0, 0, 0, 0, 0, 0],
 ];
@@ -353,7 +353,7 @@ fn last_deliveries(rt: HostRuntime) -> Result<(), Fail> {
 }
 
 /// Slots that spend a quantum, one after the other, and the level that they come to.
-static LEVELS: [(Slot, u8); 17] = [
+static LEVELS: &[(Slot, u8)] = &[
     (1, 6),
     (0, 6),
     (0, 7),
@@ -386,7 +386,7 @@ fn level_after(rt: &impl Abort, table: &mut Table, slot: Slot) -> u8 {
 
 /// Whether each slot comes to its level, and slot 0 is picked then.
 fn come_to_levels(rt: &impl Abort, table: &mut Table) -> bool {
-    for (slot, level) in &LEVELS {
+    for (slot, level) in LEVELS {
         if level_after(rt, table, *slot) != *level {
             return false;
         }

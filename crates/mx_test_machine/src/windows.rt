@@ -55,7 +55,7 @@ use Call::{Copies, Grants};
 /// Slot 1 lets slot 0 write 16 bytes at 256.
 const WRITTEN: Grant = Grant(1, 0, 256, 16, 2);
 
-static ROWS: [Row; 41] = [
+static ROWS: &[Row] = &[
     Row {
         name: "the whole window",
         grants: &[WRITTEN],
@@ -394,7 +394,7 @@ fn is_answered(rt: &impl Abort, table: &mut Table, row: &Row) -> bool {
 
 #[test]
 fn copies_through_windows(rt: HostRuntime) -> Result<(), Fail> {
-    for row in &ROWS {
+    for row in ROWS {
         let mut table = processes(&rt, rt.alloc(), Rules::Strict, 0x1FF)?;
         send_away(&rt, &mut table, 3);
         let is_right = are_granted(&rt, &mut table, row.grants)
@@ -405,7 +405,7 @@ fn copies_through_windows(rt: HostRuntime) -> Result<(), Fail> {
 }
 
 /// The rules, the mask of calls, and what comes of a grant, and of a copy without a window.
-static BY_RULES: [(Rules, u32, u32, u32); 4] = [
+static BY_RULES: &[(Rules, u32, u32, u32)] = &[
     (Rules::Lenient, 0x1FF, EBADREQUEST, OK),
     (Rules::Lenient, 0xFF, EBADREQUEST, OK),
     (Rules::Strict, 0xFF, ECALLDENIED, EPERM),
@@ -414,7 +414,7 @@ static BY_RULES: [(Rules, u32, u32, u32); 4] = [
 
 #[test]
 fn both_rules(rt: HostRuntime) -> Result<(), Fail> {
-    for (rules, calls, granted, copied) in &BY_RULES {
+    for (rules, calls, granted, copied) in BY_RULES {
         let mut table = processes(&rt, rt.alloc(), *rules, *calls)?;
         let copy = [0x605, 0, 100, 1, 256, 4];
         let is_so = result_of(&rt, &mut table, 0, &copy) == Some(*copied)

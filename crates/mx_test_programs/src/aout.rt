@@ -88,7 +88,7 @@ const CHANGE: Change = Change {
 
 /// Nothing is told of flag 4, of any byte from 5 to 7, of bss 3,840 after two bytes of text, of an
 /// entry outside the text, and of bss 4,090 after six bytes; one byte more of bss is too much.
-static CHANGES: [Change; 22] = [
+static CHANGES: &[Change] = &[
     Change {
         bytes: &[(0, 0x02)],
         told: Some(FileError::BadMagic),
@@ -246,7 +246,7 @@ const INIT_RELOCATIONS: usize = 36;
 
 /// A size at a limit is accepted where the file has the bytes, and told as the next fault where it
 /// hasn't; one more is too large. The dword at 4 is the header's length, an unused byte, and the version.
-static LIMITS: [Sizes; 21] = [
+static LIMITS: &[Sizes] = &[
     Sizes {
         dwords: &[(SYMBOLS, 17)],
         told: Some(FileError::BadSymbols),
@@ -375,7 +375,7 @@ fn sizes_at_limits(rt: HostRuntime) -> Result<(), Fail> {
 }
 
 /// Files, and where they are cut.
-static CUTS: [(&[u8], usize); 4] = [(&TRAP, 0), (&TRAP, 31), (&TRAP, 33), (&LONG, 73)];
+static CUTS: &[(&[u8], usize)] = &[(&TRAP, 0), (&TRAP, 31), (&TRAP, 33), (&LONG, 73)];
 
 /// What is told of a file that is cut.
 fn cut(alloc: Global, file: &[u8], length: usize) -> Option<FileError> {
@@ -384,7 +384,7 @@ fn cut(alloc: Global, file: &[u8], length: usize) -> Option<FileError> {
 
 #[test]
 fn cut_files(rt: HostRuntime) {
-    for (file, length) in &CUTS {
+    for (file, length) in CUTS {
         assert!(rt; cut(rt.alloc(), *file, *length) == Some(FileError::Truncated));
     }
     for length in 0..60 {

@@ -32,7 +32,7 @@ const CLIENT: [u8; 123] = [
     0x62, 0x75, 0x66, 0, 0, 0, 0, 0, 0, 0, 0, 0, 3, 0, 0, 0,
 ];
 
-static ROWS: [Row; 6] = [
+static ROWS: &[Row] = &[
     Row {
         text: "bt ecx, 0x0\n\
                bt dword [eax+esi*4+0x8], 0x5\n\

@@ -20,7 +20,7 @@ fn told(alloc: Global, text: &str) -> (u8, usize) {
 }
 
 /// A text, and its bytes.
-static SPELLINGS: [(&str, &[u8]); 15] = [
+static SPELLINGS: &[(&str, &[u8])] = &[
     ("mov eax, [ebp]", b"\x8B\x45\x00"),
     ("mov eax, [esp]", b"\x8B\x04\x24"),
     ("mov eax, [esi*4+8]", b"\x8B\x04\xB5\x08\x00\x00\x00"),
@@ -50,13 +50,13 @@ fn is_spelled(alloc: Global, text: &str, bytes: &[u8]) -> bool {
 
 #[test]
 fn spellings(rt: HostRuntime) {
-    for (text, bytes) in &SPELLINGS {
+    for (text, bytes) in SPELLINGS {
         assert!(rt; is_spelled(rt.alloc(), *text, *bytes), "{text}");
     }
 }
 
 /// A text, and the number and the line of its fault, or zeros.
-static FAULTS: [(&str, (u8, usize)); 30] = [
+static FAULTS: &[(&str, (u8, usize))] = &[
     ("", (0, 0)),
     ("mov eax, 4294967296", (2, 1)),
     (".ascii \"ab", (3, 1)),
@@ -91,7 +91,7 @@ static FAULTS: [(&str, (u8, usize)); 30] = [
 
 #[test]
 fn faults(rt: HostRuntime) {
-    for (text, fault) in &FAULTS {
+    for (text, fault) in FAULTS {
         assert!(rt; told(rt.alloc(), *text) == *fault, "{text}");
     }
 }

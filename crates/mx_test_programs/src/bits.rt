@@ -4,7 +4,7 @@ use mx_vectors_compare::check_all;
 
 /// A single step each, as it was seen on a processor; flags that the manual leaves undefined are as
 /// they were before.
-static STEPS: [&str; 104] = [
+static STEPS: &[&str] = &[
     "0fba_bt | 0fbae000 | 0fbae000 | 00000000 | 80000001 0 0 0 4 0 0 0 | 0 | 0 | go | 80000001 0 0 0 4 0 0 0 | 4 | 1 | cd5 | -\n",
     "0fba_bt | 0fba250000000000 | 0fba250000000000 | feffff7f | 0 0 0 0 4 0 0 0 | 0 | 8d5 | go | 0 0 0 0 4 0 0 0 | 8 | 8d4 | cd5 | -\n",
     "0fba_bt | 0fbae01f | 0fbae01f | 00000000 | 80000001 0 0 0 4 0 0 0 | 0 | 0 | go | 80000001 0 0 0 4 0 0 0 | 4 | 1 | cd5 | -\n",

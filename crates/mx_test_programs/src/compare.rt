@@ -3,7 +3,7 @@
 use mx_vectors_compare::{CompareFailure, Tally, check_all};
 
 /// A text, how many of its cases go wrong or which line is no case, and what is printed.
-static TEXTS: [(&str, Result<u64, u64>, &str); 18] = [
+static TEXTS: &[(&str, Result<u64, u64>, &str)] = &[
     // MOV EAX, 5 in a text of its own, over one dword of data.
     (
         "b8_mov | b805000000 | b805000000 | 00000000 | 0 0 0 0 4 0 0 0 | 0 | 0 | go | 5 0 0 0 4 0 0 0 | 5 | 0 | cd5 | -\n",

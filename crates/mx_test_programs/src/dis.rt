@@ -21,7 +21,7 @@ const ROW: Row = Row {
     names: "",
 };
 
-static ROWS: [Row; 6] = [
+static ROWS: &[Row] = &[
     Row {
         text: b"\xD6\x40",
         listing: "00000000 .data1 0xd6\n00000001 inc eax\n",

@@ -25,7 +25,7 @@ const BY_ESP: Option<Index> = Some(Index {
 });
 
 /// An instruction, whether its numbers are wide, and its bytes, if it has a spelling.
-static CASES: [(Case, bool, Option<&[u8]>); 9] = [
+static CASES: &[(Case, bool, Option<&[u8]>)] = &[
     (
         Load(Some(Register::Ebp), None, 0),
         false,

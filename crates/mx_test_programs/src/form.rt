@@ -3,6 +3,7 @@
 use mx_asm_form::{
     Address, Argument, Mnemonic, Name, Prefix, Register, Single, Size, Value, repeated, stated,
 };
+use mx_asm_statement::JumpLength;
 use mx_insn::{BitScan, BitTest, DoubleShift};
 
 const EAX: Argument = Argument::Register(Size::Dword, Register::Eax);
@@ -70,7 +71,7 @@ const LEAST_DWORD: Argument = Argument::Value(Value {
 });
 
 /// What MOV refuses, and what it takes.
-static MOVED: [(&[Argument], bool); 14] = [
+static MOVED: &[(&[Argument], bool)] = &[
     (&[EAX, BL], false),
     (&[EAX, BYTE_AT], false),
     (&[AT, ONE], false),
@@ -102,7 +103,7 @@ const BSR: Mnemonic = Mnemonic::BitScan(BitScan::Bsr);
 const SHRD: Mnemonic = Mnemonic::DoubleShift(DoubleShift::Shrd);
 
 /// What bit tests, bit scans and double shifts refuse, and what they take.
-static BITS: [(Mnemonic, &[Argument], bool); 23] = [
+static BITS: &[(Mnemonic, &[Argument], bool)] = &[
     (BTS, &[EAX, ECX], true),
     (BTS, &[EAX, LAST_BYTE], true),
     (BTS, &[EAX, PAST_BYTE], false),
@@ -129,11 +130,11 @@ static BITS: [(Mnemonic, &[Argument], bool); 23] = [
 ];
 
 fn is_moved(arguments: &[Argument]) -> bool {
-    stated(false, Mnemonic::Single(Single::Mov), arguments).is_some()
+    stated(JumpLength::Long, Mnemonic::Single(Single::Mov), arguments).is_some()
 }
 
 fn is_long_refused() -> bool {
-    stated(true, Mnemonic::Single(Single::Jmp), &[EAX]).is_none()
+    stated(JumpLength::Short, Mnemonic::Single(Single::Jmp), &[EAX]).is_none()
 }
 
 #[test]
@@ -150,7 +151,7 @@ fn sizes(rt: HostRuntime) {
 fn bits(rt: HostRuntime) {
     for (number, (mnemonic, arguments, is_taken)) in BITS.iter().enumerate() {
         assert!(rt;
-            stated(false, *mnemonic, *arguments).is_some() == *is_taken,
+            stated(JumpLength::Long, *mnemonic, *arguments).is_some() == *is_taken,
             "row {number}"
         );
     }

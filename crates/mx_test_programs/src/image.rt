@@ -70,7 +70,7 @@ const ROW: Row = Row {
     memory_after: &[],
 };
 
-static REGISTERS: [Register; 8] = [
+static REGISTERS: &[Register] = &[
     Register::Eax,
     Register::Ecx,
     Register::Edx,
@@ -82,7 +82,7 @@ static REGISTERS: [Register; 8] = [
 ];
 
 /// Bit tests, bit scans and double shifts; the last ones are no instructions.
-static BITS: [Row; 14] = [
+static BITS: &[Row] = &[
     Row {
         text: b"\x0F\xBA\xE0\x05",
         words: [0x20, 0, 0, 0, 0, 0, 0, 0],
@@ -188,7 +188,7 @@ static BITS: [Row; 14] = [
 ];
 
 /// Arithmetic, shifts, products and extensions.
-static ARITHMETIC: [Row; 15] = [
+static ARITHMETIC: &[Row] = &[
     Row {
         text: b"\x83\xC0\x01",
         words: [0xFFFFFFFF, 0, 0, 0, 0, 0, 0, 0],
@@ -310,7 +310,7 @@ static ARITHMETIC: [Row; 15] = [
 ];
 
 /// Operands in memory, and the stack.
-static PLACES: [Row; 9] = [
+static PLACES: &[Row] = &[
     Row {
         text: b"\x8B\x44\x24\x04",
         words: [0, 0, 0, 0, 0xFFC, 0, 0, 0],
@@ -422,7 +422,7 @@ static PLACES: [Row; 9] = [
 ];
 
 /// String instructions, some of them after a repeat.
-static STRINGS: [Row; 5] = [
+static STRINGS: &[Row] = &[
     Row {
         text: b"\xF3\xA4",
         memory: &[(0x5, 0x07)],
@@ -490,7 +490,7 @@ static STRINGS: [Row; 5] = [
 ];
 
 /// What faults at once.
-static FAULTS: [Row; 21] = [
+static FAULTS: &[Row] = &[
     Row {
         text: b"\xF4",
         stop: Stop::Fault(13),
@@ -601,7 +601,7 @@ static FAULTS: [Row; 21] = [
 ];
 
 /// Code that is written over while it runs, and code at a limit.
-static PATCHES: [Row; 9] = [
+static PATCHES: &[Row] = &[
     // MOV byte [7], 42h over the INC EAX that follows makes it INC EDX
     Row {
         shared: true,
@@ -817,7 +817,7 @@ const DWORDS: Row = Row {
 };
 
 /// Data and code on both sides of a page's end.
-static BOUNDARIES: [Row; 7] = [
+static BOUNDARIES: &[Row] = &[
     Row {
         text: b"\xA3\xFE\x0F\x00\x00",
         words: [0x4030201, 0, 0, 0, 0, 0, 0, 0],
@@ -989,13 +989,13 @@ fn work_all(rt: &impl Abort, alloc: Global, cache: &mut Cache, rows: &[Row]) -> 
 #[test]
 fn worked_rows(rt: HostRuntime) -> Result<(), Fail> {
     let mut cache = Cache::new(rt.alloc())?;
-    work_all(&rt, rt.alloc(), &mut cache, &ARITHMETIC)?;
-    work_all(&rt, rt.alloc(), &mut cache, &BITS)?;
-    work_all(&rt, rt.alloc(), &mut cache, &PLACES)?;
-    work_all(&rt, rt.alloc(), &mut cache, &STRINGS)?;
-    work_all(&rt, rt.alloc(), &mut cache, &FAULTS)?;
-    work_all(&rt, rt.alloc(), &mut cache, &PATCHES)?;
-    work_all(&rt, rt.alloc(), &mut cache, &BOUNDARIES)?;
+    work_all(&rt, rt.alloc(), &mut cache, ARITHMETIC)?;
+    work_all(&rt, rt.alloc(), &mut cache, BITS)?;
+    work_all(&rt, rt.alloc(), &mut cache, PLACES)?;
+    work_all(&rt, rt.alloc(), &mut cache, STRINGS)?;
+    work_all(&rt, rt.alloc(), &mut cache, FAULTS)?;
+    work_all(&rt, rt.alloc(), &mut cache, PATCHES)?;
+    work_all(&rt, rt.alloc(), &mut cache, BOUNDARIES)?;
     runs_join();
     Ok(())
 }
@@ -1007,7 +1007,7 @@ const LOOP: Row = Row {
 };
 
 /// INC EAX in a loop, and EAX and EDX where it is INC EDX in the data segment from the fifth step on.
-static LOOPS: [(Row, (u32, u32)); 2] = [
+static LOOPS: &[(Row, (u32, u32))] = &[
     (
         Row {
             shared: true,
@@ -1027,7 +1027,7 @@ fn words_around_a_write(image: &mut Image, cache: &mut Cache) -> (u32, u32) {
 
 #[test]
 fn writes_from_outside(rt: HostRuntime) -> Result<(), Fail> {
-    for (row, words) in &LOOPS {
+    for (row, words) in LOOPS {
         let mut cache = Cache::new(rt.alloc())?;
         let mut image = image_of(rt.alloc(), row)?;
         assert!(rt; words_around_a_write(&mut image, &mut cache) == *words);

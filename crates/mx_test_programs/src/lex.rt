@@ -6,7 +6,7 @@ use std::alloc::Global;
 /// Two lines, and their tokens: what each is, and from where to where it stands.
 const TEXT: &str = "a: .ascii \"\\n;\" ; b\r\nmov\t[esi*4-0x10], 9";
 
-static TOKENS: [(TokenKind, usize, usize); 15] = [
+static TOKENS: &[(TokenKind, usize, usize)] = &[
     (TokenKind::Word, 0, 1),
     (TokenKind::Mark(Mark::Colon), 1, 2),
     (TokenKind::Word, 3, 9),
@@ -25,7 +25,7 @@ static TOKENS: [(TokenKind, usize, usize); 15] = [
 ];
 
 /// Texts, and what is told of them.
-static FAULTS: [(&str, LexError); 7] = [
+static FAULTS: &[(&str, LexError)] = &[
     ("nop $", LexError::BadByte(4)),
     ("a\rb", LexError::BadByte(1)),
     (".ascii \"a\\t\"", LexError::BadByte(9)),
@@ -61,7 +61,7 @@ fn is_read(alloc: Global) -> bool {
 #[test]
 fn tokens_of_texts(rt: HostRuntime) {
     assert!(rt; is_read(rt.alloc()));
-    for (text, fault) in &FAULTS {
+    for (text, fault) in FAULTS {
         assert!(rt; tokens(rt.alloc(), *text).err() == Some(*fault), "{text}");
     }
 }

@@ -16,7 +16,7 @@ pub(crate) const FILE: [u8; 38] = [
 ];
 
 /// The flags of that file, and some bytes of its image.
-static LOADED: [(u8, &[(u32, u8)]); 2] = [
+static LOADED: &[(u8, &[(u32, u8)])] = &[
     (
         0x10,
         &[(0, 0xCD), (1, 0x21), (2, 1), (5, 4), (6, 0), (4095, 0)],
@@ -48,7 +48,7 @@ fn is_loaded(alloc: Global, flags: u8, bytes: &[(u32, u8)]) -> bool {
 
 #[test]
 fn loads_text_and_data(rt: HostRuntime) {
-    for (flags, bytes) in &LOADED {
+    for (flags, bytes) in LOADED {
         assert!(rt; is_loaded(rt.alloc(), *flags, *bytes), "flags {flags}");
     }
 }

@@ -24,7 +24,7 @@ const BYTE: Item = Item::Size(Size::Byte);
 type Shape = (bool, Option<Scale>, u32);
 
 /// Items, and the place that they are, if they are one.
-static SHAPES: [(&[Item], Option<Shape>); 10] = [
+static SHAPES: &[(&[Item], Option<Shape>)] = &[
     (
         &[OPEN, EBX, PLUS, ESI, STAR, FOUR, MINUS, FOUR, CLOSE],
         Some((true, Some(Scale::Four), 4)),

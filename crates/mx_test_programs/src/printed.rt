@@ -6,7 +6,8 @@ use mx_decode::decode;
 use mx_encode::{Wide, encode};
 use mx_insn::Insn;
 use mx_print_insn::push_statement;
-use std::alloc::Global;
+use std::alloc::{AllocGlobal, Global};
+use std::process::Abort;
 use std::string::String;
 
 /// Where the instruction after the printed one stands.
@@ -19,14 +20,14 @@ const SHORTEST: Wide = Wide {
 };
 
 /// What stands before an opcode.
-static FRONTS: [&[u8]; 4] = [b"", b"\x0F", b"\xF3", b"\xF2"];
+static FRONTS: &[&[u8]] = &[b"", b"\x0F", b"\xF3", b"\xF2"];
 
 /// The same after 66.
-static MARKED_FRONTS: [&[u8]; 4] = [b"\x66", b"\x66\x0F", b"\x66\xF3", b"\x66\xF2"];
+static MARKED_FRONTS: &[&[u8]] = &[b"\x66", b"\x66\x0F", b"\x66\xF3", b"\x66\xF2"];
 
 /// What stands after an opcode and the byte after it: a SIB byte, if there is one, and numbers. The SIB
 /// bytes say a base alone, every part, and an index without a base.
-static TAILS: [&[u8]; 3] = [
+static TAILS: &[&[u8]] = &[
     b"\x24\x12\x34\x56\x78\x9A\xBC\xDE\xF0",
     b"\x8D\xFE\xFF\xFF\xFF\x80\xFF\xFF\xFF",
     b"\xBD\x00\x00\x00\x00\x00\x00\x00\x00",
@@ -122,7 +123,7 @@ fn first_lost(alloc: Global, front: &[u8], tail: &[u8]) -> Option<u16> {
 /// Sees that every instruction after these fronts is read again.
 fn see_all_read_again(rt: &(impl Abort + AllocGlobal), fronts: &[&[u8]]) {
     for (number, front) in fronts.iter().enumerate() {
-        for tail in &TAILS {
+        for tail in TAILS {
             let lost = first_lost(rt.alloc(), *front, *tail);
             assert!(rt; lost.is_none(), "front {number}");
         }
@@ -131,10 +132,10 @@ fn see_all_read_again(rt: &(impl Abort + AllocGlobal), fronts: &[&[u8]]) {
 
 #[test]
 fn instructions_are_read_again(rt: HostRuntime) {
-    see_all_read_again(&rt, &FRONTS);
+    see_all_read_again(&rt, FRONTS);
 }
 
 #[test]
 fn instructions_after_66_are_read_again(rt: HostRuntime) {
-    see_all_read_again(&rt, &MARKED_FRONTS);
+    see_all_read_again(&rt, MARKED_FRONTS);
 }

@@ -15,7 +15,7 @@ fn told(alloc: Global, text: &[u8]) -> Option<u8> {
 }
 
 /// A line, and the number of what is told of it.
-static LINES: [(&[u8], Option<u8>); 30] = [
+static LINES: &[(&[u8], Option<u8>)] = &[
     (b"", None),
     (b"start: mov eax, [ebx+esi*4-8] ; a comment", None),
     (b"mov eax, -0x80000000", None),

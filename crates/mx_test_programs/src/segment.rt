@@ -12,7 +12,7 @@ const LIMIT: u32 = 13_000;
 struct Copied(u32, u32, u32);
 
 /// Over more than two pages: apart, up and down by one byte, up and down by a page, and of none.
-static COPIES: [Copied; 7] = [
+static COPIES: &[Copied] = &[
     Copied(100, 9_000, 4_000),
     Copied(4_095, 4_096, 8_193),
     Copied(4_096, 4_095, 8_193),
@@ -50,7 +50,7 @@ fn is_copied(rt: &impl Abort, segment: &mut Segment, copy: &Copied) -> bool {
 
 #[test]
 fn copies_within(rt: HostRuntime) -> Result<(), Fail> {
-    for copy in &COPIES {
+    for copy in COPIES {
         let mut segment = Segment::new(rt.alloc(), LIMIT)?;
         for at in 0..LIMIT {
             segment.write(at, Size::Byte, u32::from(byte_before(at)))?;

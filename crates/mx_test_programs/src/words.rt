@@ -6,7 +6,7 @@ use mx_insn_words::{
 };
 
 /// A word, and what a statement begins with it, if anything.
-static STARTS: [(&[u8], Option<WordStart>); 12] = [
+static STARTS: &[(&[u8], Option<WordStart>)] = &[
     (
         b"mov",
         Some(WordStart::Mnemonic(Mnemonic::Single(Single::Mov))),
