@@ -5,6 +5,7 @@ ghost use Rattle.mx_word.specs.Word.{value_at};
 ghost use Rattle.mx_aout.specs.File.{header_of, relocations_at, is_too_large, init_at, symbols_at, refusal_of, first_file_error, size_reasons, reasons_of_sizes, form_reasons, length_of_parts, length_asked, symbol_at, symbols_from, ReadsFile};
 ghost use Rattle.mx_aout.specs.Limits.{rounded_to_pages, used_of, IsWithin};
 
+use crate::limits::rounded_to_pages;
 use crate::program::{FileError, Program, Symbol, Symbols};
 use mx_word::{Bytes, read_dword, read_word};
 use std::alloc::{AllocError, Global};
@@ -51,11 +52,11 @@ impl Header {
         self.symbols_at() + u64::from(self.symbols)
     }
 
-    /// The total, rounded up to 4096.
-    fn rounded_total(&self) -> u64
+    /// The total, rounded up to whole pages.
+    fn rounded_total(&self) -> u128
         ensures { result ≡ rounded_to_pages self.now.total }
     {
-        (u64::from(self.total) + 4095) / 4096 * 4096
+        rounded_to_pages(u128::from(self.total))
     }
 
     /// What the data segment begins with, and bss.
@@ -76,7 +77,7 @@ impl Header {
         self.text > 1_048_576
             || self.symbols > 262_144
             || self.rounded_total() > 4_194_304
-            || self.used() > self.rounded_total()
+            || u128::from(self.used()) > self.rounded_total()
     }
 }
 

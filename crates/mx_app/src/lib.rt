@@ -2,7 +2,6 @@
 #![tactic(auto)]
 
 mod asking;
-mod channels;
 mod complaint;
 mod ending;
 mod named;
@@ -12,13 +11,12 @@ mod program;
 mod words;
 
 pub use asking::texts_asked;
-pub use channels::Channels;
 pub use complaint::Complaint;
 pub use ending::{NotingOutput, PrintedText, Terminals};
 pub use mx_app_command::{CommandLine, CommandRequest, RecordRange, command};
 pub use mx_app_db::{
-    FileWriter, KeptFile, MemoryWriter, NamedFile, NamedFiles, Reader, Replayed, db, replay, step,
-    step_saved, trace,
+    Channels, FileWriter, KeptFile, MemoryWriter, NamedFile, NamedFiles, Reader, Replayed, db,
+    replay, step, step_saved, trace,
 };
 pub use mx_app_draw::draw;
 pub use mx_app_failure::{BootError, Failure, FileError};

@@ -6,13 +6,14 @@ ghost use Rattle.mx_app_db.specs.Asked.{Asked};
 ghost use Rattle.mx_app_db.specs.Written.{Written};
 ghost use Rattle.mx_app.specs.Requests.{Performs, status_after_replay, status_after_work};
 
-use crate::channels::Channels;
 use crate::named::{as_named, dis_named, nm_named, one_named};
-use mx_app_command::CommandRequest;
-use mx_app_db::{FileWriter, Reader, Replayed, db, replay, step, step_saved, trace};
+use mx_app_command::{CommandRequest, RecordRange};
+use mx_app_db::{
+    Channels, FileWriter, HistoryPart, Reader, Replayed, db, replay, step, step_saved, trace,
+};
 use mx_app_draw::draw;
 use mx_app_failure::Failure;
-use mx_app_run::run;
+use mx_app_run::{RunNames, run};
 use std::alloc::Global;
 use std::io::Write;
 use std::sync::Wait;
@@ -75,35 +76,35 @@ pub fn perform<
             save,
         } => match save {
             None => status_after_work(step(alloc, reader, config, script, out)),
-            Some(log) => status_after_work(step_saved(
-                alloc,
-                reader,
-                &mut channels.files,
-                config,
-                script,
-                log,
-                out,
-            )),
+            Some(log) => status_after_work(step_saved(alloc, channels, config, script, log)),
         },
-        CommandRequest::Run { config, log, ticks } => status_after_work(run(
-            rt,
-            alloc,
-            reader,
-            &mut channels.files,
-            config,
-            log,
-            ticks,
-            out,
-        )),
+        CommandRequest::Run { config, log, ticks } => {
+            let names = RunNames { config, log };
+            status_after_work(run(rt, alloc, channels, names, ticks))
+        }
         CommandRequest::Replay { config, log } => {
             status_after_replay(replay(alloc, reader, config, log, out))
         }
-        CommandRequest::Trace { config, log, range } => status_after_replay(trace(
-            alloc, reader, config, log, range.from, range.to, out,
-        )),
-        CommandRequest::Draw { config, log, range } => status_after_replay(draw(
-            alloc, reader, config, log, range.from, range.to, out,
-        )),
+        CommandRequest::Trace { config, log, range } => {
+            let RecordRange { from, to } = range;
+            let records = HistoryPart {
+                config,
+                log,
+                from,
+                to,
+            };
+            status_after_replay(trace(alloc, reader, records, out))
+        }
+        CommandRequest::Draw { config, log, range } => {
+            let RecordRange { from, to } = range;
+            let records = HistoryPart {
+                config,
+                log,
+                from,
+                to,
+            };
+            status_after_replay(draw(alloc, reader, records, out))
+        }
         CommandRequest::Db { config, script } => status_after_work(db(
             alloc, reader, config, script, out,
         )),

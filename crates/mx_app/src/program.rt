@@ -5,12 +5,11 @@ ghost use Rattle.std.specs.IoError.{error_kind};
 ghost use Rattle.mx_app.specs.Words.{words_failure_of};
 
 use crate::asking::{begin_with, texts_asked};
-use crate::channels::Channels;
 use crate::complaint::Complaint;
 use crate::ending::{NotingOutput, PrintedText, Terminals};
 use crate::noting::{NotingFiles, NotingReader};
 use crate::words::perform_words;
-use mx_app_db::{RuntimeFiles, RuntimeWriter};
+use mx_app_db::{Channels, RuntimeFiles, RuntimeWriter};
 use mx_app_failure::Failure;
 use std::rt::{Env, Files};
 use std::sync::Wait;

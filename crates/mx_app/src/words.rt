@@ -8,14 +8,13 @@ ghost use Rattle.mx_app_db.specs.Written.{Written};
 ghost use Rattle.mx_app.specs.Noting.{noted_by, noted_in};
 ghost use Rattle.mx_app.specs.Words.{Explains, IsAnswered, IsPerformed, IsTold};
 
-use crate::channels::Channels;
 use crate::complaint::Complaint;
 use crate::noting::{NotingFiles, NotingReader, noted};
 use crate::performing::perform;
 use clap::Error;
 use clap::error::ErrorKind;
 use mx_app_command::{CommandLine, command};
-use mx_app_db::{FileWriter, Reader};
+use mx_app_db::{Channels, FileWriter, Reader};
 use mx_app_explain::{Notes, explain_failure};
 use mx_app_failure::{Failure, print_text};
 use std::alloc::Global;

@@ -2,7 +2,7 @@
 
 ghost use Rattle.std.specs.Prelude.{◌≡◌, IfOk, false, fold, map};
 ghost use Rattle.clap.specs.Words.{app_of, rule_of, shape_of, with_subcommand};
-ghost use Rattle.mx_app_command.specs.Words.{IsLocal, mx_grammar, top_app};
+ghost use Rattle.mx_app_command.specs.Words.{IsLocal, after_name, flag, mx_grammar, number_after, top_app, wanted, wanted_number};
 ghost use Rattle.mx_app_command.specs.Tables.{rule_of_argument, shape_of_subcommand};
 
 use crate::help::Example;
@@ -203,21 +203,60 @@ static SUBCOMMANDS: [Subcommand<'static>; 10] = [
     },
 ];
 
+/// A text that has to be given, in its place.
+fn wanted<'a>(alloc: Global, name: &'a str) -> Arg<'a>
+    ensures rule { rule_of result ≡ wanted name.entry.now }
+    ensures local { result.global ≡ false }
+{
+    Arg::new(alloc, name).action(ArgAction::Set).required(true)
+}
+
+/// A number of 32 bits that has to be given, in its place.
+fn wanted_number<'a>(alloc: Global, name: &'a str) -> Arg<'a>
+    ensures rule { rule_of result ≡ wanted_number name.entry.now }
+    ensures local { result.global ≡ false }
+{
+    wanted(alloc, name).value_parser(clap::value_parser!(u32))
+}
+
+/// A text that may be given, after a long name.
+fn after_name<'a>(alloc: Global, long: &'a str, name: &'a str) -> Arg<'a>
+    ensures rule { rule_of result ≡ after_name long.entry.now name.entry.now }
+    ensures local { result.global ≡ false }
+{
+    Arg::new(alloc, name).action(ArgAction::Set).long(long)
+}
+
+/// A number of 32 bits that may be given, after a long name.
+fn number_after<'a>(alloc: Global, long: &'a str, name: &'a str) -> Arg<'a>
+    ensures rule { rule_of result ≡ number_after long.entry.now name.entry.now }
+    ensures local { result.global ≡ false }
+{
+    after_name(alloc, long, name).value_parser(clap::value_parser!(u32))
+}
+
+/// A flag that may be given, by its own name.
+fn flag<'a>(alloc: Global, name: &'a str) -> Arg<'a>
+    ensures rule { rule_of result ≡ flag name.entry.now }
+    ensures local { result.global ≡ false }
+{
+    Arg::new(alloc, name).action(ArgAction::SetTrue).long(name)
+}
+
 /// An argument as the grammar has it.
 fn argument_of<'a>(alloc: Global, argument: &CommandArgument<'a>) -> Arg<'a>
     ensures rule { rule_of result ≡ rule_of_argument argument.now }
     ensures local { result.global ≡ false }
 {
-    let arg = Arg::new(alloc, argument.name)
-        .action(ArgAction::Set)
-        .help(argument.help);
-    match argument.form {
-        ArgumentForm::Text => arg.required(true),
-        ArgumentForm::Flag => arg.action(ArgAction::SetTrue).long(argument.name),
-        ArgumentForm::Number => arg.required(true).value_parser(clap::value_parser!(u32)),
-        ArgumentForm::After(name) => arg.long(name),
-        ArgumentForm::NumberAfter(name) => { arg.long(name).value_parser(clap::value_parser!(u32)) }
-    }
+    let name = argument.name;
+    let arg = match argument.form {
+        ArgumentForm::Text => wanted(alloc, name),
+        ArgumentForm::Number => wanted_number(alloc, name),
+        ArgumentForm::After(long) => after_name(alloc, long, name),
+        ArgumentForm::Flag => flag(alloc, name),
+        ArgumentForm::NumberAfter(long) => number_after(alloc, long, name),
+    };
+    arg.help(argument.help)
 }
 
 /// A subcommand with its arguments and its help.

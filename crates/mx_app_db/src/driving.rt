@@ -22,7 +22,6 @@ use mx_app_step::{
     DebugScript, Failure, Machine, Reader, pieces_join, print_report, print_text, start,
 };
 use mx_boot_script::DebugLine;
-use mx_print_answers::Debugger;
 use std::alloc::Global;
 use std::io::Write;
 
@@ -44,9 +43,8 @@ fn print_said<W: Write>(
         (debug_lines_text other (record { world = world_of machine.old; points = [] }) lines.now)) }
 {
     pieces_join();
-    let mut debugger = Debugger::new();
     let mut text = String::new(alloc);
-    let done = perform_debug_lines(machine, &mut debugger, other, lines, &mut text, out);
+    let done = perform_debug_lines(machine, other, lines, &mut text, out);
     if let Err(Failure::File) = done {
         return done;
     }

@@ -1,6 +1,6 @@
 //! Lines of a debugger's script.
 
-ghost use Rattle.std.specs.Prelude.{◌≡◌, ◌<◌, ◌++◌, IfErr, OnOk, string_bytes};
+ghost use Rattle.std.specs.Prelude.{◌≡◌, ◌<◌, ◌++◌, [], IfErr, OnOk, string_bytes};
 ghost use Rattle.mx_app_step.specs.Failure.{IsWanting};
 ghost use Rattle.mx_app_step.specs.Machine.{world_of};
 ghost use Rattle.mx_app_step.specs.Pieces.{IsPrintedBut};
@@ -113,11 +113,10 @@ fn perform_debug_line(
     }
 }
 
-/// Performs lines of a debugger's script, and prints the answers piece by piece. `text` ends with the last
-/// piece, which isn't printed yet: the caller prints it.
+/// Performs lines of a debugger's script, with no breakpoint set at first, and prints the answers piece by
+/// piece. `text` ends with the last piece, which isn't printed yet: the caller prints it.
 pub fn perform_debug_lines<W: io::Write>(
     machine: &mut Machine,
-    debugger: &mut Debugger,
     other: u8,
     lines: &[DebugLine],
     text: &mut String,
@@ -125,18 +124,19 @@ pub fn perform_debug_lines<W: io::Write>(
 ) -> Result<(), Failure>
     requires { other < actors (world_of machine.old) }
     ensures err { IfErr result IsWanting }
-    ensures made { OnOk result
-        (debug_lines_made other (record { world = world_of machine.old; points = debugger.old })
-        lines.now ≡ record { world = world_of machine.new; points = debugger.new }) }
+    ensures world { OnOk result (world_of machine.new
+        ≡ (debug_lines_made other (record { world = world_of machine.old; points = [] })
+        lines.now).world) }
     ensures told { OnOk result (IsPrintedBut (W.contents out.old) (W.contents out.new)
         (string_bytes text.new)
         (string_bytes text.old
-        ++ debug_lines_text other (record { world = world_of machine.old; points = debugger.old })
+        ++ debug_lines_text other (record { world = world_of machine.old; points = [] })
         lines.now)) }
 {
     pieces_join();
+    let mut debugger = Debugger::new();
     for line in lines {
-        perform_debug_line(machine, debugger, other, line, text)?;
+        perform_debug_line(machine, &mut debugger, other, line, text)?;
         print_piece(text, out)?;
     }
     Ok(())

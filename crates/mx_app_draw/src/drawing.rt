@@ -19,7 +19,8 @@ ghost use Rattle.mx_app_draw.specs.Scenes.{IsDrawing, IsDrawingPrinted, IsPictur
 use crate::scene::{DrawnPart, scene_of};
 use crate::seeing::last_drawn;
 use mx_app_step::{
-    Failure, History, Machine, Reader, Record, Replayed, first_records, print_text, start,
+    Failure, History, HistoryPart, Machine, Reader, Record, Replayed, first_records, print_text,
+    start,
 };
 use mx_look_picture::picture;
 use mx_look_svg::{Scene, push_drawing};
@@ -64,37 +65,34 @@ fn print_drawing<W: Write>(
     }
 }
 
-/// Starts a machine by the names of its configuration and of a saved history, makes the records up to
-/// `to`, and prints the picture of those from `from` on, of at most 1,000; both are places in the
-/// history, the first being 1. At an event that is refused it prints the picture of the records above
-/// it, which has the number of the record's line and the refusal.
+/// Starts the machine of a saved history, makes its records up to the last that it draws, and prints the
+/// picture of those from record `from` to record `to`, of at most 1,000. At an event that is refused it
+/// prints the picture of the records above it, which has the number of the record's line and the refusal.
 pub fn draw<R: Reader, W: Write>(
     alloc: Global,
     reader: &mut R,
-    config: &str,
-    log: &str,
-    from: u32,
-    to: u32,
+    chosen: HistoryPart<'_>,
     out: &mut W,
 ) -> Result<Replayed, Failure>
     ensures printed { IfOk result (λ replayed. (qs : List Asked) × (c : Config)
         × (vs : List Service) × (records : List Noted)
         × (R.asked reader.new ≡ R.asked reader.old ++ qs)
-        × IsStart IsSaved config.now log.now qs c vs records
-        × IsDrawingPrinted (world_at_boot c vs) c.cpus records from to replayed (λ text.
+        × IsStart IsSaved chosen.entry.config.now chosen.entry.log.now qs c vs records
+        × IsDrawingPrinted (world_at_boot c vs) c.cpus records chosen.entry.from chosen.entry.to
+        replayed (λ text.
         Appends (W.contents out.old) (W.contents out.new) text)) }
     ensures fault { IfErr result (λ f. (qs : List Asked)
         × (R.asked reader.new ≡ R.asked reader.old ++ qs)
-        × IsTold IsSaved TellsSaved config.now log.now qs f) }
+        × IsTold IsSaved TellsSaved chosen.entry.config.now chosen.entry.log.now qs f) }
 {
-    let mut started = start::<History, R>(alloc, reader, config, log)?;
+    let mut started = start::<History, R>(alloc, reader, chosen.config, chosen.log)?;
     let total = started.lines.len();
-    let records = first_records(started.lines.as_slice(), last_drawn(from, to));
+    let records = first_records(started.lines.as_slice(), last_drawn(chosen.from, chosen.to));
     let processors = u32::from(started.other);
     let part = DrawnPart {
         processors,
         total,
-        from,
+        from: chosen.from,
     };
     print_drawing(alloc, &mut started.machine, records, part, out)
 }

@@ -7,7 +7,7 @@ mod running;
 
 pub use laws::{replay_again, run_again};
 pub use mx_app_step::{
-    Failure, FileWriter, KeptFile, MemoryWriter, NamedFile, NamedFiles, Reader, Replayed, replay,
-    report, saved_text, setup_of,
+    Channels, Failure, FileWriter, KeptFile, MemoryWriter, NamedFile, NamedFiles, Reader, Replayed,
+    replay, report, saved_text, setup_of,
 };
-pub use running::run;
+pub use running::{RunNames, run};

@@ -7,7 +7,9 @@ ghost use Rattle.mx_app_step.specs.Written.{Written};
 ghost use Rattle.mx_app_run.specs.Run.{EndsDriven, IsRun, Runs};
 
 use crate::gate::RunGate;
-use mx_app_step::{Config, Failure, FileWriter, Reader, print_text, report, saved_text, setup_of};
+use mx_app_step::{
+    Channels, Config, Failure, FileWriter, Reader, print_text, report, saved_text, setup_of,
+};
 use mx_cpus_drive::{ActorSeat, Blank, Kernel, Naming, Service, Shared, boot, drive};
 use mx_word::NoMemory;
 use std::alloc::Global;
@@ -62,32 +64,42 @@ fn run_machine<R: Threads + Wait + Clock + Sync>(
     Ok(kernel)
 }
 
+/// The names of a run's files: that of its configuration, which is read, and that of its history, which is
+/// written.
+#[derive(Clone, Copy)]
+pub struct RunNames<'a> {
+    pub config: &'a str,
+    pub log: &'a str,
+}
+
 /// Runs the machine of a configuration, each processor in a thread of its own, until it is at rest after
 /// that many ticks or its history is full. Then writes the history to a file, and prints the report. The
-/// configuration isn't written over: where both have one name, nothing is read or written.
-pub fn run<T: Threads + Wait + Clock + Sync, R: Reader, F: FileWriter, W: Write>(
+/// configuration isn't written over: if both have one name, nothing is read or written.
+pub fn run<
+    T: Threads + Wait + Clock + Sync,
+    R: Reader + Drop,
+    F: FileWriter + Drop,
+    W: Write + Drop,
+>(
     rt: &T,
     alloc: Global,
-    reader: &mut R,
-    files: &mut F,
-    config: &str,
-    log: &str,
+    channels: &mut Channels<R, F, W>,
+    names: RunNames<'_>,
     ticks: u32,
-    out: &mut W,
 ) -> Result<(), Failure>
     ensures { (qs : List Asked) × (ws : List Written)
-        × (R.asked reader.new ≡ R.asked reader.old ++ qs)
-        × (F.written files.new ≡ F.written files.old ++ ws)
-        × Runs config.now log.now ticks qs ws
-        (λ text. Appends (W.contents out.old) (W.contents out.new) text) result }
+        × (R.asked channels.new.reader ≡ R.asked channels.old.reader ++ qs)
+        × (F.written channels.new.files ≡ F.written channels.old.files ++ ws)
+        × Runs names.entry.config.now names.entry.log.now ticks qs ws
+        (λ text. Appends (W.contents channels.old.out) (W.contents channels.new.out) text) result }
 {
-    if config == log {
+    if names.config == names.log {
         return Err(Failure::File);
     }
-    let (config, services) = setup_of(alloc, reader, config)?;
+    let (config, services) = setup_of(alloc, &mut channels.reader, names.config)?;
     let kernel = run_machine(rt, alloc, &config, services, ticks)?;
     let text = saved_text(alloc, &kernel)?;
     let report = report(alloc, &kernel)?;
-    files.write(alloc, log, text.as_slice())?;
-    print_text(report.as_slice(), out)
+    channels.files.write(alloc, names.log, text.as_slice())?;
+    print_text(report.as_slice(), &mut channels.out)
 }

@@ -38,11 +38,7 @@ IsTextFaulty Tells name q f = (text : List ℕ) × (e : BootError) × IsTextGive
 pub record IsServiceOf (line : ServiceLine) (bytes : List ℕ) (v : Service) : Type 0 where
   pub program : FileIs bytes v.program
   pub name : v.name ≡ line.name
-  pub masks : v.masks ≡ line.masks
-  pub level : v.level ≡ line.level
-  pub best : v.best ≡ line.best
-  pub quantum : v.quantum ≡ line.quantum
-  pub restarts : v.restarts ≡ line.restarts
+  pub terms : v.terms ≡ line.terms
 
 -- the line's file was given, and the service is made of both
 abbrev pub IsServiceRead : ServiceLine → Asked → Service → Type 0

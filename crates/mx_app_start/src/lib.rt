@@ -1,6 +1,7 @@
 //! From files' names to a booted machine: all files are read and checked in order.
 #![tactic(auto)]
 
+mod channels;
 mod course;
 mod limits;
 mod memory;
@@ -14,6 +15,7 @@ mod setup;
 mod starting;
 mod writer;
 
+pub use channels::Channels;
 pub use course::{Course, DebugScript, History, Script};
 pub use memory::{KeptFile, MemoryWriter};
 pub use mx_app_failure::{Failure, print_text};

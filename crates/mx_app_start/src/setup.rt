@@ -46,11 +46,7 @@ fn service_of<R: Reader>(
     Ok(Service {
         name: line.name,
         program,
-        masks: line.masks,
-        level: line.level,
-        best: line.best,
-        quantum: line.quantum,
-        restarts: line.restarts,
+        terms: line.terms,
     })
 }
 

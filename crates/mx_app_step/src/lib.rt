@@ -12,13 +12,13 @@ mod tracing;
 pub use laws::parts_of_a_trace_join;
 pub use lines::{perform_line, step};
 pub use mx_app_start::{
-    BootError, Config, DebugScript, Failure, FileWriter, History, KeptFile, Machine, MemoryWriter,
-    NamedFile, NamedFiles, Out, Reader, Record, RuntimeFiles, RuntimeWriter, Script, ScriptLine,
-    Tool, lines_above, print_text, report, saved_text, setup_of, start,
+    BootError, Channels, Config, DebugScript, Failure, FileWriter, History, KeptFile, Machine,
+    MemoryWriter, NamedFile, NamedFiles, Out, Reader, Record, RuntimeFiles, RuntimeWriter, Script,
+    ScriptLine, Tool, lines_above, print_text, report, saved_text, setup_of, start,
 };
 pub use mx_print_answers::Said;
 pub use printing::{pieces_join, print_piece, print_report};
 pub use records::{Replayed, replay};
 pub use saving::step_saved;
 pub use stepping::make_steps;
-pub use tracing::{first_records, look_record, resting_step, trace};
+pub use tracing::{HistoryPart, first_records, look_record, resting_step, trace};

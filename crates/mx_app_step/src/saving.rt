@@ -21,76 +21,69 @@ ghost use Rattle.mx_app_step.specs.Lines.{lines_made};
 
 use crate::lines::print_said;
 use crate::printing::print_report;
-use mx_app_start::{Failure, FileWriter, Machine, Reader, Script, ScriptLine, saved_text, start};
+use mx_app_start::{
+    Channels, Failure, FileWriter, Reader, Script, ScriptLine, Started, saved_text, start,
+};
 use std::alloc::Global;
 use std::io::Write;
 
-/// Does what lines say, prints a line for each, writes the history to a file, and prints the report.
-fn save_lines<F: FileWriter, W: Write>(
+/// On a machine that was started: does what each line of the script says, prints a line for each, writes
+/// the history to a file, and prints the report.
+fn perform_and_save<F: FileWriter, W: Write>(
     alloc: Global,
-    machine: &mut Machine,
-    other: u8,
-    lines: &[ScriptLine],
+    mut started: Started<ScriptLine>,
     files: &mut F,
     log: &str,
     out: &mut W,
 ) -> Result<(), Failure>
-    requires { other < actors (world_of machine.old) }
+    requires { started.other < actors (world_of started.machine) }
     ensures saved { OnOk result ((F.written files.new ≡ F.written files.old
         ++ kept log.now (text_kept
-        (lines_kept machine.old.kernel (world_of machine.old) other lines.now)) ∷ [])
-        × (let m = lines_made (world_of machine.old) other lines.now in
+        (lines_kept started.machine.kernel (world_of started.machine) started.other
+        started.lines.items)) ∷ [])
+        × (let m = lines_made (world_of started.machine) started.other started.lines.items in
         Appends (W.contents out.old) (W.contents out.new) (said_lines m.0
         ++ report_text m.1.table m.1.services))) }
     ensures unsaved { IfErr result (λ f. (ws : List Written)
         × (F.written files.new ≡ F.written files.old ++ ws)
         × IsUnsaved log.now (text_kept
-        (lines_kept machine.old.kernel (world_of machine.old) other lines.now)) ws f) }
+        (lines_kept started.machine.kernel (world_of started.machine) started.other
+        started.lines.items)) ws f) }
 {
-    print_said(alloc, machine, other, lines, out)?;
-    let text = saved_text(alloc, machine.kernel())?;
+    let lines = started.lines.as_slice();
+    print_said(alloc, &mut started.machine, started.other, lines, out)?;
+    let text = saved_text(alloc, started.machine.kernel())?;
     files.write(alloc, log, text.as_slice())?;
-    print_report(alloc, machine, out)
+    print_report(alloc, &started.machine, out)
 }
 
 /// Starts a machine by the names of its configuration and of a script, prints a line for each line of
 /// the script, writes the history that the script made to the file `log`, also where lines were refused,
 /// and then prints the report. What stands printed after a failure isn't promised.
-pub fn step_saved<R: Reader, F: FileWriter, W: Write>(
+pub fn step_saved<R: Reader + Drop, F: FileWriter + Drop, W: Write + Drop>(
     alloc: Global,
-    reader: &mut R,
-    files: &mut F,
+    channels: &mut Channels<R, F, W>,
     config: &str,
     script: &str,
     log: &str,
-    out: &mut W,
 ) -> Result<(), Failure>
     ensures saved { OnOk result ((qs : List Asked) × (c : Config) × (vs : List Service)
         × (said : List Line)
-        × (R.asked reader.new ≡ R.asked reader.old ++ qs)
+        × (R.asked channels.new.reader ≡ R.asked channels.old.reader ++ qs)
         × IsStart IsScript config.now script.now qs c vs said
-        × (F.written files.new ≡ F.written files.old
+        × (F.written channels.new.files ≡ F.written channels.old.files
         ++ kept log.now (saved_text c.rules (history_made (world_at_boot c vs) c.cpus said)) ∷ [])
         × (let m = lines_made (world_at_boot c vs) c.cpus said in
-        Appends (W.contents out.old) (W.contents out.new) (said_lines m.0
+        Appends (W.contents channels.old.out) (W.contents channels.new.out) (said_lines m.0
         ++ report_text m.1.table m.1.services))) }
     ensures fault { IfErr result (λ f. (qs : List Asked) × (ws : List Written)
-        × (R.asked reader.new ≡ R.asked reader.old ++ qs)
-        × (F.written files.new ≡ F.written files.old ++ ws)
+        × (R.asked channels.new.reader ≡ R.asked channels.old.reader ++ qs)
+        × (F.written channels.new.files ≡ F.written channels.old.files ++ ws)
         × (((ws ≡ []) × IsNotStarted IsScript TellsScript config.now script.now qs f)
         ⊎ ((c : Config) × (vs : List Service) × (said : List Line) × IsStart IsScript config.now script.now qs c vs said
         × IsUnsaved log.now (saved_text c.rules (history_made (world_at_boot c vs) c.cpus said)) ws
         f))) }
 {
-    let mut started = start::<Script, R>(alloc, reader, config, script)?;
-    let lines = started.lines.as_slice();
-    save_lines(
-        alloc,
-        &mut started.machine,
-        started.other,
-        lines,
-        files,
-        log,
-        out,
-    )
+    let started = start::<Script, R>(alloc, &mut channels.reader, config, script)?;
+    perform_and_save(alloc, started, &mut channels.files, log, &mut channels.out)
 }

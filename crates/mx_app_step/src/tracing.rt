@@ -185,29 +185,37 @@ pub fn first_records(records: &[Record], count: u32) -> &[Record]
     }
 }
 
-/// Starts a machine by the names of its configuration and of a saved history, makes the records up to
-/// `to`, and prints what each did from `from` on; both are places in the history, the first being 1. At
-/// an event that is refused it prints the number of the record's line and the refusal.
+/// A part of a saved history: the names of the files of its configuration and of the history, and which
+/// records. `from` and `to` are places in the history, the first being 1.
+#[derive(Clone, Copy)]
+pub struct HistoryPart<'a> {
+    pub config: &'a str,
+    pub log: &'a str,
+    pub from: u32,
+    pub to: u32,
+}
+
+/// Starts the machine of a saved history, makes its records up to `to`, and prints what each did, beginning
+/// with record `from`. At an event that is refused it prints the number of the record's line and the
+/// refusal.
 pub fn trace<R: Reader, W: Write>(
     alloc: Global,
     reader: &mut R,
-    config: &str,
-    log: &str,
-    from: u32,
-    to: u32,
+    chosen: HistoryPart<'_>,
     out: &mut W,
 ) -> Result<Replayed, Failure>
     ensures printed { IfOk result (λ replayed. (qs : List Asked) × (c : Config)
         × (vs : List Service) × (records : List Noted)
         × (R.asked reader.new ≡ R.asked reader.old ++ qs)
-        × IsStart IsSaved config.now log.now qs c vs records
-        × IsTracePrinted (world_at_boot c vs) (take to records) from replayed (λ text.
+        × IsStart IsSaved chosen.entry.config.now chosen.entry.log.now qs c vs records
+        × IsTracePrinted (world_at_boot c vs) (take chosen.entry.to records) chosen.entry.from
+        replayed (λ text.
         Appends (W.contents out.old) (W.contents out.new) text)) }
     ensures fault { IfErr result (λ f. (qs : List Asked)
         × (R.asked reader.new ≡ R.asked reader.old ++ qs)
-        × IsTold IsSaved TellsSaved config.now log.now qs f) }
+        × IsTold IsSaved TellsSaved chosen.entry.config.now chosen.entry.log.now qs f) }
 {
-    let mut started = start::<History, R>(alloc, reader, config, log)?;
-    let records = first_records(started.lines.as_slice(), to);
-    print_trace(alloc, &mut started.machine, records, from, out)
+    let mut started = start::<History, R>(alloc, reader, chosen.config, chosen.log)?;
+    let records = first_records(started.lines.as_slice(), chosen.to);
+    print_trace(alloc, &mut started.machine, records, chosen.from, out)
 }

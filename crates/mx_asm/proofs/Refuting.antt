@@ -20,7 +20,7 @@ use Rattle.mx_asm_statement.specs.declared.line.Line.{Line}
 use Rattle.mx_asm_statement.specs.declared.line.Reason.{Reason}
 use Rattle.mx_asm_statement.specs.declared.line.StatementStart.{StatementStart}
 use Rattle.mx_asm_statement.specs.declared.line.StatementStart.TheVariants as beginnings
-use Rattle.mx_asm_statement.specs.Reasons.{statement_refusal, is_second, is_unknown, is_misplaced}
+use Rattle.mx_asm_statement.specs.Reasons.{statement_refusal, is_said_again, is_unknown, is_misplaced}
 use Rattle.mx_asm_line.specs.Beginnings.{begins_with}
 use Rattle.mx_asm_line.specs.Lines.{IsLine}
 use Rattle.mx_aout.specs.Limits.{rounded_to_pages}
@@ -135,7 +135,7 @@ said_is (Some t) h = refl
 
 line_placed : Refutes → (s : Seen) (t : List ℕ) (l : Line) → IsLine t l → refusal_of_line s l ≡ None → Placed s (statement_said l)
 line_placed law s t l line clean =
-    let none = none_refused l.long (is_second (saying_of s l)) (is_unknown l.beginning) (is_misplaced s.section l.beginning) (is_none l.statement) _ _ _ _ _ clean in
+    let none = none_refused l.long (is_said_again (saying_of s l)) (is_unknown l.beginning) (is_misplaced s.section l.beginning) (is_none l.statement) _ _ _ _ _ clean in
     let begins : l.beginning ≡ begins_with (statement_said l) = law.begins t l (statement_said l) line (said_is l.statement none.2) in
     record {
       placed = ap (is_misplaced s.section) (sym begins) ∙ none.1;

@@ -11,7 +11,7 @@ use Rattle.mx_asm_statement.specs.declared.statement.Statement.TheVariants as sa
 use Rattle.mx_asm_statement.specs.declared.line.Line.{Line}
 use Rattle.mx_asm_statement.specs.declared.line.Reason.{Reason}
 use Rattle.mx_asm_statement.specs.declared.line.Saying.TheVariants.{First, Second}
-use Rattle.mx_asm_statement.specs.Reasons.{is_second, is_unknown, is_misplaced}
+use Rattle.mx_asm_statement.specs.Reasons.{is_said_again, is_unknown, is_misplaced}
 use Rattle.mx_asm.specs.declared.sizes.SectionSizes.{SectionSizes}
 use Rattle.mx_asm.specs.declared.sizes.SectionOffset.{SectionOffset}
 use Rattle.mx_asm.specs.Layout.{LinesAbove, Seen, seen_of, seen_with, above_with, statement_said, section_offset_of, sizes_after, grown_in, section_with, labels_with, names_with, separates, entry_with, names_entry, stack_with, sets_stack, is_defined, is_defined_twice, says_again, saying_of, refusal_of_line}
@@ -95,12 +95,12 @@ none_refused false false false true none r1 r2 r3 r4 r5 h = cc
 none_refused false false false false true r1 r2 r3 r4 r5 h = cc
 none_refused false false false false false r1 r2 r3 r4 r5 h = (refl, refl, refl)
 
-pub first_said : (b : Bool) → is_second (cond b Second First) ≡ false → b ≡ false
+pub first_said : (b : Bool) → is_said_again (cond b Second First) ≡ false → b ≡ false
 first_said true h = cc
 first_said false h = refl
 
 -- its label is new
 pub not_standing : (s : Seen) (l : Line) → refusal_of_line s l ≡ None → is_defined s.names l.label ≡ false
 not_standing s l clean =
-    let none = none_refused l.long (is_second (saying_of s l)) (is_unknown l.beginning) (is_misplaced s.section l.beginning) (is_none l.statement) _ _ _ _ _ clean in
+    let none = none_refused l.long (is_said_again (saying_of s l)) (is_unknown l.beginning) (is_misplaced s.section l.beginning) (is_none l.statement) _ _ _ _ _ clean in
     false_left (is_defined s.names l.label) (is_defined_twice s l.beginning) (first_said (says_again s l) none.0)

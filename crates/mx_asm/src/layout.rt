@@ -10,6 +10,7 @@ use crate::fault::AsmError;
 use crate::hashing::HashedByText;
 use crate::sizes::{SectionOffset, SectionSizes};
 use indexmap::IndexMap;
+use mx_aout::{PAGE_SIZE, rounded_to_pages};
 use mx_asm_statement::{Line, Reason, Saying, Section, Statement, StatementStart, Value, refusal};
 use mx_text::Name;
 use mx_word::Size;
@@ -62,7 +63,7 @@ impl Layout {
         }
     }
 
-    fn is_second(&self, beginning: StatementStart) -> bool
+    fn is_defined_twice(&self, beginning: StatementStart) -> bool
         ensures { result ≡ is_defined_twice (seen_of (above_of self.now)) beginning }
     {
         match beginning {
@@ -77,7 +78,7 @@ impl Layout {
     fn saying_of(&self, line: &Line) -> Saying
         ensures { result ≡ saying_of (seen_of (above_of self.now)) line.now }
     {
-        if self.stands(line.label) || self.is_second(line.beginning) {
+        if self.stands(line.label) || self.is_defined_twice(line.beginning) {
             Saying::Second
         } else {
             Saying::First
@@ -156,7 +157,7 @@ impl Layout {
         let text = if self.sep { 0 } else { self.sizes.text };
         let stack = u128::from(self.stack.unwrap_or(2048));
         let used = text + self.sizes.init + self.sizes.bss;
-        ((used + stack + 4095) / 4096 * 4096).max(4096)
+        rounded_to_pages(used + stack).max(PAGE_SIZE)
     }
 
     /// Whether the data segment is too large, where the text isn't by itself.

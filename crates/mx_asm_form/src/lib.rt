@@ -19,7 +19,8 @@ pub use form::{repeated, stated};
 pub use laws::{code_is_stated, numbers_fit};
 pub use moves::{exchange, load_address, sign_extend, zero_extend};
 pub use mx_asm_statement::{
-    Address, Argument, Branch, Index, Instruction, Name, Register, Scale, Size, Statement, Value,
+    Address, Argument, Branch, Index, Instruction, JumpLength, Name, Register, Scale, Size,
+    Statement, Value,
 };
 pub use mx_insn_words::{Mnemonic, Prefix, Single};
 pub use number::{immediate_in, names_no_other, number_in, waiting};

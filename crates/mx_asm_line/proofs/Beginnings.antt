@@ -25,7 +25,7 @@ use Rattle.mx_asm_line.specs.declared.opening.LineStart.{LineStart}
 use Rattle.mx_asm_line.specs.declared.opening.LineStart.TheVariants as begun
 use Rattle.mx_asm_line.specs.Beginnings.{begins_with}
 use Rattle.mx_asm_line.specs.Opening.{after_label, after_first}
-use Rattle.mx_asm_line.specs.Statements.{length_asked, without_short_mark, after_mnemonic, after_prefix, standing_alone, number_alone, entry_of, after_directive, text_alone, statement_of}
+use Rattle.mx_asm_line.specs.Statements.{jump_length_asked, without_short_mark, after_mnemonic, after_prefix, standing_alone, number_alone, entry_of, after_directive, text_alone, statement_of}
 use Rattle.mx_asm_line.specs.Lines.{beginning_of, beginning_after, where_named, IsLine}
 
 -- of the forms
@@ -66,7 +66,7 @@ next b (Some a) f k = k a
 
 mnemonic_agrees : StatesCode → (m : Mnemonic) (ts : List Item) → Agrees beginnings.Instruction (after_mnemonic m ts)
 mnemonic_agrees law m ts =
-    next beginnings.Instruction (arguments_of (without_short_mark m ts)) _ (λ xs s e. code_agrees s (law.stated (length_asked m ts) m xs s e))
+    next beginnings.Instruction (arguments_of (without_short_mark m ts)) _ (λ xs s e. code_agrees s (law.stated (jump_length_asked m ts) m xs s e))
 
 prefix_agrees : StatesCode → (p : Prefix) (m : Option Mnemonic) (ts : List Item) → Agrees beginnings.Instruction (after_prefix p m ts)
 prefix_agrees law p None ts = none_agrees beginnings.Instruction

@@ -24,7 +24,7 @@ use Rattle.mx_asm_form.specs.Statements.{statement_for, statement_after_prefix}
 use Rattle.mx_asm_line.specs.declared.opening.LineStart.{LineStart}
 use Rattle.mx_asm_line.specs.declared.opening.LineStart.TheVariants as begun
 use Rattle.mx_asm_line.specs.Opening.{after_label, after_first}
-use Rattle.mx_asm_line.specs.Statements.{length_asked, without_short_mark, after_mnemonic, after_prefix, standing_alone, number_alone, entry_of, after_directive, text_alone, statement_of}
+use Rattle.mx_asm_line.specs.Statements.{jump_length_asked, without_short_mark, after_mnemonic, after_prefix, standing_alone, number_alone, entry_of, after_directive, text_alone, statement_of}
 use Rattle.mx_asm_line.specs.Lines.{where_named, IsLine}
 
 -- of the forms
@@ -56,7 +56,7 @@ next (Some a) f k = k a
 -- ---- after a mnemonic
 
 mnemonic_fits : NumbersFit → (m : Mnemonic) (ts : List Item) → AllFit (after_mnemonic m ts)
-mnemonic_fits law m ts = next (arguments_of (without_short_mark m ts)) _ (λ xs. law.stated (length_asked m ts) m xs)
+mnemonic_fits law m ts = next (arguments_of (without_short_mark m ts)) _ (λ xs. law.stated (jump_length_asked m ts) m xs)
 
 prefix_fits : NumbersFit → (p : Prefix) (m : Option Mnemonic) (ts : List Item) → AllFit (after_prefix p m ts)
 prefix_fits law p None ts = none_fits

@@ -51,15 +51,15 @@ abbrev pub is_marked : Mnemonic → List Item → Bool
 is_marked m [] = false
 is_marked m (t ∷ ts) = takes_short m && is_short_word t
 
-abbrev pub length_asked : Mnemonic → List Item → JumpLength
-length_asked m ts = if is_marked m ts then Short else Long
+abbrev pub jump_length_asked : Mnemonic → List Item → JumpLength
+jump_length_asked m ts = if is_marked m ts then Short else Long
 
 abbrev pub without_short_mark : Mnemonic → List Item → List Item
 without_short_mark m [] = []
 without_short_mark m (t ∷ ts) = if takes_short m && is_short_word t then ts else t ∷ ts
 
 abbrev pub after_mnemonic : Mnemonic → List Item → Option Statement
-after_mnemonic m ts = statement_by (length_asked m ts) m (without_short_mark m ts)
+after_mnemonic m ts = statement_by (jump_length_asked m ts) m (without_short_mark m ts)
 
 -- a string instruction, alone
 abbrev pub after_prefix : Prefix → Option Mnemonic → List Item → Option Statement

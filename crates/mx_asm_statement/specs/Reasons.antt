@@ -32,15 +32,16 @@ abbrev pub first_reason : List (Bool × Reason) → Option Reason
 first_reason [] = None
 first_reason (r ∷ rest) = if r.0 then Some r.1 else first_reason rest
 
-abbrev pub is_second : Saying → Bool
-is_second First = false
-is_second Second = true
+-- whether a line above has said already what this line says
+abbrev pub is_said_again : Saying → Bool
+is_said_again First = false
+is_said_again Second = true
 
 -- the first that stands
 abbrev pub statement_refusal : Section → Saying → Line → Option Reason
 statement_refusal section saying line = first_reason (
     (line.long, LongName)
-    ∷ (is_second saying, Twice)
+    ∷ (is_said_again saying, Twice)
     ∷ (is_unknown line.beginning, Unknown)
     ∷ (is_misplaced section line.beginning, WrongSection)
     ∷ (is_none line.statement, NoForm)

@@ -1,7 +1,7 @@
 //! Lines, and the reasons to refuse one.
 
 ghost use Rattle.std.specs.Prelude.{◌≡◌};
-ghost use Rattle.mx_asm_statement.specs.Reasons.{reason_code, is_unknown, is_misplaced, is_second, statement_refusal};
+ghost use Rattle.mx_asm_statement.specs.Reasons.{reason_code, is_unknown, is_misplaced, statement_refusal};
 
 use crate::statement::{Section, Statement};
 use mx_text::Name;
@@ -90,15 +90,6 @@ pub enum Saying {
     Second,
 }
 
-fn is_second(saying: Saying) -> bool
-    ensures { result ≡ is_second saying }
-{
-    match saying {
-        Saying::First => false,
-        Saying::Second => true,
-    }
-}
-
 /// The first reason to refuse a line, where it stands in a section.
 pub fn refusal(line: &Line, section: Section, saying: Saying) -> Option<Reason>
     ensures { result ≡ statement_refusal section saying line.now }
@@ -106,7 +97,7 @@ pub fn refusal(line: &Line, section: Section, saying: Saying) -> Option<Reason>
     if line.long {
         return Some(Reason::LongName);
     }
-    if is_second(saying) {
+    if let Saying::Second = saying {
         return Some(Reason::Twice);
     }
     if is_unknown(line.beginning) {

@@ -43,7 +43,7 @@ pub fn saved_text(alloc: Global, kernel: &Kernel) -> Result<Vec<u8>, NoMemory>
     }
 }
 
-/// What is saved of a kernel is its history again for who reads it, by a configuration with as many
+/// Law: what is saved of a kernel is its history again for who reads it, by a configuration with as many
 /// actors.
 pub fn saved_again(kernel: &Kernel, config: &Config)
     requires { config.now.cpus + config.now.others ≡ actors (replay kernel.now) }

@@ -5,12 +5,12 @@ use Rattle.std.specs.Str.{IsUtf8}
 use Rattle.mx_proc.specs.declared.windows.Rules.{Rules}
 use Rattle.mx_proc.specs.declared.windows.Rules.TheVariants.{Lenient, Strict}
 use Rattle.mx_text.specs.Names.{name_of}
-use Rattle.mx_machine_world.specs.Labels.{IsLabel, IsReserved}
+use Rattle.mx_boot_config.specs.Names.{IsReserved}
 use Rattle.mx_text.specs.Fields.{◌>>=◌, fields, only}
 use Rattle.mx_boot_config.specs.declared.service.ServiceWords.{ServiceWords}
 use Rattle.mx_boot_config.specs.declared.item.ConfigItem.{ConfigItem}
 use Rattle.mx_boot_config.specs.declared.item.ConfigItem.TheVariants.{Cpus, Log, Others, ByRules, Service}
-use Rattle.mx_boot_config.specs.Terms.{number_between, terms_of, AreWithin}
+use Rattle.mx_boot_config.specs.Terms.{number_between, term_words_of, AreWithin}
 
 abbrev pub is_hash : ℕ → Bool
 is_hash b = b == 35
@@ -38,12 +38,12 @@ rules_after_word fs = do
 abbrev pub is_stray : ℕ → Bool
 is_stray b = b == 9 || b == 13
 
--- NAME FILE and what stands after: a name that a label may have, and a text
+-- NAME FILE and what stands after: a name that isn't reserved, and a text
 abbrev pub SaysService : List (List ℕ) → ServiceWords → Type 0
 SaysService (name ∷ file ∷ fs) s =
     (name_of name ≡ Some s.name) × (IsReserved name → ⊥)
     × (file ≡ s.file.now) × IsUtf8 file × (list_any is_stray file ≡ false)
-    × (terms_of fs ≡ Some s.terms)
+    × (term_words_of fs ≡ Some s.terms)
 SaysService _ s = ⊥
 
 -- `cpus N`, `log N`, `others N`, `rules N`, `service NAME FILE ..`
@@ -60,7 +60,7 @@ SaysNothing fs = (item : ConfigItem) → SaysItem fs item → ⊥
 
 -- what is said lies within a configuration's limits
 abbrev pub IsServiceWithin : ServiceWords → Type 0
-IsServiceWithin s = ∥ IsLabel s.name ∥₁ × AreWithin s.terms
+IsServiceWithin s = AreWithin s.terms
 
 abbrev pub IsItemWithin : ConfigItem → Type 0
 IsItemWithin (Cpus n) = (1 ≤ n) × (n ≤ 8)

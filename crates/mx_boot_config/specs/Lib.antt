@@ -1,3 +1,4 @@
+pub mod Names
 pub mod Terms
 pub mod Items
 pub mod Above

@@ -9,7 +9,8 @@ use Rattle.mx_text.specs.declared.names.Name.{Name}
 use Rattle.mx_proc.specs.declared.windows.Rules.TheVariants.{Strict}
 use Rattle.mx_machine_world.specs.declared.config.ServiceLine.{ServiceLine}
 use Rattle.mx_machine_world.specs.declared.config.Config.{Config}
-use Rattle.mx_boot_config.specs.declared.service.Terms.{Terms}
+use Rattle.mx_proc.specs.declared.process.Terms.{Terms}
+use Rattle.mx_boot_config.specs.declared.service.TermWords.{TermWords}
 use Rattle.mx_boot_config.specs.declared.service.ServiceWords.{ServiceWords}
 use Rattle.mx_boot_config.specs.declared.item.ConfigItem.{ConfigItem}
 use Rattle.mx_boot_config.specs.declared.item.ConfigItem.TheVariants.{Cpus, Log, Others, ByRules, Service}
@@ -70,15 +71,15 @@ IsFirstItemWrong a n (l ∷ ls) e = IsItemWrong a n l e ⊎ ((b : ItemsAbove) ×
 
 -- ---- configurations
 
--- what a service is booted from, but for its name and its file
-abbrev pub terms_of_service : ServiceLine → Terms
-terms_of_service s = record { masks = s.masks; level = s.level; best = s.best; quantum = s.quantum; restarts = s.restarts }
+-- the words that say what a service gives its processes
+abbrev pub words_of_terms : Terms → TermWords
+words_of_terms t = record { masks = t.masks; level = t.level; best = t.best; quantum = t.quantum; restarts = t.restarts }
 
 -- The service's line is what these words say.
 pub record IsLineOf (words : ServiceWords) (line : ServiceLine) : Type 0 where
-  pub name : line.name.name ≡ words.name
+  pub name : line.name ≡ words.name
   pub file : line.file ≡ words.file.now
-  pub terms : terms_of_service line ≡ words.terms
+  pub terms : words_of_terms line.terms ≡ words.terms
 
 abbrev pub AreLinesOf : List ServiceWords → List ServiceLine → Type 0
 AreLinesOf [] [] = Unit {0}

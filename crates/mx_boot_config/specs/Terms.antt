@@ -4,7 +4,7 @@ use Rattle.std.specs.Str.{bytes_eq}
 use Rattle.mx_text.specs.Fields.{◌>>=◌}
 use Rattle.mx_text.specs.NumberFields.{number_up_to}
 use Rattle.mx_proc.specs.declared.process.Masks.{Masks}
-use Rattle.mx_boot_config.specs.declared.service.Terms.{Terms}
+use Rattle.mx_boot_config.specs.declared.service.TermWords.{TermWords}
 
 -- decimal digits
 abbrev pub number_between : ℕ → ℕ → List ℕ → Option ℕ
@@ -37,26 +37,26 @@ masks_of fs = do
   Some (record { traps = t.0; sends = s.0; calls = c.0 }, c.1)
 
 -- what is said, where no field follows
-abbrev pub terms_at_end : Terms → List (List ℕ) → Option Terms
-terms_at_end terms [] = Some terms
-terms_at_end terms _ = None
+abbrev pub term_words_at_end : TermWords → List (List ℕ) → Option TermWords
+term_words_at_end terms [] = Some terms
+term_words_at_end terms _ = None
 
 -- level L best B quantum Q restarts R; the best level is no lower than the first, which has the larger number
-unfoldable pub rest_of : Masks → List (List ℕ) → Option Terms
+unfoldable pub rest_of : Masks → List (List ℕ) → Option TermWords
 rest_of masks fs = do
   l ← read_as (number_between 0 14) (codes "level") fs
   b ← read_as (number_between 0 l.0) (codes "best") l.1
   q ← read_as (number_between 1 65535) (codes "quantum") b.1
   r ← read_as (number_between 0 1048575) (codes "restarts") q.1
-  terms_at_end (record { masks = masks; level = l.0; best = b.0; quantum = q.0; restarts = r.0 }) r.1
+  term_words_at_end (record { masks = masks; level = l.0; best = b.0; quantum = q.0; restarts = r.0 }) r.1
 
-abbrev pub terms_of : List (List ℕ) → Option Terms
-terms_of fs = do
+abbrev pub term_words_of : List (List ℕ) → Option TermWords
+term_words_of fs = do
   m ← masks_of fs
   rest_of m.0 m.1
 
 -- the limits of what is said
-pub record AreWithin (t : Terms) : Type 0 where
+pub record AreWithin (t : TermWords) : Type 0 where
   pub level : t.level ≤ 14
   pub best : t.best ≤ t.level
   pub some_ticks : 0 < t.quantum

@@ -10,8 +10,8 @@ use crate::item::ConfigItem;
 use crate::items::{before_comment, item_at};
 use crate::service::ServiceWords;
 use arrayvec::ArrayVec;
-use mx_machine_world::{Config, FileName, Label, ServiceLine, ServiceLines};
-use mx_proc::Rules;
+use mx_machine_world::{Config, FileName, ServiceLine, ServiceLines};
+use mx_proc::{Rules, Terms};
 use mx_text::{BootError, Name, next_field};
 use std::alloc::{AllocError, Global};
 use std::marker::Model;
@@ -56,13 +56,15 @@ fn line_of(alloc: Global, words: &ServiceWords<'_>) -> Result<ServiceLine, Alloc
 {
     let file = String::from_str(alloc, words.file)?;
     Ok(ServiceLine {
-        name: Label { name: words.name },
+        name: words.name,
         file: FileName::from_string(file),
-        masks: words.terms.masks,
-        level: words.terms.level,
-        best: words.terms.best,
-        quantum: words.terms.quantum,
-        restarts: words.terms.restarts,
+        terms: Terms {
+            masks: words.terms.masks,
+            level: words.terms.level,
+            best: words.terms.best,
+            quantum: words.terms.quantum,
+            restarts: words.terms.restarts,
+        },
     })
 }
 

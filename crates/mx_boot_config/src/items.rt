@@ -8,9 +8,9 @@ ghost use Rattle.mx_boot_config.specs.declared.item.ConfigItem.{ConfigItem};
 ghost use Rattle.mx_boot_config.specs.Items.{is_hash, is_stray, said_in, number_after_word, rules_after_word, SaysService, SaysItem, IsServiceWithin, IsItemWithin};
 
 use crate::item::ConfigItem;
+use crate::names::service_name;
 use crate::service::ServiceWords;
-use crate::terms::{number_between, terms_of};
-use mx_machine_world::Label;
+use crate::terms::{number_between, term_words_of};
 use mx_proc::Rules;
 use mx_text::{next_field, one_field};
 
@@ -75,14 +75,14 @@ fn service_of(line: &[u8]) -> Option<ServiceWords<'_>>
 {
     let (name, rest) = next_field(line)?;
     let (file, rest) = next_field(rest)?;
-    let label = Label::new(name)?;
-    let terms = terms_of(rest)?;
+    let name = service_name(name)?;
+    let terms = term_words_of(rest)?;
     if has_stray(file) {
         return None;
     }
     match str::from_utf8(file) {
         Ok(text) => Some(ServiceWords {
-            name: label.name,
+            name,
             file: text,
             terms,
         }),

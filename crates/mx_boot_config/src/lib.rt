@@ -4,6 +4,7 @@
 mod draft;
 mod item;
 mod items;
+mod names;
 mod reading;
 mod service;
 mod terms;

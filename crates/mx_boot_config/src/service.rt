@@ -3,9 +3,9 @@
 use mx_proc::Masks;
 use mx_text::Name;
 
-/// What a service's line says after its file.
+/// What a service's line says after its file. `Terms` has the same fields, with their limits.
 #[derive(Clone, Copy)]
-pub struct Terms {
+pub struct TermWords {
     pub masks: Masks,
     pub level: u8,
     pub best: u8,
@@ -18,7 +18,7 @@ pub struct Terms {
 pub struct ServiceWords<'a> {
     pub name: Name,
     pub file: &'a str,
-    pub terms: Terms,
+    pub terms: TermWords,
 }
 
 /// No line's words: what stands in a list where no line's are.
@@ -29,7 +29,7 @@ impl<'a> Default for ServiceWords<'a> {
             sends: 0,
             calls: 0,
         };
-        let terms = Terms {
+        let terms = TermWords {
             masks,
             level: 0,
             best: 0,

@@ -2,9 +2,9 @@
 
 ghost use Rattle.std.specs.Prelude.{◌≡◌, ◌≤◌, Some, None, MatchOption, IfSome};
 ghost use Rattle.mx_text.specs.Fields.{fields};
-ghost use Rattle.mx_boot_config.specs.Terms.{number_between, mask, key_with_value, read_as, masks_of, rest_of, terms_of, AreWithin};
+ghost use Rattle.mx_boot_config.specs.Terms.{number_between, mask, key_with_value, read_as, masks_of, rest_of, term_words_of, AreWithin};
 
-use crate::service::Terms;
+use crate::service::TermWords;
 use mx_proc::Masks;
 use mx_text::{next_field, number_up_to};
 
@@ -86,7 +86,7 @@ fn masks_of(line: &[u8]) -> Option<(Masks, &[u8])>
 
 /// `level L best B quantum Q restarts R`.
 #[tactic(auto, unfolding(crate::specs::Terms::rest_of))]
-fn rest_of(masks: Masks, line: &[u8]) -> Option<Terms>
+fn rest_of(masks: Masks, line: &[u8]) -> Option<TermWords>
     ensures value { result ≡ rest_of masks (fields line.now) }
     ensures within { IfSome result AreWithin }
 {
@@ -96,7 +96,7 @@ fn rest_of(masks: Masks, line: &[u8]) -> Option<Terms>
     let (restarts, rest) = number_at(rest, b"restarts", 0, 1_048_575)?;
     match next_field(rest) {
         Some(_) => None,
-        None => Some(Terms {
+        None => Some(TermWords {
             masks,
             level: level as u8,
             best: best as u8,
@@ -107,8 +107,8 @@ fn rest_of(masks: Masks, line: &[u8]) -> Option<Terms>
 }
 
 /// What the fields after a service's file say: masks, levels, quantum, restarts.
-pub fn terms_of(line: &[u8]) -> Option<Terms>
-    ensures value { result ≡ terms_of (fields line.now) }
+pub fn term_words_of(line: &[u8]) -> Option<TermWords>
+    ensures value { result ≡ term_words_of (fields line.now) }
     ensures within { IfSome result AreWithin }
 {
     let (masks, rest) = masks_of(line)?;

@@ -9,7 +9,8 @@ use std::io::Write;
 #[derive(Clone, Copy, Debug, PartialEq, Eq)]
 pub struct SinkFault;
 
-/// What takes bytes, and may fail.
+/// What takes bytes, and may fail. `Over` is one. Contracts use the trait to tell which bytes were taken
+/// before a failure.
 pub trait Sink {
     ghost taken: { Self → List ℕ };
 

@@ -26,6 +26,15 @@ impl Promise<ActorSeat> for Follower {
     ghost kept_by = { λ p s. IsDriven p.cpus p.ticks p.from.value s };
 }
 
+/// What the threads of a machine share.
+#[derive(Drop)]
+struct ThreadContext<'s, M: Naming, G: Gate, R: Wait> {
+    rt: &'s R,
+    shared: &'s Shared<M>,
+    gate: &'s G,
+    ticks: u32,
+}
+
 /// The loop of an actor: a processor's, or the respawner's.
 fn serve<M: Naming, G: Gate, R: Wait>(
     rt: &R,
@@ -52,18 +61,21 @@ fn serve<M: Naming, G: Gate, R: Wait>(
 /// Starts a thread with the loop of an actor.
 fn start<'s, E, M: Naming + Send + Sync, G: Gate + Sync, R: Wait + Sync>(
     scope: &Scope<'s, E>,
-    rt: &'s R,
-    shared: &'s Shared<M>,
+    context: &ThreadContext<'s, M, G, R>,
     seat: ActorSeat,
-    gate: &'s G,
-    ticks: u32,
 ) -> Result<PromisedHandle<ActorSeat, Follower>, NoMemory>
     requires table { seat.table ≡ M.table }
     requires empty { seat.held ≡ None }
     requires actor { seat.actor ≤ length M.boot.cpus }
     ensures { IfOk result (λ h. (h.promise.from.value ≡ seat)
-        × (h.promise.cpus ≡ length M.boot.cpus) × (h.promise.ticks ≡ ticks)) }
+        × (h.promise.cpus ≡ length M.boot.cpus) × (h.promise.ticks ≡ context.now.ticks)) }
 {
+    let ThreadContext {
+        rt,
+        shared,
+        gate,
+        ticks,
+    } = *context;
     let actor = seat.actor();
     let promise = Follower {
         from: Shown::of(&seat),
@@ -89,16 +101,13 @@ fn start<'s, E, M: Naming + Send + Sync, G: Gate + Sync, R: Wait + Sync>(
 #[cycle(drive_all)]
 fn drive_all<'s, E, M: Naming + Send + Sync, G: Gate + Sync, R: Threads + Wait + Sync>(
     scope: &Scope<'s, E>,
-    rt: &'s R,
-    shared: &'s Shared<M>,
+    context: &ThreadContext<'s, M, G, R>,
     seats: &mut Vec<ActorSeat>,
-    gate: &'s G,
-    ticks: u32,
 ) -> Result<(), NoMemory>
     requires tables { All (λ s. s.table ≡ M.table) seats.old.items }
     requires empties { All (λ s. s.held ≡ None) seats.old.items }
     ensures driven { OnOk result
-        (AreDriven (length M.boot.cpus) ticks seats.old.items seats.new.items) }
+        (AreDriven (length M.boot.cpus) context.now.ticks seats.old.items seats.new.items) }
     ensures tables { OnOk result (All (λ s. s.table ≡ M.table) seats.new.items) }
     ensures len { OnOk result (vec_len seats.new ≡ vec_len seats.old) }
     ensures room { vec_capacity seats.new ≡ vec_capacity seats.old }
@@ -106,14 +115,14 @@ fn drive_all<'s, E, M: Naming + Send + Sync, G: Gate + Sync, R: Threads + Wait +
     let Some(seat) = seats.pop() else {
         return Ok(());
     };
-    if seat.actor() > shared.cpus() {
-        drive_all(scope, rt, shared, seats, gate, ticks)?;
+    if seat.actor() > context.shared.cpus() {
+        drive_all(scope, context, seats)?;
         seats.push_reserved(seat);
         return Ok(());
     }
-    let started = start(scope, rt, shared, seat, gate, ticks);
-    let others = drive_all(scope, rt, shared, seats, gate, ticks);
-    let seat = started?.join(rt);
+    let started = start(scope, context, seat);
+    let others = drive_all(scope, context, seats);
+    let seat = started?.join(context.rt);
     others?;
     seats.push_reserved(seat);
     Ok(())
@@ -147,7 +156,13 @@ pub fn drive<M: Naming + Send + Sync, G: Gate + Sync, R: Threads + Wait + Sync>(
             ensures tables { IfOk result (λ v. All (λ s. s.table ≡ M.table) v.items) }
         {
             let mut seats = seats;
-            drive_all(scope, rt, shared, &mut seats, gate, ticks)?;
+            let context = ThreadContext {
+                rt,
+                shared,
+                gate,
+                ticks,
+            };
+            drive_all(scope, &context, &mut seats)?;
             Ok(seats)
         },
     )

@@ -10,6 +10,9 @@ use crate::points::Debugger;
 use mx_machine_kernel::{Held, held_runs_join};
 use mx_proc::Slot;
 
+/// How many marks there are, one for each remainder of an address.
+const MARKS: usize = 1024;
+
 /// All steps at once, where no breakpoint can be reached.
 fn run_on<H: Held>(held: &mut H, k: u32) -> Halt
     ensures halts { (points : List Breakpoint) (slot : ℕ) → (k ≡ 0) ⊎ (has_any points slot ≡ false)
@@ -25,34 +28,34 @@ fn run_on<H: Held>(held: &mut H, k: u32) -> Halt
 }
 
 impl Debugger {
-    /// Marks, by address modulo 1,024, where a slot has breakpoints.
-    fn marks(&self, slot: Slot) -> [bool; 1024]
+    /// Marks, by the remainders of addresses, where a slot has breakpoints.
+    fn marks(&self, slot: Slot) -> [bool; MARKS]
         ensures { (address : ℕ) → has_breakpoint self.now slot address ≡ true
             → slice_index_or result (address % 1024) false ≡ true }
     {
-        let mut marks = [false; 1024];
+        let mut marks = [false; MARKS];
         for point in self.as_slice() {
             if point.slot == slot {
-                marks[(point.address % 1024) as usize] = true;
+                marks[point.address as usize % MARKS] = true;
             }
         }
         marks
     }
 
     /// Whether a slot has a breakpoint at an address, by its marks first.
-    fn is_reached(&self, marks: &[bool; 1024], slot: Slot, address: u32) -> bool
+    fn is_reached(&self, marks: &[bool; MARKS], slot: Slot, address: u32) -> bool
         requires { (a : ℕ) → has_breakpoint self.now slot a ≡ true
             → slice_index_or marks.now (a % 1024) false ≡ true }
         ensures { result ≡ has_breakpoint self.now slot address }
     {
-        if !marks[(address % 1024) as usize] {
+        if !marks[address as usize % MARKS] {
             return false;
         }
         self.stands(slot, address)
     }
 
     /// Where an address stands, at which the slot's next instruction is.
-    fn next_place(&self, marks: &[bool; 1024], slot: Slot, address: u32) -> NextPlace
+    fn next_place(&self, marks: &[bool; MARKS], slot: Slot, address: u32) -> NextPlace
         requires { (a : ℕ) → has_breakpoint self.now slot a ≡ true
             → slice_index_or marks.now (a % 1024) false ≡ true }
         ensures { is_breakpoint result ≡ has_breakpoint self.now slot address }

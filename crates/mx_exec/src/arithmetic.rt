@@ -7,11 +7,12 @@ ghost use Rattle.mx_exec.specs.Accumulator.{upper_register, with_halves, image_a
 ghost use Rattle.mx_exec.specs.Step.{after, image_with_result, image_after_test, image_after_factor, count_of_shift};
 
 use crate::Image;
-use crate::operands::{Part, immediate_size, immediate_value, wide_size, wide_value};
+use crate::operands::RegisterPart;
 use mx_alu::{Signedness, alu, divide, multiply, multiply_low, shift, unary};
 use mx_insn::{
     Count, Immediate, Insn, Memory, Operand, OperandSize, Operands, Product, WideImmediate,
 };
+use mx_mem::DIVIDE_ERROR;
 use mx_word::{Arithmetic, Register, Shift, Size, Unary};
 
 /// Writes a result to its operand; that of CMP is kept nowhere.
@@ -43,7 +44,7 @@ fn keep(
 fn operate_registers(
     image: &mut Image,
     operation: Arithmetic,
-    to: Part,
+    to: RegisterPart,
     from: &Operand,
     next: u32,
 ) -> Result<(), u8>
@@ -66,7 +67,7 @@ fn operate_registers(
 fn operate_on_register(
     image: &mut Image,
     operation: Arithmetic,
-    to: Part,
+    to: RegisterPart,
     from: &Operand,
     next: u32,
 ) -> Result<(), u8>
@@ -86,7 +87,7 @@ fn operate_on_memory(
     image: &mut Image,
     operation: Arithmetic,
     to: &Memory,
-    from: Part,
+    from: RegisterPart,
     next: u32,
 ) -> Result<(), u8>
     ensures { Performs image.old
@@ -116,9 +117,9 @@ fn operate_number(
         (after (Insn.Arithmetic operation (Operands.Immediate to.now number)) next image.old) result
         image.new }
 {
-    let size = immediate_size(number);
+    let size = number.size();
     let x = image.value(to, size)?;
-    let y = immediate_value(number);
+    let y = number.value();
     let (value, flags) = alu(operation, size, x, y, &image.flags);
     keep(image, operation, to, size, value)?;
     image.flags = flags;
@@ -156,14 +157,14 @@ pub fn operate(
 {
     match operands {
         Operands::ToRegister { size, to, from } => {
-            let to = Part {
+            let to = RegisterPart {
                 size: *size,
                 register: *to,
             };
             operate_on_register(image, operation, to, from, next)
         }
         Operands::ToMemory { size, to, from } => {
-            let from = Part {
+            let from = RegisterPart {
                 size: *size,
                 register: *from,
             };
@@ -211,9 +212,9 @@ pub fn test_immediate(
     ensures { Performs image.old (after (Insn.TestImmediate operand.now value) next image.old)
         result image.new }
 {
-    let size = immediate_size(value);
+    let size = value.size();
     let x = image.value(operand, size)?;
-    test_words(image, size, x, immediate_value(value), next);
+    test_words(image, size, x, value.value(), next);
     Ok(())
 }
 
@@ -329,7 +330,7 @@ fn divide_accumulator(image: &mut Image, kind: Signedness, size: Size, y: u32) -
     let high = image.regs.get(size, upper_register(size));
     let low = image.regs.get(size, Register::Eax);
     let Ok(division) = divide(kind, size, high, low, y) else {
-        return Err(0);
+        return Err(DIVIDE_ERROR);
     };
     set_halves(image, size, division.quotient, division.remainder);
     Ok(())
@@ -370,7 +371,7 @@ pub fn product(
 }
 
 /// IMUL into a register.
-fn set_product(image: &mut Image, to: Part, x: u32, y: u32, next: u32)
+fn set_product(image: &mut Image, to: RegisterPart, x: u32, y: u32, next: u32)
     requires left { x < 2 ^ width to.size }
     requires right { y < 2 ^ width to.size }
     ensures { image_after_factor to.size to.register x y next image.old ≡ Ok image.new }
@@ -394,7 +395,7 @@ pub fn multiply_register(
     let size = size.size();
     let y = image.value(from, size)?;
     let x = image.regs.get(size, to);
-    set_product(image, Part { size, register: to }, x, y, next);
+    set_product(image, RegisterPart { size, register: to }, x, y, next);
     Ok(())
 }
 
@@ -408,8 +409,14 @@ pub fn multiply_immediate(
     ensures { Performs image.old (after (Insn.MultiplyImmediate to from.now by) next image.old)
         result image.new }
 {
-    let size = wide_size(by);
+    let size = by.size();
     let x = image.value(from, size)?;
-    set_product(image, Part { size, register: to }, x, wide_value(by), next);
+    set_product(
+        image,
+        RegisterPart { size, register: to },
+        x,
+        by.value(),
+        next,
+    );
     Ok(())
 }

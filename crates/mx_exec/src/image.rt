@@ -9,7 +9,7 @@ use crate::text::{TextSegment, decode_at};
 use mx_decode::DecodeFault;
 use mx_flags::Flags;
 use mx_insn::Insn;
-use mx_mem::Segment;
+use mx_mem::{GENERAL_PROTECTION, Segment};
 use mx_regs::Regs;
 use mx_word::{Register, Size};
 use std::alloc::Global;
@@ -102,7 +102,7 @@ impl Image {
         ensures { Performs self.old (image_at_target target self.old) result self.new }
     {
         if target as usize >= self.code_limit() {
-            return Err(13);
+            return Err(GENERAL_PROTECTION);
         }
         self.eip = target;
         Ok(())

@@ -9,7 +9,7 @@ use crate::image::dword_sum;
 use crate::{Image, stack};
 use mx_flags::Flags;
 use mx_insn::Plain;
-use mx_mem::OutOfLimit;
+use mx_mem::{GENERAL_PROTECTION, OutOfLimit, STACK_FAULT};
 use mx_word::{Register, Size};
 
 /// On to the next instruction.
@@ -45,7 +45,7 @@ fn leave(image: &mut Image) -> Result<(), u8>
 {
     let top = image.register(Register::Ebp);
     let Ok(value) = image.memory.read(top, Size::Dword) else {
-        return Err(12);
+        return Err(STACK_FAULT);
     };
     image.set_register(Register::Esp, dword_sum(top, 4));
     image.set_register(Register::Ebp, value);
@@ -114,7 +114,7 @@ pub fn perform_plain(image: &mut Image, operation: Plain, next: u32) -> Result<(
             }
             pass(image, next)
         }
-        Plain::Hlt | Plain::Cli | Plain::Sti => Err(13),
+        Plain::Hlt | Plain::Cli | Plain::Sti => Err(GENERAL_PROTECTION),
         Plain::Cmc => {
             let carry = !image.flags.carry();
             set_carry(image, carry, next)

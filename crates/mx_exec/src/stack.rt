@@ -8,7 +8,7 @@ ghost use Rattle.mx_exec.specs.Stack.{image_after_push, top_of, image_after_drop
 
 use crate::Image;
 use crate::image::{dword_difference, dword_sum};
-use mx_mem::{OutOfLimit, Segment};
+use mx_mem::{OutOfLimit, STACK_FAULT, Segment};
 use mx_regs::Regs;
 use mx_word::{Register, Size};
 
@@ -22,7 +22,7 @@ pub fn push(image: &mut Image, value: u32) -> Result<(), u8>
             image.set_register(Register::Esp, top);
             Ok(())
         }
-        Err(OutOfLimit) => Err(12),
+        Err(OutOfLimit) => Err(STACK_FAULT),
     }
 }
 
@@ -35,7 +35,7 @@ pub fn top(image: &Image) -> Result<u32, u8>
         .read(image.register(Register::Esp), Size::Dword)
     {
         Ok(value) => Ok(value),
-        Err(OutOfLimit) => Err(12),
+        Err(OutOfLimit) => Err(STACK_FAULT),
     }
 }
 
@@ -110,7 +110,7 @@ pub fn push_all(image: &mut Image) -> Result<(), u8>
 {
     let top = image.register(Register::Esp);
     if !has_room(&image.memory, top) {
-        return Err(12);
+        return Err(STACK_FAULT);
     }
     store_all(&mut image.memory, &image.regs, top);
     image.set_register(Register::Esp, dword_difference(top, 32));
@@ -177,7 +177,7 @@ pub fn pop_all(image: &mut Image) -> Result<(), u8>
 {
     let top = image.register(Register::Esp);
     if !has_dwords(&image.memory, top) {
-        return Err(12);
+        return Err(STACK_FAULT);
     }
     load_all(&mut image.regs, &image.memory, top);
     Ok(())

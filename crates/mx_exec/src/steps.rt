@@ -14,6 +14,7 @@ use crate::image::dword_sum;
 use crate::{Image, Outcome, arithmetic, bits, jumps, moves, plain, strings};
 use mx_decode::DecodeFault;
 use mx_insn::{Insn, Plain};
+use mx_mem::{GENERAL_PROTECTION, INVALID_OPCODE};
 
 /// How a step ends that performs an instruction with no fault.
 pub fn outcome(insn: &Insn) -> Outcome
@@ -176,7 +177,7 @@ pub fn perform(image: &mut Image, insn: &Insn, next: u32) -> Result<(), u8>
             size,
             repeat,
         } => { strings::compare(image, *operation, *size, *repeat, next) }
-        Insn::In { .. } | Insn::Out { .. } => Err(13),
+        Insn::In { .. } | Insn::Out { .. } => Err(GENERAL_PROTECTION),
         Insn::Plain(operation) => plain::perform_plain(image, *operation, next),
         _ => calculate(image, insn, next),
     }
@@ -198,8 +199,8 @@ pub fn act(image: &mut Image, insn: &Insn, fetched: Result<u8, DecodeFault>) -> 
                 Err(vector) => Outcome::Fault(vector),
             }
         }
-        Err(DecodeFault::Short) => Outcome::Fault(13),
-        Err(DecodeFault::NotInTable) => Outcome::Fault(6),
+        Err(DecodeFault::Short) => Outcome::Fault(GENERAL_PROTECTION),
+        Err(DecodeFault::NotInTable) => Outcome::Fault(INVALID_OPCODE),
     }
 }
 

@@ -8,7 +8,7 @@ ghost use Rattle.mx_exec.specs.Strings.{read_by, written_by, pointer_after, imag
 use crate::Image;
 use crate::image::{dword_difference, dword_sum};
 use mx_insn::{Comparison, Repeat, Transfer};
-use mx_mem::OutOfLimit;
+use mx_mem::{GENERAL_PROTECTION, OutOfLimit};
 use mx_word::{Register, Size};
 
 /// The number that a pointer names.
@@ -18,7 +18,7 @@ fn read_by(image: &Image, pointer: Register, size: Size) -> Result<u32, u8>
 {
     match image.memory.read(image.register(pointer), size) {
         Ok(value) => Ok(value),
-        Err(OutOfLimit) => Err(13),
+        Err(OutOfLimit) => Err(GENERAL_PROTECTION),
     }
 }
 
@@ -29,7 +29,7 @@ fn write_by(image: &mut Image, pointer: Register, size: Size, value: u32) -> Res
     let at = image.register(pointer);
     match image.memory.write(at, size, value) {
         Ok(()) => Ok(()),
-        Err(OutOfLimit) => Err(13),
+        Err(OutOfLimit) => Err(GENERAL_PROTECTION),
     }
 }
 

@@ -1,7 +1,8 @@
 //! Instructions as values: operation, size and operands, and not the form that spelled them.
 
-ghost use Rattle.std.specs.Prelude.{◌≡◌};
-ghost use Rattle.mx_insn.specs.Sizes.{size_of_operands};
+ghost use Rattle.std.specs.Prelude.{◌≡◌, ◌^◌, ◌<◌};
+ghost use Rattle.mx_word.specs.Word.{width};
+ghost use Rattle.mx_insn.specs.Sizes.{size_of_immediate, size_of_operands, value_of_immediate, wide_size, wide_value};
 
 use mx_word::{Arithmetic, BitScan, BitTest, Condition, DoubleShift, Register, Shift, Size, Unary};
 
@@ -64,11 +65,61 @@ pub enum Immediate {
     Dword(u32),
 }
 
+impl Immediate {
+    #[inline(always)]
+    pub fn size(self) -> Size
+        ensures { result ≡ size_of_immediate self }
+    {
+        match self {
+            Immediate::Byte(_) => Size::Byte,
+            Immediate::Word(_) => Size::Word,
+            Immediate::Dword(_) => Size::Dword,
+        }
+    }
+
+    /// The number, unsigned.
+    #[inline(always)]
+    pub fn value(self) -> u32
+        ensures value { result ≡ value_of_immediate self }
+        ensures below { result < 2 ^ width (size_of_immediate self) }
+    {
+        match self {
+            Immediate::Byte(number) => u32::from(number),
+            Immediate::Word(number) => u32::from(number),
+            Immediate::Dword(number) => number,
+        }
+    }
+}
+
 /// A number in an instruction that has no byte form.
 #[derive(Clone, Copy)]
 pub enum WideImmediate {
     Word(u16),
     Dword(u32),
+}
+
+impl WideImmediate {
+    #[inline(always)]
+    pub fn size(self) -> Size
+        ensures { result ≡ wide_size self }
+    {
+        match self {
+            WideImmediate::Word(_) => Size::Word,
+            WideImmediate::Dword(_) => Size::Dword,
+        }
+    }
+
+    /// The number, unsigned.
+    #[inline(always)]
+    pub fn value(self) -> u32
+        ensures value { result ≡ wide_value self }
+        ensures below { result < 2 ^ width (wide_size self) }
+    {
+        match self {
+            WideImmediate::Word(number) => u32::from(number),
+            WideImmediate::Dword(number) => number,
+        }
+    }
 }
 
 /// Two operands of one size, of which at most one is memory.

@@ -23,7 +23,7 @@ pub use calls::{Call, Party, TrapAnswer};
 use checks::check;
 pub use mx_sched::{
     Access, DeathCause, Delivery, Endpoint, Errno, MESSAGE_SIZE, Masks, Partner, Process,
-    ProcessAddress, Rules, SYSTEM, Slot, Source, Stale, State, Table, Window, endpoint_from,
+    ProcessAddress, Rules, SYSTEM, Slot, Source, Stale, State, Table, Terms, Window, endpoint_from,
     enqueue, pick, slot_of,
 };
 use mx_word::Register;

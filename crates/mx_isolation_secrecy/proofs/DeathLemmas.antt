@@ -94,7 +94,7 @@ pub respawn_twins : {q : ℕ} {w v : TableState} → Twins q w v → (s : ℕ) (
 unfolding table_after_respawn
 respawn_twins {q} {w} {v} h s x =
     requeued (put h s (next_process (process_at w s) x) (next_process (process_at v s) x) (next_alike (is_slot q s) (process_at w s) (process_at v s) x (at h s))) _ _
-    (ap (λ l. slice_set l x.level (list_at l x.level ++ s ∷ [])) (ready_of h))
+    (ap (λ l. slice_set l x.terms.level (list_at l x.terms.level ++ s ∷ [])) (ready_of h))
 
 -- ---- lines and the clock
 

@@ -12,6 +12,4 @@ pub use Rattle.mx_respawn.specs.Load
 pub use Rattle.mx_respawn.specs.Queueing
 pub use Rattle.mx_respawn.specs.TrapAnswer
 pub use Rattle.mx_respawn.specs.Calls
-pub use Rattle.mx_respawn.specs.Labels
-pub use Rattle.mx_respawn.specs.declared.label.Label
 pub use Rattle.mx_respawn.specs.Proc

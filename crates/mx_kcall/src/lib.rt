@@ -8,7 +8,7 @@ mod serving;
 mod windows;
 
 pub use clock::{raise, tick};
-pub use mx_respawn::{Endpoint, Label, Masks, Rules, Service, Slot, die, is_worn, load, respawn};
+pub use mx_respawn::{Endpoint, Name, Rules, Service, Slot, Terms, die, is_worn, load, respawn};
 pub use request::{After, CopyRange, KernelCall, ReplyWords, VirtualAddress, WindowGrant};
 pub use serving::call;
 pub use windows::{is_strict, window_allows};

@@ -67,7 +67,7 @@ fn answer(table: &Table, slot: Slot, request: KernelCall) -> ReplyWords
 }
 
 /// The address in the process that a virtual address names.
-fn address_of(table: &Table, address: VirtualAddress) -> ProcessAddress
+fn process_address(table: &Table, address: VirtualAddress) -> ProcessAddress
     requires { slot_of address.endpoint < length table.now.slots }
     ensures slot { result.slot ≡ slot_of address.endpoint }
     ensures offset { result.offset ≡ address.offset }
@@ -112,8 +112,8 @@ fn change(table: &mut Table, slot: Slot, request: KernelCall)
             }
         }
         KernelCall::Vircopy(copied) => {
-            let source = address_of(table, copied.source);
-            let target = address_of(table, copied.target);
+            let source = process_address(table, copied.source);
+            let target = process_address(table, copied.target);
             table.copy(source, target, copied.count);
         }
         KernelCall::Kill(endpoint) => die(table, table.slot_of(endpoint), DeathCause::Kill),

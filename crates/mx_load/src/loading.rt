@@ -2,7 +2,7 @@
 
 ghost use Rattle.std.specs.Prelude.{◌≡◌, ◌+◌, ◌≤◌, ◌++◌, IfOk, length, replicate, take, drop};
 ghost use Rattle.mx_flags.specs.Flags.{values_of};
-ghost use Rattle.mx_aout.specs.Limits.{rounded_to_pages, IsWithin};
+ghost use Rattle.mx_aout.specs.Limits.{rounded_to_pages};
 ghost use Rattle.mx_regs.specs.Regs.{no_words};
 ghost use Rattle.mx_load.specs.Load.{IsLoadedFrom, code_of_text, image_of_program};
 ghost use Rattle.mx_load.specs.Room.{room_for_text};
@@ -28,15 +28,6 @@ fn fill(segment: &mut Segment, at: u32, bytes: &[u8])
     }
 }
 
-/// The data segment's limit.
-fn limit_of(program: &Program) -> u32
-    ensures value { result ≡ rounded_to_pages program.now.total }
-    ensures within { IsWithin program.now.sep program.now.total (length program.now.text)
-        (length program.now.init) program.now.bss (length program.now.symbols) }
-{
-    ((u64::from(program.total) + 4095) / 4096 * 4096) as u32
-}
-
 /// Registers that are 0 but for ESP.
 fn first_registers(top: u32) -> Regs
     ensures { result ≡ record no_words { esp = top } }
@@ -60,7 +51,7 @@ fn room_for(alloc: Global, program: &Program) -> Result<Room, NoMemory>
     ensures text { IfOk result (λ room. room.text
         ≡ room_for_text program.now.sep program.now.text) }
 {
-    let memory = Segment::new(alloc, limit_of(program))?;
+    let memory = Segment::new(alloc, program.data_limit())?;
     let text = if program.sep {
         Some(Segment::new(alloc, program.text.as_slice().len() as u32)?)
     } else {
@@ -74,7 +65,7 @@ fn write_contents(memory: &mut Segment, program: &Program)
     requires { memory.old ≡ replicate (rounded_to_pages program.now.total) 0 }
     ensures { memory.new ≡ (image_of_program program.now).memory }
 {
-    let _limit = limit_of(program);
+    program.sizes_are_allowed();
     let init = program.init.as_slice();
     if program.sep {
         fill(memory, 0, init);
@@ -106,7 +97,7 @@ pub fn load(alloc: Global, program: &Program) -> Result<Image, NoMemory>
     let Room { mut memory, text } = room_for(alloc, program)?;
     write_contents(&mut memory, program);
     let code = code_of(text, program);
-    let regs = first_registers(limit_of(program));
+    let regs = first_registers(program.data_limit());
     Ok(image(program.entry, regs, memory, code))
 }
 
@@ -138,7 +129,7 @@ pub fn refill(image: &mut Image, program: &Program)
 {
     image.memory.clear();
     write_contents(&mut image.memory, program);
-    image.regs = first_registers(limit_of(program));
+    image.regs = first_registers(program.data_limit());
     image.eip = program.entry;
     image.flags = Flags::from_bits(0);
 }

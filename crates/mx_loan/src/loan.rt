@@ -69,8 +69,7 @@ impl Loan {
         self.actor
     }
 
-    /// Opens to a proof what always holds of a loan: it is what was lent, after a run of the steps that
-    /// it counts.
+    /// Law: a loan is what was lent, after a run of the steps that it counts.
     pub fn opened(&self)
         ensures { IsRunOf self.now.lent self.now.out }
     {

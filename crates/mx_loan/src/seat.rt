@@ -34,8 +34,8 @@ impl ActorSeat {
         self.actor
     }
 
-    /// Opens to a proof what always holds of a seat: its own records are all of its actor's that it has
-    /// seen, and its actor is one of the table's.
+    /// Law: a seat's own records are all of its actor's that it has seen, and its actor is one of the
+    /// table's.
     pub fn opened(&self)
         ensures mine { self.now.mine ≡ part_of self.now.seen self.now.actor }
         ensures actor { self.now.actor < self.now.table.words }

@@ -15,7 +15,7 @@ use Rattle.mx_look_glance.specs.Kept.{last_byte, latest_deliveries}
 -- the slot of a service
 unfoldable pub glance_of_slot : TableState → ℕ → Service → SlotGlance
 glance_of_slot t s v = let p = process_at t s in record {
-  name = v.name.name;
+  name = v.name;
   endpoint = endpoint_of t s;
   doing = doing_of t s p.state;
   level = p.level;

@@ -4,7 +4,7 @@ ghost use Rattle.std.specs.Prelude.{◌≡◌, ◌+◌, ◌≤◌};
 ghost use Rattle.mx_look_glance.specs.Images.{word_at, nine_words, message_at, image_glance};
 
 use mx_exec::Image;
-use mx_mem::Segment;
+use mx_mem::{MESSAGE_SIZE, Segment};
 use mx_word::{Register, read_dword};
 
 /// What is looked at of an image: the registers that say a trap and its result, and the nine words of
@@ -17,7 +17,7 @@ pub struct ImageGlance {
 }
 
 /// The word at a place of a message.
-fn word_at(message: &[u8; 36], at: usize) -> u32
+fn word_at(message: &[u8; MESSAGE_SIZE], at: usize) -> u32
     requires { at + 4 ≤ 36 }
     ensures { result ≡ word_at message.now at }
 {
@@ -26,7 +26,7 @@ fn word_at(message: &[u8; 36], at: usize) -> u32
 
 /// The nine words of a message.
 #[tactic(auto, unfolding(crate::specs::Images::nine_words))]
-fn nine_words(message: &[u8; 36]) -> [u32; 9]
+fn nine_words(message: &[u8; MESSAGE_SIZE]) -> [u32; 9]
     ensures { result ≡ nine_words message.now }
 {
     [
@@ -47,7 +47,7 @@ fn nine_words(message: &[u8; 36]) -> [u32; 9]
 fn message_at(memory: &Segment, at: u32) -> Option<[u32; 9]>
     ensures { result ≡ message_at memory.now at }
 {
-    if memory.limit() < at as usize + 36 {
+    if memory.limit() < at as usize + MESSAGE_SIZE {
         return None;
     }
     Some(nine_words(&memory.message(at)))

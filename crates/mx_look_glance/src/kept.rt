@@ -3,7 +3,7 @@
 ghost use Rattle.std.specs.Prelude.{◌≡◌, ◌≤◌};
 ghost use Rattle.mx_look_glance.specs.Kept.{last_byte, kept_count, latest, latest_deliveries};
 
-use mx_proc::{Console, Delivery, Table};
+use mx_proc::{Console, Delivery, KEPT_BYTES, KEPT_DELIVERIES, Table};
 
 /// The byte that was written to the console last.
 #[tactic(auto, unfolding(crate::specs::Kept::last_byte))]
@@ -12,7 +12,7 @@ pub(crate) fn last_byte(console: &Console) -> Option<u8>
 {
     match console.count() {
         0 => None,
-        count => console.get(count.min(4096) as usize - 1),
+        count => console.get(count.min(KEPT_BYTES as u32) as usize - 1),
     }
 }
 
@@ -22,7 +22,7 @@ fn kept_count(table: &Table) -> usize
     ensures few { result ≤ 1024 }
 {
     let mut low = 0;
-    let mut high = 1024;
+    let mut high = KEPT_DELIVERIES;
     while low < high {
         let middle = low + (high - low) / 2;
         match table.delivery(middle) {

@@ -36,7 +36,7 @@ fn glance_of_slot(table: &Table, slot: Slot, service: &Service) -> SlotGlance
 {
     let process = table.process(slot);
     SlotGlance {
-        name: service.name.name,
+        name: service.name,
         endpoint: table.endpoint(slot),
         doing: doing_of(table, slot, process.state),
         level: process.level,

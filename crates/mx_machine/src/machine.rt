@@ -257,8 +257,7 @@ impl Machine {
         self.kernel.opened();
     }
 
-    /// Opens to a proof what always holds of a machine: what a processor holds is what the kernel lent
-    /// it, after a run.
+    /// Law: what each processor holds is what the kernel lent it, after the steps made since.
     pub fn opened(&self)
         ensures { IsMachineState self.now }
     {

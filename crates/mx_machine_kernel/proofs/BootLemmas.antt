@@ -40,21 +40,21 @@ map-set f g a (suc n) (suc i) k below is others = let m : a ≢ k = omega arith 
     ap (λ x. x ∷ map g (range_with_len (a + 1) n)) (others a m) ∙ ap (λ l. f a ∷ l) (map-set f g (a + 1) n i k (omega arith) (omega arith) others)
 
 -- the slots of a level with one service more after the others
-slots-more_same : (n level : ℕ) (ss : List Service) (s : Service) → s.level ≡ level → slots_from n level (ss ++ s ∷ []) ≡ slots_from n level ss ++ (n + length ss) ∷ []
-slots-more_same n level [] s e = rw (eq-eqb s.level level e) (let z : n ≡ n + 0 = omega arith in ap (λ k. k ∷ []) z)
+slots-more_same : (n level : ℕ) (ss : List Service) (s : Service) → s.terms.level ≡ level → slots_from n level (ss ++ s ∷ []) ≡ slots_from n level ss ++ (n + length ss) ∷ []
+slots-more_same n level [] s e = rw (eq-eqb s.terms.level level e) (let z : n ≡ n + 0 = omega arith in ap (λ k. k ∷ []) z)
 slots-more_same n level (x ∷ xs) s e =
     let i : slots_from (n + 1) level (xs ++ s ∷ []) ≡ slots_from (n + 1) level xs ++ (n + length (x ∷ xs)) ∷ [] =
     slots-more_same (n + 1) level xs s e ∙ ap (λ k. slots_from (n + 1) level xs ++ k ∷ []) (let z : n + 1 + length xs ≡ n + suc (length xs) = omega arith in z) in
-    elim (cases_eq x.level level) [
-      | inl y ↦ rw (eq-eqb x.level level y) (ap (λ l. n ∷ l) i)
-      | inr m ↦ rw (ne_eqb x.level level m) i
+    elim (cases_eq x.terms.level level) [
+      | inl y ↦ rw (eq-eqb x.terms.level level y) (ap (λ l. n ∷ l) i)
+      | inr m ↦ rw (ne_eqb x.terms.level level m) i
     ]
 
-slots-more_other : (n level : ℕ) (ss : List Service) (s : Service) → level ≢ s.level → slots_from n level (ss ++ s ∷ []) ≡ slots_from n level ss
-slots-more_other n level [] s e = rw (ne_eqb s.level level (λ z. e (sym z))) refl
-slots-more_other n level (x ∷ xs) s e = elim (cases_eq x.level level) [
-  | inl y ↦ rw (eq-eqb x.level level y) (ap (λ l. n ∷ l) (slots-more_other (n + 1) level xs s e))
-  | inr m ↦ rw (ne_eqb x.level level m) (slots-more_other (n + 1) level xs s e)
+slots-more_other : (n level : ℕ) (ss : List Service) (s : Service) → level ≢ s.terms.level → slots_from n level (ss ++ s ∷ []) ≡ slots_from n level ss
+slots-more_other n level [] s e = rw (ne_eqb s.terms.level level (λ z. e (sym z))) refl
+slots-more_other n level (x ∷ xs) s e = elim (cases_eq x.terms.level level) [
+  | inl y ↦ rw (eq-eqb x.terms.level level y) (ap (λ l. n ∷ l) (slots-more_other (n + 1) level xs s e))
+  | inr m ↦ rw (ne_eqb x.terms.level level m) (slots-more_other (n + 1) level xs s e)
 ]
 
 pub first-empty : (rules : Rules) → first_table rules [] ≡ empty_table rules
@@ -62,18 +62,18 @@ unfolding first_table
 first-empty rules = refl
 
 -- the table of one service more
-pub first-more : (rules : Rules) (ss : List Service) (s : Service) → s.level ≤ 14 → first_table rules (ss ++ s ∷ []) ≡ table_after_add (first_table rules ss) (image_of_program s.program) s.masks s.level s.best s.quantum
+pub first-more : (rules : Rules) (ss : List Service) (s : Service) → s.terms.level ≤ 14 → first_table rules (ss ++ s ∷ []) ≡ table_after_add (first_table rules ss) (image_of_program s.program) s.terms
 unfolding first_table
 first-more rules ss s low =
     let f = λ (level : ℕ). slots_from 0 level ss in
     let g = λ (level : ℕ). slots_from 0 level (ss ++ s ∷ []) in
-    let there : g s.level ≡ list_at (map f (range_with_len 0 16)) s.level ++ length (map first_process ss) ∷ [] =
-    slots-more_same 0 s.level ss s refl
-    ∙ ap (λ l. l ++ (0 + length ss) ∷ []) (sym (get_or-map-range_with_len f 0 16 s.level s.level [] (omega arith) (omega arith)))
-    ∙ ap (λ k. list_at (map f (range_with_len 0 16)) s.level ++ k ∷ []) (let z : 0 + length ss ≡ length (map first_process ss) = omega (arith, length-map ss first_process) in z) in
-    let ready : map g (range_with_len 0 16) ≡ slice_set (map f (range_with_len 0 16)) s.level (list_at (map f (range_with_len 0 16)) s.level ++ length (map first_process ss) ∷ []) =
-    map-set f g 0 16 s.level s.level (omega arith) (omega arith) (λ j m. slots-more_other 0 j ss s m)
-    ∙ ap (slice_set (map f (range_with_len 0 16)) s.level) there in
+    let there : g s.terms.level ≡ list_at (map f (range_with_len 0 16)) s.terms.level ++ length (map first_process ss) ∷ [] =
+    slots-more_same 0 s.terms.level ss s refl
+    ∙ ap (λ l. l ++ (0 + length ss) ∷ []) (sym (get_or-map-range_with_len f 0 16 s.terms.level s.terms.level [] (omega arith) (omega arith)))
+    ∙ ap (λ k. list_at (map f (range_with_len 0 16)) s.terms.level ++ k ∷ []) (let z : 0 + length ss ≡ length (map first_process ss) = omega (arith, length-map ss first_process) in z) in
+    let ready : map g (range_with_len 0 16) ≡ slice_set (map f (range_with_len 0 16)) s.terms.level (list_at (map f (range_with_len 0 16)) s.terms.level ++ length (map first_process ss) ∷ []) =
+    map-set f g 0 16 s.terms.level s.terms.level (omega arith) (omega arith) (λ j m. slots-more_other 0 j ss s m)
+    ∙ ap (slice_set (map f (range_with_len 0 16)) s.terms.level) there in
     let slots : map first_process (ss ++ s ∷ []) ≡ map first_process ss ++ first_process s ∷ [] = map-append first_process ss (s ∷ []) in
     ap (λ l. let w : TableState = record (empty_table rules) { slots = l; ready = map g (range_with_len 0 16) } in w) slots
     ∙ ap (λ r. let w : TableState = record (empty_table rules) { slots = map first_process ss ++ first_process s ∷ []; ready = r } in w) ready

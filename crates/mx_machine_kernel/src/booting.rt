@@ -20,14 +20,7 @@ fn enter(alloc: Global, table: &mut Table, services: &[Service]) -> Result<(), N
 {
     for service in services {
         let mut image = load(alloc, &service.program)?;
-        table.add(
-            alloc,
-            &mut image,
-            service.masks,
-            service.level,
-            service.best,
-            service.quantum,
-        )?;
+        table.add(alloc, &mut image, service.terms)?;
     }
     Ok(())
 }
@@ -49,8 +42,8 @@ fn no_leases(alloc: Global, cpus: u8) -> Result<Vec<Option<Lease>>, NoMemory>
     Ok(vec![in alloc; None; cpus as usize]?)
 }
 
-/// Where a kernel stands at boot. The services are moved out of the list, which is left empty; for want
-/// of memory they stay.
+/// Where a kernel stands at boot. The services are moved out of the list, which is left empty; if
+/// memory runs out, they stay.
 pub(crate) fn first_present(
     alloc: Global,
     config: &Config,

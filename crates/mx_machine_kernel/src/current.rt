@@ -101,7 +101,7 @@ impl CurrentState {
         &self.table
     }
 
-    /// Opens to a proof what always holds.
+    /// Law: the table is sound, and leases, services and records fit it.
     pub(crate) fn opened(&self)
         ensures sound { Sound self.now.table }
         ensures holds { IsConsistent self.now.table self.now.leases self.now.services

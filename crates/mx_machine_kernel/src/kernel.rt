@@ -248,7 +248,8 @@ impl Kernel {
         self.table().delivery(index)
     }
 
-    /// Opens to a proof what always holds of a kernel.
+    /// Law: a replay of a kernel's history is sound and has at most 8 processors; its events are accepted
+    /// and its records can be written; what an actor holds is fresh.
     pub fn opened(&self)
         ensures sound { IsSound (replay self.now) }
         ensures few { length (replay self.now).cpus ≤ 8 }

@@ -1,6 +1,4 @@
-pub use Rattle.mx_kcall.specs.Labels
 pub use Rattle.mx_kcall.specs.Proc.declared.windows.Rules
-pub use Rattle.mx_kcall.specs.Label
 pub mod Refusals
 pub mod Held
 pub mod World

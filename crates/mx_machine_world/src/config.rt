@@ -2,7 +2,7 @@
 
 ghost use Rattle.std.specs.Prelude.{◌≡◌, ◌<◌, ◌≤◌, length, string_bytes};
 
-use mx_kcall::{Label, Masks, Rules};
+use mx_kcall::{Name, Rules, Terms};
 use std::marker::Model;
 
 /// The name of a file, exactly as it stands in a configuration.
@@ -39,24 +39,11 @@ impl FileName {
 /// has the name of the program's file.
 #[derive(Drop)]
 pub struct ServiceLine {
-    pub name: Label,
+    pub name: Name,
     /// The file that its program is in.
     pub file: FileName,
-    /// Which traps and kernel calls its process may make, and to which slots it may send.
-    pub masks: Masks,
-    /// The ready list that its process begins in, 0 to 14. List 0 is the highest.
-    pub level: u8,
-    /// The highest list that its process may rise to, 0 to `level`.
-    pub best: u8,
-    /// How many steps its process gets at a time, 1 to 65,535.
-    pub quantum: u32,
-    /// How often its slot may get a new process, 0 to 1,048,575.
-    pub restarts: u32,
-    ghost lowest: { level ≤ 14 },
-    ghost best_above: { best ≤ level },
-    ghost some_ticks: { 0 < quantum },
-    ghost quantum_fits: { quantum ≤ 65535 },
-    ghost restarts_fit: { restarts ≤ 1048575 },
+    /// What the service gives its processes.
+    pub terms: Terms,
 }
 
 /// A configuration's lines of services, in slot order: the first line is that of slot 0.

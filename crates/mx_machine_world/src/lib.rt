@@ -23,5 +23,5 @@ pub use laws::{
 };
 pub use mx_image::Stop;
 pub use mx_kcall::{
-    Endpoint, Label, Masks, Rules, Service, Slot, call, die, is_worn, load, raise, respawn, tick,
+    Endpoint, Name, Rules, Service, Slot, Terms, call, die, is_worn, load, raise, respawn, tick,
 };

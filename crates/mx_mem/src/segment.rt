@@ -14,6 +14,9 @@ use page::{PAGE, Page, qword_at, value_in};
 use std::alloc::Global;
 use std::marker::Model;
 
+/// The bytes of a MINIX message: its source, its type and seven words.
+pub const MESSAGE_SIZE: usize = 36;
+
 /// Why a segment refuses an access: some of its bytes aren't inside.
 #[derive(Clone, Copy, Debug, PartialEq, Eq)]
 pub struct OutOfLimit;
@@ -319,7 +322,7 @@ impl Segment {
         qword_at(&bytes[..], 0)
     }
 
-    /// Does nothing: a caller gets, for its proof, that each byte is below 256.
+    /// Law: each byte is below 256.
     #[tactic(auto, unfolding(crate::specs::Segment::up_to, crate::specs::Segment::IsPaged))]
     #[inline(always)]
     fn are_bytes(&self)
@@ -387,32 +390,32 @@ impl Segment {
         }
     }
 
-    /// A copy of the 36 bytes from an address on, made byte by byte: so they may lie in two pages.
+    /// A copy of a message's bytes, made byte by byte: so they may lie in two pages.
     #[cold]
     #[inline(never)]
-    fn message_across(&self, at: u32) -> [u8; 36]
+    fn message_across(&self, at: u32) -> [u8; MESSAGE_SIZE]
         requires { at + 36 ≤ length self.now }
         ensures { result ≡ take 36 (drop at self.now) }
     {
         let at = at as usize;
-        let mut message = [0; 36];
-        for k in 0..36usize {
+        let mut message = [0; MESSAGE_SIZE];
+        for k in 0..MESSAGE_SIZE {
             message[k] = self.byte(at + k);
         }
         message
     }
 
-    /// A copy of the 36 bytes from an address on: a MINIX message has 36. All must be inside.
-    pub fn message(&self, at: u32) -> [u8; 36]
+    /// A copy of a message's bytes, from an address on. All must be inside.
+    pub fn message(&self, at: u32) -> [u8; MESSAGE_SIZE]
         requires { at + 36 ≤ length self.now }
         ensures { result ≡ take 36 (drop at self.now) }
     {
         let place = at as usize;
-        if place % PAGE + 36 > PAGE {
+        if place % PAGE + MESSAGE_SIZE > PAGE {
             return self.message_across(at);
         }
-        let mut message = [0; 36];
-        message.copy_from_slice(self.part_of_page(place, 36));
+        let mut message = [0; MESSAGE_SIZE];
+        message.copy_from_slice(self.part_of_page(place, MESSAGE_SIZE));
         message
     }
 

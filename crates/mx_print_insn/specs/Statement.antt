@@ -9,10 +9,7 @@ use Rattle.mx_insn.specs.declared.insn.Operand.{Operand}
 use Rattle.mx_insn.specs.declared.insn.Operand.TheVariants as operand
 use Rattle.mx_insn.specs.declared.insn.OperandSize.{OperandSize}
 use Rattle.mx_insn.specs.declared.insn.OperandSize.TheVariants as operand_sizes
-use Rattle.mx_insn.specs.declared.insn.Immediate.{Immediate}
-use Rattle.mx_insn.specs.declared.insn.Immediate.TheVariants as immediates
 use Rattle.mx_insn.specs.declared.insn.WideImmediate.{WideImmediate}
-use Rattle.mx_insn.specs.declared.insn.WideImmediate.TheVariants as wide_immediates
 use Rattle.mx_insn.specs.declared.insn.Operands.{Operands}
 use Rattle.mx_insn.specs.declared.insn.Operands.TheVariants as operands
 use Rattle.mx_insn.specs.declared.insn.Count.{Count}
@@ -27,7 +24,7 @@ use Rattle.mx_insn.specs.declared.insn.PortSize.{PortSize}
 use Rattle.mx_insn.specs.declared.insn.PortSize.TheVariants as port_sizes
 use Rattle.mx_insn.specs.declared.insn.Insn.{Insn}
 use Rattle.mx_insn.specs.declared.insn.Insn.TheVariants as insns
-use Rattle.mx_insn.specs.Sizes.{size_of_operands}
+use Rattle.mx_insn.specs.Sizes.{size_of_immediate, size_of_operands, value_of_immediate, wide_size, wide_value}
 use Rattle.mx_insn_words.specs.declared.mnemonic.Single.TheVariants.{Mov, Test, Xchg, Lea, Movzx, Movsx, Push, Pop, Jmp, Call, Ret, Int, Cbw, Cwde, Cwd, Cdq, In, Out}
 use Rattle.mx_insn_words.specs.declared.mnemonic.Mnemonic.{Mnemonic}
 use Rattle.mx_insn_words.specs.declared.mnemonic.Mnemonic.TheVariants.{Arithmetic, Unary, Product, Shift, DoubleShift, BitTest, BitScan, Loop, Plain, Single, JumpIf, SetCondition, Transfer, Compare}
@@ -104,26 +101,14 @@ abbrev pub written_operand : Size → Operand → Written
 written_operand size (operand.Register r) = written.Register size r
 written_operand size (operand.Memory m) = written.Memory size m
 
--- a number's size and the number itself, unsigned
-abbrev pub printed_size : Immediate → Size
-printed_size (immediates.Byte n) = Byte
-printed_size (immediates.Word n) = Word
-printed_size (immediates.Dword n) = Dword
-
-abbrev pub immediate_number : Immediate → ℕ
-immediate_number (immediates.Byte n) = n
-immediate_number (immediates.Word n) = n
-immediate_number (immediates.Dword n) = n
-
 abbrev pub written_pair : Operands → List Written
 written_pair (operands.ToRegister size to from) = written.Register size to ∷ written_operand size from ∷ []
 written_pair (operands.ToMemory size to from) = written.Memory size to ∷ written.Register size from ∷ []
-written_pair (operands.Immediate to n) = written_operand (printed_size n) to ∷ written.Number (immediate_number n) ∷ []
+written_pair (operands.Immediate to n) = written_operand (size_of_immediate n) to ∷ written.Number (value_of_immediate n) ∷ []
 
 -- register, operand and number of an IMUL of three operands
 abbrev pub written_product : Register → Operand → WideImmediate → List Written
-written_product to from (wide_immediates.Word n) = written.Register Word to ∷ written_operand Word from ∷ written.Number n ∷ []
-written_product to from (wide_immediates.Dword n) = written.Register Dword to ∷ written_operand Dword from ∷ written.Number n ∷ []
+written_product to from by = written.Register (wide_size by) to ∷ written_operand (wide_size by) from ∷ written.Number (wide_value by) ∷ []
 
 -- how far a shift goes: a number, or CL
 abbrev pub written_count : Count → Written

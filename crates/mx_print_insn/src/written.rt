@@ -42,12 +42,7 @@ fn of_operand(size: Size, operand: Operand) -> Written
 fn with_immediate(to: Operand, value: Immediate) -> WrittenOperands
     ensures { written_list result ≡ written_pair (Operands.Immediate to value) }
 {
-    let (size, value) = match value {
-        Immediate::Byte(value) => (Size::Byte, u32::from(value)),
-        Immediate::Word(value) => (Size::Word, u32::from(value)),
-        Immediate::Dword(value) => (Size::Dword, value),
-    };
-    Two(of_operand(size, to), Written::Number(value))
+    Two(of_operand(value.size(), to), Written::Number(value.value()))
 }
 
 fn of_operands(operands: Operands) -> WrittenOperands
@@ -70,14 +65,10 @@ fn of_operands(operands: Operands) -> WrittenOperands
 fn of_product(to: Register, from: Operand, by: WideImmediate) -> WrittenOperands
     ensures { written_list result ≡ written_product to from by }
 {
-    let (size, value) = match by {
-        WideImmediate::Word(value) => (Size::Word, u32::from(value)),
-        WideImmediate::Dword(value) => (Size::Dword, value),
-    };
     Three(
-        Written::Register(size, to),
-        of_operand(size, from),
-        Written::Number(value),
+        Written::Register(by.size(), to),
+        of_operand(by.size(), from),
+        Written::Number(by.value()),
     )
 }
 

@@ -30,9 +30,9 @@ nil_after [] = refl
 nil_after (x ∷ xs) = ap (λ (ys : List ℕ). x ∷ ys) (nil_after xs)
 
 pub slot_lines_more : (w : TableState) (services : List Service) (i : ℕ) (v : Service) → i < length services → v ≡ get_or services i v
-    → slot_lines w i (drop i services) ≡ slot_line w i v.name.name.bytes ++ slot_lines w (i + 1) (drop (i + 1) services)
+    → slot_lines w i (drop i services) ≡ slot_line w i v.name.bytes ++ slot_lines w (i + 1) (drop (i + 1) services)
 slot_lines_more w services i v h is =
     let next : suc i ≡ i + 1 = omega arith in
     ap (slot_lines w i) (drop-cons services i v h)
-    ∙ ap (λ (u : Service). slot_line w i u.name.name.bytes ++ slot_lines w (i + 1) (drop (suc i) services)) (sym is)
-    ∙ ap (λ (n : ℕ). slot_line w i v.name.name.bytes ++ slot_lines w (i + 1) (drop n services)) next
+    ∙ ap (λ (u : Service). slot_line w i u.name.bytes ++ slot_lines w (i + 1) (drop (suc i) services)) (sym is)
+    ∙ ap (λ (n : ℕ). slot_line w i v.name.bytes ++ slot_lines w (i + 1) (drop n services)) next

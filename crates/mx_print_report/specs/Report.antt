@@ -61,7 +61,7 @@ slot_line w s name =
 -- the lines of services, of which the first has this slot
 abbrev pub slot_lines : TableState → ℕ → List Service → List ℕ
 slot_lines w s [] = []
-slot_lines w s (v ∷ vs) = slot_line w s v.name.name.bytes ++ slot_lines w (s + 1) vs
+slot_lines w s (v ∷ vs) = slot_line w s v.name.bytes ++ slot_lines w (s + 1) vs
 
 -- a line for each service, one for the ticks since boot, one for how many bytes were written to the console, and of
 -- these bytes those that are kept

@@ -33,7 +33,7 @@ fn push_slots(out: &mut Vec<u8>, table: &Table, services: &[Service]) -> Result<
     ensures { OnOk result (out.new.items ≡ out.old.items ++ slot_lines table.now 0 services.now) }
 {
     for slot in 0..table.used() {
-        push_slot(out, table, slot, &services[slot as usize].name.name.bytes)?;
+        push_slot(out, table, slot, &services[slot as usize].name.bytes)?;
     }
     Ok(())
 }

@@ -6,7 +6,7 @@ use Rattle.mx_exec.specs.declared.image.Image.{Image}
 use Rattle.mx_exec.specs.Image.{blank}
 use Rattle.mx_mem.specs.Segment.{with_bytes_at}
 use Rattle.mx_proc.specs.declared.process.Process.{Process}
-use Rattle.mx_proc.specs.declared.process.Masks.{Masks}
+use Rattle.mx_proc.specs.declared.process.Terms.{Terms}
 use Rattle.mx_proc.specs.declared.process.State.{State}
 use Rattle.mx_proc.specs.declared.process.State.TheVariants.{Home, Ready, Out, Down}
 use Rattle.mx_proc.specs.declared.process.DeathCause.TheVariants.{Exit}
@@ -194,22 +194,22 @@ with_image w s image = with_process w s (record (process_at w s) { image = image
 -- ---- new processes
 
 -- a process as it begins: ready, with a full quantum
-abbrev pub new_process : Image → Masks → ℕ → ℕ → ℕ → Process
-new_process image masks level best quantum = record nobody {
+abbrev pub new_process : Image → Terms → Process
+new_process image terms = record nobody {
   state = Ready;
-  masks = masks;
-  level = level;
-  best = best;
-  quantum = quantum;
-  ticks = quantum;
+  masks = terms.masks;
+  level = terms.level;
+  best = terms.best;
+  quantum = terms.quantum;
+  ticks = terms.quantum;
   image = image;
 }
 
 -- one slot more, at the end of the list of its level
-abbrev pub table_after_add : TableState → Image → Masks → ℕ → ℕ → ℕ → TableState
-table_after_add w image masks level best quantum = record w {
-  slots = w.slots ++ new_process image masks level best quantum ∷ [];
-  ready = slice_set w.ready level (list_at w.ready level ++ length w.slots ∷ []);
+abbrev pub table_after_add : TableState → Image → Terms → TableState
+table_after_add w image terms = record w {
+  slots = w.slots ++ new_process image terms ∷ [];
+  ready = slice_set w.ready terms.level (list_at w.ready terms.level ++ length w.slots ∷ []);
 }
 
 -- another process, which is ready, stands in a slot, and at the end of the list of its level

@@ -10,7 +10,7 @@ use std::alloc::Global;
 use std::marker::Model;
 
 /// How many bytes the console keeps.
-const KEPT_BYTES: usize = 4096;
+pub const KEPT_BYTES: usize = 4096;
 
 /// The console: the last 4,096 bytes that were written to it, and how many were ever written.
 #[derive(Drop)]

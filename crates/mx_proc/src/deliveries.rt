@@ -9,7 +9,7 @@ use std::alloc::Global;
 use std::marker::Model;
 
 /// How many deliveries are kept.
-const KEPT_DELIVERIES: usize = 1024;
+pub const KEPT_DELIVERIES: usize = 1024;
 
 /// What was delivered.
 #[derive(Clone, Copy, PartialEq, Eq)]

@@ -13,13 +13,16 @@ mod table;
 mod waits;
 mod windows;
 
-pub use console::Console;
-pub use deliveries::{Deliveries, Delivery, DeliveryKind};
+pub use console::{Console, KEPT_BYTES};
+pub use deliveries::{Deliveries, Delivery, DeliveryKind, KEPT_DELIVERIES};
 pub use devices::Devices;
 pub use endpoints::{
     ANY, CLOCK, Endpoint, HARDWARE, SYSTEM, endpoint_from, generation_of, slot_of,
 };
 pub use errors::Errno;
-pub use process::{DeathCause, Masks, Partner, Process, ProcessAddress, Slot, Source, State};
-pub use table::{MESSAGE_SIZE, Stale, Table};
+pub use mx_mem::MESSAGE_SIZE;
+pub use process::{
+    DeathCause, Masks, Partner, Process, ProcessAddress, Slot, Source, State, Terms,
+};
+pub use table::{Stale, Table};
 pub use windows::{Access, Rules, Window};

@@ -146,6 +146,26 @@ pub struct Masks {
     pub calls: u32,
 }
 
+/// What a service gives each of its processes. Levels are numbers of ready lists; list 0 is the
+/// highest.
+#[derive(Clone, Copy)]
+pub struct Terms {
+    pub masks: Masks,
+    /// The ready list that a process begins in, 0 to 14.
+    pub level: u8,
+    /// The highest list that it may rise to, 0 to `level`.
+    pub best: u8,
+    /// How many steps it gets at a time, 1 to 65,535.
+    pub quantum: u32,
+    /// How often its slot may get a new process, 0 to 1,048,575.
+    pub restarts: u32,
+    ghost lowest: { level ≤ 14 },
+    ghost best_above: { best ≤ level },
+    ghost some_ticks: { 0 < quantum },
+    ghost quantum_fits: { quantum ≤ 65535 },
+    ghost restarts_fit: { restarts ≤ 1048575 },
+}
+
 /// A process. While it is on a processor, `image` is blank: the processor has the real one.
 #[derive(Drop)]
 pub struct Process {

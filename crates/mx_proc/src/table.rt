@@ -10,7 +10,7 @@ ghost use Rattle.mx_proc.specs.States.{is_blocked, is_down};
 use crate::deliveries::{Deliveries, Delivery};
 use crate::devices::Devices;
 use crate::endpoints::{Endpoint, FIRST_NEGATIVE, endpoint_from, generation_of, slot_of};
-use crate::process::{Masks, Process, Slot, State};
+use crate::process::{Process, Slot, State, Terms};
 use crate::ready::Ready;
 use crate::waits::Waits;
 use crate::windows::Rules;
@@ -24,8 +24,6 @@ mod lending;
 mod messages;
 mod queues;
 mod serving;
-
-pub use messages::MESSAGE_SIZE;
 
 /// Why an endpoint has no slot: its process is dead, or no process ever had it.
 #[derive(Clone, Copy, PartialEq, Eq)]
@@ -99,25 +97,13 @@ impl Table {
 
     /// Makes a process with this image in the next slot, and answers the slot. The process is ready, with a
     /// full quantum, at the end of the ready list of its level. `image` is blank after the call. If there
-    /// is no memory, nothing changes.
-    pub fn add(
-        &mut self,
-        alloc: Global,
-        image: &mut Image,
-        masks: Masks,
-        level: u8,
-        best: u8,
-        quantum: u32,
-    ) -> Result<Slot, NoMemory>
+    /// is no memory, nothing changes. The restarts among the terms play no part: the slot's service keeps
+    /// them.
+    pub fn add(&mut self, alloc: Global, image: &mut Image, terms: Terms) -> Result<Slot, NoMemory>
         requires room { length self.old.slots < 32 }
-        requires level { level ≤ 14 }
-        requires best { best ≤ level }
-        requires some { 0 < quantum }
-        requires quantum { quantum ≤ 65535 }
         ensures slot { IfOk result (λ slot. slot ≡ length self.old.slots) }
         ensures ok { OnOk result
-            ((self.new ≡ table_after_add self.old image.old masks level best quantum)
-            × (image.new ≡ blank)) }
+            ((self.new ≡ table_after_add self.old image.old terms) × (image.new ≡ blank)) }
         ensures err { OnErr result ((self.new ≡ self.old) × (image.new ≡ image.old)) }
     {
         let slot = self.slots.as_slice().len() as u8;
@@ -125,11 +111,11 @@ impl Table {
             state: State::Ready,
             generation: 0,
             restarts_used: 0,
-            masks,
-            level,
-            best,
-            quantum,
-            ticks: quantum,
+            masks: terms.masks,
+            level: terms.level,
+            best: terms.best,
+            quantum: terms.quantum,
+            ticks: terms.quantum,
             steps: 0,
             pending: [false; 34],
             lines: 0,
@@ -139,7 +125,7 @@ impl Table {
         };
         match self.slots.push(process) {
             Ok(()) => {
-                self.ready.push_back(level, slot);
+                self.ready.push_back(terms.level, slot);
                 Ok(slot)
             }
             Err(refused) => {
@@ -176,8 +162,8 @@ impl Table {
         requires { slot_of endpoint < length self.now.slots }
         ensures { result ≡ slot_of endpoint }
     {
-        // So few that a slot fits a byte.
-        let _used = self.used();
+        // At most 32 slots are used, so a slot fits a byte.
+        self.sound();
         slot_of(endpoint) as Slot
     }
 
@@ -253,7 +239,7 @@ impl Table {
         self.deliveries.get(index)
     }
 
-    /// Does nothing: a caller gets, for its proof, all that always holds of a table.
+    /// Law: each table is sound.
     pub fn sound(&self)
         ensures { Sound self.now }
     {

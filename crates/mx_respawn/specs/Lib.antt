@@ -1,4 +1,3 @@
-pub mod Labels
 pub mod Death
 pub mod Waking
 pub mod Respawn

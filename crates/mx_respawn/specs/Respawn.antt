@@ -9,7 +9,7 @@ use Rattle.mx_respawn.specs.declared.service.Service.{Service}
 
 -- its restarts are used up, or its generation is the last one
 abbrev pub is_worn : Process → Service → Bool
-is_worn p v = nat_le v.restarts p.restarts_used || nat_le (2 ^ 20 - 1) p.generation
+is_worn p v = nat_le v.terms.restarts p.restarts_used || nat_le (2 ^ 20 - 1) p.generation
 
 -- the process after a dead one: nothing of that is left but its generation and its restarts, each one more
 abbrev pub next_process : Process → Service → Process
@@ -17,11 +17,11 @@ next_process p v = record {
   state = Ready;
   generation = p.generation + 1;
   restarts_used = p.restarts_used + 1;
-  masks = v.masks;
-  level = v.level;
-  best = v.best;
-  quantum = v.quantum;
-  ticks = v.quantum;
+  masks = v.terms.masks;
+  level = v.terms.level;
+  best = v.terms.best;
+  quantum = v.terms.quantum;
+  ticks = v.terms.quantum;
   steps = 0;
   pending = replicate 34 false;
   lines = 0;
@@ -34,5 +34,5 @@ next_process p v = record {
 unfoldable pub table_after_respawn : TableState → ℕ → Service → TableState
 table_after_respawn w s v = record w {
   slots = slice_set w.slots s (next_process (process_at w s) v);
-  ready = slice_set w.ready v.level (list_at w.ready v.level ++ s ∷ []);
+  ready = slice_set w.ready v.terms.level (list_at w.ready v.terms.level ++ s ∷ []);
 }

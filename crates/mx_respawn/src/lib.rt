@@ -2,16 +2,15 @@
 #![tactic(auto)]
 
 mod death;
-mod label;
 mod respawning;
 mod service;
 
 pub use death::die;
-pub use label::Label;
 pub use mx_ipc::{
-    Access, DeathCause, Endpoint, Errno, MESSAGE_SIZE, Masks, ProcessAddress, Rules, SYSTEM, Slot,
-    Source, Stale, State, Table, Window, go_on, notify, slot_of,
+    Access, DeathCause, Endpoint, Errno, MESSAGE_SIZE, ProcessAddress, Rules, SYSTEM, Slot, Source,
+    Stale, State, Table, Terms, Window, go_on, notify, slot_of,
 };
 pub use mx_load::load;
+pub use mx_text::Name;
 pub use respawning::{is_worn, respawn};
 pub use service::Service;

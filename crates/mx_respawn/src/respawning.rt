@@ -17,7 +17,7 @@ use mx_load::{Image, refill};
 pub fn is_worn(process: &Process, service: &Service) -> bool
     ensures { result ≡ is_worn process.now service.now }
 {
-    service.restarts <= process.restarts_used || process.generation >= 0xF_FFFF
+    service.terms.restarts <= process.restarts_used || process.generation >= 0xF_FFFF
 }
 
 /// The process after a dead one, from that one's own image.
@@ -33,11 +33,11 @@ fn next_process(dead: &Process, image: Image, service: &Service) -> Process
         state: State::Ready,
         generation: dead.generation + 1,
         restarts_used: dead.restarts_used + 1,
-        masks: service.masks,
-        level: service.level,
-        best: service.best,
-        quantum: service.quantum,
-        ticks: service.quantum,
+        masks: service.terms.masks,
+        level: service.terms.level,
+        best: service.terms.best,
+        quantum: service.terms.quantum,
+        ticks: service.terms.quantum,
         steps: 0,
         pending: [false; 34],
         lines: 0,

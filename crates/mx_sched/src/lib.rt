@@ -11,8 +11,8 @@ ghost use Rattle.mx_sched.specs.Queueing.{table_after_queueing};
 
 pub use mx_proc::{
     ANY, Access, CLOCK, DeathCause, Delivery, Endpoint, Errno, HARDWARE, MESSAGE_SIZE, Masks,
-    Partner, Process, ProcessAddress, Rules, SYSTEM, Slot, Source, Stale, State, Table, Window,
-    endpoint_from, generation_of, slot_of,
+    Partner, Process, ProcessAddress, Rules, SYSTEM, Slot, Source, Stale, State, Table, Terms,
+    Window, endpoint_from, generation_of, slot_of,
 };
 
 /// The lowest level of a process. The list below it, 15, is the idle list, and stays empty.

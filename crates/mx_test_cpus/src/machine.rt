@@ -5,8 +5,9 @@ ghost use Rattle.std.specs.Prelude.{◌≡◌, ◌<◌, ◌≤◌, All, IfOk, If
 use mx_aout::read;
 use mx_cpus_drive::{ActorSeat, Naming};
 use mx_machine_world::{Config, FileName, Record, Recorded, Rules, ServiceLine, ServiceLines};
-use mx_proc::Masks;
-use mx_respawn::{Label, Service};
+use mx_proc::{Masks, Terms};
+use mx_respawn::Service;
+use mx_text::name_of;
 use std::alloc::Global;
 use std::test::Fail;
 
@@ -22,17 +23,25 @@ const MASKS: Masks = Masks {
     calls: 0,
 };
 
-fn service(alloc: Global, restarts: u32) -> Result<Service, Fail>
+fn terms(restarts: u32) -> Terms
     requires { restarts ≤ 1048575 }
 {
-    Ok(Service {
-        name: Label::new(b"a").ok_or("label")?,
-        program: read(alloc, &FILE).map_err(|_| "file")?,
+    Terms {
         masks: MASKS,
         level: 7,
         best: 5,
         quantum: 5,
         restarts,
+    }
+}
+
+fn service(alloc: Global, restarts: u32) -> Result<Service, Fail>
+    requires { restarts ≤ 1048575 }
+{
+    Ok(Service {
+        name: name_of(b"a").ok_or("name")?,
+        program: read(alloc, &FILE).map_err(|_| "file")?,
+        terms: terms(restarts),
     })
 }
 
@@ -53,13 +62,9 @@ fn line(alloc: Global, restarts: u32) -> Result<ServiceLine, Fail>
     requires { restarts ≤ 1048575 }
 {
     Ok(ServiceLine {
-        name: Label::new(b"a").ok_or("label")?,
+        name: name_of(b"a").ok_or("name")?,
         file: FileName::from_string(String::new(alloc)),
-        masks: MASKS,
-        level: 7,
-        best: 5,
-        quantum: 5,
-        restarts,
+        terms: terms(restarts),
     })
 }
 

@@ -95,16 +95,16 @@ fn is_full<M: Naming>(rt: &impl Wait, shared: &Shared<M>, seats: &mut Vec<ActorS
 fn driven<M: Naming + Send + Sync, G: Gate + Sync, R: Threads + Wait + Sync>(
     rt: &R,
     alloc: Global,
-    blank: Blank,
-    seats: Vec<ActorSeat>,
+    booted: (Blank, Vec<ActorSeat>),
     gate: &G,
     ticks: u32,
 ) -> Option<Ending>
-    requires table { blank.table ≡ M.table }
-    requires boot { blank.boot ≡ M.boot }
-    requires tables { All (λ s. s.table ≡ M.table) seats.items }
-    requires empties { All (λ s. s.held ≡ None) seats.items }
+    requires table { booted.0.table ≡ M.table }
+    requires boot { booted.0.boot ≡ M.boot }
+    requires tables { All (λ s. s.table ≡ M.table) booted.1.items }
+    requires empties { All (λ s. s.held ≡ None) booted.1.items }
 {
+    let (blank, seats) = booted;
     let shared: Shared<M> = blank.open();
     match drive(rt, &shared, seats, gate, ticks) {
         Ok(mut seats) => {
@@ -121,6 +121,7 @@ fn driven<M: Naming + Send + Sync, G: Gate + Sync, R: Threads + Wait + Sync>(
 
 /// A machine of as many equal services as processors, and what is seen of it in every schedule.
 struct Row {
+    name: &'static str,
     cpus: u8,
     log: u32,
     ticks: u32,
@@ -130,9 +131,9 @@ struct Row {
 }
 
 static ROWS: &[Row] = &[
-    // Two processors hold a process at the same time. Each is taken once more, and dies then; a tick
-    // has room.
+    // Each process is taken once more, and dies then.
     Row {
+        name: "two processors hold a process at the same time, and a tick has room",
         cpus: 2,
         log: 64,
         ticks: 0,
@@ -142,8 +143,8 @@ static ROWS: &[Row] = &[
             is_full: false,
         },
     },
-    // Room for four takes and four returns: then a tick finds none.
     Row {
+        name: "room for four takes and four returns, and none for a tick",
         cpus: 4,
         log: 8,
         ticks: 0,
@@ -153,8 +154,8 @@ static ROWS: &[Row] = &[
             is_full: true,
         },
     },
-    // Room for three takes and three returns: the fourth take is refused, and a tick has room.
     Row {
+        name: "room for three takes and three returns: a fourth take is refused, and a tick has room",
         cpus: 4,
         log: 7,
         ticks: 1,
@@ -170,24 +171,23 @@ static ROWS: &[Row] = &[
 /// history too.
 #[test]
 fn hold_at_once(rt: HostRuntime) -> Result<(), Fail> {
-    for (number, row) in ROWS.iter().enumerate() {
+    for row in ROWS {
+        let name = row.name;
         assert!(rt; 0 < row.cpus && row.cpus <= 8 && 0 < row.log && row.log <= 64);
         let mut services = services(rt.alloc(), row.cpus, 0)?;
         let config = config(rt.alloc(), row.cpus, row.log, 0)?;
-        let Ok((blank, seats)) = boot(rt.alloc(), &config, &mut services) else {
+        let Ok(booted) = boot(rt.alloc(), &config, &mut services) else {
             return Err(Fail::new("no memory"));
         };
         let gate = Meeting::new(row.holders);
-        let ending = driven::<Brand, _, _>(&rt, rt.alloc(), blank, seats, &gate, row.ticks);
-        assert!(rt; ending == Some(row.ending), "row {number}");
-        assert!(rt;
-            gate.met.load(Ordering::SeqCst) == row.holders,
-            "row {number}"
+        let ending = driven::<Brand, _, _>(&rt, rt.alloc(), booted, &gate, row.ticks);
+        let (met, ended) = (
+            gate.met.load(Ordering::SeqCst),
+            gate.ended.load(Ordering::SeqCst),
         );
-        assert!(rt;
-            gate.ended.load(Ordering::SeqCst) == u32::from(row.cpus) + 1,
-            "row {number}"
-        );
+        assert!(rt; ending == Some(row.ending), "{name}");
+        assert!(rt; met == row.holders, "{name}: {met} met");
+        assert!(rt; ended == u32::from(row.cpus) + 1, "{name}: {ended} ended");
     }
     Ok(())
 }

@@ -42,6 +42,7 @@ fn take_all<M: Naming>(
 /// A machine of as many equal services as processors, how many processors take one while the others hold
 /// theirs, how a tick is answered then, and how many records there are at the end.
 struct Row {
+    name: &'static str,
     cpus: u8,
     log: u32,
     out: u64,
@@ -51,22 +52,23 @@ struct Row {
 
 static ROWS: &[Row] = &[
     Row {
+        name: "eight processes are out at once",
         cpus: 8,
         log: 64,
         out: 8,
         ticked: Ok(Answer::Done),
         records: 17,
     },
-    // Room for four takes and their returns.
     Row {
+        name: "room for four takes and their returns, and none for a tick",
         cpus: 4,
         log: 8,
         out: 4,
         ticked: Err(Refusal::LogFull),
         records: 8,
     },
-    // The fourth take finds no room for its return, and the tick has room.
     Row {
+        name: "a fourth take finds no room for its return, and the tick has room",
         cpus: 4,
         log: 7,
         out: 3,
@@ -93,12 +95,13 @@ fn are_out<M: Naming>(rt: &impl Wait, blank: Blank, mut seats: Vec<ActorSeat>, r
 
 #[test]
 fn all_at_once(rt: HostRuntime) -> Result<(), Fail> {
-    for (number, row) in ROWS.iter().enumerate() {
+    for row in ROWS {
+        let name = row.name;
         assert!(rt; 0 < row.cpus && row.cpus <= 8 && 0 < row.log && row.log <= 64);
         let mut services = services(rt.alloc(), row.cpus, 0)?;
         let config = config(rt.alloc(), row.cpus, row.log, 0)?;
         let (blank, seats) = boot(rt.alloc(), &config, &mut services).map_err(|_| "memory")?;
-        assert!(rt; are_out::<Brand>(&rt, blank, seats, row), "row {number}");
+        assert!(rt; are_out::<Brand>(&rt, blank, seats, row), "{name}");
     }
     Ok(())
 }
@@ -112,12 +115,14 @@ enum Meanwhile {
     Resume,
 }
 
+/// The history after a kill: who did it, and what.
 static KILLED: &[(u8, Recorded)] = &[
     (0, Recorded::Take),
     (1, Recorded::Kill(0)),
     (0, Recorded::Back(0)),
 ];
 
+/// The history after a debugger's turn.
 static RESUMED: &[(u8, Recorded)] = &[(0, Recorded::Take), (0, Recorded::Back(1))];
 
 /// The state of the process in slot 0.

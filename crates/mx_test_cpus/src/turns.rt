@@ -37,13 +37,20 @@ enum Caller {
     Other,
 }
 
-struct Turn(Caller, Call, Told);
+/// A call, and what it answers.
+struct Turn {
+    by: Caller,
+    call: Call,
+    told: Told,
+}
 
 /// A machine of one service on one processor, with one other actor, and the history at the end.
 struct Row {
+    name: &'static str,
     log: u32,
     restarts: u32,
     turns: &'static [Turn],
+    /// Who did it, and what.
     history: &'static [(u8, Recorded)],
 }
 
@@ -53,33 +60,49 @@ const PROCESSOR: u8 = 0;
 const OTHER: u8 = 1;
 
 static ROWS: &[Row] = &[
-    // A kill, a respawn, and a loan that is given back after no step.
     Row {
+        name: "a kill, a respawn, and a loan that is given back after no step",
         log: 8,
         restarts: 1,
         turns: &[
-            Turn(Caller::Other, Call::Kill(0), Told::Done(Answer::Done)),
-            Turn(
-                Caller::Processor,
-                Call::Take { steps: 0 },
-                Told::Refused(Refusal::NoProcess),
-            ),
-            Turn(Caller::Processor, Call::AtRest, Told::Rest(false)),
-            Turn(
-                Caller::Other,
-                Call::Respawn(0),
-                Told::Done(Answer::Respawned(1024)),
-            ),
-            Turn(
-                Caller::Processor,
-                Call::Take { steps: 0 },
-                Told::Lent {
+            Turn {
+                by: Caller::Other,
+                call: Call::Kill(0),
+                told: Told::Done(Answer::Done),
+            },
+            Turn {
+                by: Caller::Processor,
+                call: Call::Take { steps: 0 },
+                told: Told::Refused(Refusal::NoProcess),
+            },
+            Turn {
+                by: Caller::Processor,
+                call: Call::AtRest,
+                told: Told::Rest(false),
+            },
+            Turn {
+                by: Caller::Other,
+                call: Call::Respawn(0),
+                told: Told::Done(Answer::Respawned(1024)),
+            },
+            Turn {
+                by: Caller::Processor,
+                call: Call::Take { steps: 0 },
+                told: Told::Lent {
                     budget: 5,
                     count: 0,
                 },
-            ),
-            Turn(Caller::Other, Call::Kill(1024), Told::Done(Answer::Done)),
-            Turn(Caller::Processor, Call::AtRest, Told::Rest(true)),
+            },
+            Turn {
+                by: Caller::Other,
+                call: Call::Kill(1024),
+                told: Told::Done(Answer::Done),
+            },
+            Turn {
+                by: Caller::Processor,
+                call: Call::AtRest,
+                told: Told::Rest(true),
+            },
         ],
         history: &[
             (OTHER, Recorded::Kill(0)),
@@ -89,33 +112,37 @@ static ROWS: &[Row] = &[
             (OTHER, Recorded::Kill(1024)),
         ],
     },
-    // Three steps up to the trap that is no call, and one to the end of the text.
     Row {
+        name: "three steps up to a trap that is no call, and one to the end of the text",
         log: 8,
         restarts: 0,
         turns: &[
-            Turn(
-                Caller::Processor,
-                Call::Take { steps: 9 },
-                Told::Lent {
+            Turn {
+                by: Caller::Processor,
+                call: Call::Take { steps: 9 },
+                told: Told::Lent {
                     budget: 5,
                     count: 3,
                 },
-            ),
-            Turn(
-                Caller::Processor,
-                Call::Take { steps: 9 },
-                Told::Lent {
+            },
+            Turn {
+                by: Caller::Processor,
+                call: Call::Take { steps: 9 },
+                told: Told::Lent {
                     budget: 2,
                     count: 1,
                 },
-            ),
-            Turn(
-                Caller::Processor,
-                Call::Take { steps: 9 },
-                Told::Refused(Refusal::NoProcess),
-            ),
-            Turn(Caller::Processor, Call::AtRest, Told::Rest(true)),
+            },
+            Turn {
+                by: Caller::Processor,
+                call: Call::Take { steps: 9 },
+                told: Told::Refused(Refusal::NoProcess),
+            },
+            Turn {
+                by: Caller::Processor,
+                call: Call::AtRest,
+                told: Told::Rest(true),
+            },
         ],
         history: &[
             (PROCESSOR, Recorded::Take),
@@ -124,57 +151,77 @@ static ROWS: &[Row] = &[
             (PROCESSOR, Recorded::Back(1)),
         ],
     },
-    // What is refused.
     Row {
+        name: "calls that are refused",
         log: 8,
         restarts: 0,
         turns: &[
-            Turn(
-                Caller::Other,
-                Call::Respawn(0),
-                Told::Refused(Refusal::NotDown),
-            ),
-            Turn(
-                Caller::Other,
-                Call::Respawn(5),
-                Told::Refused(Refusal::NoService),
-            ),
-            Turn(Caller::Other, Call::Line(3), Told::Refused(Refusal::NoLine)),
-            Turn(
-                Caller::Other,
-                Call::Take { steps: 0 },
-                Told::Refused(Refusal::CpuBusy),
-            ),
-            Turn(Caller::Other, Call::Tick, Told::Done(Answer::Done)),
-            Turn(Caller::Other, Call::Kill(0), Told::Done(Answer::Done)),
-            Turn(
-                Caller::Other,
-                Call::Kill(0),
-                Told::Refused(Refusal::NoProcess),
-            ),
-            Turn(
-                Caller::Other,
-                Call::Respawn(0),
-                Told::Refused(Refusal::Worn),
-            ),
+            Turn {
+                by: Caller::Other,
+                call: Call::Respawn(0),
+                told: Told::Refused(Refusal::NotDown),
+            },
+            Turn {
+                by: Caller::Other,
+                call: Call::Respawn(5),
+                told: Told::Refused(Refusal::NoService),
+            },
+            Turn {
+                by: Caller::Other,
+                call: Call::Line(3),
+                told: Told::Refused(Refusal::NoLine),
+            },
+            Turn {
+                by: Caller::Other,
+                call: Call::Take { steps: 0 },
+                told: Told::Refused(Refusal::CpuBusy),
+            },
+            Turn {
+                by: Caller::Other,
+                call: Call::Tick,
+                told: Told::Done(Answer::Done),
+            },
+            Turn {
+                by: Caller::Other,
+                call: Call::Kill(0),
+                told: Told::Done(Answer::Done),
+            },
+            Turn {
+                by: Caller::Other,
+                call: Call::Kill(0),
+                told: Told::Refused(Refusal::NoProcess),
+            },
+            Turn {
+                by: Caller::Other,
+                call: Call::Respawn(0),
+                told: Told::Refused(Refusal::Worn),
+            },
         ],
         history: &[(OTHER, Recorded::Tick), (OTHER, Recorded::Kill(0))],
     },
-    // A history that has room for two records.
     Row {
+        name: "a history that has room for two records",
         log: 2,
         restarts: 0,
         turns: &[
-            Turn(
-                Caller::Processor,
-                Call::Take { steps: 0 },
-                Told::Lent {
+            Turn {
+                by: Caller::Processor,
+                call: Call::Take { steps: 0 },
+                told: Told::Lent {
                     budget: 5,
                     count: 0,
                 },
-            ),
-            Turn(Caller::Other, Call::Tick, Told::Refused(Refusal::LogFull)),
-            Turn(Caller::Processor, Call::AtRest, Told::Rest(false)),
+            },
+            Turn {
+                by: Caller::Other,
+                call: Call::Tick,
+                told: Told::Refused(Refusal::LogFull),
+            },
+            Turn {
+                by: Caller::Processor,
+                call: Call::AtRest,
+                told: Told::Rest(false),
+            },
         ],
         history: &[(PROCESSOR, Recorded::Take), (PROCESSOR, Recorded::Back(0))],
     },
@@ -250,16 +297,16 @@ fn first_other<M: Naming>(
     };
     let mut found = None;
     for (number, turn) in row.turns.iter().enumerate() {
-        let told = if turn.0 == Caller::Other {
-            let (seat, told) = make_call(rt, &shared, other, turn.1);
+        let told = if turn.by == Caller::Other {
+            let (seat, told) = make_call(rt, &shared, other, turn.call);
             other = seat;
             told
         } else {
-            let (seat, told) = make_call(rt, &shared, processor, turn.1);
+            let (seat, told) = make_call(rt, &shared, processor, turn.call);
             processor = seat;
             told
         };
-        if told != turn.2 && found.is_none() {
+        if told != turn.told && found.is_none() {
             found = Some(number);
         }
     }
@@ -272,16 +319,15 @@ fn first_other<M: Naming>(
 
 #[test]
 fn calls_in_turn(rt: HostRuntime) -> Result<(), Fail> {
-    for (number, row) in ROWS.iter().enumerate() {
-        assert!(rt;
-            0 < row.log && row.log <= 64 && row.restarts <= 1,
-            "row {number}"
-        );
+    for row in ROWS {
+        let name = row.name;
+        assert!(rt; 0 < row.log && row.log <= 64 && row.restarts <= 1, "{name}");
         let mut services = services(rt.alloc(), 1, row.restarts)?;
         let config = config(rt.alloc(), 1, row.log, row.restarts)?;
         let (blank, seats) = boot(rt.alloc(), &config, &mut services).map_err(|_| "memory")?;
         let fault = first_other::<Brand>(&rt, blank, seats, row);
-        assert!(rt; fault.is_none(), "row {number}");
+        let turn = fault.unwrap_or(0);
+        assert!(rt; fault.is_none(), "{name}: turn {turn}");
     }
     Ok(())
 }

@@ -6,18 +6,48 @@ use std::io::Write;
 use std::test::Fail;
 
 /// Words, and the texts that they stand for.
-const ASKED: [(&[&str], &[&str]); 7] = [
-    (&["mx", "help"], &["mx", "--help"]),
-    (&["mx", "help", "one"], &["mx", "one", "--help"]),
-    (
-        &["mx", "help", "one", "help"],
-        &["mx", "one", "help", "--help"],
-    ),
-    (&["mx", "help", "--version"], &["mx", "--version", "--help"]),
-    // The word is no help after a subcommand, or as the program's own name.
-    (&["mx", "nm", "help"], &["mx", "nm", "help"]),
-    (&["help", "nm"], &["help", "nm"]),
-    (&[], &[]),
+struct Asked {
+    name: &'static str,
+    words: &'static [&'static str],
+    texts: &'static [&'static str],
+}
+
+static ASKED: &[Asked] = &[
+    Asked {
+        name: "help alone",
+        words: &["mx", "help"],
+        texts: &["mx", "--help"],
+    },
+    Asked {
+        name: "help of a subcommand",
+        words: &["mx", "help", "one"],
+        texts: &["mx", "one", "--help"],
+    },
+    Asked {
+        name: "help of a subcommand and help",
+        words: &["mx", "help", "one", "help"],
+        texts: &["mx", "one", "help", "--help"],
+    },
+    Asked {
+        name: "help of the version",
+        words: &["mx", "help", "--version"],
+        texts: &["mx", "--version", "--help"],
+    },
+    Asked {
+        name: "the word is no help after a subcommand",
+        words: &["mx", "nm", "help"],
+        texts: &["mx", "nm", "help"],
+    },
+    Asked {
+        name: "the word is no help as the program's own name",
+        words: &["help", "nm"],
+        texts: &["help", "nm"],
+    },
+    Asked {
+        name: "no words",
+        words: &[],
+        texts: &[],
+    },
 ];
 
 /// The words of a command line as the system gives them.
@@ -31,27 +61,25 @@ fn words_of(alloc: Global, texts: &[&str]) -> Result<Vec<String>, Fail> {
 
 #[test]
 fn help_asked(rt: HostRuntime) -> Result<(), Fail> {
-    for (number, (words, texts)) in ASKED.iter().enumerate() {
-        let words = words_of(rt.alloc(), words)?;
+    for row in ASKED {
+        let name = row.name;
+        let words = words_of(rt.alloc(), row.words)?;
         let asked = texts_asked(rt.alloc(), words.as_slice())?;
-        assert!(rt; asked.as_slice() == *texts, "row {number}");
+        assert!(rt; asked.as_slice() == row.texts, "{name}");
     }
     Ok(())
-}
-
-/// Streams of which this one is a terminal.
-fn terminals(out: bool, err: bool) -> Terminals {
-    Terminals { out, err }
 }
 
 /// A text that ends within a line gets its end at a terminal, and no other text.
 #[test]
 fn ends_of_texts(rt: HostRuntime) {
     for err in [false, true] {
-        assert!(rt; terminals(true, err).text_end(Some(b'1')) == "\n");
-        assert!(rt; terminals(true, err).text_end(Some(b'\n')).is_empty());
-        assert!(rt; terminals(true, err).text_end(None).is_empty());
-        assert!(rt; terminals(false, err).text_end(Some(b'1')).is_empty());
+        let shown = Terminals { out: true, err };
+        let hidden = Terminals { out: false, err };
+        assert!(rt; shown.text_end(Some(b'1')) == "\n");
+        assert!(rt; shown.text_end(Some(b'\n')).is_empty());
+        assert!(rt; shown.text_end(None).is_empty());
+        assert!(rt; hidden.text_end(Some(b'1')).is_empty());
     }
 }
 
@@ -59,8 +87,8 @@ fn ends_of_texts(rt: HostRuntime) {
 #[test]
 fn notes_of_symbols(rt: HostRuntime) {
     for out in [false, true] {
-        let shown = terminals(out, true);
-        let hidden = terminals(out, false);
+        let shown = Terminals { out, err: true };
+        let hidden = Terminals { out, err: false };
         assert!(rt; shown.symbols_note(PrintedText::Symbols, None) == "mx: no symbols\n");
         assert!(rt;
             shown

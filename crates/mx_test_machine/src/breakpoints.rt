@@ -9,10 +9,16 @@ use mx_mem::Segment;
 use mx_proc::Slot;
 use mx_regs::Regs;
 use std::alloc::Global;
+use std::process::Abort;
 use std::test::Fail;
 
-/// `inc eax`, `inc eax`, `jmp short` to the first; after it the trap.
-static LOOP: [u8; 6] = *b"\x40\x40\xEB\xFC\xCD\x21";
+/// The loop, and the trap after it.
+static LOOP: [u8; 6] = [
+    0x40, // inc eax
+    0x40, // inc eax
+    0xEB, 0xFC, // jmp 0x0
+    0xCD, 0x21, // int 0x21
+];
 
 /// What a processor holds of that loop, at its beginning.
 fn out_of(alloc: Global) -> Result<Out, Fail> {
@@ -47,8 +53,10 @@ fn is_marked(debugger: &mut Debugger) -> bool {
     is_full && debugger.add(2, 0) == Ok(())
 }
 
-/// A slot's run of this many steps: how many are made and why they end, and EIP after them.
+/// A slot's run of this many steps, which begins where the last one ended: how many are made and why they
+/// end, and EIP after them. Slot 3 has a breakpoint at 1, slot 2 one at 0, and slot 7 none.
 struct Row {
+    name: &'static str,
     slot: Slot,
     steps: u32,
     count: u32,
@@ -58,6 +66,7 @@ struct Row {
 
 static ROWS: &[Row] = &[
     Row {
+        name: "slot 3 comes to its breakpoint",
         slot: 3,
         steps: 9,
         count: 1,
@@ -65,6 +74,7 @@ static ROWS: &[Row] = &[
         eip: 1,
     },
     Row {
+        name: "slot 3 goes on from its breakpoint, once round",
         slot: 3,
         steps: 9,
         count: 3,
@@ -72,6 +82,7 @@ static ROWS: &[Row] = &[
         eip: 1,
     },
     Row {
+        name: "slot 3's steps end before its breakpoint",
         slot: 3,
         steps: 2,
         count: 2,
@@ -79,6 +90,7 @@ static ROWS: &[Row] = &[
         eip: 0,
     },
     Row {
+        name: "slot 2 goes once round to its own breakpoint",
         slot: 2,
         steps: 9,
         count: 3,
@@ -86,6 +98,7 @@ static ROWS: &[Row] = &[
         eip: 0,
     },
     Row {
+        name: "slot 7 is not stopped by breakpoints of others",
         slot: 7,
         steps: 4,
         count: 4,
@@ -93,6 +106,7 @@ static ROWS: &[Row] = &[
         eip: 1,
     },
     Row {
+        name: "slot 3 goes once round with many steps left",
         slot: 3,
         steps: 99,
         count: 3,
@@ -101,15 +115,18 @@ static ROWS: &[Row] = &[
     },
 ];
 
-/// Whether each row's run ends as it says, in turn.
-fn are_halted(debugger: &Debugger, out: &mut Out) -> bool {
+/// Whether a row's run ends as it says.
+fn is_halted(debugger: &Debugger, out: &mut Out, row: &Row) -> bool {
+    let halt = debugger.resume(row.slot, out, row.steps);
+    halt.count == row.count && halt.cause == row.cause && out.image.eip == row.eip
+}
+
+/// Makes the rows' runs in turn.
+fn halt_in_turn(rt: &impl Abort, debugger: &Debugger, out: &mut Out) {
     for row in ROWS {
-        let halt = debugger.resume(row.slot, out, row.steps);
-        if (halt.count, halt.cause) != (row.count, row.cause) || out.image.eip != row.eip {
-            return false;
-        }
+        let name = row.name;
+        assert!(rt; is_halted(debugger, out, row), "{name}");
     }
-    true
 }
 
 /// The trap is told before the breakpoint after it, and again of no step.
@@ -128,18 +145,18 @@ fn is_read(image: &Image) -> bool {
     byte(image, 15) == Ok(0) && byte(image, 16) == Err(DebugError::NotHere)
 }
 
-fn is_debugged(out: &mut Out) -> bool {
+fn debug(rt: &impl Abort, out: &mut Out) {
     let mut debugger = Debugger::new();
-    is_marked(&mut debugger)
-        && are_halted(&debugger, out)
-        && is_trapped(&mut debugger, out)
-        && is_read(&out.image)
+    assert!(rt; is_marked(&mut debugger));
+    halt_in_turn(rt, &debugger, out);
+    assert!(rt; is_trapped(&mut debugger, out));
+    assert!(rt; is_read(&out.image));
 }
 
 #[test]
 fn breakpoints(rt: HostRuntime) -> Result<(), Fail> {
     let mut out = out_of(rt.alloc())?;
-    assert!(rt; is_debugged(&mut out));
+    debug(&rt, &mut out);
     assert!(rt; DebugError::NoSymbol.code() == 60 && DebugError::NoSymbol.name() == "NoSymbol");
     Ok(())
 }

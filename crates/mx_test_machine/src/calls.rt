@@ -1,155 +1,470 @@
 //! Kernel calls worked by hand.
 
+use crate::numbers::{
+    ALL_BUT_GRANT, ALL_SENDS, ALL_TRAPS, DEVIO, EBADREQUEST, EBADSRCDST, ECALLDENIED, EDEADDST,
+    EFAULT, EINVAL, ENOTREADY, EPERM, EXIT, GRANT, IRQCTL, KILL, NOTIFY_MESSAGE, OK, SETALARM,
+    VIRCOPY, WHOIS,
+};
 use crate::tables::{add_process, has_words, word_at};
 use mx_exec::Image;
 use mx_ipc::{receive, send};
 use mx_kcall::{After, call, raise, tick};
-use mx_proc::{DeathCause, Masks, Rules, Slot, State, Table};
+use mx_proc::{
+    ANY, CLOCK, DeathCause, Endpoint, HARDWARE, Masks, Rules, SYSTEM, Slot, State, Table,
+};
 use mx_sched::{dequeue, pick};
 use mx_word::{Register, Size};
 use std::alloc::Global;
 use std::process::Abort;
 use std::test::Fail;
 
-/// A kernel call of slot 0, whose mask has these bits: its type and words, the result, p0. Slot 1
-/// owns line 5 and has written a byte to the console, slot 2 is on a processor, slot 3 is down, and
-/// no slot 4 is used.
-struct Row(u32, [u32; 6], u32, u32);
+/// The mask of the kernel calls from TIMES to WHOIS.
+const NO_EXIT: u32 = 0xFE;
+
+/// The mask of the kernel calls from EXIT to WHOIS without VIRCOPY.
+const NO_VIRCOPY: u32 = 0xDF;
+
+/// An endpoint of no process, and the number that the specification gives it.
+struct PseudoEndpoint {
+    name: &'static str,
+    endpoint: Endpoint,
+    number: u32,
+}
+
+static PSEUDO_ENDPOINTS: &[PseudoEndpoint] = &[
+    PseudoEndpoint {
+        name: "ANY",
+        endpoint: ANY,
+        number: 0x7ACE,
+    },
+    PseudoEndpoint {
+        name: "HARDWARE",
+        endpoint: HARDWARE,
+        number: 0xFFFF_FFFF,
+    },
+    PseudoEndpoint {
+        name: "SYSTEM",
+        endpoint: SYSTEM,
+        number: 0xFFFF_FFFE,
+    },
+    PseudoEndpoint {
+        name: "CLOCK",
+        endpoint: CLOCK,
+        number: 0xFFFF_FFFD,
+    },
+];
+
+/// A kernel call of slot 0, and its reply. Slot 1 owns line 5 and has written a byte to the console,
+/// slot 2 is on a processor, slot 3 is dead, and no slot 4 is used.
+struct Request {
+    name: &'static str,
+    /// Which kernel calls slot 0 may make.
+    mask: u32,
+    /// The call's type, and then p0 to p4.
+    words: [u32; 6],
+    result: u32,
+    /// p0 of the reply.
+    told: u32,
+}
+
+const REQUEST: Request = Request {
+    name: "",
+    mask: ALL_BUT_GRANT,
+    words: [0; 6],
+    result: OK,
+    told: 0,
+};
+
+/// The type is tried before the mask, and the mask before the call's own reasons. A row that is wrong in
+/// two ways shows which of them comes first.
+static REQUESTS: &[Request] = &[
+    Request {
+        name: "GRANT is no call under these rules",
+        words: [GRANT, 0, 0, 0, 0, 0],
+        result: EBADREQUEST,
+        ..REQUEST
+    },
+    Request {
+        name: "GRANT is no call, and the mask is empty",
+        mask: 0,
+        words: [GRANT, 0, 0, 0, 0, 0],
+        result: EBADREQUEST,
+        ..REQUEST
+    },
+    Request {
+        name: "EXIT is not in the mask",
+        mask: NO_EXIT,
+        words: [EXIT, 0, 0, 0, 0, 0],
+        result: ECALLDENIED,
+        ..REQUEST
+    },
+    Request {
+        name: "VIRCOPY is not in the mask, and copies too many bytes",
+        mask: NO_VIRCOPY,
+        words: [VIRCOPY, 0, 0, 0, 0, 65_537],
+        result: ECALLDENIED,
+        ..REQUEST
+    },
+    Request {
+        name: "SETALARM: the first alarm",
+        words: [SETALARM, 5, 0, 0, 0, 0],
+        ..REQUEST
+    },
+    Request {
+        name: "IRQCTL: a wrong action on another's line",
+        words: [IRQCTL, 2, 5, 0, 0, 0],
+        result: EINVAL,
+        ..REQUEST
+    },
+    Request {
+        name: "IRQCTL gives up a line after the last one",
+        words: [IRQCTL, 0, 16, 0, 0, 0],
+        result: EINVAL,
+        ..REQUEST
+    },
+    Request {
+        name: "IRQCTL takes another's line",
+        words: [IRQCTL, 1, 5, 0, 0, 0],
+        result: EPERM,
+        ..REQUEST
+    },
+    Request {
+        name: "IRQCTL gives up another's line",
+        words: [IRQCTL, 0, 5, 0, 0, 0],
+        result: EPERM,
+        ..REQUEST
+    },
+    Request {
+        name: "IRQCTL gives up a free line",
+        words: [IRQCTL, 0, 3, 0, 0, 0],
+        result: EPERM,
+        ..REQUEST
+    },
+    Request {
+        name: "IRQCTL takes a free line",
+        words: [IRQCTL, 1, 3, 0, 0, 0],
+        ..REQUEST
+    },
+    Request {
+        name: "DEVIO writes a byte to the console",
+        words: [DEVIO, 1, 0, 0x41, 0, 0],
+        ..REQUEST
+    },
+    Request {
+        name: "DEVIO reads the console",
+        words: [DEVIO, 0, 0, 0, 0, 0],
+        ..REQUEST
+    },
+    Request {
+        name: "DEVIO reads a register after the last one",
+        words: [DEVIO, 0, 256, 0, 0, 0],
+        result: EINVAL,
+        ..REQUEST
+    },
+    Request {
+        name: "DEVIO: a wrong action",
+        words: [DEVIO, 2, 0, 0, 0, 0],
+        result: EINVAL,
+        ..REQUEST
+    },
+    Request {
+        name: "VIRCOPY of too many bytes, both slots unused",
+        words: [VIRCOPY, 4, 0, 4, 0, 65_537],
+        result: EINVAL,
+        ..REQUEST
+    },
+    Request {
+        name: "VIRCOPY from an unused slot to another generation",
+        words: [VIRCOPY, 4, 0, 1024, 0, 0],
+        result: EBADSRCDST,
+        ..REQUEST
+    },
+    Request {
+        name: "VIRCOPY from another generation to an unused slot",
+        words: [VIRCOPY, 1024, 0, 4, 0, 0],
+        result: EDEADDST,
+        ..REQUEST
+    },
+    Request {
+        name: "VIRCOPY to an unused slot",
+        words: [VIRCOPY, 0, 0, 4, 0, 0],
+        result: EBADSRCDST,
+        ..REQUEST
+    },
+    Request {
+        name: "VIRCOPY from a slot on a processor to an unused slot",
+        words: [VIRCOPY, 2, 0, 4, 0, 0],
+        result: EBADSRCDST,
+        ..REQUEST
+    },
+    Request {
+        name: "VIRCOPY from a slot on a processor to a dead one",
+        words: [VIRCOPY, 2, 0, 3, 0, 0],
+        result: EDEADDST,
+        ..REQUEST
+    },
+    Request {
+        name: "VIRCOPY from a slot on a processor, past its limit",
+        words: [VIRCOPY, 2, 4097, 0, 0, 0],
+        result: ENOTREADY,
+        ..REQUEST
+    },
+    Request {
+        name: "VIRCOPY from past the limit to a slot on a processor",
+        words: [VIRCOPY, 0, 4097, 2, 0, 0],
+        result: ENOTREADY,
+        ..REQUEST
+    },
+    Request {
+        name: "VIRCOPY to a slot on a processor, past its limit",
+        words: [VIRCOPY, 0, 0, 2, 4097, 0],
+        result: ENOTREADY,
+        ..REQUEST
+    },
+    Request {
+        name: "VIRCOPY of no bytes, from and to one past the limit",
+        words: [VIRCOPY, 0, 4097, 1, 4097, 0],
+        result: EFAULT,
+        ..REQUEST
+    },
+    Request {
+        name: "VIRCOPY of no bytes, from and to the limit",
+        words: [VIRCOPY, 0, 4096, 1, 4096, 0],
+        ..REQUEST
+    },
+    Request {
+        name: "VIRCOPY of no bytes, from one past the limit",
+        words: [VIRCOPY, 0, 4097, 1, 4096, 0],
+        result: EFAULT,
+        ..REQUEST
+    },
+    Request {
+        name: "VIRCOPY of no bytes, to one past the limit",
+        words: [VIRCOPY, 0, 4096, 1, 4097, 0],
+        result: EFAULT,
+        ..REQUEST
+    },
+    Request {
+        name: "VIRCOPY of four bytes, the last of them past the limit",
+        words: [VIRCOPY, 0, 4093, 1, 4092, 4],
+        result: EFAULT,
+        ..REQUEST
+    },
+    Request {
+        name: "KILL of an unused slot",
+        words: [KILL, 4, 0, 0, 0, 0],
+        result: EBADSRCDST,
+        ..REQUEST
+    },
+    Request {
+        name: "KILL of the hardware",
+        words: [KILL, HARDWARE, 0, 0, 0, 0],
+        result: EBADSRCDST,
+        ..REQUEST
+    },
+    Request {
+        name: "KILL of another generation of a ready slot",
+        words: [KILL, 1025, 0, 0, 0, 0],
+        result: EDEADDST,
+        ..REQUEST
+    },
+    Request {
+        name: "KILL of another generation of a slot on a processor",
+        words: [KILL, 1026, 0, 0, 0, 0],
+        result: EDEADDST,
+        ..REQUEST
+    },
+    Request {
+        name: "KILL of a dead slot",
+        words: [KILL, 3, 0, 0, 0, 0],
+        result: EDEADDST,
+        ..REQUEST
+    },
+    Request {
+        name: "KILL of a slot on a processor",
+        words: [KILL, 2, 0, 0, 0, 0],
+        result: ENOTREADY,
+        ..REQUEST
+    },
+    Request {
+        name: "KILL of a ready slot",
+        words: [KILL, 1, 0, 0, 0, 0],
+        ..REQUEST
+    },
+    Request {
+        name: "WHOIS of a ready slot",
+        words: [WHOIS, 1, 0, 0, 0, 0],
+        told: 1,
+        ..REQUEST
+    },
+    Request {
+        name: "WHOIS of a slot on a processor",
+        words: [WHOIS, 2, 0, 0, 0, 0],
+        told: 2,
+        ..REQUEST
+    },
+    Request {
+        name: "WHOIS of an unused slot",
+        words: [WHOIS, 4, 0, 0, 0, 0],
+        result: EINVAL,
+        ..REQUEST
+    },
+    Request {
+        name: "WHOIS of a dead slot",
+        words: [WHOIS, 3, 0, 0, 0, 0],
+        result: EDEADDST,
+        ..REQUEST
+    },
+];
+
+/// A copy within one process. Its buffer is at 512, and the bytes 1 to 5 are at 100.
+struct Copied {
+    name: &'static str,
+    from: u32,
+    to: u32,
+    count: u32,
+    /// Where a number is read after the copy.
+    place: u32,
+    word: u32,
+}
+
+static COPIES: &[Copied] = &[
+    Copied {
+        name: "up by one byte: the first byte stays",
+        from: 100,
+        to: 101,
+        count: 4,
+        place: 100,
+        word: 0x0302_0101,
+    },
+    Copied {
+        name: "up by one byte: the copied bytes",
+        from: 100,
+        to: 101,
+        count: 4,
+        place: 101,
+        word: 0x0403_0201,
+    },
+    Copied {
+        name: "down by one byte: the copied bytes",
+        from: 101,
+        to: 100,
+        count: 4,
+        place: 100,
+        word: 0x0504_0302,
+    },
+    Copied {
+        name: "down by one byte: the last byte stays",
+        from: 101,
+        to: 100,
+        count: 4,
+        place: 101,
+        word: 0x0505_0403,
+    },
+    Copied {
+        name: "out of the caller's own message: its type",
+        from: 516,
+        to: 600,
+        count: 4,
+        place: 600,
+        word: VIRCOPY,
+    },
+    Copied {
+        name: "onto p0 of the message: the reply comes after",
+        from: 100,
+        to: 520,
+        count: 4,
+        place: 520,
+        word: 0,
+    },
+    Copied {
+        name: "onto the whole message: the reply's source comes after",
+        from: 100,
+        to: 512,
+        count: 36,
+        place: 512,
+        word: SYSTEM,
+    },
+    Copied {
+        name: "onto the message's end and past it: the end is the reply's",
+        from: 97,
+        to: 544,
+        count: 8,
+        place: 544,
+        word: 0,
+    },
+    Copied {
+        name: "onto the message's end and past it: the bytes past it",
+        from: 97,
+        to: 544,
+        count: 8,
+        place: 548,
+        word: 0x0504_0302,
+    },
+];
 
 /// What waits for a process that a call of slot 0 kills, how it died, and who runs then in turn.
 struct Death {
+    name: &'static str,
     used: u8,
+    /// Who sends to the process that dies, in order of blocking.
     senders: &'static [u8],
+    /// Who receives from it.
     receivers: &'static [u8],
+    /// The call's type, and then p0 to p4.
     words: [u32; 6],
     dead: u8,
     cause: DeathCause,
     order: &'static [u8],
 }
 
-/// A copy within one process: from, to, how many bytes; a place, and the number that then stands there.
-struct Copied(u32, u32, u32, u32, u32);
-
-/// What is tried on a new table.
-enum Case {
-    Call(Row),
-    Copies(Copied),
-    Kills(Death),
-    Clock,
-    Alarm,
-    OwnLine,
-    Registers,
-    Console,
-}
-
-use Case::{Alarm, Call, Clock, Console, Copies, Kills, OwnLine, Registers};
-
-static CASES: &[Case] = &[
-    // The type is tried before the mask, and the mask before the call's own reasons.
-    Call(Row(0xFF, [0x608, 0, 0, 0, 0, 0], 0xFFFF_FF95, 0)),
-    Call(Row(0, [0x608, 0, 0, 0, 0, 0], 0xFFFF_FF95, 0)),
-    Call(Row(0xFE, [0x600, 0, 0, 0, 0, 0], 0xFFFF_FF98, 0)),
-    Call(Row(0xDF, [0x605, 0, 0, 0, 0, 65_537], 0xFFFF_FF98, 0)),
-    Call(Row(0xFF, [0x602, 5, 0, 0, 0, 0], 0, 0)),
-    // Lines: a wrong action on another's line, a wrong line that isn't one's own, then who owns it.
-    Call(Row(0xFF, [0x603, 2, 5, 0, 0, 0], 0xFFFF_FFEA, 0)),
-    Call(Row(0xFF, [0x603, 0, 16, 0, 0, 0], 0xFFFF_FFEA, 0)),
-    Call(Row(0xFF, [0x603, 1, 5, 0, 0, 0], 0xFFFF_FFFF, 0)),
-    Call(Row(0xFF, [0x603, 0, 5, 0, 0, 0], 0xFFFF_FFFF, 0)),
-    Call(Row(0xFF, [0x603, 0, 3, 0, 0, 0], 0xFFFF_FFFF, 0)),
-    Call(Row(0xFF, [0x603, 1, 3, 0, 0, 0], 0, 0)),
-    Call(Row(0xFF, [0x604, 1, 0, 0x41, 0, 0], 0, 0)),
-    Call(Row(0xFF, [0x604, 0, 0, 0, 0, 0], 0, 0)),
-    Call(Row(0xFF, [0x604, 0, 256, 0, 0, 0], 0xFFFF_FFEA, 0)),
-    Call(Row(0xFF, [0x604, 2, 0, 0, 0, 0], 0xFFFF_FFEA, 0)),
-    // Copies that are wrong in two ways, one after the other in the order of the refusals.
-    Call(Row(0xFF, [0x605, 4, 0, 4, 0, 65_537], 0xFFFF_FFEA, 0)),
-    Call(Row(0xFF, [0x605, 4, 0, 1024, 0, 0], 0xFFFF_FF99, 0)),
-    Call(Row(0xFF, [0x605, 1024, 0, 4, 0, 0], 0xFFFF_FF97, 0)),
-    Call(Row(0xFF, [0x605, 0, 0, 4, 0, 0], 0xFFFF_FF99, 0)),
-    Call(Row(0xFF, [0x605, 2, 0, 4, 0, 0], 0xFFFF_FF99, 0)),
-    Call(Row(0xFF, [0x605, 2, 0, 3, 0, 0], 0xFFFF_FF97, 0)),
-    Call(Row(0xFF, [0x605, 2, 4097, 0, 0, 0], 0xFFFF_FF96, 0)),
-    Call(Row(0xFF, [0x605, 0, 4097, 2, 0, 0], 0xFFFF_FF96, 0)),
-    Call(Row(0xFF, [0x605, 0, 0, 2, 4097, 0], 0xFFFF_FF96, 0)),
-    Call(Row(0xFF, [0x605, 0, 4097, 1, 4097, 0], 0xFFFF_FFF2, 0)),
-    // At the limit and one past it.
-    Call(Row(0xFF, [0x605, 0, 4096, 1, 4096, 0], 0, 0)),
-    Call(Row(0xFF, [0x605, 0, 4097, 1, 4096, 0], 0xFFFF_FFF2, 0)),
-    Call(Row(0xFF, [0x605, 0, 4096, 1, 4097, 0], 0xFFFF_FFF2, 0)),
-    Call(Row(0xFF, [0x605, 0, 4093, 1, 4092, 4], 0xFFFF_FFF2, 0)),
-    Call(Row(0xFF, [0x606, 4, 0, 0, 0, 0], 0xFFFF_FF99, 0)),
-    Call(Row(0xFF, [0x606, 0xFFFF_FFFF, 0, 0, 0, 0], 0xFFFF_FF99, 0)),
-    Call(Row(0xFF, [0x606, 1025, 0, 0, 0, 0], 0xFFFF_FF97, 0)),
-    Call(Row(0xFF, [0x606, 1026, 0, 0, 0, 0], 0xFFFF_FF97, 0)),
-    Call(Row(0xFF, [0x606, 3, 0, 0, 0, 0], 0xFFFF_FF97, 0)),
-    Call(Row(0xFF, [0x606, 2, 0, 0, 0, 0], 0xFFFF_FF96, 0)),
-    Call(Row(0xFF, [0x606, 1, 0, 0, 0, 0], 0, 0)),
-    Call(Row(0xFF, [0x607, 1, 0, 0, 0, 0], 0, 1)),
-    Call(Row(0xFF, [0x607, 2, 0, 0, 0, 0], 0, 2)),
-    Call(Row(0xFF, [0x607, 4, 0, 0, 0, 0], 0xFFFF_FFEA, 0)),
-    Call(Row(0xFF, [0x607, 3, 0, 0, 0, 0], 0xFFFF_FF97, 0)),
-    // Up by one byte and down, out of the caller's own message, onto it, and onto its end and past it.
-    Copies(Copied(100, 101, 4, 100, 0x0302_0101)),
-    Copies(Copied(100, 101, 4, 101, 0x0403_0201)),
-    Copies(Copied(101, 100, 4, 100, 0x0504_0302)),
-    Copies(Copied(101, 100, 4, 101, 0x0505_0403)),
-    Copies(Copied(516, 600, 4, 600, 0x605)),
-    Copies(Copied(100, 520, 4, 520, 0)),
-    Copies(Copied(100, 512, 36, 512, 0xFFFF_FFFE)),
-    Copies(Copied(97, 544, 8, 544, 0)),
-    Copies(Copied(97, 544, 8, 548, 0x0504_0302)),
-    // Two callers, in order of blocking, then two receivers, in slot order; the caller is last.
-    Kills(Death {
+static DEATHS: &[Death] = &[
+    Death {
+        name: "the last caller goes on last, after receivers in slot order",
         used: 6,
         senders: &[4, 2],
         receivers: &[5, 3],
-        words: [0x606, 1, 0, 0, 0, 0],
+        words: [KILL, 1, 0, 0, 0, 0],
         dead: 1,
         cause: DeathCause::Kill,
         order: &[0, 5, 3, 2, 4],
-    }),
-    // EXIT, with 31 callers.
-    Kills(Death {
+    },
+    Death {
+        name: "EXIT with 31 callers",
         used: 32,
         senders: &[
             1, 2, 3, 4, 5, 6, 7, 8, 9, 10, 11, 12, 13, 14, 15, 16, 17, 18, 19, 20, 21, 22, 23, 24,
             25, 26, 27, 28, 29, 30, 31,
         ],
         receivers: &[],
-        words: [0x600, 0, 0, 0, 0, 0],
+        words: [EXIT, 0, 0, 0, 0, 0],
         dead: 0,
         cause: DeathCause::Exit,
         order: &[
             31, 30, 29, 28, 27, 26, 25, 24, 23, 22, 21, 20, 19, 18, 17, 16, 15, 14, 13, 12, 11, 10,
             9, 8, 7, 6, 5, 4, 3, 2, 1,
         ],
-    }),
-    // A process that receives from itself is in no queue.
-    Kills(Death {
+    },
+    Death {
+        name: "a process that receives from itself is in no queue",
         used: 2,
         senders: &[],
         receivers: &[1],
-        words: [0x606, 1, 0, 0, 0, 0],
+        words: [KILL, 1, 0, 0, 0, 0],
         dead: 1,
         cause: DeathCause::Kill,
         order: &[0],
-    }),
-    // KILL of oneself.
-    Kills(Death {
+    },
+    Death {
+        name: "KILL of oneself",
         used: 2,
         senders: &[],
         receivers: &[],
-        words: [0x606, 0, 0, 0, 0, 0],
+        words: [KILL, 0, 0, 0, 0, 0],
         dead: 0,
         cause: DeathCause::Exit,
         order: &[1],
-    }),
-    Clock,
-    Alarm,
-    OwnLine,
-    Registers,
-    Console,
+    },
 ];
 
 /// Some processes that may make these kernel calls.
@@ -157,8 +472,8 @@ fn processes(rt: &impl Abort, alloc: Global, used: u8, calls: u32) -> Result<Tab
     let mut table = Table::new(alloc, Rules::Lenient)?;
     for _ in 0..used {
         let masks = Masks {
-            traps: 0x1E,
-            sends: 0xFFFF_FFFF,
+            traps: ALL_TRAPS,
+            sends: ALL_SENDS,
             calls,
         };
         add_process(rt, alloc, &mut table, masks, 7)?;
@@ -174,7 +489,8 @@ fn write_words(image: &mut Image, words: &[u32; 6]) {
     }
 }
 
-/// A ready process makes a kernel call by the buffer that its EBX names.
+/// A ready process makes a kernel call by the buffer that its EBX names. The words are the call's type,
+/// and then p0 to p4.
 pub(crate) fn make_call(rt: &impl Abort, table: &mut Table, slot: Slot, words: &[u32; 6]) -> After {
     assert!(rt; slot < table.used());
     assert!(rt; table.process(slot).state.is_ready());
@@ -188,15 +504,21 @@ pub(crate) fn make_call(rt: &impl Abort, table: &mut Table, slot: Slot, words: &
     call(table, slot)
 }
 
+/// One of two traps, and the endpoint that it names.
+#[derive(Clone, Copy)]
+pub(crate) enum Trap {
+    Send(Endpoint),
+    Receive(Endpoint),
+}
+
 /// A ready process sends to an endpoint, or receives from it.
-pub(crate) fn make_trap(rt: &impl Abort, table: &mut Table, slot: Slot, sends: bool, named: u32) {
+pub(crate) fn make_trap(rt: &impl Abort, table: &mut Table, slot: Slot, trap: Trap) {
     assert!(rt; slot < table.used());
     assert!(rt; table.process(slot).state.is_ready());
     dequeue(table, slot);
-    if sends {
-        send(table, slot, named);
-    } else {
-        receive(table, slot, named);
+    match trap {
+        Trap::Send(to) => send(table, slot, to),
+        Trap::Receive(from) => receive(table, slot, from),
     }
 }
 
@@ -210,32 +532,33 @@ pub(crate) fn send_away(rt: &impl Abort, table: &mut Table, slot: Slot) {
 
 /// The calls before that of slot 0, by which the other slots are as they are.
 fn prepare(rt: &impl Abort, table: &mut Table) {
-    make_call(rt, table, 1, &[0x603, 1, 5, 0, 0, 0]);
-    make_call(rt, table, 1, &[0x604, 1, 0, 0x42, 0, 0]);
-    make_call(rt, table, 3, &[0x600, 0, 0, 0, 0, 0]);
+    make_call(rt, table, 1, &[IRQCTL, 1, 5, 0, 0, 0]);
+    make_call(rt, table, 1, &[DEVIO, 1, 0, 0x42, 0, 0]);
+    make_call(rt, table, 3, &[EXIT, 0, 0, 0, 0, 0]);
     send_away(rt, table, 2);
 }
 
-/// Whether slot 0 goes on with 0 in EAX, and a row's reply is at 512; only a write has put a second
+/// Whether slot 0 goes on with OK in EAX, and a row's reply is at 512; only a write has put a second
 /// byte on the console.
-fn is_left(rt: &impl Abort, table: &Table, row: &Row) -> bool {
+fn is_left(rt: &impl Abort, table: &Table, row: &Request) -> bool {
     assert!(rt; table.used() > 0);
-    let is_written = row.1[0] == 0x604 && row.1[1] == 1;
-    table.process(0).image.register(Register::Eax) == 0
-        && word_at(rt, table, 0, 512) == 0xFFFF_FFFE
-        && word_at(rt, table, 0, 516) == row.2
-        && word_at(rt, table, 0, 520) == row.3
+    let is_written = row.words[0] == DEVIO && row.words[1] == 1;
+    table.process(0).image.register(Register::Eax) == OK
+        && word_at(rt, table, 0, 512) == SYSTEM
+        && word_at(rt, table, 0, 516) == row.result
+        && word_at(rt, table, 0, 520) == row.told
         && (table.devices().console.get(1) == Some(0x41)) == is_written
 }
 
-fn is_replied(rt: &impl Abort, table: &mut Table, row: &Row) -> bool {
+fn is_replied(rt: &impl Abort, table: &mut Table, row: &Request) -> bool {
     prepare(rt, table);
-    make_call(rt, table, 0, &row.1) == After::Reply(row.2) && is_left(rt, table, row)
+    make_call(rt, table, 0, &row.words) == After::Reply(row.result) && is_left(rt, table, row)
 }
 
 fn is_copied(rt: &impl Abort, table: &mut Table, copy: &Copied) -> bool {
-    let words = [0x605, 0, copy.0, 0, copy.1, copy.2];
-    make_call(rt, table, 0, &words) == After::Reply(0) && word_at(rt, table, 0, copy.3) == copy.4
+    let words = [VIRCOPY, 0, copy.from, 0, copy.to, copy.count];
+    make_call(rt, table, 0, &words) == After::Reply(OK)
+        && word_at(rt, table, 0, copy.place) == copy.word
 }
 
 /// That many ticks.
@@ -248,18 +571,18 @@ fn make_ticks(rt: &impl Abort, table: &mut Table, count: u8) {
 
 /// A process asks for a line, which is raised.
 fn raise_own(rt: &impl Abort, table: &mut Table, line: u8) {
-    make_call(rt, table, 0, &[0x603, 1, u32::from(line), 0, 0, 0]);
+    make_call(rt, table, 0, &[IRQCTL, 1, u32::from(line), 0, 0, 0]);
     assert!(rt; line < 16);
     assert!(rt; table.devices().owners[line as usize].is_some());
     raise(table, line);
 }
 
 /// What stands in a buffer at 512 after a RECEIVE from HARDWARE.
-static NOTIFIED: [u32; 9] = [0xFFFF_FFFF, 4096, 9, 0x22, 0, 0, 0, 0, 0];
+static NOTIFIED: [u32; 9] = [HARDWARE, NOTIFY_MESSAGE, 9, 0x22, 0, 0, 0, 0, 0];
 
 /// What an alarm's call of slot 0 replies.
 fn alarm_left(rt: &impl Abort, table: &mut Table, delay: u32) -> u32 {
-    make_call(rt, table, 0, &[0x602, delay, 0, 0, 0, 0]);
+    make_call(rt, table, 0, &[SETALARM, delay, 0, 0, 0, 0]);
     word_at(rt, table, 0, 520)
 }
 
@@ -269,7 +592,7 @@ fn is_timed(rt: &impl Abort, table: &mut Table) -> bool {
     make_ticks(rt, table, 9);
     raise_own(rt, table, 5);
     raise_own(rt, table, 1);
-    make_trap(rt, table, 0, false, 0xFFFF_FFFF);
+    make_trap(rt, table, 0, Trap::Receive(HARDWARE));
     let is_notified = has_words(rt, table, 0, &NOTIFIED) && alarm_left(rt, table, 5) == 0;
     make_ticks(rt, table, 2);
     let is_set = alarm_left(rt, table, 0) == 3;
@@ -278,29 +601,29 @@ fn is_timed(rt: &impl Abort, table: &mut Table) -> bool {
 }
 
 /// What stands in the buffer of who waits for anybody, after its alarm rang at uptime 14.
-static RUNG: [u32; 9] = [0xFFFF_FFFD, 4096, 14, 0, 0, 0, 0, 0, 0];
+static RUNG: [u32; 9] = [CLOCK, NOTIFY_MESSAGE, 14, 0, 0, 0, 0, 0, 0];
 
 /// An alarm that is set for five ticks at uptime 9, by a process that then waits: silent for four, it
 /// rings at the fifth.
 fn rings(rt: &impl Abort, table: &mut Table) -> bool {
     make_ticks(rt, table, 9);
     let had_none = alarm_left(rt, table, 5) == 0;
-    make_trap(rt, table, 0, false, 0x7ACE);
+    make_trap(rt, table, 0, Trap::Receive(ANY));
     make_ticks(rt, table, 4);
     let is_silent = pick(table).is_none();
     make_ticks(rt, table, 1);
-    had_none && is_silent && has_words(rt, table, 0, &RUNG) && next_one(rt, table) == Some((0, 0))
+    had_none && is_silent && has_words(rt, table, 0, &RUNG) && next_one(rt, table) == Some((0, OK))
 }
 
 /// Takes line 5.
-static TAKES: [u32; 6] = [0x603, 1, 5, 0, 0, 0];
+static TAKES: [u32; 6] = [IRQCTL, 1, 5, 0, 0, 0];
 
 /// A line that is one's own already.
 fn is_taken_again(rt: &impl Abort, table: &mut Table) -> bool {
     let first = make_call(rt, table, 0, &TAKES);
     let second = make_call(rt, table, 0, &TAKES);
-    first == After::Reply(0)
-        && second == After::Reply(0)
+    first == After::Reply(OK)
+        && second == After::Reply(OK)
         && table.devices().owners[5] == Some(0)
         && table.devices().owners[4].is_none()
 }
@@ -313,10 +636,10 @@ fn word_of(register: u32) -> u32 {
 /// Whether each register but the console keeps a word of its own.
 fn keep_words(rt: &impl Abort, table: &mut Table) -> bool {
     for register in 1..256 {
-        make_call(rt, table, 0, &[0x604, 1, register, word_of(register), 0, 0]);
+        make_call(rt, table, 0, &[DEVIO, 1, register, word_of(register), 0, 0]);
     }
     for register in 1..256 {
-        make_call(rt, table, 0, &[0x604, 0, register, 0, 0, 0]);
+        make_call(rt, table, 0, &[DEVIO, 0, register, 0, 0, 0]);
         if word_at(rt, table, 0, 520) != word_of(register) {
             return false;
         }
@@ -327,7 +650,7 @@ fn keep_words(rt: &impl Abort, table: &mut Table) -> bool {
 /// Whether of one byte more than the console keeps the first is gone, and all are counted.
 fn keeps_last_bytes(rt: &impl Abort, table: &mut Table) -> bool {
     for number in 0..4097 {
-        make_call(rt, table, 0, &[0x604, 1, 0, number, 0, 0]);
+        make_call(rt, table, 0, &[DEVIO, 1, 0, number, 0, 0]);
     }
     let console = &table.devices().console;
     console.count() == 4097
@@ -340,10 +663,10 @@ fn keeps_last_bytes(rt: &impl Abort, table: &mut Table) -> bool {
 /// Slot 0's call, after those who wait for the process that dies of it: how that is down.
 fn state_of_dead(rt: &impl Abort, table: &mut Table, death: &Death) -> State {
     for slot in death.senders {
-        make_trap(rt, table, *slot, true, u32::from(death.dead));
+        make_trap(rt, table, *slot, Trap::Send(u32::from(death.dead)));
     }
     for slot in death.receivers {
-        make_trap(rt, table, *slot, false, u32::from(death.dead));
+        make_trap(rt, table, *slot, Trap::Receive(u32::from(death.dead)));
     }
     make_call(rt, table, 0, &death.words);
     assert!(rt; death.dead < table.used());
@@ -365,7 +688,7 @@ fn next_one(rt: &impl Abort, table: &mut Table) -> Option<(Slot, u32)> {
 fn go_on_in_order(rt: &impl Abort, table: &mut Table, death: &Death) -> bool {
     for slot in death.order {
         let waited = death.senders.contains(slot) || death.receivers.contains(slot);
-        let wanted = if waited { 0xFFFF_FF97 } else { 0 };
+        let wanted = if waited { EDEADDST } else { OK };
         if next_one(rt, table) != Some((*slot, wanted)) {
             return false;
         }
@@ -377,34 +700,80 @@ fn dies_so(rt: &impl Abort, table: &mut Table, death: &Death) -> bool {
     state_of_dead(rt, table, death) == State::Down(death.cause) && go_on_in_order(rt, table, death)
 }
 
-/// How many processes a case has, and what kernel calls they may make.
-fn begins_with(case: &Case) -> (u8, u32) {
-    match case {
-        Call(row) => (4, row.0),
-        Kills(death) => (death.used, 0xFF),
-        _ => (1, 0xFF),
-    }
+/// One process that may make all kernel calls but GRANT.
+fn one_process(rt: &impl Abort, alloc: Global) -> Result<Table, Fail> {
+    processes(rt, alloc, 1, ALL_BUT_GRANT)
 }
 
-fn is_right(rt: &impl Abort, table: &mut Table, case: &Case) -> bool {
-    match case {
-        Call(row) => is_replied(rt, table, row),
-        Copies(copy) => is_copied(rt, table, copy),
-        Kills(death) => dies_so(rt, table, death),
-        Clock => is_timed(rt, table),
-        Alarm => rings(rt, table),
-        OwnLine => is_taken_again(rt, table),
-        Registers => keep_words(rt, table),
-        Console => keeps_last_bytes(rt, table),
+#[test]
+fn numbers_of_pseudo_endpoints(rt: HostRuntime) {
+    for row in PSEUDO_ENDPOINTS {
+        let name = row.name;
+        assert!(rt; row.endpoint == row.number, "{name}");
     }
 }
 
 #[test]
 fn kernel_calls(rt: HostRuntime) -> Result<(), Fail> {
-    for (number, case) in CASES.iter().enumerate() {
-        let (used, calls) = begins_with(case);
-        let mut table = processes(&rt, rt.alloc(), used, calls)?;
-        assert!(rt; is_right(&rt, &mut table, case), "case {number}");
+    for row in REQUESTS {
+        let name = row.name;
+        let mut table = processes(&rt, rt.alloc(), 4, row.mask)?;
+        assert!(rt; is_replied(&rt, &mut table, row), "{name}");
     }
+    Ok(())
+}
+
+#[test]
+fn copies_within_one_process(rt: HostRuntime) -> Result<(), Fail> {
+    for row in COPIES {
+        let name = row.name;
+        let mut table = one_process(&rt, rt.alloc())?;
+        assert!(rt; is_copied(&rt, &mut table, row), "{name}");
+    }
+    Ok(())
+}
+
+#[test]
+fn calls_that_kill(rt: HostRuntime) -> Result<(), Fail> {
+    for row in DEATHS {
+        let name = row.name;
+        let mut table = processes(&rt, rt.alloc(), row.used, ALL_BUT_GRANT)?;
+        assert!(rt; dies_so(&rt, &mut table, row), "{name}");
+    }
+    Ok(())
+}
+
+#[test]
+fn lines_and_a_cancelled_alarm(rt: HostRuntime) -> Result<(), Fail> {
+    let mut table = one_process(&rt, rt.alloc())?;
+    assert!(rt; is_timed(&rt, &mut table));
+    Ok(())
+}
+
+#[test]
+fn an_alarm_rings(rt: HostRuntime) -> Result<(), Fail> {
+    let mut table = one_process(&rt, rt.alloc())?;
+    assert!(rt; rings(&rt, &mut table));
+    Ok(())
+}
+
+#[test]
+fn own_line(rt: HostRuntime) -> Result<(), Fail> {
+    let mut table = one_process(&rt, rt.alloc())?;
+    assert!(rt; is_taken_again(&rt, &mut table));
+    Ok(())
+}
+
+#[test]
+fn registers_of_the_machine(rt: HostRuntime) -> Result<(), Fail> {
+    let mut table = one_process(&rt, rt.alloc())?;
+    assert!(rt; keep_words(&rt, &mut table));
+    Ok(())
+}
+
+#[test]
+fn bytes_of_the_console(rt: HostRuntime) -> Result<(), Fail> {
+    let mut table = one_process(&rt, rt.alloc())?;
+    assert!(rt; keeps_last_bytes(&rt, &mut table));
     Ok(())
 }

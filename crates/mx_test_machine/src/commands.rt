@@ -57,9 +57,11 @@ fn channels(alloc: Global, refusal: Option<io::ErrorKind>) -> Held {
 
 /// Words of which something comes: the status, what is printed, and the file that is written.
 struct Done {
+    name: &'static str,
     words: &'static [&'static str],
     status: u8,
     printed: &'static str,
+    /// Its name and its bytes.
     file: Option<(&'static str, &'static [u8])>,
 }
 
@@ -74,38 +76,43 @@ const KILLED: &str = "done\ndone\nrefused 54 NoProcess\nrefused 41 Worn\nrefused
 
 static DONE: &[Done] = &[
     Done {
+        name: "one: a sum",
         words: &["mx", "one", "a.out", "9"],
         status: 0,
         printed: SUMMED,
         file: None,
     },
     Done {
+        name: "as: a sum",
         words: &["mx", "as", "sum.s", "new.out"],
         status: 0,
         printed: "",
-        file: Some(("new.out", &SUM)),
+        file: Some(("new.out", SUM)),
     },
     Done {
+        name: "dis: a sum",
         words: &["mx", "dis", "a.out"],
         status: 0,
         printed: "00000000 mov eax, 0x5\n00000005 add eax, 0x7b\n00000008 int 0x21\n",
         file: None,
     },
     Done {
+        name: "nm: a driver",
         words: &["mx", "nm", "drv.out"],
         status: 0,
         printed: "00000000 D buf\n00000000 T top\n",
         file: None,
     },
     Done {
+        name: "step: killed and refused",
         words: &["mx", "step", "one", "kills"],
         status: 0,
         printed: "done\ndone\nrefused 54 NoProcess\nrefused 41 Worn\nrefused 53 NoLine\n\
                   refused 42 NoService\n0 a 0 down kill 7 5\nuptime 1\nconsole 0\n",
         file: None,
     },
-    // The events that were refused have no record.
     Done {
+        name: "step: killed and refused, saved without the refused events",
         words: &["mx", "step", "one", "kills", "--save", "new.log"],
         status: 0,
         printed: "done\ndone\nrefused 54 NoProcess\nrefused 41 Worn\nrefused 53 NoLine\n\
@@ -114,45 +121,49 @@ static DONE: &[Done] = &[
     },
     // One processor, so the history is the same whatever the schedule.
     Done {
+        name: "run: a sum and a fault",
         words: &["mx", "run", "one", "new.log"],
         status: 0,
         printed: "0 a 0 down fault 13 7 1\nuptime 0\nconsole 0\n",
         file: Some(("new.log", b"rules 2\n0 take\n0 back 3\n0 take\n0 back 1\n")),
     },
     Done {
+        name: "run: no ticks",
         words: &["mx", "run", "--ticks", "0", "one", "new.log"],
         status: 0,
         printed: "0 a 0 down fault 13 7 1\nuptime 0\nconsole 0\n",
         file: Some(("new.log", b"rules 2\n0 take\n0 back 3\n0 take\n0 back 1\n")),
     },
-    // A history without room for another take ends a run, and is no failure.
     Done {
+        name: "run: a history without room for another take",
         words: &["mx", "run", "full", "new.log"],
         status: 0,
         printed: "0 drv 0 receiving any 4 16\n1 cli 1 ready 7 20\nuptime 0\nconsole 0\n",
         file: Some(("new.log", b"rules 2\n0 take\n0 back 4\n")),
     },
     Done {
+        name: "replay: a whole history",
         words: &["mx", "replay", "one", "whole"],
         status: 0,
         printed: "0 a 0 down fault 13 7 1\nuptime 0\nconsole 0\n",
         file: None,
     },
-    // A history that is refused is told on standard output, and is no failure.
     Done {
+        name: "replay: the first event is refused",
         words: &["mx", "replay", "one", "early"],
         status: 1,
         printed: "line 1: refused 51 CpuEmpty\n",
         file: None,
     },
-    // The line of the rules is counted too.
     Done {
+        name: "trace: the line of the rules is counted too",
         words: &["mx", "trace", "one", "strict_early"],
         status: 1,
         printed: "line 2: refused 51 CpuEmpty\n",
         file: None,
     },
     Done {
+        name: "trace: from 3 to the end",
         words: &["mx", "trace", "one", "whole", "--from", "3"],
         status: 0,
         printed: "3 0 take: a 0 budget 2\n4 0 back 1: a 0 fault 13\n\
@@ -160,21 +171,22 @@ static DONE: &[Done] = &[
         file: None,
     },
     Done {
+        name: "trace: from 2 to 2",
         words: &["mx", "trace", "--to", "2", "one", "whole", "--from", "2"],
         status: 0,
         printed: "2 0 back 3: a 0 trap 0 128\n\
                   2   a 0: out -> ready, result -104 ECALLDENIED\n",
         file: None,
     },
-    // 0 is as 1.
     Done {
+        name: "trace: from 0 is from 1",
         words: &["mx", "trace", "one", "whole", "--from", "0", "--to", "1"],
         status: 0,
         printed: "1 0 take: a 0 budget 5\n",
         file: None,
     },
-    // No record: past the end, and a range that ends before it begins.
     Done {
+        name: "trace: from past the end",
         words: &[
             "mx",
             "trace",
@@ -190,25 +202,28 @@ static DONE: &[Done] = &[
         file: None,
     },
     Done {
+        name: "trace: a range that ends before it begins",
         words: &["mx", "trace", "one", "whole", "--from", "3", "--to", "2"],
         status: 0,
         printed: "",
         file: None,
     },
-    // No record after the last of the range is made, but those before the first are.
     Done {
+        name: "trace: records after the last aren't made",
         words: &["mx", "trace", "one", "early", "--to", "0"],
         status: 0,
         printed: "",
         file: None,
     },
     Done {
+        name: "trace: records before the first are made",
         words: &["mx", "trace", "one", "strict_early", "--from", "9"],
         status: 1,
         printed: "line 2: refused 51 CpuEmpty\n",
         file: None,
     },
     Done {
+        name: "db: a breakpoint and no messages",
         words: &["mx", "db", "pair", "look"],
         status: 0,
         printed: "done\n0 drv 0 ready 4 20\n1 cli 1 ready 7 20\nuptime 0\nconsole 0\n",
@@ -219,6 +234,7 @@ static DONE: &[Done] = &[
 /// Words of which nothing comes: the status, and what standard error gets.
 #[derive(Clone, Copy)]
 struct Failed {
+    name: &'static str,
     words: &'static [&'static str],
     status: u8,
     told: &'static str,
@@ -226,243 +242,289 @@ struct Failed {
 
 static FAILED: &[Failed] = &[
     Failed {
+        name: "one: a file that is cut",
         words: &["mx", "one", "cut", "9"],
         status: 1,
         told: "mx: 20 Truncated\n",
     },
     Failed {
+        name: "as: wrong operands",
         words: &["mx", "as", "wrong.s", "new.out"],
         status: 1,
         told: "mx: 11 BadOperands line 2\n",
     },
     Failed {
+        name: "dis: a file that is cut",
         words: &["mx", "dis", "cut"],
         status: 1,
         told: "mx: 20 Truncated\n",
     },
     Failed {
+        name: "nm: a file that is cut",
         words: &["mx", "nm", "cut"],
         status: 1,
         told: "mx: 20 Truncated\n",
     },
     Failed {
+        name: "step: a script with a bad line",
         words: &["mx", "step", "one", "tock"],
         status: 1,
         told: "mx: 73 BadRecord line 2\n",
     },
     Failed {
+        name: "run: a configuration with a bad line",
         words: &["mx", "run", "bad", "new.log"],
         status: 1,
         told: "mx: 70 BadLine line 2\n",
     },
     Failed {
+        name: "run: a program that is cut",
         words: &["mx", "run", "cut_first", "new.log"],
         status: 1,
         told: "mx: 20 Truncated\n",
     },
     Failed {
+        name: "replay: no history",
         words: &["mx", "replay", "one", "look"],
         status: 1,
         told: "mx: 73 BadRecord line 1\n",
     },
-    // A text that is no history is refused wherever its bad line stands.
     Failed {
+        name: "trace: no history, though its bad line is past the range",
         words: &["mx", "trace", "one", "look", "--to", "0"],
         status: 1,
         told: "mx: 73 BadRecord line 1\n",
     },
     Failed {
+        name: "draw: no history, though its bad line is before the range",
         words: &["mx", "draw", "one", "look", "--from", "2"],
         status: 1,
         told: "mx: 73 BadRecord line 1\n",
     },
     Failed {
+        name: "db: a configuration with a bad line",
         words: &["mx", "db", "bad", "look"],
         status: 1,
         told: "mx: 70 BadLine line 2\n",
     },
     Failed {
+        name: "one: no number of steps",
         words: &["mx", "one", "a.out"],
         status: 2,
         told: "",
     },
     Failed {
+        name: "as: no new file",
         words: &["mx", "as", "sum.s"],
         status: 2,
         told: "",
     },
     Failed {
+        name: "dis: no file",
         words: &["mx", "dis"],
         status: 2,
         told: "",
     },
     Failed {
+        name: "nm: two files",
         words: &["mx", "nm", "a.out", "b.out"],
         status: 2,
         told: "",
     },
     Failed {
+        name: "step: no script",
         words: &["mx", "step", "one"],
         status: 2,
         told: "",
     },
     Failed {
+        name: "step: save without a file",
         words: &["mx", "step", "one", "kills", "--save"],
         status: 2,
         told: "",
     },
     Failed {
+        name: "run: no history's file",
         words: &["mx", "run", "one"],
         status: 2,
         told: "",
     },
     Failed {
+        name: "run: ticks without a number",
         words: &["mx", "run", "one", "new.log", "--ticks"],
         status: 2,
         told: "",
     },
     Failed {
+        name: "run: too many ticks",
         words: &["mx", "run", "one", "new.log", "--ticks", "4294967296"],
         status: 2,
         told: "",
     },
     Failed {
+        name: "run: ticks that are no number",
         words: &["mx", "run", "one", "new.log", "--ticks", "many"],
         status: 2,
         told: "",
     },
     Failed {
+        name: "replay: ticks",
         words: &["mx", "replay", "one", "whole", "--ticks", "1"],
         status: 2,
         told: "",
     },
     Failed {
+        name: "replay: save",
         words: &["mx", "replay", "one", "whole", "--save", "new.log"],
         status: 2,
         told: "",
     },
     Failed {
+        name: "replay: no history's name",
         words: &["mx", "replay", "one"],
         status: 2,
         told: "",
     },
     Failed {
+        name: "draw: a range to -1",
         words: &["mx", "draw", "one", "whole", "--to", "-1"],
         status: 2,
         told: "",
     },
     Failed {
+        name: "trace: from without a number",
         words: &["mx", "trace", "one", "whole", "--from"],
         status: 2,
         told: "",
     },
     Failed {
+        name: "trace: from too large a number",
         words: &["mx", "trace", "one", "whole", "--from", "4294967296"],
         status: 2,
         told: "",
     },
     Failed {
+        name: "trace: to what is no number",
         words: &["mx", "trace", "one", "whole", "--to", "last"],
         status: 2,
         told: "",
     },
     Failed {
+        name: "trace: to twice",
         words: &["mx", "trace", "one", "whole", "--to", "1", "--to", "2"],
         status: 2,
         told: "",
     },
     Failed {
+        name: "replay: from",
         words: &["mx", "replay", "one", "whole", "--from", "1"],
         status: 2,
         told: "",
     },
     Failed {
+        name: "db: no script's name",
         words: &["mx", "db", "pair"],
         status: 2,
         told: "",
     },
     Failed {
+        name: "one: no such file",
         words: &["mx", "one", "nothing", "9"],
         status: 3,
         told: "mx: 80 File\n",
     },
     Failed {
+        name: "as: the text isn't UTF-8",
         words: &["mx", "as", "no_text.s", "new.out"],
         status: 3,
         told: "mx: 80 File\n",
     },
     Failed {
+        name: "step: the configuration isn't UTF-8",
         words: &["mx", "step", "no_text", "kills"],
         status: 3,
         told: "mx: 80 File\n",
     },
     Failed {
+        name: "step: the script isn't UTF-8",
         words: &["mx", "step", "one", "no_text"],
         status: 3,
         told: "mx: 80 File\n",
     },
     Failed {
+        name: "run: no such configuration",
         words: &["mx", "run", "nothing", "new.log"],
         status: 3,
         told: "mx: 80 File\n",
     },
     Failed {
+        name: "run: no such program",
         words: &["mx", "run", "none_first", "new.log"],
         status: 3,
         told: "mx: 80 File\n",
     },
     Failed {
+        name: "run: the configuration isn't UTF-8",
         words: &["mx", "run", "no_text", "new.log"],
         status: 3,
         told: "mx: 80 File\n",
     },
-    // A configuration isn't written over by its own history.
     Failed {
+        name: "run: a configuration isn't written over by its own history",
         words: &["mx", "run", "one", "one"],
         status: 3,
         told: "mx: 80 File\n",
     },
     Failed {
+        name: "replay: the history isn't UTF-8",
         words: &["mx", "replay", "one", "no_text"],
         status: 3,
         told: "mx: 80 File\n",
     },
     Failed {
+        name: "db: the script isn't UTF-8",
         words: &["mx", "db", "one", "no_text"],
         status: 3,
         told: "mx: 80 File\n",
     },
     Failed {
+        name: "as: a text isn't written over by its own file",
         words: &["mx", "as", "sum.s", "sum.s"],
         status: 3,
         told: "mx: 80 File\n",
     },
     Failed {
+        name: "dis: no such file",
         words: &["mx", "dis", "nothing"],
         status: 3,
         told: "mx: 80 File\n",
     },
     Failed {
+        name: "nm: no such file",
         words: &["mx", "nm", "nothing"],
         status: 3,
         told: "mx: 80 File\n",
     },
     Failed {
+        name: "step: no such configuration",
         words: &["mx", "step", "nothing", "kills"],
         status: 3,
         told: "mx: 80 File\n",
     },
     Failed {
+        name: "step: no such script",
         words: &["mx", "step", "one", "nothing", "--save", "new.log"],
         status: 3,
         told: "mx: 80 File\n",
     },
     Failed {
+        name: "replay: no such history",
         words: &["mx", "replay", "one", "nothing"],
         status: 3,
         told: "mx: 80 File\n",
     },
     Failed {
+        name: "db: no such script",
         words: &["mx", "db", "pair", "nothing"],
         status: 3,
         told: "mx: 80 File\n",
@@ -472,50 +534,59 @@ static FAILED: &[Failed] = &[
 /// Words that fail, each with `--explain` somewhere among them.
 static EXPLAINED: &[Failed] = &[
     Failed {
+        name: "one: a file that is cut",
         words: &["mx", "one", "--explain", "cut", "9"],
         status: 1,
         told: "mx: 20 Truncated\n\
                mx: FILE cut: wanted a whole header, and a file as long as it says\n",
     },
     Failed {
+        name: "as: wrong operands",
         words: &["mx", "as", "wrong.s", "new.out", "--explain"],
         status: 1,
         told: "mx: 11 BadOperands line 2\n\
                mx: TEXT wrong.s: wanted operands that the statement takes\n",
     },
     Failed {
+        name: "as: a text isn't written over by its own file",
         words: &["mx", "as", "sum.s", "sum.s", "--explain"],
         status: 3,
         told: "mx: 80 File\nmx: FILE sum.s: wanted another file than the one that is read\n",
     },
     Failed {
+        name: "dis: no such file",
         words: &["mx", "dis", "nothing", "--explain"],
         status: 3,
         told: "mx: 80 File\nmx: FILE nothing: wanted a file that can be read\n",
     },
     Failed {
+        name: "nm: explain before the subcommand",
         words: &["mx", "--explain", "nm", "cut"],
         status: 2,
         told: "",
     },
     Failed {
+        name: "step: a script with a bad line",
         words: &["mx", "step", "one", "tock", "--explain"],
         status: 1,
         told: "mx: 73 BadRecord line 2\nmx: SCRIPT tock: \
                wanted an event: take C, step C K, back C, line L, tick, kill E or respawn S\n",
     },
     Failed {
+        name: "step: the script isn't UTF-8",
         words: &["mx", "step", "--explain", "one", "no_text"],
         status: 3,
         told: "mx: 80 File\nmx: SCRIPT no_text: \
                wanted UTF-8 in what is read, and room for what is printed\n",
     },
     Failed {
+        name: "run: no such program",
         words: &["mx", "run", "none_first", "new.log", "--explain"],
         status: 3,
         told: "mx: 80 File\nmx: a service's program none: wanted a file that can be read\n",
     },
     Failed {
+        name: "run: a program that is cut",
         words: &[
             "mx",
             "run",
@@ -531,6 +602,7 @@ static EXPLAINED: &[Failed] = &[
                wanted a whole header, and a file as long as it says\n",
     },
     Failed {
+        name: "replay: no history",
         words: &["mx", "replay", "one", "look", "--explain"],
         status: 1,
         told: "mx: 73 BadRecord line 1\nmx: LOG look: \
@@ -538,16 +610,19 @@ static EXPLAINED: &[Failed] = &[
                A respawn S; or rules 2 on line 1\n",
     },
     Failed {
+        name: "trace: no such history",
         words: &["mx", "trace", "one", "nothing", "--from", "2", "--explain"],
         status: 3,
         told: "mx: 80 File\nmx: LOG nothing: wanted a file that can be read\n",
     },
     Failed {
+        name: "nm: no such file",
         words: &["mx", "nm", "--explain", "nothing"],
         status: 3,
         told: "mx: 80 File\nmx: FILE nothing: wanted a file that can be read\n",
     },
     Failed {
+        name: "db: a configuration with a bad line",
         words: &["mx", "db", "bad", "look", "--explain"],
         status: 1,
         told: "mx: 70 BadLine line 2\nmx: CONFIG bad: \
@@ -620,24 +695,27 @@ fn is_told<R: Threads + Wait + Clock + Sync>(
 
 #[test]
 fn commands_done(rt: HostRuntime) -> Result<(), Fail> {
-    for (number, row) in DONE.iter().enumerate() {
-        assert!(rt; is_done(&rt, rt.alloc(), row), "row {number}");
+    for row in DONE {
+        let name = row.name;
+        assert!(rt; is_done(&rt, rt.alloc(), row), "{name}");
     }
     Ok(())
 }
 
 #[test]
 fn commands_failed(rt: HostRuntime) -> Result<(), Fail> {
-    for (number, row) in FAILED.iter().enumerate() {
-        assert!(rt; is_told(&rt, rt.alloc(), None, row), "row {number}");
+    for row in FAILED {
+        let name = row.name;
+        assert!(rt; is_told(&rt, rt.alloc(), None, row), "{name}");
     }
     Ok(())
 }
 
 #[test]
 fn failures_explained(rt: HostRuntime) -> Result<(), Fail> {
-    for (number, row) in EXPLAINED.iter().enumerate() {
-        assert!(rt; is_told(&rt, rt.alloc(), None, row), "row {number}");
+    for row in EXPLAINED {
+        let name = row.name;
+        assert!(rt; is_told(&rt, rt.alloc(), None, row), "{name}");
     }
     Ok(())
 }
@@ -646,8 +724,9 @@ fn failures_explained(rt: HostRuntime) -> Result<(), Fail> {
 #[test]
 fn writing_explained(rt: HostRuntime) {
     let broken = Some(io::ErrorKind::BrokenPipe);
-    for (number, row) in UNWRITABLE.iter().enumerate() {
-        assert!(rt; is_told(&rt, rt.alloc(), broken, row), "row {number}");
+    for row in UNWRITABLE {
+        let name = row.name;
+        assert!(rt; is_told(&rt, rt.alloc(), broken, row), "{name}");
     }
 }
 
@@ -664,16 +743,19 @@ fn nothing_explained(rt: HostRuntime) -> Result<(), Fail> {
 /// Words that write, and what is told where nothing can be written.
 static UNWRITABLE: &[Failed] = &[
     Failed {
+        name: "as: a file",
         words: &["mx", "as", "sum.s", "new.out", "--explain"],
         status: 3,
         told: "mx: 80 File\nmx: FILE new.out: wanted a file that can be written\n",
     },
     Failed {
+        name: "run: a history",
         words: &["mx", "run", "one", "new.log", "--explain"],
         status: 3,
         told: "mx: 80 File\nmx: LOG new.log: wanted a file that can be written\n",
     },
     Failed {
+        name: "dis: standard output",
         words: &["mx", "dis", "a.out", "--explain"],
         status: 3,
         told: "mx: 80 File\nmx: standard output: wanted room for what is printed\n",
@@ -685,28 +767,31 @@ static UNWRITABLE: &[Failed] = &[
 fn commands_broken(rt: HostRuntime) -> Result<(), Fail> {
     let broken = Some(io::ErrorKind::BrokenPipe);
     let full = Some(io::ErrorKind::OutOfMemory);
-    for (number, row) in DONE.iter().enumerate() {
+    for row in DONE {
+        let name = row.name;
         // A row that writes nothing doesn't notice.
         if row.printed.is_empty() && row.file.is_none() {
             continue;
         }
         let unwritten = Failed {
+            name,
             words: row.words,
             status: 3,
             told: "mx: 80 File\n",
         };
         let without_memory = Failed {
+            name,
             words: row.words,
             status: 4,
             told: "mx: 90 NoMemory\n",
         };
         assert!(rt;
             is_told(&rt, rt.alloc(), broken, &unwritten),
-            "row {number}"
+            "{name}, where writing is refused"
         );
         assert!(rt;
             is_told(&rt, rt.alloc(), full, &without_memory),
-            "row {number}"
+            "{name}, where writing has no memory"
         );
     }
     Ok(())
@@ -715,27 +800,46 @@ fn commands_broken(rt: HostRuntime) -> Result<(), Fail> {
 /// A history that can't be written: the lines of a script were done and printed, and no report follows.
 #[test]
 fn history_unwritten(rt: HostRuntime) {
-    let alloc = rt.alloc();
-    for (words, printed) in UNWRITTEN {
-        let mut channels = channels(alloc, None);
-        channels.files = NotingFiles::new(MemoryWriter::refusing(
-            alloc,
-            io::ErrorKind::PermissionDenied,
-        ));
-        let mut told = String::new(alloc);
-        let status = perform(&mut channels, &rt, alloc, words, &mut told);
-        assert!(rt; status == 3 && told.as_str() == "mx: 80 File\n");
-        assert!(rt;
-            is_printed(&channels.out, printed) && is_kept(channels.files.writer().files(), None)
-        );
+    for row in UNWRITTEN {
+        let name = row.name;
+        assert!(rt; is_unwritten(&rt, rt.alloc(), row), "{name}");
     }
 }
 
 /// Words that write a history, and what is printed before it.
-const UNWRITTEN: [(&[&str], &str); 2] = [
-    (&["mx", "step", "one", "kills", "--save", "new.log"], KILLED),
-    (&["mx", "run", "one", "new.log"], ""),
+struct Unwritten {
+    name: &'static str,
+    words: &'static [&'static str],
+    printed: &'static str,
+}
+
+static UNWRITTEN: &[Unwritten] = &[
+    Unwritten {
+        name: "step: the lines are printed",
+        words: &["mx", "step", "one", "kills", "--save", "new.log"],
+        printed: KILLED,
+    },
+    Unwritten {
+        name: "run: nothing is printed",
+        words: &["mx", "run", "one", "new.log"],
+        printed: "",
+    },
 ];
+
+/// Whether words fail, and print just this, where no file may be written.
+fn is_unwritten<R: Threads + Wait + Clock + Sync>(rt: &R, alloc: Global, row: &Unwritten) -> bool {
+    let mut channels = channels(alloc, None);
+    channels.files = NotingFiles::new(MemoryWriter::refusing(
+        alloc,
+        io::ErrorKind::PermissionDenied,
+    ));
+    let mut told = String::new(alloc);
+    let status = perform(&mut channels, rt, alloc, row.words, &mut told);
+    status == 3
+        && told.as_str() == "mx: 80 File\n"
+        && is_printed(&channels.out, row.printed)
+        && is_kept(channels.files.writer().files(), None)
+}
 
 /// Three ticks come whenever they come, and the report is the same; the history has the line of the rules,
 /// four records of the processor and three ticks.
@@ -765,117 +869,135 @@ fn lines_in(text: &[u8]) -> usize {
 /// A subcommand's help ends with the example and the statuses of this subcommand.
 #[test]
 fn helps(rt: HostRuntime) -> Result<(), Fail> {
-    for (words, ending) in HELPS {
-        assert!(rt; ends_so(&rt, rt.alloc(), words, ending), "{ending}");
+    for row in HELPS {
+        let name = row.name;
+        assert!(rt; ends_so(&rt, rt.alloc(), row), "{name}");
     }
     Ok(())
 }
 
-const HELPS: [(&[&str], &str); 12] = [
-    (
-        &["mx", "--help"],
-        "  -V, --version  Print version
+/// Words that ask for a help or the version, and the end of what is printed.
+struct Help {
+    name: &'static str,
+    words: &'static [&'static str],
+    ending: &'static str,
+}
+
+static HELPS: &[Help] = &[
+    Help {
+        name: "mx itself",
+        words: &["mx", "--help"],
+        ending: "  -V, --version  Print version
 
 mx help SUBCOMMAND, or mx SUBCOMMAND --help, tells the words, examples and statuses of one.
 Each takes --explain: if it fails, a second line tells what was wanted.
 ",
-    ),
-    (&["mx", "--version"], "mx 0.1\n"),
-    (
-        &["mx", "one", "--help"],
-        "stop trap after 3
+    },
+    Help {
+        name: "the version",
+        words: &["mx", "--version"],
+        ending: "mx 0.1\n",
+    },
+    Help {
+        name: "one",
+        words: &["mx", "one", "--help"],
+        ending: "stop trap after 3
 
 Status: 0 done, also if the program faults; 1 FILE is refused; 2 a mistake in the
 words; 3 FILE can't be read; 4 no memory. Formats: docs/REFERENCE.md.
 ",
-    ),
-    (
-        &["mx", "as", "--help"],
-        ".entry start
+    },
+    Help {
+        name: "as",
+        words: &["mx", "as", "--help"],
+        ending: ".entry start
 
 Status: 0 done; 1 TEXT has a fault, and FILE is as it was; 2 a mistake in the words;
 3 a file can't be read or written; 4 no memory. Formats: docs/REFERENCE.md.
 ",
-    ),
-    (
-        &["mx", "dis", "--help"],
-        "0000000d int 0x21
+    },
+    Help {
+        name: "dis",
+        words: &["mx", "dis", "--help"],
+        ending: "0000000d int 0x21
 
 Status: 0 done; 1 FILE is refused; 2 a mistake in the words; 3 FILE can't be read;
 4 no memory. Formats: docs/REFERENCE.md.
 ",
-    ),
-    (
-        &["mx", "nm", "--help"],
-        "A program without labels has no symbols, and nothing is printed.
+    },
+    Help {
+        name: "nm",
+        words: &["mx", "nm", "--help"],
+        ending: "A program without labels has no symbols, and nothing is printed.
 
 Status: 0 done; 1 FILE is refused; 2 a mistake in the words; 3 FILE can't be read;
 4 no memory. Formats: docs/REFERENCE.md.
 ",
-    ),
-    (
-        &["mx", "step", "--help"],
-        "respawn 0
+    },
+    Help {
+        name: "step",
+        words: &["mx", "step", "--help"],
+        ending: "respawn 0
 
 Status: 0 done, also if lines were refused; 1 a text or a program's file is refused;
 2 a mistake in the words; 3 a file can't be read or written; 4 no memory. Formats:
 docs/REFERENCE.md.
 ",
-    ),
-    (
-        &["mx", "run", "--help"],
-        "Status: 0 done, also if the history was full; 1 a text or a program's file is refused;
+    },
+    Help {
+        name: "run",
+        words: &["mx", "run", "--help"],
+        ending: "Status: 0 done, also if the history was full; 1 a text or a program's file is refused;
 2 a mistake in the words; 3 a file can't be read or written, or LOG is CONFIG; 4 no
 memory. Formats: docs/REFERENCE.md.
 ",
-    ),
-    (
-        &["mx", "trace", "--help"],
-        "6   cli 1: awaiting 0 -> ready, result 0 OK
+    },
+    Help {
+        name: "trace",
+        words: &["mx", "trace", "--help"],
+        ending: "6   cli 1: awaiting 0 -> ready, result 0 OK
 
 Status: 0 done; 1 a text or a program's file is refused, or an event, which is told
 by its line; 2 a mistake in the words; 3 a file can't be read; 4 no memory. Formats:
 docs/REFERENCE.md.
 ",
-    ),
-    (
-        &["mx", "draw", "--help"],
-        "Status: 0 done; 1 a text or a program's file is refused, or an event, which the picture
+    },
+    Help {
+        name: "draw",
+        words: &["mx", "draw", "--help"],
+        ending: "Status: 0 done; 1 a text or a program's file is refused, or an event, which the picture
 tells at its top right; 2 a mistake in the words; 3 a file can't be read; 4 no memory.
 Formats: docs/REFERENCE.md.
 ",
-    ),
-    (
-        &["mx", "replay", "--help"],
-        "Status: 0 done; 1 a text or a program's file is refused, or an event, which is told
+    },
+    Help {
+        name: "replay",
+        words: &["mx", "replay", "--help"],
+        ending: "Status: 0 done; 1 a text or a program's file is refused, or an event, which is told
 by its line; 2 a mistake in the words; 3 a file can't be read; 4 no memory. Formats:
 docs/REFERENCE.md.
 ",
-    ),
-    (
-        &["mx", "db", "--help"],
-        "decimal here, and hexadecimal in listings.
+    },
+    Help {
+        name: "db",
+        words: &["mx", "db", "--help"],
+        ending: "decimal here, and hexadecimal in listings.
 
 Status: 0 done, also if lines were refused; 1 a text or a program's file is refused;
 2 a mistake in the words; 3 a file can't be read; 4 no memory. Formats:
 docs/REFERENCE.md.
 ",
-    ),
+    },
 ];
 
-fn ends_so<R: Threads + Wait + Clock + Sync>(
-    rt: &R,
-    alloc: Global,
-    words: &'static [&'static str],
-    ending: &str,
-) -> bool {
+fn ends_so<R: Threads + Wait + Clock + Sync>(rt: &R, alloc: Global, row: &Help) -> bool {
     let mut channels = channels(alloc, None);
     let mut told = String::new(alloc);
-    let status = perform(&mut channels, rt, alloc, words, &mut told);
+    let status = perform(&mut channels, rt, alloc, row.words, &mut told);
     let out = &channels.out;
     status == 0
         && told.is_empty()
-        && out.bytes.ends_with(ending.as_bytes())
+        && out.bytes.ends_with(row.ending.as_bytes())
         && out.flushed == out.bytes.len()
 }
 
@@ -883,8 +1005,9 @@ fn ends_so<R: Threads + Wait + Clock + Sync>(
 /// in it, and by the status.
 #[test]
 fn pictures(rt: HostRuntime) -> Result<(), Fail> {
-    for (words, status, title) in PICTURES {
-        assert!(rt; is_drawn(&rt, rt.alloc(), words, status, title), "{title}");
+    for row in PICTURES {
+        let name = row.name;
+        assert!(rt; is_drawn(&rt, rt.alloc(), row), "{name}");
     }
     Ok(())
 }
@@ -894,19 +1017,30 @@ const SMALL_PICTURE: &str = "<?xml version=\"1.0\" encoding=\"UTF-8\"?>
 <svg xmlns=\"http://www.w3.org/2000/svg\" version=\"1.1\" width=\"684\" height=\"276\" viewBox=\"0 0 684 276\">
 ";
 
-const PICTURES: [(&[&str], u8, &str); 6] = [
-    (
-        &["mx", "draw", "one", "whole"],
-        0,
-        "<title>Records 1 to 4 of 4, 1 service, 1 processor</title>\n",
-    ),
-    (
-        &["mx", "draw", "one", "whole", "--from", "0", "--to", "2"],
-        0,
-        "<title>Records 1 to 2 of 4, 1 service, 1 processor</title>\n",
-    ),
-    (
-        &[
+/// Words that draw a picture, the status, and the picture's title.
+struct Picture {
+    name: &'static str,
+    words: &'static [&'static str],
+    status: u8,
+    title: &'static str,
+}
+
+static PICTURES: &[Picture] = &[
+    Picture {
+        name: "all records",
+        words: &["mx", "draw", "one", "whole"],
+        status: 0,
+        title: "<title>Records 1 to 4 of 4, 1 service, 1 processor</title>\n",
+    },
+    Picture {
+        name: "from 0 to 2",
+        words: &["mx", "draw", "one", "whole", "--from", "0", "--to", "2"],
+        status: 0,
+        title: "<title>Records 1 to 2 of 4, 1 service, 1 processor</title>\n",
+    },
+    Picture {
+        name: "from 3 to the largest number",
+        words: &[
             "mx",
             "draw",
             "--to",
@@ -916,44 +1050,40 @@ const PICTURES: [(&[&str], u8, &str); 6] = [
             "--from",
             "3",
         ],
-        0,
-        "<title>Records 3 to 4 of 4, 1 service, 1 processor</title>\n",
-    ),
-    // No record: past the end, and a range that ends before it begins.
-    (
-        &["mx", "draw", "one", "whole", "--from", "4294967295"],
-        0,
-        "<title>No record of 4, 1 service, 1 processor</title>\n",
-    ),
-    (
-        &["mx", "draw", "one", "whole", "--from", "3", "--to", "2"],
-        0,
-        "<title>No record of 4, 1 service, 1 processor</title>\n",
-    ),
-    (
-        &["mx", "draw", "one", "early"],
-        1,
-        "<title>No record of 1, 1 service, 1 processor</title>\n",
-    ),
+        status: 0,
+        title: "<title>Records 3 to 4 of 4, 1 service, 1 processor</title>\n",
+    },
+    Picture {
+        name: "from past the end",
+        words: &["mx", "draw", "one", "whole", "--from", "4294967295"],
+        status: 0,
+        title: "<title>No record of 4, 1 service, 1 processor</title>\n",
+    },
+    Picture {
+        name: "a range that ends before it begins",
+        words: &["mx", "draw", "one", "whole", "--from", "3", "--to", "2"],
+        status: 0,
+        title: "<title>No record of 4, 1 service, 1 processor</title>\n",
+    },
+    Picture {
+        name: "the first event is refused",
+        words: &["mx", "draw", "one", "early"],
+        status: 1,
+        title: "<title>No record of 1, 1 service, 1 processor</title>\n",
+    },
 ];
 
-fn is_drawn<R: Threads + Wait + Clock + Sync>(
-    rt: &R,
-    alloc: Global,
-    words: &'static [&'static str],
-    status: u8,
-    title: &str,
-) -> bool {
+fn is_drawn<R: Threads + Wait + Clock + Sync>(rt: &R, alloc: Global, row: &Picture) -> bool {
     let mut channels = channels(alloc, None);
     let mut told = String::new(alloc);
-    let ended = perform(&mut channels, rt, alloc, words, &mut told);
+    let ended = perform(&mut channels, rt, alloc, row.words, &mut told);
     let out = &channels.out;
     let Some(rest) = out.bytes.as_slice().strip_prefix(SMALL_PICTURE.as_bytes()) else {
         return false;
     };
-    ended == status
+    ended == row.status
         && told.is_empty()
-        && rest.starts_with(title.as_bytes())
+        && rest.starts_with(row.title.as_bytes())
         && rest.ends_with(b"</text>\n</svg>\n")
         && out.flushed == out.bytes.len()
 }

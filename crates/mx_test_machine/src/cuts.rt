@@ -14,8 +14,25 @@ const STRICT_TURNS: &str =
     "rules 2\n0 take\n0 back 4\n0 take\n0 back 4\n0 take\n0 back 3\n0 take\n0 back 5\n\
      0 take\n0 back 4\n";
 
-/// Each, and how many of its lines are above the records.
-static TEXTS: &[(&str, usize)] = &[(TURNS, 0), (STRICT_TURNS, 1)];
+/// A history, and how many of its lines are above the records.
+struct History {
+    name: &'static str,
+    text: &'static str,
+    above: usize,
+}
+
+static HISTORIES: &[History] = &[
+    History {
+        name: "lenient rules",
+        text: TURNS,
+        above: 0,
+    },
+    History {
+        name: "strict rules",
+        text: STRICT_TURNS,
+        above: 1,
+    },
+];
 
 /// The report by the number of records that are left.
 static REPORTS: &[&str] = &[
@@ -40,8 +57,8 @@ fn file<'a>(name: &'a str, bytes: &'a [u8]) -> NamedFile<'a> {
 fn told(alloc: Global, text: &[u8], out: &mut Vec<u8>) -> Result<Replayed, Failure> {
     let files = [
         file("pair", PAIR),
-        file("drv.out", &DRIVER),
-        file("cli.out", &CLIENT),
+        file("drv.out", DRIVER),
+        file("cli.out", CLIENT),
         file("cut", text),
     ];
     replay(alloc, &mut NamedFiles::new(&files), "pair", "cut", out)
@@ -60,7 +77,9 @@ fn wanted(lines: usize, above: usize, is_whole: bool) -> (Result<Replayed, Failu
     }
 }
 
-fn cut_at_each_byte(rt: &impl Abort, alloc: Global, text: &[u8], above: usize) {
+fn cut_at_each_byte(rt: &impl Abort, alloc: Global, history: &History) {
+    let name = history.name;
+    let text = history.text.as_bytes();
     let mut lines = 0_usize;
     for length in 0..text.len() + 1 {
         let front = &text[..length];
@@ -70,17 +89,17 @@ fn cut_at_each_byte(rt: &impl Abort, alloc: Global, text: &[u8], above: usize) {
         }
         let mut out = Vec::new(alloc);
         let found = told(alloc, front, &mut out);
-        let (answer, printed) = wanted(lines, above, is_whole);
+        let (answer, printed) = wanted(lines, history.above, is_whole);
         assert!(rt;
             found == answer && out.as_slice() == printed.as_bytes(),
-            "{length} bytes"
+            "{name}, {length} bytes"
         );
     }
 }
 
 #[test]
 fn history_cut_at_each_byte(rt: HostRuntime) {
-    for (text, above) in TEXTS {
-        cut_at_each_byte(&rt, rt.alloc(), text.as_bytes(), *above);
+    for history in HISTORIES {
+        cut_at_each_byte(&rt, rt.alloc(), history);
     }
 }

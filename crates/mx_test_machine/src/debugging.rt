@@ -12,25 +12,37 @@ use std::alloc::Global;
 const TURNS: &str = "rules 2\n\
     0 take\n0 back 4\n0 take\n0 back 4\n0 take\n0 back 3\n0 take\n0 back 5\n0 take\n0 back 4\n";
 
-/// A turn of who is picked, whose steps are made under a debugger or by themselves.
-fn is_turned(machine: &mut Machine, debugger: &Debugger, is_debugged: bool) -> bool {
+/// How the steps of a turn are made.
+#[derive(Clone, Copy)]
+enum Stepping {
+    /// Under a debugger, which stops them once.
+    Debugged,
+    /// By themselves.
+    Alone,
+}
+
+/// A turn of who is picked.
+fn is_turned(machine: &mut Machine, debugger: &Debugger, stepping: Stepping) -> bool {
     let is_taken = machine.apply(0, Event::Take).is_ok();
-    if is_debugged {
-        let _first = go(machine, debugger, 0, 99);
-        let _second = go(machine, debugger, 0, 99);
-    } else {
-        make_steps(machine, 0, 99);
+    match stepping {
+        Stepping::Debugged => {
+            let _first = go(machine, debugger, 0, 99);
+            let _second = go(machine, debugger, 0, 99);
+        }
+        Stepping::Alone => {
+            make_steps(machine, 0, 99);
+        }
     }
     is_taken && machine.apply(0, Event::Back).is_ok()
 }
 
 /// Whether five turns are made, with a breakpoint at `top`, and leave their history.
-fn is_saved(alloc: Global, machine: &mut Machine, is_debugged: bool) -> bool {
+fn is_saved(alloc: Global, machine: &mut Machine, stepping: Stepping) -> bool {
     let mut debugger = Debugger::new();
     let top = CodePlace::Symbol(SymbolName::new(b"top"));
     let mut is_made = set_breakpoint(machine.kernel(), &mut debugger, 0, &top).is_ok();
     for _ in 0..5 {
-        is_made = is_turned(machine, &debugger, is_debugged) && is_made;
+        is_made = is_turned(machine, &debugger, stepping) && is_made;
     }
     match saved_text(alloc, machine.kernel()) {
         Ok(text) => is_made && text.as_slice() == TURNS.as_bytes(),
@@ -38,15 +50,15 @@ fn is_saved(alloc: Global, machine: &mut Machine, is_debugged: bool) -> bool {
     }
 }
 
-fn is_noted(alloc: Global, is_debugged: bool) -> bool {
+fn is_noted(alloc: Global, stepping: Stepping) -> bool {
     match start::<Script, _>(alloc, &mut reader(), "pair", "empty") {
-        Ok(mut started) => is_saved(alloc, &mut started.machine, is_debugged),
+        Ok(mut started) => is_saved(alloc, &mut started.machine, stepping),
         Err(_) => false,
     }
 }
 
 #[test]
 fn leaves_the_history(rt: HostRuntime) {
-    assert!(rt; is_noted(rt.alloc(), true));
-    assert!(rt; is_noted(rt.alloc(), false));
+    assert!(rt; is_noted(rt.alloc(), Stepping::Debugged));
+    assert!(rt; is_noted(rt.alloc(), Stepping::Alone));
 }

@@ -13,6 +13,7 @@ enum By {
 
 /// A configuration, what drives its machine, and what is printed.
 struct Row {
+    name: &'static str,
     config: &'static str,
     text: &'static str,
     by: By,
@@ -24,6 +25,7 @@ const DONE: Result<Replayed, Failure> = Ok(Replayed::Whole);
 
 static ROWS: &[Row] = &[
     Row {
+        name: "script: a call and its answer",
         config: "pair",
         text: "turns",
         by: By::Script,
@@ -36,6 +38,7 @@ static ROWS: &[Row] = &[
                   0 drv 0 receiving any 4 8\n1 cli 1 down exit 7 12\nuptime 0\nconsole 0\n",
     },
     Row {
+        name: "script: a sum, and a fault at the end of the text",
         config: "one",
         text: "sums",
         by: By::Script,
@@ -45,6 +48,7 @@ static ROWS: &[Row] = &[
                   0 a 0 down fault 13 7 1\nuptime 0\nconsole 0\n",
     },
     Row {
+        name: "script: a kill of a service without restarts",
         config: "one",
         text: "kills",
         by: By::Script,
@@ -53,6 +57,7 @@ static ROWS: &[Row] = &[
                   refused 42 NoService\n0 a 0 down kill 7 5\nuptime 1\nconsole 0\n",
     },
     Row {
+        name: "script: a kill of a service with a restart",
         config: "again",
         text: "kills",
         by: By::Script,
@@ -61,6 +66,7 @@ static ROWS: &[Row] = &[
                   refused 42 NoService\n0 a 1024 ready 7 5\nuptime 1\nconsole 0\n",
     },
     Row {
+        name: "script: a processor that isn't there, and a step after a trap",
         config: "one",
         text: "edges",
         by: By::Script,
@@ -70,6 +76,7 @@ static ROWS: &[Row] = &[
                   0 a 0 out 7 5\nuptime 0\nconsole 0\n",
     },
     Row {
+        name: "script: a bad line",
         config: "one",
         text: "tock",
         by: By::Script,
@@ -77,6 +84,7 @@ static ROWS: &[Row] = &[
         printed: "",
     },
     Row {
+        name: "history: a whole one, without a line of rules",
         config: "one",
         text: "whole",
         by: By::History,
@@ -84,6 +92,7 @@ static ROWS: &[Row] = &[
         printed: "0 a 0 down fault 13 7 1\nuptime 0\nconsole 0\n",
     },
     Row {
+        name: "history: the first event is refused",
         config: "one",
         text: "early",
         by: By::History,
@@ -91,14 +100,15 @@ static ROWS: &[Row] = &[
         printed: "line 1: refused 51 CpuEmpty\n",
     },
     Row {
+        name: "history: a step too many",
         config: "one",
         text: "long",
         by: By::History,
         told: Ok(Replayed::Refused),
         printed: "line 2: refused 55 AtStop\n",
     },
-    // Four takes and four returns fill a history of eight records.
     Row {
+        name: "script: four takes and four returns fill a history of eight records",
         config: "four_of_eight",
         text: "takes_of_eight",
         by: By::Script,
@@ -108,8 +118,8 @@ static ROWS: &[Row] = &[
                   0 a 0 ready 7 5\n1 b 1 ready 7 5\n2 c 2 ready 7 5\n3 d 3 ready 7 5\n\
                   uptime 0\nconsole 0\n",
     },
-    // In one of seven a fourth take has no room for its return, and a tick has.
     Row {
+        name: "script: in a history of seven a fourth take has no room for its return, and a tick has",
         config: "four_of_seven",
         text: "takes_of_seven",
         by: By::Script,
@@ -119,8 +129,8 @@ static ROWS: &[Row] = &[
                   0 a 0 ready 7 5\n1 b 1 ready 7 5\n2 c 2 ready 7 5\n3 d 3 ready 7 5\n\
                   uptime 1\nconsole 0\n",
     },
-    // Who is killed while it is out makes its steps, and dies when it comes back.
     Row {
+        name: "script: who is killed while it is out makes its steps, and dies when it comes back",
         config: "one",
         text: "killed_out",
         by: By::Script,
@@ -128,8 +138,8 @@ static ROWS: &[Row] = &[
         printed: "taken 0 budget 5\ndone\nstepped 1 go\nreturned 1\n\
                   0 a 0 down kill 7 4\nuptime 0\nconsole 0\n",
     },
-    // Also if a debugger runs it on from a breakpoint, or up to one.
     Row {
+        name: "debugger: who is killed at a breakpoint runs on from it",
         config: "one",
         text: "killed_at_break",
         by: By::Debugger,
@@ -138,6 +148,7 @@ static ROWS: &[Row] = &[
                   returned 3\n0 a 0 down kill 7 2\nuptime 0\nconsole 0\n",
     },
     Row {
+        name: "debugger: who is killed runs up to a breakpoint",
         config: "one",
         text: "killed_before",
         by: By::Debugger,
@@ -146,14 +157,15 @@ static ROWS: &[Row] = &[
                   returned 1\n0 a 0 down kill 7 4\nuptime 0\nconsole 0\n",
     },
     Row {
+        name: "history: an actor out of range",
         config: "one",
         text: "ninth",
         by: By::History,
         told: Err(Failure::Misstated(BootError::BadRecord(2))),
         printed: "",
     },
-    // One service by the lenient rules, and histories by both, whatever the configuration says.
     Row {
+        name: "script: lenient rules",
         config: "lenient_one",
         text: "sums",
         by: By::Script,
@@ -163,6 +175,7 @@ static ROWS: &[Row] = &[
                   0 a 0 down fault 13 7 1\nuptime 0\nconsole 0\n",
     },
     Row {
+        name: "history: strict rules under a strict configuration",
         config: "one",
         text: "strict_whole",
         by: By::History,
@@ -170,6 +183,7 @@ static ROWS: &[Row] = &[
         printed: "0 a 0 down fault 13 7 1\nuptime 0\nconsole 0\n",
     },
     Row {
+        name: "history: strict rules under a lenient configuration",
         config: "lenient_one",
         text: "strict_whole",
         by: By::History,
@@ -177,6 +191,7 @@ static ROWS: &[Row] = &[
         printed: "0 a 0 down fault 13 7 1\nuptime 0\nconsole 0\n",
     },
     Row {
+        name: "history: strict rules, and the first event is refused",
         config: "one",
         text: "strict_early",
         by: By::History,
@@ -184,14 +199,15 @@ static ROWS: &[Row] = &[
         printed: "line 2: refused 51 CpuEmpty\n",
     },
     Row {
+        name: "history: rules after a record",
         config: "one",
         text: "late_rules",
         by: By::History,
         told: Err(Failure::Misstated(BootError::BadRecord(2))),
         printed: "",
     },
-    // Turns of both up to the breakpoint at `top`.
     Row {
+        name: "debugger: turns of both up to the breakpoint at `top`",
         config: "pair",
         text: "breaks",
         by: By::Debugger,
@@ -205,8 +221,8 @@ static ROWS: &[Row] = &[
     returned 5\ntaken 1 budget 16\nstepped 4 trap\nreturned 4\n1 0 0 message\n0 1 0 message\n\
     0 drv 0 receiving any 4 8\n1 cli 1 down exit 7 12\nuptime 0\nconsole 0\n",
     },
-    // What is refused, and what prints nothing.
     Row {
+        name: "debugger: what is refused, and what prints nothing",
         config: "pair",
         text: "refusals",
         by: By::Debugger,
@@ -217,8 +233,8 @@ static ROWS: &[Row] = &[
     00000fef 00 00 00 00 00 00 00 00 00 00 00 00 00 00 00 00\n00000fff 00\nrefused 61 NotHere\n\
     0 drv 0 out 4 20\n1 cli 1 ready 7 20\nuptime 0\nconsole 0\n",
     },
-    // 65 breakpoints, of which one stands.
     Row {
+        name: "debugger: 65 breakpoints, of which one stands",
         config: "pair",
         text: "many",
         by: By::Debugger,
@@ -231,8 +247,8 @@ static ROWS: &[Row] = &[
     done\nrefused 62 TooMany\n0 drv 0 ready 4 20\n1 cli 1 ready 7 20\nuptime 0\n\
     console 0\n",
     },
-    // A line that is no command.
     Row {
+        name: "debugger: a line that is no command",
         config: "pair",
         text: "foo",
         by: By::Debugger,
@@ -260,8 +276,9 @@ fn is_driven(alloc: Global, row: &Row) -> bool {
 
 #[test]
 fn machines(rt: HostRuntime) -> Result<(), Fail> {
-    for (number, row) in ROWS.iter().enumerate() {
-        assert!(rt; is_driven(rt.alloc(), row), "row {number}");
+    for row in ROWS {
+        let name = row.name;
+        assert!(rt; is_driven(rt.alloc(), row), "{name}");
     }
     Ok(())
 }

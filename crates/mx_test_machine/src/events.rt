@@ -3,489 +3,609 @@
 ghost use Rattle.std.specs.Prelude.{◌≡◌};
 
 use crate::files::small_reader;
+use crate::numbers::{EBADREQUEST, ECALLDENIED, EDEADDST, EPERM, EXIT, OK, VIRCOPY};
 use mx_app_db::{Script, start};
 use mx_exec::{Image, Outcome};
 use mx_machine::{Answer, Event, Machine, Out, Refusal, Tool};
 use mx_machine_world::Held;
-use mx_proc::{DeathCause, Masks, Partner, Process, State, Table};
+use mx_proc::{ANY, DeathCause, Masks, Partner, Process, SYSTEM, State, Table};
 use mx_respawn::{Service, is_worn};
 use mx_word::{Register, Size};
 use std::alloc::Global;
 use std::process::Abort;
 
-/// An event by an actor, so often, and how the last of them is answered. Those before it go on or are done.
-struct Turn(u8, Event, u32, Result<Answer, Refusal>);
-
-/// A slot at the end: state, level, ticks, steps, EAX, a place of its memory and the number there.
-struct End(u8, State, u8, u32, u64, u32, u32, u32);
-
+/// Work with a machine that has just started from a configuration.
 struct Row {
+    name: &'static str,
     config: &'static str,
     task: Task,
 }
 
-/// What is done with a row's machine: turns, and what is seen at their end; five rounds by the list;
-/// runs of a tool; or processes that are down are asked whether they are worn.
+/// The work of a row.
 enum Task {
-    Turns(&'static [Turn], &'static [End]),
-    Rounds,
+    /// Turns, and what is seen after the last of them.
+    Turns {
+        turns: &'static [Turn],
+        ends: &'static [End],
+    },
+    /// Rounds, each by the list `ROUND`.
+    Rounds(&'static [Round]),
+    /// Runs of a tool.
     Runs,
-    Worn,
+    /// A question about a process of the last service.
+    Worn(Worn),
 }
+
+/// An event that an actor makes a number of times, and the answer to the last of them. Before that one,
+/// each step goes on, and each other event is done.
+struct Turn {
+    actor: u8,
+    event: Event,
+    times: u32,
+    answer: Result<Answer, Refusal>,
+}
+
+/// A turn of which a row tells only what differs.
+const TURN: Turn = Turn {
+    actor: 0,
+    event: Event::Step,
+    times: 1,
+    answer: GO,
+};
+
+/// A turn on a line, with the fields that differ from those of `TURN`.
+macro_rules! turn {
+    ($($field:ident: $value:expr),+) => { Turn { $($field: $value,)+ ..TURN } };
+}
+
+const GO: Result<Answer, Refusal> = Ok(Answer::Went(Outcome::Go));
+
+const TRAP: Result<Answer, Refusal> = Ok(Answer::Went(Outcome::Trap));
+
+const FAULT: Result<Answer, Refusal> = Ok(Answer::Went(Outcome::Fault(13)));
+
+const DONE: Result<Answer, Refusal> = Ok(Answer::Done);
 
 /// The actor that is none of the eight processors.
 const OTHER: u8 = 8;
 
+/// A slot after the last turn, with the number that stands at a place of its memory.
+struct End {
+    slot: u8,
+    state: State,
+    level: u8,
+    ticks: u32,
+    steps: u64,
+    eax: u32,
+    place: u32,
+    word: u32,
+}
+
+/// An end on two lines.
+macro_rules! end {
+    ($($field:ident: $value:expr),+) => { End { $($field: $value),+ } };
+}
+
+const READY: State = State::Ready;
+
+const RECEIVING: State = State::Receiving(Partner::Any);
+
+const EXITED: State = State::Down(DeathCause::Exit);
+
+const KILLED: State = State::Down(DeathCause::Kill);
+
+const FAULTED: State = State::Down(DeathCause::Fault(13));
+
+/// A round: the endpoint of the process that is taken, its budget, and its steps, the last of them a trap.
+struct Round {
+    process: u32,
+    budget: u32,
+    steps: u32,
+}
+
+/// A process that is down, and whether it is worn: no respawn is left to it.
+struct Worn {
+    generation: u32,
+    restarts_used: u32,
+    is_worn: bool,
+}
+
 static ROWS: &[Row] = &[
-    // A call and its answer.
     Row {
+        name: "a call and its answer",
         config: "asked",
-        task: Task::Turns(
-            &[
-                Turn(0, Event::Take, 1, Ok(Answer::Taken(0, 20))),
-                Turn(0, Event::Step, 4, Ok(Answer::Went(Outcome::Trap))),
-                Turn(0, Event::Back, 1, Ok(Answer::Returned(4))),
-                Turn(0, Event::Take, 1, Ok(Answer::Taken(1, 20))),
-                Turn(0, Event::Step, 4, Ok(Answer::Went(Outcome::Trap))),
-                Turn(0, Event::Back, 1, Ok(Answer::Returned(4))),
-                Turn(0, Event::Take, 1, Ok(Answer::Taken(0, 16))),
-                Turn(0, Event::Step, 3, Ok(Answer::Went(Outcome::Trap))),
-                Turn(0, Event::Back, 1, Ok(Answer::Returned(3))),
-                Turn(0, Event::Take, 1, Ok(Answer::Taken(0, 13))),
-                Turn(0, Event::Step, 5, Ok(Answer::Went(Outcome::Trap))),
-                Turn(0, Event::Back, 1, Ok(Answer::Returned(5))),
-                Turn(0, Event::Take, 1, Ok(Answer::Taken(1, 16))),
-                Turn(0, Event::Step, 4, Ok(Answer::Went(Outcome::Trap))),
-                Turn(0, Event::Back, 1, Ok(Answer::Returned(4))),
-                Turn(0, Event::Take, 1, Err(Refusal::NoProcess)),
+        task: Task::Turns {
+            turns: &[
+                turn! { actor: 0, event: Event::Take, answer: Ok(Answer::Taken(0, 20)) },
+                turn! { actor: 0, event: Event::Step, times: 4, answer: TRAP },
+                turn! { actor: 0, event: Event::Back, answer: Ok(Answer::Returned(4)) },
+                turn! { actor: 0, event: Event::Take, answer: Ok(Answer::Taken(1, 20)) },
+                turn! { actor: 0, event: Event::Step, times: 4, answer: TRAP },
+                turn! { actor: 0, event: Event::Back, answer: Ok(Answer::Returned(4)) },
+                turn! { actor: 0, event: Event::Take, answer: Ok(Answer::Taken(0, 16)) },
+                turn! { actor: 0, event: Event::Step, times: 3, answer: TRAP },
+                turn! { actor: 0, event: Event::Back, answer: Ok(Answer::Returned(3)) },
+                turn! { actor: 0, event: Event::Take, answer: Ok(Answer::Taken(0, 13)) },
+                turn! { actor: 0, event: Event::Step, times: 5, answer: TRAP },
+                turn! { actor: 0, event: Event::Back, answer: Ok(Answer::Returned(5)) },
+                turn! { actor: 0, event: Event::Take, answer: Ok(Answer::Taken(1, 16)) },
+                turn! { actor: 0, event: Event::Step, times: 4, answer: TRAP },
+                turn! { actor: 0, event: Event::Back, answer: Ok(Answer::Returned(4)) },
+                turn! { actor: 0, event: Event::Take, answer: Err(Refusal::NoProcess) },
             ],
-            &[
-                End(0, State::Receiving(Partner::Any), 4, 8, 12, 31438, 0, 1),
-                End(
-                    1,
-                    State::Down(DeathCause::Exit),
-                    7,
-                    12,
-                    8,
-                    0xFFFF_FFFE,
-                    4,
-                    0x600,
-                ),
+            ends: &[
+                end! { slot: 0, state: RECEIVING, level: 4, ticks: 8, steps: 12,
+                    eax: ANY, place: 0, word: 1 },
+                end! { slot: 1, state: EXITED, level: 7, ticks: 12, steps: 8,
+                    eax: SYSTEM, place: 4, word: EXIT },
             ],
-        ),
+        },
     },
-    // A trap that is no call, and the end of the text.
     Row {
+        name: "a trap that is no call, and then the end of the text",
         config: "short",
-        task: Task::Turns(
-            &[
-                Turn(0, Event::Take, 1, Ok(Answer::Taken(0, 5))),
-                Turn(0, Event::Step, 3, Ok(Answer::Went(Outcome::Trap))),
-                Turn(0, Event::Step, 1, Err(Refusal::AtStop)),
-                Turn(0, Event::Back, 1, Ok(Answer::Returned(3))),
-                Turn(0, Event::Take, 1, Ok(Answer::Taken(0, 2))),
-                Turn(0, Event::Step, 1, Ok(Answer::Went(Outcome::Fault(13)))),
-                Turn(0, Event::Back, 1, Ok(Answer::Returned(1))),
-                Turn(0, Event::Take, 1, Err(Refusal::NoProcess)),
+        task: Task::Turns {
+            turns: &[
+                turn! { actor: 0, event: Event::Take, answer: Ok(Answer::Taken(0, 5)) },
+                turn! { actor: 0, event: Event::Step, times: 3, answer: TRAP },
+                turn! { actor: 0, event: Event::Step, answer: Err(Refusal::AtStop) },
+                turn! { actor: 0, event: Event::Back, answer: Ok(Answer::Returned(3)) },
+                turn! { actor: 0, event: Event::Take, answer: Ok(Answer::Taken(0, 2)) },
+                turn! { actor: 0, event: Event::Step, answer: FAULT },
+                turn! { actor: 0, event: Event::Back, answer: Ok(Answer::Returned(1)) },
+                turn! { actor: 0, event: Event::Take, answer: Err(Refusal::NoProcess) },
             ],
-            &[End(
-                0,
-                State::Down(DeathCause::Fault(13)),
-                7,
-                1,
-                4,
-                0xFFFF_FF98,
-                0,
-                0,
-            )],
-        ),
+            ends: &[
+                end! { slot: 0, state: FAULTED, level: 7, ticks: 1, steps: 4,
+                    eax: ECALLDENIED, place: 0, word: 0 },
+            ],
+        },
     },
-    // What is refused of who is dead and can't be respawned.
     Row {
+        name: "what is refused if a process is dead and has no restart",
         config: "short",
-        task: Task::Turns(
-            &[
-                Turn(OTHER, Event::Tick, 1, Ok(Answer::Done)),
-                Turn(OTHER, Event::Kill(0), 1, Ok(Answer::Done)),
-                Turn(OTHER, Event::Kill(0), 1, Err(Refusal::NoProcess)),
-                Turn(OTHER, Event::Respawn(0), 1, Err(Refusal::Worn)),
-                Turn(OTHER, Event::Line(3), 1, Err(Refusal::NoLine)),
-                Turn(OTHER, Event::Respawn(5), 1, Err(Refusal::NoService)),
-                Turn(0, Event::Back, 1, Err(Refusal::CpuEmpty)),
+        task: Task::Turns {
+            turns: &[
+                turn! { actor: OTHER, event: Event::Tick, answer: DONE },
+                turn! { actor: OTHER, event: Event::Kill(0), answer: DONE },
+                turn! { actor: OTHER, event: Event::Kill(0), answer: Err(Refusal::NoProcess) },
+                turn! { actor: OTHER, event: Event::Respawn(0), answer: Err(Refusal::Worn) },
+                turn! { actor: OTHER, event: Event::Line(3), answer: Err(Refusal::NoLine) },
+                turn! { actor: OTHER, event: Event::Respawn(5), answer: Err(Refusal::NoService) },
+                turn! { actor: 0, event: Event::Back, answer: Err(Refusal::CpuEmpty) },
             ],
-            &[End(0, State::Down(DeathCause::Kill), 7, 5, 0, 0, 0, 0)],
-        ),
+            ends: &[end! { slot: 0, state: KILLED, level: 7, ticks: 5, steps: 0,
+                    eax: 0, place: 0, word: 0 }],
+        },
     },
-    // A history that has room for two records, and one for one.
     Row {
+        name: "a history with room for two records",
         config: "log_of_two",
-        task: Task::Turns(
-            &[
-                Turn(0, Event::Take, 1, Ok(Answer::Taken(0, 5))),
-                Turn(0, Event::Back, 1, Ok(Answer::Returned(0))),
-                Turn(1, Event::Tick, 1, Err(Refusal::LogFull)),
+        task: Task::Turns {
+            turns: &[
+                turn! { actor: 0, event: Event::Take, answer: Ok(Answer::Taken(0, 5)) },
+                turn! { actor: 0, event: Event::Back, answer: Ok(Answer::Returned(0)) },
+                turn! { actor: 1, event: Event::Tick, answer: Err(Refusal::LogFull) },
             ],
-            &[],
-        ),
+            ends: &[],
+        },
     },
     Row {
+        name: "a history with room for one record",
         config: "log_of_one",
-        task: Task::Turns(
-            &[
-                Turn(0, Event::Take, 1, Err(Refusal::LogFull)),
-                Turn(0, Event::Tick, 1, Ok(Answer::Done)),
+        task: Task::Turns {
+            turns: &[
+                turn! { actor: 0, event: Event::Take, answer: Err(Refusal::LogFull) },
+                turn! { actor: 0, event: Event::Tick, answer: DONE },
             ],
-            &[],
-        ),
+            ends: &[],
+        },
     },
-    // Who awaits a process that is killed goes on with EDEADDST.
     Row {
+        name: "who awaits a process that is killed goes on with EDEADDST",
         config: "looks",
-        task: Task::Turns(
-            &[
-                Turn(0, Event::Take, 1, Ok(Answer::Taken(3, 20))),
-                Turn(0, Event::Step, 5, Ok(Answer::Went(Outcome::Trap))),
-                Turn(0, Event::Back, 1, Ok(Answer::Returned(5))),
-                Turn(0, Event::Take, 1, Ok(Answer::Taken(0, 20))),
-                Turn(0, Event::Step, 4, Ok(Answer::Went(Outcome::Trap))),
-                Turn(0, Event::Back, 1, Ok(Answer::Returned(4))),
-                Turn(OTHER, Event::Kill(3), 1, Ok(Answer::Done)),
+        task: Task::Turns {
+            turns: &[
+                turn! { actor: 0, event: Event::Take, answer: Ok(Answer::Taken(3, 20)) },
+                turn! { actor: 0, event: Event::Step, times: 5, answer: TRAP },
+                turn! { actor: 0, event: Event::Back, answer: Ok(Answer::Returned(5)) },
+                turn! { actor: 0, event: Event::Take, answer: Ok(Answer::Taken(0, 20)) },
+                turn! { actor: 0, event: Event::Step, times: 4, answer: TRAP },
+                turn! { actor: 0, event: Event::Back, answer: Ok(Answer::Returned(4)) },
+                turn! { actor: OTHER, event: Event::Kill(3), answer: DONE },
             ],
-            &[
-                End(0, State::Ready, 7, 16, 4, 0xFFFF_FF97, 0, 0),
-                End(3, State::Down(DeathCause::Kill), 4, 15, 5, 0, 0, 7),
+            ends: &[
+                end! { slot: 0, state: READY, level: 7, ticks: 16, steps: 4,
+                    eax: EDEADDST, place: 0, word: 0 },
+                end! { slot: 3, state: KILLED, level: 4, ticks: 15, steps: 5,
+                    eax: OK, place: 0, word: 7 },
             ],
-        ),
+        },
     },
-    // The driver is respawned, and a SEND to its old endpoint is told so.
     Row {
+        name: "the driver is respawned: SEND to its old endpoint gives EDEADDST",
         config: "looks",
-        task: Task::Turns(
-            &[
-                Turn(0, Event::Take, 1, Ok(Answer::Taken(3, 20))),
-                Turn(0, Event::Step, 5, Ok(Answer::Went(Outcome::Trap))),
-                Turn(0, Event::Back, 1, Ok(Answer::Returned(5))),
-                Turn(0, Event::Take, 1, Ok(Answer::Taken(0, 20))),
-                Turn(0, Event::Step, 4, Ok(Answer::Went(Outcome::Trap))),
-                Turn(0, Event::Back, 1, Ok(Answer::Returned(4))),
-                Turn(OTHER, Event::Kill(3), 1, Ok(Answer::Done)),
-                Turn(OTHER, Event::Respawn(3), 1, Ok(Answer::Respawned(1027))),
-                Turn(0, Event::Take, 1, Ok(Answer::Taken(1027, 20))),
-                Turn(1, Event::Take, 1, Ok(Answer::Taken(0, 16))),
-                Turn(1, Event::Step, 3, Ok(Answer::Went(Outcome::Trap))),
-                Turn(1, Event::Back, 1, Ok(Answer::Returned(3))),
+        task: Task::Turns {
+            turns: &[
+                turn! { actor: 0, event: Event::Take, answer: Ok(Answer::Taken(3, 20)) },
+                turn! { actor: 0, event: Event::Step, times: 5, answer: TRAP },
+                turn! { actor: 0, event: Event::Back, answer: Ok(Answer::Returned(5)) },
+                turn! { actor: 0, event: Event::Take, answer: Ok(Answer::Taken(0, 20)) },
+                turn! { actor: 0, event: Event::Step, times: 4, answer: TRAP },
+                turn! { actor: 0, event: Event::Back, answer: Ok(Answer::Returned(4)) },
+                turn! { actor: OTHER, event: Event::Kill(3), answer: DONE },
+                turn! { actor: OTHER, event: Event::Respawn(3), answer: Ok(Answer::Respawned(1027)) },
+                turn! { actor: 0, event: Event::Take, answer: Ok(Answer::Taken(1027, 20)) },
+                turn! { actor: 1, event: Event::Take, answer: Ok(Answer::Taken(0, 16)) },
+                turn! { actor: 1, event: Event::Step, times: 3, answer: TRAP },
+                turn! { actor: 1, event: Event::Back, answer: Ok(Answer::Returned(3)) },
             ],
-            &[End(0, State::Ready, 7, 13, 7, 0xFFFF_FF97, 8, 0)],
-        ),
+            ends: &[end! { slot: 0, state: READY, level: 7, ticks: 13, steps: 7,
+                    eax: EDEADDST, place: 8, word: 0 }],
+        },
     },
-    // The driver is respawned: its data are the file's, and its old endpoint is dead.
     Row {
+        name: "the driver is respawned: its data are the file's, and WHOIS tells its new endpoint",
         config: "looks",
-        task: Task::Turns(
-            &[
-                Turn(0, Event::Take, 1, Ok(Answer::Taken(3, 20))),
-                Turn(0, Event::Step, 5, Ok(Answer::Went(Outcome::Trap))),
-                Turn(0, Event::Back, 1, Ok(Answer::Returned(5))),
-                Turn(0, Event::Take, 1, Ok(Answer::Taken(0, 20))),
-                Turn(0, Event::Step, 4, Ok(Answer::Went(Outcome::Trap))),
-                Turn(0, Event::Back, 1, Ok(Answer::Returned(4))),
-                Turn(OTHER, Event::Kill(3), 1, Ok(Answer::Done)),
-                Turn(OTHER, Event::Respawn(3), 1, Ok(Answer::Respawned(1027))),
-                Turn(OTHER, Event::Respawn(3), 1, Err(Refusal::NotDown)),
-                Turn(0, Event::Take, 1, Ok(Answer::Taken(1027, 20))),
-                Turn(1, Event::Take, 1, Ok(Answer::Taken(0, 16))),
-                Turn(1, Event::Step, 3, Ok(Answer::Went(Outcome::Trap))),
-                Turn(1, Event::Back, 1, Ok(Answer::Returned(3))),
-                Turn(1, Event::Take, 1, Ok(Answer::Taken(0, 13))),
-                Turn(1, Event::Step, 5, Ok(Answer::Went(Outcome::Trap))),
-                Turn(1, Event::Back, 1, Ok(Answer::Returned(5))),
-                Turn(0, Event::Back, 1, Ok(Answer::Returned(0))),
+        task: Task::Turns {
+            turns: &[
+                turn! { actor: 0, event: Event::Take, answer: Ok(Answer::Taken(3, 20)) },
+                turn! { actor: 0, event: Event::Step, times: 5, answer: TRAP },
+                turn! { actor: 0, event: Event::Back, answer: Ok(Answer::Returned(5)) },
+                turn! { actor: 0, event: Event::Take, answer: Ok(Answer::Taken(0, 20)) },
+                turn! { actor: 0, event: Event::Step, times: 4, answer: TRAP },
+                turn! { actor: 0, event: Event::Back, answer: Ok(Answer::Returned(4)) },
+                turn! { actor: OTHER, event: Event::Kill(3), answer: DONE },
+                turn! { actor: OTHER, event: Event::Respawn(3), answer: Ok(Answer::Respawned(1027)) },
+                turn! { actor: OTHER, event: Event::Respawn(3), answer: Err(Refusal::NotDown) },
+                turn! { actor: 0, event: Event::Take, answer: Ok(Answer::Taken(1027, 20)) },
+                turn! { actor: 1, event: Event::Take, answer: Ok(Answer::Taken(0, 16)) },
+                turn! { actor: 1, event: Event::Step, times: 3, answer: TRAP },
+                turn! { actor: 1, event: Event::Back, answer: Ok(Answer::Returned(3)) },
+                turn! { actor: 1, event: Event::Take, answer: Ok(Answer::Taken(0, 13)) },
+                turn! { actor: 1, event: Event::Step, times: 5, answer: TRAP },
+                turn! { actor: 1, event: Event::Back, answer: Ok(Answer::Returned(5)) },
+                turn! { actor: 0, event: Event::Back, answer: Ok(Answer::Returned(0)) },
             ],
-            &[
-                End(0, State::Ready, 7, 8, 12, 0, 8, 1027),
-                End(3, State::Ready, 4, 20, 0, 0, 0, 0),
+            ends: &[
+                end! { slot: 0, state: READY, level: 7, ticks: 8, steps: 12,
+                    eax: OK, place: 8, word: 1027 },
+                end! { slot: 3, state: READY, level: 4, ticks: 20, steps: 0,
+                    eax: 0, place: 0, word: 0 },
             ],
-        ),
+        },
     },
-    // A kill of who is out: it is alive until it comes back, and its trap isn't acted.
     Row {
+        name: "a process is killed on a processor: it dies as it comes back, and its call isn't made",
         config: "works",
-        task: Task::Turns(
-            &[
-                Turn(0, Event::Take, 1, Ok(Answer::Taken(0, 24))),
-                Turn(0, Event::Step, 4, Ok(Answer::Went(Outcome::Trap))),
-                Turn(0, Event::Back, 1, Ok(Answer::Returned(4))),
-                Turn(0, Event::Take, 1, Ok(Answer::Taken(1, 20))),
-                Turn(0, Event::Step, 4, Ok(Answer::Went(Outcome::Trap))),
-                Turn(0, Event::Back, 1, Ok(Answer::Returned(4))),
-                Turn(0, Event::Take, 1, Ok(Answer::Taken(0, 20))),
-                Turn(0, Event::Step, 10, Ok(Answer::Went(Outcome::Go))),
-                Turn(OTHER, Event::Kill(0), 1, Ok(Answer::Done)),
-                Turn(OTHER, Event::Respawn(0), 1, Err(Refusal::NotDown)),
-                Turn(1, Event::Take, 1, Err(Refusal::NoProcess)),
-                Turn(0, Event::Tick, 1, Ok(Answer::Done)),
-                Turn(0, Event::Step, 10, Ok(Answer::Went(Outcome::Trap))),
-                Turn(0, Event::Back, 1, Ok(Answer::Returned(20))),
+        task: Task::Turns {
+            turns: &[
+                turn! { actor: 0, event: Event::Take, answer: Ok(Answer::Taken(0, 24)) },
+                turn! { actor: 0, event: Event::Step, times: 4, answer: TRAP },
+                turn! { actor: 0, event: Event::Back, answer: Ok(Answer::Returned(4)) },
+                turn! { actor: 0, event: Event::Take, answer: Ok(Answer::Taken(1, 20)) },
+                turn! { actor: 0, event: Event::Step, times: 4, answer: TRAP },
+                turn! { actor: 0, event: Event::Back, answer: Ok(Answer::Returned(4)) },
+                turn! { actor: 0, event: Event::Take, answer: Ok(Answer::Taken(0, 20)) },
+                turn! { actor: 0, event: Event::Step, times: 10, answer: GO },
+                turn! { actor: OTHER, event: Event::Kill(0), answer: DONE },
+                turn! { actor: OTHER, event: Event::Respawn(0), answer: Err(Refusal::NotDown) },
+                turn! { actor: 1, event: Event::Take, answer: Err(Refusal::NoProcess) },
+                turn! { actor: 0, event: Event::Tick, answer: DONE },
+                turn! { actor: 0, event: Event::Step, times: 10, answer: TRAP },
+                turn! { actor: 0, event: Event::Back, answer: Ok(Answer::Returned(20)) },
             ],
-            &[
-                End(0, State::Down(DeathCause::Kill), 4, 0, 24, 19, 0x40, 1),
-                End(1, State::Ready, 7, 16, 4, 0xFFFF_FF97, 0, 0),
+            ends: &[
+                end! { slot: 0, state: KILLED, level: 4, ticks: 0, steps: 24,
+                    eax: 19, place: 0x40, word: 1 },
+                end! { slot: 1, state: READY, level: 7, ticks: 16, steps: 4,
+                    eax: EDEADDST, place: 0, word: 0 },
             ],
-        ),
+        },
     },
-    // Each of eight processors has a process, in slot order, and none is left for who asks again.
     Row {
+        name: "eight processors take eight processes in slot order",
         config: "eight",
-        task: Task::Turns(
-            &[
-                Turn(0, Event::Take, 1, Ok(Answer::Taken(0, 5))),
-                Turn(1, Event::Take, 1, Ok(Answer::Taken(1, 5))),
-                Turn(2, Event::Take, 1, Ok(Answer::Taken(2, 5))),
-                Turn(3, Event::Take, 1, Ok(Answer::Taken(3, 5))),
-                Turn(4, Event::Take, 1, Ok(Answer::Taken(4, 5))),
-                Turn(5, Event::Take, 1, Ok(Answer::Taken(5, 5))),
-                Turn(6, Event::Take, 1, Ok(Answer::Taken(6, 5))),
-                Turn(7, Event::Take, 1, Ok(Answer::Taken(7, 5))),
-                Turn(7, Event::Take, 1, Err(Refusal::CpuBusy)),
-                Turn(7, Event::Step, 3, Ok(Answer::Went(Outcome::Trap))),
-                Turn(7, Event::Back, 1, Ok(Answer::Returned(3))),
-                Turn(6, Event::Back, 1, Ok(Answer::Returned(0))),
-                Turn(7, Event::Take, 1, Ok(Answer::Taken(6, 5))),
-                Turn(6, Event::Take, 1, Ok(Answer::Taken(7, 2))),
-                Turn(6, Event::Back, 1, Ok(Answer::Returned(0))),
+        task: Task::Turns {
+            turns: &[
+                turn! { actor: 0, event: Event::Take, answer: Ok(Answer::Taken(0, 5)) },
+                turn! { actor: 1, event: Event::Take, answer: Ok(Answer::Taken(1, 5)) },
+                turn! { actor: 2, event: Event::Take, answer: Ok(Answer::Taken(2, 5)) },
+                turn! { actor: 3, event: Event::Take, answer: Ok(Answer::Taken(3, 5)) },
+                turn! { actor: 4, event: Event::Take, answer: Ok(Answer::Taken(4, 5)) },
+                turn! { actor: 5, event: Event::Take, answer: Ok(Answer::Taken(5, 5)) },
+                turn! { actor: 6, event: Event::Take, answer: Ok(Answer::Taken(6, 5)) },
+                turn! { actor: 7, event: Event::Take, answer: Ok(Answer::Taken(7, 5)) },
+                turn! { actor: 7, event: Event::Take, answer: Err(Refusal::CpuBusy) },
+                turn! { actor: 7, event: Event::Step, times: 3, answer: TRAP },
+                turn! { actor: 7, event: Event::Back, answer: Ok(Answer::Returned(3)) },
+                turn! { actor: 6, event: Event::Back, answer: Ok(Answer::Returned(0)) },
+                turn! { actor: 7, event: Event::Take, answer: Ok(Answer::Taken(6, 5)) },
+                turn! { actor: 6, event: Event::Take, answer: Ok(Answer::Taken(7, 2)) },
+                turn! { actor: 6, event: Event::Back, answer: Ok(Answer::Returned(0)) },
             ],
-            &[End(7, State::Ready, 7, 2, 3, 0xFFFF_FF98, 0, 0)],
-        ),
+            ends: &[end! { slot: 7, state: READY, level: 7, ticks: 2, steps: 3,
+                    eax: ECALLDENIED, place: 0, word: 0 }],
+        },
     },
-    // TIMES counts the steps up to its own trap.
     Row {
+        name: "TIMES counts the steps up to its own trap",
         config: "times",
-        task: Task::Turns(
-            &[
-                Turn(OTHER, Event::Tick, 1, Ok(Answer::Done)),
-                Turn(0, Event::Take, 1, Ok(Answer::Taken(0, 20))),
-                Turn(0, Event::Step, 2, Ok(Answer::Went(Outcome::Go))),
-                Turn(0, Event::Back, 1, Ok(Answer::Returned(2))),
-                Turn(0, Event::Take, 1, Ok(Answer::Taken(0, 18))),
-                Turn(0, Event::Step, 3, Ok(Answer::Went(Outcome::Trap))),
-                Turn(0, Event::Back, 1, Ok(Answer::Returned(3))),
+        task: Task::Turns {
+            turns: &[
+                turn! { actor: OTHER, event: Event::Tick, answer: DONE },
+                turn! { actor: 0, event: Event::Take, answer: Ok(Answer::Taken(0, 20)) },
+                turn! { actor: 0, event: Event::Step, times: 2, answer: GO },
+                turn! { actor: 0, event: Event::Back, answer: Ok(Answer::Returned(2)) },
+                turn! { actor: 0, event: Event::Take, answer: Ok(Answer::Taken(0, 18)) },
+                turn! { actor: 0, event: Event::Step, times: 3, answer: TRAP },
+                turn! { actor: 0, event: Event::Back, answer: Ok(Answer::Returned(3)) },
             ],
-            &[
-                End(0, State::Ready, 7, 15, 5, 0, 8, 1),
-                End(0, State::Ready, 7, 15, 5, 0, 12, 5),
+            ends: &[
+                end! { slot: 0, state: READY, level: 7, ticks: 15, steps: 5,
+                    eax: OK, place: 8, word: 1 },
+                end! { slot: 0, state: READY, level: 7, ticks: 15, steps: 5,
+                    eax: OK, place: 12, word: 5 },
             ],
-        ),
+        },
     },
-    // A copy into a window that was granted.
     Row {
+        name: "a copy into a window that was granted",
         config: "granted",
-        task: Task::Turns(
-            &[
-                Turn(0, Event::Take, 1, Ok(Answer::Taken(0, 40))),
-                Turn(1, Event::Take, 1, Ok(Answer::Taken(1, 40))),
-                Turn(1, Event::Step, 8, Ok(Answer::Went(Outcome::Trap))),
-                Turn(1, Event::Back, 1, Ok(Answer::Returned(8))),
-                Turn(1, Event::Take, 1, Ok(Answer::Taken(1, 32))),
-                Turn(1, Event::Step, 3, Ok(Answer::Went(Outcome::Trap))),
-                Turn(1, Event::Back, 1, Ok(Answer::Returned(3))),
-                Turn(0, Event::Step, 6, Ok(Answer::Went(Outcome::Trap))),
-                Turn(0, Event::Back, 1, Ok(Answer::Returned(6))),
-                Turn(0, Event::Take, 1, Ok(Answer::Taken(0, 34))),
-                Turn(0, Event::Step, 8, Ok(Answer::Went(Outcome::Trap))),
-                Turn(0, Event::Back, 1, Ok(Answer::Returned(8))),
+        task: Task::Turns {
+            turns: &[
+                turn! { actor: 0, event: Event::Take, answer: Ok(Answer::Taken(0, 40)) },
+                turn! { actor: 1, event: Event::Take, answer: Ok(Answer::Taken(1, 40)) },
+                turn! { actor: 1, event: Event::Step, times: 8, answer: TRAP },
+                turn! { actor: 1, event: Event::Back, answer: Ok(Answer::Returned(8)) },
+                turn! { actor: 1, event: Event::Take, answer: Ok(Answer::Taken(1, 32)) },
+                turn! { actor: 1, event: Event::Step, times: 3, answer: TRAP },
+                turn! { actor: 1, event: Event::Back, answer: Ok(Answer::Returned(3)) },
+                turn! { actor: 0, event: Event::Step, times: 6, answer: TRAP },
+                turn! { actor: 0, event: Event::Back, answer: Ok(Answer::Returned(6)) },
+                turn! { actor: 0, event: Event::Take, answer: Ok(Answer::Taken(0, 34)) },
+                turn! { actor: 0, event: Event::Step, times: 8, answer: TRAP },
+                turn! { actor: 0, event: Event::Back, answer: Ok(Answer::Returned(8)) },
             ],
-            &[
-                End(0, State::Ready, 4, 26, 14, 0, 4, 0),
-                End(
-                    1,
-                    State::Receiving(Partner::Any),
-                    7,
-                    29,
-                    11,
-                    31438,
-                    256,
-                    0x605,
-                ),
+            ends: &[
+                end! { slot: 0, state: READY, level: 4, ticks: 26, steps: 14,
+                    eax: OK, place: 4, word: OK },
+                end! { slot: 1, state: RECEIVING, level: 7, ticks: 29, steps: 11,
+                    eax: ANY, place: 256, word: VIRCOPY },
             ],
-        ),
+        },
     },
-    // Who granted is dead, and its endpoint with it.
     Row {
+        name: "who granted is dead, and its endpoint with it",
         config: "granted",
-        task: Task::Turns(
-            &[
-                Turn(0, Event::Take, 1, Ok(Answer::Taken(0, 40))),
-                Turn(1, Event::Take, 1, Ok(Answer::Taken(1, 40))),
-                Turn(1, Event::Step, 8, Ok(Answer::Went(Outcome::Trap))),
-                Turn(1, Event::Back, 1, Ok(Answer::Returned(8))),
-                Turn(1, Event::Take, 1, Ok(Answer::Taken(1, 32))),
-                Turn(1, Event::Step, 3, Ok(Answer::Went(Outcome::Trap))),
-                Turn(1, Event::Back, 1, Ok(Answer::Returned(3))),
-                Turn(OTHER, Event::Kill(1), 1, Ok(Answer::Done)),
-                Turn(OTHER, Event::Respawn(1), 1, Ok(Answer::Respawned(1025))),
-                Turn(0, Event::Step, 6, Ok(Answer::Went(Outcome::Trap))),
-                Turn(0, Event::Back, 1, Ok(Answer::Returned(6))),
-                Turn(0, Event::Take, 1, Ok(Answer::Taken(0, 34))),
-                Turn(0, Event::Step, 8, Ok(Answer::Went(Outcome::Trap))),
-                Turn(0, Event::Back, 1, Ok(Answer::Returned(8))),
+        task: Task::Turns {
+            turns: &[
+                turn! { actor: 0, event: Event::Take, answer: Ok(Answer::Taken(0, 40)) },
+                turn! { actor: 1, event: Event::Take, answer: Ok(Answer::Taken(1, 40)) },
+                turn! { actor: 1, event: Event::Step, times: 8, answer: TRAP },
+                turn! { actor: 1, event: Event::Back, answer: Ok(Answer::Returned(8)) },
+                turn! { actor: 1, event: Event::Take, answer: Ok(Answer::Taken(1, 32)) },
+                turn! { actor: 1, event: Event::Step, times: 3, answer: TRAP },
+                turn! { actor: 1, event: Event::Back, answer: Ok(Answer::Returned(3)) },
+                turn! { actor: OTHER, event: Event::Kill(1), answer: DONE },
+                turn! { actor: OTHER, event: Event::Respawn(1), answer: Ok(Answer::Respawned(1025)) },
+                turn! { actor: 0, event: Event::Step, times: 6, answer: TRAP },
+                turn! { actor: 0, event: Event::Back, answer: Ok(Answer::Returned(6)) },
+                turn! { actor: 0, event: Event::Take, answer: Ok(Answer::Taken(0, 34)) },
+                turn! { actor: 0, event: Event::Step, times: 8, answer: TRAP },
+                turn! { actor: 0, event: Event::Back, answer: Ok(Answer::Returned(8)) },
             ],
-            &[End(0, State::Ready, 4, 26, 14, 0, 4, 0xFFFF_FF97)],
-        ),
+            ends: &[
+                end! { slot: 0, state: READY, level: 4, ticks: 26, steps: 14,
+                    eax: OK, place: 4, word: EDEADDST },
+            ],
+        },
     },
-    // The process after it has granted nothing.
     Row {
+        name: "the process after who granted has granted nothing",
         config: "granted",
-        task: Task::Turns(
-            &[
-                Turn(0, Event::Take, 1, Ok(Answer::Taken(0, 40))),
-                Turn(1, Event::Take, 1, Ok(Answer::Taken(1, 40))),
-                Turn(1, Event::Step, 8, Ok(Answer::Went(Outcome::Trap))),
-                Turn(1, Event::Back, 1, Ok(Answer::Returned(8))),
-                Turn(1, Event::Take, 1, Ok(Answer::Taken(1, 32))),
-                Turn(1, Event::Step, 3, Ok(Answer::Went(Outcome::Trap))),
-                Turn(1, Event::Back, 1, Ok(Answer::Returned(3))),
-                Turn(OTHER, Event::Kill(1), 1, Ok(Answer::Done)),
-                Turn(OTHER, Event::Respawn(1), 1, Ok(Answer::Respawned(1025))),
-                Turn(0, Event::Step, 6, Ok(Answer::Went(Outcome::Trap))),
-                Turn(0, Event::Back, 1, Ok(Answer::Returned(6))),
-                Turn(0, Event::Take, 1, Ok(Answer::Taken(0, 34))),
-                Turn(0, Event::Step, 8, Ok(Answer::Went(Outcome::Trap))),
-                Turn(0, Event::Back, 1, Ok(Answer::Returned(8))),
-                Turn(0, Event::Take, 1, Ok(Answer::Taken(0, 26))),
-                Turn(0, Event::Step, 8, Ok(Answer::Went(Outcome::Trap))),
-                Turn(0, Event::Back, 1, Ok(Answer::Returned(8))),
+        task: Task::Turns {
+            turns: &[
+                turn! { actor: 0, event: Event::Take, answer: Ok(Answer::Taken(0, 40)) },
+                turn! { actor: 1, event: Event::Take, answer: Ok(Answer::Taken(1, 40)) },
+                turn! { actor: 1, event: Event::Step, times: 8, answer: TRAP },
+                turn! { actor: 1, event: Event::Back, answer: Ok(Answer::Returned(8)) },
+                turn! { actor: 1, event: Event::Take, answer: Ok(Answer::Taken(1, 32)) },
+                turn! { actor: 1, event: Event::Step, times: 3, answer: TRAP },
+                turn! { actor: 1, event: Event::Back, answer: Ok(Answer::Returned(3)) },
+                turn! { actor: OTHER, event: Event::Kill(1), answer: DONE },
+                turn! { actor: OTHER, event: Event::Respawn(1), answer: Ok(Answer::Respawned(1025)) },
+                turn! { actor: 0, event: Event::Step, times: 6, answer: TRAP },
+                turn! { actor: 0, event: Event::Back, answer: Ok(Answer::Returned(6)) },
+                turn! { actor: 0, event: Event::Take, answer: Ok(Answer::Taken(0, 34)) },
+                turn! { actor: 0, event: Event::Step, times: 8, answer: TRAP },
+                turn! { actor: 0, event: Event::Back, answer: Ok(Answer::Returned(8)) },
+                turn! { actor: 0, event: Event::Take, answer: Ok(Answer::Taken(0, 26)) },
+                turn! { actor: 0, event: Event::Step, times: 8, answer: TRAP },
+                turn! { actor: 0, event: Event::Back, answer: Ok(Answer::Returned(8)) },
             ],
-            &[
-                End(0, State::Ready, 4, 18, 22, 0, 4, 0xFFFF_FFFF),
-                End(1, State::Ready, 7, 40, 0, 0, 256, 0),
+            ends: &[
+                end! { slot: 0, state: READY, level: 4, ticks: 18, steps: 22,
+                    eax: OK, place: 4, word: EPERM },
+                end! { slot: 1, state: READY, level: 7, ticks: 40, steps: 0,
+                    eax: 0, place: 256, word: 0 },
             ],
-        ),
+        },
     },
-    // A window isn't for the process after the one that it was opened for.
     Row {
+        name: "a window isn't for the process after the one that it was opened for",
         config: "granted",
-        task: Task::Turns(
-            &[
-                Turn(0, Event::Take, 1, Ok(Answer::Taken(0, 40))),
-                Turn(1, Event::Take, 1, Ok(Answer::Taken(1, 40))),
-                Turn(1, Event::Step, 8, Ok(Answer::Went(Outcome::Trap))),
-                Turn(1, Event::Back, 1, Ok(Answer::Returned(8))),
-                Turn(1, Event::Take, 1, Ok(Answer::Taken(1, 32))),
-                Turn(1, Event::Step, 3, Ok(Answer::Went(Outcome::Trap))),
-                Turn(1, Event::Back, 1, Ok(Answer::Returned(3))),
-                Turn(0, Event::Back, 1, Ok(Answer::Returned(0))),
-                Turn(OTHER, Event::Kill(0), 1, Ok(Answer::Done)),
-                Turn(OTHER, Event::Respawn(0), 1, Ok(Answer::Respawned(1024))),
-                Turn(0, Event::Take, 1, Ok(Answer::Taken(1024, 40))),
-                Turn(0, Event::Step, 6, Ok(Answer::Went(Outcome::Trap))),
-                Turn(0, Event::Back, 1, Ok(Answer::Returned(6))),
-                Turn(0, Event::Take, 1, Ok(Answer::Taken(1024, 34))),
-                Turn(0, Event::Step, 8, Ok(Answer::Went(Outcome::Trap))),
-                Turn(0, Event::Back, 1, Ok(Answer::Returned(8))),
+        task: Task::Turns {
+            turns: &[
+                turn! { actor: 0, event: Event::Take, answer: Ok(Answer::Taken(0, 40)) },
+                turn! { actor: 1, event: Event::Take, answer: Ok(Answer::Taken(1, 40)) },
+                turn! { actor: 1, event: Event::Step, times: 8, answer: TRAP },
+                turn! { actor: 1, event: Event::Back, answer: Ok(Answer::Returned(8)) },
+                turn! { actor: 1, event: Event::Take, answer: Ok(Answer::Taken(1, 32)) },
+                turn! { actor: 1, event: Event::Step, times: 3, answer: TRAP },
+                turn! { actor: 1, event: Event::Back, answer: Ok(Answer::Returned(3)) },
+                turn! { actor: 0, event: Event::Back, answer: Ok(Answer::Returned(0)) },
+                turn! { actor: OTHER, event: Event::Kill(0), answer: DONE },
+                turn! { actor: OTHER, event: Event::Respawn(0), answer: Ok(Answer::Respawned(1024)) },
+                turn! { actor: 0, event: Event::Take, answer: Ok(Answer::Taken(1024, 40)) },
+                turn! { actor: 0, event: Event::Step, times: 6, answer: TRAP },
+                turn! { actor: 0, event: Event::Back, answer: Ok(Answer::Returned(6)) },
+                turn! { actor: 0, event: Event::Take, answer: Ok(Answer::Taken(1024, 34)) },
+                turn! { actor: 0, event: Event::Step, times: 8, answer: TRAP },
+                turn! { actor: 0, event: Event::Back, answer: Ok(Answer::Returned(8)) },
             ],
-            &[
-                End(0, State::Ready, 4, 26, 14, 0, 4, 0xFFFF_FFFF),
-                End(1, State::Receiving(Partner::Any), 7, 29, 11, 31438, 256, 0),
+            ends: &[
+                end! { slot: 0, state: READY, level: 4, ticks: 26, steps: 14,
+                    eax: OK, place: 4, word: EPERM },
+                end! { slot: 1, state: RECEIVING, level: 7, ticks: 29, steps: 11,
+                    eax: ANY, place: 256, word: 0 },
             ],
-        ),
+        },
     },
-    // By the lenient rules there is no such call, and a copy asks for none.
     Row {
+        name: "lenient rules: GRANT is no call, and a copy needs no window",
         config: "lenient",
-        task: Task::Turns(
-            &[
-                Turn(0, Event::Take, 1, Ok(Answer::Taken(0, 40))),
-                Turn(1, Event::Take, 1, Ok(Answer::Taken(1, 40))),
-                Turn(1, Event::Step, 8, Ok(Answer::Went(Outcome::Trap))),
-                Turn(1, Event::Back, 1, Ok(Answer::Returned(8))),
-                Turn(1, Event::Take, 1, Ok(Answer::Taken(1, 32))),
-                Turn(1, Event::Step, 3, Ok(Answer::Went(Outcome::Trap))),
-                Turn(1, Event::Back, 1, Ok(Answer::Returned(3))),
-                Turn(0, Event::Step, 6, Ok(Answer::Went(Outcome::Trap))),
-                Turn(0, Event::Back, 1, Ok(Answer::Returned(6))),
-                Turn(0, Event::Take, 1, Ok(Answer::Taken(0, 34))),
-                Turn(0, Event::Step, 8, Ok(Answer::Went(Outcome::Trap))),
-                Turn(0, Event::Back, 1, Ok(Answer::Returned(8))),
+        task: Task::Turns {
+            turns: &[
+                turn! { actor: 0, event: Event::Take, answer: Ok(Answer::Taken(0, 40)) },
+                turn! { actor: 1, event: Event::Take, answer: Ok(Answer::Taken(1, 40)) },
+                turn! { actor: 1, event: Event::Step, times: 8, answer: TRAP },
+                turn! { actor: 1, event: Event::Back, answer: Ok(Answer::Returned(8)) },
+                turn! { actor: 1, event: Event::Take, answer: Ok(Answer::Taken(1, 32)) },
+                turn! { actor: 1, event: Event::Step, times: 3, answer: TRAP },
+                turn! { actor: 1, event: Event::Back, answer: Ok(Answer::Returned(3)) },
+                turn! { actor: 0, event: Event::Step, times: 6, answer: TRAP },
+                turn! { actor: 0, event: Event::Back, answer: Ok(Answer::Returned(6)) },
+                turn! { actor: 0, event: Event::Take, answer: Ok(Answer::Taken(0, 34)) },
+                turn! { actor: 0, event: Event::Step, times: 8, answer: TRAP },
+                turn! { actor: 0, event: Event::Back, answer: Ok(Answer::Returned(8)) },
             ],
-            &[
-                End(0, State::Ready, 4, 26, 14, 0, 4, 0),
-                End(
-                    1,
-                    State::Receiving(Partner::Any),
-                    7,
-                    29,
-                    11,
-                    31438,
-                    4,
-                    0xFFFF_FF95,
-                ),
-                End(
-                    1,
-                    State::Receiving(Partner::Any),
-                    7,
-                    29,
-                    11,
-                    31438,
-                    256,
-                    0x605,
-                ),
+            ends: &[
+                end! { slot: 0, state: READY, level: 4, ticks: 26, steps: 14,
+                    eax: OK, place: 4, word: OK },
+                end! { slot: 1, state: RECEIVING, level: 7, ticks: 29, steps: 11,
+                    eax: ANY, place: 4, word: EBADREQUEST },
+                end! { slot: 1, state: RECEIVING, level: 7, ticks: 29, steps: 11,
+                    eax: ANY, place: 256, word: VIRCOPY },
             ],
-        ),
+        },
     },
-    // A call and its answer in rounds, and a tool's runs.
     Row {
+        name: "five rounds of a call and its answer",
         config: "asked",
-        task: Task::Rounds,
+        task: Task::Rounds(&[
+            Round {
+                process: 0,
+                budget: 20,
+                steps: 4,
+            },
+            Round {
+                process: 1,
+                budget: 20,
+                steps: 4,
+            },
+            Round {
+                process: 0,
+                budget: 16,
+                steps: 3,
+            },
+            Round {
+                process: 0,
+                budget: 13,
+                steps: 5,
+            },
+            Round {
+                process: 1,
+                budget: 16,
+                steps: 4,
+            },
+        ]),
     },
     Row {
+        name: "a tool's runs",
         config: "short",
         task: Task::Runs,
     },
-    // A thousand interrupts for a ready owner are one message, with the bit of line 5.
     Row {
+        name: "a thousand interrupts for a ready owner are one message with the bit of line 5",
         config: "button",
-        task: Task::Turns(
-            &[
-                Turn(0, Event::Take, 1, Ok(Answer::Taken(0, 99))),
-                Turn(0, Event::Step, 7, Ok(Answer::Went(Outcome::Trap))),
-                Turn(0, Event::Back, 1, Ok(Answer::Returned(7))),
-                Turn(OTHER, Event::Line(5), 1000, Ok(Answer::Done)),
-                Turn(0, Event::Take, 1, Ok(Answer::Taken(0, 92))),
-                Turn(0, Event::Step, 3, Ok(Answer::Went(Outcome::Trap))),
-                Turn(0, Event::Back, 1, Ok(Answer::Returned(3))),
+        task: Task::Turns {
+            turns: &[
+                turn! { actor: 0, event: Event::Take, answer: Ok(Answer::Taken(0, 99)) },
+                turn! { actor: 0, event: Event::Step, times: 7, answer: TRAP },
+                turn! { actor: 0, event: Event::Back, answer: Ok(Answer::Returned(7)) },
+                turn! { actor: OTHER, event: Event::Line(5), times: 1000, answer: DONE },
+                turn! { actor: 0, event: Event::Take, answer: Ok(Answer::Taken(0, 92)) },
+                turn! { actor: 0, event: Event::Step, times: 3, answer: TRAP },
+                turn! { actor: 0, event: Event::Back, answer: Ok(Answer::Returned(3)) },
             ],
-            &[End(0, State::Ready, 4, 89, 10, 0, 12, 0x20)],
-        ),
+            ends: &[
+                end! { slot: 0, state: READY, level: 4, ticks: 89, steps: 10,
+                    eax: OK, place: 12, word: 0x20 },
+            ],
+        },
     },
     Row {
+        name: "a thousand interrupts, and ticks until the history is full",
         config: "button",
-        task: Task::Turns(
-            &[
-                Turn(0, Event::Take, 1, Ok(Answer::Taken(0, 99))),
-                Turn(0, Event::Step, 7, Ok(Answer::Went(Outcome::Trap))),
-                Turn(0, Event::Back, 1, Ok(Answer::Returned(7))),
-                Turn(OTHER, Event::Line(5), 1000, Ok(Answer::Done)),
-                Turn(0, Event::Take, 1, Ok(Answer::Taken(0, 92))),
-                Turn(0, Event::Step, 3, Ok(Answer::Went(Outcome::Trap))),
-                Turn(0, Event::Back, 1, Ok(Answer::Returned(3))),
-                Turn(0, Event::Take, 1, Ok(Answer::Taken(0, 89))),
-                Turn(0, Event::Step, 10, Ok(Answer::Went(Outcome::Trap))),
-                Turn(0, Event::Back, 1, Ok(Answer::Returned(10))),
-                Turn(0, Event::Take, 1, Ok(Answer::Taken(0, 79))),
-                Turn(0, Event::Step, 4, Ok(Answer::Went(Outcome::Trap))),
-                Turn(0, Event::Back, 1, Ok(Answer::Returned(4))),
-                Turn(0, Event::Take, 1, Err(Refusal::NoProcess)),
+        task: Task::Turns {
+            turns: &[
+                turn! { actor: 0, event: Event::Take, answer: Ok(Answer::Taken(0, 99)) },
+                turn! { actor: 0, event: Event::Step, times: 7, answer: TRAP },
+                turn! { actor: 0, event: Event::Back, answer: Ok(Answer::Returned(7)) },
+                turn! { actor: OTHER, event: Event::Line(5), times: 1000, answer: DONE },
+                turn! { actor: 0, event: Event::Take, answer: Ok(Answer::Taken(0, 92)) },
+                turn! { actor: 0, event: Event::Step, times: 3, answer: TRAP },
+                turn! { actor: 0, event: Event::Back, answer: Ok(Answer::Returned(3)) },
+                turn! { actor: 0, event: Event::Take, answer: Ok(Answer::Taken(0, 89)) },
+                turn! { actor: 0, event: Event::Step, times: 10, answer: TRAP },
+                turn! { actor: 0, event: Event::Back, answer: Ok(Answer::Returned(10)) },
+                turn! { actor: 0, event: Event::Take, answer: Ok(Answer::Taken(0, 79)) },
+                turn! { actor: 0, event: Event::Step, times: 4, answer: TRAP },
+                turn! { actor: 0, event: Event::Back, answer: Ok(Answer::Returned(4)) },
+                turn! { actor: 0, event: Event::Take, answer: Err(Refusal::NoProcess) },
                 // 1,008 records stand by now.
-                Turn(OTHER, Event::Tick, 92, Ok(Answer::Done)),
-                Turn(OTHER, Event::Tick, 1, Err(Refusal::LogFull)),
+                turn! { actor: OTHER, event: Event::Tick, times: 92, answer: DONE },
+                turn! { actor: OTHER, event: Event::Tick, answer: Err(Refusal::LogFull) },
             ],
-            &[],
-        ),
+            ends: &[],
+        },
     },
-    // The last generation and the last restart of the driver's service.
     Row {
+        name: "neither the last generation nor the last restart: not worn",
         config: "looks",
-        task: Task::Worn,
+        task: Task::Worn(Worn {
+            generation: 0,
+            restarts_used: 0,
+            is_worn: false,
+        }),
+    },
+    Row {
+        name: "the only restart is used: worn",
+        config: "looks",
+        task: Task::Worn(Worn {
+            generation: 1,
+            restarts_used: 1,
+            is_worn: true,
+        }),
+    },
+    Row {
+        name: "the last generation but one: not worn",
+        config: "looks",
+        task: Task::Worn(Worn {
+            generation: 1_048_574,
+            restarts_used: 0,
+            is_worn: false,
+        }),
+    },
+    Row {
+        name: "the last generation: worn",
+        config: "looks",
+        task: Task::Worn(Worn {
+            generation: 1_048_575,
+            restarts_used: 0,
+            is_worn: true,
+        }),
     },
 ];
 
@@ -509,14 +629,18 @@ fn work<T: Tool>(machine: &mut Machine, cpu: u8, tool: &mut T) -> Result<(), Ref
     machine.work(cpu, tool)
 }
 
-/// That many events of an actor, of which all but the last are steps that go on, or are done: how the
-/// last is answered.
+/// How the last of a turn's events is answered. Those before it are steps that go on, or are done.
 fn last_answer(rt: &impl Abort, machine: &mut Machine, turn: &Turn) -> Result<Answer, Refusal> {
-    let Turn(actor, event, count, _) = *turn;
-    for _ in 1..count {
+    let Turn {
+        actor,
+        event,
+        times,
+        ..
+    } = *turn;
+    for _ in 1..times {
         assert!(rt; (actor as usize) < machine.actors());
         let answer = machine.apply(actor, event);
-        assert!(rt; answer == Ok(Answer::Went(Outcome::Go)) || answer == Ok(Answer::Done));
+        assert!(rt; answer == GO || answer == DONE);
     }
     assert!(rt; (actor as usize) < machine.actors());
     machine.apply(actor, event)
@@ -524,7 +648,7 @@ fn last_answer(rt: &impl Abort, machine: &mut Machine, turn: &Turn) -> Result<An
 
 fn are_answered(rt: &impl Abort, machine: &mut Machine, turns: &[Turn]) -> bool {
     for turn in turns {
-        if last_answer(rt, machine, turn) != turn.3 {
+        if last_answer(rt, machine, turn) != turn.answer {
             return false;
         }
     }
@@ -532,13 +656,14 @@ fn are_answered(rt: &impl Abort, machine: &mut Machine, turns: &[Turn]) -> bool 
 }
 
 fn has_end(rt: &impl Abort, table: &Table, end: &End) -> bool {
-    let End(slot, state, level, ticks, steps, eax, place, word) = *end;
-    assert!(rt; slot < table.used());
-    let process = table.process(slot);
-    process.state == state
-        && (process.level, process.ticks, process.steps) == (level, ticks, steps)
-        && process.image.register(Register::Eax) == eax
-        && process.image.memory.read(place, Size::Dword) == Ok(word)
+    assert!(rt; end.slot < table.used());
+    let process = table.process(end.slot);
+    process.state == end.state
+        && process.level == end.level
+        && process.ticks == end.ticks
+        && process.steps == end.steps
+        && process.image.register(Register::Eax) == end.eax
+        && process.image.memory.read(end.place, Size::Dword) == Ok(end.word)
 }
 
 fn has_ends(rt: &impl Abort, table: &Table, ends: &[End]) -> bool {
@@ -550,8 +675,9 @@ fn has_ends(rt: &impl Abort, table: &Table, ends: &[End]) -> bool {
     true
 }
 
-/// A round by the list: a process is taken, steps until it is refused a step, and comes back.
-const ROUND: [(u8, Event); 8] = [
+/// A round by the list, as a machine takes it: actors and their events. A process is taken, steps until it
+/// is refused a step, and comes back.
+static ROUND: &[(u8, Event)] = &[
     (0, Event::Take),
     (0, Event::Step),
     (0, Event::Step),
@@ -562,24 +688,19 @@ const ROUND: [(u8, Event); 8] = [
     (0, Event::Back),
 ];
 
-/// Five rounds of who asks and who answers: whose process it is, its budget and its steps.
-static ROUNDS: &[(u32, u32, u32)] = &[(0, 20, 4), (1, 20, 4), (0, 16, 3), (0, 13, 5), (1, 16, 4)];
-
-/// Whether a round's answers are those of this many steps, the last of them a trap.
-fn is_round(answers: &[Result<Answer, Refusal>], round: &(u32, u32, u32)) -> bool {
-    let (named, budget, steps) = *round;
+fn is_round(answers: &[Result<Answer, Refusal>], round: &Round) -> bool {
     answers.len() == 8
-        && answers[0] == Ok(Answer::Taken(named, budget))
-        && answers.get(steps as usize) == Some(&Ok(Answer::Went(Outcome::Trap)))
+        && answers[0] == Ok(Answer::Taken(round.process, round.budget))
+        && answers.get(round.steps as usize) == Some(&TRAP)
         && answers[6] == Err(Refusal::AtStop)
-        && answers[7] == Ok(Answer::Returned(steps))
+        && answers[7] == Ok(Answer::Returned(round.steps))
 }
 
-fn are_rounds(alloc: Global, machine: &mut Machine) -> bool {
+fn are_rounds(alloc: Global, machine: &mut Machine, rounds: &[Round]) -> bool {
     let mut answers = Vec::new(alloc);
-    for round in ROUNDS {
+    for round in rounds {
         answers.clear();
-        if machine.run(&ROUND, &mut answers).is_err() || !is_round(answers.as_slice(), round) {
+        if machine.run(ROUND, &mut answers).is_err() || !is_round(answers.as_slice(), round) {
             return false;
         }
     }
@@ -597,14 +718,6 @@ fn is_lent(machine: &mut Machine) -> bool {
         && machine.image(1).is_none()
         && machine.apply(0, Event::Back) == Ok(Answer::Returned(3))
 }
-
-/// The last generation, and the last restart: no event reaches the former in a history's length.
-static WORN: &[(u32, u32, bool)] = &[
-    (0, 0, false),
-    (1, 1, true),
-    (1_048_574, 0, false),
-    (1_048_575, 0, true),
-];
 
 /// A process that is down.
 fn down(alloc: Global, masks: Masks, generation: u32, restarts_used: u32) -> Process {
@@ -626,23 +739,15 @@ fn down(alloc: Global, masks: Masks, generation: u32, restarts_used: u32) -> Pro
     }
 }
 
-fn is_worn_so(alloc: Global, service: &Service, worn: &(u32, u32, bool)) -> bool {
-    let process = down(alloc, service.masks, worn.0, worn.1);
-    is_worn(&process, service) == worn.2
-}
-
-fn are_worn(alloc: Global, service: &Service) -> bool {
-    for worn in WORN {
-        if !is_worn_so(alloc, service, worn) {
-            return false;
-        }
-    }
-    true
-}
-
-fn has_worn(alloc: Global, services: &[Service]) -> bool {
+/// Whether a process of the last service is worn, or isn't, as told. It is made by hand, since no history is
+/// long enough for the last generation.
+fn has_worn(alloc: Global, services: &[Service], worn: &Worn) -> bool {
     match services {
-        [.., service] => are_worn(alloc, service),
+        [.., service] => {
+            let masks = service.terms.masks;
+            let process = down(alloc, masks, worn.generation, worn.restarts_used);
+            is_worn(&process, service) == worn.is_worn
+        }
         _ => false,
     }
 }
@@ -650,12 +755,12 @@ fn has_worn(alloc: Global, services: &[Service]) -> bool {
 fn is_done(rt: &impl Abort, alloc: Global, machine: &mut Machine, task: &Task) -> bool {
     sends(machine.kernel());
     match task {
-        Task::Turns(turns, ends) => {
+        Task::Turns { turns, ends } => {
             are_answered(rt, machine, *turns) && has_ends(rt, machine.kernel().table(), *ends)
         }
-        Task::Rounds => are_rounds(alloc, machine),
+        Task::Rounds(rounds) => are_rounds(alloc, machine, *rounds),
         Task::Runs => is_lent(machine),
-        Task::Worn => has_worn(alloc, machine.kernel().services()),
+        Task::Worn(worn) => has_worn(alloc, machine.kernel().services(), worn),
     }
 }
 
@@ -668,7 +773,8 @@ fn is_worked(rt: &impl Abort, alloc: Global, row: &Row) -> bool {
 
 #[test]
 fn events(rt: HostRuntime) {
-    for (number, row) in ROWS.iter().enumerate() {
-        assert!(rt; is_worked(&rt, rt.alloc(), row), "row {number}");
+    for row in ROWS {
+        let name = row.name;
+        assert!(rt; is_worked(&rt, rt.alloc(), row), "{name}");
     }
 }

@@ -5,22 +5,46 @@ use std::alloc::Global;
 use std::test::Fail;
 
 /// Waits at `top` for anybody, answers who it was, and jumps to `top`; its buffer is `buf`, at 0.
-pub(crate) const DRIVER: [u8; 135] = [
+pub(crate) const DRIVER: &[u8] = &[
+    // The header: text 0x23, data 0x24, bss 0x0, entry 0x0, total 0x1000, symbols 0x20.
     1, 3, 0x30, 0x10, 0x20, 0, 0, 0, 0x23, 0, 0, 0, 0x24, 0, 0, 0, 0, 0, 0, 0, 0, 0, 0, 0, 0, 0x10,
-    0, 0, 0x20, 0, 0, 0, 0xB9, 2, 0, 0, 0, 0xB8, 0xCE, 0x7A, 0, 0, 0xBB, 0, 0, 0, 0, 0xCD, 0x21,
-    0x8B, 5, 0, 0, 0, 0, 0xB9, 1, 0, 0, 0, 0xCD, 0x21, 0xE9, 0xDD, 0xFF, 0xFF, 0xFF, 0, 0, 0, 0, 0,
-    0, 0, 0, 0, 0, 0, 0, 0, 0, 0, 0, 0, 0, 0, 0, 0, 0, 0, 0, 0, 0, 0, 0, 0, 0, 0, 0, 0, 0, 0, 0,
-    0x62, 0x75, 0x66, 0, 0, 0, 0, 0, 0, 0, 0, 0, 3, 0, 0, 0, 0x74, 0x6F, 0x70, 0, 0, 0, 0, 0, 0, 0,
-    0, 0, 2, 0, 0, 0,
+    0, 0, 0x20, 0, 0, 0,
+    // The text.
+    0xB9, 2, 0, 0, 0, // mov ecx, 0x2
+    0xB8, 0xCE, 0x7A, 0, 0, // mov eax, 0x7ace
+    0xBB, 0, 0, 0, 0, // mov ebx, 0x0
+    0xCD, 0x21, // int 0x21
+    0x8B, 5, 0, 0, 0, 0, // mov eax, dword [0x0]
+    0xB9, 1, 0, 0, 0, // mov ecx, 0x1
+    0xCD, 0x21, // int 0x21
+    0xE9, 0xDD, 0xFF, 0xFF, 0xFF, // jmp 0x0
+    // The data.
+    0, 0, 0, 0, 0, 0, 0, 0, 0, 0, 0, 0, 0, 0, 0, 0, 0, 0, 0, 0, 0, 0, 0, 0, 0, 0, 0, 0, 0, 0, 0, 0,
+    0, 0, 0, 0,
+    // The symbols.
+    0x62, 0x75, 0x66, 0, 0, 0, 0, 0, 0, 0, 0, 0, 3, 0, 0, 0, // buf: 0x0 of the data
+    0x74, 0x6F, 0x70, 0, 0, 0, 0, 0, 0, 0, 0, 0, 2, 0, 0, 0, // top: 0x0 of the text
 ];
 
 /// Calls the driver, then EXIT.
-pub(crate) const CLIENT: [u8; 123] = [
+pub(crate) const CLIENT: &[u8] = &[
+    // The header: text 0x27, data 0x24, bss 0x0, entry 0x0, total 0x1000, symbols 0x10.
     1, 3, 0x30, 0x10, 0x20, 0, 0, 0, 0x27, 0, 0, 0, 0x24, 0, 0, 0, 0, 0, 0, 0, 0, 0, 0, 0, 0, 0x10,
-    0, 0, 0x10, 0, 0, 0, 0xB9, 3, 0, 0, 0, 0xB8, 0, 0, 0, 0, 0xBB, 0, 0, 0, 0, 0xCD, 0x21, 0xC7, 5,
-    4, 0, 0, 0, 0, 6, 0, 0, 0xB9, 3, 0, 0, 0, 0xB8, 0xFE, 0xFF, 0xFF, 0xFF, 0xCD, 0x21, 0, 0, 0, 0,
+    0, 0, 0x10, 0, 0, 0,
+    // The text.
+    0xB9, 3, 0, 0, 0, // mov ecx, 0x3
+    0xB8, 0, 0, 0, 0, // mov eax, 0x0
+    0xBB, 0, 0, 0, 0, // mov ebx, 0x0
+    0xCD, 0x21, // int 0x21
+    0xC7, 5, 4, 0, 0, 0, 0, 6, 0, 0, // mov dword [0x4], 0x600
+    0xB9, 3, 0, 0, 0, // mov ecx, 0x3
+    0xB8, 0xFE, 0xFF, 0xFF, 0xFF, // mov eax, 0xfffffffe
+    0xCD, 0x21, // int 0x21
+    // The data.
     0, 0, 0, 0, 0, 0, 0, 0, 0, 0, 0, 0, 0, 0, 0, 0, 0, 0, 0, 0, 0, 0, 0, 0, 0, 0, 0, 0, 0, 0, 0, 0,
-    0x62, 0x75, 0x66, 0, 0, 0, 0, 0, 0, 0, 0, 0, 3, 0, 0, 0,
+    0, 0, 0, 0,
+    // The symbols.
+    0x62, 0x75, 0x66, 0, 0, 0, 0, 0, 0, 0, 0, 0, 3, 0, 0, 0, // buf: 0x0 of the data
 ];
 
 /// A driver, and who calls it.
@@ -29,107 +53,224 @@ pub(crate) const PAIR: &[u8] = b"cpus 1\nlog 64\n\
     service cli cli.out traps 1e send 1 calls 1 level 7 best 7 quantum 20 restarts 0\n";
 
 /// A sum, and a trap that fails.
-pub(crate) const SUM: [u8; 78] = [
+pub(crate) const SUM: &[u8] = &[
+    // The header: text 0xa, data 0x24, bss 0x0, entry 0x0, total 0x1000, symbols 0x0.
     1, 3, 0x30, 0x10, 0x20, 0, 0, 0, 0xA, 0, 0, 0, 0x24, 0, 0, 0, 0, 0, 0, 0, 0, 0, 0, 0, 0, 0x10,
-    0, 0, 0, 0, 0, 0, 0xB8, 5, 0, 0, 0, 0x83, 0xC0, 0x7B, 0xCD, 0x21, 0, 0, 0, 0, 0, 0, 0, 0, 0, 0,
-    0, 0, 0, 0, 0, 0, 0, 0, 0, 0, 0, 0, 0, 0, 0, 0, 0, 0, 0, 0, 0, 0, 0, 0, 0, 0,
+    0, 0, 0, 0, 0, 0,
+    // The text.
+    0xB8, 5, 0, 0, 0, // mov eax, 0x5
+    0x83, 0xC0, 0x7B, // add eax, 0x7b
+    0xCD, 0x21, // int 0x21
+    // The data.
+    0, 0, 0, 0, 0, 0, 0, 0, 0, 0, 0, 0, 0, 0, 0, 0, 0, 0, 0, 0, 0, 0, 0, 0, 0, 0, 0, 0, 0, 0, 0, 0,
+    0, 0, 0, 0,
 ];
 
 /// A file with a separate text of two bytes, INT 33, and a total of 4096.
-const TRAP: [u8; 34] = [
+const TRAP: &[u8] = &[
+    // The header: text 0x2, data 0x0, bss 0x0, entry 0x0, total 0x1000, symbols 0x0.
     0x01, 0x03, 0x30, 0x10, 0x20, 0, 0, 0, 2, 0, 0, 0, 0, 0, 0, 0, 0, 0, 0, 0, 0, 0, 0, 0, 0, 0x10,
-    0, 0, 0, 0, 0, 0, 0xCD, 0x21,
+    0, 0, 0, 0, 0, 0,
+    // The text.
+    0xCD, 0x21, // int 0x21
 ];
 
-/// Three instructions and a trap; ECX is 0, so it is no call, and then the text ends.
-const SHORT: [u8; 42] = [
+/// Two instructions and a trap. ECX is 0 then, so the trap is no call; after it the text ends.
+const SHORT: &[u8] = &[
+    // The header: text 0xa, data 0x0, bss 0x80, entry 0x0, total 0x1000, symbols 0x0.
     1, 3, 0x30, 0x10, 0x20, 0, 0, 0, 0xa, 0, 0, 0, 0, 0, 0, 0, 0x80, 0, 0, 0, 0, 0, 0, 0, 0, 0x10,
-    0, 0, 0, 0, 0, 0, 0xB8, 5, 0, 0, 0, 0x83, 0xC0, 0x7B, 0xCD, 0x21,
+    0, 0, 0, 0, 0, 0,
+    // The text.
+    0xB8, 5, 0, 0, 0, // mov eax, 0x5
+    0x83, 0xC0, 0x7B, // add eax, 0x7b
+    0xCD, 0x21, // int 0x21
 ];
 
 /// RECEIVE from anybody, then SEND to who it was, in a loop. The buffer is at 0.
-const ANSWERS: [u8; 67] = [
+const ANSWERS: &[u8] = &[
+    // The header: text 0x23, data 0x0, bss 0x80, entry 0x0, total 0x1000, symbols 0x0.
     1, 3, 0x30, 0x10, 0x20, 0, 0, 0, 0x23, 0, 0, 0, 0, 0, 0, 0, 0x80, 0, 0, 0, 0, 0, 0, 0, 0, 0x10,
-    0, 0, 0, 0, 0, 0, 0xB9, 2, 0, 0, 0, 0xB8, 0xCE, 0x7A, 0, 0, 0xBB, 0, 0, 0, 0, 0xCD, 0x21, 0x8B,
-    5, 0, 0, 0, 0, 0xB9, 1, 0, 0, 0, 0xCD, 0x21, 0xE9, 0xDD, 0xFF, 0xFF, 0xFF,
+    0, 0, 0, 0, 0, 0,
+    // The text.
+    0xB9, 2, 0, 0, 0, // mov ecx, 0x2
+    0xB8, 0xCE, 0x7A, 0, 0, // mov eax, 0x7ace
+    0xBB, 0, 0, 0, 0, // mov ebx, 0x0
+    0xCD, 0x21, // int 0x21
+    0x8B, 5, 0, 0, 0, 0, // mov eax, dword [0x0]
+    0xB9, 1, 0, 0, 0, // mov ecx, 0x1
+    0xCD, 0x21, // int 0x21
+    0xE9, 0xDD, 0xFF, 0xFF, 0xFF, // jmp 0x0
 ];
 
 /// SENDREC to 0, then EXIT.
-const ASKS: [u8; 71] = [
+const ASKS: &[u8] = &[
+    // The header: text 0x27, data 0x0, bss 0x80, entry 0x0, total 0x1000, symbols 0x0.
     1, 3, 0x30, 0x10, 0x20, 0, 0, 0, 0x27, 0, 0, 0, 0, 0, 0, 0, 0x80, 0, 0, 0, 0, 0, 0, 0, 0, 0x10,
-    0, 0, 0, 0, 0, 0, 0xB9, 3, 0, 0, 0, 0xB8, 0, 0, 0, 0, 0xBB, 0, 0, 0, 0, 0xCD, 0x21, 0xC7, 5, 4,
-    0, 0, 0, 0, 6, 0, 0, 0xB9, 3, 0, 0, 0, 0xB8, 0xFE, 0xFF, 0xFF, 0xFF, 0xCD, 0x21,
+    0, 0, 0, 0, 0, 0,
+    // The text.
+    0xB9, 3, 0, 0, 0, // mov ecx, 0x3
+    0xB8, 0, 0, 0, 0, // mov eax, 0x0
+    0xBB, 0, 0, 0, 0, // mov ebx, 0x0
+    0xCD, 0x21, // int 0x21
+    0xC7, 5, 4, 0, 0, 0, 0, 6, 0, 0, // mov dword [0x4], 0x600
+    0xB9, 3, 0, 0, 0, // mov ecx, 0x3
+    0xB8, 0xFE, 0xFF, 0xFF, 0xFF, // mov eax, 0xfffffffe
+    0xCD, 0x21, // int 0x21
 ];
 
 /// Writes a byte of its data, then RECEIVE from anybody.
-const WRITES: [u8; 56] = [
+const WRITES: &[u8] = &[
+    // The header: text 0x18, data 0x0, bss 0x80, entry 0x0, total 0x1000, symbols 0x0.
     1, 3, 0x30, 0x10, 0x20, 0, 0, 0, 0x18, 0, 0, 0, 0, 0, 0, 0, 0x80, 0, 0, 0, 0, 0, 0, 0, 0, 0x10,
-    0, 0, 0, 0, 0, 0, 0xC6, 5, 0, 0, 0, 0, 7, 0xB9, 2, 0, 0, 0, 0xB8, 0xCE, 0x7A, 0, 0, 0xBB, 0x40,
-    0, 0, 0, 0xCD, 0x21,
+    0, 0, 0, 0, 0, 0,
+    // The text.
+    0xC6, 5, 0, 0, 0, 0, 7, // mov byte [0x0], 0x7
+    0xB9, 2, 0, 0, 0, // mov ecx, 0x2
+    0xB8, 0xCE, 0x7A, 0, 0, // mov eax, 0x7ace
+    0xBB, 0x40, 0, 0, 0, // mov ebx, 0x40
+    0xCD, 0x21, // int 0x21
 ];
 
 /// SENDREC to 3, SEND to 3, then WHOIS of slot 3.
-const LOOKS: [u8; 93] = [
+const LOOKS: &[u8] = &[
+    // The header: text 0x3d, data 0x0, bss 0x80, entry 0x0, total 0x1000, symbols 0x0.
     1, 3, 0x30, 0x10, 0x20, 0, 0, 0, 0x3d, 0, 0, 0, 0, 0, 0, 0, 0x80, 0, 0, 0, 0, 0, 0, 0, 0, 0x10,
-    0, 0, 0, 0, 0, 0, 0xB9, 3, 0, 0, 0, 0xB8, 3, 0, 0, 0, 0xBB, 0, 0, 0, 0, 0xCD, 0x21, 0xB9, 1, 0,
-    0, 0, 0xB8, 3, 0, 0, 0, 0xCD, 0x21, 0xC7, 5, 4, 0, 0, 0, 7, 6, 0, 0, 0xC7, 5, 8, 0, 0, 0, 3, 0,
-    0, 0, 0xB9, 3, 0, 0, 0, 0xB8, 0xFE, 0xFF, 0xFF, 0xFF, 0xCD, 0x21,
+    0, 0, 0, 0, 0, 0,
+    // The text.
+    0xB9, 3, 0, 0, 0, // mov ecx, 0x3
+    0xB8, 3, 0, 0, 0, // mov eax, 0x3
+    0xBB, 0, 0, 0, 0, // mov ebx, 0x0
+    0xCD, 0x21, // int 0x21
+    0xB9, 1, 0, 0, 0, // mov ecx, 0x1
+    0xB8, 3, 0, 0, 0, // mov eax, 0x3
+    0xCD, 0x21, // int 0x21
+    0xC7, 5, 4, 0, 0, 0, 7, 6, 0, 0, // mov dword [0x4], 0x607
+    0xC7, 5, 8, 0, 0, 0, 3, 0, 0, 0, // mov dword [0x8], 0x3
+    0xB9, 3, 0, 0, 0, // mov ecx, 0x3
+    0xB8, 0xFE, 0xFF, 0xFF, 0xFF, // mov eax, 0xfffffffe
+    0xCD, 0x21, // int 0x21
 ];
 
 /// Takes line 5 by IRQCTL; then RECEIVE from the hardware, and DEVIO, in a loop. The buffer is at 0.
-const BUTTON: [u8; 248] = [
+const BUTTON: &[u8] = &[
+    // The header: text 0x80, data 0x28, bss 0x0, entry 0x0, total 0x1000, symbols 0x30.
     1, 3, 0x30, 0x10, 0x20, 0, 0, 0, 0x80, 0, 0, 0, 0x28, 0, 0, 0, 0, 0, 0, 0, 0, 0, 0, 0, 0, 0x10,
-    0, 0, 0x30, 0, 0, 0, 0xc7, 5, 4, 0, 0, 0, 3, 6, 0, 0, 0xc7, 5, 8, 0, 0, 0, 1, 0, 0, 0, 0xc7, 5,
-    0xc, 0, 0, 0, 5, 0, 0, 0, 0xb9, 3, 0, 0, 0, 0xb8, 0xfe, 0xff, 0xff, 0xff, 0xbb, 0, 0, 0, 0,
-    0xcd, 0x21, 0xb9, 2, 0, 0, 0, 0xb8, 0xff, 0xff, 0xff, 0xff, 0xcd, 0x21, 0x83, 5, 0x24, 0, 0, 0,
-    1, 0x8b, 5, 0x24, 0, 0, 0, 0x83, 0xc0, 0x30, 0x89, 5, 0x10, 0, 0, 0, 0xc7, 5, 4, 0, 0, 0, 4, 6,
-    0, 0, 0xc7, 5, 8, 0, 0, 0, 1, 0, 0, 0, 0xc7, 5, 0xc, 0, 0, 0, 0, 0, 0, 0, 0xb9, 3, 0, 0, 0,
-    0xb8, 0xfe, 0xff, 0xff, 0xff, 0xcd, 0x21, 0xe9, 0xaf, 0xff, 0xff, 0xff, 0, 0, 0, 0, 0, 0, 0, 0,
+    0, 0, 0x30, 0, 0, 0,
+    // The text.
+    0xc7, 5, 4, 0, 0, 0, 3, 6, 0, 0, // mov dword [0x4], 0x603
+    0xc7, 5, 8, 0, 0, 0, 1, 0, 0, 0, // mov dword [0x8], 0x1
+    0xc7, 5, 0xc, 0, 0, 0, 5, 0, 0, 0, // mov dword [0xc], 0x5
+    0xb9, 3, 0, 0, 0, // mov ecx, 0x3
+    0xb8, 0xfe, 0xff, 0xff, 0xff, // mov eax, 0xfffffffe
+    0xbb, 0, 0, 0, 0, // mov ebx, 0x0
+    0xcd, 0x21, // int 0x21
+    0xb9, 2, 0, 0, 0, // mov ecx, 0x2
+    0xb8, 0xff, 0xff, 0xff, 0xff, // mov eax, 0xffffffff
+    0xcd, 0x21, // int 0x21
+    0x83, 5, 0x24, 0, 0, 0, 1, // add dword [0x24], 0x1
+    0x8b, 5, 0x24, 0, 0, 0, // mov eax, dword [0x24]
+    0x83, 0xc0, 0x30, // add eax, 0x30
+    0x89, 5, 0x10, 0, 0, 0, // mov dword [0x10], eax
+    0xc7, 5, 4, 0, 0, 0, 4, 6, 0, 0, // mov dword [0x4], 0x604
+    0xc7, 5, 8, 0, 0, 0, 1, 0, 0, 0, // mov dword [0x8], 0x1
+    0xc7, 5, 0xc, 0, 0, 0, 0, 0, 0, 0, // mov dword [0xc], 0x0
+    0xb9, 3, 0, 0, 0, // mov ecx, 0x3
+    0xb8, 0xfe, 0xff, 0xff, 0xff, // mov eax, 0xfffffffe
+    0xcd, 0x21, // int 0x21
+    0xe9, 0xaf, 0xff, 0xff, 0xff, // jmp 0x2f
+    // The data.
     0, 0, 0, 0, 0, 0, 0, 0, 0, 0, 0, 0, 0, 0, 0, 0, 0, 0, 0, 0, 0, 0, 0, 0, 0, 0, 0, 0, 0, 0, 0, 0,
-    0x62, 0x75, 0x66, 0, 0, 0, 0, 0, 0, 0, 0, 0, 3, 0, 0, 0, 0x63, 0x6f, 0x75, 0x6e, 0x74, 0, 0, 0,
-    0x24, 0, 0, 0, 3, 0, 0, 0, 0x77, 0x61, 0x69, 0x74, 0, 0, 0, 0, 0x2f, 0, 0, 0, 2, 0, 0, 0,
+    0, 0, 0, 0, 0, 0, 0, 0,
+    // The symbols.
+    0x62, 0x75, 0x66, 0, 0, 0, 0, 0, 0, 0, 0, 0, 3, 0, 0, 0, // buf: 0x0 of the data
+    0x63, 0x6f, 0x75, 0x6e, 0x74, 0, 0, 0, 0x24, 0, 0, 0, 3, 0, 0, 0, // count: 0x24 of the data
+    0x77, 0x61, 0x69, 0x74, 0, 0, 0, 0, 0x2f, 0, 0, 0, 2, 0, 0, 0, // wait: 0x2f of the text
 ];
 
 /// Never runs.
-const IDLE: [u8; 33] = [
+const IDLE: &[u8] = &[
+    // The header: text 0x1, data 0x0, bss 0x80, entry 0x0, total 0x1000, symbols 0x0.
     1, 3, 0x30, 0x10, 0x20, 0, 0, 0, 0x1, 0, 0, 0, 0, 0, 0, 0, 0x80, 0, 0, 0, 0, 0, 0, 0, 0, 0x10,
-    0, 0, 0, 0, 0, 0, 0x90,
+    0, 0, 0, 0, 0, 0,
+    // The text.
+    0x90, // nop
 ];
 
 /// RECEIVE from anybody, then nineteen instructions and a trap.
-const WORKS: [u8; 70] = [
+const WORKS: &[u8] = &[
+    // The header: text 0x26, data 0x0, bss 0x80, entry 0x0, total 0x1000, symbols 0x0.
     1, 3, 0x30, 0x10, 0x20, 0, 0, 0, 0x26, 0, 0, 0, 0, 0, 0, 0, 0x80, 0, 0, 0, 0, 0, 0, 0, 0, 0x10,
-    0, 0, 0, 0, 0, 0, 0xB9, 2, 0, 0, 0, 0xB8, 0xCE, 0x7A, 0, 0, 0xBB, 0x40, 0, 0, 0, 0xCD, 0x21,
+    0, 0, 0, 0, 0, 0,
+    // The text.
+    0xB9, 2, 0, 0, 0, // mov ecx, 0x2
+    0xB8, 0xCE, 0x7A, 0, 0, // mov eax, 0x7ace
+    0xBB, 0x40, 0, 0, 0, // mov ebx, 0x40
+    0xCD, 0x21, // int 0x21
     0x40, 0x40, 0x40, 0x40, 0x40, 0x40, 0x40, 0x40, 0x40, 0x40, 0x40, 0x40, 0x40, 0x40, 0x40, 0x40,
-    0x40, 0x40, 0x40, 0xCD, 0x21,
+    0x40, 0x40, 0x40, // inc eax, 19 times
+    0xCD, 0x21, // int 0x21
 ];
 
 /// TIMES: the uptime stands at 8 and the steps at 12.
-const COUNTS: [u8; 59] = [
+const COUNTS: &[u8] = &[
+    // The header: text 0x1b, data 0x0, bss 0x80, entry 0x0, total 0x1000, symbols 0x0.
     1, 3, 0x30, 0x10, 0x20, 0, 0, 0, 0x1b, 0, 0, 0, 0, 0, 0, 0, 0x80, 0, 0, 0, 0, 0, 0, 0, 0, 0x10,
-    0, 0, 0, 0, 0, 0, 0xC7, 5, 4, 0, 0, 0, 1, 6, 0, 0, 0xB9, 3, 0, 0, 0, 0xB8, 0xFE, 0xFF, 0xFF,
-    0xFF, 0xBB, 0, 0, 0, 0, 0xCD, 0x21,
+    0, 0, 0, 0, 0, 0,
+    // The text.
+    0xC7, 5, 4, 0, 0, 0, 1, 6, 0, 0, // mov dword [0x4], 0x601
+    0xB9, 3, 0, 0, 0, // mov ecx, 0x3
+    0xB8, 0xFE, 0xFF, 0xFF, 0xFF, // mov eax, 0xfffffffe
+    0xBB, 0, 0, 0, 0, // mov ebx, 0x0
+    0xCD, 0x21, // int 0x21
 ];
 
 /// WHOIS of slot 0, then 16 bytes from 4 of its own memory are copied to 256 of process 1, then of 1025.
-const COPIES: [u8; 195] = [
+const COPIES: &[u8] = &[
+    // The header: text 0xa3, data 0x0, bss 0x80, entry 0x0, total 0x1000, symbols 0x0.
     1, 3, 0x30, 0x10, 0x20, 0, 0, 0, 0xA3, 0, 0, 0, 0, 0, 0, 0, 0x80, 0, 0, 0, 0, 0, 0, 0, 0, 0x10,
-    0, 0, 0, 0, 0, 0, 0xBB, 0, 0, 0, 0, 0xC7, 5, 4, 0, 0, 0, 7, 6, 0, 0, 0xC7, 5, 8, 0, 0, 0, 0, 0,
-    0, 0, 0xB9, 3, 0, 0, 0, 0xB8, 0xFE, 0xFF, 0xFF, 0xFF, 0xCD, 0x21, 0x8B, 0x15, 8, 0, 0, 0, 0xC7,
-    5, 4, 0, 0, 0, 5, 6, 0, 0, 0xC7, 5, 0xC, 0, 0, 0, 4, 0, 0, 0, 0xC7, 5, 0x10, 0, 0, 0, 1, 0, 0,
-    0, 0xC7, 5, 0x14, 0, 0, 0, 0, 1, 0, 0, 0xC7, 5, 0x18, 0, 0, 0, 0x10, 0, 0, 0, 0xB8, 0xFE, 0xFF,
-    0xFF, 0xFF, 0xCD, 0x21, 0xC7, 5, 4, 0, 0, 0, 5, 6, 0, 0, 0x89, 0x15, 8, 0, 0, 0, 0xC7, 5, 0xC,
-    0, 0, 0, 4, 0, 0, 0, 0xC7, 5, 0x10, 0, 0, 0, 1, 4, 0, 0, 0xC7, 5, 0x14, 0, 0, 0, 0, 1, 0, 0,
-    0xC7, 5, 0x18, 0, 0, 0, 0x10, 0, 0, 0, 0xB8, 0xFE, 0xFF, 0xFF, 0xFF, 0xCD, 0x21,
+    0, 0, 0, 0, 0, 0,
+    // The text.
+    0xBB, 0, 0, 0, 0, // mov ebx, 0x0
+    0xC7, 5, 4, 0, 0, 0, 7, 6, 0, 0, // mov dword [0x4], 0x607
+    0xC7, 5, 8, 0, 0, 0, 0, 0, 0, 0, // mov dword [0x8], 0x0
+    0xB9, 3, 0, 0, 0, // mov ecx, 0x3
+    0xB8, 0xFE, 0xFF, 0xFF, 0xFF, // mov eax, 0xfffffffe
+    0xCD, 0x21, // int 0x21
+    0x8B, 0x15, 8, 0, 0, 0, // mov edx, dword [0x8]
+    0xC7, 5, 4, 0, 0, 0, 5, 6, 0, 0, // mov dword [0x4], 0x605
+    0xC7, 5, 0xC, 0, 0, 0, 4, 0, 0, 0, // mov dword [0xc], 0x4
+    0xC7, 5, 0x10, 0, 0, 0, 1, 0, 0, 0, // mov dword [0x10], 0x1
+    0xC7, 5, 0x14, 0, 0, 0, 0, 1, 0, 0, // mov dword [0x14], 0x100
+    0xC7, 5, 0x18, 0, 0, 0, 0x10, 0, 0, 0, // mov dword [0x18], 0x10
+    0xB8, 0xFE, 0xFF, 0xFF, 0xFF, // mov eax, 0xfffffffe
+    0xCD, 0x21, // int 0x21
+    0xC7, 5, 4, 0, 0, 0, 5, 6, 0, 0, // mov dword [0x4], 0x605
+    0x89, 0x15, 8, 0, 0, 0, // mov dword [0x8], edx
+    0xC7, 5, 0xC, 0, 0, 0, 4, 0, 0, 0, // mov dword [0xc], 0x4
+    0xC7, 5, 0x10, 0, 0, 0, 1, 4, 0, 0, // mov dword [0x10], 0x401
+    0xC7, 5, 0x14, 0, 0, 0, 0, 1, 0, 0, // mov dword [0x14], 0x100
+    0xC7, 5, 0x18, 0, 0, 0, 0x10, 0, 0, 0, // mov dword [0x18], 0x10
+    0xB8, 0xFE, 0xFF, 0xFF, 0xFF, // mov eax, 0xfffffffe
+    0xCD, 0x21, // int 0x21
 ];
 
 /// GRANT to process 0 of 16 bytes at 256, for writing, then RECEIVE from anybody.
-const GRANTS: [u8; 101] = [
+const GRANTS: &[u8] = &[
+    // The header: text 0x45, data 0x0, bss 0x80, entry 0x0, total 0x1000, symbols 0x0.
     1, 3, 0x30, 0x10, 0x20, 0, 0, 0, 0x45, 0, 0, 0, 0, 0, 0, 0, 0x80, 0, 0, 0, 0, 0, 0, 0, 0, 0x10,
-    0, 0, 0, 0, 0, 0, 0xBB, 0, 0, 0, 0, 0xC7, 5, 4, 0, 0, 0, 8, 6, 0, 0, 0xC7, 5, 0xC, 0, 0, 0, 0,
-    1, 0, 0, 0xC7, 5, 0x10, 0, 0, 0, 0x10, 0, 0, 0, 0xC7, 5, 0x14, 0, 0, 0, 2, 0, 0, 0, 0xB9, 3, 0,
-    0, 0, 0xB8, 0xFE, 0xFF, 0xFF, 0xFF, 0xCD, 0x21, 0xB9, 2, 0, 0, 0, 0xB8, 0xCE, 0x7A, 0, 0, 0xCD,
-    0x21,
+    0, 0, 0, 0, 0, 0,
+    // The text.
+    0xBB, 0, 0, 0, 0, // mov ebx, 0x0
+    0xC7, 5, 4, 0, 0, 0, 8, 6, 0, 0, // mov dword [0x4], 0x608
+    0xC7, 5, 0xC, 0, 0, 0, 0, 1, 0, 0, // mov dword [0xc], 0x100
+    0xC7, 5, 0x10, 0, 0, 0, 0x10, 0, 0, 0, // mov dword [0x10], 0x10
+    0xC7, 5, 0x14, 0, 0, 0, 2, 0, 0, 0, // mov dword [0x14], 0x2
+    0xB9, 3, 0, 0, 0, // mov ecx, 0x3
+    0xB8, 0xFE, 0xFF, 0xFF, 0xFF, // mov eax, 0xfffffffe
+    0xCD, 0x21, // int 0x21
+    0xB9, 2, 0, 0, 0, // mov ecx, 0x2
+    0xB8, 0xCE, 0x7A, 0, 0, // mov eax, 0x7ace
+    0xCD, 0x21, // int 0x21
 ];
 
 static FILES: &[NamedFile<'static>] = &[
@@ -178,23 +319,23 @@ static FILES: &[NamedFile<'static>] = &[
     },
     NamedFile {
         name: "drv.out",
-        bytes: &DRIVER,
+        bytes: DRIVER,
     },
     NamedFile {
         name: "cli.out",
-        bytes: &CLIENT,
+        bytes: CLIENT,
     },
     NamedFile {
         name: "a.out",
-        bytes: &SUM,
+        bytes: SUM,
     },
     NamedFile {
         name: "good",
-        bytes: &TRAP,
+        bytes: TRAP,
     },
     NamedFile {
         name: "more",
-        bytes: &TRAP,
+        bytes: TRAP,
     },
     NamedFile {
         name: "cut",
@@ -418,7 +559,7 @@ static SMALL: &[NamedFile<'static>] = &[
     },
     NamedFile {
         name: "button.out",
-        bytes: &BUTTON,
+        bytes: BUTTON,
     },
     NamedFile {
         name: "granted",
@@ -434,43 +575,43 @@ static SMALL: &[NamedFile<'static>] = &[
     },
     NamedFile {
         name: "copies.out",
-        bytes: &COPIES,
+        bytes: COPIES,
     },
     NamedFile {
         name: "grants.out",
-        bytes: &GRANTS,
+        bytes: GRANTS,
     },
     NamedFile {
         name: "short.out",
-        bytes: &SHORT,
+        bytes: SHORT,
     },
     NamedFile {
         name: "answers.out",
-        bytes: &ANSWERS,
+        bytes: ANSWERS,
     },
     NamedFile {
         name: "asks.out",
-        bytes: &ASKS,
+        bytes: ASKS,
     },
     NamedFile {
         name: "writes.out",
-        bytes: &WRITES,
+        bytes: WRITES,
     },
     NamedFile {
         name: "looks.out",
-        bytes: &LOOKS,
+        bytes: LOOKS,
     },
     NamedFile {
         name: "idle.out",
-        bytes: &IDLE,
+        bytes: IDLE,
     },
     NamedFile {
         name: "works.out",
-        bytes: &WORKS,
+        bytes: WORKS,
     },
     NamedFile {
         name: "counts.out",
-        bytes: &COUNTS,
+        bytes: COUNTS,
     },
 ];
 

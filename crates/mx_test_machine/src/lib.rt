@@ -24,6 +24,8 @@ mod narrow;
 #[cfg(test)]
 mod no_texts;
 #[cfg(test)]
+mod numbers;
+#[cfg(test)]
 mod pages;
 #[cfg(test)]
 mod patterns;

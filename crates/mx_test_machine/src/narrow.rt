@@ -7,6 +7,7 @@ use mx_app_db::{Script, make_steps, start};
 use mx_boot::{Over, save};
 use mx_machine::{Event, Machine};
 use std::alloc::Global;
+use std::process::Abort;
 use std::sync::Wait;
 use std::test::Fail;
 use std::thread::Threads;
@@ -14,6 +15,7 @@ use std::time::Clock;
 
 /// What is asked for, and what is printed of it.
 struct Row {
+    name: &'static str,
     request: CommandRequest<'static>,
     printed: &'static str,
 }
@@ -25,6 +27,7 @@ const FAULTED: &str = "0 a 0 down fault 13 7 1\nuptime 0\nconsole 0\n";
 
 static ROWS: &[Row] = &[
     Row {
+        name: "one",
         request: CommandRequest::One {
             file: "a.out",
             steps: 9,
@@ -35,14 +38,17 @@ static ROWS: &[Row] = &[
                   stop trap after 3\n",
     },
     Row {
+        name: "dis",
         request: CommandRequest::Dis { file: "a.out" },
         printed: "00000000 mov eax, 0x5\n00000005 add eax, 0x7b\n00000008 int 0x21\n",
     },
     Row {
+        name: "nm",
         request: CommandRequest::Nm { file: "drv.out" },
         printed: "00000000 D buf\n00000000 T top\n",
     },
     Row {
+        name: "step",
         request: CommandRequest::Step {
             config: "one",
             script: "kills",
@@ -51,6 +57,7 @@ static ROWS: &[Row] = &[
         printed: KILLED,
     },
     Row {
+        name: "step with save",
         request: CommandRequest::Step {
             config: "one",
             script: "kills",
@@ -59,6 +66,7 @@ static ROWS: &[Row] = &[
         printed: KILLED,
     },
     Row {
+        name: "replay",
         request: CommandRequest::Replay {
             config: "one",
             log: "whole",
@@ -66,6 +74,7 @@ static ROWS: &[Row] = &[
         printed: FAULTED,
     },
     Row {
+        name: "trace",
         request: CommandRequest::Trace {
             config: "one",
             log: "whole",
@@ -75,6 +84,7 @@ static ROWS: &[Row] = &[
                   4   a 0: out -> down fault 13\n",
     },
     Row {
+        name: "db",
         request: CommandRequest::Db {
             config: "pair",
             script: "look",
@@ -82,6 +92,7 @@ static ROWS: &[Row] = &[
         printed: "done\n0 drv 0 ready 4 20\n1 cli 1 ready 7 20\nuptime 0\nconsole 0\n",
     },
     Row {
+        name: "run",
         request: CommandRequest::Run {
             config: "one",
             log: "new",
@@ -117,15 +128,17 @@ fn is_printed<R: Threads + Wait + Clock + Sync>(
     answer == wanted && channels.out.bytes.as_slice() == &text[..room.min(text.len())]
 }
 
+fn print_in_each_room<R: Threads + Wait + Clock + Sync + Abort>(rt: &R, alloc: Global, row: &Row) {
+    let name = row.name;
+    for room in 0..row.printed.len() + 2 {
+        assert!(rt; is_printed(rt, alloc, row, room), "{name}, room {room}");
+    }
+}
+
 #[test]
 fn prints_what_there_is_room_for(rt: HostRuntime) -> Result<(), Fail> {
-    for (number, row) in ROWS.iter().enumerate() {
-        for room in 0..row.printed.len() + 2 {
-            assert!(rt;
-                is_printed(&rt, rt.alloc(), row, room),
-                "row {number}, room {room}"
-            );
-        }
+    for row in ROWS {
+        print_in_each_room(&rt, rt.alloc(), row);
     }
     Ok(())
 }

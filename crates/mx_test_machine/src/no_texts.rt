@@ -5,20 +5,43 @@ use mx_app::{
     Channels, CommandRequest, Failure, MemoryWriter, NamedFile, NamedFiles, RecordRange, perform,
 };
 use std::alloc::Global;
+use std::process::Abort;
 use std::sync::Wait;
 use std::test::Fail;
 use std::thread::Threads;
 use std::time::Clock;
 
-/// Bytes that aren't UTF-8: one that begins no letter, one that only goes on, a letter that is cut, one in
-/// more bytes than it needs, half of a pair of UTF-16, and a number past the last letter.
-static NO_LETTERS: &[&[u8]] = &[
-    b"\xFF",
-    b"\x80",
-    b"\xC3",
-    b"\xC0\x80",
-    b"\xED\xA0\x80",
-    b"\xF4\x90\x80\x80",
+/// Bytes that aren't UTF-8.
+struct NoLetter {
+    name: &'static str,
+    bytes: &'static [u8],
+}
+
+static NO_LETTERS: &[NoLetter] = &[
+    NoLetter {
+        name: "a byte that begins no letter",
+        bytes: b"\xFF",
+    },
+    NoLetter {
+        name: "a byte that only goes on",
+        bytes: b"\x80",
+    },
+    NoLetter {
+        name: "a letter that is cut",
+        bytes: b"\xC3",
+    },
+    NoLetter {
+        name: "a letter in more bytes than it needs",
+        bytes: b"\xC0\x80",
+    },
+    NoLetter {
+        name: "half of a pair of UTF-16",
+        bytes: b"\xED\xA0\x80",
+    },
+    NoLetter {
+        name: "a number past the last letter",
+        bytes: b"\xF4\x90\x80\x80",
+    },
 ];
 
 /// A letter of two bytes.
@@ -26,6 +49,7 @@ const LETTER: &[u8] = b"\xC3\xA9";
 
 /// What is asked for, the file `text` but for its end, and the status if it ends with a letter.
 struct Row {
+    name: &'static str,
     request: CommandRequest<'static>,
     front: &'static [u8],
     status: u8,
@@ -53,21 +77,25 @@ const RECORD: &[u8] = b"1 tick\n";
 static ROWS: &[Row] = &[
     // A letter may stand in a comment and in a text, which has no end here; no other word begins with it.
     Row {
+        name: "as: a comment",
         request: ASSEMBLED,
         front: b"int 33 ; ",
         status: 0,
     },
     Row {
+        name: "as: a text without its end",
         request: ASSEMBLED,
         front: b".data\n.ascii \"",
         status: 1,
     },
     Row {
+        name: "as: a line's first word",
         request: ASSEMBLED,
         front: b"int 33\n",
         status: 1,
     },
     Row {
+        name: "step: a configuration",
         request: CommandRequest::Step {
             config: "text",
             script: "empty",
@@ -77,6 +105,7 @@ static ROWS: &[Row] = &[
         status: 0,
     },
     Row {
+        name: "step: a script",
         request: CommandRequest::Step {
             config: "pair",
             script: "text",
@@ -86,6 +115,7 @@ static ROWS: &[Row] = &[
         status: 1,
     },
     Row {
+        name: "step with save: a configuration",
         request: CommandRequest::Step {
             config: "text",
             script: "empty",
@@ -95,6 +125,7 @@ static ROWS: &[Row] = &[
         status: 0,
     },
     Row {
+        name: "step with save: a script",
         request: CommandRequest::Step {
             config: "pair",
             script: "text",
@@ -104,6 +135,7 @@ static ROWS: &[Row] = &[
         status: 1,
     },
     Row {
+        name: "replay: a configuration",
         request: CommandRequest::Replay {
             config: "text",
             log: "empty",
@@ -112,6 +144,7 @@ static ROWS: &[Row] = &[
         status: 0,
     },
     Row {
+        name: "replay: a history",
         request: CommandRequest::Replay {
             config: "pair",
             log: "text",
@@ -120,6 +153,7 @@ static ROWS: &[Row] = &[
         status: 1,
     },
     Row {
+        name: "trace: a configuration",
         request: CommandRequest::Trace {
             config: "text",
             log: "empty",
@@ -129,6 +163,7 @@ static ROWS: &[Row] = &[
         status: 0,
     },
     Row {
+        name: "trace: a history",
         request: CommandRequest::Trace {
             config: "pair",
             log: "text",
@@ -138,6 +173,7 @@ static ROWS: &[Row] = &[
         status: 1,
     },
     Row {
+        name: "db: a configuration",
         request: CommandRequest::Db {
             config: "text",
             script: "empty",
@@ -146,6 +182,7 @@ static ROWS: &[Row] = &[
         status: 0,
     },
     Row {
+        name: "db: a script",
         request: CommandRequest::Db {
             config: "pair",
             script: "text",
@@ -154,6 +191,7 @@ static ROWS: &[Row] = &[
         status: 1,
     },
     Row {
+        name: "run: a configuration",
         request: CommandRequest::Run {
             config: "text",
             log: "new",
@@ -180,8 +218,8 @@ fn answer<R: Threads + Wait + Clock + Sync>(
     let files = [
         file("text", text.as_slice()),
         file("pair", PAIR),
-        file("drv.out", &DRIVER),
-        file("cli.out", &CLIENT),
+        file("drv.out", DRIVER),
+        file("cli.out", CLIENT),
         file("empty", b""),
     ];
     let mut channels = Channels {
@@ -201,15 +239,31 @@ fn status(answer: Result<u8, Failure>) -> u8 {
     }
 }
 
+/// A row's text is refused with each end that is no letter, and nothing is printed or written.
+fn refuse_each<R: Threads + Wait + Clock + Sync + Abort>(
+    rt: &R,
+    alloc: Global,
+    row: &Row,
+) -> Result<(), Fail> {
+    let name = row.name;
+    for end in NO_LETTERS {
+        let end_name = end.name;
+        let (answer, is_silent) = answer(rt, alloc, row, end.bytes)?;
+        assert!(rt;
+            answer == Err(Failure::File) && is_silent,
+            "{name}: {end_name}"
+        );
+    }
+    Ok(())
+}
+
 #[test]
 fn no_texts(rt: HostRuntime) -> Result<(), Fail> {
-    for (number, row) in ROWS.iter().enumerate() {
-        for end in NO_LETTERS {
-            let (answer, is_silent) = answer(&rt, rt.alloc(), row, *end)?;
-            assert!(rt; answer == Err(Failure::File) && is_silent, "row {number}");
-        }
+    for row in ROWS {
+        refuse_each(&rt, rt.alloc(), row)?;
+        let name = row.name;
         let (answer, _) = answer(&rt, rt.alloc(), row, LETTER)?;
-        assert!(rt; status(answer) == row.status, "row {number}");
+        assert!(rt; status(answer) == row.status, "{name}: a letter");
     }
     let line = format!(in rt.alloc(); "{}", Failure::File)?;
     assert!(rt; line.as_str() == "mx: 80 File" && Failure::File.status() == 3);

@@ -1,11 +1,12 @@
 //! A message, kernel calls and their copies over the ends of pages.
 
-use crate::calls::{make_call, make_trap};
+use crate::calls::{Trap, make_call, make_trap};
+use crate::numbers::{ALL_BUT_GRANT, ALL_TRAPS, OK, VIRCOPY, WHOIS};
 use crate::tables::word_at;
 use mx_exec::Image;
 use mx_kcall::After;
 use mx_mem::Segment;
-use mx_proc::{Masks, Rules, Slot, Table};
+use mx_proc::{ANY, Masks, Rules, SYSTEM, Slot, Table, Terms};
 use mx_word::{Register, Size};
 use std::alloc::Global;
 use std::process::Abort;
@@ -19,17 +20,38 @@ const BUFFER: u32 = 0x3FF0;
 /// Where the bytes end that copies read and write.
 const END: u32 = 0x3000;
 
-/// What stands in the buffers of slots 0 and 1.
-static WORDS: &[[u32; 9]] = &[[0xEE, 1, 2, 3, 4, 5, 6, 7, 8], [0xEE; 9]];
+/// A copy out of slot 0, over three pages.
+struct Copied {
+    name: &'static str,
+    /// The slot that it copies to.
+    slot: Slot,
+    from: u32,
+    to: u32,
+    count: u32,
+}
 
-/// A copy out of slot 0: to which slot, from, to, how many bytes.
-struct Copied(Slot, u32, u32, u32);
-
-/// Over three pages: up and down within the process, and to another.
 static COPIES: &[Copied] = &[
-    Copied(0, 5, 1_003, 9_216),
-    Copied(0, 1_003, 5, 9_216),
-    Copied(1, 4_095, 90, 8_193),
+    Copied {
+        name: "up within the process",
+        slot: 0,
+        from: 5,
+        to: 1_003,
+        count: 9_216,
+    },
+    Copied {
+        name: "down within the process",
+        slot: 0,
+        from: 1_003,
+        to: 5,
+        count: 9_216,
+    },
+    Copied {
+        name: "to another process",
+        slot: 1,
+        from: 4_095,
+        to: 90,
+        count: 8_193,
+    },
 ];
 
 /// What stands at a place before a copy.
@@ -52,25 +74,43 @@ fn image_of(alloc: Global, words: &[u32; 9]) -> Result<Image, Fail> {
     Ok(image)
 }
 
+/// Adds a process that has these words in its buffer.
+fn add_with(
+    rt: &impl Abort,
+    alloc: Global,
+    table: &mut Table,
+    words: &[u32; 9],
+) -> Result<(), Fail> {
+    let mut image = image_of(alloc, words)?;
+    let masks = Masks {
+        traps: ALL_TRAPS,
+        sends: 3,
+        calls: ALL_BUT_GRANT,
+    };
+    let terms = Terms {
+        masks,
+        level: 7,
+        best: 7,
+        quantum: 5,
+        restarts: 0,
+    };
+    assert!(rt; table.used() < 32);
+    table.add(alloc, &mut image, terms)?;
+    Ok(())
+}
+
+/// Slot 0 has a message in its buffer.
 fn two_processes(rt: &impl Abort, alloc: Global) -> Result<Table, Fail> {
     let mut table = Table::new(alloc, Rules::Lenient)?;
-    for words in WORDS {
-        let mut image = image_of(alloc, words)?;
-        let masks = Masks {
-            traps: 0x1E,
-            sends: 3,
-            calls: 0xFF,
-        };
-        assert!(rt; table.used() < 32);
-        table.add(alloc, &mut image, masks, 7, 7, 5)?;
-    }
+    add_with(rt, alloc, &mut table, &[0xEE, 1, 2, 3, 4, 5, 6, 7, 8])?;
+    add_with(rt, alloc, &mut table, &[0xEE; 9])?;
     Ok(table)
 }
 
 /// Whether slot 1, which waits, has the message of slot 0: its source, and what stood after it.
 fn is_sent(rt: &impl Abort, table: &mut Table) -> bool {
-    make_trap(rt, table, 1, false, 0x7ACE);
-    make_trap(rt, table, 0, true, 1);
+    make_trap(rt, table, 1, Trap::Receive(ANY));
+    make_trap(rt, table, 0, Trap::Send(1));
     for (place, word) in (BUFFER..BUFFER + 36).step_by(4).zip(0..9u32) {
         if word_at(rt, table, 1, place) != word {
             return false;
@@ -81,26 +121,27 @@ fn is_sent(rt: &impl Abort, table: &mut Table) -> bool {
 
 /// Whether slot 0 is told slot 1's endpoint, in a reply over its request.
 fn is_told(rt: &impl Abort, table: &mut Table) -> bool {
-    make_call(rt, table, 0, &[0x607, 1, 0, 0, 0, 0]) == After::Reply(0)
-        && word_at(rt, table, 0, BUFFER) == 0xFFFF_FFFE
-        && word_at(rt, table, 0, BUFFER + 4) == 0
+    make_call(rt, table, 0, &[WHOIS, 1, 0, 0, 0, 0]) == After::Reply(OK)
+        && word_at(rt, table, 0, BUFFER) == SYSTEM
+        && word_at(rt, table, 0, BUFFER + 4) == OK
         && word_at(rt, table, 0, BUFFER + 8) == 1
 }
 
 /// What stands at a place after a copy, as if all bytes were read first.
 fn byte_after(copy: &Copied, at: u32) -> u8 {
-    if at >= copy.2 && at - copy.2 < copy.3 {
-        byte_before((at - copy.2).saturating_add(copy.1))
+    if at >= copy.to && at - copy.to < copy.count {
+        byte_before((at - copy.to).saturating_add(copy.from))
     } else {
         byte_before(at)
     }
 }
 
 fn is_copied(rt: &impl Abort, table: &mut Table, copy: &Copied) -> bool {
-    let words = [0x605, 0, copy.1, u32::from(copy.0), copy.2, copy.3];
-    assert!(rt; make_call(rt, table, 0, &words) == After::Reply(0));
-    assert!(rt; copy.0 < table.used());
-    let memory = &table.process(copy.0).image.memory;
+    let slot = u32::from(copy.slot);
+    let words = [VIRCOPY, 0, copy.from, slot, copy.to, copy.count];
+    assert!(rt; make_call(rt, table, 0, &words) == After::Reply(OK));
+    assert!(rt; copy.slot < table.used());
+    let memory = &table.process(copy.slot).image.memory;
     for at in 0..END {
         if memory.get(at) != Some(byte_after(copy, at)) {
             return false;
@@ -112,10 +153,11 @@ fn is_copied(rt: &impl Abort, table: &mut Table, copy: &Copied) -> bool {
 #[test]
 fn pages(rt: HostRuntime) -> Result<(), Fail> {
     for copy in COPIES {
+        let name = copy.name;
         let mut table = two_processes(&rt, rt.alloc())?;
-        assert!(rt; is_sent(&rt, &mut table));
-        assert!(rt; is_told(&rt, &mut table));
-        assert!(rt; is_copied(&rt, &mut table, copy), "from {}", copy.1);
+        assert!(rt; is_sent(&rt, &mut table), "{name}");
+        assert!(rt; is_told(&rt, &mut table), "{name}");
+        assert!(rt; is_copied(&rt, &mut table, copy), "{name}");
     }
     Ok(())
 }

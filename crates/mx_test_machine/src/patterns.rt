@@ -10,14 +10,16 @@ const LENGTH: u32 = 4096;
 
 /// The flags and the total of a file, and the digest of what is printed from each entry in turn.
 struct Row {
+    name: &'static str,
     flags: u8,
     total: u32,
     digest: [u8; 32],
 }
 
-/// With a text of its own, and with the text in the data. The digests are those of an independent model.
+/// The digests are those of an independent model.
 static ROWS: &[Row] = &[
     Row {
+        name: "a text of its own",
         flags: 0x30,
         total: LENGTH,
         digest: [
@@ -27,6 +29,7 @@ static ROWS: &[Row] = &[
         ],
     },
     Row {
+        name: "the text in the data",
         flags: 0x10,
         total: 2 * LENGTH,
         digest: [
@@ -65,8 +68,9 @@ fn digest_of(alloc: Global, row: &Row) -> Result<[u8; 32], Fail> {
 #[test]
 fn pattern_from_each_entry(rt: HostRuntime) -> Result<(), Fail> {
     for row in ROWS {
+        let name = row.name;
         let digest = digest_of(rt.alloc(), row)?;
-        assert!(rt; digest == row.digest, "flags {}", row.flags);
+        assert!(rt; digest == row.digest, "{name}");
     }
     Ok(())
 }

@@ -9,18 +9,25 @@ use std::test::Fail;
 
 /// A program's text and entry, how many steps are made, and what is printed.
 struct Row {
+    name: &'static str,
     text: &'static [u8],
     entry: u32,
     steps: u32,
     printed: &'static str,
 }
 
+/// A loop that is passed three times, and a trap.
 const COUNT: [u8; 15] = [
-    0xB9, 0x03, 0, 0, 0, 0x83, 0xC0, 0x05, 0x83, 0xE9, 0x01, 0x75, 0xF8, 0xCD, 0x21,
+    0xB9, 0x03, 0, 0, 0, // mov ecx, 0x3
+    0x83, 0xC0, 0x05, // add eax, 0x5
+    0x83, 0xE9, 0x01, // sub ecx, 0x1
+    0x75, 0xF8, // jnz 0x5
+    0xCD, 0x21, // int 0x21
 ];
 
 static ROWS: &[Row] = &[
     Row {
+        name: "mov eax, 0x5; add eax, 0x7b; int 0x21",
         text: &[0xB8, 0x05, 0, 0, 0, 0x83, 0xC0, 0x7B, 0xCD, 0x21],
         entry: 0,
         steps: 9,
@@ -30,6 +37,7 @@ static ROWS: &[Row] = &[
                   stop trap after 3\n",
     },
     Row {
+        name: "the loop to its end",
         text: &COUNT,
         entry: 0,
         steps: 99,
@@ -39,6 +47,7 @@ static ROWS: &[Row] = &[
                   stop trap after 11\n",
     },
     Row {
+        name: "five steps of the loop",
         text: &COUNT,
         entry: 0,
         steps: 5,
@@ -48,6 +57,7 @@ static ROWS: &[Row] = &[
                   stop spent after 5\n",
     },
     Row {
+        name: "no step of the loop",
         text: &COUNT,
         entry: 0,
         steps: 0,
@@ -57,6 +67,7 @@ static ROWS: &[Row] = &[
                   stop spent after 0\n",
     },
     Row {
+        name: "jnz 0x81, which is outside the text",
         text: &[0x75, 0x7F],
         entry: 0,
         steps: 9,
@@ -66,6 +77,7 @@ static ROWS: &[Row] = &[
                   stop fault 13 after 1\n",
     },
     Row {
+        name: "int 0x21, the entry is the text's end",
         text: &[0xCD, 0x21],
         entry: 2,
         steps: 1,
@@ -74,8 +86,8 @@ static ROWS: &[Row] = &[
                   EIP 00000002 CF 0 PF 0 AF 0 ZF 0 SF 0 DF 0 OF 0\n\
                   stop fault 13 after 1\n",
     },
-    // An entry far past the text.
     Row {
+        name: "int 0x21, the entry is far past the text",
         text: &[0xCD, 0x21],
         entry: u32::MAX,
         steps: 9,
@@ -93,24 +105,24 @@ fn is_printed(alloc: Global, file: &[u8], row: &Row) -> bool {
 
 #[test]
 fn steps(rt: HostRuntime) -> Result<(), Fail> {
-    for (number, row) in ROWS.iter().enumerate() {
+    for row in ROWS {
+        let name = row.name;
         let file = separate_file(rt.alloc(), row.text, row.entry)?;
-        assert!(rt;
-            is_printed(rt.alloc(), file.as_slice(), row),
-            "row {number}"
-        );
+        assert!(rt; is_printed(rt.alloc(), file.as_slice(), row), "{name}");
     }
     Ok(())
 }
 
 /// Words, and what they ask for.
 struct Line {
+    name: &'static str,
     words: &'static [&'static str],
     asked: Result<CommandRequest<'static>, ErrorKind>,
 }
 
 static LINES: &[Line] = &[
     Line {
+        name: "one with the most steps",
         words: &["mx", "one", "sum.out", "4294967295"],
         asked: Ok(CommandRequest::One {
             file: "sum.out",
@@ -118,6 +130,7 @@ static LINES: &[Line] = &[
         }),
     },
     Line {
+        name: "as",
         words: &["mx", "as", "a.s", "a.out"],
         asked: Ok(CommandRequest::As {
             text: "a.s",
@@ -125,6 +138,7 @@ static LINES: &[Line] = &[
         }),
     },
     Line {
+        name: "replay",
         words: &["mx", "replay", "pair", "log"],
         asked: Ok(CommandRequest::Replay {
             config: "pair",
@@ -132,6 +146,7 @@ static LINES: &[Line] = &[
         }),
     },
     Line {
+        name: "db",
         words: &["mx", "db", "pair", "look"],
         asked: Ok(CommandRequest::Db {
             config: "pair",
@@ -139,22 +154,27 @@ static LINES: &[Line] = &[
         }),
     },
     Line {
+        name: "one with one step more than the most",
         words: &["mx", "one", "sum.out", "4294967296"],
         asked: Err(ErrorKind::ValueValidation),
     },
     Line {
+        name: "step without a script",
         words: &["mx", "step", "pair"],
         asked: Err(ErrorKind::MissingRequiredArgument),
     },
     Line {
+        name: "a command that is not known",
         words: &["mx", "two", "sum.out", "9"],
         asked: Err(ErrorKind::InvalidSubcommand),
     },
     Line {
+        name: "no command",
         words: &["mx"],
         asked: Err(ErrorKind::MissingSubcommand),
     },
     Line {
+        name: "db --help",
         words: &["mx", "db", "--help"],
         asked: Err(ErrorKind::DisplayHelp),
     },
@@ -170,8 +190,9 @@ fn is_asked(alloc: Global, line: &Line) -> bool {
 
 #[test]
 fn words(rt: HostRuntime) -> Result<(), Fail> {
-    for (number, line) in LINES.iter().enumerate() {
-        assert!(rt; is_asked(rt.alloc(), line), "line {number}");
+    for line in LINES {
+        let name = line.name;
+        assert!(rt; is_asked(rt.alloc(), line), "{name}");
     }
     Ok(())
 }

@@ -3,20 +3,21 @@
 ghost use Rattle.std.specs.Prelude.{◌≡◌};
 ghost use Rattle.mx_proc.specs.States.{is_out};
 
+use crate::numbers::{ALL_SENDS, ALL_TRAPS};
 use crate::tables::{add_process, word_at};
 use mx_ipc::{receive, send, sendrec};
-use mx_proc::{DeathCause, Masks, Partner, Process, Rules, Slot, Source, State, Table};
+use mx_proc::{
+    ANY, DeathCause, Masks, Partner, Process, Rules, SYSTEM, Slot, Source, State, Table,
+};
 use mx_respawn::die;
 use mx_sched::{dequeue, enqueue, pick};
 use std::alloc::Global;
 use std::process::Abort;
 use std::test::Fail;
 
-const ANY: u32 = 0x7ACE;
-
 const MASKS: Masks = Masks {
-    traps: 0x1E,
-    sends: 0xFFFF_FFFF,
+    traps: ALL_TRAPS,
+    sends: ALL_SENDS,
     calls: 0,
 };
 
@@ -64,7 +65,7 @@ fn make_trap(rt: &impl Abort, table: &mut Table, slot: Slot, deed: Deed) {
         _ => ANY,
     };
     assert!(rt; slot < table.used());
-    assert!(rt; named != 0xFFFF_FFFE && table.process(slot).state.is_ready());
+    assert!(rt; named != SYSTEM && table.process(slot).state.is_ready());
     dequeue(table, slot);
     match deed {
         Deed::Send(_) => send(table, slot, named),
@@ -128,22 +129,52 @@ fn perform(rt: &impl Abort, table: &mut Table, slot: Slot, deed: Deed) {
 }
 
 /// Senders to slot 0 in their order, which of them is killed, and from whom slot 0 then receives.
-static KILLED: &[(&[Slot], Slot, &[u32])] = &[
-    (
-        &[
+struct Killed {
+    name: &'static str,
+    senders: &'static [Slot],
+    killed: Slot,
+    sources: &'static [u32],
+}
+
+static KILLED: &[Killed] = &[
+    Killed {
+        name: "one in the middle of 31",
+        senders: &[
             1, 2, 3, 4, 5, 6, 7, 8, 9, 10, 11, 12, 13, 14, 15, 16, 17, 18, 19, 20, 21, 22, 23, 24,
             25, 26, 27, 28, 29, 30, 31,
         ],
-        16,
-        &[
+        killed: 16,
+        sources: &[
             1, 2, 3, 4, 5, 6, 7, 8, 9, 10, 11, 12, 13, 14, 15, 17, 18, 19, 20, 21, 22, 23, 24, 25,
             26, 27, 28, 29, 30, 31,
         ],
-    ),
-    (&[5, 3, 9], 5, &[3, 9]),
-    (&[5, 3, 9], 9, &[5, 3]),
-    (&[4], 4, &[]),
+    },
+    Killed {
+        name: "the first of three",
+        senders: &[5, 3, 9],
+        killed: 5,
+        sources: &[3, 9],
+    },
+    Killed {
+        name: "the last of three",
+        senders: &[5, 3, 9],
+        killed: 9,
+        sources: &[5, 3],
+    },
+    Killed {
+        name: "the only one",
+        senders: &[4],
+        killed: 4,
+        sources: &[],
+    },
 ];
+
+/// These slots send to slot 0, one after the other.
+fn send_in_turn(rt: &impl Abort, table: &mut Table, senders: &[Slot]) {
+    for slot in senders {
+        make_trap(rt, table, *slot, Deed::Send(0));
+    }
+}
 
 /// Whether slot 0 receives from these in turn, and then waits.
 fn receives(rt: &impl Abort, table: &mut Table, sources: &[u32]) -> bool {
@@ -160,13 +191,12 @@ fn receives(rt: &impl Abort, table: &mut Table, sources: &[u32]) -> bool {
 
 #[test]
 fn killed_callers(rt: HostRuntime) -> Result<(), Fail> {
-    for (number, row) in KILLED.iter().enumerate() {
+    for row in KILLED {
+        let name = row.name;
         let mut table = services(&rt, rt.alloc())?;
-        for slot in row.0 {
-            make_trap(&rt, &mut table, *slot, Deed::Send(0));
-        }
-        kill(&rt, &mut table, row.1);
-        assert!(rt; receives(&rt, &mut table, row.2), "row {number}");
+        send_in_turn(&rt, &mut table, row.senders);
+        kill(&rt, &mut table, row.killed);
+        assert!(rt; receives(&rt, &mut table, row.sources), "{name}");
     }
     Ok(())
 }
@@ -334,19 +364,20 @@ impl Plain {
         Ok(())
     }
 
-    /// SEND or SENDREC: refused to a dead process and where it would lock, else it delivers or waits.
-    fn send(&mut self, slot: Slot, to: Slot, asks: bool) -> Result<(), Fail> {
+    /// SEND or SENDREC: refused to a dead process and where it would lock, else it delivers or waits. The
+    /// state in which it waits, Sending or Calling, tells which of the two it is.
+    fn send(&mut self, slot: Slot, to: Slot, waiting: State) -> Result<(), Fail> {
         self.unqueue(slot);
         if self.state(to).is_down() || to == slot || self.leads(to, slot) {
             return self.go_on(slot);
         }
         if !self.accepts(to, slot) {
-            self.set_state(slot, if asks { State::Calling } else { State::Sending });
+            self.set_state(slot, waiting);
             self.waits.push((slot, to))?;
             return Ok(());
         }
         self.go_on(to)?;
-        if asks {
+        if waiting == State::Calling {
             return self.take_or_wait(slot, Some(to), State::Awaiting(to));
         }
         self.go_on(slot)
@@ -390,8 +421,8 @@ impl Plain {
 
     fn perform(&mut self, slot: Slot, deed: Deed) -> Result<(), Fail> {
         match deed {
-            Deed::Send(to) => self.send(slot, to, false),
-            Deed::Ask(to) => self.send(slot, to, true),
+            Deed::Send(to) => self.send(slot, to, State::Sending),
+            Deed::Ask(to) => self.send(slot, to, State::Calling),
             Deed::Receive(from) => self.receive(slot, from),
             Deed::Spend => self.spend(slot),
             Deed::Die => self.die(slot),

@@ -12,30 +12,86 @@ const BAD_RECORD: Failure = Failure::Misstated(BootError::BadRecord(2));
 
 const TRUNCATED: Failure = Failure::Refused(FileError::Truncated);
 
-/// A configuration and a script by name, and what is told.
-struct Row(&'static str, &'static str, Option<Failure>);
+/// A configuration and a script by the names of their files, and what is told of them.
+struct Row {
+    name: &'static str,
+    config: &'static str,
+    script: &'static str,
+    told: Option<Failure>,
+}
 
 static ROWS: &[Row] = &[
-    Row("nothing", "bad_script", Some(Failure::File)),
-    Row("no_text", "bad_script", Some(Failure::File)),
-    Row("bad", "nothing", Some(BAD_LINE)),
-    Row("cut_first", "nothing", Some(TRUNCATED)),
-    Row("none_first", "bad_script", Some(Failure::File)),
-    Row("cut_first", "bad_script", Some(TRUNCATED)),
-    Row("good_first", "nothing", Some(Failure::File)),
-    Row("good_first", "no_text", Some(Failure::File)),
-    Row("good_first", "bad_script", Some(BAD_RECORD)),
-    Row("good_first", "script", None),
+    Row {
+        name: "no configuration before a bad script",
+        config: "nothing",
+        script: "bad_script",
+        told: Some(Failure::File),
+    },
+    Row {
+        name: "a configuration that isn't UTF-8 before a bad script",
+        config: "no_text",
+        script: "bad_script",
+        told: Some(Failure::File),
+    },
+    Row {
+        name: "a bad configuration before no script",
+        config: "bad",
+        script: "nothing",
+        told: Some(BAD_LINE),
+    },
+    Row {
+        name: "a cut program before no program and no script",
+        config: "cut_first",
+        script: "nothing",
+        told: Some(TRUNCATED),
+    },
+    Row {
+        name: "no program before a cut program and a bad script",
+        config: "none_first",
+        script: "bad_script",
+        told: Some(Failure::File),
+    },
+    Row {
+        name: "a cut program before no program and a bad script",
+        config: "cut_first",
+        script: "bad_script",
+        told: Some(TRUNCATED),
+    },
+    Row {
+        name: "no script",
+        config: "good_first",
+        script: "nothing",
+        told: Some(Failure::File),
+    },
+    Row {
+        name: "a script that isn't UTF-8",
+        config: "good_first",
+        script: "no_text",
+        told: Some(Failure::File),
+    },
+    Row {
+        name: "a bad script",
+        config: "good_first",
+        script: "bad_script",
+        told: Some(BAD_RECORD),
+    },
+    Row {
+        name: "no fault",
+        config: "good_first",
+        script: "script",
+        told: None,
+    },
 ];
 
 fn told(alloc: Global, row: &Row) -> Option<Failure> {
-    start::<Script, _>(alloc, &mut reader(), row.0, row.1).err()
+    start::<Script, _>(alloc, &mut reader(), row.config, row.script).err()
 }
 
 #[test]
 fn first_faults(rt: HostRuntime) -> Result<(), Fail> {
-    for (number, row) in ROWS.iter().enumerate() {
-        assert!(rt; told(rt.alloc(), row) == row.2, "row {number}");
+    for row in ROWS {
+        let name = row.name;
+        assert!(rt; told(rt.alloc(), row) == row.told, "{name}");
     }
     Ok(())
 }

@@ -2,7 +2,7 @@
 
 use mx_exec::Image;
 use mx_mem::Segment;
-use mx_proc::{Masks, Slot, Table};
+use mx_proc::{Masks, Slot, Table, Terms};
 use mx_word::{Register, Size};
 use std::alloc::Global;
 use std::process::Abort;
@@ -30,7 +30,14 @@ pub(crate) fn add_process(
 ) -> Result<(), Fail> {
     let mut image = image_of(alloc)?;
     assert!(rt; table.used() < 32 && best <= 7);
-    table.add(alloc, &mut image, masks, 7, best, 5)?;
+    let terms = Terms {
+        masks,
+        level: 7,
+        best,
+        quantum: 5,
+        restarts: 0,
+    };
+    table.add(alloc, &mut image, terms)?;
     Ok(())
 }
 

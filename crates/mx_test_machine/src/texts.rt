@@ -1,5 +1,6 @@
 //! Configurations, scripts and histories, read and saved.
 
+use BootError::{BadLine, BadRecord, TooMany, TwiceNamed};
 use mx_boot::{BootError, Config, Over, ScriptLine, config, debug_script, log, script};
 use mx_boot_history::{history_again, one_history, one_text, save_history};
 use mx_boot_script::{number_again, verb_again, words_again};
@@ -10,127 +11,194 @@ use std::io::Write;
 use std::process::Abort;
 use std::test::Fail;
 
-/// A configuration, and what is told.
-struct Setup(&'static str, Option<BootError>);
+/// A configuration, and what is told of it.
+struct Setup {
+    name: &'static str,
+    text: &'static str,
+    fault: Option<BootError>,
+}
 
 static SETUPS: &[Setup] = &[
-    Setup("", Some(BootError::BadLine(1))),
-    Setup("cpus 1\n# x\n", Some(BootError::BadLine(2))),
-    Setup(
-        "service a a.out traps 1e send 0 calls ff level 7 best 5 quantum 5 restarts 1\n",
-        None,
-    ),
-    Setup(
-        "  service   a a.out traps 1e send 0 calls ff level 7 best 5 quantum 5 restarts 1#x\r\n\n\
+    Setup {
+        name: "an empty text",
+        text: "",
+        fault: Some(BadLine(1)),
+    },
+    Setup {
+        name: "no service",
+        text: "cpus 1\n# x\n",
+        fault: Some(BadLine(2)),
+    },
+    Setup {
+        name: "one service",
+        text: "service a a.out traps 1e send 0 calls ff level 7 best 5 quantum 5 restarts 1\n",
+        fault: None,
+    },
+    Setup {
+        name: "blanks, comments, a carriage return, a zero and the largest history",
+        text: "  service   a a.out traps 1e send 0 calls ff level 7 best 5 quantum 5 restarts 1#x\r\n\n\
          # x\ncpus 08\nlog 1048576",
-        None,
-    ),
-    Setup(
-        "service a a.out traps 1e send 0 calls ff level 7 best 5 quantum 5 restarts 1 1",
-        Some(BootError::BadLine(1)),
-    ),
-    Setup(
-        "service a a.out traps 1e send 0 calls ff level 7 best 5 quantum 5 restarts 1\r",
-        Some(BootError::BadLine(1)),
-    ),
-    Setup(
-        "service eax a.out traps 1e send 0 calls ff level 7 best 5 quantum 5 restarts 1",
-        Some(BootError::BadLine(1)),
-    ),
-    Setup(
-        "cpus 9\n\
+        fault: None,
+    },
+    Setup {
+        name: "a word too many",
+        text: "service a a.out traps 1e send 0 calls ff level 7 best 5 quantum 5 restarts 1 1",
+        fault: Some(BadLine(1)),
+    },
+    Setup {
+        name: "a carriage return without a line feed",
+        text: "service a a.out traps 1e send 0 calls ff level 7 best 5 quantum 5 restarts 1\r",
+        fault: Some(BadLine(1)),
+    },
+    Setup {
+        name: "a register's name",
+        text: "service eax a.out traps 1e send 0 calls ff level 7 best 5 quantum 5 restarts 1",
+        fault: Some(BadLine(1)),
+    },
+    Setup {
+        name: "nine processors",
+        text: "cpus 9\n\
          service a a.out traps 1e send 0 calls ff level 7 best 5 quantum 5 restarts 1",
-        Some(BootError::BadLine(1)),
-    ),
-    Setup(
-        "log 0\n\
+        fault: Some(BadLine(1)),
+    },
+    Setup {
+        name: "a history without room",
+        text: "log 0\n\
          service a a.out traps 1e send 0 calls ff level 7 best 5 quantum 5 restarts 1",
-        Some(BootError::BadLine(1)),
-    ),
-    // One over the limit, and best over level; then the limits themselves.
-    Setup(
-        "service a a.out traps 1e send 0 calls ff level 7 best 5 quantum 65536 restarts 1",
-        Some(BootError::BadLine(1)),
-    ),
-    Setup(
-        "# x\nservice a a.out traps 1e send 0 calls ff level 7 best 8 quantum 5 restarts 1",
-        Some(BootError::BadLine(2)),
-    ),
-    Setup(
-        "log 1048577\n\
+        fault: Some(BadLine(1)),
+    },
+    Setup {
+        name: "a quantum one over the limit",
+        text: "service a a.out traps 1e send 0 calls ff level 7 best 5 quantum 65536 restarts 1",
+        fault: Some(BadLine(1)),
+    },
+    Setup {
+        name: "best over level",
+        text: "# x\nservice a a.out traps 1e send 0 calls ff level 7 best 8 quantum 5 restarts 1",
+        fault: Some(BadLine(2)),
+    },
+    Setup {
+        name: "a history one over the limit",
+        text: "log 1048577\n\
          service a a.out traps 1e send 0 calls ff level 7 best 5 quantum 5 restarts 1",
-        Some(BootError::BadLine(1)),
-    ),
-    Setup(
-        "service a a.out traps 1e send 0 calls ff level 7 best 7 quantum 65535 restarts 1",
-        None,
-    ),
-    Setup(
-        "service a a.out traps 1e send 0 calls ff level 7 best 5 quantum 0 restarts 1",
-        Some(BootError::BadLine(1)),
-    ),
-    Setup(
-        "service a a.out traps 1e send 0 calls ff level 7 best 5 quantum 1 restarts 1",
-        None,
-    ),
-    Setup(
-        "service a a.out traps 1e send 0 calls ff level 15 best 5 quantum 5 restarts 1",
-        Some(BootError::BadLine(1)),
-    ),
-    Setup(
-        "service a a.out traps 1e send 0 calls ff level 14 best 0 quantum 5 restarts 0",
-        None,
-    ),
-    Setup(
-        "service a a.out traps 1e send 0 calls ff level 7 best 5 quantum 5 restarts 1048576",
-        Some(BootError::BadLine(1)),
-    ),
-    Setup(
-        "service a a.out traps 1e send 0 calls ff level 7 best 5 quantum 5 restarts 1048575",
-        None,
-    ),
-    Setup(
-        "service a a.out traps 00000001e send 0 calls ff level 7 best 5 quantum 5 restarts 1",
-        Some(BootError::BadLine(1)),
-    ),
-    Setup(
-        "service a a.out traps 0000001e send ffffffff calls 0 level 7 best 5 quantum 5 restarts 1",
-        None,
-    ),
-    Setup(
-        "service abcdefghi a.out traps 1e send 0 calls ff level 7 best 5 quantum 5 restarts 1",
-        Some(BootError::BadLine(1)),
-    ),
-    Setup(
-        "service abcdefgh a.out traps 1e send 0 calls ff level 7 best 5 quantum 5 restarts 1",
-        None,
-    ),
-    Setup("cpus 0", Some(BootError::BadLine(1))),
-    Setup("cpus 1\nothers 0", Some(BootError::BadLine(2))),
-    Setup(
-        "cpus 8\nothers 4\nlog 1\n\
+        fault: Some(BadLine(1)),
+    },
+    Setup {
+        name: "the largest quantum, and best at level",
+        text: "service a a.out traps 1e send 0 calls ff level 7 best 7 quantum 65535 restarts 1",
+        fault: None,
+    },
+    Setup {
+        name: "a quantum of 0",
+        text: "service a a.out traps 1e send 0 calls ff level 7 best 5 quantum 0 restarts 1",
+        fault: Some(BadLine(1)),
+    },
+    Setup {
+        name: "the smallest quantum",
+        text: "service a a.out traps 1e send 0 calls ff level 7 best 5 quantum 1 restarts 1",
+        fault: None,
+    },
+    Setup {
+        name: "a level one over the limit",
+        text: "service a a.out traps 1e send 0 calls ff level 15 best 5 quantum 5 restarts 1",
+        fault: Some(BadLine(1)),
+    },
+    Setup {
+        name: "the limits of level and best, and no restarts",
+        text: "service a a.out traps 1e send 0 calls ff level 14 best 0 quantum 5 restarts 0",
+        fault: None,
+    },
+    Setup {
+        name: "restarts one over the limit",
+        text: "service a a.out traps 1e send 0 calls ff level 7 best 5 quantum 5 restarts 1048576",
+        fault: Some(BadLine(1)),
+    },
+    Setup {
+        name: "the most restarts",
+        text: "service a a.out traps 1e send 0 calls ff level 7 best 5 quantum 5 restarts 1048575",
+        fault: None,
+    },
+    Setup {
+        name: "a mask of nine digits",
+        text: "service a a.out traps 00000001e send 0 calls ff level 7 best 5 quantum 5 restarts 1",
+        fault: Some(BadLine(1)),
+    },
+    Setup {
+        name: "masks of eight digits",
+        text: "service a a.out traps 0000001e send ffffffff calls 0 level 7 best 5 quantum 5 restarts 1",
+        fault: None,
+    },
+    Setup {
+        name: "a name of nine letters",
+        text: "service abcdefghi a.out traps 1e send 0 calls ff level 7 best 5 quantum 5 restarts 1",
+        fault: Some(BadLine(1)),
+    },
+    Setup {
+        name: "a name of eight letters",
+        text: "service abcdefgh a.out traps 1e send 0 calls ff level 7 best 5 quantum 5 restarts 1",
+        fault: None,
+    },
+    Setup {
+        name: "no processors",
+        text: "cpus 0",
+        fault: Some(BadLine(1)),
+    },
+    Setup {
+        name: "no other actors",
+        text: "cpus 1\nothers 0",
+        fault: Some(BadLine(2)),
+    },
+    Setup {
+        name: "the most processors and other actors, and the smallest history",
+        text: "cpus 8\nothers 4\nlog 1\n\
          service a a.out traps 1e send 0 calls ff level 7 best 5 quantum 5 restarts 1",
-        None,
-    ),
-    Setup("cpus 1\ncpus 1", Some(BootError::TwiceNamed(2))),
-    Setup("others 2\nothers 5", Some(BootError::BadLine(2))),
-    Setup("rules 1\nrules 2", Some(BootError::TwiceNamed(2))),
-    Setup("rules 3", Some(BootError::BadLine(1))),
-    Setup("rules 0", Some(BootError::BadLine(1))),
-    Setup("rules", Some(BootError::BadLine(1))),
-    Setup(
-        "service a a.out traps 1e send 0 calls ff level 7 best 5 quantum 5 restarts 1\n\
+        fault: None,
+    },
+    Setup {
+        name: "cpus twice",
+        text: "cpus 1\ncpus 1",
+        fault: Some(TwiceNamed(2)),
+    },
+    Setup {
+        name: "others twice: that the second is over the limit is told",
+        text: "others 2\nothers 5",
+        fault: Some(BadLine(2)),
+    },
+    Setup {
+        name: "rules twice",
+        text: "rules 1\nrules 2",
+        fault: Some(TwiceNamed(2)),
+    },
+    Setup {
+        name: "rules 3",
+        text: "rules 3",
+        fault: Some(BadLine(1)),
+    },
+    Setup {
+        name: "rules 0",
+        text: "rules 0",
+        fault: Some(BadLine(1)),
+    },
+    Setup {
+        name: "rules without a number",
+        text: "rules",
+        fault: Some(BadLine(1)),
+    },
+    Setup {
+        name: "a service's name twice",
+        text: "service a a.out traps 1e send 0 calls ff level 7 best 5 quantum 5 restarts 1\n\
          service a a.out traps 1e send 0 calls ff level 7 best 5 quantum 5 restarts 1",
-        Some(BootError::TwiceNamed(2)),
-    ),
-    Setup(
-        "service a a.out traps 1e send 0 calls ff level 7 best 5 quantum 5 restarts 1\n\
+        fault: Some(TwiceNamed(2)),
+    },
+    Setup {
+        name: "two services of one file",
+        text: "service a a.out traps 1e send 0 calls ff level 7 best 5 quantum 5 restarts 1\n\
          service b a.out traps 1e send 0 calls ff level 7 best 5 quantum 5 restarts 1",
-        None,
-    ),
-    // The 33rd service.
-    Setup(
-        "service n0 a.out traps 1e send 0 calls ff level 7 best 5 quantum 5 restarts 1\n\
+        fault: None,
+    },
+    Setup {
+        name: "33 services",
+        text: "service n0 a.out traps 1e send 0 calls ff level 7 best 5 quantum 5 restarts 1\n\
          service n1 a.out traps 1e send 0 calls ff level 7 best 5 quantum 5 restarts 1\n\
          service n2 a.out traps 1e send 0 calls ff level 7 best 5 quantum 5 restarts 1\n\
          service n3 a.out traps 1e send 0 calls ff level 7 best 5 quantum 5 restarts 1\n\
@@ -163,8 +231,8 @@ static SETUPS: &[Setup] = &[
          service n30 a.out traps 1e send 0 calls ff level 7 best 5 quantum 5 restarts 1\n\
          service n31 a.out traps 1e send 0 calls ff level 7 best 5 quantum 5 restarts 1\n\
          service n32 a.out traps 1e send 0 calls ff level 7 best 5 quantum 5 restarts 1\n",
-        Some(BootError::TooMany(33)),
-    ),
+        fault: Some(TooMany(33)),
+    },
 ];
 
 const WHOLE: &str = "\
@@ -176,10 +244,11 @@ service drv drv.out traps 1E send 2 calls 0 level 4 best 3 quantum 20 restarts 9
 fn is_whole(found: &Config) -> bool {
     match found.lines.as_slice() {
         [line] => {
-            let masks = line.masks;
+            let terms = line.terms;
+            let masks = terms.masks;
             line.file.as_str() == "drv.out"
                 && (masks.traps, masks.sends, masks.calls) == (0x1E, 2, 0)
-                && (line.level, line.best, line.quantum, line.restarts) == (4, 3, 20, 9)
+                && (terms.level, terms.best, terms.quantum, terms.restarts) == (4, 3, 20, 9)
                 && (found.cpus, found.others, found.log) == (2, 1, 64)
         }
         _ => false,
@@ -199,86 +268,235 @@ fn fault_of(alloc: Global, text: &str) -> Option<BootError> {
 
 #[test]
 fn configurations(rt: HostRuntime) -> Result<(), Fail> {
-    for (number, setup) in SETUPS.iter().enumerate() {
-        assert!(rt; fault_of(rt.alloc(), setup.0) == setup.1, "setup {number}");
+    for setup in SETUPS {
+        let name = setup.name;
+        assert!(rt; fault_of(rt.alloc(), setup.text) == setup.fault, "{name}");
     }
     assert!(rt; is_read_whole(rt.alloc()));
-    let line = format!(in rt.alloc(); "{}", BootError::TooMany(33))?;
+    let line = format!(in rt.alloc(); "{}", TooMany(33))?;
     assert!(rt; line.as_str() == "72 TooMany line 33");
     Ok(())
 }
 
-/// What is told of a text: how many lines it has, or the line at fault.
-fn told<T: Drop>(read: Result<Vec<T>, BootError>) -> Result<usize, (u8, usize)> {
+/// A text, and what is told of it: how many lines or records it has, or the fault.
+struct Text {
+    name: &'static str,
+    text: &'static str,
+    told: Result<usize, BootError>,
+}
+
+static SCRIPTS: &[Text] = &[
+    Text {
+        name: "an empty line",
+        text: "tick\n\ntick\n",
+        told: Err(BadRecord(2)),
+    },
+    Text {
+        name: "no such event",
+        text: "tick\nfoo",
+        told: Err(BadRecord(2)),
+    },
+    Text {
+        name: "a number too few",
+        text: "step 0",
+        told: Err(BadRecord(1)),
+    },
+    Text {
+        name: "a number too many",
+        text: "step 0 0 0",
+        told: Err(BadRecord(1)),
+    },
+    Text {
+        name: "a processor over the limit",
+        text: "take 256",
+        told: Err(BadRecord(1)),
+    },
+    Text {
+        name: "a hexadecimal number",
+        text: "take 0x0",
+        told: Err(BadRecord(1)),
+    },
+    Text {
+        name: "an endpoint over the limit",
+        text: "kill 2147483648",
+        told: Err(BadRecord(1)),
+    },
+    Text {
+        name: "a comment",
+        text: "tick # c",
+        told: Err(BadRecord(1)),
+    },
+    Text {
+        name: "a carriage return",
+        text: "tick\r\n",
+        told: Err(BadRecord(1)),
+    },
+    Text {
+        name: "a debugger's command",
+        text: "messages",
+        told: Err(BadRecord(1)),
+    },
+    Text {
+        name: "blanks, zeros and the largest numbers",
+        text: "step 255 2147483647\n  take   0  \ntake 9\nback 00\nline 16\nkill 31438\nrespawn 32",
+        told: Ok(7),
+    },
+];
+
+static DEBUG_SCRIPTS: &[Text] = &[
+    Text {
+        name: "each command, and an event",
+        text: "break 0 top\nbreak 0 +5\nbreak 0 01\nclear 0 abcdefghijk\ngo 0 9\nregs 1\n\
+         mem 0 4096 0\nmessages\ntick\n",
+        told: Ok(9),
+    },
+    Text {
+        name: "a number too few",
+        text: "mem 0 0",
+        told: Err(BadRecord(1)),
+    },
+    Text {
+        name: "a hexadecimal address",
+        text: "break 0 0x5",
+        told: Err(BadRecord(1)),
+    },
+    Text {
+        name: "a slot over the limit",
+        text: "break 2147483648 top",
+        told: Err(BadRecord(1)),
+    },
+    Text {
+        name: "a processor over the limit",
+        text: "go 256 1",
+        told: Err(BadRecord(1)),
+    },
+    Text {
+        name: "a number too many",
+        text: "messages 1",
+        told: Err(BadRecord(1)),
+    },
+];
+
+/// The line of the rules counts as a line, and is no record.
+static HISTORIES: &[Text] = &[
+    Text {
+        name: "an empty text",
+        text: "",
+        told: Ok(0),
+    },
+    Text {
+        name: "two records",
+        text: "0 take\n0 back 3\n",
+        told: Ok(2),
+    },
+    Text {
+        name: "blanks and a zero",
+        text: "  0   tick  \n01 kill 5\n",
+        told: Ok(2),
+    },
+    Text {
+        name: "the last line has no end",
+        text: "0 take\n0 back 3",
+        told: Err(BadRecord(2)),
+    },
+    Text {
+        name: "an actor out of range",
+        text: "2 tick\n",
+        told: Err(BadRecord(1)),
+    },
+    Text {
+        name: "no actor",
+        text: "tick\n",
+        told: Err(BadRecord(1)),
+    },
+    Text {
+        name: "a number too many",
+        text: "0 take 1\n",
+        told: Err(BadRecord(1)),
+    },
+    Text {
+        name: "a step",
+        text: "0 step 1\n",
+        told: Err(BadRecord(1)),
+    },
+    Text {
+        name: "an empty line",
+        text: "0 tick\n\n",
+        told: Err(BadRecord(2)),
+    },
+    Text {
+        name: "a carriage return",
+        text: "0 tick\r\n",
+        told: Err(BadRecord(1)),
+    },
+    Text {
+        name: "the line of the rules alone",
+        text: "rules 2\n",
+        told: Ok(0),
+    },
+    Text {
+        name: "the line of the rules and two records",
+        text: "rules 2\n0 take\n0 back 3\n",
+        told: Ok(2),
+    },
+    Text {
+        name: "blanks in the line of the rules",
+        text: "  rules   2 \n0 tick\n",
+        told: Ok(1),
+    },
+    Text {
+        name: "the line of the rules has no end",
+        text: "rules 2",
+        told: Err(BadRecord(1)),
+    },
+    Text {
+        name: "an actor out of range, after the line of the rules",
+        text: "rules 2\n2 tick\n",
+        told: Err(BadRecord(2)),
+    },
+    Text {
+        name: "the last line has no end, after the line of the rules",
+        text: "rules 2\n0 tick\n0 tick",
+        told: Err(BadRecord(3)),
+    },
+    Text {
+        name: "rules after a record",
+        text: "0 tick\nrules 2\n",
+        told: Err(BadRecord(2)),
+    },
+    Text {
+        name: "rules twice",
+        text: "rules 2\nrules 2\n",
+        told: Err(BadRecord(2)),
+    },
+    Text {
+        name: "rules 1",
+        text: "rules 1\n",
+        told: Err(BadRecord(1)),
+    },
+    Text {
+        name: "rules 3",
+        text: "rules 3\n",
+        told: Err(BadRecord(1)),
+    },
+    Text {
+        name: "rules with a number too many",
+        text: "rules 2 2\n",
+        told: Err(BadRecord(1)),
+    },
+    Text {
+        name: "rules without a number",
+        text: "rules\n",
+        told: Err(BadRecord(1)),
+    },
+];
+
+fn told<T: Drop>(read: Result<Vec<T>, BootError>) -> Result<usize, BootError> {
     match read {
         Ok(lines) => Ok(lines.len()),
-        Err(BootError::BadRecord(line)) => Err((73, line)),
-        Err(other) => Err((other.code(), 0)),
+        Err(fault) => Err(fault),
     }
 }
-
-enum Kind {
-    Script,
-    DebugScript,
-    History,
-}
-
-use Kind::{DebugScript, History, Script};
-
-/// A text, and what is told of it.
-struct Text(Kind, &'static str, Result<usize, (u8, usize)>);
-
-static TEXTS: &[Text] = &[
-    Text(Script, "tick\n\ntick\n", Err((73, 2))),
-    Text(Script, "tick\nfoo", Err((73, 2))),
-    Text(Script, "step 0", Err((73, 1))),
-    Text(Script, "step 0 0 0", Err((73, 1))),
-    Text(Script, "take 256", Err((73, 1))),
-    Text(Script, "take 0x0", Err((73, 1))),
-    Text(Script, "kill 2147483648", Err((73, 1))),
-    Text(Script, "tick # c", Err((73, 1))),
-    Text(Script, "tick\r\n", Err((73, 1))),
-    Text(Script, "messages", Err((73, 1))),
-    Text(
-        Script,
-        "step 255 2147483647\n  take   0  \ntake 9\nback 00\nline 16\nkill 31438\nrespawn 32",
-        Ok(7),
-    ),
-    Text(
-        DebugScript,
-        "break 0 top\nbreak 0 +5\nbreak 0 01\nclear 0 abcdefghijk\ngo 0 9\nregs 1\n\
-         mem 0 4096 0\nmessages\ntick\n",
-        Ok(9),
-    ),
-    Text(DebugScript, "mem 0 0", Err((73, 1))),
-    Text(DebugScript, "break 0 0x5", Err((73, 1))),
-    Text(DebugScript, "break 2147483648 top", Err((73, 1))),
-    Text(DebugScript, "go 256 1", Err((73, 1))),
-    Text(DebugScript, "messages 1", Err((73, 1))),
-    Text(History, "", Ok(0)),
-    Text(History, "0 take\n0 back 3\n", Ok(2)),
-    Text(History, "  0   tick  \n01 kill 5\n", Ok(2)),
-    Text(History, "0 take\n0 back 3", Err((73, 2))),
-    Text(History, "2 tick\n", Err((73, 1))),
-    Text(History, "tick\n", Err((73, 1))),
-    Text(History, "0 take 1\n", Err((73, 1))),
-    Text(History, "0 step 1\n", Err((73, 1))),
-    Text(History, "0 tick\n\n", Err((73, 2))),
-    Text(History, "0 tick\r\n", Err((73, 1))),
-    // The line of the rules counts, and is no record.
-    Text(History, "rules 2\n", Ok(0)),
-    Text(History, "rules 2\n0 take\n0 back 3\n", Ok(2)),
-    Text(History, "  rules   2 \n0 tick\n", Ok(1)),
-    Text(History, "rules 2", Err((73, 1))),
-    Text(History, "rules 2\n2 tick\n", Err((73, 2))),
-    Text(History, "rules 2\n0 tick\n0 tick", Err((73, 3))),
-    Text(History, "0 tick\nrules 2\n", Err((73, 2))),
-    Text(History, "rules 2\nrules 2\n", Err((73, 2))),
-    Text(History, "rules 1\n", Err((73, 1))),
-    Text(History, "rules 3\n", Err((73, 1))),
-    Text(History, "rules 2 2\n", Err((73, 1))),
-    Text(History, "rules\n", Err((73, 1))),
-];
 
 /// The records of a history.
 fn records_of(alloc: Global, text: &str, machine: &Config) -> Result<Vec<Record>, BootError> {
@@ -286,11 +504,27 @@ fn records_of(alloc: Global, text: &str, machine: &Config) -> Result<Vec<Record>
     Ok(records)
 }
 
-fn told_of(alloc: Global, machine: &Config, text: &Text) -> Result<usize, (u8, usize)> {
-    match text.0 {
-        Script => told(script(alloc, text.1)),
-        DebugScript => told(debug_script(alloc, text.1)),
-        History => told(records_of(alloc, text.1, machine)),
+fn read_scripts(rt: &impl Abort, alloc: Global) {
+    for row in SCRIPTS {
+        let name = row.name;
+        assert!(rt; told(script(alloc, row.text)) == row.told, "{name}");
+    }
+}
+
+fn read_debug_scripts(rt: &impl Abort, alloc: Global) {
+    for row in DEBUG_SCRIPTS {
+        let name = row.name;
+        assert!(rt; told(debug_script(alloc, row.text)) == row.told, "{name}");
+    }
+}
+
+fn read_histories(rt: &impl Abort, alloc: Global, machine: &Config) {
+    for row in HISTORIES {
+        let name = row.name;
+        assert!(rt;
+            told(records_of(alloc, row.text, machine)) == row.told,
+            "{name}"
+        );
     }
 }
 
@@ -378,34 +612,56 @@ rules 2
 ";
 
 /// By which rules a machine was booted, and what is saved of it.
-static BY_RULES: &[(Rules, &str)] = &[(Rules::Lenient, SAVED), (Rules::Strict, SAVED_STRICT)];
+struct Saved {
+    name: &'static str,
+    rules: Rules,
+    text: &'static str,
+}
+
+static SAVES: &[Saved] = &[
+    Saved {
+        name: "lenient rules",
+        rules: Rules::Lenient,
+        text: SAVED,
+    },
+    Saved {
+        name: "strict rules",
+        rules: Rules::Strict,
+        text: SAVED_STRICT,
+    },
+];
 
 /// Whether a writer that fails after that many bytes got just these of the text, or all if it has room.
-fn is_saved_to(alloc: Global, rules: Rules, text: &str, room: usize) -> bool {
+fn is_saved_to(alloc: Global, row: &Saved, room: usize) -> bool {
     let narrow = Narrow {
         bytes: Vec::new(alloc),
         room,
     };
     let mut sink = Over::new(narrow);
-    let is_whole = save_history(rules, RECORDS, &mut sink).is_ok();
-    let text = text.as_bytes();
+    let is_whole = save_history(row.rules, RECORDS, &mut sink).is_ok();
+    let text = row.text.as_bytes();
     let front = &text[..room.min(text.len())];
     is_whole == (room >= text.len()) && sink.into_writer().bytes.as_slice() == front
 }
 
-fn is_read_again(alloc: Global, machine: &Config, rules: Rules, text: &str) -> bool {
-    match log(alloc, text, machine) {
-        Ok((again, records)) => again == rules && records.as_slice() == RECORDS,
+fn is_read_again(alloc: Global, machine: &Config, row: &Saved) -> bool {
+    match log(alloc, row.text, machine) {
+        Ok((again, records)) => again == row.rules && records.as_slice() == RECORDS,
         Err(_) => false,
+    }
+}
+
+fn save_in_each_room(rt: &impl Abort, alloc: Global, row: &Saved) {
+    let name = row.name;
+    for room in 0..SAVED_STRICT.len() + 2 {
+        assert!(rt; is_saved_to(alloc, row, room), "{name}, room {room}");
     }
 }
 
 #[test]
 fn saves_histories(rt: HostRuntime) {
-    for (rules, text) in BY_RULES {
-        for room in 0..SAVED_STRICT.len() + 2 {
-            assert!(rt; is_saved_to(rt.alloc(), *rules, *text, room), "room {room}");
-        }
+    for row in SAVES {
+        save_in_each_room(&rt, rt.alloc(), row);
     }
 }
 
@@ -413,20 +669,21 @@ fn saves_histories(rt: HostRuntime) {
 const MACHINE: &str =
     "service a a.out traps 1e send 0 calls ff level 7 best 5 quantum 5 restarts 1";
 
-fn read_all(rt: &impl Abort, alloc: Global, machine: &Config) {
-    for (number, text) in TEXTS.iter().enumerate() {
-        assert!(rt; told_of(alloc, machine, text) == text.2, "text {number}");
-    }
-    assert!(rt; is_script_read(alloc));
-    for (rules, text) in BY_RULES {
-        assert!(rt; is_read_again(alloc, machine, *rules, *text));
+fn read_saves_again(rt: &impl Abort, alloc: Global, machine: &Config) {
+    for row in SAVES {
+        let name = row.name;
+        assert!(rt; is_read_again(alloc, machine, row), "{name}");
     }
 }
 
 #[test]
 fn scripts_and_histories(rt: HostRuntime) -> Result<(), Fail> {
     let machine = config(rt.alloc(), MACHINE)?;
-    read_all(&rt, rt.alloc(), &machine);
+    read_scripts(&rt, rt.alloc());
+    read_debug_scripts(&rt, rt.alloc());
+    read_histories(&rt, rt.alloc(), &machine);
+    assert!(rt; is_script_read(rt.alloc()));
+    read_saves_again(&rt, rt.alloc(), &machine);
     Ok(())
 }
 

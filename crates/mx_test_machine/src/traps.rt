@@ -1,37 +1,20 @@
 //! Traps worked by hand after the book's rules and our own.
 
+use crate::numbers::{
+    ALL_TRAPS, EBADSRCDST, ECALLDENIED, EDEADDST, EFAULT, ELOCKED, NOTIFY, NOTIFY_MESSAGE, OK,
+    RECEIVE, SEND, SENDREC,
+};
 use crate::tables::{LIMIT, add_process, has_words};
 use mx_ipc::{TrapAnswer, trap};
-use mx_proc::{Delivery, DeliveryKind, Masks, Partner, Rules, Slot, Source, Stale, State, Table};
+use mx_proc::{
+    ANY, Delivery, DeliveryKind, Endpoint, HARDWARE, Masks, Partner, Rules, SYSTEM, Slot, Source,
+    Stale, State, Table,
+};
 use mx_sched::{dequeue, enqueue, pick};
 use mx_word::{Register, Size, write_dword};
 use std::alloc::Global;
 use std::process::Abort;
 use std::test::Fail;
-
-const SEND: u32 = 1;
-
-const RECEIVE: u32 = 2;
-
-const SENDREC: u32 = 3;
-
-const NOTIFY: u32 = 4;
-
-const ANY: u32 = 0x7ACE;
-
-const HARDWARE: u32 = 0xFFFF_FFFF;
-
-const SYSTEM: u32 = 0xFFFF_FFFE;
-
-const BAD_ADDRESS: u32 = 0xFFFF_FFF2;
-
-const LOCKED: u32 = 0xFFFF_FF9B;
-
-const BAD_ENDPOINT: u32 = 0xFFFF_FF99;
-
-const DENIED: u32 = 0xFFFF_FF98;
-
-const DEAD: u32 = 0xFFFF_FF97;
 
 /// What is seen of a process: it goes on with a result, or doesn't.
 #[derive(Clone, Copy, PartialEq, Eq)]
@@ -42,170 +25,549 @@ enum Seen {
 
 use Seen::{Goes, Stays};
 
-/// A trap: its slot, call, name and buffer; what is then seen of its slot, and of another.
-struct Step(Slot, u32, u32, u32, Seen, Slot, Seen);
+/// A trap, and what is then seen of its slot and of another one.
+struct Step {
+    name: &'static str,
+    slot: Slot,
+    call: u32,
+    partner: Endpoint,
+    buffer: u32,
+    own: Seen,
+    /// Another slot, and what is seen of it.
+    other: Option<(Slot, Seen)>,
+}
+
+const STEP: Step = Step {
+    name: "",
+    slot: 0,
+    call: SEND,
+    partner: 0,
+    buffer: 0,
+    own: Goes(OK),
+    other: None,
+};
+
+/// Traps in turn, on a new table.
+struct Run {
+    name: &'static str,
+    steps: &'static [Step],
+}
 
 const WAITS: Seen = Stays(State::Receiving(Partner::Any));
 
 const SENDS: Seen = Stays(State::Sending);
 
-/// Traps in turn, each time on a new table.
-static RUNS: &[&[Step]] = &[
-    // Two that send to each other, one that sends to itself, and three in a ring.
-    &[
-        Step(0, SEND, 1, 0, SENDS, 1, Goes(0)),
-        Step(1, SEND, 0, 0, Goes(LOCKED), 0, SENDS),
-        Step(2, SEND, 2, 0, Goes(LOCKED), 2, Goes(LOCKED)),
-    ],
-    &[
-        Step(0, SEND, 1, 0, SENDS, 0, SENDS),
-        Step(1, SEND, 2, 0, SENDS, 0, SENDS),
-        Step(2, SEND, 0, 0, Goes(LOCKED), 1, SENDS),
-    ],
-    // Two notifications are one message.
-    &[
-        Step(0, NOTIFY, 1, 0, Goes(0), 1, Goes(0)),
-        Step(0, NOTIFY, 1, 0, Goes(0), 1, Goes(0)),
-        Step(1, RECEIVE, ANY, 0, Goes(0), 0, Goes(0)),
-        Step(1, RECEIVE, ANY, 0, WAITS, 0, Goes(0)),
-    ],
-    // A notification waits until a SENDREC has its reply.
-    &[
-        Step(1, RECEIVE, ANY, 0, WAITS, 0, Goes(0)),
-        Step(0, SENDREC, 1, 0, Stays(State::Awaiting(1)), 1, Goes(0)),
-        Step(2, NOTIFY, 0, 0, Goes(0), 0, Stays(State::Awaiting(1))),
-        Step(1, SEND, 0, 0, Goes(0), 0, Goes(0)),
-        Step(0, RECEIVE, 2, 0, Goes(0), 0, Goes(0)),
-    ],
-    // A SENDREC whose message is taken turns to receiving.
-    &[
-        Step(0, SENDREC, 1, 0, Stays(State::Calling), 1, Goes(0)),
-        Step(1, RECEIVE, ANY, 0, Goes(0), 0, Stays(State::Awaiting(1))),
-        Step(1, SEND, 0, 0, Goes(0), 0, Goes(0)),
-    ],
-    // The first caller comes first, and the partner that is named before it.
-    &[
-        Step(1, SEND, 0, 0, SENDS, 0, Goes(0)),
-        Step(2, SEND, 0, 0, SENDS, 0, Goes(0)),
-        Step(0, RECEIVE, ANY, 0, Goes(0), 1, Goes(0)),
-        Step(1, SEND, 0, 0, SENDS, 2, SENDS),
-        Step(0, RECEIVE, 1, 0, Goes(0), 2, SENDS),
-        Step(0, RECEIVE, ANY, 0, Goes(0), 2, Goes(0)),
-    ],
-    // Pseudo-processes, ANY and stale generations.
-    &[
-        Step(0, SEND, HARDWARE, 0, Goes(DENIED), 0, Goes(DENIED)),
-        Step(
-            0,
-            SENDREC,
-            HARDWARE,
-            0,
-            Goes(BAD_ENDPOINT),
-            0,
-            Goes(BAD_ENDPOINT),
-        ),
-        Step(0, SEND, ANY, 0, Goes(BAD_ENDPOINT), 0, Goes(BAD_ENDPOINT)),
-        Step(0, SEND, 5, 0, Goes(BAD_ENDPOINT), 0, Goes(BAD_ENDPOINT)),
-        Step(1, SEND, 1024, 0, Goes(DEAD), 1, Goes(DEAD)),
-        Step(1, RECEIVE, 1024, 0, Goes(DEAD), 1, Goes(DEAD)),
-        Step(0, 5, 1, 0, Goes(DENIED), 0, Goes(DENIED)),
-    ],
-    // A buffer one byte too far, and one just inside.
-    &[
-        Step(
-            0,
-            RECEIVE,
-            ANY,
-            LIMIT - 35,
-            Goes(BAD_ADDRESS),
-            0,
-            Goes(BAD_ADDRESS),
-        ),
-        Step(0, RECEIVE, ANY, LIMIT - 36, WAITS, 1, Goes(0)),
-    ],
-    // NOTIFY asks for no buffer, and RECEIVE for no bit of the send mask.
-    &[
-        Step(0, NOTIFY, 1, LIMIT, Goes(0), 0, Goes(0)),
-        Step(
-            4,
-            RECEIVE,
-            1,
-            0,
-            Stays(State::Receiving(Partner::Only(Source::Slot(1)))),
-            1,
-            Goes(0),
-        ),
-    ],
-    // A SENDREC to SYSTEM is left to the kernel, whatever the send mask says.
-    &[Step(4, SENDREC, SYSTEM, 0, Stays(State::Home), 0, Goes(0))],
-    // Calls that fail in two ways: the first check is told.
-    &[
-        Step(3, SEND, ANY, 0, Goes(DENIED), 3, Goes(DENIED)),
-        Step(0, SEND, SYSTEM, LIMIT, Goes(DENIED), 0, Goes(DENIED)),
-        Step(3, SEND, 0, LIMIT, Goes(DENIED), 3, Goes(DENIED)),
-        Step(3, SEND, 1024, 0, Goes(DENIED), 3, Goes(DENIED)),
-        Step(3, SEND, 3, 0, Goes(DENIED), 3, Goes(DENIED)),
-        Step(
-            0,
-            SEND,
-            ANY,
-            LIMIT,
-            Goes(BAD_ENDPOINT),
-            0,
-            Goes(BAD_ENDPOINT),
-        ),
-        Step(
-            0,
-            SEND,
-            1024 + 9,
-            0,
-            Goes(BAD_ENDPOINT),
-            0,
-            Goes(BAD_ENDPOINT),
-        ),
-        Step(4, SEND, 0, LIMIT, Goes(BAD_ADDRESS), 4, Goes(BAD_ADDRESS)),
-        Step(
-            0,
-            SEND,
-            1024 + 1,
-            LIMIT,
-            Goes(BAD_ADDRESS),
-            0,
-            Goes(BAD_ADDRESS),
-        ),
-        Step(0, SEND, 0, LIMIT, Goes(BAD_ADDRESS), 0, Goes(BAD_ADDRESS)),
-    ],
-    &[
-        Step(4, SEND, 1024, 0, Goes(DENIED), 4, Goes(DENIED)),
-        Step(4, SEND, 4, 0, Goes(DENIED), 4, Goes(DENIED)),
-        Step(0, SEND, 1024, 0, Goes(DEAD), 0, Goes(DEAD)),
-    ],
+static RUNS: &[Run] = &[
+    Run {
+        name: "two that send to each other, and one that sends to itself",
+        steps: &[
+            Step {
+                name: "slot 0 waits for slot 1",
+                slot: 0,
+                call: SEND,
+                partner: 1,
+                own: SENDS,
+                other: Some((1, Goes(OK))),
+                ..STEP
+            },
+            Step {
+                name: "slot 1 would lock with slot 0",
+                slot: 1,
+                call: SEND,
+                partner: 0,
+                own: Goes(ELOCKED),
+                other: Some((0, SENDS)),
+                ..STEP
+            },
+            Step {
+                name: "slot 2 would lock with itself",
+                slot: 2,
+                call: SEND,
+                partner: 2,
+                own: Goes(ELOCKED),
+                ..STEP
+            },
+        ],
+    },
+    Run {
+        name: "three that send in a ring",
+        steps: &[
+            Step {
+                name: "slot 0 waits for slot 1",
+                slot: 0,
+                call: SEND,
+                partner: 1,
+                own: SENDS,
+                ..STEP
+            },
+            Step {
+                name: "slot 1 waits for slot 2",
+                slot: 1,
+                call: SEND,
+                partner: 2,
+                own: SENDS,
+                other: Some((0, SENDS)),
+                ..STEP
+            },
+            Step {
+                name: "slot 2 would close the ring",
+                slot: 2,
+                call: SEND,
+                partner: 0,
+                own: Goes(ELOCKED),
+                other: Some((1, SENDS)),
+                ..STEP
+            },
+        ],
+    },
+    Run {
+        name: "two notifications are one message",
+        steps: &[
+            Step {
+                name: "the first notification",
+                slot: 0,
+                call: NOTIFY,
+                partner: 1,
+                own: Goes(OK),
+                other: Some((1, Goes(OK))),
+                ..STEP
+            },
+            Step {
+                name: "the second notification",
+                slot: 0,
+                call: NOTIFY,
+                partner: 1,
+                own: Goes(OK),
+                other: Some((1, Goes(OK))),
+                ..STEP
+            },
+            Step {
+                name: "slot 1 has one message",
+                slot: 1,
+                call: RECEIVE,
+                partner: ANY,
+                own: Goes(OK),
+                other: Some((0, Goes(OK))),
+                ..STEP
+            },
+            Step {
+                name: "slot 1 has no second message",
+                slot: 1,
+                call: RECEIVE,
+                partner: ANY,
+                own: WAITS,
+                other: Some((0, Goes(OK))),
+                ..STEP
+            },
+        ],
+    },
+    Run {
+        name: "a notification waits until a SENDREC has its reply",
+        steps: &[
+            Step {
+                name: "slot 1 waits for anybody",
+                slot: 1,
+                call: RECEIVE,
+                partner: ANY,
+                own: WAITS,
+                other: Some((0, Goes(OK))),
+                ..STEP
+            },
+            Step {
+                name: "slot 0 calls slot 1",
+                slot: 0,
+                call: SENDREC,
+                partner: 1,
+                own: Stays(State::Awaiting(1)),
+                other: Some((1, Goes(OK))),
+                ..STEP
+            },
+            Step {
+                name: "slot 2 notifies slot 0, which awaits its reply",
+                slot: 2,
+                call: NOTIFY,
+                partner: 0,
+                own: Goes(OK),
+                other: Some((0, Stays(State::Awaiting(1)))),
+                ..STEP
+            },
+            Step {
+                name: "slot 1 replies",
+                slot: 1,
+                call: SEND,
+                partner: 0,
+                own: Goes(OK),
+                other: Some((0, Goes(OK))),
+                ..STEP
+            },
+            Step {
+                name: "slot 0 has the notification",
+                slot: 0,
+                call: RECEIVE,
+                partner: 2,
+                own: Goes(OK),
+                ..STEP
+            },
+        ],
+    },
+    Run {
+        name: "a SENDREC whose message is taken turns to receiving",
+        steps: &[
+            Step {
+                name: "slot 0 calls slot 1, which does not receive",
+                slot: 0,
+                call: SENDREC,
+                partner: 1,
+                own: Stays(State::Calling),
+                other: Some((1, Goes(OK))),
+                ..STEP
+            },
+            Step {
+                name: "slot 1 takes the message",
+                slot: 1,
+                call: RECEIVE,
+                partner: ANY,
+                own: Goes(OK),
+                other: Some((0, Stays(State::Awaiting(1)))),
+                ..STEP
+            },
+            Step {
+                name: "slot 1 replies",
+                slot: 1,
+                call: SEND,
+                partner: 0,
+                own: Goes(OK),
+                other: Some((0, Goes(OK))),
+                ..STEP
+            },
+        ],
+    },
+    Run {
+        name: "the first caller comes first, and a partner that is named comes before it",
+        steps: &[
+            Step {
+                name: "slot 1 is the first caller",
+                slot: 1,
+                call: SEND,
+                partner: 0,
+                own: SENDS,
+                other: Some((0, Goes(OK))),
+                ..STEP
+            },
+            Step {
+                name: "slot 2 is the second caller",
+                slot: 2,
+                call: SEND,
+                partner: 0,
+                own: SENDS,
+                other: Some((0, Goes(OK))),
+                ..STEP
+            },
+            Step {
+                name: "the first caller's message is taken",
+                slot: 0,
+                call: RECEIVE,
+                partner: ANY,
+                own: Goes(OK),
+                other: Some((1, Goes(OK))),
+                ..STEP
+            },
+            Step {
+                name: "slot 1 waits now after slot 2",
+                slot: 1,
+                call: SEND,
+                partner: 0,
+                own: SENDS,
+                other: Some((2, SENDS)),
+                ..STEP
+            },
+            Step {
+                name: "slot 1 is named, so its message is taken",
+                slot: 0,
+                call: RECEIVE,
+                partner: 1,
+                own: Goes(OK),
+                other: Some((2, SENDS)),
+                ..STEP
+            },
+            Step {
+                name: "slot 2's message is taken",
+                slot: 0,
+                call: RECEIVE,
+                partner: ANY,
+                own: Goes(OK),
+                other: Some((2, Goes(OK))),
+                ..STEP
+            },
+        ],
+    },
+    Run {
+        name: "pseudo-processes, ANY, an unused slot, other generations and an unknown call",
+        steps: &[
+            Step {
+                name: "SEND to HARDWARE",
+                slot: 0,
+                call: SEND,
+                partner: HARDWARE,
+                own: Goes(ECALLDENIED),
+                ..STEP
+            },
+            Step {
+                name: "SENDREC to HARDWARE",
+                slot: 0,
+                call: SENDREC,
+                partner: HARDWARE,
+                own: Goes(EBADSRCDST),
+                ..STEP
+            },
+            Step {
+                name: "SEND to ANY",
+                slot: 0,
+                call: SEND,
+                partner: ANY,
+                own: Goes(EBADSRCDST),
+                ..STEP
+            },
+            Step {
+                name: "SEND to an unused slot",
+                slot: 0,
+                call: SEND,
+                partner: 5,
+                own: Goes(EBADSRCDST),
+                ..STEP
+            },
+            Step {
+                name: "SEND to another generation",
+                slot: 1,
+                call: SEND,
+                partner: 1024,
+                own: Goes(EDEADDST),
+                ..STEP
+            },
+            Step {
+                name: "RECEIVE from another generation",
+                slot: 1,
+                call: RECEIVE,
+                partner: 1024,
+                own: Goes(EDEADDST),
+                ..STEP
+            },
+            Step {
+                name: "call 5",
+                slot: 0,
+                call: 5,
+                partner: 1,
+                own: Goes(ECALLDENIED),
+                ..STEP
+            },
+        ],
+    },
+    Run {
+        name: "a buffer at the limit",
+        steps: &[
+            Step {
+                name: "one byte past the limit",
+                slot: 0,
+                call: RECEIVE,
+                partner: ANY,
+                buffer: LIMIT - 35,
+                own: Goes(EFAULT),
+                ..STEP
+            },
+            Step {
+                name: "up to the limit",
+                slot: 0,
+                call: RECEIVE,
+                partner: ANY,
+                buffer: LIMIT - 36,
+                own: WAITS,
+                other: Some((1, Goes(OK))),
+                ..STEP
+            },
+        ],
+    },
+    Run {
+        name: "checks that a trap does not need",
+        steps: &[
+            Step {
+                name: "NOTIFY needs no buffer",
+                slot: 0,
+                call: NOTIFY,
+                partner: 1,
+                buffer: LIMIT,
+                own: Goes(OK),
+                ..STEP
+            },
+            Step {
+                name: "RECEIVE needs no bit of the send mask",
+                slot: 4,
+                call: RECEIVE,
+                partner: 1,
+                own: Stays(State::Receiving(Partner::Only(Source::Slot(1)))),
+                other: Some((1, Goes(OK))),
+                ..STEP
+            },
+        ],
+    },
+    Run {
+        name: "a SENDREC to SYSTEM is left to the kernel",
+        steps: &[Step {
+            name: "the send mask is empty",
+            slot: 4,
+            call: SENDREC,
+            partner: SYSTEM,
+            own: Stays(State::Home),
+            other: Some((0, Goes(OK))),
+            ..STEP
+        }],
+    },
+    Run {
+        name: "traps that fail in two ways, the first check is told",
+        steps: &[
+            Step {
+                name: "no trap allowed, and SEND to ANY",
+                slot: 3,
+                call: SEND,
+                partner: ANY,
+                own: Goes(ECALLDENIED),
+                ..STEP
+            },
+            Step {
+                name: "SEND to SYSTEM, and a buffer at the limit",
+                slot: 0,
+                call: SEND,
+                partner: SYSTEM,
+                buffer: LIMIT,
+                own: Goes(ECALLDENIED),
+                ..STEP
+            },
+            Step {
+                name: "no trap allowed, and a buffer at the limit",
+                slot: 3,
+                call: SEND,
+                partner: 0,
+                buffer: LIMIT,
+                own: Goes(ECALLDENIED),
+                ..STEP
+            },
+            Step {
+                name: "no trap allowed, and another generation",
+                slot: 3,
+                call: SEND,
+                partner: 1024,
+                own: Goes(ECALLDENIED),
+                ..STEP
+            },
+            Step {
+                name: "no trap allowed, and SEND to itself",
+                slot: 3,
+                call: SEND,
+                partner: 3,
+                own: Goes(ECALLDENIED),
+                ..STEP
+            },
+            Step {
+                name: "SEND to ANY, and a buffer at the limit",
+                slot: 0,
+                call: SEND,
+                partner: ANY,
+                buffer: LIMIT,
+                own: Goes(EBADSRCDST),
+                ..STEP
+            },
+            Step {
+                name: "an unused slot, and another generation",
+                slot: 0,
+                call: SEND,
+                partner: 1024 + 9,
+                own: Goes(EBADSRCDST),
+                ..STEP
+            },
+            Step {
+                name: "no send allowed, and a buffer at the limit",
+                slot: 4,
+                call: SEND,
+                partner: 0,
+                buffer: LIMIT,
+                own: Goes(EFAULT),
+                ..STEP
+            },
+            Step {
+                name: "another generation, and a buffer at the limit",
+                slot: 0,
+                call: SEND,
+                partner: 1024 + 1,
+                buffer: LIMIT,
+                own: Goes(EFAULT),
+                ..STEP
+            },
+            Step {
+                name: "SEND to itself, and a buffer at the limit",
+                slot: 0,
+                call: SEND,
+                partner: 0,
+                buffer: LIMIT,
+                own: Goes(EFAULT),
+                ..STEP
+            },
+        ],
+    },
+    Run {
+        name: "traps that fail in two ways, with a right buffer",
+        steps: &[
+            Step {
+                name: "no send allowed, and another generation",
+                slot: 4,
+                call: SEND,
+                partner: 1024,
+                own: Goes(ECALLDENIED),
+                ..STEP
+            },
+            Step {
+                name: "no send allowed, and SEND to itself",
+                slot: 4,
+                call: SEND,
+                partner: 4,
+                own: Goes(ECALLDENIED),
+                ..STEP
+            },
+            Step {
+                name: "another generation of the sender itself",
+                slot: 0,
+                call: SEND,
+                partner: 1024,
+                own: Goes(EDEADDST),
+                ..STEP
+            },
+        ],
+    },
 ];
 
-/// The masks of traps and of sends of five processes: slot 3 may make no call, slot 4 may send to
-/// nobody.
-static MASKS: &[(u32, u32)] = &[
-    (0x1E, 0x1F),
-    (0x1E, 0x1F),
-    (0x1E, 0x1F),
-    (0, 0x1F),
-    (0x1E, 0),
+/// A process that may make all four traps, and send to each of the five.
+const FREE: Masks = Masks {
+    traps: ALL_TRAPS,
+    sends: 0x1F,
+    calls: 0,
+};
+
+/// The masks of five processes: slot 3 may make no call, slot 4 may send to nobody.
+static MASKS: &[Masks] = &[
+    FREE,
+    FREE,
+    FREE,
+    Masks { traps: 0, ..FREE },
+    Masks { sends: 0, ..FREE },
 ];
 
 fn five_processes(rt: &impl Abort, alloc: Global) -> Result<Table, Fail> {
     let mut table = Table::new(alloc, Rules::Lenient)?;
-    for (traps, sends) in MASKS {
-        let masks = Masks {
-            traps: *traps,
-            sends: *sends,
-            calls: 0,
-        };
-        add_process(rt, alloc, &mut table, masks, 5)?;
+    for masks in MASKS {
+        add_process(rt, alloc, &mut table, *masks, 5)?;
     }
     Ok(table)
 }
 
-/// A ready process makes a trap, with a message in its buffer.
+/// A ready process makes a trap by its ECX, EAX and EBX, with a message in its buffer.
 fn make_trap(
     rt: &impl Abort,
     table: &mut Table,
@@ -234,28 +596,38 @@ fn look_at(rt: &impl Abort, table: &Table, slot: Slot) -> Seen {
     }
 }
 
+/// Whether the other slot that a step names, if it names one, is then seen as it says.
+fn is_other_seen(rt: &impl Abort, table: &Table, step: &Step) -> bool {
+    match step.other {
+        Some((slot, seen)) => look_at(rt, table, slot) == seen,
+        None => true,
+    }
+}
+
 /// Whether a step's slot and the other are then seen as it says, and the answer says whether a call is
 /// left to the kernel.
 fn is_seen(rt: &impl Abort, table: &mut Table, step: &Step) -> bool {
-    let Step(slot, call, name, buffer, own, other, seen) = step;
-    let after = make_trap(rt, table, *slot, (*call, *name, *buffer), &[]);
-    let is_left = *own == Stays(State::Home);
-    look_at(rt, table, *slot) == *own
-        && look_at(rt, table, *other) == *seen
+    let words = (step.call, step.partner, step.buffer);
+    let after = make_trap(rt, table, step.slot, words, &[]);
+    let is_left = step.own == Stays(State::Home);
+    look_at(rt, table, step.slot) == step.own
+        && is_other_seen(rt, table, step)
         && (after == TrapAnswer::Kernel) == is_left
 }
 
-fn make_all(rt: &impl Abort, table: &mut Table, steps: &[Step]) {
-    for (number, step) in steps.iter().enumerate() {
-        assert!(rt; is_seen(rt, table, step), "step {number}");
+fn make_all(rt: &impl Abort, table: &mut Table, run: &Run) {
+    let run_name = run.name;
+    for step in run.steps {
+        let name = step.name;
+        assert!(rt; is_seen(rt, table, step), "{run_name}: {name}");
     }
 }
 
 #[test]
 fn traps(rt: HostRuntime) -> Result<(), Fail> {
-    for steps in RUNS {
+    for run in RUNS {
         let mut table = five_processes(&rt, rt.alloc())?;
-        make_all(&rt, &mut table, *steps);
+        make_all(&rt, &mut table, run);
     }
     Ok(())
 }
@@ -266,11 +638,11 @@ static MESSAGE: [u8; 36] = [
     0, 0, 4, 0, 0, 0, 5, 0, 0, 0x7F,
 ];
 
-/// What then stands in the buffer of slot 1, and what of a notification by slot 0.
-static DELIVERED: &[[u32; 9]] = &[
-    [2, 7, 9, 0xFF, 0x8000_0001, 2, 3, 4, 0x7F00_0005],
-    [0, 4096, 0, 0, 0, 0, 0, 0, 0],
-];
+/// What then stands in the buffer of slot 1.
+static DELIVERED: [u32; 9] = [2, 7, 9, 0xFF, 0x8000_0001, 2, 3, 4, 0x7F00_0005];
+
+/// What stands there after a notification by slot 0.
+static NOTIFIED: [u32; 9] = [0, NOTIFY_MESSAGE, 0, 0, 0, 0, 0, 0, 0];
 
 /// Whether a message or a notification to slot 1, which waits, stands at 512, both go on with 0, and
 /// the caller overtakes its partner.
@@ -285,8 +657,8 @@ fn is_delivered(
     make_trap(rt, table, sender, (call, 1, 0), &MESSAGE);
     pick(table) == Some(sender)
         && has_words(rt, table, 1, words)
-        && look_at(rt, table, sender) == Goes(0)
-        && look_at(rt, table, 1) == Goes(0)
+        && look_at(rt, table, sender) == Goes(OK)
+        && look_at(rt, table, 1) == Goes(OK)
 }
 
 /// Whether both deliveries are kept, and the receiver's endpoint is that of its generation alone.
@@ -300,7 +672,7 @@ fn are_kept(table: &Table) -> bool {
     let second = Delivery {
         from: 0,
         to: 1,
-        message_type: 4096,
+        message_type: NOTIFY_MESSAGE,
         kind: DeliveryKind::Notification,
     };
     table.delivery(0) == Some(first)
@@ -310,8 +682,8 @@ fn are_kept(table: &Table) -> bool {
 }
 
 fn are_delivered(rt: &impl Abort, table: &mut Table) -> bool {
-    is_delivered(rt, table, 2, SEND, &DELIVERED[0])
-        && is_delivered(rt, table, 0, NOTIFY, &DELIVERED[1])
+    is_delivered(rt, table, 2, SEND, &DELIVERED)
+        && is_delivered(rt, table, 0, NOTIFY, &NOTIFIED)
         && are_kept(table)
 }
 
@@ -352,25 +724,100 @@ fn last_deliveries(rt: HostRuntime) -> Result<(), Fail> {
     Ok(())
 }
 
-/// Slots that spend a quantum, one after the other, and the level that they come to.
-static LEVELS: &[(Slot, u8)] = &[
-    (1, 6),
-    (0, 6),
-    (0, 7),
-    (1, 5),
-    (0, 6),
-    (1, 5),
-    (1, 6),
-    (1, 7),
-    (1, 8),
-    (1, 9),
-    (1, 10),
-    (1, 11),
-    (1, 12),
-    (1, 13),
-    (1, 14),
-    (1, 14),
-    (0, 5),
+/// A slot that spends a quantum, and the level that it comes to. The rows follow one after the other, and
+/// each slot begins at level 7.
+struct Spent {
+    name: &'static str,
+    slot: Slot,
+    level: u8,
+}
+
+static LEVELS: &[Spent] = &[
+    Spent {
+        name: "slot 1 spends the first quantum",
+        slot: 1,
+        level: 6,
+    },
+    Spent {
+        name: "slot 0 after slot 1",
+        slot: 0,
+        level: 6,
+    },
+    Spent {
+        name: "slot 0 again",
+        slot: 0,
+        level: 7,
+    },
+    Spent {
+        name: "slot 1 after slot 0",
+        slot: 1,
+        level: 5,
+    },
+    Spent {
+        name: "slot 0 after slot 1, from level 7",
+        slot: 0,
+        level: 6,
+    },
+    Spent {
+        name: "slot 1 after slot 0, from the best level",
+        slot: 1,
+        level: 5,
+    },
+    Spent {
+        name: "slot 1 again, from level 5",
+        slot: 1,
+        level: 6,
+    },
+    Spent {
+        name: "slot 1 again, from level 6",
+        slot: 1,
+        level: 7,
+    },
+    Spent {
+        name: "slot 1 again, from level 7",
+        slot: 1,
+        level: 8,
+    },
+    Spent {
+        name: "slot 1 again, from level 8",
+        slot: 1,
+        level: 9,
+    },
+    Spent {
+        name: "slot 1 again, from level 9",
+        slot: 1,
+        level: 10,
+    },
+    Spent {
+        name: "slot 1 again, from level 10",
+        slot: 1,
+        level: 11,
+    },
+    Spent {
+        name: "slot 1 again, from level 11",
+        slot: 1,
+        level: 12,
+    },
+    Spent {
+        name: "slot 1 again, from level 12",
+        slot: 1,
+        level: 13,
+    },
+    Spent {
+        name: "slot 1 again, from level 13",
+        slot: 1,
+        level: 14,
+    },
+    Spent {
+        name: "slot 1 again, from the last level",
+        slot: 1,
+        level: 14,
+    },
+    Spent {
+        name: "slot 0 after slot 1, from level 6",
+        slot: 0,
+        level: 5,
+    },
 ];
 
 /// The level of a ready process after a whole quantum.
@@ -384,19 +831,19 @@ fn level_after(rt: &impl Abort, table: &mut Table, slot: Slot) -> u8 {
     table.process(slot).level
 }
 
-/// Whether each slot comes to its level, and slot 0 is picked then.
-fn come_to_levels(rt: &impl Abort, table: &mut Table) -> bool {
-    for (slot, level) in LEVELS {
-        if level_after(rt, table, *slot) != *level {
-            return false;
-        }
+/// Each slot comes to its level.
+fn come_to_levels(rt: &impl Abort, table: &mut Table) {
+    for row in LEVELS {
+        let name = row.name;
+        assert!(rt; level_after(rt, table, row.slot) == row.level, "{name}");
     }
-    pick(table) == Some(0)
 }
 
+/// Slot 0 is picked then.
 #[test]
 fn levels(rt: HostRuntime) -> Result<(), Fail> {
     let mut table = five_processes(&rt, rt.alloc())?;
-    assert!(rt; come_to_levels(&rt, &mut table));
+    come_to_levels(&rt, &mut table);
+    assert!(rt; pick(&table) == Some(0));
     Ok(())
 }

@@ -1,45 +1,54 @@
 //! Grants, and copies through windows, worked by hand.
 
 use crate::calls::{make_call, send_away};
+use crate::numbers::{
+    ALL_BUT_GRANT, ALL_CALLS, ALL_SENDS, ALL_TRAPS, EBADREQUEST, EBADSRCDST, ECALLDENIED, EDEADDST,
+    EFAULT, EINVAL, ENOTREADY, EPERM, EXIT, GRANT, OK, VIRCOPY,
+};
 use crate::tables::add_process;
 use mx_kcall::{After, window_allows};
-use mx_proc::{Access, Masks, Rules, Slot, Table, Window};
+use mx_proc::{ANY, Access, Endpoint, Masks, Rules, SYSTEM, Slot, Table, Window};
 use std::alloc::Global;
 use std::process::Abort;
 use std::test::Fail;
 
-const OK: u32 = 0;
+/// The access by which a grant closes the window.
+const CLOSE: u32 = 0;
 
-const EPERM: u32 = 0xFFFF_FFFF;
+/// The access of a window from which another may copy.
+const READ: u32 = 1;
 
-const EFAULT: u32 = 0xFFFF_FFF2;
+/// The access of a window into which another may copy.
+const WRITE: u32 = 2;
 
-const EINVAL: u32 = 0xFFFF_FFEA;
+/// The access of a window for both.
+const BOTH: u32 = 3;
 
-const EBADSRCDST: u32 = 0xFFFF_FF99;
-
-const ECALLDENIED: u32 = 0xFFFF_FF98;
-
-const EDEADDST: u32 = 0xFFFF_FF97;
-
-const ENOTREADY: u32 = 0xFFFF_FF96;
-
-const EBADREQUEST: u32 = 0xFFFF_FF95;
-
-/// Whose process opens a window of its memory, for which endpoint, from where on, how many bytes, and
-/// how it may be used.
+/// A grant: the owner opens a window of its memory for a user.
 #[derive(Clone, Copy)]
-struct Grant(Slot, u32, u32, u32, u32);
+struct Opening {
+    owner: Slot,
+    user: Endpoint,
+    place: u32,
+    count: u32,
+    access: u32,
+}
 
-/// What is copied: from which endpoint, its address, to which, its address, how many bytes.
+/// What is copied from one endpoint's memory to another's.
 #[derive(Clone, Copy)]
-struct Copied(u32, u32, u32, u32, u32);
+struct Copied {
+    source: Endpoint,
+    from: u32,
+    target: Endpoint,
+    to: u32,
+    count: u32,
+}
 
 /// A call of a slot after grants, which are all accepted, and its result. The limits are 4096, and the
 /// process of slot 3 is on a processor.
 struct Row {
     name: &'static str,
-    grants: &'static [Grant],
+    grants: &'static [Opening],
     caller: Slot,
     call: Call,
     result: u32,
@@ -47,300 +56,478 @@ struct Row {
 
 enum Call {
     Copies(Copied),
-    Grants(Grant),
+    Grants(Opening),
 }
 
 use Call::{Copies, Grants};
 
 /// Slot 1 lets slot 0 write 16 bytes at 256.
-const WRITTEN: Grant = Grant(1, 0, 256, 16, 2);
+const WRITTEN: Opening = Opening {
+    owner: 1,
+    user: 0,
+    place: 256,
+    count: 16,
+    access: WRITE,
+};
+
+/// Slot 1 closes what it opened for slot 0.
+const CLOSED: Opening = Opening {
+    place: 0,
+    count: 0,
+    access: CLOSE,
+    ..WRITTEN
+};
+
+/// Slot 1 lets slot 2 read 16 bytes at 256.
+const SOURCE: Opening = Opening {
+    user: 2,
+    access: READ,
+    ..WRITTEN
+};
+
+/// Slot 0 lets slot 2 write 16 bytes at 600.
+const TARGET: Opening = Opening {
+    owner: 0,
+    user: 2,
+    place: 600,
+    count: 16,
+    access: WRITE,
+};
+
+/// From slot 0 to the first 16 bytes at 256 of slot 1.
+const INTO: Copied = Copied {
+    source: 0,
+    from: 100,
+    target: 1,
+    to: 256,
+    count: 16,
+};
+
+/// From the first 16 bytes at 256 of slot 1 to slot 0.
+const OUT_OF: Copied = Copied {
+    source: 1,
+    from: 256,
+    target: 0,
+    to: 600,
+    count: 16,
+};
 
 static ROWS: &[Row] = &[
     Row {
         name: "the whole window",
         grants: &[WRITTEN],
         caller: 0,
-        call: Copies(Copied(0, 100, 1, 256, 16)),
+        call: Copies(INTO),
         result: OK,
     },
     Row {
         name: "a byte more than the window has",
         grants: &[WRITTEN],
         caller: 0,
-        call: Copies(Copied(0, 100, 1, 256, 17)),
+        call: Copies(Copied { count: 17, ..INTO }),
         result: EPERM,
     },
     Row {
         name: "a byte before the window",
         grants: &[WRITTEN],
         caller: 0,
-        call: Copies(Copied(0, 100, 1, 255, 1)),
+        call: Copies(Copied {
+            to: 255,
+            count: 1,
+            ..INTO
+        }),
         result: EPERM,
     },
     Row {
         name: "the last byte of the window and one more",
         grants: &[WRITTEN],
         caller: 0,
-        call: Copies(Copied(0, 100, 1, 271, 2)),
+        call: Copies(Copied {
+            to: 271,
+            count: 2,
+            ..INTO
+        }),
         result: EPERM,
     },
     Row {
         name: "from a window for writing",
         grants: &[WRITTEN],
         caller: 0,
-        call: Copies(Copied(1, 256, 0, 600, 16)),
+        call: Copies(OUT_OF),
         result: EPERM,
     },
     Row {
         name: "into a window for reading",
-        grants: &[Grant(1, 0, 256, 16, 1)],
+        grants: &[Opening {
+            access: READ,
+            ..WRITTEN
+        }],
         caller: 0,
-        call: Copies(Copied(0, 100, 1, 256, 16)),
+        call: Copies(INTO),
         result: EPERM,
     },
     Row {
         name: "from a window for reading",
-        grants: &[Grant(1, 0, 256, 16, 1)],
+        grants: &[Opening {
+            access: READ,
+            ..WRITTEN
+        }],
         caller: 0,
-        call: Copies(Copied(1, 256, 0, 600, 16)),
+        call: Copies(OUT_OF),
         result: OK,
     },
     Row {
         name: "into a window for both",
-        grants: &[Grant(1, 0, 256, 16, 3)],
+        grants: &[Opening {
+            access: BOTH,
+            ..WRITTEN
+        }],
         caller: 0,
-        call: Copies(Copied(0, 100, 1, 256, 16)),
+        call: Copies(INTO),
         result: OK,
     },
     Row {
         name: "from a window for both",
-        grants: &[Grant(1, 0, 256, 16, 3)],
+        grants: &[Opening {
+            access: BOTH,
+            ..WRITTEN
+        }],
         caller: 0,
-        call: Copies(Copied(1, 256, 0, 600, 16)),
+        call: Copies(OUT_OF),
         result: OK,
     },
     Row {
         name: "a window that was closed",
-        grants: &[WRITTEN, Grant(1, 0, 0, 0, 0)],
+        grants: &[WRITTEN, CLOSED],
         caller: 0,
-        call: Copies(Copied(0, 100, 1, 256, 16)),
+        call: Copies(INTO),
         result: EPERM,
     },
     Row {
         name: "a window that another one replaced",
-        grants: &[WRITTEN, Grant(1, 0, 1024, 8, 2)],
+        grants: &[
+            WRITTEN,
+            Opening {
+                place: 1024,
+                count: 8,
+                ..WRITTEN
+            },
+        ],
         caller: 0,
-        call: Copies(Copied(0, 100, 1, 256, 8)),
+        call: Copies(Copied { count: 8, ..INTO }),
         result: EPERM,
     },
     Row {
         name: "the window that replaced another one",
-        grants: &[WRITTEN, Grant(1, 0, 1024, 8, 2)],
+        grants: &[
+            WRITTEN,
+            Opening {
+                place: 1024,
+                count: 8,
+                ..WRITTEN
+            },
+        ],
         caller: 0,
-        call: Copies(Copied(0, 100, 1, 1024, 8)),
+        call: Copies(Copied {
+            to: 1024,
+            count: 8,
+            ..INTO
+        }),
         result: OK,
     },
     Row {
         name: "an access that a later grant took back",
-        grants: &[WRITTEN, Grant(1, 0, 256, 16, 1)],
+        grants: &[
+            WRITTEN,
+            Opening {
+                access: READ,
+                ..WRITTEN
+            },
+        ],
         caller: 0,
-        call: Copies(Copied(0, 100, 1, 256, 16)),
+        call: Copies(INTO),
         result: EPERM,
     },
     Row {
         name: "another's window",
         grants: &[WRITTEN],
         caller: 2,
-        call: Copies(Copied(2, 100, 1, 256, 16)),
+        call: Copies(Copied { source: 2, ..INTO }),
         result: EPERM,
     },
     Row {
         name: "no bytes at the window's end",
         grants: &[WRITTEN],
         caller: 0,
-        call: Copies(Copied(0, 100, 1, 272, 0)),
+        call: Copies(Copied {
+            to: 272,
+            count: 0,
+            ..INTO
+        }),
         result: OK,
     },
     Row {
         name: "no bytes past the window's end",
         grants: &[WRITTEN],
         caller: 0,
-        call: Copies(Copied(0, 100, 1, 273, 0)),
+        call: Copies(Copied {
+            to: 273,
+            count: 0,
+            ..INTO
+        }),
         result: EPERM,
     },
     Row {
         name: "no bytes without a window",
         grants: &[],
         caller: 0,
-        call: Copies(Copied(0, 100, 1, 256, 0)),
+        call: Copies(Copied { count: 0, ..INTO }),
         result: EPERM,
     },
     Row {
         name: "from one to another, with both windows",
-        grants: &[Grant(1, 2, 256, 16, 1), Grant(0, 2, 600, 16, 2)],
+        grants: &[SOURCE, TARGET],
         caller: 2,
-        call: Copies(Copied(1, 256, 0, 600, 16)),
+        call: Copies(OUT_OF),
         result: OK,
     },
     Row {
         name: "from one to another, with the source's window alone",
-        grants: &[Grant(1, 2, 256, 16, 1)],
+        grants: &[SOURCE],
         caller: 2,
-        call: Copies(Copied(1, 256, 0, 600, 16)),
+        call: Copies(OUT_OF),
         result: EPERM,
     },
     Row {
         name: "from one to another, with the destination's window alone",
-        grants: &[Grant(0, 2, 600, 16, 2)],
+        grants: &[TARGET],
         caller: 2,
-        call: Copies(Copied(1, 256, 0, 600, 16)),
+        call: Copies(OUT_OF),
         result: EPERM,
     },
     Row {
         name: "from one to another, with both windows the wrong way",
-        grants: &[Grant(1, 2, 256, 16, 2), Grant(0, 2, 600, 16, 1)],
+        grants: &[
+            Opening {
+                access: WRITE,
+                ..SOURCE
+            },
+            Opening {
+                access: READ,
+                ..TARGET
+            },
+        ],
         caller: 2,
-        call: Copies(Copied(1, 256, 0, 600, 16)),
+        call: Copies(OUT_OF),
         result: EPERM,
     },
     Row {
         name: "within one's own memory",
         grants: &[],
         caller: 0,
-        call: Copies(Copied(0, 100, 0, 200, 4)),
+        call: Copies(Copied {
+            target: 0,
+            to: 200,
+            count: 4,
+            ..INTO
+        }),
         result: OK,
     },
     Row {
         name: "past one's own limit, into a window",
         grants: &[WRITTEN],
         caller: 0,
-        call: Copies(Copied(0, 4090, 1, 256, 7)),
+        call: Copies(Copied {
+            from: 4090,
+            count: 7,
+            ..INTO
+        }),
         result: EFAULT,
     },
     Row {
         name: "past one's own limit, and without a window",
         grants: &[],
         caller: 0,
-        call: Copies(Copied(0, 4090, 1, 256, 7)),
+        call: Copies(Copied {
+            from: 4090,
+            count: 7,
+            ..INTO
+        }),
         result: EPERM,
     },
     Row {
         name: "past another's limit, and without a window",
         grants: &[],
         caller: 0,
-        call: Copies(Copied(1, 4096, 0, 256, 1)),
+        call: Copies(Copied {
+            from: 4096,
+            to: 256,
+            count: 1,
+            ..OUT_OF
+        }),
         result: EPERM,
     },
     Row {
         name: "who is on a processor, and has granted nothing",
         grants: &[],
         caller: 0,
-        call: Copies(Copied(0, 100, 3, 256, 4)),
+        call: Copies(Copied {
+            target: 3,
+            count: 4,
+            ..INTO
+        }),
         result: ENOTREADY,
     },
     Row {
         name: "a grant up to the limit",
         grants: &[],
         caller: 1,
-        call: Grants(Grant(1, 0, 4090, 6, 2)),
+        call: Grants(Opening {
+            place: 4090,
+            count: 6,
+            ..WRITTEN
+        }),
         result: OK,
     },
     Row {
         name: "a grant past the limit",
         grants: &[],
         caller: 1,
-        call: Grants(Grant(1, 0, 4090, 7, 2)),
+        call: Grants(Opening {
+            place: 4090,
+            count: 7,
+            ..WRITTEN
+        }),
         result: EFAULT,
     },
     Row {
         name: "a grant whose end wraps",
         grants: &[],
         caller: 1,
-        call: Grants(Grant(1, 0, 0xFFFF_FFFF, 2, 2)),
+        call: Grants(Opening {
+            place: 0xFFFF_FFFF,
+            count: 2,
+            ..WRITTEN
+        }),
         result: EFAULT,
     },
     Row {
         name: "a close past the limit",
         grants: &[],
         caller: 1,
-        call: Grants(Grant(1, 0, 4090, 7, 0)),
+        call: Grants(Opening {
+            place: 4090,
+            count: 7,
+            access: CLOSE,
+            ..WRITTEN
+        }),
         result: OK,
     },
     Row {
         name: "a grant for who is on a processor",
         grants: &[],
         caller: 1,
-        call: Grants(Grant(1, 3, 256, 16, 2)),
+        call: Grants(Opening { user: 3, ..WRITTEN }),
         result: OK,
     },
     Row {
         name: "access 4",
         grants: &[],
         caller: 1,
-        call: Grants(Grant(1, 0, 256, 16, 4)),
+        call: Grants(Opening {
+            access: 4,
+            ..WRITTEN
+        }),
         result: EINVAL,
     },
     Row {
         name: "access 4 for nobody",
         grants: &[],
         caller: 1,
-        call: Grants(Grant(1, 9, 256, 16, 4)),
+        call: Grants(Opening {
+            user: 9,
+            access: 4,
+            ..WRITTEN
+        }),
         result: EINVAL,
     },
     Row {
         name: "a grant to oneself",
         grants: &[],
         caller: 1,
-        call: Grants(Grant(1, 1, 256, 16, 2)),
+        call: Grants(Opening { user: 1, ..WRITTEN }),
         result: EINVAL,
     },
     Row {
         name: "a close for oneself",
         grants: &[],
         caller: 1,
-        call: Grants(Grant(1, 1, 0, 0, 0)),
+        call: Grants(Opening {
+            user: 1,
+            place: 0,
+            count: 0,
+            access: CLOSE,
+            ..WRITTEN
+        }),
         result: EINVAL,
     },
     Row {
         name: "a grant to another generation of oneself",
         grants: &[],
         caller: 1,
-        call: Grants(Grant(1, 1025, 256, 16, 2)),
+        call: Grants(Opening {
+            user: 1025,
+            ..WRITTEN
+        }),
         result: EDEADDST,
     },
     Row {
         name: "a grant to another generation",
         grants: &[],
         caller: 1,
-        call: Grants(Grant(1, 1024, 256, 16, 2)),
+        call: Grants(Opening {
+            user: 1024,
+            ..WRITTEN
+        }),
         result: EDEADDST,
     },
     Row {
         name: "a grant to another generation, past the limit",
         grants: &[],
         caller: 1,
-        call: Grants(Grant(1, 1024, 4090, 7, 2)),
+        call: Grants(Opening {
+            user: 1024,
+            place: 4090,
+            count: 7,
+            ..WRITTEN
+        }),
         result: EDEADDST,
     },
     Row {
         name: "a grant to a slot without a service",
         grants: &[],
         caller: 1,
-        call: Grants(Grant(1, 9, 256, 16, 2)),
+        call: Grants(Opening { user: 9, ..WRITTEN }),
         result: EBADSRCDST,
     },
     Row {
         name: "a grant to the kernel",
         grants: &[],
         caller: 1,
-        call: Grants(Grant(1, 0xFFFF_FFFE, 256, 16, 2)),
+        call: Grants(Opening {
+            user: SYSTEM,
+            ..WRITTEN
+        }),
         result: EBADSRCDST,
     },
     Row {
         name: "a grant to anybody",
         grants: &[],
         caller: 1,
-        call: Grants(Grant(1, 0x7ACE, 256, 16, 2)),
+        call: Grants(Opening {
+            user: ANY,
+            ..WRITTEN
+        }),
         result: EBADSRCDST,
     },
 ];
@@ -350,8 +537,8 @@ fn processes(rt: &impl Abort, alloc: Global, rules: Rules, calls: u32) -> Result
     let mut table = Table::new(alloc, rules)?;
     for _ in 0..4u8 {
         let masks = Masks {
-            traps: 0x1E,
-            sends: 0xFFFF_FFFF,
+            traps: ALL_TRAPS,
+            sends: ALL_SENDS,
             calls,
         };
         add_process(rt, alloc, &mut table, masks, 7)?;
@@ -367,12 +554,24 @@ fn result_of(rt: &impl Abort, table: &mut Table, slot: Slot, words: &[u32; 6]) -
     }
 }
 
-fn make_grant(rt: &impl Abort, table: &mut Table, grant: &Grant) -> Option<u32> {
-    let Grant(slot, endpoint, place, count, access) = *grant;
-    result_of(rt, table, slot, &[0x608, endpoint, place, count, access, 0])
+fn make_grant(rt: &impl Abort, table: &mut Table, grant: &Opening) -> Option<u32> {
+    let words = [GRANT, grant.user, grant.place, grant.count, grant.access, 0];
+    result_of(rt, table, grant.owner, &words)
 }
 
-fn are_granted(rt: &impl Abort, table: &mut Table, grants: &[Grant]) -> bool {
+fn make_copy(rt: &impl Abort, table: &mut Table, caller: Slot, copy: &Copied) -> Option<u32> {
+    let words = [
+        VIRCOPY,
+        copy.source,
+        copy.from,
+        copy.target,
+        copy.to,
+        copy.count,
+    ];
+    result_of(rt, table, caller, &words)
+}
+
+fn are_granted(rt: &impl Abort, table: &mut Table, grants: &[Opening]) -> bool {
     for one in grants {
         if make_grant(rt, table, one) != Some(OK) {
             return false;
@@ -383,10 +582,7 @@ fn are_granted(rt: &impl Abort, table: &mut Table, grants: &[Grant]) -> bool {
 
 fn is_answered(rt: &impl Abort, table: &mut Table, row: &Row) -> bool {
     let result = match &row.call {
-        Copies(copy) => {
-            let Copied(from, at, to, place, count) = *copy;
-            result_of(rt, table, row.caller, &[0x605, from, at, to, place, count])
-        }
+        Copies(copy) => make_copy(rt, table, row.caller, copy),
         Grants(one) => make_grant(rt, table, one),
     };
     result == Some(row.result)
@@ -395,31 +591,67 @@ fn is_answered(rt: &impl Abort, table: &mut Table, row: &Row) -> bool {
 #[test]
 fn copies_through_windows(rt: HostRuntime) -> Result<(), Fail> {
     for row in ROWS {
-        let mut table = processes(&rt, rt.alloc(), Rules::Strict, 0x1FF)?;
+        let name = row.name;
+        let mut table = processes(&rt, rt.alloc(), Rules::Strict, ALL_CALLS)?;
         send_away(&rt, &mut table, 3);
         let is_right = are_granted(&rt, &mut table, row.grants)
             && is_answered(&rt, &mut table, row);
-        assert!(rt; is_right, "{}", row.name);
+        assert!(rt; is_right, "{name}");
     }
     Ok(())
 }
 
-/// The rules, the mask of calls, and what comes of a grant, and of a copy without a window.
-static BY_RULES: &[(Rules, u32, u32, u32)] = &[
-    (Rules::Lenient, 0x1FF, EBADREQUEST, OK),
-    (Rules::Lenient, 0xFF, EBADREQUEST, OK),
-    (Rules::Strict, 0xFF, ECALLDENIED, EPERM),
-    (Rules::Strict, 0x1FF, OK, EPERM),
+/// The results of slot 1's grant to slot 0, and of slot 0's copy into slot 1 without a window, under some
+/// rules.
+struct RulesRow {
+    name: &'static str,
+    rules: Rules,
+    /// Which kernel calls each slot may make.
+    mask: u32,
+    granted: u32,
+    copied: u32,
+}
+
+static BY_RULES: &[RulesRow] = &[
+    RulesRow {
+        name: "lenient rules, GRANT is in the mask",
+        rules: Rules::Lenient,
+        mask: ALL_CALLS,
+        granted: EBADREQUEST,
+        copied: OK,
+    },
+    RulesRow {
+        name: "lenient rules, GRANT is not in the mask",
+        rules: Rules::Lenient,
+        mask: ALL_BUT_GRANT,
+        granted: EBADREQUEST,
+        copied: OK,
+    },
+    RulesRow {
+        name: "strict rules, GRANT is not in the mask",
+        rules: Rules::Strict,
+        mask: ALL_BUT_GRANT,
+        granted: ECALLDENIED,
+        copied: EPERM,
+    },
+    RulesRow {
+        name: "strict rules, GRANT is in the mask",
+        rules: Rules::Strict,
+        mask: ALL_CALLS,
+        granted: OK,
+        copied: EPERM,
+    },
 ];
 
 #[test]
 fn both_rules(rt: HostRuntime) -> Result<(), Fail> {
-    for (rules, calls, granted, copied) in BY_RULES {
-        let mut table = processes(&rt, rt.alloc(), *rules, *calls)?;
-        let copy = [0x605, 0, 100, 1, 256, 4];
-        let is_so = result_of(&rt, &mut table, 0, &copy) == Some(*copied)
-            && make_grant(&rt, &mut table, &WRITTEN) == Some(*granted);
-        assert!(rt; is_so, "mask {calls}");
+    for row in BY_RULES {
+        let name = row.name;
+        let mut table = processes(&rt, rt.alloc(), row.rules, row.mask)?;
+        let copy = Copied { count: 4, ..INTO };
+        let is_so = make_copy(&rt, &mut table, 0, &copy) == Some(row.copied)
+            && make_grant(&rt, &mut table, &WRITTEN) == Some(row.granted);
+        assert!(rt; is_so, "{name}");
     }
     Ok(())
 }
@@ -427,15 +659,33 @@ fn both_rules(rt: HostRuntime) -> Result<(), Fail> {
 /// A death clears the windows of who died and those that were opened for it, and no others.
 #[test]
 fn deaths_close_windows(rt: HostRuntime) -> Result<(), Fail> {
-    let mut table = processes(&rt, rt.alloc(), Rules::Strict, 0x1FF)?;
+    let mut table = processes(&rt, rt.alloc(), Rules::Strict, ALL_CALLS)?;
     let all = [
         WRITTEN,
-        Grant(1, 2, 0, 8, 1),
-        Grant(0, 1, 0, 8, 1),
-        Grant(2, 1, 0, 8, 3),
+        Opening {
+            user: 2,
+            place: 0,
+            count: 8,
+            access: READ,
+            ..WRITTEN
+        },
+        Opening {
+            owner: 0,
+            user: 1,
+            place: 0,
+            count: 8,
+            access: READ,
+        },
+        Opening {
+            owner: 2,
+            user: 1,
+            place: 0,
+            count: 8,
+            access: BOTH,
+        },
     ];
     assert!(rt; are_granted(&rt, &mut table, &all));
-    make_call(&rt, &mut table, 0, &[0x600, 0, 0, 0, 0, 0]);
+    make_call(&rt, &mut table, 0, &[EXIT, 0, 0, 0, 0, 0]);
     assert!(rt; table.used() == 4);
     assert!(rt; table.window(1, 0).is_none() && table.window(0, 1).is_none());
     assert!(rt; table.window(1, 2).is_some() && table.window(2, 1).is_some());

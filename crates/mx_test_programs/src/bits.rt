@@ -113,9 +113,9 @@ static STEPS: &[&str] = &[
 
 #[test]
 fn bits_of_a_processor(rt: HostRuntime) {
-    for (number, step) in STEPS.iter().enumerate() {
+    for step in STEPS {
         let mut out = Vec::new(rt.alloc());
         let ended = check_all(rt.alloc(), step.as_bytes(), &mut out);
-        assert!(rt; ended.is_ok_and(|tally| tally.wrong == 0), "step {number}");
+        assert!(rt; ended.is_ok_and(|tally| tally.wrong == 0), "{step}");
     }
 }

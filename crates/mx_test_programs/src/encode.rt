@@ -5,14 +5,21 @@ use mx_insn::{
     Arithmetic, Immediate, Index, Insn, Memory, Operand, Operands, Register, Scale, Size,
 };
 
-/// A MOV from memory to EAX, by base, index and displacement, an ADD to EAX, and a jump.
+/// A MOV from memory to EAX, an ADD to EAX, or a jump.
 enum Case {
-    Load(Option<Register>, Option<Index>, u32),
+    Load(Memory),
     Add(Immediate),
     Jump(u32),
 }
 
 use Case::{Add, Jump, Load};
+
+/// A place with no base and no index, at 0.
+const PLACE: Memory = Memory {
+    base: None,
+    index: None,
+    displacement: 0,
+};
 
 const BY_ESI: Option<Index> = Some(Index {
     register: Register::Esi,
@@ -24,58 +31,104 @@ const BY_ESP: Option<Index> = Some(Index {
     scale: Scale::Four,
 });
 
-/// An instruction, whether its numbers are wide, and its bytes, if it has a spelling.
-static CASES: &[(Case, bool, Option<&[u8]>)] = &[
-    (
-        Load(Some(Register::Ebp), None, 0),
-        false,
-        Some(b"\x8B\x45\x00"),
-    ),
-    (
-        Load(Some(Register::Esp), None, 0),
-        false,
-        Some(b"\x8B\x04\x24"),
-    ),
-    (
-        Load(None, BY_ESI, 8),
-        false,
-        Some(b"\x8B\x04\xB5\x08\x00\x00\x00"),
-    ),
-    (
-        Load(Some(Register::Ecx), None, 0),
-        true,
-        Some(b"\x8B\x81\x00\x00\x00\x00"),
-    ),
-    (
-        Add(Immediate::Dword(128)),
-        false,
-        Some(b"\x81\xC0\x80\x00\x00\x00"),
-    ),
-    (
-        Add(Immediate::Word(0xFFFF)),
-        false,
-        Some(b"\x66\x83\xC0\xFF"),
-    ),
-    (
-        Add(Immediate::Dword(0)),
-        true,
-        Some(b"\x81\xC0\x00\x00\x00\x00"),
-    ),
-    (Jump(0xFFFF_FFFE), false, Some(b"\xEB\xFE")),
-    (Load(None, BY_ESP, 0), false, None),
+const SHORTEST: Wide = Wide {
+    immediate: false,
+    displacement: false,
+};
+
+const WIDE: Wide = Wide {
+    immediate: true,
+    displacement: true,
+};
+
+/// An instruction, how wide its numbers are, and its bytes, if it has a spelling.
+struct Row {
+    name: &'static str,
+    case: Case,
+    wide: Wide,
+    bytes: Option<&'static [u8]>,
+}
+
+static ROWS: &[Row] = &[
+    Row {
+        name: "mov eax, dword [ebp]",
+        case: Load(Memory {
+            base: Some(Register::Ebp),
+            ..PLACE
+        }),
+        wide: SHORTEST,
+        bytes: Some(b"\x8B\x45\x00"),
+    },
+    Row {
+        name: "mov eax, dword [esp]",
+        case: Load(Memory {
+            base: Some(Register::Esp),
+            ..PLACE
+        }),
+        wide: SHORTEST,
+        bytes: Some(b"\x8B\x04\x24"),
+    },
+    Row {
+        name: "mov eax, dword [esi*4+0x8]",
+        case: Load(Memory {
+            index: BY_ESI,
+            displacement: 8,
+            ..PLACE
+        }),
+        wide: SHORTEST,
+        bytes: Some(b"\x8B\x04\xB5\x08\x00\x00\x00"),
+    },
+    Row {
+        name: "mov eax, dword [ecx], wide",
+        case: Load(Memory {
+            base: Some(Register::Ecx),
+            ..PLACE
+        }),
+        wide: WIDE,
+        bytes: Some(b"\x8B\x81\x00\x00\x00\x00"),
+    },
+    Row {
+        name: "add eax, 0x80",
+        case: Add(Immediate::Dword(128)),
+        wide: SHORTEST,
+        bytes: Some(b"\x81\xC0\x80\x00\x00\x00"),
+    },
+    Row {
+        name: "add ax, 0xffff",
+        case: Add(Immediate::Word(0xFFFF)),
+        wide: SHORTEST,
+        bytes: Some(b"\x66\x83\xC0\xFF"),
+    },
+    Row {
+        name: "add eax, 0x0, wide",
+        case: Add(Immediate::Dword(0)),
+        wide: WIDE,
+        bytes: Some(b"\x81\xC0\x00\x00\x00\x00"),
+    },
+    Row {
+        name: "jmp 0x0, to itself",
+        case: Jump(0xFFFF_FFFE),
+        wide: SHORTEST,
+        bytes: Some(b"\xEB\xFE"),
+    },
+    Row {
+        name: "mov eax, dword [esp*4], which has no spelling",
+        case: Load(Memory {
+            index: BY_ESP,
+            ..PLACE
+        }),
+        wide: SHORTEST,
+        bytes: None,
+    },
 ];
 
 fn insn_of(case: &Case) -> Insn {
     match *case {
-        Load(base, index, displacement) => {
+        Load(place) => {
             Insn::Move(Operands::ToRegister {
                 size: Size::Dword,
                 to: Register::Eax,
-                from: Operand::Memory(Memory {
-                    base,
-                    index,
-                    displacement,
-                }),
+                from: Operand::Memory(place),
             })
         }
         Add(value) => {
@@ -89,12 +142,8 @@ fn insn_of(case: &Case) -> Insn {
     }
 }
 
-fn is_spelled(insn: &Insn, mark: bool, bytes: Option<&[u8]>) -> bool {
-    let wide = Wide {
-        immediate: mark,
-        displacement: mark,
-    };
-    match (encode(insn, wide), bytes) {
+fn is_spelled(row: &Row) -> bool {
+    match (encode(&insn_of(&row.case), row.wide), row.bytes) {
         (Ok(found), Some(bytes)) => found.as_slice() == bytes,
         (Err(_), None) => true,
         _ => false,
@@ -103,7 +152,8 @@ fn is_spelled(insn: &Insn, mark: bool, bytes: Option<&[u8]>) -> bool {
 
 #[test]
 fn spellings(rt: HostRuntime) {
-    for (number, (case, mark, bytes)) in CASES.iter().enumerate() {
-        assert!(rt; is_spelled(&insn_of(case), *mark, *bytes), "case {number}");
+    for row in ROWS {
+        let name = row.name;
+        assert!(rt; is_spelled(row), "{name}");
     }
 }

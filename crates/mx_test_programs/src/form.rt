@@ -1,9 +1,9 @@
 //! Forms that a size decides.
 
 use mx_asm_form::{
-    Address, Argument, Mnemonic, Name, Prefix, Register, Single, Size, Value, repeated, stated,
+    Address, Argument, JumpLength, Mnemonic, Name, Prefix, Register, Single, Size, Value, repeated,
+    stated,
 };
-use mx_asm_statement::JumpLength;
 use mx_insn::{BitScan, BitTest, DoubleShift};
 
 const EAX: Argument = Argument::Register(Size::Dword, Register::Eax);
@@ -70,22 +70,102 @@ const LEAST_DWORD: Argument = Argument::Value(Value {
     ..ZERO
 });
 
+/// A mnemonic and its operands, and whether they have a form.
+struct Row {
+    name: &'static str,
+    mnemonic: Mnemonic,
+    arguments: &'static [Argument],
+    is_taken: bool,
+}
+
+const MOV: Mnemonic = Mnemonic::Single(Single::Mov);
+
 /// What MOV refuses, and what it takes.
-static MOVED: &[(&[Argument], bool)] = &[
-    (&[EAX, BL], false),
-    (&[EAX, BYTE_AT], false),
-    (&[AT, ONE], false),
-    (&[BL, PAST_BYTE], false),
-    (&[BL, BELOW_BYTE], false),
-    (&[BL, NAMED], false),
-    (&[ONE, EAX], false),
-    (&[EAX], false),
-    (&[EAX, AT], true),
-    (&[BYTE_AT, BL], true),
-    (&[BYTE_AT, LAST_BYTE], true),
-    (&[EAX, LEAST_DWORD], true),
-    (&[BL, LEAST_BYTE], true),
-    (&[EAX, NAMED], true),
+static MOVED: &[Row] = &[
+    Row {
+        name: "mov eax, bl",
+        mnemonic: MOV,
+        arguments: &[EAX, BL],
+        is_taken: false,
+    },
+    Row {
+        name: "mov eax, byte [ebx]",
+        mnemonic: MOV,
+        arguments: &[EAX, BYTE_AT],
+        is_taken: false,
+    },
+    Row {
+        name: "mov [ebx], 1",
+        mnemonic: MOV,
+        arguments: &[AT, ONE],
+        is_taken: false,
+    },
+    Row {
+        name: "mov bl, 256",
+        mnemonic: MOV,
+        arguments: &[BL, PAST_BYTE],
+        is_taken: false,
+    },
+    Row {
+        name: "mov bl, -129",
+        mnemonic: MOV,
+        arguments: &[BL, BELOW_BYTE],
+        is_taken: false,
+    },
+    Row {
+        name: "mov bl, l",
+        mnemonic: MOV,
+        arguments: &[BL, NAMED],
+        is_taken: false,
+    },
+    Row {
+        name: "mov 1, eax",
+        mnemonic: MOV,
+        arguments: &[ONE, EAX],
+        is_taken: false,
+    },
+    Row {
+        name: "mov eax",
+        mnemonic: MOV,
+        arguments: &[EAX],
+        is_taken: false,
+    },
+    Row {
+        name: "mov eax, [ebx]",
+        mnemonic: MOV,
+        arguments: &[EAX, AT],
+        is_taken: true,
+    },
+    Row {
+        name: "mov byte [ebx], bl",
+        mnemonic: MOV,
+        arguments: &[BYTE_AT, BL],
+        is_taken: true,
+    },
+    Row {
+        name: "mov byte [ebx], 255",
+        mnemonic: MOV,
+        arguments: &[BYTE_AT, LAST_BYTE],
+        is_taken: true,
+    },
+    Row {
+        name: "mov eax, -0x80000000",
+        mnemonic: MOV,
+        arguments: &[EAX, LEAST_DWORD],
+        is_taken: true,
+    },
+    Row {
+        name: "mov bl, -128",
+        mnemonic: MOV,
+        arguments: &[BL, LEAST_BYTE],
+        is_taken: true,
+    },
+    Row {
+        name: "mov eax, l",
+        mnemonic: MOV,
+        arguments: &[EAX, NAMED],
+        is_taken: true,
+    },
 ];
 
 const CX: Argument = Argument::Register(Size::Word, Register::Ecx);
@@ -103,34 +183,149 @@ const BSR: Mnemonic = Mnemonic::BitScan(BitScan::Bsr);
 const SHRD: Mnemonic = Mnemonic::DoubleShift(DoubleShift::Shrd);
 
 /// What bit tests, bit scans and double shifts refuse, and what they take.
-static BITS: &[(Mnemonic, &[Argument], bool)] = &[
-    (BTS, &[EAX, ECX], true),
-    (BTS, &[EAX, LAST_BYTE], true),
-    (BTS, &[EAX, PAST_BYTE], false),
-    (BTS, &[EAX, NAMED], false),
-    (BTS, &[EAX, CX], false),
-    (BTS, &[CX, ONE], false),
-    (BTS, &[DWORD_AT, ONE], true),
-    (BTS, &[AT, ONE], false),
-    (BTS, &[BYTE_AT, ONE], false),
-    (BTS, &[DWORD_AT, ECX], false),
-    (BTS, &[ONE, ECX], false),
-    (BSR, &[EAX, ECX], true),
-    (BSR, &[EAX, AT], true),
-    (BSR, &[EAX, BYTE_AT], false),
-    (BSR, &[CX, AT], false),
-    (BSR, &[EAX, ONE], false),
-    (SHRD, &[EAX, ECX, CL], true),
-    (SHRD, &[AT, ECX, LEAST_BYTE], true),
-    (SHRD, &[DWORD_AT, EAX, CL], true),
-    (SHRD, &[EAX, ECX, ECX], false),
-    (SHRD, &[EAX, CX, CL], false),
-    (SHRD, &[EAX, AT, CL], false),
-    (SHRD, &[EAX, ECX], false),
+static BITS: &[Row] = &[
+    Row {
+        name: "bts eax, ecx",
+        mnemonic: BTS,
+        arguments: &[EAX, ECX],
+        is_taken: true,
+    },
+    Row {
+        name: "bts eax, 255",
+        mnemonic: BTS,
+        arguments: &[EAX, LAST_BYTE],
+        is_taken: true,
+    },
+    Row {
+        name: "bts eax, 256",
+        mnemonic: BTS,
+        arguments: &[EAX, PAST_BYTE],
+        is_taken: false,
+    },
+    Row {
+        name: "bts eax, l",
+        mnemonic: BTS,
+        arguments: &[EAX, NAMED],
+        is_taken: false,
+    },
+    Row {
+        name: "bts eax, cx",
+        mnemonic: BTS,
+        arguments: &[EAX, CX],
+        is_taken: false,
+    },
+    Row {
+        name: "bts cx, 1",
+        mnemonic: BTS,
+        arguments: &[CX, ONE],
+        is_taken: false,
+    },
+    Row {
+        name: "bts dword [ebx], 1",
+        mnemonic: BTS,
+        arguments: &[DWORD_AT, ONE],
+        is_taken: true,
+    },
+    Row {
+        name: "bts [ebx], 1",
+        mnemonic: BTS,
+        arguments: &[AT, ONE],
+        is_taken: false,
+    },
+    Row {
+        name: "bts byte [ebx], 1",
+        mnemonic: BTS,
+        arguments: &[BYTE_AT, ONE],
+        is_taken: false,
+    },
+    Row {
+        name: "bts dword [ebx], ecx",
+        mnemonic: BTS,
+        arguments: &[DWORD_AT, ECX],
+        is_taken: false,
+    },
+    Row {
+        name: "bts 1, ecx",
+        mnemonic: BTS,
+        arguments: &[ONE, ECX],
+        is_taken: false,
+    },
+    Row {
+        name: "bsr eax, ecx",
+        mnemonic: BSR,
+        arguments: &[EAX, ECX],
+        is_taken: true,
+    },
+    Row {
+        name: "bsr eax, [ebx]",
+        mnemonic: BSR,
+        arguments: &[EAX, AT],
+        is_taken: true,
+    },
+    Row {
+        name: "bsr eax, byte [ebx]",
+        mnemonic: BSR,
+        arguments: &[EAX, BYTE_AT],
+        is_taken: false,
+    },
+    Row {
+        name: "bsr cx, [ebx]",
+        mnemonic: BSR,
+        arguments: &[CX, AT],
+        is_taken: false,
+    },
+    Row {
+        name: "bsr eax, 1",
+        mnemonic: BSR,
+        arguments: &[EAX, ONE],
+        is_taken: false,
+    },
+    Row {
+        name: "shrd eax, ecx, cl",
+        mnemonic: SHRD,
+        arguments: &[EAX, ECX, CL],
+        is_taken: true,
+    },
+    Row {
+        name: "shrd [ebx], ecx, -128",
+        mnemonic: SHRD,
+        arguments: &[AT, ECX, LEAST_BYTE],
+        is_taken: true,
+    },
+    Row {
+        name: "shrd dword [ebx], eax, cl",
+        mnemonic: SHRD,
+        arguments: &[DWORD_AT, EAX, CL],
+        is_taken: true,
+    },
+    Row {
+        name: "shrd eax, ecx, ecx",
+        mnemonic: SHRD,
+        arguments: &[EAX, ECX, ECX],
+        is_taken: false,
+    },
+    Row {
+        name: "shrd eax, cx, cl",
+        mnemonic: SHRD,
+        arguments: &[EAX, CX, CL],
+        is_taken: false,
+    },
+    Row {
+        name: "shrd eax, [ebx], cl",
+        mnemonic: SHRD,
+        arguments: &[EAX, AT, CL],
+        is_taken: false,
+    },
+    Row {
+        name: "shrd eax, ecx",
+        mnemonic: SHRD,
+        arguments: &[EAX, ECX],
+        is_taken: false,
+    },
 ];
 
-fn is_moved(arguments: &[Argument]) -> bool {
-    stated(JumpLength::Long, Mnemonic::Single(Single::Mov), arguments).is_some()
+fn is_right(row: &Row) -> bool {
+    stated(JumpLength::Long, row.mnemonic, row.arguments).is_some() == row.is_taken
 }
 
 fn is_long_refused() -> bool {
@@ -139,20 +334,17 @@ fn is_long_refused() -> bool {
 
 #[test]
 fn sizes(rt: HostRuntime) {
-    for (number, (arguments, is_taken)) in MOVED.iter().enumerate() {
-        assert!(rt; is_moved(*arguments) == *is_taken, "row {number}");
+    for row in MOVED {
+        let name = row.name;
+        assert!(rt; is_right(row), "{name}");
     }
-    assert!(rt;
-        is_long_refused() && repeated(Prefix::Rep, Mnemonic::Single(Single::Mov)).is_none()
-    );
+    assert!(rt; is_long_refused() && repeated(Prefix::Rep, MOV).is_none());
 }
 
 #[test]
 fn bits(rt: HostRuntime) {
-    for (number, (mnemonic, arguments, is_taken)) in BITS.iter().enumerate() {
-        assert!(rt;
-            stated(JumpLength::Long, *mnemonic, *arguments).is_some() == *is_taken,
-            "row {number}"
-        );
+    for row in BITS {
+        let name = row.name;
+        assert!(rt; is_right(row), "{name}");
     }
 }

@@ -4,17 +4,18 @@ use mx_exec::{Code, Image, TextSegment};
 use mx_exec_cache::Cache;
 use mx_flags::Flags;
 use mx_image::{Runs, Stop, run_with, runs_join};
-use mx_mem::Segment;
+use mx_mem::{DIVIDE_ERROR, GENERAL_PROTECTION, INVALID_OPCODE, STACK_FAULT, Segment};
 use mx_regs::Regs;
 use mx_word::{Register, Size};
 use std::alloc::Global;
 use std::process::Abort;
 use std::test::Fail;
 
-/// What a run begins with: text of its own, zeros but for some bytes, and the registers EAX, ECX,
-/// EDX, EBX, ESP, EBP, ESI, EDI; and what it ends with.
+/// A run: what it begins with, how many steps it makes, and what it ends with.
 #[derive(Drop)]
 struct Row {
+    /// The instructions, as a listing has them, and what is special about them here.
+    name: &'static str,
     /// The code is the data segment itself.
     shared: bool,
     /// Where the run begins, and the text of its own too.
@@ -22,15 +23,20 @@ struct Row {
     text: &'static [u8],
     /// The data segment's limit.
     limit: u32,
+    /// Addresses in the data segment and their bytes. All other bytes are zeros.
     memory: &'static [(u32, u8)],
+    /// EAX, ECX, EDX, EBX, ESP, EBP, ESI and EDI, in this order.
     words: [u32; 8],
     flags: u32,
+    /// How many steps the run may make, and how many it makes.
     budget: u32,
     count: u32,
     stop: Stop,
+    /// The registers at the end, in the order of `words`.
     words_after: [u32; 8],
     eip_after: u32,
     flags_after: u32,
+    /// Addresses in the data segment and their bytes at the end. All other bytes are zeros.
     memory_after: &'static [(u32, u8)],
 }
 
@@ -52,8 +58,14 @@ const ONES: u32 = 0x202;
 
 const LIMIT: u32 = 0x1000;
 
+/// The vectors of `int3` and `into`.
+const BREAKPOINT: u8 = 3;
+
+const OVERFLOW_VECTOR: u8 = 4;
+
 /// A row that begins with zeros and makes one step without a fault.
 const ROW: Row = Row {
+    name: "",
     shared: false,
     eip: 0,
     text: b"",
@@ -84,6 +96,7 @@ static REGISTERS: &[Register] = &[
 /// Bit tests, bit scans and double shifts; the last ones are no instructions.
 static BITS: &[Row] = &[
     Row {
+        name: "bt eax, 0x5: the bit is set",
         text: b"\x0F\xBA\xE0\x05",
         words: [0x20, 0, 0, 0, 0, 0, 0, 0],
         words_after: [0x20, 0, 0, 0, 0, 0, 0, 0],
@@ -92,6 +105,7 @@ static BITS: &[Row] = &[
         ..ROW
     },
     Row {
+        name: "btc eax, 0x21: this is bit 1",
         text: b"\x0F\xBA\xF8\x21",
         flags: CARRY,
         words_after: [2, 0, 0, 0, 0, 0, 0, 0],
@@ -99,6 +113,7 @@ static BITS: &[Row] = &[
         ..ROW
     },
     Row {
+        name: "bts eax, ecx: 0x3f in ECX is bit 31",
         text: b"\x0F\xAB\xC8",
         words: [0, 0x3F, 0, 0, 0, 0, 0, 0],
         flags: CARRY,
@@ -107,6 +122,7 @@ static BITS: &[Row] = &[
         ..ROW
     },
     Row {
+        name: "bsf eax, ecx: bit 4 is the lowest",
         text: b"\x0F\xBC\xC1",
         words: [0, 0x50, 0, 0, 0, 0, 0, 0],
         flags: ZERO,
@@ -115,6 +131,7 @@ static BITS: &[Row] = &[
         ..ROW
     },
     Row {
+        name: "bsr eax, ecx: bit 6 is the highest",
         text: b"\x0F\xBD\xC1",
         words: [0, 0x50, 0, 0, 0, 0, 0, 0],
         flags: ZERO,
@@ -123,6 +140,7 @@ static BITS: &[Row] = &[
         ..ROW
     },
     Row {
+        name: "bsf eax, ecx: ECX has no bit, and EAX stays",
         text: b"\x0F\xBC\xC1",
         words: [9, 0, 0, 0, 0, 0, 0, 0],
         words_after: [9, 0, 0, 0, 0, 0, 0, 0],
@@ -131,6 +149,7 @@ static BITS: &[Row] = &[
         ..ROW
     },
     Row {
+        name: "shld eax, ecx, 0x4: the bits that come in are the highest of ECX",
         text: b"\x0F\xA4\xC8\x04",
         words: [0x12345678, 0xABCDEF01, 0, 0, 0, 0, 0, 0],
         flags: PARITY + ZERO + SIGN,
@@ -140,6 +159,7 @@ static BITS: &[Row] = &[
         ..ROW
     },
     Row {
+        name: "shrd eax, ecx, 0x4: the bits that come in are the lowest of ECX",
         text: b"\x0F\xAC\xC8\x04",
         words: [0x12345678, 0xABCDEF01, 0, 0, 0, 0, 0, 0],
         flags: PARITY + AUXILIARY + OVERFLOW,
@@ -149,6 +169,7 @@ static BITS: &[Row] = &[
         ..ROW
     },
     Row {
+        name: "shld eax, ecx, cl: 0x20 in CL is a count of 0",
         text: b"\x0F\xA5\xC8",
         words: [5, 0x20, 0, 0, 0, 0, 0, 0],
         flags: ZERO + SIGN + OVERFLOW,
@@ -158,30 +179,35 @@ static BITS: &[Row] = &[
         ..ROW
     },
     Row {
+        name: "bt dword [eax], ecx: no instruction, as the place is in memory",
         text: b"\x0F\xA3\x08",
-        stop: Stop::Fault(6),
+        stop: Stop::Fault(INVALID_OPCODE),
         ..ROW
     },
     Row {
+        name: ".data1 0xf, 0xba, 0xc0, 0x5: no instruction, as 0F BA is only /4 to /7",
         text: b"\x0F\xBA\xC0\x05",
-        stop: Stop::Fault(6),
+        stop: Stop::Fault(INVALID_OPCODE),
         ..ROW
     },
     Row {
+        name: "bsf ax, cx: no instruction, as the size is 16 bits",
         text: b"\x66\x0F\xBC\xC1",
-        stop: Stop::Fault(6),
+        stop: Stop::Fault(INVALID_OPCODE),
         ..ROW
     },
     Row {
+        name: "bt, bts, btr or btc: the text ends after the opcode",
         text: b"\x0F\xBA",
-        stop: Stop::Fault(13),
+        stop: Stop::Fault(GENERAL_PROTECTION),
         ..ROW
     },
     // The place is tried also by a count of 0, which writes nothing new.
     Row {
+        name: "shld dword [eax], ecx, 0x20: a count of 0, but the place passes the limit",
         text: b"\x0F\xA4\x08\x20",
         words: [LIMIT - 3, 1, 0, 0, 0, 0, 0, 0],
-        stop: Stop::Fault(13),
+        stop: Stop::Fault(GENERAL_PROTECTION),
         words_after: [LIMIT - 3, 1, 0, 0, 0, 0, 0, 0],
         ..ROW
     },
@@ -190,6 +216,7 @@ static BITS: &[Row] = &[
 /// Arithmetic, shifts, products and extensions.
 static ARITHMETIC: &[Row] = &[
     Row {
+        name: "add eax, 0x1: the sum is 0 with a carry",
         text: b"\x83\xC0\x01",
         words: [0xFFFFFFFF, 0, 0, 0, 0, 0, 0, 0],
         words_after: [0, 0, 0, 0, 0, 0, 0, 0],
@@ -198,6 +225,7 @@ static ARITHMETIC: &[Row] = &[
         ..ROW
     },
     Row {
+        name: "sub al, 0x80: the difference is out of the signed range",
         text: b"\x2C\x80",
         words: [0x7F, 0, 0, 0, 0, 0, 0, 0],
         words_after: [0xFF, 0, 0, 0, 0, 0, 0, 0],
@@ -206,6 +234,7 @@ static ARITHMETIC: &[Row] = &[
         ..ROW
     },
     Row {
+        name: "inc eax: the carry flag stays",
         text: b"\x40",
         words: [0x7FFFFFFF, 0, 0, 0, 0, 0, 0, 0],
         flags: CARRY,
@@ -215,13 +244,15 @@ static ARITHMETIC: &[Row] = &[
         ..ROW
     },
     Row {
+        name: "idiv ecx: the quotient is out of the signed range",
         text: b"\xF7\xF9",
         words: [0x80000000, 0xFFFFFFFF, 0xFFFFFFFF, 0, 0, 0, 0, 0],
-        stop: Stop::Fault(0),
+        stop: Stop::Fault(DIVIDE_ERROR),
         words_after: [0x80000000, 0xFFFFFFFF, 0xFFFFFFFF, 0, 0, 0, 0, 0],
         ..ROW
     },
     Row {
+        name: "shl eax, 0x20: a count of 0, and all flags stay",
         text: b"\xC1\xE0\x20",
         words: [5, 0, 0, 0, 0, 0, 0, 0],
         flags: CARRY + AUXILIARY + OVERFLOW,
@@ -231,6 +262,7 @@ static ARITHMETIC: &[Row] = &[
         ..ROW
     },
     Row {
+        name: "shr al, 0x9: the count is more than the size",
         text: b"\xC0\xE8\x09",
         words: [0xFF, 0, 0, 0, 0, 0, 0, 0],
         flags: CARRY + AUXILIARY + SIGN + OVERFLOW,
@@ -240,6 +272,7 @@ static ARITHMETIC: &[Row] = &[
         ..ROW
     },
     Row {
+        name: "sar al, 0x9: the count is more than the size",
         text: b"\xC0\xF8\x09",
         words: [0x80, 0, 0, 0, 0, 0, 0, 0],
         flags: ZERO,
@@ -249,6 +282,7 @@ static ARITHMETIC: &[Row] = &[
         ..ROW
     },
     Row {
+        name: "shl eax, 0x1: the sign changes",
         text: b"\xD1\xE0",
         words: [0x40000000, 0, 0, 0, 0, 0, 0, 0],
         flags: CARRY + ZERO,
@@ -258,6 +292,7 @@ static ARITHMETIC: &[Row] = &[
         ..ROW
     },
     Row {
+        name: "div cl: a quotient and a remainder",
         text: b"\xF6\xF1",
         words: [0xFF, 2, 0, 0, 0, 0, 0, 0],
         words_after: [0x17F, 2, 0, 0, 0, 0, 0, 0],
@@ -265,13 +300,15 @@ static ARITHMETIC: &[Row] = &[
         ..ROW
     },
     Row {
+        name: "div cl: the quotient has nine bits",
         text: b"\xF6\xF1",
         words: [0x100, 1, 0, 0, 0, 0, 0, 0],
-        stop: Stop::Fault(0),
+        stop: Stop::Fault(DIVIDE_ERROR),
         words_after: [0x100, 1, 0, 0, 0, 0, 0, 0],
         ..ROW
     },
     Row {
+        name: "idiv cl: quotient and remainder are negative",
         text: b"\xF6\xF9",
         words: [0xFFF9, 2, 0, 0, 0, 0, 0, 0],
         words_after: [0xFFFD, 2, 0, 0, 0, 0, 0, 0],
@@ -279,6 +316,7 @@ static ARITHMETIC: &[Row] = &[
         ..ROW
     },
     Row {
+        name: "imul eax, eax, 0xfffffffe: the product just fits",
         text: b"\x6B\xC0\xFE",
         words: [0x40000000, 0, 0, 0, 0, 0, 0, 0],
         flags: CARRY + OVERFLOW,
@@ -287,6 +325,7 @@ static ARITHMETIC: &[Row] = &[
         ..ROW
     },
     Row {
+        name: "imul eax, eax, 0xfffffffe: the product doesn't fit",
         text: b"\x6B\xC0\xFE",
         words: [0x40000001, 0, 0, 0, 0, 0, 0, 0],
         words_after: [0x7FFFFFFE, 0, 0, 0, 0, 0, 0, 0],
@@ -295,12 +334,14 @@ static ARITHMETIC: &[Row] = &[
         ..ROW
     },
     Row {
+        name: "lahf: bit 1 of AH is one",
         text: b"\x9F",
         words_after: [0x200, 0, 0, 0, 0, 0, 0, 0],
         eip_after: 1,
         ..ROW
     },
     Row {
+        name: "movsx eax, cl: a negative byte",
         text: b"\x0F\xBE\xC1",
         words: [0, 0x80, 0, 0, 0, 0, 0, 0],
         words_after: [0xFFFFFF80, 0x80, 0, 0, 0, 0, 0, 0],
@@ -312,13 +353,15 @@ static ARITHMETIC: &[Row] = &[
 /// Operands in memory, and the stack.
 static PLACES: &[Row] = &[
     Row {
+        name: "mov eax, dword [esp+0x4]: at the limit, a stack fault",
         text: b"\x8B\x44\x24\x04",
         words: [0, 0, 0, 0, 0xFFC, 0, 0, 0],
-        stop: Stop::Fault(12),
+        stop: Stop::Fault(STACK_FAULT),
         words_after: [0, 0, 0, 0, 0xFFC, 0, 0, 0],
         ..ROW
     },
     Row {
+        name: "mov eax, dword [0x10]: by a SIB byte with no base and no index",
         text: b"\x8B\x04\x25\x10\x00\x00\x00",
         memory: &[(0x10, 0x01), (0x11, 0x02), (0x12, 0x03), (0x13, 0x04)],
         words_after: [0x4030201, 0, 0, 0, 0, 0, 0, 0],
@@ -327,6 +370,7 @@ static PLACES: &[Row] = &[
         ..ROW
     },
     Row {
+        name: "mov eax, dword [ebp+0x4]: by a SIB byte with no index",
         text: b"\x8B\x44\x25\x04",
         memory: &[(0x14, 0x01), (0x15, 0x02), (0x16, 0x03), (0x17, 0x04)],
         words: [0, 0, 0, 0, 0, 0x10, 0, 0],
@@ -336,6 +380,7 @@ static PLACES: &[Row] = &[
         ..ROW
     },
     Row {
+        name: "pushad: half of it fits, and nothing is written",
         text: b"\x60",
         memory: &[
             (0x0, 0x09),
@@ -356,7 +401,7 @@ static PLACES: &[Row] = &[
             (0xF, 0x09),
         ],
         words: [1, 0, 0, 0, 0x10, 0, 0, 8],
-        stop: Stop::Fault(12),
+        stop: Stop::Fault(STACK_FAULT),
         words_after: [1, 0, 0, 0, 0x10, 0, 0, 8],
         memory_after: &[
             (0x0, 0x09),
@@ -379,6 +424,7 @@ static PLACES: &[Row] = &[
         ..ROW
     },
     Row {
+        name: "push esp: ESP as it was before",
         text: b"\x54",
         words: [0, 0, 0, 0, 0x100, 0, 0, 0],
         words_after: [0, 0, 0, 0, 0xFC, 0, 0, 0],
@@ -387,13 +433,15 @@ static PLACES: &[Row] = &[
         ..ROW
     },
     Row {
+        name: "call 0x5: the target is the text's end, and nothing is pushed",
         text: b"\xE8\x00\x00\x00\x00",
         words: [0, 0, 0, 0, 0x1000, 0, 0, 0],
-        stop: Stop::Fault(13),
+        stop: Stop::Fault(GENERAL_PROTECTION),
         words_after: [0, 0, 0, 0, 0x1000, 0, 0, 0],
         ..ROW
     },
     Row {
+        name: "mov dword [0xffc], eax: the last four bytes",
         text: b"\xA3\xFC\x0F\x00\x00",
         words: [0x4030201, 0, 0, 0, 0, 0, 0, 0],
         words_after: [0x4030201, 0, 0, 0, 0, 0, 0, 0],
@@ -402,13 +450,15 @@ static PLACES: &[Row] = &[
         ..ROW
     },
     Row {
+        name: "mov dword [0xffd], eax: one byte too far",
         text: b"\xA3\xFD\x0F\x00\x00",
         words: [0x4030201, 0, 0, 0, 0, 0, 0, 0],
-        stop: Stop::Fault(13),
+        stop: Stop::Fault(GENERAL_PROTECTION),
         words_after: [0x4030201, 0, 0, 0, 0, 0, 0, 0],
         ..ROW
     },
     Row {
+        name: "add eax, 0x1; inc eax; pushfd: the carry of the sum is pushed",
         text: b"\x83\xC0\x01\x40\x9C",
         words: [0xFFFFFFFF, 0, 0, 0, 0x1000, 0, 0, 0],
         budget: 3,
@@ -424,6 +474,7 @@ static PLACES: &[Row] = &[
 /// String instructions, some of them after a repeat.
 static STRINGS: &[Row] = &[
     Row {
+        name: "rep movsb: ECX is 0",
         text: b"\xF3\xA4",
         memory: &[(0x5, 0x07)],
         words: [0, 0, 0, 0, 0, 0, 5, 9],
@@ -433,6 +484,7 @@ static STRINGS: &[Row] = &[
         ..ROW
     },
     Row {
+        name: "rep movsb: one byte of two",
         text: b"\xF3\xA4",
         memory: &[(0x0, 0x2A)],
         words: [0, 2, 0, 0, 0, 0, 0, 0x10],
@@ -441,6 +493,7 @@ static STRINGS: &[Row] = &[
         ..ROW
     },
     Row {
+        name: "movsb: down",
         text: b"\xA4",
         memory: &[(0x5, 0x2A)],
         words: [0, 0, 0, 0, 0, 0, 5, 9],
@@ -452,6 +505,7 @@ static STRINGS: &[Row] = &[
         ..ROW
     },
     Row {
+        name: "repe cmpsb: the second bytes differ",
         text: b"\xF3\xA6",
         memory: &[
             (0x10, 0x01),
@@ -478,11 +532,12 @@ static STRINGS: &[Row] = &[
         ..ROW
     },
     Row {
+        name: "rep stosb: two bytes up to the limit, and then a fault",
         text: b"\xF3\xAA",
         words: [0xAA, 5, 0, 0, 0, 0, 0, 0xFFE],
         budget: 99,
         count: 3,
-        stop: Stop::Fault(13),
+        stop: Stop::Fault(GENERAL_PROTECTION),
         words_after: [0xAA, 3, 0, 0, 0, 0, 0, 0x1000],
         memory_after: &[(0xFFE, 0xAA), (0xFFF, 0xAA)],
         ..ROW
@@ -492,118 +547,139 @@ static STRINGS: &[Row] = &[
 /// What faults at once.
 static FAULTS: &[Row] = &[
     Row {
+        name: "hlt",
         text: b"\xF4",
-        stop: Stop::Fault(13),
+        stop: Stop::Fault(GENERAL_PROTECTION),
         ..ROW
     },
     Row {
+        name: ".data1 0xd6: no opcode",
         text: b"\xD6",
-        stop: Stop::Fault(6),
+        stop: Stop::Fault(INVALID_OPCODE),
         ..ROW
     },
     Row {
+        name: ".data1 0x66: the text ends after the prefix",
         text: b"\x66",
-        stop: Stop::Fault(13),
+        stop: Stop::Fault(GENERAL_PROTECTION),
         ..ROW
     },
     Row {
+        name: "inc ax after 66 twice: no instruction",
         text: b"\x66\x66\x40",
-        stop: Stop::Fault(6),
+        stop: Stop::Fault(INVALID_OPCODE),
         ..ROW
     },
     Row {
+        name: "rep inc eax: no instruction, as rep may not stand before inc",
         text: b"\xF3\x40",
-        stop: Stop::Fault(6),
+        stop: Stop::Fault(INVALID_OPCODE),
         ..ROW
     },
     Row {
+        name: "lea eax, eax: no instruction, as EAX is not in memory",
         text: b"\x8D\xC0",
-        stop: Stop::Fault(6),
+        stop: Stop::Fault(INVALID_OPCODE),
         ..ROW
     },
     Row {
+        name: "push ax: no instruction, as the size is 16 bits",
         text: b"\x66\x50",
-        stop: Stop::Fault(6),
+        stop: Stop::Fault(INVALID_OPCODE),
         ..ROW
     },
     Row {
+        name: "movzx ax, cx: no instruction, as both have 16 bits",
         text: b"\x66\x0F\xB7\xC1",
-        stop: Stop::Fault(6),
+        stop: Stop::Fault(INVALID_OPCODE),
         ..ROW
     },
     Row {
+        name: "int3",
         text: b"\xCC",
-        stop: Stop::Fault(3),
+        stop: Stop::Fault(BREAKPOINT),
         ..ROW
     },
     Row {
+        name: "int 0x3",
         text: b"\xCD\x03",
-        stop: Stop::Fault(3),
+        stop: Stop::Fault(BREAKPOINT),
         ..ROW
     },
     Row {
+        name: "int 0x4",
         text: b"\xCD\x04",
-        stop: Stop::Fault(4),
+        stop: Stop::Fault(OVERFLOW_VECTOR),
         ..ROW
     },
     Row {
+        name: "int 0x5",
         text: b"\xCD\x05",
-        stop: Stop::Fault(13),
+        stop: Stop::Fault(GENERAL_PROTECTION),
         ..ROW
     },
     Row {
+        name: "in al, 0x0",
         text: b"\xE4\x00",
-        stop: Stop::Fault(13),
+        stop: Stop::Fault(GENERAL_PROTECTION),
         ..ROW
     },
     Row {
+        name: "jnz 0x81: the target is out of the text",
         text: b"\x75\x7F",
-        stop: Stop::Fault(13),
+        stop: Stop::Fault(GENERAL_PROTECTION),
         ..ROW
     },
     Row {
+        name: "into: the overflow flag is set",
         text: b"\xCE",
         flags: OVERFLOW,
         flags_after: ONES + OVERFLOW,
-        stop: Stop::Fault(4),
+        stop: Stop::Fault(OVERFLOW_VECTOR),
         ..ROW
     },
     Row {
+        name: ".data1 0xf3, 0xf: no instruction, as 0F may not follow rep",
         text: b"\xF3\x0F",
-        stop: Stop::Fault(6),
+        stop: Stop::Fault(INVALID_OPCODE),
         ..ROW
     },
     Row {
+        name: "repne movsb: no instruction, as only rep may stand before movsb",
         text: b"\xF2\xA4",
-        stop: Stop::Fault(6),
+        stop: Stop::Fault(INVALID_OPCODE),
         ..ROW
     },
     Row {
+        name: "rcl al, ..: no instruction, and the text ends inside it",
         text: b"\xC0\xD0",
-        stop: Stop::Fault(6),
+        stop: Stop::Fault(INVALID_OPCODE),
         ..ROW
     },
     Row {
+        name: "call ax: no instruction, as the size is 16 bits",
         text: b"\x66\xFF\xD0",
-        stop: Stop::Fault(6),
+        stop: Stop::Fault(INVALID_OPCODE),
         ..ROW
     },
     Row {
+        name: "mov eax, dword [esp+..]: the text ends before the displacement",
         text: b"\x8B\x44\x24",
-        stop: Stop::Fault(13),
+        stop: Stop::Fault(GENERAL_PROTECTION),
         ..ROW
     },
     Row {
+        name: "mov ax, ..: the text ends inside the number",
         text: b"\x66\xB8\x01",
-        stop: Stop::Fault(13),
+        stop: Stop::Fault(GENERAL_PROTECTION),
         ..ROW
     },
 ];
 
 /// Code that is written over while it runs, and code at a limit.
 static PATCHES: &[Row] = &[
-    // MOV byte [7], 42h over the INC EAX that follows makes it INC EDX
     Row {
+        name: "mov byte [0x7], 0x42; inc eax: the mov makes it inc edx",
         shared: true,
         memory: &[
             (0, 0xC6),
@@ -631,8 +707,8 @@ static PATCHES: &[Row] = &[
         ],
         ..ROW
     },
-    // ADD EAX, 1 in a loop that counts its immediate up
     Row {
+        name: "add eax, 0x1; inc byte [0x2]; jmp 0x0: the number of the add goes up",
         shared: true,
         memory: &[
             (0, 0x83),
@@ -660,14 +736,14 @@ static PATCHES: &[Row] = &[
         ],
         ..ROW
     },
-    // MOV [5], AL over the highest byte of its own displacement
     Row {
+        name: "mov byte [0x5], al; jmp 0x0: the mov changes its own address and faults the second time",
         shared: true,
         memory: &[(0, 0x88), (1, 0x05), (2, 0x05), (6, 0xEB), (7, 0xF8)],
         words: [1, 0, 0, 0, 0, 0, 0, 0],
         budget: 9,
         count: 3,
-        stop: Stop::Fault(13),
+        stop: Stop::Fault(GENERAL_PROTECTION),
         words_after: [1, 0, 0, 0, 0, 0, 0, 0],
         memory_after: &[
             (0, 0x88),
@@ -679,8 +755,8 @@ static PATCHES: &[Row] = &[
         ],
         ..ROW
     },
-    // REP MOVSB over itself: INC EAX and MOVSB stand there then
     Row {
+        name: "rep movsb: it makes itself inc eax; movsb",
         shared: true,
         memory: &[(0, 0xF3), (1, 0xA4), (0x20, 0x40), (0x21, 0x40)],
         words: [0, 4, 0, 0, 0, 0, 0x20, 0],
@@ -691,8 +767,8 @@ static PATCHES: &[Row] = &[
         memory_after: &[(0, 0x40), (1, 0x40), (0x20, 0x40), (0x21, 0x40)],
         ..ROW
     },
-    // the same over the INC EAX before it, to which a jump goes back
     Row {
+        name: "inc eax; mov byte [0x0], 0x42; jmp 0x0: the mov makes the inc eax before it inc edx",
         shared: true,
         memory: &[
             (0, 0x40),
@@ -716,16 +792,16 @@ static PATCHES: &[Row] = &[
         ],
         ..ROW
     },
-    // a loop in the last three bytes of a text
     Row {
+        name: "inc eax; jmp 0x0: a loop in the last three bytes of a text",
         text: b"\x40\xEB\xFD",
         budget: 4,
         count: 4,
         words_after: [2, 0, 0, 0, 0, 0, 0, 0],
         ..ROW
     },
-    // a loop in the last two bytes of the data segment
     Row {
+        name: "jmp 0xffe; jmp 0xffe: the second is a loop in the last two bytes of the data segment",
         shared: true,
         memory: &[
             (0, 0xE9),
@@ -746,16 +822,17 @@ static PATCHES: &[Row] = &[
         ],
         ..ROW
     },
-    // MOV EAX, 5 whole, and then a text that ends inside it
     Row {
+        name: "mov eax, 0x5: the whole of it",
         text: b"\xB8\x05\x00\x00\x00",
         words_after: [5, 0, 0, 0, 0, 0, 0, 0],
         eip_after: 5,
         ..ROW
     },
     Row {
+        name: "mov eax, ..: the text ends inside the number that the row before had whole",
         text: b"\xB8\x05",
-        stop: Stop::Fault(13),
+        stop: Stop::Fault(GENERAL_PROTECTION),
         ..ROW
     },
 ];
@@ -819,6 +896,7 @@ const DWORDS: Row = Row {
 /// Data and code on both sides of a page's end.
 static BOUNDARIES: &[Row] = &[
     Row {
+        name: "mov dword [0xffe], eax: over a page's end",
         text: b"\xA3\xFE\x0F\x00\x00",
         words: [0x4030201, 0, 0, 0, 0, 0, 0, 0],
         words_after: [0x4030201, 0, 0, 0, 0, 0, 0, 0],
@@ -826,16 +904,16 @@ static BOUNDARIES: &[Row] = &[
         memory_after: &[(0xFFE, 1), (0xFFF, 2), (0x1000, 3), (0x1001, 4)],
         ..PAGES
     },
-    // the same where the page's end is the limit
     Row {
+        name: "mov dword [0xffe], eax: the page's end is the limit",
         text: b"\xA3\xFE\x0F\x00\x00",
         words: [0x4030201, 0, 0, 0, 0, 0, 0, 0],
-        stop: Stop::Fault(13),
+        stop: Stop::Fault(GENERAL_PROTECTION),
         words_after: [0x4030201, 0, 0, 0, 0, 0, 0, 0],
         ..ROW
     },
-    // PUSH EAX and POP ECX
     Row {
+        name: "push eax; pop ecx: the stack's dword stands over a page's end",
         text: b"\x50\x59",
         words: [0x4030201, 0, 0, 0, 0x1003, 0, 0, 0],
         budget: 2,
@@ -845,21 +923,22 @@ static BOUNDARIES: &[Row] = &[
         memory_after: &[(0xFFF, 1), (0x1000, 2), (0x1001, 3), (0x1002, 4)],
         ..PAGES
     },
-    // REP MOVSD of three, up and down
     Row {
+        name: "rep movsd: three dwords, up",
         words: [0, 3, 0, 0, 0, 0, 0xFFA, 0x1FF9],
         words_after: [0, 0, 0, 0, 0, 0, 0x1006, 0x2005],
         ..DWORDS
     },
     Row {
+        name: "rep movsd: three dwords, down",
         words: [0, 3, 0, 0, 0, 0, 0x1002, 0x2001],
         flags: DOWN,
         words_after: [0, 0, 0, 0, 0, 0, 0xFF6, 0x1FF5],
         flags_after: ONES + DOWN,
         ..DWORDS
     },
-    // MOV EAX, 5 over the end, INC EAX and a jump back, twice
     Row {
+        name: "mov eax, 0x5; inc eax; jmp 0xffe: the mov stands over a page's end, and all runs twice",
         eip: 0xFFE,
         text: b"\xB8\x05\x00\x00\x00\x40\xEB\xF8",
         budget: 6,
@@ -869,8 +948,8 @@ static BOUNDARIES: &[Row] = &[
         flags_after: ONES + PARITY,
         ..ROW
     },
-    // MOV EAX, 5 over the end, MOV BYTE [1000], 7 and a jump back, after which it is MOV EAX, 705
     Row {
+        name: "mov eax, 0x5; mov byte [0x1000], 0x7; jmp 0xffe: the first mov is mov eax, 0x705 after the jump",
         shared: true,
         eip: 0xFFE,
         memory: &[
@@ -976,12 +1055,10 @@ fn is_worked(alloc: Global, cache: Option<&mut Cache>, row: &Row) -> Result<bool
 }
 
 fn work_all(rt: &impl Abort, alloc: Global, cache: &mut Cache, rows: &[Row]) -> Result<(), Fail> {
-    for (number, row) in rows.iter().enumerate() {
-        assert!(rt; is_worked(alloc, None, row)?, "row {number}");
-        assert!(rt;
-            is_worked(alloc, Some(&mut *cache), row)?,
-            "row {number}, kept"
-        );
+    for row in rows {
+        let name = row.name;
+        assert!(rt; is_worked(alloc, None, row)?, "{name}");
+        assert!(rt; is_worked(alloc, Some(&mut *cache), row)?, "{name} (kept)");
     }
     Ok(())
 }
@@ -1006,16 +1083,33 @@ const LOOP: Row = Row {
     ..ROW
 };
 
-/// INC EAX in a loop, and EAX and EDX where it is INC EDX in the data segment from the fifth step on.
-static LOOPS: &[(Row, (u32, u32))] = &[
-    (
-        Row {
+/// A run of four steps, a write of INC EDX to address 0 of the data segment from outside, and a step
+/// more; and what EAX and EDX are then.
+#[derive(Drop)]
+struct WriteRow {
+    name: &'static str,
+    begin: Row,
+    eax: u32,
+    edx: u32,
+}
+
+/// A loop of INC EAX, which has the same bytes in its text and in its data segment.
+static LOOPS: &[WriteRow] = &[
+    WriteRow {
+        name: "inc eax; jmp 0x0: in the data segment it is inc edx from the fifth step on",
+        begin: Row {
             shared: true,
             ..LOOP
         },
-        (2, 1),
-    ),
-    (LOOP, (3, 0)),
+        eax: 2,
+        edx: 1,
+    },
+    WriteRow {
+        name: "inc eax; jmp 0x0: in a text of its own it stays",
+        begin: LOOP,
+        eax: 3,
+        edx: 0,
+    },
 ];
 
 fn words_around_a_write(image: &mut Image, cache: &mut Cache) -> (u32, u32) {
@@ -1027,10 +1121,12 @@ fn words_around_a_write(image: &mut Image, cache: &mut Cache) -> (u32, u32) {
 
 #[test]
 fn writes_from_outside(rt: HostRuntime) -> Result<(), Fail> {
-    for (row, words) in LOOPS {
+    for row in LOOPS {
+        let name = row.name;
         let mut cache = Cache::new(rt.alloc())?;
-        let mut image = image_of(rt.alloc(), row)?;
-        assert!(rt; words_around_a_write(&mut image, &mut cache) == *words);
+        let mut image = image_of(rt.alloc(), &row.begin)?;
+        let words = words_around_a_write(&mut image, &mut cache);
+        assert!(rt; words == (row.eax, row.edx), "{name}");
     }
     Ok(())
 }

@@ -1,67 +1,172 @@
 //! Tokens of a text, and the first offset at fault.
 
 use mx_lex::{LexError, Mark, Token, TokenKind, tokens};
-use std::alloc::Global;
+use std::test::Fail;
 
-/// Two lines, and their tokens: what each is, and from where to where it stands.
 const TEXT: &str = "a: .ascii \"\\n;\" ; b\r\nmov\t[esi*4-0x10], 9";
 
-static TOKENS: &[(TokenKind, usize, usize)] = &[
-    (TokenKind::Word, 0, 1),
-    (TokenKind::Mark(Mark::Colon), 1, 2),
-    (TokenKind::Word, 3, 9),
-    (TokenKind::Text, 10, 15),
-    (TokenKind::LineFeed, 20, 21),
-    (TokenKind::Word, 21, 24),
-    (TokenKind::Mark(Mark::Open), 25, 26),
-    (TokenKind::Word, 26, 29),
-    (TokenKind::Mark(Mark::Star), 29, 30),
-    (TokenKind::Number(4), 30, 31),
-    (TokenKind::Mark(Mark::Minus), 31, 32),
-    (TokenKind::Number(16), 32, 36),
-    (TokenKind::Mark(Mark::Close), 36, 37),
-    (TokenKind::Mark(Mark::Comma), 37, 38),
-    (TokenKind::Number(9), 39, 40),
+/// A token of that text: what it is, and from where to where it stands.
+struct Row {
+    name: &'static str,
+    kind: TokenKind,
+    start: usize,
+    end: usize,
+}
+
+static TOKENS: &[Row] = &[
+    Row {
+        name: "a",
+        kind: TokenKind::Word,
+        start: 0,
+        end: 1,
+    },
+    Row {
+        name: ":",
+        kind: TokenKind::Mark(Mark::Colon),
+        start: 1,
+        end: 2,
+    },
+    Row {
+        name: ".ascii",
+        kind: TokenKind::Word,
+        start: 3,
+        end: 9,
+    },
+    Row {
+        name: "\"\\n;\"",
+        kind: TokenKind::Text,
+        start: 10,
+        end: 15,
+    },
+    Row {
+        name: "the line feed",
+        kind: TokenKind::LineFeed,
+        start: 20,
+        end: 21,
+    },
+    Row {
+        name: "mov",
+        kind: TokenKind::Word,
+        start: 21,
+        end: 24,
+    },
+    Row {
+        name: "[",
+        kind: TokenKind::Mark(Mark::Open),
+        start: 25,
+        end: 26,
+    },
+    Row {
+        name: "esi",
+        kind: TokenKind::Word,
+        start: 26,
+        end: 29,
+    },
+    Row {
+        name: "*",
+        kind: TokenKind::Mark(Mark::Star),
+        start: 29,
+        end: 30,
+    },
+    Row {
+        name: "4",
+        kind: TokenKind::Number(4),
+        start: 30,
+        end: 31,
+    },
+    Row {
+        name: "-",
+        kind: TokenKind::Mark(Mark::Minus),
+        start: 31,
+        end: 32,
+    },
+    Row {
+        name: "0x10",
+        kind: TokenKind::Number(16),
+        start: 32,
+        end: 36,
+    },
+    Row {
+        name: "]",
+        kind: TokenKind::Mark(Mark::Close),
+        start: 36,
+        end: 37,
+    },
+    Row {
+        name: ",",
+        kind: TokenKind::Mark(Mark::Comma),
+        start: 37,
+        end: 38,
+    },
+    Row {
+        name: "9",
+        kind: TokenKind::Number(9),
+        start: 39,
+        end: 40,
+    },
 ];
 
-/// Texts, and what is told of them.
-static FAULTS: &[(&str, LexError)] = &[
-    ("nop $", LexError::BadByte(4)),
-    ("a\rb", LexError::BadByte(1)),
-    (".ascii \"a\\t\"", LexError::BadByte(9)),
-    ("nop\nadd eax, 4294967296", LexError::BadNumber(13)),
-    ("0x", LexError::BadNumber(0)),
-    ("9a", LexError::BadNumber(0)),
-    (".ascii \"ab\nc\"", LexError::OpenText(10)),
+/// A text that has a fault, and what is told of it.
+struct Faulty {
+    text: &'static str,
+    error: LexError,
+}
+
+static FAULTS: &[Faulty] = &[
+    Faulty {
+        text: "nop $",
+        error: LexError::BadByte(4),
+    },
+    Faulty {
+        text: "a\rb",
+        error: LexError::BadByte(1),
+    },
+    Faulty {
+        text: ".ascii \"a\\t\"",
+        error: LexError::BadByte(9),
+    },
+    Faulty {
+        text: "nop\nadd eax, 4294967296",
+        error: LexError::BadNumber(13),
+    },
+    Faulty {
+        text: "0x",
+        error: LexError::BadNumber(0),
+    },
+    Faulty {
+        text: "9a",
+        error: LexError::BadNumber(0),
+    },
+    Faulty {
+        text: ".ascii \"ab\nc\"",
+        error: LexError::OpenText(10),
+    },
 ];
 
-fn is_token(found: Option<&Token>, wanted: &(TokenKind, usize, usize)) -> bool {
+fn is_token(found: Option<&Token>, row: &Row) -> bool {
     match found {
-        Some(token) => (token.kind, token.start, token.end) == *wanted,
+        Some(token) => {
+            token.kind == row.kind && (token.start, token.end) == (row.start, row.end)
+        }
         None => false,
     }
 }
 
-fn are_tokens(found: &[Token]) -> bool {
-    for (index, wanted) in TOKENS.iter().enumerate() {
-        if !is_token(found.get(index), wanted) {
-            return false;
-        }
+#[test]
+fn tokens_of_texts(rt: HostRuntime) -> Result<(), Fail> {
+    let found = tokens(rt.alloc(), TEXT)?;
+    for (index, row) in TOKENS.iter().enumerate() {
+        let name = row.name;
+        assert!(rt; is_token(found.get(index), row), "{name}");
     }
-    found.len() == TOKENS.len()
-}
-
-fn is_read(alloc: Global) -> bool {
-    match tokens(alloc, TEXT) {
-        Ok(found) => are_tokens(found.as_slice()),
-        Err(_) => false,
-    }
+    assert!(rt; found.len() == TOKENS.len());
+    Ok(())
 }
 
 #[test]
-fn tokens_of_texts(rt: HostRuntime) {
-    assert!(rt; is_read(rt.alloc()));
-    for (text, fault) in FAULTS {
-        assert!(rt; tokens(rt.alloc(), *text).err() == Some(*fault), "{text}");
+fn faults_of_texts(rt: HostRuntime) {
+    for row in FAULTS {
+        let text = row.text;
+        assert!(rt; tokens(rt.alloc(), text).err() == Some(row.error), "{text}");
     }
 }

@@ -8,20 +8,37 @@ use mx_load::load;
 use mx_word::Register;
 use std::alloc::Global;
 
-/// Two bytes of text, `CD 21`, in the data segment, four of data, eight of bss, entry 1 and a total
-/// of 256.
+/// Two bytes of text, CD 21 (`int 0x21`), in the data segment, four of data, eight of bss, entry 1 and
+/// a total of 256.
 pub(crate) const FILE: [u8; 38] = [
     0x01, 0x03, 0x10, 0x10, 0x20, 0, 0, 0, 2, 0, 0, 0, 4, 0, 0, 0, 8, 0, 0, 0, 1, 0, 0, 0, 0, 1, 0,
     0, 0, 0, 0, 0, 0xCD, 0x21, 1, 2, 3, 4,
 ];
 
-/// The flags of that file, and some bytes of its image.
-static LOADED: &[(u8, &[(u32, u8)])] = &[
-    (
-        0x10,
-        &[(0, 0xCD), (1, 0x21), (2, 1), (5, 4), (6, 0), (4095, 0)],
-    ),
-    (0x30, &[(0, 1), (3, 4), (4, 0), (4095, 0)]),
+/// The file's flags: it can be executed, and its text has a segment of its own.
+const A_EXEC: u8 = 0x10;
+
+const A_SEP: u8 = 0x20;
+
+/// That file with these flags, and some bytes of what is loaded.
+struct Loaded {
+    name: &'static str,
+    flags: u8,
+    /// Addresses in the data segment and their bytes.
+    bytes: &'static [(u32, u8)],
+}
+
+static LOADED: &[Loaded] = &[
+    Loaded {
+        name: "the text in the data segment: int 0x21, and then the data",
+        flags: A_EXEC,
+        bytes: &[(0, 0xCD), (1, 0x21), (2, 1), (5, 4), (6, 0), (4095, 0)],
+    },
+    Loaded {
+        name: "the text in a segment of its own: the data alone",
+        flags: A_EXEC + A_SEP,
+        bytes: &[(0, 1), (3, 4), (4, 0), (4095, 0)],
+    },
 ];
 
 fn is_image(image: &Image, bytes: &[(u32, u8)]) -> bool {
@@ -37,18 +54,19 @@ fn has_image(alloc: Global, program: &Program, bytes: &[(u32, u8)]) -> bool {
     }
 }
 
-fn is_loaded(alloc: Global, flags: u8, bytes: &[(u32, u8)]) -> bool {
+fn is_loaded(alloc: Global, row: &Loaded) -> bool {
     let mut file = FILE;
-    file[2] = flags;
+    file[2] = row.flags;
     match read(alloc, &file) {
-        Ok(program) => has_image(alloc, &program, bytes),
+        Ok(program) => has_image(alloc, &program, row.bytes),
         Err(_) => false,
     }
 }
 
 #[test]
 fn loads_text_and_data(rt: HostRuntime) {
-    for (flags, bytes) in LOADED {
-        assert!(rt; is_loaded(rt.alloc(), *flags, *bytes), "flags {flags}");
+    for row in LOADED {
+        let name = row.name;
+        assert!(rt; is_loaded(rt.alloc(), row), "{name}");
     }
 }

@@ -20,47 +20,113 @@ const FOUR: Item = Item::Number(4);
 
 const BYTE: Item = Item::Size(Size::Byte);
 
-/// Whether a place has a base, the scale of its index, and its number.
-type Shape = (bool, Option<Scale>, u32);
+/// What a place is made of.
+#[derive(Clone, Copy, PartialEq, Eq)]
+struct Shape {
+    has_base: bool,
+    /// The scale of its index, if it has one.
+    scale: Option<Scale>,
+    number: u32,
+}
+
+const NO_SHAPE: Shape = Shape {
+    has_base: false,
+    scale: None,
+    number: 0,
+};
 
 /// Items, and the place that they are, if they are one.
-static SHAPES: &[(&[Item], Option<Shape>)] = &[
-    (
-        &[OPEN, EBX, PLUS, ESI, STAR, FOUR, MINUS, FOUR, CLOSE],
-        Some((true, Some(Scale::Four), 4)),
-    ),
-    (
-        &[BYTE, OPEN, EBX, PLUS, ESI, CLOSE],
-        Some((true, Some(Scale::One), 0)),
-    ),
-    (
-        &[OPEN, ESI, STAR, FOUR, CLOSE],
-        Some((false, Some(Scale::Four), 0)),
-    ),
-    (&[OPEN, FOUR, CLOSE], Some((false, None, 4))),
-    (&[OPEN, CLOSE], None),
-    (&[OPEN, FOUR, PLUS, EBX, CLOSE], None),
-    (&[OPEN, FOUR, STAR, EBX, CLOSE], None),
-    (&[OPEN, EBX, PLUS, MINUS, FOUR, CLOSE], None),
-    (&[OPEN, ESI, STAR, FOUR, PLUS, EBX, CLOSE], None),
-    (&[EBX, EBX], None),
+struct Row {
+    name: &'static str,
+    items: &'static [Item],
+    shape: Option<Shape>,
+}
+
+static ROWS: &[Row] = &[
+    Row {
+        name: "[ebx+esi*4-4]",
+        items: &[OPEN, EBX, PLUS, ESI, STAR, FOUR, MINUS, FOUR, CLOSE],
+        shape: Some(Shape {
+            has_base: true,
+            scale: Some(Scale::Four),
+            number: 4,
+        }),
+    },
+    Row {
+        name: "byte [ebx+esi]",
+        items: &[BYTE, OPEN, EBX, PLUS, ESI, CLOSE],
+        shape: Some(Shape {
+            has_base: true,
+            scale: Some(Scale::One),
+            number: 0,
+        }),
+    },
+    Row {
+        name: "[esi*4]",
+        items: &[OPEN, ESI, STAR, FOUR, CLOSE],
+        shape: Some(Shape {
+            has_base: false,
+            scale: Some(Scale::Four),
+            number: 0,
+        }),
+    },
+    Row {
+        name: "[4]",
+        items: &[OPEN, FOUR, CLOSE],
+        shape: Some(Shape {
+            has_base: false,
+            scale: None,
+            number: 4,
+        }),
+    },
+    Row {
+        name: "[]",
+        items: &[OPEN, CLOSE],
+        shape: None,
+    },
+    Row {
+        name: "[4+ebx]",
+        items: &[OPEN, FOUR, PLUS, EBX, CLOSE],
+        shape: None,
+    },
+    Row {
+        name: "[4*ebx]",
+        items: &[OPEN, FOUR, STAR, EBX, CLOSE],
+        shape: None,
+    },
+    Row {
+        name: "[ebx+-4]",
+        items: &[OPEN, EBX, PLUS, MINUS, FOUR, CLOSE],
+        shape: None,
+    },
+    Row {
+        name: "[esi*4+ebx]",
+        items: &[OPEN, ESI, STAR, FOUR, PLUS, EBX, CLOSE],
+        shape: None,
+    },
+    Row {
+        name: "ebx ebx",
+        items: &[EBX, EBX],
+        shape: None,
+    },
 ];
 
 /// The shape of a place; of another operand the shape of none.
 fn shape_of(items: &[Item]) -> Option<Shape> {
     match argument_of(items)? {
-        Argument::Memory(_, address) => Some((
-            address.base.is_some(),
-            address.index.map(|index| index.scale),
-            address.value.number,
-        )),
-        _ => Some((false, None, 0)),
+        Argument::Memory(_, address) => Some(Shape {
+            has_base: address.base.is_some(),
+            scale: address.index.map(|index| index.scale),
+            number: address.value.number,
+        }),
+        _ => Some(NO_SHAPE),
     }
 }
 
 #[test]
 fn shapes(rt: HostRuntime) {
-    for (number, (items, shape)) in SHAPES.iter().enumerate() {
-        assert!(rt; shape_of(*items) == *shape, "row {number}");
+    for row in ROWS {
+        let name = row.name;
+        assert!(rt; shape_of(row.items) == row.shape, "{name}");
     }
 }

@@ -20,17 +20,70 @@ const SHORTEST: Wide = Wide {
 };
 
 /// What stands before an opcode.
-static FRONTS: &[&[u8]] = &[b"", b"\x0F", b"\xF3", b"\xF2"];
+struct Front {
+    name: &'static str,
+    bytes: &'static [u8],
+}
+
+/// What stands after an opcode and the byte after it: a SIB byte, if there is one, and numbers.
+struct Tail {
+    /// What the SIB byte says.
+    name: &'static str,
+    bytes: &'static [u8],
+}
+
+static FRONTS: &[Front] = &[
+    Front {
+        name: "no prefix",
+        bytes: b"",
+    },
+    Front {
+        name: "0F",
+        bytes: b"\x0F",
+    },
+    Front {
+        name: "F3 (rep)",
+        bytes: b"\xF3",
+    },
+    Front {
+        name: "F2 (repne)",
+        bytes: b"\xF2",
+    },
+];
 
 /// The same after 66.
-static MARKED_FRONTS: &[&[u8]] = &[b"\x66", b"\x66\x0F", b"\x66\xF3", b"\x66\xF2"];
+static MARKED_FRONTS: &[Front] = &[
+    Front {
+        name: "66",
+        bytes: b"\x66",
+    },
+    Front {
+        name: "66 0F",
+        bytes: b"\x66\x0F",
+    },
+    Front {
+        name: "66 F3 (rep)",
+        bytes: b"\x66\xF3",
+    },
+    Front {
+        name: "66 F2 (repne)",
+        bytes: b"\x66\xF2",
+    },
+];
 
-/// What stands after an opcode and the byte after it: a SIB byte, if there is one, and numbers. The SIB
-/// bytes say a base alone, every part, and an index without a base.
-static TAILS: &[&[u8]] = &[
-    b"\x24\x12\x34\x56\x78\x9A\xBC\xDE\xF0",
-    b"\x8D\xFE\xFF\xFF\xFF\x80\xFF\xFF\xFF",
-    b"\xBD\x00\x00\x00\x00\x00\x00\x00\x00",
+static TAILS: &[Tail] = &[
+    Tail {
+        name: "a base alone",
+        bytes: b"\x24\x12\x34\x56\x78\x9A\xBC\xDE\xF0",
+    },
+    Tail {
+        name: "a base and an index",
+        bytes: b"\x8D\xFE\xFF\xFF\xFF\x80\xFF\xFF\xFF",
+    },
+    Tail {
+        name: "an index without a base",
+        bytes: b"\xBD\x00\x00\x00\x00\x00\x00\x00\x00",
+    },
 ];
 
 /// The byte after an opcode: each mode with each register, and as the other register EBX, ESP, which
@@ -120,13 +173,20 @@ fn first_lost(alloc: Global, front: &[u8], tail: &[u8]) -> Option<u16> {
     None
 }
 
+/// Sees that every instruction after this front is read again.
+fn see_read_again(rt: &(impl Abort + AllocGlobal), front: &Front) {
+    let name = front.name;
+    for tail in TAILS {
+        let tail_name = tail.name;
+        let lost = first_lost(rt.alloc(), front.bytes, tail.bytes);
+        assert!(rt; lost.is_none(), "{name}, {tail_name}");
+    }
+}
+
 /// Sees that every instruction after these fronts is read again.
-fn see_all_read_again(rt: &(impl Abort + AllocGlobal), fronts: &[&[u8]]) {
-    for (number, front) in fronts.iter().enumerate() {
-        for tail in TAILS {
-            let lost = first_lost(rt.alloc(), *front, *tail);
-            assert!(rt; lost.is_none(), "front {number}");
-        }
+fn see_all_read_again(rt: &(impl Abort + AllocGlobal), fronts: &[Front]) {
+    for front in fronts {
+        see_read_again(rt, front);
     }
 }
 

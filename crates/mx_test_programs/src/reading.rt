@@ -1,5 +1,6 @@
 //! Lines of every kind.
 
+use mx_asm::Problem;
 use mx_asm_line::read_line;
 use mx_asm_statement::{Saying, Section, Statement, refusal};
 use std::alloc::Global;
@@ -14,39 +15,142 @@ fn told(alloc: Global, text: &[u8]) -> Option<u8> {
     }
 }
 
-/// A line, and the number of what is told of it.
-static LINES: &[(&[u8], Option<u8>)] = &[
-    (b"", None),
-    (b"start: mov eax, [ebx+esi*4-8] ; a comment", None),
-    (b"mov eax, -0x80000000", None),
-    (b"mov: rep movsd", None),
-    (b"short: jnz short short", None),
-    (b"lea ax, [esp+4]", None),
-    (b".data2 1, -0x8000, 0xffff", None),
-    (b".ascii \"a\\n\"", None),
-    (b".text", None),
-    (b"mov eax, $", Some(1)),
-    (b"mov eax, 4294967296", Some(2)),
-    (b".ascii \"ab", Some(3)),
-    (b"foo eax", Some(10)),
-    (b"eax: foo", Some(10)),
-    (b"a: b: nop", Some(10)),
-    (b"mov eax, bl", Some(11)),
-    (b"mov eax, -0x80000001", Some(11)),
-    (b"mov al, start", Some(11)),
-    (b"mov al, 256", Some(11)),
-    (b"mov eax, [ebx+esp]", Some(11)),
-    (b"mov eax, byte [ebx]", Some(11)),
-    (b"test eax, [ebx]", Some(11)),
-    (b"lea eax, dword [ebx]", Some(11)),
-    (b"eax: nop", Some(11)),
-    (b"rep abcdefghi", Some(11)),
-    (b"a: nop:", Some(11)),
-    (b".data1 1,", Some(11)),
-    (b".space -1", Some(11)),
-    (b"abcdefghi:", Some(17)),
-    (b"foo abcdefghi", Some(17)),
+/// A line, and the problem that is told of it, if there is one.
+struct Row {
+    text: &'static str,
+    problem: Option<Problem>,
+}
+
+static LINES: &[Row] = &[
+    Row {
+        text: "",
+        problem: None,
+    },
+    Row {
+        text: "start: mov eax, [ebx+esi*4-8] ; a comment",
+        problem: None,
+    },
+    Row {
+        text: "mov eax, -0x80000000",
+        problem: None,
+    },
+    Row {
+        text: "mov: rep movsd",
+        problem: None,
+    },
+    Row {
+        text: "short: jnz short short",
+        problem: None,
+    },
+    Row {
+        text: "lea ax, [esp+4]",
+        problem: None,
+    },
+    Row {
+        text: ".data2 1, -0x8000, 0xffff",
+        problem: None,
+    },
+    Row {
+        text: ".ascii \"a\\n\"",
+        problem: None,
+    },
+    Row {
+        text: ".text",
+        problem: None,
+    },
+    Row {
+        text: "mov eax, $",
+        problem: Some(Problem::BadByte),
+    },
+    Row {
+        text: "mov eax, 4294967296",
+        problem: Some(Problem::BadNumber),
+    },
+    Row {
+        text: ".ascii \"ab",
+        problem: Some(Problem::OpenText),
+    },
+    Row {
+        text: "foo eax",
+        problem: Some(Problem::UnknownWord),
+    },
+    Row {
+        text: "eax: foo",
+        problem: Some(Problem::UnknownWord),
+    },
+    Row {
+        text: "a: b: nop",
+        problem: Some(Problem::UnknownWord),
+    },
+    Row {
+        text: "mov eax, bl",
+        problem: Some(Problem::BadOperands),
+    },
+    Row {
+        text: "mov eax, -0x80000001",
+        problem: Some(Problem::BadOperands),
+    },
+    Row {
+        text: "mov al, start",
+        problem: Some(Problem::BadOperands),
+    },
+    Row {
+        text: "mov al, 256",
+        problem: Some(Problem::BadOperands),
+    },
+    Row {
+        text: "mov eax, [ebx+esp]",
+        problem: Some(Problem::BadOperands),
+    },
+    Row {
+        text: "mov eax, byte [ebx]",
+        problem: Some(Problem::BadOperands),
+    },
+    Row {
+        text: "test eax, [ebx]",
+        problem: Some(Problem::BadOperands),
+    },
+    Row {
+        text: "lea eax, dword [ebx]",
+        problem: Some(Problem::BadOperands),
+    },
+    Row {
+        text: "eax: nop",
+        problem: Some(Problem::BadOperands),
+    },
+    Row {
+        text: "rep abcdefghi",
+        problem: Some(Problem::BadOperands),
+    },
+    Row {
+        text: "a: nop:",
+        problem: Some(Problem::BadOperands),
+    },
+    Row {
+        text: ".data1 1,",
+        problem: Some(Problem::BadOperands),
+    },
+    Row {
+        text: ".space -1",
+        problem: Some(Problem::BadOperands),
+    },
+    Row {
+        text: "abcdefghi:",
+        problem: Some(Problem::LongName),
+    },
+    Row {
+        text: "foo abcdefghi",
+        problem: Some(Problem::LongName),
+    },
 ];
+
+/// The number of what is told of a line.
+fn code_of(problem: Option<Problem>) -> Option<u8> {
+    match problem {
+        Some(problem) => Some(problem.code()),
+        None => None,
+    }
+}
 
 fn is_ascii(alloc: Global) -> bool {
     match read_line(alloc, b"l: .ascii \"a\\\"b\\n\"") {
@@ -60,8 +164,10 @@ fn is_ascii(alloc: Global) -> bool {
 
 #[test]
 fn lines(rt: HostRuntime) {
-    for (number, (text, code)) in LINES.iter().enumerate() {
-        assert!(rt; told(rt.alloc(), *text) == *code, "line {number}");
+    for row in LINES {
+        let text = row.text;
+        let code = told(rt.alloc(), text.as_bytes());
+        assert!(rt; code == code_of(row.problem), "line: {text}");
     }
     assert!(rt; is_ascii(rt.alloc()));
 }

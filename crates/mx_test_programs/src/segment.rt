@@ -2,24 +2,65 @@
 
 use mx_mem::Segment;
 use mx_word::Size;
+use std::alloc::Global;
 use std::process::Abort;
 use std::test::Fail;
 
 /// Three pages and a part of a fourth.
 const LIMIT: u32 = 13_000;
 
-/// A copy within a segment: from, to, how many bytes.
-struct Copied(u32, u32, u32);
+/// A copy within a segment: from which address to which, and how many bytes.
+struct Copied {
+    name: &'static str,
+    from: u32,
+    to: u32,
+    count: u32,
+}
 
-/// Over more than two pages: apart, up and down by one byte, up and down by a page, and of none.
+/// Most of them go over more than two pages.
 static COPIES: &[Copied] = &[
-    Copied(100, 9_000, 4_000),
-    Copied(4_095, 4_096, 8_193),
-    Copied(4_096, 4_095, 8_193),
-    Copied(10, 4_106, 8_500),
-    Copied(4_106, 10, 8_500),
-    Copied(0, 1, 12_999),
-    Copied(13_000, 0, 0),
+    Copied {
+        name: "apart",
+        from: 100,
+        to: 9_000,
+        count: 4_000,
+    },
+    Copied {
+        name: "up by one byte",
+        from: 4_095,
+        to: 4_096,
+        count: 8_193,
+    },
+    Copied {
+        name: "down by one byte",
+        from: 4_096,
+        to: 4_095,
+        count: 8_193,
+    },
+    Copied {
+        name: "up by a page",
+        from: 10,
+        to: 4_106,
+        count: 8_500,
+    },
+    Copied {
+        name: "down by a page",
+        from: 4_106,
+        to: 10,
+        count: 8_500,
+    },
+    Copied {
+        name: "all bytes but the last, up by one byte",
+        from: 0,
+        to: 1,
+        count: 12_999,
+    },
+    Copied {
+        name: "no byte, from the limit",
+        from: 13_000,
+        to: 0,
+        count: 0,
+    },
 ];
 
 /// What stands at a place before a copy. No two places a page or a few bytes apart are alike.
@@ -27,19 +68,34 @@ fn byte_before(at: u32) -> u8 {
     (at % 251) as u8
 }
 
+fn segment_before(alloc: Global) -> Result<Segment, Fail> {
+    let mut segment = Segment::new(alloc, LIMIT)?;
+    for at in 0..LIMIT {
+        segment.write(at, Size::Byte, u32::from(byte_before(at)))?;
+    }
+    Ok(segment)
+}
+
 /// What stands at a place after it, as if all bytes were read first.
 fn byte_after(copy: &Copied, at: u32) -> u8 {
-    if at >= copy.1 && at - copy.1 < copy.2 {
-        byte_before((at - copy.1).saturating_add(copy.0))
+    if at >= copy.to && at - copy.to < copy.count {
+        byte_before((at - copy.to).saturating_add(copy.from))
     } else {
         byte_before(at)
     }
 }
 
 fn is_copied(rt: &impl Abort, segment: &mut Segment, copy: &Copied) -> bool {
-    assert!(rt; copy.0 as usize + copy.2 as usize <= segment.limit());
-    assert!(rt; copy.1 as usize + copy.2 as usize <= segment.limit());
-    segment.copy_within(copy.0, copy.1, copy.2);
+    let name = copy.name;
+    assert!(rt;
+        copy.from as usize + copy.count as usize <= segment.limit(),
+        "{name}"
+    );
+    assert!(rt;
+        copy.to as usize + copy.count as usize <= segment.limit(),
+        "{name}"
+    );
+    segment.copy_within(copy.from, copy.to, copy.count);
     for at in 0..LIMIT {
         if segment.get(at) != Some(byte_after(copy, at)) {
             return false;
@@ -51,17 +107,15 @@ fn is_copied(rt: &impl Abort, segment: &mut Segment, copy: &Copied) -> bool {
 #[test]
 fn copies_within(rt: HostRuntime) -> Result<(), Fail> {
     for copy in COPIES {
-        let mut segment = Segment::new(rt.alloc(), LIMIT)?;
-        for at in 0..LIMIT {
-            segment.write(at, Size::Byte, u32::from(byte_before(at)))?;
-        }
-        assert!(rt; is_copied(&rt, &mut segment, copy), "from {}", copy.0);
+        let name = copy.name;
+        let mut segment = segment_before(rt.alloc())?;
+        assert!(rt; is_copied(&rt, &mut segment, copy), "{name}");
     }
     Ok(())
 }
 
 /// Limits inside a page and at its ends.
-static LIMITS: [u32; 6] = [4, 4_095, 4_096, 4_097, 5_000, 8_192];
+static LIMITS: &[u32] = &[4, 4_095, 4_096, 4_097, 5_000, 8_192];
 
 /// Whether the last four bytes before the limit are written and read, and nothing of what would pass it.
 fn is_bounded(segment: &mut Segment, limit: u32) -> bool {
@@ -79,7 +133,7 @@ fn is_bounded(segment: &mut Segment, limit: u32) -> bool {
 
 #[test]
 fn limits(rt: HostRuntime) -> Result<(), Fail> {
-    for limit in &LIMITS {
+    for limit in LIMITS {
         let mut segment = Segment::new(rt.alloc(), *limit)?;
         assert!(rt; is_bounded(&mut segment, *limit), "limit {limit}");
     }

@@ -2,11 +2,34 @@
 
 use mx_asm_statement::{Line, Reason, Saying, Section, StatementStart, Value, refusal};
 
-/// A section, whether a label stands above already, and what is told of an instruction.
-static REASONS: &[(Section, Saying, Reason)] = &[
-    (Section::Text, Saying::Second, Reason::Twice),
-    (Section::Data, Saying::First, Reason::WrongSection),
-    (Section::Text, Saying::First, Reason::NoForm),
+/// Where an instruction stands, and what is told of it.
+struct Row {
+    name: &'static str,
+    section: Section,
+    /// Whether its label stands above already.
+    saying: Saying,
+    reason: Reason,
+}
+
+static REASONS: &[Row] = &[
+    Row {
+        name: "its label stands above already",
+        section: Section::Text,
+        saying: Saying::Second,
+        reason: Reason::Twice,
+    },
+    Row {
+        name: "it stands in the data",
+        section: Section::Data,
+        saying: Saying::First,
+        reason: Reason::WrongSection,
+    },
+    Row {
+        name: "it has no form",
+        section: Section::Text,
+        saying: Saying::First,
+        reason: Reason::NoForm,
+    },
 ];
 
 const LESS_TWO: Value = Value {
@@ -23,8 +46,10 @@ fn reasons(rt: HostRuntime) {
         beginning: StatementStart::Instruction,
         statement: None,
     };
-    for (section, saying, reason) in REASONS {
-        assert!(rt; refusal(&line, *section, *saying) == Some(*reason));
+    for row in REASONS {
+        let name = row.name;
+        let told = refusal(&line, row.section, row.saying);
+        assert!(rt; told == Some(row.reason), "{name}");
     }
     assert!(rt; Reason::NoForm.code() == 11 && LESS_TWO.whole() == -2);
 }

@@ -6,37 +6,67 @@ use mx_insn_words::{
 };
 
 /// A word, and what a statement begins with it, if anything.
-static STARTS: &[(&[u8], Option<WordStart>)] = &[
-    (
-        b"mov",
-        Some(WordStart::Mnemonic(Mnemonic::Single(Single::Mov))),
-    ),
-    (
-        b"setbe",
-        Some(WordStart::Mnemonic(Mnemonic::SetCondition(Condition::BelowOrEqual))),
-    ),
-    (
-        b"loopne",
-        Some(WordStart::Mnemonic(Mnemonic::Loop(Loop::Loopne))),
-    ),
-    (
-        b"stosw",
-        Some(WordStart::Mnemonic(Mnemonic::Transfer(Transfer::Stos, Size::Word))),
-    ),
-    (b"repne", Some(WordStart::Repeat(Prefix::Repne))),
-    (b".data4", Some(WordStart::Directive(Directive::Data4))),
-    (b"jne", None),
-    (b"movsx8", None),
-    (b"MOV", None),
-    (b"short", None),
-    (b".word", None),
-    (b"", None),
+struct Row {
+    word: &'static str,
+    start: Option<WordStart>,
+}
+
+static STARTS: &[Row] = &[
+    Row {
+        word: "mov",
+        start: Some(WordStart::Mnemonic(Mnemonic::Single(Single::Mov))),
+    },
+    Row {
+        word: "setbe",
+        start: Some(WordStart::Mnemonic(Mnemonic::SetCondition(Condition::BelowOrEqual))),
+    },
+    Row {
+        word: "loopne",
+        start: Some(WordStart::Mnemonic(Mnemonic::Loop(Loop::Loopne))),
+    },
+    Row {
+        word: "stosw",
+        start: Some(WordStart::Mnemonic(Mnemonic::Transfer(Transfer::Stos, Size::Word))),
+    },
+    Row {
+        word: "repne",
+        start: Some(WordStart::Repeat(Prefix::Repne)),
+    },
+    Row {
+        word: ".data4",
+        start: Some(WordStart::Directive(Directive::Data4)),
+    },
+    Row {
+        word: "jne",
+        start: None,
+    },
+    Row {
+        word: "movsx8",
+        start: None,
+    },
+    Row {
+        word: "MOV",
+        start: None,
+    },
+    Row {
+        word: "short",
+        start: None,
+    },
+    Row {
+        word: ".word",
+        start: None,
+    },
+    Row {
+        word: "",
+        start: None,
+    },
 ];
 
 #[test]
 fn words(rt: HostRuntime) {
-    for (number, (word, start)) in STARTS.iter().enumerate() {
-        assert!(rt; start_named(*word) == *start, "row {number}");
+    for row in STARTS {
+        let word = row.word;
+        assert!(rt; start_named(word.as_bytes()) == row.start, "word: {word}");
     }
     assert!(rt; register_named(b"bh") == Some((Size::Byte, Register::Edi)));
     assert!(rt; size_named(b"dword") == Some(Size::Dword));

@@ -1,7 +1,7 @@
 //! A driver and a client, whose processors are threads: what their runs leave, whatever the schedule.
 
 use crate::machine::{Log, RUNS, Row, files_of, is_left};
-use mx_app_run::{MemoryWriter, NamedFiles, run};
+use mx_app_run::{Channels, MemoryWriter, NamedFiles, RunNames, run};
 use std::alloc::Global;
 use std::process::Abort;
 use std::sync::Wait;
@@ -90,21 +90,24 @@ fn left_by<R: Threads + Wait + Clock + Sync>(
     row: &Row,
 ) -> Result<RunLeft, Fail> {
     let named = files_of(row);
-    let mut reader = NamedFiles::new(&named);
-    let mut files = MemoryWriter::new(alloc);
-    let mut printed = Vec::new(alloc);
-    let done = run(
-        rt,
-        alloc,
-        &mut reader,
-        &mut files,
-        "config",
-        "log",
-        row.ticks,
-        &mut printed,
-    );
+    let mut channels = Channels {
+        reader: NamedFiles::new(&named),
+        files: MemoryWriter::new(alloc),
+        out: Vec::new(alloc),
+    };
+    let names = RunNames {
+        config: "config",
+        log: "log",
+    };
+    let done = run(rt, alloc, &mut channels, names, row.ticks);
     match done {
-        Ok(()) => Ok(RunLeft { files, printed }),
+        Ok(()) => {
+            let Channels { files, out, .. } = channels;
+            Ok(RunLeft {
+                files,
+                printed: out,
+            })
+        }
         Err(_) => Err(Fail::new("the machine isn't run")),
     }
 }

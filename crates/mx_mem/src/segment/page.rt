@@ -15,7 +15,7 @@ pub(crate) const PAGE: usize = 4096;
 /// A page, seen as a list of 4,096 bytes.
 #[derive(Drop)]
 pub(crate) struct Page {
-    bytes: Box<[u8; 4096]>,
+    bytes: Box<[u8; PAGE]>,
 }
 
 impl Model for Page {
@@ -31,7 +31,7 @@ impl Page {
     pub(crate) fn zeros(alloc: Global) -> Result<Page, NoMemory>
         ensures { IfOk result (λ p. p ≡ replicate 4096 0) }
     {
-        match Box::new(alloc, [0; 4096]) {
+        match Box::new(alloc, [0; PAGE]) {
             Ok(bytes) => Ok(Page { bytes }),
             Err(_) => Err(NoMemory),
         }
@@ -79,7 +79,7 @@ impl Page {
     pub(crate) fn clear(&mut self)
         ensures { self.new ≡ replicate 4096 0 }
     {
-        *self.bytes = [0; 4096];
+        *self.bytes = [0; PAGE];
     }
 }
 

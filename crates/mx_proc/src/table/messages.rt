@@ -12,10 +12,8 @@ use super::Table;
 use crate::deliveries::{Delivery, DeliveryKind};
 use crate::endpoints::{CLOCK, HARDWARE};
 use crate::process::{Partner, Slot, Source};
+use mx_mem::MESSAGE_SIZE;
 use mx_word::{Register, Size, read_dword, write_dword};
-
-/// The bytes of a message: its source, its type and seven words.
-pub const MESSAGE_SIZE: usize = 36;
 
 /// The type of each notification.
 const NOTIFICATION_TYPE: u32 = 4096;

@@ -1,4 +1,4 @@
-use Rattle.std.proofs.Common.{◌∙◌, ◌++◌, List, ℕ, refl, subst, take}
+use Rattle.std.proofs.Common.{◌≡◌, ◌∙◌, ◌++◌, [], List, ℕ, ap, refl, subst, sym, take}
 use Rattle.std.specs.Prelude.{string_bytes}
 use Rattle.mx_app_step.specs.Machine.{world_of}
 use Rattle.mx_app_step.specs.Pieces.{IsPrintedBut}
@@ -10,7 +10,7 @@ use Rattle.mx_app_db.proofs.lines.perform_debug_lines.Goals as goal
 pub loop-line-preserved : goal.loop-line-preserved
 loop-line-preserved g c =
     let inv = c.loop-line.invariant in
-    let d = both (world_of c.args.machine.now) c.args.debugger.now in
+    let d = both (world_of c.args.machine.now) [] in
     let e = both (world_of c.loop-line.machine) c.loop-line.debugger in
     let so_far = string_bytes c.args.text.now ++ debug_lines_text c.args.other d (take c.loop-line.line-index c.args.lines.now) in
     let line = debug_line_text c.args.other e c.line-item.result in

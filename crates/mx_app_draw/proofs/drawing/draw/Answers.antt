@@ -19,12 +19,12 @@ returns-in_err-started-clause-fault g c =
 pub print_drawing-requires-clause-actors : goal.print_drawing-requires-clause-actors
 print_drawing-requires-clause-actors g c =
     let s = c.in_ok-started.ensures.started in
-    let whole = saved_by_actors c.args.config.now c.args.log.now s.0 s.1 s.2 c.in_ok-started.started.lines.items c.as_slice.result.now (world_of c.in_ok-started.started.machine) c.as_slice.ensures.value s.5 s.4 in
+    let whole = saved_by_actors c.args.chosen.config.now c.args.chosen.log.now s.0 s.1 s.2 c.in_ok-started.started.lines.items c.as_slice.result.now (world_of c.in_ok-started.started.machine) c.as_slice.ensures.value s.5 s.4 in
     front_by_actors (λ (x : Record). x.actor < actors (world_of c.in_ok-started.started.machine)) c.as_slice.result.now c.first_records-records.result.now c.last_drawn.result c.first_records-records.ensures.first whole
 
 pub print_drawing-requires-clause-drawn : goal.print_drawing-requires-clause-drawn
 print_drawing-requires-clause-drawn g c =
-    front_few c.as_slice.result.now c.first_records-records.result.now c.args.from c.args.to c.last_drawn.result c.last_drawn.ensures c.first_records-records.ensures.first
+    front_few c.as_slice.result.now c.first_records-records.result.now c.args.chosen.from c.args.chosen.to c.last_drawn.result c.last_drawn.ensures c.first_records-records.ensures.first
 
 pub returns-clause-printed : goal.returns-clause-printed
 returns-clause-printed g c =
@@ -38,7 +38,7 @@ returns-clause-printed g c =
       c.in_ok-started.started.lines.items,
       s.3,
       s.4,
-      drawing_printed (λ (text : List ℕ). Appends (g.W.Write.contents c.args.out.now) (g.W.Write.contents c.print_drawing.new.out) text) s.1 s.2 c.in_ok-started.started.lines.items c.first_records-records.result.now (world_of c.in_ok-started.started.machine) _ _ c.args.from c.args.to c.last_drawn.result replayed
+      drawing_printed (λ (text : List ℕ). Appends (g.W.Write.contents c.args.out.now) (g.W.Write.contents c.print_drawing.new.out) text) s.1 s.2 c.in_ok-started.started.lines.items c.first_records-records.result.now (world_of c.in_ok-started.started.machine) _ _ c.args.chosen.from c.args.chosen.to c.last_drawn.result replayed
           c.last_drawn.ensures (c.first_records-records.ensures.first ∙ ap (λ (rs : List Record). take c.last_drawn.result rs) c.as_slice.ensures.value) s.5 (processors ∙ s.6) (c.len-total.ensures ∙ total) b,
     )) c.print_drawing.ensures.printed
 

@@ -10,72 +10,72 @@ use Rattle.mx_app_run.proofs.running.run.Goals as goal
 
 pub returns-then-eq : goal.returns-then-eq
 returns-then-eq g c =
-    let is : bytes_eq c.args.config.now c.args.log.now ≡ true = search rules in
-    ([], [], sym (append-nil _), sym (append-nil _), inl (refl, inl ((bytes_eq-Decides c.args.config.now c.args.log.now).0 is, refl, refl)))
+    let is : bytes_eq c.args.names.config.now c.args.names.log.now ≡ true = search rules in
+    ([], [], sym (append-nil _), sym (append-nil _), inl (refl, inl ((bytes_eq-Decides c.args.names.config.now c.args.names.log.now).0 is, refl, refl)))
 
 pub returns-in_err-config : goal.returns-in_err-config
 returns-in_err-config g c =
-    let apart : bytes_eq c.args.config.now c.args.log.now ≡ false = search rules in
-    let other : c.args.config.now ≢ c.args.log.now = λ e. true≢false (sym ((bytes_eq-Decides c.args.config.now c.args.log.now).1 e) ∙ apart) in
+    let apart : bytes_eq c.args.names.config.now c.args.names.log.now ≡ false = search rules in
+    let other : c.args.names.config.now ≢ c.args.names.log.now = λ e. true≢false (sym ((bytes_eq-Decides c.args.names.config.now c.args.names.log.now).1 e) ∙ apart) in
     let h = c.in_err-config.ensures.fault in
-    (h.0, [], h.1, sym (append-nil _), not_set_up c.args.config.now c.args.log.now c.args.ticks h.0 (λ (text : List ℕ). Appends (g.W.Write.contents c.args.out.now) (g.W.Write.contents c.args.out.now) text) other c.in_err-config.field-0.0 c.from_residual.result h.2 c.from_residual.ensures.1)
+    (h.0, [], h.1, sym (append-nil _), not_set_up c.args.names.config.now c.args.names.log.now c.args.ticks h.0 (λ (text : List ℕ). Appends (g.W.Write.contents c.args.channels.now.out) (g.W.Write.contents c.args.channels.now.out) text) other c.in_err-config.field-0.0 c.from_residual.result h.2 c.from_residual.ensures.1)
 
 pub run_machine-requires-clause-some : goal.run_machine-requires-clause-some
 run_machine-requires-clause-some g c κs within =
     let s = c.in_ok-config.ensures.read in
-    omega (arith, as_many_services c.args.config.now s.0 c.in_ok-config.config c.in_ok-config.services.items s.2, c.in_ok-config.config.some_lines)
+    omega (arith, as_many_services c.args.names.config.now s.0 c.in_ok-config.config c.in_ok-config.services.items s.2, c.in_ok-config.config.some_lines)
 
 pub run_machine-requires-clause-few : goal.run_machine-requires-clause-few
 run_machine-requires-clause-few g c κs within =
     let s = c.in_ok-config.ensures.read in
-    omega (arith, as_many_services c.args.config.now s.0 c.in_ok-config.config c.in_ok-config.services.items s.2, c.in_ok-config.config.lines_fit)
+    omega (arith, as_many_services c.args.names.config.now s.0 c.in_ok-config.config c.in_ok-config.services.items s.2, c.in_ok-config.config.lines_fit)
 
 pub returns-in_err-kernel : goal.returns-in_err-kernel
 returns-in_err-kernel g c =
-    let apart : bytes_eq c.args.config.now c.args.log.now ≡ false = search rules in
-    let other : c.args.config.now ≢ c.args.log.now = λ e. true≢false (sym ((bytes_eq-Decides c.args.config.now c.args.log.now).1 e) ∙ apart) in
+    let apart : bytes_eq c.args.names.config.now c.args.names.log.now ≡ false = search rules in
+    let other : c.args.names.config.now ≢ c.args.names.log.now = λ e. true≢false (sym ((bytes_eq-Decides c.args.names.config.now c.args.names.log.now).1 e) ∙ apart) in
     let s = c.in_ok-config.ensures.read in
-    (s.0, [], s.1, sym (append-nil _), no_memory c.args.config.now c.args.log.now c.args.ticks s.0 (λ (text : List ℕ). Appends (g.W.Write.contents c.args.out.now) (g.W.Write.contents c.args.out.now) text) other c.in_ok-config.config c.in_ok-config.services.items c.from_residual-in_err-kernel.result s.2 c.from_residual-in_err-kernel.ensures.1)
+    (s.0, [], s.1, sym (append-nil _), no_memory c.args.names.config.now c.args.names.log.now c.args.ticks s.0 (λ (text : List ℕ). Appends (g.W.Write.contents c.args.channels.now.out) (g.W.Write.contents c.args.channels.now.out) text) other c.in_ok-config.config c.in_ok-config.services.items c.from_residual-in_err-kernel.result s.2 c.from_residual-in_err-kernel.ensures.1)
 
 pub returns-in_err-text : goal.returns-in_err-text
 returns-in_err-text g c =
-    let apart : bytes_eq c.args.config.now c.args.log.now ≡ false = search rules in
-    let other : c.args.config.now ≢ c.args.log.now = λ e. true≢false (sym ((bytes_eq-Decides c.args.config.now c.args.log.now).1 e) ∙ apart) in
+    let apart : bytes_eq c.args.names.config.now c.args.names.log.now ≡ false = search rules in
+    let other : c.args.names.config.now ≢ c.args.names.log.now = λ e. true≢false (sym ((bytes_eq-Decides c.args.names.config.now c.args.names.log.now).1 e) ∙ apart) in
     let s = c.in_ok-config.ensures.read in
-    (s.0, [], s.1, sym (append-nil _), no_memory c.args.config.now c.args.log.now c.args.ticks s.0 (λ (text : List ℕ). Appends (g.W.Write.contents c.args.out.now) (g.W.Write.contents c.args.out.now) text) other c.in_ok-config.config c.in_ok-config.services.items c.from_residual-in_err-text.result s.2 c.from_residual-in_err-text.ensures.1)
+    (s.0, [], s.1, sym (append-nil _), no_memory c.args.names.config.now c.args.names.log.now c.args.ticks s.0 (λ (text : List ℕ). Appends (g.W.Write.contents c.args.channels.now.out) (g.W.Write.contents c.args.channels.now.out) text) other c.in_ok-config.config c.in_ok-config.services.items c.from_residual-in_err-text.result s.2 c.from_residual-in_err-text.ensures.1)
 
 pub returns-in_err-report : goal.returns-in_err-report
 returns-in_err-report g c =
-    let apart : bytes_eq c.args.config.now c.args.log.now ≡ false = search rules in
-    let other : c.args.config.now ≢ c.args.log.now = λ e. true≢false (sym ((bytes_eq-Decides c.args.config.now c.args.log.now).1 e) ∙ apart) in
+    let apart : bytes_eq c.args.names.config.now c.args.names.log.now ≡ false = search rules in
+    let other : c.args.names.config.now ≢ c.args.names.log.now = λ e. true≢false (sym ((bytes_eq-Decides c.args.names.config.now c.args.names.log.now).1 e) ∙ apart) in
     let s = c.in_ok-config.ensures.read in
-    (s.0, [], s.1, sym (append-nil _), no_memory c.args.config.now c.args.log.now c.args.ticks s.0 (λ (text : List ℕ). Appends (g.W.Write.contents c.args.out.now) (g.W.Write.contents c.args.out.now) text) other c.in_ok-config.config c.in_ok-config.services.items c.from_residual-in_err-report.result s.2 c.from_residual-in_err-report.ensures.1)
+    (s.0, [], s.1, sym (append-nil _), no_memory c.args.names.config.now c.args.names.log.now c.args.ticks s.0 (λ (text : List ℕ). Appends (g.W.Write.contents c.args.channels.now.out) (g.W.Write.contents c.args.channels.now.out) text) other c.in_ok-config.config c.in_ok-config.services.items c.from_residual-in_err-report.result s.2 c.from_residual-in_err-report.ensures.1)
 
 pub returns-in_err-write : goal.returns-in_err-write
 returns-in_err-write g c =
-    let apart : bytes_eq c.args.config.now c.args.log.now ≡ false = search rules in
-    let other : c.args.config.now ≢ c.args.log.now = λ e. true≢false (sym ((bytes_eq-Decides c.args.config.now c.args.log.now).1 e) ∙ apart) in
+    let apart : bytes_eq c.args.names.config.now c.args.names.log.now ≡ false = search rules in
+    let other : c.args.names.config.now ≢ c.args.names.log.now = λ e. true≢false (sym ((bytes_eq-Decides c.args.names.config.now c.args.names.log.now).1 e) ∙ apart) in
     let s = c.in_ok-config.ensures.read in
     let kind = error_kind c.in_err-write.field-0.0 in
     let text = c.as_slice.result.now in (
       s.0,
-      unkept c.args.log.now text kind ∷ [],
+      unkept c.args.names.log.now text kind ∷ [],
       s.1,
       c.in_err-write.ensures.unkept,
-      unwritten c.args.config.now c.args.log.now c.args.ticks s.0 (λ (text : List ℕ). Appends (g.W.Write.contents c.args.out.now) (g.W.Write.contents c.args.out.now) text) other c.in_ok-config.config c.in_ok-config.services.items c.in_ok-kernel.kernel s.2 c.in_ok-kernel.ensures
+      unwritten c.args.names.config.now c.args.names.log.now c.args.ticks s.0 (λ (text : List ℕ). Appends (g.W.Write.contents c.args.channels.now.out) (g.W.Write.contents c.args.channels.now.out) text) other c.in_ok-config.config c.in_ok-config.services.items c.in_ok-kernel.kernel s.2 c.in_ok-kernel.ensures
           text (c.as_slice.ensures.value ∙ c.in_ok-text.ensures) kind c.from_residual-in_err-write.result c.from_residual-in_err-write.ensures.1,
     )
 
 pub returns : goal.returns
 returns g c =
-    let apart : bytes_eq c.args.config.now c.args.log.now ≡ false = search rules in
-    let other : c.args.config.now ≢ c.args.log.now = λ e. true≢false (sym ((bytes_eq-Decides c.args.config.now c.args.log.now).1 e) ∙ apart) in
+    let apart : bytes_eq c.args.names.config.now c.args.names.log.now ≡ false = search rules in
+    let other : c.args.names.config.now ≢ c.args.names.log.now = λ e. true≢false (sym ((bytes_eq-Decides c.args.names.config.now c.args.names.log.now).1 e) ∙ apart) in
     let s = c.in_ok-config.ensures.read in
     let text = c.as_slice.result.now in (
       s.0,
-      kept c.args.log.now text ∷ [],
+      kept c.args.names.log.now text ∷ [],
       s.1,
       c.in_ok-write.ensures.kept,
-      written c.args.config.now c.args.log.now c.args.ticks s.0 (λ (text : List ℕ). Appends (g.W.Write.contents c.args.out.now) (g.W.Write.contents c.print_text.new.out) text) other c.in_ok-config.config c.in_ok-config.services.items c.in_ok-kernel.kernel s.2 c.in_ok-kernel.ensures
+      written c.args.names.config.now c.args.names.log.now c.args.ticks s.0 (λ (text : List ℕ). Appends (g.W.Write.contents c.args.channels.now.out) (g.W.Write.contents c.print_text.new.out) text) other c.in_ok-config.config c.in_ok-config.services.items c.in_ok-kernel.kernel s.2 c.in_ok-kernel.ensures
           text (c.as_slice.ensures.value ∙ c.in_ok-text.ensures) c.as_slice-2.result.now c.print_text.result (c.as_slice-2.ensures.value ∙ c.in_ok-report.ensures) c.print_text.ensures.err c.print_text.ensures.bytes,
     )

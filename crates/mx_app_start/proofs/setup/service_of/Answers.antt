@@ -23,11 +23,7 @@ returns-clause-read g c = (
     record {
       program = program_is c.in_ok-bytes.bytes.items c.as_slice.result.now c.in_ok-program.program c.as_slice.ensures.value c.in_ok-program.ensures;
       name = refl;
-      masks = refl;
-      level = refl;
-      best = refl;
-      quantum = refl;
-      restarts = refl;
+      terms = refl;
     },
   ),
 )

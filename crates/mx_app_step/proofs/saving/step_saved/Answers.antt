@@ -16,20 +16,20 @@ returns-in_err-started-clause-fault g c =
 pub returns-clause-saved : goal.returns-clause-saved
 returns-clause-saved g c =
     let s = c.in_ok-started.ensures.started in
-    let text = script_history c.in_ok-started.started.machine.kernel s.1 s.2 (world_of c.in_ok-started.started.machine) c.in_ok-started.started.other c.in_ok-started.started.lines.items c.as_slice-lines.result.now c.in_ok-started.ensures.kernel s.5 s.6 c.as_slice-lines.ensures.value in
-    on_ok_weaker c.save_lines.result (λ b. (
+    let text = script_history c.in_ok-started.started.machine.kernel s.1 s.2 (world_of c.in_ok-started.started.machine) c.in_ok-started.started.other c.in_ok-started.started.lines.items c.in_ok-started.started.lines.items c.in_ok-started.ensures.kernel s.5 s.6 refl in
+    on_ok_weaker c.perform_and_save.result (λ b. (
       s.0,
       s.1,
       s.2,
       c.in_ok-started.started.lines.items,
       s.3,
       s.4,
-      b.0 ∙ ap (λ (t : List ℕ). g.F.FileWriter.written c.args.files.now ++ kept c.args.log.now t ∷ []) text,
-      script_printed (g.W.Write.contents c.args.out.now) (g.W.Write.contents c.save_lines.new.out) s.1 s.2 (world_of c.in_ok-started.started.machine) c.in_ok-started.started.other c.in_ok-started.started.lines.items c.as_slice-lines.result.now s.5 s.6 c.as_slice-lines.ensures.value b.1,
-    )) c.save_lines.ensures.saved
+      b.0 ∙ ap (λ (t : List ℕ). g.F.FileWriter.written c.args.channels.now.files ++ kept c.args.log.now t ∷ []) text,
+      script_printed (g.W.Write.contents c.args.channels.now.out) (g.W.Write.contents c.perform_and_save.new.out) s.1 s.2 (world_of c.in_ok-started.started.machine) c.in_ok-started.started.other c.in_ok-started.started.lines.items c.in_ok-started.started.lines.items s.5 s.6 refl b.1,
+    )) c.perform_and_save.ensures.saved
 
 pub returns-clause-fault : goal.returns-clause-fault
 returns-clause-fault g c =
     let s = c.in_ok-started.ensures.started in
-    let text = script_history c.in_ok-started.started.machine.kernel s.1 s.2 (world_of c.in_ok-started.started.machine) c.in_ok-started.started.other c.in_ok-started.started.lines.items c.as_slice-lines.result.now c.in_ok-started.ensures.kernel s.5 s.6 c.as_slice-lines.ensures.value in
-    IfErr-weaker c.save_lines.result _ _ (λ f h. (s.0, h.0, s.3, h.1, inr (s.1, s.2, c.in_ok-started.started.lines.items, s.4, subst (λ (t : List ℕ). IsUnsaved c.args.log.now t h.0 f) text h.2))) c.save_lines.ensures.unsaved
+    let text = script_history c.in_ok-started.started.machine.kernel s.1 s.2 (world_of c.in_ok-started.started.machine) c.in_ok-started.started.other c.in_ok-started.started.lines.items c.in_ok-started.started.lines.items c.in_ok-started.ensures.kernel s.5 s.6 refl in
+    IfErr-weaker c.perform_and_save.result _ _ (λ f h. (s.0, h.0, s.3, h.1, inr (s.1, s.2, c.in_ok-started.started.lines.items, s.4, subst (λ (t : List ℕ). IsUnsaved c.args.log.now t h.0 f) text h.2))) c.perform_and_save.ensures.unsaved

@@ -18,8 +18,8 @@ returns-in_err-started-clause-fault g c =
 pub print_trace-requires-clause-actors : goal.print_trace-requires-clause-actors
 print_trace-requires-clause-actors g c =
     let s = c.in_ok-started.ensures.started in
-    let whole = saved_by_actors c.args.config.now c.args.log.now s.0 s.1 s.2 c.in_ok-started.started.lines.items c.as_slice.result.now (world_of c.in_ok-started.started.machine) c.as_slice.ensures.value s.5 s.4 in
-    front_by_actors (λ (x : Record). x.actor < actors (world_of c.in_ok-started.started.machine)) c.as_slice.result.now c.first_records-records.result.now c.args.to c.first_records-records.ensures.first whole
+    let whole = saved_by_actors c.args.chosen.config.now c.args.chosen.log.now s.0 s.1 s.2 c.in_ok-started.started.lines.items c.as_slice.result.now (world_of c.in_ok-started.started.machine) c.as_slice.ensures.value s.5 s.4 in
+    front_by_actors (λ (x : Record). x.actor < actors (world_of c.in_ok-started.started.machine)) c.as_slice.result.now c.first_records-records.result.now c.args.chosen.to c.first_records-records.ensures.first whole
 
 pub returns-clause-printed : goal.returns-clause-printed
 returns-clause-printed g c =
@@ -31,8 +31,8 @@ returns-clause-printed g c =
       c.in_ok-started.started.lines.items,
       s.3,
       s.4,
-      trace_printed (λ (text : List ℕ). Appends (g.W.Write.contents c.args.out.now) (g.W.Write.contents c.print_trace.new.out) text) s.1 s.2 c.in_ok-started.started.lines.items c.first_records-records.result.now (world_of c.in_ok-started.started.machine) c.args.from c.args.to replayed
-          (c.first_records-records.ensures.first ∙ ap (λ (rs : List Record). take c.args.to rs) c.as_slice.ensures.value) s.5 b,
+      trace_printed (λ (text : List ℕ). Appends (g.W.Write.contents c.args.out.now) (g.W.Write.contents c.print_trace.new.out) text) s.1 s.2 c.in_ok-started.started.lines.items c.first_records-records.result.now (world_of c.in_ok-started.started.machine) c.args.chosen.from c.args.chosen.to replayed
+          (c.first_records-records.ensures.first ∙ ap (λ (rs : List Record). take c.args.chosen.to rs) c.as_slice.ensures.value) s.5 b,
     )) c.print_trace.ensures.printed
 
 pub returns-clause-fault : goal.returns-clause-fault

@@ -10,11 +10,13 @@ use Rattle.mx_machine_kernel.proofs.booting.enter.Goals as goal
 pub loop-service-init : goal.loop-service-init
 loop-service-init c = c.requires.empty ∙ sym (first-empty c.args.table.now.rules)
 
-pub add-requires-clause-room : goal.add-requires-clause-room
-add-requires-clause-room c =
+pub add-requires : goal.add-requires
+add-requires c =
     let so_far = take c.loop-service.service-index c.args.services.now in
-    subst (λ (w : TableState). length w.slots < 32) (sym c.loop-service.invariant)
-    (omega (arith, first-used c.args.table.now.rules so_far, length-take-le c.loop-service.service-index c.args.services.now (omega arith)))
+    record {
+      room = subst (λ (w : TableState). length w.slots < 32) (sym c.loop-service.invariant)
+          (omega (arith, first-used c.args.table.now.rules so_far, length-take-le c.loop-service.service-index c.args.services.now (omega arith)));
+    }
 
 pub loop-service-preserved : goal.loop-service-preserved
 loop-service-preserved c =
@@ -22,8 +24,8 @@ loop-service-preserved c =
     let n = c.loop-service.service-index in
     let so_far = take n c.args.services.now in
     c.in_ok-add.ensures.ok.0
-    ∙ ap (λ (m : Image). table_after_add c.loop-service.table m s.masks s.level s.best s.quantum) c.in_ok-image.ensures.image
-    ∙ ap (λ (w : TableState). table_after_add w (image_of_program s.program) s.masks s.level s.best s.quantum) c.loop-service.invariant
-    ∙ sym (first-more c.args.table.now.rules so_far s s.lowest)
+    ∙ ap (λ (m : Image). table_after_add c.loop-service.table m s.terms) c.in_ok-image.ensures.image
+    ∙ ap (λ (w : TableState). table_after_add w (image_of_program s.program) s.terms) c.loop-service.invariant
+    ∙ sym (first-more c.args.table.now.rules so_far s s.terms.lowest)
     ∙ ap (λ x. first_table c.args.table.now.rules (so_far ++ x ∷ [])) c.service-item.is
     ∙ ap (first_table c.args.table.now.rules) (sym (take_more c.args.services.now n s (omega arith)))

@@ -9,6 +9,6 @@ pub push_back-requires-clause-absent : goal.push_back-requires-clause-absent
 push_back-requires-clause-absent c = subst (InNoList c.self.inside.ready) (sym (ap length c.as_slice.ensures.value)) (nobody_listed _ c.self.invariant)
 
 pub invariant_of-self : goal.invariant_of-self
-invariant_of-self c = grown _ _ c.args.level _ c.self.invariant (subst (λ (w : TableState). length w.slots < 32) (sym c.self.view_is) c.requires.room) c.requires.level refl refl
-    (record { level = c.requires.level; best = c.requires.best; quantum = c.requires.quantum; ticks = c.requires.quantum; generation = lit< tt; pending = refl; windows = refl; alarm = _; buffer = λ m. cc })
-    c.in-Ok.ensures.items (c.push_back.ensures ∙ ap (λ s. slice_set c.self.inside.ready c.args.level (list_at c.self.inside.ready c.args.level ++ s ∷ [])) (ap length c.as_slice.ensures.value)) refl refl refl
+invariant_of-self c = grown _ _ c.args.terms.level _ c.self.invariant (subst (λ (w : TableState). length w.slots < 32) (sym c.self.view_is) c.requires.room) c.args.terms.lowest refl refl
+    (record { level = c.args.terms.lowest; best = c.args.terms.best_above; quantum = c.args.terms.quantum_fits; ticks = c.args.terms.quantum_fits; generation = lit< tt; pending = refl; windows = refl; alarm = _; buffer = λ m. cc })
+    c.in-Ok.ensures.items (c.push_back.ensures ∙ ap (λ s. slice_set c.self.inside.ready c.args.terms.level (list_at c.self.inside.ready c.args.terms.level ++ s ∷ [])) (ap length c.as_slice.ensures.value)) refl refl refl
