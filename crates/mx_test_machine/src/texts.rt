@@ -644,9 +644,9 @@ fn is_saved_to(alloc: Global, row: &Saved, room: usize) -> bool {
     is_whole == (room >= text.len()) && sink.into_writer().bytes.as_slice() == front
 }
 
-fn is_read_again(alloc: Global, machine: &Config, row: &Saved) -> bool {
-    match log(alloc, row.text, machine) {
-        Ok((again, records)) => again == row.rules && records.as_slice() == RECORDS,
+fn is_read_again(alloc: Global, machine: &Config, rules: Rules, text: &str) -> bool {
+    match log(alloc, text, machine) {
+        Ok((again, records)) => again == rules && records.as_slice() == RECORDS,
         Err(_) => false,
     }
 }
@@ -672,7 +672,7 @@ const MACHINE: &str =
 fn read_saves_again(rt: &impl Abort, alloc: Global, machine: &Config) {
     for row in SAVES {
         let name = row.name;
-        assert!(rt; is_read_again(alloc, machine, row), "{name}");
+        assert!(rt; is_read_again(alloc, machine, row.rules, row.text), "{name}");
     }
 }
 
