@@ -186,12 +186,78 @@ difference_worked_out x y c d f left right most same_direction =
     let lower : bit_xor (bit_xor x y) n / 2 ^ 31 % 2 ≡ (x / 2 ^ 31 % 2 + y / 2 ^ 31 % 2 + m / 2 ^ 31 % 2) % 2 = omega (arith, lower_bit, three_bits x y n 31) in
     rw (difference_left x y c n m left right most whole low, difference_borrowed x y c n left right most refl, difference_auxiliary x y c n m most whole low, difference_bits x y c m _ _ left right most whole upper lower, same_direction) refl
 
-pub logic_worked_out : (n k : ℕ) (d : Bool) (f : FlagValues) → (k / 16 % 2 == 1) ≡ f.auxiliary → d ≡ f.direction → worked_out n n (k / 16 % 2 * 16) false d ≡ logic_flags 32 n f
-logic_worked_out n k d f same_auxiliary same_direction =
+-- ---- a difference of bytes, as that of two dwords that have them on top
+
+abbrev pub on_top : ℕ → ℕ
+on_top x = x * 2 ^ 24
+
+abbrev pub difference_on_top : ℕ → ℕ → ℕ
+difference_on_top x y = (on_top x + (2 ^ 64 - on_top y)) % 2 ^ 64
+
+-- below bit 33 it is that of 2 ^ 9 more
+on_top_wraps : (x y n m : ℕ) → x < 2 ^ 8 → y < 2 ^ 8 → n ≡ difference_on_top x y → m + y ≡ 2 ^ 9 + x → n % 2 ^ 33 ≡ on_top m % 2 ^ 33
+on_top_wraps x y n m left right whole other = elim (cases_lt x y) [
+  | inl borrowed ↦ (let e : n + on_top y ≡ 2 ^ 64 + on_top x = omega arith in omega arith)
+  | inr enough ↦ (let e : n + on_top y ≡ on_top x = omega arith in omega arith)
+]
+
+byte_auxiliary : (x y m b : ℕ) → m + y ≡ 2 ^ 9 + x → b ≡ (x / 16 % 2 + y / 16 % 2 + m / 16 % 2) % 2 → (b == 1) ≡ leaves_unsigned 4 (pos (x % 16) -ℤ pos (y % 16) -ℤ pos 0)
+byte_auxiliary x y m b whole bit = grind (arith)
+
+byte_borrowed : (x y n : ℕ) → x < 2 ^ 8 → y < 2 ^ 8 → n ≡ difference_on_top x y → nat_le (2 ^ 32) n ≡ leaves_unsigned 8 (pos x -ℤ pos y -ℤ pos 0)
+byte_borrowed x y n left right whole = elim (cases_lt x y) [
+  | inl borrowed ↦ (let e : n + on_top y ≡ 2 ^ 64 + on_top x = omega arith in grind (arith))
+  | inr enough ↦ (let e : n + on_top y ≡ on_top x = omega arith in grind (arith))
+]
+
+byte_left : (x y m : ℕ) → x < 2 ^ 8 → y < 2 ^ 8 → m + y ≡ 2 ^ 9 + x → m % 2 ^ 8 ≡ modulo 8 (pos x -ℤ pos y -ℤ pos 0)
+byte_left x y m left right whole =
+    let least : m ≡ 2 ^ 9 + x - y = omega arith in
+    rw least (grind (arith))
+
+byte_small : (x : ℕ) → x < 2 ^ 7 → signed 8 x ≡ pos x
+byte_small x small = grind (arith)
+
+byte_large : (x : ℕ) → 2 ^ 7 ≤ x → signed 8 x ≡ pos x -ℤ pos (2 ^ 8)
+byte_large x large = grind (arith)
+
+leaves_on_top : (x y : ℕ) → x < 2 ^ 8 → y < 2 ^ 8 → leaves_signed 32 (signed 32 (on_top x) -ℤ signed 32 (on_top y) -ℤ pos 0) ≡ leaves_signed 8 (signed 8 x -ℤ signed 8 y -ℤ pos 0)
+leaves_on_top x y left right = elim (cases_lt x (2 ^ 7)) [
+  | inl xs ↦ elim (cases_lt y (2 ^ 7)) [
+    | inl ys ↦ rw (byte_small x xs, byte_small y ys, signed_small (on_top x) (omega arith), signed_small (on_top y) (omega arith)) (grind (arith))
+    | inr yl ↦ rw (byte_small x xs, byte_large y yl, signed_small (on_top x) (omega arith), signed_large (on_top y) (omega arith)) (grind (arith))
+  ]
+  | inr xl ↦ elim (cases_lt y (2 ^ 7)) [
+    | inl ys ↦ rw (byte_large x xl, byte_small y ys, signed_large (on_top x) (omega arith), signed_small (on_top y) (omega arith)) (grind (arith))
+    | inr yl ↦ rw (byte_large x xl, byte_large y yl, signed_large (on_top x) (omega arith), signed_large (on_top y) (omega arith)) (grind (arith))
+  ]
+]
+
+pub byte_difference_worked_out : (x y word : ℕ) (d : Bool) (f : FlagValues) → x < 2 ^ 8 → y < 2 ^ 8 →
+    is_negative 32 word ≡ is_negative 8 (difference_on_top x y / 2 ^ 24 % 2 ^ 8) → has_even_ones word ≡ has_even_ones (difference_on_top x y / 2 ^ 24 % 2 ^ 8) → d ≡ f.direction →
+    worked_out (difference_on_top x y / 2 ^ 24 % 2 ^ 8) word (bit_xor (bit_xor (on_top x) (on_top y)) (difference_on_top x y) / 2 ^ 28 % 2 * 16 + bit_xor (bit_xor (on_top x) (on_top y)) (difference_on_top x y) / 2 ^ 31 % 4 * 2 ^ 31) (nat_le (2 ^ 32) (difference_on_top x y)) d ≡ sub_flags 8 x y 0 f
+byte_difference_worked_out x y word d f left right same_sign same_parity same_direction =
+    let n : ℕ = difference_on_top x y in
+    let m : ℕ = 2 ^ 9 + x - y in
+    let k : ℕ = bit_xor (bit_xor (on_top x) (on_top y)) n in
+    let whole : m + y ≡ 2 ^ 9 + x = omega arith in
+    let low : n % 2 ^ 33 ≡ on_top m % 2 ^ 33 = on_top_wraps x y n m left right refl whole in
+    let byte : n / 2 ^ 24 % 2 ^ 8 ≡ m % 2 ^ 8 = omega (arith, low) in
+    let bit : k / 2 ^ 28 % 2 ≡ (x / 16 % 2 + y / 16 % 2 + m / 16 % 2) % 2 = omega (arith, low, three_bits (on_top x) (on_top y) n 28) in
+    let kept_auxiliary : (k / 2 ^ 28 % 2 * 16 + k / 2 ^ 31 % 4 * 2 ^ 31) / 16 % 2 ≡ k / 2 ^ 28 % 2 = omega arith in
+    let kept_upper : (k / 2 ^ 28 % 2 * 16 + k / 2 ^ 31 % 4 * 2 ^ 31) / 2 ^ 32 % 2 ≡ k / 2 ^ 32 % 2 = omega arith in
+    let kept_lower : (k / 2 ^ 28 % 2 * 16 + k / 2 ^ 31 % 4 * 2 ^ 31) / 2 ^ 31 % 2 ≡ k / 2 ^ 31 % 2 = omega arith in
+    let upper : k / 2 ^ 32 % 2 ≡ (on_top x / 2 ^ 32 % 2 + on_top y / 2 ^ 32 % 2 + on_top m / 2 ^ 32 % 2) % 2 = omega (arith, low, three_bits (on_top x) (on_top y) n 32) in
+    let lower : k / 2 ^ 31 % 2 ≡ (on_top x / 2 ^ 31 % 2 + on_top y / 2 ^ 31 % 2 + on_top m / 2 ^ 31 % 2) % 2 = omega (arith, low, three_bits (on_top x) (on_top y) n 31) in
+    let overflow = difference_bits (on_top x) (on_top y) 0 (on_top m) (k / 2 ^ 32 % 2) (k / 2 ^ 31 % 2) (omega arith) (omega arith) (omega arith) (omega arith) upper lower in
+    rw (same_sign, same_parity, byte, byte_left x y m left right whole, byte_borrowed x y n left right refl, kept_auxiliary, byte_auxiliary x y m (k / 2 ^ 28 % 2) whole bit, kept_upper, kept_lower, overflow, leaves_on_top x y left right, same_direction) refl
+
+pub logic_worked_out : (w n word k : ℕ) (d : Bool) (f : FlagValues) → is_negative 32 word ≡ is_negative w n → has_even_ones word ≡ has_even_ones n → (k / 16 % 2 == 1) ≡ f.auxiliary → d ≡ f.direction → worked_out n word (k / 16 % 2 * 16) false d ≡ logic_flags w n f
+logic_worked_out w n word k d f same_sign same_parity same_auxiliary same_direction =
     let auxiliary : k / 16 % 2 * 16 / 16 % 2 ≡ k / 16 % 2 = omega arith in
     let upper : k / 16 % 2 * 16 / 2 ^ 32 % 2 ≡ 0 = omega arith in
     let lower : k / 16 % 2 * 16 / 2 ^ 31 % 2 ≡ 0 = omega arith in
-    rw (auxiliary, upper, lower, same_auxiliary, same_direction) refl
+    rw (auxiliary, upper, lower, same_sign, same_parity, same_auxiliary, same_direction) refl
 
 pub marked : (rest word k : ℕ) (c o d : Bool) (f : FlagValues) → has_even_ones word ≡ f.parity → (k / 16 % 2 == 1) ≡ f.auxiliary → (rest == 0) ≡ f.zero → is_negative 32 word ≡ f.sign → d ≡ f.direction →
     worked_out rest word (k / 16 % 2 * 16 + 2 ^ 31 * from_bool o) c d ≡ record f { carry = c; overflow = o }

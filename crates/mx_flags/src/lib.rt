@@ -3,7 +3,7 @@
 
 ghost use Rattle.std.specs.Prelude.{◌≡◌, ◌+◌, ◌-◌, ◌^◌, ◌<◌, ◌%◌, ◌/◌};
 ghost use Rattle.std.specs.Int.{from_bool};
-ghost use Rattle.mx_word.specs.Word.{width, leaves_unsigned};
+ghost use Rattle.mx_word.specs.Word.{has_even_ones, is_negative, width, leaves_unsigned};
 ghost use Rattle.mx_flags.specs.Flags.{bits_of, values_of, low_byte_flags, result_flags, arithmetic_flags, add_flags, sub_flags, increment_flags, decrement_flags, logic_flags, is_less, holds};
 
 use mx_word::{Condition, Size, differ, difference, has_even_ones, signed, sum};
@@ -271,19 +271,15 @@ impl Flags {
     }
 
     /// With zero, sign and parity of a result.
+    #[inline(always)]
     pub fn after_result(&self, size: Size, word: u32) -> Flags
         requires { word < 2 ^ width size }
         ensures { result ≡ result_flags (width size) word self.now }
     {
-        match size {
-            Size::Byte | Size::Word => Flags::from_values(self.result_values(size, word)),
-            Size::Dword => Flags {
-                zero: word,
-                word,
-                carries: self.carries,
-                carry: self.carry,
-                direction: self.direction,
-            },
+        Flags {
+            zero: word,
+            word: with_sign_on_top(size, word),
+            ..self.copied()
         }
     }
 
@@ -293,23 +289,9 @@ impl Flags {
         requires { word < 2 ^ width size }
         ensures { result ≡ logic_flags (width size) word self.now }
     {
-        match size {
-            Size::Byte | Size::Word => Flags::from_values(FlagValues {
-                carry: false,
-                overflow: false,
-                ..self.result_values(size, word)
-            }),
-            Size::Dword => self.after_logic_of_dwords(word),
-        }
-    }
-
-    #[inline(always)]
-    fn after_logic_of_dwords(&self, word: u32) -> Flags
-        ensures { result ≡ logic_flags 32 word self.now }
-    {
         Flags {
             zero: word,
-            word,
+            word: with_sign_on_top(size, word),
             carries: self.carries / 16 % 2 * 16,
             carry: 0,
             direction: self.direction,
@@ -352,6 +334,7 @@ impl Flags {
         ensures { result ≡ sub_flags (width size) x y (from_bool borrow) self.now }
     {
         match size {
+            Size::Byte if !borrow => self.after_difference_of_bytes(x, y),
             Size::Byte | Size::Word => {
                 Flags::from_values(self.difference_values(size, x, y, borrow))
             }
@@ -371,6 +354,28 @@ impl Flags {
             zero: word,
             word,
             carries: u64::from(x) ^ u64::from(y) ^ whole,
+            carry: u32::from(whole >= 0x1_0000_0000),
+            direction: self.direction,
+        }
+    }
+
+    /// As the difference of two dwords that have the bytes on top. Parity is the byte's, and what
+    /// bit 4 had from below stands 24 bits higher.
+    #[inline(always)]
+    fn after_difference_of_bytes(&self, x: u32, y: u32) -> Flags
+        requires left { x < 2 ^ 8 }
+        requires right { y < 2 ^ 8 }
+        ensures { result ≡ sub_flags 8 x y 0 self.now }
+    {
+        let left = u64::from(x) * 0x100_0000;
+        let right = u64::from(y) * 0x100_0000;
+        let whole = left.wrapping_sub(right);
+        let carries = left ^ right ^ whole;
+        let byte = (whole / 0x100_0000 % 0x100) as u32;
+        Flags {
+            zero: byte,
+            word: with_sign_on_top(Size::Byte, byte),
+            carries: carries / 0x1000_0000 % 2 * 16 + carries / 0x8000_0000 % 4 * 0x8000_0000,
             carry: u32::from(whole >= 0x1_0000_0000),
             direction: self.direction,
         }
@@ -446,6 +451,21 @@ impl Flags {
             parity: has_even_ones(word),
             ..self.values()
         }
+    }
+}
+
+/// A result and, above it, the result again with its sign as bit 31: so parity and sign stand where a
+/// dword has them.
+#[inline(always)]
+fn with_sign_on_top(size: Size, word: u32) -> u32
+    requires { word < 2 ^ width size }
+    ensures sign { is_negative 32 result ≡ is_negative (width size) word }
+    ensures parity { has_even_ones result ≡ has_even_ones word }
+{
+    match size {
+        Size::Byte => word * 0x100_0001,
+        Size::Word => word * 0x1_0001,
+        Size::Dword => word,
     }
 }
 
