@@ -672,7 +672,10 @@ const MACHINE: &str =
 fn read_saves_again(rt: &impl Abort, alloc: Global, machine: &Config) {
     for row in SAVES {
         let name = row.name;
-        assert!(rt; is_read_again(alloc, machine, row.rules, row.text), "{name}");
+        assert!(rt;
+            is_read_again(alloc, machine, row.rules, row.text),
+            "{name}"
+        );
     }
 }
 
