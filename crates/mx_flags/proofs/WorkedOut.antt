@@ -167,14 +167,14 @@ difference_left x y c n m left right most whole low =
     let least : m ≡ 2 ^ 33 + x - y - c = omega arith in
     rw (same_word, least) (grind (arith))
 
-difference_borrowed : (x y c n : ℕ) → x < 2 ^ 32 → y < 2 ^ 32 → c ≤ 1 → n ≡ wrapped_difference x y c → nat_le (2 ^ 32) n ≡ leaves_unsigned 32 (pos x -ℤ pos y -ℤ pos c)
+difference_borrowed : (x y c n : ℕ) → x < 2 ^ 32 → y < 2 ^ 32 → c ≤ 1 → n ≡ wrapped_difference x y c → (n / 2 ^ 63 == 1) ≡ leaves_unsigned 32 (pos x -ℤ pos y -ℤ pos c)
 difference_borrowed x y c n left right most whole = elim (cases_lt x (y + c)) [
   | inl borrowed ↦ (let e : n + y + c ≡ 2 ^ 64 + x = omega arith in grind (arith))
   | inr enough ↦ (let e : n + y + c ≡ x = omega arith in grind (arith))
 ]
 
 pub difference_worked_out : (x y c : ℕ) (d : Bool) (f : FlagValues) → x < 2 ^ 32 → y < 2 ^ 32 → c ≤ 1 → d ≡ f.direction →
-    worked_out (wrapped_difference x y c % 2 ^ 32) (wrapped_difference x y c % 2 ^ 32) (bit_xor (bit_xor x y) (wrapped_difference x y c)) (nat_le (2 ^ 32) (wrapped_difference x y c)) d ≡ sub_flags 32 x y c f
+    worked_out (wrapped_difference x y c % 2 ^ 32) (wrapped_difference x y c % 2 ^ 32) (bit_xor (bit_xor x y) (wrapped_difference x y c)) (wrapped_difference x y c / 2 ^ 63 == 1) d ≡ sub_flags 32 x y c f
 difference_worked_out x y c d f left right most same_direction =
     let n : ℕ = wrapped_difference x y c in
     let m : ℕ = 2 ^ 33 + x - y - c in
@@ -186,28 +186,30 @@ difference_worked_out x y c d f left right most same_direction =
     let lower : bit_xor (bit_xor x y) n / 2 ^ 31 % 2 ≡ (x / 2 ^ 31 % 2 + y / 2 ^ 31 % 2 + m / 2 ^ 31 % 2) % 2 = omega (arith, lower_bit, three_bits x y n 31) in
     rw (difference_left x y c n m left right most whole low, difference_borrowed x y c n left right most refl, difference_auxiliary x y c n m most whole low, difference_bits x y c m _ _ left right most whole upper lower, same_direction) refl
 
--- ---- a difference of bytes, as that of two dwords that have them on top
+-- ---- a difference of bytes, with the borrow in all bits above
 
-abbrev pub on_top : ℕ → ℕ
-on_top x = x * 2 ^ 24
+-- x - y as it wraps in 64 bits
+abbrev pub difference_of_bytes : ℕ → ℕ → ℕ
+difference_of_bytes x y = (x + (2 ^ 64 - y)) % 2 ^ 64
 
-abbrev pub difference_on_top : ℕ → ℕ → ℕ
-difference_on_top x y = (on_top x + (2 ^ 64 - on_top y)) % 2 ^ 64
+-- what its bits had from below
+abbrev pub byte_carries : ℕ → ℕ → ℕ
+byte_carries x y = bit_xor (bit_xor x y) (difference_of_bytes x y)
 
--- below bit 33 it is that of 2 ^ 9 more
-on_top_wraps : (x y n m : ℕ) → x < 2 ^ 8 → y < 2 ^ 8 → n ≡ difference_on_top x y → m + y ≡ 2 ^ 9 + x → n % 2 ^ 33 ≡ on_top m % 2 ^ 33
-on_top_wraps x y n m left right whole other = elim (cases_lt x y) [
-  | inl borrowed ↦ (let e : n + on_top y ≡ 2 ^ 64 + on_top x = omega arith in omega arith)
-  | inr enough ↦ (let e : n + on_top y ≡ on_top x = omega arith in omega arith)
+-- m is 2 ^ 9 more, so that its bit 8 is the borrow
+bytes_wrap : (x y n m : ℕ) → x < 2 ^ 8 → y < 2 ^ 8 → n ≡ difference_of_bytes x y → m + y ≡ 2 ^ 9 + x → n % 2 ^ 33 ≡ m % 2 ^ 8 + m / 2 ^ 8 % 2 * (2 ^ 33 - 2 ^ 8)
+bytes_wrap x y n m left right whole other = elim (cases_lt x y) [
+  | inl borrowed ↦ (let e : n + y ≡ 2 ^ 64 + x = omega arith in omega arith)
+  | inr enough ↦ (let e : n + y ≡ x = omega arith in omega arith)
 ]
 
 byte_auxiliary : (x y m b : ℕ) → m + y ≡ 2 ^ 9 + x → b ≡ (x / 16 % 2 + y / 16 % 2 + m / 16 % 2) % 2 → (b == 1) ≡ leaves_unsigned 4 (pos (x % 16) -ℤ pos (y % 16) -ℤ pos 0)
 byte_auxiliary x y m b whole bit = grind (arith)
 
-byte_borrowed : (x y n : ℕ) → x < 2 ^ 8 → y < 2 ^ 8 → n ≡ difference_on_top x y → nat_le (2 ^ 32) n ≡ leaves_unsigned 8 (pos x -ℤ pos y -ℤ pos 0)
+byte_borrowed : (x y n : ℕ) → x < 2 ^ 8 → y < 2 ^ 8 → n ≡ difference_of_bytes x y → (n / 2 ^ 63 == 1) ≡ leaves_unsigned 8 (pos x -ℤ pos y -ℤ pos 0)
 byte_borrowed x y n left right whole = elim (cases_lt x y) [
-  | inl borrowed ↦ (let e : n + on_top y ≡ 2 ^ 64 + on_top x = omega arith in grind (arith))
-  | inr enough ↦ (let e : n + on_top y ≡ on_top x = omega arith in grind (arith))
+  | inl borrowed ↦ (let e : n + y ≡ 2 ^ 64 + x = omega arith in grind (arith))
+  | inr enough ↦ (let e : n + y ≡ x = omega arith in grind (arith))
 ]
 
 byte_left : (x y m : ℕ) → x < 2 ^ 8 → y < 2 ^ 8 → m + y ≡ 2 ^ 9 + x → m % 2 ^ 8 ≡ modulo 8 (pos x -ℤ pos y -ℤ pos 0)
@@ -221,6 +223,10 @@ byte_small x small = grind (arith)
 byte_large : (x : ℕ) → 2 ^ 7 ≤ x → signed 8 x ≡ pos x -ℤ pos (2 ^ 8)
 byte_large x large = grind (arith)
 
+-- as two dwords that have the bytes on top
+abbrev on_top : ℕ → ℕ
+on_top x = x * 2 ^ 24
+
 leaves_on_top : (x y : ℕ) → x < 2 ^ 8 → y < 2 ^ 8 → leaves_signed 32 (signed 32 (on_top x) -ℤ signed 32 (on_top y) -ℤ pos 0) ≡ leaves_signed 8 (signed 8 x -ℤ signed 8 y -ℤ pos 0)
 leaves_on_top x y left right = elim (cases_lt x (2 ^ 7)) [
   | inl xs ↦ elim (cases_lt y (2 ^ 7)) [
@@ -233,24 +239,37 @@ leaves_on_top x y left right = elim (cases_lt x (2 ^ 7)) [
   ]
 ]
 
+byte_overflows : (x y m u l : ℕ) → x < 2 ^ 8 → y < 2 ^ 8 → m + y ≡ 2 ^ 9 + x → u ≡ m / 2 ^ 8 % 2 → l ≡ (x / 2 ^ 7 % 2 + y / 2 ^ 7 % 2 + m / 2 ^ 7 % 2) % 2 →
+    differ (u == 1) (l == 1) ≡ leaves_signed 8 (signed 8 x -ℤ signed 8 y -ℤ pos 0)
+byte_overflows x y m u l left right whole upper lower =
+    let dwords = difference_bits (on_top x) (on_top y) 0 (on_top m) u l (omega arith) (omega arith) (omega arith) (omega arith) (omega arith) (omega arith) in
+    rw (leaves_on_top x y left right) at dwords
+
+bit_together : (u l : ℕ) → u ≤ 1 → l ≤ 1 → differ (0 == 1) ((u + l) % 2 == 1) ≡ differ (u == 1) (l == 1)
+bit_together u l small_upper small_lower = grind (arith)
+
 pub byte_difference_worked_out : (x y word : ℕ) (d : Bool) (f : FlagValues) → x < 2 ^ 8 → y < 2 ^ 8 →
-    is_negative 32 word ≡ is_negative 8 (difference_on_top x y / 2 ^ 24 % 2 ^ 8) → has_even_ones word ≡ has_even_ones (difference_on_top x y / 2 ^ 24 % 2 ^ 8) → d ≡ f.direction →
-    worked_out (difference_on_top x y / 2 ^ 24 % 2 ^ 8) word (bit_xor (bit_xor (on_top x) (on_top y)) (difference_on_top x y) / 2 ^ 28 % 2 * 16 + bit_xor (bit_xor (on_top x) (on_top y)) (difference_on_top x y) / 2 ^ 31 % 4 * 2 ^ 31) (nat_le (2 ^ 32) (difference_on_top x y)) d ≡ sub_flags 8 x y 0 f
+    is_negative 32 word ≡ is_negative 8 (difference_of_bytes x y % 2 ^ 8) → has_even_ones word ≡ has_even_ones (difference_of_bytes x y % 2 ^ 8) → d ≡ f.direction →
+    worked_out (difference_of_bytes x y % 2 ^ 8) word (bit_xor (byte_carries x y) (byte_carries x y * 2 ^ 24 % 2 ^ 64)) (difference_of_bytes x y / 2 ^ 63 == 1) d ≡ sub_flags 8 x y 0 f
 byte_difference_worked_out x y word d f left right same_sign same_parity same_direction =
-    let n : ℕ = difference_on_top x y in
+    let n : ℕ = difference_of_bytes x y in
     let m : ℕ = 2 ^ 9 + x - y in
-    let k : ℕ = bit_xor (bit_xor (on_top x) (on_top y)) n in
+    let k : ℕ = byte_carries x y in
+    let kept : ℕ = bit_xor k (k * 2 ^ 24 % 2 ^ 64) in
+    let u : ℕ = m / 2 ^ 8 % 2 in
+    let l : ℕ = (x / 2 ^ 7 % 2 + y / 2 ^ 7 % 2 + m / 2 ^ 7 % 2) % 2 in
     let whole : m + y ≡ 2 ^ 9 + x = omega arith in
-    let low : n % 2 ^ 33 ≡ on_top m % 2 ^ 33 = on_top_wraps x y n m left right refl whole in
-    let byte : n / 2 ^ 24 % 2 ^ 8 ≡ m % 2 ^ 8 = omega (arith, low) in
-    let bit : k / 2 ^ 28 % 2 ≡ (x / 16 % 2 + y / 16 % 2 + m / 16 % 2) % 2 = omega (arith, low, three_bits (on_top x) (on_top y) n 28) in
-    let kept_auxiliary : (k / 2 ^ 28 % 2 * 16 + k / 2 ^ 31 % 4 * 2 ^ 31) / 16 % 2 ≡ k / 2 ^ 28 % 2 = omega arith in
-    let kept_upper : (k / 2 ^ 28 % 2 * 16 + k / 2 ^ 31 % 4 * 2 ^ 31) / 2 ^ 32 % 2 ≡ k / 2 ^ 32 % 2 = omega arith in
-    let kept_lower : (k / 2 ^ 28 % 2 * 16 + k / 2 ^ 31 % 4 * 2 ^ 31) / 2 ^ 31 % 2 ≡ k / 2 ^ 31 % 2 = omega arith in
-    let upper : k / 2 ^ 32 % 2 ≡ (on_top x / 2 ^ 32 % 2 + on_top y / 2 ^ 32 % 2 + on_top m / 2 ^ 32 % 2) % 2 = omega (arith, low, three_bits (on_top x) (on_top y) n 32) in
-    let lower : k / 2 ^ 31 % 2 ≡ (on_top x / 2 ^ 31 % 2 + on_top y / 2 ^ 31 % 2 + on_top m / 2 ^ 31 % 2) % 2 = omega (arith, low, three_bits (on_top x) (on_top y) n 31) in
-    let overflow = difference_bits (on_top x) (on_top y) 0 (on_top m) (k / 2 ^ 32 % 2) (k / 2 ^ 31 % 2) (omega arith) (omega arith) (omega arith) (omega arith) upper lower in
-    rw (same_sign, same_parity, byte, byte_left x y m left right whole, byte_borrowed x y n left right refl, kept_auxiliary, byte_auxiliary x y m (k / 2 ^ 28 % 2) whole bit, kept_upper, kept_lower, overflow, leaves_on_top x y left right, same_direction) refl
+    let low : n % 2 ^ 33 ≡ m % 2 ^ 8 + m / 2 ^ 8 % 2 * (2 ^ 33 - 2 ^ 8) = bytes_wrap x y n m left right refl whole in
+    let byte : n % 2 ^ 8 ≡ m % 2 ^ 8 = omega (arith, low) in
+    let bit_4 : k / 2 ^ 4 % 2 ≡ (x / 16 % 2 + y / 16 % 2 + m / 16 % 2) % 2 = omega (arith, low, three_bits x y n 4) in
+    let bit_7 : k / 2 ^ 7 % 2 ≡ l = omega (arith, low, three_bits x y n 7) in
+    let bit_8 : k / 2 ^ 8 % 2 ≡ u = omega (arith, low, three_bits x y n 8) in
+    let bit_31 : k / 2 ^ 31 % 2 ≡ u = omega (arith, low, three_bits x y n 31) in
+    let bit_32 : k / 2 ^ 32 % 2 ≡ u = omega (arith, low, three_bits x y n 32) in
+    let auxiliary : kept / 16 % 2 ≡ k / 2 ^ 4 % 2 = omega (arith, bit_at_xor k (k * 2 ^ 24 % 2 ^ 64) 4) in
+    let upper : kept / 2 ^ 32 % 2 ≡ 0 = omega (arith, bit_8, bit_32, bit_at_xor k (k * 2 ^ 24 % 2 ^ 64) 32) in
+    let lower : kept / 2 ^ 31 % 2 ≡ (u + l) % 2 = omega (arith, bit_7, bit_31, bit_at_xor k (k * 2 ^ 24 % 2 ^ 64) 31) in
+    rw (same_sign, same_parity, byte, byte_left x y m left right whole, byte_borrowed x y n left right refl, auxiliary, byte_auxiliary x y m (k / 2 ^ 4 % 2) whole bit_4, upper, lower, bit_together u l (omega arith) (omega arith), byte_overflows x y m u l left right whole refl refl, same_direction) refl
 
 pub logic_worked_out : (w n word k : ℕ) (d : Bool) (f : FlagValues) → is_negative 32 word ≡ is_negative w n → has_even_ones word ≡ has_even_ones n → (k / 16 % 2 == 1) ≡ f.auxiliary → d ≡ f.direction → worked_out n word (k / 16 % 2 * 16) false d ≡ logic_flags w n f
 logic_worked_out w n word k d f same_sign same_parity same_auxiliary same_direction =

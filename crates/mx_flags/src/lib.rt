@@ -9,6 +9,9 @@ ghost use Rattle.mx_flags.specs.Flags.{bits_of, values_of, low_byte_flags, resul
 use mx_word::{Condition, Size, differ, difference, has_even_ones, signed, sum};
 use std::marker::Model;
 
+/// The highest bit of 64: set in a difference that borrowed.
+const TOP_BIT: u64 = 0x8000_0000_0000_0000;
+
 /// The values of the seven flags (80386 Programmer's Reference Manual, 2.3.4).
 #[derive(Clone, Copy, PartialEq, Eq)]
 pub struct FlagValues {
@@ -354,29 +357,30 @@ impl Flags {
             zero: word,
             word,
             carries: u64::from(x) ^ u64::from(y) ^ whole,
-            carry: u32::from(whole >= 0x1_0000_0000),
+            carry: (whole / TOP_BIT) as u32,
             direction: self.direction,
         }
     }
 
-    /// As the difference of two dwords that have the bytes on top. Parity is the byte's, and what
-    /// bit 4 had from below stands 24 bits higher.
+    /// After the difference of two bytes. Above bit 7 all of `carries` is the borrow, and there is
+    /// overflow where bit 7 differs from it. Moved by 24 bits and put together, bit 7 with bit 31
+    /// gives the overflow, bit 8 with bit 32 gives zero, and bit 4 stays.
     #[inline(always)]
     fn after_difference_of_bytes(&self, x: u32, y: u32) -> Flags
         requires left { x < 2 ^ 8 }
         requires right { y < 2 ^ 8 }
         ensures { result ≡ sub_flags 8 x y 0 self.now }
     {
-        let left = u64::from(x) * 0x100_0000;
-        let right = u64::from(y) * 0x100_0000;
+        let left = u64::from(x);
+        let right = u64::from(y);
         let whole = left.wrapping_sub(right);
         let carries = left ^ right ^ whole;
-        let byte = (whole / 0x100_0000 % 0x100) as u32;
+        let byte = (whole % 0x100) as u32;
         Flags {
             zero: byte,
             word: with_sign_on_top(Size::Byte, byte),
-            carries: carries / 0x1000_0000 % 2 * 16 + carries / 0x8000_0000 % 4 * 0x8000_0000,
-            carry: u32::from(whole >= 0x1_0000_0000),
+            carries: carries ^ carries.wrapping_mul(0x100_0000),
+            carry: (whole / TOP_BIT) as u32,
             direction: self.direction,
         }
     }
