@@ -903,6 +903,8 @@ Each takes --explain: if it fails, a second line tells what was wanted.
         words: &["mx", "one", "--help"],
         ending: "stop trap after 3
 
+A step is one instruction, or one turn of REP.
+
 Status: 0 done, also if the program faults; 1 FILE is refused; 2 a mistake in the
 words; 3 FILE can't be read; 4 no memory. Formats: docs/REFERENCE.md.
 ",
