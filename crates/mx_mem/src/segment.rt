@@ -6,8 +6,10 @@ ghost use Rattle.mx_word.specs.Word.{width, bytes_in, value_at};
 ghost use Rattle.mx_mem.specs.Segment.{inside, read_at, with_value, bytes_after_write, bytes_after_copy, with_bytes_at, part, zero_page};
 
 mod copies;
+mod limit;
 mod page;
 
+use limit::Limit;
 use mx_insn::ArrayVec;
 use mx_word::{NoMemory, Size};
 use page::{PAGE, Page, qword_at, value_in};
@@ -27,7 +29,7 @@ pub struct OutOfLimit;
 pub struct Segment {
     /// The bytes up to the limit, and then zeros up to the end of the last page.
     pages: Vec<Page>,
-    limit: usize,
+    limit: Limit,
 }
 
 impl Model for Segment {
@@ -75,7 +77,10 @@ impl Segment {
     {
         let limit = limit as usize;
         let pages = zero_pages(alloc, (limit + (PAGE - 1)) / PAGE)?;
-        Ok(Segment { pages, limit })
+        Ok(Segment {
+            pages,
+            limit: Limit::new(limit),
+        })
     }
 
     /// The number of bytes of the segment.
@@ -84,7 +89,7 @@ impl Segment {
     pub fn limit(&self) -> usize
         ensures { result ≡ length self.now }
     {
-        self.limit
+        self.limit.bytes()
     }
 
     /// The byte at an address, or `None` if the address isn't inside.
@@ -131,7 +136,7 @@ impl Segment {
     pub fn holds(&self, at: u32, size: Size) -> bool
         ensures { result ≡ inside self.now at (bytes_in size) }
     {
-        at as usize + size.bytes() as usize <= self.limit()
+        self.limit.holds(at, size)
     }
 
     /// The number at an address. All its bytes must lie in one page.
@@ -328,7 +333,7 @@ impl Segment {
     fn are_bytes(&self)
         ensures { (i : ℕ) → slice_index self.now i < 256 }
     {
-        let _limit = self.limit;
+        let _limit = &self.limit;
     }
 
     /// The number in the eight bytes from an address on, lowest byte first. The address must be inside.
@@ -386,7 +391,7 @@ impl Segment {
     {
         Segment {
             pages: Vec::new(alloc),
-            limit: 0,
+            limit: Limit::new(0),
         }
     }
 
