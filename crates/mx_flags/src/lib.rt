@@ -467,8 +467,8 @@ fn with_sign_on_top(size: Size, word: u32) -> u32
     ensures parity { has_even_ones result ≡ has_even_ones word }
 {
     match size {
-        Size::Byte => word * 0x100_0001,
-        Size::Word => word * 0x1_0001,
+        Size::Byte => i32::from((word as u8).cast_signed()).cast_unsigned(),
+        Size::Word => i32::from((word as u16).cast_signed()).cast_unsigned(),
         Size::Dword => word,
     }
 }

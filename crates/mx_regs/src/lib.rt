@@ -2,6 +2,7 @@
 #![tactic(auto)]
 
 ghost use Rattle.std.specs.Prelude.{◌≡◌, ◌<◌, ◌^◌};
+ghost use Rattle.mx_word.specs.Names.{register_number};
 ghost use Rattle.mx_word.specs.Word.{width};
 ghost use Rattle.mx_regs.specs.Regs.{word_of_register, with_word, register_at, with_register, byte_home, is_second_byte, no_words};
 
@@ -53,7 +54,7 @@ impl Regs {
     {
         match size {
             Size::Byte => {
-                let word = self.word(byte_home(register));
+                let word = self.words[byte_home(register)];
                 if is_second_byte(register) {
                     word / 0x100 % 0x100
                 } else {
@@ -74,15 +75,12 @@ impl Regs {
         match size {
             Size::Byte => {
                 let home = byte_home(register);
-                let word = self.word(home);
-                if is_second_byte(register) {
-                    self.set_word(
-                        home,
-                        word / 0x1_0000 * 0x1_0000 + value * 0x100 + word % 0x100,
-                    );
+                let word = self.words[home];
+                self.words[home] = if is_second_byte(register) {
+                    word / 0x1_0000 * 0x1_0000 + value * 0x100 + word % 0x100
                 } else {
-                    self.set_word(home, word / 0x100 * 0x100 + value);
-                }
+                    word / 0x100 * 0x100 + value
+                };
             }
             Size::Word => self.set_word(
                 register,
@@ -93,24 +91,17 @@ impl Regs {
     }
 }
 
-/// The register that has the byte.
-fn byte_home(register: Register) -> Register
-    ensures { result ≡ byte_home register }
+/// Where the register stands that has the byte: AL and AH, with the numbers 0 and 4, are in the first.
+#[inline(always)]
+fn byte_home(register: Register) -> usize
+    ensures { result ≡ register_number (byte_home register) }
 {
-    match register {
-        Register::Eax | Register::Esp => Register::Eax,
-        Register::Ecx | Register::Ebp => Register::Ecx,
-        Register::Edx | Register::Esi => Register::Edx,
-        Register::Ebx | Register::Edi => Register::Ebx,
-    }
+    (register.number() % 4) as usize
 }
 
 /// Whether the byte is the second of its register: AH, CH, DH or BH.
 fn is_second_byte(register: Register) -> bool
     ensures { result ≡ is_second_byte register }
 {
-    match register {
-        Register::Eax | Register::Ecx | Register::Edx | Register::Ebx => false,
-        Register::Esp | Register::Ebp | Register::Esi | Register::Edi => true,
-    }
+    register.number() >= 4
 }
