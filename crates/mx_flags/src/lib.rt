@@ -281,7 +281,7 @@ impl Flags {
     {
         Flags {
             zero: word,
-            word: with_sign_on_top(size, word),
+            word: with_sign_extended(size, word),
             ..self.copied()
         }
     }
@@ -294,7 +294,7 @@ impl Flags {
     {
         Flags {
             zero: word,
-            word: with_sign_on_top(size, word),
+            word: with_sign_extended(size, word),
             carries: self.carries / 16 % 2 * 16,
             carry: 0,
             direction: self.direction,
@@ -378,7 +378,7 @@ impl Flags {
         let byte = (whole % 0x100) as u32;
         Flags {
             zero: byte,
-            word: with_sign_on_top(Size::Byte, byte),
+            word: with_sign_extended(Size::Byte, byte),
             carries: carries ^ carries.wrapping_mul(0x100_0000),
             carry: (whole / TOP_BIT) as u32,
             direction: self.direction,
@@ -458,10 +458,10 @@ impl Flags {
     }
 }
 
-/// A result and, above it, the result again with its sign as bit 31: so parity and sign stand where a
-/// dword has them.
+/// A result as a dword of the same sign. Its lowest byte stays, so parity and sign stand where those of a
+/// dword do.
 #[inline(always)]
-fn with_sign_on_top(size: Size, word: u32) -> u32
+fn with_sign_extended(size: Size, word: u32) -> u32
     requires { word < 2 ^ width size }
     ensures sign { is_negative 32 result ≡ is_negative (width size) word }
     ensures parity { has_even_ones result ≡ has_even_ones word }
