@@ -1,7 +1,6 @@
 -- From loops to a run, and from its text to its replay.
 use Rattle.std.proofs.Common.{◌≡◌, ◌≢◌, ◌∙◌, ◌+◌, ℕ, suc, List, [], ◌∷◌, ◌++◌, length, Option, Some, None, Result, Ok, Err, IfErr, OnOk, All, refl, sym, ap, subst, inl, inr, append_assoc}
 use Rattle.std.specs.Prelude.{IsErrAnd}
-use Rattle.std.specs.declared.io.ErrorKind.{ErrorKind}
 use Rattle.std.specs.Io.KnownBytes.{Appends}
 use Rattle.std.proofs.lemmas.List.{length-replicate}
 use Rattle.atomic_table.specs.Seated.{TableId}
@@ -22,9 +21,10 @@ use Rattle.mx_app_step.specs.ServiceLine.{ServiceLine}
 use Rattle.mx_app_step.specs.Setup.{AreServicesRead, IsSetup}
 use Rattle.mx_app_failure.specs.declared.failure.Failure.{Failure as Kind}
 use Rattle.mx_app_failure.specs.declared.failure.Failure.TheVariants.{NoMemory}
-use Rattle.mx_app_failure.specs.Failure.{IsWanting, failure_of_kind}
+use Rattle.mx_app_failure.specs.Failure.{IsWanting}
 use Rattle.mx_app_step.specs.Setup.{IsSetupFault}
-use Rattle.mx_app_step.specs.Written.{kept, unkept}
+use Rattle.mx_app_step.specs.Kept.{text_kept, IsUnwritten}
+use Rattle.mx_app_step.specs.Written.{Written, kept, unkept}
 use Rattle.mx_app_step.specs.Report.{report_text}
 use Rattle.mx_boot_history.specs.Text.{saved_text}
 use Rattle.mx_app_step.specs.Records.{IsFirstRefusal, IsRefusedAt, IsReplayPrinted}
@@ -75,18 +75,21 @@ module _ (config log : List ℕ) (ticks : ℕ) (qs : List Asked) (Prints : List 
   no_memory c vs (Ok u) setup h = absurd h
   no_memory c vs (Err y) setup h = inl (refl, inr (apart, inr (c, vs, setup, h)))
 
-  module _ (c : Config) (vs : List Service) (k : BootAndHistory) (setup : IsSetup config qs c vs) (run : IsRun c vs ticks k) (text : List ℕ) (is : text ≡ saved_text k.boot.table.rules k.history) where
-    by_rules : text ≡ saved_text c.rules k.history
-    by_rules = is ∙ ap (λ (r : Rules). saved_text r k.history) (ap (λ (w : World). w.table.rules) run.boot ∙ rules_at_boot c vs)
+  module _ (c : Config) (vs : List Service) (k : BootAndHistory) (setup : IsSetup config qs c vs) (run : IsRun c vs ticks k) where
+    by_rules : text_kept k ≡ saved_text c.rules k.history
+    by_rules = ap (λ (r : Rules). saved_text r k.history) (ap (λ (w : World). w.table.rules) run.boot ∙ rules_at_boot c vs)
 
-    pub unwritten : (kind : ErrorKind) (r : Result (Unit {0}) Kind) → IsErrAnd r (λ y. y ≡ failure_of_kind kind) → Runs config log ticks qs (unkept log text kind ∷ []) Prints r
-    unwritten kind (Ok u) h = absurd h
-    unwritten kind (Err y) h = inr (c, vs, k, apart, setup, run, inl (kind, ap (λ t. unkept log t kind ∷ []) by_rules, h))
+    pub unwritten : (ws : List Written) (f : Kind) (r : Result (Unit {0}) Kind) → IsUnwritten log (text_kept k) ws f → IsErrAnd r (λ y. y ≡ f) → Runs config log ticks qs ws Prints r
+    unwritten ws f (Ok u) why h = absurd h
+    unwritten ws f (Err y) why h = elim why [
+      | inl none ↦ inl (none.0, inr (apart, inr (c, vs, setup, h ∙ none.1)))
+      | inr file ↦ inr (c, vs, k, apart, setup, run, inl (file.0, file.1 ∙ ap (λ t. unkept log t file.0 ∷ []) by_rules, h ∙ file.2))
+    ]
 
-    pub written : (report : List ℕ) (r : Result (Unit {0}) Kind) → report ≡ report_text (replay k).table (replay k).services → IfErr r IsWanting → OnOk r (Prints report)
-        → Runs config log ticks qs (kept log text ∷ []) Prints r
-    written report (Ok u) e wanting printed = (c, vs, k, apart, setup, run, ap (λ t. kept log t ∷ []) by_rules, subst Prints e printed)
-    written report (Err f) e wanting printed = inr (c, vs, k, apart, setup, run, inr (ap (λ t. kept log t ∷ []) by_rules, wanting))
+    pub written : (r : Result (Unit {0}) Kind) → IfErr r IsWanting → OnOk r (Prints (report_text (replay k).table (replay k).services))
+        → Runs config log ticks qs (kept log (text_kept k) ∷ []) Prints r
+    written (Ok u) wanting printed = (c, vs, k, apart, setup, run, ap (λ t. kept log t ∷ []) by_rules, printed)
+    written (Err f) wanting printed = inr (c, vs, k, apart, setup, run, inr (ap (λ t. kept log t ∷ []) by_rules, wanting))
 
 -- ---- its replay
 

@@ -8,7 +8,7 @@ ghost use Rattle.mx_app_run.specs.Run.{EndsDriven, IsRun, Runs};
 
 use crate::gate::RunGate;
 use mx_app_step::{
-    Channels, Config, Failure, FileWriter, Reader, print_text, report, saved_text, setup_of,
+    Channels, Config, Failure, FileWriter, Reader, print_kernel, setup_of, write_history,
 };
 use mx_cpus_drive::{ActorSeat, Blank, Kernel, Naming, Service, Shared, boot, drive};
 use mx_word::NoMemory;
@@ -98,8 +98,6 @@ pub fn run<
     }
     let (config, services) = setup_of(alloc, &mut channels.reader, names.config)?;
     let kernel = run_machine(rt, alloc, &config, services, ticks)?;
-    let text = saved_text(alloc, &kernel)?;
-    let report = report(alloc, &kernel)?;
-    channels.files.write(alloc, names.log, text.as_slice())?;
-    print_text(report.as_slice(), &mut channels.out)
+    write_history(alloc, &kernel, &mut channels.files, names.log)?;
+    print_kernel(alloc, &kernel, &mut channels.out)
 }

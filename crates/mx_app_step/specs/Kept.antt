@@ -1,7 +1,12 @@
 -- What the lines of a script leave in the history (our own).
-use Rattle.std.specs.Prelude.{ℕ, List, [], ◌∷◌, Option, Some, None}
+use Rattle.std.specs.Prelude.{◌≡◌, ◌⊎◌, ℕ, List, [], ◌∷◌, Option, Some, None}
+use Rattle.std.specs.declared.io.ErrorKind.{ErrorKind}
+use Rattle.mx_app_failure.specs.declared.failure.Failure.{Failure}
+use Rattle.mx_app_failure.specs.declared.failure.Failure.TheVariants.{NoMemory}
+use Rattle.mx_app_failure.specs.Failure.{failure_of_kind}
 use Rattle.mx_app_start.specs.Machine.{kept_after}
 use Rattle.mx_app_start.specs.Text.{saved_text}
+use Rattle.mx_app_start.specs.Written.{Written, unkept}
 use Rattle.mx_boot_script.specs.declared.scripts.ScriptLine.{ScriptLine}
 use Rattle.mx_boot_script.specs.declared.scripts.ScriptLine.TheVariants.{Step, Take, Back, Line, Tick, Kill, Respawn}
 use Rattle.mx_machine_world.specs.declared.events.Event.{Event}
@@ -39,3 +44,8 @@ text_kept k = saved_text k.boot.table.rules k.history
 -- THE HISTORY that the lines of a script make of a machine at boot
 abbrev pub history_made : World → ℕ → List ScriptLine → List Record
 history_made w other lines = (lines_kept (record { boot = w; history = [] }) w other lines).history
+
+-- why a text isn't written to a file: out of memory, and nothing was written; or what came of the file
+abbrev pub IsUnwritten : List ℕ → List ℕ → List Written → Failure → Type 0
+IsUnwritten name text ws f =
+    ((ws ≡ []) × (f ≡ NoMemory)) ⊎ ((kind : ErrorKind) × (ws ≡ unkept name text kind ∷ []) × (f ≡ failure_of_kind kind))

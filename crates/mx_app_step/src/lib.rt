@@ -17,8 +17,8 @@ pub use mx_app_start::{
     ScriptLine, Tool, lines_above, print_text, report, saved_text, setup_of, start,
 };
 pub use mx_print_answers::Said;
-pub use printing::{pieces_join, print_piece, print_report};
+pub use printing::{pieces_join, print_kernel, print_piece, print_report};
 pub use records::{Replayed, replay};
-pub use saving::step_saved;
+pub use saving::{step_saved, write_history};
 pub use stepping::make_steps;
 pub use tracing::{HistoryPart, first_records, look_record, resting_step, trace};

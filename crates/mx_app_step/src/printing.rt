@@ -5,9 +5,11 @@ ghost use Rattle.std.specs.Io.KnownBytes.{Appends};
 ghost use Rattle.mx_app_start.specs.Failure.{IsWanting};
 ghost use Rattle.mx_app_start.specs.Machine.{world_of};
 ghost use Rattle.mx_app_start.specs.Report.{report_text};
+ghost use Rattle.mx_machine_world.specs.History.{replay};
 ghost use Rattle.mx_app_step.specs.Pieces.{IsPrintedBut};
 
 use mx_app_start::{Failure, Machine, print_text, report};
+use mx_machine::Kernel;
 use std::alloc::Global;
 use std::io::Write;
 
@@ -39,12 +41,21 @@ pub fn pieces_join()
         → Appends y z end → Appends x z text }
 {}
 
-/// Prints the report on a machine, and flushes.
+/// Prints the report on a kernel's processes, and flushes.
+pub fn print_kernel<W: Write>(alloc: Global, kernel: &Kernel, out: &mut W) -> Result<(), Failure>
+    ensures err { IfErr result IsWanting }
+    ensures bytes { OnOk result (Appends (W.contents out.old) (W.contents out.new)
+        (report_text (replay kernel.now).table (replay kernel.now).services)) }
+{
+    let report = report(alloc, kernel)?;
+    print_text(report.as_slice(), out)
+}
+
+/// The same on a machine's.
 pub fn print_report<W: Write>(alloc: Global, machine: &Machine, out: &mut W) -> Result<(), Failure>
     ensures err { IfErr result IsWanting }
     ensures bytes { OnOk result (Appends (W.contents out.old) (W.contents out.new)
         (report_text (world_of machine.now).table (world_of machine.now).services)) }
 {
-    let report = report(alloc, machine.kernel())?;
-    print_text(report.as_slice(), out)
+    print_kernel(alloc, machine.kernel(), out)
 }

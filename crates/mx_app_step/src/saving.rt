@@ -16,7 +16,7 @@ ghost use Rattle.mx_machine_world.specs.Boot.{world_at_boot};
 ghost use Rattle.mx_machine_world.specs.World.{actors};
 ghost use Rattle.mx_print_answers.specs.Said.{said_lines};
 ghost use Rattle.mx_app_start.specs.Telling.{IsUnsaved};
-ghost use Rattle.mx_app_step.specs.Kept.{history_made, lines_kept, text_kept};
+ghost use Rattle.mx_app_step.specs.Kept.{history_made, lines_kept, text_kept, IsUnwritten};
 ghost use Rattle.mx_app_step.specs.Lines.{lines_made};
 
 use crate::lines::print_said;
@@ -24,8 +24,27 @@ use crate::printing::print_report;
 use mx_app_start::{
     Channels, Failure, FileWriter, Reader, Script, ScriptLine, Started, saved_text, start,
 };
+use mx_machine::Kernel;
 use std::alloc::Global;
 use std::io::Write;
+
+/// Writes a kernel's history to a file, whole.
+pub fn write_history<F: FileWriter>(
+    alloc: Global,
+    kernel: &Kernel,
+    files: &mut F,
+    log: &str,
+) -> Result<(), Failure>
+    ensures written { OnOk result (F.written files.new ≡ F.written files.old
+        ++ kept log.now (text_kept kernel.now) ∷ []) }
+    ensures unwritten { IfErr result (λ f. (ws : List Written)
+        × (F.written files.new ≡ F.written files.old ++ ws)
+        × IsUnwritten log.now (text_kept kernel.now) ws f) }
+{
+    let text = saved_text(alloc, kernel)?;
+    files.write(alloc, log, text.as_slice())?;
+    Ok(())
+}
 
 /// On a machine that was started: does what each line of the script says, prints a line for each, writes
 /// the history to a file, and prints the report.
@@ -52,8 +71,7 @@ fn perform_and_save<F: FileWriter, W: Write>(
 {
     let lines = started.lines.as_slice();
     print_said(alloc, &mut started.machine, started.other, lines, out)?;
-    let text = saved_text(alloc, started.machine.kernel())?;
-    files.write(alloc, log, text.as_slice())?;
+    write_history(alloc, started.machine.kernel(), files, log)?;
     print_report(alloc, &started.machine, out)
 }
 

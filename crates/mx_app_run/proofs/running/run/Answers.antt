@@ -1,10 +1,10 @@
 use Rattle.std.proofs.Common.{◌≡◌, ◌≢◌, ◌∙◌, ℕ, List, [], ◌∷◌, arith, inl, refl, rules, sym, true, false, true≢false}
-use Rattle.std.specs.IoError.{error_kind}
 use Rattle.std.specs.Io.KnownBytes.{Appends}
 use Rattle.std.specs.Str.{bytes_eq}
 use Rattle.std.proofs.lemmas.List.{append-nil}
 use Rattle.std.proofs.lemmas.Slice.Eq.{bytes_eq-Decides}
-use Rattle.mx_app_step.specs.Written.{kept, unkept}
+use Rattle.mx_app_step.specs.Kept.{text_kept}
+use Rattle.mx_app_step.specs.Written.{kept}
 use Rattle.mx_app_run.proofs.RunLemmas.{as_many_services, no_memory, not_set_up, unwritten, written}
 use Rattle.mx_app_run.proofs.running.run.Goals as goal
 
@@ -37,45 +37,23 @@ returns-in_err-kernel g c =
     let s = c.in_ok-config.ensures.read in
     (s.0, [], s.1, sym (append-nil _), no_memory c.args.names.config.now c.args.names.log.now c.args.ticks s.0 (λ (text : List ℕ). Appends (g.W.Write.contents c.args.channels.now.out) (g.W.Write.contents c.args.channels.now.out) text) other c.in_ok-config.config c.in_ok-config.services.items c.from_residual-in_err-kernel.result s.2 c.from_residual-in_err-kernel.ensures.1)
 
-pub returns-in_err-text : goal.returns-in_err-text
-returns-in_err-text g c =
+pub returns-in_err-write_history : goal.returns-in_err-write_history
+returns-in_err-write_history g c =
     let apart : bytes_eq c.args.names.config.now c.args.names.log.now ≡ false = search rules in
     let other : c.args.names.config.now ≢ c.args.names.log.now = λ e. true≢false (sym ((bytes_eq-Decides c.args.names.config.now c.args.names.log.now).1 e) ∙ apart) in
     let s = c.in_ok-config.ensures.read in
-    (s.0, [], s.1, sym (append-nil _), no_memory c.args.names.config.now c.args.names.log.now c.args.ticks s.0 (λ (text : List ℕ). Appends (g.W.Write.contents c.args.channels.now.out) (g.W.Write.contents c.args.channels.now.out) text) other c.in_ok-config.config c.in_ok-config.services.items c.from_residual-in_err-text.result s.2 c.from_residual-in_err-text.ensures.1)
-
-pub returns-in_err-report : goal.returns-in_err-report
-returns-in_err-report g c =
-    let apart : bytes_eq c.args.names.config.now c.args.names.log.now ≡ false = search rules in
-    let other : c.args.names.config.now ≢ c.args.names.log.now = λ e. true≢false (sym ((bytes_eq-Decides c.args.names.config.now c.args.names.log.now).1 e) ∙ apart) in
-    let s = c.in_ok-config.ensures.read in
-    (s.0, [], s.1, sym (append-nil _), no_memory c.args.names.config.now c.args.names.log.now c.args.ticks s.0 (λ (text : List ℕ). Appends (g.W.Write.contents c.args.channels.now.out) (g.W.Write.contents c.args.channels.now.out) text) other c.in_ok-config.config c.in_ok-config.services.items c.from_residual-in_err-report.result s.2 c.from_residual-in_err-report.ensures.1)
-
-pub returns-in_err-write : goal.returns-in_err-write
-returns-in_err-write g c =
-    let apart : bytes_eq c.args.names.config.now c.args.names.log.now ≡ false = search rules in
-    let other : c.args.names.config.now ≢ c.args.names.log.now = λ e. true≢false (sym ((bytes_eq-Decides c.args.names.config.now c.args.names.log.now).1 e) ∙ apart) in
-    let s = c.in_ok-config.ensures.read in
-    let kind = error_kind c.in_err-write.field-0.0 in
-    let text = c.as_slice.result.now in (
-      s.0,
-      unkept c.args.names.log.now text kind ∷ [],
-      s.1,
-      c.in_err-write.ensures.unkept,
-      unwritten c.args.names.config.now c.args.names.log.now c.args.ticks s.0 (λ (text : List ℕ). Appends (g.W.Write.contents c.args.channels.now.out) (g.W.Write.contents c.args.channels.now.out) text) other c.in_ok-config.config c.in_ok-config.services.items c.in_ok-kernel.kernel s.2 c.in_ok-kernel.ensures
-          text (c.as_slice.ensures.value ∙ c.in_ok-text.ensures) kind c.from_residual-in_err-write.result c.from_residual-in_err-write.ensures.1,
-    )
+    let h = c.in_err-write_history.ensures.unwritten in
+    (s.0, h.0, s.1, h.1, unwritten c.args.names.config.now c.args.names.log.now c.args.ticks s.0 (λ (text : List ℕ). Appends (g.W.Write.contents c.args.channels.now.out) (g.W.Write.contents c.args.channels.now.out) text) other c.in_ok-config.config c.in_ok-config.services.items c.in_ok-kernel.kernel s.2 c.in_ok-kernel.ensures h.0 c.in_err-write_history.field-0.0 c.from_residual-in_err-write_history.result h.2 c.from_residual-in_err-write_history.ensures.1)
 
 pub returns : goal.returns
 returns g c =
     let apart : bytes_eq c.args.names.config.now c.args.names.log.now ≡ false = search rules in
     let other : c.args.names.config.now ≢ c.args.names.log.now = λ e. true≢false (sym ((bytes_eq-Decides c.args.names.config.now c.args.names.log.now).1 e) ∙ apart) in
-    let s = c.in_ok-config.ensures.read in
-    let text = c.as_slice.result.now in (
+    let s = c.in_ok-config.ensures.read in (
       s.0,
-      kept c.args.names.log.now text ∷ [],
+      kept c.args.names.log.now (text_kept c.in_ok-kernel.kernel) ∷ [],
       s.1,
-      c.in_ok-write.ensures.kept,
-      written c.args.names.config.now c.args.names.log.now c.args.ticks s.0 (λ (text : List ℕ). Appends (g.W.Write.contents c.args.channels.now.out) (g.W.Write.contents c.print_text.new.out) text) other c.in_ok-config.config c.in_ok-config.services.items c.in_ok-kernel.kernel s.2 c.in_ok-kernel.ensures
-          text (c.as_slice.ensures.value ∙ c.in_ok-text.ensures) c.as_slice-2.result.now c.print_text.result (c.as_slice-2.ensures.value ∙ c.in_ok-report.ensures) c.print_text.ensures.err c.print_text.ensures.bytes,
+      c.in_ok-write_history.ensures.written,
+      written c.args.names.config.now c.args.names.log.now c.args.ticks s.0 (λ (text : List ℕ). Appends (g.W.Write.contents c.args.channels.now.out) (g.W.Write.contents c.print_kernel.new.out) text) other c.in_ok-config.config c.in_ok-config.services.items c.in_ok-kernel.kernel s.2 c.in_ok-kernel.ensures
+          c.print_kernel.result c.print_kernel.ensures.err c.print_kernel.ensures.bytes,
     )

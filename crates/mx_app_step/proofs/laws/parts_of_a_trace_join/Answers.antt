@@ -1,6 +1,4 @@
-use Rattle.std.proofs.Common.{ℕ, ◌+◌, ◌≤◌, List, arith, refl}
-use Rattle.mx_machine_world.specs.declared.history.Record.{Record}
-use Rattle.mx_machine_world.specs.World.{World}
+use Rattle.std.proofs.Common.{◌+◌, arith}
 use Rattle.mx_app_step.proofs.PartLemmas.{parts_join}
 use Rattle.mx_app_step.proofs.laws.parts_of_a_trace_join.Goals as goal
 

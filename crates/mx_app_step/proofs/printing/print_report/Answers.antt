@@ -1,4 +1,4 @@
-use Rattle.std.proofs.Common.{◌≡◌, ◌∙◌, List, ℕ, OnOk, ap, subst}
+use Rattle.std.proofs.Common.{◌≡◌, List, ℕ, OnOk, ap, subst}
 use Rattle.std.specs.Io.KnownBytes.{Appends}
 use Rattle.mx_machine_world.specs.History.{BootAndHistory, replay}
 use Rattle.mx_app_start.specs.Machine.{MachineState, world_of}
@@ -12,5 +12,5 @@ report_same k m e = ap (λ (x : BootAndHistory). report_text (replay x).table (r
 
 pub returns-clause-bytes : goal.returns-clause-bytes
 returns-clause-bytes g c =
-    let text = c.as_slice.ensures.value ∙ c.in_ok-report.ensures ∙ report_same c.kernel.result.now c.args.machine.now c.kernel.ensures in
-    subst (λ (t : List ℕ). OnOk c.print_text.result (Appends (g.W.Write.contents c.args.out.now) (g.W.Write.contents c.print_text.new.out) t)) text c.print_text.ensures.bytes
+    let text = report_same c.kernel.result.now c.args.machine.now c.kernel.ensures in
+    subst (λ (t : List ℕ). OnOk c.print_kernel.result (Appends (g.W.Write.contents c.args.out.now) (g.W.Write.contents c.print_kernel.new.out) t)) text c.print_kernel.ensures.bytes

@@ -1,12 +1,15 @@
-use Rattle.std.proofs.Common.{[], ◌∷◌, ◌++◌, ap, subst, List, ℕ, ◌∙◌, ◌≡◌}
-use Rattle.std.proofs.lemmas.Result.{on_ok_weaker}
+use Rattle.std.proofs.Common.{[], ◌∷◌, ◌++◌, ap, inl, inr, subst, List, ℕ, ◌∙◌, ◌≡◌}
+use Rattle.std.proofs.lemmas.Result.{err_from_is_err_and, on_ok_weaker}
 use Rattle.std.specs.Io.KnownBytes.{Appends}
+use Rattle.mx_app_failure.specs.declared.failure.Failure.{Failure}
 use Rattle.mx_app_start.specs.Machine.{world_of}
 use Rattle.mx_app_start.specs.Report.{report_text}
-use Rattle.mx_app_start.specs.Written.{kept}
+use Rattle.mx_app_start.specs.Telling.{IsUnsaved}
+use Rattle.mx_app_start.specs.Written.{Written, kept}
+use Rattle.mx_machine_world.specs.History.{BootAndHistory}
 use Rattle.mx_boot_script.specs.declared.scripts.ScriptLine.{ScriptLine}
 use Rattle.mx_print_answers.specs.Said.{said_lines}
-use Rattle.mx_app_step.specs.Kept.{lines_kept, text_kept}
+use Rattle.mx_app_step.specs.Kept.{lines_kept, text_kept, IsUnwritten}
 use Rattle.mx_app_step.specs.Lines.{lines_made}
 use Rattle.mx_app_step.proofs.StepLemmas.{lines_printed}
 use Rattle.mx_app_step.proofs.saving.perform_and_save.Goals as goal
@@ -20,8 +23,24 @@ returns-clause-saved g c =
     let x = g.W.Write.contents c.args.out.now in
     let z = g.W.Write.contents c.print_report.new.out in
     on_ok_weaker c.print_report.result (λ b. (
-      c.in_ok-write.ensures.kept ∙ ap (λ (t : List ℕ). g.F.FileWriter.written c.args.files.now ++ kept c.args.log.now t ∷ [])
-          (c.as_slice.ensures.value ∙ c.in_ok-text.ensures ∙ ap text_kept (c.kernel.ensures ∙ c.in_ok-print_said.ensures.kept ∙ ap (lines_kept c.args.started.machine.kernel w other) items)),
+      c.in_ok-write_history.ensures.written ∙ ap (λ (k : BootAndHistory). g.F.FileWriter.written c.args.files.now ++ kept c.args.log.now (text_kept k) ∷ [])
+          (c.kernel.ensures ∙ c.in_ok-print_said.ensures.kept ∙ ap (lines_kept c.args.started.machine.kernel w other) items),
       subst (λ (ls : List ScriptLine). (let m = lines_made w other ls in Appends x z (said_lines m.0 ++ report_text m.1.table m.1.services))) items
           (lines_printed x (g.W.Write.contents c.print_said.new.out) z w (world_of c.print_said.new.machine) other lines c.in_ok-print_said.ensures.printed c.in_ok-print_said.ensures.world b),
     )) c.print_report.ensures.bytes
+
+-- what isn't written isn't saved
+unsaved : (name text : List ℕ) (ws : List Written) (f : Failure) → IsUnwritten name text ws f → IsUnsaved name text ws f
+unsaved name text ws f h = elim h [
+  | inl none ↦ inl (none.0, inr none.1)
+  | inr file ↦ inr (inl file)
+]
+
+pub returns-in_err-write_history-clause-unsaved : goal.returns-in_err-write_history-clause-unsaved
+returns-in_err-write_history-clause-unsaved g c =
+    let p = err_from_is_err_and c.from_residual-in_err-write_history.result c.from_residual-in_err-write_history.ensures.1 in
+    let lines = ap (lines_kept c.args.started.machine.kernel (world_of c.args.started.machine) c.args.started.other) c.as_slice-lines.ensures.value in
+    let kernel = c.kernel.ensures ∙ c.in_ok-print_said.ensures.kept ∙ lines in
+    let h = c.in_err-write_history.ensures.unwritten in
+    let why = unsaved c.args.log.now _ h.0 _ (subst (λ (k : BootAndHistory). IsUnwritten c.args.log.now (text_kept k) h.0 c.in_err-write_history.field-0.0) kernel h.2) in
+    rw (p.1, p.2) (h.0, h.1, why)
