@@ -50,24 +50,25 @@ pub fn write_history<F: FileWriter>(
 /// the history to a file, and prints the report.
 fn perform_and_save<F: FileWriter, W: Write>(
     alloc: Global,
-    mut started: Started<ScriptLine>,
+    started: &mut Started<ScriptLine>,
     files: &mut F,
     log: &str,
     out: &mut W,
 ) -> Result<(), Failure>
-    requires { started.other < actors (world_of started.machine) }
+    requires { started.old.other < actors (world_of started.old.machine) }
     ensures saved { OnOk result ((F.written files.new ≡ F.written files.old
         ++ kept log.now (text_kept
-        (lines_kept started.machine.kernel (world_of started.machine) started.other
-        started.lines.items)) ∷ [])
-        × (let m = lines_made (world_of started.machine) started.other started.lines.items in
+        (lines_kept started.old.machine.kernel (world_of started.old.machine) started.old.other
+        started.old.lines.items)) ∷ [])
+        × (let m = lines_made (world_of started.old.machine) started.old.other
+        started.old.lines.items in
         Appends (W.contents out.old) (W.contents out.new) (said_lines m.0
         ++ report_text m.1.table m.1.services))) }
     ensures unsaved { IfErr result (λ f. (ws : List Written)
         × (F.written files.new ≡ F.written files.old ++ ws)
         × IsUnsaved log.now (text_kept
-        (lines_kept started.machine.kernel (world_of started.machine) started.other
-        started.lines.items)) ws f) }
+        (lines_kept started.old.machine.kernel (world_of started.old.machine) started.old.other
+        started.old.lines.items)) ws f) }
 {
     let lines = started.lines.as_slice();
     print_said(alloc, &mut started.machine, started.other, lines, out)?;
@@ -102,6 +103,12 @@ pub fn step_saved<R: Reader + Drop, F: FileWriter + Drop, W: Write + Drop>(
         × IsUnsaved log.now (saved_text c.rules (history_made (world_at_boot c vs) c.cpus said)) ws
         f))) }
 {
-    let started = start::<Script, R>(alloc, &mut channels.reader, config, script)?;
-    perform_and_save(alloc, started, &mut channels.files, log, &mut channels.out)
+    let mut started = start::<Script, R>(alloc, &mut channels.reader, config, script)?;
+    perform_and_save(
+        alloc,
+        &mut started,
+        &mut channels.files,
+        log,
+        &mut channels.out,
+    )
 }

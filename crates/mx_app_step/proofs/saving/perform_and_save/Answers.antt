@@ -16,15 +16,15 @@ use Rattle.mx_app_step.proofs.saving.perform_and_save.Goals as goal
 
 pub returns-clause-saved : goal.returns-clause-saved
 returns-clause-saved g c =
-    let w = world_of c.args.started.machine in
-    let other = c.args.started.other in
+    let w = world_of c.args.started.now.machine in
+    let other = c.args.started.now.other in
     let lines = c.as_slice-lines.result.now in
-    let items : lines ≡ c.args.started.lines.items = c.as_slice-lines.ensures.value in
+    let items : lines ≡ c.args.started.now.lines.items = c.as_slice-lines.ensures.value in
     let x = g.W.Write.contents c.args.out.now in
     let z = g.W.Write.contents c.print_report.new.out in
     on_ok_weaker c.print_report.result (λ b. (
       c.in_ok-write_history.ensures.written ∙ ap (λ (k : BootAndHistory). g.F.FileWriter.written c.args.files.now ++ kept c.args.log.now (text_kept k) ∷ [])
-          (c.kernel.ensures ∙ c.in_ok-print_said.ensures.kept ∙ ap (lines_kept c.args.started.machine.kernel w other) items),
+          (c.kernel.ensures ∙ c.in_ok-print_said.ensures.kept ∙ ap (lines_kept c.args.started.now.machine.kernel w other) items),
       subst (λ (ls : List ScriptLine). (let m = lines_made w other ls in Appends x z (said_lines m.0 ++ report_text m.1.table m.1.services))) items
           (lines_printed x (g.W.Write.contents c.print_said.new.out) z w (world_of c.print_said.new.machine) other lines c.in_ok-print_said.ensures.printed c.in_ok-print_said.ensures.world b),
     )) c.print_report.ensures.bytes
@@ -39,7 +39,7 @@ unsaved name text ws f h = elim h [
 pub returns-in_err-write_history-clause-unsaved : goal.returns-in_err-write_history-clause-unsaved
 returns-in_err-write_history-clause-unsaved g c =
     let p = err_from_is_err_and c.from_residual-in_err-write_history.result c.from_residual-in_err-write_history.ensures.1 in
-    let lines = ap (lines_kept c.args.started.machine.kernel (world_of c.args.started.machine) c.args.started.other) c.as_slice-lines.ensures.value in
+    let lines = ap (lines_kept c.args.started.now.machine.kernel (world_of c.args.started.now.machine) c.args.started.now.other) c.as_slice-lines.ensures.value in
     let kernel = c.kernel.ensures ∙ c.in_ok-print_said.ensures.kept ∙ lines in
     let h = c.in_err-write_history.ensures.unwritten in
     let why = unsaved c.args.log.now _ h.0 _ (subst (λ (k : BootAndHistory). IsUnwritten c.args.log.now (text_kept k) h.0 c.in_err-write_history.field-0.0) kernel h.2) in
