@@ -8,7 +8,7 @@ ghost use Rattle.mx_app_run.specs.Run.{EndsDriven, IsRun, Runs};
 
 use crate::gate::RunGate;
 use mx_app_step::{
-    Channels, Config, Failure, FileWriter, Reader, print_kernel, setup_of, write_history,
+    Channels, Config, Failure, FileWriter, Reader, print_kernel_report, setup_of, write_history,
 };
 use mx_cpus_drive::{ActorSeat, Blank, Kernel, Naming, Service, Shared, boot, drive};
 use mx_word::NoMemory;
@@ -99,5 +99,5 @@ pub fn run<
     let (config, services) = setup_of(alloc, &mut channels.reader, names.config)?;
     let kernel = run_machine(rt, alloc, &config, services, ticks)?;
     write_history(alloc, &kernel, &mut channels.files, names.log)?;
-    print_kernel(alloc, &kernel, &mut channels.out)
+    print_kernel_report(alloc, &kernel, &mut channels.out)
 }

@@ -1,4 +1,4 @@
--- What the lines of a script leave in the history (our own).
+-- What the lines of a script leave in the history, and how the history's text gets to a file (our own).
 use Rattle.std.specs.Prelude.{◌≡◌, ◌⊎◌, ℕ, List, [], ◌∷◌, Option, Some, None}
 use Rattle.std.specs.declared.io.ErrorKind.{ErrorKind}
 use Rattle.mx_app_failure.specs.declared.failure.Failure.{Failure}
@@ -45,7 +45,7 @@ text_kept k = saved_text k.boot.table.rules k.history
 abbrev pub history_made : World → ℕ → List ScriptLine → List Record
 history_made w other lines = (lines_kept (record { boot = w; history = [] }) w other lines).history
 
--- why a text isn't written to a file: out of memory, and nothing was written; or what came of the file
+-- why a text isn't written to a file: memory was out, and nothing was given to the file; or the file failed
 abbrev pub IsUnwritten : List ℕ → List ℕ → List Written → Failure → Type 0
 IsUnwritten name text ws f =
     ((ws ≡ []) × (f ≡ NoMemory)) ⊎ ((kind : ErrorKind) × (ws ≡ unkept name text kind ∷ []) × (f ≡ failure_of_kind kind))

@@ -17,7 +17,7 @@ pub use mx_app_start::{
     ScriptLine, Tool, lines_above, print_text, report, saved_text, setup_of, start,
 };
 pub use mx_print_answers::Said;
-pub use printing::{pieces_join, print_kernel, print_piece, print_report};
+pub use printing::{pieces_join, print_kernel_report, print_piece, print_report};
 pub use records::{Replayed, replay};
 pub use saving::{step_saved, write_history};
 pub use stepping::make_steps;

@@ -41,8 +41,13 @@ pub fn pieces_join()
         → Appends y z end → Appends x z text }
 {}
 
-/// Prints the report on a kernel's processes, and flushes.
-pub fn print_kernel<W: Write>(alloc: Global, kernel: &Kernel, out: &mut W) -> Result<(), Failure>
+/// Prints the report on a kernel's processes, and flushes. After an error, which is memory or the output,
+/// a part of it may be printed.
+pub fn print_kernel_report<W: Write>(
+    alloc: Global,
+    kernel: &Kernel,
+    out: &mut W,
+) -> Result<(), Failure>
     ensures err { IfErr result IsWanting }
     ensures bytes { OnOk result (Appends (W.contents out.old) (W.contents out.new)
         (report_text (replay kernel.now).table (replay kernel.now).services)) }
@@ -51,11 +56,11 @@ pub fn print_kernel<W: Write>(alloc: Global, kernel: &Kernel, out: &mut W) -> Re
     print_text(report.as_slice(), out)
 }
 
-/// The same on a machine's.
+/// Prints the report on a machine's processes, as `print_kernel_report` does.
 pub fn print_report<W: Write>(alloc: Global, machine: &Machine, out: &mut W) -> Result<(), Failure>
     ensures err { IfErr result IsWanting }
     ensures bytes { OnOk result (Appends (W.contents out.old) (W.contents out.new)
         (report_text (world_of machine.now).table (world_of machine.now).services)) }
 {
-    print_kernel(alloc, machine.kernel(), out)
+    print_kernel_report(alloc, machine.kernel(), out)
 }

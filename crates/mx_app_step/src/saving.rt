@@ -28,7 +28,8 @@ use mx_machine::Kernel;
 use std::alloc::Global;
 use std::io::Write;
 
-/// Writes a kernel's history to a file, whole.
+/// Writes a kernel's history to the file `log`, as one text. If memory is out for that text, nothing is
+/// written. If the file can't be written, it may have a part of the text.
 pub fn write_history<F: FileWriter>(
     alloc: Global,
     kernel: &Kernel,

@@ -54,6 +54,6 @@ returns g c =
       kept c.args.names.log.now (text_kept c.in_ok-kernel.kernel) ∷ [],
       s.1,
       c.in_ok-write_history.ensures.written,
-      written c.args.names.config.now c.args.names.log.now c.args.ticks s.0 (λ (text : List ℕ). Appends (g.W.Write.contents c.args.channels.now.out) (g.W.Write.contents c.print_kernel.new.out) text) other c.in_ok-config.config c.in_ok-config.services.items c.in_ok-kernel.kernel s.2 c.in_ok-kernel.ensures
-          c.print_kernel.result c.print_kernel.ensures.err c.print_kernel.ensures.bytes,
+      written c.args.names.config.now c.args.names.log.now c.args.ticks s.0 (λ (text : List ℕ). Appends (g.W.Write.contents c.args.channels.now.out) (g.W.Write.contents c.print_kernel_report.new.out) text) other c.in_ok-config.config c.in_ok-config.services.items c.in_ok-kernel.kernel s.2 c.in_ok-kernel.ensures
+          c.print_kernel_report.result c.print_kernel_report.ensures.err c.print_kernel_report.ensures.bytes,
     )

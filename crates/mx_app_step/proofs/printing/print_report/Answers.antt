@@ -13,4 +13,4 @@ report_same k m e = ap (λ (x : BootAndHistory). report_text (replay x).table (r
 pub returns-clause-bytes : goal.returns-clause-bytes
 returns-clause-bytes g c =
     let text = report_same c.kernel.result.now c.args.machine.now c.kernel.ensures in
-    subst (λ (t : List ℕ). OnOk c.print_kernel.result (Appends (g.W.Write.contents c.args.out.now) (g.W.Write.contents c.print_kernel.new.out) t)) text c.print_kernel.ensures.bytes
+    subst (λ (t : List ℕ). OnOk c.print_kernel_report.result (Appends (g.W.Write.contents c.args.out.now) (g.W.Write.contents c.print_kernel_report.new.out) t)) text c.print_kernel_report.ensures.bytes
