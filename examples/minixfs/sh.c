@@ -350,7 +350,7 @@ static int take_line(void)
 int main(void)
 {
     while (take_line() != KEYS_END) {
-        say("$ ");
+        say("% ");
         say(line);
         say("\n");
         run(part_line(line));
