@@ -148,9 +148,6 @@ notice_short w d x = omega arith
 reply_short : (n : ℕ) (a : ReplyWords) → length (reply_bytes n a) ≤ 36
 reply_short n a = omega arith
 
-part_short : (xs : List ℕ) (at count : ℕ) → length (part xs at count) ≤ count
-part_short xs at count = omega (arith, length-take count (drop at xs))
-
 -- ---- messages
 
 send_each : {w : TableState} {R M : ℕ → Type 0} → Scene w R M → (made : Option CopyMade) (s d : ℕ) → R s → Each (Goes R M made) (items_of_send w s d)
@@ -314,18 +311,18 @@ death_each {w} {R} {M} h made s =
 reply_each : (R M : ℕ → Type 0) (made : Option CopyMade) (s n : ℕ) (a : ReplyWords) → R s → M s → Each (Goes R M made) (items_of_reply s n a)
 reply_each R M made s n a own heard = ((reply_short n a, heard), (own, tt))
 
-change_each : {w : TableState} {R M : ℕ → Type 0} → Scene w R M → (made : Option CopyMade) (r : KernelCall) → made ≡ copy_by (Some r) None → Each (Goes R M made) (items_of_change w r)
+change_each : {w : TableState} {R M : ℕ → Type 0} → Scene w R M → (made : Option CopyMade) (r : KernelCall) → made ≡ copy_by w (Some r) None → Each (Goes R M made) (items_of_change w r)
 change_each h made Exit e = tt
 change_each h made Times e = tt
 change_each h made (SetAlarm delay) e = tt
 change_each h made (Irqctl action line) e = tt
 change_each h made (Devio action register value) e = tt
-change_each {w} h made (Vircopy c) e = (record { copy = copy_made c; is_made = e; slot = refl; place = refl; few = part_short (memory_at w (c.source.endpoint % 1024)) c.source.offset c.count }, tt)
+change_each {w} h made (Vircopy c) e = (record { copy = copy_made w c; is_made = e; slot = refl; place = refl; same = refl }, tt)
 change_each h made (Kill n) e = death_each h made (n % 1024)
 change_each h made (Whois slot) e = tt
 change_each h made (Grant grant) e = tt
 
-kernel_call_each : {w : TableState} {R M : ℕ → Type 0} → Scene w R M → (made : Option CopyMade) (s : ℕ) (r : Option KernelCall) (e : Option Errno) → made ≡ copy_by r e → R s → M s → Each (Goes R M made) (items_of_kernel_call w s r e)
+kernel_call_each : {w : TableState} {R M : ℕ → Type 0} → Scene w R M → (made : Option CopyMade) (s : ℕ) (r : Option KernelCall) (e : Option Errno) → made ≡ copy_by w r e → R s → M s → Each (Goes R M made) (items_of_kernel_call w s r e)
 kernel_call_each {w} {R} {M} h made s r (Some e) f own heard = reply_each R M made s (errno_bits e) no_reply_words own heard
 kernel_call_each h made s None None f own heard = tt
 kernel_call_each {w} {R} {M} h made s (Some r) None f own heard =
