@@ -45,8 +45,8 @@ use Rattle.mx_isolation_diary.specs.Diaries.{diary, diary_of_step, image_now, im
 use Rattle.mx_isolation_diary.specs.Entries.{AreEntries, byte_of, caller_in, copy_in, CopyMade, IsEntry, IsOfCopy, IsOfOthers, MissesSlot, registers_and_code}
 use Rattle.mx_isolation_diary.specs.Laws.{LeavesImage}
 use Rattle.mx_isolation_diary.proofs.DiaryMoves.{event_law, image_in}
-use Rattle.mx_isolation_diary.proofs.EntryLemmas.{receiving_blocked}
-use Rattle.mx_isolation_diary.proofs.EventEntries.{event_entries}
+use Rattle.mx_isolation_diary.proofs.EntryLemmas.{none_holds, receiving_blocked}
+use Rattle.mx_isolation_diary.proofs.EventEntries.{event_entries, home_at}
 use Rattle.mx_isolation_diary.proofs.SoundDiaries.{held_once, not_held}
 
 -- ---- outside and inside
@@ -104,7 +104,7 @@ with_bytes_outside xs k ys i le (inr ge) =
 abbrev Mild : Type 0 → (ℕ → List ℕ → Type 0) → Item → Type 0
 Mild B C Ran = ⊥
 Mild B C (Result r) = B
-Mild B C (Message bytes) = (length bytes ≤ 36) × B
+Mild B C (Message bytes) = (length bytes ≡ 36) × B
 Mild B C (Copy place bytes) = C place bytes
 
 abbrev AllMild : Type 0 → (ℕ → List ℕ → Type 0) → List Item → Type 0
@@ -182,7 +182,7 @@ play_left B O C (Result r ∷ xs) m h room copies = result_left B O m _ r h.0 (p
 play_left B O C (Message bytes ∷ xs) m h room copies =
     let le : m.regs.ebx + length bytes ≤ length m.memory = omega (arith, h.0.0, room h.0.1) in
     let long = with_bytes_long m.memory m.regs.ebx bytes le in
-    bytes_left B O m _ m.regs.ebx bytes le (λ k o u. outside_fewer m.regs.ebx (length bytes) 36 k h.0.0 (o h.0.1))
+    bytes_left B O m _ m.regs.ebx bytes le (λ k o u. outside_fewer m.regs.ebx (length bytes) 36 k (omega (arith, h.0.0)) (o h.0.1))
     (play_left B O C xs (image_with m m.regs.ebx bytes) h.1 (λ b. omega (arith, room b, long)) (copies_after O C (length m.memory) _ long copies))
 play_left B O C (Copy place bytes ∷ xs) m h room copies =
     let le = copies.inside place bytes h.0 in
@@ -198,18 +198,6 @@ play_nothing B C (Message bytes ∷ xs) m n o h = absurd (n h.0.1)
 play_nothing B C (Copy place bytes ∷ xs) m n o h = absurd (o place bytes h.0)
 
 -- ---- a copy is inside
-
-abbrev NoneHolds : List (Bool × Errno) → Type 0
-NoneHolds [] = Unit {0}
-NoneHolds (c ∷ cs) = (c.0 ≡ false) × NoneHolds cs
-
-first_none : (b : Bool) (x : Errno) (r : Option Errno) → cond b (Some x) r ≡ None → (b ≡ false) × (r ≡ None)
-first_none true x r e = cc
-first_none false x r e = (refl, e)
-
-none_holds : (cs : List (Bool × Errno)) → first_error cs ≡ None → NoneHolds cs
-none_holds [] e = tt
-none_holds (c ∷ cs) e = let h = first_none c.0 c.1 (first_error cs) e in (h.0, none_holds cs h.1)
 
 not_false : (b : Bool) → not b ≡ false → b ≡ true
 not_false true e = refl
@@ -284,11 +272,6 @@ copy_inside_end t s true x c g = cc
 copy_inside_end t s false Spent c g = cc
 copy_inside_end t s false Trap c g = copy_inside_trap t s (trap_answer t s) c g
 copy_inside_end t s false (Fault v) c g = cc
-
--- another slot's process isn't changed where one comes home
-home_at : (t : TableState) (l : HeldProcess) (s : ℕ) → s ≢ l.slot → process_at (table_after_coming_home t l) s ≡ process_at t s
-unfolding table_after_coming_home
-home_at t l s n = get_or-set_other (table_after_move_home t l.slot l.out.image).slots l.slot s _ nobody n ∙ get_or-set_other t.slots l.slot s _ nobody n
 
 -- the copy at a return goes through windows as they are before it
 copy_through_back : (w : World) (x : Option HeldProcess) (s : ℕ) (c : CopyMade) → is_strict w.table.rules ≡ true → option_map (λ (l : HeldProcess). l.slot) x ≡ Some s → copy_at_back w.table x ≡ Some c → IsThroughWindows w.table s c
@@ -444,7 +427,7 @@ others_leave w a e s h f b n =
     let waits = is_blocked (process_at w.table s).state ≡ true in
     let O = IsOutsideCopy s (copy_in w a e) in
     let C = IsOfCopy (copy_in w a e) s in
-    let items : AllMild waits C (diary w a e s) = all_mild w a e s (diary w a e s) n (event_entries w a e s h.table) in
+    let items : AllMild waits C (diary w a e s) = all_mild w a e s (diary w a e s) n (event_entries w a e s h) in
     let now : image_now (world_after_event w a e) s ≡ play (diary w a e s) (image_now w s) = event_law w a e s (held_once w h) f b (no_respawn w a e s n) in
     let left : IsLeft waits O (image_now w s) (image_now (world_after_event w a e) s) = subst (IsLeft waits O (image_now w s)) (sym now) (play_left waits O C (diary w a e s) (image_now w s) items (λ k. waits_with_room w s h k) (copies_of w a e s h n)) in
     record {

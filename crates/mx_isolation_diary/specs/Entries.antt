@@ -101,12 +101,12 @@ pub record IsOfCopy (made : Option CopyMade) (s at : ℕ) (bytes : List ℕ) : T
   pub place : copy.place ≡ at
   pub same : copy.bytes ≡ bytes
 
--- AN ENTRY: a step is the process's own; a result or at most 36 bytes of a message come to the caller or to who
+-- AN ENTRY: a step is the process's own; a result or the 36 bytes of a message come to the caller or to who
 -- waited; and bytes are copied where the caller's call isn't refused, those of its copy
 abbrev pub IsEntry : World → ℕ → Event → ℕ → Item → Type 0
 IsEntry w a e s Ran = (e ≡ Step) × (slot_on w a ≡ Some s)
 IsEntry w a e s (Result r) = MayGetResult w a e s
-IsEntry w a e s (Message bytes) = (length bytes ≤ 36) × MayGetMessage w a e s
+IsEntry w a e s (Message bytes) = (length bytes ≡ 36) × MayGetMessage w a e s
 IsEntry w a e s (Copy place bytes) = IsOfCopy (copy_in w a e) s place bytes
 
 abbrev pub AreEntries : World → ℕ → Event → ℕ → List Item → Type 0
