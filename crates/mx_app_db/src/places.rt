@@ -8,7 +8,7 @@ ghost use Rattle.mx_app_db.specs.Places.{address_of_place, place_found, breakpoi
 use mx_aout::Program;
 use mx_boot_script::CodePlace;
 use mx_machine_world::Refusal;
-use mx_print_answers::{DebugError, Debugger, Kernel, Refused, address};
+use mx_print_answers::{DebugError, Debugger, Kernel, Refused};
 use mx_proc::Slot;
 
 /// The address that a place of a script names in a program: an address names itself, and a symbol its
@@ -19,7 +19,7 @@ fn address_of(program: &Program, place: &CodePlace) -> Result<u32, DebugError>
 {
     match place {
         CodePlace::Address(at) => Ok(*at),
-        CodePlace::Symbol(name) => address(program, name.as_slice()),
+        CodePlace::Symbol(name) => Debugger::address(program, name.as_slice()),
         CodePlace::NoName => Err(DebugError::NoSymbol),
     }
 }

@@ -7,6 +7,7 @@ ghost use Rattle.mx_machine_kernel.specs.History.{replay};
 ghost use Rattle.mx_debug.specs.declared.error.DebugError.TheVariants as errors;
 
 use crate::error::DebugError;
+use crate::points::Debugger;
 use mx_aout::{Program, Symbol};
 use mx_exec::Image;
 use mx_image::Runs;
@@ -30,32 +31,35 @@ fn is_named(symbol: &Symbol, name: &[u8]) -> bool
     before_zero(symbol.name.as_slice()) == name
 }
 
-/// The value of a program's first symbol of a name.
-pub fn address(program: &Program, name: &[u8]) -> Result<u32, DebugError>
-    ensures found { IfOk result (λ value. first_named program.now.symbols name.now ≡ Some value) }
-    ensures none { OnErr result (first_named program.now.symbols name.now ≡ None) }
-    ensures error { IfErr result (λ e. e ≡ errors.NoSymbol) }
-{
-    for symbol in program.symbols.as_slice() {
-        if is_named(symbol, name) {
-            return Ok(symbol.value);
+impl Debugger {
+    /// The value of a program's first symbol of a name, at which a breakpoint may be set; `NoSymbol` if
+    /// the program has none of that name.
+    pub fn address(program: &Program, name: &[u8]) -> Result<u32, DebugError>
+        ensures found { IfOk result (λ value. first_named program.now.symbols name.now ≡ Some value) }
+        ensures none { OnErr result (first_named program.now.symbols name.now ≡ None) }
+        ensures error { IfErr result (λ e. e ≡ errors.NoSymbol) }
+    {
+        for symbol in program.symbols.as_slice() {
+            if is_named(symbol, name) {
+                return Ok(symbol.value);
+            }
         }
+        Err(DebugError::NoSymbol)
     }
-    Err(DebugError::NoSymbol)
-}
 
-/// The byte of a process's data segment at an address, for the debugger.
-pub fn byte(image: &Image, at: u32) -> Result<u8, DebugError>
-    ensures found { IfOk result (λ byte. slice_get image.now.memory at ≡ Some byte) }
-    ensures none { OnErr result (slice_get image.now.memory at ≡ None) }
-    ensures error { IfErr result (λ e. e ≡ errors.NotHere) }
-{
-    image.byte(at).ok_or(DebugError::NotHere)
-}
+    /// The byte of a process's data segment at an address; `NotHere` past its limit.
+    pub fn byte(image: &Image, at: u32) -> Result<u8, DebugError>
+        ensures found { IfOk result (λ byte. slice_get image.now.memory at ≡ Some byte) }
+        ensures none { OnErr result (slice_get image.now.memory at ≡ None) }
+        ensures error { IfErr result (λ e. e ≡ errors.NotHere) }
+    {
+        image.byte(at).ok_or(DebugError::NotHere)
+    }
 
-/// A delivery that a kernel keeps, counted from the oldest.
-pub fn message(kernel: &Kernel, index: usize) -> Option<Delivery>
-    ensures { result ≡ slice_get (replay kernel.now).table.deliveries index }
-{
-    kernel.delivery(index)
+    /// A delivery that a kernel keeps, counted from the oldest, which is 0.
+    pub fn message(kernel: &Kernel, index: usize) -> Option<Delivery>
+        ensures { result ≡ slice_get (replay kernel.now).table.deliveries index }
+    {
+        kernel.delivery(index)
+    }
 }

@@ -8,7 +8,6 @@ mod points;
 mod resuming;
 
 pub use error::DebugError;
-pub use finding::{address, byte, message};
 pub use halt::{Halt, HaltCause};
 pub use mx_machine_kernel::{Held, Kernel};
 pub use points::{Breakpoint, Debugger};

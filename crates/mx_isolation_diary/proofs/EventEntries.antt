@@ -1,5 +1,5 @@
 -- Each item that an event writes down is an entry.
-use Rattle.std.proofs.Common.{◌≡◌, ◌∙◌, ℕ, ◌≤◌, ◌%◌, ◌==◌, Bool, true, false, cond, List, [], ◌∷◌, Option, Some, None, refl, sym, ap, subst, nat_lt, inl, inr, arith}
+use Rattle.std.proofs.Common.{◌≡◌, ◌≢◌, ◌∙◌, get_or-set_other, ℕ, ◌≤◌, ◌%◌, ◌==◌, Bool, true, false, cond, List, [], ◌∷◌, Option, Some, None, refl, sym, ap, subst, nat_lt, inl, inr, arith}
 use Rattle.std.specs.Option.{option_map}
 use Rattle.std.proofs.lemmas.Bool.{cases_eq, eq-eqb, ne_eqb}
 use Rattle.mx_exec.specs.declared.image.Image.{Image}
@@ -10,9 +10,9 @@ use Rattle.mx_proc.specs.declared.process.State.{State}
 use Rattle.mx_proc.specs.declared.process.State.TheVariants.{Home, Ready, Out, Doomed, Sending, Calling, Receiving, Awaiting, Down}
 use Rattle.mx_proc.specs.Queues.{tally}
 use Rattle.mx_proc.specs.Serving.{with_alarm, with_tick}
-use Rattle.mx_proc.specs.Sound.{Sound}
+use Rattle.mx_proc.specs.Sound.{HasBuffer, Sound}
 use Rattle.mx_proc.specs.States.{is_blocked, is_out, is_sending}
-use Rattle.mx_proc.specs.TableState.{TableState, process_at, table_after_move_home, table_after_notice, table_with_first, table_with_last, with_pending, without_pending, with_process, with_result}
+use Rattle.mx_proc.specs.TableState.{TableState, nobody, process_at, table_after_move_home, table_after_notice, table_with_first, table_with_last, with_pending, without_pending, with_process, with_result}
 use Rattle.mx_proc.specs.Partners.{order_of_source}
 use Rattle.mx_proc.specs.Waits.{sends_of}
 use Rattle.mx_kcall.specs.Calls.{goes_on, hears, table_after_notifying}
@@ -22,13 +22,15 @@ use Rattle.mx_kcall.specs.Refusals.{owner_of}
 use Rattle.mx_machine_world.specs.declared.events.Event.{Event}
 use Rattle.mx_machine_world.specs.declared.events.Event.TheVariants.{Step, Take, Back, Line, Tick, Kill, Respawn}
 use Rattle.mx_machine_world.specs.Move.{is_doomed, table_after_coming_home}
+use Rattle.mx_machine_world.specs.Sound.{IsSound}
 use Rattle.mx_machine_world.specs.World.{World, HeldProcess, held_by}
 use Rattle.mx_isolation_diary.specs.Diary.{Item, items_for}
 use Rattle.mx_isolation_diary.specs.Diary.Item.{Ran, Result, Message, Copy}
 use Rattle.mx_isolation_diary.specs.Items.{items_of_death, items_of_end_of_turn, items_of_notifying}
 use Rattle.mx_isolation_diary.specs.Diaries.{diary, diary_of_back, diary_of_step, image_held_in, items_of_event, items_of_kill, items_of_line, items_of_rings, unless_held}
 use Rattle.mx_isolation_diary.specs.Entries.{AreEntries, copy_at_back, copy_at_end, copy_in, IsEntry, is_receiving, MayGetMessage, MayGetResult, slot_on}
-use Rattle.mx_isolation_diary.proofs.EntryLemmas.{after_set, Blocked, death_each, Each, each-append, each-case, end_of_turn_each, Goes, notifying_each, Receives, Scene, Sends}
+use Rattle.mx_isolation_diary.proofs.SoundDiaries.{held_is_out}
+use Rattle.mx_isolation_diary.proofs.EntryLemmas.{AreReady, after_set, Blocked, death_each, Each, each-append, each-case, end_of_turn_each, Goes, notifying_each, Receives, Scene, Sends}
 
 -- ---- one slot's entries
 
@@ -135,12 +137,37 @@ sending_blocked (Receiving p) h = cc
 sending_blocked (Awaiting d) h = cc
 sending_blocked (Down c) h = cc
 
-sends_blocked : (w : TableState) (s : ℕ) → Sound w → Sends w.waits s → is_blocked (process_at w s).state ≡ true
-sends_blocked w s h k = sending_blocked (process_at w s).state (by_bool (is_sending (process_at w s).state) ((h.each s).waiting))
+sending_home : (st : State) → is_sending st ≡ true → is_out st ≡ false
+sending_home Home h = cc
+sending_home Ready h = cc
+sending_home Out h = cc
+sending_home Doomed h = cc
+sending_home Sending h = refl
+sending_home Calling h = refl
+sending_home (Receiving p) h = cc
+sending_home (Awaiting d) h = cc
+sending_home (Down c) h = cc
+
+sending_apart : (st : State) → is_sending st ≡ true → is_receiving st ≡ false
+sending_apart Home h = cc
+sending_apart Ready h = cc
+sending_apart Out h = cc
+sending_apart Doomed h = cc
+sending_apart Sending h = refl
+sending_apart Calling h = refl
+sending_apart (Receiving p) h = cc
+sending_apart (Awaiting d) h = cc
+sending_apart (Down c) h = cc
+
+sends_sending : (w : TableState) (s : ℕ) → Sound w → Sends w.waits s → is_sending (process_at w s).state ≡ true
+sends_sending w s h k = by_bool (is_sending (process_at w s).state) ((h.each s).waiting)
   where
     by_bool : (b : Bool) → sends_of s w.waits ≡ tally b → b ≡ true
     by_bool true e = refl
     by_bool false e = absurd (omega (arith, e, sends_some s w.waits k))
+
+sends_blocked : (w : TableState) (s : ℕ) → Sound w → Sends w.waits s → is_blocked (process_at w s).state ≡ true
+sends_blocked w s h k = sending_blocked (process_at w s).state (sends_sending w s h k)
 
 scene_now : (w : World) (a : ℕ) (e : Event) → Sound w.table → Scene w.table (MayGetResult w a e) (MayGetMessage w a e)
 scene_now w a e h = record { blocked = λ s b. inr b; receiving = λ s b. inr b; sends = λ s k. inr (sends_blocked w.table s h k) }
@@ -158,7 +185,31 @@ entries_case : (w : World) (a : ℕ) (e : Event) (s : ℕ) (b : Bool) (xs ys : L
 entries_case w a e s true xs ys h k = h
 entries_case w a e s false xs ys h k = k
 
-by_back : (w : World) (a s : ℕ) (x : Option HeldProcess) → Sound w.table → held_by w a ≡ x → AreEntries w a Back s (diary_of_back w s x)
+-- who comes home sent nothing: it was on a processor
+sends_others : (w : World) (a p : ℕ) (l : HeldProcess) → IsSound w → held_by w a ≡ Some l → Sends w.table.waits p → p ≢ l.slot
+sends_others w a p l h e k g =
+    let sending = sends_sending w.table l.slot h.table (subst (Sends w.table.waits) g k) in
+    held_is_out w a l h e (sending_home (process_at w.table l.slot).state sending)
+
+coming_home_waits : (t : TableState) (l : HeldProcess) → (table_after_coming_home t l).waits ≡ t.waits
+unfolding table_after_coming_home
+coming_home_waits t l = refl
+
+-- another slot's process isn't changed where one comes home
+pub home_at : (t : TableState) (l : HeldProcess) (s : ℕ) → s ≢ l.slot → process_at (table_after_coming_home t l) s ≡ process_at t s
+unfolding table_after_coming_home
+home_at t l s n = get_or-set_other (table_after_move_home t l.slot l.out.image).slots l.slot s _ nobody n ∙ get_or-set_other t.slots l.slot s _ nobody n
+
+are_ready : (w : World) (a : ℕ) (l : HeldProcess) → IsSound w → held_by w a ≡ Some l → AreReady (table_after_coming_home w.table l)
+are_ready w a l h e =
+    let sends : (p : ℕ) → Sends (table_after_coming_home w.table l).waits p → Sends w.table.waits p = λ p k. subst (λ ps. Sends ps p) (coming_home_waits w.table l) k in
+    let same : (p : ℕ) → Sends (table_after_coming_home w.table l).waits p → process_at (table_after_coming_home w.table l) p ≡ process_at w.table p = λ p k. home_at w.table l p (sends_others w a p l h e (sends p k)) in
+    record {
+      room = λ p k. subst HasBuffer (sym (same p k)) ((h.table.each p).process.buffer (sends_blocked w.table p h.table (sends p k)));
+      apart = λ p k. ap (λ (x : Process). is_receiving x.state) (same p k) ∙ sending_apart (process_at w.table p).state (sends_sending w.table p h.table (sends p k));
+    }
+
+by_back : (w : World) (a s : ℕ) (x : Option HeldProcess) → IsSound w → held_by w a ≡ x → AreEntries w a Back s (diary_of_back w s x)
 by_back w a s None h e = tt
 by_back w a s (Some l) h e =
     let t = table_after_coming_home w.table l in
@@ -166,7 +217,7 @@ by_back w a s (Some l) h e =
     let items = items_of_end_of_turn t l.slot doomed l.out.stop in
     let own : slot_on w a ≡ Some l.slot = ap (option_map (λ (k : HeldProcess). k.slot)) e in
     let made : copy_at_end t l.slot doomed l.out.stop ≡ copy_in w a Back = ap (copy_at_back w.table) (sym e) in
-    let each : WrittenBy w a Back items = subst (λ m. Each (Goes (MayGetResult w a Back) (MayGetMessage w a Back) m) items) made (end_of_turn_each (home_scene (scene_now w a Back h) l) l.slot doomed l.out.stop (inl own) (inl own)) in
+    let each : WrittenBy w a Back items = subst (λ m. Each (Goes (MayGetResult w a Back) (MayGetMessage w a Back) m) items) made (end_of_turn_each (home_scene (scene_now w a Back h.table) l) (are_ready w a l h e) l.slot doomed l.out.stop (inl own) (inl own)) in
     let entries = entries_for w a Back s items each in
     entries_case w a Back s (l.slot == s) (items_for s items) (unless_held (image_held_in s w.cpus) (items_for s items)) entries (entries_unless w a Back s (image_held_in s w.cpus) (items_for s items) entries)
 
@@ -181,11 +232,11 @@ kill_each : (w : World) (a e : ℕ) → Sound w.table → WrittenBy w a (Kill e)
 kill_each w a e h = each-case (Goes (MayGetResult w a (Kill e)) (MayGetMessage w a (Kill e)) None) (is_out (process_at w.table (e % 1024)).state) [] (items_of_death w.table (e % 1024)) (λ t. tt) (λ t. death_each (scene_now w a (Kill e) h) None (e % 1024))
 
 -- THE ENTRIES of an event
-pub event_entries : (w : World) (a : ℕ) (e : Event) (s : ℕ) → Sound w.table → AreEntries w a e s (diary w a e s)
+pub event_entries : (w : World) (a : ℕ) (e : Event) (s : ℕ) → IsSound w → AreEntries w a e s (diary w a e s)
 event_entries w a Step s h = by_step w a s (held_by w a) refl
 event_entries w a Take s h = entries_unless w a Take s (image_held_in s w.cpus) [] tt
 event_entries w a Back s h = by_back w a s (held_by w a) h refl
-event_entries w a (Line l) s h = entries_unless w a (Line l) s (image_held_in s w.cpus) _ (entries_for w a (Line l) s (items_of_line w.table l (owner_of w.table l)) (line_each w a l (owner_of w.table l) h))
-event_entries w a Tick s h = entries_unless w a Tick s (image_held_in s w.cpus) _ (entries_for w a Tick s (items_of_event w Tick) (tick_each w a h))
-event_entries w a (Kill e) s h = entries_unless w a (Kill e) s (image_held_in s w.cpus) _ (entries_for w a (Kill e) s (items_of_kill w.table (e % 1024)) (kill_each w a e h))
+event_entries w a (Line l) s h = entries_unless w a (Line l) s (image_held_in s w.cpus) _ (entries_for w a (Line l) s (items_of_line w.table l (owner_of w.table l)) (line_each w a l (owner_of w.table l) h.table))
+event_entries w a Tick s h = entries_unless w a Tick s (image_held_in s w.cpus) _ (entries_for w a Tick s (items_of_event w Tick) (tick_each w a h.table))
+event_entries w a (Kill e) s h = entries_unless w a (Kill e) s (image_held_in s w.cpus) _ (entries_for w a (Kill e) s (items_of_kill w.table (e % 1024)) (kill_each w a e h.table))
 event_entries w a (Respawn t) s h = entries_unless w a (Respawn t) s (image_held_in s w.cpus) [] tt

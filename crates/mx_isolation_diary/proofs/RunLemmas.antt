@@ -13,10 +13,11 @@ use Rattle.mx_kcall.specs.Load.{image_of_program}
 use Rattle.mx_kcall.specs.Respawn.{is_worn, next_process, table_after_respawn}
 use Rattle.mx_kcall.specs.Service.{Service}
 use Rattle.mx_kcall.specs.Rules.{Rules}
+use Rattle.mx_machine_world.specs.declared.config.Config.{Config}
 use Rattle.mx_machine_world.specs.declared.events.Event.{Event}
 use Rattle.mx_machine_world.specs.declared.events.Event.TheVariants.{Step, Take, Back, Line, Tick, Kill, Respawn}
 use Rattle.mx_machine_world.specs.declared.events.Refusal.{Refusal}
-use Rattle.mx_machine_world.specs.Boot.{first_process, first_table, world_at_boot_with}
+use Rattle.mx_machine_world.specs.Boot.{first_process, first_table, world_at_boot, world_at_boot_with}
 use Rattle.mx_machine_world.specs.declared.events.Refusal.TheVariants.{NotDown, Worn}
 use Rattle.mx_machine_world.specs.Move.{event_refusal, if_full, move, move_by, moves, respawn_refusal, world_after_event, world_after_step, world_after_take, world_after_back, world_after_line, world_after_respawn}
 use Rattle.mx_machine_world.specs.Sound.{IsSound}
@@ -216,3 +217,21 @@ lives_agree x y h k p d =
     ∙ ap (λ items. play items (image_of_program x.service.program)) d
     ∙ ap (λ program. play (diary_of_life y) (image_of_program program)) p
     ∙ sym (life_law y k)
+
+-- ---- where lives begin
+
+pub begins_at_boot : (config : Config) (services : List Service) (s : ℕ) (v : Service) (xs : List (ℕ × Event)) → slice_get services s ≡ Some v → AreSound (world_at_boot config services) xs
+    → IsLife (record { world = world_at_boot config services; slot = s; service = v; before = []; events = xs })
+begins_at_boot config services s v xs e sound = record {
+  service = e;
+  begins = boot_law config.rules services config.cpus config.others config.log s v e;
+  sound = sound;
+}
+
+pub begins_again : (w : World) (a s : ℕ) (v : Service) (xs : List (ℕ × Event)) → IsSound w → event_refusal w a (Respawn s) ≡ None → slice_get w.services s ≡ Some v → AreSound (world_after_event w a (Respawn s)) xs
+    → IsLife (record { world = world_after_event w a (Respawn s); slot = s; service = v; before = []; events = xs })
+begins_again w a s v xs h f e sound = record {
+  service = ap (λ vs. slice_get vs s) (services_event w a (Respawn s)) ∙ e;
+  begins = respawn_law w a s v h f e;
+  sound = sound;
+}

@@ -75,6 +75,11 @@ loan_none p n e f = none_some (loan_of p) n (ap (λ b. cond b (Some p.ticks) Non
     none_some : (o : Option ℕ) (n : ℕ) → o ≡ None → o ≡ Some n → ⊥
     none_some o n e f = cc
 
+-- who is held is out
+pub held_is_out : (w : World) (a : ℕ) (l : HeldProcess) → IsSound w → held_by w a ≡ Some l → is_out (process_at w.table l.slot).state ≡ false → ⊥
+held_is_out w a l h e n =
+    loan_none (process_at w.table l.slot) l.out.budget n (h.holds.leased a (record { slot = l.slot; budget = l.out.budget }) (leased w a l e))
+
 -- who isn't out is held by no processor
 pub not_held : (w : World) (s : ℕ) → IsSound w → is_out (process_at w.table s).state ≡ false → image_held_in s w.cpus ≡ None
 not_held w s h n = by_image (image_held_in s w.cpus) refl
@@ -83,8 +88,7 @@ not_held w s h n = by_image (image_held_in s w.cpus) refl
     by_image None f = refl
     by_image (Some m) f =
         let k = held_found s w.cpus m f in
-        let loan = h.holds.leased k.0 (record { slot = k.1.slot; budget = k.1.out.budget }) (leased w k.0 k.1 k.2) in
-        absurd (loan_none (process_at w.table s) k.1.out.budget n (subst (λ z. loan_of (process_at w.table z) ≡ Some k.1.out.budget) k.3 loan))
+        absurd (held_is_out w k.0 k.1 h k.2 (subst (λ z. is_out (process_at w.table z).state ≡ false) (sym k.3) n))
 
 pub held_once : (w : World) → IsSound w → IsHeldOnce w
 held_once w h = record {

@@ -2,6 +2,7 @@
 use Rattle.std.specs.Prelude.{◌≡◌, ◌≢◌, ◌<◌, ◌≤◌, ◌⊎◌, ◌+◌, ℕ, Bool, true, false, List, [], ◌∷◌, length, Option, Some, None, slice_index_or}
 use Rattle.std.specs.Option.{option_map}
 use Rattle.mx_exec.specs.declared.image.Image.{Image}
+use Rattle.mx_mem.specs.Segment.{part}
 use Rattle.mx_image.specs.declared.runs.Stop.{Stop}
 use Rattle.mx_image.specs.declared.runs.Stop.TheVariants.{Trap}
 use Rattle.mx_proc.specs.declared.errors.Errno.{Errno}
@@ -10,7 +11,7 @@ use Rattle.mx_proc.specs.declared.process.State.{State}
 use Rattle.mx_proc.specs.declared.process.State.TheVariants.{Receiving, Awaiting}
 use Rattle.mx_proc.specs.States.{is_blocked}
 use Rattle.mx_proc.specs.declared.windows.Window.{Window}
-use Rattle.mx_proc.specs.TableState.{TableState, process_at, window_of}
+use Rattle.mx_proc.specs.TableState.{TableState, memory_at, process_at, window_of}
 use Rattle.mx_kcall.specs.declared.request.KernelCall.{KernelCall}
 use Rattle.mx_kcall.specs.declared.request.CopyRange.{CopyRange}
 use Rattle.mx_kcall.specs.declared.request.KernelCall.TheVariants.{Vircopy}
@@ -24,6 +25,7 @@ use Rattle.mx_machine_world.specs.declared.events.Event.{Event}
 use Rattle.mx_machine_world.specs.declared.events.Event.TheVariants.{Step, Back, Respawn}
 use Rattle.mx_machine_world.specs.Move.{is_doomed, table_after_coming_home}
 use Rattle.mx_machine_world.specs.World.{World, HeldProcess, held_by}
+use Rattle.mx_isolation_diary.specs.Diaries.{image_now}
 use Rattle.mx_isolation_diary.specs.Diary.{Item}
 use Rattle.mx_isolation_diary.specs.Diary.Item.{Ran, Result, Message, Copy}
 
@@ -38,26 +40,28 @@ abbrev pub caller_in : World → ℕ → Event → Option ℕ
 caller_in w a Back = slot_on w a
 caller_in w a _ = None
 
--- What a call copies: from an address in the memory of a slot to a place in that of a slot, and how many bytes.
+-- What a call copies: from an address in the memory of a slot to a place in that of a slot, how many bytes, and which.
 pub record CopyMade : Type 0 where
   pub from : ℕ
   pub address : ℕ
   pub to : ℕ
   pub place : ℕ
   pub count : ℕ
+  -- what the source has there as the call finds it
+  pub bytes : List ℕ
 
-abbrev pub copy_made : CopyRange → CopyMade
-copy_made c = record { from = slot_of c.source.endpoint; address = c.source.offset; to = slot_of c.target.endpoint; place = c.target.offset; count = c.count }
+abbrev pub copy_made : TableState → CopyRange → CopyMade
+copy_made t c = let from = slot_of c.source.endpoint in record { from = from; address = c.source.offset; to = slot_of c.target.endpoint; place = c.target.offset; count = c.count; bytes = part (memory_at t from) c.source.offset c.count }
 
 -- a VIRCOPY that isn't refused
-abbrev pub copy_by : Option KernelCall → Option Errno → Option CopyMade
-copy_by (Some (Vircopy c)) None = Some (copy_made c)
-copy_by _ _ = None
+abbrev pub copy_by : TableState → Option KernelCall → Option Errno → Option CopyMade
+copy_by t (Some (Vircopy c)) None = Some (copy_made t c)
+copy_by t _ _ = None
 
 -- by the trap of s
 abbrev pub copy_at_trap : TableState → ℕ → TrapAnswer → Option CopyMade
 copy_at_trap t s trap_ends.Done = None
-copy_at_trap t s trap_ends.Kernel = copy_by (kernel_call_under t.rules (message_words_at t s)) (kernel_call_refusal t s)
+copy_at_trap t s trap_ends.Kernel = copy_by t (kernel_call_under t.rules (message_words_at t s)) (kernel_call_refusal t s)
 
 -- by the end of its turn
 abbrev pub copy_at_end : TableState → ℕ → Bool → Stop → Option CopyMade
@@ -95,14 +99,14 @@ pub record IsOfCopy (made : Option CopyMade) (s at : ℕ) (bytes : List ℕ) : T
   pub is_made : made ≡ Some copy
   pub slot : copy.to ≡ s
   pub place : copy.place ≡ at
-  pub few : length bytes ≤ copy.count
+  pub same : copy.bytes ≡ bytes
 
--- AN ENTRY: a step is the process's own; a result or at most 36 bytes of a message come to the caller or to who
--- waited; and bytes are copied where the caller's call isn't refused
+-- AN ENTRY: a step is the process's own; a result or the 36 bytes of a message come to the caller or to who
+-- waited; and bytes are copied where the caller's call isn't refused, those of its copy
 abbrev pub IsEntry : World → ℕ → Event → ℕ → Item → Type 0
 IsEntry w a e s Ran = (e ≡ Step) × (slot_on w a ≡ Some s)
 IsEntry w a e s (Result r) = MayGetResult w a e s
-IsEntry w a e s (Message bytes) = (length bytes ≤ 36) × MayGetMessage w a e s
+IsEntry w a e s (Message bytes) = (length bytes ≡ 36) × MayGetMessage w a e s
 IsEntry w a e s (Copy place bytes) = IsOfCopy (copy_in w a e) s place bytes
 
 abbrev pub AreEntries : World → ℕ → Event → ℕ → List Item → Type 0
@@ -127,14 +131,18 @@ MissesSlot s (Some copy) = copy.to ≢ s
 abbrev pub byte_of : Image → ℕ → ℕ
 byte_of m k = slice_index_or m.memory k 0
 
--- a byte outside of this many from a place on
-abbrev pub IsOutside : ℕ → ℕ → ℕ → Type 0
-IsOutside place count k = (k < place) ⊎ (place + count ≤ k)
+-- a byte inside of this many from a place on
+abbrev pub IsInside : ℕ → ℕ → ℕ → Type 0
+IsInside place count k = (place ≤ k) × (k < place + count)
 
--- a byte of slot s outside of what is copied into it
-abbrev pub IsOutsideCopy : ℕ → Option CopyMade → ℕ → Type 0
-IsOutsideCopy s None k = Unit {0}
-IsOutsideCopy s (Some copy) k = copy.to ≡ s → IsOutside copy.place copy.count k
+-- a byte in the buffer of a process that waits in a call
+abbrev pub IsInBuffer : World → ℕ → ℕ → Type 0
+IsInBuffer w s k = (is_blocked (process_at w.table s).state ≡ true) × IsInside (image_now w s).regs.ebx 36 k
+
+-- a byte of slot s in what is copied into it
+abbrev pub IsInCopy : ℕ → Option CopyMade → ℕ → Type 0
+IsInCopy s None k = ⊥
+IsInCopy s (Some copy) k = (copy.to ≡ s) × IsInside copy.place copy.count k
 
 -- ---- windows
 
@@ -144,9 +152,9 @@ pub record IsThroughWindows (t : TableState) (s : ℕ) (copy : CopyMade) : Type 
   pub read : copy.from ≢ s → is_open allows_reading (window_of t copy.from s) copy.address copy.count ≡ true
   pub written : copy.to ≢ s → is_open allows_writing (window_of t copy.to s) copy.place copy.count ≡ true
 
--- a byte of slot s that is in no window which it has open for writing, to whomever
-abbrev pub IsClosedToWriting : TableState → ℕ → ℕ → Type 0
-IsClosedToWriting t s k = (u : ℕ) (x : Window) → window_of t s u ≡ Some x → allows_writing x.access ≡ true → IsOutside x.place x.count k
+-- a byte of slot s in a window that it has open for writing, to some slot
+abbrev pub IsOpenToWriting : TableState → ℕ → ℕ → Type 0
+IsOpenToWriting t s k = (u : ℕ) × (x : Window) × (window_of t s u ≡ Some x) × (allows_writing x.access ≡ true) × IsInside x.place x.count k
 
 -- all of an image but its memory and EAX, where results come
 abbrev pub registers_and_code : Image → Image

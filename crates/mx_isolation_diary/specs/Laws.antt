@@ -1,5 +1,5 @@
 -- The laws of diaries, as statements.
-use Rattle.std.specs.Prelude.{◌≡◌, ◌<◌, ℕ, List, true, false, Some, None, length, slice_get}
+use Rattle.std.specs.Prelude.{◌≡◌, ◌≢◌, ◌⊎◌, ◌<◌, ℕ, [], List, true, false, Some, None, length, slice_get}
 use Rattle.mx_proc.specs.States.{is_blocked}
 use Rattle.mx_proc.specs.TableState.{process_at}
 use Rattle.mx_kcall.specs.Load.{image_of_program}
@@ -15,7 +15,7 @@ use Rattle.mx_machine_world.specs.World.{World}
 use Rattle.mx_machine.specs.Machine.{AreSound}
 use Rattle.mx_isolation_diary.specs.Diary.{play}
 use Rattle.mx_isolation_diary.specs.Diaries.{diary, image_now, IsNoRespawnOf}
-use Rattle.mx_isolation_diary.specs.Entries.{AreEntries, byte_of, caller_in, copy_in, CopyMade, IsClosedToWriting, IsThroughWindows, IsOfOthers, IsOutside, IsOutsideCopy, MissesSlot, registers_and_code}
+use Rattle.mx_isolation_diary.specs.Entries.{AreEntries, byte_of, caller_in, copy_in, CopyMade, IsInBuffer, IsInCopy, IsOpenToWriting, IsThroughWindows, IsOfOthers, MissesSlot, registers_and_code}
 use Rattle.mx_isolation_diary.specs.Runs.{AreNoRespawnsOf, diary_along, IsLife, Life, diary_of_life, image_of_life}
 
 -- A slot of a sound machine, which has a service.
@@ -47,6 +47,14 @@ RunIsWritten w xs s = AreSound w xs → AreNoRespawnsOf s xs → s < length w.se
 abbrev pub LifeIsWritten : Life → Type 0
 LifeIsWritten x = IsLife x → image_of_life x ≡ play (diary_of_life x) (image_of_program x.service.program)
 
+-- A life begins at boot, with nothing in its diary,
+abbrev pub LifeBeginsAtBoot : Config → List Service → ℕ → Service → List (ℕ × Event) → Type 0
+LifeBeginsAtBoot config services s v xs = let w = world_at_boot config services in slice_get services s ≡ Some v → AreSound w xs → IsLife (record { world = w; slot = s; service = v; before = []; events = xs })
+
+-- and after an accepted respawn of its slot, with nothing in it again
+abbrev pub LifeBeginsAgain : World → ℕ → ℕ → Service → List (ℕ × Event) → Type 0
+LifeBeginsAgain w a s v xs = let u = world_after_event w a (Respawn s) in event_refusal w a (Respawn s) ≡ None → slice_get w.services s ≡ Some v → AreSound u xs → IsLife (record { world = u; slot = s; service = v; before = []; events = xs })
+
 -- two lives, on any machines and in any slots, that agree on program and diary end with equal images
 abbrev pub LivesAgree : Life → Life → Type 0
 LivesAgree x y = x.service.program ≡ y.service.program → diary_of_life x ≡ diary_of_life y → image_of_life x ≡ image_of_life y
@@ -56,6 +64,10 @@ LivesAgree x y = x.service.program ≡ y.service.program → diary_of_life x ≡
 abbrev pub HasEntries : World → ℕ → Event → ℕ → Type 0
 HasEntries w a e s = AreEntries w a e s (diary w a e s)
 
+-- a copy that an event makes brings all of its bytes: as many as it counts
+abbrev pub CopyIsWhole : World → ℕ → Event → CopyMade → Type 0
+CopyIsWhole w a e copy = copy_in w a e ≡ Some copy → length copy.bytes ≡ copy.count
+
 -- ---- windows
 
 -- under the strict rules the copy that an event makes goes through windows
@@ -64,15 +76,16 @@ CopyIsThroughWindows w a e s copy = is_strict w.table.rules ≡ true → caller_
 
 -- ---- what others can't do
 
--- An event leaves each byte of a slot's image outside of its buffer's 36 and of what is copied into it, the limit, and
--- all registers but EAX. Under the strict rules it leaves each byte outside of the buffer's that is in no window which
--- the process has open for writing. A step leaves all; so does any event if the process doesn't wait in a call and nothing is
--- copied into it.
+-- A byte of a slot's image that an event changes is in the buffer of a process that waits in a call, or in what is
+-- copied into the slot, and then, under the strict rules, in a window that the process has open for writing. The
+-- limit stays, and all registers but EAX, which changes only if the process waits in a call. A step changes nothing;
+-- nor does any event if the process doesn't wait in a call and nothing is copied into it.
 pub record LeavesImage (w : World) (a : ℕ) (e : Event) (s : ℕ) : Type 0 where
-  pub bytes : (k : ℕ) → IsOutside (image_now w s).regs.ebx 36 k → IsOutsideCopy s (copy_in w a e) k → byte_of (image_now (world_after_event w a e) s) k ≡ byte_of (image_now w s) k
-  pub closed : is_strict w.table.rules ≡ true → (k : ℕ) → IsOutside (image_now w s).regs.ebx 36 k → IsClosedToWriting w.table s k → byte_of (image_now (world_after_event w a e) s) k ≡ byte_of (image_now w s) k
+  pub bytes : (k : ℕ) → byte_of (image_now (world_after_event w a e) s) k ≢ byte_of (image_now w s) k → IsInBuffer w s k ⊎ IsInCopy s (copy_in w a e) k
+  pub windows : is_strict w.table.rules ≡ true → (k : ℕ) → IsInCopy s (copy_in w a e) k → IsOpenToWriting w.table s k
   pub limit : length (image_now (world_after_event w a e) s).memory ≡ length (image_now w s).memory
   pub rest : registers_and_code (image_now (world_after_event w a e) s) ≡ registers_and_code (image_now w s)
+  pub result : is_blocked (process_at w.table s).state ≡ false → (image_now (world_after_event w a e) s).regs.eax ≡ (image_now w s).regs.eax
   pub step : e ≡ Step → image_now (world_after_event w a e) s ≡ image_now w s
   pub whole : is_blocked (process_at w.table s).state ≡ false → MissesSlot s (copy_in w a e) → image_now (world_after_event w a e) s ≡ image_now w s
 

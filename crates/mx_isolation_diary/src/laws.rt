@@ -7,7 +7,7 @@ ghost use Rattle.mx_machine_world.specs.declared.config.Config.{Config};
 ghost use Rattle.mx_machine_world.specs.declared.events.Event.{Event};
 ghost use Rattle.mx_machine_world.specs.World.{World};
 ghost use Rattle.mx_isolation_diary.specs.Entries.{CopyMade};
-ghost use Rattle.mx_isolation_diary.specs.Laws.{BootLoads, CopyIsThroughWindows, HasEntries, IsSlot, IsWritten, LifeIsWritten, LivesAgree, OthersLeaveImage, RespawnLoads, RunIsWritten};
+ghost use Rattle.mx_isolation_diary.specs.Laws.{BootLoads, CopyIsThroughWindows, CopyIsWhole, HasEntries, IsSlot, IsWritten, LifeBeginsAgain, LifeBeginsAtBoot, LifeIsWritten, LivesAgree, OthersLeaveImage, RespawnLoads, RunIsWritten};
 ghost use Rattle.mx_isolation_diary.specs.Runs.{IsLife, Life};
 
 /// Law: an accepted event does to the image of a slot, at home or on a processor, what the slot's
@@ -25,16 +25,21 @@ pub fn diaries_tell_runs()
 
 /// Law: from boot on, through any respawns, an image is what the diary of its generation makes of
 /// its program. So two processes of any two machines that agree on program and diary have equal
-/// images.
+/// images. A life begins at boot, and again after a respawn, with an empty diary.
 pub fn lives_tell_images()
     ensures image { (x : Life) → LifeIsWritten x }
     ensures equal { (x y : Life) → IsLife x → IsLife y → LivesAgree x y }
+    ensures boot { (c : Config) (vs : List Service) (s : ℕ) (v : Service) (xs : List (ℕ × Event))
+        → LifeBeginsAtBoot c vs s v xs }
+    ensures respawn { (w : World) (a s : ℕ) (v : Service) (xs : List (ℕ × Event)) → IsSlot w s
+        → LifeBeginsAgain w a s v xs }
 {}
 
 /// Law: a diary holds the steps of its own process, results and messages of calls that it made or
-/// waited in, and bytes of copies that were not refused.
+/// waited in, and bytes of copies that were not refused: those of the copy, as many as it counts.
 pub fn diaries_have_entries()
-    ensures { (w : World) (a : ℕ) (e : Event) (s : ℕ) → IsSlot w s → HasEntries w a e s }
+    ensures entries { (w : World) (a : ℕ) (e : Event) (s : ℕ) → IsSlot w s → HasEntries w a e s }
+    ensures copies { (w : World) (a : ℕ) (e : Event) (c : CopyMade) → CopyIsWhole w a e c }
 {}
 
 /// Law: under the strict rules a copy goes through windows: of another's memory it reads only what
@@ -44,11 +49,10 @@ pub fn copies_go_through_windows()
     ensures { (w : World) (a s : ℕ) (e : Event) (c : CopyMade) → CopyIsThroughWindows w a e s c }
 {}
 
-/// Law: what others do leaves of a slot's image all but EAX, the 36 bytes of the buffer that the
-/// process named, and the bytes that a copy puts into it. Under the strict rules it leaves each
-/// byte outside of that buffer which is in no window that the process has open for writing. A step
-/// of theirs leaves all; so does all that they do, if the process doesn't wait in a call and
-/// nothing is copied into it.
+/// Law: what others do changes of a slot's image only EAX and the 36 bytes of the buffer, if the
+/// process waits in a call, and the bytes that a copy puts into it. Under the strict rules these are in
+/// a window that the process has open for writing. A step of theirs changes nothing; nor does all that
+/// they do, if the process doesn't wait in a call and nothing is copied into it.
 pub fn others_leave_images()
     ensures { (w : World) (a : ℕ) (e : Event) (s : ℕ) → IsSlot w s → OthersLeaveImage w a e s }
 {}

@@ -1,5 +1,5 @@
 -- Kernel calls of another process leave two tables that are the same but for one image so, unless they copy from it.
-use Rattle.std.proofs.Common.{◌≡◌, ◌∙◌, ℕ, zero, suc, ◌+◌, ◌/◌, ◌%◌, ◌^◌, ◌≤◌, ◌==◌, ◌&&◌, ◌||◌, nat_lt, Bool, true, false, cond, not, List, [], ◌∷◌, ◌++◌, length, take, drop, Option, Some, None, refl, sym, ap, subst, get_or, slice_set, arith}
+use Rattle.std.proofs.Common.{◌≡◌, ◌∙◌, ℕ, zero, suc, ◌+◌, ◌/◌, ◌%◌, ◌^◌, ◌≤◌, ◌==◌, ◌&&◌, ◌||◌, nat_lt, Bool, true, false, cond, not, List, [], ◌∷◌, ◌++◌, length, take, drop, Option, Some, None, refl, sym, ap, subst, get_or, slice_set, arith, ◌⊎◌, inl, inr}
 use Rattle.std.specs.Prelude.{◌≢◌, nat_le, slice_index}
 use Rattle.std.proofs.lemmas.List.{length-take}
 use Rattle.std.proofs.lemmas.Bool.{leb-true, ne_eqb}
@@ -30,7 +30,7 @@ use Rattle.mx_isolation_secrecy.specs.Twins.{is_slot, Twins}
 use Rattle.mx_kcall.specs.Windows.{allows_reading, allows_writing, granted, is_open, is_strict}
 use Rattle.mx_proc.specs.declared.windows.Rules.{Rules}
 use Rattle.mx_proc.specs.declared.windows.Window.{Window}
-use Rattle.mx_isolation_secrecy.specs.Apart.{CopyIsApart}
+use Rattle.mx_isolation_secrecy.specs.Apart.{CopyIsApart, IsClosedToReading, IsRefused}
 use Rattle.mx_isolation_secrecy.proofs.TwinLemmas.{quiet, other_slot, at, put, all_but_image_at, other_at, by_test, redeviced, goes_on_twins, message_other, endpoint_same, slots_of, uptime_of, devices_of, with_bytes, with_bytes_alike}
 use Rattle.mx_isolation_secrecy.proofs.DeathLemmas.{death_twins, alarm_twins}
 
@@ -166,13 +166,17 @@ read_open false own x f e g = cc
 -- so where q grants none, its source is another
 source_is_other : (w : TableState) (q s : ℕ) (c : CopyRange) → is_slot q s ≡ false → kernel_call_refusal_by w s (Some (Vircopy c)) ≡ None → CopyIsApart q w s (Some (Vircopy c)) None → q ≢ c.source.endpoint % 1024
 source_is_other w q s c n e m g =
-    let k = m (sym g) in
+    let k = not_refused (m (sym g)) in
     let h = none_holds ((not (has_bit (process_at w s).masks.calls 5), Denied) ∷ kernel_call_reasons w s (Vircopy c)) e in
     let owner = c.source.endpoint % 1024 in
     let own : (owner == s) ≡ false = ne_eqb owner s (λ z. is_not_itself q s n (g ∙ z)) in
     let reads = read_open (is_strict w.rules) (owner == s) (is_open allows_reading (window_of w owner s) c.source.offset c.count) h.1.1.1.1.1.1.1.0 k.0 own in
     true_false (sym reads ∙ ap (λ z. is_open allows_reading (window_of w z s) c.source.offset c.count) (sym g) ∙ k.1)
   where
+    not_refused : IsRefused None ⊎ IsClosedToReading q w s c → IsClosedToReading q w s c
+    not_refused (inl h) = absurd h
+    not_refused (inr h) = h
+
     true_false : true ≡ false → ⊥
     true_false z = cc
 

@@ -1,10 +1,11 @@
 -- An event that is apart from the process in slot q: nothing of its image is used.
-use Rattle.std.specs.Prelude.{◌≡◌, ℕ, Bool, true, false, List, [], ◌∷◌, Option, Some, None}
+use Rattle.std.specs.Prelude.{◌≡◌, ◌⊎◌, ℕ, Bool, true, false, List, [], ◌∷◌, Option, Some, None}
 use Rattle.mx_image.specs.declared.runs.Stop.{Stop}
 use Rattle.mx_image.specs.declared.runs.Stop.TheVariants.{Spent, Trap, Fault}
 use Rattle.mx_proc.specs.declared.errors.Errno.{Errno}
 use Rattle.mx_proc.specs.EndpointNumbers.{slot_of}
 use Rattle.mx_proc.specs.TableState.{TableState, process_at, window_of}
+use Rattle.mx_kcall.specs.declared.request.CopyRange.{CopyRange}
 use Rattle.mx_kcall.specs.declared.request.KernelCall.{KernelCall}
 use Rattle.mx_kcall.specs.declared.request.KernelCall.TheVariants.{Vircopy}
 use Rattle.mx_kcall.specs.Requests.{kernel_call_under, message_words_at}
@@ -24,11 +25,19 @@ use Rattle.mx_isolation_secrecy.specs.Senders.{IsNot, sender_of_trap}
 abbrev pub sender_at_trap : TableState → ℕ → Option ℕ
 sender_at_trap t s = let regs = (process_at t s).image.regs in sender_of_trap t s (call_of regs.ecx) regs.eax
 
--- a kernel call by s that doesn't copy from q, or is refused; or the rules are strict, and q has no window open for it
+-- the kernel call is refused
+abbrev pub IsRefused : Option Errno → Type 0
+IsRefused None = ⊥
+IsRefused (Some x) = Unit {0}
+
+-- under the strict rules q has no window open in which s may read what a copy takes
+abbrev pub IsClosedToReading : ℕ → TableState → ℕ → CopyRange → Type 0
+IsClosedToReading q t s c = (is_strict t.rules ≡ true) × (is_open allows_reading (window_of t q s) c.source.offset c.count ≡ false)
+
+-- a kernel call by s copies nothing from q: it isn't a copy from q, or it is refused, or q is closed to its reading
 abbrev pub CopyIsApart : ℕ → TableState → ℕ → Option KernelCall → Option Errno → Type 0
-CopyIsApart q t s (Some (Vircopy c)) None =
-    slot_of c.source.endpoint ≡ q → (is_strict t.rules ≡ true) × (is_open allows_reading (window_of t q s) c.source.offset c.count ≡ false)
-CopyIsApart q t s _ _ = Unit {0}
+CopyIsApart q t s (Some (Vircopy c)) refusal = slot_of c.source.endpoint ≡ q → IsRefused refusal ⊎ IsClosedToReading q t s c
+CopyIsApart q t s _ refusal = Unit {0}
 
 -- a trap that takes no message of q, or a kernel call that can't copy from it
 abbrev pub TrapIsApart : ℕ → TableState → ℕ → TrapAnswer → Type 0

@@ -173,7 +173,7 @@ module _ (v : World) (a n s : ℕ) (p : Service) (sound : IsSound v) (few : leng
       d = diary v a e s
 
       entries : AreEntries v a e s d
-      entries = event_entries v a e s sound.table
+      entries = event_entries v a e s sound
 
       steps : HaveNoStep d
       steps = entries_no_step v a e s d unstepped entries
@@ -224,7 +224,7 @@ module _ (v : World) (a n s : ℕ) (p : Service) (sound : IsSound v) (few : leng
     -- ---- the slot of another
 
     entries : AreEntries v a event.Back s (diary v a event.Back s)
-    entries = event_entries v a event.Back s sound.table
+    entries = event_entries v a event.Back s sound
 
     end_tells : (q : ℕ) → q ≢ l.slot → Tells home (table_after_end_of_turn home l.slot doomed l.out.stop) items q
     end_tells q m = by_end doomed l.out.stop

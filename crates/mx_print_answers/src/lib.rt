@@ -9,7 +9,7 @@ mod runs;
 mod said;
 
 pub use messages::push_messages;
-pub use mx_debug::{DebugError, Debugger, Halt, HaltCause, Kernel, address};
+pub use mx_debug::{DebugError, Debugger, Halt, HaltCause, Kernel};
 pub use processes::{push_memory, push_process};
 pub use refused::{Refused, push_done};
 pub use runs::push_run;

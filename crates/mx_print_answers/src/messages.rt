@@ -4,7 +4,7 @@ ghost use Rattle.std.specs.Prelude.{◌≡◌, ◌++◌, OnOk, string_bytes};
 ghost use Rattle.mx_machine_world.specs.History.{replay};
 ghost use Rattle.mx_print_answers.specs.Messages.{kind_word, delivery_line, delivery_lines};
 
-use mx_debug::{Kernel, message};
+use mx_debug::{Debugger, Kernel};
 use mx_proc::{Delivery, DeliveryKind};
 use std::alloc::AllocError;
 use std::fmt::Write;
@@ -36,7 +36,7 @@ pub fn push_messages(out: &mut String, kernel: &Kernel) -> Result<(), AllocError
         ++ delivery_lines (replay kernel.now).table.deliveries) }
 {
     let mut index = 0;
-    while let Some(delivery) = message(kernel, index) {
+    while let Some(delivery) = Debugger::message(kernel, index) {
         push_delivery(out, delivery)?;
         index += 1;
     }

@@ -13,40 +13,62 @@ use std::process::Abort;
 use std::sync::Wait;
 use std::test::Fail;
 
+/// What came of it when all seats took a process: how many were out at once, how many takes were
+/// refused since the history is full, and how the tick of another actor is answered then.
+#[derive(Clone, Copy, PartialEq, Eq)]
+struct Taken {
+    out: u64,
+    full: u64,
+    ticked: Result<Answer, Refusal>,
+}
+
 /// Each seat, the last one first, takes a process while the earlier ones hold theirs; then another actor
-/// ticks, and all are given back. Answers how many were out at once, and how the tick is answered.
+/// ticks, and all are given back.
 #[cycle(take_all)]
 fn take_all<M: Naming>(
     rt: &impl Wait,
     shared: &Shared<M>,
     seats: &mut Vec<ActorSeat>,
     other: ActorSeat,
-) -> (u64, Result<Answer, Refusal>)
+) -> Taken
     requires tables { All (λ s. s.table ≡ M.table) seats.old.items }
     requires other { other.table ≡ M.table }
 {
     let Some(seat) = last_seat::<M>(seats) else {
-        return (0, shared.tick(rt, other).1);
+        return Taken {
+            out: 0,
+            full: 0,
+            ticked: shared.tick(rt, other).1,
+        };
     };
     let (seat, taken) = shared.take(rt, seat);
     match taken {
         Ok(loan) => {
-            let (others, ticked) = take_all(rt, shared, seats, other);
+            let others = take_all(rt, shared, seats, other);
             let _seat = shared.give(rt, seat, loan);
-            (others.saturating_add(1), ticked)
+            Taken {
+                out: others.out.saturating_add(1),
+                ..others
+            }
         }
-        Err(_) => take_all(rt, shared, seats, other),
+        Err(refusal) => {
+            let others = take_all(rt, shared, seats, other);
+            let full = u64::from(refusal == Refusal::LogFull);
+            Taken {
+                full: others.full.saturating_add(full),
+                ..others
+            }
+        }
     }
 }
 
-/// A machine of as many equal services as processors, how many processors take one while the others hold
-/// theirs, how a tick is answered then, and how many records there are at the end.
+/// A machine of as many equal services as processors, each of which takes one while the others hold
+/// theirs: what comes of it, and how many records there are at the end.
 struct Row {
     name: &'static str,
     cpus: u8,
     log: u32,
-    out: u64,
-    ticked: Result<Answer, Refusal>,
+    taken: Taken,
     records: usize,
 }
 
@@ -55,24 +77,33 @@ static ROWS: &[Row] = &[
         name: "eight processes are out at once",
         cpus: 8,
         log: 64,
-        out: 8,
-        ticked: Ok(Answer::Done),
+        taken: Taken {
+            out: 8,
+            full: 0,
+            ticked: Ok(Answer::Done),
+        },
         records: 17,
     },
     Row {
         name: "room for four takes and their returns, and none for a tick",
         cpus: 4,
         log: 8,
-        out: 4,
-        ticked: Err(Refusal::LogFull),
+        taken: Taken {
+            out: 4,
+            full: 0,
+            ticked: Err(Refusal::LogFull),
+        },
         records: 8,
     },
     Row {
         name: "a fourth take finds no room for its return, and the tick has room",
         cpus: 4,
         log: 7,
-        out: 3,
-        ticked: Ok(Answer::Done),
+        taken: Taken {
+            out: 3,
+            full: 1,
+            ticked: Ok(Answer::Done),
+        },
         records: 7,
     },
 ];
@@ -88,9 +119,9 @@ fn are_out<M: Naming>(rt: &impl Wait, blank: Blank, mut seats: Vec<ActorSeat>, r
         let _kernel = shared.into_kernel(seats);
         return false;
     };
-    let (out, ticked) = take_all(rt, &shared, &mut seats, other);
+    let taken = take_all(rt, &shared, &mut seats, other);
     let kernel = shared.into_kernel(Vec::new(*seats.allocator()));
-    (out, ticked, kernel.history().len()) == (row.out, row.ticked, row.records)
+    taken == row.taken && kernel.history().len() == row.records
 }
 
 #[test]

@@ -1,6 +1,6 @@
 //! Breakpoints in a loop of three instructions that counts in EAX, and ends in a trap where EDX is 0.
 
-use mx_debug::{DebugError, Debugger, Halt, HaltCause, byte};
+use mx_debug::{DebugError, Debugger, Halt, HaltCause};
 use mx_exec::{Code, Image, TextSegment};
 use mx_flags::Flags;
 use mx_image::Stop;
@@ -142,7 +142,7 @@ fn is_trapped(debugger: &mut Debugger, out: &mut Out) -> bool {
 
 /// Whether a byte inside the data is read, and none past them.
 fn is_read(image: &Image) -> bool {
-    byte(image, 15) == Ok(0) && byte(image, 16) == Err(DebugError::NotHere)
+    Debugger::byte(image, 15) == Ok(0) && Debugger::byte(image, 16) == Err(DebugError::NotHere)
 }
 
 fn debug(rt: &impl Abort, out: &mut Out) {

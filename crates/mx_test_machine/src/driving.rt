@@ -191,6 +191,50 @@ static ROWS: &[Row] = &[
         printed: "0 a 0 down fault 13 7 1\nuptime 0\nconsole 0\n",
     },
     Row {
+        name: "history: without a line of rules a copy into another's memory is made",
+        config: "lenient_crossed",
+        text: "crossing",
+        by: By::History,
+        told: DONE,
+        printed: "0 a 0 ready 4 28\n1 b 1 ready 14 20\nuptime 0\nconsole 0\n",
+    },
+    Row {
+        name: "history: it is made under a strict configuration too",
+        config: "crossed",
+        text: "crossing",
+        by: By::History,
+        told: DONE,
+        printed: "0 a 0 ready 4 28\n1 b 1 ready 14 20\nuptime 0\nconsole 0\n",
+    },
+    Row {
+        name: "history: by strict rules that copy is refused, and the process faults",
+        config: "crossed",
+        text: "strict_crossing",
+        by: By::History,
+        told: DONE,
+        printed: "0 a 0 down fault 13 4 28\n1 b 1 ready 14 20\nuptime 0\nconsole 0\n",
+    },
+    Row {
+        name: "history: it is refused under a lenient configuration too",
+        config: "lenient_crossed",
+        text: "strict_crossing",
+        by: By::History,
+        told: DONE,
+        printed: "0 a 0 down fault 13 4 28\n1 b 1 ready 14 20\nuptime 0\nconsole 0\n",
+    },
+    Row {
+        name: "script: who sends, who calls, who waits for the hardware, and who is killed while it is out",
+        config: "waits",
+        text: "waiting",
+        by: By::Script,
+        told: DONE,
+        printed: "taken 1 budget 20\nstepped 4 trap\nreturned 4\n\
+                  taken 2 budget 20\nstepped 4 trap\nreturned 4\n\
+                  taken 3 budget 20\nstepped 4 trap\nreturned 4\ntaken 0 budget 20\ndone\n\
+                  0 a 0 doomed 14 20\n1 b 1 sending 0 7 16\n2 c 2 calling 0 7 16\n\
+                  3 d 3 receiving -1 7 16\nuptime 0\nconsole 0\n",
+    },
+    Row {
         name: "history: strict rules, and the first event is refused",
         config: "one",
         text: "strict_early",

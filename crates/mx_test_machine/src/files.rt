@@ -54,16 +54,61 @@ pub(crate) const PAIR: &[u8] = b"cpus 1\nlog 64\n\
 
 /// A sum, and a trap that fails.
 pub(crate) const SUM: &[u8] = &[
-    // The header: text 0xa, data 0x24, bss 0x0, entry 0x0, total 0x1000, symbols 0x0.
-    1, 3, 0x30, 0x10, 0x20, 0, 0, 0, 0xA, 0, 0, 0, 0x24, 0, 0, 0, 0, 0, 0, 0, 0, 0, 0, 0, 0, 0x10,
-    0, 0, 0, 0, 0, 0,
+    // The header: text 0xa, data 0x0, bss 0x0, entry 0x0, total 0x1000, symbols 0x0.
+    1, 3, 0x30, 0x10, 0x20, 0, 0, 0, 0xA, 0, 0, 0, 0, 0, 0, 0, 0, 0, 0, 0, 0, 0, 0, 0, 0, 0x10, 0,
+    0, 0, 0, 0, 0,
     // The text.
     0xB8, 5, 0, 0, 0, // mov eax, 0x5
     0x83, 0xC0, 0x7B, // add eax, 0x7b
     0xCD, 0x21, // int 0x21
-    // The data.
-    0, 0, 0, 0, 0, 0, 0, 0, 0, 0, 0, 0, 0, 0, 0, 0, 0, 0, 0, 0, 0, 0, 0, 0, 0, 0, 0, 0, 0, 0, 0, 0,
-    0, 0, 0, 0,
+];
+
+/// SEND to 0.
+const SENDS: &[u8] = &[
+    // The header: text 0x11, data 0x0, bss 0x80, entry 0x0, total 0x1000, symbols 0x0.
+    1, 3, 0x30, 0x10, 0x20, 0, 0, 0, 0x11, 0, 0, 0, 0, 0, 0, 0, 0x80, 0, 0, 0, 0, 0, 0, 0, 0, 0x10,
+    0, 0, 0, 0, 0, 0,
+    // The text.
+    0xB9, 1, 0, 0, 0, // mov ecx, 0x1
+    0xB8, 0, 0, 0, 0, // mov eax, 0x0
+    0xBB, 0, 0, 0, 0, // mov ebx, 0x0
+    0xCD, 0x21, // int 0x21
+];
+
+/// RECEIVE from the hardware.
+const HEARS: &[u8] = &[
+    // The header: text 0x11, data 0x0, bss 0x80, entry 0x0, total 0x1000, symbols 0x0.
+    1, 3, 0x30, 0x10, 0x20, 0, 0, 0, 0x11, 0, 0, 0, 0, 0, 0, 0, 0x80, 0, 0, 0, 0, 0, 0, 0, 0, 0x10,
+    0, 0, 0, 0, 0, 0,
+    // The text.
+    0xB9, 2, 0, 0, 0, // mov ecx, 0x2
+    0xB8, 0xFF, 0xFF, 0xFF, 0xFF, // mov eax, 0xffffffff
+    0xBB, 0, 0, 0, 0, // mov ebx, 0x0
+    0xCD, 0x21, // int 0x21
+];
+
+/// Copies 4 bytes of its own to 256 of process 1. If that is refused it faults, else EXIT.
+const CROSSES: &[u8] = &[
+    // The header: text 0x63, data 0x0, bss 0x80, entry 0x0, total 0x1000, symbols 0x0.
+    1, 3, 0x30, 0x10, 0x20, 0, 0, 0, 0x63, 0, 0, 0, 0, 0, 0, 0, 0x80, 0, 0, 0, 0, 0, 0, 0, 0, 0x10,
+    0, 0, 0, 0, 0, 0,
+    // The text.
+    0xBB, 0, 0, 0, 0, // mov ebx, 0x0
+    0xC7, 5, 4, 0, 0, 0, 5, 6, 0, 0, // mov dword [0x4], 0x605
+    0xC7, 5, 0xC, 0, 0, 0, 4, 0, 0, 0, // mov dword [0xc], 0x4
+    0xC7, 5, 0x10, 0, 0, 0, 1, 0, 0, 0, // mov dword [0x10], 0x1
+    0xC7, 5, 0x14, 0, 0, 0, 0, 1, 0, 0, // mov dword [0x14], 0x100
+    0xC7, 5, 0x18, 0, 0, 0, 4, 0, 0, 0, // mov dword [0x18], 0x4
+    0xB9, 3, 0, 0, 0, // mov ecx, 0x3
+    0xB8, 0xFE, 0xFF, 0xFF, 0xFF, // mov eax, 0xfffffffe
+    0xCD, 0x21, // int 0x21
+    0x83, 0x3D, 4, 0, 0, 0, 0, // cmp dword [0x4], 0x0
+    0x75, 0x16, // jnz 0x62
+    0xC7, 5, 4, 0, 0, 0, 0, 6, 0, 0, // mov dword [0x4], 0x600
+    0xB9, 3, 0, 0, 0, // mov ecx, 0x3
+    0xB8, 0xFE, 0xFF, 0xFF, 0xFF, // mov eax, 0xfffffffe
+    0xCD, 0x21, // int 0x21
+    0xF4, // hlt
 ];
 
 /// A file with a separate text of two bytes, INT 33, and a total of 4096.
@@ -449,6 +494,51 @@ static FILES: &[NamedFile<'static>] = &[
         bytes: b"take 0\ntake 1\ntake 2\ntake 3\ntick\nback 0\nback 1\nback 2\n",
     },
     NamedFile {
+        name: "waits",
+        bytes: b"cpus 1\nlog 64\n\
+            service a good traps 1e send 0 calls 0 level 14 best 14 quantum 20 restarts 0\n\
+            service b sends.out traps 1e send 1 calls 0 level 7 best 7 quantum 20 restarts 0\n\
+            service c cli.out traps 1e send 1 calls 0 level 7 best 7 quantum 20 restarts 0\n\
+            service d hears.out traps 1e send 0 calls 0 level 7 best 7 quantum 20 restarts 0\n",
+    },
+    NamedFile {
+        name: "sends.out",
+        bytes: SENDS,
+    },
+    NamedFile {
+        name: "hears.out",
+        bytes: HEARS,
+    },
+    NamedFile {
+        name: "waiting",
+        bytes: b"take 0\nstep 0 9\nback 0\ntake 0\nstep 0 9\nback 0\ntake 0\nstep 0 9\nback 0\n\
+            take 0\nkill 0\n",
+    },
+    NamedFile {
+        name: "crossed",
+        bytes: b"cpus 1\nlog 8\n\
+            service a crosses.out traps 1e send 0 calls 20 level 4 best 4 quantum 40 restarts 0\n\
+            service b good traps 1e send 0 calls 0 level 14 best 14 quantum 20 restarts 0\n",
+    },
+    NamedFile {
+        name: "lenient_crossed",
+        bytes: b"cpus 1\nlog 8\nrules 1\n\
+            service a crosses.out traps 1e send 0 calls 20 level 4 best 4 quantum 40 restarts 0\n\
+            service b good traps 1e send 0 calls 0 level 14 best 14 quantum 20 restarts 0\n",
+    },
+    NamedFile {
+        name: "crosses.out",
+        bytes: CROSSES,
+    },
+    NamedFile {
+        name: "crossing",
+        bytes: b"0 take\n0 back 9\n0 take\n0 back 3\n",
+    },
+    NamedFile {
+        name: "strict_crossing",
+        bytes: b"rules 2\n0 take\n0 back 9\n0 take\n0 back 3\n",
+    },
+    NamedFile {
         name: "killed_out",
         bytes: b"take 0\nkill 0\nstep 0 1\nback 0\n",
     },
@@ -474,7 +564,7 @@ static FILES: &[NamedFile<'static>] = &[
     },
     NamedFile {
         name: "sum.s",
-        bytes: b".sep\nmov eax, 5\nadd eax, 0x7b\nint 33\n.data\n.space 36\n",
+        bytes: b".sep\nmov eax, 5\nadd eax, 0x7b\nint 33\n",
     },
     NamedFile {
         name: "wrong.s",

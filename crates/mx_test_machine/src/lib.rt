@@ -20,6 +20,8 @@ mod events;
 #[cfg(test)]
 mod files;
 #[cfg(test)]
+mod limits;
+#[cfg(test)]
 mod narrow;
 #[cfg(test)]
 mod no_texts;

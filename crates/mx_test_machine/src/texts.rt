@@ -565,6 +565,35 @@ impl Write for Narrow {
     }
 }
 
+/// A writer that takes all bytes, but fails at one of its calls, counted from 0, and only at that one.
+#[derive(Drop)]
+struct Faltering {
+    bytes: Vec<u8>,
+    calls: usize,
+    failing: usize,
+    kind: io::ErrorKind,
+}
+
+impl Write for Faltering {
+    ghost use Rattle.std.specs.Prelude.{Some};
+
+    ghost contents = { λ faltering. Some faltering.bytes.items };
+
+    fn write(&mut self, buf: &[u8]) -> io::Result<usize> {
+        let call = self.calls;
+        self.calls = call.saturating_add(1);
+        if call == self.failing {
+            return Err(io::Error::from(self.kind));
+        }
+        self.bytes.extend_from_slice(buf)?;
+        Ok(buf.len())
+    }
+
+    fn flush(&mut self) -> io::Result<()> {
+        Ok(())
+    }
+}
+
 static RECORDS: &[Record] = &[
     Record {
         actor: 1,
@@ -642,6 +671,51 @@ fn is_saved_to(alloc: Global, row: &Saved, room: usize) -> bool {
     let text = row.text.as_bytes();
     let front = &text[..room.min(text.len())];
     is_whole == (room >= text.len()) && sink.into_writer().bytes.as_slice() == front
+}
+
+/// The kinds of error that a program might try again, and one that it wouldn't.
+static KINDS: &[io::ErrorKind] = &[
+    io::ErrorKind::Interrupted,
+    io::ErrorKind::WouldBlock,
+    io::ErrorKind::TimedOut,
+    io::ErrorKind::BrokenPipe,
+];
+
+/// How many bytes the first lines of a text have.
+fn length_of_lines(text: &str, count: usize) -> usize {
+    text.lines().take(count).fold(
+        0_usize,
+        |sum, line| sum.saturating_add(line.len()).saturating_add(1),
+    )
+}
+
+/// Whether a writer's failure at the line of that number ends the saving: the lines above it are
+/// written, and the writer isn't called again, though it would take the bytes now.
+fn ends_at_an_error(alloc: Global, failing: usize, kind: io::ErrorKind) -> bool {
+    let mut sink = Over::new(Faltering {
+        bytes: Vec::new(alloc),
+        calls: 0,
+        failing,
+        kind,
+    });
+    let is_whole = save_history(Rules::Strict, RECORDS, &mut sink).is_ok();
+    let Faltering { bytes, calls, .. } = sink.into_writer();
+    let front = length_of_lines(SAVED_STRICT, failing);
+    !is_whole
+        && calls == failing.saturating_add(1)
+        && SAVED_STRICT.as_bytes().get(..front) == Some(bytes.as_slice())
+}
+
+#[test]
+fn no_error_is_tried_again(rt: HostRuntime) {
+    for kind in KINDS {
+        for failing in 0..SAVED_STRICT.lines().count() {
+            assert!(rt;
+                ends_at_an_error(rt.alloc(), failing, *kind),
+                "line {failing}"
+            );
+        }
+    }
 }
 
 fn is_read_again(alloc: Global, machine: &Config, rules: Rules, text: &str) -> bool {

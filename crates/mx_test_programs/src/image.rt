@@ -487,6 +487,15 @@ static STRINGS: &[Row] = &[
         name: "rep movsb: one byte of two",
         text: b"\xF3\xA4",
         memory: &[(0x0, 0x2A)],
+        words: [0, 2, 0, 0, 0, 0, 0, 0],
+        words_after: [0, 1, 0, 0, 0, 0, 1, 1],
+        memory_after: &[(0x0, 0x2A)],
+        ..ROW
+    },
+    Row {
+        name: "rep movsb: one byte of two, to another place",
+        text: b"\xF3\xA4",
+        memory: &[(0x0, 0x2A)],
         words: [0, 2, 0, 0, 0, 0, 0, 0x10],
         words_after: [0, 1, 0, 0, 0, 0, 1, 0x11],
         memory_after: &[(0x0, 0x2A), (0x10, 0x2A)],
@@ -898,11 +907,12 @@ static BOUNDARIES: &[Row] = &[
     Row {
         name: "mov dword [0xffe], eax: over a page's end",
         text: b"\xA3\xFE\x0F\x00\x00",
+        limit: 0x2000,
         words: [0x4030201, 0, 0, 0, 0, 0, 0, 0],
         words_after: [0x4030201, 0, 0, 0, 0, 0, 0, 0],
         eip_after: 5,
         memory_after: &[(0xFFE, 1), (0xFFF, 2), (0x1000, 3), (0x1001, 4)],
-        ..PAGES
+        ..ROW
     },
     Row {
         name: "mov dword [0xffe], eax: the page's end is the limit",

@@ -1,6 +1,6 @@
 use Rattle.std.proofs.Common.{◌≡◌, drop}
 use Rattle.mx_debug.specs.Finding.{first_named}
-use Rattle.mx_debug.proofs.finding.address.Given as goal
+use Rattle.mx_debug.proofs.points.Debugger.address.Given as goal
 
 -- what is left decides
 abbrev pub invariant-loop-symbol : goal.invariant-loop-symbol

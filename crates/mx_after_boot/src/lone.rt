@@ -12,9 +12,11 @@ use std::marker::Brand;
 use std::rt::Files;
 use std::sync::Wait;
 
-/// Whose process it is, its budget and its steps, the last of them a trap, in the five turns of the driver
-/// and the client.
-const TURNS: [(u32, u32, u32); 5] = [(0, 20, 4), (1, 20, 4), (0, 16, 3), (0, 13, 5), (1, 16, 4)];
+/// The endpoint of a process that is taken, its budget and its steps, the last of them a trap.
+pub(crate) type Turn = (u32, u32, u32);
+
+/// The five turns of the driver and the client.
+const TURNS: [Turn; 5] = [(0, 20, 4), (1, 20, 4), (0, 16, 3), (0, 13, 5), (1, 16, 4)];
 
 /// How often the driver is killed and respawned.
 const ROUNDS: u32 = 10_000;
@@ -22,36 +24,36 @@ const ROUNDS: u32 = 10_000;
 /// By how much the endpoint of a slot grows with each respawn.
 const GENERATION: u32 = 1024;
 
-/// Whether an event of processor 0 is answered so.
-fn is_answered(machine: &mut Machine, event: Event, wanted: Answer) -> bool {
-    machine.actors() > 0 && machine.apply(0, event) == Ok(wanted)
+/// Whether an event of an actor is answered so.
+pub(crate) fn is_answered(machine: &mut Machine, actor: u8, event: Event, wanted: Answer) -> bool {
+    usize::from(actor) < machine.actors() && machine.apply(actor, event) == Ok(wanted)
 }
 
-/// Whether a turn is answered so: it is taken, makes its steps, and comes back.
-fn is_turn(machine: &mut Machine, turn: (u32, u32, u32)) -> bool {
+/// Whether a turn of an actor is answered so: it takes a process, makes its steps, and gives it back.
+pub(crate) fn is_turn(machine: &mut Machine, actor: u8, turn: Turn) -> bool {
     let (endpoint, budget, steps) = turn;
-    if !is_answered(machine, Event::Take, Answer::Taken(endpoint, budget)) {
+    if !is_answered(machine, actor, Event::Take, Answer::Taken(endpoint, budget)) {
         return false;
     }
     for _ in 1..steps {
-        if !is_answered(machine, Event::Step, Answer::Went(Outcome::Go)) {
+        if !is_answered(machine, actor, Event::Step, Answer::Went(Outcome::Go)) {
             return false;
         }
     }
-    is_answered(machine, Event::Step, Answer::Went(Outcome::Trap))
-        && is_answered(machine, Event::Back, Answer::Returned(steps))
+    is_answered(machine, actor, Event::Step, Answer::Went(Outcome::Trap))
+        && is_answered(machine, actor, Event::Back, Answer::Returned(steps))
 }
 
 fn are_turns(machine: &mut Machine) -> bool {
     for turn in TURNS {
-        if !is_turn(machine, turn) {
+        if !is_turn(machine, 0, turn) {
             return false;
         }
     }
     true
 }
 
-fn done_or(is_done: bool, text: &'static str) -> Result<(), Fault> {
+pub(crate) fn done_or(is_done: bool, text: &'static str) -> Result<(), Fault> {
     if is_done { Ok(()) } else { Err(Fault(text)) }
 }
 
@@ -85,7 +87,7 @@ fn lent_turn<M: Naming>(
     rt: &impl Wait,
     shared: &Shared<M>,
     seat: ActorSeat,
-    turn: (u32, u32, u32),
+    turn: Turn,
 ) -> (ActorSeat, bool)
     requires { seat.table ≡ M.table }
     ensures { result.0.table ≡ M.table }

@@ -1,14 +1,17 @@
-//! Machines that take no memory once they have booted: a soak by eight threads until the history is full, and
-//! events of one thread while every allocation is refused. A line `mark` on standard error stands where no
-//! memory is wanted any more, and another where it is wanted again.
+//! Tests that machines take no memory after they have booted: a soak by eight threads until the history is full,
+//! and events of one thread while every allocation is refused. A line `mark` on standard error says from where on
+//! no memory may be taken, and another to where; checks/faults/after_boot counts or refuses allocations between
+//! them. Without words it does nothing.
 #![tactic(auto)]
 
 mod booting;
 mod course;
 mod lone;
+mod replacing;
 mod soak;
 
 use crate::lone::{call_in_turn, kill_and_respawn, make_script};
+use crate::replacing::replace_driver;
 use crate::soak::fill_history;
 use std::env;
 use std::process::ExitCode;
@@ -43,6 +46,8 @@ where
         fill_history(rt, config, log)
     } else if task == "script" {
         make_script(rt, config, log)
+    } else if task == "driver" {
+        replace_driver(rt, config, log)
     } else if task == "calls" {
         call_in_turn(rt, config)
     } else if task == "rounds" {
