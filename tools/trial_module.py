@@ -44,7 +44,7 @@ def make_toolchain(folder, module):
 
 
 def run_trial(tree, tools):
-    """Runs a tree's trial with other tools than the kit's. Returns what it said: it ends where these end it."""
+    """Runs a tree's trial with other tools than the kit's. Returns what it printed: it ends where these end it."""
     started = subprocess.Popen
 
     def start(words, **how):
@@ -54,25 +54,28 @@ def run_trial(tree, tools):
         return started(words, **how)
 
     os.chdir(os.path.join(tree, "crates", "mx"))
-    kit = kit_functions.load()
-    # Beside a trial `rt try` looks for names that a proof would refuse, which the gate does too. On two processors that
-    # makes the trial slower, since these are often the halves of one.
-    if hasattr(kit, "RATTLE"):
-        kit.RATTLE = shutil.which("true")
     said = io.TextIOWrapper(io.BytesIO())
     with mock.patch.object(subprocess, "Popen", start), contextlib.redirect_stderr(said):
         try:
+            kit = kit_functions.load()
+            # Beside a trial `rt try` looks for names that a proof would refuse, which the gate does too. On two
+            # processors that makes the trial slower, since these are often the halves of one.
+            if hasattr(kit, "RATTLE"):
+                kit.RATTLE = shutil.which("true")
             kit.main("try", "--", "nm")
         except SystemExit as ended:
             # A signal ended it.
             if isinstance(ended.code, int) and ended.code > 128:
                 raise
+        except Exception as why:  # Another kit's functions may be others, and fail in any way.
+            print(f"the kit's functions aren't as expected: {why!r}", file=said)
     said.flush()
     return said.buffer.getvalue().decode(errors="replace")
 
 
 def keep_module(tree, folder):
-    """Runs a tree's trial up to the module of the whole program. Returns the module's file, and what the trial said."""
+    """Runs a tree's trial up to the module of the whole program. Returns the module's file, or None, and what the trial
+    printed."""
     module, tools = os.path.join(folder, "module.bc"), os.path.join(folder, "toolchain")
     make_toolchain(tools, module)
     said = run_trial(tree, tools)
