@@ -71,11 +71,7 @@ fn services_of<R: Reader>(
 }
 
 /// The configuration of a file. No other file is asked for.
-pub fn config_of<R: Reader>(
-    alloc: Global,
-    reader: &mut R,
-    name: &str,
-) -> Result<Config, Failure>
+pub fn config_of<R: Reader>(alloc: Global, reader: &mut R, name: &str) -> Result<Config, Failure>
     ensures read { IfOk result (λ config. (q : Asked)
         × (R.asked reader.new ≡ R.asked reader.old ++ q ∷ []) × IsConfigRead name.now q config) }
     ensures fault { IfErr result (λ f. (q : Asked)

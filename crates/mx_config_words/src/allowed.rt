@@ -71,12 +71,7 @@ fn push_calls(out: &mut Vec<u8>, calls: u32, rules: Rules) -> Result<(), AllocEr
 
 /// Appends the name of a slot's service after a space, if the slot's bit is set.
 #[tactic(auto, unfolding(crate::specs::Words::receiver_if))]
-fn push_receiver_if(
-    out: &mut Vec<u8>,
-    sends: u32,
-    slot: u32,
-    name: Name,
-) -> Result<(), AllocError>
+fn push_receiver_if(out: &mut Vec<u8>, sends: u32, slot: u32, name: Name) -> Result<(), AllocError>
     requires { slot < 32 }
     ensures { OnOk result (out.new.items ≡ out.old.items ++ receiver_if sends slot name.bytes) }
 {
@@ -89,11 +84,7 @@ fn push_receiver_if(
 
 /// Appends the services that a mask allows to send to. A bit of a slot without a service is nobody's.
 #[tactic(auto, using(crate::proofs::WordLemmas::receivers_more))]
-fn push_receivers(
-    out: &mut Vec<u8>,
-    sends: u32,
-    lines: &[ServiceLine],
-) -> Result<(), AllocError>
+fn push_receivers(out: &mut Vec<u8>, sends: u32, lines: &[ServiceLine]) -> Result<(), AllocError>
     requires { length lines.now ≤ 32 }
     ensures { OnOk result (out.new.items ≡ out.old.items ++ receiver_words sends 0 lines.now) }
 {

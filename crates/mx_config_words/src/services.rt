@@ -20,11 +20,7 @@ fn push_head_words(out: &mut Vec<u8>, slot: u32, line: &ServiceLine) -> Result<(
 
 /// Appends what a service's masks allow.
 #[tactic(auto, unfolding(crate::specs::Words::mask_words))]
-fn push_mask_words(
-    out: &mut Vec<u8>,
-    config: &Config,
-    line: &ServiceLine,
-) -> Result<(), AllocError>
+fn push_mask_words(out: &mut Vec<u8>, config: &Config, line: &ServiceLine) -> Result<(), AllocError>
     ensures { OnOk result (out.new.items ≡ out.old.items ++ mask_words config.now line.now) }
 {
     let masks = line.terms.masks;
