@@ -87,10 +87,10 @@ module _ (asked now : List Asked) (files : List Written) where
       → WritesNone (λ qs ws. Shows Has name qs ws Prints r)
   shows Has name Prints d r p e = (p.0 ∷ [], [], p.1, sym (append-nil files), (p.0, d, refl, refl, p.2, e))
 
-  pub explains : (name : List ℕ) (Prints : List ℕ → Type 0) (d : Result (Unit {0}) Kind) (r : Result ℕ Kind)
-      → (q : Asked) × (now ≡ asked ++ q ∷ []) × ExplainsConfig name q Prints d → r ≡ status_after_work d
-      → WritesNone (λ qs ws. Explains name qs ws Prints r)
-  explains name Prints d r p e = (p.0 ∷ [], [], p.1, sym (append-nil files), (p.0, d, refl, refl, p.2, e))
+  pub explains : (name : List ℕ) (x y : Option (List ℕ)) (d : Result (Unit {0}) Kind) (r : Result ℕ Kind)
+      → (q : Asked) × (now ≡ asked ++ q ∷ []) × ExplainsConfig name q (λ text. Appends x y text) d → r ≡ status_after_work d
+      → WritesNone (λ qs ws. Explains name qs ws (λ text. Appends x y text) r)
+  explains name x y d r p e = (p.0 ∷ [], [], p.1, sym (append-nil files), (p.0, d, refl, refl, p.2, e))
 
   pub steps : (config script : List ℕ) (x y : Option (List ℕ)) (d : Result (Unit {0}) Kind) (r : Result ℕ Kind)
       → OnOk d ((qs : List Asked) × (c : Config) × (vs : List Service) × (said : List ScriptLine)

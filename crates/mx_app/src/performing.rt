@@ -6,7 +6,7 @@ ghost use Rattle.mx_app_db.specs.Asked.{Asked};
 ghost use Rattle.mx_app_db.specs.Written.{Written};
 ghost use Rattle.mx_app.specs.Requests.{Performs, status_after_replay, status_after_work};
 
-use crate::explained::explain_named;
+use crate::explain::explain_named;
 use crate::named::{as_named, dis_named, nm_named, one_named};
 use mx_app_command::{CommandRequest, RecordRange};
 use mx_app_db::{

@@ -18,7 +18,7 @@ pub returns-in-Nm : goal.returns-in-Nm
 returns-in-Nm g c = as_asked _ _ _ _ _ _ _ _ c.in-Nm.is (shows _ _ _ (λ bytes text. IsShown HasNames bytes text) c.in-Nm.file.now _ c.nm_named.result c.status_after_work-in-Nm.result c.nm_named.ensures c.status_after_work-in-Nm.ensures)
 
 pub returns-in-Explain : goal.returns-in-Explain
-returns-in-Explain g c = as_asked _ _ _ _ _ _ _ _ c.in-Explain.is (explains _ _ _ c.in-Explain.config.now _ c.explain_named.result c.status_after_work-in-Explain.result c.explain_named.ensures c.status_after_work-in-Explain.ensures)
+returns-in-Explain g c = as_asked _ _ _ _ _ _ _ _ c.in-Explain.is (explains _ _ _ c.in-Explain.config.now _ _ c.explain_named.result c.status_after_work-in-Explain.result c.explain_named.ensures c.status_after_work-in-Explain.ensures)
 
 pub returns-in-None : goal.returns-in-None
 returns-in-None g c =

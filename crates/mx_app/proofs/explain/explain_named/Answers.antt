@@ -1,7 +1,7 @@
 use Rattle.std.proofs.Common.{inl, inr, refl}
 use Rattle.std.proofs.lemmas.Result.{err_from_is_err_and}
 use Rattle.mx_app.proofs.Services.{services_printed}
-use Rattle.mx_app.proofs.explained.explain_named.Goals as goal
+use Rattle.mx_app.proofs.explain.explain_named.Goals as goal
 
 pub returns-in_err-config : goal.returns-in_err-config
 returns-in_err-config g c =
@@ -18,4 +18,6 @@ returns-in_err-text g c =
 pub returns : goal.returns
 returns g c =
     let t = c.in_ok-config.ensures.read in
-    (t.0, t.1, services_printed c.args.config.now t.0 c.in_ok-config.config c.in_ok-text.text.items c.as_slice.result.now _ c.print_text.result t.2 c.in_ok-text.ensures c.as_slice.ensures.value c.print_text.ensures.bytes c.print_text.ensures.err)
+    let x = g.W.Write.contents c.args.out.now in
+    let y = g.W.Write.contents c.print_text.new.out in
+    (t.0, t.1, services_printed c.args.config.now t.0 c.in_ok-config.config c.in_ok-text.text.items c.as_slice.result.now x y c.print_text.result t.2 c.in_ok-text.ensures c.as_slice.ensures.value c.print_text.ensures.bytes c.print_text.ensures.err)
