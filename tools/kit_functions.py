@@ -1,7 +1,4 @@
-"""The functions that the kit's command `rt` is made of.
-
-usage: tools/kit_functions.py WORD ..     `rt try WORD ..`, without what it does beside the trial
-"""
+"""The functions that the kit's command `rt` is made of."""
 import importlib.machinery
 import importlib.util
 import os
@@ -27,18 +24,3 @@ def kit_file(name):
 def load():
     """The module of these functions."""
     return load_script(kit_file("rtlib.py"), "rtlib")
-
-
-def main(words):
-    """A trial alone. Beside it `rt try` looks for names that a proof would refuse, which the gate does too: on
-    two processors that makes the trial slower, since these are often the halves of one."""
-    made = load()
-    if not hasattr(made, "RATTLE"):
-        os.execvp("rt", ["rt", "try", *words])
-    made.RATTLE = shutil.which("true")
-    return made.main("try", *words)
-
-
-if __name__ == "__main__":
-    sys.dont_write_bytecode = True
-    sys.exit(main(sys.argv[1:]))

@@ -29,8 +29,9 @@ use Rattle.mx_app_db.specs.DebugLines.{DebuggedWorld, debug_lines_made}
 use Rattle.mx_app_db.specs.Told.{debug_lines_text}
 use Rattle.mx_app_draw.specs.Scenes.{IsDrawingPrinted}
 use Rattle.mx_app_run.specs.Run.{Runs}
+use Rattle.mx_app.specs.Explained.{ExplainsConfig}
 use Rattle.mx_app.specs.Named.{Assembles, ShowsFile}
-use Rattle.mx_app.specs.Requests.{Debugs, Draws, Performs, Replays, SavesSteps, Shows, Steps, Traces, status_after_replay, status_after_work}
+use Rattle.mx_app.specs.Requests.{Debugs, Draws, Explains, Performs, Replays, SavesSteps, Shows, Steps, Traces, status_after_replay, status_after_work}
 
 -- nothing is printed where a writer wasn't touched
 pub appends_nothing : (known : Option (List ℕ)) → Appends known known []
@@ -85,6 +86,11 @@ module _ (asked now : List Asked) (files : List Written) where
       → (q : Asked) × (now ≡ asked ++ q ∷ []) × ShowsFile Has name q Prints d → r ≡ status_after_work d
       → WritesNone (λ qs ws. Shows Has name qs ws Prints r)
   shows Has name Prints d r p e = (p.0 ∷ [], [], p.1, sym (append-nil files), (p.0, d, refl, refl, p.2, e))
+
+  pub explains : (name : List ℕ) (x y : Option (List ℕ)) (d : Result (Unit {0}) Kind) (r : Result ℕ Kind)
+      → (q : Asked) × (now ≡ asked ++ q ∷ []) × ExplainsConfig name q (λ text. Appends x y text) d → r ≡ status_after_work d
+      → WritesNone (λ qs ws. Explains name qs ws (λ text. Appends x y text) r)
+  explains name x y d r p e = (p.0 ∷ [], [], p.1, sym (append-nil files), (p.0, d, refl, refl, p.2, e))
 
   pub steps : (config script : List ℕ) (x y : Option (List ℕ)) (d : Result (Unit {0}) Kind) (r : Result ℕ Kind)
       → OnOk d ((qs : List Asked) × (c : Config) × (vs : List Service) × (said : List ScriptLine)

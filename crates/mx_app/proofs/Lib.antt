@@ -1,3 +1,4 @@
+mod Services
 mod Shown
 mod Done
 mod Explained

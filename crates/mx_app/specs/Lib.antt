@@ -1,5 +1,6 @@
 pub mod Asking
 pub mod Ending
+pub mod Explained
 pub mod Named
 pub mod Noting
 pub mod Requests

@@ -2,7 +2,7 @@
 use Rattle.std.specs.Prelude.{◌≡◌, ◌⊎◌, ℕ, List, [], ◌∷◌, ◌++◌, Some, None, Result, Ok, Err, take}
 use Rattle.mx_app_command.specs.declared.words.CommandRequest.{CommandRequest}
 use Rattle.mx_app_command.specs.declared.words.RecordRange.{RecordRange}
-use Rattle.mx_app_command.specs.declared.words.CommandRequest.TheVariants.{One, As, Dis, Nm, Step, Run, Replay, Trace, Draw, Db}
+use Rattle.mx_app_command.specs.declared.words.CommandRequest.TheVariants.{One, As, Dis, Nm, Explain, Step, Run, Replay, Trace, Draw, Db}
 use Rattle.mx_app_db.specs.ScriptLine.{ScriptLine}
 use Rattle.mx_app_db.specs.DebugLine.{DebugLine}
 use Rattle.mx_app_failure.specs.declared.failure.Failure.{Failure as Kind}
@@ -30,6 +30,7 @@ use Rattle.mx_app_draw.specs.Scenes.{IsDrawingPrinted}
 use Rattle.mx_app_run.specs.Run.{Runs}
 use Rattle.mx_app_db.specs.DebugLines.{DebuggedWorld, debug_lines_made}
 use Rattle.mx_app_db.specs.Told.{debug_lines_text}
+use Rattle.mx_app.specs.Explained.{ExplainsConfig}
 use Rattle.mx_app.specs.Named.{Assembles, ShowsFile}
 
 -- ---- statuses
@@ -98,6 +99,11 @@ abbrev pub Shows : (List ℕ → List ℕ → Type 0) → List ℕ → List Aske
 Shows Has name qs ws Prints r =
     (q : Asked) × (d : Result (Unit {0}) Kind) × (qs ≡ q ∷ []) × (ws ≡ []) × ShowsFile Has name q Prints d × (r ≡ status_after_work d)
 
+-- a configuration is read, its services are explained, and no file is written
+abbrev pub Explains : List ℕ → List Asked → List Written → (List ℕ → Type 0) → Result ℕ Kind → Type 0
+Explains name qs ws Prints r =
+    (q : Asked) × (d : Result (Unit {0}) Kind) × (qs ≡ q ∷ []) × (ws ≡ []) × ExplainsConfig name q Prints d × (r ≡ status_after_work d)
+
 -- WHAT IS DONE OF A REQUEST, by the files that were asked for and written, what is printed, and how it ends
 abbrev pub Performs : CommandRequest → List Asked → List Written → (List ℕ → Type 0) → Result ℕ Kind → Type 0
 Performs (One file steps) qs ws Prints r = Shows (λ bytes text. IsPrinted bytes steps text) file.now qs ws Prints r
@@ -105,6 +111,7 @@ Performs (As text file) qs ws Prints r =
     (d : Result (Unit {0}) Kind) × Assembles text.now file.now qs ws d × Prints [] × (r ≡ status_after_work d)
 Performs (Dis file) qs ws Prints r = Shows (λ bytes text. IsShown HasListing bytes text) file.now qs ws Prints r
 Performs (Nm file) qs ws Prints r = Shows (λ bytes text. IsShown HasNames bytes text) file.now qs ws Prints r
+Performs (Explain config) qs ws Prints r = Explains config.now qs ws Prints r
 Performs (Step config script None) qs ws Prints r =
     (d : Result (Unit {0}) Kind) × (ws ≡ []) × Steps config.now script.now qs Prints d × (r ≡ status_after_work d)
 Performs (Step config script (Some log)) qs ws Prints r =

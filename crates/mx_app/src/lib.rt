@@ -4,6 +4,7 @@
 mod asking;
 mod complaint;
 mod ending;
+mod explain;
 mod named;
 mod noting;
 mod performing;
@@ -13,6 +14,7 @@ mod words;
 pub use asking::texts_asked;
 pub use complaint::Complaint;
 pub use ending::{NotingOutput, PrintedText, Terminals};
+pub use explain::explain_named;
 pub use mx_app_command::{CommandLine, CommandRequest, RecordRange, command};
 pub use mx_app_db::{
     Channels, FileWriter, KeptFile, MemoryWriter, NamedFile, NamedFiles, Reader, Replayed, db,

@@ -6,6 +6,7 @@ ghost use Rattle.mx_app_db.specs.Asked.{Asked};
 ghost use Rattle.mx_app_db.specs.Written.{Written};
 ghost use Rattle.mx_app.specs.Requests.{Performs, status_after_replay, status_after_work};
 
+use crate::explain::explain_named;
 use crate::named::{as_named, dis_named, nm_named, one_named};
 use mx_app_command::{CommandRequest, RecordRange};
 use mx_app_db::{
@@ -70,6 +71,9 @@ pub fn perform<
         }
         CommandRequest::Dis { file } => status_after_work(dis_named(alloc, reader, file, out)),
         CommandRequest::Nm { file } => status_after_work(nm_named(alloc, reader, file, out)),
+        CommandRequest::Explain { config } => {
+            status_after_work(explain_named(alloc, reader, config, out))
+        }
         CommandRequest::Step {
             config,
             script,

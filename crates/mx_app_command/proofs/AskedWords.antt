@@ -162,7 +162,7 @@ step_fits : Fits step_whole
 step_fits words fine =
     let config = value_given config_rule (wanted_sets (codes "CONFIG") 1) step_whole only_config words refl (inl refl) refl fine in
     let script = value_given script_rule (wanted_sets (codes "SCRIPT") 2) step_whole only_script words refl (inr (inl refl)) refl fine in
-    ((λ e. (ap is_some config.1, inl (ap is_some script.1, inl refl))), (λ e. absurd (true≢false e)))
+    ((λ e. (ap is_some config.1, inr (inl (ap is_some script.1, inl refl)))), (λ e. absurd (true≢false e)))
 
 abbrev run_whole : Shape
 run_whole = whole_of run_shape
@@ -201,11 +201,11 @@ run_fits : Fits run_whole
 run_fits words fine =
     let config = value_given config_rule (wanted_sets (codes "CONFIG") 1) run_whole only_run_config words refl (inl refl) refl fine in
     let log = value_given log_rule (wanted_sets (codes "LOG") 2) run_whole only_log words refl (inr (inl refl)) refl fine in
-    ((λ e. (ap is_some config.1, inr (ap is_some log.1, inl (refl, number_if_given run_whole (codes "ticks") (codes "T") 3 only_ticks words fine)))), (λ e. absurd (true≢false e)))
+    ((λ e. (ap is_some config.1, inr (inr (ap is_some log.1, inl (refl, number_if_given run_whole (codes "ticks") (codes "T") 3 only_ticks words fine))))), (λ e. absurd (true≢false e)))
 
 replay_fits : Fits (whole_of (of_two (codes "replay") (codes "CONFIG") (codes "LOG")))
 replay_fits words fine = let given = two_texts_given (codes "replay") (codes "CONFIG") (codes "LOG") (refl, refl) (refl, refl) refl refl words fine in
-    ((λ e. (given.0, inr (given.1, inr (inl refl)))), (λ e. absurd (true≢false e)))
+    ((λ e. (given.0, inr (inr (given.1, inr (inl refl))))), (λ e. absurd (true≢false e)))
 
 abbrev looking_whole : Text → Shape
 looking_whole name = whole_of (looking_shape name)
@@ -243,18 +243,22 @@ looking_values name words fine =
 
 trace_fits : Fits (looking_whole (codes "trace"))
 trace_fits words fine = let given = looking_values (codes "trace") words fine in
-    ((λ e. (given.0, inr (given.1, inr (inr (inl refl, given.2))))), (λ e. absurd (true≢false e)))
+    ((λ e. (given.0, inr (inr (given.1, inr (inr (inl refl, given.2)))))), (λ e. absurd (true≢false e)))
 
 draw_fits : Fits (looking_whole (codes "draw"))
 draw_fits words fine = let given = looking_values (codes "draw") words fine in
-    ((λ e. (given.0, inr (given.1, inr (inr (inr refl, given.2))))), (λ e. absurd (true≢false e)))
+    ((λ e. (given.0, inr (inr (given.1, inr (inr (inr refl, given.2)))))), (λ e. absurd (true≢false e)))
 
 db_fits : Fits (whole_of (of_two (codes "db") (codes "CONFIG") (codes "SCRIPT")))
 db_fits words fine = let given = two_texts_given (codes "db") (codes "CONFIG") (codes "SCRIPT") (refl, refl) (refl, refl) refl refl words fine in
-    ((λ e. (given.0, inl (given.1, inr refl))), (λ e. absurd (true≢false e)))
+    ((λ e. (given.0, inr (inl (given.1, inr refl)))), (λ e. absurd (true≢false e)))
+
+explain_fits : Fits (whole_of (of_one (codes "explain") (codes "CONFIG")))
+explain_fits words fine = let given = one_text_given (codes "explain") (codes "CONFIG") (refl, refl) words fine in
+    ((λ e. (given, inl refl)), (λ e. absurd (true≢false e)))
 
 all_fit : AllByRecursion Fits whole.subs
-all_fit = (one_fits, (as_fits, (dis_fits, (nm_fits, (step_fits, (run_fits, (replay_fits, (trace_fits, (draw_fits, (db_fits, tt))))))))))
+all_fit = (one_fits, (as_fits, (dis_fits, (nm_fits, (explain_fits, (step_fits, (run_fits, (replay_fits, (trace_fits, (draw_fits, (db_fits, tt)))))))))))
 
 -- ---- the words of a command line
 

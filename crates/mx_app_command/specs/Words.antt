@@ -11,7 +11,7 @@ use Rattle.clap.specs.declared.builder.command.Command.TheViews.{out-Command}
 use Rattle.clap.specs.declared.builder.value_parser.ValueParser.TheVariants.{Signed}
 use Rattle.mx_app_command.specs.declared.words.CommandRequest.{CommandRequest}
 use Rattle.mx_app_command.specs.declared.words.RecordRange.{RecordRange}
-use Rattle.mx_app_command.specs.declared.words.CommandRequest.TheVariants.{One, As, Dis, Nm, Step, Run, Replay, Trace, Draw, Db}
+use Rattle.mx_app_command.specs.declared.words.CommandRequest.TheVariants.{One, As, Dis, Nm, Explain, Step, Run, Replay, Trace, Draw, Db}
 
 -- ---- the grammar
 
@@ -91,7 +91,8 @@ abbrev pub mx_grammar : App
 mx_grammar = record {
   top = program_app.top;
   subs = program_shapes
-      ++ step_shape
+      ++ of_one (codes "explain") (codes "CONFIG")
+      ∷ step_shape
       ∷ run_shape
       ∷ of_two (codes "replay") (codes "CONFIG") (codes "LOG")
       ∷ looking_shape (codes "trace")
@@ -132,6 +133,7 @@ AsksBy (As text file) name rows =
     (name ≡ codes "as") × HasText (codes "TEXT") rows text.now × HasText (codes "FILE") rows file.now
 AsksBy (Dis file) name rows = (name ≡ codes "dis") × HasText (codes "FILE") rows file.now
 AsksBy (Nm file) name rows = (name ≡ codes "nm") × HasText (codes "FILE") rows file.now
+AsksBy (Explain config) name rows = (name ≡ codes "explain") × HasText (codes "CONFIG") rows config.now
 AsksBy (Step config script save) name rows =
     (name ≡ codes "step") × HasText (codes "CONFIG") rows config.now × HasText (codes "SCRIPT") rows script.now
     × MayHaveText (codes "LOG") rows (option_map (λ s. s.now) save)
@@ -197,17 +199,19 @@ IsHistoryAsked name rows =
     ⊎ ((name ≡ codes "replay")
     ⊎ (((name ≡ codes "trace") ⊎ (name ≡ codes "draw")) × MayHaveRange rows)))
 
--- those that work on a machine: each has a configuration, and a script or a history
+-- those that work on a machine: each has a configuration, and all but `explain` a script or a history
 abbrev pub IsMachineAsked : Text → List Row → Type 0
-IsMachineAsked name rows = IsGiven (codes "CONFIG") rows × (IsScriptAsked name rows ⊎ IsHistoryAsked name rows)
+IsMachineAsked name rows =
+    IsGiven (codes "CONFIG") rows × ((name ≡ codes "explain") ⊎ (IsScriptAsked name rows ⊎ IsHistoryAsked name rows))
 
 abbrev pub is_machine : Text → Bool
 is_machine name =
-    bytes_eq name (codes "step")
+    bytes_eq name (codes "explain")
+    || (bytes_eq name (codes "step")
     || (bytes_eq name (codes "run")
     || (bytes_eq name (codes "replay")
     || (bytes_eq name (codes "trace")
-    || (bytes_eq name (codes "draw") || bytes_eq name (codes "db")))))
+    || (bytes_eq name (codes "draw") || bytes_eq name (codes "db"))))))
 
 abbrev pub IsAsked : Text → List Row → Type 0
 IsAsked name rows =

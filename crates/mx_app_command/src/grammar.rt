@@ -140,7 +140,7 @@ const EXPLAIN: CommandArgument<'static> = CommandArgument {
 };
 
 /// The subcommands, those that work on one program first.
-static SUBCOMMANDS: [Subcommand<'static>; 10] = [
+static SUBCOMMANDS: [Subcommand<'static>; 11] = [
     Subcommand {
         name: "one",
         help: "Runs one program for at most N steps and prints its registers, flags and how it stopped",
@@ -164,6 +164,12 @@ static SUBCOMMANDS: [Subcommand<'static>; 10] = [
         help: "Prints the symbols of a program, one a line",
         arguments: &[FILE, EXPLAIN],
         example: Example::Nm,
+    },
+    Subcommand {
+        name: "explain",
+        help: "Prints what the services of a machine may do, one a line",
+        arguments: &[CONFIG, EXPLAIN],
+        example: Example::Explain,
     },
     Subcommand {
         name: "step",

@@ -12,6 +12,8 @@ pub(crate) enum Example {
     Dis,
     /// Symbols.
     Nm,
+    /// What services may do.
+    Explain,
     /// A configuration, and a script.
     Step,
     /// A run by threads, and its replay.
@@ -34,6 +36,7 @@ impl Example {
             Example::As => AS_EXAMPLE,
             Example::Dis => DIS_EXAMPLE,
             Example::Nm => NM_EXAMPLE,
+            Example::Explain => EXPLAIN_EXAMPLE,
             Example::Step => STEP_EXAMPLE,
             Example::Run => RUN_EXAMPLE,
             Example::Replay => REPLAY_EXAMPLE,
@@ -103,6 +106,20 @@ A program without labels has no symbols, and nothing is printed.
 
 Status: 0 done; 1 FILE is refused; 2 a mistake in the words; 3 FILE can't be read;
 4 no memory. Formats: docs/use/REFERENCE.md.";
+
+/// What services may do.
+const EXPLAIN_EXAMPLE: &str = "In the folder examples/machines/restart:
+
+$ mx explain restart.config
+0 counter: traps SEND RECEIVE SENDREC NOTIFY; sends to asker; kernel calls none; level 4, best 4; quantum 99; restarts 1
+1 asker: traps SEND RECEIVE SENDREC NOTIFY; sends to counter; kernel calls DEVIO WHOIS; level 7, best 7; quantum 99; restarts 0
+
+A line for each service: its slot and name, and what its masks allow. The services'
+programs aren't read. Whoever sends needs the trap SEND, SENDREC or NOTIFY, and
+whoever makes kernel calls needs SENDREC. No mask says from whom one may RECEIVE.
+
+Status: 0 done; 1 CONFIG is refused; 2 a mistake in the words; 3 CONFIG can't be
+read; 4 no memory. Formats: docs/use/REFERENCE.md.";
 
 /// A configuration, and a script.
 const STEP_EXAMPLE: &str = "In the folder examples/machines/alarm:

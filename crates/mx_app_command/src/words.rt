@@ -40,6 +40,10 @@ pub enum CommandRequest<'a> {
     Nm {
         file: &'a str,
     },
+    /// `explain CONFIG`.
+    Explain {
+        config: &'a str,
+    },
     /// `step CONFIG SCRIPT`, with `--save LOG` or without.
     Step {
         config: &'a str,
@@ -199,7 +203,9 @@ fn machine_request<'a>(name: &str, matches: &ArgMatches<'a>) -> CommandRequest<'
     ensures { AsksBy result name.now (rows_of (found_of matches.now)) }
 {
     let config = value_asked(matches, "CONFIG");
-    if name == "step" || name == "db" {
+    if name == "explain" {
+        CommandRequest::Explain { config }
+    } else if name == "step" || name == "db" {
         script_request(name, config, matches)
     } else {
         history_request(name, config, matches)
@@ -210,7 +216,8 @@ fn machine_request<'a>(name: &str, matches: &ArgMatches<'a>) -> CommandRequest<'
 fn is_machine(name: &str) -> bool
     ensures { result ≡ is_machine name.now }
 {
-    name == "step"
+    name == "explain"
+        || name == "step"
         || name == "run"
         || name == "replay"
         || name == "trace"

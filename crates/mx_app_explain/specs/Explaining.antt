@@ -5,7 +5,7 @@ use Rattle.mx_aout.specs.declared.program.FileError.TheVariants as errors
 use Rattle.mx_text.specs.declared.error.BootError.{BootError}
 use Rattle.mx_text.specs.declared.error.BootError.TheVariants as lines
 use Rattle.mx_app_command.specs.declared.words.CommandRequest.{CommandRequest}
-use Rattle.mx_app_command.specs.declared.words.CommandRequest.TheVariants.{One, As, Dis, Nm, Step, Run, Replay, Trace, Draw, Db}
+use Rattle.mx_app_command.specs.declared.words.CommandRequest.TheVariants.{One, As, Dis, Nm, Explain, Step, Run, Replay, Trace, Draw, Db}
 use Rattle.mx_app_failure.specs.declared.failure.Failure.{Failure as Kind}
 use Rattle.mx_app_failure.specs.declared.failure.Failure.TheVariants.{Refused, Faulty, Misstated, NotText, File, NoMemory}
 use Rattle.mx_app_explain.specs.Wanted.{problem_wanted, refusal_wanted}
@@ -44,6 +44,7 @@ first_name (One file steps) = file.now
 first_name (As text file) = text.now
 first_name (Dis file) = file.now
 first_name (Nm file) = file.now
+first_name (Explain config) = config.now
 first_name (Step config script save) = config.now
 first_name (Run config log ticks) = config.now
 first_name (Replay config log) = config.now
@@ -64,6 +65,7 @@ second_name (One file steps) = file.now
 second_name (As text file) = file.now
 second_name (Dis file) = file.now
 second_name (Nm file) = file.now
+second_name (Explain config) = config.now
 second_name (Step config script save) = script.now
 second_name (Run config log ticks) = log.now
 second_name (Replay config log) = log.now
@@ -76,6 +78,7 @@ second_label (One file steps) = codes "FILE"
 second_label (As text file) = codes "FILE"
 second_label (Dis file) = codes "FILE"
 second_label (Nm file) = codes "FILE"
+second_label (Explain config) = codes "CONFIG"
 second_label (Step config script save) = codes "SCRIPT"
 second_label (Db config script) = codes "SCRIPT"
 second_label r = codes "LOG"

@@ -60,6 +60,7 @@ fn first_name(request: CommandRequest<'_>) -> &str
         CommandRequest::As { text, .. } => text,
         CommandRequest::Dis { file } => file,
         CommandRequest::Nm { file } => file,
+        CommandRequest::Explain { config } => config,
         CommandRequest::Step { config, .. } => config,
         CommandRequest::Run { config, .. } => config,
         CommandRequest::Replay { config, .. } => config,
@@ -78,6 +79,7 @@ fn second_name(request: CommandRequest<'_>) -> &str
         CommandRequest::As { file, .. } => file,
         CommandRequest::Dis { file } => file,
         CommandRequest::Nm { file } => file,
+        CommandRequest::Explain { config } => config,
         CommandRequest::Step { script, .. } => script,
         CommandRequest::Run { log, .. } => log,
         CommandRequest::Replay { log, .. } => log,
@@ -111,6 +113,7 @@ pub(crate) fn second_word(request: CommandRequest<'_>) -> Subject<'_>
         | CommandRequest::As { .. }
         | CommandRequest::Dis { .. }
         | CommandRequest::Nm { .. } => Subject::Word("FILE", name),
+        CommandRequest::Explain { .. } => Subject::Word("CONFIG", name),
         CommandRequest::Step { .. } | CommandRequest::Db { .. } => Subject::Word("SCRIPT", name),
         _ => Subject::Word("LOG", name),
     }

@@ -13,7 +13,7 @@ use Rattle.mx_app_failure.specs.declared.failure.Failure.{Failure}
 use Rattle.mx_app_failure.specs.declared.failure.Failure.TheVariants.{NoMemory}
 use Rattle.mx_app_failure.specs.Failure.{failure_of, failure_of_lines}
 use Rattle.mx_app_start.specs.Asked.{Asked, file_given}
-use Rattle.mx_app_start.specs.Setup.{AreServicesRead, IsNoTextGiven, IsNotStarted, IsServiceRead, IsServicesFault, IsFileRefused, IsSetup, IsSetupFault, IsStart, IsTextGiven}
+use Rattle.mx_app_start.specs.Setup.{AreServicesRead, IsConfigFault, IsConfigRead, IsNoTextGiven, IsNotStarted, IsServiceRead, IsServicesFault, IsFileRefused, IsSetup, IsSetupFault, IsStart, IsTextGiven}
 
 pub never : false ≡ true → ⊥
 never h = absurd cc
@@ -81,23 +81,25 @@ asked_on a b c qs rs e h = h ∙ ap (λ (x : List Asked). x ++ rs) e ∙ append_
 
 -- ---- a configuration and its services
 
-pub setup_no_text : (name : List ℕ) (q : Asked) (f : Failure) → IsNoTextGiven name q f → IsSetupFault name (q ∷ []) f
-setup_no_text name q f h = inl (q, refl, inl h)
+pub config_faulty : (name text slice : List ℕ) (q : Asked) (e : BootError) → slice ≡ text → IsTextGiven name q text → TellsConfigFault slice e
+    → IsConfigFault name q (failure_of_lines e)
+config_faulty name text slice q e of t h = inr (text, e, t, subst (λ (x : List ℕ). TellsConfigFault x e) of h, refl)
 
-pub setup_faulty : (name text slice : List ℕ) (q : Asked) (e : BootError) → slice ≡ text → IsTextGiven name q text → TellsConfigFault slice e
-    → IsSetupFault name (q ∷ []) (failure_of_lines e)
-setup_faulty name text slice q e of t h = inl (q, refl, inr (text, e, t, subst (λ (x : List ℕ). TellsConfigFault x e) of h, refl))
+pub config_read : (name text slice : List ℕ) (q : Asked) (config : Config) → slice ≡ text → IsTextGiven name q text → IsConfig slice config → IsConfigRead name q config
+config_read name text slice q config of t is = (text, t, subst (λ (x : List ℕ). IsConfig x config) of is)
 
-pub setup_refused : (name text slice : List ℕ) (q : Asked) (qs : List Asked) (config : Config) (lines : List ServiceLine) (f : Failure)
-    → slice ≡ text → IsTextGiven name q text → IsConfig slice config → lines ≡ config.lines → IsServicesFault lines qs f
-    → IsSetupFault name (q ∷ qs) f
-setup_refused name text slice q qs config lines f of t is same r =
-    inr (q, qs, text, config, refl, t, subst (λ (x : List ℕ). IsConfig x config) of is, subst (λ (ls : List ServiceLine). IsServicesFault ls qs f) same r)
+pub setup_missed : (name : List ℕ) (q : Asked) (f : Failure) → IsConfigFault name q f → IsSetupFault name (q ∷ []) f
+setup_missed name q f h = inl (q, refl, h)
 
-pub setup_read : (name text slice : List ℕ) (q : Asked) (qs : List Asked) (config : Config) (lines : List ServiceLine) (vs : List Service)
-    → slice ≡ text → IsTextGiven name q text → IsConfig slice config → lines ≡ config.lines → AreServicesRead lines qs vs → IsSetup name (q ∷ qs) config vs
-setup_read name text slice q qs config lines vs of t is same r =
-    (q, qs, text, refl, t, subst (λ (x : List ℕ). IsConfig x config) of is, subst (λ (ls : List ServiceLine). AreServicesRead ls qs vs) same r)
+pub setup_refused : (name : List ℕ) (q : Asked) (qs : List Asked) (config : Config) (lines : List ServiceLine) (f : Failure)
+    → IsConfigRead name q config → lines ≡ config.lines → IsServicesFault lines qs f → IsSetupFault name (q ∷ qs) f
+setup_refused name q qs config lines f is same r =
+    inr (q, qs, is.0, config, refl, is.1, is.2, subst (λ (ls : List ServiceLine). IsServicesFault ls qs f) same r)
+
+pub setup_read : (name : List ℕ) (q : Asked) (qs : List Asked) (config : Config) (lines : List ServiceLine) (vs : List Service)
+    → IsConfigRead name q config → lines ≡ config.lines → AreServicesRead lines qs vs → IsSetup name (q ∷ qs) config vs
+setup_read name q qs config lines vs is same r =
+    (q, qs, is.0, refl, is.1, is.2, subst (λ (ls : List ServiceLine). AreServicesRead ls qs vs) same r)
 
 pub as_many_services : (name : List ℕ) (qs : List Asked) (config : Config) (vs : List Service) → IsSetup name qs config vs → length vs ≡ length config.lines
 as_many_services name qs config vs h = as_many config.lines h.1 vs h.6

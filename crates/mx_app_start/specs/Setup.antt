@@ -32,6 +32,16 @@ IsNoTextGiven name q f = IsFileMissed name q f ⊎ ((bytes : List ℕ) × (q ≡
 abbrev pub IsTextFaulty : (List ℕ → BootError → Type 0) → List ℕ → Asked → Failure → Type 0
 IsTextFaulty Tells name q f = (text : List ℕ) × (e : BootError) × IsTextGiven name q text × Tells text e × (f ≡ failure_of_lines e)
 
+-- ---- a configuration
+
+-- the file's text is one
+abbrev pub IsConfigRead : List ℕ → Asked → Config → Type 0
+IsConfigRead name q config = (text : List ℕ) × IsTextGiven name q text × IsConfig text config
+
+-- why it is none: the file is missed or no text, or its first line at fault
+abbrev pub IsConfigFault : List ℕ → Asked → Failure → Type 0
+IsConfigFault name q f = IsNoTextGiven name q f ⊎ IsTextFaulty TellsConfigFault name q f
+
 -- ---- services
 
 -- The service of a line and of a program's file.
@@ -81,7 +91,7 @@ IsSetup name qs config services =
 -- the first fault: the configuration's, else that of a service's file
 abbrev pub IsSetupFault : List ℕ → List Asked → Failure → Type 0
 IsSetupFault name qs f =
-    ((q : Asked) × (qs ≡ q ∷ []) × (IsNoTextGiven name q f ⊎ IsTextFaulty TellsConfigFault name q f))
+    ((q : Asked) × (qs ≡ q ∷ []) × IsConfigFault name q f)
     ⊎ ((q : Asked) × (rest : List Asked) × (text : List ℕ) × (config : Config)
     × (qs ≡ q ∷ rest) × IsTextGiven name q text × IsConfig text config × IsServicesFault config.lines rest f)
 

@@ -2,7 +2,7 @@
 
 ghost use Rattle.std.specs.Prelude.{◌≡◌, ◌++◌, ◌∷◌, [], List, IfOk, IfErr, string_bytes};
 ghost use Rattle.mx_app_start.specs.Asked.{Asked};
-ghost use Rattle.mx_app_start.specs.Setup.{AreServicesRead, IsNoTextGiven, IsServiceRead, IsServicesFault, IsFileRefused, IsSetup, IsSetupFault, IsTextGiven};
+ghost use Rattle.mx_app_start.specs.Setup.{AreServicesRead, IsConfigFault, IsConfigRead, IsNoTextGiven, IsServiceRead, IsServicesFault, IsFileRefused, IsSetup, IsSetupFault, IsTextGiven};
 
 use crate::reader::Reader;
 use mx_aout::read;
@@ -70,6 +70,18 @@ fn services_of<R: Reader>(
     Ok(services)
 }
 
+/// The configuration of a file. No other file is asked for.
+pub fn config_of<R: Reader>(alloc: Global, reader: &mut R, name: &str) -> Result<Config, Failure>
+    ensures read { IfOk result (λ config. (q : Asked)
+        × (R.asked reader.new ≡ R.asked reader.old ++ q ∷ []) × IsConfigRead name.now q config) }
+    ensures fault { IfErr result (λ f. (q : Asked)
+        × (R.asked reader.new ≡ R.asked reader.old ++ q ∷ []) × IsConfigFault name.now q f) }
+{
+    let text = text_of(alloc, reader, name)?;
+    let config = config(alloc, text.as_str())?;
+    Ok(config)
+}
+
 /// The configuration of a file, and the services of its lines, whose programs' files are read in the
 /// order of the lines. A failure is the first fault of what was read; out of memory is told only where
 /// nothing above is at fault. No further file was asked for.
@@ -83,8 +95,7 @@ pub fn setup_of<R: Reader>(
     ensures fault { IfErr result (λ f. (qs : List Asked)
         × (R.asked reader.new ≡ R.asked reader.old ++ qs) × IsSetupFault name.now qs f) }
 {
-    let text = text_of(alloc, reader, name)?;
-    let config = config(alloc, text.as_str())?;
+    let config = config_of(alloc, reader, name)?;
     let services = services_of(alloc, reader, config.lines.as_slice())?;
     Ok((config, services))
 }

@@ -14,7 +14,7 @@ pub use lines::{perform_line, step};
 pub use mx_app_start::{
     BootError, Channels, Config, DebugScript, Failure, FileWriter, History, KeptFile, Machine,
     MemoryWriter, NamedFile, NamedFiles, Out, Reader, Record, RuntimeFiles, RuntimeWriter, Script,
-    ScriptLine, Tool, lines_above, print_text, report, saved_text, setup_of, start,
+    ScriptLine, Tool, config_of, lines_above, print_text, report, saved_text, setup_of, start,
 };
 pub use mx_print_answers::Said;
 pub use printing::{pieces_join, print_kernel_report, print_piece, print_report};

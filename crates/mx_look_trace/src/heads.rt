@@ -27,7 +27,7 @@ fn push_event(out: &mut Vec<u8>, event: Recorded) -> Result<(), AllocError>
 
 /// Appends the name or the number of a call.
 #[tactic(auto, unfolding(crate::specs::Trace::call_text))]
-fn push_call(out: &mut Vec<u8>, call: u32) -> Result<(), AllocError>
+pub fn push_call(out: &mut Vec<u8>, call: u32) -> Result<(), AllocError>
     ensures { OnOk result (out.new.items ≡ out.old.items ++ call_text call) }
 {
     match call {

@@ -9,7 +9,7 @@ mod pending;
 mod record;
 mod words;
 
-pub use heads::push_head;
+pub use heads::{push_call, push_head};
 pub use kernel_calls::request_name;
 pub use lines::{push_change, push_console_line, push_delivery};
 pub use mx_look_facts::{Glance, Machine, Step};

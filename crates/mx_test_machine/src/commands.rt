@@ -103,6 +103,30 @@ static DONE: &[Done] = &[
         printed: "00000000 D buf\n00000000 T top\n",
         file: None,
     },
+    // By hand: 1f is bits 0 to 4; 7 is slots 0 to 2; 1ff is kernel calls 0 to 8. ffffffe1 lacks bits 1 to 4, and
+    // fffffffa slots 0 and 2. The file `none` isn't there.
+    Done {
+        name: "explain: all bits, none, and those that name nothing",
+        words: &["mx", "explain", "masks"],
+        status: 0,
+        printed: "0 a: traps SEND RECEIVE SENDREC NOTIFY; sends to a bee c_345678; \
+                  kernel calls EXIT TIMES SETALARM IRQCTL DEVIO VIRCOPY KILL WHOIS GRANT; \
+                  level 7, best 5; quantum 5; restarts 1048575\n\
+                  1 bee: traps none; sends to none; kernel calls none; \
+                  level 0, best 0; quantum 1; restarts 0\n\
+                  2 c_345678: traps none; sends to bee; kernel calls EXIT; \
+                  level 14, best 0; quantum 65535; restarts 3\n",
+        file: None,
+    },
+    Done {
+        name: "explain: by rules 1 there is no GRANT",
+        words: &["mx", "explain", "lenient_masks"],
+        status: 0,
+        printed: "0 a: traps SEND SENDREC; sends to a; \
+                  kernel calls EXIT TIMES SETALARM IRQCTL DEVIO VIRCOPY KILL WHOIS; \
+                  level 7, best 5; quantum 5; restarts 0\n",
+        file: None,
+    },
     Done {
         name: "step: killed and refused",
         words: &["mx", "step", "one", "kills"],
@@ -264,6 +288,30 @@ static FAILED: &[Failed] = &[
         words: &["mx", "nm", "cut"],
         status: 1,
         told: "mx: 20 Truncated\n",
+    },
+    Failed {
+        name: "explain: a configuration with a bad line",
+        words: &["mx", "explain", "bad"],
+        status: 1,
+        told: "mx: 70 BadLine line 2\n",
+    },
+    Failed {
+        name: "explain: no configuration",
+        words: &["mx", "explain"],
+        status: 2,
+        told: "",
+    },
+    Failed {
+        name: "explain: a script",
+        words: &["mx", "explain", "one", "kills"],
+        status: 2,
+        told: "",
+    },
+    Failed {
+        name: "explain: no such configuration",
+        words: &["mx", "explain", "nothing"],
+        status: 3,
+        told: "mx: 80 File\n",
     },
     Failed {
         name: "step: a script with a bad line",
@@ -566,6 +614,12 @@ static EXPLAINED: &[Failed] = &[
         told: "",
     },
     Failed {
+        name: "explain: no such configuration",
+        words: &["mx", "explain", "nothing", "--explain"],
+        status: 3,
+        told: "mx: 80 File\nmx: CONFIG nothing: wanted a file that can be read\n",
+    },
+    Failed {
         name: "step: a script with a bad line",
         words: &["mx", "step", "one", "tock", "--explain"],
         status: 1,
@@ -742,6 +796,13 @@ fn nothing_explained(rt: HostRuntime) -> Result<(), Fail> {
 
 /// Words that write, and what is told where nothing can be written.
 static UNWRITABLE: &[Failed] = &[
+    Failed {
+        name: "explain: standard output",
+        words: &["mx", "explain", "one", "--explain"],
+        status: 3,
+        told: "mx: 80 File\nmx: CONFIG one: \
+               wanted UTF-8 in what is read, and room for what is printed\n",
+    },
     Failed {
         name: "as: a file",
         words: &["mx", "as", "sum.s", "new.out", "--explain"],

@@ -429,6 +429,18 @@ static FILES: &[NamedFile<'static>] = &[
             service a a.out traps 1e send 0 calls 0 level 7 best 5 quantum 5 restarts 0\n",
     },
     NamedFile {
+        name: "masks",
+        bytes: b"service a none traps 1f send 7 calls 1ff level 7 best 5 quantum 5 restarts 1048575\n\
+            service bee none traps 0 send 0 calls 0 level 0 best 0 quantum 1 restarts 0\n\
+            service c_345678 none traps ffffffe1 send fffffffa calls fffffe01 \
+            level 14 best 0 quantum 65535 restarts 3\n",
+    },
+    NamedFile {
+        name: "lenient_masks",
+        bytes: b"rules 1\n\
+            service a none traps a send 1 calls 3ff level 7 best 5 quantum 5 restarts 0\n",
+    },
+    NamedFile {
         name: "strict_whole",
         bytes: b"rules 2\n0 take\n0 back 3\n0 take\n0 back 1\n",
     },

@@ -2,7 +2,7 @@ use Rattle.mx_app_program.specs.One.{IsPrinted}
 use Rattle.mx_app_program.specs.Shown.{HasListing, HasNames, IsShown}
 use Rattle.std.proofs.Common.{◌∙◌, ap, Option}
 use Rattle.mx_app_command.specs.declared.words.CommandRequest.TheVariants.{Step}
-use Rattle.mx_app.proofs.Done.{as_asked, assembled, debugs, draws, replays, runs, saves, shows, steps, traces}
+use Rattle.mx_app.proofs.Done.{as_asked, assembled, debugs, draws, explains, replays, runs, saves, shows, steps, traces}
 use Rattle.mx_app.proofs.performing.perform.Goals as goal
 
 pub returns-in-One : goal.returns-in-One
@@ -16,6 +16,9 @@ returns-in-Dis g c = as_asked _ _ _ _ _ _ _ _ c.in-Dis.is (shows _ _ _ (λ bytes
 
 pub returns-in-Nm : goal.returns-in-Nm
 returns-in-Nm g c = as_asked _ _ _ _ _ _ _ _ c.in-Nm.is (shows _ _ _ (λ bytes text. IsShown HasNames bytes text) c.in-Nm.file.now _ c.nm_named.result c.status_after_work-in-Nm.result c.nm_named.ensures c.status_after_work-in-Nm.ensures)
+
+pub returns-in-Explain : goal.returns-in-Explain
+returns-in-Explain g c = as_asked _ _ _ _ _ _ _ _ c.in-Explain.is (explains _ _ _ c.in-Explain.config.now _ _ c.explain_named.result c.status_after_work-in-Explain.result c.explain_named.ensures c.status_after_work-in-Explain.ensures)
 
 pub returns-in-None : goal.returns-in-None
 returns-in-None g c =

@@ -1,37 +1,30 @@
 use Rattle.std.proofs.Common.{[], ◌∷◌}
 use Rattle.std.proofs.lemmas.Result.{err_from_is_err_and}
-use Rattle.std.specs.Prelude.{string_bytes}
-use Rattle.mx_app_start.proofs.SetupLemmas.{asked_on, setup_faulty, setup_no_text, setup_read, setup_refused}
+use Rattle.mx_app_start.proofs.SetupLemmas.{asked_on, setup_missed, setup_read, setup_refused}
 use Rattle.mx_app_start.proofs.setup.setup_of.Goals as goal
-
-pub returns-in_err-text-clause-fault : goal.returns-in_err-text-clause-fault
-returns-in_err-text-clause-fault g c =
-    let p = err_from_is_err_and c.from_residual.result c.from_residual.ensures.1 in
-    let h = c.in_err-text.ensures.fault in
-    rw (p.1, p.2) (h.0 ∷ [], h.1, setup_no_text c.args.name.now h.0 c.in_err-text.field-0.0 h.2)
 
 pub returns-in_err-config-clause-fault : goal.returns-in_err-config-clause-fault
 returns-in_err-config-clause-fault g c =
-    let p = err_from_is_err_and c.from_residual-in_err-config.result c.from_residual-in_err-config.ensures.1 in
-    let t = c.in_ok-text.ensures.text in
-    rw (p.1, p.2) (t.0 ∷ [], t.1, setup_faulty c.args.name.now (string_bytes c.in_ok-text.text) c.as_str.result.now t.0 c.in_err-config.field-0.0 c.as_str.ensures.value t.2 c.in_err-config.ensures.fault)
+    let p = err_from_is_err_and c.from_residual.result c.from_residual.ensures.1 in
+    let h = c.in_err-config.ensures.fault in
+    rw (p.1, p.2) (h.0 ∷ [], h.1, setup_missed c.args.name.now h.0 c.in_err-config.field-0.0 h.2)
 
 pub returns-in_err-services-clause-fault : goal.returns-in_err-services-clause-fault
 returns-in_err-services-clause-fault g c =
     let p = err_from_is_err_and c.from_residual-in_err-services.result c.from_residual-in_err-services.ensures.1 in
-    let t = c.in_ok-text.ensures.text in
+    let t = c.in_ok-config.ensures.read in
     let h = c.in_err-services.ensures.refused in
     rw (p.1, p.2) (
       t.0 ∷ h.0,
-      asked_on (g.R.Reader.asked c.args.reader.now) (g.R.Reader.asked c.text_of.new.reader) (g.R.Reader.asked c.services_of.new.reader) (t.0 ∷ []) h.0 t.1 h.1,
-      setup_refused c.args.name.now (string_bytes c.in_ok-text.text) c.as_str.result.now t.0 h.0 c.in_ok-config.config c.as_slice.result.now c.in_err-services.field-0.0 c.as_str.ensures.value t.2 c.in_ok-config.ensures.config c.as_slice.ensures h.2,
+      asked_on (g.R.Reader.asked c.args.reader.now) (g.R.Reader.asked c.config_of.new.reader) (g.R.Reader.asked c.services_of.new.reader) (t.0 ∷ []) h.0 t.1 h.1,
+      setup_refused c.args.name.now t.0 h.0 c.in_ok-config.config c.as_slice.result.now c.in_err-services.field-0.0 t.2 c.as_slice.ensures h.2,
     )
 
 pub returns-clause-read : goal.returns-clause-read
 returns-clause-read g c =
-    let t = c.in_ok-text.ensures.text in
+    let t = c.in_ok-config.ensures.read in
     let h = c.in_ok-services.ensures.read in (
       t.0 ∷ h.0,
-      asked_on (g.R.Reader.asked c.args.reader.now) (g.R.Reader.asked c.text_of.new.reader) (g.R.Reader.asked c.services_of.new.reader) (t.0 ∷ []) h.0 t.1 h.1,
-      setup_read c.args.name.now (string_bytes c.in_ok-text.text) c.as_str.result.now t.0 h.0 c.in_ok-config.config c.as_slice.result.now c.in_ok-services.services.items c.as_str.ensures.value t.2 c.in_ok-config.ensures.config c.as_slice.ensures h.2,
+      asked_on (g.R.Reader.asked c.args.reader.now) (g.R.Reader.asked c.config_of.new.reader) (g.R.Reader.asked c.services_of.new.reader) (t.0 ∷ []) h.0 t.1 h.1,
+      setup_read c.args.name.now t.0 h.0 c.in_ok-config.config c.as_slice.result.now c.in_ok-services.services.items t.2 c.as_slice.ensures h.2,
     )

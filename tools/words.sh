@@ -1,0 +1,34 @@
+# What the script mx of the repository and that of a package share, for sh.
+
+# Prints what to do first: show_first_steps COMMAND TOP ABOUT. COMMAND is how mx was called, TOP the folder that has the
+# pages, and ABOUT what --prove does. The pages and files are named as they are seen from here.
+show_first_steps() {
+    at=${1%mx}
+    [ -e "${at}docs/learn/TOUR.md" ] || at=$2/
+    [ "$at" != ./ ] || at=
+    printf '%-38s %s\n' "$1 one ${at}examples/programs/sum.out 9" "runs a program and prints its registers" \
+        "${at}docs/learn/TOUR.md" "the tour: walks through the machine, and exercises with answers" \
+        "${at}examples/README.md" "programs and machines; $1 new NAME begins one of your own" \
+        "$1 --help" "all subcommands; $1 help one says more of one" \
+        "$1 --prove" "$3"
+}
+
+# Ends with status 3 if these words are those of an `as` that would write a program over its own text, also by another
+# name of the same file.
+refuse_own_text() {
+    [ "${1-}" = as ] || return 0
+    text='' file='' explains=''
+    for word in "$@"; do
+        case $word in
+            as) ;;
+            --explain) explains=yes ;;
+            *)
+                [ -z "$file" ] || return 0
+                if [ -z "$text" ]; then text=$word; else file=$word; fi ;;
+        esac
+    done
+    { [ -n "$file" ] && [ "$text" -ef "$file" ]; } || return 0
+    echo "mx: 80 File" >&2
+    [ -z "$explains" ] || echo "mx: FILE $file: wanted another file than the one that is read" >&2
+    exit 3
+}
