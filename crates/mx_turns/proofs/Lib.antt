@@ -1,0 +1,4 @@
+pub mod OfferLemmas
+pub mod MadeLemmas
+pub mod TurnLemmas
+pub mod LawLemmas

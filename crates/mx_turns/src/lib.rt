@@ -1,0 +1,14 @@
+//! Turns: one thread drives a whole machine, always in the same order.
+//!
+//! `specs/Turns.antt` says which events come of turns.
+#![tactic(auto)]
+
+mod laws;
+mod offers;
+mod outside;
+mod turns;
+
+pub use laws::{rest_is_still, turns_join};
+pub use mx_machine::{Event, Machine};
+pub use outside::Outside;
+pub use turns::{Ending, make_turns};
