@@ -2,9 +2,8 @@
 
 ghost use Rattle.std.specs.Prelude.{◌≡◌, IfOk, IfErr, All, length};
 ghost use Rattle.mx_machine_world.specs.declared.events.Event.TheVariants as events;
-ghost use Rattle.mx_machine_world.specs.Rest.{at_rest};
-ghost use Rattle.mx_cpus_lock.specs.Calls.{Follows, IsAnsweredCall, IsGiveCall, IsLoanOf};
-ghost use Rattle.mx_cpus_lock.specs.Calls.{IsRefusedCall, IsSameSeat, IsTakeCall, StandsIn, world_after};
+ghost use Rattle.mx_cpus_lock.specs.Calls.{IsAnsweredCall, IsGiveCall, IsLoanOf, IsRefusedCall};
+ghost use Rattle.mx_cpus_lock.specs.Calls.{IsRestCall, IsTakeCall, IsAcceptedHistory, StandsIn};
 
 use mx_cpus_lock::{ActorSeat, Kernel, Loan, Locked, Naming};
 use mx_machine_world::{Answer, Event, Refusal};
@@ -37,18 +36,22 @@ impl<M: Naming> Shared<M> {
     }
 
     /// Ends the sharing: the kernel, for the seats of all actors. The kernel stands where the table
-    /// stands after its history, in which stands all that the seats show.
+    /// stands after its history, in which stands all that the seats show. Of an actor whose seat isn't
+    /// handed in it says only that the history's records, its own too, are accepted from the boot on.
     pub fn into_kernel(self, seats: Vec<ActorSeat>) -> Kernel
         requires table { All (λ s. s.table ≡ M.table) seats.items }
         ensures stands { All (λ s. StandsIn result.history s) seats.items }
         ensures boot { result.boot ≡ M.boot }
+        ensures accepted { IsAcceptedHistory M.boot result.history }
     {
         let Shared { lock, cpus: _ } = self;
         let mut locked = lock.into_inner();
         for seat in seats {
             let _seat = locked.show(seat);
         }
-        locked.into_kernel()
+        let kernel = locked.into_kernel();
+        kernel.opened();
+        kernel
     }
 
     /// A processor takes the process that is first to run.
@@ -125,12 +128,11 @@ impl<M: Naming> Shared<M> {
         self.lock.lock(rt).event(seat, Event::Respawn(slot))
     }
 
-    /// Whether nothing is ready, nothing is out, and no slot that is down can be respawned.
+    /// Whether nothing is ready, nothing is out, and no slot that is down can be respawned. What the seat
+    /// holds is what the machine shows as out.
     pub fn at_rest(&self, rt: &impl Wait, seat: ActorSeat) -> (ActorSeat, bool)
         requires table { seat.table ≡ M.table }
-        ensures follows { Follows seat result.0 }
-        ensures same { IsSameSeat seat result.0 }
-        ensures rest { result.1 ≡ at_rest (world_after M.boot result.0.seen) }
+        ensures { IsRestCall M.boot seat result.0 result.1 }
     {
         self.lock.lock(rt).at_rest(seat)
     }

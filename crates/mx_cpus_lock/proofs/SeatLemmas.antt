@@ -1,23 +1,25 @@
 -- What a record says of a seat, of the desk and of a loan.
-use Rattle.std.proofs.Common.{◌≡◌, ◌∙◌, ℕ, List, [], ◌∷◌, ◌++◌, slice_set, Option, Some, None, refl, sym, ap, subst}
+use Rattle.std.proofs.Common.{◌≡◌, ◌∙◌, ℕ, Bool, Result, Ok, List, [], ◌∷◌, ◌++◌, slice_set, Option, Some, None, refl, sym, ap, subst}
 use mathlib.Core.List.{IsPrefix}
 use Rattle.atomic_table.specs.Seated.{TableId}
 use Rattle.mx_machine_world.specs.declared.events.Answer.{Answer}
 use Rattle.mx_machine_world.specs.declared.events.Event.{Event}
 use Rattle.mx_machine_world.specs.declared.events.Event.TheVariants as events
+use Rattle.mx_machine_world.specs.declared.events.Refusal.{Refusal}
 use Rattle.mx_machine_world.specs.declared.history.Record.{Record}
 use Rattle.mx_machine_world.specs.declared.history.Recorded.{Recorded}
 use Rattle.mx_machine_world.specs.declared.history.Recorded.TheVariants as recorded
 use Rattle.mx_machine_world.specs.declared.holding.Out.{Out}
-use Rattle.mx_machine_world.specs.History.{AreAccepted, BootAndHistory, events_of, part_of, replay, events_of_history, with_record}
-use Rattle.mx_machine_world.specs.Move.{world_after_event, event_answer, with_held}
+use Rattle.mx_machine_world.specs.History.{AreAccepted, BootAndHistory, events_of, part_of, replay, events_of_history, with_record, world_after_events}
+use Rattle.mx_machine_world.specs.Move.{world_after_event, event_answer, event_refusal, move, with_held}
+use Rattle.mx_machine_world.specs.Rest.{at_rest}
 use Rattle.mx_machine_world.specs.World.{World, HeldProcess, held_by}
 use Rattle.mx_machine_world.proofs.PartLemmas.{part_own}
 use Rattle.mx_machine_kernel.proofs.ReplayLemmas.{last_accepted}
 use Rattle.mx_loan_rule.proofs.Fronts.{prefix_trans}
 use Rattle.mx_loan.specs.Seats.{DeskView, SeatView, LoanView, IsSeatOf, back_record, desk_after_back, desk_after_event, desk_after_take, new_loan, record_of, seat_after_back, seat_after_event, seat_after_take, seat_seeing}
-use Rattle.mx_cpus_lock.specs.Calls.{IsAcceptedCall, IsAnswer, IsLentAt, desk_beside, outs_of, world_after}
-use Rattle.mx_cpus_lock.proofs.WorldLemmas.{back_outs}
+use Rattle.mx_cpus_lock.specs.Calls.{Follows, IsAcceptedCall, IsLentAt, IsRefusedCall, IsRestCall, IsAcceptedHistory, desk_beside, event_of, outs_of, steps_of, world_after}
+use Rattle.mx_cpus_lock.proofs.WorldLemmas.{back_outs, moved_by}
 
 -- the seat after its own record, beside the kernel as it was
 abbrev pub recorded_seat : SeatView → BootAndHistory → Recorded → Option Out → SeatView
@@ -67,14 +69,18 @@ desk_after_give z k n d e a b c l o is now who count made held world =
     (sym (back_outs (replay k) (replay n) b l o held (world l held) ∙ ap (λ i. slice_set (outs_of (replay k)) i None) who))
 
 -- a call that was recorded
-pub accepted_by : (boot : World) (k n : BootAndHistory) (s t : SeatView) (b : ℕ) (e : Recorded) (x : Option Out) (IsAnswered : World → Type 0) → k.boot ≡ boot → IsPrefix s.seen k.history → s.mine ≡ part_of k.history s.actor → b ≡ s.actor → n ≡ with_record k b e
-    → t ≡ recorded_seat s k e x → AreAccepted n.boot (events_of_history n.history) → IsAnswered (replay k) → IsAcceptedCall boot s t e x IsAnswered
-accepted_by boot k n s t b e x IsAnswered is front mine who made now all after =
+pub accepted_by : (boot : World) (k n : BootAndHistory) (s t : SeatView) (b : ℕ) (e : Recorded) (holding : Option Out) (IsAnswered : World → Answer → Type 0) → k.boot ≡ boot → IsPrefix s.seen k.history → s.mine ≡ part_of k.history s.actor → b ≡ s.actor → n ≡ with_record k b e
+    → t ≡ recorded_seat s k e holding → AreAccepted n.boot (events_of_history n.history) → IsAnswered (replay k) (event_answer (world_after_events (replay k) (steps_of b e)) b (event_of e)) → IsAcceptedCall boot s t e holding IsAnswered
+accepted_by boot k n s t b e holding IsAnswered is front mine who made now all after =
     let r = record_of s.actor e in
     let seen : t.seen ≡ k.history ++ r ∷ [] = ap (λ (u : SeatView). u.seen) now in
     let actor : t.actor ≡ s.actor = ap (λ (u : SeatView). u.actor) now in
     let own : t.mine ≡ s.mine ++ r ∷ [] = ap (λ (u : SeatView). u.mine) now in
+    let accepted = last_accepted k n b e made all in
+    let x = event_answer (world_after_events (replay k) (steps_of b e)) b (event_of e) in
+    let same : n.history ≡ t.seen = ap (λ (m : BootAndHistory). m.history) made ∙ ap (λ i. k.history ++ record_of i e ∷ []) who ∙ sym seen in
     record {
+      history = subst (λ c. IsAcceptedHistory c t.seen) (ap (λ (m : BootAndHistory). m.boot) made ∙ is) (subst (IsAcceptedHistory n.boot) same all);
       follows = record {
         table = ap (λ (u : SeatView). u.table) now;
         actor = actor;
@@ -86,13 +92,47 @@ accepted_by boot k n s t b e x IsAnswered is front mine who made now all after =
       before = k.history;
       ends = seen;
       later = front;
-      allowed = subst (λ c. AreAccepted (world_after c k.history) (events_of s.actor e)) is (subst (λ i. AreAccepted (replay k) (events_of i e)) who (last_accepted k n b e made all));
-      answered = subst (λ c. IsAnswered (world_after c k.history)) is after;
+      allowed = subst (λ c. AreAccepted (world_after c k.history) (events_of s.actor e)) is (subst (λ i. AreAccepted (replay k) (events_of i e)) who accepted);
+      answer = x;
+      moves = subst (λ c. move (world_after_events (world_after c k.history) (steps_of s.actor e)) s.actor (event_of e) ≡ (Ok x, world_after c t.seen)) is
+          (subst (λ i. move (world_after_events (replay k) (steps_of i e)) i (event_of e) ≡ (Ok x, world_after k.boot t.seen)) who
+          (moved_by k b e accepted ∙ ap (λ u. let r : Result Answer Refusal × World = (Ok x, u) in r) (ap replay (sym made) ∙ ap (λ c. world_after c n.history) (ap (λ (m : BootAndHistory). m.boot) made) ∙ ap (world_after k.boot) same)));
+      answered = subst (λ c. IsAnswered (world_after c k.history) x) is after;
     }
 
--- an answer at the same actor by another name
-pub answer_by : (w : World) (a b : ℕ) (e : Event) (x : Answer) → x ≡ event_answer w a e → a ≡ b → IsAnswer b e x w
-answer_by w a b e x is who = is ∙ ap (λ i. event_answer w i e) who
+-- a call that recorded nothing: the seat was shown the history
+shown_follows : (k : BootAndHistory) (s : SeatView) → IsPrefix s.seen k.history → s.mine ≡ part_of k.history s.actor → Follows s (seat_seeing s k.history)
+shown_follows k s front own = record { table = refl; actor = refl; seen = front; own = own }
+
+seat_shown : (z : TableId) (k : BootAndHistory) (d : DeskView) (s t : SeatView) → d ≡ desk_beside z k → t ≡ seat_seeing s d.history → seat_seeing s k.history ≡ t
+seat_shown z k d s t is shown = sym (shown ∙ ap (λ (y : DeskView). seat_seeing s y.history) is)
+
+pub refused_by : (boot : World) (z : TableId) (k : BootAndHistory) (d : DeskView) (s t : SeatView) (b : ℕ) (e : Event) (r : Refusal) → k.boot ≡ boot → d ≡ desk_beside z k → IsSeatOf s d → t ≡ seat_seeing s d.history
+    → b ≡ t.actor → IsAcceptedHistory k.boot k.history → event_refusal (replay k) b e ≡ Some r → IsRefusedCall boot s t e r
+refused_by boot z k d s t b e r is desk known shown who all refused =
+    let seat = seat_shown z k d s t desk shown in
+    let here = known_by z k d s desk known in
+    let same : b ≡ s.actor = who ∙ ap (λ (x : SeatView). x.actor) (sym seat) in
+    subst (λ w. IsRefusedCall w s t e r) is (subst (λ (x : SeatView). IsRefusedCall k.boot s x e r) seat record {
+      follows = shown_follows k s here.0 here.1;
+      history = all;
+      mine = refl;
+      held = refl;
+      refused = ap (λ i. event_refusal (replay k) i e) (sym same) ∙ refused;
+    })
+
+pub rest_by : (boot : World) (z : TableId) (k : BootAndHistory) (d : DeskView) (s t : SeatView) (rest : Bool) → k.boot ≡ boot → d ≡ desk_beside z k → IsSeatOf s d → t ≡ seat_seeing s d.history
+    → IsAcceptedHistory k.boot k.history → rest ≡ at_rest (replay k) → IsRestCall boot s t rest
+rest_by boot z k d s t rest is desk known shown all answered =
+    let here = known_by z k d s desk known in
+    subst (λ w. IsRestCall w s t rest) is (subst (λ (x : SeatView). IsRestCall k.boot s x rest) (seat_shown z k d s t desk shown) record {
+      follows = shown_follows k s here.0 here.1;
+      history = all;
+      mine = refl;
+      held = refl;
+      lent = here.2;
+      answered = answered;
+    })
 
 -- what was lent
 pub lent_by : (boot : World) (n : BootAndHistory) (t : SeatView) (l : LoanView) (a : ℕ) (o : Out) → n.boot ≡ boot → t.seen ≡ n.history → t.actor ≡ a → l ≡ new_loan a o → (x : HeldProcess) × (held_by (replay n) a ≡ Some x) × (x.out ≡ o)

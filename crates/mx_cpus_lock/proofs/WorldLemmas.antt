@@ -1,11 +1,13 @@
 -- What an event does to what each processor was lent.
-use Rattle.std.proofs.Common.{◌≡◌, ◌∙◌, ℕ, zero, suc, ◌<◌, ◌+◌, nat_lt, if◌then◌else◌, Bool, true, false, true≢false, List, [], ◌∷◌, ◌++◌, map, replicate, length, Option, Some, None, get_or, slice_set, slice_get, refl, sym, ap, subst, inl, inr, arith, get_or-set_same, append_assoc}
+use Rattle.std.proofs.Common.{◌≡◌, ◌∙◌, ℕ, zero, suc, ◌<◌, ◌+◌, nat_lt, if◌then◌else◌, Bool, true, false, true≢false, List, [], ◌∷◌, ◌++◌, map, replicate, length, Option, Some, None, get_or, slice_set, slice_get, Result, Ok, refl, sym, ap, subst, inl, inr, arith, get_or-set_same, append_assoc}
 use Rattle.std.proofs.lemmas.Bool.{cases_lt, le-ltb}
 use Rattle.std.proofs.lemmas.List.{length-map, length-replicate}
 use Rattle.mx_machine_world.specs.Stop.TheVariants.{Spent}
 use Rattle.mx_proc.specs.Queues.{first_ready}
 use Rattle.mx_machine_kernel.specs.Service.{Service}
 use Rattle.mx_machine_kernel.specs.Refusals.{owner_of}
+use Rattle.mx_machine_world.specs.declared.events.Answer.{Answer}
+use Rattle.mx_machine_world.specs.declared.events.Answer.TheVariants.{Returned}
 use Rattle.mx_machine_world.specs.declared.events.Event.{Event}
 use Rattle.mx_machine_world.specs.declared.events.Event.TheVariants as events
 use Rattle.mx_machine_world.specs.declared.events.Refusal.{Refusal}
@@ -15,18 +17,18 @@ use Rattle.mx_machine_world.specs.declared.history.Recorded.{Recorded}
 use Rattle.mx_machine_world.specs.declared.history.Recorded.TheVariants as recorded
 use Rattle.mx_machine_world.specs.declared.holding.Out.{Out}
 use Rattle.mx_machine_world.specs.Boot.{world_at_boot_with}
-use Rattle.mx_machine_world.specs.Held.{IsBack, IsRunOf}
+use Rattle.mx_machine_world.specs.Held.{IsBack, IsRunOf, out_after_step}
 use Rattle.mx_machine_world.proofs.ProcessorLemmas.{cpus_after}
 use Rattle.mx_machine_world.proofs.StepLemmas.{holds_in, set_twice}
 use Rattle.mx_machine_world.specs.History.{AreAccepted, BootAndHistory, world_after_events, events_of, replay, events_of_history, with_record}
-use Rattle.mx_machine_world.specs.Move.{world_after_back, world_after_event, world_after_line, world_after_respawn, world_after_take, event_answer, event_refusal, held_at_take, world_with_record, table_after_sending_out, take_refusal, with_held}
+use Rattle.mx_machine_world.specs.Move.{world_after_back, world_after_event, world_after_line, world_after_respawn, world_after_step, world_after_take, back_answer, event_answer, event_refusal, move, move_by, held_at_take, world_with_record, table_after_sending_out, take_refusal, with_held}
 use Rattle.mx_machine_world.specs.World.{World, HeldProcess, actors, free_records, held_by}
 use Rattle.mx_machine_kernel.specs.Agrees.{IsFresh}
 use Rattle.mx_machine_kernel.specs.KernelState.{is_for_all, recorded_as}
-use Rattle.mx_machine_kernel.proofs.ReplayLemmas.{map_put}
+use Rattle.mx_machine_kernel.proofs.ReplayLemmas.{map_put, replay-recorded}
 use Rattle.mx_loan_rule.specs.Rule.{lent_to}
 use Rattle.mx_loan.specs.Seats.{record_of}
-use Rattle.mx_cpus_lock.specs.Calls.{out_of_lent, outs_of, world_after}
+use Rattle.mx_cpus_lock.specs.Calls.{event_of, out_of_lent, outs_of, steps_of, world_after}
 
 -- ---- lists
 
@@ -98,6 +100,10 @@ some_out (Some l) o h = (l, refl, cc)
 pub back_there : (w : World) (a : ℕ) (o p : Out) → lent_to (outs_of w) a ≡ Some o → IsRunOf o p → (l : HeldProcess) × (held_by w a ≡ Some l) × IsBack l.out p
 back_there w a o p h run = let s = some_out (held_by w a) o (sym (out_at w.cpus a) ∙ h) in (s.0, s.1, subst (λ (x : Out). IsBack x p) (sym s.2) run.back)
 
+-- what is there is what is lent
+pub lent_there : (w : World) (a : ℕ) (o : Out) (l : HeldProcess) → lent_to (outs_of w) a ≡ Some o → held_by w a ≡ Some l → l.out ≡ o
+lent_there w a o l h at = let same : Some l.out ≡ Some o = sym (out_at w.cpus a ∙ ap out_of_lent at) ∙ h in cc
+
 back_outs_of : (w : World) (a : ℕ) (l : HeldProcess) → held_by w a ≡ Some l → outs_of (world_after_event w a events.Back) ≡ slice_set (outs_of w) a None
 unfolding world_after_event
 back_outs_of w a l h = ap (λ x. outs_of (world_after_back w a x)) h ∙ map_put out_of_lent w.cpus a None
@@ -107,6 +113,75 @@ back_outs w u a l o h is =
     let m : HeldProcess = record l { out = o } in
     ap outs_of is ∙ back_outs_of (with_held w a (Some m)) a m (get_or-set_same w.cpus a (Some m) None (holds_in w.cpus a l h))
     ∙ ap (λ x. slice_set x a None) (map_put out_of_lent w.cpus a (Some m)) ∙ set_twice (outs_of w) a (Some o) None
+
+one_step_there : (w : World) (a : ℕ) (l : HeldProcess) → held_by w a ≡ Some l → held_by (world_after_event w a events.Step) a ≡ Some (record l { out = out_after_step l.out })
+unfolding world_after_event
+one_step_there w a l h =
+    let next : HeldProcess = record l { out = out_after_step l.out } in
+    ap (λ x. held_by (world_after_step w a x) a) h ∙ get_or-set_same w.cpus a (Some next) None (holds_in w.cpus a l h)
+
+count_more : (o : Out) (n : ℕ) → (out_after_step o).count + n ≡ o.count + suc n
+unfolding out_after_step
+count_more o n = omega arith
+
+-- so many steps of its processor raise the count by as many
+stepped : (n : ℕ) (w : World) (a : ℕ) (l : HeldProcess) → held_by w a ≡ Some l → (m : HeldProcess) × (held_by (world_after_events w (replicate n (a, events.Step))) a ≡ Some m) × (m.out.count ≡ l.out.count + n)
+stepped zero w a l h = (l, h, omega arith)
+stepped (suc n) w a l h =
+    let next : HeldProcess = record l { out = out_after_step l.out } in
+    let there = one_step_there w a l h in
+    let later = stepped n (world_after_event w a events.Step) a next there in
+    (later.0, later.1, later.2 ∙ count_more l.out n)
+
+-- what a return answers, after the steps that it counts
+pub back_answered : (w : World) (a n : ℕ) (l : HeldProcess) → held_by w a ≡ Some l → l.out.count ≡ 0 → event_answer (world_after_events w (replicate n (a, events.Step))) a events.Back ≡ Returned n
+unfolding event_answer
+back_answered w a n l h none =
+    let there = stepped n w a l h in
+    let count : there.0.out.count ≡ n = omega (arith, there.2, none) in
+    ap back_answer there.1 ∙ ap Returned count
+
+-- ---- one equation for all
+
+steps_first : (a : ℕ) (e : Recorded) → events_of a e ≡ steps_of a e ++ (a, event_of e) ∷ []
+steps_first a recorded.Take = refl
+steps_first a (recorded.Back n) = refl
+steps_first a (recorded.Line l) = refl
+steps_first a recorded.Tick = refl
+steps_first a (recorded.Kill e) = refl
+steps_first a (recorded.Respawn s) = refl
+
+last_of : (w : World) (xs : List (ℕ × Event)) (a : ℕ) (e : Event) → AreAccepted w (xs ++ (a, e) ∷ []) → event_refusal (world_after_events w xs) a e ≡ None
+last_of w [] a e h = h.0
+last_of w (x ∷ xs) a e h = last_of (world_after_event w x.0 x.1) xs a e h.1
+
+after_last : (w : World) (xs : List (ℕ × Event)) (a : ℕ) (e : Event) → world_after_events w (xs ++ (a, e) ∷ []) ≡ world_after_event (world_after_events w xs) a e
+after_last w [] a e = refl
+after_last w (x ∷ xs) a e = after_last (world_after_event w x.0 x.1) xs a e
+
+moved_if : (w : World) (a : ℕ) (e : Event) → event_refusal w a e ≡ None → move w a e ≡ (Ok (event_answer w a e), world_after_event w a e)
+unfolding move
+moved_if w a e h = ap (move_by w a e) h
+
+-- an accepted record is one move of the table, after the steps that a return counts
+pub moved_by : (k : BootAndHistory) (a : ℕ) (e : Recorded) → AreAccepted (replay k) (events_of a e)
+    → move (world_after_events (replay k) (steps_of a e)) a (event_of e) ≡ (Ok (event_answer (world_after_events (replay k) (steps_of a e)) a (event_of e)), replay (with_record k a e))
+moved_by k a e all =
+    let w = world_after_events (replay k) (steps_of a e) in
+    let none = last_of (replay k) (steps_of a e) a (event_of e) (subst (AreAccepted (replay k)) (steps_first a e) all) in
+    let there : world_after_event w a (event_of e) ≡ replay (with_record k a e) =
+    sym (replay-recorded k a e ∙ ap (world_after_events (replay k)) (steps_first a e) ∙ after_last (replay k) (steps_of a e) a (event_of e)) in
+    moved_if w a (event_of e) none ∙ ap (λ u. let r : Result Answer Refusal × World = (Ok (event_answer w a (event_of e)), u) in r) there
+
+-- an event that any actor may do is a record without steps
+pub for_all_answer : (w : World) (a : ℕ) (e : Event) → is_for_all e ≡ true → event_answer (world_after_events w (steps_of a (recorded_as e))) a (event_of (recorded_as e)) ≡ event_answer w a e
+for_all_answer w a (events.Line l) h = refl
+for_all_answer w a events.Tick h = refl
+for_all_answer w a (events.Kill e) h = refl
+for_all_answer w a (events.Respawn s) h = refl
+for_all_answer w a events.Step h = absurd (true≢false (sym h))
+for_all_answer w a events.Take h = absurd (true≢false (sym h))
+for_all_answer w a events.Back h = absurd (true≢false (sym h))
 
 -- ---- the other events
 

@@ -2,11 +2,9 @@
 
 ghost use Rattle.std.specs.Prelude.{◌≡◌, true, IfOk, IfErr};
 ghost use Rattle.mx_machine_world.specs.declared.events.Event.TheVariants as events;
-ghost use Rattle.mx_machine_world.specs.Rest.{at_rest};
 ghost use Rattle.mx_machine_kernel.specs.KernelState.{is_for_all};
 ghost use Rattle.mx_cpus_lock.specs.Calls.{Follows, IsAnsweredCall, IsGiveCall, IsLoanOf, IsLocked};
-ghost use Rattle.mx_cpus_lock.specs.Calls.{IsRefusedCall, IsSameSeat, IsTakeCall, StandsIn};
-ghost use Rattle.mx_cpus_lock.specs.Calls.{world_after};
+ghost use Rattle.mx_cpus_lock.specs.Calls.{IsRefusedCall, IsRestCall, IsSameSeat, IsTakeCall, StandsIn};
 
 use crate::naming::Naming;
 use mx_loan::{ActorSeat, Desk, Loan};
@@ -71,13 +69,13 @@ impl<M: Naming> Locked<M> {
         self.desk.note(seat)
     }
 
-    /// Whether nothing is ready, nothing is out, and no slot that is down can be respawned.
+    /// Whether nothing is ready, nothing is out, and no slot that is down can be respawned. What the seat
+    /// holds is what the machine shows as out.
     pub fn at_rest(&mut self, seat: ActorSeat) -> (ActorSeat, bool)
         requires table { seat.table ≡ M.table }
-        ensures follows { Follows seat result.0 }
-        ensures same { IsSameSeat seat result.0 }
-        ensures rest { result.1 ≡ at_rest (world_after M.boot result.0.seen) }
+        ensures { IsRestCall M.boot seat result.0 result.1 }
     {
+        self.kernel.opened();
         (self.desk.note(seat), self.kernel.at_rest())
     }
 
@@ -88,6 +86,7 @@ impl<M: Naming> Locked<M> {
         ensures err { IfErr result.1 (λ r. IsRefusedCall M.boot seat result.0 events.Take r) }
     {
         let seat = self.desk.note(seat);
+        self.kernel.opened();
         match self.kernel.take(seat.actor()) {
             Ok(out) => {
                 self.kernel.opened();
@@ -121,6 +120,7 @@ impl<M: Naming> Locked<M> {
         actors_stay();
         let seat = self.desk.note(seat);
         seat.opened();
+        self.kernel.opened();
         match self.kernel.event(seat.actor(), event) {
             Ok(answer) => {
                 self.kernel.opened();

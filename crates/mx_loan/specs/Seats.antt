@@ -8,6 +8,9 @@ use Rattle.mx_machine_world.specs.declared.history.Record.{Record}
 use Rattle.mx_machine_world.specs.declared.history.Recorded.{Recorded}
 use Rattle.mx_machine_world.specs.declared.history.Recorded.TheVariants.{Take, Back}
 use Rattle.mx_machine_world.specs.declared.holding.Out.{Out}
+use Rattle.mx_machine_world.specs.Held.{IsRunOf}
+use Rattle.mx_machine_world.specs.Stop.TheVariants.{Spent}
+use Rattle.mx_image.specs.Run.{run_of}
 use Rattle.mx_loan_shown.specs.declared.shown.Shown.{Shown}
 use Rattle.mx_loan_rule.specs.declared.knowledge.Announcement.{Announcement}
 use Rattle.mx_loan_rule.specs.declared.knowledge.Knowledge.{Knowledge}
@@ -34,6 +37,21 @@ pub record LoanView : Type 0 where
   pub out : Out
 
 -- ---- what always holds of them
+
+-- a process as it is lent: no step of it is counted, and it hasn't stopped
+abbrev pub HasMadeNoStep : Out → Type 0
+HasMadeNoStep o = (o.count ≡ 0) × (o.stop ≡ Spent)
+
+-- a loan's process is what was lent, after a run of the steps that it counts; and what was lent had made no step
+abbrev pub IsLoan : Out → Out → Type 0
+IsLoan lent out = IsRunOf lent out × HasMadeNoStep lent
+
+-- the same by the image alone: the steps that are counted lead from the image as it was lent to the image, and to the
+-- stop of the last of them
+pub record IsAdvanced (lent out : Out) : Type 0 where
+  pub image : out.image ≡ (run_of out.count lent.image).image
+  pub count : out.count ≡ (run_of out.count lent.image).count
+  pub stop : out.stop ≡ (run_of out.count lent.image).stop
 
 -- an actor's half of the table's view, as a seat
 abbrev pub seat_of : TableId → ℕ → Knowledge → SeatView

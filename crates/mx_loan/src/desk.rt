@@ -1,10 +1,9 @@
 //! The kernel's desk, which lends processes to actors and takes them back.
 
 ghost use Rattle.std.specs.Prelude.{◌≡◌, ◌<◌, None, Some, IfOk, length};
-ghost use Rattle.mx_machine_world.specs.Stop.TheVariants.{Spent};
 ghost use Rattle.mx_machine_world.specs.Held.{IsRunOf};
 ghost use Rattle.mx_loan_rule.specs.Rule.{lent_to};
-ghost use Rattle.mx_loan.specs.Seats.{IsSeatOf, empty_desk, new_seats, new_loan};
+ghost use Rattle.mx_loan.specs.Seats.{HasMadeNoStep, IsSeatOf, empty_desk, new_seats, new_loan};
 ghost use Rattle.mx_loan.specs.Seats.{desk_after_take, desk_after_back, desk_after_event};
 ghost use Rattle.mx_loan.specs.Seats.{seat_after_take, seat_after_back, seat_after_event, seat_seeing};
 
@@ -66,7 +65,7 @@ impl Desk {
         requires table { seat.table ≡ self.old.table }
         requires empty { seat.held ≡ None }
         requires place { seat.actor < length self.old.lent }
-        requires fresh { (out.count ≡ 0) × (out.stop ≡ Spent) }
+        requires fresh { HasMadeNoStep out }
         ensures known { IsSeatOf seat self.old }
         ensures desk { self.new ≡ desk_after_take self.old seat.actor out }
         ensures seat { result.0 ≡ seat_after_take seat self.new out }
@@ -108,6 +107,7 @@ impl Desk {
         ensures known { IsSeatOf seat self.old }
         ensures start { lent_to self.old.lent seat.actor ≡ Some loan.lent }
         ensures run { IsRunOf loan.lent result.1 }
+        ensures fresh { HasMadeNoStep loan.lent }
         ensures out { result.1 ≡ loan.out }
         ensures desk { self.new ≡ desk_after_back self.old seat.actor loan.out.count }
         ensures seat { result.0 ≡ seat_after_back seat self.new loan.out.count }

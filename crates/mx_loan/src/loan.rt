@@ -2,6 +2,7 @@
 
 ghost use Rattle.std.specs.Prelude.{◌≡◌};
 ghost use Rattle.mx_machine_world.specs.Held.{IsRunOf};
+ghost use Rattle.mx_loan.specs.Seats.{HasMadeNoStep, IsAdvanced};
 
 use mx_exec::Image;
 use mx_loan_shown::Shown;
@@ -18,14 +19,13 @@ pub struct Loan {
 }
 
 impl Model for Loan {
-    ghost use Rattle.mx_machine_world.specs.Held.{IsRunOf};
-    ghost use Rattle.mx_loan.specs.Seats.{LoanView};
+    ghost use Rattle.mx_loan.specs.Seats.{LoanView, IsLoan};
 
     ghost Value = { LoanView };
 
     ghost view = { λ l. record { actor = l.actor; lent = l.lent.value; out = l.out } };
 
-    ghost invariant = { λ l. IsRunOf l.lent.value l.out };
+    ghost invariant = { λ l. IsLoan l.lent.value l.out };
 }
 
 #[tactic(auto)]
@@ -69,9 +69,12 @@ impl Loan {
         self.actor
     }
 
-    /// Law: a loan is what was lent, after a run of the steps that it counts.
+    /// Law: a loan is what was lent, which had made no step, after a run of the steps that it counts.
+    #[tactic(auto, using(crate::proofs::RunLemmas::advanced))]
     pub fn opened(&self)
-        ensures { IsRunOf self.now.lent self.now.out }
+        ensures run { IsRunOf self.now.lent self.now.out }
+        ensures fresh { HasMadeNoStep self.now.lent }
+        ensures steps { IsAdvanced self.now.lent self.now.out }
     {
         let _out = &self.out;
     }

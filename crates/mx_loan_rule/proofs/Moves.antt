@@ -18,7 +18,8 @@ use Rattle.mx_loan_shown.specs.declared.shown.Shown.{Shown}
 use Rattle.mx_loan_rule.specs.declared.knowledge.Knowledge.{Knowledge}
 use Rattle.mx_loan_rule.specs.declared.knowledge.Announcement.{Announcement}
 use Rattle.mx_loan_rule.specs.declared.knowledge.TableSizes.{TableSizes}
-use Rattle.mx_loan_rule.specs.Rule.{lent_to, spent_view, kernel_half, actor_half, founder_view, founder_after_birth, newborn_view, FoundingFacts, word_at_rest, joined_view, WordMeans, home, out, offer, back, home_with_note_due, out_with_note_due, IsResting, KernelFacts, ActorFacts, RuleHolds, JoinedFacts, IsJoined, StepMakes, ChangesOneActor}
+use Rattle.mx_loan_rule.specs.Rule.{lent_to, spent_view, kernel_half, actor_half, founder_view, founder_after_birth, newborn_view, FoundingFacts, word_at_rest, joined_view, WordMeans, home, out, offer, back, home_with_note_due, out_with_note_due, IsResting, KernelFacts, ActorFacts, RuleHolds, JoinedFacts, IsJoined, StepMakes}
+use Rattle.mx_loan_rule.proofs.Changes.{ChangesOneActor}
 use Rattle.mx_loan_rule.proofs.Fronts.{prefix_trans}
 
 off : {A : Type 0} (b : Bool) → b ≡ false → b ≡ true → A
@@ -135,8 +136,8 @@ allows f slots id v c old new x both go s h _ at _ =
 joins_word : (n : ℕ) (p mine : List Record) (lent held : Option Out) → IsResting n → WordMeans n p mine lent held → n ≡ word_at_rest held
 joins_word n p mine lent held still (home e _ _ h) = e ∙ sym (ap word_at_rest h)
 joins_word n p mine lent held still (out x e _ _ h) = e ∙ sym (ap word_at_rest h)
-joins_word n p mine lent held still (offer r x e _ _ _) = absurd (⊎_elim (λ (z : n ≡ 0). omega arith) (λ (z : n ≡ 2). omega arith) still)
-joins_word n p mine lent held still (back r x e _ _ _) = absurd (⊎_elim (λ (z : n ≡ 0). omega arith) (λ (z : n ≡ 2). omega arith) still)
+joins_word n p mine lent held still (offer r x e _ _ _ _) = absurd (⊎_elim (λ (z : n ≡ 0). omega arith) (λ (z : n ≡ 2). omega arith) still)
+joins_word n p mine lent held still (back r k x e _ _ _ _) = absurd (⊎_elim (λ (z : n ≡ 0). omega arith) (λ (z : n ≡ 2). omega arith) still)
 joins_word n p mine lent held still (home_with_note_due r e _ _ _) = absurd (⊎_elim (λ (z : n ≡ 0). omega arith) (λ (z : n ≡ 2). omega arith) still)
 joins_word n p mine lent held still (out_with_note_due r x e _ _ _) = absurd (⊎_elim (λ (z : n ≡ 0). omega arith) (λ (z : n ≡ 2). omega arith) still)
 

@@ -6,42 +6,44 @@ use Rattle.std.proofs.lemmas.List.Elements.{filter-append}
 use mathlib.Core.List.{IsPrefix}
 use Rattle.mx_machine_world.specs.History.{part_of}
 use Rattle.mx_machine_world.specs.declared.history.Record.{Record}
+use Rattle.mx_machine_world.specs.declared.history.Recorded.TheVariants.{Take, Back}
 use Rattle.mx_machine_world.specs.declared.holding.Out.{Out}
 use Rattle.mx_loan_rule.specs.declared.knowledge.Knowledge.{Knowledge}
 use Rattle.mx_loan_rule.specs.declared.knowledge.Announcement.{Announcement}
-use Rattle.mx_loan_rule.specs.Rule.{lent_to, word_at_rest, WordMeans, home, out, offer, back, home_with_note_due, out_with_note_due, JoinedFacts, IsJoined, ChangesOneActor, view_after_offer, view_after_take, view_after_return, view_after_close, view_after_record, view_after_note, value_of_shown}
+use Rattle.mx_loan_rule.specs.Rule.{lent_to, word_at_rest, WordMeans, home, out, offer, back, home_with_note_due, out_with_note_due, JoinedFacts, IsJoined, view_after_offer, view_after_take, view_after_return, view_after_close, view_after_record, view_after_note, value_of_shown}
+use Rattle.mx_loan_rule.proofs.Changes.{ChangesOneActor}
 use Rattle.mx_loan_rule.proofs.Fronts.{prefix_self, prefix_trans}
 
 module _ {n : ℕ} {p mine : List Record} {lent held : Option Out} where
   pub at_home : WordMeans n p mine lent held → n ≡ 0 → (p ≡ mine) × (lent ≡ None) × (held ≡ None)
   at_home (home e a b d) z = (a, b, d)
   at_home (out x e _ _ _) z = absurd (omega arith)
-  at_home (offer r x e _ _ _) z = absurd (omega arith)
-  at_home (back r x e _ _ _) z = absurd (omega arith)
+  at_home (offer r x e _ _ _ _) z = absurd (omega arith)
+  at_home (back r k x e _ _ _ _) z = absurd (omega arith)
   at_home (home_with_note_due r e _ _ _) z = absurd (omega arith)
   at_home (out_with_note_due r x e _ _ _) z = absurd (omega arith)
 
   pub at_out : WordMeans n p mine lent held → n ≡ 2 → (x : Out) × (p ≡ mine) × (lent ≡ Some x) × (held ≡ Some x)
   at_out (home e a b d) z = absurd (omega arith)
   at_out (out x e a b d) z = (x, a, b, d)
-  at_out (offer r x e _ _ _) z = absurd (omega arith)
-  at_out (back r x e _ _ _) z = absurd (omega arith)
+  at_out (offer r x e _ _ _ _) z = absurd (omega arith)
+  at_out (back r k x e _ _ _ _) z = absurd (omega arith)
   at_out (home_with_note_due r e _ _ _) z = absurd (omega arith)
   at_out (out_with_note_due r x e _ _ _) z = absurd (omega arith)
 
   pub at_offer : WordMeans n p mine lent held → n ≡ 1 → (r : Record) × (x : Out) × (p ≡ mine ++ r ∷ []) × (lent ≡ Some x) × (held ≡ None)
   at_offer (home e a b d) z = absurd (omega arith)
   at_offer (out x e a b d) z = absurd (omega arith)
-  at_offer (offer r x e a b d) z = (r, x, a, b, d)
-  at_offer (back r x e _ _ _) z = absurd (omega arith)
+  at_offer (offer r x e _ a b d) z = (r, x, a, b, d)
+  at_offer (back r k x e _ _ _ _) z = absurd (omega arith)
   at_offer (home_with_note_due r e _ _ _) z = absurd (omega arith)
   at_offer (out_with_note_due r x e _ _ _) z = absurd (omega arith)
 
   pub at_back : WordMeans n p mine lent held → n ≡ 3 → (r : Record) × (x : Out) × (mine ≡ p ++ r ∷ []) × (lent ≡ Some x) × (held ≡ None)
   at_back (home e a b d) z = absurd (omega arith)
   at_back (out x e a b d) z = absurd (omega arith)
-  at_back (offer r x e a b d) z = absurd (omega arith)
-  at_back (back r x e a b d) z = (r, x, a, b, d)
+  at_back (offer r x e _ a b d) z = absurd (omega arith)
+  at_back (back r k x e _ a b d) z = (r, x, a, b, d)
   at_back (home_with_note_due r e _ _ _) z = absurd (omega arith)
   at_back (out_with_note_due r x e _ _ _) z = absurd (omega arith)
 
@@ -77,8 +79,8 @@ module _ (v : Knowledge) (x : Announcement) (both : IsJoined v) where
     lent = λ b _. ap (λ (k : List (Option Out)). lent_to k b) l;
   }
 
-  pub offers : x.record.actor ≡ v.actor → (y : Out) → value_of_shown x.lent ≡ Some y → v.actor < length v.lent → v.phase ≡ 0 → JoinedFacts v → (v.phase ≡ 0) × ((view_after_offer v x).phase ≡ 1) × ChangesOneActor v (view_after_offer v x) × JoinedFacts (view_after_offer v x)
-  offers mine y lent room z own =
+  pub offers : x.record.actor ≡ v.actor → x.record.event ≡ Take → (y : Out) → value_of_shown x.lent ≡ Some y → v.actor < length v.lent → v.phase ≡ 0 → JoinedFacts v → (v.phase ≡ 0) × ((view_after_offer v x).phase ≡ 1) × ChangesOneActor v (view_after_offer v x) × JoinedFacts (view_after_offer v x)
+  offers mine take y lent room z own =
       let t = at_home own.word z in (
         z,
         refl,
@@ -91,7 +93,7 @@ module _ (v : Knowledge) (x : Announcement) (both : IsJoined v) where
         record {
           seen = longer v.seen v.history x.record own.seen;
           known = own.known;
-          word = offer x.record y refl (part_own v.actor v.history x.record mine ∙ ap (λ (l : List Record). l ++ x.record ∷ []) t.0)
+          word = offer x.record y refl take (part_own v.actor v.history x.record mine ∙ ap (λ (l : List Record). l ++ x.record ∷ []) t.0)
               (get_or-set_same v.lent v.actor (value_of_shown x.lent) None room ∙ lent) t.2;
         },
       )
@@ -111,8 +113,8 @@ module _ (v : Knowledge) (x : Announcement) (both : IsJoined v) where
         },
       )
 
-  pub returns : v.phase ≡ 2 → JoinedFacts v → (v.phase ≡ 2) × ((view_after_return v x).phase ≡ 3) × ChangesOneActor v (view_after_return v x) × JoinedFacts (view_after_return v x)
-  returns z own =
+  pub returns : (k : ℕ) → x.record.event ≡ Back k → v.phase ≡ 2 → JoinedFacts v → (v.phase ≡ 2) × ((view_after_return v x).phase ≡ 3) × ChangesOneActor v (view_after_return v x) × JoinedFacts (view_after_return v x)
+  returns k is z own =
       let t = at_out own.word z in (
         z,
         refl,
@@ -120,7 +122,7 @@ module _ (v : Knowledge) (x : Announcement) (both : IsJoined v) where
         record {
           seen = own.seen;
           known = longer (part_of v.seen v.actor) v.mine x.record own.known;
-          word = back x.record t.0 refl (ap (λ (l : List Record). l ++ x.record ∷ []) (sym t.1)) t.2 refl;
+          word = back x.record k t.0 refl is (ap (λ (l : List Record). l ++ x.record ∷ []) (sym t.1)) t.2 refl;
         },
       )
 
@@ -147,8 +149,8 @@ module _ (v : Knowledge) (x : Announcement) (both : IsJoined v) where
   rec_word : x.record.actor ≡ v.actor → (v.phase ≡ word_at_rest v.held) → WordMeans v.phase (part_of v.history v.actor) v.mine (lent_to v.lent v.actor) v.held → WordMeans (v.phase + 4) (part_of (v.history ++ x.record ∷ []) v.actor) v.mine (lent_to v.lent v.actor) v.held
   rec_word mine z (home e a b d) = home_with_note_due x.record (omega arith) (part_own v.actor v.history x.record mine ∙ ap (λ (l : List Record). l ++ x.record ∷ []) a) b d
   rec_word mine z (out y e a b d) = out_with_note_due x.record y (omega arith) (part_own v.actor v.history x.record mine ∙ ap (λ (l : List Record). l ++ x.record ∷ []) a) b d
-  rec_word mine z (offer r y e a b d) = let s : v.phase ≡ 0 = z ∙ ap word_at_rest d in absurd (omega arith)
-  rec_word mine z (back r y e a b d) = let s : v.phase ≡ 0 = z ∙ ap word_at_rest d in absurd (omega arith)
+  rec_word mine z (offer r y e _ a b d) = let s : v.phase ≡ 0 = z ∙ ap word_at_rest d in absurd (omega arith)
+  rec_word mine z (back r k y e _ a b d) = let s : v.phase ≡ 0 = z ∙ ap word_at_rest d in absurd (omega arith)
   rec_word mine z (home_with_note_due r e a b d) = let s : v.phase ≡ 0 = z ∙ ap word_at_rest d in absurd (omega arith)
   rec_word mine z (out_with_note_due r y e a b d) = let s : v.phase ≡ 2 = z ∙ ap word_at_rest d in absurd (omega arith)
 
@@ -173,8 +175,8 @@ module _ (v : Knowledge) (x : Announcement) (both : IsJoined v) where
   note_word : (v.phase ≡ word_at_rest v.held) ⊎ (v.phase ≡ word_at_rest v.held + 4) → WordMeans v.phase (part_of v.history v.actor) v.mine (lent_to v.lent v.actor) v.held → WordMeans (word_at_rest v.held) (part_of v.history v.actor) (part_of v.history v.actor) (lent_to v.lent v.actor) v.held
   note_word z (home e a b d) = home (ap word_at_rest d) refl b d
   note_word z (out y e a b d) = out y (ap word_at_rest d) refl b d
-  note_word z (offer r y e a b d) = let s : word_at_rest v.held ≡ 0 = ap word_at_rest d in absurd (⊎_elim (λ (t : v.phase ≡ word_at_rest v.held). omega arith) (λ (t : v.phase ≡ word_at_rest v.held + 4). omega arith) z)
-  note_word z (back r y e a b d) = let s : word_at_rest v.held ≡ 0 = ap word_at_rest d in absurd (⊎_elim (λ (t : v.phase ≡ word_at_rest v.held). omega arith) (λ (t : v.phase ≡ word_at_rest v.held + 4). omega arith) z)
+  note_word z (offer r y e _ a b d) = let s : word_at_rest v.held ≡ 0 = ap word_at_rest d in absurd (⊎_elim (λ (t : v.phase ≡ word_at_rest v.held). omega arith) (λ (t : v.phase ≡ word_at_rest v.held + 4). omega arith) z)
+  note_word z (back r k y e _ a b d) = let s : word_at_rest v.held ≡ 0 = ap word_at_rest d in absurd (⊎_elim (λ (t : v.phase ≡ word_at_rest v.held). omega arith) (λ (t : v.phase ≡ word_at_rest v.held + 4). omega arith) z)
   note_word z (home_with_note_due r e a b d) = home (ap word_at_rest d) refl b d
   note_word z (out_with_note_due r y e a b d) = out y (ap word_at_rest d) refl b d
 

@@ -17,6 +17,7 @@ use lib.ListN.{get_elem?}
 use Rattle.atomic_table.specs.Table.{Me, Step}
 use Rattle.mx_machine_world.specs.History.{part_of}
 use Rattle.mx_machine_world.specs.declared.history.Record.{Record}
+use Rattle.mx_machine_world.specs.declared.history.Recorded.TheVariants.{Take, Back}
 use Rattle.mx_machine_world.specs.declared.holding.Out.{Out}
 use Rattle.mx_loan_shown.specs.declared.shown.Shown.{Shown}
 use Rattle.mx_loan_rule.specs.declared.knowledge.Knowledge.{Knowledge}
@@ -27,26 +28,49 @@ use Rattle.mx_loan_rule.specs.declared.knowledge.TableSizes.{TableSizes}
 abbrev pub lent_to : List (Option Out) → ℕ → Option Out
 lent_to lent a = slice_index_or lent a None
 
+-- ---- the words
+
+abbrev pub at_home : ℕ
+at_home = 0
+
+abbrev pub offered : ℕ
+offered = 1
+
+abbrev pub lent_out : ℕ
+lent_out = 2
+
+abbrev pub brought_back : ℕ
+brought_back = 3
+
+-- at home, or lent out, and a record awaits the actor's note
+abbrev pub home_with_note : ℕ
+home_with_note = 4
+
+abbrev pub out_with_note : ℕ
+out_with_note = 6
+
 -- ---- halves: what a seat knows as the kernel's, and as an actor's
 
 -- it knows nothing
 abbrev pub spent_view : Knowledge
 spent_view = record { knows = false; history = []; lent = []; sits = false; actor = 0; mine = []; seen = []; held = None; founding = false; made = 0; actors = 0; phase = 0 }
 
+-- the kernel's half: the history, and what is lent
 abbrev pub kernel_half : Knowledge → Knowledge
-kernel_half v = record { knows = true; history = v.history; lent = v.lent; sits = false; actor = 0; mine = []; seen = []; held = None; founding = false; made = 0; actors = 0; phase = 0 }
+kernel_half v = record spent_view { knows = true; history = v.history; lent = v.lent }
 
+-- an actor's half: its own records, what it has seen, and what it holds
 abbrev pub actor_half : Knowledge → Knowledge
-actor_half v = record { knows = false; history = []; lent = []; sits = true; actor = v.actor; mine = v.mine; seen = v.seen; held = v.held; founding = false; made = 0; actors = 0; phase = 0 }
+actor_half v = record spent_view { sits = true; actor = v.actor; mine = v.mine; seen = v.seen; held = v.held }
 
 -- the word of an actor between two calls
 abbrev pub word_at_rest : Option Out → ℕ
-word_at_rest None = 0
-word_at_rest (Some x) = 2
+word_at_rest None = at_home
+word_at_rest (Some x) = lent_out
 
--- both halves in one seat, for a call
+-- both halves in one seat, for a call: that of k as the kernel's, and that of v as an actor's
 abbrev pub joined_view : Knowledge → Knowledge → Knowledge
-joined_view k v = record { knows = true; history = k.history; lent = k.lent; sits = true; actor = v.actor; mine = v.mine; seen = v.seen; held = v.held; founding = false; made = 0; actors = 0; phase = word_at_rest v.held }
+joined_view k v = record (actor_half v) { knows = true; history = k.history; lent = k.lent; phase = word_at_rest v.held }
 
 abbrev pub IsJoined : Knowledge → Type 0
 IsJoined v = (v.knows ≡ true) × (v.sits ≡ true) × (v.founding ≡ false)
@@ -58,30 +82,30 @@ sizes_of actors cpus = record { actors = actors; cpus = cpus }
 
 -- its first seat, before any actor has its own
 abbrev pub founder_view : TableSizes → Knowledge
-founder_view n = record { knows = true; history = []; lent = replicate n.cpus None; sits = false; actor = 0; mine = []; seen = []; held = None; founding = true; made = 0; actors = n.actors; phase = 0 }
+founder_view n = record spent_view { knows = true; lent = replicate n.cpus None; founding = true; actors = n.actors }
 
 abbrev pub founder_after_birth : Knowledge → Knowledge
 founder_after_birth v = record v { made = v.made + 1 }
 
 -- the seat of the next actor
 abbrev pub newborn_view : Knowledge → Knowledge
-newborn_view v = record { knows = false; history = []; lent = []; sits = true; actor = v.made; mine = []; seen = []; held = None; founding = false; made = 0; actors = 0; phase = 0 }
+newborn_view v = record spent_view { sits = true; actor = v.made }
 
 -- ---- THE RULE
 
 -- what the word n says of an actor: of its records in the history and those that it knows, and of what the kernel
 -- lends it and what it holds
 pub data WordMeans (n : ℕ) (all mine : List Record) (lent held : Option Out) : Type 0 where
-  home : n ≡ 0 → all ≡ mine → lent ≡ None → held ≡ None → WordMeans n all mine lent held
-  offer : (r : Record) (x : Out) → n ≡ 1 → all ≡ mine ++ r ∷ [] → lent ≡ Some x → held ≡ None → WordMeans n all mine lent held
-  out : (x : Out) → n ≡ 2 → all ≡ mine → lent ≡ Some x → held ≡ Some x → WordMeans n all mine lent held
-  back : (r : Record) (x : Out) → n ≡ 3 → mine ≡ all ++ r ∷ [] → lent ≡ Some x → held ≡ None → WordMeans n all mine lent held
-  home_with_note_due : (r : Record) → n ≡ 4 → all ≡ mine ++ r ∷ [] → lent ≡ None → held ≡ None → WordMeans n all mine lent held
-  out_with_note_due : (r : Record) (x : Out) → n ≡ 6 → all ≡ mine ++ r ∷ [] → lent ≡ Some x → held ≡ Some x → WordMeans n all mine lent held
+  home : n ≡ at_home → all ≡ mine → lent ≡ None → held ≡ None → WordMeans n all mine lent held
+  offer : (r : Record) (x : Out) → n ≡ offered → r.event ≡ Take → all ≡ mine ++ r ∷ [] → lent ≡ Some x → held ≡ None → WordMeans n all mine lent held
+  out : (x : Out) → n ≡ lent_out → all ≡ mine → lent ≡ Some x → held ≡ Some x → WordMeans n all mine lent held
+  back : (r : Record) (steps : ℕ) (x : Out) → n ≡ brought_back → r.event ≡ Back steps → mine ≡ all ++ r ∷ [] → lent ≡ Some x → held ≡ None → WordMeans n all mine lent held
+  home_with_note_due : (r : Record) → n ≡ home_with_note → all ≡ mine ++ r ∷ [] → lent ≡ None → held ≡ None → WordMeans n all mine lent held
+  out_with_note_due : (r : Record) (x : Out) → n ≡ out_with_note → all ≡ mine ++ r ∷ [] → lent ≡ Some x → held ≡ Some x → WordMeans n all mine lent held
 
--- between two calls a word is 0 or 2
+-- between two calls an actor is at home, or something is lent out to it
 abbrev pub IsResting : ℕ → Type 0
-IsResting n = (n ≡ 0) ⊎ (n ≡ 2)
+IsResting n = (n ≡ at_home) ⊎ (n ≡ lent_out)
 
 -- what the rule says of a view that has the kernel's half: it is the history and what is lent, and every word rests
 -- but that of an actor whose half is here too, which is its phase
@@ -136,19 +160,19 @@ value_of_shown (Some x) = Some x.value
 
 -- the kernel records that the actor takes a process, which it lends from then on
 abbrev pub view_after_offer : Knowledge → Announcement → Knowledge
-view_after_offer v x = record v { history = v.history ++ x.record ∷ []; lent = slice_set v.lent v.actor (value_of_shown x.lent); phase = 1 }
+view_after_offer v x = record v { history = v.history ++ x.record ∷ []; lent = slice_set v.lent v.actor (value_of_shown x.lent); phase = offered }
 
 -- the actor notes it, and holds what is lent
 abbrev pub view_after_take : Knowledge → Announcement → Knowledge
-view_after_take v x = record v { mine = v.mine ++ x.record ∷ []; seen = v.history; held = value_of_shown x.lent; phase = 2 }
+view_after_take v x = record v { mine = v.mine ++ x.record ∷ []; seen = v.history; held = value_of_shown x.lent; phase = lent_out }
 
 -- the actor notes that it brings the process back, and holds nothing
 abbrev pub view_after_return : Knowledge → Announcement → Knowledge
-view_after_return v x = record v { mine = v.mine ++ x.record ∷ []; held = None; phase = 3 }
+view_after_return v x = record v { mine = v.mine ++ x.record ∷ []; held = None; phase = brought_back }
 
 -- the kernel records it, and lends nothing
 abbrev pub view_after_close : Knowledge → Announcement → Knowledge
-view_after_close v x = record v { history = v.history ++ x.record ∷ []; lent = slice_set v.lent v.actor None; phase = 0 }
+view_after_close v x = record v { history = v.history ++ x.record ∷ []; lent = slice_set v.lent v.actor None; phase = at_home }
 
 -- the kernel records another event of the actor
 abbrev pub view_after_record : Knowledge → Announcement → Knowledge
@@ -161,14 +185,3 @@ view_after_note v x = record v { mine = part_of v.history v.actor; seen = v.hist
 -- a step makes the view what f gives of it and of what was announced
 abbrev pub StepMakes : (Knowledge → Announcement → Knowledge) → Step (Shown Announcement) → Me (Shown Announcement) Knowledge → ℕ → Me (Shown Announcement) Knowledge → Type 0
 StepMakes f s me n after = (x : Shown Announcement) × (s.said ≡ some x) × (after ≡ (f me.0 x.value, me.1)) × JoinedFacts me.0 × JoinedFacts (f me.0 x.value)
-
--- the history and what is lent change for one actor alone
-pub record ChangesOneActor (v w : Knowledge) : Type 0 where
-  pub actor : w.actor ≡ v.actor
-  pub both : IsJoined w
-  pub history : (e : List Record) × (w.history ≡ v.history ++ e) × ((b : ℕ) → b ≢ v.actor → part_of e b ≡ [])
-  pub lent : (b : ℕ) → b ≢ v.actor → lent_to w.lent b ≡ lent_to v.lent b
-
--- a step of this kind leads from one word to another
-abbrev pub StepFacts : Knowledge → Announcement → Knowledge → ℕ → ℕ → Type 0
-StepFacts v x w old new = (v.phase ≡ old) × (w.phase ≡ new) × ChangesOneActor v w × JoinedFacts w

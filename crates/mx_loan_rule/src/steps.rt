@@ -1,8 +1,10 @@
 //! The steps on the table, each with its contract on the view that has both halves.
 
-ghost use Rattle.std.specs.Prelude.{◌≡◌, ◌<◌, ◌+◌, ◌++◌, ◌∷◌, ◌⊎◌, List, [], length, true, Some, IfOk, replicate};
+ghost use Rattle.std.specs.Prelude.{◌≡◌, ℕ, ◌<◌, ◌+◌, ◌++◌, ◌∷◌, ◌⊎◌, List, [], length, true, Some, IfOk, replicate};
 ghost use Rattle.mx_machine_world.specs.declared.history.Record.{Record};
+ghost use Rattle.mx_machine_world.specs.declared.history.Recorded.TheVariants as recorded;
 ghost use Rattle.mx_machine_world.specs.declared.holding.Out.{Out};
+ghost use Rattle.mx_loan_rule.specs.Rule.{at_home, offered, lent_out, brought_back};
 ghost use Rattle.mx_loan_rule.specs.Rule.{lent_to, joined_view, kernel_half, actor_half, word_at_rest, founder_view, sizes_of};
 ghost use Rattle.mx_loan_rule.specs.Rule.{founder_after_birth, newborn_view, value_of_shown, IsJoined, JoinedFacts};
 ghost use Rattle.mx_loan_rule.specs.Rule.{view_after_offer, view_after_take, view_after_return};
@@ -56,9 +58,10 @@ pub fn offer(board: &ActorTable, both: &mut TableSeat, said: &Announcement)
     requires word { both.old.me.0.actor < board.now.shared.table_id.words }
     requires joined { IsJoined both.old.me.0 }
     requires own_record { said.now.record.actor ≡ both.old.me.0.actor }
+    requires own_take { said.now.record.event ≡ recorded.Take }
     requires lends { (y : Out) × (value_of_shown said.now.lent ≡ Some y) }
     requires room { both.old.me.0.actor < length both.old.me.0.lent }
-    requires home { both.old.me.0.phase ≡ 0 }
+    requires home { both.old.me.0.phase ≡ at_home }
     ensures table { both.new.table_id ≡ both.old.table_id }
     ensures me { both.new.me ≡ (view_after_offer both.old.me.0 said.now, both.old.me.1) }
     ensures own { JoinedFacts both.old.me.0 × JoinedFacts both.new.me.0 }
@@ -78,7 +81,7 @@ pub fn take(board: &ActorTable, both: &mut TableSeat, said: &Announcement)
     requires own_record { said.now.record.actor ≡ both.old.me.0.actor }
     requires last { (h : List Record) × (both.old.me.0.history ≡ h ++ said.now.record ∷ []) }
     requires lent { value_of_shown said.now.lent ≡ lent_to both.old.me.0.lent both.old.me.0.actor }
-    requires offered { both.old.me.0.phase ≡ 1 }
+    requires offered { both.old.me.0.phase ≡ offered }
     ensures table { both.new.table_id ≡ both.old.table_id }
     ensures me { both.new.me ≡ (view_after_take both.old.me.0 said.now, both.old.me.1) }
     ensures own { JoinedFacts both.old.me.0 × JoinedFacts both.new.me.0 }
@@ -96,7 +99,8 @@ pub fn bring_back(board: &ActorTable, both: &mut TableSeat, said: &Announcement)
     requires word { both.old.me.0.actor < board.now.shared.table_id.words }
     requires joined { IsJoined both.old.me.0 }
     requires own_record { said.now.record.actor ≡ both.old.me.0.actor }
-    requires out { both.old.me.0.phase ≡ 2 }
+    requires own_back { (steps : ℕ) × (said.now.record.event ≡ recorded.Back steps) }
+    requires out { both.old.me.0.phase ≡ lent_out }
     ensures table { both.new.table_id ≡ both.old.table_id }
     ensures me { both.new.me ≡ (view_after_return both.old.me.0 said.now, both.old.me.1) }
     ensures own { JoinedFacts both.old.me.0 × JoinedFacts both.new.me.0 }
@@ -115,7 +119,7 @@ pub fn close(board: &ActorTable, both: &mut TableSeat, said: &Announcement)
     requires joined { IsJoined both.old.me.0 }
     requires own_record { said.now.record.actor ≡ both.old.me.0.actor }
     requires last { (m : List Record) × (both.old.me.0.mine ≡ m ++ said.now.record ∷ []) }
-    requires returned { both.old.me.0.phase ≡ 3 }
+    requires returned { both.old.me.0.phase ≡ brought_back }
     ensures table { both.new.table_id ≡ both.old.table_id }
     ensures me { both.new.me ≡ (view_after_close both.old.me.0 said.now, both.old.me.1) }
     ensures own { JoinedFacts both.old.me.0 × JoinedFacts both.new.me.0 }

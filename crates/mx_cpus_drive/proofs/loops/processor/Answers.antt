@@ -23,5 +23,5 @@ returns g c = elim c.match-next.branch [
   | in-Some+in-Err+then-not-again w ↦
       let made = turns_if_refused g.M.Naming.boot c.args.seat c.loop.seat w.take-next.result.0 w.take-next.result.1 _ w.in-Err.is c.loop.invariant w.take-next.ensures.err in
       subst (HasMadeTurns c.args.seat) (sym w.seat-is)
-      (turns_seen c.args.seat w.take-next.result.0 w.at_rest-next.result.0 made w.at_rest-next.ensures.follows w.at_rest-next.ensures.same)
+      (turns_seen c.args.seat w.take-next.result.0 w.at_rest-next.result.0 made w.at_rest-next.ensures.follows (w.at_rest-next.ensures.mine, w.at_rest-next.ensures.held))
 ]

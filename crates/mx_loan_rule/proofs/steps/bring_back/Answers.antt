@@ -1,7 +1,8 @@
 use Rattle.std.proofs.Common.{sym, subst, arith}
 use Rattle.mx_loan_rule.proofs.Moves.{allows_at}
 use Rattle.mx_loan_rule.proofs.SixSteps.{returns}
-use Rattle.mx_loan_rule.specs.Rule.{JoinedFacts, StepFacts, view_after_return}
+use Rattle.mx_loan_rule.specs.Rule.{JoinedFacts, view_after_return}
+use Rattle.mx_loan_rule.proofs.Changes.{StepFacts}
 use Rattle.mx_loan_rule.specs.declared.knowledge.Announcement.{Announcement}
 use Rattle.mx_loan_rule.proofs.steps.bring_back.Goals as goal
 
@@ -11,4 +12,4 @@ compare_exchange_with-requires c =
     let x = c.args.said.now in
     let y = c.of-told.result in
     let r = c.requires in
-    (r.table, omega arith, allows_at view_after_return _ _ v _ 2 3 y _ r.own_record r.joined (subst (λ (z : Announcement). JoinedFacts v → StepFacts v z (view_after_return v z) 2 3) (sym c.of-told.ensures) (returns v x r.joined r.out)))
+    (r.table, omega arith, allows_at view_after_return _ _ v _ 2 3 y _ r.own_record r.joined (subst (λ (z : Announcement). JoinedFacts v → StepFacts v z (view_after_return v z) 2 3) (sym c.of-told.ensures) (returns v x r.joined r.own_back.0 r.own_back.1 r.out)))

@@ -1,7 +1,8 @@
 use Rattle.std.proofs.Common.{sym, subst, arith}
 use Rattle.mx_loan_rule.proofs.Moves.{allows_at}
 use Rattle.mx_loan_rule.proofs.SixSteps.{offers}
-use Rattle.mx_loan_rule.specs.Rule.{JoinedFacts, StepFacts, view_after_offer}
+use Rattle.mx_loan_rule.specs.Rule.{JoinedFacts, view_after_offer}
+use Rattle.mx_loan_rule.proofs.Changes.{StepFacts}
 use Rattle.mx_loan_rule.specs.declared.knowledge.Announcement.{Announcement}
 use Rattle.mx_loan_rule.proofs.steps.offer.Goals as goal
 
@@ -11,4 +12,4 @@ compare_exchange_with-requires c =
     let x = c.args.said.now in
     let y = c.of-told.result in
     let r = c.requires in
-    (r.table, omega arith, allows_at view_after_offer _ _ v _ 0 1 y _ r.own_record r.joined (subst (λ (z : Announcement). JoinedFacts v → StepFacts v z (view_after_offer v z) 0 1) (sym c.of-told.ensures) (offers v x r.joined r.own_record r.lends.0 r.lends.1 r.room r.home)))
+    (r.table, omega arith, allows_at view_after_offer _ _ v _ 0 1 y _ r.own_record r.joined (subst (λ (z : Announcement). JoinedFacts v → StepFacts v z (view_after_offer v z) 0 1) (sym c.of-told.ensures) (offers v x r.joined r.own_record r.own_take r.lends.0 r.lends.1 r.room r.home)))

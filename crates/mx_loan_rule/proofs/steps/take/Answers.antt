@@ -1,7 +1,8 @@
 use Rattle.std.proofs.Common.{sym, subst, arith}
 use Rattle.mx_loan_rule.proofs.Moves.{allows_at}
 use Rattle.mx_loan_rule.proofs.SixSteps.{takes}
-use Rattle.mx_loan_rule.specs.Rule.{JoinedFacts, StepFacts, view_after_take}
+use Rattle.mx_loan_rule.specs.Rule.{JoinedFacts, view_after_take}
+use Rattle.mx_loan_rule.proofs.Changes.{StepFacts}
 use Rattle.mx_loan_rule.specs.declared.knowledge.Announcement.{Announcement}
 use Rattle.mx_loan_rule.proofs.steps.take.Goals as goal
 

@@ -24,4 +24,4 @@ returns-clause-stands g c =
     let n : vec_len c.args.seats ≡ length c.args.seats.items = search rules in
     let t = YieldsList-end (YieldsList-from_vec c.args.seats.items w.0 (w.1 ∙ n)) c.loop-seat.yielded c.loop-seat.seat-iterator c.loop-seat.yielded_by c.next.result c.next.new.self c.in-None.is c.next.ensures.steps in
     let e : c.loop-seat.yielded ≡ c.args.seats.items = sym (map_fixed (λ y. y) c.loop-seat.yielded (λ k d h. refl)) ∙ t.0 in
-    subst (λ (l : List SeatView). All (λ s. StandsIn c.into_kernel.result.history s) l) e (rw c.into_kernel.ensures.kernel c.loop-seat.invariant.1)
+    subst (λ (l : List SeatView). All (λ s. StandsIn c.into_kernel-kernel.result.history s) l) e (rw c.into_kernel-kernel.ensures.kernel c.loop-seat.invariant.1)

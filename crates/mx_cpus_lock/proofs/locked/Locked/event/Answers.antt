@@ -3,9 +3,8 @@ use Rattle.mx_machine_world.specs.History.{replay}
 use Rattle.mx_machine_world.specs.World.{actors}
 use Rattle.mx_machine_kernel.specs.KernelState.{recorded_as}
 use Rattle.mx_loan.specs.Seats.{SeatView}
-use Rattle.mx_cpus_lock.specs.Calls.{IsAnswer}
-use Rattle.mx_cpus_lock.proofs.WorldLemmas.{actor_there}
-use Rattle.mx_cpus_lock.proofs.SeatLemmas.{accepted_by, answer_by, known_by, seat_of_event}
+use Rattle.mx_cpus_lock.proofs.WorldLemmas.{actor_there, for_all_answer}
+use Rattle.mx_cpus_lock.proofs.SeatLemmas.{accepted_by, known_by, refused_by, seat_of_event}
 use Rattle.mx_cpus_lock.proofs.locked.Locked.event.Goals as goal
 
 pub event-requires-clause-actor : goal.event-requires-clause-actor
@@ -28,5 +27,10 @@ returns-in-Ok-clause-ok g c =
     let known = known_by z k d s is c.note-seat.ensures.known in
     let who = c.actor.ensures ∙ ap (λ (x : SeatView). x.actor) c.note-seat.ensures.seat in
     let now = seat_of_event z k d c.note-seat.new.self c.record.new.self s c.note-seat.result c.record.result c.recorded_as.result (recorded_as c.args.event) is c.note-seat.ensures.seat c.note-seat.ensures.desk c.record.ensures.desk c.record.ensures.seat c.recorded_as.ensures in
-    accepted_by g.M.Naming.boot k c.event.new.self s c.record.result c.actor.result (recorded_as c.args.event) s.held (IsAnswer s.actor c.args.event c.in-Ok.answer) c.self.invariant.0 known.0 known.1 who
-    ok.1.recorded now c.opened-in-Ok.ensures.accepted (answer_by (replay k) c.actor.result s.actor c.args.event c.in-Ok.answer ok.0 who)
+    accepted_by g.M.Naming.boot k c.event.new.self s c.record.result c.actor.result (recorded_as c.args.event) s.held (λ w x. x ≡ c.in-Ok.answer) c.self.invariant.0 known.0 known.1 who
+    ok.1.recorded now c.opened-in-Ok.ensures.accepted (for_all_answer (replay k) c.actor.result c.args.event c.requires.event ∙ sym ok.0)
+
+pub returns-in-Err-clause-err : goal.returns-in-Err-clause-err
+returns-in-Err-clause-err g c =
+    refused_by g.M.Naming.boot g.M.Naming.table c.self.inside.kernel c.self.inside.desk c.args.seat c.note-seat.result c.actor.result c.args.event c.in-Err.refusal c.self.invariant.0 c.self.invariant.2
+    c.note-seat.ensures.known c.note-seat.ensures.seat c.actor.ensures c.opened-2.ensures.accepted c.in-Err.ensures.err.0

@@ -2,11 +2,13 @@ use Rattle.std.proofs.Common.{◌≡◌, ◌∙◌, Some, None, sym, ap, subst}
 use Rattle.mx_machine_world.specs.History.{replay, with_record}
 use Rattle.mx_machine_world.specs.Held.{IsBack}
 use Rattle.mx_machine_world.specs.World.{HeldProcess, held_by}
+use Rattle.mx_machine_world.specs.declared.events.Answer.TheVariants.{Returned}
 use Rattle.mx_machine_world.specs.declared.holding.Out.{Out}
 use Rattle.mx_machine_world.specs.declared.history.Recorded.TheVariants as recorded
 use Rattle.mx_loan_rule.specs.Rule.{lent_to}
 use Rattle.mx_loan.specs.Seats.{DeskView}
-use Rattle.mx_cpus_lock.proofs.WorldLemmas.{back_there}
+use Rattle.mx_cpus_lock.specs.Calls.{outs_of}
+use Rattle.mx_cpus_lock.proofs.WorldLemmas.{back_answered, back_there, lent_there}
 use Rattle.mx_cpus_lock.proofs.SeatLemmas.{accepted_by, desk_after_give, known_by, seat_of_back}
 use Rattle.mx_cpus_lock.proofs.locked.Locked.give.Goals as goal
 
@@ -35,13 +37,19 @@ pub returns : goal.returns
 returns g c =
     let z = g.M.Naming.table in
     let k = c.self.inside.kernel in
+    let w = replay k in
     let d = c.self.inside.desk in
     let s = c.args.seat in
     let n = c.args.loan.out.count in
+    let who = c.actor-actor.ensures in
     let count = ap (λ (o : Out). o.count) c.redeem-seat.ensures.out in
     let known = known_by z k d s c.self.invariant.2 c.redeem-seat.ensures.known in
-    accepted_by g.M.Naming.boot k c.back.new.self s c.redeem-seat.result.0 c.actor-actor.result (recorded.Back n) None (λ w. Unit {0}) c.self.invariant.0
-    known.0 known.1 c.actor-actor.ensures
+    let lent = ap (λ (y : DeskView). lent_to y.lent s.actor) (sym c.self.invariant.2) ∙ c.redeem-seat.ensures.start in
+    let h = back_there w s.actor c.args.loan.lent c.redeem-seat.result.1 lent c.redeem-seat.ensures.run in
+    let none : h.0.out.count ≡ 0 = ap (λ (o : Out). o.count) (lent_there w s.actor c.args.loan.lent h.0 lent h.1) ∙ c.redeem-seat.ensures.fresh.0 in
+    accepted_by g.M.Naming.boot k c.back.new.self s c.redeem-seat.result.0 c.actor-actor.result (recorded.Back n) None
+    (λ u answer. (answer ≡ Returned n) × (lent_to (outs_of u) s.actor ≡ Some c.args.loan.lent)) c.self.invariant.0
+    known.0 known.1 who
     (c.back.ensures.recorded ∙ ap (λ i. with_record k c.actor-actor.result (recorded.Back i)) count)
     (seat_of_back z k d c.redeem-seat.new.self s c.redeem-seat.result.0 n c.self.invariant.2 c.redeem-seat.ensures.desk c.redeem-seat.ensures.seat)
-    c.opened.ensures.accepted tt
+    c.opened.ensures.accepted (back_answered w c.actor-actor.result n h.0 (ap (held_by w) who ∙ h.1) none, lent)
