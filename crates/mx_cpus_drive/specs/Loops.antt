@@ -28,7 +28,7 @@ ticks_among (_ ∷ es) = ticks_among es
 
 -- ---- loops
 
--- A PROCESSOR'S LOOP took the seat s and gave the seat t: it has seen no less, holds nothing, and its own records are
+-- A processor's loop took the seat s and gave the seat t: it has seen no less, holds nothing, and its own records are
 -- longer by turns, each a take and a return, and by nothing else.
 pub record HasMadeTurns (s t : SeatView) : Type 0 where
   pub follows : Follows s t
@@ -36,11 +36,11 @@ pub record HasMadeTurns (s t : SeatView) : Type 0 where
   pub counts : List ℕ
   pub mine : t.mine ≡ s.mine ++ turns_of s.actor counts
 
--- THE RESPAWNER'S LOOP took the seat s and gave the seat t: its own records are longer by ticks, at most n, and by
--- respawns, and by nothing else.
+-- The respawner's loop took the seat s and gave the seat t: it holds what it held, and its own records are longer by
+-- ticks, at most n, and by respawns, and by nothing else.
 pub record HasTickedAndRespawned (n : ℕ) (s t : SeatView) : Type 0 where
   pub follows : Follows s t
-  pub empty : t.held ≡ None
+  pub held : t.held ≡ s.held
   pub events : List Recorded
   pub only : AreTicksAndRespawns events
   pub few : ticks_among events ≤ n

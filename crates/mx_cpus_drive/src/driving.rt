@@ -1,29 +1,37 @@
 //! A thread for each processor, and one for the respawner.
 
-ghost use Rattle.std.specs.Prelude.{◌≡◌, ◌≤◌, None, IfOk, OnOk, All, length, vec_capacity, vec_len};
+ghost use Rattle.std.specs.Prelude.{◌≡◌, ◌≤◌, None, IfOk, OnErr, OnOk, All, length, vec_capacity, vec_len};
+ghost use Rattle.mx_cpus_drive.specs.Gates.{ended_call};
+ghost use Rattle.mx_cpus_drive.specs.Courses.{AreServed, IsServed};
 ghost use Rattle.mx_cpus_drive.specs.Loops.{AreDriven, IsDriven};
 
 use crate::gate::Gate;
-use crate::loops::{processor, respawner};
+use crate::loops::{make_rounds, make_turns};
+use crate::side::{Door, FreeSide};
 use mx_cpus::{ActorSeat, Naming, Shared};
 use mx_loan_shown::Shown;
 use mx_word::NoMemory;
+use std::marker::PhantomData;
 use std::sync::Wait;
 use std::thread;
 use std::thread::{Promise, PromisedHandle, Scope, Threads};
 
-/// What a thread promises of its seat, by the one that it was started with.
+/// What a thread promises of its seat, by the one that it was started with, and of its gate.
 #[derive(Drop)]
-struct Follower {
+struct Follower<M: Naming, G: Gate> {
     from: Shown<ActorSeat>,
+    gate: Shown<G>,
     cpus: u8,
     ticks: u32,
+    of: PhantomData<M>,
 }
 
-impl Promise<ActorSeat> for Follower {
+impl<M: Naming, G: Gate> Promise<ActorSeat> for Follower<M, G> {
+    ghost use Rattle.mx_cpus_drive.specs.Courses.{IsServed};
     ghost use Rattle.mx_cpus_drive.specs.Loops.{IsDriven};
 
-    ghost kept_by = { λ p s. IsDriven p.cpus p.ticks p.from.value s };
+    ghost kept_by = { λ p s. IsDriven p.cpus p.ticks p.from.value s
+        × IsServed M.boot (G.was_called p.gate.value) p.cpus p.ticks p.from.value s };
 }
 
 /// What the threads of a machine share.
@@ -35,7 +43,7 @@ struct ThreadContext<'s, M: Naming, G: Gate, R: Wait> {
     ticks: u32,
 }
 
-/// The loop of an actor: a processor's, or the respawner's.
+/// The loop of an actor: a processor's, or the respawner's. At its end the gate is told.
 fn serve<M: Naming, G: Gate, R: Wait>(
     rt: &R,
     shared: &Shared<M>,
@@ -46,29 +54,34 @@ fn serve<M: Naming, G: Gate, R: Wait>(
     requires table { seat.table ≡ M.table }
     requires empty { seat.held ≡ None }
     requires actor { seat.actor ≤ length M.boot.cpus }
-    ensures { IsDriven (length M.boot.cpus) ticks seat result }
+    ensures driven { IsDriven (length M.boot.cpus) ticks seat result }
+    ensures served { IsServed M.boot (G.was_called gate.now) (length M.boot.cpus) ticks seat result }
 {
+    let door = Door::new(gate);
     let actor = seat.actor();
-    let seat = if actor < shared.cpus() {
-        processor(rt, shared, seat, gate)
+    let side = FreeSide::new(actor);
+    let (seat, side) = if actor < shared.cpus() {
+        make_turns(rt, shared, seat, &door, side)
     } else {
-        respawner(rt, shared, seat, gate, ticks)
+        make_rounds(rt, shared, seat, &door, side, ticks)
     };
-    gate.ended(actor);
+    side.ended(&door);
     seat
 }
 
-/// Starts a thread with the loop of an actor.
+/// Starts a thread with the loop of an actor. If none can be made, the gate is told that the loop has ended.
 fn start<'s, E, M: Naming + Send + Sync, G: Gate + Sync, R: Wait + Sync>(
     scope: &Scope<'s, E>,
     context: &ThreadContext<'s, M, G, R>,
     seat: ActorSeat,
-) -> Result<PromisedHandle<ActorSeat, Follower>, NoMemory>
+) -> Result<PromisedHandle<ActorSeat, Follower<M, G>>, NoMemory>
     requires table { seat.table ≡ M.table }
     requires empty { seat.held ≡ None }
     requires actor { seat.actor ≤ length M.boot.cpus }
-    ensures { IfOk result (λ h. (h.promise.from.value ≡ seat)
+    ensures ok { IfOk result (λ h. (h.promise.from.value ≡ seat)
+        × (h.promise.gate.value ≡ context.now.gate.now)
         × (h.promise.cpus ≡ length M.boot.cpus) × (h.promise.ticks ≡ context.now.ticks)) }
+    ensures told { OnErr result (G.was_called context.now.gate.now (ended_call seat.actor)) }
 {
     let ThreadContext {
         rt,
@@ -79,12 +92,15 @@ fn start<'s, E, M: Naming + Send + Sync, G: Gate + Sync, R: Wait + Sync>(
     let actor = seat.actor();
     let promise = Follower {
         from: Shown::of(&seat),
+        gate: Shown::of(gate),
         cpus: shared.cpus(),
         ticks,
+        of: PhantomData,
     };
     let job = move || -> ActorSeat
         requires { (seat.table ≡ M.table) × (seat.held ≡ None) × (seat.actor ≤ length M.boot.cpus) }
-        ensures { IsDriven (length M.boot.cpus) ticks seat result }
+        ensures driven { IsDriven (length M.boot.cpus) ticks seat result }
+        ensures served { IsServed M.boot (G.was_called gate.entry.now) (length M.boot.cpus) ticks seat result }
     { serve(rt, shared, seat, gate, ticks) };
     match scope.spawn_with(promise, job) {
         Ok(handle) => Ok(handle),
@@ -108,6 +124,10 @@ fn drive_all<'s, E, M: Naming + Send + Sync, G: Gate + Sync, R: Threads + Wait +
     requires empties { All (λ s. s.held ≡ None) seats.old.items }
     ensures driven { OnOk result
         (AreDriven (length M.boot.cpus) context.now.ticks seats.old.items seats.new.items) }
+    ensures served { OnOk result (AreServed M.boot (G.was_called context.now.gate.now)
+        (length M.boot.cpus) context.now.ticks seats.old.items seats.new.items) }
+    ensures told { All (λ s. s.actor ≤ length M.boot.cpus
+        → G.was_called context.now.gate.now (ended_call s.actor)) seats.old.items }
     ensures tables { OnOk result (All (λ s. s.table ≡ M.table) seats.new.items) }
     ensures len { OnOk result (vec_len seats.new ≡ vec_len seats.old) }
     ensures room { vec_capacity seats.new ≡ vec_capacity seats.old }
@@ -143,6 +163,10 @@ pub fn drive<M: Naming + Send + Sync, G: Gate + Sync, R: Threads + Wait + Sync>(
     requires tables { All (λ s. s.table ≡ M.table) seats.items }
     requires empties { All (λ s. s.held ≡ None) seats.items }
     ensures driven { IfOk result (λ v. AreDriven (length M.boot.cpus) ticks seats.items v.items) }
+    ensures served { IfOk result (λ v. AreServed M.boot (G.was_called gate.now)
+        (length M.boot.cpus) ticks seats.items v.items) }
+    ensures told { All (λ s. s.actor ≤ length M.boot.cpus
+        → G.was_called gate.now (ended_call s.actor)) seats.items }
     ensures tables { IfOk result (λ v. All (λ s. s.table ≡ M.table) v.items) }
 {
     thread::scope(
@@ -153,6 +177,10 @@ pub fn drive<M: Naming + Send + Sync, G: Gate + Sync, R: Threads + Wait + Sync>(
             requires empties { All (λ s. s.held ≡ None) seats.items }
             ensures driven { IfOk result (λ v.
                 AreDriven (length M.boot.cpus) ticks seats.items v.items) }
+            ensures served { IfOk result (λ v. AreServed M.boot (G.was_called gate.entry.now)
+                (length M.boot.cpus) ticks seats.items v.items) }
+            ensures told { All (λ s. s.actor ≤ length M.boot.cpus
+                → G.was_called gate.entry.now (ended_call s.actor)) seats.items }
             ensures tables { IfOk result (λ v. All (λ s. s.table ≡ M.table) v.items) }
         {
             let mut seats = seats;

@@ -4,6 +4,8 @@
 mod driving;
 mod gate;
 mod loops;
+mod progress;
+mod side;
 
 pub use driving::drive;
 pub use gate::Gate;

@@ -1,12 +1,62 @@
 //! What a processor does, turn after turn, and the respawner, round after round.
 
-ghost use Rattle.std.specs.Prelude.{◌≡◌, ◌<◌, None, if◌then◌else◌, length, nat_lt};
+ghost use Rattle.std.specs.Prelude.{◌≡◌, ◌<◌, true, None, if◌then◌else◌, length, nat_lt};
+ghost use Rattle.mx_cpus_drive.specs.Courses.{IsProcessorRun, IsRespawnerRun};
 ghost use Rattle.mx_cpus_drive.specs.Loops.{HasMadeTurns, HasTickedAndRespawned};
+ghost use Rattle.mx_cpus_drive.specs.Progresses.{IsRoundTo, IsSweepTo};
 
 use crate::gate::Gate;
+use crate::progress::Progress;
+use crate::side::{Door, FreeSide};
 use mx_cpus::{ActorSeat, Naming, Shared};
 use mx_machine_world::{Held, Refusal};
 use std::sync::Wait;
+
+/// A processor's turns, and its questions of the gate where nothing is ready.
+#[tactic(auto, using(crate::proofs::LoopLemmas::processor_made))]
+pub(crate) fn make_turns<M: Naming, G: Gate, R: Wait>(
+    rt: &R,
+    shared: &Shared<M>,
+    seat: ActorSeat,
+    door: &Door<'_, G>,
+    side: FreeSide,
+) -> (ActorSeat, FreeSide)
+    requires table { seat.table ≡ M.table }
+    requires empty { seat.held ≡ None }
+    requires actor { side.actor ≡ seat.actor }
+    requires turn { side.turn ≡ 0 }
+    requires goes_on { side.goes_on ≡ true }
+    ensures made { HasMadeTurns seat result.0 }
+    ensures course { IsProcessorRun M.boot (G.was_called door.now.gate.now) seat result.0 }
+    ensures side { result.1.actor ≡ seat.actor }
+{
+    seat.opened();
+    let mut seat = seat;
+    let mut side = side;
+    for _ in rt.forever() {
+        let (next, taken) = shared.take(rt, seat);
+        match taken {
+            Ok(mut loan) => {
+                let holding = side.held(door, &loan);
+                let _stop = loan.run(u32::MAX);
+                seat = shared.give(rt, next, loan);
+                side = holding.given(door, &seat);
+            }
+            Err(refusal) => {
+                if let Refusal::LogFull = refusal {
+                    return (next, side);
+                }
+                let (next, at_rest) = shared.at_rest(rt, next);
+                seat = next;
+                side = side.asked(door, at_rest);
+                if !side.goes_on() {
+                    return (seat, side);
+                }
+            }
+        }
+    }
+    unreachable!()
+}
 
 /// A processor takes a process, runs it until its budget is spent or it stops, and gives it back, turn
 /// after turn. Where nothing is ready the gate says whether it goes on. It ends at a full history too.
@@ -20,56 +70,24 @@ pub fn processor<M: Naming, G: Gate, R: Wait>(
     requires table { seat.table ≡ M.table }
     requires processor { seat.actor < length M.boot.cpus }
     requires empty { seat.held ≡ None }
-    ensures { HasMadeTurns seat result }
+    ensures made { HasMadeTurns seat result }
+    ensures course { IsProcessorRun M.boot (G.was_called gate.now) seat result }
 {
-    seat.opened();
-    let cpu = seat.actor();
-    let mut seat = seat;
-    let mut turn: u64 = 0;
-    for _ in rt.forever() {
-        let (next, taken) = shared.take(rt, seat);
-        match taken {
-            Ok(mut loan) => {
-                gate.held(cpu, turn);
-                let _stop = loan.run(u32::MAX);
-                seat = shared.give(rt, next, loan);
-                gate.given(cpu);
-                turn = turn.saturating_add(1);
-            }
-            Err(Refusal::LogFull) => {
-                seat = next;
-                break;
-            }
-            Err(_) => {
-                let (next, at_rest) = shared.at_rest(rt, next);
-                seat = next;
-                if !gate.again(cpu, at_rest) {
-                    break;
-                }
-            }
-        }
-    }
+    let door = Door::new(gate);
+    let side = FreeSide::new(seat.actor());
+    let (seat, side) = make_turns(rt, shared, seat, &door, side);
+    side.leave();
     seat
 }
 
 /// How many slots a machine may have.
 const SLOTS: u32 = 32;
 
-/// Whether a loop goes on.
-#[derive(Clone, Copy, PartialEq, Eq)]
-enum Progress {
-    GoesOn,
-    /// The history is full.
-    Full,
-}
-
 /// Respawns each slot that is down and not worn, in turn.
 fn sweep<M: Naming, R: Wait>(rt: &R, shared: &Shared<M>, seat: ActorSeat) -> (ActorSeat, Progress)
     requires table { seat.table ≡ M.table }
-    requires empty { seat.held ≡ None }
-    ensures { HasTickedAndRespawned 0 seat result.0 }
+    ensures { IsSweepTo M.boot seat result.0 result.1 }
 {
-    seat.opened();
     let mut seat = seat;
     for slot in 0..SLOTS {
         let (next, answer) = shared.respawn(rt, seat, slot);
@@ -89,18 +107,53 @@ fn make_round<M: Naming, R: Wait>(
     left: u32,
 ) -> (ActorSeat, Progress)
     requires table { seat.table ≡ M.table }
-    requires empty { seat.held ≡ None }
-    ensures { HasTickedAndRespawned (if nat_lt 0 left then 1 else 0) seat result.0 }
+    ensures { IsRoundTo M.boot left seat result.0 result.1 }
 {
     if left == 0 {
         return sweep(rt, shared, seat);
     }
-    seat.opened();
     let (seat, ticked) = shared.tick(rt, seat);
     if ticked.is_err() {
         return (seat, Progress::Full);
     }
     sweep(rt, shared, seat)
+}
+
+/// The respawner's rounds, and its questions of the gate.
+pub(crate) fn make_rounds<M: Naming, G: Gate, R: Wait>(
+    rt: &R,
+    shared: &Shared<M>,
+    seat: ActorSeat,
+    door: &Door<'_, G>,
+    side: FreeSide,
+    ticks: u32,
+) -> (ActorSeat, FreeSide)
+    requires table { seat.table ≡ M.table }
+    requires actor { side.actor ≡ seat.actor }
+    requires goes_on { side.goes_on ≡ true }
+    ensures made { HasTickedAndRespawned ticks seat result.0 }
+    ensures course { IsRespawnerRun M.boot (G.was_called door.now.gate.now) ticks seat result.0 }
+    ensures side { result.1.actor ≡ seat.actor }
+{
+    seat.opened();
+    let mut seat = seat;
+    let mut side = side;
+    let mut left = ticks;
+    for _ in rt.forever() {
+        let (next, progress) = make_round(rt, shared, seat, left);
+        left = left.saturating_sub(1);
+        match progress {
+            Progress::Full => return (next, side),
+            Progress::GoesOn => {}
+        }
+        let (next, at_rest) = shared.at_rest(rt, next);
+        seat = next;
+        side = side.asked(door, at_rest);
+        if !side.goes_on() {
+            return (seat, side);
+        }
+    }
+    unreachable!()
 }
 
 /// Makes one tick, while some are left, and one sweep over the slots, in which each that is down and not
@@ -114,25 +167,12 @@ pub fn respawner<M: Naming, G: Gate, R: Wait>(
     ticks: u32,
 ) -> ActorSeat
     requires table { seat.table ≡ M.table }
-    requires empty { seat.held ≡ None }
-    ensures { HasTickedAndRespawned ticks seat result }
+    ensures made { HasTickedAndRespawned ticks seat result }
+    ensures course { IsRespawnerRun M.boot (G.was_called gate.now) ticks seat result }
 {
-    seat.opened();
-    let actor = seat.actor();
-    let mut seat = seat;
-    let mut left = ticks;
-    for _ in rt.forever() {
-        let (next, progress) = make_round(rt, shared, seat, left);
-        left = left.saturating_sub(1);
-        if progress == Progress::Full {
-            seat = next;
-            break;
-        }
-        let (next, at_rest) = shared.at_rest(rt, next);
-        seat = next;
-        if !gate.again(actor, at_rest) {
-            break;
-        }
-    }
+    let door = Door::new(gate);
+    let side = FreeSide::new(seat.actor());
+    let (seat, side) = make_rounds(rt, shared, seat, &door, side, ticks);
+    side.leave();
     seat
 }

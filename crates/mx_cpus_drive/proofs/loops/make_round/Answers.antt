@@ -1,12 +1,14 @@
-use Rattle.std.proofs.Common.{Bool, arith, if◌then◌else◌, subst, sym}
-use Rattle.std.proofs.lemmas.Bool.{lt-ltb}
-use Rattle.mx_cpus_drive.specs.Loops.{HasTickedAndRespawned}
-use Rattle.mx_cpus_drive.proofs.LoopLemmas.{rounds_both, tick_called}
+use Rattle.std.proofs.Common.{arith, rules}
+use Rattle.mx_cpus_drive.proofs.LoopLemmas.{none_left, ticked_full, ticked_then}
 use Rattle.mx_cpus_drive.proofs.loops.make_round.Goals as goal
+
+pub returns-then-left-eq0 : goal.returns-then-left-eq0
+returns-then-left-eq0 g c = none_left g.M.Naming.boot c.args.left c.args.seat c.sweep.result.0 c.sweep.result.1 c.if-left-eq0.true c.sweep.ensures
+
+pub returns-then-is_err : goal.returns-then-is_err
+returns-then-is_err g c =
+    ticked_full g.M.Naming.boot c.args.left c.args.seat c.tick-seat.result.0 c.tick-seat.result.1 (omega arith) (search rules) c.tick-seat.ensures.err
 
 pub returns : goal.returns
 returns g c =
-    let next = c.tick-seat.result.0 in
-    let ticked = tick_called g.M.Naming.boot c.args.seat next c.tick-seat.result.1 c.requires.empty c.tick-seat.ensures.ok c.tick-seat.ensures.err in
-    subst (λ (b : Bool). HasTickedAndRespawned (if b then 1 else 0) c.args.seat c.sweep-2.result.0) (sym (lt-ltb 0 c.args.left (omega arith)))
-    (rounds_both 1 0 1 c.args.seat next c.sweep-2.result.0 ticked c.sweep-2.ensures (omega arith))
+    ticked_then g.M.Naming.boot c.args.left c.args.seat c.tick-seat.result.0 c.sweep-2.result.0 c.tick-seat.result.1 c.sweep-2.result.1 (omega arith) (search rules) c.tick-seat.ensures.ok c.sweep-2.ensures

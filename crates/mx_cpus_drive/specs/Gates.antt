@@ -1,0 +1,9 @@
+-- What loops call of a gate.
+use Rattle.std.specs.Prelude.{ℕ, Bool}
+
+-- A call of a gate, with its arguments, and with the answer of a question
+pub data GateCall : Type 0 where
+  held_call : (cpu turn : ℕ) → GateCall
+  given_call : (cpu : ℕ) → GateCall
+  again_call : (actor : ℕ) (at_rest goes_on : Bool) → GateCall
+  ended_call : (actor : ℕ) → GateCall
