@@ -204,7 +204,7 @@ a line: line L, tick or kill E. The ticks come after them.
 
 Status: 0 done, also if the history was full; 1 a text or a program's file is refused;
 2 a mistake in the words; 3 a file can't be read or written, or LOG is CONFIG; 4 no
-memory. Formats: docs/REFERENCE.md.";
+memory. Formats: docs/use/REFERENCE.md.";
 
 /// A history, and what a refused event of it gives.
 const REPLAY_EXAMPLE: &str = "In the folder examples/machines/pair:

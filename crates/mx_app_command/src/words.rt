@@ -181,11 +181,7 @@ fn script_request<'a>(name: &str, config: &'a str, matches: &ArgMatches<'a>) -> 
 }
 
 /// What the words of `turns` ask for.
-fn turns_request<'a>(
-    config: &'a str,
-    log: &'a str,
-    matches: &ArgMatches<'a>,
-) -> CommandRequest<'a>
+fn turns_request<'a>(config: &'a str, log: &'a str, matches: &ArgMatches<'a>) -> CommandRequest<'a>
     requires config { HasText (codes "CONFIG") (rows_of (found_of matches.now)) config.now }
     requires log { HasText (codes "LOG") (rows_of (found_of matches.now)) log.now }
     requires numbers { MayHaveTurns (rows_of (found_of matches.now)) }

@@ -119,7 +119,8 @@ pub(crate) fn second_word(request: CommandRequest<'_>) -> Subject<'_>
         | CommandRequest::Nm { .. } => Subject::Word("FILE", name),
         CommandRequest::Step { .. } | CommandRequest::Db { .. } => Subject::Word("SCRIPT", name),
         CommandRequest::Turns {
-            events: Some(_), ..
+            events: Some(_),
+            ..
         } => Subject::Word("EVENTS", name),
         _ => Subject::Word("LOG", name),
     }

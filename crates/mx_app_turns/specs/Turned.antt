@@ -38,7 +38,7 @@ pub record IsTurned (c : Config) (vs : List Service) (n : ℕ) (coming : List Ev
   pub ending : how ≡ (turns n (world_at_boot c vs) coming).ending
   -- the report is of the world after them: a kernel's table and services are the machine's
   pub world : (let w = world_after_events (world_at_boot c vs) (turns n (world_at_boot c vs) coming).made in
-    ((replay k).table ≡ w.table) × ((replay k).services ≡ w.services))
+      ((replay k).table ≡ w.table) × ((replay k).services ≡ w.services))
   pub accepted : AreAccepted k.boot (events_of_history k.history)
   pub written : All (IsWritable (actors (replay k))) k.history
 
