@@ -29,9 +29,11 @@ use Rattle.mx_app_db.specs.DebugLines.{DebuggedWorld, debug_lines_made}
 use Rattle.mx_app_db.specs.Told.{debug_lines_text}
 use Rattle.mx_app_draw.specs.Scenes.{IsDrawingPrinted}
 use Rattle.mx_app_run.specs.Run.{Runs}
+use Rattle.mx_app_turns.specs.Turned.{MakesTurns}
+use Rattle.mx_turns.specs.declared.turns.Ending.{Ending}
 use Rattle.mx_app.specs.Explained.{ExplainsConfig}
 use Rattle.mx_app.specs.Named.{Assembles, ShowsFile}
-use Rattle.mx_app.specs.Requests.{Debugs, Draws, Explains, Performs, Replays, SavesSteps, Shows, Steps, Traces, status_after_replay, status_after_work}
+use Rattle.mx_app.specs.Requests.{Debugs, Draws, Explains, Performs, Replays, SavesSteps, Shows, Steps, Traces, status_after_replay, status_after_turns, status_after_work}
 
 -- nothing is printed where a writer wasn't touched
 pub appends_nothing : (known : Option (List ℕ)) → Appends known known []
@@ -60,6 +62,12 @@ pub runs : (asked now : List Asked) (files written : List Written) (config log :
     → (qs : List Asked) × (ws : List Written) × (now ≡ asked ++ qs) × (written ≡ files ++ ws) × Runs config log ticks qs ws (λ text. Appends x y text) d → r ≡ status_after_work d
     → Does asked now files written (λ qs ws. (e : Result (Unit {0}) Kind) × Runs config log ticks qs ws (λ text. Appends x y text) e × (r ≡ status_after_work e))
 runs asked now files written config log ticks x y d r p e = (p.0, p.1, p.2, p.3, (d, p.4, e))
+
+-- turns were made, or they weren't
+pub turned : (asked now : List Asked) (files written : List Written) (config log : List ℕ) (events : Option (List ℕ)) (ticks bound : ℕ) (x y : Option (List ℕ)) (d : Result Ending Kind) (r : Result ℕ Kind)
+    → (qs : List Asked) × (ws : List Written) × (now ≡ asked ++ qs) × (written ≡ files ++ ws) × MakesTurns config events log ticks bound qs ws (λ text. Appends x y text) d → r ≡ status_after_turns d
+    → Does asked now files written (λ qs ws. (e : Result Ending Kind) × MakesTurns config events log ticks bound qs ws (λ text. Appends x y text) e × (r ≡ status_after_turns e))
+turned asked now files written config log events ticks bound x y d r p e = (p.0, p.1, p.2, p.3, (d, p.4, e))
 
 -- a script was done, and its history saved or not
 pub saves : (asked now : List Asked) (files written : List Written) (config script log : List ℕ) (x y : Option (List ℕ)) (d : Result (Unit {0}) Kind) (r : Result ℕ Kind)

@@ -1,8 +1,8 @@
 -- What is done of requests (our own).
-use Rattle.std.specs.Prelude.{◌≡◌, ◌⊎◌, ℕ, List, [], ◌∷◌, ◌++◌, Some, None, Result, Ok, Err, take}
+use Rattle.std.specs.Prelude.{◌≡◌, ◌⊎◌, ℕ, List, [], ◌∷◌, ◌++◌, Some, None, Result, Ok, Err, option_map, take}
 use Rattle.mx_app_command.specs.declared.words.CommandRequest.{CommandRequest}
 use Rattle.mx_app_command.specs.declared.words.RecordRange.{RecordRange}
-use Rattle.mx_app_command.specs.declared.words.CommandRequest.TheVariants.{One, As, Dis, Nm, Explain, Step, Run, Replay, Trace, Draw, Db}
+use Rattle.mx_app_command.specs.declared.words.CommandRequest.TheVariants.{One, As, Dis, Nm, Explain, Step, Run, Turns, Replay, Trace, Draw, Db}
 use Rattle.mx_app_db.specs.ScriptLine.{ScriptLine}
 use Rattle.mx_app_db.specs.DebugLine.{DebugLine}
 use Rattle.mx_app_failure.specs.declared.failure.Failure.{Failure as Kind}
@@ -28,6 +28,8 @@ use Rattle.mx_app_db.specs.Replayed.{Replayed}
 use Rattle.mx_app_db.specs.Replayed.TheVariants as replayed
 use Rattle.mx_app_draw.specs.Scenes.{IsDrawingPrinted}
 use Rattle.mx_app_run.specs.Run.{Runs}
+use Rattle.mx_app_turns.specs.Turned.{MakesTurns}
+use Rattle.mx_turns.specs.declared.turns.Ending.{Ending}
 use Rattle.mx_app_db.specs.DebugLines.{DebuggedWorld, debug_lines_made}
 use Rattle.mx_app_db.specs.Told.{debug_lines_text}
 use Rattle.mx_app.specs.Explained.{ExplainsConfig}
@@ -44,6 +46,11 @@ abbrev pub status_after_replay : Result Replayed Kind → Result ℕ Kind
 status_after_replay (Ok replayed.Whole) = Ok 0
 status_after_replay (Ok replayed.Refused) = Ok 1
 status_after_replay (Err f) = Err f
+
+-- turns are done, however they ended
+abbrev pub status_after_turns : Result Ending Kind → Result ℕ Kind
+status_after_turns (Ok ending) = Ok 0
+status_after_turns (Err f) = Err f
 
 -- ---- machines: the files are as the start wants them, and the text is printed; or the first fault is told
 
@@ -118,6 +125,8 @@ Performs (Step config script (Some log)) qs ws Prints r =
     (d : Result (Unit {0}) Kind) × SavesSteps config.now script.now log.now qs ws Prints d × (r ≡ status_after_work d)
 Performs (Run config log ticks) qs ws Prints r =
     (d : Result (Unit {0}) Kind) × Runs config.now log.now ticks qs ws Prints d × (r ≡ status_after_work d)
+Performs (Turns config log ticks events bound) qs ws Prints r =
+    (d : Result Ending Kind) × MakesTurns config.now (option_map (λ s. s.now) events) log.now ticks bound qs ws Prints d × (r ≡ status_after_turns d)
 Performs (Replay config log) qs ws Prints r =
     (d : Result Replayed Kind) × (ws ≡ []) × Replays config.now log.now qs Prints d × (r ≡ status_after_replay d)
 Performs (Trace config log range) qs ws Prints r =

@@ -4,7 +4,7 @@ ghost use Rattle.std.specs.Prelude.{◌≡◌, ◌++◌, List};
 ghost use Rattle.std.specs.Io.KnownBytes.{Appends};
 ghost use Rattle.mx_app_db.specs.Asked.{Asked};
 ghost use Rattle.mx_app_db.specs.Written.{Written};
-ghost use Rattle.mx_app.specs.Requests.{Performs, status_after_replay, status_after_work};
+ghost use Rattle.mx_app.specs.Requests.{Performs, status_after_replay, status_after_turns, status_after_work};
 
 use crate::explain::explain_named;
 use crate::named::{as_named, dis_named, nm_named, one_named};
@@ -15,6 +15,7 @@ use mx_app_db::{
 use mx_app_draw::draw;
 use mx_app_failure::Failure;
 use mx_app_run::{RunNames, run};
+use mx_app_turns::{Ending, TurnsNames, TurnsWanted, turns};
 use std::alloc::Global;
 use std::io::Write;
 use std::sync::Wait;
@@ -38,6 +39,16 @@ fn status_after_replay(replayed: Result<Replayed, Failure>) -> Result<u8, Failur
     match replayed {
         Ok(Replayed::Whole) => Ok(0),
         Ok(Replayed::Refused) => Ok(1),
+        Err(failure) => Err(failure),
+    }
+}
+
+/// The status after turns, however they ended.
+fn status_after_turns(done: Result<Ending, Failure>) -> Result<u8, Failure>
+    ensures { result ≡ status_after_turns done }
+{
+    match done {
+        Ok(_) => Ok(0),
         Err(failure) => Err(failure),
     }
 }
@@ -85,6 +96,21 @@ pub fn perform<
         CommandRequest::Run { config, log, ticks } => {
             let names = RunNames { config, log };
             status_after_work(run(rt, alloc, channels, names, ticks))
+        }
+        CommandRequest::Turns {
+            config,
+            log,
+            ticks,
+            events,
+            bound,
+        } => {
+            let names = TurnsNames {
+                config,
+                log,
+                events,
+            };
+            let wanted = TurnsWanted { ticks, bound };
+            status_after_turns(turns(alloc, channels, names, wanted))
         }
         CommandRequest::Replay { config, log } => {
             status_after_replay(replay(alloc, reader, config, log, out))

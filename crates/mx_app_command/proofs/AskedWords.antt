@@ -15,7 +15,7 @@ use Rattle.clap.specs.Faults.{defaults_fault, entered_fault, level_fault, settle
 use Rattle.clap.specs.Walk.{answers_to, finished, nothing_held, rows_after, settled, stop_after, walk, walk_from}
 use Rattle.clap.specs.declared.builder.value_parser.ValueParser.TheVariants.{Signed}
 use Rattle.clap.proofs.ValueTestLemmas.{accepts-Accepts}
-use Rattle.mx_app_command.specs.Words.{HasNumber, IsAsked, IsGiven, MayHaveNumber, MayHaveRange, looking_shape, mx_grammar, number_after, of_one, of_two, one_shape, run_shape, step_shape, wanted, wanted_number}
+use Rattle.mx_app_command.specs.Words.{HasNumber, IsAsked, IsGiven, MayHaveNumber, MayHaveRange, looking_shape, mx_grammar, number_after, of_one, of_two, one_shape, run_shape, step_shape, turns_shape, wanted, wanted_number}
 use Rattle.mx_app_command.proofs.Given.{IsOnly, SetsValue, all_found, has_wanted, no_fault, value_given, value_if_given}
 
 -- the grammar as a parse sees it: with the help flag, and each argument's place
@@ -203,6 +203,32 @@ run_fits words fine =
     let log = value_given log_rule (wanted_sets (codes "LOG") 2) run_whole only_log words refl (inr (inl refl)) refl fine in
     ((λ e. (ap is_some config.1, inr (inr (ap is_some log.1, inl (refl, number_if_given run_whole (codes "ticks") (codes "T") 3 only_ticks words fine))))), (λ e. absurd (true≢false e)))
 
+abbrev turns_whole : Shape
+turns_whole = whole_of turns_shape
+
+abbrev bound_rule : Rule
+bound_rule = with_index 5 (filled (number_after (codes "turns") (codes "N")))
+
+only_turns_config : IsOnly config_rule turns_whole.rules
+only_turns_config = ((λ e. refl), ((λ e. cc), ((λ e. cc), ((λ e. cc), ((λ e. cc), ((λ e. cc), ((λ e. cc), tt)))))))
+
+only_turns_log : IsOnly log_rule turns_whole.rules
+only_turns_log = ((λ e. cc), ((λ e. refl), ((λ e. cc), ((λ e. cc), ((λ e. cc), ((λ e. cc), ((λ e. cc), tt)))))))
+
+only_turns_ticks : IsOnly ticks_rule turns_whole.rules
+only_turns_ticks = ((λ e. cc), ((λ e. cc), ((λ e. refl), ((λ e. cc), ((λ e. cc), ((λ e. cc), ((λ e. cc), tt)))))))
+
+only_bound : IsOnly bound_rule turns_whole.rules
+only_bound = ((λ e. cc), ((λ e. cc), ((λ e. cc), ((λ e. cc), ((λ e. refl), ((λ e. cc), ((λ e. cc), tt)))))))
+
+turns_fits : Fits turns_whole
+turns_fits words fine =
+    let config = value_given config_rule (wanted_sets (codes "CONFIG") 1) turns_whole only_turns_config words refl (inl refl) refl fine in
+    let log = value_given log_rule (wanted_sets (codes "LOG") 2) turns_whole only_turns_log words refl (inr (inl refl)) refl fine in
+    let ticks = number_if_given turns_whole (codes "ticks") (codes "T") 3 only_turns_ticks words fine in
+    let bound = number_if_given turns_whole (codes "turns") (codes "N") 5 only_bound words fine in
+    ((λ e. (ap is_some config.1, inr (inr (ap is_some log.1, inr (inr (inr (refl, (ticks, bound)))))))), (λ e. absurd (true≢false e)))
+
 replay_fits : Fits (whole_of (of_two (codes "replay") (codes "CONFIG") (codes "LOG")))
 replay_fits words fine = let given = two_texts_given (codes "replay") (codes "CONFIG") (codes "LOG") (refl, refl) (refl, refl) refl refl words fine in
     ((λ e. (given.0, inr (inr (given.1, inr (inl refl))))), (λ e. absurd (true≢false e)))
@@ -243,11 +269,11 @@ looking_values name words fine =
 
 trace_fits : Fits (looking_whole (codes "trace"))
 trace_fits words fine = let given = looking_values (codes "trace") words fine in
-    ((λ e. (given.0, inr (inr (given.1, inr (inr (inl refl, given.2)))))), (λ e. absurd (true≢false e)))
+    ((λ e. (given.0, inr (inr (given.1, inr (inr (inl (inl refl, given.2))))))), (λ e. absurd (true≢false e)))
 
 draw_fits : Fits (looking_whole (codes "draw"))
 draw_fits words fine = let given = looking_values (codes "draw") words fine in
-    ((λ e. (given.0, inr (inr (given.1, inr (inr (inr refl, given.2)))))), (λ e. absurd (true≢false e)))
+    ((λ e. (given.0, inr (inr (given.1, inr (inr (inl (inr refl, given.2))))))), (λ e. absurd (true≢false e)))
 
 db_fits : Fits (whole_of (of_two (codes "db") (codes "CONFIG") (codes "SCRIPT")))
 db_fits words fine = let given = two_texts_given (codes "db") (codes "CONFIG") (codes "SCRIPT") (refl, refl) (refl, refl) refl refl words fine in
@@ -258,7 +284,7 @@ explain_fits words fine = let given = one_text_given (codes "explain") (codes "C
     ((λ e. (given, inl refl)), (λ e. absurd (true≢false e)))
 
 all_fit : AllByRecursion Fits whole.subs
-all_fit = (one_fits, (as_fits, (dis_fits, (nm_fits, (explain_fits, (step_fits, (run_fits, (replay_fits, (trace_fits, (draw_fits, (db_fits, tt)))))))))))
+all_fit = (one_fits, (as_fits, (dis_fits, (nm_fits, (explain_fits, (step_fits, (run_fits, (turns_fits, (replay_fits, (trace_fits, (draw_fits, (db_fits, tt))))))))))))
 
 -- ---- the words of a command line
 

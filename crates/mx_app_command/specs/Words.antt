@@ -11,7 +11,7 @@ use Rattle.clap.specs.declared.builder.command.Command.TheViews.{out-Command}
 use Rattle.clap.specs.declared.builder.value_parser.ValueParser.TheVariants.{Signed}
 use Rattle.mx_app_command.specs.declared.words.CommandRequest.{CommandRequest}
 use Rattle.mx_app_command.specs.declared.words.RecordRange.{RecordRange}
-use Rattle.mx_app_command.specs.declared.words.CommandRequest.TheVariants.{One, As, Dis, Nm, Explain, Step, Run, Replay, Trace, Draw, Db}
+use Rattle.mx_app_command.specs.declared.words.CommandRequest.TheVariants.{One, As, Dis, Nm, Explain, Step, Run, Turns, Replay, Trace, Draw, Db}
 
 -- ---- the grammar
 
@@ -62,6 +62,12 @@ step_shape = subcommand (codes "step") (wanted (codes "CONFIG") ∷ wanted (code
 abbrev pub run_shape : Shape
 run_shape = subcommand (codes "run") (wanted (codes "CONFIG") ∷ wanted (codes "LOG") ∷ number_after (codes "ticks") (codes "T") ∷ [])
 
+-- `turns CONFIG LOG --ticks T --events EVENTS --turns N`
+abbrev pub turns_shape : Shape
+turns_shape =
+    subcommand (codes "turns")
+    (wanted (codes "CONFIG") ∷ wanted (codes "LOG") ∷ number_after (codes "ticks") (codes "T") ∷ after_name (codes "events") (codes "EVENTS") ∷ number_after (codes "turns") (codes "N") ∷ [])
+
 -- `NAME CONFIG LOG --from A --to B`, what is told of a history's records
 abbrev pub looking_shape : Text → Shape
 looking_shape name =
@@ -94,6 +100,7 @@ mx_grammar = record {
       ++ of_one (codes "explain") (codes "CONFIG")
       ∷ step_shape
       ∷ run_shape
+      ∷ turns_shape
       ∷ of_two (codes "replay") (codes "CONFIG") (codes "LOG")
       ∷ looking_shape (codes "trace")
       ∷ looking_shape (codes "draw")
@@ -140,6 +147,10 @@ AsksBy (Step config script save) name rows =
 AsksBy (Run config log ticks) name rows =
     (name ≡ codes "run") × HasText (codes "CONFIG") rows config.now × HasText (codes "LOG") rows log.now
     × HasNumberOr 0 (codes "T") rows ticks
+AsksBy (Turns config log ticks events bound) name rows =
+    (name ≡ codes "turns") × HasText (codes "CONFIG") rows config.now × HasText (codes "LOG") rows log.now
+    × HasNumberOr 0 (codes "T") rows ticks × MayHaveText (codes "EVENTS") rows (option_map (λ s. s.now) events)
+    × HasNumberOr 4294967295 (codes "N") rows bound
 AsksBy (Replay config log) name rows =
     (name ≡ codes "replay") × HasText (codes "CONFIG") rows config.now × HasText (codes "LOG") rows log.now
 AsksBy (Trace config log range) name rows =
@@ -191,13 +202,18 @@ IsProgramAsked name rows =
 abbrev pub IsScriptAsked : Text → List Row → Type 0
 IsScriptAsked name rows = IsGiven (codes "SCRIPT") rows × ((name ≡ codes "step") ⊎ (name ≡ codes "db"))
 
--- those with a history: `run` may have a number, `trace` and `draw` two
+-- `turns` may have the numbers of ticks and of turns
+abbrev pub MayHaveTurns : List Row → Type 0
+MayHaveTurns rows = MayHaveNumber (codes "T") rows × MayHaveNumber (codes "N") rows
+
+-- those with a history: `run` may have a number, `turns`, `trace` and `draw` two
 abbrev pub IsHistoryAsked : Text → List Row → Type 0
 IsHistoryAsked name rows =
     IsGiven (codes "LOG") rows
     × (((name ≡ codes "run") × MayHaveNumber (codes "T") rows)
     ⊎ ((name ≡ codes "replay")
-    ⊎ (((name ≡ codes "trace") ⊎ (name ≡ codes "draw")) × MayHaveRange rows)))
+    ⊎ ((((name ≡ codes "trace") ⊎ (name ≡ codes "draw")) × MayHaveRange rows)
+    ⊎ ((name ≡ codes "turns") × MayHaveTurns rows))))
 
 -- those that work on a machine: each has a configuration, and all but `explain` a script or a history
 abbrev pub IsMachineAsked : Text → List Row → Type 0
@@ -209,9 +225,10 @@ is_machine name =
     bytes_eq name (codes "explain")
     || (bytes_eq name (codes "step")
     || (bytes_eq name (codes "run")
+    || (bytes_eq name (codes "turns")
     || (bytes_eq name (codes "replay")
     || (bytes_eq name (codes "trace")
-    || (bytes_eq name (codes "draw") || bytes_eq name (codes "db"))))))
+    || (bytes_eq name (codes "draw") || bytes_eq name (codes "db")))))))
 
 abbrev pub IsAsked : Text → List Row → Type 0
 IsAsked name rows =

@@ -111,6 +111,20 @@ const TICKS: CommandArgument<'static> = CommandArgument {
     form: ArgumentForm::NumberAfter("ticks"),
 };
 
+/// What happens from outside while turns are made.
+const EVENTS: CommandArgument<'static> = CommandArgument {
+    name: "EVENTS",
+    help: "A file of outside events, one for each turn: line L, tick or kill E",
+    form: ArgumentForm::After("events"),
+};
+
+/// How many turns are made.
+const TURNS: CommandArgument<'static> = CommandArgument {
+    name: "N",
+    help: "How many turns at most, 0 to 4294967295; without it until rest or a full history",
+    form: ArgumentForm::NumberAfter("turns"),
+};
+
 /// The first record that is told or drawn.
 const FROM: CommandArgument<'static> = CommandArgument {
     name: "A",
@@ -182,6 +196,12 @@ static SUBCOMMANDS: [Subcommand<'static>; 11] = [
         help: "Runs a machine, each processor in a thread, writes its history and prints a report",
         arguments: &[CONFIG, RECORDED, TICKS, EXPLAIN],
         example: Example::Run,
+    },
+    Subcommand {
+        name: "turns",
+        help: "Runs a machine on one thread, always the same, writes its history and prints a report",
+        arguments: &[CONFIG, RECORDED, TICKS, EVENTS, TURNS, EXPLAIN],
+        example: Example::Turns,
     },
     Subcommand {
         name: "replay",

@@ -18,6 +18,8 @@ pub(crate) enum Example {
     Step,
     /// A run by threads, and its replay.
     Run,
+    /// Turns on one thread, and their history.
+    Turns,
     /// A history, and what a refused event of it gives.
     Replay,
     /// What a history's records did.
@@ -39,6 +41,7 @@ impl Example {
             Example::Explain => EXPLAIN_EXAMPLE,
             Example::Step => STEP_EXAMPLE,
             Example::Run => RUN_EXAMPLE,
+            Example::Turns => TURNS_EXAMPLE,
             Example::Replay => REPLAY_EXAMPLE,
             Example::Trace => TRACE_EXAMPLE,
             Example::Draw => DRAW_EXAMPLE,
@@ -189,6 +192,32 @@ most a thousand a second, and respawns what is down while it has restarts. The r
 ends where nothing is ready, nothing is left to respawn and all ticks are made, or
 where the history is full. So a machine that is never at rest needs a log that ends
 it. Two runs may differ; the replay of a run's history never does.
+
+Status: 0 done, also if the history was full; 1 a text or a program's file is refused;
+2 a mistake in the words; 3 a file can't be read or written, or LOG is CONFIG; 4 no
+memory. Formats: docs/use/REFERENCE.md.";
+
+/// Turns on one thread, and their history.
+const TURNS_EXAMPLE: &str = "In the folder examples/machines/pair:
+
+$ mx turns pair.config /tmp/pair.log --ticks 2
+0 drv 0 receiving any 4 8
+1 cli 1 down exit 7 12
+uptime 2
+console 0
+$ head -4 /tmp/pair.log
+rules 2
+0 take
+0 back 4
+1 tick
+
+One thread makes all, always in the same order. In a turn each processor takes the
+next ready process, if it holds none; then each runs what it holds up to a trap, a
+fault or the end of its budget, and gives it back; then the next outside event is
+made, and what is down is respawned while it has restarts. It ends where the machine
+is at rest and no outside event is to come, after N turns, or where the history is
+full. A terminal is told which on standard error. EVENTS has the outside events, one
+a line: line L, tick or kill E. The ticks come after them.
 
 Status: 0 done, also if the history was full; 1 a text or a program's file is refused;
 2 a mistake in the words; 3 a file can't be read or written, or LOG is CONFIG; 4 no

@@ -2,7 +2,7 @@
 
 ghost use Rattle.std.specs.Prelude.{◌≡◌, ℕ, Bool, IfErr, IfOk, codes, false, is_some, map, option_map, true};
 ghost use Rattle.clap.specs.Words.{FailsBy, HasMatchesOf, fault_of, first_of, found_of, kind_of, rows_of, subcommand_of, takes};
-ghost use Rattle.mx_app_command.specs.Words.{Asks, AsksBy, AsksToExplain, HasNumber, HasNumberOr, HasRange, HasText, IsFlag, MayHaveNumber, MayHaveRange, MayHaveText, IsAsked, IsHistoryAsked, IsMachineAsked, IsProgramAsked, IsScriptAsked, is_machine, mx_grammar};
+ghost use Rattle.mx_app_command.specs.Words.{Asks, AsksBy, AsksToExplain, HasNumber, HasNumberOr, HasRange, HasText, IsFlag, MayHaveNumber, MayHaveRange, MayHaveText, MayHaveTurns, IsAsked, IsHistoryAsked, IsMachineAsked, IsProgramAsked, IsScriptAsked, is_machine, mx_grammar};
 
 use crate::grammar::grammar;
 use clap::error::ErrorKind;
@@ -55,6 +55,15 @@ pub enum CommandRequest<'a> {
         config: &'a str,
         log: &'a str,
         ticks: u32,
+    },
+    /// `turns CONFIG LOG`, with `--ticks T`, `--events EVENTS` and `--turns N` or without.
+    Turns {
+        config: &'a str,
+        log: &'a str,
+        ticks: u32,
+        events: Option<&'a str>,
+        /// The most turns, which a history can't have if none are given.
+        bound: u32,
     },
     /// `replay CONFIG LOG`.
     Replay {
@@ -175,6 +184,25 @@ fn script_request<'a>(name: &str, config: &'a str, matches: &ArgMatches<'a>) -> 
     }
 }
 
+/// What the words of `turns` ask for.
+fn turns_request<'a>(config: &'a str, log: &'a str, matches: &ArgMatches<'a>) -> CommandRequest<'a>
+    requires config { HasText (codes "CONFIG") (rows_of (found_of matches.now)) config.now }
+    requires log { HasText (codes "LOG") (rows_of (found_of matches.now)) log.now }
+    requires numbers { MayHaveTurns (rows_of (found_of matches.now)) }
+    ensures { AsksBy result (codes "turns") (rows_of (found_of matches.now)) }
+{
+    let ticks = number_or(matches, "T", 0);
+    let events = value_if_asked(matches, "EVENTS");
+    let bound = number_or(matches, "N", u32::MAX);
+    CommandRequest::Turns {
+        config,
+        log,
+        ticks,
+        events,
+        bound,
+    }
+}
+
 /// What the words of a subcommand with a history ask for.
 fn history_request<'a>(name: &str, config: &'a str, matches: &ArgMatches<'a>) -> CommandRequest<'a>
     requires config { HasText (codes "CONFIG") (rows_of (found_of matches.now)) config.now }
@@ -185,6 +213,9 @@ fn history_request<'a>(name: &str, config: &'a str, matches: &ArgMatches<'a>) ->
     if name == "run" {
         let ticks = number_or(matches, "T", 0);
         return CommandRequest::Run { config, log, ticks };
+    }
+    if name == "turns" {
+        return turns_request(config, log, matches);
     }
     if name == "replay" {
         return CommandRequest::Replay { config, log };
@@ -219,6 +250,7 @@ fn is_machine(name: &str) -> bool
     name == "explain"
         || name == "step"
         || name == "run"
+        || name == "turns"
         || name == "replay"
         || name == "trace"
         || name == "draw"

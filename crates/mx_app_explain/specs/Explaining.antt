@@ -5,7 +5,7 @@ use Rattle.mx_aout.specs.declared.program.FileError.TheVariants as errors
 use Rattle.mx_text.specs.declared.error.BootError.{BootError}
 use Rattle.mx_text.specs.declared.error.BootError.TheVariants as lines
 use Rattle.mx_app_command.specs.declared.words.CommandRequest.{CommandRequest}
-use Rattle.mx_app_command.specs.declared.words.CommandRequest.TheVariants.{One, As, Dis, Nm, Explain, Step, Run, Replay, Trace, Draw, Db}
+use Rattle.mx_app_command.specs.declared.words.CommandRequest.TheVariants.{One, As, Dis, Nm, Explain, Step, Run, Turns, Replay, Trace, Draw, Db}
 use Rattle.mx_app_failure.specs.declared.failure.Failure.{Failure as Kind}
 use Rattle.mx_app_failure.specs.declared.failure.Failure.TheVariants.{Refused, Faulty, Misstated, NotText, File, NoMemory}
 use Rattle.mx_app_explain.specs.Wanted.{problem_wanted, refusal_wanted}
@@ -47,6 +47,7 @@ first_name (Nm file) = file.now
 first_name (Explain config) = config.now
 first_name (Step config script save) = config.now
 first_name (Run config log ticks) = config.now
+first_name (Turns config log ticks events bound) = config.now
 first_name (Replay config log) = config.now
 first_name (Trace config log range) = config.now
 first_name (Draw config log range) = config.now
@@ -68,6 +69,8 @@ second_name (Nm file) = file.now
 second_name (Explain config) = config.now
 second_name (Step config script save) = script.now
 second_name (Run config log ticks) = log.now
+second_name (Turns config log ticks None bound) = log.now
+second_name (Turns config log ticks (Some events) bound) = events.now
 second_name (Replay config log) = log.now
 second_name (Trace config log range) = log.now
 second_name (Draw config log range) = log.now
@@ -81,6 +84,7 @@ second_label (Nm file) = codes "FILE"
 second_label (Explain config) = codes "CONFIG"
 second_label (Step config script save) = codes "SCRIPT"
 second_label (Db config script) = codes "SCRIPT"
+second_label (Turns config log ticks (Some events) bound) = codes "EVENTS"
 second_label r = codes "LOG"
 
 abbrev pub first_word : CommandRequest → List ℕ
@@ -92,6 +96,7 @@ second_word r = word_told (second_label r) (second_name r)
 -- the file that is written
 abbrev pub written_word : CommandRequest → List ℕ
 written_word (Step config script (Some log)) = word_told (codes "LOG") log.now
+written_word (Turns config log ticks events bound) = word_told (codes "LOG") log.now
 written_word r = second_word r
 
 -- one program is read, and nothing else
@@ -105,10 +110,14 @@ reads_one_program r = false
 abbrev pub writes_over : CommandRequest → Bool
 writes_over (As text file) = bytes_eq text.now file.now
 writes_over (Run config log ticks) = bytes_eq config.now log.now
+writes_over (Turns config log ticks None bound) = bytes_eq config.now log.now
+writes_over (Turns config log ticks (Some events) bound) = bytes_eq config.now log.now || bytes_eq events.now log.now
 writes_over r = false
 
+-- a machine runs by itself
 abbrev pub is_run : CommandRequest → Bool
 is_run (Run config log ticks) = true
+is_run (Turns config log ticks events bound) = true
 is_run r = false
 
 -- ---- what a failure is about
@@ -129,9 +138,8 @@ given_subject r last = if reads_one_program r || is_run r then output_told else 
 
 abbrev pub file_subject : CommandRequest → Option (List ℕ) → Bool → Bool → List ℕ
 file_subject r last is_missed is_unwritten =
-    if writes_over r then second_word r
-    else (if is_unwritten then written_word r
-    else (if is_missed then asked_subject r last else given_subject r last))
+    if writes_over r || is_unwritten then written_word r
+    else (if is_missed then asked_subject r last else given_subject r last)
 
 abbrev pub subject_of : CommandRequest → Kind → Option (List ℕ) → Bool → Bool → List ℕ
 subject_of r (Refused errors.NoMemory) last m u = memory_told
@@ -152,6 +160,7 @@ record_wanted (Step config script save) =
     codes "an event: take C, step C K, back C, line L, tick, kill E or respawn S"
 record_wanted (Db config script) =
     codes "an event, or break S PLACE, clear S PLACE, go C K, regs C, mem C M N or messages"
+record_wanted (Turns config log ticks events bound) = codes "an outside event: line L, tick or kill E"
 record_wanted r =
     codes "a record and its line feed: A take, A back N, A line L, A tick, A kill E or A respawn S; or rules 2 on line 1"
 

@@ -63,6 +63,7 @@ fn first_name(request: CommandRequest<'_>) -> &str
         CommandRequest::Explain { config } => config,
         CommandRequest::Step { config, .. } => config,
         CommandRequest::Run { config, .. } => config,
+        CommandRequest::Turns { config, .. } => config,
         CommandRequest::Replay { config, .. } => config,
         CommandRequest::Trace { config, .. } => config,
         CommandRequest::Draw { config, .. } => config,
@@ -82,6 +83,11 @@ fn second_name(request: CommandRequest<'_>) -> &str
         CommandRequest::Explain { config } => config,
         CommandRequest::Step { script, .. } => script,
         CommandRequest::Run { log, .. } => log,
+        CommandRequest::Turns {
+            events: Some(events),
+            ..
+        } => events,
+        CommandRequest::Turns { log, .. } => log,
         CommandRequest::Replay { log, .. } => log,
         CommandRequest::Trace { log, .. } => log,
         CommandRequest::Draw { log, .. } => log,
@@ -115,6 +121,10 @@ pub(crate) fn second_word(request: CommandRequest<'_>) -> Subject<'_>
         | CommandRequest::Nm { .. } => Subject::Word("FILE", name),
         CommandRequest::Explain { .. } => Subject::Word("CONFIG", name),
         CommandRequest::Step { .. } | CommandRequest::Db { .. } => Subject::Word("SCRIPT", name),
+        CommandRequest::Turns {
+            events: Some(_),
+            ..
+        } => Subject::Word("EVENTS", name),
         _ => Subject::Word("LOG", name),
     }
 }
@@ -128,6 +138,7 @@ fn written_word(request: CommandRequest<'_>) -> Subject<'_>
             save: Some(log),
             ..
         } => Subject::Word("LOG", log),
+        CommandRequest::Turns { log, .. } => Subject::Word("LOG", log),
         _ => second_word(request),
     }
 }
@@ -149,16 +160,22 @@ pub(crate) fn writes_over(request: CommandRequest<'_>) -> bool
     match request {
         CommandRequest::As { text, file } => text == file,
         CommandRequest::Run { config, log, .. } => config == log,
+        CommandRequest::Turns {
+            config,
+            log,
+            events,
+            ..
+        } => config == log || events == Some(log),
         _ => false,
     }
 }
 
-/// Whether the request is `run`.
+/// Whether a machine runs by itself: the request is `run` or `turns`.
 pub(crate) fn is_run(request: CommandRequest<'_>) -> bool
     ensures { result ≡ is_run request.entry }
 {
     match request {
-        CommandRequest::Run { .. } => true,
+        CommandRequest::Run { .. } | CommandRequest::Turns { .. } => true,
         _ => false,
     }
 }
@@ -187,9 +204,7 @@ fn file_subject<'a>(request: CommandRequest<'a>, notes: Notes<'a>) -> Subject<'a
     ensures { subject_told result ≡ file_subject request.entry
         (option_map (λ s. s.now) notes.entry.last) notes.entry.is_missed notes.entry.is_unwritten }
 {
-    if writes_over(request) {
-        second_word(request)
-    } else if notes.is_unwritten {
+    if writes_over(request) || notes.is_unwritten {
         written_word(request)
     } else if notes.is_missed {
         asked_subject(request, notes.last)

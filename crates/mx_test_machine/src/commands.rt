@@ -166,6 +166,65 @@ static DONE: &[Done] = &[
         file: Some(("new.log", b"rules 2\n0 take\n0 back 4\n")),
     },
     Done {
+        name: "turns: up to rest",
+        words: &["mx", "turns", "pair", "new.log"],
+        status: 0,
+        printed: "0 drv 0 receiving any 4 8\n1 cli 1 down exit 7 12\nuptime 0\nconsole 0\n",
+        file: Some((
+            "new.log",
+            b"rules 2\n0 take\n0 back 4\n0 take\n0 back 4\n0 take\n0 back 3\n\
+              0 take\n0 back 5\n0 take\n0 back 4\n",
+        )),
+    },
+    Done {
+        name: "turns: ticks",
+        words: &["mx", "turns", "pair", "new.log", "--ticks", "3"],
+        status: 0,
+        printed: "0 drv 0 receiving any 4 8\n1 cli 1 down exit 7 12\nuptime 3\nconsole 0\n",
+        file: Some((
+            "new.log",
+            b"rules 2\n0 take\n0 back 4\n1 tick\n0 take\n0 back 4\n1 tick\n\
+              0 take\n0 back 3\n1 tick\n0 take\n0 back 5\n0 take\n0 back 4\n",
+        )),
+    },
+    Done {
+        name: "turns: two processors",
+        words: &["mx", "turns", "two", "new.log"],
+        status: 0,
+        printed: "0 drv 0 receiving any 4 8\n1 cli 1 down exit 7 12\nuptime 0\nconsole 0\n",
+        file: Some((
+            "new.log",
+            b"rules 2\n0 take\n1 take\n0 back 4\n1 back 4\n0 take\n0 back 3\n\
+              0 take\n1 take\n0 back 5\n1 back 4\n",
+        )),
+    },
+    Done {
+        name: "turns: a history too full for a take, and so for a tick",
+        words: &["mx", "turns", "two_full", "new.log", "--ticks", "1"],
+        status: 0,
+        printed: "0 drv 0 receiving any 4 16\n1 cli 1 ready 7 20\nuptime 0\nconsole 0\n",
+        file: Some(("new.log", b"rules 2\n0 take\n0 back 4\n")),
+    },
+    Done {
+        name: "turns: none",
+        words: &["mx", "turns", "pair", "new.log", "--turns", "0"],
+        status: 0,
+        printed: "0 drv 0 ready 4 20\n1 cli 1 ready 7 20\nuptime 0\nconsole 0\n",
+        file: Some(("new.log", b"rules 2\n")),
+    },
+    Done {
+        name: "turns: outside events, the first refused, and then ticks",
+        words: &[
+            "mx", "turns", "pair", "new.log", "--events", "outside", "--ticks", "2",
+        ],
+        status: 0,
+        printed: "0 drv 0 receiving any 4 8\n1 cli 1 down kill 7 16\nuptime 3\nconsole 0\n",
+        file: Some((
+            "new.log",
+            b"rules 2\n0 take\n0 back 4\n0 take\n0 back 4\n1 kill 1\n0 take\n0 back 3\n1 tick\n0 take\n0 back 5\n1 tick\n1 tick\n",
+        )),
+    },
+    Done {
         name: "replay: a whole history",
         words: &["mx", "replay", "one", "whole"],
         status: 0,
@@ -330,6 +389,30 @@ static FAILED: &[Failed] = &[
         words: &["mx", "run", "cut_first", "new.log"],
         status: 1,
         told: "mx: 20 Truncated\n",
+    },
+    Failed {
+        name: "turns: the configuration would be written over",
+        words: &["mx", "turns", "one", "one"],
+        status: 3,
+        told: "mx: 80 File\n",
+    },
+    Failed {
+        name: "turns: the outside events would be written over",
+        words: &["mx", "turns", "one", "outside", "--events", "outside"],
+        status: 3,
+        told: "mx: 80 File\n",
+    },
+    Failed {
+        name: "turns: a line that is no outside event",
+        words: &["mx", "turns", "one", "new.log", "--events", "not_outside"],
+        status: 1,
+        told: "mx: 73 BadRecord line 2\n",
+    },
+    Failed {
+        name: "turns: no number of turns",
+        words: &["mx", "turns", "one", "new.log", "--turns", "x"],
+        status: 2,
+        told: "",
     },
     Failed {
         name: "replay: no history",
@@ -654,6 +737,35 @@ static EXPLAINED: &[Failed] = &[
         told: "mx: 20 Truncated\n\
                mx: a service's program cut: \
                wanted a whole header, and a file as long as it says\n",
+    },
+    Failed {
+        name: "turns: a line that is no outside event",
+        words: &[
+            "mx",
+            "turns",
+            "one",
+            "new.log",
+            "--events",
+            "not_outside",
+            "--explain",
+        ],
+        status: 1,
+        told: "mx: 73 BadRecord line 2\nmx: EVENTS not_outside: \
+               wanted an outside event: line L, tick or kill E\n",
+    },
+    Failed {
+        name: "turns: the outside events would be written over",
+        words: &[
+            "mx",
+            "turns",
+            "one",
+            "outside",
+            "--events",
+            "outside",
+            "--explain",
+        ],
+        status: 3,
+        told: "mx: 80 File\nmx: LOG outside: wanted another file than the one that is read\n",
     },
     Failed {
         name: "replay: no history",
@@ -1010,6 +1122,14 @@ docs/use/REFERENCE.md.
     Help {
         name: "run",
         words: &["mx", "run", "--help"],
+        ending: "Status: 0 done, also if the history was full; 1 a text or a program's file is refused;
+2 a mistake in the words; 3 a file can't be read or written, or LOG is CONFIG; 4 no
+memory. Formats: docs/use/REFERENCE.md.
+",
+    },
+    Help {
+        name: "turns",
+        words: &["mx", "turns", "--help"],
         ending: "Status: 0 done, also if the history was full; 1 a text or a program's file is refused;
 2 a mistake in the words; 3 a file can't be read or written, or LOG is CONFIG; 4 no
 memory. Formats: docs/use/REFERENCE.md.

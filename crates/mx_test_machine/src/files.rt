@@ -335,6 +335,26 @@ static FILES: &[NamedFile<'static>] = &[
             service cli cli.out traps 1e send 1 calls 1 level 7 best 7 quantum 20 restarts 0\n",
     },
     NamedFile {
+        name: "two",
+        bytes: b"cpus 2\nlog 64\n\
+            service drv drv.out traps 1e send 2 calls 0 level 4 best 4 quantum 20 restarts 0\n\
+            service cli cli.out traps 1e send 1 calls 1 level 7 best 7 quantum 20 restarts 0\n",
+    },
+    NamedFile {
+        name: "two_full",
+        bytes: b"cpus 2\nlog 3\n\
+            service drv drv.out traps 1e send 2 calls 0 level 4 best 4 quantum 20 restarts 0\n\
+            service cli cli.out traps 1e send 1 calls 1 level 7 best 7 quantum 20 restarts 0\n",
+    },
+    NamedFile {
+        name: "outside",
+        bytes: b"line 3\nkill 1\ntick\n",
+    },
+    NamedFile {
+        name: "not_outside",
+        bytes: b"tick\nrespawn 0\n",
+    },
+    NamedFile {
         name: "again",
         bytes: b"log 8\n\
             service a a.out traps 1e send 0 calls 0 level 7 best 5 quantum 5 restarts 1\n",

@@ -1,8 +1,9 @@
 use Rattle.mx_app_program.specs.One.{IsPrinted}
 use Rattle.mx_app_program.specs.Shown.{HasListing, HasNames, IsShown}
 use Rattle.std.proofs.Common.{◌∙◌, ap, Option}
+use Rattle.std.specs.Prelude.{option_map}
 use Rattle.mx_app_command.specs.declared.words.CommandRequest.TheVariants.{Step}
-use Rattle.mx_app.proofs.Done.{as_asked, assembled, debugs, draws, explains, replays, runs, saves, shows, steps, traces}
+use Rattle.mx_app.proofs.Done.{as_asked, assembled, debugs, draws, explains, replays, runs, saves, shows, steps, traces, turned}
 use Rattle.mx_app.proofs.performing.perform.Goals as goal
 
 pub returns-in-One : goal.returns-in-One
@@ -34,6 +35,11 @@ pub returns-in-Run : goal.returns-in-Run
 returns-in-Run g c =
     as_asked _ _ _ _ _ _ _ _ c.in-Run.is
     (runs _ _ _ _ c.in-Run.config.now c.in-Run.log.now c.in-Run.ticks _ _ c.run.result c.status_after_work-in-Run.result c.run.ensures c.status_after_work-in-Run.ensures)
+
+pub returns-in-Turns : goal.returns-in-Turns
+returns-in-Turns g c =
+    as_asked _ _ _ _ _ _ _ _ c.in-Turns.is
+    (turned _ _ _ _ c.in-Turns.config.now c.in-Turns.log.now (option_map (λ s. s.now) c.in-Turns.events) c.in-Turns.ticks c.in-Turns.bound _ _ c.turns.result c.status_after_turns.result c.turns.ensures c.status_after_turns.ensures)
 
 pub returns-in-Replay : goal.returns-in-Replay
 returns-in-Replay g c = as_asked _ _ _ _ _ _ _ _ c.in-Replay.is (replays _ _ _ c.in-Replay.config.now c.in-Replay.log.now _ _ c.replay.result c.status_after_replay.result c.replay.ensures.printed c.replay.ensures.fault c.status_after_replay.ensures)

@@ -1,0 +1,161 @@
+-- Machines that make turns.
+use Rattle.std.proofs.Common.{◌≡◌, ◌∙◌, ◌+◌, ℕ, ◌++◌, true, false, List, [], ◌∷◌, length, Option, Some, None, Result, Ok, Err, All, IfErr, OnOk, replicate, inl, inr, refl, ap, sym, subst, append_assoc}
+use Rattle.std.specs.Io.KnownBytes.{Appends}
+use Rattle.std.specs.Prelude.{IsErrAnd}
+use Rattle.std.proofs.lemmas.List.{length-replicate}
+use Rattle.mx_machine_world.specs.declared.config.Config.{Config}
+use Rattle.mx_machine_world.specs.declared.events.Answer.{Answer}
+use Rattle.mx_machine_world.specs.declared.events.Event.{Event}
+use Rattle.mx_machine_world.specs.declared.events.Refusal.{Refusal}
+use Rattle.mx_machine_world.specs.declared.history.Record.{Record}
+use Rattle.mx_machine_world.specs.Boot.{first_table, world_at_boot}
+use Rattle.mx_machine_world.specs.History.{AreAccepted, BootAndHistory, IsWritable, events_of, events_of_history, replay, world_after_events}
+use Rattle.mx_machine_world.specs.Move.{moves, world_after_event}
+use Rattle.mx_machine_world.specs.Rules.{Rules}
+use Rattle.mx_machine_world.specs.Service.{Service}
+use Rattle.mx_machine_world.specs.World.{World, actors}
+use Rattle.mx_machine.specs.Machine.{MachineState, kept_after, kept_along, record_of, with_records, world_of}
+use Rattle.mx_turns.specs.declared.turns.Ending.{Ending}
+use Rattle.mx_turns.specs.Made.{HasMade}
+use Rattle.mx_turns.specs.Turns.{turns}
+use Rattle.mx_app_failure.specs.declared.failure.Failure.{Failure as Kind}
+use Rattle.mx_app_step.specs.Asked.{Asked}
+use Rattle.mx_app_step.specs.Failure.{IsWanting}
+use Rattle.mx_app_step.specs.Kept.{IsUnwritten, text_kept}
+use Rattle.mx_app_step.specs.Records.{IsFirstRefusal, IsRefusedAt, IsReplayPrinted}
+use Rattle.mx_app_step.specs.Report.{report_text}
+use Rattle.mx_app_step.specs.Telling.{IsUnsaved}
+use Rattle.mx_app_step.specs.Text.{saved_text}
+use Rattle.mx_app_step.specs.Written.{Written, kept}
+use Rattle.mx_app_step.specs.declared.records.Replayed.{Replayed}
+use Rattle.mx_app_step.specs.declared.records.Replayed.TheVariants as replayed
+use Rattle.mx_app_turns.specs.Turned.{IsBegun, IsNotBegun, IsTurned, MakesTurns, coming, writes_over}
+
+-- ---- a machine's turns
+
+same_boot : (k : BootAndHistory) (a : ℕ) (x : Event) (r : Result Answer Refusal) → (kept_after k a x r).boot ≡ k.boot
+same_boot k a x (Err r) = refl
+same_boot k a x (Ok y) = by (record_of x y)
+  where
+    by : (o : Option _) → (with_records k a o).boot ≡ k.boot
+    by None = refl
+    by (Some e) = refl
+
+kept_boot : (k : BootAndHistory) (xs : List (ℕ × Event)) (rs : List (Result Answer Refusal)) → (kept_along k xs rs).boot ≡ k.boot
+kept_boot k [] rs = refl
+kept_boot k (x ∷ xs) [] = refl
+kept_boot k (x ∷ xs) (r ∷ rs) = kept_boot (kept_after k x.0 x.1 r) xs rs ∙ same_boot k x.0 x.1 r
+
+shown_now : (m : MachineState) → ((world_of m).table ≡ (replay m.kernel).table) × ((world_of m).services ≡ (replay m.kernel).services)
+unfolding world_of
+shown_now m = (refl, refl)
+
+abbrev at_boot : World → BootAndHistory
+at_boot w = record { boot = w; history = [] }
+
+-- a machine that made the turns of a configuration
+pub turned : (c : Config) (vs : List Service) (bound : ℕ) (events : List Event) (m n : MachineState) (ending : Ending) → world_of m ≡ world_at_boot c vs → m.kernel ≡ at_boot (world_of m)
+    → HasMade m (turns bound (world_of m) events).made n → ending ≡ (turns bound (world_of m) events).ending
+    → AreAccepted n.kernel.boot (events_of_history n.kernel.history) → All (IsWritable (actors (replay n.kernel))) n.kernel.history → IsTurned c vs bound events n.kernel ending
+turned c vs bound events m n ending booted begun made ends accepted written =
+    let xs : World → List (ℕ × Event) = λ w. (turns bound w events).made in
+    let shown = shown_now n in
+    let world : world_of n ≡ world_after_events (world_at_boot c vs) (xs (world_at_boot c vs)) = made.world ∙ ap (λ (w : World). world_after_events w (xs w)) booted in
+    record {
+      boot = ap (λ (k : BootAndHistory). k.boot) made.kernel ∙ kept_boot m.kernel (xs (world_of m)) (moves (world_of m) (xs (world_of m))).0 ∙ ap (λ (k : BootAndHistory). k.boot) begun ∙ booted;
+      made = made.kernel ∙ ap (λ (k : BootAndHistory). kept_along k (xs (world_of m)) (moves (world_of m) (xs (world_of m))).0) begun ∙ ap (λ (w : World). kept_along (at_boot w) (xs w) (moves w (xs w)).0) booted;
+      ending = ends ∙ ap (λ (w : World). (turns bound w events).ending) booted;
+      world = (sym shown.0 ∙ ap (λ (w : World). w.table) world, sym shown.1 ∙ ap (λ (w : World). w.services) world);
+      accepted = accepted;
+      written = written;
+    }
+
+-- the same, by what was read and asked for
+pub turned_at : (c : Config) (vs : List Service) (bound known : ℕ) (listed items : List Event) (ticks : ℕ) (m n : MachineState) (k : BootAndHistory) (ending : Ending) → bound ≡ known → listed ≡ items → k ≡ n.kernel
+    → world_of m ≡ world_at_boot c vs → m.kernel ≡ at_boot (world_of m) → HasMade m (turns bound (world_of m) (coming listed ticks)).made n → ending ≡ (turns bound (world_of m) (coming listed ticks)).ending
+    → AreAccepted k.boot (events_of_history k.history) → All (IsWritable (actors (replay k))) k.history → IsTurned c vs known (coming items ticks) k ending
+turned_at c vs bound known listed items ticks m n k ending same_bound same_items same_kernel booted begun made ends accepted written =
+    subst (λ (x : BootAndHistory). IsTurned c vs known (coming items ticks) x ending) (sym same_kernel)
+    (subst (λ (l : List Event). IsTurned c vs known (coming l ticks) n.kernel ending) same_items
+    (subst (λ (b : ℕ). IsTurned c vs b (coming listed ticks) n.kernel ending) same_bound
+    (turned c vs bound (coming listed ticks) m n ending booted begun made ends
+    (subst (λ (x : BootAndHistory). AreAccepted x.boot (events_of_history x.history)) same_kernel accepted)
+    (subst (λ (x : BootAndHistory). All (IsWritable (actors (replay x))) x.history) same_kernel written))))
+
+-- ---- what `mx turns` tells, by how it ends
+
+rules_at_boot : (c : Config) (vs : List Service) → (world_at_boot c vs).table.rules ≡ c.rules
+unfolding first_table
+rules_at_boot c vs = refl
+
+-- what isn't written isn't saved
+unsaved : (name text : List ℕ) (ws : List Written) (f : Kind) → IsUnwritten name text ws f → IsUnsaved name text ws f
+unsaved name text ws f h = elim h [
+  | inl none ↦ inl (none.0, inr none.1)
+  | inr file ↦ inr (inl file)
+]
+
+module _ (config : List ℕ) (file : Option (List ℕ)) (log : List ℕ) (ticks bound : ℕ) (qs : List Asked) (Prints : List ℕ → Type 0) (apart : writes_over config file log ≡ false) where
+  pub not_begun : (f : Kind) (r : Result Ending Kind) → IsNotBegun config file qs f → IsErrAnd r (λ y. y ≡ f) → MakesTurns config file log ticks bound qs [] Prints r
+  not_begun f (Ok u) why h = absurd h
+  not_begun f (Err y) why h = inr (inl (apart, refl, subst (λ z. IsNotBegun config file qs z) (sym h) why))
+
+  module _ (c : Config) (vs : List Service) (events : List Event) (k : BootAndHistory) (ending : Ending) (begun : IsBegun config file qs c vs events) (made : IsTurned c vs bound (coming events ticks) k ending) where
+    by_rules : text_kept k ≡ saved_text c.rules k.history
+    by_rules = ap (λ (r : Rules). saved_text r k.history) (ap (λ (w : World). w.table.rules) made.boot ∙ rules_at_boot c vs)
+
+    pub unwritten : (ws : List Written) (f : Kind) (r : Result Ending Kind) → IsUnwritten log (text_kept k) ws f → IsErrAnd r (λ y. y ≡ f) → MakesTurns config file log ticks bound qs ws Prints r
+    unwritten ws f (Ok u) why h = absurd h
+    unwritten ws f (Err y) why h =
+        inr (inr (c, vs, events, k, ending, apart, begun, made, subst (λ t. IsUnsaved log t ws y) by_rules (subst (λ z. IsUnsaved log (text_kept k) ws z) (sym h) (unsaved log (text_kept k) ws f why))))
+
+    pub untold : (f : Kind) (r : Result Ending Kind) → IsWanting f → IsErrAnd r (λ y. y ≡ f) → MakesTurns config file log ticks bound qs (kept log (text_kept k) ∷ []) Prints r
+    untold f (Ok u) why h = absurd h
+    untold f (Err y) why h =
+        inr (inr (c, vs, events, k, ending, apart, begun, made, inr (inr (ap (λ t. kept log t ∷ []) by_rules, subst IsWanting (sym h) why))))
+
+    pub written : Prints (report_text (replay k).table (replay k).services) → MakesTurns config file log ticks bound qs (kept log (text_kept k) ∷ []) Prints (Ok ending)
+    written printed = (c, vs, events, k, apart, begun, made, ap (λ t. kept log t ∷ []) by_rules, printed)
+
+-- ---- its replay
+
+pub actors_turned : (c : Config) (vs : List Service) (k : BootAndHistory) → ((w : World) (xs : List (ℕ × Event)) → actors (world_after_events w xs) ≡ actors w) → k.boot ≡ world_at_boot c vs → actors (replay k) ≡ c.cpus + c.others
+unfolding replay
+actors_turned c vs k stay boot = stay k.boot (events_of_history k.history) ∙ ap actors boot ∙ ap (λ n. n + c.others) (length-replicate c.cpus None)
+
+events_both : (xs ys : List Record) → events_of_history (xs ++ ys) ≡ events_of_history xs ++ events_of_history ys
+events_both [] ys = refl
+events_both (x ∷ xs) ys = ap (λ l. events_of x.actor x.event ++ l) (events_both xs ys) ∙ sym (append_assoc (events_of x.actor x.event) (events_of_history xs) (events_of_history ys))
+
+accepted_after : (w : World) (xs ys : List (ℕ × Event)) → AreAccepted w (xs ++ ys) → AreAccepted (world_after_events w xs) ys
+accepted_after w [] ys h = h
+accepted_after w (x ∷ xs) ys h = accepted_after (world_after_event w x.0 x.1) xs ys h.1
+
+never_refused : (w : World) (xs ys : List (ℕ × Event)) (r : Refusal) → AreAccepted w (xs ++ ys) → IsFirstRefusal w xs r → ⊥
+never_refused w [] ys r h q = q
+never_refused w (x ∷ xs) ys r h q = elim q [
+  | inl e ↦ (let both : None ≡ Some r = sym h.0 ∙ e in absurd cc)
+  | inr p ↦ never_refused (world_after_event w x.0 x.1) xs ys r h.1 p.1
+]
+
+-- no record of an accepted history is refused
+not_refused : (w : World) (records : List Record) (n : ℕ) (r : Refusal) → AreAccepted w (events_of_history records) → IsRefusedAt w records n r → ⊥
+not_refused w records n r h q =
+    let above = q.0 in
+    let below = q.1 in
+    let x = q.2 in
+    let parts = ap events_of_history q.3 ∙ events_both above (x ∷ below) in
+    never_refused (world_after_events w (events_of_history above)) (events_of x.actor x.event) (events_of_history below) r
+    (accepted_after w (events_of_history above) (events_of_history (x ∷ below)) (subst (AreAccepted w) parts h)) q.5
+
+pub printed_whole : (c : Config) (vs : List Service) (k : BootAndHistory) (records : List Record) (how : Replayed) (before after : Option (List ℕ))
+    → k.boot ≡ world_at_boot c vs → AreAccepted k.boot (events_of_history k.history) → records ≡ k.history → IsReplayPrinted (world_at_boot c vs) records how (λ text. Appends before after text)
+    → (how ≡ replayed.Whole) × Appends before after (report_text (replay k).table (replay k).services)
+unfolding replay
+printed_whole c vs k records replayed.Whole before after boot accepted same h =
+    let there : world_after_events (world_at_boot c vs) (events_of_history records) ≡ world_after_events k.boot (events_of_history k.history) =
+    ap (λ (l : List Record). world_after_events (world_at_boot c vs) (events_of_history l)) same ∙ ap (λ w. world_after_events w (events_of_history k.history)) (sym boot) in
+    (refl, subst (λ (u : World). Appends before after (report_text u.table u.services)) there h.1)
+printed_whole c vs k records replayed.Refused before after boot accepted same h =
+    let all = subst (λ w. AreAccepted w (events_of_history records)) boot (subst (λ (l : List Record). AreAccepted k.boot (events_of_history l)) (sym same) accepted) in
+    absurd (not_refused (world_at_boot c vs) records h.0 h.1 all h.2)

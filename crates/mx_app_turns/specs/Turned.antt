@@ -1,0 +1,85 @@
+-- Machines that make turns, and what `mx turns` leaves (our own).
+use Rattle.std.specs.Prelude.{◌≡◌, ◌⊎◌, ◌||◌, ℕ, Bool, true, false, List, [], ◌∷◌, ◌++◌, All, Option, Some, None, Result, Ok, Err, replicate}
+use Rattle.std.specs.Io.KnownBytes.{Appends}
+use Rattle.std.specs.Str.{bytes_eq}
+use Rattle.mx_machine_world.specs.declared.config.Config.{Config}
+use Rattle.mx_machine_world.specs.declared.events.Event.{Event}
+use Rattle.mx_machine_world.specs.declared.events.Event.TheVariants.{Tick}
+use Rattle.mx_machine_world.specs.declared.history.Record.{Record}
+use Rattle.mx_machine_world.specs.Boot.{world_at_boot}
+use Rattle.mx_machine_world.specs.History.{AreAccepted, BootAndHistory, IsWritable, events_of_history, replay, world_after_events}
+use Rattle.mx_machine_world.specs.Move.{moves}
+use Rattle.mx_machine_world.specs.World.{actors}
+use Rattle.mx_machine_world.specs.Service.{Service}
+use Rattle.mx_machine.specs.Machine.{kept_along}
+use Rattle.mx_turns.specs.declared.turns.Ending.{Ending}
+use Rattle.mx_turns.specs.Turns.{turns}
+use Rattle.mx_app_failure.specs.declared.failure.Failure.{Failure as Kind}
+use Rattle.mx_app_failure.specs.declared.failure.Failure.TheVariants.{File, NoMemory}
+use Rattle.mx_app_step.specs.Asked.{Asked}
+use Rattle.mx_app_step.specs.Course.{IsSaved}
+use Rattle.mx_app_step.specs.Records.{IsReplayPrinted}
+use Rattle.mx_app_step.specs.Report.{report_text}
+use Rattle.mx_app_step.specs.Setup.{IsNotStarted, IsSetup, IsSetupFault, IsStart}
+use Rattle.mx_app_step.specs.Telling.{IsUnsaved}
+use Rattle.mx_app_step.specs.Text.{saved_text}
+use Rattle.mx_app_step.specs.Written.{Written, kept}
+use Rattle.mx_app_step.specs.declared.records.Replayed.{Replayed}
+use Rattle.mx_app_step.specs.declared.records.Replayed.TheVariants.{Whole}
+use Rattle.mx_app_turns.specs.Events.{AreOutside, TellsOutside}
+
+-- ---- a machine's turns
+
+-- THE TURNS of a configuration and its services, at most n, with these outside events to come, end at a kernel: it was
+-- booted so, its history has the records of what was made, and no others, and the turns end so.
+pub record IsTurned (c : Config) (vs : List Service) (n : ℕ) (coming : List Event) (k : BootAndHistory) (how : Ending) : Type 0 where
+  pub boot : k.boot ≡ world_at_boot c vs
+  pub made : (let xs = (turns n (world_at_boot c vs) coming).made in k ≡ kept_along (record { boot = world_at_boot c vs; history = [] }) xs (moves (world_at_boot c vs) xs).0)
+  pub ending : how ≡ (turns n (world_at_boot c vs) coming).ending
+  -- the report is of the world after them: a kernel's table and services are the machine's
+  pub world : (let w = world_after_events (world_at_boot c vs) (turns n (world_at_boot c vs) coming).made in
+      ((replay k).table ≡ w.table) × ((replay k).services ≡ w.services))
+  pub accepted : AreAccepted k.boot (events_of_history k.history)
+  pub written : All (IsWritable (actors (replay k))) k.history
+
+-- ---- `mx turns`
+
+-- what is to come: the file's events, if a file is named, and then the ticks
+abbrev pub coming : List Event → ℕ → List Event
+coming events ticks = events ++ replicate ticks Tick
+
+-- the configuration, its services, and the file of outside events, if one is named, were read
+abbrev pub IsBegun : List ℕ → Option (List ℕ) → List Asked → Config → List Service → List Event → Type 0
+IsBegun config None qs c vs events = IsSetup config qs c vs × (events ≡ [])
+IsBegun config (Some name) qs c vs events = IsStart AreOutside config name qs c vs events
+
+-- the first fault of these files; or, if there is none, out of memory
+abbrev pub IsNotBegun : List ℕ → Option (List ℕ) → List Asked → Kind → Type 0
+IsNotBegun config None qs f = IsSetupFault config qs f ⊎ ((c : Config) × (vs : List Service) × IsSetup config qs c vs × (f ≡ NoMemory))
+IsNotBegun config (Some name) qs f = IsNotStarted AreOutside TellsOutside config name qs f
+
+-- a file that is read would be written over
+abbrev pub writes_over : List ℕ → Option (List ℕ) → List ℕ → Bool
+writes_over config None log = bytes_eq config log
+writes_over config (Some events) log = bytes_eq config log || bytes_eq events log
+
+-- WHAT `mx turns` DOES: it writes the text of the history of a machine's turns, whole, and prints the report on the
+-- machine after them; or it tells why it didn't
+abbrev pub MakesTurns : List ℕ → Option (List ℕ) → List ℕ → ℕ → ℕ → List Asked → List Written → (List ℕ → Type 0) → Result Ending Kind → Type 0
+MakesTurns config events log ticks n qs ws Prints (Ok ending) =
+    (c : Config) × (vs : List Service) × (xs : List Event) × (k : BootAndHistory) × (writes_over config events log ≡ false) × IsBegun config events qs c vs xs
+    × IsTurned c vs n (coming xs ticks) k ending
+    × (ws ≡ kept log (saved_text c.rules k.history) ∷ []) × Prints (report_text (replay k).table (replay k).services)
+MakesTurns config events log ticks n qs ws Prints (Err f) =
+    ((writes_over config events log ≡ true) × (qs ≡ []) × (ws ≡ []) × (f ≡ File))
+    ⊎ (((writes_over config events log ≡ false) × (ws ≡ []) × IsNotBegun config events qs f)
+    ⊎ ((c : Config) × (vs : List Service) × (xs : List Event) × (k : BootAndHistory) × (ending : Ending) × (writes_over config events log ≡ false) × IsBegun config events qs c vs xs
+    × IsTurned c vs n (coming xs ticks) k ending × IsUnsaved log (saved_text c.rules k.history) ws f))
+
+-- ---- its replay
+
+-- `mx replay` of the same configuration and services prints, of the text that was written, the same report
+abbrev pub TurnsReplay : Type 0
+TurnsReplay = (c d : Config) (vs : List Service) (n : ℕ) (xs : List Event) (k : BootAndHistory) (ending : Ending) (records : List Record) (how : Replayed) (before after : Option (List ℕ))
+    → IsTurned c vs n xs k ending → IsSaved (saved_text c.rules k.history) c d records → IsReplayPrinted (world_at_boot d vs) records how (λ text. Appends before after text)
+    → (how ≡ Whole) × Appends before after (report_text (replay k).table (replay k).services)

@@ -1,0 +1,71 @@
+//! Files of outside events.
+
+ghost use Rattle.std.specs.Prelude.{◌≡◌, IfErr, IfOk};
+ghost use Rattle.mx_text.specs.Fields.{fields};
+ghost use Rattle.mx_text.specs.Lines.{lines};
+ghost use Rattle.mx_boot_script.specs.Reading.{AreLinesRead, TellsUnread};
+ghost use Rattle.mx_app_turns.specs.Events.{outside_event_of, outside_line};
+
+use mx_app_start::{BootError, Config, Course};
+use mx_boot_script::{ReadsLine, Verb, only_count, read_lines, verb_named};
+use mx_text::next_field;
+use mx_turns::Event;
+use std::alloc::Global;
+
+/// What a line says that begins with a verb and goes on like this.
+fn outside_event_of(verb: Verb, rest: &[u8]) -> Option<Event>
+    ensures { result ≡ outside_event_of verb (fields rest.now) }
+{
+    match verb {
+        Verb::Line => Some(Event::Line(only_count(rest)?)),
+        Verb::Tick => match next_field(rest) {
+            None => Some(Event::Tick),
+            Some(_) => None,
+        },
+        Verb::Kill => Some(Event::Kill(only_count(rest)?)),
+        _ => None,
+    }
+}
+
+/// Reads the lines of a file of outside events.
+struct EventReader;
+
+impl ReadsLine for EventReader {
+    ghost use Rattle.mx_app_turns.specs.Events.{outside_line};
+
+    type Said = Event;
+
+    ghost says = { λ _ line. outside_line line };
+
+    fn read(&self, line: &[u8]) -> Option<Event> {
+        let (word, rest) = next_field(line)?;
+        let verb = verb_named(word)?;
+        outside_event_of(verb, rest)
+    }
+}
+
+/// The lines of a file of outside events, one a line: `line L`, `tick`, `kill E`, as in a script. The
+/// numbers are decimal, at most 2,147,483,647.
+pub fn outside_events(alloc: Global, text: &str) -> Result<Vec<Event>, BootError>
+    ensures read { IfOk result (λ found. AreLinesRead outside_line (lines text.now) found.items) }
+    ensures unread { IfErr result (λ e. TellsUnread outside_line (lines text.now) e) }
+{
+    read_lines(alloc, &EventReader, text.as_bytes())
+}
+
+/// The lines of a file of outside events, as what drives a machine.
+pub struct OutsideEvents;
+
+impl Course for OutsideEvents {
+    ghost use Rattle.mx_app_turns.specs.Events.{AreOutside, TellsOutside};
+
+    type Line = Event;
+
+    ghost IsSaid = { AreOutside };
+
+    ghost Tells = { TellsOutside };
+
+    fn read(alloc: Global, text: &str, _config: &mut Config) -> Result<Vec<Event>, BootError> {
+        outside_events(alloc, text)
+    }
+}

@@ -1,0 +1,141 @@
+//! A machine that one thread drives in turns.
+
+ghost use Rattle.std.specs.Prelude.{◌≡◌, ◌<◌, ◌++◌, [], List, None, IfErr, IfOk, length, option_map};
+ghost use Rattle.std.specs.Io.KnownBytes.{Appends};
+ghost use Rattle.mx_machine.specs.Machine.{world_of};
+ghost use Rattle.mx_machine_world.specs.Boot.{world_at_boot};
+ghost use Rattle.mx_machine_world.specs.Service.{Service};
+ghost use Rattle.mx_machine_world.specs.World.{actors};
+ghost use Rattle.mx_machine_world.specs.declared.config.Config.{Config as Configured};
+ghost use Rattle.mx_app_step.specs.Asked.{Asked};
+ghost use Rattle.mx_app_step.specs.Written.{Written};
+ghost use Rattle.mx_app_turns.specs.Turned.{IsBegun, IsNotBegun, MakesTurns, writes_over};
+
+use crate::events::OutsideEvents;
+use mx_app_start::start;
+use mx_app_step::{
+    Channels, Failure, FileWriter, Machine, Reader, print_kernel_report, setup_of, write_history,
+};
+use mx_machine::Kernel;
+use mx_turns::{Ending, Event, Outside, make_turns};
+use std::alloc::Global;
+use std::io::Write;
+
+/// The names of the files: that of the configuration, which is read, that of the history, which is written,
+/// and that of outside events, which is read too, if it is named.
+#[derive(Clone, Copy)]
+pub struct TurnsNames<'a> {
+    pub config: &'a str,
+    pub log: &'a str,
+    pub events: Option<&'a str>,
+}
+
+/// How many ticks are to come after the events of the file, and the most turns.
+#[derive(Clone, Copy)]
+pub struct TurnsWanted {
+    pub ticks: u32,
+    pub bound: u32,
+}
+
+/// A machine at boot, and the outside events of a file. The machine has an actor that is no processor.
+#[derive(Drop)]
+struct Begun {
+    machine: Machine,
+    events: Vec<Event>,
+}
+
+/// The machine of a configuration that no file of outside events drives.
+fn begin_alone<R: Reader>(alloc: Global, reader: &mut R, name: &str) -> Result<Begun, Failure>
+    ensures begun { IfOk result (λ b. (qs : List Asked) × (c : Configured) × (vs : List Service)
+        × (R.asked reader.new ≡ R.asked reader.old ++ qs)
+        × IsBegun name.now None qs c vs b.events.items
+        × (world_of b.machine ≡ world_at_boot c vs)) }
+    ensures kernel { IfOk result (λ b. b.machine.kernel
+        ≡ record { boot = world_of b.machine; history = [] }) }
+    ensures other { IfOk result (λ b. length (world_of b.machine).cpus
+        < actors (world_of b.machine)) }
+    ensures fault { IfErr result (λ f. (qs : List Asked)
+        × (R.asked reader.new ≡ R.asked reader.old ++ qs) × IsNotBegun name.now None qs f) }
+{
+    let (config, mut services) = setup_of(alloc, reader, name)?;
+    let kernel = Kernel::new(alloc, &config, &mut services)?;
+    Ok(Begun {
+        machine: Machine::new(kernel),
+        events: Vec::new(alloc),
+    })
+}
+
+/// Boots the machine of a configuration, after the file of outside events is read, if one is named.
+fn begin<R: Reader>(
+    alloc: Global,
+    reader: &mut R,
+    name: &str,
+    events: Option<&str>,
+) -> Result<Begun, Failure>
+    ensures begun { IfOk result (λ b. (qs : List Asked) × (c : Configured) × (vs : List Service)
+        × (R.asked reader.new ≡ R.asked reader.old ++ qs)
+        × IsBegun name.entry.now (option_map (λ s. s.now) events.entry) qs c vs b.events.items
+        × (world_of b.machine ≡ world_at_boot c vs)) }
+    ensures kernel { IfOk result (λ b. b.machine.kernel
+        ≡ record { boot = world_of b.machine; history = [] }) }
+    ensures other { IfOk result (λ b. length (world_of b.machine).cpus
+        < actors (world_of b.machine)) }
+    ensures fault { IfErr result (λ f. (qs : List Asked)
+        × (R.asked reader.new ≡ R.asked reader.old ++ qs)
+        × IsNotBegun name.entry.now (option_map (λ s. s.now) events.entry) qs f) }
+{
+    match events {
+        None => begin_alone(alloc, reader, name),
+        Some(file) => {
+            let started = start::<OutsideEvents, R>(alloc, reader, name, file)?;
+            Ok(Begun {
+                machine: started.machine,
+                events: started.lines,
+            })
+        }
+    }
+}
+
+/// Whether a file that is read would be written over.
+fn writes_over(names: TurnsNames<'_>) -> bool
+    ensures { result ≡ writes_over names.entry.config.now
+        (option_map (λ s. s.now) names.entry.events) names.entry.log.now }
+{
+    match names.events {
+        None => names.config == names.log,
+        Some(events) => names.config == names.log || events == names.log,
+    }
+}
+
+/// Makes turns of the machine of a configuration, with the outside events of a file and then ticks to come,
+/// until it is at rest and none is to come, or that many turns are made, or its history is full. Then
+/// writes the history to a file, and prints the report. Answers how the turns ended. No file that is read
+/// is written over: if LOG has its name, nothing is read or written.
+pub fn turns<R: Reader + Drop, F: FileWriter + Drop, W: Write + Drop>(
+    alloc: Global,
+    channels: &mut Channels<R, F, W>,
+    names: TurnsNames<'_>,
+    wanted: TurnsWanted,
+) -> Result<Ending, Failure>
+    ensures { (qs : List Asked) × (ws : List Written)
+        × (R.asked channels.new.reader ≡ R.asked channels.old.reader ++ qs)
+        × (F.written channels.new.files ≡ F.written channels.old.files ++ ws)
+        × MakesTurns names.entry.config.now (option_map (λ s. s.now) names.entry.events)
+        names.entry.log.now wanted.ticks wanted.bound qs ws
+        (λ text. Appends (W.contents channels.old.out) (W.contents channels.new.out) text) result }
+{
+    if writes_over(names) {
+        return Err(Failure::File);
+    }
+    let mut begun = begin(alloc, &mut channels.reader, names.config, names.events)?;
+    let outside = Outside {
+        events: begun.events.as_slice(),
+        ticks: wanted.ticks,
+    };
+    let ending = make_turns(&mut begun.machine, outside, u64::from(wanted.bound));
+    let kernel = begun.machine.kernel();
+    kernel.opened();
+    write_history(alloc, kernel, &mut channels.files, names.log)?;
+    print_kernel_report(alloc, kernel, &mut channels.out)?;
+    Ok(ending)
+}
