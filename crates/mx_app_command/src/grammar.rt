@@ -154,7 +154,7 @@ const EXPLAIN: CommandArgument<'static> = CommandArgument {
 };
 
 /// The subcommands, those that work on one program first.
-static SUBCOMMANDS: [Subcommand<'static>; 11] = [
+static SUBCOMMANDS: [Subcommand<'static>; 12] = [
     Subcommand {
         name: "one",
         help: "Runs one program for at most N steps and prints its registers, flags and how it stopped",
