@@ -1,6 +1,6 @@
 """Proves and builds a program that isn't one of the repository's crates, over copies of the crates below it.
 
-The folder of such a program has `crates.txt`, its line as in the repository's, and sources and proofs as a crate has
+The folder of such a program has `crates.txt.in`, its line as in the repository's, and sources and proofs as a crate has
 them. Their names end in `.in`, since the kit wants each source and proof of the repository to belong to a crate.
 """
 import contextlib
@@ -62,7 +62,7 @@ def copy_source(source, own):
 def lay(source, folder, top=TOP):
     """Lays a program and the crates below it into an empty folder. Returns the program's folder and name."""
     lines, below = read_lines(os.path.join(top, "crates.txt"))
-    own_lines, own_below = read_lines(os.path.join(source, "crates.txt"))
+    own_lines, own_below = read_lines(os.path.join(source, "crates.txt.in"))
     (name, own_line), = own_lines.items()
     needed = needed_by(own_below[name], below)
     os.mkdir(os.path.join(folder, "crates"))
