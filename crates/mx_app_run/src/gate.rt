@@ -24,9 +24,10 @@ struct LoopState {
     questions: AtomicU32,
 }
 
-/// Ends all loops where the machine is at rest after the last tick, and where one loop has ended.
+/// The gate of a run: it ends all loops where the machine is at rest after the last tick, and where one
+/// loop has ended.
 #[derive(Drop)]
-pub(crate) struct RunGate<'a, R> {
+pub struct RunGate<'a, R> {
     clock: &'a R,
     respawner: u8,
     ticks: u32,
@@ -38,7 +39,7 @@ pub(crate) struct RunGate<'a, R> {
 
 impl<'a, R> RunGate<'a, R> {
     /// The gate of a run. The respawner is the first actor that is no processor.
-    pub(crate) fn new(clock: &'a R, respawner: u8, ticks: u32) -> RunGate<'a, R> {
+    pub fn new(clock: &'a R, respawner: u8, ticks: u32) -> RunGate<'a, R> {
         RunGate {
             clock,
             respawner,

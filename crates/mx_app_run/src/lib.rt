@@ -5,6 +5,7 @@ mod gate;
 mod laws;
 mod running;
 
+pub use gate::RunGate;
 pub use laws::{replay_again, run_again};
 pub use mx_app_step::{
     Channels, Failure, FileWriter, KeptFile, MemoryWriter, NamedFile, NamedFiles, Reader, Replayed,

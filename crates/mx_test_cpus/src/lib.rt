@@ -2,6 +2,10 @@
 #![tactic(auto)]
 
 #[cfg(test)]
+mod gates;
+#[cfg(test)]
+mod loops;
+#[cfg(test)]
 mod machine;
 #[cfg(test)]
 mod threads;

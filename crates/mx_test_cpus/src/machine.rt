@@ -1,6 +1,6 @@
 //! Machines for the trials: some number of equal services on some number of processors.
 
-ghost use Rattle.std.specs.Prelude.{◌≡◌, ◌<◌, ◌≤◌, All, IfOk, IfSome, length};
+ghost use Rattle.std.specs.Prelude.{◌≡◌, ◌<◌, ◌≤◌, All, IfOk, IfSome, None, length};
 
 use mx_aout::read;
 use mx_cpus_drive::{ActorSeat, Naming};
@@ -68,10 +68,12 @@ fn line(alloc: Global, restarts: u32) -> Result<ServiceLine, Fail>
     })
 }
 
-/// A configuration with one actor beside the processors.
-pub fn config(alloc: Global, cpus: u8, log: u32, restarts: u32) -> Result<Config, Fail>
+/// A configuration with some actors beside the processors.
+pub fn config(alloc: Global, cpus: u8, others: u8, log: u32, restarts: u32) -> Result<Config, Fail>
     requires some { 0 < cpus }
     requires few { cpus ≤ 8 }
+    requires some_others { 0 < others }
+    requires few_others { others ≤ 4 }
     requires log { 0 < log }
     requires log_fits { log ≤ 1048576 }
     requires restarts { restarts ≤ 1048575 }
@@ -80,7 +82,7 @@ pub fn config(alloc: Global, cpus: u8, log: u32, restarts: u32) -> Result<Config
     lines.push(line(alloc, restarts)?)?;
     Ok(Config {
         cpus,
-        others: 1,
+        others,
         log,
         rules: Rules::Strict,
         lines: ServiceLines::from_vec(lines),
@@ -93,6 +95,18 @@ pub fn last_seat<M: Naming>(seats: &mut Vec<ActorSeat>) -> Option<ActorSeat>
     ensures rest { All (λ s. s.table ≡ M.table) seats.new.items }
     ensures last { IfSome result (λ s. s.table ≡ M.table) }
     ensures fewer { IfSome result (λ _. length seats.new.items < length seats.old.items) }
+{
+    seats.pop()
+}
+
+/// The seat of the last actor, where none holds a process.
+pub fn last_idle_seat<M: Naming>(seats: &mut Vec<ActorSeat>) -> Option<ActorSeat>
+    requires tables { All (λ s. s.table ≡ M.table) seats.old.items }
+    requires empties { All (λ s. s.held ≡ None) seats.old.items }
+    ensures tables { All (λ s. s.table ≡ M.table) seats.new.items }
+    ensures empties { All (λ s. s.held ≡ None) seats.new.items }
+    ensures last { IfSome result (λ s. s.table ≡ M.table) }
+    ensures idle { IfSome result (λ s. s.held ≡ None) }
 {
     seats.pop()
 }

@@ -175,7 +175,7 @@ fn hold_at_once(rt: HostRuntime) -> Result<(), Fail> {
         let name = row.name;
         assert!(rt; 0 < row.cpus && row.cpus <= 8 && 0 < row.log && row.log <= 64);
         let mut services = services(rt.alloc(), row.cpus, 0)?;
-        let config = config(rt.alloc(), row.cpus, row.log, 0)?;
+        let config = config(rt.alloc(), row.cpus, 1, row.log, 0)?;
         let Ok(booted) = boot(rt.alloc(), &config, &mut services) else {
             return Err(Fail::new("no memory"));
         };

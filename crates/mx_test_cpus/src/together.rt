@@ -130,7 +130,7 @@ fn all_at_once(rt: HostRuntime) -> Result<(), Fail> {
         let name = row.name;
         assert!(rt; 0 < row.cpus && row.cpus <= 8 && 0 < row.log && row.log <= 64);
         let mut services = services(rt.alloc(), row.cpus, 0)?;
-        let config = config(rt.alloc(), row.cpus, row.log, 0)?;
+        let config = config(rt.alloc(), row.cpus, 1, row.log, 0)?;
         let (blank, seats) = boot(rt.alloc(), &config, &mut services).map_err(|_| "memory")?;
         assert!(rt; are_out::<Brand>(&rt, blank, seats, row), "{name}");
     }
@@ -220,7 +220,7 @@ fn lent_and_given<M: Naming>(
 fn what_happens_meanwhile(rt: HostRuntime) -> Result<(), Fail> {
     for meanwhile in [Meanwhile::Kill, Meanwhile::Resume] {
         let mut services = services(rt.alloc(), 1, 0)?;
-        let config = config(rt.alloc(), 1, 8, 0)?;
+        let config = config(rt.alloc(), 1, 1, 8, 0)?;
         let (blank, seats) = boot(rt.alloc(), &config, &mut services).map_err(|_| "memory")?;
         assert!(rt; lent_and_given::<Brand>(&rt, blank, seats, meanwhile));
     }

@@ -323,7 +323,7 @@ fn calls_in_turn(rt: HostRuntime) -> Result<(), Fail> {
         let name = row.name;
         assert!(rt; 0 < row.log && row.log <= 64 && row.restarts <= 1, "{name}");
         let mut services = services(rt.alloc(), 1, row.restarts)?;
-        let config = config(rt.alloc(), 1, row.log, row.restarts)?;
+        let config = config(rt.alloc(), 1, 1, row.log, row.restarts)?;
         let (blank, seats) = boot(rt.alloc(), &config, &mut services).map_err(|_| "memory")?;
         let fault = first_other::<Brand>(&rt, blank, seats, row);
         let turn = fault.unwrap_or(0);

@@ -4,6 +4,8 @@
 #[cfg(test)]
 mod counts;
 #[cfg(test)]
+mod gates;
+#[cfg(test)]
 mod killed;
 #[cfg(test)]
 mod machine;

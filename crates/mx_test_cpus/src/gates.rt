@@ -1,0 +1,98 @@
+//! A gate that notes each call that a loop makes of it.
+
+use mx_cpus_drive::Gate;
+use std::array;
+use std::sync::atomic::{AtomicU32, AtomicU64, Ordering};
+
+/// How many calls a gate notes.
+const NOTED: usize = 64;
+
+/// A call of a gate. A turn above 99 is noted as 99.
+#[derive(Clone, Copy)]
+pub enum GateCall {
+    Held { cpu: u8, turn: u64 },
+    Given(u8),
+    Again { actor: u8, at_rest: bool },
+    Ended(u8),
+}
+
+/// A call as a number: which kind of call, then a number below 100, then the actor.
+fn number_of(call: GateCall) -> u64 {
+    let (kind, actor, number): (u64, u8, u64) = match call {
+        GateCall::Held { cpu, turn } => (1, cpu, turn.min(99)),
+        GateCall::Given(cpu) => (2, cpu, 0),
+        GateCall::Again { actor, at_rest } => (3, actor, u64::from(at_rest)),
+        GateCall::Ended(actor) => (4, actor, 0),
+    };
+    kind.min(9) * 100_000 + number.min(99) * 1000 + u64::from(actor)
+}
+
+/// A gate that answers a number of questions with yes, and then no.
+#[derive(Drop)]
+pub struct NotingGate {
+    yes: u32,
+    questions: AtomicU32,
+    made: AtomicU32,
+    calls: [AtomicU64; NOTED],
+}
+
+impl NotingGate {
+    pub fn new(yes: u32) -> NotingGate {
+        NotingGate {
+            yes,
+            questions: AtomicU32::new(0),
+            made: AtomicU32::new(0),
+            calls: array::from_fn(|_| AtomicU64::new(0)),
+        }
+    }
+
+    fn note(&self, call: GateCall) {
+        let place = self.made.fetch_add(1, Ordering::SeqCst);
+        if let Some(noted) = self.calls.get(place as usize) {
+            noted.store(number_of(call), Ordering::SeqCst);
+        }
+    }
+
+    /// Whether just these calls were made, in this order.
+    pub fn has_just(&self, wanted: &[GateCall]) -> bool {
+        if self.made.load(Ordering::SeqCst) as usize != wanted.len() {
+            return false;
+        }
+        for (noted, call) in self.calls.iter().zip(wanted.iter()) {
+            if noted.load(Ordering::SeqCst) != number_of(*call) {
+                return false;
+            }
+        }
+        true
+    }
+
+    /// How often a call was made.
+    pub fn count(&self, call: GateCall) -> u32 {
+        let mut found: u32 = 0;
+        for noted in self.calls.iter() {
+            if noted.load(Ordering::SeqCst) == number_of(call) {
+                found = found.saturating_add(1);
+            }
+        }
+        found
+    }
+}
+
+impl Gate for NotingGate {
+    fn held(&self, cpu: u8, turn: u64) {
+        self.note(GateCall::Held { cpu, turn });
+    }
+
+    fn given(&self, cpu: u8) {
+        self.note(GateCall::Given(cpu));
+    }
+
+    fn again(&self, actor: u8, at_rest: bool) -> bool {
+        self.note(GateCall::Again { actor, at_rest });
+        self.questions.fetch_add(1, Ordering::SeqCst) < self.yes
+    }
+
+    fn ended(&self, actor: u8) {
+        self.note(GateCall::Ended(actor));
+    }
+}
