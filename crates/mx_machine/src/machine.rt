@@ -86,6 +86,14 @@ impl Machine {
         &self.kernel
     }
 
+    /// Ends the machine, and hands back its kernel. What its processors hold is let go. Takes no memory.
+    pub fn into_kernel(self) -> Kernel
+        ensures { result ≡ self.kernel }
+    {
+        let Machine { kernel, outs: _ } = self;
+        kernel
+    }
+
     /// By which rules it copies between processes.
     #[tactic(auto, unfolding(crate::specs::Machine::world_of))]
     pub fn rules(&self) -> Rules

@@ -1,0 +1,29 @@
+//! A machine that walks a saved history, forward and back.
+#![tactic(auto)]
+
+mod booting;
+mod either;
+mod going;
+mod laws;
+mod positions;
+mod records;
+mod seeking;
+mod several;
+mod stopping;
+mod walker;
+mod watching;
+
+pub use either::Either;
+pub use going::go_on;
+pub use laws::{
+    events_are_made, one_last, positions_alternate, positions_replay, searches_meet,
+    searches_name_one,
+};
+pub use positions::{
+    FIRST, NextEvent, Position, is_position, is_up_to, next_event, position_before, steps_in,
+};
+pub use seeking::{Mark, Sought, seek, seek_last};
+pub use several::Several;
+pub use stopping::{CodePlace, Coming, Leaving};
+pub use walker::Walker;
+pub use watching::{ByteChange, BytePlace, byte_in};

@@ -1,0 +1,308 @@
+//! A walker: a machine at a position of a history.
+
+ghost use Rattle.std.specs.Prelude.{◌≡◌, ◌<◌, ℕ, true, false, All, IfOk, IfSome, List, MatchOption, Some};
+ghost use Rattle.mx_machine_world.specs.declared.events.Event.{Event as Made};
+ghost use Rattle.mx_machine_world.specs.declared.history.Record.{Record as Noted};
+ghost use Rattle.mx_machine_world.specs.Move.{event_refusal};
+ghost use Rattle.mx_machine_world.specs.World.{actors};
+ghost use Rattle.mx_machine.specs.Machine.{world_of};
+ghost use Rattle.mx_walk.specs.Positions.{IsAbove, IsAt, IsPosition, IsUpTo, event_below, position_before};
+ghost use Rattle.mx_walk.specs.Seeking.{IsFirstMarked, IsLastMarked, IsPassed};
+ghost use Rattle.mx_walk.specs.Watching.{is_changed};
+ghost use Rattle.mx_walk.specs.Walks.{IsBootOf, IsLast, first, refusal_here, world_here};
+
+use crate::booting::boot_again;
+use crate::going::go_on;
+use crate::positions::{FIRST, Position, is_up_to, next_event, position_before};
+use crate::records::make_event;
+use crate::seeking::{Mark, Sought, seek, seek_last};
+use crate::watching::{ByteChange, BytePlace};
+use mx_machine::Machine;
+use mx_machine_world::{Config, Record, Refusal};
+use mx_word::NoMemory;
+use std::alloc::Global;
+use std::marker::Model;
+
+/// A machine at a position of a history.
+#[derive(Drop)]
+pub struct Walker {
+    machine: Machine,
+    config: Config,
+    records: Vec<Record>,
+    here: Position,
+    last: Position,
+}
+
+impl Model for Walker {
+    ghost use Rattle.mx_walk.specs.Walks.{IsWalk, Walk};
+
+    ghost Value = { Walk };
+
+    ghost view = { λ w. record {
+      boot = w.machine.kernel.boot;
+      records = w.records.items;
+      here = w.here;
+      last = w.last;
+    } };
+
+    ghost invariant = { λ w. IsWalk w.machine w.config (record {
+      boot = w.machine.kernel.boot;
+      records = w.records.items;
+      here = w.here;
+      last = w.last;
+    }) };
+}
+
+/// A machine that stands nowhere below a position, and where it stands: the machine as it is, or booted
+/// again.
+fn machine_above(
+    alloc: Global,
+    machine: Machine,
+    config: &Config,
+    here: Position,
+    to: Position,
+) -> Result<(Machine, Position), NoMemory>
+    requires { IsBootOf config.now machine.kernel.boot }
+    ensures there { IfOk result (λ above. (records : List Noted)
+        → IsAt machine.kernel.boot records here machine
+        → IsAt machine.kernel.boot records above.1 above.0) }
+    ensures early { IfOk result (λ above. IsUpTo above.1 to) }
+    ensures actors { IfOk result (λ above. actors (world_of machine) ≡ actors machine.kernel.boot
+        → actors (world_of above.0) ≡ actors machine.kernel.boot) }
+{
+    if is_up_to(here, to) {
+        return Ok((machine, here));
+    }
+    let again = boot_again(alloc, machine, config)?;
+    Ok((again, FIRST))
+}
+
+impl Walker {
+    /// Walks a history once to its last position, and stands at its first. Takes memory to boot the machine
+    /// again.
+    pub fn new(
+        alloc: Global,
+        machine: Machine,
+        config: Config,
+        records: Vec<Record>,
+    ) -> Result<Walker, NoMemory>
+        requires fresh { world_of machine ≡ machine.kernel.boot }
+        requires booted { IsBootOf config machine.kernel.boot }
+        requires actors { All (λ (x : Noted). x.actor < actors (world_of machine)) records.items }
+        ensures made { IfOk result (λ w. (w.boot ≡ machine.kernel.boot)
+            × (w.records ≡ records.items) × (w.here ≡ first)) }
+        ensures last { IfOk result (λ w. IsLast w.boot w.records w.last) }
+    {
+        let mut machine = machine;
+        let end = Position {
+            records: records.len(),
+            steps: 0,
+        };
+        let last = go_on(&mut machine, records.as_slice(), FIRST, end);
+        let machine = boot_again(alloc, machine, &config)?;
+        Ok(Walker {
+            machine,
+            config,
+            records,
+            here: FIRST,
+            last,
+        })
+    }
+
+    /// The machine, as it is at this position.
+    pub fn machine(&self) -> &Machine
+        ensures world { world_of result.now ≡ world_here self.now }
+        ensures boot { result.now.kernel.boot ≡ self.now.boot }
+    {
+        &self.machine
+    }
+
+    /// Where the walker stands.
+    pub fn here(&self) -> Position
+        ensures here { result ≡ self.now.here }
+        ensures position { IsPosition self.now.records result }
+        ensures early { IsUpTo result self.now.last }
+    {
+        self.here
+    }
+
+    /// The last position that it can come to.
+    pub fn last(&self) -> Position
+        ensures last { result ≡ self.now.last }
+        ensures is { IsLast self.now.boot self.now.records result }
+    {
+        self.last
+    }
+
+    /// The records of the history.
+    pub fn records(&self) -> &[Record]
+        ensures { result.now ≡ self.now.records }
+    {
+        self.records.as_slice()
+    }
+
+    /// Why the event below this position is refused here, if it is: none at the end, and none above the last
+    /// position. Nothing changes. Takes no memory.
+    pub fn refusal(&mut self) -> Option<Refusal>
+        ensures same { self.new ≡ self.old }
+        ensures refusal { result ≡ refusal_here self.old }
+    {
+        if self.here != self.last {
+            return None;
+        }
+        let next = next_event(self.records.as_slice(), self.here)?;
+        match make_event(&mut self.machine, next.actor, next.event) {
+            Ok(()) => unreachable!(),
+            Err(refusal) => Some(refusal),
+        }
+    }
+
+    /// Goes to any position that it can come to. Takes memory only to go back.
+    pub fn go_to(self, alloc: Global, to: Position) -> Result<Walker, NoMemory>
+        requires position { IsPosition self.records to }
+        requires early { IsUpTo to self.last }
+        ensures { IfOk result (λ w. w ≡ record self { here = to }) }
+    {
+        let Walker {
+            machine,
+            config,
+            records,
+            here,
+            last,
+        } = self;
+        let (mut machine, from) = machine_above(alloc, machine, &config, here, to)?;
+        go_on(&mut machine, records.as_slice(), from, to);
+        Ok(Walker {
+            machine,
+            config,
+            records,
+            here: to,
+            last,
+        })
+    }
+    /// Goes on up to right below the first event that is marked; to the last position if there is none.
+    /// Answers whether there is one. Takes no memory.
+    pub fn seek<M: Mark>(&mut self, mark: &mut M) -> bool
+        ensures same { self.new ≡ record self.old { here = self.new.here } }
+        ensures found { result ≡ true → IsFirstMarked (M.marks mark.old)
+            self.old.boot self.old.records self.old.here self.new.here }
+        ensures nowhere { result ≡ false → (self.new.here ≡ self.old.last)
+            × IsPassed (M.marks mark.old)
+            self.old.boot self.old.records self.old.here self.old.last }
+    {
+        let records = self.records.as_slice();
+        match seek(&mut self.machine, records, self.here, self.last, mark) {
+            Sought::Found(here) => {
+                self.here = here;
+                true
+            }
+            Sought::Nowhere(here) => {
+                self.here = here;
+                false
+            }
+        }
+    }
+
+    /// Walks from the first position to here again, and answers right above which event it came last that is
+    /// marked. Takes memory to boot the machine again.
+    fn look_back<M: Mark>(
+        self,
+        alloc: Global,
+        mark: &mut M,
+    ) -> Result<(Walker, Option<Position>), NoMemory>
+        ensures same { IfOk result (λ back. back.0 ≡ self) }
+        ensures marked { IfOk result (λ back. MatchOption back.1
+            (IsPassed (M.marks mark.old) self.boot self.records first self.here)
+            (λ p. IsPosition self.records p × IsAbove p self.here
+            × IsLastMarked (M.marks mark.old) self.boot self.records p self.here)) }
+    {
+        let Walker {
+            machine,
+            config,
+            records,
+            here,
+            last,
+        } = self;
+        let mut machine = boot_again(alloc, machine, &config)?;
+        let (_, found) = seek_last(&mut machine, records.as_slice(), FIRST, here, mark);
+        let walker = Walker {
+            machine,
+            config,
+            records,
+            here,
+            last,
+        };
+        Ok((walker, found))
+    }
+
+    /// Goes back to right above the last event that is marked; to the first position if there is none.
+    /// Answers whether there is one. Takes memory to boot the machine again.
+    pub fn seek_back<M: Mark>(self, alloc: Global, mark: &mut M) -> Result<(Walker, bool), NoMemory>
+        ensures same { IfOk result (λ back. back.0 ≡ record self { here = back.0.here }) }
+        ensures found { IfOk result (λ back. back.1 ≡ true → IsLastMarked (M.marks mark.old)
+            self.boot self.records back.0.here self.here) }
+        ensures nowhere { IfOk result (λ back. back.1 ≡ false → (back.0.here ≡ first)
+            × IsPassed (M.marks mark.old) self.boot self.records first self.here) }
+    {
+        let (walker, found) = self.look_back(alloc, mark)?;
+        match found {
+            Some(marked) => Ok((walker.go_to(alloc, marked)?, true)),
+            None => Ok((walker.go_to(alloc, FIRST)?, false)),
+        }
+    }
+
+    /// Goes on up to right above the first event that is marked; to the last position if there is none.
+    /// Answers whether there is one. Takes memory to boot the machine again.
+    pub fn seek_above<M: Mark>(
+        self,
+        alloc: Global,
+        mark: &mut M,
+    ) -> Result<(Walker, bool), NoMemory>
+        ensures same { IfOk result (λ on. on.0 ≡ record self { here = on.0.here }) }
+        ensures found { IfOk result (λ on. on.1 ≡ true → (q : Position) × IsPosition self.records q
+            × IsFirstMarked (M.marks mark.old) self.boot self.records self.here q
+            × (on.0.here ≡ position_before self.records q)) }
+        ensures nowhere { IfOk result (λ on. on.1 ≡ false → (on.0.here ≡ self.last)
+            × IsPassed (M.marks mark.old) self.boot self.records self.here self.last) }
+    {
+        let mut walker = self;
+        if !walker.seek(mark) {
+            return Ok((walker, false));
+        }
+        match position_before(walker.records(), walker.here()) {
+            Some(above) => Ok((walker.go_to(alloc, above)?, true)),
+            None => Ok((walker, true)),
+        }
+    }
+    /// Goes on to right below the next event that changes a byte; to the last position if there is none.
+    /// Answers whether there is one. Takes no memory.
+    pub fn go_to_next_change(&mut self, place: BytePlace) -> bool
+        ensures same { self.new ≡ record self.old { here = self.new.here } }
+        ensures found { result ≡ true → IsFirstMarked (λ w _ u. is_changed place w u)
+            self.old.boot self.old.records self.old.here self.new.here }
+        ensures nowhere { result ≡ false → (self.new.here ≡ self.old.last)
+            × IsPassed (λ w _ u. is_changed place w u)
+            self.old.boot self.old.records self.old.here self.old.last }
+    {
+        let mut mark = ByteChange::new(place);
+        self.seek(&mut mark)
+    }
+
+    /// Goes back to right above the last event that changed a byte; to the first position if there is none.
+    /// Answers whether there is one. Takes memory to boot the machine again.
+    pub fn go_to_last_change(
+        self,
+        alloc: Global,
+        place: BytePlace,
+    ) -> Result<(Walker, bool), NoMemory>
+        ensures same { IfOk result (λ back. back.0 ≡ record self { here = back.0.here }) }
+        ensures found { IfOk result (λ back. back.1 ≡ true
+            → IsLastMarked (λ w _ u. is_changed place w u)
+            self.boot self.records back.0.here self.here) }
+        ensures nowhere { IfOk result (λ back. back.1 ≡ false → (back.0.here ≡ first)
+            × IsPassed (λ w _ u. is_changed place w u) self.boot self.records first self.here) }
+    {
+        let mut mark = ByteChange::new(place);
+        self.seek_back(alloc, &mut mark)
+    }
+}
