@@ -6,9 +6,8 @@ TOP = os.path.dirname(os.path.dirname(os.path.abspath(__file__)))
 PROGRAM = "mx"
 # A proof takes so much memory at most, in bytes, but for a few.
 MEMORY = 2_500_000_000
-# Pages with a table of what a proof costs, in seconds of processor.
-PAGES = ("docs/EVIDENCE.md", "docs/ARCHITECTURE.md")
-ROW = re.compile(r"^\| `(\w+)` \| (\d+) \|", re.M)
+# What a proof costs, in seconds of processor: a line for each crate.
+SECONDS = os.path.join(TOP, "tools", "proof_seconds.txt")
 # What compiling and linking the program adds, in seconds.
 LINKING = 40
 
@@ -39,17 +38,13 @@ def crates_of_program():
 
 
 def seconds_of_proofs(names):
-    """What each of these crates' proofs costs. A crate that no table has yet costs what others do."""
-    known = {}
-    for page in PAGES:
-        file = os.path.join(TOP, page)
-        if os.path.isfile(file):
-            with open(file, encoding="utf-8") as it:
-                # The first row of a crate counts.
-                known = {**dict(reversed(ROW.findall(it.read()))), **known}
-    seconds = {name: int(known[name]) for name in names if name in known}
-    usual = sum(seconds.values()) // len(seconds) if seconds else 60
-    return {name: seconds.get(name, usual) for name in names}
+    """What each of these crates' proofs costs. A crate that has no line yet costs what others do."""
+    with open(SECONDS, encoding="utf-8") as lines:
+        rows = [line.split() for line in lines if not line.startswith("#")]
+    known = {name: int(seconds) for name, seconds in rows}
+    found = [known[name] for name in names if name in known]
+    usual = sum(found) // len(found) if found else 60
+    return {name: known.get(name, usual) for name in names}
 
 
 def lanes():

@@ -45,7 +45,7 @@ impl Example {
 }
 
 /// A program and its registers.
-const ONE_EXAMPLE: &str = "In the folder examples:
+const ONE_EXAMPLE: &str = "In the folder examples/programs:
 
 $ mx one sum.out 9
 EAX 00000080 ECX 00000000 EDX 00000000 EBX 00000000
@@ -56,10 +56,10 @@ stop trap after 3
 A step is one instruction, or one turn of REP.
 
 Status: 0 done, also if the program faults; 1 FILE is refused; 2 a mistake in the
-words; 3 FILE can't be read; 4 no memory. Formats: docs/REFERENCE.md.";
+words; 3 FILE can't be read; 4 no memory. Formats: docs/use/REFERENCE.md.";
 
 /// A text that assembles.
-const AS_EXAMPLE: &str = "In the folder examples:
+const AS_EXAMPLE: &str = "In the folder examples/programs:
 
 $ mx as gcd.s /tmp/gcd.out
 $ mx one /tmp/gcd.out 99
@@ -78,10 +78,10 @@ next:   add eax, 7
 .entry start
 
 Status: 0 done; 1 TEXT has a fault, and FILE is as it was; 2 a mistake in the words;
-3 a file can't be read or written; 4 no memory. Formats: docs/REFERENCE.md.";
+3 a file can't be read or written; 4 no memory. Formats: docs/use/REFERENCE.md.";
 
 /// A listing.
-const DIS_EXAMPLE: &str = "In the folder examples:
+const DIS_EXAMPLE: &str = "In the folder examples/programs:
 
 $ mx dis count.out
 00000000 mov ecx, 0x3
@@ -91,10 +91,10 @@ $ mx dis count.out
 0000000d int 0x21
 
 Status: 0 done; 1 FILE is refused; 2 a mistake in the words; 3 FILE can't be read;
-4 no memory. Formats: docs/REFERENCE.md.";
+4 no memory. Formats: docs/use/REFERENCE.md.";
 
 /// Symbols.
-const NM_EXAMPLE: &str = "In the folder examples:
+const NM_EXAMPLE: &str = "In the folder examples/programs:
 
 $ mx nm count.out
 00000005 T again
@@ -102,10 +102,10 @@ $ mx nm count.out
 A program without labels has no symbols, and nothing is printed.
 
 Status: 0 done; 1 FILE is refused; 2 a mistake in the words; 3 FILE can't be read;
-4 no memory. Formats: docs/REFERENCE.md.";
+4 no memory. Formats: docs/use/REFERENCE.md.";
 
 /// A configuration, and a script.
-const STEP_EXAMPLE: &str = "In the folder examples:
+const STEP_EXAMPLE: &str = "In the folder examples/machines/alarm:
 
 $ mx step alarm.config alarm.script | tail -n 4
 0 sleeper 0 down exit 7 77
@@ -114,7 +114,7 @@ console 1
 3
 
 With --save LOG the history that the script made is written to the file LOG before
-the report is printed, also where lines were refused:
+the report is printed, also if lines were refused. In the folder examples/machines/pair:
 
 $ mx step pair.config pair.script --save /tmp/pair.log | tail -n 4
 0 drv 0 receiving any 4 8
@@ -150,10 +150,10 @@ respawn 0
 
 Status: 0 done, also if lines were refused; 1 a text or a program's file is refused;
 2 a mistake in the words; 3 a file can't be read or written; 4 no memory. Formats:
-docs/REFERENCE.md.";
+docs/use/REFERENCE.md.";
 
 /// A run by threads, and its replay.
-const RUN_EXAMPLE: &str = "In the folder examples:
+const RUN_EXAMPLE: &str = "In the folder examples/machines/pair:
 
 $ mx run pair.config /tmp/pair.log --ticks 3
 0 drv 0 receiving any 4 8
@@ -175,10 +175,10 @@ it. Two runs may differ; the replay of a run's history never does.
 
 Status: 0 done, also if the history was full; 1 a text or a program's file is refused;
 2 a mistake in the words; 3 a file can't be read or written, or LOG is CONFIG; 4 no
-memory. Formats: docs/REFERENCE.md.";
+memory. Formats: docs/use/REFERENCE.md.";
 
 /// A history, and what a refused event of it gives.
-const REPLAY_EXAMPLE: &str = "In the folder examples:
+const REPLAY_EXAMPLE: &str = "In the folder examples/machines/pair:
 
 $ mx replay pair.config pair.log
 0 drv 0 receiving any 4 8
@@ -197,10 +197,10 @@ steps, with a tick by the actor after the processors, here number 1:
 
 Status: 0 done; 1 a text or a program's file is refused, or an event, which is told
 by its line; 2 a mistake in the words; 3 a file can't be read; 4 no memory. Formats:
-docs/REFERENCE.md.";
+docs/use/REFERENCE.md.";
 
 /// A debugger's script.
-const DB_EXAMPLE: &str = "In the folder examples:
+const DB_EXAMPLE: &str = "In the folder examples/machines/pair:
 
 $ mx db pair.config pair.db | tail -n 6
 00000000 01 00 00 00 00 00 00 00 00 00 00 00 00 00 00 00
@@ -228,10 +228,10 @@ may stand. Addresses are decimal here, and hexadecimal in listings.
 
 Status: 0 done, also if lines were refused; 1 a text or a program's file is refused;
 2 a mistake in the words; 3 a file can't be read; 4 no memory. Formats:
-docs/REFERENCE.md.";
+docs/use/REFERENCE.md.";
 
 /// What a history's records did.
-const TRACE_EXAMPLE: &str = "In the folder examples:
+const TRACE_EXAMPLE: &str = "In the folder examples/machines/pair:
 
 $ mx trace pair.config pair.log
 1 0 take: drv 0 budget 20
@@ -265,10 +265,10 @@ $ mx trace pair.config pair.log --from 6 --to 6
 
 Status: 0 done; 1 a text or a program's file is refused, or an event, which is told
 by its line; 2 a mistake in the words; 3 a file can't be read; 4 no memory. Formats:
-docs/REFERENCE.md.";
+docs/use/REFERENCE.md.";
 
 /// A picture of a history.
-const DRAW_EXAMPLE: &str = "In the folder examples:
+const DRAW_EXAMPLE: &str = "In the folder examples/machines/restart:
 
 $ mx draw restart.config restart.log >/tmp/restart.svg
 $ mx draw restart.config restart.log --from 19 --to 30 >/tmp/killed.svg
@@ -281,4 +281,4 @@ records: of a longer history it has those from A on, and its title says which.
 
 Status: 0 done; 1 a text or a program's file is refused, or an event, which the picture
 tells at its top right; 2 a mistake in the words; 3 a file can't be read; 4 no memory.
-Formats: docs/REFERENCE.md.";
+Formats: docs/use/REFERENCE.md.";

@@ -906,7 +906,7 @@ Each takes --explain: if it fails, a second line tells what was wanted.
 A step is one instruction, or one turn of REP.
 
 Status: 0 done, also if the program faults; 1 FILE is refused; 2 a mistake in the
-words; 3 FILE can't be read; 4 no memory. Formats: docs/REFERENCE.md.
+words; 3 FILE can't be read; 4 no memory. Formats: docs/use/REFERENCE.md.
 ",
     },
     Help {
@@ -915,7 +915,7 @@ words; 3 FILE can't be read; 4 no memory. Formats: docs/REFERENCE.md.
         ending: ".entry start
 
 Status: 0 done; 1 TEXT has a fault, and FILE is as it was; 2 a mistake in the words;
-3 a file can't be read or written; 4 no memory. Formats: docs/REFERENCE.md.
+3 a file can't be read or written; 4 no memory. Formats: docs/use/REFERENCE.md.
 ",
     },
     Help {
@@ -924,7 +924,7 @@ Status: 0 done; 1 TEXT has a fault, and FILE is as it was; 2 a mistake in the wo
         ending: "0000000d int 0x21
 
 Status: 0 done; 1 FILE is refused; 2 a mistake in the words; 3 FILE can't be read;
-4 no memory. Formats: docs/REFERENCE.md.
+4 no memory. Formats: docs/use/REFERENCE.md.
 ",
     },
     Help {
@@ -933,7 +933,7 @@ Status: 0 done; 1 FILE is refused; 2 a mistake in the words; 3 FILE can't be rea
         ending: "A program without labels has no symbols, and nothing is printed.
 
 Status: 0 done; 1 FILE is refused; 2 a mistake in the words; 3 FILE can't be read;
-4 no memory. Formats: docs/REFERENCE.md.
+4 no memory. Formats: docs/use/REFERENCE.md.
 ",
     },
     Help {
@@ -943,7 +943,7 @@ Status: 0 done; 1 FILE is refused; 2 a mistake in the words; 3 FILE can't be rea
 
 Status: 0 done, also if lines were refused; 1 a text or a program's file is refused;
 2 a mistake in the words; 3 a file can't be read or written; 4 no memory. Formats:
-docs/REFERENCE.md.
+docs/use/REFERENCE.md.
 ",
     },
     Help {
@@ -951,7 +951,7 @@ docs/REFERENCE.md.
         words: &["mx", "run", "--help"],
         ending: "Status: 0 done, also if the history was full; 1 a text or a program's file is refused;
 2 a mistake in the words; 3 a file can't be read or written, or LOG is CONFIG; 4 no
-memory. Formats: docs/REFERENCE.md.
+memory. Formats: docs/use/REFERENCE.md.
 ",
     },
     Help {
@@ -961,7 +961,7 @@ memory. Formats: docs/REFERENCE.md.
 
 Status: 0 done; 1 a text or a program's file is refused, or an event, which is told
 by its line; 2 a mistake in the words; 3 a file can't be read; 4 no memory. Formats:
-docs/REFERENCE.md.
+docs/use/REFERENCE.md.
 ",
     },
     Help {
@@ -969,7 +969,7 @@ docs/REFERENCE.md.
         words: &["mx", "draw", "--help"],
         ending: "Status: 0 done; 1 a text or a program's file is refused, or an event, which the picture
 tells at its top right; 2 a mistake in the words; 3 a file can't be read; 4 no memory.
-Formats: docs/REFERENCE.md.
+Formats: docs/use/REFERENCE.md.
 ",
     },
     Help {
@@ -977,7 +977,7 @@ Formats: docs/REFERENCE.md.
         words: &["mx", "replay", "--help"],
         ending: "Status: 0 done; 1 a text or a program's file is refused, or an event, which is told
 by its line; 2 a mistake in the words; 3 a file can't be read; 4 no memory. Formats:
-docs/REFERENCE.md.
+docs/use/REFERENCE.md.
 ",
     },
     Help {
@@ -987,7 +987,7 @@ docs/REFERENCE.md.
 
 Status: 0 done, also if lines were refused; 1 a text or a program's file is refused;
 2 a mistake in the words; 3 a file can't be read; 4 no memory. Formats:
-docs/REFERENCE.md.
+docs/use/REFERENCE.md.
 ",
     },
 ];
