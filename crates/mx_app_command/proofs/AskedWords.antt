@@ -243,18 +243,22 @@ looking_values name words fine =
 
 trace_fits : Fits (looking_whole (codes "trace"))
 trace_fits words fine = let given = looking_values (codes "trace") words fine in
-    ((λ e. (given.0, inr (given.1, inr (inr (inl refl, given.2))))), (λ e. absurd (true≢false e)))
+    ((λ e. (given.0, inr (given.1, inr (inr (inr (inl refl, given.2)))))), (λ e. absurd (true≢false e)))
 
 draw_fits : Fits (looking_whole (codes "draw"))
 draw_fits words fine = let given = looking_values (codes "draw") words fine in
-    ((λ e. (given.0, inr (given.1, inr (inr (inr refl, given.2))))), (λ e. absurd (true≢false e)))
+    ((λ e. (given.0, inr (given.1, inr (inr (inr (inr refl, given.2)))))), (λ e. absurd (true≢false e)))
+
+look_fits : Fits (whole_of (of_two (codes "look") (codes "CONFIG") (codes "LOG")))
+look_fits words fine = let given = two_texts_given (codes "look") (codes "CONFIG") (codes "LOG") (refl, refl) (refl, refl) refl refl words fine in
+    ((λ e. (given.0, inr (given.1, inr (inr (inl refl))))), (λ e. absurd (true≢false e)))
 
 db_fits : Fits (whole_of (of_two (codes "db") (codes "CONFIG") (codes "SCRIPT")))
 db_fits words fine = let given = two_texts_given (codes "db") (codes "CONFIG") (codes "SCRIPT") (refl, refl) (refl, refl) refl refl words fine in
     ((λ e. (given.0, inl (given.1, inr refl))), (λ e. absurd (true≢false e)))
 
 all_fit : AllByRecursion Fits whole.subs
-all_fit = (one_fits, (as_fits, (dis_fits, (nm_fits, (step_fits, (run_fits, (replay_fits, (trace_fits, (draw_fits, (db_fits, tt))))))))))
+all_fit = (one_fits, (as_fits, (dis_fits, (nm_fits, (step_fits, (run_fits, (replay_fits, (trace_fits, (draw_fits, (look_fits, (db_fits, tt)))))))))))
 
 -- ---- the words of a command line
 

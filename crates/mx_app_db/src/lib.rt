@@ -9,8 +9,8 @@ mod places;
 pub use driving::db;
 pub use going::go;
 pub use mx_app_step::{
-    BootError, Channels, Failure, FileWriter, HistoryPart, KeptFile, MemoryWriter, NamedFile,
-    NamedFiles, Reader, Replayed, RuntimeFiles, RuntimeWriter, Script, make_steps, print_text,
+    BootError, Channels, Failure, FileWriter, HistoryPart, InputLines, KeptFile, LineReader,
+    MemoryWriter, NamedFile, NamedFiles, Reader, Replayed, RuntimeFiles, RuntimeWriter, Script, make_steps, print_text,
     replay, start, step, step_saved, trace,
 };
 pub use mx_print_answers::Refused;

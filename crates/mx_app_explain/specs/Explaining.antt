@@ -5,7 +5,7 @@ use Rattle.mx_aout.specs.declared.program.FileError.TheVariants as errors
 use Rattle.mx_text.specs.declared.error.BootError.{BootError}
 use Rattle.mx_text.specs.declared.error.BootError.TheVariants as lines
 use Rattle.mx_app_command.specs.declared.words.CommandRequest.{CommandRequest}
-use Rattle.mx_app_command.specs.declared.words.CommandRequest.TheVariants.{One, As, Dis, Nm, Step, Run, Replay, Trace, Draw, Db}
+use Rattle.mx_app_command.specs.declared.words.CommandRequest.TheVariants.{One, As, Dis, Nm, Step, Run, Replay, Trace, Draw, Look, Db}
 use Rattle.mx_app_failure.specs.declared.failure.Failure.{Failure as Kind}
 use Rattle.mx_app_failure.specs.declared.failure.Failure.TheVariants.{Refused, Faulty, Misstated, NotText, File, NoMemory}
 use Rattle.mx_app_explain.specs.Wanted.{problem_wanted, refusal_wanted}
@@ -49,6 +49,7 @@ first_name (Run config log ticks) = config.now
 first_name (Replay config log) = config.now
 first_name (Trace config log range) = config.now
 first_name (Draw config log range) = config.now
+first_name (Look config log) = config.now
 first_name (Db config script) = config.now
 
 abbrev pub first_label : CommandRequest → List ℕ
@@ -69,6 +70,7 @@ second_name (Run config log ticks) = log.now
 second_name (Replay config log) = log.now
 second_name (Trace config log range) = log.now
 second_name (Draw config log range) = log.now
+second_name (Look config log) = log.now
 second_name (Db config script) = script.now
 
 abbrev pub second_label : CommandRequest → List ℕ

@@ -43,7 +43,5 @@ pub fn nearest_symbol(symbols: &[Symbol], at: u32) -> Option<&Symbol>
     ensures { option_copied result ≡ nearest_symbol at symbols.now }
 {
     let greatest = greatest_value(symbols, at);
-    symbols
-        .iter()
-        .find(|symbol| is_at_or_above(symbol, at) && symbol.value == greatest)
+    symbols.iter().find(|symbol| is_at_or_above(symbol, at) && symbol.value == greatest)
 }
