@@ -8,15 +8,16 @@ use Rattle.mx_walk.specs.Walks.{Walk}
 
 -- ---- by records
 
+abbrev pub up_to_last : Walk → Position → Position
+up_to_last k p = if is_up_to p k.last then p else k.last
+
 -- the start of the nth record below, at most the last position
 abbrev pub forward_from : Walk → ℕ → Position
-forward_from k zero = k.here
-forward_from k (suc n) = let p : Position = record { records = k.here.records + suc n; steps = 0 } in if is_up_to p k.last then p else k.last
+forward_from k n = if n == 0 then k.here else up_to_last k (record { records = k.here.records + n; steps = 0 })
 
 -- the start of the record that one is in, or of the one above; n times
 abbrev pub back_from : Walk → ℕ → Position
-back_from k zero = k.here
-back_from k (suc n) = record { records = k.here.records - (if k.here.steps == 0 then suc n else n); steps = 0 }
+back_from k n = if n == 0 then k.here else record { records = k.here.records - (if k.here.steps == 0 then n else n - 1); steps = 0 }
 
 -- ---- by events
 

@@ -19,7 +19,8 @@ use std::alloc::{AllocError, Global};
 use std::io::Write;
 
 /// What `help` prints.
-const HELP: &str = "forward [N]  on by N records           back [N]      back by N records\nstep [N]     on by N events            stepback [N]  back by N events\ngoto K       below K records           goto K.J      and J steps of the next\ngoto end     the last position         where         the position again\nwhy          what the record above did\nps           the report                messages      what was delivered\nhelp         this                      quit          the end\nA record stands for one event; back N stands for N steps of a process before it.\nA command may be shortened, as f, b or stepb. Without N it is 1.\n";
+const HELP: &str =
+    "forward [N]  on by N records           back [N]      back by N records\nstep [N]     on by N events            stepback [N]  back by N events\ngoto K       below K records           goto K.J      and J steps of the next\ngoto end     the last position         where         the position again\nwhy          what the record above did\nps           the report                messages      what was delivered\nhelp         this                      quit          the end\nA record stands for one event; back N stands for N steps of a process before it.\nA command may be shortened, as f, b or stepb. Without N it is 1.\n";
 
 /// What a position that isn't there is answered.
 const NO_POSITION: &str = "refused 63 NoPosition\n";
@@ -138,11 +139,7 @@ fn answer(
 }
 
 /// Appends what asks for the next line.
-pub(crate) fn push_prompt(
-    out: &mut Vec<u8>,
-    asks: bool,
-    walker: &Walker,
-) -> Result<(), AllocError>
+pub(crate) fn push_prompt(out: &mut Vec<u8>, asks: bool, walker: &Walker) -> Result<(), AllocError>
     ensures { OnOk result (out.new.items ≡ out.old.items ++ prompt_text asks walker.now) }
 {
     if !asks {

@@ -1,11 +1,22 @@
 //! Where requests lead.
 
-ghost use Rattle.std.specs.Prelude.{◌≡◌};
+ghost use Rattle.std.specs.Prelude.{◌≡◌, true};
 ghost use Rattle.mx_walk.specs.Positions.{IsPosition, IsUpTo};
-ghost use Rattle.mx_app_look.specs.Moves.{back_from, can_go, forward_from, position_asked, steps_back, steps_on};
+ghost use Rattle.mx_app_look.specs.Moves.{back_from, can_go, forward_from, position_asked, steps_back, steps_on, up_to_last};
 
 use mx_look_line::PositionWord;
 use mx_walk::{Position, Walker, is_position, is_up_to, next_event, position_before};
+
+/// A position, or the last one if that is above it.
+fn up_to_last(walker: &Walker, to: Position) -> Position
+    requires { to.steps ≡ 0 }
+    ensures value { result ≡ up_to_last walker.now to }
+    ensures position { IsPosition walker.now.records result }
+    ensures early { IsUpTo result walker.now.last }
+{
+    let last = walker.last();
+    if is_up_to(to, last) { to } else { last }
+}
 
 /// The start of a record below, at most the last position.
 pub(crate) fn forward_from(walker: &Walker, count: u32) -> Position
@@ -21,7 +32,7 @@ pub(crate) fn forward_from(walker: &Walker, count: u32) -> Position
         records: here.records + count as usize,
         steps: 0,
     };
-    if is_up_to(to, walker.last()) { to } else { walker.last() }
+    up_to_last(walker, to)
 }
 
 /// The start of the record that one is in, or of one above.
@@ -92,6 +103,11 @@ pub(crate) fn position_asked(walker: &Walker, asked: PositionWord) -> Position
 /// Whether a walker can come to a position.
 pub(crate) fn can_go(walker: &Walker, to: Position) -> bool
     ensures value { result ≡ can_go walker.now to }
+    ensures position { result ≡ true → IsPosition walker.now.records to }
+    ensures early { result ≡ true → IsUpTo to walker.now.last }
 {
-    is_position(walker.records(), to) && is_up_to(to, walker.last())
+    if !is_position(walker.records(), to) {
+        return false;
+    }
+    is_up_to(to, walker.last())
 }

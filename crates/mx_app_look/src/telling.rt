@@ -54,11 +54,7 @@ fn push_record_above(
 }
 
 /// Appends what the record above did, or that the machine booted. The walker is where it was.
-pub(crate) fn push_why(
-    alloc: Global,
-    out: &mut Vec<u8>,
-    walker: Walker,
-) -> Result<Walker, Failure>
+pub(crate) fn push_why(alloc: Global, out: &mut Vec<u8>, walker: Walker) -> Result<Walker, Failure>
     ensures err { IfErr result IsWanting }
     ensures same { IfOk result (λ w. w ≡ walker) }
     ensures text { OnOk result (out.new.items ≡ out.old.items ++ why_text walker) }

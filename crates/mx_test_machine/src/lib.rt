@@ -20,6 +20,8 @@ mod events;
 #[cfg(test)]
 mod files;
 #[cfg(test)]
+mod looks;
+#[cfg(test)]
 mod narrow;
 #[cfg(test)]
 mod no_texts;
