@@ -180,6 +180,7 @@ impl Walker {
             last,
         })
     }
+
     /// Goes on up to right below the first event that is marked; to the last position if there is none.
     /// Answers whether there is one. Takes no memory.
     pub fn seek<M: Mark>(&mut self, mark: &mut M) -> bool
@@ -274,6 +275,7 @@ impl Walker {
             None => Ok((walker, true)),
         }
     }
+
     /// Goes on to right below the next event that changes a byte; to the last position if there is none.
     /// Answers whether there is one. Takes no memory.
     pub fn go_to_next_change(&mut self, place: BytePlace) -> bool
