@@ -7,7 +7,7 @@ use crate::numbers::lifted;
 use mx_flags::Flags;
 use mx_word::{BitScan, BitTest, DoubleShift, Size, has_bit};
 
-/// The word whose only one stands at a place.
+/// The word whose only one is at a position.
 fn one_at(place: u32) -> u32
     requires { place < 32 }
     ensures { result ≡ 2 ^ place }
@@ -40,8 +40,8 @@ pub fn bit_test(operation: BitTest, x: u32, number: u32, flags: &Flags) -> (u32,
     )
 }
 
-/// Where the lowest or the highest one of a dword stands, and the flags after the search. Nothing
-/// if the dword is 0.
+/// The position of the lowest or the highest one of a dword, and the flags after the search. `None` if the
+/// dword is 0.
 pub fn bit_scan(operation: BitScan, x: u32, flags: &Flags) -> (Option<u32>, Flags)
     ensures value { result.0 ≡ found_one operation x }
     ensures flags { result.1 ≡ bit_scan_flags x flags.now }

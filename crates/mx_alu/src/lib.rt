@@ -20,8 +20,8 @@ pub use numbers::Signedness;
 pub use products::{DivideFault, Division, Halves, divide, multiply, multiply_low};
 pub use shifts::shift;
 
-/// The result of an operation on two words, and the flags after it. TEST is an AND, as CMP is a
-/// SUB, whose result nobody keeps. Inlined, so that a caller who knows the size looks at none.
+/// The result of an operation on two words, and the flags after it. TEST is an AND, as CMP is a SUB, whose
+/// result nobody uses. Inlined, so that no code for the size is left if the caller knows it.
 #[inline(always)]
 pub fn alu(operation: Arithmetic, size: Size, x: u32, y: u32, flags: &Flags) -> (u32, Flags)
     requires left { x < 2 ^ width size }

@@ -1,4 +1,4 @@
-//! Words as numbers, and arithmetic on numbers of two words.
+//! Words as numbers, and products and quotients of numbers that need two words.
 
 ghost use Rattle.std.specs.Prelude.{◌≡◌, ◌≢◌, ◌*◌, ◌^◌, ◌<◌, ◌≤◌, pos, ◌+ℤ◌, ◌*ℤ◌, ◌≤ℤ◌, unsigned_abs, int_div, int_rem, IfNone, IfSome, true};
 ghost use Rattle.std.specs.Int.{int_shr};
@@ -42,7 +42,7 @@ pub(crate) fn times(x: i64, y: i64) -> i64
     x * y
 }
 
-/// A quotient toward zero and its remainder, or none where the quotient needs more than 64 bits.
+/// A quotient toward zero and its remainder. `None` if the quotient needs more than 64 bits.
 pub(crate) fn quotient(whole: i64, divisor: i64) -> Option<(i64, i64)>
     requires { divisor ≢ pos 0 }
     ensures none { IfNone result (leaves_signed 64 (int_div whole divisor) ≡ true) }

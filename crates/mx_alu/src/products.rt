@@ -1,4 +1,4 @@
-//! Products and quotients.
+//! Products and quotients: MUL, IMUL, DIV and IDIV, with their flags or their fault.
 
 ghost use Rattle.std.specs.Prelude.{◌≡◌, ◌^◌, ◌<◌};
 ghost use Rattle.mx_word.specs.Word.{width, modulo};

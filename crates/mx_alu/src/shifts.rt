@@ -1,4 +1,4 @@
-//! Shifts and rotates.
+//! Shifts and rotates, with their flags.
 
 ghost use Rattle.std.specs.Prelude.{◌≡◌, ◌^◌, ◌<◌, ◌≤◌};
 ghost use Rattle.mx_word.specs.Word.{width};
@@ -62,7 +62,7 @@ fn move_by(operation: Shift, size: Size, x: u32, places: u32) -> (u32, bool)
     }
 }
 
-/// A word turned to the left.
+/// A word rotated to the left.
 #[tactic(auto, using(crate::proofs::Rotated::rotated_below, crate::proofs::Rotated::width_le))]
 fn rotated(size: Size, x: u32, places: u32) -> u32
     requires word { x < 2 ^ width size }

@@ -1,8 +1,8 @@
--- Programs that a file can't tell apart.
+-- Programs that a file can't distinguish.
 use Rattle.std.specs.Prelude.{◌≡◌}
 use Rattle.mx_aout.specs.declared.program.Program.{Program}
 
--- alike in all that a file says of them
+-- equal in all that a file has of them
 pub record AreAlike (p q : Program) : Type 0 where
   pub sep : p.sep ≡ q.sep
   pub entry : p.entry ≡ q.entry

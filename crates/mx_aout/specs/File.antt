@@ -28,7 +28,7 @@ header_of b = record {
   init_relocations = relocations_at b 36;
 }
 
--- after the header stand text, data, relocations and symbols
+-- after the header come text, data, relocations and symbols
 abbrev pub init_at : Header → ℕ
 init_at h = h.length + h.text
 
@@ -47,7 +47,8 @@ is_too_large h =
     nat_lt 1048576 h.text || nat_lt 262144 h.symbols || nat_lt 4194304 (rounded_to_pages h.total)
     || nat_lt (rounded_to_pages h.total) (used_of h.sep h.text h.init h.bss)
 
--- the reasons to refuse a file, in order, and whether each stands: those of the header's form, then those of the sizes in it
+-- the reasons to refuse a file, in order, and whether each holds: those of the header's form, then those of
+-- the sizes in it
 abbrev pub reasons_of_sizes : Header → ℕ → List (Bool × FileError)
 reasons_of_sizes h length_of_file =
     (h.total == 0, NoTotal) ∷
@@ -77,7 +78,7 @@ abbrev pub first_file_error : List (Bool × FileError) → Option FileError
 first_file_error [] = None
 first_file_error (r ∷ rest) = if r.0 then Some r.1 else first_file_error rest
 
--- the first reason that stands
+-- the first reason that holds
 abbrev pub refusal_of : List ℕ → Option FileError
 refusal_of b = first_file_error (file_reasons b)
 
@@ -87,7 +88,7 @@ abbrev pub asked_unless : Option FileError → ℕ → ℕ
 asked_unless (Some e) n = 48
 asked_unless None n = n
 
--- its parts; no more than these 48 where it is refused for its header, however long it is
+-- its parts; at most these 48 if it is refused for its header, however long it is
 abbrev pub length_asked : List ℕ → ℕ
 length_asked front =
     asked_unless (first_file_error (form_reasons front))
@@ -115,7 +116,7 @@ abbrev pub symbols_from : List ℕ → ℕ → ℕ → List Symbol
 symbols_from b at zero = []
 symbols_from b at (suc k) = symbol_at b at ∷ symbols_from b (at + 16) k
 
--- no reason to refuse stands, and the program is what stands in the bytes
+-- no reason to refuse holds, and the program is what the bytes have
 pub record FileIs (b : List ℕ) (p : Program) : Type 0 where
   pub accepted : refusal_of b ≡ None
   pub sep : p.sep ≡ (header_of b).sep
@@ -126,7 +127,7 @@ pub record FileIs (b : List ℕ) (p : Program) : Type 0 where
   pub bss : p.bss ≡ (header_of b).bss
   pub symbols : p.symbols ≡ symbols_from b (symbols_at (header_of b)) ((header_of b).symbols / 16)
 
--- what the reader answers: the first refusal that stands, or the program, unless memory runs out
+-- what the reader answers: the first reason that holds, or the program, unless memory runs out
 abbrev pub ReadsFile : Option FileError → List ℕ → Result Program FileError → Type 0
 ReadsFile (Some e) b r = r ≡ Err e
 ReadsFile None b (Ok p) = FileIs b p

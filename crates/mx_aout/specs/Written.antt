@@ -5,7 +5,7 @@ use Rattle.mx_word.specs.Word.{bytes_of}
 use Rattle.mx_aout.specs.declared.program.Symbol.{Symbol}
 use Rattle.mx_aout.specs.declared.program.Program.{Program}
 
--- A_EXEC, and A_SEP where the text is separate
+-- A_EXEC, and A_SEP if the text is separate
 abbrev pub flags_of : Bool → ℕ
 flags_of sep = if sep then 0x30 else 0x10
 

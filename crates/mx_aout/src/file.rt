@@ -1,4 +1,4 @@
-//! Reads the bytes of a file.
+//! Reads program files: the header, the sizes in it, and the parts.
 
 ghost use Rattle.std.specs.Prelude.{◌≡◌, ◌≤◌, ◌+◌, ◌*◌, ◌/◌, ◌^◌, None, Some, IfSome, IfNone, IfOk, length, slice_index, take, drop};
 ghost use Rattle.mx_word.specs.Word.{value_at};
@@ -10,7 +10,7 @@ use crate::program::{FileError, Program, Symbol, Symbols};
 use mx_word::{Bytes, read_dword, read_word};
 use std::alloc::{AllocError, Global};
 
-/// What a file's header says. Sizes are in bytes.
+/// The values of a file's header. Sizes are in bytes.
 #[derive(Clone, Copy)]
 pub struct Header {
     /// The header's own size.
@@ -27,14 +27,14 @@ pub struct Header {
 }
 
 impl Header {
-    /// Where the data stands.
+    /// The offset of the data.
     fn init_at(&self) -> u64
         ensures { result ≡ init_at self.now }
     {
         u64::from(self.length) + u64::from(self.text)
     }
 
-    /// Where the symbols stand.
+    /// The offset of the symbols.
     fn symbols_at(&self) -> u64
         ensures place { result ≡ symbols_at self.now }
         ensures small { result ≤ 2 ^ 35 }
@@ -177,8 +177,8 @@ fn size_refusal(header: &Header, length: usize) -> Option<FileError>
 /// The longest header.
 const LONGEST_HEADER: u64 = 48;
 
-/// How many of a file's bytes matter, by its first 48, or all if it has fewer: the header and the parts
-/// that it names; no more than these 48 where the file is refused for its header, however long it is.
+/// How many of a file's bytes matter, by its first 48, or all if it has fewer: the header and the parts that
+/// it names. If the file is refused for its header, at most these 48, however long it is.
 pub fn length_asked(front: &[u8]) -> u64
     ensures { result ≡ length_asked front.now }
 {
@@ -216,7 +216,7 @@ fn symbol_at(bytes: &[u8], at: usize) -> Symbol
     }
 }
 
-/// That many symbols from a place on.
+/// `count` symbols from an offset on.
 fn symbols_from(alloc: Global, bytes: &[u8], at: usize, count: usize) -> Result<Symbols, AllocError>
     requires { at + count * 16 ≤ length bytes.now }
     ensures symbols { IfOk result (λ s. s ≡ symbols_from bytes.now at count) }
@@ -239,8 +239,8 @@ fn part(alloc: Global, bytes: &[u8], at: usize, count: u32) -> Result<Bytes, All
     Ok(Bytes::from_vec(part.to_vec(alloc)?))
 }
 
-/// The program of a file's bytes, or the first reason to refuse them. Bytes after the parts,
-/// relocations, the unused byte, the version and the long header's bases are read past.
+/// The program of a file's bytes, or the first reason to refuse them. Bytes after the parts, relocations, the
+/// unused byte, the version and the long header's bases are skipped.
 pub fn read(alloc: Global, bytes: &[u8]) -> Result<Program, FileError>
     ensures { ReadsFile (refusal_of bytes.now) bytes.now result }
 {

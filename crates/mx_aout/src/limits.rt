@@ -1,4 +1,4 @@
-//! How large a program is.
+//! The limits of a program's sizes, which its type has as an invariant.
 
 ghost use Rattle.std.specs.Prelude.{◌≡◌, ◌+◌, ◌<◌, ◌^◌, length};
 ghost use Rattle.mx_aout.specs.Limits.{rounded_to_pages, IsWithin};

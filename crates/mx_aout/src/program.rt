@@ -1,4 +1,4 @@
-//! A program: what a file of the machine's kind holds.
+//! A program in memory: text, data, bss, symbols and entry; and the errors of files.
 
 ghost use Rattle.std.specs.Prelude.{◌≡◌, length};
 ghost use Rattle.mx_aout.specs.Limits.{IsWithin};
@@ -23,14 +23,14 @@ pub enum FileError {
 }
 
 impl FileError {
-    /// The number with which a refused a.out file is told.
+    /// The number of an error of a program file in messages.
     pub fn code(self) -> u8
         ensures { result ≡ refusal_code self }
     {
         self as u8
     }
 
-    /// The name with which a refused a.out file is told.
+    /// The name of an error of a program file in messages.
     pub fn name(self) -> &'static str
         ensures { result.now ≡ refusal_name self }
     {
@@ -121,12 +121,12 @@ impl Symbols {
     }
 }
 
-/// A program. Sizes are in bytes; no refusal for them would meet it.
+/// A program. Its sizes, in bytes, are within the limits that `read` tests.
 #[derive(Drop)]
 pub struct Program {
     /// Whether the text has a segment of its own (A_SEP).
     pub sep: bool,
-    /// Where the first instruction stands.
+    /// The address of the first instruction.
     pub entry: u32,
     /// The size of the data segment, stack included, before it is rounded up to 4096.
     pub total: u32,

@@ -1,4 +1,4 @@
-//! Writes a program as the bytes of a file.
+//! Writes a program file: its bytes, from the program.
 
 ghost use Rattle.std.specs.Prelude.{◌≡◌, ◌<◌, ◌^◌, ◌++◌, ◌*◌, ℕ, IfOk, OnOk, List, MatchResult, length};
 ghost use Rattle.std.specs.List.{AllByRecursion, flat_map};
@@ -83,7 +83,7 @@ fn push_symbols(bytes: &mut Vec<u8>, symbols: &[Symbol]) -> Result<(), AllocErro
     Ok(())
 }
 
-/// Where the first instruction stands.
+/// The address of the first instruction.
 fn entry_of(program: &Program) -> u32
     ensures value { result ≡ program.now.entry }
     ensures range { result < 2 ^ 32 }
@@ -125,7 +125,7 @@ pub fn write(alloc: Global, program: &Program) -> Result<Vec<u8>, NoMemory>
     Ok(bytes)
 }
 
-/// Law: programs that are alike in all that a file says of them are one.
+/// Law: two programs are equal if all that a file has of them is equal.
 pub fn alike_is_same()
     ensures { (p q : Program) → AreAlike p q → p ≡ q }
 {}
@@ -135,7 +135,8 @@ pub fn one_program()
     ensures { (b : List ℕ) (p q : Program) → FileIs b p → FileIs b q → p ≡ q }
 {}
 
-/// Writes a program as an a.out file and reads it again. It is the same program again, memory aside.
+/// Writes a program as an a.out file and reads it again. The result is equal to the program, unless memory
+/// runs out.
 pub fn read_back(alloc: Global, program: &Program) -> Result<Program, FileError>
     ensures { MatchResult result (λ again. again ≡ program.now) (λ e. e ≡ FileError.NoMemory) }
 {

@@ -20,7 +20,7 @@ class_of Bss = 4
 abbrev pub symbol_under : LinesAbove → (Name × SectionOffset) → Symbol
 symbol_under a e = record { name = e.0.bytes; value = address_of_offset a e.1; class = class_of e.1.section; auxiliary = 0; kind = 0 }
 
--- where .entry says, else 0; nothing where its name stands nowhere
+-- the address of the label in .entry, else 0; nothing if its name is no label
 abbrev pub entry_under : LinesAbove → Option Name → Option ℕ
 entry_under a None = Some 0
 entry_under a (Some name) = address_of_label a (label_named a.labels name)

@@ -1,4 +1,4 @@
--- The bytes of statements, where the labels stand as told.
+-- The bytes of statements, with the addresses of the labels put in.
 use Rattle.std.specs.Prelude.{◌≡◌, ℕ, ◌+◌, List, [], ◌∷◌, ◌++◌, map, length, replicate, Option, Some, None, ⊤}
 use Rattle.std.specs.List.{flat_map}
 use Rattle.mx_word.specs.Word.{bytes_of, bytes_in}
@@ -22,7 +22,7 @@ abbrev pub put_in : (Insn → ℕ → Insn) → Insn → Option ℕ → Option I
 put_in put i None = None
 put_in put i (Some n) = Some (put i n)
 
--- a number that holds no name stands in the instruction already
+-- a number without a name is in the instruction already
 abbrev pub put_under : LinesAbove → (Insn → ℕ → Insn) → Option Value → Insn → Option Insn
 put_under a put None i = Some i
 put_under a put (Some v) i = put_in put i (value_under a v)
@@ -46,13 +46,13 @@ BytesOf a at (says.Branch k target) b =
     (x : ℕ) × (value_under a target ≡ Some x) × Chosen (branch_by k (distance (at + length b) x)) (branch_marks k) b × (length b ≡ branch_length k)
 BytesOf a at _ b = b ≡ []
 
--- what a statement puts where it stands; bss takes labels and zeros alone
+-- the bytes of a statement in its section at its address; bss takes only labels and zeros
 abbrev pub StandsIn : Section → LinesAbove → ℕ → Statement → List ℕ → Type 0
 StandsIn Text a at t b = BytesOf a at t b
 StandsIn Data a at t b = BytesOf a at t b
 StandsIn Bss a at t b = b ≡ replicate (statement_length t) 0
 
--- all at once: each statement's bytes are right where it stands
+-- all at once: each statement has the right bytes at its address
 abbrev pub AllStand : LinesAbove → SectionSizes → List Line → List (List ℕ) → Type 0
 AllStand a s [] [] = ⊤
 AllStand a s (l ∷ ls) (b ∷ bs) = StandsIn s.section a (address_of_offset a (section_offset_of s)) (statement_said l) b × AllStand a (sizes_after s (statement_said l) (length b)) ls bs
@@ -74,7 +74,7 @@ contents section s (l ∷ ls) (b ∷ bs) = put_into section s.section b ++ conte
 abbrev pub Pushes : LinesAbove → ℕ → Statement → List ℕ → List ℕ → Type 0
 Pushes a at t old new = (b : List ℕ) × BytesOf a at t b × (new ≡ old ++ b)
 
--- what one statement puts out, where it stands: the new text and data are the old ones and its bytes
+-- what one statement adds at its address: the new text and data are the old ones and its bytes
 pub record PutsOut (a : LinesAbove) (s : SectionSizes) (t : Statement) (text init text' init' : List ℕ) : Type 0 where
   pub bytes : List ℕ
   pub stand : StandsIn s.section a (address_of_offset a (section_offset_of s)) t bytes

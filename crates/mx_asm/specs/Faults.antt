@@ -1,4 +1,4 @@
--- What is told of lines that make no program (the codes and their order are our own).
+-- The faults of lines that make no program (the codes and their order are our own).
 use Rattle.std.specs.Prelude.{◌≡◌, ℕ, ◌+◌, ◌*◌, Bool, false, not, ◌||◌, nat_lt, if◌then◌else◌, List, [], ◌∷◌, length, Option, Some, None, is_some, unwrap_or, ⊤}
 use Rattle.std.specs.List.{list_any}
 use Rattle.mx_aout.specs.Limits.{rounded_to_pages}
@@ -42,7 +42,7 @@ problem_of reasons.Unknown = UnknownWord
 problem_of reasons.WrongSection = WrongSection
 problem_of reasons.NoForm = BadOperands
 
--- ---- names that stand nowhere, and jumps that don't reach
+-- ---- names without a label, and jumps that don't reach
 
 abbrev pub is_undefined : LinesAbove → Value → Bool
 is_undefined a v = not (is_some (value_under a v))
@@ -58,7 +58,7 @@ abbrev pub undefined_or : Option ℕ → (ℕ → Bool) → Option Problem
 undefined_or None is_too_far = Some Undefined
 undefined_or (Some x) is_too_far = if is_too_far x then Some TooFar else None
 
--- what stands against a statement at an address, once all labels stand
+-- the problem of a statement at an address, with all labels known
 abbrev pub problem_at : LinesAbove → ℕ → Statement → Option Problem
 problem_at a at (says.Data size values) = undefined_where (list_any (is_undefined a) values)
 problem_at a at (says.Entry name) = undefined_where (not (is_some (label_named a.labels name)))
@@ -70,7 +70,7 @@ abbrev pub fault_or : Option Problem → ℕ → Option Fault → Option Fault
 fault_or None n rest = rest
 fault_or (Some p) n rest = Some (record { problem = p; line = n })
 
--- the first line that something stands against, the first of these being line n
+-- the first line with a problem, the first of these being line n
 abbrev pub first_problem : LinesAbove → SectionSizes → ℕ → List Line → Option Fault
 first_problem a s n [] = None
 first_problem a s n (l ∷ ls) =
@@ -104,7 +104,7 @@ abbrev pub first_of : Option Fault → Option Fault → Option Fault
 first_of None g = g
 first_of (Some f) g = Some f
 
--- what is told of lines none of which is refused for itself or the lines above it
+-- the fault of lines none of which is refused for itself or for the lines above it
 abbrev pub fault_after : List Line → Option Fault
 fault_after lines = let a = laid_by no_lines_above lines in first_of (first_problem a no_lines_above.sizes 1 lines) (too_large_in a lines)
 

@@ -1,4 +1,4 @@
--- The lines of a text that say something (our own).
+-- The lines of a text with a label or a statement (our own).
 use Rattle.std.specs.Prelude.{◌≡◌, ℕ, ◌+◌, Bool, true, false, not, ◌||◌, if◌then◌else◌, List, [], ◌∷◌, length, Option, None, is_some}
 use Rattle.mx_asm_statement.specs.declared.statement.Statement.{Statement}
 use Rattle.mx_asm_statement.specs.declared.statement.Statement.TheVariants as says
@@ -18,11 +18,11 @@ is_nothing _ = false
 abbrev pub says_something : Line → Bool
 says_something l = is_some l.label || not (is_nothing (statement_said l))
 
--- one line, where it says something
+-- one line, if it has a label or a statement
 abbrev pub line_kept : ℕ → Line → List NumberedLine
 line_kept n l = if says_something l then record { number = n; line = l } ∷ [] else []
 
--- THE LINES THAT ARE KEPT, with their numbers, the first line being line n
+-- THE LINES THAT ARE STORED, with their numbers, the first line being line n
 abbrev pub lines_kept : ℕ → List Line → List NumberedLine
 lines_kept n [] = []
 lines_kept n (l ∷ ls) = if says_something l then record { number = n; line = l } ∷ lines_kept (n + 1) ls else lines_kept (n + 1) ls
@@ -31,7 +31,7 @@ lines_kept n (l ∷ ls) = if says_something l then record { number = n; line = l
 abbrev pub AreKept : List Line → List NumberedLine → ℕ → Type 0
 AreKept lines kept count = (kept ≡ lines_kept 1 lines) × (count ≡ length lines)
 
--- the first of them that something stands against
+-- the first of them that has a problem
 abbrev pub first_problem_kept : LinesAbove → SectionSizes → List NumberedLine → Option Fault
 first_problem_kept a s [] = None
 first_problem_kept a s (k ∷ ks) =

@@ -1,4 +1,5 @@
--- Where the statements and labels of a text stand (our own; the sections are those of a.out.h).
+-- The layout of a text: offsets and addresses of its statements and labels (our own; the sections are those
+-- of a.out.h).
 use Rattle.std.specs.Prelude.{ℕ, ◌+◌, ◌%◌, ◌^◌, ◌≤◌, Bool, true, false, ◌||◌, nat_eq, if◌then◌else◌, List, [], ◌∷◌, ◌++◌, Option, Some, None, is_some, unwrap_or, pos, ◌+ℤ◌}
 use Rattle.std.specs.List.{list_any}
 use Rattle.std.specs.Map.{lookup, keys_of}
@@ -29,7 +30,7 @@ size_in s Text = s.text
 size_in s Data = s.init
 size_in s Bss = s.bss
 
--- where the next byte stands
+-- the offset of the next byte
 abbrev pub section_offset_of : SectionSizes → SectionOffset
 section_offset_of s = record { section = s.section; offset = size_in s s.section }
 
@@ -48,7 +49,7 @@ sizes_after s _ n = sizes_grown s n
 
 -- ---- what the lines above leave
 
--- the sizes, each label with where it stands, in order, and what .sep, .entry and .stack said
+-- the sizes, each label with its section and offset, in order, and the values of .sep, .entry and .stack
 pub record LinesAbove : Type 0 where
   pub sizes : SectionSizes
   pub labels : List (Name × SectionOffset)
@@ -62,7 +63,7 @@ no_lines_above = record { sizes = record { section = Text; text = 0; init = 0; b
 abbrev pub is_same_label : Name → Name → Bool
 is_same_label a b = pointwise nat_eq a.bytes b.bytes
 
--- where a label stands, if it does
+-- the section and offset of a label, if there is one of this name
 abbrev pub label_named : List (Name × SectionOffset) → Name → Option SectionOffset
 label_named labels name = lookup (is_same_label name) labels
 
@@ -82,11 +83,11 @@ abbrev pub stack_with : Option ℕ → Statement → Option ℕ
 stack_with stack (says.Stack n) = Some n
 stack_with stack _ = stack
 
--- what a line says; one that is refused says nothing
+-- the statement of a line; one that is refused has none
 abbrev pub statement_said : Line → Statement
 statement_said l = unwrap_or l.statement says.Nothing
 
--- after a line of this many bytes: its label stands where it begins
+-- after a line of this many bytes: its label is at the offset where it begins
 abbrev pub above_with : LinesAbove → Line → ℕ → LinesAbove
 above_with a l n = record {
   sizes = sizes_after a.sizes (statement_said l) n;
@@ -122,7 +123,7 @@ abbrev pub address_of_label : LinesAbove → Option SectionOffset → Option ℕ
 address_of_label a None = None
 address_of_label a (Some spot) = Some (address_of_offset a spot)
 
--- a number alone counts from 0
+-- a value without a name counts from 0
 abbrev pub value_base : LinesAbove → Option Name → Option ℕ
 value_base a None = Some 0
 value_base a (Some name) = address_of_label a (label_named a.labels name)
@@ -131,14 +132,14 @@ abbrev pub counted_from : Value → Option ℕ → Option ℕ
 counted_from v None = None
 counted_from v (Some base) = Some (modulo 32 (pos base +ℤ whole_of v))
 
--- nothing where its name stands nowhere
+-- nothing if its name is no label
 abbrev pub value_under : LinesAbove → Value → Option ℕ
 value_under a v = counted_from v (value_base a v.name)
 
 -- ---- reasons to refuse a line for the lines above
 
--- what the reasons hang on: the section in force, the names that stand as labels, and whether .sep, .entry and .stack
--- stood above
+-- what the reasons depend on: the section in force, the names of the labels, and whether .sep, .entry and
+-- .stack are above
 pub record Seen : Type 0 where
   pub section : Section
   pub names : List Name
@@ -166,7 +167,7 @@ abbrev pub sets_stack : Statement → Bool
 sets_stack (says.Stack n) = true
 sets_stack _ = false
 
--- with one line more; how long it is decides nothing
+-- with one line more; its length doesn't matter
 abbrev pub seen_with : Seen → Line → Seen
 seen_with s l = record {
   section = section_with s.section (statement_said l);
@@ -176,7 +177,7 @@ seen_with s l = record {
   stack = sets_stack (statement_said l) || s.stack;
 }
 
--- what of the lines above the reasons hang on
+-- what the reasons depend on, of the lines above
 abbrev pub seen_of : LinesAbove → Seen
 seen_of a = record { section = a.sizes.section; names = keys_of a.labels; sep = a.sep; entry = is_some a.entry; stack = is_some a.stack }
 
@@ -204,6 +205,6 @@ refusal_of_line s l = statement_refusal s.section (saying_of s l) l
 abbrev pub SizesWithin : SectionSizes → ℕ → Type 0
 SizesWithin s n = (s.text ≤ n) × (s.init ≤ n) × (s.bss ≤ n)
 
--- each section has at most that many bytes more
+-- each section grows by at most the bound
 abbrev pub GrowsWithin : SectionSizes → SectionSizes → ℕ → Type 0
 GrowsWithin s t n = (t.text ≤ s.text + n) × (t.init ≤ s.init + n) × (t.bss ≤ s.bss + n)

@@ -1,4 +1,4 @@
--- How many bytes a statement takes, wherever its names stand.
+-- How many bytes a statement takes, whatever the addresses of its names.
 use Rattle.std.specs.Prelude.{ℕ, ◌*◌, length}
 use Rattle.mx_word.specs.Word.{bytes_in}
 use Rattle.mx_encode.specs.Lengths.{chosen_length}

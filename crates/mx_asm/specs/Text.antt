@@ -20,7 +20,7 @@ use Rattle.mx_asm.specs.Assembled.{AreAssembled}
 use Rattle.mx_asm.specs.Kept.{line_kept}
 use Rattle.mx_asm.specs.declared.numbered.NumberedLine.{NumberedLine}
 
--- what is told of bytes that no tokens are
+-- the problem of bytes that are no tokens
 abbrev pub TellsOf : LexError → Problem → Type 0
 TellsOf (lexical.BadByte at) p = p ≡ BadByte
 TellsOf (lexical.BadNumber at) p = p ≡ BadNumber
@@ -31,13 +31,13 @@ abbrev pub TellsLexical : LexError → ℕ → AsmError → Type 0
 TellsLexical e n NoMemory = e ≡ lexical.NoMemory
 TellsLexical e n (At f) = (f.line ≡ n) × TellsOf e f.problem
 
--- what is wrong with a line for itself and the lines above it: its bytes, else the first reason to refuse what it says
+-- what is wrong with a line for itself and the lines above it: its bytes, else the first reason to refuse it
 abbrev pub IsLineWrong : Seen → List ℕ → Problem → Type 0
 IsLineWrong s t p =
     ((e : LexError) × IsLexFault t e × TellsOf e p)
     ⊎ ((l : Line) × (r : Reason) × IsLine t l × (refusal_of_line s l ≡ Some r) × (p ≡ problem_of r))
 
--- the line says this, and nothing is wrong with it
+-- the bytes are this line, and nothing is wrong with it
 abbrev pub IsLineTaken : Seen → List ℕ → Line → Type 0
 IsLineTaken s t l = IsLine t l × (refusal_of_line s l ≡ None)
 
@@ -45,7 +45,7 @@ IsLineTaken s t l = IsLine t l × (refusal_of_line s l ≡ None)
 abbrev pub on_after : LinesAbove → Line → LinesAbove
 on_after a l = above_with a l (statement_length (statement_said l))
 
--- the lines say these, and nothing is wrong with them
+-- the texts are these lines, and nothing is wrong with them
 abbrev pub AreLinesTaken : Seen → List (List ℕ) → List Line → Type 0
 AreLinesTaken s [] [] = ⊤
 AreLinesTaken s (t ∷ ts) (l ∷ ls) = IsLineTaken s t l × AreLinesTaken (seen_with s l) ts ls
@@ -69,15 +69,15 @@ IsFirstLineWrong s n (t ∷ ts) f =
     ((f.line ≡ n) × IsLineWrong s t f.problem)
     ⊎ ((l : Line) × IsLineTaken s t l × IsFirstLineWrong (seen_with s l) (n + 1) ts f)
 
--- the text's lines say these, and nothing stands against them
+-- the text has these lines, and none has a problem
 abbrev pub AreLinesAccepted : List ℕ → List Line → Type 0
 AreLinesAccepted t ls = AreLinesTaken unseen (lines t) ls × (fault_after ls ≡ None)
 
--- the text's lines say these, none is refused, and they make this program
+-- the text has these lines, none is refused, and they make this program
 abbrev pub IsAssembled : List ℕ → Program → Type 0
 IsAssembled t p = (ls : List Line) × AreLinesTaken unseen (lines t) ls × AreAssembled ls p
 
--- the first line with which something is wrong, else what is told of all lines
+-- the first line with which something is wrong, else the fault of all lines
 abbrev pub HasTextFault : List ℕ → Fault → Type 0
 HasTextFault t f = IsFirstLineWrong unseen 1 (lines t) f ⊎ ((ls : List Line) × AreLinesTaken unseen (lines t) ls × (fault_after ls ≡ Some f))
 
@@ -90,7 +90,7 @@ abbrev pub TellsFirstLine : List ℕ → AsmError → Type 0
 TellsFirstLine t NoMemory = ⊤
 TellsFirstLine t (At f) = IsFirstLineWrong unseen 1 (lines t) f
 
--- of a line that says this; memory runs out only where it isn't refused
+-- of this line; memory runs out only if it isn't refused
 abbrev pub TellsRefusal : Seen → ℕ → Line → AsmError → Type 0
 TellsRefusal s n l NoMemory = refusal_of_line s l ≡ None
 TellsRefusal s n l (At f) = (f.line ≡ n) × ((r : Reason) × (refusal_of_line s l ≡ Some r) × (f.problem ≡ problem_of r))

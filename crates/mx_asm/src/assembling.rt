@@ -1,4 +1,5 @@
-//! Texts.
+//! The first pass of the assembler: the lines of a text are read and laid out, up to the first that is
+//! refused.
 
 ghost use Rattle.std.specs.Prelude.{◌≡◌, ◌+◌, ◌<◌, ◌≤◌, ◌^◌, List, length, OnOk, IfOk, IfErr};
 ghost use Rattle.mx_text.specs.Lines.{lines};
@@ -21,7 +22,7 @@ use mx_lex::LexError;
 use mx_text::next_line;
 use std::alloc::Global;
 
-/// What is told of a line's bytes.
+/// The error of a line whose bytes are no tokens.
 fn told_of(error: LexError, line: usize) -> AsmError
     ensures { TellsLexical error line result }
 {
@@ -34,7 +35,7 @@ fn told_of(error: LexError, line: usize) -> AsmError
     AsmError::At(Fault { problem, line })
 }
 
-/// The lines of a text that say something, how many others there are, and where all stand.
+/// The lines of a text with a label or a statement, how many others there are, and the layout of all.
 #[derive(Drop)]
 struct Read {
     layout: Layout,
@@ -42,7 +43,7 @@ struct Read {
     blanks: usize,
 }
 
-/// What is told of a line that is refused.
+/// The error of a line that is refused.
 fn refused(reason: Reason, line: usize) -> AsmError
     ensures { result ≡ At (record { problem = problem_of reason; line = line }) }
 {
@@ -62,8 +63,8 @@ impl Read {
         self.lines.as_slice().len() + self.blanks
     }
 
-    /// Takes in what a line says, after those above it, or tells why it is refused. Only a line that
-    /// isn't refused takes memory, and one that says nothing keeps none.
+    /// Adds a line after those above it, or answers why it is refused. Only a line that isn't refused takes
+    /// memory, and one without a label and a statement isn't stored.
     #[tactic(auto, using(crate::proofs::Kept::one_kept, crate::proofs::Kept::none_kept))]
     fn accept(&mut self, line: Line, number: usize) -> Result<(), AsmError>
         requires room { SizesWithin self.old.layout.sizes (2 ^ 126) }
@@ -91,7 +92,7 @@ impl Read {
         Ok(())
     }
 
-    /// Reads a line and takes it in, or tells what is wrong with it.
+    /// Reads a line and adds it, or answers what is wrong with it.
     fn take(&mut self, alloc: Global, text: &[u8], number: usize) -> Result<(), AsmError>
         requires room { SizesWithin self.old.layout.sizes (2 ^ 126) }
         requires few { self.old.blanks + 1 < 2 ^ 64 }
@@ -135,8 +136,8 @@ fn read_lines(alloc: Global, text: &[u8]) -> Result<Read, AsmError>
     Ok(read)
 }
 
-/// The program that an assembler text says, or its first fault. Takes memory only for what it answers
-/// and for the lines that say something.
+/// The program of an assembler text, or its first fault. Takes memory only for its result and for lines with
+/// a label or a statement.
 pub fn assemble(alloc: Global, text: &str) -> Result<Program, AsmError>
     ensures program { IfOk result (IsAssembled text.now) }
     ensures fault { IfErr result (TellsTextFault text.now) }

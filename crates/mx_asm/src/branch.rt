@@ -1,4 +1,4 @@
-//! Jumps, calls and loops.
+//! The lengths, distances and bytes of jumps, calls and loops.
 
 ghost use Rattle.std.specs.Prelude.{◌≡◌, ℕ, ◌+◌, ◌≤◌, List, false, length};
 ghost use Rattle.mx_encode.specs.Chosen.{Chosen};
@@ -40,7 +40,7 @@ fn branch_by(branch: Branch, displacement: u32) -> Insn
     }
 }
 
-/// How many bytes a jump takes, wherever its target stands.
+/// How many bytes a jump takes, whatever the address of its target.
 pub fn branch_length(branch: Branch) -> u8
     ensures length { result ≡ branch_length branch }
     ensures small { result ≤ 6 }
@@ -54,7 +54,7 @@ pub fn branch_length(branch: Branch) -> u8
     }
 }
 
-/// How far a target is from the next instruction, after one of this many bytes.
+/// The distance from the next instruction, after one of this many bytes, to a target.
 pub fn distance(at: u32, length: u8, target: u32) -> u32
     ensures { result ≡ distance (at + length) target }
 {

@@ -1,4 +1,4 @@
-//! The bytes of statements, where all labels stand.
+//! The second pass of the assembler, its bytes: the statements with the addresses of all labels put in.
 
 ghost use Rattle.std.specs.Prelude.{◌≡◌, ◌++◌, true, false, map, None, replicate, Some, OnOk, IfOk};
 ghost use Rattle.std.specs.List.{list_any};
@@ -157,7 +157,7 @@ fn put_line(
     }
 }
 
-/// The bytes of all statements, where nothing stands against a line.
+/// The bytes of all statements, if no line has a problem.
 pub fn parts_of(alloc: Global, layout: &Layout, lines: &[NumberedLine]) -> Result<Parts, AllocError>
     requires { first_problem_kept (above_of layout.now) no_lines_above.sizes lines.now ≡ None }
     ensures { IfOk result (λ parts.

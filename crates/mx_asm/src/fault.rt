@@ -1,4 +1,4 @@
-//! What is told of a text that makes no program.
+//! The faults of a text that makes no program: the line and the problem.
 
 ghost use Rattle.std.specs.Prelude.{◌≡◌};
 ghost use Rattle.mx_asm.specs.Faults.{problem_code, error_code, problem_of};
@@ -23,7 +23,7 @@ pub enum Problem {
 }
 
 impl Problem {
-    /// The number that messages tell.
+    /// The number of a problem in messages.
     pub fn code(self) -> u8
         ensures { result ≡ problem_code self }
     {
@@ -58,7 +58,7 @@ pub enum AsmError {
 }
 
 impl AsmError {
-    /// The number that messages tell.
+    /// The number of an error in messages.
     pub fn code(self) -> u8
         ensures { result ≡ error_code self }
     {
@@ -69,7 +69,7 @@ impl AsmError {
     }
 }
 
-/// The problem that is told of a line for a reason.
+/// The problem for which a line is reported, of the reason to refuse it.
 pub fn problem_of(reason: Reason) -> Problem
     ensures { result ≡ problem_of reason }
 {

@@ -1,10 +1,10 @@
-//! How labels are hashed.
+//! How the table of labels is hashed.
 
 use sha2::{Digest, Sha256};
 use std::hash::{BuildHasher, DefaultHasher, Hasher};
 
-/// Makes hashers that begin with the digest of a whole text. So nobody can choose labels that fall
-/// together in a table: other labels make another text, by which all labels fall anew.
+/// Makes hashers whose key is the digest of a whole text. So nobody can choose labels that collide in the
+/// table: other labels make another text, and its hashes differ.
 #[derive(Clone, Copy)]
 pub struct HashedByText {
     begun: DefaultHasher,

@@ -1,4 +1,4 @@
-//! Laws of programs and faults.
+//! Laws of the assembler: programs and faults of a text.
 
 ghost use Rattle.std.specs.Prelude.{◌≡◌, ℕ, List};
 ghost use Rattle.mx_aout.specs.declared.program.Program.{Program};
@@ -14,8 +14,8 @@ use mx_encode::{
 };
 use mx_lex::one_fault;
 
-/// Law: lines against which nothing stands have their program. No text has both a program and a
-/// fault, and none has neither.
+/// Law: lines without a problem have their program. No text has both a program and a fault, and none has
+/// neither.
 pub fn program_or_fault()
     ensures accepted { (t : List ℕ) (ls : List Line) → AreLinesAccepted t ls → (p : Program)
         × IsAssembled t p }
@@ -35,7 +35,7 @@ pub fn program_or_fault()
     displacement_keeps_length();
 }
 
-/// Law: an assembler text has at most one fault that is told.
+/// Law: at most one fault of an assembler text is reported.
 pub fn fault_is_one()
     ensures { (t : List ℕ) (f g : Fault) → HasTextFault t f → HasTextFault t g → f ≡ g }
 {
@@ -44,7 +44,7 @@ pub fn fault_is_one()
     one_fault();
 }
 
-/// Law: an assembler text says at most one program.
+/// Law: an assembler text has at most one program.
 pub fn program_is_one()
     ensures { (t : List ℕ) (p q : Program) → IsAssembled t p → IsAssembled t q → p ≡ q }
 {

@@ -1,4 +1,5 @@
-//! What the lines above leave, and addresses.
+//! The layout of the lines above one: sizes of sections, offsets of labels, and the addresses that come of
+//! them.
 
 ghost use Rattle.std.specs.Prelude.{OnOk, ◌≡◌, ◌+◌, ◌%◌, ◌^◌, ◌≤◌, nat_lt, false, None, IfErr};
 ghost use Rattle.mx_asm.specs.Lengths.{statement_length};
@@ -16,7 +17,7 @@ use mx_text::Name;
 use mx_word::Size;
 use std::alloc::Global;
 
-/// The sizes of the sections, the labels in order, and what `.sep`, `.entry` and `.stack` said.
+/// The sizes of the sections, the labels in order, and the values of `.sep`, `.entry` and `.stack`.
 #[derive(Drop)]
 pub struct Layout {
     pub sizes: SectionSizes,
@@ -34,7 +35,7 @@ fn low(count: u128) -> u32
 }
 
 impl Layout {
-    /// The layout before the first line: nothing stands yet.
+    /// The layout before the first line: all sizes are 0, and there are no labels.
     pub fn new(alloc: Global, hashed: HashedByText) -> Layout
         ensures { above_of result ≡ no_lines_above }
     {
@@ -47,7 +48,7 @@ impl Layout {
         }
     }
 
-    /// Where a label stands: its section and its offset.
+    /// The section and the offset of a label.
     pub fn spot_named(&self, name: &Name) -> Option<SectionOffset>
         ensures { result ≡ label_named (above_of self.now).labels name.now }
     {
@@ -74,7 +75,7 @@ impl Layout {
         }
     }
 
-    /// Whether the lines above a line say already what it says.
+    /// Whether the lines above a line define already what it defines.
     fn saying_of(&self, line: &Line) -> Saying
         ensures { result ≡ saying_of (seen_of (above_of self.now)) line.now }
     {
@@ -92,7 +93,7 @@ impl Layout {
         refusal(line, self.sizes.section, self.saying_of(line))
     }
 
-    /// A label that stands here.
+    /// Adds a label, with the offset of the next byte.
     fn place_label(&mut self, label: Option<Name>) -> Result<(), AsmError>
         requires { is_defined (seen_of (above_of self.old)).names label ≡ false }
         ensures ok { OnOk result (above_of self.new
@@ -130,7 +131,7 @@ impl Layout {
         Ok(())
     }
 
-    /// Where a section begins, modulo 2^32.
+    /// The address at which a section begins, modulo 2^32.
     fn start_of(&self, section: Section) -> u32
         ensures { result ≡ start_of (above_of self.now) section % 2 ^ 32 }
     {
@@ -160,7 +161,7 @@ impl Layout {
         rounded_to_pages(used + stack).max(PAGE_SIZE)
     }
 
-    /// Whether the data segment is too large, where the text isn't by itself.
+    /// Whether the data segment is too large, if the text by itself isn't.
     fn is_total_too_large(&self) -> bool
         requires { self.now.sizes.text ≤ 1048576 }
         ensures { result ≡ nat_lt 4194304 (total_of (above_of self.now)) }

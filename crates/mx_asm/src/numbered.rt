@@ -1,18 +1,18 @@
-//! The lines of a text that say something, with their numbers.
+//! The lines of a text with a label or a statement, each with its number.
 
 ghost use Rattle.std.specs.Prelude.{◌≡◌};
 ghost use Rattle.mx_asm.specs.Kept.{says_something};
 
 use mx_asm_statement::{Line, Statement};
 
-/// What a line says, and which of the text's lines it is, the first being 1.
+/// A line, and its number in the text. The first has the number 1.
 #[derive(Drop)]
 pub struct NumberedLine {
     pub number: usize,
     pub line: Line,
 }
 
-/// Whether a line says something: it has a label, or a statement.
+/// Whether a line has a label or a statement.
 pub fn says_something(line: &Line) -> bool
     ensures { result ≡ says_something line.now }
 {

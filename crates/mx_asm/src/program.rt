@@ -1,4 +1,4 @@
-//! The program of lines.
+//! The program of a text's lines: entry, symbols and sizes, if no line has a problem.
 
 ghost use Rattle.std.specs.Prelude.{◌≡◌, List, false, length, map, IfOk, IfErr, IsSome};
 ghost use Rattle.mx_asm_statement.specs.declared.line.Line.{Line};
@@ -28,7 +28,7 @@ fn class_of(section: Section) -> u8
     }
 }
 
-/// Where the program begins, where the label stands that `.entry` names.
+/// The address at which the program begins: of the label that `.entry` names, or 0.
 fn entry_address(layout: &Layout) -> u32
     requires { IsSome (entry_under (above_of layout.now) layout.now.entry) }
     ensures { entry_under (above_of layout.now) layout.now.entry ≡ Some result }
@@ -60,7 +60,7 @@ fn symbols_of(alloc: Global, layout: &Layout) -> Result<Vec<Symbol>, AllocError>
     Ok(symbols)
 }
 
-/// The program of bytes and symbols that have their places here.
+/// The program of a layout, and of its bytes and symbols.
 fn program_with(layout: &Layout, parts: Parts, symbols: Vec<Symbol>) -> Program
     requires fits { is_program_too_large (above_of layout.now) ≡ false }
     requires begins { IsSome (entry_under (above_of layout.now) layout.now.entry) }
@@ -88,7 +88,8 @@ fn program_with(layout: &Layout, parts: Parts, symbols: Vec<Symbol>) -> Program
     }
 }
 
-/// The program of lines that leave a layout, `count` with those that aren't kept; or the first fault.
+/// The program of lines and the layout after them, or the first fault. `count` is the number of all lines of
+/// the text, with those that aren't stored.
 pub fn program_of(
     alloc: Global,
     layout: &Layout,

@@ -1,4 +1,4 @@
-//! What stands against lines once all labels stand.
+//! The second pass of the assembler, its faults: names without a label, jumps that don't reach, and sizes.
 
 ghost use Rattle.std.specs.Prelude.{◌≡◌, List, length, false, None};
 ghost use Rattle.std.specs.List.{list_any};
@@ -57,7 +57,7 @@ impl Layout {
         }
     }
 
-    /// What stands against a line's statement at an address.
+    /// The problem of a line's statement at an address, if it has one.
     fn problem_at(&self, at: u32, line: &Line) -> Option<Problem>
         ensures { result ≡ problem_at (above_of self.now) at (statement_said line.now) }
     {
@@ -80,7 +80,7 @@ impl Layout {
         }
     }
 
-    /// The first of the lines that are kept that something stands against.
+    /// The first stored line with a problem.
     fn first_problem(&self, lines: &[NumberedLine]) -> Option<Fault>
         ensures { result ≡ first_problem_kept (above_of self.now) no_lines_above.sizes lines.now }
     {
@@ -101,7 +101,7 @@ impl Layout {
         None
     }
 
-    /// What stands against `count` lines for their size.
+    /// The fault of `count` lines for their size, if they have one.
     fn fault_of_size(&self, count: usize) -> Option<Fault>
         ensures fault { (ls : List Line) → count ≡ length ls
             → result ≡ too_large_in (above_of self.now) ls }
@@ -116,8 +116,8 @@ impl Layout {
         })
     }
 
-    /// What stands against lines that leave this layout, `count` with those that aren't kept: against one
-    /// of them, or against all for their size.
+    /// The fault of lines and the layout after them: of one line, or of all for their size. `count` is the
+    /// number of all lines, with those that aren't stored.
     pub fn fault_after(&self, lines: &[NumberedLine], count: usize) -> Option<Fault>
         ensures fault { (ls : List Line) → AreKept ls lines.now count
             → above_of self.now ≡ laid_by no_lines_above ls → result ≡ fault_after ls }

@@ -1,4 +1,4 @@
-//! How many bytes the sections hold.
+//! The sizes of a program's sections, and offsets in them.
 
 ghost use Rattle.std.specs.Prelude.{◌≡◌, ◌≤◌, ◌^◌};
 ghost use Rattle.mx_encode.specs.Lengths.{chosen_length};
@@ -10,7 +10,7 @@ use crate::branch::branch_length;
 use mx_asm_statement::{Instruction, Line, Section, Statement};
 use mx_encode::encode;
 
-/// Where a label stands in its section.
+/// The section and the offset of a label.
 #[derive(Clone, Copy)]
 pub struct SectionOffset {
     pub section: Section,
@@ -37,7 +37,7 @@ fn instruction_length(instruction: &Instruction) -> u128
     }
 }
 
-/// How many bytes a line's statement takes, wherever its names stand.
+/// How many bytes a line's statement takes, whatever the addresses of its names.
 fn length_of(line: &Line) -> u128
     ensures length { result ≡ statement_length (statement_said line.now) }
     ensures small { result ≤ 2 ^ 64 }
@@ -78,7 +78,7 @@ impl SectionSizes {
         }
     }
 
-    /// Where the next byte of the current section stands.
+    /// The offset of the next byte of the current section.
     pub fn spot(&self) -> SectionOffset
         ensures { result ≡ section_offset_of self.now }
     {

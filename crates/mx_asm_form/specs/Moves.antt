@@ -20,7 +20,7 @@ exchange (x ∷ arguments.Register s r ∷ []) = do
   statement_of_insn (insns.Exchange s spot.operand r) None spot.displacement
 exchange _ = None
 
--- no size word stands before LEA's brackets
+-- no size word comes before LEA's brackets
 abbrev pub load_address_statement : List Argument → Option Statement
 load_address_statement (arguments.Register s to ∷ arguments.Memory None a ∷ []) = do
   size ← not_byte s

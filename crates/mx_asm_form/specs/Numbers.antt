@@ -14,8 +14,8 @@ use Rattle.mx_asm_statement.specs.Items.{◌>>=◌}
 abbrev pub is_out_of_range : ℕ → ℤ → Bool
 is_out_of_range w z = int_lt z (neg_ℤ (pos (2 ^ (w - 1)))) || int_le (pos (2 ^ w)) z
 
--- without a name, the low bits of a number in range; with a name a sum modulo 2 ^ 32, whatever the number, so that it
--- needs 32 bits and has no range: 0 stands for it until its label's address is put in
+-- without a name, the low bits of a number in range; with a name a sum modulo 2 ^ 32, whatever the number. So
+-- a name needs 32 bits and has no range: the number is 0 until the label's address is put in
 abbrev pub low_bits : Option Name → Size → ℤ → Option ℕ
 low_bits None s z = if is_out_of_range (width s) z then None else Some (modulo (width s) z)
 low_bits (Some name) Byte z = None
@@ -40,7 +40,7 @@ is_same Word Word = true
 is_same Dword Dword = true
 is_same _ _ = false
 
--- a size word may stand where it names the size that a register gives
+-- a size word may be there if it names the size that a register gives
 abbrev pub names_no_other : Option Size → Size → Bool
 names_no_other None s = true
 names_no_other (Some other) s = is_same other s

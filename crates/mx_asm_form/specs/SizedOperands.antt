@@ -38,19 +38,20 @@ sized_memory s a = do
   m ← memory_named a
   Some (record { size = s; operand = operands.Memory m; displacement = value_waiting a.value })
 
--- where no register gives the size: a register itself, or a place in memory after its size word
+-- if no register gives the size: a register itself, or a place in memory after its size word
 abbrev pub sized_operand_of : Argument → Option SizedOperand
 sized_operand_of (arguments.Register s r) = Some (record { size = s; operand = operands.Register r; displacement = None })
 sized_operand_of (arguments.Memory (Some s) a) = sized_memory s a
 sized_operand_of _ = None
 
--- one of a size that stands fixed
+-- one of this size
 abbrev pub operand_of_size : Size → Argument → Option SizedOperand
 operand_of_size s x = do
   spot ← sized_operand_of x
   if is_same spot.size s then Some spot else None
 
--- beside a register, which gives the size: a register of that size, or a place in memory that is said to be of no other
+-- in a form with a register, which gives the size: a register of that size, or a place in memory with no
+-- other size word
 abbrev pub operand_beside : Size → Argument → Option SizedOperand
 operand_beside s (arguments.Register t r) = if is_same t s then Some (record { size = s; operand = operands.Register r; displacement = None }) else None
 operand_beside s (arguments.Memory named a) = if names_no_other named s then sized_memory s a else None

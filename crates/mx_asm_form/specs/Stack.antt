@@ -1,4 +1,4 @@
--- The stack, interrupts and ports: PUSH, POP, RET, INT, IN, OUT, and what stands alone.
+-- The stack, interrupts and ports: PUSH, POP, RET, INT, IN, OUT, and what has no operands.
 use Rattle.std.specs.Prelude.{Option, Some, None, List, [], ◌∷◌}
 use Rattle.mx_word.specs.declared.size.Size.TheVariants.{Byte, Word, Dword}
 use Rattle.mx_word.specs.declared.names.Register.TheVariants.{Eax, Edx}

@@ -1,4 +1,4 @@
--- Jumps, calls and loops: to a value, or where a dword of a register or memory says.
+-- Jumps, calls and loops: to a value, or to the address in a dword of a register or memory.
 use Rattle.std.specs.Prelude.{Option, None, List, [], ◌∷◌}
 use Rattle.mx_word.specs.declared.size.Size.TheVariants.{Dword}
 use Rattle.mx_word.specs.declared.names.Condition.{Condition}

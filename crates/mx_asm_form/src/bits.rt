@@ -1,4 +1,4 @@
-//! Bit tests, bit scans and double shifts.
+//! Forms of bit tests, bit scans and double shifts.
 
 ghost use Rattle.std.specs.Prelude.{◌≡◌, ◌∷◌, []};
 ghost use Rattle.mx_asm_form.specs.Operations.{double_shift, bit_test, bit_scan};

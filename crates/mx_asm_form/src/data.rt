@@ -1,4 +1,4 @@
-//! Values of data.
+//! Values of `.data1`, `.data2` and `.data4`, which have to fit.
 
 ghost use Rattle.std.specs.Prelude.{◌≡◌, IfOk};
 ghost use Rattle.mx_asm_form.specs.Data.{data_value_in, data_of};
@@ -8,7 +8,7 @@ use mx_asm_statement::{DataValues, Item, Statement, Value, parted, value_of};
 use mx_insn::Size;
 use std::alloc::{AllocError, Global};
 
-/// The value that items say, where it fits.
+/// The value of items, if it fits.
 fn value_in(size: Size, items: &[Item]) -> Option<Value>
     ensures { result ≡ data_value_in size items.now }
 {
@@ -17,7 +17,7 @@ fn value_in(size: Size, items: &[Item]) -> Option<Value>
     Some(value)
 }
 
-/// Data of a size: the values that commas part, where each fits.
+/// Data of a size: the values between commas, if each fits.
 pub fn data_of(alloc: Global, size: Size, items: &[Item]) -> Result<Option<Statement>, AllocError>
     ensures { IfOk result (λ s. s ≡ data_of size items.now) }
 {

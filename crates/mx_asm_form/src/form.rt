@@ -1,4 +1,4 @@
-//! Whole statements.
+//! Finds the form of a mnemonic and its arguments: which instruction they are, if any.
 
 ghost use Rattle.std.specs.Prelude.{◌≡◌};
 ghost use Rattle.mx_asm_form.specs.Statements.{arithmetic_statement, move_statement, statement_for_single, statement_for, statement_after_prefix};
@@ -93,7 +93,7 @@ pub fn stated(length: JumpLength, mnemonic: Mnemonic, arguments: &[Argument]) ->
     }
 }
 
-/// The same after `rep`, `repe` or `repne`, where a string instruction stands alone.
+/// The statement of a string instruction after `rep`, `repe` or `repne`, which has no arguments.
 pub fn repeated(prefix: Prefix, mnemonic: Mnemonic) -> Option<Statement>
     ensures { result ≡ statement_after_prefix prefix mnemonic }
 {

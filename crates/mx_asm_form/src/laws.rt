@@ -1,4 +1,4 @@
-//! Laws of forms.
+//! Laws of forms: which instructions and numbers come of them.
 
 ghost use Rattle.std.specs.Prelude.{◌≡◌, List, Some};
 ghost use Rattle.mx_encode.specs.Given.{Fits};
@@ -19,7 +19,7 @@ pub fn numbers_fit()
         ≡ Some (statements.Instruction i) → Fits i.insn }
 {}
 
-/// Law: a mnemonic says an instruction or a jump, and no directive.
+/// Law: the form of a mnemonic is an instruction or a jump, and no directive.
 pub fn code_is_stated()
     ensures stated { (length : JumpLength) (m : Mnemonic) (xs : List Argument) (s : Statement)
         → statement_for length m xs ≡ Some s → IsCode s }

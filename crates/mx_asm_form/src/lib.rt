@@ -1,5 +1,4 @@
-//! From a mnemonic and its operands to an instruction, where such a form exists; and values of
-//! data.
+//! From a mnemonic and its operands to an instruction, if such a form exists; and values of data.
 #![tactic(auto)]
 
 mod bits;

@@ -1,4 +1,4 @@
-//! What moves values as they are, or extends them.
+//! Forms of what moves values as they are, or extends them.
 
 ghost use Rattle.std.specs.Prelude.{◌≡◌, ◌∷◌, []};
 ghost use Rattle.mx_asm_form.specs.Moves.{exchange, load_address_statement, extension_between, extension_parts, zero_extend, sign_extend};

@@ -1,4 +1,4 @@
-//! Numbers of this many bits.
+//! Numbers in forms: whether a value fits, and its bits.
 
 ghost use Rattle.std.specs.Prelude.{◌≡◌, ◌<◌, ◌^◌, IfSome};
 ghost use Rattle.mx_word.specs.Word.{width};
@@ -7,8 +7,8 @@ ghost use Rattle.mx_asm_form.specs.Numbers.{number_in, value_waiting, immediate_
 use mx_asm_statement::Value;
 use mx_insn::{Immediate, Size};
 
-/// The word of this many bits that a value is: its low bits where it lies in -2^(w-1) to 2^w - 1, and
-/// 0 where it holds a name, which only 32 bits can take.
+/// The word of `size` bits of a value: its low bits if it is in -2^(w-1) to 2^w - 1, and 0 if it has a name,
+/// for which only 32 bits suffice.
 pub fn number_in(size: Size, value: Value) -> Option<u32>
     ensures value { result ≡ number_in size value }
     ensures below { IfSome result (λ n. n < 2 ^ width size) }
@@ -48,7 +48,7 @@ pub fn immediate_in(size: Size, value: Value) -> Option<Immediate>
     }
 }
 
-/// Whether a size word, if one stands, names this size.
+/// Whether a size word, if there is one, names this size.
 pub fn names_no_other(named: Option<Size>, size: Size) -> bool
     ensures { result ≡ names_no_other named size }
 {

@@ -1,4 +1,4 @@
-//! What works on registers and memory.
+//! Forms of operations on registers and memory.
 
 ghost use Rattle.std.specs.Prelude.{◌≡◌, ◌∷◌, []};
 ghost use Rattle.mx_asm_form.specs.Operations.{factor_of, unary, test, product, shift_count_of, shift, set_condition_statement};

@@ -1,4 +1,4 @@
-//! Two operands of one size.
+//! Forms with two operands of one size.
 
 ghost use Rattle.std.specs.Prelude.{◌≡◌, ◌∷◌, []};
 ghost use Rattle.mx_asm_statement.specs.declared.argument.Argument.TheVariants as arguments;

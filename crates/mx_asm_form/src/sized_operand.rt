@@ -1,4 +1,4 @@
-//! Single operands.
+//! Forms with a single operand.
 
 ghost use Rattle.std.specs.Prelude.{◌≡◌};
 ghost use Rattle.mx_asm_form.specs.SizedOperands.{statement_of_insn, statement_of_branch, memory_named, sized_memory, sized_operand_of, operand_of_size, operand_beside, not_byte};
@@ -69,7 +69,7 @@ pub fn spot_of(argument: Argument) -> Option<SizedOperand>
     }
 }
 
-/// The operand that an argument is, of a size that stands fixed.
+/// The operand of an argument, if it is of this size.
 pub fn spot_of_size(size: Size, argument: Argument) -> Option<SizedOperand>
     ensures { result ≡ operand_of_size size argument }
 {
@@ -77,7 +77,7 @@ pub fn spot_of_size(size: Size, argument: Argument) -> Option<SizedOperand>
     if spot.size == size { Some(spot) } else { None }
 }
 
-/// The operand that an argument is beside a register, which gives the size.
+/// The operand of an argument in a form whose other operand is a register, which gives the size.
 pub fn spot_beside(size: Size, argument: Argument) -> Option<SizedOperand>
     ensures { result ≡ operand_beside size argument }
 {

@@ -1,4 +1,4 @@
-//! The stack, interrupts and ports.
+//! Forms of the stack, interrupts and ports.
 
 ghost use Rattle.std.specs.Prelude.{◌≡◌, ◌∷◌, []};
 ghost use Rattle.mx_asm_form.specs.Stack.{statement_without_arguments, push, pop, return_of, interrupt, port_of, port_size_of, port_in, port_out};

@@ -1,4 +1,4 @@
-//! Jumps, calls and loops.
+//! Forms of jumps, calls and loops.
 
 ghost use Rattle.std.specs.Prelude.{◌≡◌, ◌∷◌, []};
 ghost use Rattle.mx_asm_form.specs.Transfers.{jump, jump_if_statement, call, loop_statement};

@@ -1,4 +1,4 @@
--- What a line begins with that says a statement.
+-- The first word of the line of a statement.
 use Rattle.mx_asm_statement.specs.declared.line.StatementStart.{StatementStart}
 use Rattle.mx_asm_statement.specs.declared.line.StatementStart.TheVariants as beginnings
 use Rattle.mx_asm_statement.specs.declared.statement.Statement.{Statement}

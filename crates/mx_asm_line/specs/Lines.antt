@@ -1,4 +1,4 @@
--- What a line says.
+-- What a line means.
 use Rattle.std.specs.Prelude.{◌≡◌, ℕ, ◌||◌, Bool, false, Option, Some, None, List, [], ◌∷◌}
 use Rattle.mx_text.specs.declared.names.Name.{Name}
 use Rattle.mx_lex.specs.Tokens.{IsReadAs}
@@ -77,7 +77,7 @@ line_of_items label b second text ts = record {
   statement = where_named label (statement_of b second text ts);
 }
 
--- the tokens say the line: [label:] [statement]
+-- the tokens mean the line: [label:] [statement]
 pub record SaysLine (t : List ℕ) (ks : List Token) (line : Line) : Type 0 where
   pub label_item : Option Item
   pub is_label : IsLabelItem t (label_of t ks) label_item
@@ -89,6 +89,6 @@ pub record SaysLine (t : List ℕ) (ks : List Token) (line : Line) : Type 0 wher
   pub are_items : AreItems t (after_first (after_label t ks)) rest
   pub is_line : line ≡ line_of_items label_item start second (text_alone t (after_first (after_label t ks))) rest
 
--- what a line of a text says
+-- what a line of a text means
 abbrev pub IsLine : List ℕ → Line → Type 0
 IsLine t line = (ks : List Token) × IsReadAs t ks × SaysLine t ks line

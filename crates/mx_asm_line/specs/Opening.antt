@@ -57,7 +57,7 @@ abbrev pub after_first : List Token → List Token
 after_first [] = []
 after_first (k ∷ ks) = ks
 
--- the mnemonic that stands first after a prefix
+-- the mnemonic that comes first after a prefix
 abbrev pub NamesMnemonic : List ℕ → List Token → Option Mnemonic → Type 0
 NamesMnemonic t [] m = m ≡ None
 NamesMnemonic t (k ∷ ks) None = (m : Mnemonic) → IsWord t k (word_of m) → ⊥

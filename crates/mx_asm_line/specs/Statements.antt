@@ -1,4 +1,4 @@
--- Which statement stands after what it begins with.
+-- Which statement comes of what follows its first word.
 use Rattle.std.specs.Prelude.{ℕ, ◌&&◌, ◌-◌, ◌+◌, if◌then◌else◌, Bool, true, false, nat_eq, Option, Some, None, List, [], ◌∷◌, slice_range}
 use Rattle.std.specs.Cmp.Lexicographic.{pointwise}
 use Rattle.mx_word.specs.declared.size.Size.TheVariants as sizes
@@ -61,7 +61,7 @@ without_short_mark m (t ∷ ts) = if takes_short m && is_short_word t then ts el
 abbrev pub after_mnemonic : Mnemonic → List Item → Option Statement
 after_mnemonic m ts = statement_by (jump_length_asked m ts) m (without_short_mark m ts)
 
--- a string instruction, alone
+-- a string instruction, with nothing else
 abbrev pub after_prefix : Prefix → Option Mnemonic → List Item → Option Statement
 after_prefix p (Some m) (t ∷ []) = statement_after_prefix p m
 after_prefix p _ _ = None
@@ -108,7 +108,7 @@ after_directive directives.Sep text ts = standing_alone statements.Separate ts
 after_directive directives.Entry text ts = entry_of ts
 after_directive directives.Stack text ts = stack_of ts
 
--- the bytes of a text that stands alone, without its quotes
+-- the bytes of a text with nothing else, without its quotes
 abbrev pub text_in : List ℕ → Token → TokenKind → Option (List ℕ)
 text_in t k kinds.Text = Some (text_value (slice_range t (k.start + 1) (k.end - 1)))
 text_in t k _ = None
@@ -119,7 +119,8 @@ text_alone t _ = None
 
 -- ---- the whole statement
 
--- what it begins with, the mnemonic after a prefix, the text that stands alone, and what stands after its first word
+-- the first word, the mnemonic after a prefix, the quoted text if there is nothing else, and what follows the
+-- first word
 abbrev pub statement_of : LineStart → Option Mnemonic → Option (List ℕ) → List Item → Option Statement
 statement_of begun.Nothing second text ts = Some statements.Nothing
 statement_of begun.Unknown second text ts = None

@@ -1,4 +1,4 @@
-//! Laws of lines.
+//! Laws of lines of an assembler text.
 
 ghost use Rattle.std.specs.Prelude.{◌≡◌, ℕ, List, Some};
 ghost use Rattle.mx_encode.specs.Given.{Fits};
@@ -15,7 +15,7 @@ use mx_asm_form::{code_is_stated, numbers_fit};
 use mx_insn_words::{one_register_or_size, one_start};
 use mx_lex::{one_reading, reading_or_fault};
 
-/// Law: a line of an assembler text says at most one thing.
+/// Law: a line of an assembler text has at most one meaning.
 pub fn one_line()
     ensures { (t : List ℕ) (a b : Line) → IsLine t a → IsLine t b → a ≡ b }
 {
@@ -24,7 +24,7 @@ pub fn one_line()
     one_reading();
 }
 
-/// Law: a line of a text says something or has a fault, and not both: none has neither.
+/// Law: a line of a text has a meaning or a fault, and not both: none has neither.
 pub fn line_or_fault()
     ensures not_both { (t : List ℕ) (l : Line) (e : LexError) → IsLine t l → IsLexFault t e → ⊥ }
     ensures not_neither { (t : List ℕ) → ((l : Line) → IsLine t l → ⊥)
@@ -41,7 +41,7 @@ pub fn line_fits()
     numbers_fit();
 }
 
-/// Law: a line begins with what its statement begins with.
+/// Law: the beginning of a line is that of its statement.
 pub fn line_begins()
     ensures { (t : List ℕ) (l : Line) (s : Statement) → IsLine t l → l.statement ≡ Some s
         → l.beginning ≡ begins_with s }

@@ -1,4 +1,4 @@
-//! What one whole line of an assembler text says: from its tokens to a label and a statement.
+//! What one whole line of an assembler text means: from its tokens to a label and a statement.
 #![tactic(auto)]
 
 mod laws;

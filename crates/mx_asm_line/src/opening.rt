@@ -17,7 +17,7 @@ pub enum LineStart {
     Known(WordStart),
 }
 
-/// Whether a word without a dot stands before a colon.
+/// Whether a word without a dot is before a colon.
 fn is_label(text: &[u8], first: Token, second: Token) -> bool
     requires { IsSlice text.now first }
     ensures { result ≡ is_label text.now first second }
@@ -28,7 +28,7 @@ fn is_label(text: &[u8], first: Token, second: Token) -> bool
     }
 }
 
-/// What the label's token is, where there is one, and what stands after it; or all.
+/// The item of the label's token, if there is a label, and the tokens after it; without a label, all tokens.
 pub fn after_label<'a>(text: &[u8], tokens: &'a [Token]) -> (Option<Item>, &'a [Token])
     requires { All (IsSlice text.now) tokens.now }
     ensures label { IsLabelItem text.now (label_of text.now tokens.now) result.0 }

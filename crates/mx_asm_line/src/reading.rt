@@ -1,4 +1,4 @@
-//! Lines.
+//! Reads one line: label, statement, and whether a name is too long.
 
 ghost use Rattle.std.specs.Prelude.{◌≡◌, IfOk, IfErr, All};
 ghost use Rattle.mx_lex.specs.Tokens.{IsSlice, TellsLexFault};
@@ -56,7 +56,7 @@ fn name_in(label: Option<Item>) -> Option<Name>
     }
 }
 
-/// A statement, where the label, if there is one, is a name.
+/// A statement, if the label, when there is one, is a name.
 fn where_named(label: Option<Item>, statement: Option<Statement>) -> Option<Statement>
     ensures { result ≡ where_named label statement }
 {
@@ -89,7 +89,7 @@ fn beginning_of(begun: LineStart) -> StatementStart
     }
 }
 
-/// What a line's tokens say.
+/// The line of these tokens.
 fn line_of(alloc: Global, text: &[u8], tokens: &[Token]) -> Result<Line, AllocError>
     requires { All (IsSlice text.now) tokens.now }
     ensures { IfOk result (SaysLine text.now tokens.now) }
@@ -111,7 +111,7 @@ fn line_of(alloc: Global, text: &[u8], tokens: &[Token]) -> Result<Line, AllocEr
     })
 }
 
-/// What a line of a text says, without its line feed; or the first offset in it at fault.
+/// The meaning of a line of a text, without its line feed; or the first offset in it at fault.
 pub fn read_line(alloc: Global, text: &[u8]) -> Result<Line, LexError>
     ensures line { IfOk result (IsLine text.now) }
     ensures fault { IfErr result (TellsLexFault text.now) }

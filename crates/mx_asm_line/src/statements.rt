@@ -1,4 +1,4 @@
-//! What stands after a statement's first word.
+//! What follows a statement's first word.
 
 ghost use Rattle.std.specs.Prelude.{◌≡◌, ◌+◌, ◌≤◌, IfOk, All};
 ghost use Rattle.mx_lex.specs.Tokens.{IsSlice};
@@ -12,7 +12,7 @@ use mx_lex::{Token, TokenKind, text_bytes};
 use mx_word::{Bytes, Size};
 use std::alloc::{AllocError, Global};
 
-/// Whether `short` may stand after a mnemonic.
+/// Whether `short` is allowed after a mnemonic.
 fn takes_short(mnemonic: Mnemonic) -> bool
     ensures { result ≡ takes_short mnemonic }
 {
@@ -46,7 +46,7 @@ fn stated_by(
     }
 }
 
-/// The instruction of a mnemonic and what stands after it, first of all its `short`.
+/// The instruction of a mnemonic and of what follows it; the first item may be `short`.
 fn after_mnemonic(
     alloc: Global,
     mnemonic: Mnemonic,
@@ -83,7 +83,7 @@ fn standing_alone(statement: Statement, items: &[Item]) -> Option<Statement>
     }
 }
 
-/// The text of `.ascii`, without its quotes, where it stands alone.
+/// The text of `.ascii`, without its quotes, if there is nothing else.
 pub fn text_alone(alloc: Global, text: &[u8], tokens: &[Token]) -> Result<Option<Bytes>, AllocError>
     requires { All (IsSlice text.now) tokens.now }
     ensures { IfOk result (λ bytes. bytes ≡ text_alone text.now tokens.now) }
@@ -159,8 +159,8 @@ fn after_directive(
     }
 }
 
-/// The statement of what it begins with, the mnemonic after a prefix, the text that stands alone,
-/// and what stands after its first word.
+/// The statement of its parts: the first word, the mnemonic after a prefix, the quoted text if there is
+/// nothing else, and the items after the first word.
 pub fn statement_of(
     alloc: Global,
     begun: LineStart,

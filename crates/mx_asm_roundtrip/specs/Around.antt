@@ -1,4 +1,4 @@
--- The way around: a text is assembled, written, read, loaded and listed, and its instructions are met again.
+-- The roundtrip: a text is assembled, written, read, loaded and listed, and its instructions are found again.
 use Rattle.std.specs.Prelude.{◌≡◌, ℕ, ◌+◌, List, [], ◌∷◌, ◌++◌, map, length, Some, string_bytes, ⊤}
 use Rattle.mx_insn.specs.declared.insn.Insn.{Insn}
 use Rattle.mx_insn.specs.Spelling.{Spells}
@@ -26,7 +26,7 @@ use Rattle.mx_asm_roundtrip.specs.declared.going.Journey.{Journey}
 
 -- ---- bytes in the code
 
--- these bytes stand at an address
+-- these bytes are at an address
 abbrev pub StandAt : List ℕ → ℕ → List ℕ → Type 0
 StandAt code at b = (before after : List ℕ) × (code ≡ before ++ (b ++ after)) × (length before ≡ at)
 
@@ -35,7 +35,7 @@ StandIfText Text code at b = StandAt code at b
 StandIfText Data code at b = ⊤
 StandIfText Bss code at b = ⊤
 
--- the bytes of each statement in the text section stand at its address
+-- the bytes of each statement in the text section are at its address
 abbrev pub AllAtAddress : List ℕ → LinesAbove → SectionSizes → List Line → List (List ℕ) → Type 0
 AllAtAddress code a s [] bs = ⊤
 AllAtAddress code a s (l ∷ ls) [] = ⊤
@@ -44,7 +44,7 @@ AllAtAddress code a s (l ∷ ls) (b ∷ bs) =
 
 -- ---- instructions in the listing
 
--- at an address the parts have this instruction, spelled by that many bytes
+-- at an address the parts have this instruction, spelled by k bytes
 abbrev pub HasAt : List Part → ℕ → Insn → ℕ → Type 0
 HasAt parts at i k = (before after : List Part) × (parts ≡ before ++ Instruction i k ∷ after) × (total_size before ≡ at)
 
@@ -52,7 +52,7 @@ HasAt parts at i k = (before after : List Part) × (parts ≡ before ++ Instruct
 abbrev pub IsListed : List Part → ℕ → List ℕ → Insn → Type 0
 IsListed parts at b i = Spells b i × HasAt parts at i (length b)
 
--- the instruction that a statement says is listed; a directive says none
+-- the instruction of a statement is listed; a directive has none
 abbrev pub StatementListed : LinesAbove → ℕ → Statement → List ℕ → List Part → Type 0
 StatementListed a at (says.Instruction i) b parts = (insn : Insn) × (named_under a i ≡ Some insn) × IsListed parts at b insn
 StatementListed a at (says.Branch k target) b parts = (x : ℕ) × (value_under a target ≡ Some x) × IsListed parts at b (branch_by k (distance (at + length b) x))
@@ -69,7 +69,7 @@ put_by_directive section (says.Instruction i) b = []
 put_by_directive section (says.Branch k target) b = []
 put_by_directive section _ b = put_into Text section b
 
--- the instruction of each line in the text section is listed, where no directive before it puts bytes there
+-- the instruction of each line in the text section is listed, if no directive before it puts bytes there
 abbrev pub AllListed : List Part → LinesAbove → SectionSizes → List Line → List (List ℕ) → Type 0
 AllListed parts a s [] bs = ⊤
 AllListed parts a s (l ∷ ls) [] = ⊤
@@ -79,7 +79,7 @@ AllListed parts a s (l ∷ ls) (b ∷ bs) =
 
 -- ---- a text that is assembled
 
--- where its labels stand, as the lengths of its bytes say
+-- the layout of its labels, by the lengths of its bytes
 abbrev pub layout_of : {lines : List Line} {p : Program} → AreAssembled lines p → LinesAbove
 layout_of {lines} made = left_by no_lines_above lines (map length made.bytes)
 
@@ -87,12 +87,13 @@ layout_of {lines} made = left_by no_lines_above lines (map length made.bytes)
 abbrev pub CodeKeeps : (lines : List Line) (p : Program) → AreAssembled lines p → List ℕ → Type 0
 CodeKeeps lines p made code = AllAtAddress code (layout_of made) no_lines_above.sizes lines made.bytes
 
--- the parts have each instruction at its address, where no directive before it puts bytes into the text section
+-- the parts have each instruction at its address, if no directive before it puts bytes into the text section
 abbrev pub PartsKeep : (lines : List Line) (p : Program) → AreAssembled lines p → List Part → Type 0
 PartsKeep lines p made parts = AllListed parts (layout_of made) no_lines_above.sizes lines made.bytes
 
--- a text went around: its program's file in the short form, of which it is the only program; the image of that program, whose code
--- has each statement's bytes at its address; and the listing, whose parts have each instruction there
+-- a text's roundtrip: its program's file in the short form, of which it is the only program; the image of
+-- that program, whose code has each statement's bytes at its address; and the listing, whose parts have each
+-- instruction there
 pub record GoesAround (text : List ℕ) (way : Journey) : Type 0 where
   pub program : Program
   pub assembled : IsAssembled text program

@@ -1,4 +1,4 @@
--- Why a text doesn't go around.
+-- Why a text's roundtrip fails.
 use Rattle.std.specs.Prelude.{ℕ, List, ⊤}
 use Rattle.mx_asm.specs.declared.fault.AsmError.{AsmError}
 use Rattle.mx_asm.specs.declared.fault.AsmError.TheVariants as assembling
@@ -10,7 +10,7 @@ abbrev pub error_of : AsmError → AroundError
 error_of (assembling.At f) = Text f
 error_of assembling.NoMemory = NoMemory
 
--- a text is told its first fault, and nothing else, unless memory runs out
+-- the error of a text is its first fault, and no other, unless memory runs out
 abbrev pub TellsWhy : List ℕ → AroundError → Type 0
 TellsWhy t NoMemory = ⊤
 TellsWhy t (Text f) = HasTextFault t f

@@ -1,10 +1,9 @@
-//! Why a text doesn't go around.
+//! Why a text's roundtrip fails.
 
 use mx_asm::{AsmError, Fault};
 use mx_word::NoMemory;
 
-/// The text's first fault, or that memory ran out. Nothing else can be in the way, since what is
-/// read was written.
+/// The text's first fault, or that memory ran out. Nothing else can happen, since what is read was written.
 #[derive(Clone, Copy, PartialEq, Eq)]
 pub enum AroundError {
     Text(Fault),

@@ -1,4 +1,4 @@
-//! Goes around with a text.
+//! The roundtrip of a text: assembled, written, read, loaded and listed.
 
 ghost use Rattle.std.specs.Prelude.{◌≡◌, ◌<◌, ◌^◌, length, string_bytes, IfOk, IfErr};
 ghost use Rattle.mx_aout.specs.File.{FileIs};
@@ -17,7 +17,7 @@ use mx_load::load;
 use mx_word::{Bytes, NoMemory};
 use std::alloc::Global;
 
-/// What becomes of a text.
+/// The results of a text's roundtrip.
 #[derive(Drop)]
 pub struct Journey {
     /// The file of the text's program.

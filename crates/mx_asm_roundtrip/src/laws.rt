@@ -1,4 +1,4 @@
-//! What a text's instructions are in the code and in the listing.
+//! Laws of the roundtrip: a text's instructions in the code and in the listing.
 
 ghost use Rattle.std.specs.Prelude.{◌<◌, ◌^◌, List, length};
 ghost use Rattle.mx_asm_statement.specs.declared.line.Line.{Line};
@@ -19,8 +19,8 @@ pub fn code_keeps()
         → length p.text < 2 ^ 32 → CodeKeeps lines p made (code_bytes (image_of_program p)) }
 {}
 
-/// Law: the parts of its text have each instruction at its address, where no directive before it
-/// puts bytes into the text.
+/// Law: the parts of a program's text have each instruction at its address, if no directive before it puts
+/// bytes into the text.
 pub fn listing_keeps()
     ensures { (lines : List Line) (p : Program) (made : AreAssembled lines p) (parts : List Part)
         → length p.text < 2 ^ 32 → IsParting p.text parts → PartsKeep lines p made parts }

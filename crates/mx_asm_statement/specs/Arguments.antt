@@ -14,7 +14,7 @@ abbrev pub is_close : Item → Bool
 is_close (items.Mark marks.Close) = true
 is_close _ = false
 
--- what stands before the closing bracket, where one stands last
+-- what is before the closing bracket, if the last item is one
 abbrev pub before_close : List Item → Option (List Item)
 before_close [] = None
 before_close (t ∷ []) = if is_close t then Some [] else None

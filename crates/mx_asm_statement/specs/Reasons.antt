@@ -21,7 +21,7 @@ abbrev pub is_unknown : StatementStart → Bool
 is_unknown beginnings.Unknown = true
 is_unknown _ = false
 
--- instructions stand in the text alone, and bss takes no bytes
+-- instructions are only in the text section, and bss takes no bytes
 abbrev pub is_misplaced : Section → StatementStart → Bool
 is_misplaced sections.Data beginnings.Instruction = true
 is_misplaced sections.Bss beginnings.Instruction = true
@@ -32,12 +32,12 @@ abbrev pub first_reason : List (Bool × Reason) → Option Reason
 first_reason [] = None
 first_reason (r ∷ rest) = if r.0 then Some r.1 else first_reason rest
 
--- whether a line above has said already what this line says
+-- whether a line above defines already what this line defines
 abbrev pub is_said_again : Saying → Bool
 is_said_again First = false
 is_said_again Second = true
 
--- the first that stands
+-- the first reason that holds
 abbrev pub statement_refusal : Section → Saying → Line → Option Reason
 statement_refusal section saying line = first_reason (
     (line.long, LongName)

@@ -1,4 +1,4 @@
--- What a token is where an operand stands.
+-- What a token is as a part of an operand.
 use Rattle.std.specs.Prelude.{◌≡◌, ◌≢◌, ℕ, List, [], ◌∷◌, slice_index, slice_range, Some, None}
 use Rattle.mx_word.specs.declared.size.Size.{Size}
 use Rattle.mx_word.specs.declared.names.Register.{Register}
@@ -20,8 +20,8 @@ token_bytes t k = slice_range t k.start k.end
 abbrev pub IsOrdinary : List ℕ → Type 0
 IsOrdinary w = ((s : Size) (r : Register) → w ≢ register_word s r) × ((s : Size) → w ≢ size_word s)
 
--- a register, a size word, a name, or a word with a dot before it; a token that is a word without a dot is no name only
--- where it is too long
+-- a register, a size word, a name, or a word with a dot before it; a token that is a word without a dot is no
+-- name only if it is too long
 abbrev pub IsWordItem : List ℕ → Item → Type 0
 IsWordItem w (items.Register s r) = w ≡ register_word s r
 IsWordItem w (items.Size s) = w ≡ size_word s

@@ -1,5 +1,5 @@
--- What a value says besides its name (our own notation: a number with or without a sign, a name, or a name and such a
--- number).
+-- What a value has besides its name (our own notation: a number with or without a sign, a name, or a name and
+-- such a number).
 use Rattle.std.specs.Prelude.{ℕ, ℤ, pos, neg_ℤ, Bool, true, false}
 use Rattle.mx_asm_statement.specs.declared.value.Value.{Value}
 

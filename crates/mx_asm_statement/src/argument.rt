@@ -1,4 +1,4 @@
-//! Whole arguments.
+//! Operands as arguments: a register, a value, or memory in brackets.
 
 ghost use Rattle.std.specs.Prelude.{◌≡◌, MatchOption, Some, None};
 ghost use Rattle.mx_asm_statement.specs.Arguments.{is_close, before_close, argument_in_brackets, argument_of};
@@ -28,7 +28,7 @@ fn is_close(item: Item) -> bool
     }
 }
 
-/// What stands before the closing bracket, where one stands last.
+/// What is before the closing bracket, if the last item is one.
 #[tactic(auto, using(crate::proofs::Closing::before_close_last))]
 fn before_close(items: &[Item]) -> Option<&[Item]>
     ensures { MatchOption result (before_close items.now ≡ None) (λ r. before_close items.now
@@ -48,7 +48,7 @@ fn bracketed(size: Option<Size>, items: &[Item]) -> Option<Argument>
     Some(Argument::Memory(size, address))
 }
 
-/// The argument that an operand's items say.
+/// The argument of an operand's items.
 pub fn argument_of(items: &[Item]) -> Option<Argument>
     ensures { result ≡ argument_of items.now }
 {

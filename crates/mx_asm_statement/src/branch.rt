@@ -1,4 +1,4 @@
-//! Jumps.
+//! Jumps, calls and loops of a text, whose target is a value.
 
 use mx_insn::{Condition, Loop};
 
@@ -11,7 +11,7 @@ pub enum JumpLength {
     Long,
 }
 
-/// A jump, call or loop to a target that stands beside it.
+/// A jump, call or loop. Its target is stored with it, as a value.
 #[derive(Clone, Copy)]
 pub enum Branch {
     Jump {

@@ -1,4 +1,5 @@
-//! Instructions whose numbers may hold names.
+//! Instructions of a text. A number of one may be a name, whose value is put in once all labels have
+//! addresses: so a line is read once, and neither its length nor whether it has a form depends on an address.
 
 ghost use Rattle.std.specs.Prelude.{◌≡◌, true};
 ghost use Rattle.mx_encode.specs.Forms.{has_form};
@@ -7,8 +8,8 @@ use crate::value::Value;
 use mx_encode::{Wide, encode};
 use mx_insn::Insn;
 
-/// An instruction other than a jump. Where its immediate or the displacement of its memory holds a
-/// name, the number is 0 in the instruction, and its value stands beside it.
+/// An instruction other than a jump. If its immediate or the displacement of its memory has a name, the
+/// number in the instruction is 0, and its value is in the second or third field.
 #[derive(Clone, Copy)]
 pub struct Instruction {
     pub insn: Insn,
@@ -20,7 +21,7 @@ pub struct Instruction {
 impl Instruction {
     ghost use Rattle.mx_asm_statement.specs.Instructions.{instruction_of, marks};
 
-    /// Nothing where no bytes spell the instruction, which indexes by ESP then.
+    /// `None` if no bytes spell the instruction, since it indexes by ESP.
     #[tactic(auto, unfolding(crate::specs::Instructions::instruction_of))]
     pub fn new(
         insn: Insn,
@@ -43,7 +44,7 @@ impl Instruction {
         })
     }
 
-    /// A number is marked wide where it holds a name.
+    /// A number is marked wide if it has a name.
     pub fn marks(&self) -> Wide
         ensures { result ≡ marks self.now }
     {

@@ -1,4 +1,4 @@
-//! What a statement is made of, once its words are sorted.
+//! Items: the tokens of an operand, with each word as a register, a size or a name.
 
 ghost use Rattle.std.specs.Prelude.{◌≡◌};
 ghost use Rattle.mx_asm_statement.specs.Items.{is_long};
@@ -7,7 +7,7 @@ use mx_insn::{Register, Size};
 use mx_lex::Mark;
 use mx_text::Name;
 
-/// A token, and what it is where an operand stands.
+/// A token, and what it is as a part of an operand.
 #[derive(Clone, Copy)]
 pub enum Item {
     Mark(Mark),

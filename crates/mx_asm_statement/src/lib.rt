@@ -1,5 +1,4 @@
-//! What a line of an assembler text is made of: its statement, and the operands that its tokens
-//! say.
+//! What a line of an assembler text is made of: its statement, and the operands of its tokens.
 #![tactic(auto)]
 
 mod argument;

@@ -1,4 +1,4 @@
-//! Lines, and the reasons to refuse one.
+//! A line of an assembler text, and the reasons to refuse one.
 
 ghost use Rattle.std.specs.Prelude.{◌≡◌};
 ghost use Rattle.mx_asm_statement.specs.Reasons.{reason_code, is_unknown, is_misplaced, statement_refusal};
@@ -26,19 +26,19 @@ pub enum StatementStart {
     Anywhere,
 }
 
-/// What a line's tokens say, whatever stands above it.
+/// What a line's tokens mean, whatever is above it.
 #[derive(Drop)]
 pub struct Line {
-    /// Nothing too where what stands before the colon is no name.
+    /// `None` too if what is before the colon is no name.
     pub label: Option<Name>,
-    /// A name of more than eight bytes stands as the label or in an operand.
+    /// The label, or a name in an operand, has more than eight bytes.
     pub long: bool,
     pub beginning: StatementStart,
-    /// Nothing where the statement fits no form, or the label is no name.
+    /// `None` if the statement fits no form, or the label is no name.
     pub statement: Option<Statement>,
 }
 
-/// Why a line is refused, in the order in which it is told.
+/// Why a line is refused, in the order in which reasons are reported.
 #[derive(Clone, Copy, PartialEq, Eq)]
 pub enum Reason {
     LongName,
@@ -49,7 +49,7 @@ pub enum Reason {
 }
 
 impl Reason {
-    /// The number that messages tell.
+    /// The number of a reason in messages.
     pub fn code(self) -> u8
         ensures { result ≡ reason_code self }
     {
@@ -82,7 +82,7 @@ fn is_misplaced(section: Section, beginning: StatementStart) -> bool
     }
 }
 
-/// Whether the lines above a line say already what it says: its label, its `.sep`, its `.entry` or its
+/// Whether a line above defines already what this line defines: its label, its `.sep`, its `.entry` or its
 /// `.stack`.
 #[derive(Clone, Copy)]
 pub enum Saying {
@@ -90,7 +90,7 @@ pub enum Saying {
     Second,
 }
 
-/// The first reason to refuse a line, where it stands in a section.
+/// The first reason to refuse a line in a section.
 pub fn refusal(line: &Line, section: Section, saying: Saying) -> Option<Reason>
     ensures { result ≡ statement_refusal section saying line.now }
 {

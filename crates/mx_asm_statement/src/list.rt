@@ -1,4 +1,4 @@
-//! Arguments, parted by commas.
+//! Separates a statement's items into arguments, at the commas.
 
 ghost use Rattle.std.specs.Prelude.{◌≡◌, ◌∷◌, [], ◌<◌, length, MatchOption, IfSome, IfOk, Some, None};
 ghost use Rattle.std.specs.List.{slice_split};
@@ -18,7 +18,7 @@ fn is_comma(item: Item) -> bool
     }
 }
 
-/// What stands before the first comma, and what after it.
+/// What is before the first comma, and what after it.
 pub fn parted(items: &[Item]) -> Option<(&[Item], &[Item])>
     ensures parts { MatchOption result (slice_split is_comma items.now ≡ items.now ∷ []) (λ p.
         slice_split is_comma items.now ≡ p.0.now ∷ slice_split is_comma p.1.now) }
@@ -34,7 +34,7 @@ pub fn parted(items: &[Item]) -> Option<(&[Item], &[Item])>
     None
 }
 
-/// The arguments that a statement's items say.
+/// The arguments of a statement's items.
 pub fn arguments_of(alloc: Global, items: &[Item]) -> Result<Option<Vec<Argument>>, AllocError>
     ensures { IfOk result (λ found. MatchOption found (arguments_of items.now ≡ None) (λ v.
         arguments_of items.now ≡ Some v.items)) }

@@ -1,4 +1,4 @@
-//! What stands between brackets.
+//! Memory operands: what is between brackets.
 
 ghost use Rattle.std.specs.Prelude.{◌≡◌, ◌∷◌};
 ghost use Rattle.mx_word.specs.declared.size.Size.TheVariants as sizes;
@@ -98,7 +98,7 @@ fn after_two(base: Register, register: Register, items: &[Item]) -> Option<Addre
     }
 }
 
-/// The place after a register, which is an index where `*n` follows, else the base.
+/// The place after a register, which is an index if `*n` follows, else the base.
 fn after_register(register: Register, items: &[Item]) -> Option<Address>
     ensures { result ≡ address_in_brackets (item.Register sizes.Dword register ∷ items.now) }
 {
@@ -115,7 +115,7 @@ fn after_register(register: Register, items: &[Item]) -> Option<Address>
     }
 }
 
-/// The place in memory that items between brackets say.
+/// The place in memory that the items between brackets name.
 pub fn address_of(items: &[Item]) -> Option<Address>
     ensures { result ≡ address_in_brackets items.now }
 {

@@ -1,4 +1,4 @@
-//! Tokens, sorted.
+//! Sorts tokens into items, by the tables of words.
 
 ghost use Rattle.std.specs.Prelude.{◌≡◌, ◌==◌, slice_index, IfOk, All};
 ghost use Rattle.mx_lex.specs.Tokens.{IsSlice};
@@ -28,7 +28,7 @@ pub fn is_dotted(word: &[u8]) -> bool
     }
 }
 
-/// What a word is where an operand stands.
+/// What a word is as a part of an operand.
 fn word_item(word: &[u8]) -> Item
     ensures { IsWordItem word.now result }
 {
@@ -47,7 +47,7 @@ fn word_item(word: &[u8]) -> Item
     }
 }
 
-/// What a token is where an operand stands.
+/// What a token is as a part of an operand.
 pub fn item_of(text: &[u8], token: Token) -> Item
     requires { IsSlice text.now token }
     ensures { IsItem text.now token result }
@@ -60,7 +60,7 @@ pub fn item_of(text: &[u8], token: Token) -> Item
     }
 }
 
-/// What tokens are where operands stand.
+/// What tokens are as parts of operands.
 pub fn items_of(alloc: Global, text: &[u8], tokens: &[Token]) -> Result<Vec<Item>, AllocError>
     requires { All (IsSlice text.now) tokens.now }
     ensures { IfOk result (λ found. AreItems text.now tokens.now found.items) }

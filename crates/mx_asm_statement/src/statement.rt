@@ -1,4 +1,4 @@
-//! Statements.
+//! Statements of an assembler text, and its sections.
 
 ghost use Rattle.std.specs.Prelude.{◌≡◌};
 
@@ -9,7 +9,7 @@ use mx_text::Name;
 use mx_word::{Bytes, Size};
 use std::marker::Model;
 
-/// Where a program's bytes stand.
+/// The section of a program's bytes.
 #[derive(Clone, Copy, PartialEq, Eq)]
 pub enum Section {
     Text,
@@ -48,23 +48,23 @@ impl DataValues {
     }
 }
 
-/// What stands on a line after its label.
+/// What a line has after its label.
 #[derive(Drop)]
 pub enum Statement {
     Nothing,
-    /// `.text`, `.data`, `.bss`: what follows stands there.
+    /// `.text`, `.data`, `.bss`: the section of what follows.
     Enter(Section),
     /// `.data1`, `.data2`, `.data4`.
     Data(Size, DataValues),
-    /// `.ascii`: the bytes that a text stands for.
+    /// `.ascii`: the bytes of a quoted text.
     Ascii(Bytes),
-    /// `.space`: that many zeros.
+    /// `.space`: a number of zeros.
     Space(u32),
     /// `.sep`: text and data have segments of their own.
     Separate,
-    /// `.entry`: where the program begins.
+    /// `.entry`: the label at which the program begins.
     Entry(Name),
-    /// `.stack`: that many bytes of stack.
+    /// `.stack`: the bytes of the stack.
     Stack(u32),
     Instruction(Instruction),
     /// To a target.

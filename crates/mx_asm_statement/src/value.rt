@@ -1,4 +1,4 @@
-//! Values: numbers, and labels' addresses with a number more or less.
+//! Values in operands and data: numbers, and labels' addresses with a number more or less.
 
 use mx_text::Name;
 

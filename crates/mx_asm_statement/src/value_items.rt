@@ -1,4 +1,4 @@
-//! Values: `n`, `-n`, `name`, `name+n`, `name-n`.
+//! Reads values from items: `n`, `-n`, `name`, `name+n`, `name-n`.
 
 ghost use Rattle.std.specs.Prelude.{◌≡◌, ◌∷◌, []};
 ghost use Rattle.mx_asm_statement.specs.ValueItems.{value_in_items};
@@ -56,7 +56,7 @@ fn value_of_three(first: Item, second: Item, third: Item) -> Option<Value>
     }
 }
 
-/// The value that an operand's items say.
+/// The value of an operand's items.
 pub fn value_of(items: &[Item]) -> Option<Value>
     ensures { result ≡ value_in_items items.now }
 {

@@ -1,4 +1,4 @@
--- Where a program's names stand (a.out.h: a name ends at its first zero byte).
+-- Addresses of a program's names (a.out.h: a name ends at its first zero byte).
 use Rattle.std.specs.Prelude.{ℕ, Bool, nat_eq, if◌then◌else◌, List, [], ◌∷◌, Option, Some, None}
 use Rattle.std.specs.Cmp.Lexicographic.{pointwise}
 use Rattle.mx_aout.specs.declared.program.Symbol.{Symbol}

@@ -1,4 +1,4 @@
--- Where a process that runs under breakpoints halts (our own).
+-- How a process halts that runs under breakpoints (our own).
 use Rattle.std.specs.Prelude.{◌≡◌, ℕ, zero, suc, ◌+◌, Bool, true, false, ◌&&◌, ◌||◌, nat_lt, nat_le, if◌then◌else◌, List}
 use Rattle.mx_image.specs.declared.runs.Stop.{Stop}
 use Rattle.mx_image.specs.declared.runs.Stop.TheVariants as stop
@@ -12,7 +12,7 @@ use Rattle.mx_debug.specs.declared.halt.NextPlace.TheVariants as place
 use Rattle.mx_debug.specs.declared.halt.Halt.{Halt}
 use Rattle.mx_debug.specs.Points.{has_breakpoint}
 
--- what is held after that many steps
+-- what is held after n steps
 abbrev pub held_after : ℕ → Out → Out
 held_after n o = (held_run n o).1
 
@@ -32,7 +32,7 @@ is_reached points slot n o = nat_lt 0 n && has_breakpoint points slot o.image.ei
 abbrev pub is_end : List Breakpoint → ℕ → Out → ℕ → Bool
 is_end points slot o n = is_over (held_after n o) || is_reached points slot n (held_after n o)
 
--- the least number from n on that passes the test, or the one that is that many further on
+-- the least number from n on that passes the test, or the last of k further ones
 abbrev pub least_from : (ℕ → Bool) → ℕ → ℕ → ℕ
 least_from test n zero = n
 least_from test n (suc more) = if test n then n else least_from test (n + 1) more
@@ -45,7 +45,7 @@ abbrev pub is_breakpoint : NextPlace → Bool
 is_breakpoint place.Breakpoint = true
 is_breakpoint place.Elsewhere = false
 
--- a trap or a fault is told before a breakpoint, a breakpoint before a spent budget
+-- a trap or a fault is reported before a breakpoint, a breakpoint before a spent budget
 abbrev pub cause_of : Stop → Bool → HaltCause
 cause_of stop.Trap reached = cause.Trap
 cause_of (stop.Fault v) reached = cause.Fault v

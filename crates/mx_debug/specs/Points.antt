@@ -14,7 +14,7 @@ has_breakpoint points slot address = list_any (is_at slot address) points
 abbrev pub has_any : List Breakpoint → ℕ → Bool
 has_any points slot = list_any (λ (p : Breakpoint). p.slot == slot) points
 
--- with one more, 64 at most over all slots; one that stands takes no other place
+-- with one more, 64 at most over all slots; one that is there already isn't added again
 abbrev pub with_point : List Breakpoint → ℕ → ℕ → Option (List Breakpoint)
 with_point points slot address =
     if has_breakpoint points slot address then Some points

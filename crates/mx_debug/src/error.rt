@@ -1,4 +1,4 @@
-//! What a debugger refuses.
+//! The errors of a debugger: what it refuses.
 
 ghost use Rattle.std.specs.Prelude.{◌≡◌};
 ghost use Rattle.mx_debug.specs.Errors.{error_code, error_name};
@@ -10,19 +10,19 @@ pub enum DebugError {
     NoSymbol = 60,
     /// Nothing is held there, or the place is past the limit.
     NotHere = 61,
-    /// 64 breakpoints stand.
+    /// There are 64 breakpoints already.
     TooMany = 62,
 }
 
 impl DebugError {
-    /// The number with which a debugger's error is told.
+    /// The number of a debugger's error in messages.
     pub fn code(self) -> u8
         ensures { result ≡ error_code self }
     {
         self as u8
     }
 
-    /// The name with which a debugger's error is told.
+    /// The name of a debugger's error in messages.
     pub fn name(self) -> &'static str
         ensures { result.now ≡ error_name self }
     {

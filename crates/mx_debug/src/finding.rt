@@ -1,4 +1,4 @@
-//! Names of a program, bytes of a process, and messages that were delivered.
+//! What a debugger finds: names of a program, bytes of a process, and messages that were delivered.
 
 ghost use Rattle.std.specs.Prelude.{◌≡◌, ℕ, ◌≤◌, Some, None, IfOk, IfErr, OnErr, length, take, slice_get};
 ghost use Rattle.mx_dis.specs.Names.{before_zero};
@@ -56,7 +56,7 @@ impl Debugger {
         image.byte(at).ok_or(DebugError::NotHere)
     }
 
-    /// A delivery that a kernel keeps, counted from the oldest, which is 0.
+    /// A delivery that the kernel has recorded, counted from the oldest, which is 0.
     pub fn message(kernel: &Kernel, index: usize) -> Option<Delivery>
         ensures { result ≡ slice_get (replay kernel.now).table.deliveries index }
     {

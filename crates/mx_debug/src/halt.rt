@@ -1,16 +1,16 @@
-//! How a run under breakpoints ends.
+//! Halts: how a run under breakpoints ends.
 
 ghost use Rattle.std.specs.Prelude.{◌≡◌};
 ghost use Rattle.mx_debug.specs.Halts.{is_breakpoint, is_spent, cause_of};
 
 use mx_image::Stop;
 
-/// What a process halts for.
+/// The cause of a halt.
 #[derive(Clone, Copy, Debug, PartialEq, Eq)]
 pub enum HaltCause {
     /// All steps that were asked for, or that the budget leaves, are made.
     Spent,
-    /// The next instruction stands at a breakpoint.
+    /// The next instruction is at a breakpoint.
     Breakpoint,
     /// The last step was a trap.
     Trap,
@@ -19,7 +19,7 @@ pub enum HaltCause {
 }
 
 impl HaltCause {
-    /// Whether neither a stop nor a breakpoint was met.
+    /// Whether the run ended neither at a stop nor at a breakpoint.
     pub fn is_spent(self) -> bool
         ensures { result ≡ is_spent self }
     {
@@ -30,14 +30,14 @@ impl HaltCause {
     }
 }
 
-/// How many steps were made, and what they ended for.
+/// How many steps were made, and the cause of the end.
 #[derive(Clone, Copy, Debug, PartialEq, Eq)]
 pub struct Halt {
     pub count: u32,
     pub cause: HaltCause,
 }
 
-/// Where the next instruction stands.
+/// Whether the next instruction is at a breakpoint.
 #[derive(Clone, Copy)]
 pub enum NextPlace {
     /// At a breakpoint.
@@ -46,7 +46,7 @@ pub enum NextPlace {
     Elsewhere,
 }
 
-/// A trap or a fault is told before a breakpoint, a breakpoint before a spent budget.
+/// A trap or a fault is reported before a breakpoint, a breakpoint before a spent budget.
 pub fn cause_of(stop: Stop, place: NextPlace) -> HaltCause
     ensures { result ≡ cause_of stop (is_breakpoint place) }
 {

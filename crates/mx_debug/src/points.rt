@@ -1,4 +1,4 @@
-//! Breakpoints.
+//! Breakpoints of a debugger: at most 64, each a slot and an address.
 
 ghost use Rattle.std.specs.Prelude.{◌≡◌, Some, None, OnOk, OnErr, IfErr};
 ghost use Rattle.std.specs.List.{list_any};
@@ -10,7 +10,7 @@ use arrayvec::ArrayVec;
 use mx_proc::Slot;
 use std::marker::Model;
 
-/// Where a slot's process is to be stopped, before the instruction at the address.
+/// A place at which a slot's process is to be stopped, before the instruction at the address.
 #[derive(Clone, Copy, Debug, Default, PartialEq, Eq)]
 pub struct Breakpoint {
     pub slot: Slot,
@@ -77,7 +77,7 @@ impl Debugger {
             .any(|point| is_at(point, slot, address))
     }
 
-    /// One breakpoint more; one that stands already is no other. An error changes nothing.
+    /// Adds a breakpoint; one that is there already isn't added again. An error changes nothing.
     pub fn add(&mut self, slot: Slot, address: u32) -> Result<(), DebugError>
         ensures added { OnOk result (with_point self.old slot address ≡ Some self.new) }
         ensures full { OnErr result (with_point self.old slot address ≡ None) }
@@ -94,7 +94,7 @@ impl Debugger {
         Ok(())
     }
 
-    /// Without a slot's breakpoint at an address, if one stands there.
+    /// Removes a slot's breakpoint at an address, if there is one.
     pub fn remove(&mut self, slot: Slot, address: u32)
         ensures { self.new ≡ without_point self.old slot address }
     {

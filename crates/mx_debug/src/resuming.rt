@@ -1,4 +1,5 @@
-//! Steps up to a breakpoint.
+//! Runs a process up to a breakpoint. Nothing is written into its memory: if its slot has breakpoints it
+//! makes one step after another, and EIP is compared in between; else it makes all steps in one run.
 
 ghost use Rattle.std.specs.Prelude.{◌≡◌, ◌≢◌, ◌⊎◌, ℕ, ◌%◌, true, false, List, slice_index_or};
 ghost use Rattle.mx_debug.specs.declared.points.Breakpoint.{Breakpoint};
@@ -13,7 +14,7 @@ use mx_proc::Slot;
 /// How many marks there are, one for each remainder of an address.
 const MARKS: usize = 1024;
 
-/// All steps at once, where no breakpoint can be reached.
+/// All steps in one run, if no breakpoint can be reached.
 fn run_on<H: Held>(held: &mut H, k: u32) -> Halt
     ensures halts { (points : List Breakpoint) (slot : ℕ) → (k ≡ 0) ⊎ (has_any points slot ≡ false)
         → Halts points slot k (H.out held.old) result (H.out held.new) }
@@ -28,7 +29,8 @@ fn run_on<H: Held>(held: &mut H, k: u32) -> Halt
 }
 
 impl Debugger {
-    /// Marks, by the remainders of addresses, where a slot has breakpoints.
+    /// A mark for each breakpoint of a slot, by the remainder of its address. After a step, one look into
+    /// this table decides for most addresses.
     fn marks(&self, slot: Slot) -> [bool; MARKS]
         ensures { (address : ℕ) → has_breakpoint self.now slot address ≡ true
             → slice_index_or result (address % 1024) false ≡ true }
@@ -54,7 +56,7 @@ impl Debugger {
         self.stands(slot, address)
     }
 
-    /// Where an address stands, at which the slot's next instruction is.
+    /// Whether the address of the slot's next instruction is at a breakpoint.
     fn next_place(&self, marks: &[bool; MARKS], slot: Slot, address: u32) -> NextPlace
         requires { (a : ℕ) → has_breakpoint self.now slot a ≡ true
             → slice_index_or marks.now (a % 1024) false ≡ true }

@@ -1,4 +1,4 @@
-//! ModRM, SIB, displacement and immediate.
+//! The operands of an instruction's bytes: ModRM, SIB, displacement and immediate are decoded here.
 
 ghost use Rattle.std.specs.Prelude.{◌≡◌, ◌<◌, ◌^◌, ◌/◌, ◌%◌, IfOk, Some};
 ghost use Rattle.mx_word.specs.Word.{width};
@@ -185,7 +185,7 @@ fn modrm(bytes: &[u8]) -> Result<(u8, Operand, &[u8]), DecodeFault>
     }
 }
 
-/// The reg field and what mod and rm name, where the row has a ModRM byte.
+/// The reg field and the operand that mod and rm name, if the row has a ModRM byte.
 #[tactic(auto, unfolding(crate::specs::Given::place_code))]
 pub fn place(column: ModRm, bytes: &[u8]) -> Result<(u8, Operand, &[u8]), DecodeFault>
     ensures { Gives (λ x. ((x.0, x.1), x.2.now)) result (place_code column bytes.now) }

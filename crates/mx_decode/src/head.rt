@@ -1,4 +1,4 @@
-//! Prefixes and opcode.
+//! The head of an instruction's bytes: its prefixes and its opcode.
 
 ghost use Rattle.std.specs.Prelude.{None, Some};
 ghost use Rattle.mx_insn.specs.declared.insn.Repeat.TheVariants as repeats;
@@ -9,10 +9,10 @@ ghost use Rattle.mx_decode.specs.Given.{Gives, head_seen};
 use crate::DecodeFault;
 use mx_insn::{OpcodeMap, OperandSize, Repeat};
 
-/// What stands before the operands.
+/// The prefixes and the opcode: all that comes before the operands.
 #[derive(Clone, Copy)]
 pub struct Head {
-    /// A word if the operand-size prefix, 66, stands, else a dword.
+    /// A word if there is the operand-size prefix, 66, else a dword.
     pub operand_size: OperandSize,
     pub repeat: Option<Repeat>,
     pub map: OpcodeMap,

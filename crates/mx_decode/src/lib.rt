@@ -1,4 +1,9 @@
 //! From bytes to the instruction that they begin with.
+//!
+//! # One table
+//!
+//! There is one body over one table of rows: `head` decodes prefixes and opcode, `select` finds the row,
+//! `fields` decodes the operands, and `meaning` makes the instruction of them.
 #![tactic(auto)]
 
 mod fields;

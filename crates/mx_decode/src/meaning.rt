@@ -1,4 +1,4 @@
-//! What a row says of the fields.
+//! The instruction of a row and of its fields, once both are decoded.
 
 ghost use Rattle.std.specs.Prelude.{◌≡◌, ◌<◌, ◌^◌, true, false, if◌then◌else◌};
 ghost use Rattle.mx_word.specs.Word.{width};
@@ -11,7 +11,7 @@ use mx_insn::{
     OperandSize, Operands, Pattern, Port, PortSize, Register, Repeat, Size, WideImmediate,
 };
 
-/// What stands in an instruction's bytes beside the row.
+/// What an instruction's bytes have besides the row: prefixes, fields and the immediate.
 #[derive(Clone, Copy)]
 pub struct FieldValues {
     pub operand_size: OperandSize,

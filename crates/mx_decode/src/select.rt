@@ -1,4 +1,4 @@
-//! The row of the bytes.
+//! Finds the row of the table to which the bytes belong.
 
 ghost use Rattle.std.specs.Prelude.{◌≡◌, ℕ, List, [], ◌∷◌, find, option_copied};
 ghost use Rattle.mx_insn.specs.Spelling.{allows_resized, allows_repeat, is_resized, is_escaped};
@@ -30,7 +30,7 @@ fn has_opcode(row: &Row, map: OpcodeMap, opcode: u8) -> bool
         && (opcode - row.first) % row.step == 0
 }
 
-/// The operand-size prefix stands only before a row that has a form for words.
+/// The operand-size prefix comes only before a row that has a form for words.
 fn allows_size(sizes: SizeMark, operand_size: OperandSize) -> bool
     ensures { result ≡ allows_resized sizes (is_resized operand_size) }
 {
@@ -58,7 +58,8 @@ fn is_absent(column: ModRm) -> bool
     }
 }
 
-/// What stands after the opcode may follow it: nothing yet, or this byte, a ModRM byte if the row has one.
+/// The byte after the opcode fits the row: no byte yet, or this one, which is a ModRM byte if the row has
+/// one.
 fn may_follow(column: ModRm, next: Option<u8>) -> bool
     ensures { result ≡ may_follow column next }
 {
@@ -70,14 +71,14 @@ fn may_follow(column: ModRm, next: Option<u8>) -> bool
     }
 }
 
-/// The prefixes may stand before the row.
+/// The prefixes may come before the row.
 fn stands(row: &Row, operand_size: OperandSize, repeat: Option<Repeat>) -> bool
     ensures { result ≡ stands (is_resized operand_size) repeat row.now }
 {
     allows_size(row.sizes, operand_size) && allows_repeat(row.repeats, repeat)
 }
 
-/// The row may be that of the head and of what stands after it.
+/// The row has this head's opcode and prefixes, and fits the byte after them.
 fn begins(row: &Row, head: Head, next: Option<u8>) -> bool
     ensures { result ≡ begins (head_seen head) next row.now }
 {
@@ -92,7 +93,7 @@ fn first(rows: &'static [Row], head: Head, next: Option<u8>) -> Option<&'static 
     rows.iter().find(|row| begins(row, head, next))
 }
 
-/// The row where nothing follows the opcode.
+/// The row if nothing follows the opcode.
 fn bare(head: Head) -> Result<&'static Row, DecodeFault>
     ensures { Gives (λ x. x.now) result (row_after (head_seen head) []) }
 {
@@ -107,7 +108,7 @@ fn bare(head: Head) -> Result<&'static Row, DecodeFault>
     }
 }
 
-/// The row where this byte follows.
+/// The row if this byte follows.
 fn followed(head: Head, modrm: u8) -> Result<&'static Row, DecodeFault>
     ensures { (rest : List ℕ)
         → Gives (λ x. x.now) result (row_after (head_seen head) (modrm ∷ rest)) }

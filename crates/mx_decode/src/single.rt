@@ -1,4 +1,4 @@
-//! One instruction.
+//! Decodes one instruction: its row, its operands, and the number of its bytes.
 
 ghost use Rattle.std.specs.Prelude.{◌≡◌, ◌<◌, ◌≤◌, ◌↔◌, ℕ, Ok};
 ghost use Rattle.mx_insn.specs.declared.insn.Insn.{Insn};

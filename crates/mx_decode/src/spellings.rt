@@ -1,4 +1,4 @@
-//! Laws of spellings, and of the instruction at the front.
+//! Laws of decoding: spellings, and the instruction at the front of bytes.
 
 ghost use Rattle.std.specs.Prelude.{◌≡◌, ◌↔◌, ◌<◌, ◌≤◌, ◌++◌, ℕ, List, length, slice_index, take};
 ghost use Rattle.mx_insn.specs.declared.insn.Insn.{Insn};

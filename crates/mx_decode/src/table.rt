@@ -1,4 +1,7 @@
-//! The rows of the table, by parts of the opcode maps, in the table's order within a part.
+//! The rows of the table, by parts of the opcode maps, in the table's order within a part: eight columns
+//! below 40, sixteen opcodes each up to 80, eight each from there on, and 64 each after 0F. Each part is
+//! proved to be the rows of the definition that have an opcode in it. So a new row is one line here and one
+//! in the definition.
 
 ghost use Rattle.std.specs.Prelude.{◌≡◌, ◌≤◌, ◌<◌, true, false};
 ghost use Rattle.mx_insn.specs.Spelling.{is_escaped};
@@ -25,7 +28,7 @@ macro_rules! row {
     };
 }
 
-/// Below 40, where the rows are columns of the map.
+/// Below 40. The rows there are columns of the map.
 #[tactic(auto, unfolding(crate::specs::Map::rows_in, mx_insn::specs::Table::rows))]
 fn column_rows(part: u8) -> &'static [Row]
     requires least { 8 ≤ part }
@@ -295,7 +298,7 @@ fn escaped_rows(part: u8) -> &'static [Row]
     }
 }
 
-/// The rows of the map, in the part where the opcode stands.
+/// The rows of the map, in the part that the opcode is in.
 #[inline(always)]
 pub fn rows_near(map: OpcodeMap, opcode: u8) -> &'static [Row]
     ensures { result.now ≡ rows_in (is_escaped map) (map_part (is_escaped map) opcode) }

@@ -8,7 +8,7 @@ use Rattle.mx_dis.specs.declared.part.Part.{Part}
 use Rattle.mx_dis.specs.declared.part.Part.TheVariants.{Instruction, Byte}
 use Rattle.mx_dis.specs.Parting.{IsParting, part_size}
 
--- what a part is, where the next part stands at an address: an instruction, or the directive for its byte
+-- a part as text, with the address of the next part: an instruction, or the directive for its byte
 abbrev pub part_text : ℕ → Part → List ℕ
 part_text next (Instruction i k) = statement_text next i
 part_text next (Byte b) = directive_word Data1 ++ (codes " " ++ number_text b)
@@ -17,11 +17,11 @@ part_text next (Byte b) = directive_word Data1 ++ (codes " " ++ number_text b)
 abbrev pub listing_line : ℕ → Part → List ℕ
 listing_line at p = eight_digits at ++ (codes " " ++ (part_text (at + part_size p) p ++ codes "\n"))
 
--- the lines of parts, of which the first stands at an address, and each other after the one before
+-- the lines of parts. The first is at an address, and each other follows the one before
 abbrev pub lines_of : ℕ → List Part → List ℕ
 lines_of at [] = []
 lines_of at (p ∷ parts) = listing_line at p ++ lines_of (at + part_size p) parts
 
--- the listing of the bytes that stand from an address on: the lines of their parting
+-- the listing of bytes from an address on: the lines of their parting
 abbrev pub IsListing : ℕ → List ℕ → List ℕ → Type 0
 IsListing at bytes text = (parts : List Part) × IsParting bytes parts × (text ≡ lines_of at parts)

@@ -4,14 +4,14 @@ use Rattle.std.specs.List.{flat_map}
 use Rattle.mx_aout.specs.declared.program.Symbol.{Symbol}
 use Rattle.mx_print_insn.specs.Numbers.{eight_digits}
 
--- the letter of a class: its low three bits say undefined, absolute, text, data or bss
+-- the letter of a class, by its low three bits: undefined, absolute, text, data or bss
 abbrev pub letter_of : ℕ → List ℕ
 letter_of class =
     let kind = class % 8 in
     if kind == 0 then codes "U" else (if kind == 1 then codes "A" else (if kind == 2 then codes "T"
     else (if kind == 3 then codes "D" else (if kind == 4 then codes "B" else codes "?"))))
 
--- a byte from 21 to 7E is a visible character; a dot (2E) stands for any other
+-- a byte from 21 to 7E is a visible character; any other is printed as a dot (2E)
 abbrev pub visible_byte : ℕ → ℕ
 visible_byte b = if nat_le 0x21 b && nat_le b 0x7E then b else 0x2E
 

@@ -1,4 +1,4 @@
-//! Laws of partings and listings.
+//! Laws of listings, and of the parts of a text.
 
 ghost use Rattle.std.specs.Prelude.{◌≡◌, ◌≤◌, ◌+◌, ◌++◌, ℕ, List, length, drop};
 ghost use Rattle.mx_insn.specs.declared.insn.Insn.{Insn};
@@ -29,7 +29,8 @@ pub fn one_parting()
     one_spelling();
 }
 
-/// Law: what spells first at a part's place is that part.
+/// Law: if a text begins with an instruction, so do its parts. What follows some of the parts is the parts of
+/// the rest.
 pub fn parted_there()
     ensures first { (t : List ℕ) (k : ℕ) (i : Insn) (parts : List Part) → SpellsFirst t k i
         → IsParting t parts → BeginsWith i k (drop k t) parts }
@@ -42,8 +43,8 @@ pub fn parted_there()
     one_spelling();
 }
 
-/// Law: the lines of parts that follow others stand after the others' lines, from the address on
-/// where these end.
+/// Law: the lines of two lists of parts, one after the other, are the first's lines and then the second's,
+/// from the address on at which the first ends.
 pub fn lines_join()
     ensures { (at : ℕ) (front back : List Part) → lines_of at (front ++ back) ≡ lines_of at front
         ++ lines_of (at + total_size front) back }

@@ -1,4 +1,5 @@
-//! The listing of a program's instructions, and of its symbols.
+//! The listing of a program's instructions, and of its symbols. Each line is appended to one `String`; parts
+//! aren't collected.
 #![tactic(auto)]
 
 mod laws;

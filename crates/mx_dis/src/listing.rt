@@ -1,4 +1,4 @@
-//! Lists a text.
+//! Lists the instructions of a program's text, one a line.
 
 ghost use Rattle.std.specs.Prelude.{◌≡◌, ◌<◌, ◌≤◌, ◌+◌, ◌^◌, ◌++◌, length, drop, OnOk, IfOk, string_bytes};
 ghost use Rattle.mx_dis.specs.Parting.{part_size};
@@ -10,7 +10,7 @@ use mx_print_insn::{push_eight_digits, push_number, push_statement};
 use mx_word::NoMemory;
 use std::alloc::{AllocError, Global};
 
-/// What a part is, where the next part stands at an address.
+/// Appends a part. `next` is the address of the next one.
 fn push_part(out: &mut String, part: &Part, next: u32) -> Result<(), AllocError>
     ensures { OnOk result (string_bytes out.new ≡ string_bytes out.old ++ part_text next part.now) }
 {
@@ -43,9 +43,9 @@ fn after<'a>(bytes: &'a [u8], part: &Part) -> &'a [u8]
     &bytes[part.size() as usize..]
 }
 
-/// The listing of a program's text from 0, one line an instruction: the address, a space, the
-/// statement that the assembler would read. A byte where no instruction begins has a line of its
-/// own, and the listing goes on at the next.
+/// The listing of a program's text from 0, one line an instruction: the address, a space, the statement as
+/// the assembler would read it. If no instruction begins at a byte, the byte has a line of its own, and the
+/// listing goes on at the next.
 pub fn list(alloc: Global, program: &Program) -> Result<String, NoMemory>
     ensures { IfOk result (λ text. IsListing 0 program.now.text (string_bytes text)) }
 {

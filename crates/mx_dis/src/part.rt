@@ -1,4 +1,4 @@
-//! The parts of a text.
+//! The parts of a text that the listing prints: instructions, and single bytes.
 
 ghost use Rattle.std.specs.Prelude.{◌≡◌, ◌<◌, ◌≤◌, ◌∷◌, List, length, drop};
 ghost use Rattle.mx_dis.specs.declared.part.Part.{Part};
@@ -8,12 +8,12 @@ use crate::laws::takes_bytes;
 use mx_decode::decode;
 use mx_insn::Insn;
 
-/// What stands in a text from one place to the next.
+/// An instruction, or one byte, of a text.
 #[derive(Clone, Copy)]
 pub enum Part {
     /// An instruction, and how many bytes spell it.
     Instruction(Insn, u8),
-    /// A byte where no instruction begins.
+    /// A byte at which no instruction begins.
     Byte(u8),
 }
 

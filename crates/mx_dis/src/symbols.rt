@@ -1,4 +1,4 @@
-//! Lists symbols.
+//! Lists the symbols of a program: address, class and name.
 
 ghost use Rattle.std.specs.Prelude.{◌≡◌, ◌++◌, OnOk, IfOk, string_bytes};
 ghost use Rattle.mx_dis.specs.Names.{letter_of, visible_byte, name_text, name_line, name_lines};
@@ -22,7 +22,7 @@ fn letter(class: u8) -> &'static str
     }
 }
 
-/// A byte of a name, or a dot where it is no visible character of ASCII.
+/// A byte of a name, or a dot if it is no visible character of ASCII.
 fn visible(byte: u8) -> u8
     ensures { result ≡ visible_byte byte }
 {

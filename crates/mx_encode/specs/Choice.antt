@@ -48,10 +48,10 @@ use Rattle.mx_encode.specs.declared.fields.Rm.{Rm}
 use Rattle.mx_insn.specs.Spelling.{is_resized}
 use Rattle.mx_encode.specs.Numbers.{arithmetic_number, is_word, is_short, shortens, short}
 
--- a row, and what stands in its fields
+-- a row, and the values of its fields
 pub record Choice : Type 0 where
   pub row : Row
-  -- 66 stands
+  -- there is a 66
   pub resized : Bool
   pub repeat : Option Repeat
   -- which of the row's opcodes
@@ -70,7 +70,7 @@ with_rm row resized number reg o immediate =
 
 -- ---- two operands
 
--- 83 where the value is a byte with its sign extended and isn't marked wide, else 81; 80 for bytes
+-- 83 if the value is a byte with its sign extended and isn't marked wide, else 81; 80 for bytes
 abbrev pub arithmetic_immediate : Arithmetic → Operand → Immediate → Bool → Choice
 arithmetic_immediate o to (immediate.Byte n) long = with_rm arithmetic_byte_row false 0 (arithmetic_number o) to (numbers.Byte n)
 arithmetic_immediate o to (immediate.Word n) long =
@@ -162,7 +162,7 @@ multiply_choice size to from = with_rm multiply_reg_rm_row (is_resized size) 0 (
 abbrev pub bit_scan_choice : BitScan → Register → Operand → Choice
 bit_scan_choice o to from = with_rm (bit_scan_row o) false 0 (register_number to) from numbers.Nothing
 
--- 6B where the value is a byte with its sign extended and isn't marked wide, else 69
+-- 6B if the value is a byte with its sign extended and isn't marked wide, else 69
 abbrev pub multiply_immediate : Register → Operand → WideImmediate → Bool → Choice
 multiply_immediate to from (wide_immediates.Word n) long =
     if shortens 16 n long then with_rm multiply_signed_row true 0 (register_number to) from (short n)

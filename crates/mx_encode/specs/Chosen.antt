@@ -7,7 +7,7 @@ use Rattle.mx_encode.specs.Numbers.{number_bytes}
 use Rattle.mx_encode.specs.Places.{has_place, place_for}
 use Rattle.mx_encode.specs.Choice.{Choice, choice}
 
--- 66 stands before F3 and F2
+-- 66 is before F3 and F2
 abbrev pub fields_of : Choice → Bool → Fields
 fields_of c long = record { resized = c.resized; repeat = c.repeat; turned = false; number = c.number; place = place_for c.rm long; immediate = number_bytes c.immediate }
 

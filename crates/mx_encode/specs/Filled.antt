@@ -85,7 +85,8 @@ with_target (insns.Call m) n = insns.Call n
 with_target (insns.Loop o m) n = insns.Loop o n
 with_target i n = i
 
--- a distance is a byte with its sign extended, where a jump isn't marked wide or is a LOOP or JECXZ; CALL goes anywhere
+-- a distance is a byte with its sign extended, if a jump isn't marked wide or is a LOOP or JECXZ; CALL goes
+-- anywhere
 abbrev pub reaches : Insn → Wide → ℕ → Bool
 reaches (insns.JumpIf c m) wide n = wide.displacement || is_short 32 n
 reaches (insns.Jump m) wide n = wide.displacement || is_short 32 n

@@ -1,4 +1,4 @@
--- Which numbers stand in what is chosen.
+-- Which numbers are in the chosen encoding.
 use Rattle.std.specs.Prelude.{ℕ, Bool, true, false, Option, Some, None}
 use Rattle.mx_insn.specs.declared.insn.Operand.{Operand}
 use Rattle.mx_insn.specs.declared.insn.Operand.TheVariants as operand

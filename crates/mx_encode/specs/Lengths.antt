@@ -10,6 +10,6 @@ abbrev pub spelled_length : Option Choice → Bool → ℕ
 spelled_length None long = 0
 spelled_length (Some c) long = length (spelling c.row (fields_of c long))
 
--- 0 where there is none
+-- 0 if there is none
 abbrev pub chosen_length : Insn → Wide → ℕ
 chosen_length i wide = spelled_length (choice i wide) wide.displacement

@@ -29,7 +29,7 @@ arithmetic_number Sub = 5
 arithmetic_number Xor = 6
 arithmetic_number Cmp = 7
 
--- 66 stands for words
+-- words have the prefix 66
 abbrev pub is_word : Size → Bool
 is_word Byte = false
 is_word Word = true
@@ -45,7 +45,7 @@ is_short w n = sign_extended w (n % 256) == n
 abbrev pub shortens : ℕ → ℕ → Bool → Bool
 shortens w n long = not long && is_short w n
 
--- the low byte, where the rest is its sign
+-- the low byte, if the rest is its sign
 abbrev pub short : ℕ → Number
 short n = numbers.Byte (n % 256)
 

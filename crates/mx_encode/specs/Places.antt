@@ -1,4 +1,4 @@
--- How an operand stands in ModRM, SIB and displacement (manual, 17.2.1).
+-- How an operand is encoded in ModRM, SIB and displacement (manual, 17.2.1).
 use Rattle.std.specs.Prelude.{ℕ, ◌==◌, Bool, true, false, not, ◌&&◌, if◌then◌else◌, [], Option, Some, None}
 use Rattle.mx_word.specs.Word.{bytes_of}
 use Rattle.mx_word.specs.Names.{register_number}
@@ -16,8 +16,8 @@ abbrev pub base_number : Option Register → ℕ
 base_number None = 5
 base_number (Some r) = register_number r
 
--- a SIB byte only where there is an index, or the base is ESP, whose number says that one follows;
--- without an index its index field is 100 and its scale bits are 0
+-- a SIB byte only if there is an index, or the base is ESP, whose number means that one follows; without an
+-- index its index field is 100 and its scale bits are 0
 abbrev pub sib_of : Option Register → Option Index → Option Sib
 sib_of base (Some i) = Some (record { scale = scale_number i.scale; index = register_number i.register; base = base_number base })
 sib_of base None = if base_number base == 4 then Some (record { scale = 0; index = 4; base = 4 }) else None
@@ -59,7 +59,7 @@ place_for (Some rm) long = Some (place_written rm.reg rm.operand long)
 
 -- ---- what has no place
 
--- ESP is no index: its number says that there is none
+-- ESP is no index: its number means that there is none
 abbrev pub can_index : Option Index → Bool
 can_index None = true
 can_index (Some i) = not (register_number i.register == 4)

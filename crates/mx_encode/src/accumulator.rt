@@ -1,4 +1,4 @@
-//! Instructions on registers that they don't name, and those without operands.
+//! Encodings of instructions on registers that they don't name, and of those without operands.
 
 ghost use Rattle.std.specs.Prelude.{◌≡◌, ◌<◌};
 ghost use Rattle.mx_insn.specs.Table.{compare_opcode, plain_opcode, transfer_opcode};

@@ -1,4 +1,4 @@
-//! Bit tests, bit scans and double shifts.
+//! Encodings of bit tests, bit scans and double shifts.
 
 ghost use Rattle.std.specs.Prelude.{◌≡◌, ◌<◌, ◌^◌};
 ghost use Rattle.mx_insn.specs.Table.{bit_test_number, bit_test_opcode, bit_scan_opcode, double_shift_opcode};

@@ -1,4 +1,4 @@
-//! The form that an instruction and its marks take.
+//! The encoding that is chosen for an instruction and its marks.
 
 ghost use Rattle.std.specs.Prelude.{◌≡◌, true, Ok};
 ghost use Rattle.mx_insn.specs.Families.{is_calculation};

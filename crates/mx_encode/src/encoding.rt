@@ -1,4 +1,4 @@
-//! One instruction.
+//! One instruction, encoded: its form, then its bytes.
 
 ghost use Rattle.std.specs.Prelude.{◌≡◌, ◌↔◌, ℕ, List, IsOk, IsTrue, IfOk, IfErr};
 ghost use Rattle.mx_insn.specs.Spelling.{Spells};

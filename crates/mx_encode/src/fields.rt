@@ -1,4 +1,4 @@
-//! The fields of a spelling.
+//! The fields of an encoding: numbers, ModRM and SIB.
 
 ghost use Rattle.std.specs.Prelude.{◌<◌};
 
@@ -31,7 +31,7 @@ pub struct Sib {
     ghost base_below: { base < 8 },
 }
 
-/// The fields of a ModRM byte, the SIB byte where there is one, and the displacement.
+/// The fields of a ModRM byte, the SIB byte if there is one, and the displacement.
 #[derive(Clone, Copy)]
 pub struct RmFields {
     pub mode: u8,

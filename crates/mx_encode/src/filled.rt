@@ -1,4 +1,4 @@
-//! Numbers put into an instruction in place of others.
+//! An instruction with another immediate or displacement: the assembler puts in addresses of labels so.
 
 ghost use Rattle.std.specs.Prelude.{◌≡◌};
 ghost use Rattle.mx_encode.specs.Filled.{value_with, factor_with, operands_with_value, with_immediate, operand_with_displacement, operands_with_displacement, with_displacement};
@@ -35,8 +35,7 @@ fn operands_with_value(operands: Operands, number: u32) -> Operands
     }
 }
 
-/// The instruction with a number as its immediate, where it has one of 32 bits; any other stays
-/// as it is.
+/// The instruction with a number as its immediate, if it has one of 32 bits; any other doesn't change.
 pub fn with_immediate(insn: Insn, number: u32) -> Insn
     ensures { result ≡ with_immediate insn number }
 {

@@ -1,4 +1,4 @@
-//! What an instruction's bytes are made of.
+//! Encodings as values: what an instruction's bytes are made of.
 
 ghost use Rattle.std.specs.Prelude.{◌≡◌, ◌<◌, None, Some};
 ghost use Rattle.mx_insn.specs.Spelling.{operand_size};
@@ -11,7 +11,7 @@ use mx_insn::{OpcodeMap, Operand, OperandSize, Repeat, Size};
 /// An opcode and its prefixes, the operand that mod and rm name, and the immediate.
 #[derive(Clone, Copy)]
 pub struct Encoding {
-    /// A word if the operand-size prefix, 66, stands, else a dword.
+    /// A word if there is the operand-size prefix, 66, else a dword.
     pub operand_size: OperandSize,
     pub repeat: Option<Repeat>,
     pub map: OpcodeMap,
@@ -21,7 +21,7 @@ pub struct Encoding {
 }
 
 impl Encoding {
-    /// An encoding of an opcode alone.
+    /// An encoding of an opcode without operands.
     pub fn bare(opcode: u8) -> Encoding
         ensures { result ≡ record {
           operand_size = OperandSize.Dword;
@@ -80,7 +80,7 @@ impl Encoding {
         encoding.with_operand_size(operand_size(size))
     }
 
-    /// The same encoding with the prefix 66 for words, or without it for dwords.
+    /// This encoding with the prefix 66 for words, or without it for dwords.
     pub fn with_operand_size(self, operand_size: OperandSize) -> Encoding
         ensures { result ≡ record self { operand_size = operand_size } }
     {
@@ -90,7 +90,7 @@ impl Encoding {
         }
     }
 
-    /// The same encoding, its opcode after 0F.
+    /// This encoding with 0F before its opcode.
     pub fn escaped(self) -> Encoding
         ensures { result ≡ record self { map = OpcodeMap.TwoByte } }
     {
@@ -100,14 +100,14 @@ impl Encoding {
         }
     }
 
-    /// The same encoding with the prefix F3, F2, or neither.
+    /// This encoding with the prefix F3, F2, or neither.
     pub fn repeated(self, repeat: Option<Repeat>) -> Encoding
         ensures { result ≡ record self { repeat = repeat } }
     {
         Encoding { repeat, ..self }
     }
 
-    /// The same encoding with an immediate.
+    /// This encoding with an immediate.
     pub fn with_immediate(self, immediate: Number) -> Encoding
         ensures { result ≡ record self { immediate = immediate } }
     {

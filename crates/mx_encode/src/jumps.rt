@@ -1,4 +1,4 @@
-//! Jumps, calls and returns.
+//! Encodings of jumps, calls and returns.
 
 ghost use Rattle.std.specs.Prelude.{◌≡◌};
 ghost use Rattle.mx_insn.specs.Table.{loop_opcode};
@@ -42,7 +42,7 @@ pub fn call(displacement: u32) -> Encoding
     Encoding::bare(0xe8).with_immediate(Number::Dword(displacement))
 }
 
-/// How a JMP to where an operand says is encoded.
+/// How a JMP to the address in an operand is encoded.
 pub fn jump_to(operand: Operand) -> Encoding
     ensures form { result ≡ laid (jump_to operand) }
     ensures fits { OperandFits operand }
@@ -50,7 +50,7 @@ pub fn jump_to(operand: Operand) -> Encoding
     Encoding::with_rm(0xff, 4, operand)
 }
 
-/// How a CALL of where an operand says is encoded.
+/// How a CALL of the address in an operand is encoded.
 pub fn call_to(operand: Operand) -> Encoding
     ensures form { result ≡ laid (call_to operand) }
     ensures fits { OperandFits operand }

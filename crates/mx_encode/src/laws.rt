@@ -1,4 +1,4 @@
-//! Laws of the spelling that is chosen.
+//! Laws of encoding: the spelling that is chosen for an instruction.
 
 ghost use Rattle.std.specs.Prelude.{◌≡◌, ℕ, ◌<◌, ◌^◌, true, false, List, IsTrue, length};
 ghost use Rattle.mx_insn.specs.declared.insn.Insn.{Insn};
@@ -47,22 +47,23 @@ pub fn displacement_keeps_length()
         → Chosen i wide a → Chosen (with_displacement i n) wide b → length b ≡ length a }
 {}
 
-/// Law: a dword that is put in as the immediate stands in what is chosen, if a dword stood there
-/// that is marked wide. Of a jump that number is how far it goes.
+/// Law: if the encoding has a dword as its immediate and it is marked wide, the encoding with another dword
+/// put in has that one there. Jumps are left out: the number in them is a distance.
 pub fn immediate_is_held()
     ensures { (i : Insn) (wide : Wide) (n : ℕ) → IsTrue wide.immediate → is_jump i ≡ false
         → dword_in (choice (with_immediate i n) wide) ≡ in_place_of (dword_in (choice i wide)) n }
 {}
 
-/// Law: a displacement that is put in stands in what is chosen, if there is memory, and is marked
-/// wide.
+/// Law: if the encoding has a displacement of memory and it is marked wide, the encoding with another one put
+/// in has that one there.
 pub fn displacement_is_held()
     ensures { (i : Insn) (wide : Wide) (n : ℕ) → IsTrue wide.displacement
         → displacement_in (choice (with_displacement i n) wide)
         ≡ in_place_of (displacement_in (choice i wide)) n }
 {}
 
-/// Law: how far a jump goes decides neither, as long as it reaches.
+/// Law: as long as a jump reaches its target, the distance decides neither whether there is a form nor its
+/// length.
 pub fn target_keeps_length()
     ensures form { (i : Insn) (wide : Wide) (m n : ℕ) → IsTrue (reaches i wide m)
         → IsTrue (reaches i wide n) → has_form (with_target i n) ≡ has_form (with_target i m) }
@@ -77,7 +78,8 @@ pub fn some_chosen()
         × Chosen i wide bytes }
 {}
 
-/// Law: with a dword as its immediate or displacement its numbers are still as wide as their types.
+/// Law: with a dword put in as its immediate or displacement, an instruction's numbers are still as wide as
+/// their types.
 pub fn filled_fits()
     ensures immediate { (i : Insn) (n : ℕ) → n < 2 ^ 32 → Fits i → Fits (with_immediate i n) }
     ensures displacement { (i : Insn) (n : ℕ) → n < 2 ^ 32 → Fits i → Fits (with_displacement i n) }

@@ -27,8 +27,8 @@ pub use laws::{
 };
 use numbers::NumberForm;
 
-/// What is asked for where a shorter form would do. A mark asks for nothing where an instruction
-/// has nothing to widen.
+/// What is asked for if a shorter form is possible. A mark has no effect if an instruction has nothing to
+/// widen.
 #[derive(Clone, Copy)]
 pub struct Wide {
     /// An immediate as wide as the operands.

@@ -1,4 +1,5 @@
-//! The numbers of names in an instruction's fields, and numbers that a byte can stand for.
+//! The numbers of names in an encoding's fields, and numbers that are encoded as a byte with its sign
+//! extended.
 
 ghost use Rattle.std.specs.Prelude.{◌≡◌, ◌<◌, ◌^◌};
 ghost use Rattle.mx_word.specs.Word.{width};
@@ -10,10 +11,10 @@ use crate::fields::Number;
 use mx_insn::{Arithmetic, Scale, Shift, Size};
 use mx_word::signed;
 
-/// The form of an immediate, or of a displacement, where a byte with its sign extended may do.
+/// The form of an immediate, or of a displacement, if a byte with its sign extended is enough.
 #[derive(Clone, Copy)]
 pub enum NumberForm {
-    /// A byte, if it does.
+    /// A byte, if that is enough.
     Shortest,
     /// Never a byte: the number is marked wide.
     Wide,
@@ -67,7 +68,7 @@ pub fn is_short(size: Size, number: u32) -> bool
     size.modulo(signed(Size::Byte, number % 256)) == number
 }
 
-/// Whether a byte stands for a number in the form.
+/// Whether a byte is enough for a number in the form.
 pub fn shortens(size: Size, number: u32, form: NumberForm) -> bool
     ensures { result ≡ shortens (width size) number (is_wide form) }
 {
@@ -77,7 +78,7 @@ pub fn shortens(size: Size, number: u32, form: NumberForm) -> bool
     }
 }
 
-/// The low byte of an immediate, where the rest is its sign.
+/// The low byte of an immediate, if the rest is its sign.
 pub fn short(number: u32) -> Number
     ensures { result ≡ short number }
 {

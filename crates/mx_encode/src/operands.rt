@@ -1,4 +1,4 @@
-//! Instructions with two operands.
+//! Encodings of instructions with two operands.
 
 ghost use Rattle.std.specs.Prelude.{◌≡◌, ◌<◌, ◌^◌};
 ghost use Rattle.mx_encode.specs.Choice.{arithmetic_immediate, arithmetic_choice, move_immediate, move_choice, test_choice, test_immediate, exchange_choice, load_address, multiply_choice, multiply_immediate, zero_extension, sign_extension};

@@ -1,4 +1,4 @@
-//! ModRM, SIB and displacement.
+//! Encodings of operands: ModRM, SIB and displacement.
 
 ghost use Rattle.std.specs.Prelude.{◌≡◌, ◌<◌, ◌^◌, Bool};
 ghost use Rattle.mx_word.specs.Word.{bytes_of};
@@ -23,7 +23,7 @@ fn base_number(base: Option<Register>) -> u8
     }
 }
 
-/// A SIB byte stands only where there is an index, or the base is ESP.
+/// There is a SIB byte only if there is an index, or the base is ESP.
 fn sib_of(base: Option<Register>, index: Option<Index>) -> Option<Sib>
     ensures { sib_seen result ≡ sib_of base index }
 {
@@ -92,7 +92,7 @@ fn memory_place(reg: u8, memory: Memory, form: NumberForm) -> RmFields
     }
 }
 
-/// How a ModRM byte and its SIB say where an operand stands.
+/// How a ModRM byte and its SIB name an operand.
 pub fn place_of(rm: Rm, form: NumberForm) -> RmFields
     requires { rm.reg < 8 }
     ensures { place_seen result ≡ place_written rm.reg rm.operand (is_wide form) }

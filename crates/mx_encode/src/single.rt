@@ -1,4 +1,4 @@
-//! Instructions with one operand, and the stack's.
+//! Encodings of instructions with one operand, and of those of the stack.
 
 ghost use Rattle.std.specs.Prelude.{◌≡◌, ◌<◌, ◌^◌, true, false, None, Some, Bool};
 ghost use Rattle.mx_insn.specs.Table.{product_number};

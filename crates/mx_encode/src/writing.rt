@@ -1,4 +1,4 @@
-//! Bytes, in the order in which they stand.
+//! Writes the bytes of an encoding, in their order.
 
 ghost use Rattle.std.specs.Prelude.{◌≡◌, ◌+◌, ◌≤◌, ◌++◌, length, false};
 ghost use Rattle.mx_word.specs.Word.{bytes_of};

@@ -1,4 +1,10 @@
 //! The processor's seven flags, what operations make of them, and the conditions that jumps test.
+//!
+//! # Lazy flags
+//!
+//! An operation stores what its flags are computed from, and a flag is computed when it is read: one test of
+//! a word, and no branch on the kind of the last operation. Every operation writes the same fields, so INC,
+//! DEC, shifts and POPFD need no operation before the last one.
 #![tactic(auto)]
 
 ghost use Rattle.std.specs.Prelude.{◌≡◌, ◌+◌, ◌-◌, ◌^◌, ◌<◌, ◌%◌, ◌/◌};
@@ -24,18 +30,18 @@ pub struct FlagValues {
     pub overflow: bool,
 }
 
-/// The seven flags, kept as what they are worked out from when they are asked for. Callers see
-/// their values.
+/// The seven flags, stored as what they are computed from when they are read. A contract sees their values.
+/// All fields are words or pairs of words, since a struct with gaps is copied through the stack.
 #[derive(Drop)]
 pub struct Flags {
-    /// Zero where the zero flag is set.
+    /// Zero if the zero flag is set.
     zero: u32,
     /// A word with the sign and the parity.
     word: u32,
-    /// What each bit of a sum or difference had from below: auxiliary is bit 4, and overflow
-    /// where bits 31 and 32 differ.
+    /// What each bit of a sum or difference got from the bit below it: auxiliary is bit 4, and overflow is
+    /// set if bits 31 and 32 differ.
     carries: u64,
-    /// One where the carry is set. A word, as the next, so that the struct has no gaps to copy.
+    /// One if the carry is set. A word, as the next, so that the struct has no gaps to copy.
     carry: u32,
     direction: u32,
 }
@@ -122,7 +128,7 @@ impl Flags {
         (self.to_bits() % 256) as u8
     }
 
-    /// The same flags again.
+    /// Another value with the same seven flags as this one, since `Flags` isn't `Copy`.
     pub fn copied(&self) -> Flags
         ensures { result ≡ self.now }
     {
@@ -362,9 +368,9 @@ impl Flags {
         }
     }
 
-    /// After the difference of two bytes. Above bit 7 all of `carries` is the borrow, and there is
-    /// overflow where bit 7 differs from it. Moved by 24 bits and put together, bit 7 with bit 31
-    /// gives the overflow, bit 8 with bit 32 gives zero, and bit 4 stays.
+    /// After the difference of two bytes. Every bit of `carries` above bit 7 is the borrow, and there is
+    /// overflow if bit 7 differs from it. `carries` is shifted by 24 bits and combined with itself: so bits
+    /// 31 and 32 give the overflow, bit 8 with bit 32 gives zero, and bit 4 stays.
     #[inline(always)]
     fn after_difference_of_bytes(&self, x: u32, y: u32) -> Flags
         requires left { x < 2 ^ 8 }
@@ -385,7 +391,7 @@ impl Flags {
         }
     }
 
-    /// After INC of a word, which keeps the carry.
+    /// After INC of a word. The carry stays.
     #[inline(always)]
     pub fn after_increment(&self, size: Size, x: u32) -> Flags
         requires { x < 2 ^ width size }
@@ -397,7 +403,7 @@ impl Flags {
         }
     }
 
-    /// After DEC of a word, which keeps the carry.
+    /// After DEC of a word. The carry stays.
     #[inline(always)]
     pub fn after_decrement(&self, size: Size, x: u32) -> Flags
         requires { x < 2 ^ width size }
@@ -458,8 +464,8 @@ impl Flags {
     }
 }
 
-/// A result as a dword of the same sign. Its lowest byte stays, so parity and sign stand where those of a
-/// dword do.
+/// A result as a dword of the same sign. Its lowest byte stays, so parity and sign are read at the bits of a
+/// dword's.
 #[inline(always)]
 fn with_sign_extended(size: Size, word: u32) -> u32
     requires { word < 2 ^ width size }

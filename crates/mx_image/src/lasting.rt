@@ -1,4 +1,4 @@
-//! What a run leaves.
+//! What no run of an image changes.
 
 ghost use Rattle.std.specs.Prelude.{◌≡◌, ℕ};
 ghost use Rattle.mx_exec.specs.declared.image.Image.{Image};

@@ -1,4 +1,5 @@
-//! Instructions as values: operation, size and operands, and not the form that spelled them.
+//! Instructions as values: operation, size and operands, and not the form that spelled them. What the decoder
+//! gives, the encoder takes, and a step performs.
 
 ghost use Rattle.std.specs.Prelude.{◌≡◌, ◌^◌, ◌<◌};
 ghost use Rattle.mx_word.specs.Word.{width};
@@ -45,7 +46,7 @@ pub enum OperandSize {
 }
 
 impl OperandSize {
-    /// The same size, among those of all rows.
+    /// The size of this operand, as one of the three sizes that rows have.
     #[inline(always)]
     pub fn size(self) -> Size
         ensures { result ≡ size_of_operands self }
@@ -196,7 +197,7 @@ pub enum Repeat {
     Repne,
 }
 
-/// Where IN and OUT find the port's number.
+/// The port of IN and OUT: a number in the instruction, or register DX.
 #[derive(Clone, Copy)]
 pub enum Port {
     Dx,
@@ -312,7 +313,7 @@ pub enum Insn {
         operand: Operand,
         number: u8,
     },
-    /// The same of a register's bit with its number in a register.
+    /// BT, BTS, BTR, BTC of a register's bit, with its number in a register.
     BitTestRegister {
         operation: BitTest,
         register: Register,
@@ -370,13 +371,13 @@ pub enum Insn {
     ExtendAccumulator(OperandSize),
     /// CWD or CDQ: the accumulator's sign, extended over DX or EDX.
     SpreadSign(OperandSize),
-    /// MOVS, STOS, LODS, alone or after REP.
+    /// MOVS, STOS, LODS, with or without REP.
     Transfer {
         operation: Transfer,
         size: Size,
         repeated: bool,
     },
-    /// CMPS, SCAS, alone or after REPE or REPNE.
+    /// CMPS, SCAS, with or without REPE or REPNE.
     Compare {
         operation: Comparison,
         size: Size,

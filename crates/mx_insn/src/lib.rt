@@ -1,4 +1,4 @@
-//! An instruction as a value, and the table of rows that says which bytes spell it.
+//! An instruction as a value, and the table of rows that defines which bytes spell it.
 #![tactic(auto)]
 
 mod insn;

@@ -1,4 +1,4 @@
-//! The columns of the instruction table.
+//! The columns of the table of instructions: size, prefixes, ModRM, immediate and count of a row.
 
 use crate::insn::{Comparison, Loop, Plain, Product, Transfer};
 use mx_word::{BitScan, BitTest, DoubleShift, Shift, Unary};
@@ -10,7 +10,7 @@ pub enum OpcodeMap {
     TwoByte,
 }
 
-/// The operand size of a row: b, v (word after 66, else dword), or d (also where it has no mark).
+/// The operand size of a row: b, v (word after 66, else dword), or d (also if it has no mark).
 #[derive(Clone, Copy)]
 pub enum SizeMark {
     Byte,
@@ -18,7 +18,7 @@ pub enum SizeMark {
     Dword,
 }
 
-/// Which of F3 and F2 may stand before a row.
+/// Which of F3 and F2 may come before a row.
 #[derive(Clone, Copy)]
 pub enum Repeats {
     Neither,
@@ -43,7 +43,7 @@ pub enum ModRm {
     Only(u8),
 }
 
-/// What stands last in a row: nothing, ib, is, iw, id, iv.
+/// The last column of a row: nothing, ib, is, iw, id, iv.
 #[derive(Clone, Copy)]
 pub enum ImmediateColumn {
     Nothing,
@@ -56,7 +56,7 @@ pub enum ImmediateColumn {
     Variable,
 }
 
-/// Where a shift's count stands.
+/// Where the count of a shift is.
 #[derive(Clone, Copy)]
 pub enum CountColumn {
     Immediate,

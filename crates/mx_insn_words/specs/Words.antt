@@ -1,6 +1,7 @@
--- Which word is which: mnemonics, what may stand around them, and directives (mnemonics: manual, chapter 17; of the
--- names that the manual has for one condition we take one. `.text`, `.data`, `.bss`, `.data1`, `.data2`, `.data4`, `.ascii`
--- and `.space` are those of MINIX's assembler; `.sep`, `.entry`, `.stack` and `short` are our own).
+-- Which word is which: mnemonics, what may be around them, and directives (mnemonics: manual, chapter 17; of
+-- the names that the manual has for one condition we take one. `.text`, `.data`, `.bss`, `.data1`, `.data2`,
+-- `.data4`, `.ascii` and `.space` are those of MINIX's assembler; `.sep`, `.entry`, `.stack` and `short` are
+-- our own).
 use Rattle.std.specs.Prelude.{ℕ, Bool, true, false, List, ◌++◌, codes}
 use Rattle.mx_word.specs.declared.size.Size.{Size}
 use Rattle.mx_word.specs.declared.size.Size.TheVariants.{Byte, Word, Dword}
@@ -162,7 +163,7 @@ abbrev pub comparison_word : Comparison → List ℕ
 comparison_word Cmps = codes "cmps"
 comparison_word Scas = codes "scas"
 
--- a mnemonic's word; a condition stands after j or set, a size after the name of a string instruction
+-- a mnemonic's word; a condition comes after j or set, a size after the name of a string instruction
 abbrev pub word_of : Mnemonic → List ℕ
 word_of (mnemonics.Arithmetic x) = arithmetic_word x
 word_of (mnemonics.Unary x) = unary_word x

@@ -7,7 +7,7 @@ ghost use Rattle.mx_insn_words.specs.declared.start.WordStart.{WordStart};
 ghost use Rattle.mx_insn_words.specs.Words.{start_word};
 ghost use Rattle.mx_insn_words.specs.Registers.{register_word, size_word};
 
-/// Law: a word begins an assembler statement as at most one thing.
+/// Law: a word has at most one meaning at the beginning of an assembler statement.
 pub fn one_start()
     ensures { (a b : WordStart) → start_word a ≡ start_word b → a ≡ b }
 {}

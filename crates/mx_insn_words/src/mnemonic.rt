@@ -1,11 +1,11 @@
-//! Mnemonics.
+//! Mnemonics of instructions, as the assembler and the listing have them.
 
 use mx_insn::{
     Arithmetic, BitScan, BitTest, Comparison, Condition, DoubleShift, Loop, Plain, Product, Shift,
     Size, Transfer, Unary,
 };
 
-/// Mnemonics that are alone of their kind.
+/// Mnemonics that are the only ones of their kind.
 #[derive(Clone, Copy, PartialEq, Eq)]
 pub enum Single {
     Mov,
@@ -28,7 +28,7 @@ pub enum Single {
     Out,
 }
 
-/// What an instruction is called. Conditions and the sizes of strings stand in the word.
+/// What an instruction is called. Conditions and the sizes of strings are part of the word.
 #[derive(Clone, Copy, PartialEq, Eq)]
 pub enum Mnemonic {
     Arithmetic(Arithmetic),

@@ -1,4 +1,5 @@
-//! Tables of words.
+//! Sorted tables of words. A word is found by one binary search, and the contract is "the row that has this
+//! word, or no row has it". So reading and printing share one table.
 
 ghost use Rattle.std.specs.Prelude.{◌≡◌, true};
 ghost use Rattle.mx_insn_words.specs.Named.{lookup, is_sorted};

@@ -1,4 +1,4 @@
-//! Registers and the words that name a size.
+//! The words of registers, and of sizes.
 
 ghost use Rattle.std.specs.Prelude.{◌≡◌, ◌≢◌, MatchOption};
 ghost use Rattle.mx_word.specs.declared.size.Size.{Size};

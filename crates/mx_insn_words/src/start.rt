@@ -1,4 +1,4 @@
-//! Prefixes and directives, and all that a statement begins with.
+//! The words that begin a statement: mnemonics, prefixes and directives.
 
 ghost use Rattle.std.specs.Prelude.{◌≡◌, ◌≢◌, true, false, MatchOption};
 ghost use Rattle.mx_insn_words.specs.declared.mnemonic.Mnemonic.{Mnemonic};
@@ -9,7 +9,7 @@ use crate::mnemonic::Mnemonic;
 use crate::named::found;
 use crate::table::{OPERATIONS, OTHER_STARTS};
 
-/// What stands before a string instruction.
+/// What may come before a string instruction.
 #[derive(Clone, Copy, PartialEq, Eq)]
 pub enum Prefix {
     Rep,
@@ -49,7 +49,7 @@ fn operation_named(word: &[u8]) -> Option<WordStart>
     found(&OPERATIONS, word)
 }
 
-/// What else than an operation a word begins a statement as.
+/// The prefix or directive of a word that begins a statement.
 fn other_named(word: &[u8]) -> Option<WordStart>
     ensures { MatchOption result ((x : WordStart) → is_operation x ≡ false
         → word.now ≢ start_word x) (λ x. word.now ≡ start_word x) }
@@ -57,7 +57,7 @@ fn other_named(word: &[u8]) -> Option<WordStart>
     found(&OTHER_STARTS, word)
 }
 
-/// What a word begins a statement as.
+/// The meaning of a word that begins a statement.
 #[tactic(auto, using(crate::proofs::Inverse::neither))]
 pub fn start_named(word: &[u8]) -> Option<WordStart>
     ensures { MatchOption result ((x : WordStart) → word.now ≢ start_word x) (λ x.

@@ -58,15 +58,15 @@ abbrev pub table_after_receive_by : TableState → ℕ → Partner → Option So
 table_after_receive_by w s p None = table_after_taking w s p (Receiving p)
 table_after_receive_by w s p (Some from) = goes_on (table_after_notice w s from) s 0
 
--- RECEIVE: the first notification that waits, else the first caller's message, else the process is receiving
+-- RECEIVE: the first pending notification, else the first caller's message, else the process is receiving
 unfoldable pub table_after_receive : TableState → ℕ → Partner → TableState
 table_after_receive w s p = table_after_receive_by w s p (pending_source w s p)
 
--- SENDREC: SEND, then RECEIVE from the same without notifications
+-- SENDREC: SEND, then RECEIVE from that process without notifications
 unfoldable pub table_after_sendrec : TableState → ℕ → ℕ → TableState
 table_after_sendrec w s d = if accepts (process_at w d).state s then table_after_taking (goes_on (table_after_delivery w s d) d 0) s (partner.Only (source.Slot d)) (Awaiting d) else table_after_block w s d Calling
 
--- a notification: told at once, or its source's bit is set
+-- a notification: delivered at once, or its source's bit is set
 unfoldable pub table_after_notifying : TableState → Source → ℕ → TableState
 table_after_notifying w from d = if hears (process_at w d).state from then goes_on (table_after_notice w d from) d 0 else with_pending w d (order_of_source from) true
 
@@ -118,8 +118,8 @@ table_after_trap w s = let regs = (process_at w s).image.regs in table_after_tra
 unfoldable pub trap_answer : TableState → ℕ → TrapAnswer
 trap_answer w s = let regs = (process_at w s).image.regs in trap_answer_by w s (call_of regs.ecx) regs.eax
 
--- NOTIFY: of a slot it is a call by it; of HARDWARE and CLOCK it is the notification alone, to the process that the slot
--- has now
+-- NOTIFY: of a slot it is a call by it; of HARDWARE and CLOCK it is only the notification, to the process
+-- that the slot has now
 abbrev pub table_after_notify : TableState → Source → ℕ → TableState
 table_after_notify w (source.Slot s) n = table_after_call w s call.Notify n
 table_after_notify w source.Hardware n = table_after_notifying w source.Hardware (slot_of n)

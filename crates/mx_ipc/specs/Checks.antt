@@ -65,12 +65,12 @@ abbrev pub is_notify : Call → Bool
 is_notify Notify = true
 is_notify _ = false
 
--- what holds of a party, where there is one
+-- what holds of a party, if there is one
 abbrev pub of_party : Option Party → (Party → Bool) → Bool
 of_party None f = false
 of_party (Some party) f = f party
 
--- what holds of the slot and the generation that are named, where a process is
+-- what holds of the slot and the generation of a party that is a process
 abbrev pub of_process : Option Party → (ℕ → ℕ → Bool) → Bool
 of_process (Some (Process d g)) f = f d g
 of_process _ f = false
@@ -93,7 +93,7 @@ abbrev pub MayBeSentTo : TableState → ℕ → Party → Type 0
 MayBeSentTo w s (Process d g) = (s ≢ d) × (Reaches w.waits d s → ⊥)
 MayBeSentTo w s _ = Unit {0}
 
--- THE SIX CHECKS of a call by s, in order, each with the error that is its result where it holds
+-- THE SIX CHECKS of a call by s, in order, each with the error that is its result if it holds
 abbrev pub checks : TableState → ℕ → Call → Option Party → List (Bool × Errno)
 checks w s call party =
     (not (has_bit (process_at w s).masks.traps (call_number call)) || of_party party (to_pseudo call), Denied)

@@ -1,4 +1,4 @@
-//! The four calls as values.
+//! The four traps as calls: numbers, parties and answers.
 
 ghost use Rattle.std.specs.Prelude.{◌≡◌, ◌<◌};
 ghost use Rattle.mx_ipc.specs.Checks.{call_of, call_number};

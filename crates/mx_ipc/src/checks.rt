@@ -1,4 +1,4 @@
-//! The checks of a call.
+//! The six checks of a trap's call, in their order.
 
 ghost use Rattle.std.specs.Prelude.{◌≡◌, ℕ, ◌<◌, ◌^◌, length, Some, None, MatchResult, IfOk};
 ghost use Rattle.std.specs.Option.{ForSome};

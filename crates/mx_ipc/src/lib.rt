@@ -191,7 +191,7 @@ fn deliver_and_await(table: &mut Table, slot: Slot, to: Slot)
     }
 }
 
-/// Tells a process of a notification at once, or sets its source's bit.
+/// Notifies a process at once, or sets its source's bit.
 #[tactic(auto, unfolding(crate::specs::Calls::table_after_notifying))]
 fn tell(table: &mut Table, source: Source, to: Slot)
     requires source { IsUsedSource table.old source }
@@ -252,7 +252,7 @@ fn act(table: &mut Table, slot: Slot, call: Call, party: Party) -> TrapAnswer
     TrapAnswer::Done
 }
 
-/// A call that names a number: the checks, and what it does where it passes them.
+/// A call that names a number: the checks, and what it does if it passes them.
 #[tactic(auto, unfolding(crate::specs::Calls::table_after_call, crate::specs::Calls::call_answer))]
 fn perform(table: &mut Table, slot: Slot, call: Call, number: u32) -> TrapAnswer
     requires slot { slot < length table.old.slots }
@@ -274,7 +274,7 @@ fn perform(table: &mut Table, slot: Slot, call: Call, number: u32) -> TrapAnswer
     }
 }
 
-/// SEND: delivers where the destination receives, and else blocks the sender after its callers.
+/// SEND: delivers if the destination receives, else blocks the sender after its callers.
 pub fn send(table: &mut Table, slot: Slot, to: Endpoint)
     requires slot { slot < length table.old.slots }
     requires home { (process_at table.old slot).state ≡ Home }
@@ -284,7 +284,7 @@ pub fn send(table: &mut Table, slot: Slot, to: Endpoint)
     perform(table, slot, Call::Send, to);
 }
 
-/// RECEIVE: takes a notification that waits, else the first caller's message, else waits.
+/// RECEIVE: takes a pending notification, else the first caller's message, else waits.
 pub fn receive(table: &mut Table, slot: Slot, from: Endpoint)
     requires slot { slot < length table.old.slots }
     requires home { (process_at table.old slot).state ≡ Home }
@@ -306,9 +306,9 @@ pub fn sendrec(table: &mut Table, slot: Slot, to: Endpoint)
     perform(table, slot, Call::Sendrec, to);
 }
 
-/// NOTIFY: a call by a slot, or the notification alone where HARDWARE or CLOCK makes it. Of the
-/// endpoint that these two name only the slot counts: one whose process is gone reaches the process
-/// that its slot has now.
+/// NOTIFY: a call by a slot, or only the notification if HARDWARE or CLOCK makes it. Of the endpoint that
+/// these two name only the slot counts: if its process is gone, the notification reaches the process that the
+/// slot has now.
 pub fn notify(table: &mut Table, source: Source, to: Endpoint)
     requires { MayNotify table.old source to }
     ensures value { table.new ≡ table_after_notify table.old source to }
@@ -323,8 +323,8 @@ pub fn notify(table: &mut Table, source: Source, to: Endpoint)
     }
 }
 
-/// A trap of a process that has come home: the call that its registers say. Where a SENDREC to SYSTEM
-/// passes the checks, nothing has changed, and a kernel call is left to make.
+/// A trap of a process that has come home: the call in its registers. If a SENDREC to SYSTEM passes the
+/// checks, nothing has changed, and a kernel call is left to make.
 #[tactic(auto, unfolding(crate::specs::Calls::table_after_trap, crate::specs::Calls::trap_answer))]
 pub fn trap(table: &mut Table, slot: Slot) -> TrapAnswer
     requires slot { slot < length table.old.slots }

@@ -37,7 +37,7 @@ kernel_call_reasons w s Times = []
 kernel_call_reasons w s (SetAlarm delay) = []
 kernel_call_reasons w s (Irqctl action line) =
     (nat_lt 1 action || nat_lt 15 line, Invalid)
-    -- it is another's, or it is given up and isn't one's own
+    -- the line is another's, or it is given up and isn't the caller's own
     ∷ ((is_owned (owner_of w line) || action == 0) && not (is_owned_by s (owner_of w line)), NotPermitted)
     ∷ []
 kernel_call_reasons w s (Devio action register value) = (nat_lt 1 action || nat_lt 255 register, Invalid) ∷ []

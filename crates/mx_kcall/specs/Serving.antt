@@ -21,7 +21,7 @@ use Rattle.mx_kcall.specs.Refusals.{kernel_call_refusal}
 abbrev pub due_after : ℕ → ℕ → Option ℕ
 due_after uptime delay = if delay == 0 then None else Some (uptime + delay)
 
--- the ticks that an alarm has left, 0 where none stands
+-- the ticks that an alarm has left, 0 if there is none
 abbrev pub ticks_left : ℕ → Option ℕ → ℕ
 ticks_left uptime None = 0
 ticks_left uptime (Some due) = due - uptime

@@ -25,7 +25,7 @@ allows_writing Read = false
 allows_writing Write = true
 allows_writing Both = true
 
--- the test of a window's access that stands for the access which is wanted
+-- the test of a window's access for the access that is wanted
 abbrev pub allows : Access → Access → Bool
 allows Read = allows_reading
 allows Write = allows_writing
@@ -40,7 +40,7 @@ is_open allows (Some window) at count = allows window.access && nat_le window.pl
 abbrev pub is_barred : TableState → (Access → Bool) → ℕ → VirtualAddress → ℕ → Bool
 is_barred w allows s at count = is_strict w.rules && not (slot_of at.endpoint == s) && not (is_open allows (window_of w (slot_of at.endpoint) s) at.offset count)
 
--- the access that a grant's number says, 0 none
+-- the access of a grant's number; 0 is no access
 abbrev pub access_of : ℕ → Option Access
 access_of n = if n == 1 then Some Read else if n == 2 then Some Write else if n == 3 then Some Both else None
 

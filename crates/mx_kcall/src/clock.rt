@@ -1,4 +1,4 @@
-//! Interrupt lines and the clock.
+//! Interrupt lines and the clock: what a raised line and a tick do.
 
 ghost use Rattle.std.specs.Prelude.{◌≡◌, ◌≢◌, ℕ, ◌+◌, ◌<◌, ◌^◌, IsSome, IfSome, length};
 ghost use Rattle.mx_respawn.specs.Proc.Frame.{frame};

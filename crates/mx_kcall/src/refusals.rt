@@ -1,4 +1,4 @@
-//! Why kernel calls are refused.
+//! Why kernel calls are refused: the reasons of each call, in order.
 
 ghost use Rattle.std.specs.Prelude.{◌≡◌, ◌∷◌, [], ◌<◌, ◌+◌, ◌≤◌, ◌||◌, ◌&&◌, nat_lt, not, false, drop, length, Some, None, MatchResult, IfOk};
 ghost use Rattle.std.specs.Option.{ForSome};
@@ -60,7 +60,7 @@ fn holds(table: &Table, slot: Slot, at: u32, count: u32) -> bool
     at as usize + count as usize <= table.process(slot).image.memory.limit()
 }
 
-/// Whether an endpoint's memory is barred to a slot for an access to that many bytes from an address on.
+/// Whether an endpoint's memory is barred to a slot for an access to `count` bytes from an address on.
 fn is_barred(table: &Table, slot: Slot, access: Access, at: VirtualAddress, count: u32) -> bool
     requires slot { slot < length table.now.slots }
     requires endpoint { slot_of at.endpoint < length table.now.slots }
@@ -199,7 +199,7 @@ fn check_grant(table: &Table, slot: Slot, grant: WindowGrant) -> Result<(), Errn
     Ok(())
 }
 
-/// A request's own refusals, the first told.
+/// A request's own refusals: answers the first that holds.
 #[tactic(auto, unfolding(crate::specs::Refusals::refusal_of_kernel_call))]
 fn check_request(table: &Table, slot: Slot, request: KernelCall) -> Result<(), Errno>
     requires { slot < length table.now.slots }

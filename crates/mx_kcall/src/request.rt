@@ -1,4 +1,4 @@
-//! Requests and replies as bytes and as values.
+//! Requests to the kernel and its replies, as bytes of a message and as values.
 
 ghost use Rattle.std.specs.Prelude.{◌≡◌, ◌+◌, ◌<◌, ◌≤◌, length};
 ghost use Rattle.mx_respawn.specs.Proc.Sound.{HasBuffer};
@@ -27,7 +27,7 @@ pub struct VirtualAddress {
     pub offset: u32,
 }
 
-/// What VIRCOPY copies: that many bytes from the source on, to the target.
+/// What VIRCOPY copies: `count` bytes from the source on, to the target.
 #[derive(Clone, Copy)]
 pub struct CopyRange {
     pub source: VirtualAddress,
@@ -35,8 +35,8 @@ pub struct CopyRange {
     pub count: u32,
 }
 
-/// What GRANT lets another process do in the caller's memory: read (1), write (2) or both (3) in that
-/// many bytes from an address on, and in no others; 0 ends what it was let.
+/// What GRANT lets another process do in the caller's memory: read (1), write (2) or both (3), in this range
+/// of bytes and in no others. 0 closes the window.
 #[derive(Clone, Copy)]
 pub struct WindowGrant {
     pub user: Endpoint,
@@ -50,9 +50,9 @@ pub struct WindowGrant {
 pub enum KernelCall {
     /// The caller dies.
     Exit,
-    /// Tells the uptime and the caller's steps.
+    /// Answers the uptime and the caller's steps.
     Times,
-    /// Sets the caller's alarm after that many ticks; 0 cancels it.
+    /// Sets the caller's alarm after this number of ticks; 0 cancels it.
     SetAlarm(u32),
     /// Takes (1) or gives up (0) an interrupt line.
     Irqctl {
@@ -69,7 +69,7 @@ pub enum KernelCall {
     Vircopy(CopyRange),
     /// Kills a process.
     Kill(Endpoint),
-    /// Tells the endpoint of a slot.
+    /// Answers the endpoint of a slot.
     Whois(u32),
     /// Lets a process use a part of the caller's memory.
     Grant(WindowGrant),

@@ -1,4 +1,4 @@
-//! What kernel calls do.
+//! What kernel calls do once nothing refuses them.
 
 ghost use Rattle.std.specs.Prelude.{◌≡◌, ◌≢◌, ℕ, ◌+◌, ◌<◌, ◌≤◌, ◌^◌, ◌==◌, false, Some, None, IfSome, length};
 ghost use Rattle.mx_respawn.specs.Proc.EndpointNumbers.{slot_of};
@@ -15,7 +15,7 @@ use crate::request::{After, KernelCall, ReplyWords, VirtualAddress, reply_bytes}
 use crate::windows::granted;
 use mx_respawn::{DeathCause, ProcessAddress, Slot, Table, die, go_on, slot_of};
 
-/// When an alarm rings that is set for a delay; never where that is 0.
+/// When an alarm rings that is set for a delay; never if that is 0.
 fn due_after(uptime: u32, delay: u32) -> Option<u64>
     ensures value { result ≡ due_after uptime delay }
     ensures bound { IfSome result (λ due. due < uptime + 2 ^ 32) }
@@ -27,7 +27,7 @@ fn due_after(uptime: u32, delay: u32) -> Option<u64>
     }
 }
 
-/// The ticks that an alarm has left, 0 where none stands.
+/// The ticks that an alarm has left, 0 if there is none.
 fn ticks_left(uptime: u32, alarm: Option<u64>) -> u32
     requires { IfSome alarm (λ due. due < uptime + 2 ^ 32) }
     ensures { result ≡ ticks_left uptime alarm }

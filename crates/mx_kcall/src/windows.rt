@@ -1,4 +1,5 @@
-//! Windows: what a process lets another copy out of its memory or into it.
+//! Windows, as kernel calls open and test them: what a process lets another copy out of its memory or into
+//! it.
 
 ghost use Rattle.std.specs.Prelude.{◌≡◌};
 ghost use Rattle.mx_kcall.specs.Windows.{allows, is_open, is_strict, access_of, granted};
@@ -27,8 +28,8 @@ fn allows(wanted: Access, access: Access) -> bool
     }
 }
 
-/// Whether a window is open for an access to that many bytes from an address on: it allows that access,
-/// and the whole range lies inside it.
+/// Whether a window is open for an access to `count` bytes from an address on: it allows that access, and the
+/// whole range is inside it.
 pub fn window_allows(window: Option<Window>, access: Access, at: u32, count: u32) -> bool
     ensures { result ≡ is_open (allows access) window at count }
 {
@@ -40,7 +41,7 @@ pub fn window_allows(window: Option<Window>, access: Access, at: u32, count: u32
     allows(access, window.access) && window.place <= at && end <= window_end
 }
 
-/// The access that a grant's number says, 0 none.
+/// The access of a grant's number. 0 is no access.
 fn access_of(number: u32) -> Option<Access>
     ensures { result ≡ access_of number }
 {

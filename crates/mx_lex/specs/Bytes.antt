@@ -1,12 +1,13 @@
--- What single bytes of an assembler text are, and what a text between quotes stands for (our own notation).
+-- What single bytes of an assembler text are, and the bytes of a text between quotes (our own notation).
 use Rattle.std.specs.Prelude.{ℕ, ◌+◌, ◌<◌, ◌≤◌, Bool, ◌&&◌, ◌||◌, ◌==◌, if◌then◌else◌, List, [], ◌∷◌, length, slice_index, IsTrue}
 use Rattle.mx_text.specs.Bytes.{is_letter, begins_name}
 
--- what may stand after a backslash: n, 0, a quote, a backslash
+-- what may follow a backslash: n, 0, a quote, a backslash
 abbrev pub is_escape : ℕ → Bool
 is_escape b = b == 110 || b == 48 || b == 34 || b == 92
 
--- a line ends at a place where the text's end or a line feed stands there, or a carriage return before one of these
+-- a line ends at an offset if the text's end or a line feed is there, or a carriage return before one of
+-- these
 abbrev pub ends_at : List ℕ → ℕ → Bool
 ends_at t i =
     i == length t || slice_index t i == 10
@@ -24,7 +25,7 @@ begins_word t i = begins_name (slice_index t i) || (slice_index t i == 46 && is_
 abbrev pub escape_value : ℕ → ℕ
 escape_value b = if b == 110 then 10 else if b == 48 then 0 else b
 
--- the bytes that a text stands for, of what stands between its quotes
+-- the bytes of a text, of what is between its quotes
 abbrev pub text_value : List ℕ → List ℕ
 text_value [] = []
 text_value (b ∷ []) = b ∷ []

@@ -1,4 +1,4 @@
--- The numbers that messages tell.
+-- The numbers of faults in messages.
 use Rattle.std.specs.Prelude.{ℕ}
 use Rattle.mx_lex.specs.declared.kinds.LexError.{LexError}
 use Rattle.mx_lex.specs.declared.kinds.LexError.TheVariants.{BadByte, BadNumber, OpenText, NoMemory}

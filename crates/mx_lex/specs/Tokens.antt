@@ -13,7 +13,7 @@ use Rattle.mx_lex.specs.declared.kinds.LexError.TheVariants.{BadByte, BadNumber,
 
 -- ---- texts
 
--- from a up to b stand only bytes of a text and whole escapes
+-- from a up to b are only bytes of a text and whole escapes
 pub data Body (t : List ℕ) : ℕ → ℕ → Type 0 where
   ends : {a : ℕ} → Body t a a
   plain : {a b : ℕ} → ends_at t a ≡ false → slice_index t a ≢ 34 → slice_index t a ≢ 92 → Body t (a + 1) b → Body t a b
@@ -50,7 +50,7 @@ pub record IsToken (t : List ℕ) (k : Token) : Type 0 where
   pub longest : (c : ℕ) → k.end < c → c ≤ length t → HasForm t k.kind k.start c → ⊥
   pub meant : IsMeant (slice_range t k.start k.end) k.kind
 
--- from a up to b stand only blanks, comments and carriage returns at a line's end
+-- from a up to b are only blanks, comments and carriage returns at a line's end
 pub data Gap (t : List ℕ) : ℕ → ℕ → Type 0 where
   none : {a : ℕ} → Gap t a a
   blank : {a b : ℕ} → (slice_index t a ≡ 32) ⊎ (slice_index t a ≡ 9) → Gap t (a + 1) b → Gap t a b
@@ -62,7 +62,7 @@ abbrev pub AreTokens : List ℕ → ℕ → List Token → ℕ → Type 0
 AreTokens t a [] b = a ≡ b
 AreTokens t a (k ∷ ks) b = Gap t a k.start × IsToken t k × AreTokens t k.end ks b
 
--- neither a blank, a comment nor a carriage return at a line's end stands at a place
+-- neither a blank, a comment nor a carriage return at a line's end is at an offset
 abbrev pub IsOver : List ℕ → ℕ → Type 0
 IsOver t a = (b : ℕ) → a < b → Gap t a b → ⊥
 
@@ -94,11 +94,11 @@ BrokenAt t a NoMemory = ⊥
 abbrev pub IsReadAs : List ℕ → List Token → Type 0
 IsReadAs t ks = (b : ℕ) × AreTokens t 0 ks b × Gap t b (length t)
 
--- the first fault: before it stand tokens and a gap
+-- the first fault: before it are tokens and a gap
 abbrev pub IsLexFault : List ℕ → LexError → Type 0
 IsLexFault t e = (ks : List Token) × (b a : ℕ) × AreTokens t 0 ks b × Gap t b a × BrokenAt t a e
 
--- the same, unless memory runs out
+-- the first fault, unless memory runs out
 abbrev pub TellsLexFault : List ℕ → LexError → Type 0
 TellsLexFault t NoMemory = ⊤
 TellsLexFault t e = IsLexFault t e

@@ -1,4 +1,4 @@
-//! Blanks, comments and the ends of lines.
+//! What is between tokens: blanks, comments and the ends of lines.
 
 ghost use Rattle.std.specs.Prelude.{◌≡◌, ◌≢◌, ◌⊎◌, ℕ, ◌<◌, ◌≤◌, length, slice_index, false};
 ghost use Rattle.mx_text.specs.Bytes.{is_word_byte};
@@ -7,8 +7,8 @@ ghost use Rattle.mx_lex.specs.Tokens.{Gap, IsOver};
 
 use mx_text::is_word_byte;
 
-/// Whether a line ends at a place: the text's end or a line feed stands there, or a carriage
-/// return before one of these.
+/// Whether a line ends at an offset: the text's end or a line feed is there, or a carriage return before one
+/// of these.
 pub fn ends_at(bytes: &[u8], at: usize) -> bool
     requires { at ≤ length bytes.now }
     ensures { result ≡ ends_at bytes.now at }
@@ -22,7 +22,7 @@ pub fn ends_at(bytes: &[u8], at: usize) -> bool
     bytes[at] == b'\r' && (at + 1 == bytes.len() || bytes[at + 1] == b'\n')
 }
 
-/// Where the bytes of a word end that begins at a place of a text.
+/// The offset after the bytes of a word that begins at an offset of a text.
 pub fn run_end(bytes: &[u8], start: usize) -> usize
     requires { start ≤ length bytes.now }
     ensures from { start ≤ result }
@@ -37,7 +37,7 @@ pub fn run_end(bytes: &[u8], start: usize) -> usize
     at
 }
 
-/// Where the bytes other than line feeds from a place on end.
+/// The offset of the next line feed from an offset on, or the text's end.
 fn line_feed_at(bytes: &[u8], start: usize) -> usize
     requires { start ≤ length bytes.now }
     ensures from { start ≤ result }
@@ -52,7 +52,7 @@ fn line_feed_at(bytes: &[u8], start: usize) -> usize
     at
 }
 
-/// Where blanks, comments and carriage returns at a line's end are over.
+/// The offset after blanks, comments and carriage returns at a line's end.
 pub fn gap_end(bytes: &[u8], start: usize) -> usize
     requires { start ≤ length bytes.now }
     ensures within { result ≤ length bytes.now }

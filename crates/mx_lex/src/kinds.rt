@@ -1,4 +1,4 @@
-//! What a token is, and what is told of a text that isn't made of tokens.
+//! Kinds of tokens, and the faults of a text that isn't made of tokens.
 
 ghost use Rattle.std.specs.Prelude.{◌≡◌};
 ghost use Rattle.mx_lex.specs.Codes.{lex_error_code};
@@ -49,7 +49,7 @@ pub enum LexError {
 }
 
 impl LexError {
-    /// The number with which a token's fault is told.
+    /// The number of a token's fault in messages.
     pub fn code(self) -> u8
         ensures { result ≡ lex_error_code self }
     {

@@ -1,11 +1,11 @@
-//! Laws of tokens.
+//! Laws of the tokens of an assembler text.
 
 ghost use Rattle.std.specs.Prelude.{◌≡◌, ◌≤◌, ℕ, List, length};
 ghost use Rattle.mx_lex.specs.declared.kinds.LexError.{LexError};
 ghost use Rattle.mx_lex.specs.declared.kinds.Token.{Token};
 ghost use Rattle.mx_lex.specs.Tokens.{Gap, IsOver, IsReadAs, IsLexFault};
 
-/// Law: a gap that ends where no other begins has one end.
+/// Law: gaps that begin at one offset, and end where no other gap begins, end at one offset.
 pub fn gap_has_one_end()
     ensures { (t : List ℕ) (a b c : ℕ) → Gap t a b → Gap t a c → b ≤ length t → c ≤ length t
         → IsOver t b → IsOver t c → b ≡ c }

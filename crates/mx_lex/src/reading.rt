@@ -1,4 +1,4 @@
-//! The tokens of a text.
+//! Reads the tokens of a text from the first to the last.
 
 ghost use Rattle.std.specs.Prelude.{IfOk, IfErr, All};
 ghost use Rattle.mx_lex.specs.Tokens.{IsReadAs, IsSlice, TellsLexFault};

@@ -1,4 +1,4 @@
-//! One token.
+//! Reads one token.
 
 ghost use Rattle.std.specs.Prelude.{◌≡◌, ◌≢◌, ◌<◌, length, slice_index, true, MatchOption, IfOk, IfErr};
 ghost use Rattle.mx_text.specs.Bytes.{is_digit};
@@ -25,7 +25,7 @@ fn mark_of(byte: u8) -> Option<Mark>
     }
 }
 
-/// Whether a word begins at a place: with a letter or underscore, or with a dot before a letter.
+/// Whether a word begins at an offset: with a letter or underscore, or with a dot before a letter.
 fn begins_word(bytes: &[u8], at: usize) -> bool
     requires { at < length bytes.now }
     ensures { result ≡ begins_word bytes.now at }
@@ -33,7 +33,7 @@ fn begins_word(bytes: &[u8], at: usize) -> bool
     begins_name(bytes[at]) || bytes[at] == b'.' && at + 1 < bytes.len() && is_letter(bytes[at + 1])
 }
 
-/// The number that begins at a place.
+/// The number that begins at an offset.
 fn number_at(bytes: &[u8], start: usize) -> Result<Token, LexError>
     requires place { start < length bytes.now }
     requires digit { is_digit (slice_index bytes.now start) ≡ true }
@@ -52,7 +52,7 @@ fn number_at(bytes: &[u8], start: usize) -> Result<Token, LexError>
     }
 }
 
-/// The text that begins at a place.
+/// The quoted text that begins at an offset.
 fn text_at(bytes: &[u8], start: usize) -> Result<Token, LexError>
     requires place { start < length bytes.now }
     requires quote { slice_index bytes.now start ≡ 34 }
@@ -68,7 +68,7 @@ fn text_at(bytes: &[u8], start: usize) -> Result<Token, LexError>
     })
 }
 
-/// The token of a text that begins at a place.
+/// The token of a text that begins at an offset.
 pub fn token_at(bytes: &[u8], start: usize) -> Result<Token, LexError>
     requires place { start < length bytes.now }
     requires over { IsOver bytes.now start }

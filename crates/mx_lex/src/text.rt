@@ -1,4 +1,4 @@
-//! Texts between quotes.
+//! Quoted texts: their escapes and their end.
 
 ghost use Rattle.std.specs.Prelude.{◌≡◌, ◌<◌, ◌≤◌, length, slice_index, IfOk, IfErr};
 ghost use Rattle.mx_lex.specs.Bytes.{ends_at, is_escape, escape_value, text_value};
@@ -14,7 +14,7 @@ fn is_escape(byte: u8) -> bool
     byte == b'n' || byte == b'0' || byte == b'"' || byte == b'\\'
 }
 
-/// Where the quote stands that ends a quoted text.
+/// The offset of the quote that ends a quoted text.
 pub fn quote_at(bytes: &[u8], start: usize) -> Result<usize, LexError>
     requires { start ≤ length bytes.now }
     ensures quote { IfOk result (λ e. (e < length bytes.now) × Body bytes.now start e
@@ -52,7 +52,7 @@ fn escaped(byte: u8) -> u8
     }
 }
 
-/// The bytes that a text stands for, of what stands between its quotes.
+/// The bytes of a text, of what is between its quotes: each escape is one byte.
 pub fn text_bytes(alloc: Global, body: &[u8]) -> Result<Vec<u8>, AllocError>
     ensures { IfOk result (λ bytes. bytes.items ≡ text_value body.now) }
 {

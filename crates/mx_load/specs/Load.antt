@@ -9,7 +9,7 @@ use Rattle.mx_exec.specs.Lasting.{lasting}
 use Rattle.mx_aout.specs.Limits.{rounded_to_pages}
 use Rattle.mx_aout.specs.declared.program.Program.{Program}
 
--- what the data segment begins with: the text, where it isn't separate, and the data
+-- the first bytes of the data segment: the text, if it isn't separate, and the data
 abbrev pub contents_of : Bool → List ℕ → List ℕ → List ℕ
 contents_of sep text init = if sep then init else text ++ init
 
@@ -20,7 +20,7 @@ filled_to limit bytes = bytes ++ replicate (limit - length bytes) 0
 abbrev pub code_of_text : Bool → List ℕ → Code
 code_of_text sep text = if sep then Separate text else Shared
 
--- the data segment ends at the rounded total, where ESP begins; EIP is the entry, all else is 0
+-- the data segment ends at the rounded total, and ESP is there; EIP is the entry, all else is 0
 abbrev pub image_of_program : Program → Image
 image_of_program p = record {
   regs = record no_words { esp = rounded_to_pages p.total };

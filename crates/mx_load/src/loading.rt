@@ -1,4 +1,4 @@
-//! Makes the image that a program begins with.
+//! Loads a program: makes the image that its process begins with, or makes an old image that one again.
 
 ghost use Rattle.std.specs.Prelude.{◌≡◌, ◌+◌, ◌≤◌, ◌++◌, IfOk, length, replicate, take, drop};
 ghost use Rattle.mx_flags.specs.Flags.{values_of};
@@ -15,7 +15,7 @@ use mx_regs::Regs;
 use mx_word::{NoMemory, Register, Size};
 use std::alloc::Global;
 
-/// Copies bytes to a place where they lie inside.
+/// Copies bytes to an address at which they are inside the segment.
 fn fill(segment: &mut Segment, at: u32, bytes: &[u8])
     requires { at + length bytes.now ≤ length segment.old }
     ensures value { segment.new ≡ take at segment.old ++ bytes.now
@@ -60,7 +60,7 @@ fn room_for(alloc: Global, program: &Program) -> Result<Room, NoMemory>
     Ok(Room { memory, text })
 }
 
-/// Writes what the data segment begins with over zeros: the text, where it isn't separate, and the data.
+/// Writes the first bytes of the data segment over zeros: the text, if it isn't separate, and the data.
 fn write_contents(memory: &mut Segment, program: &Program)
     requires { memory.old ≡ replicate (rounded_to_pages program.now.total) 0 }
     ensures { memory.new ≡ (image_of_program program.now).memory }
@@ -120,8 +120,8 @@ fn image(eip: u32, regs: Regs, memory: Segment, code: Code) -> Image
     }
 }
 
-/// Makes an image that was loaded from a program what it was when it was loaded, whatever it did
-/// since. Writes into the pages that stand: takes none, and gives up none.
+/// Makes an image that was loaded from a program equal to the one at loading, whatever it did since. It
+/// writes into the pages that the image has: takes none, and gives up none. So a respawn takes no memory.
 pub fn refill(image: &mut Image, program: &Program)
     requires { IsLoadedFrom image.old program.now }
     ensures image { image.new ≡ image_of_program program.now }

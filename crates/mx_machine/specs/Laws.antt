@@ -7,7 +7,7 @@ use Rattle.mx_machine_world.specs.History.{BootAndHistory, events_of_history, re
 use Rattle.mx_machine_world.specs.Move.{move, moves}
 use Rattle.mx_machine.specs.Machine.{IsActor}
 
--- two events may change places: in both orders each has the same answer, and the world after them is the same
+-- two events commute: in both orders each has one answer, and one world comes after them
 pub record ChangePlaces (w : World) (a : ℕ) (x : Event) (b : ℕ) (y : Event) : Type 0 where
   pub first : (move (move w b y).1 a x).0 ≡ (move w a x).0
   pub second : (move (move w a x).1 b y).0 ≡ (move w b y).0
@@ -20,12 +20,13 @@ IsOthers c a Take = a ≢ c
 IsOthers c a Back = a ≢ c
 IsOthers c a _ = Unit {0}
 
--- a history replays: each event that it stands for is accepted, and they lead to its replay
+-- a history replays: each event of it is accepted, and they lead to its replay
 pub record Replays (k : BootAndHistory) : Type 0 where
   pub accepted : All IsOk (moves k.boot (events_of_history k.history)).0
   pub world : (moves k.boot (events_of_history k.history)).1 ≡ replay k
 
--- so does a machine that begins where it began: it may run the events that the history stands for, each is accepted, and they lead to the replay
+-- a machine that begins at the history's boot replays it too: it may make the events of the history, each is
+-- accepted, and they lead to the replay
 pub record RunsAgain (w : World) (k : BootAndHistory) : Type 0 where
   pub may : All (λ (x : ℕ × Event). IsActor w x.0 x.1) (events_of_history k.history)
   pub accepted : All IsOk (moves w (events_of_history k.history)).0

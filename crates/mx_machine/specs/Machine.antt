@@ -32,11 +32,11 @@ abbrev pub all_held_now : List (Option HeldProcess) → List (Option Out) → Li
 all_held_now (l ∷ ls) (o ∷ os) = held_now l o ∷ all_held_now ls os
 all_held_now ls _ = ls
 
--- THE WORLD of a machine: its kernel's, but that a processor's process stands where the processor has brought it
+-- THE WORLD of a machine: its kernel's, but a processor's process is as the processor has left it
 unfoldable pub world_of : MachineState → World
 world_of m = let w = replay m.kernel in record w { cpus = all_held_now w.cpus m.outs }
 
--- a processor holds something exactly where it was lent something
+-- a processor holds something exactly if it was lent something
 abbrev pub IsHeld : Option HeldProcess → Option Out → Type 0
 IsHeld (Some l) (Some o) = IsRunOf l.out o
 IsHeld None None = Unit {0}
@@ -81,7 +81,7 @@ abbrev pub with_records : BootAndHistory → ℕ → Option Recorded → BootAnd
 with_records k a None = k
 with_records k a (Some e) = with_record k a e
 
--- the kernel after an event that was answered so: a refusal leaves it
+-- the kernel after an event with this answer: a refusal doesn't change it
 abbrev pub kept_after : BootAndHistory → ℕ → Event → Result Answer Refusal → BootAndHistory
 kept_after k a x (Err r) = k
 kept_after k a x (Ok y) = with_records k a (record_of x y)
@@ -92,7 +92,7 @@ kept_along k [] rs = k
 kept_along k (x ∷ xs) [] = k
 kept_along k (x ∷ xs) (r ∷ rs) = kept_along (kept_after k x.0 x.1 r) xs rs
 
--- each machine of a run is sound: those that its events find
+-- each machine of a run is sound: the machine before each event
 abbrev pub AreSound : World → List (ℕ × Event) → Type 0
 AreSound w [] = Unit {0}
 AreSound w (x ∷ xs) = IsSound w × AreSound (move w x.0 x.1).1 xs

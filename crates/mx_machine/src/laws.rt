@@ -1,4 +1,4 @@
-//! Laws of events.
+//! Laws of a machine's events: order, replay, and runs after one another.
 
 ghost use Rattle.std.specs.Prelude.{◌≡◌, ℕ, Some};
 ghost use Rattle.mx_machine_world.specs.declared.events.Event.{Event};
@@ -12,8 +12,8 @@ use crate::machine::Machine;
 use mx_machine_kernel::Kernel;
 use mx_machine_world::actors_stay;
 
-/// Law: while a processor has a process, its step may change places with any event but its own
-/// steps, takes and returns.
+/// Law: while a processor has a process, its step commutes with any event but its own steps, takes and
+/// returns.
 pub fn steps_change_places()
     ensures { (w : World) (c a : ℕ) (x : Event) (l : HeldProcess) → held_by w c ≡ Some l
         → IsOthers c a x → ChangePlaces w c e.Step a x }
@@ -24,8 +24,8 @@ pub fn histories_replay()
     ensures { (k : BootAndHistory) → AreAccepted k.boot (events_of_history k.history) → Replays k }
 {}
 
-/// Law: a machine that stands where a kernel was booted may run the events that the kernel's history
-/// stands for. Each of them is accepted, and they lead to where the kernel stands.
+/// Law: a machine in the state in which a kernel was booted may make the events of the kernel's history. Each
+/// of them is accepted, and they lead to the kernel's current state.
 pub fn runs_again(machine: &Machine, kernel: &Kernel)
     ensures { world_of machine.now ≡ kernel.now.boot → RunsAgain (world_of machine.now) kernel.now }
 {

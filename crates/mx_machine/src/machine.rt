@@ -1,4 +1,4 @@
-//! A kernel, and what its processors hold.
+//! The machine of one thread. It has eight places for what its processors hold, so only `run` takes memory.
 
 ghost use Rattle.std.specs.Prelude.{◌≡◌, ℕ, true, ◌+◌, ◌<◌, ◌≤◌, ◌++◌, ◌∷◌, [], All, Ok, None, Some, IsSome, IfSome, IfErr, OnOk, OnErr, MatchOption, vec_len, vec_capacity};
 ghost use Rattle.std.specs.Option.{option_map};
@@ -52,7 +52,7 @@ fn endpoint_on(kernel: &Kernel, cpu: u8) -> Endpoint
     }
 }
 
-/// Adds an answer, where there is room.
+/// Adds an answer, for which there is room.
 fn add(answers: &mut Vec<Result<Answer, Refusal>>, answer: Result<Answer, Refusal>)
     requires { vec_len answers.old < vec_capacity answers.old }
     ensures items { answers.new.items ≡ answers.old.items ++ answer ∷ [] }
@@ -86,7 +86,7 @@ impl Machine {
         &self.kernel
     }
 
-    /// Ends the machine, and hands back its kernel. What its processors hold is let go. Takes no memory.
+    /// Ends the machine, and hands back its kernel. What its processors hold is dropped. Takes no memory.
     pub fn into_kernel(self) -> Kernel
         ensures { result ≡ self.kernel }
     {

@@ -1,4 +1,4 @@
-//! What is done with what a processor holds.
+//! What a machine does with the process that a processor holds: a step, or the work of a tool.
 
 ghost use Rattle.std.specs.Prelude.{◌≡◌, ℕ, ◌+◌, ◌<◌, ◌^◌, true, false, IfOk, IfErr, OnOk, None, Some};
 ghost use Rattle.mx_machine_world.specs.declared.events.Answer.TheVariants.{Went};

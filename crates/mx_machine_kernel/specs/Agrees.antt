@@ -1,4 +1,4 @@
--- What a kernel's parts say of its history, and what its calls answer.
+-- How a kernel's parts agree with its history, and what its calls answer.
 use Rattle.std.specs.Prelude.{◌≡◌, ◌≤◌, ℕ, All, Some, None, length, slice_get}
 use Rattle.mx_machine_world.specs.Stop.TheVariants.{Spent}
 use Rattle.mx_machine_world.specs.Load.{IsLoadedFrom}
@@ -17,7 +17,8 @@ pub record IsFresh (w : World) (l : HeldProcess) : Type 0 where
   pub stop : l.out.stop ≡ Spent
   pub loaded : (v : Service) → slice_get w.services l.slot ≡ Some v → IsLoadedFrom l.out.image v.program
 
--- A kernel stands where its history leads to, each event of which was accepted, and has room for more.
+-- A kernel's state is the one that its history leads to. Each event of the history was accepted, and there is
+-- room for more.
 pub record IsAtReplay (d : KernelState) (room : ℕ) (k : BootAndHistory) : Type 0 where
   pub present : d ≡ kernel_state_of (replay k)
   pub records : d.records ≡ length k.history

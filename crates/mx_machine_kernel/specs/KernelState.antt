@@ -1,4 +1,4 @@
--- Where a kernel stands, by what it keeps in mind: of what is out it knows slot and budget.
+-- The current state of a kernel: of a process that is out it knows slot and budget.
 use Rattle.std.specs.Prelude.{◌≡◌, ◌<◌, ◌≤◌, ℕ, ◌+◌, ◌-◌, ◌^◌, true, false, nat_lt, if◌then◌else◌, List, map, length, replicate, Option, Some, None, Result, Ok, Err, slice_get, slice_set}
 use Rattle.mx_ipc.specs.Proc.declared.windows.Rules.{Rules}
 use Rattle.mx_ipc.specs.Proc.EndpointNumbers.{slot_of, endpoint_from}
@@ -35,7 +35,7 @@ pub record KernelState : Type 0 where
   pub records : ℕ
   pub capacity : ℕ
 
--- where one stands at boot
+-- the state at boot
 abbrev pub kernel_state_at_boot : Rules → List Service → ℕ → ℕ → ℕ → KernelState
 kernel_state_at_boot rules services cpus others capacity = record { table = first_table rules services; leases = replicate cpus None; others = others; services = services; records = 0; capacity = capacity }
 

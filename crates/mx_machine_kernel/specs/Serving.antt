@@ -1,4 +1,4 @@
--- What an event leaves alone of a table.
+-- What an event doesn't change in a table.
 use Rattle.std.specs.Prelude.{◌≡◌, ◌≢◌, ◌≤◌, ◌+◌, ℕ, Some, None, length}
 use Rattle.mx_ipc.specs.Proc.declared.process.State.TheVariants.{Home}
 use Rattle.mx_exec.specs.Lasting.{lasting}
@@ -6,7 +6,7 @@ use Rattle.mx_ipc.specs.Proc.Frame.{fixed_of, loan_of}
 use Rattle.mx_ipc.specs.Proc.TableState.{TableState, process_at}
 use Rattle.mx_machine_world.specs.declared.holding.Out.{Out}
 
--- The slots but one keep what is fixed of them, and whether they are out.
+-- In all slots but one, what is fixed of them doesn't change, nor whether they are out.
 pub record KeepsBut (s : ℕ) (t u : TableState) : Type 0 where
   pub fixed : (q : ℕ) → q ≢ s → fixed_of (process_at u q) ≡ fixed_of (process_at t q)
   pub loans : (q : ℕ) → q ≢ s → loan_of (process_at u q) ≡ loan_of (process_at t q)

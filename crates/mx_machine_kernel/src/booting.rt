@@ -1,4 +1,4 @@
-//! What a kernel begins with.
+//! The kernel at boot: its table, its processors without a process, and its services.
 
 ghost use Rattle.std.specs.Prelude.{◌≡◌, ◌≤◌, [], IfOk, OnOk, OnErr, None, length, replicate};
 ghost use Rattle.mx_ipc.specs.Proc.TableState.{empty_table};
@@ -35,15 +35,15 @@ fn first_table(alloc: Global, rules: Rules, services: &[Service]) -> Result<Tabl
     Ok(table)
 }
 
-/// That many processors, each without a process.
+/// `cpus` processors, each without a process.
 fn no_leases(alloc: Global, cpus: u8) -> Result<Vec<Option<Lease>>, NoMemory>
     ensures { IfOk result (λ leases. leases.items ≡ replicate cpus None) }
 {
     Ok(vec![in alloc; None; cpus as usize]?)
 }
 
-/// Where a kernel stands at boot. The services are moved out of the list, which is left empty; if
-/// memory runs out, they stay.
+/// The kernel's state at boot. The services are moved out of the list, which is left empty; if memory runs
+/// out, they stay.
 pub(crate) fn first_present(
     alloc: Global,
     config: &Config,

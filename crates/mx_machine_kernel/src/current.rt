@@ -1,4 +1,4 @@
-//! Where a kernel stands, without its history.
+//! The current state of a kernel, without its history: the table, the leases and the services.
 
 ghost use Rattle.std.specs.Prelude.{◌≡◌, ℕ, ◌+◌, ◌-◌, ◌<◌, ◌≤◌, ◌^◌, ◌==◌, ◌&&◌, true, Some, None, IsSome, IfOk, IfErr, OnOk, is_none, length, slice_get};
 ghost use Rattle.mx_machine_world.specs.Load.{IsLoadedFrom};
@@ -22,7 +22,7 @@ use mx_machine_world::{
 };
 use std::marker::Model;
 
-/// A kernel's table, and what it keeps in mind of its processors.
+/// A kernel's table, and what it remembers of its processors.
 #[derive(Drop)]
 pub(crate) struct CurrentState {
     table: Table,
@@ -141,7 +141,7 @@ impl CurrentState {
         self.services.as_slice()
     }
 
-    /// What each slot was made from; all else is let go.
+    /// The services, of which each slot was made; all else is dropped.
     pub(crate) fn into_services(self) -> Vec<Service>
         ensures { result.items ≡ self.services }
     {

@@ -1,4 +1,4 @@
-//! The kernel, and the history that it keeps.
+//! The kernel: the current state, and the history of all events.
 
 ghost use Rattle.std.specs.Prelude.{◌≡◌, ℕ, ◌≤◌, ◌<◌, ◌++◌, ◌∷◌, [], true, Some, None, IfOk, IfErr, OnOk, OnErr, All, length, slice_get, vec_len, vec_capacity};
 ghost use Rattle.std.specs.Option.{option_map};
@@ -26,8 +26,9 @@ use std::alloc::Global;
 use std::marker::Model;
 use std::mem;
 
-/// A kernel: where it stands, and the history that led there. All the room that it needs was taken when
-/// it was made.
+/// A kernel: its current state, and the history that led there. It took all its memory when it was made. A
+/// contract sees it as the machine at boot and the history. It has no ghost snapshot, so that a lock may send
+/// it to another thread.
 #[derive(Drop)]
 pub struct Kernel {
     present: CurrentState,
@@ -60,7 +61,7 @@ impl Model for Kernel {
         }) };
 }
 
-/// Adds a record, where there is room.
+/// Adds a record, for which there is room.
 fn note(records: &mut Vec<Record>, actor: u8, event: Recorded)
     requires { vec_len records.old < vec_capacity records.old }
     ensures items { records.new.items ≡ records.old.items ++ record { actor = actor; event = event }
@@ -86,8 +87,8 @@ pub fn recorded_as(event: Event) -> Recorded
 }
 
 impl Kernel {
-    /// The kernel of a configuration and its services, each of which has its slot by its place in the
-    /// list. The services are moved out of the list, which is left empty; if memory runs out they stay.
+    /// The kernel of a configuration and its services. The slot of a service is its index in the list. The
+    /// services are moved out of the list, which is left empty; if memory runs out they stay.
     pub fn new(
         alloc: Global,
         config: &Config,
@@ -112,8 +113,9 @@ impl Kernel {
         })
     }
 
-    /// A processor takes the process that is first to run, and is lent its image, with what the
-    /// processor keeps of decoded instructions.
+    /// A processor takes the process that is first to run, and is lent its image, with the processor's cache
+    /// of decoded instructions. It needs two free records, one of them for its return: so `back` is never
+    /// refused for want of a record.
     pub fn take(&mut self, cpu: u8) -> Result<Out, Refusal>
         ensures ok { OnOk result (IsEventAccepted self.old self.new cpu events.Take recorded.Take) }
         ensures lent { IfOk result (λ out. (l : HeldProcess)
@@ -241,7 +243,7 @@ impl Kernel {
         }
     }
 
-    /// A delivery that is kept, counted from the oldest.
+    /// A recorded delivery, counted from the oldest.
     pub fn delivery(&self, index: usize) -> Option<Delivery>
         ensures { result ≡ slice_get (replay self.now).table.deliveries index }
     {

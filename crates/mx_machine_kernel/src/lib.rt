@@ -1,4 +1,4 @@
-//! The kernel: it makes each event, and keeps the history of all events.
+//! The kernel: it makes each event, and records the history of all events.
 #![tactic(auto)]
 
 mod booting;

@@ -1,4 +1,4 @@
-//! What events do to the table.
+//! What the kernel's events do to the table: processes that go out, come home, or are killed.
 
 ghost use Rattle.std.specs.Prelude.{◌≡◌, ◌+◌, ◌<◌, ◌≤◌, ◌^◌, true, length};
 ghost use Rattle.mx_ipc.specs.Proc.Frame.{frame};
@@ -90,7 +90,7 @@ pub(crate) fn come_home(table: &mut Table, slot: Slot, out: Out)
     resume(table, slot, doomed, stop);
 }
 
-/// Kills a process, or dooms it where it is out.
+/// Kills a process, or dooms it if it is out.
 #[tactic(auto, unfolding(mx_machine_world::specs::Move::table_after_kill))]
 pub(crate) fn kill(table: &mut Table, slot: Slot)
     requires slot { slot < length table.old.slots }

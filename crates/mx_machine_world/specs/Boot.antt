@@ -1,5 +1,5 @@
--- Where a machine begins. MINIX 3.1's main.c puts the processes of the boot image into the table and makes
--- them ready. Their first values are our choice.
+-- The machine at boot. MINIX 3.1's main.c puts the processes of the boot image into the table and makes them
+-- ready. Their first values are our choice.
 use Rattle.std.specs.Prelude.{ℕ, ◌+◌, ◌==◌, List, [], ◌∷◌, None, map, replicate, if◌then◌else◌}
 use Rattle.std.specs.List.{range_with_len}
 use Rattle.mx_kcall.specs.Load.{image_of_program}

@@ -33,7 +33,8 @@ then_held first k = let second = held_run k first.1 in ((first.0.0 + second.0.0,
 pub record IsBack (lent out : Out) : Type 0 where
   pub run : (held_run out.count lent).1 ≡ out
 
--- The same for what the processor holds (`out`) at any time before its Back; the steps are within the budget.
+-- What the processor holds (`out`) at any time before its Back is what was lent, after some steps of it; the
+-- steps are within the budget.
 pub record IsRunOf (lent out : Out) : Type 0 where
   pub back : IsBack lent out
   pub within : out.count ≤ out.budget

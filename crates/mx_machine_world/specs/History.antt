@@ -8,7 +8,7 @@ use Rattle.mx_machine_world.specs.declared.history.Recorded.TheVariants as recor
 use Rattle.mx_machine_world.specs.World.{World}
 use Rattle.mx_machine_world.specs.Move.{event_refusal, world_after_event}
 
--- the events that a record of actor a stands for. Back 2 stands for Step, Step, Back
+-- the events of a record of actor a. Back 2 is Step, Step, Back
 abbrev pub events_of : ℕ → Recorded → List (ℕ × Event)
 events_of a recorded.Take = (a, event.Take) ∷ []
 events_of a (recorded.Back n) = replicate n (a, event.Step) ++ (a, event.Back) ∷ []
@@ -17,12 +17,12 @@ events_of a recorded.Tick = (a, event.Tick) ∷ []
 events_of a (recorded.Kill e) = (a, event.Kill e) ∷ []
 events_of a (recorded.Respawn s) = (a, event.Respawn s) ∷ []
 
--- UNFOLD: all events that a history's records stand for, in order
+-- UNFOLD: all events of a history's records, in order
 abbrev pub events_of_history : List Record → List (ℕ × Event)
 events_of_history [] = []
 events_of_history (x ∷ xs) = events_of x.actor x.event ++ events_of_history xs
 
--- PART: the records of actor a alone, in order
+-- PART: the records of actor a only, in order
 abbrev pub part_of : List Record → ℕ → List Record
 part_of records a = filter (λ (x : Record). x.actor == a) records
 
@@ -45,7 +45,7 @@ number_of_record recorded.Tick = 0
 number_of_record (recorded.Kill e) = e
 number_of_record (recorded.Respawn s) = s
 
--- A text can say this record: its actor is one of the machine's, and its number is below 2 ^ 31.
+-- A text can have this record: its actor is one of the machine's, and its number is below 2 ^ 31.
 pub record IsWritable (actors : ℕ) (x : Record) : Type 0 where
   pub actor : x.actor < actors
   pub number : number_of_record x.event < 2 ^ 31

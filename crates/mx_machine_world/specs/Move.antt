@@ -61,7 +61,7 @@ abbrev pub step_refusal : Option HeldProcess → Option Refusal
 step_refusal None = Some CpuEmpty
 step_refusal (Some l) = if at_stop l.out then Some AtStop else None
 
--- a Back's refusal, by what the processor holds. Never LogFull: a record was kept free for this Back
+-- a Back's refusal, by what the processor holds. Never LogFull: a record was reserved for this Back
 abbrev pub back_refusal : Option HeldProcess → Option Refusal
 back_refusal None = Some CpuEmpty
 back_refusal (Some l) = None
@@ -144,7 +144,7 @@ table_after_kill t s = if is_out (process_at t s).state then with_state t s Doom
 abbrev pub world_with_record : World → TableState → World
 world_with_record w t = record w { table = t; records = w.records + 1 }
 
--- the machine where processor a holds this
+-- the machine in which processor a holds this
 abbrev pub with_held : World → ℕ → Option HeldProcess → World
 with_held w a held = record w { cpus = slice_set w.cpus a held }
 
@@ -207,7 +207,7 @@ abbrev pub move_by : World → ℕ → Event → Option Refusal → Result Answe
 move_by w a e (Some r) = (Err r, w)
 move_by w a e None = (Ok (event_answer w a e), world_after_event w a e)
 
--- MOVE: actor a's event at world w. It gives a refusal and the same world, or an answer and the new world
+-- MOVE: actor a's event at world w. It gives a refusal and world w again, or an answer and the new world
 unfoldable pub move : World → ℕ → Event → Result Answer Refusal × World
 move w a e = move_by w a e (event_refusal w a e)
 

@@ -20,7 +20,7 @@ lease_at leases a = slice_index_or leases a None
 
 -- What always holds of a table, the leases of the processors, the services and the number of records.
 pub record IsConsistent (t : TableState) (leases : List (Option Lease)) (services : List Service) (records capacity : ℕ) : Type 0 where
-  -- for each process that is out (on a processor) one record is kept free, for its Back
+  -- for each process that is out (on a processor) one record is reserved, for its Back
   pub room : records + out_count leases ≤ capacity
   pub size : capacity ≤ 2 ^ 20
   -- each record is of one event, which made at most one tick, one byte on the console and 65,535 steps
@@ -33,7 +33,7 @@ pub record IsConsistent (t : TableState) (leases : List (Option Lease)) (service
   pub leased : (a : ℕ) (x : Lease) → lease_at leases a ≡ Some x → loan_of (process_at t x.slot) ≡ Some x.budget
   -- each process that is out has a lease: that of its processor
   pub lent : (s n : ℕ) → loan_of (process_at t s) ≡ Some n → (a : ℕ) × (lease_at leases a ≡ Some (record { slot = s; budget = n }))
-  -- no two leases are of the same slot
+  -- no two leases have one slot
   pub apart : (a b : ℕ) (x y : Lease) → lease_at leases a ≡ Some x → lease_at leases b ≡ Some y → x.slot ≡ y.slot → a ≡ b
   -- each slot has a service; and an image in the table was loaded from the program of its slot's service
   pub served : length services ≡ length t.slots

@@ -1,4 +1,4 @@
--- A run, told as Step events of a processor.
+-- A run as Step events of a processor.
 use Rattle.std.specs.Prelude.{◌≡◌, ◌≤◌, ◌+◌, ℕ, List, replicate, Some}
 use Rattle.mx_machine_world.specs.declared.events.Event.{Event}
 use Rattle.mx_machine_world.specs.declared.events.Event.TheVariants.{Step}

@@ -35,6 +35,6 @@ out_count [] = 0
 out_count (None ∷ xs) = out_count xs
 out_count (Some x ∷ xs) = suc (out_count xs)
 
--- how many records are free: neither made, nor kept for the Back of a process that is out
+-- how many records are free: neither made, nor reserved for the Back of a process that is out
 abbrev pub free_records : World → ℕ
 free_records w = w.capacity - (w.records + out_count w.cpus)

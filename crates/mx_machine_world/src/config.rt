@@ -5,7 +5,7 @@ ghost use Rattle.std.specs.Prelude.{◌≡◌, ◌<◌, ◌≤◌, length, strin
 use mx_kcall::{Name, Rules, Terms};
 use std::marker::Model;
 
-/// The name of a file, exactly as it stands in a configuration.
+/// The name of a file, exactly as a configuration has it.
 #[derive(Drop)]
 pub struct FileName {
     name: String,
@@ -62,7 +62,7 @@ impl Model for ServiceLines {
 }
 
 impl ServiceLines {
-    /// The lines in this vector, in the same order. Takes no memory.
+    /// The lines in this vector, in its order. Takes no memory.
     pub fn from_vec(lines: Vec<ServiceLine>) -> ServiceLines
         ensures { result ≡ lines.items }
     {

@@ -1,4 +1,4 @@
-//! Events, the answers to them, and the reasons to refuse them.
+//! The events of a machine, the answers to them, and the reasons to refuse them.
 
 ghost use Rattle.std.specs.Prelude.{◌≡◌};
 ghost use Rattle.mx_machine_world.specs.Refusals.{code_of_refusal, name_of_refusal};
@@ -38,7 +38,7 @@ pub enum Answer {
     Taken(Endpoint, u32),
     /// To `Back`: how many steps the process made since its `Take`.
     Returned(u32),
-    /// To `Line`, `Tick` and `Kill`: the event is made, and there is no more to say.
+    /// To `Line`, `Tick` and `Kill`: the event is made, and the answer has nothing else.
     Done,
     /// To `Respawn`: the endpoint of the new process.
     Respawned(Endpoint),

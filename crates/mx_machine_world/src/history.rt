@@ -1,7 +1,7 @@
 //! The history: what the kernel records of each accepted event.
 
-/// An accepted event, as the history keeps it. A step has no record of its own: `Back` says how many
-/// steps the process made.
+/// An accepted event, as the history records it. A step has no record of its own: `Back` has the number of
+/// steps that the process made.
 #[derive(Clone, Copy, PartialEq, Eq)]
 pub enum Recorded {
     /// A processor took a process.

@@ -1,4 +1,4 @@
-//! What a processor holds while it has a process.
+//! What a processor holds while it has a process: the image, the budget, and its cache.
 
 ghost use Rattle.std.specs.Prelude.{◌≡◌, ℕ, Option};
 ghost use Rattle.mx_machine_world.specs.declared.holding.Out.{Out};

@@ -1,5 +1,5 @@
-//! Laws of runs and events. A law is a function that does nothing: a caller calls it for what its
-//! `ensures` says, and can use that in a proof.
+//! Laws of runs and events. A law is a function that does nothing: a caller calls it for its `ensures`, and
+//! can use that in a proof.
 
 ghost use Rattle.std.specs.Prelude.{◌≡◌, ◌≢◌, ◌≤◌, ℕ, ◌+◌, List, [], ◌∷◌, ◌++◌, Some, None, true};
 ghost use Rattle.mx_machine_world.specs.declared.events.Event.{Event};
@@ -23,16 +23,16 @@ pub fn held_runs_join()
     runs_join();
 }
 
-/// Law: a run is the same as `Step` events. Take a processor that holds a process, with no more steps
-/// counted than its budget. If a run of that process makes `n` steps, then the machine accepts `n` `Step`s
-/// of that processor, and after them it holds what the run leaves.
+/// Law: a run is a number of `Step` events. Take a processor that holds a process, with no more steps counted
+/// than its budget. If a run of that process makes `n` steps, then the machine accepts `n` `Step`s of that
+/// processor, and after them it holds what the run leaves.
 pub fn runs_are_steps()
     ensures { (w : World) (a k : ℕ) (l : HeldProcess) → held_by w a ≡ Some l
         → l.out.count ≤ l.out.budget → StepsTo w a (held_run k l.out).0.0 l (held_run k l.out).1 }
 {}
 
-/// Law: no event changes how many actors there are. `event` says it of one event, accepted or refused;
-/// `events` says it of events in a row.
+/// Law: no event changes how many actors there are. `event` is about one event, accepted or refused; `events`
+/// about events in a row.
 pub fn actors_stay()
     ensures event { (w : World) (a : ℕ) (x : Event) → actors (move w a x).1 ≡ actors w }
     ensures events { (w : World) (xs : List (ℕ × Event)) → actors (world_after_events w xs)
@@ -41,7 +41,7 @@ pub fn actors_stay()
 
 /// Law: nobody changes what another processor holds. `all`: a `Line`, `Tick`, `Kill` or `Respawn` changes
 /// what no processor holds. `other`: no event of actor `a` changes what processor `c` holds, if `c` isn't
-/// `a`. `moved` says the same of an event that may be refused.
+/// `a`. `moved` is `other` for an event that may be refused.
 pub fn others_keep()
     ensures all { (w : World) (a : ℕ) (x : Event) → is_for_all x ≡ true
         → (world_after_event w a x).cpus ≡ w.cpus }

@@ -1,9 +1,9 @@
-//! The model of the whole machine: configuration, boot, events, refusals, history, and what a
-//! processor holds.
+//! The model of the whole machine: configuration, boot, events, refusals, history, and what a processor
+//! holds.
 //!
-//! This crate has values, definitions and laws, and runs no machine: crates above do. Read first
-//! `Event` (what an actor may do), then `Answer` and `Refusal` (what the machine says to an event), and
-//! `Record` (what the history keeps of it). `specs/Move.antt` says what each event does.
+//! This crate has values, definitions and laws, and runs no machine: crates above do. Read first `Event`
+//! (what an actor may do), then `Answer` and `Refusal` (what the machine answers to an event), and `Record`
+//! (what the history has of it). `specs/Move.antt` defines what each event does.
 #![tactic(auto)]
 
 mod config;

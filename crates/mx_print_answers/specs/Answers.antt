@@ -1,4 +1,4 @@
--- Why a debugger's line is refused, and what is told of a breakpoint's line (our own).
+-- Why a debugger's line is refused, and the answer to a breakpoint's line (our own).
 use Rattle.std.specs.Prelude.{ℕ, List, ◌++◌, codes, Result, Ok, Err}
 use Rattle.std.specs.Fmt.{decimal}
 use Rattle.mx_machine_world.specs.Refusals.{code_of_refusal, name_of_refusal}
@@ -15,7 +15,7 @@ abbrev pub refused_line : Kind → List ℕ
 refused_line (ByMachine r) = number_and_name (code_of_refusal r) (name_of_refusal r)
 refused_line (ByDebugger e) = number_and_name (error_code e) (error_name e)
 
--- what is told of a line that sets or removes a breakpoint
+-- the answer to a line that sets or removes a breakpoint
 abbrev pub done_line : Result (Unit {0}) Kind → List ℕ
 done_line (Ok done) = codes "done\n"
 done_line (Err r) = refused_line r ++ codes "\n"

@@ -33,11 +33,11 @@ memory_row at bytes = eight_digits at ++ flat_map byte_field bytes ++ codes "\n"
 abbrev pub numbered_row : ℕ → List ℕ → ℕ → List ℕ
 numbered_row from bytes i = memory_row (from + 16 * i) (take 16 (drop (16 * i) bytes))
 
--- bytes that stand from an address on, sixteen a row
+-- bytes from an address on, sixteen a row
 abbrev pub memory_rows : ℕ → List ℕ → List ℕ
 memory_rows from bytes = flat_map (numbered_row from bytes) (range_with_len 0 (div_ceil (length bytes) 16))
 
--- that many bytes of a process's data from an address on, if all of them lie there
+-- n bytes of a process's data from an address on, if all of them are inside
 abbrev pub memory_text : Option Image → ℕ → ℕ → List ℕ
 memory_text None from count = not_here
 memory_text (Some m) from count =

@@ -1,4 +1,4 @@
--- What is told of a run up to a breakpoint (our own).
+-- The answer to a run up to a breakpoint (our own).
 use Rattle.std.specs.Prelude.{ℕ, suc, List, ◌++◌, codes, Result, Ok, Err}
 use Rattle.std.specs.Fmt.{decimal}
 use Rattle.mx_machine_world.specs.Stop.{Stop}
@@ -11,13 +11,13 @@ use Rattle.mx_debug.specs.declared.halt.Halt.{Halt}
 use Rattle.mx_print_answers.specs.declared.said.Said.TheVariants.{Stepped}
 use Rattle.mx_print_answers.specs.Said.{said_line, refusal_line}
 
--- how the steps ended of a process that halts at no breakpoint; where none is made, nothing ended them
+-- how the steps ended of a process that halts at no breakpoint; if none is made, nothing ended them
 abbrev pub stop_of_halt : ℕ → HaltCause → Stop
 stop_of_halt (suc count) Trap = stop.Trap
 stop_of_halt (suc count) (Fault vector) = stop.Fault vector
 stop_of_halt count cause = stop.Spent
 
--- where it halts at a breakpoint, the address and the steps; else as a line of steps is told
+-- if it halts at a breakpoint, the address and the steps; else the line of a number of steps
 abbrev pub halt_line : ℕ → HaltCause → ℕ → List ℕ
 halt_line count Breakpoint eip = codes "stopped at " ++ eight_digits eip ++ codes " after " ++ decimal count
 halt_line count cause eip = said_line (Stepped count (stop_of_halt count cause))

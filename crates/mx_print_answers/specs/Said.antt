@@ -1,4 +1,4 @@
--- What is said of the lines of a script (our own).
+-- The answers to the lines of a script (our own).
 use Rattle.std.specs.Prelude.{ℕ, List, ◌++◌, codes, Result, Ok, Err}
 use Rattle.std.specs.List.{flat_map}
 use Rattle.std.specs.Fmt.{decimal}

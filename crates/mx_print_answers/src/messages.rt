@@ -1,4 +1,4 @@
-//! Messages that were delivered.
+//! Prints messages that were delivered.
 
 ghost use Rattle.std.specs.Prelude.{◌≡◌, ◌++◌, OnOk, string_bytes};
 ghost use Rattle.mx_machine_world.specs.History.{replay};
@@ -30,7 +30,7 @@ fn push_delivery(out: &mut String, delivery: Delivery) -> Result<(), AllocError>
     writeln!(out, "{from} {to} {message_type} {kind}")
 }
 
-/// Appends the lines of the deliveries that are kept, the oldest first: `1 0 0 message`.
+/// Appends the lines of the recorded deliveries, the oldest first: `1 0 0 message`.
 pub fn push_messages(out: &mut String, kernel: &Kernel) -> Result<(), AllocError>
     ensures { OnOk result (string_bytes out.new ≡ string_bytes out.old
         ++ delivery_lines (replay kernel.now).table.deliveries) }

@@ -1,4 +1,4 @@
-//! A process: its registers, and bytes of its memory.
+//! Prints a process: its registers, and bytes of its memory.
 
 ghost use Rattle.std.specs.Prelude.{◌≡◌, ◌++◌, ◌+◌, ◌<◌, ◌≤◌, ◌^◌, OnOk, length, take, drop, string_bytes};
 ghost use Rattle.std.specs.List.{flat_map};
@@ -57,7 +57,7 @@ fn push_row(out: &mut String, memory: &Segment, from: u32, count: u32) -> Result
     out.push_str("\n")
 }
 
-/// Appends that many bytes from an address on, sixteen a line.
+/// Appends `count` bytes from an address on, sixteen a line.
 fn push_rows(out: &mut String, memory: &Segment, from: u32, count: u32) -> Result<(), AllocError>
     requires short { from + count < 2 ^ 32 }
     requires inside { from + count ≤ length memory.now }
@@ -72,8 +72,8 @@ fn push_rows(out: &mut String, memory: &Segment, from: u32, count: u32) -> Resul
     Ok(())
 }
 
-/// Appends that many bytes of a process's data from an address on, if all of them lie there: in rows
-/// of an address and up to sixteen bytes, as `00000000 01 00`.
+/// Appends `count` bytes of a process's data from an address on, if all of them are inside: in rows of an
+/// address and up to sixteen bytes, as `00000000 01 00`.
 pub fn push_memory(
     out: &mut String,
     image: Option<&Image>,

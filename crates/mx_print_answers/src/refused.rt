@@ -1,4 +1,4 @@
-//! Why a debugger's line is refused.
+//! Prints why a debugger's line is refused.
 
 ghost use Rattle.std.specs.Prelude.{◌≡◌, ◌++◌, OnOk, string_bytes};
 ghost use Rattle.mx_print_answers.specs.Answers.{done_line};
@@ -56,7 +56,7 @@ impl From<DebugError> for Refused {
     }
 }
 
-/// Appends what is told of a line that sets or removes a breakpoint: `done`, or why it is refused.
+/// Appends the answer to a line that sets or removes a breakpoint: `done`, or why it is refused.
 pub fn push_done(text: &mut String, done: Result<(), Refused>) -> Result<(), AllocError>
     ensures { OnOk result (string_bytes text.new ≡ string_bytes text.old ++ done_line done) }
 {

@@ -1,4 +1,4 @@
-//! Runs up to a breakpoint.
+//! Prints runs up to a breakpoint.
 
 ghost use Rattle.std.specs.Prelude.{◌≡◌, ◌++◌, OnOk, codes, string_bytes};
 ghost use Rattle.mx_print_answers.specs.Runs.{stop_of_halt, halt_line, run_line};
@@ -24,7 +24,7 @@ fn stop_of(halt: Halt) -> Stop
     }
 }
 
-/// Appends the line of a run after which the process stands at an address.
+/// Appends the line of a run after which the process's next instruction is at an address.
 fn push_halt(text: &mut String, halt: Halt, eip: u32) -> Result<(), AllocError>
     ensures { OnOk result (string_bytes text.new ≡ string_bytes text.old
         ++ halt_line halt.count halt.cause eip ++ codes "\n") }
@@ -39,8 +39,8 @@ fn push_halt(text: &mut String, halt: Halt, eip: u32) -> Result<(), AllocError>
     writeln!(text, "{said}")
 }
 
-/// Appends what is told of a run up to a breakpoint, after which the process stands at an address:
-/// `stopped at 00000000 after 1`, or as a line of steps is told.
+/// Appends the line of a run up to a breakpoint, after which the process's next instruction is at an address:
+/// `stopped at 00000000 after 1`, or the line of a number of steps.
 pub fn push_run(text: &mut String, run: Result<Halt, Refusal>, eip: u32) -> Result<(), AllocError>
     ensures { OnOk result (string_bytes text.new ≡ string_bytes text.old ++ run_line run eip) }
 {

@@ -1,4 +1,4 @@
-//! What is said of a line.
+//! What the answer to a line of a script is.
 
 ghost use Rattle.std.specs.Prelude.{◌≡◌};
 ghost use Rattle.mx_print_answers.specs.Said.{said_of_answer};
@@ -7,7 +7,7 @@ use mx_exec::Outcome;
 use mx_machine_world::{Answer, Refusal, Stop};
 use std::fmt;
 
-/// What is said of a line of a script.
+/// The answer to a line of a script, as a printer needs it.
 #[derive(Clone, Copy)]
 pub enum Said {
     /// How many steps were made, and how they ended.

@@ -29,7 +29,7 @@ abbrev pub index_parts : Option Index → List (List ℕ)
 index_parts None = []
 index_parts (Some i) = index_text i ∷ []
 
--- a displacement is written where it isn't 0, or stands alone
+-- a displacement is written if it isn't 0, or if there is nothing else
 abbrev pub shows_displacement : Memory → Bool
 shows_displacement m = not (m.displacement == 0) || (is_none m.base && is_none m.index)
 

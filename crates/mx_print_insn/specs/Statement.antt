@@ -121,7 +121,7 @@ written_extension ByteToWord to from = written.Register Word to ∷ written_oper
 written_extension ByteToDword to from = written.Register Dword to ∷ written_operand Byte from ∷ []
 written_extension WordToDword to from = written.Register Dword to ∷ written_operand Word from ∷ []
 
--- AL or EAX, and where the port's number stands
+-- AL or EAX, and the port: DX or a number
 abbrev pub written_accumulator : PortSize → Written
 written_accumulator port_sizes.Byte = written.Register Byte Eax
 written_accumulator port_sizes.Dword = written.Register Dword Eax

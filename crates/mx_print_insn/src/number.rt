@@ -1,4 +1,4 @@
-//! Numbers in hexadecimal.
+//! Prints numbers in hexadecimal.
 
 ghost use Rattle.std.specs.Prelude.{◌≡◌, ◌++◌, ◌^◌, ◌<◌, OnOk, string_bytes};
 ghost use Rattle.mx_print_insn.specs.Numbers.{number_text, eight_digits};

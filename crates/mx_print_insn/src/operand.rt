@@ -1,4 +1,4 @@
-//! Writes operands.
+//! Prints operands: registers, immediates and memory in brackets.
 
 ghost use Rattle.std.specs.Prelude.{◌≡◌, ◌++◌, ◌==◌, if◌then◌else◌, [], codes, OnOk, string_bytes};
 ghost use Rattle.mx_print_insn.specs.Listed.{written_list};

@@ -1,4 +1,4 @@
-//! Writes instructions.
+//! Prints instructions as statements of the assembler.
 
 ghost use Rattle.std.specs.Prelude.{◌≡◌, ◌++◌, OnOk, string_bytes};
 ghost use Rattle.mx_insn_words.specs.Words.{word_of};
@@ -10,7 +10,7 @@ use mx_insn::{Insn, OperandSize, Product, Repeat};
 use mx_insn_words::{Mnemonic, Prefix, Single};
 use std::alloc::AllocError;
 
-/// What stands in front of an instruction.
+/// The prefix before an instruction.
 fn prefix(insn: &Insn) -> Option<Prefix>
     ensures { result ≡ prefix_of insn.now }
 {
@@ -95,7 +95,7 @@ fn mnemonic(insn: &Insn) -> Mnemonic
     }
 }
 
-/// Appends a prefix and the space after it, where there is one.
+/// Appends a prefix and the space after it, if there is one.
 fn push_prefix(out: &mut String, prefix: Option<Prefix>) -> Result<(), AllocError>
     ensures { OnOk result (string_bytes out.new ≡ string_bytes out.old ++ prefix_text prefix) }
 {
@@ -116,9 +116,8 @@ fn push_mnemonic(out: &mut String, mnemonic: Mnemonic) -> Result<(), AllocError>
     out.push_str(ending)
 }
 
-/// Appends an instruction as the assembler's notation writes it, where the next instruction stands
-/// at the address `next`: jumps name the address that they go to. On an error a part of it may stand
-/// in `out`.
+/// Appends an instruction in the assembler's notation. `next` is the address of the next instruction: jumps
+/// name the address that they go to. On an error `out` may have a part of it.
 pub fn push_statement(out: &mut String, insn: &Insn, next: u32) -> Result<(), AllocError>
     ensures { OnOk result (string_bytes out.new ≡ string_bytes out.old
         ++ statement_text next insn.now) }

@@ -1,4 +1,4 @@
-//! The words of statements.
+//! The words of a printed statement.
 
 ghost use Rattle.std.specs.Prelude.{◌≡◌, ◌++◌};
 ghost use Rattle.mx_insn_words.specs.Registers.{register_word, size_word};

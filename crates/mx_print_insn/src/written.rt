@@ -1,4 +1,4 @@
-//! The operands of an instruction as they are written.
+//! The operands of an instruction as they are printed.
 
 ghost use Rattle.std.specs.Prelude.{◌≡◌, [], ◌∷◌};
 ghost use Rattle.mx_insn.specs.Sizes.{size_of_operands};
@@ -16,7 +16,7 @@ use mx_insn::{
 pub enum Written {
     Register(Size, Register),
     Memory(Size, Memory),
-    /// A place in memory of which the address alone counts.
+    /// A place in memory of which only the address counts.
     Address(Memory),
     Number(u32),
 }

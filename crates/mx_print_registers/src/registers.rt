@@ -1,4 +1,4 @@
-//! Registers and flags.
+//! Prints registers and flags, as `mx one` and the debugger do.
 
 ghost use Rattle.std.specs.Prelude.{◌≡◌, ◌++◌, OnOk, string_bytes};
 ghost use Rattle.mx_print_registers.specs.Registers.{register_name, register_field, register_line, flag_field, flag_fields, register_lines};

@@ -1,4 +1,4 @@
-//! How steps ended.
+//! Prints how steps ended: a trap, a fault, or the budget.
 
 ghost use Rattle.std.specs.Prelude.{◌≡◌, ◌++◌, OnOk, string_bytes};
 ghost use Rattle.mx_print_registers.specs.Stops.{stop_text};

@@ -1,4 +1,4 @@
--- How the blocked sends are kept: who sends, in order, to whom, and the caller queue of each slot.
+-- The blocked sends: who sends, in order, to whom, and the caller queue of each slot.
 use Rattle.std.specs.Prelude.{ℕ, ◌≡◌, ◌<◌, ◌≤◌, ◌==◌, nat_lt, List, filter, length, map, slice_index, slice_index_or}
 use Rattle.mx_proc.specs.Queues.{list_at, tally, times}
 

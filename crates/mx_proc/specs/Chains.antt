@@ -1,4 +1,4 @@
--- Lists of slots that are linked by index. Where no slot is, 255 stands.
+-- Lists of slots that are linked by index. No slot has the number 255.
 use Rattle.std.specs.Prelude.{ℕ, zero, suc, ◌≡◌, ◌<◌, ◌≤◌, ◌==◌, List, [], ◌∷◌, ◌++◌, length, map, slice_index, slice_set, slice_index_or, take, drop, if◌then◌else◌}
 use Rattle.mx_proc.specs.Queues.{list_at, times}
 
@@ -7,7 +7,7 @@ abbrev pub IsChain : List ℕ → ℕ → List ℕ → Type 0
 IsChain nexts at [] = at ≡ 255
 IsChain nexts at (x ∷ xs) = (at ≡ x) × (x < 32) × IsChain nexts (slice_index nexts x) xs
 
--- the slots along the links, at most that many
+-- the slots along the links, at most n of them
 abbrev pub chain : ℕ → List ℕ → ℕ → List ℕ
 chain zero nexts at = []
 chain (suc n) nexts at = if at == 255 then [] else at ∷ chain n nexts (slice_index nexts at)
@@ -30,8 +30,8 @@ pub record WayState : Type 0 where
 abbrev pub way_of : ℕ → List ℕ → WayState
 way_of count cells = record { firsts = take count cells; nexts = drop 32 cells }
 
--- That many lists: the first of each with the links forward, and the last of each with the links backward,
--- are those of these lists, and no slot stands twice.
+-- A number of lists: the first of each with the links forward, and the last of each with the links backward,
+-- are those of these lists, and no slot is in them twice.
 pub record Linked (count : ℕ) (nexts prevs firsts lasts : List ℕ) (lists : List (List ℕ)) : Type 0 where
   pub nexts_long : length nexts ≡ 32
   pub prevs_long : length prevs ≡ 32

@@ -1,4 +1,4 @@
--- The console: what it keeps, and the count of all that was written.
+-- The console: its last bytes, and the count of all that was written.
 use Rattle.std.specs.Prelude.{ℕ, List, []}
 
 pub record ConsoleState : Type 0 where

@@ -1,4 +1,4 @@
--- What queues and messages leave alone.
+-- What queues and messages don't change.
 use Rattle.std.specs.Prelude.{ℕ, map, List, Option, Some, None, if◌then◌else◌, slice_set}
 use Rattle.mx_exec.specs.declared.image.Code.{Code}
 use Rattle.mx_exec.specs.Lasting.{lasting}

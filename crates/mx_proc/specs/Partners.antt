@@ -15,7 +15,7 @@ order_of_source (Slot s) = 2 + s
 abbrev pub source_in_order : ℕ → Source
 source_in_order place = if place == 0 then Hardware else if place == 1 then Clock else Slot (place - 2)
 
--- the lines that a notification tells: HARDWARE's alone does
+-- the lines that a notification reports: only HARDWARE's does
 abbrev pub lines_in_notification : Source → ℕ → ℕ
 lines_in_notification Hardware lines = lines
 lines_in_notification _ lines = 0

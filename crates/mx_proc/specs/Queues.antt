@@ -22,21 +22,21 @@ abbrev pub tally : Bool → ℕ
 tally true = 1
 tally false = 0
 
--- how often a slot stands in a list
+-- how often a slot is in a list
 abbrev pub times : ℕ → List ℕ → ℕ
 times slot [] = 0
 times slot (x ∷ slots) = tally (x == slot) + times slot slots
 
--- a slot stands in none of the lists
+-- a slot is in none of the lists
 abbrev pub InNoList : List (List ℕ) → ℕ → Type 0
 InNoList lists slot = (level : ℕ) → times slot (list_at lists level) ≡ 0
 
--- 1 where a list isn't empty
+-- 1 if a list isn't empty
 abbrev pub some_in : List ℕ → ℕ
 some_in [] = 0
 some_in (slot ∷ slots) = 1
 
--- Sixteen lists; bit l of a word is 1 where list l isn't empty.
+-- Sixteen lists; bit l of a word is 1 if list l isn't empty.
 pub record AreFilled (filled : ℕ) (lists : List (List ℕ)) : Type 0 where
   pub long : length lists ≡ 16
   pub bits : (level : ℕ) → level < 16 → bit_at filled level ≡ some_in (list_at lists level)

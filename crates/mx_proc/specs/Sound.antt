@@ -31,9 +31,9 @@ pub record IsProcess (uptime : ℕ) (p : Process) : Type 0 where
 
 -- What holds of a slot and the queues.
 pub record Stands (p : Process) (ready : List (List ℕ)) (waits : List (ℕ × ℕ)) (uptime slot : ℕ) : Type 0 where
-  -- a ready process stands once, in the list of its level, and no other in any
+  -- a ready process is in the list of its level, once, and no other process in any
   pub listed : (level : ℕ) → times slot (list_at ready level) ≡ belongs p level
-  -- a sending or calling process stands once among the blocked sends, and no other
+  -- a sending or calling process is among the blocked sends, once, and no other process is
   pub waiting : sends_of slot waits ≡ tally (is_sending p.state)
   pub process : IsProcess uptime p
 

@@ -1,4 +1,4 @@
--- What a state says of the queues.
+-- What a state means for the queues.
 use Rattle.std.specs.Prelude.{◌≡◌, Bool, true, false}
 use Rattle.mx_proc.specs.declared.process.State.{State}
 use Rattle.mx_proc.specs.declared.process.State.TheVariants.{Ready, Out, Doomed, Sending, Calling, Receiving, Awaiting, Down}

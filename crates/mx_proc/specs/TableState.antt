@@ -45,7 +45,7 @@ pub record TableState : Type 0 where
 abbrev pub empty_table : Rules → TableState
 empty_table rules = record { slots = []; ready = replicate 16 []; waits = []; renewed = None; uptime = 0; devices = no_devices; deliveries = []; rules = rules }
 
--- what stands where no process is
+-- the process of an index past the table
 abbrev pub nobody : Process
 nobody = record {
   state = Down Exit;
@@ -79,7 +79,7 @@ with_state w s state = with_process w s (record (process_at w s) { state = state
 abbrev pub with_result : TableState → ℕ → ℕ → TableState
 with_result w s r = let p = process_at w s in with_process w s (record p { image = record p.image { regs = record p.image.regs { eax = r } } })
 
--- EBX, where the buffer for messages is
+-- EBX, the address of the buffer for messages
 abbrev pub buffer_at : TableState → ℕ → ℕ
 buffer_at w s = (process_at w s).image.regs.ebx
 
@@ -135,7 +135,7 @@ table_after_unblock w s = record (with_state w s Home) { waits = without_from s 
 abbrev pub with_message : TableState → ℕ → List ℕ → TableState
 with_message w s bytes = with_memory w s (with_bytes_at (memory_at w s) (buffer_at w s) bytes)
 
--- a delivery is kept, and of those kept the oldest past 1,024 goes
+-- a delivery is recorded, and the oldest past 1,024 goes
 abbrev pub with_delivery_kept : TableState → ℕ → ℕ → ℕ → DeliveryKind → TableState
 with_delivery_kept w from to message_type kind = record w { deliveries = keep_last 1024 (w.deliveries ++ record { from = from; to = to; message_type = message_type; kind = kind } ∷ []) }
 
@@ -162,7 +162,7 @@ IsUsedSource w _ = Unit {0}
 abbrev pub pending_source : TableState → ℕ → Partner → Option Source
 pending_source w s partner = option_map source_in_order (first_pending partner 0 (take (2 + length w.slots) (process_at w s).pending))
 
--- a process whose pending bit, and the lines that are told, are cleared
+-- a process whose pending bit, and the lines that are reported, are cleared
 abbrev pub without_pending : Process → Source → Process
 without_pending p source = record p { pending = slice_set p.pending (order_of_source source) false; lines = p.lines - lines_in_notification source p.lines }
 
@@ -183,11 +183,11 @@ table_after_move_out w s = with_process w s (record (process_at w s) { state = O
 abbrev pub table_after_move_home : TableState → ℕ → Image → TableState
 table_after_move_home w s image = with_process w s (record (process_at w s) { state = Home; image = image })
 
--- that many steps were made
+-- n steps were made
 abbrev pub table_after_steps : TableState → ℕ → ℕ → TableState
 table_after_steps w s n = let p = process_at w s in with_process w s (record p { ticks = p.ticks - n; steps = p.steps + n })
 
--- another image stands in a slot
+-- a slot has another image
 abbrev pub with_image : TableState → ℕ → Image → TableState
 with_image w s image = with_process w s (record (process_at w s) { image = image })
 
@@ -212,7 +212,7 @@ table_after_add w image terms = record w {
   ready = slice_set w.ready terms.level (list_at w.ready terms.level ++ length w.slots ∷ []);
 }
 
--- another process, which is ready, stands in a slot, and at the end of the list of its level
+-- a slot has another process, which is ready, at the end of the list of its level
 abbrev pub table_after_revival : TableState → ℕ → Process → TableState
 table_after_revival w s p = record w {
   slots = slice_set w.slots s p;

@@ -24,7 +24,7 @@ abbrev pub sends_of : ℕ → List (ℕ × ℕ) → ℕ
 sends_of slot [] = 0
 sends_of slot (p ∷ pairs) = tally (p.0 == slot) + sends_of slot pairs
 
--- the pair from p to q stands in the list
+-- the pair from p to q is in the list
 abbrev pub IsPair : List (ℕ × ℕ) → ℕ → ℕ → Type 0
 IsPair [] p q = ⊥
 IsPair (e ∷ es) p q = ((e.0 ≡ p) × (e.1 ≡ q)) ⊎ IsPair es p q
@@ -34,17 +34,17 @@ pub data Reaches (pairs : List (ℕ × ℕ)) : ℕ → ℕ → Type 0 where
   one_pair : (p q : ℕ) → IsPair pairs p q → Reaches pairs p q
   and_then : (p q r : ℕ) → IsPair pairs p q → Reaches pairs q r → Reaches pairs p r
 
--- no chain leads back to where it begins
+-- no chain leads back to its first slot
 abbrev pub Acyclic : List (ℕ × ℕ) → Type 0
 Acyclic pairs = (p : ℕ) → Reaches pairs p p → ⊥
 
--- what f says of the next, or no
+-- f of the next, or false
 abbrev pub if_some : Option ℕ → (ℕ → Bool) → Bool
 if_some None f = false
 if_some (Some x) f = f x
 
--- whether one meets q within n pairs from p: where no chain leads back, and with n the number of pairs, a
--- public function's contract says that this is Reaches
+-- whether one meets q within n pairs from p: if no chain leads back, and n is the number of pairs, a public
+-- function's contract promises that this is Reaches
 abbrev pub walk : ℕ → List (ℕ × ℕ) → ℕ → ℕ → Bool
 walk zero pairs p q = false
 walk (suc n) pairs p q = if_some (next_of p pairs) (λ x. (x == q) || walk n pairs x q)

@@ -1,4 +1,4 @@
-//! The console.
+//! The console of a machine: a ring of the last 4,096 bytes that processes wrote to it.
 
 ghost use Rattle.std.specs.Prelude.{◌≡◌, ◌+◌, ◌^◌, ◌<◌, ◌++◌, ◌∷◌, [], IfOk, slice_get};
 ghost use Rattle.circular_buffer.specs.Buffer.{keep_last};
@@ -9,7 +9,7 @@ use mx_word::NoMemory;
 use std::alloc::Global;
 use std::marker::Model;
 
-/// How many bytes the console keeps.
+/// How many bytes the console holds.
 pub const KEPT_BYTES: usize = 4096;
 
 /// The console: the last 4,096 bytes that were written to it, and how many were ever written.
@@ -39,7 +39,7 @@ impl Console {
         Ok(Console { kept, count: 0 })
     }
 
-    /// Writes a byte. If 4,096 bytes are kept already, the oldest of them goes.
+    /// Writes a byte. If it has 4,096 bytes already, the oldest of them goes.
     pub fn push(&mut self, byte: u8)
         requires { self.old.count + 1 < 2 ^ 32 }
         ensures { self.new ≡ record {
@@ -52,7 +52,7 @@ impl Console {
         self.count += 1;
     }
 
-    /// A kept byte of the console: index 0 is the oldest. `None` if the index is too high.
+    /// A byte of the console: index 0 is the oldest of those that are left. `None` if the index is too high.
     pub fn get(&self, index: usize) -> Option<u8>
         ensures { result ≡ slice_get self.now.kept index }
     {

@@ -1,4 +1,4 @@
-//! The last deliveries.
+//! The last deliveries of messages and notifications: a ring of 1,024.
 
 ghost use Rattle.std.specs.Prelude.{◌≡◌, [], ◌∷◌, ◌++◌, IfOk, slice_get};
 ghost use Rattle.circular_buffer.specs.Buffer.{keep_last};
@@ -8,7 +8,7 @@ use mx_word::NoMemory;
 use std::alloc::Global;
 use std::marker::Model;
 
-/// How many deliveries are kept.
+/// How many deliveries are recorded.
 pub const KEPT_DELIVERIES: usize = 1024;
 
 /// What was delivered.
@@ -55,14 +55,14 @@ impl Deliveries {
         Ok(Deliveries { kept })
     }
 
-    /// Keeps one delivery more. If 1,024 are kept already, the oldest of them goes.
+    /// Records one delivery more. If there are 1,024 already, the oldest of them goes.
     pub fn push(&mut self, delivery: Delivery)
         ensures { self.new ≡ keep_last 1024 (self.old ++ delivery ∷ []) }
     {
         self.kept.push_back(delivery);
     }
 
-    /// A kept delivery: index 0 is the oldest. `None` if the index is too high.
+    /// A recorded delivery: index 0 is the oldest that is left. `None` if the index is too high.
     pub fn get(&self, index: usize) -> Option<Delivery>
         ensures { result ≡ slice_get self.now index }
     {

@@ -1,4 +1,4 @@
-//! Interrupt lines, machine registers and the console.
+//! The devices of a table of processes: interrupt lines, machine registers and the console.
 
 ghost use Rattle.std.specs.Prelude.{◌≡◌, IfOk};
 ghost use Rattle.mx_proc.specs.Devices.{no_devices};

@@ -1,4 +1,5 @@
-//! Endpoints as numbers.
+//! Endpoints as numbers of 32 bits: generation times 1,024, plus slot. An endpoint is no struct, since
+//! registers and messages have any number for one.
 
 ghost use Rattle.std.specs.Prelude.{◌≡◌, ◌<◌, ◌≤◌, ◌^◌};
 ghost use Rattle.mx_proc.specs.EndpointNumbers.{slot_of, generation_of, endpoint_from};

@@ -1,4 +1,4 @@
-//! The reasons to refuse a call, as a process sees them.
+//! The errors of calls: the reasons to refuse one, as a process finds them in EAX.
 
 ghost use Rattle.std.specs.Prelude.{◌≡◌};
 ghost use Rattle.mx_proc.specs.Errors.{errno_bits};

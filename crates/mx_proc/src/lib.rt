@@ -1,4 +1,15 @@
 //! The table of processes: slots, ready lists, blocked sends, devices, and the last deliveries.
+//!
+//! # A sound table
+//!
+//! Soundness is the invariant of `Table`, so no call has it as a condition. A process that the kernel serves
+//! is in no queue, and has a state for that, `Home`: `dequeue` leaves a process there, and `enqueue` and
+//! `trap` need one that is there.
+//!
+//! # No memory after boot
+//!
+//! Only `Table::new` and `Table::add` take memory. A process that is on a processor has a blank image in the
+//! table. The image of a dead process stays, and its slot's next process gets it (`take_image`, `revive`).
 #![tactic(auto)]
 
 mod console;

@@ -1,4 +1,4 @@
-//! Lists of slots, doubly linked: a link is a slot's number.
+//! Lists of slots, doubly linked by index: the ready lists and the caller queues are such lists.
 
 ghost use Rattle.std.specs.Prelude.{◌≡◌, ◌≢◌, ◌<◌, ◌≤◌, [], ◌∷◌, ◌++◌, replicate, slice_get, slice_index, slice_set};
 ghost use Rattle.mx_proc.specs.Chains.{firsts_with, nexts_with};
@@ -9,7 +9,7 @@ use std::marker::Model;
 /// The link that leads to no slot.
 const NONE: u8 = 255;
 
-/// Where the slots' cells begin.
+/// The index of the first slot's cell.
 const SLOTS: usize = 32;
 
 /// One direction through the lists. Cell l has the slot that list l begins with, and cell `SLOTS` + s has
@@ -90,7 +90,8 @@ impl<const LISTS: usize> Way<LISTS> {
     }
 }
 
-/// Puts a slot at one end of a list: at the end where the direction `near` begins.
+/// Puts a slot at one end of a list: at the end at which the direction `near` begins. So both ends share this
+/// function: the back is the front with the two directions exchanged.
 fn push<const LISTS: usize>(near: &mut Way<LISTS>, far: &mut Way<LISTS>, list: usize, slot: u8)
     requires list { list < LISTS }
     requires slot { slot < 32 }
@@ -173,7 +174,7 @@ impl<const LISTS: usize> Links<LISTS> {
         push(&mut self.backward, &mut self.forward, list, slot);
     }
 
-    /// Takes a slot out of the linked list that it stands in.
+    /// Takes a slot out of its linked list.
     pub fn remove(&mut self, list: usize, slot: u8)
         requires list { list < LISTS }
         requires there { 1 ≤ times slot (list_at self.old list) }

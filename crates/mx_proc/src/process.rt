@@ -1,4 +1,4 @@
-//! Processes, which the table's slots hold; and the numbers that name them.
+//! Processes, one in each slot of the table; and the numbers that name slots, sources and partners.
 
 ghost use Rattle.std.specs.Prelude.{◌≡◌, ◌<◌, ◌≤◌, length, IfSome};
 ghost use Rattle.mx_proc.specs.Partners.{order_of_source, source_in_order, lines_in_notification, may_be, first_pending};
@@ -40,7 +40,7 @@ impl Source {
         }
     }
 
-    /// Which of these raised lines a notification by it tells: all of them if it is HARDWARE, else none.
+    /// Which of these raised lines a notification by it reports: all of them if it is HARDWARE, else none.
     pub fn lines_told(self, lines: u32) -> u32
         ensures value { result ≡ lines_in_notification self lines }
         ensures below { result ≤ lines }
@@ -71,7 +71,7 @@ pub enum Partner {
     Any,
     /// SYSTEM, which never sends.
     System,
-    /// This source alone.
+    /// Only this source.
     Only(Source),
 }
 
@@ -185,9 +185,9 @@ pub struct Process {
     pub ticks: u32,
     /// How many steps this process has made. (The one before it in the slot doesn't count.)
     pub steps: u64,
-    /// Which sources' notifications wait for this process. `Source::place` says which bit is whose.
+    /// Whose notifications are pending for this process. `Source::place` is the index of a source's bit.
     pub pending: [bool; 34],
-    /// Which interrupt lines were raised for it and not yet told: bit l is for line l.
+    /// Which interrupt lines were raised for it and not yet reported: bit l is for line l.
     pub lines: u32,
     /// The uptime, in ticks of the clock, at which its alarm rings; `None` if it has no alarm.
     pub alarm: Option<u64>,
@@ -197,7 +197,7 @@ pub struct Process {
 }
 
 impl State {
-    /// Whether the process stands in the ready list of its level.
+    /// Whether the process is in the ready list of its level.
     pub fn is_ready(self) -> bool
         ensures { result ≡ is_ready self }
     {

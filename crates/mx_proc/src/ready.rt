@@ -1,4 +1,4 @@
-//! The sixteen ready lists.
+//! The sixteen ready lists of the table, and which of them have a slot.
 
 ghost use Rattle.std.specs.Prelude.{◌≡◌, ◌<◌, ◌≤◌, [], ◌∷◌, ◌++◌, slice_set, replicate};
 ghost use Rattle.mx_proc.specs.Queues.{InNoList, without, list_at, first_ready, times};
@@ -6,7 +6,7 @@ ghost use Rattle.mx_proc.specs.Queues.{InNoList, without, list_at, first_ready, 
 use crate::links::Links;
 use std::marker::Model;
 
-/// The ready lists of slots, list 0 first, which is the highest; and a word whose bit l says that list l
+/// The ready lists of slots, list 0 first, which is the highest; and a word whose bit l is set if list l
 /// isn't empty. The time of a call doesn't depend on how many slots there are.
 #[derive(Drop)]
 pub struct Ready {
@@ -58,7 +58,7 @@ impl Ready {
         self.filled |= 1 << level;
     }
 
-    /// Takes a slot out of the ready list that it stands in.
+    /// Takes a slot out of its ready list.
     pub fn remove(&mut self, level: u8, slot: u8)
         requires level { level < 16 }
         requires there { 1 ≤ times slot (list_at self.old level) }

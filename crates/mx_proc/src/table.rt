@@ -1,4 +1,4 @@
-//! The table.
+//! The table of processes: what it consists of, and how it is read.
 
 ghost use Rattle.std.specs.Prelude.{◌≡◌, ℕ, ◌+◌, ◌*◌, ◌<◌, ◌≤◌, ◌^◌, true, IfSome, IfOk, IfErr, OnErr, OnOk, IsOk, MatchResult, length, slice_get};
 ghost use Rattle.mx_exec.specs.Image.{blank};
@@ -96,9 +96,9 @@ impl Table {
     }
 
     /// Makes a process with this image in the next slot, and answers the slot. The process is ready, with a
-    /// full quantum, at the end of the ready list of its level. `image` is blank after the call. If there
-    /// is no memory, nothing changes. The restarts among the terms play no part: the slot's service keeps
-    /// them.
+    /// full quantum, at the end of the ready list of its level. `image` is blank after the call. If there is
+    /// no memory, nothing changes. The restarts among the terms aren't used: they are a matter of the slot's
+    /// service.
     pub fn add(&mut self, alloc: Global, image: &mut Image, terms: Terms) -> Result<Slot, NoMemory>
         requires room { length self.old.slots < 32 }
         ensures slot { IfOk result (λ slot. slot ≡ length self.old.slots) }
@@ -157,7 +157,7 @@ impl Table {
         endpoint < FIRST_NEGATIVE && slot_of(endpoint) < self.slots.len() as u32
     }
 
-    /// The slot that an endpoint names, where it is used.
+    /// The slot of an endpoint, if the slot is used.
     pub fn slot_of(&self, endpoint: Endpoint) -> Slot
         requires { slot_of endpoint < length self.now.slots }
         ensures { result ≡ slot_of endpoint }
@@ -232,7 +232,7 @@ impl Table {
         self.rules
     }
 
-    /// A kept delivery: index 0 is the oldest. `None` if the index is too high.
+    /// A recorded delivery: index 0 is the oldest that is left. `None` if the index is too high.
     pub fn delivery(&self, index: usize) -> Option<Delivery>
         ensures { result ≡ slice_get self.now.deliveries index }
     {

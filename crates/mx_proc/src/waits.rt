@@ -1,4 +1,4 @@
-//! The blocked sends.
+//! The blocked sends: who sends to whom, in order of blocking, with a caller queue for each slot.
 
 ghost use Rattle.std.specs.Prelude.{◌≡◌, ◌<◌, ◌≤◌, [], ◌∷◌, ◌++◌, length};
 ghost use Rattle.mx_proc.specs.declared.process.Partner.TheVariants.{Any, Only};

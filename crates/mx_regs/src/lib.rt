@@ -1,4 +1,4 @@
-//! The eight registers, and their low halves and bytes.
+//! The eight registers of 32 bits, and their low halves and bytes.
 #![tactic(auto)]
 
 ghost use Rattle.std.specs.Prelude.{◌≡◌, ◌<◌, ◌^◌};
@@ -91,7 +91,7 @@ impl Regs {
     }
 }
 
-/// Where the register stands that has the byte: AL and AH, with the numbers 0 and 4, are in the first.
+/// The index of the register that has the byte: AL and AH, with the numbers 0 and 4, are in the first.
 #[inline(always)]
 fn byte_home(register: Register) -> usize
     ensures { result ≡ register_number (byte_home register) }

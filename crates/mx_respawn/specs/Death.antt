@@ -17,18 +17,18 @@ use Rattle.mx_ipc.specs.Calls.{goes_on}
 abbrev pub callers : ℕ → List (ℕ × ℕ) → List ℕ
 callers s pairs = map (λ (p : ℕ × ℕ). p.0) (filter (λ (p : ℕ × ℕ). p.1 == s) pairs)
 
--- whether a process receives from this slot alone
+-- whether a process receives only from this slot
 abbrev pub receives_from_alone : State → ℕ → Bool
 receives_from_alone (Receiving (Only (Slot f))) s = f == s
 receives_from_alone (Awaiting f) s = f == s
 receives_from_alone _ s = false
 
--- the slots other than s, counted from n, that receive from s alone
+-- the slots other than s, counted from n, that receive only from s
 abbrev pub receivers : ℕ → ℕ → List Process → List ℕ
 receivers s n [] = []
 receivers s n (p ∷ ps) = if not (n == s) && receives_from_alone p.state s then n ∷ receivers s (n + 1) ps else receivers s (n + 1) ps
 
--- a process leaves its ready list or its blocked send, if it stands in one
+-- a process leaves its ready list or its blocked send, if it is in one
 unfoldable pub table_after_taking_out : TableState → ℕ → TableState
 table_after_taking_out w s = let st = (process_at w s).state in if is_ready st then table_after_dequeue w s else if is_sending st then table_after_unblock w s else w
 
@@ -40,7 +40,8 @@ abbrev pub table_after_freeing_all : TableState → List ℕ → TableState
 table_after_freeing_all w [] = w
 table_after_freeing_all w (p ∷ ps) = table_after_freeing_all (table_after_freeing w p) ps
 
--- who waits for a slot: those that send to it, in order of blocking, then those that receive from it alone, in slot order
+-- who waits for a slot: those that send to it, in order of blocking, then those that receive only from it, in
+-- slot order
 abbrev pub waiting_for : TableState → ℕ → List ℕ
 waiting_for w s = callers s w.waits ++ receivers s 0 w.slots
 

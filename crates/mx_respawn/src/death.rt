@@ -1,4 +1,4 @@
-//! Death.
+//! How a process dies, and what its partners get.
 
 ghost use Rattle.std.specs.Prelude.{◌≡◌, ◌≢◌, ℕ, ◌++◌, ◌<◌, false, true, length};
 ghost use Rattle.mx_ipc.specs.Proc.Frame.{frame};
@@ -12,7 +12,7 @@ ghost use Rattle.mx_respawn.specs.Waking.{table_after_waking};
 
 use mx_ipc::{DeathCause, Errno, Partner, Slot, Source, State, Table, go_on};
 
-/// Whether a process in this state receives from a slot alone.
+/// Whether a process in this state receives only from this slot.
 fn names(state: State, slot: Slot) -> bool
     ensures value { result ≡ receives_from_alone state slot }
     ensures alone { result ≡ true → IsAlone state }
@@ -25,7 +25,7 @@ fn names(state: State, slot: Slot) -> bool
     }
 }
 
-/// Takes a process out of its queue, if it stands in one.
+/// Takes a process out of its queue, if it is in one.
 #[tactic(auto, unfolding(crate::specs::Death::table_after_taking_out))]
 fn take_out(table: &mut Table, slot: Slot)
     requires slot { slot < length table.old.slots }
@@ -64,7 +64,7 @@ fn free_callers(table: &mut Table, slot: Slot)
     }
 }
 
-/// A process goes on where it receives from a slot alone.
+/// A process goes on if it receives only from this slot.
 fn wake(table: &mut Table, slot: Slot, other: Slot)
     requires slot { other < length table.old.slots }
     ensures value { table.new ≡ table_after_waking table.old slot other }
@@ -82,7 +82,7 @@ fn wake(table: &mut Table, slot: Slot, other: Slot)
     }
 }
 
-/// Those that receive from a slot alone go on, in slot order.
+/// The processes that receive only from this slot go on, in slot order.
 fn wake_receivers(table: &mut Table, slot: Slot)
     ensures value { table.new
         ≡ table_after_freeing_all table.old (receivers slot 0 table.old.slots) }
@@ -98,7 +98,7 @@ fn wake_receivers(table: &mut Table, slot: Slot)
     }
 }
 
-/// The process of a slot dies: its partners go on with an error. It is at home, wherever it stands.
+/// The process of a slot dies: its partners go on with an error. It is at home, whatever queue it was in.
 pub fn die(table: &mut Table, slot: Slot, cause: DeathCause)
     requires slot { slot < length table.old.slots }
     requires home { is_out (process_at table.old slot).state ≡ false }

@@ -1,4 +1,4 @@
-//! Respawn.
+//! How a service gets a new process in its slot, in the memory of the dead one.
 
 ghost use Rattle.std.specs.Prelude.{◌≡◌, ◌<◌, true, false, length};
 ghost use Rattle.mx_load.specs.Load.{IsLoadedFrom};

@@ -1,4 +1,4 @@
-//! Services.
+//! Services: a program and its terms, from which each process of a slot is made.
 
 use mx_ipc::Terms;
 use mx_load::Program;

@@ -10,7 +10,8 @@ is_last_renewed w s = is_slot w.renewed
     is_slot None = false
     is_slot (Some t) = t == s
 
--- the level after a spent quantum: one lower where the same slot was renewed last, else one higher, held between its best level and 14
+-- the level after a spent quantum: one lower if this slot was also the last one renewed, else one higher,
+-- held between its best level and 14
 abbrev pub next_level : Process → Bool → ℕ
 next_level p again = if again then (if nat_lt p.level 14 then p.level + 1 else 14) else (if nat_lt p.best p.level then p.level - 1 else p.best)
 

@@ -1,4 +1,4 @@
-//! How a process is queued, and which one runs next.
+//! Scheduling: how a process is queued, and which one runs next.
 #![tactic(auto)]
 
 ghost use Rattle.std.specs.Prelude.{◌≡◌, ◌≢◌, ℕ, ◌<◌, true, false, length, IfSome};
@@ -18,8 +18,8 @@ pub use mx_proc::{
 /// The lowest level of a process. The list below it, 15, is the idle list, and stays empty.
 const LOWEST: u8 = 14;
 
-/// Queues a process that is at home and in no queue: to the front of its list where ticks are left,
-/// else with a new quantum and perhaps on another level to the end of its list.
+/// Queues a process that is at home and in no queue: to the front of its list if ticks are left, else with a
+/// new quantum and perhaps on another level to the end of its list.
 #[tactic(auto, unfolding(crate::specs::Queueing::table_after_queueing))]
 pub fn enqueue(table: &mut Table, slot: Slot)
     requires slot { slot < length table.old.slots }

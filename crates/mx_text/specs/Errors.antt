@@ -1,4 +1,4 @@
--- The numbers of what is told of a text (our own).
+-- The numbers of a text's faults (our own).
 use Rattle.std.specs.Prelude.{ℕ}
 use Rattle.mx_text.specs.declared.error.BootError.{BootError}
 use Rattle.mx_text.specs.declared.error.BootError.TheVariants.{BadLine, TwiceNamed, TooMany, BadRecord, NoMemory}

@@ -9,16 +9,16 @@ abbrev pub has_bytes : List ℕ → Bool
 has_bytes [] = false
 has_bytes (b ∷ bs) = true
 
--- what stands between spaces; one or more of them part two fields, also at a line's ends
+-- what is between spaces; one or more of them separate two fields, also at a line's ends
 abbrev pub fields : List ℕ → List (List ℕ)
 fields line = filter has_bytes (slice_split is_space line)
 
--- the field, where there is just one
+-- the field, if there is exactly one
 abbrev pub only : List (List ℕ) → Option (List ℕ)
 only (f ∷ []) = Some f
 only _ = None
 
--- both fields, where there are just two
+-- both fields, if there are exactly two
 abbrev pub pair : List (List ℕ) → Option (List ℕ × List ℕ)
 pair (f ∷ g ∷ []) = Some (f, g)
 pair _ = None

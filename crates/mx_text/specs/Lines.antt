@@ -6,7 +6,7 @@ abbrev pub begun_by : ℕ → List (List ℕ) → List (List ℕ)
 begun_by b [] = (b ∷ []) ∷ []
 begun_by b (l ∷ ls) = (b ∷ l) ∷ ls
 
--- a line feed ends a line; what follows the last one is a line only where it isn't empty
+-- a line feed ends a line; what follows the last one is a line only if it isn't empty
 abbrev pub lines : List ℕ → List (List ℕ)
 lines [] = []
 lines (b ∷ bs) = if b == 10 then [] ∷ lines bs else begun_by b (lines bs)

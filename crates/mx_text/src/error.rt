@@ -1,4 +1,4 @@
-//! What is told of a text.
+//! The error of a text: its kind, and the number of the line at fault.
 
 ghost use Rattle.std.specs.Prelude.{◌≡◌};
 ghost use Rattle.mx_text.specs.Errors.{boot_code_of};
@@ -13,7 +13,7 @@ pub enum BootError {
     /// No item of a configuration.
     #[error("70 BadLine line {0}")]
     BadLine(usize),
-    /// A name or an item that stands above already.
+    /// A name or an item that is above already.
     #[error("71 TwiceNamed line {0}")]
     TwiceNamed(usize),
     /// A 33rd service.
@@ -27,7 +27,7 @@ pub enum BootError {
 }
 
 impl BootError {
-    /// The number with which a text's first fault is told.
+    /// The number of a text's first fault in messages.
     pub fn code(self) -> u8
         ensures { result ≡ boot_code_of self }
     {

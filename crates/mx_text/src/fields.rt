@@ -1,9 +1,9 @@
-//! The fields of a line.
+//! The fields of a line of a text: what is between spaces.
 
 ghost use Rattle.std.specs.Prelude.{◌≡◌, ◌≢◌, ◌∷◌, [], ◌<◌, ◌≤◌, length, drop, take, slice_index, MatchOption, IfSome, None, Some};
 ghost use Rattle.mx_text.specs.Fields.{fields, only, pair};
 
-/// How many spaces stand at the front.
+/// How many spaces are at the front.
 fn spaces_at_front(line: &[u8]) -> usize
     ensures within { result ≤ length line.now }
     ensures fields { fields line.now ≡ fields (drop result line.now) }
@@ -31,7 +31,7 @@ fn length_of_field(line: &[u8]) -> usize
     end
 }
 
-/// The first field of a line, and what stands after it. None where there is none.
+/// The first field of a line, and what follows it. `None` if there is no field.
 pub fn next_field(line: &[u8]) -> Option<(&[u8], &[u8])>
     ensures field { MatchOption result (fields line.now ≡ []) (λ p. fields line.now ≡ p.0.now
         ∷ fields p.1.now) }
@@ -46,7 +46,7 @@ pub fn next_field(line: &[u8]) -> Option<(&[u8], &[u8])>
     Some((&rest[..end], &rest[end..]))
 }
 
-/// The field of a line that has just one field.
+/// The field of a line that has exactly one field.
 pub fn one_field(line: &[u8]) -> Option<&[u8]>
     ensures { MatchOption result (only (fields line.now) ≡ None) (λ f. only (fields line.now)
         ≡ Some f.now) }
@@ -58,7 +58,7 @@ pub fn one_field(line: &[u8]) -> Option<&[u8]>
     }
 }
 
-/// The fields of a line that has just two fields.
+/// The fields of a line that has exactly two fields.
 pub fn two_fields(line: &[u8]) -> Option<(&[u8], &[u8])>
     ensures { MatchOption result (pair (fields line.now) ≡ None) (λ p. pair (fields line.now)
         ≡ Some (p.0.now, p.1.now)) }

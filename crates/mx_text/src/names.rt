@@ -27,7 +27,7 @@ pub fn begins_name(byte: u8) -> bool
     is_letter(byte) || byte == b'_'
 }
 
-/// Whether a byte may stand in a name after its first.
+/// Whether a name may have a byte after its first one.
 pub fn is_word_byte(byte: u8) -> bool
     ensures { result ≡ is_word_byte byte }
 {

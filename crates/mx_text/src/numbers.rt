@@ -1,4 +1,4 @@
-//! Numbers, decimal and hexadecimal.
+//! Numbers as they are read in texts, decimal and hexadecimal.
 
 ghost use Rattle.std.specs.Prelude.{◌≡◌, ℕ, ◌<◌, ◌≤◌, [], MatchOption};
 ghost use Rattle.mx_text.specs.Bytes.{is_digit, digit_value};
@@ -23,7 +23,7 @@ fn digit_value(byte: u8) -> u8
     }
 }
 
-/// The number that digits spell, 0 where there are none.
+/// The number that digits spell, 0 if there are none.
 fn value_of(digits: &[u8], base: u8) -> Option<u32>
     requires low { 10 ≤ base }
     requires high { base ≤ 16 }
@@ -45,8 +45,8 @@ fn value_of(digits: &[u8], base: u8) -> Option<u32>
     Some(value)
 }
 
-/// The number that one or more digits spell in a base, 10 to 16: letters are digits in either
-/// case. None too where it is over 4,294,967,295.
+/// The number that one or more digits spell in a base, 10 to 16: letters are digits in either case. `None`
+/// too if it is over 4,294,967,295.
 pub fn number_in_base(digits: &[u8], base: u8) -> Option<u32>
     requires low { 10 ≤ base }
     requires high { base ≤ 16 }

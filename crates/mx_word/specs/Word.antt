@@ -15,7 +15,7 @@ bytes_in Byte = 1
 bytes_in Word = 2
 bytes_in Dword = 4
 
--- ---- bytes: numbers of several bytes stand lowest byte first (manual, 2.2)
+-- ---- bytes: the lowest byte of a number comes first (manual, 2.2)
 
 -- the value of bytes b0, b1, .. is b0 + 256 * (b1 + 256 * ..), the sum of b_i * 256 ^ i
 abbrev pub value : List ℕ → ℕ

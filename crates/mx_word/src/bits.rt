@@ -1,4 +1,4 @@
-//! Single bits of numbers.
+//! Single bits of numbers, as the processor counts them: bit 0 is the lowest.
 
 ghost use Rattle.std.specs.Prelude.{◌≡◌, ◌<◌};
 ghost use Rattle.mx_word.specs.Bits.{has_bit};

@@ -1,4 +1,4 @@
-//! Bytes, and words as little-endian bytes.
+//! Bytes, and words and dwords as little-endian bytes: the lowest byte has the lowest address.
 
 ghost use Rattle.std.specs.Prelude.{◌≡◌, ◌≤◌, ◌++◌, length, drop};
 ghost use Rattle.mx_word.specs.Word.{value_at, bytes_of};

@@ -116,7 +116,7 @@ pub enum Shift {
     Sar,
 }
 
-/// What is done to the bit that is put into the carry: nothing, set, cleared, turned over.
+/// What is done to the bit that is put into the carry: nothing, set, cleared, inverted.
 #[derive(Clone, Copy, PartialEq, Eq)]
 pub enum BitTest {
     Bt,

@@ -1,4 +1,4 @@
-//! Sizes, and words as whole and as signed numbers.
+//! The sizes of operands, and words as unsigned and as signed numbers: ranges, sums, differences and signs.
 
 ghost use Rattle.std.specs.Prelude.{◌≡◌, ◌+◌, ◌-◌, ◌^◌, ◌<◌, ◌≤◌, ◌%◌, ◌/◌, pos, ◌+ℤ◌, ◌-ℤ◌, ◌≤ℤ◌, nat_le, unsigned_abs};
 ghost use Rattle.std.specs.Int.{from_bool};
@@ -69,7 +69,7 @@ impl Size {
         }
     }
 
-    /// What stands above the low byte, word or dword of a number.
+    /// The bits above the low byte, word or dword of a number, as a number.
     pub fn high(self, whole: u64) -> u64
         ensures { result ≡ whole / 2 ^ width self }
     {
@@ -165,7 +165,7 @@ pub fn has_even_ones(word: u32) -> bool
     (word % 256).count_ones() % 2 == 0
 }
 
-/// Whether just one of two truth values is true.
+/// Whether exactly one of two truth values is true.
 pub fn differ(left: bool, right: bool) -> bool
     ensures { result ≡ differ left right }
 {

@@ -1,4 +1,4 @@
-//! Images that leave the table for a processor, and come home.
+//! Images that leave the table for a processor, and come home; and the steps that were made meanwhile.
 
 ghost use Rattle.std.specs.Prelude.{◌≡◌, false, true, ◌+◌, ◌<◌, ◌≤◌, ◌^◌, IfSome, length};
 ghost use Rattle.mx_exec.specs.Image.{blank};
@@ -67,7 +67,7 @@ impl Table {
         let process = &mut self.slots[slot as usize];
         process.state = State::Doomed;
     }
-    /// Takes the image of a dead process out of the table: so the caller can fill it anew for `revive`.
+    /// Takes the image of a dead process out of the table, so that the caller can fill it again for `revive`.
     /// Takes no memory.
     pub fn take_image(&mut self, slot: Slot) -> Image
         requires slot { slot < length self.old.slots }

@@ -1,4 +1,4 @@
-//! Results, messages and notifications.
+//! Results, messages and notifications, as they get into the registers and memories of processes.
 
 ghost use Rattle.std.specs.Prelude.{◌≡◌, ◌≢◌, ℕ, ◌+◌, ◌<◌, ◌≤◌, ◌^◌, true, length};
 ghost use Rattle.std.specs.Option.{ForSome};
@@ -43,7 +43,7 @@ impl Table {
         process.image.memory.put(at, message);
     }
 
-    /// Keeps a delivery. If 1,024 are kept already, the oldest of them goes.
+    /// Records a delivery. If there are 1,024 already, the oldest of them goes.
     fn log(&mut self, from: u32, to: u32, message_type: u32, kind: DeliveryKind)
         ensures value { self.new ≡ with_delivery_kept self.old from to message_type kind }
         ensures frame { frame self.new ≡ frame self.old }
@@ -70,7 +70,7 @@ impl Table {
     }
 
     /// Copies the message from the sender's buffer to the receiver's, with the sender's endpoint as its
-    /// source, and keeps the delivery.
+    /// source, and records the delivery.
     #[tactic(auto, unfolding(crate::specs::TableState::table_after_delivery))]
     pub fn deliver(&mut self, from: Slot, to: Slot)
         requires from { from < length self.old.slots }
@@ -104,7 +104,7 @@ impl Table {
     }
 
     /// Clears a process's pending bit of this source, and those of its raised lines that the notification
-    /// tells. Answers these lines.
+    /// reports. Answers these lines.
     fn clear_pending(&mut self, slot: Slot, source: Source) -> u32
         requires slot { slot < length self.old.slots }
         requires source { IsUsedSource self.old source }
@@ -121,7 +121,7 @@ impl Table {
     }
 
     /// Writes a notification by this source into a process's buffer, clears the source's pending bit there,
-    /// and keeps the delivery.
+    /// and records the delivery.
     #[tactic(auto, unfolding(crate::specs::TableState::table_after_notice))]
     pub fn notice(&mut self, slot: Slot, source: Source)
         requires slot { slot < length self.old.slots }

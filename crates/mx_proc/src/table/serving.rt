@@ -1,4 +1,4 @@
-//! The changes that deaths, kernel calls, interrupt lines and the clock make.
+//! The changes of the table that deaths, kernel calls, interrupt lines and the clock make.
 
 ghost use Rattle.std.specs.Prelude.{◌≡◌, ◌≢◌, ℕ, false, ◌+◌, ◌<◌, ◌≤◌, ◌^◌, ◌==◌, Some, None, IfSome, length, map, slice_set, slice_index_or, bit_or};
 ghost use Rattle.mx_mem.specs.Segment.{with_bytes_at, part};
@@ -20,8 +20,8 @@ impl Table {
         &self.devices
     }
 
-    /// Makes all forget a slot: no process has a pending bit of it or a window for it any more, and it owns
-    /// no interrupt line.
+    /// Removes a slot from all processes and lines: no process has a pending bit of it or a window for it any
+    /// more, and it owns no interrupt line.
     pub fn forget(&mut self, slot: Slot)
         requires { slot < length self.old.slots }
         ensures value { self.new ≡ table_after_forgetting self.old slot }
@@ -119,7 +119,7 @@ impl Table {
         self.devices.registers[register as usize] = value;
     }
 
-    /// Writes a byte to the console. If 4,096 bytes are kept already, the oldest of them goes.
+    /// Writes a byte to the console. If it has 4,096 bytes already, the oldest of them goes.
     pub fn write_console(&mut self, byte: u8)
         requires { self.old.devices.console.count + 1 < 2 ^ 32 }
         ensures value { self.new ≡ with_console_byte self.old byte }
@@ -128,7 +128,7 @@ impl Table {
         self.devices.console.push(byte);
     }
 
-    /// Copies `count` bytes from one address to another, of the same process or not. The ranges may overlap:
+    /// Copies `count` bytes from one address to another, of one process or of two. The ranges may overlap:
     /// what arrives is always the bytes as they were before the call.
     pub fn copy(&mut self, source: ProcessAddress, target: ProcessAddress, count: u32)
         requires from { source.slot < length self.old.slots }
@@ -155,7 +155,7 @@ fn clear_bits(processes: &mut [Process], slot: Slot)
     }
 }
 
-/// The same owner, or nobody if the owner is this slot.
+/// This owner, or nobody if the owner is this slot.
 fn owner_but(owner: Option<Slot>, slot: Slot) -> Option<Slot>
     ensures { result ≡ owner_but slot owner }
 {
