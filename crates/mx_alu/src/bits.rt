@@ -3,7 +3,7 @@
 ghost use Rattle.std.specs.Prelude.{◌≡◌, ◌+◌, ◌-◌, ◌*◌, ◌^◌, ◌<◌};
 ghost use Rattle.mx_alu.specs.Bits.{bit_changed, bit_test_value, bit_test_flags, found_one, bit_scan_flags, double_shift_of, last_bit_out, double_shift_value, double_shift_flags};
 
-use crate::numbers::lifted;
+use crate::numbers::lift;
 use mx_flags::Flags;
 use mx_word::{BitScan, BitTest, DoubleShift, Size, has_bit};
 
@@ -61,7 +61,7 @@ pub fn bit_scan(operation: BitScan, x: u32, flags: &Flags) -> (Option<u32>, Flag
 fn above(high: u32, low: u32) -> u64
     ensures { result ≡ high * 2 ^ 32 + low }
 {
-    lifted(high, 32) + u64::from(low)
+    lift(high, 32) + u64::from(low)
 }
 
 /// A dword moved by some places, and filled from another.
@@ -101,7 +101,7 @@ pub fn double_shift(
 {
     let places = count % 32;
     if places == 0 {
-        return (x, flags.copied());
+        return (x, flags.copy());
     }
     let moved = move_filled(operation, x, filler, places);
     let shown = flags.after_result(Size::Dword, moved);

@@ -64,7 +64,7 @@ pub fn unary(operation: Unary, size: Size, x: u32, flags: &Flags) -> (u32, Flags
     match operation {
         Unary::Inc => (add_w(size, x, 1, false), flags.after_increment(size, x)),
         Unary::Dec => (sub_w(size, x, 1, false), flags.after_decrement(size, x)),
-        Unary::Not => ((size.modulus() - 1) as u32 - x, flags.copied()),
+        Unary::Not => ((size.modulus() - 1) as u32 - x, flags.copy()),
         Unary::Neg => (sub_w(size, 0, x, false), flags.after_sub(size, 0, x, false)),
     }
 }

@@ -26,7 +26,7 @@ pub(crate) fn number(kind: Signedness, size: Size, x: u32) -> i64
 }
 
 /// A word moved up, whole.
-pub(crate) fn lifted(x: u32, places: u32) -> u64
+pub(crate) fn lift(x: u32, places: u32) -> u64
     requires { places ≤ 32 }
     ensures { result ≡ x * 2 ^ places }
 {
@@ -64,7 +64,7 @@ pub(crate) fn upper(size: Size, whole: i64) -> u32
 }
 
 /// Two words as one signed number.
-pub(crate) fn joined(size: Size, high: u32, low: u32) -> i64
+pub(crate) fn join(size: Size, high: u32, low: u32) -> i64
     requires upper { high < 2 ^ width size }
     requires lower { low < 2 ^ width size }
     ensures { result ≡ signed (width size) high *ℤ pos (2 ^ width size) +ℤ pos low }

@@ -4,7 +4,7 @@ ghost use Rattle.std.specs.Prelude.{◌≡◌, ◌^◌, ◌<◌};
 ghost use Rattle.mx_word.specs.Word.{width, modulo};
 ghost use Rattle.mx_alu.specs.Products.{product_of, halves_of, multiply_flags, division_of, leaves};
 
-use crate::numbers::{Signedness, joined, lifted, quotient, times, upper};
+use crate::numbers::{Signedness, join, lift, quotient, times, upper};
 use mx_flags::Flags;
 use mx_word::{Size, signed};
 
@@ -123,7 +123,7 @@ fn unsigned_quotient(size: Size, high: u32, low: u32, divisor: u32) -> Result<Di
     if divisor == 0 {
         return Err(DivideFault);
     }
-    let whole = lifted(high, size.bits()) + u64::from(low);
+    let whole = lift(high, size.bits()) + u64::from(low);
     let quotient = whole / u64::from(divisor);
     if size.high(quotient) != 0 {
         return Err(DivideFault);
@@ -143,7 +143,7 @@ fn signed_quotient(size: Size, high: u32, low: u32, divisor: u32) -> Result<Divi
     if divisor == 0 {
         return Err(DivideFault);
     }
-    let whole = joined(size, high, low);
+    let whole = join(size, high, low);
     let Some((quotient, remainder)) = quotient(whole, signed(size, divisor)) else {
         return Err(DivideFault);
     };

@@ -4,7 +4,7 @@ ghost use Rattle.std.specs.Prelude.{◌≡◌, ◌^◌, ◌<◌, ◌≤◌};
 ghost use Rattle.mx_word.specs.Word.{width};
 ghost use Rattle.mx_alu.specs.Shifts.{shift_of, last_out, turns_over, shift_value, shift_flags, rotation_of, shown_flags, is_second};
 
-use crate::numbers::lifted;
+use crate::numbers::lift;
 use mx_flags::Flags;
 use mx_word::{Shift, Size, differ, signed};
 
@@ -17,7 +17,7 @@ pub fn shift(operation: Shift, size: Size, x: u32, count: u32, flags: &Flags) ->
 {
     let places = count % 32;
     if places == 0 {
-        return (x, flags.copied());
+        return (x, flags.copy());
     }
     let (moved, out) = move_by(operation, size, x, places);
     let overflow = if places == 1 {
@@ -40,15 +40,15 @@ fn move_by(operation: Shift, size: Size, x: u32, places: u32) -> (u32, bool)
 {
     match operation {
         Shift::Rol => {
-            let rotated = rotated(size, x, places % size.bits());
+            let rotated = rotate(size, x, places % size.bits());
             (rotated, rotated % 2 == 1)
         }
         Shift::Ror => {
-            let rotated = rotated(size, x, size.bits() - places % size.bits());
+            let rotated = rotate(size, x, size.bits() - places % size.bits());
             (rotated, size.is_negative(rotated))
         }
         Shift::Shl => {
-            let lifted = lifted(x, places);
+            let lifted = lift(x, places);
             (size.low(lifted), size.high(lifted) % 2 == 1)
         }
         Shift::Shr => (x >> places, (x >> (places - 1)) % 2 == 1),
@@ -64,13 +64,13 @@ fn move_by(operation: Shift, size: Size, x: u32, places: u32) -> (u32, bool)
 
 /// A word rotated to the left.
 #[tactic(auto, using(crate::proofs::Rotated::rotated_below, crate::proofs::Rotated::width_le))]
-fn rotated(size: Size, x: u32, places: u32) -> u32
+fn rotate(size: Size, x: u32, places: u32) -> u32
     requires word { x < 2 ^ width size }
     requires few { places ≤ width size }
     ensures value { result ≡ rotation_of (width size) x places }
     ensures below { result < 2 ^ width size }
 {
-    let lifted = lifted(x, places);
+    let lifted = lift(x, places);
     size.low(lifted) + size.high(lifted) as u32
 }
 
@@ -105,7 +105,7 @@ fn shown_flags(operation: Shift, size: Size, moved: u32, flags: &Flags) -> Flags
     ensures { result ≡ shown_flags operation (width size) moved flags.now }
 {
     match operation {
-        Shift::Rol | Shift::Ror => flags.copied(),
+        Shift::Rol | Shift::Ror => flags.copy(),
         Shift::Shl | Shift::Shr | Shift::Sar => flags.after_result(size, moved),
     }
 }

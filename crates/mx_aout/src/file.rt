@@ -60,7 +60,7 @@ impl Header {
     }
 
     /// What the data segment begins with, and bss.
-    fn used(&self) -> u64
+    fn used_bytes(&self) -> u64
         ensures { result ≡ used_of self.now.sep self.now.text self.now.init self.now.bss }
     {
         let kept = u64::from(self.init) + u64::from(self.bss);
@@ -77,7 +77,7 @@ impl Header {
         self.text > 1_048_576
             || self.symbols > 262_144
             || self.rounded_total() > 4_194_304
-            || u128::from(self.used()) > self.rounded_total()
+            || u128::from(self.used_bytes()) > self.rounded_total()
     }
 }
 

@@ -121,7 +121,8 @@ impl Symbols {
     }
 }
 
-/// A program. Its sizes, in bytes, are within the limits that `read` tests.
+/// A program. Its sizes, in bytes, are within the limits that `read` tests: so neither `write` nor a loader
+/// has a condition for them.
 #[derive(Drop)]
 pub struct Program {
     /// Whether the text has a segment of its own (A_SEP).

@@ -23,7 +23,7 @@ use mx_text::next_line;
 use std::alloc::Global;
 
 /// The error of a line whose bytes are no tokens.
-fn told_of(error: LexError, line: usize) -> AsmError
+fn lexical_error(error: LexError, line: usize) -> AsmError
     ensures { TellsLexical error line result }
 {
     let problem = match error {
@@ -44,7 +44,7 @@ struct Read {
 }
 
 /// The error of a line that is refused.
-fn refused(reason: Reason, line: usize) -> AsmError
+fn refusal_error(reason: Reason, line: usize) -> AsmError
     ensures { result ≡ At (record { problem = problem_of reason; line = line }) }
 {
     AsmError::At(Fault {
@@ -80,7 +80,7 @@ impl Read {
             (TellsRefusal (seen_of (above_of self.old.layout)) number line) }
     {
         match self.layout.reason_of(&line) {
-            Some(reason) => return Err(refused(reason, number)),
+            Some(reason) => return Err(refusal_error(reason, number)),
             None => {}
         }
         self.layout.go_after(&line)?;
@@ -108,7 +108,7 @@ impl Read {
     {
         match read_line(alloc, text) {
             Ok(line) => self.accept(line, number),
-            Err(error) => Err(told_of(error, number)),
+            Err(error) => Err(lexical_error(error, number)),
         }
     }
 }
@@ -128,6 +128,7 @@ fn read_lines(alloc: Global, text: &[u8]) -> Result<Read, AsmError>
     };
     let mut rest = text;
     let mut number = 1;
+    // Line by line: so a refused line is reported before a bad byte further down.
     while let Some((line, more)) = next_line(rest) {
         read.take(alloc, line, number)?;
         number = read.count() + 1;
@@ -142,6 +143,7 @@ pub fn assemble(alloc: Global, text: &str) -> Result<Program, AsmError>
     ensures program { IfOk result (IsAssembled text.now) }
     ensures fault { IfErr result (TellsTextFault text.now) }
 {
+    // The first pass has all lines and all labels; `program_of` is the second pass.
     let read = read_lines(alloc, text.as_bytes())?;
     program_of(alloc, &read.layout, read.lines.as_slice(), read.count())
 }

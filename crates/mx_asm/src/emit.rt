@@ -60,7 +60,7 @@ fn push_values(
     Ok(())
 }
 
-fn named(layout: &Layout, instruction: &Instruction) -> Insn
+fn with_values(layout: &Layout, instruction: &Instruction) -> Insn
     requires immediate { is_undefined_if (above_of layout.now) instruction.now.immediate ≡ false }
     requires displacement { is_undefined_if (above_of layout.now) instruction.now.displacement
         ≡ false }
@@ -91,7 +91,7 @@ fn instruction_bytes(layout: &Layout, instruction: &Instruction) -> ArrayVec<u8,
         ≡ false }
     ensures { BytesOf (above_of layout.now) 0 (Statement.Instruction instruction.now) result.items }
 {
-    match encode(&named(layout, instruction), instruction.marks()) {
+    match encode(&with_values(layout, instruction), instruction.marks()) {
         Ok(bytes) => bytes,
         Err(_) => unreachable!(),
     }

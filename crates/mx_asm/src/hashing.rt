@@ -3,7 +3,7 @@
 use sha2::{Digest, Sha256};
 use std::hash::{BuildHasher, DefaultHasher, Hasher};
 
-/// Makes hashers whose key is the digest of a whole text. So nobody can choose labels that collide in the
+/// Makes hashers that begin with the digest of a whole text. So nobody can choose labels that collide in the
 /// table: other labels make another text, and its hashes differ.
 #[derive(Clone, Copy)]
 pub struct HashedByText {

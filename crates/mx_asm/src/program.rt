@@ -106,6 +106,7 @@ pub fn program_of(
 {
     immediate_keeps_length();
     displacement_keeps_length();
+    // Faults first: no bytes are made of a text that has one.
     match layout.fault_after(lines, count) {
         Some(fault) => return Err(AsmError::At(fault)),
         None => {}

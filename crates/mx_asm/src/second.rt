@@ -86,6 +86,7 @@ impl Layout {
     {
         let mut sizes = SectionSizes::START;
         for kept in lines {
+            // The layout again: the lines before this one give its address.
             let at = self.address_of(sizes.spot());
             match self.problem_at(at, &kept.line) {
                 Some(problem) => {

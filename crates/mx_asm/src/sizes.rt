@@ -31,6 +31,7 @@ fn instruction_length(instruction: &Instruction) -> u128
     ensures length { result ≡ chosen_length instruction.now.insn (marks instruction.now) }
     ensures small { result ≤ 15 }
 {
+    // A number with a name is 0 here, and marked wide: so the length holds for every address.
     match encode(&instruction.insn, instruction.marks()) {
         Ok(bytes) => bytes.len() as u128,
         Err(_) => unreachable!(),
@@ -88,7 +89,7 @@ impl SectionSizes {
         }
     }
 
-    fn grown(&self, count: u128) -> SectionSizes
+    fn grow(&self, count: u128) -> SectionSizes
         requires sizes { SizesWithin self.now (2 ^ 126) }
         requires count { count ≤ 2 ^ 64 }
         ensures sizes { result ≡ sizes_grown self.now count }
@@ -124,7 +125,7 @@ impl SectionSizes {
                 section: *section,
                 ..*self
             },
-            _ => self.grown(count),
+            _ => self.grow(count),
         }
     }
 }

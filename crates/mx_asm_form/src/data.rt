@@ -4,7 +4,7 @@ ghost use Rattle.std.specs.Prelude.{◌≡◌, IfOk};
 ghost use Rattle.mx_asm_form.specs.Data.{data_value_in, data_of};
 
 use crate::number::number_in;
-use mx_asm_statement::{DataValues, Item, Statement, Value, parted, value_of};
+use mx_asm_statement::{DataValues, Item, Statement, Value, split_at_comma, value_of};
 use mx_insn::Size;
 use std::alloc::{AllocError, Global};
 
@@ -23,7 +23,7 @@ pub fn data_of(alloc: Global, size: Size, items: &[Item]) -> Result<Option<State
 {
     let mut found = Vec::new(alloc);
     let mut rest = items;
-    while let Some((front, more)) = parted(rest) {
+    while let Some((front, more)) = split_at_comma(rest) {
         match value_in(size, front) {
             Some(value) => found.push(value)?,
             None => return Ok(None),

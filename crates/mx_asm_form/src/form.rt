@@ -25,18 +25,22 @@ fn arithmetic(operation: Arithmetic, arguments: &[Argument]) -> Option<Statement
     says(insn, pair.immediate, pair.displacement)
 }
 
-fn moved(arguments: &[Argument]) -> Option<Statement>
+fn mov(arguments: &[Argument]) -> Option<Statement>
     ensures { result ≡ move_statement arguments.now }
 {
     let pair = operands_of(arguments)?;
     says(Insn::Move(pair.operands), pair.immediate, pair.displacement)
 }
 
-fn stated_single(length: JumpLength, single: Single, arguments: &[Argument]) -> Option<Statement>
+fn statement_for_single(
+    length: JumpLength,
+    single: Single,
+    arguments: &[Argument],
+) -> Option<Statement>
     ensures { result ≡ statement_for_single length single arguments.now }
 {
     match single {
-        Single::Mov => moved(arguments),
+        Single::Mov => mov(arguments),
         Single::Test => test(arguments),
         Single::Xchg => exchange(arguments),
         Single::Lea => load_address(arguments),
@@ -58,7 +62,11 @@ fn stated_single(length: JumpLength, single: Single, arguments: &[Argument]) -> 
 }
 
 /// The statement that a mnemonic and its arguments are. The length is that of JMP or Jcc.
-pub fn stated(length: JumpLength, mnemonic: Mnemonic, arguments: &[Argument]) -> Option<Statement>
+pub fn statement_for(
+    length: JumpLength,
+    mnemonic: Mnemonic,
+    arguments: &[Argument],
+) -> Option<Statement>
     ensures { result ≡ statement_for length mnemonic arguments.now }
 {
     match mnemonic {
@@ -71,7 +79,7 @@ pub fn stated(length: JumpLength, mnemonic: Mnemonic, arguments: &[Argument]) ->
         Mnemonic::BitScan(operation) => bit_scan(operation, arguments),
         Mnemonic::Loop(operation) => looping(operation, arguments),
         Mnemonic::Plain(plain) => alone(Insn::Plain(plain), arguments),
-        Mnemonic::Single(single) => stated_single(length, single, arguments),
+        Mnemonic::Single(single) => statement_for_single(length, single, arguments),
         Mnemonic::JumpIf(condition) => jump_if(length, condition, arguments),
         Mnemonic::SetCondition(condition) => set_condition(condition, arguments),
         Mnemonic::Transfer(operation, size) => alone(
@@ -94,7 +102,7 @@ pub fn stated(length: JumpLength, mnemonic: Mnemonic, arguments: &[Argument]) ->
 }
 
 /// The statement of a string instruction after `rep`, `repe` or `repne`, which has no arguments.
-pub fn repeated(prefix: Prefix, mnemonic: Mnemonic) -> Option<Statement>
+pub fn statement_after_prefix(prefix: Prefix, mnemonic: Mnemonic) -> Option<Statement>
     ensures { result ≡ statement_after_prefix prefix mnemonic }
 {
     match (prefix, mnemonic) {

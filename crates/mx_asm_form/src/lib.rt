@@ -14,7 +14,7 @@ mod stack;
 mod transfers;
 
 pub use data::data_of;
-pub use form::{repeated, stated};
+pub use form::{statement_after_prefix, statement_for};
 pub use laws::{code_is_stated, numbers_fit};
 pub use moves::{exchange, load_address, sign_extend, zero_extend};
 pub use mx_asm_statement::{

@@ -56,7 +56,7 @@ fn name_in(label: Option<Item>) -> Option<Name>
     }
 }
 
-/// A statement, if the label, when there is one, is a name.
+/// The statement, unless there is a label that is no name.
 fn where_named(label: Option<Item>, statement: Option<Statement>) -> Option<Statement>
     ensures { result ≡ where_named label statement }
 {

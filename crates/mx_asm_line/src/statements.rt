@@ -5,7 +5,7 @@ ghost use Rattle.mx_lex.specs.Tokens.{IsSlice};
 ghost use Rattle.mx_asm_line.specs.Statements.{is_short_word, takes_short, statement_by, after_mnemonic, after_prefix, standing_alone, text_given, space_of, stack_of, entry_of, after_directive, text_alone, statement_of};
 
 use crate::opening::LineStart;
-use mx_asm_form::{data_of, repeated, stated};
+use mx_asm_form::{data_of, statement_after_prefix, statement_for};
 use mx_asm_statement::{Item, JumpLength, Section, Statement, arguments_of};
 use mx_insn_words::{Directive, Mnemonic, Prefix, Single, WordStart};
 use mx_lex::{Token, TokenKind, text_bytes};
@@ -42,7 +42,7 @@ fn stated_by(
 {
     match arguments_of(alloc, items)? {
         None => Ok(None),
-        Some(arguments) => Ok(stated(length, mnemonic, arguments.as_slice())),
+        Some(arguments) => Ok(statement_for(length, mnemonic, arguments.as_slice())),
     }
 }
 
@@ -68,7 +68,7 @@ fn after_prefix(prefix: Prefix, second: Option<Mnemonic>, items: &[Item]) -> Opt
     ensures { result ≡ after_prefix prefix second items.now }
 {
     match (second, items) {
-        (Some(mnemonic), [_]) => repeated(prefix, mnemonic),
+        (Some(mnemonic), [_]) => statement_after_prefix(prefix, mnemonic),
         _ => None,
     }
 }

@@ -40,7 +40,7 @@ fn before_close(items: &[Item]) -> Option<&[Item]>
     }
 }
 
-fn bracketed(size: Option<Size>, items: &[Item]) -> Option<Argument>
+fn in_brackets(size: Option<Size>, items: &[Item]) -> Option<Argument>
     ensures { result ≡ argument_in_brackets size items.now }
 {
     let inside = before_close(items)?;
@@ -60,9 +60,9 @@ pub fn argument_of(items: &[Item]) -> Option<Argument>
                 None
             }
         }
-        Some((Item::Mark(Mark::Open), rest)) => bracketed(None, rest),
+        Some((Item::Mark(Mark::Open), rest)) => in_brackets(None, rest),
         Some((Item::Size(size), rest)) => match rest.split_first() {
-            Some((Item::Mark(Mark::Open), rest)) => bracketed(Some(*size), rest),
+            Some((Item::Mark(Mark::Open), rest)) => in_brackets(Some(*size), rest),
             _ => None,
         },
         _ => {

@@ -18,7 +18,7 @@ pub use branch::{Branch, JumpLength};
 pub use instruction::Instruction;
 pub use item::{Item, is_long};
 pub use line::{Line, Reason, Saying, StatementStart, refusal};
-pub use list::{arguments_of, parted};
+pub use list::{arguments_of, split_at_comma};
 pub use memory::{Address, address_of};
 pub use mx_insn::{Index, Register, Scale, Size};
 pub use mx_lex::Mark;

@@ -19,7 +19,7 @@ fn is_comma(item: Item) -> bool
 }
 
 /// What is before the first comma, and what after it.
-pub fn parted(items: &[Item]) -> Option<(&[Item], &[Item])>
+pub fn split_at_comma(items: &[Item]) -> Option<(&[Item], &[Item])>
     ensures parts { MatchOption result (slice_split is_comma items.now ≡ items.now ∷ []) (λ p.
         slice_split is_comma items.now ≡ p.0.now ∷ slice_split is_comma p.1.now) }
     ensures shorter { IfSome result (λ p. length p.1.now < length items.now) }
@@ -44,7 +44,7 @@ pub fn arguments_of(alloc: Global, items: &[Item]) -> Result<Option<Vec<Argument
         return Ok(Some(found));
     }
     let mut rest = items;
-    while let Some((front, more)) = parted(rest) {
+    while let Some((front, more)) = split_at_comma(rest) {
         match argument_of(front) {
             Some(argument) => found.push(argument)?,
             None => return Ok(None),

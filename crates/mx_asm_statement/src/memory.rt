@@ -33,7 +33,7 @@ fn scale_of(number: u32) -> Option<Scale>
 }
 
 /// The value after a register.
-fn displaced(items: &[Item]) -> Option<Value>
+fn displacement_after(items: &[Item]) -> Option<Value>
     ensures { result ≡ displacement_after items.now }
 {
     match items.split_first() {
@@ -51,7 +51,7 @@ fn displaced(items: &[Item]) -> Option<Value>
     }
 }
 
-fn indexed(
+fn with_index(
     base: Option<Register>,
     register: Register,
     scale: Option<Scale>,
@@ -63,7 +63,7 @@ fn indexed(
         return None;
     }
     let scale = scale?;
-    let value = displaced(rest)?;
+    let value = displacement_after(rest)?;
     Some(Address {
         base,
         index: Some(Index { register, scale }),
@@ -71,10 +71,10 @@ fn indexed(
     })
 }
 
-fn based(base: Register, items: &[Item]) -> Option<Address>
+fn with_base(base: Register, items: &[Item]) -> Option<Address>
     ensures { result ≡ address_with_base base items.now }
 {
-    let value = displaced(items)?;
+    let value = displacement_after(items)?;
     Some(Address {
         base: Some(base),
         index: None,
@@ -90,11 +90,11 @@ fn after_two(base: Register, register: Register, items: &[Item]) -> Option<Addre
     match items.split_first() {
         Some((Item::Mark(Mark::Star), rest)) => match rest.split_first() {
             Some((Item::Number(number), rest)) => {
-                indexed(Some(base), register, scale_of(*number), rest)
+                with_index(Some(base), register, scale_of(*number), rest)
             }
-            _ => indexed(Some(base), register, Some(Scale::One), items),
+            _ => with_index(Some(base), register, Some(Scale::One), items),
         },
-        _ => indexed(Some(base), register, Some(Scale::One), items),
+        _ => with_index(Some(base), register, Some(Scale::One), items),
     }
 }
 
@@ -104,14 +104,19 @@ fn after_register(register: Register, items: &[Item]) -> Option<Address>
 {
     match items.split_first() {
         Some((Item::Mark(Mark::Star), rest)) => match rest.split_first() {
-            Some((Item::Number(number), rest)) => indexed(None, register, scale_of(*number), rest),
-            _ => based(register, items),
+            Some((Item::Number(number), rest)) => with_index(
+                None,
+                register,
+                scale_of(*number),
+                rest,
+            ),
+            _ => with_base(register, items),
         },
         Some((Item::Mark(Mark::Plus), rest)) => match rest.split_first() {
             Some((Item::Register(Size::Dword, index), rest)) => after_two(register, *index, rest),
-            _ => based(register, items),
+            _ => with_base(register, items),
         },
-        _ => based(register, items),
+        _ => with_base(register, items),
     }
 }
 

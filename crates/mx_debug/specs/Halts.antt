@@ -32,7 +32,7 @@ is_reached points slot n o = nat_lt 0 n && has_breakpoint points slot o.image.ei
 abbrev pub is_end : List Breakpoint → ℕ → Out → ℕ → Bool
 is_end points slot o n = is_over (held_after n o) || is_reached points slot n (held_after n o)
 
--- the least number from n on that passes the test, or the last of k further ones
+-- of so many numbers from n on the first that passes the test, else the number after them
 abbrev pub least_from : (ℕ → Bool) → ℕ → ℕ → ℕ
 least_from test n zero = n
 least_from test n (suc more) = if test n then n else least_from test (n + 1) more

@@ -77,6 +77,7 @@ impl Debugger {
     {
         held_runs_join();
         let marks = self.marks(slot);
+        // The first step is made also at a breakpoint: so a process at one goes on.
         for count in 0..k {
             let (made, stop) = held.run(1);
             if made == 0 {

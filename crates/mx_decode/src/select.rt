@@ -109,7 +109,7 @@ fn bare(head: Head) -> Result<&'static Row, DecodeFault>
 }
 
 /// The row if this byte follows.
-fn followed(head: Head, modrm: u8) -> Result<&'static Row, DecodeFault>
+fn row_with_byte(head: Head, modrm: u8) -> Result<&'static Row, DecodeFault>
     ensures { (rest : List ℕ)
         → Gives (λ x. x.now) result (row_after (head_seen head) (modrm ∷ rest)) }
 {
@@ -125,6 +125,6 @@ pub fn row_of(head: Head, bytes: &[u8]) -> Result<&'static Row, DecodeFault>
 {
     match bytes {
         [] => bare(head),
-        [modrm, ..] => followed(head, *modrm),
+        [modrm, ..] => row_with_byte(head, *modrm),
     }
 }

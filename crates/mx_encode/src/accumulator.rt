@@ -42,7 +42,7 @@ pub fn transfer(operation: Transfer, size: Size, repeat: Option<Repeat>) -> Enco
 {
     Encoding::bare(sized_opcode(size, transfer_opcode(operation)))
         .with_operand_size(operand_size(size))
-        .repeated(repeat)
+        .with_repeat(repeat)
 }
 
 fn compare_opcode(operation: Comparison) -> u8
@@ -61,7 +61,7 @@ pub fn compare(operation: Comparison, size: Size, repeat: Option<Repeat>) -> Enc
 {
     Encoding::bare(sized_opcode(size, compare_opcode(operation)))
         .with_operand_size(operand_size(size))
-        .repeated(repeat)
+        .with_repeat(repeat)
 }
 
 /// How an IN is encoded.

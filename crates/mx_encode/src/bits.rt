@@ -59,7 +59,7 @@ pub fn bit_test(operation: BitTest, operand: Operand, number: u8) -> Encoding
     ensures number_fits { number < 2 ^ 8 }
 {
     Encoding::with_rm(0xba, bit_test_number(operation), operand)
-        .escaped()
+        .after_0f()
         .with_immediate(Number::Byte(number))
 }
 
@@ -72,7 +72,7 @@ pub fn register_bit_test(operation: BitTest, register: Register, number: Registe
         number.number(),
         Operand::Register(register),
     )
-    .escaped()
+    .after_0f()
 }
 
 /// BSF, BSR.
@@ -80,7 +80,7 @@ pub fn bit_scan(operation: BitScan, to: Register, from: Operand) -> Encoding
     ensures form { result ≡ laid (bit_scan_choice operation to from) }
     ensures fits { OperandFits from }
 {
-    Encoding::with_rm(bit_scan_opcode(operation), to.number(), from).escaped()
+    Encoding::with_rm(bit_scan_opcode(operation), to.number(), from).after_0f()
 }
 
 /// SHLD, SHRD.
@@ -97,9 +97,9 @@ pub fn double_shift(
     let opcode = double_shift_opcode(operation);
     let reg = register.number();
     match count {
-        Count::Cl => Encoding::with_rm(opcode + 1, reg, operand).escaped(),
+        Count::Cl => Encoding::with_rm(opcode + 1, reg, operand).after_0f(),
         Count::Immediate(n) => Encoding::with_rm(opcode, reg, operand)
-            .escaped()
+            .after_0f()
             .with_immediate(Number::Byte(n)),
     }
 }

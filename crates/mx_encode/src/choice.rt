@@ -1,4 +1,5 @@
-//! The encoding that is chosen for an instruction and its marks.
+//! The encoding that is chosen for an instruction and its marks. The match over the instructions is in two
+//! functions, since one takes too long to prove.
 
 ghost use Rattle.std.specs.Prelude.{◌≡◌, true, Ok};
 ghost use Rattle.mx_insn.specs.Families.{is_calculation};

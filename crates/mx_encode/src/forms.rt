@@ -65,7 +65,7 @@ impl Encoding {
 
     /// Of two opcodes, for bytes and next to it for words and dwords, that of the size, with a reg
     /// field and an operand.
-    pub fn sized(size: Size, opcode: u8, reg: u8, operand: Operand) -> Encoding
+    pub fn of_size(size: Size, opcode: u8, reg: u8, operand: Operand) -> Encoding
         requires { opcode < 255 }
         ensures { result ≡ record {
           operand_size = operand_size (is_word size);
@@ -91,7 +91,7 @@ impl Encoding {
     }
 
     /// This encoding with 0F before its opcode.
-    pub fn escaped(self) -> Encoding
+    pub fn after_0f(self) -> Encoding
         ensures { result ≡ record self { map = OpcodeMap.TwoByte } }
     {
         Encoding {
@@ -101,7 +101,7 @@ impl Encoding {
     }
 
     /// This encoding with the prefix F3, F2, or neither.
-    pub fn repeated(self, repeat: Option<Repeat>) -> Encoding
+    pub fn with_repeat(self, repeat: Option<Repeat>) -> Encoding
         ensures { result ≡ record self { repeat = repeat } }
     {
         Encoding { repeat, ..self }

@@ -19,7 +19,7 @@ pub fn jump_if(condition: Condition, displacement: u32, form: NumberForm) -> Enc
         Encoding::bare(0x70 + condition.code()).with_immediate(short(displacement))
     } else {
         Encoding::bare(0x80 + condition.code())
-            .escaped()
+            .after_0f()
             .with_immediate(Number::Dword(displacement))
     }
 }

@@ -1,4 +1,5 @@
-//! From an instruction to bytes: of all spellings of it, the chosen one.
+//! From an instruction to bytes: of all spellings of it, the chosen one. `choice` finds the encoding,
+//! `operands`, `single`, `jumps` and their like make it, and `writing` writes its bytes.
 #![tactic(auto)]
 
 ghost use Rattle.std.specs.Prelude.{◌≡◌};

@@ -57,12 +57,12 @@ pub fn arithmetic(operation: Arithmetic, operands: Operands, form: NumberForm) -
     match operands {
         Operands::ToRegister { size, to, from } => match from {
             Operand::Register(from) => {
-                Encoding::sized(size, group, from.number(), Operand::Register(to))
+                Encoding::of_size(size, group, from.number(), Operand::Register(to))
             }
-            Operand::Memory(_) => Encoding::sized(size, group + 2, to.number(), from),
+            Operand::Memory(_) => Encoding::of_size(size, group + 2, to.number(), from),
         },
         Operands::ToMemory { size, to, from } => {
-            Encoding::sized(size, group, from.number(), Operand::Memory(to))
+            Encoding::of_size(size, group, from.number(), Operand::Memory(to))
         }
         Operands::Immediate { to, value } => arithmetic_immediate(operation, to, value, form),
     }
@@ -115,12 +115,12 @@ pub fn movement(operands: Operands) -> Encoding
     match operands {
         Operands::ToRegister { size, to, from } => match from {
             Operand::Register(from) => {
-                Encoding::sized(size, 0x88, from.number(), Operand::Register(to))
+                Encoding::of_size(size, 0x88, from.number(), Operand::Register(to))
             }
-            Operand::Memory(_) => Encoding::sized(size, 0x8a, to.number(), from),
+            Operand::Memory(_) => Encoding::of_size(size, 0x8a, to.number(), from),
         },
         Operands::ToMemory { size, to, from } => {
-            Encoding::sized(size, 0x88, from.number(), Operand::Memory(to))
+            Encoding::of_size(size, 0x88, from.number(), Operand::Memory(to))
         }
         Operands::Immediate { to, value } => move_immediate(to, value),
     }
@@ -131,7 +131,7 @@ pub fn test(size: Size, operand: Operand, register: Register) -> Encoding
     ensures form { result ≡ laid (test_choice size operand register) }
     ensures fits { OperandFits operand }
 {
-    Encoding::sized(size, 0x84, register.number(), operand)
+    Encoding::of_size(size, 0x84, register.number(), operand)
 }
 
 /// How a TEST with an immediate is encoded.
@@ -148,7 +148,7 @@ pub fn exchange(size: Size, operand: Operand, register: Register) -> Encoding
     ensures form { result ≡ laid (exchange_choice size operand register) }
     ensures fits { OperandFits operand }
 {
-    Encoding::sized(size, 0x86, register.number(), operand)
+    Encoding::of_size(size, 0x86, register.number(), operand)
 }
 
 /// How a LEA is encoded.
@@ -167,7 +167,7 @@ pub fn multiply(size: OperandSize, to: Register, from: Operand) -> Encoding
     ensures fits { OperandFits from }
 {
     Encoding::with_rm(0xaf, to.number(), from)
-        .escaped()
+        .after_0f()
         .with_operand_size(size)
 }
 
@@ -212,11 +212,11 @@ pub fn zero_extend(extension: Extension, to: Register, from: Operand) -> Encodin
     ensures form { result ≡ laid (zero_extension extension to from) }
     ensures fits { OperandFits from }
 {
-    let from_byte = Encoding::with_rm(0xb6, to.number(), from).escaped();
+    let from_byte = Encoding::with_rm(0xb6, to.number(), from).after_0f();
     match extension {
         Extension::ByteToWord => from_byte.with_operand_size(OperandSize::Word),
         Extension::ByteToDword => from_byte,
-        Extension::WordToDword => Encoding::with_rm(0xb7, to.number(), from).escaped(),
+        Extension::WordToDword => Encoding::with_rm(0xb7, to.number(), from).after_0f(),
     }
 }
 
@@ -225,10 +225,10 @@ pub fn sign_extend(extension: Extension, to: Register, from: Operand) -> Encodin
     ensures form { result ≡ laid (sign_extension extension to from) }
     ensures fits { OperandFits from }
 {
-    let from_byte = Encoding::with_rm(0xbe, to.number(), from).escaped();
+    let from_byte = Encoding::with_rm(0xbe, to.number(), from).after_0f();
     match extension {
         Extension::ByteToWord => from_byte.with_operand_size(OperandSize::Word),
         Extension::ByteToDword => from_byte,
-        Extension::WordToDword => Encoding::with_rm(0xbf, to.number(), from).escaped(),
+        Extension::WordToDword => Encoding::with_rm(0xbf, to.number(), from).after_0f(),
     }
 }

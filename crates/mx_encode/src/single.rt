@@ -24,7 +24,7 @@ fn step(opcode: u8, reg: u8, size: Size, operand: Operand) -> Encoding
             ),
             Size::Dword => Encoding::bare(opcode + register.number()),
         },
-        Operand::Memory(_) => Encoding::sized(size, 0xfe, reg, operand),
+        Operand::Memory(_) => Encoding::of_size(size, 0xfe, reg, operand),
     }
 }
 
@@ -36,8 +36,8 @@ pub fn unary(operation: Unary, size: Size, operand: Operand) -> Encoding
     match operation {
         Unary::Inc => step(0x40, 0, size, operand),
         Unary::Dec => step(0x48, 1, size, operand),
-        Unary::Not => Encoding::sized(size, 0xf6, 2, operand),
-        Unary::Neg => Encoding::sized(size, 0xf6, 3, operand),
+        Unary::Not => Encoding::of_size(size, 0xf6, 2, operand),
+        Unary::Neg => Encoding::of_size(size, 0xf6, 3, operand),
     }
 }
 
@@ -58,7 +58,7 @@ pub fn product(operation: Product, size: Size, operand: Operand) -> Encoding
     ensures form { result ≡ laid (product_choice operation size operand) }
     ensures fits { OperandFits operand }
 {
-    Encoding::sized(size, 0xf6, product_number(operation), operand)
+    Encoding::of_size(size, 0xf6, product_number(operation), operand)
 }
 
 /// How ROL, ROR, SHL, SHR and SAR are encoded.
@@ -69,12 +69,12 @@ pub fn shift(operation: Shift, size: Size, operand: Operand, count: Count) -> En
 {
     let reg = shift_number(operation);
     match count {
-        Count::Cl => Encoding::sized(size, 0xd2, reg, operand),
+        Count::Cl => Encoding::of_size(size, 0xd2, reg, operand),
         Count::Immediate(n) => {
             if n == 1 {
-                Encoding::sized(size, 0xd0, reg, operand)
+                Encoding::of_size(size, 0xd0, reg, operand)
             } else {
-                Encoding::sized(size, 0xc0, reg, operand).with_immediate(Number::Byte(n))
+                Encoding::of_size(size, 0xc0, reg, operand).with_immediate(Number::Byte(n))
             }
         }
     }
@@ -85,7 +85,7 @@ pub fn set_condition(condition: Condition, operand: Operand) -> Encoding
     ensures form { result ≡ laid (set_condition condition operand) }
     ensures fits { OperandFits operand }
 {
-    Encoding::with_rm(0x90 + condition.code(), 0, operand).escaped()
+    Encoding::with_rm(0x90 + condition.code(), 0, operand).after_0f()
 }
 
 /// How a PUSH is encoded.

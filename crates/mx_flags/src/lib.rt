@@ -3,8 +3,8 @@
 //! # Lazy flags
 //!
 //! An operation stores what its flags are computed from, and a flag is computed when it is read: one test of
-//! a word, and no branch on the kind of the last operation. Every operation writes the same fields, so INC,
-//! DEC, shifts and POPFD need no operation before the last one.
+//! a word, and no branch on the kind of the last operation. INC, DEC, shifts and POPFD write the fields that
+//! an addition writes, so no flag needs an operation before the last one.
 #![tactic(auto)]
 
 ghost use Rattle.std.specs.Prelude.{◌≡◌, ◌+◌, ◌-◌, ◌^◌, ◌<◌, ◌%◌, ◌/◌};
@@ -129,7 +129,7 @@ impl Flags {
     }
 
     /// Another value with the same seven flags as this one, since `Flags` isn't `Copy`.
-    pub fn copied(&self) -> Flags
+    pub fn copy(&self) -> Flags
         ensures { result ≡ self.now }
     {
         Flags {
@@ -241,7 +241,7 @@ impl Flags {
     {
         Flags {
             carry: u32::from(carry),
-            ..self.copied()
+            ..self.copy()
         }
     }
 
@@ -251,7 +251,7 @@ impl Flags {
     {
         Flags {
             zero: 1 - u32::from(zero),
-            ..self.copied()
+            ..self.copy()
         }
     }
 
@@ -261,7 +261,7 @@ impl Flags {
     {
         Flags {
             direction: u32::from(direction),
-            ..self.copied()
+            ..self.copy()
         }
     }
 
@@ -288,7 +288,7 @@ impl Flags {
         Flags {
             zero: word,
             word: with_sign_extended(size, word),
-            ..self.copied()
+            ..self.copy()
         }
     }
 

@@ -11,7 +11,7 @@ pub struct Named<T> {
 }
 
 /// What a word names in a table that is sorted by its words.
-pub fn found<T: Copy>(table: &'static [Named<T>], word: &[u8]) -> Option<T>
+pub fn find_word<T: Copy>(table: &'static [Named<T>], word: &[u8]) -> Option<T>
     requires { is_sorted table.now ≡ true }
     ensures { result ≡ lookup table.now word.now }
 {

@@ -5,7 +5,7 @@ ghost use Rattle.mx_word.specs.declared.size.Size.{Size};
 ghost use Rattle.mx_word.specs.declared.names.Register.{Register};
 ghost use Rattle.mx_insn_words.specs.Registers.{register_word, size_word};
 
-use crate::named::found;
+use crate::named::find_word;
 use crate::table::{REGISTERS, SIZES};
 use mx_insn::{Register, Size};
 
@@ -14,7 +14,7 @@ pub fn register_named(word: &[u8]) -> Option<(Size, Register)>
     ensures { MatchOption result ((s : Size) (r : Register) → word.now ≢ register_word s r) (λ p.
         word.now ≡ register_word p.0 p.1) }
 {
-    found(&REGISTERS, word)
+    find_word(&REGISTERS, word)
 }
 
 /// The size that a word names.
@@ -22,5 +22,5 @@ pub fn size_named(word: &[u8]) -> Option<Size>
     ensures { MatchOption result ((s : Size) → word.now ≢ size_word s) (λ s.
         word.now ≡ size_word s) }
 {
-    found(&SIZES, word)
+    find_word(&SIZES, word)
 }

@@ -6,7 +6,7 @@ ghost use Rattle.mx_insn_words.specs.declared.start.WordStart.{WordStart};
 ghost use Rattle.mx_insn_words.specs.Words.{is_operation, start_word, word_of};
 
 use crate::mnemonic::Mnemonic;
-use crate::named::found;
+use crate::named::find_word;
 use crate::table::{OPERATIONS, OTHER_STARTS};
 
 /// What may come before a string instruction.
@@ -46,7 +46,7 @@ fn operation_named(word: &[u8]) -> Option<WordStart>
     ensures { MatchOption result ((x : WordStart) → is_operation x ≡ true
         → word.now ≢ start_word x) (λ x. word.now ≡ start_word x) }
 {
-    found(&OPERATIONS, word)
+    find_word(&OPERATIONS, word)
 }
 
 /// The prefix or directive of a word that begins a statement.
@@ -54,7 +54,7 @@ fn other_named(word: &[u8]) -> Option<WordStart>
     ensures { MatchOption result ((x : WordStart) → is_operation x ≡ false
         → word.now ≢ start_word x) (λ x. word.now ≡ start_word x) }
 {
-    found(&OTHER_STARTS, word)
+    find_word(&OTHER_STARTS, word)
 }
 
 /// The meaning of a word that begins a statement.

@@ -1,4 +1,5 @@
-//! The traps SEND, RECEIVE, SENDREC and NOTIFY: checks, delivery, blocking.
+//! The traps SEND, RECEIVE, SENDREC and NOTIFY: checks, delivery, blocking. Each of the four makes all six
+//! checks itself (`checks`), so its caller needs to know nothing of the destination.
 #![tactic(auto)]
 
 ghost use Rattle.std.specs.Prelude.{◌≡◌, ◌≢◌, ℕ, ◌<◌, Some, None, true, false, length};

@@ -1,4 +1,6 @@
-//! Calls to the kernel, interrupt lines, and the clock with its alarms.
+//! Calls to the kernel, interrupt lines, and the clock with its alarms. A call is refused by its type, then
+//! by the mask of calls, then by reasons of its own (`refusals`); else `serving` changes the table and writes
+//! the reply.
 #![tactic(auto)]
 
 mod clock;

@@ -12,7 +12,7 @@ ghost use Rattle.mx_kcall.specs.Serving.{due_after, ticks_left, table_after_chan
 
 use crate::refusals::check;
 use crate::request::{After, KernelCall, ReplyWords, VirtualAddress, reply_bytes};
-use crate::windows::granted;
+use crate::windows::window_of;
 use mx_respawn::{DeathCause, ProcessAddress, Slot, Table, die, go_on, slot_of};
 
 /// When an alarm rings that is set for a delay; never if that is 0.
@@ -118,7 +118,7 @@ fn change(table: &mut Table, slot: Slot, request: KernelCall)
         }
         KernelCall::Kill(endpoint) => die(table, table.slot_of(endpoint), DeathCause::Kill),
         KernelCall::Grant(grant) => {
-            table.set_window(slot, table.slot_of(grant.user), granted(grant));
+            table.set_window(slot, table.slot_of(grant.user), window_of(grant));
         }
     }
 }

@@ -54,7 +54,7 @@ fn access_of(number: u32) -> Option<Access>
 }
 
 /// What a grant opens.
-pub(crate) fn granted(grant: WindowGrant) -> Option<Window>
+pub(crate) fn window_of(grant: WindowGrant) -> Option<Window>
     ensures { result ≡ granted grant.place grant.count grant.access }
 {
     match access_of(grant.access) {

@@ -42,7 +42,7 @@ pub fn quote_at(bytes: &[u8], start: usize) -> Result<usize, LexError>
     Err(LexError::OpenText(at))
 }
 
-fn escaped(byte: u8) -> u8
+fn escape_value(byte: u8) -> u8
     ensures { result ≡ escape_value byte }
 {
     match byte {
@@ -62,7 +62,7 @@ pub fn text_bytes(alloc: Global, body: &[u8]) -> Result<Vec<u8>, AllocError>
         rest = more;
         match (*first, more.split_first()) {
             (b'\\', Some((second, others))) => {
-                bytes.push(escaped(*second))?;
+                bytes.push(escape_value(*second))?;
                 rest = others;
             }
             _ => bytes.push(*first)?,

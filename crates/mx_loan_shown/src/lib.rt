@@ -1,5 +1,5 @@
-//! A note that only the proofs can read: it is what a value was, costs nothing when the program runs, and may
-//! go to any thread.
+//! A note that only the proofs can read: it has a value as it was, costs nothing when the program runs, and
+//! may go to any thread.
 #![tactic(auto)]
 
 mod shown;

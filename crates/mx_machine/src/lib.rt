@@ -1,4 +1,5 @@
-//! The machine of one thread: a kernel, its processors, and laws about events in a row.
+//! The machine of one thread: a kernel, its processors, and laws about events in a row. `apply` makes one
+//! event, `run` a list of them.
 #![tactic(auto)]
 
 mod laws;

@@ -58,6 +58,7 @@ pub(crate) fn first_present(
 {
     let table = first_table(alloc, config.rules, services.as_slice())?;
     let leases = no_leases(alloc, config.cpus)?;
+    // Nothing after this can fail: so if memory runs out, the services are where they were.
     let entered = mem::replace(services, Vec::new(alloc));
     let present = CurrentState::new(table, leases, config.others, entered, config.log);
     Ok(present)

@@ -190,6 +190,7 @@ impl CurrentState {
         let Some(slot) = pick(&self.table) else {
             return Err(Refusal::NoProcess);
         };
+        // One record for this Take, and one for its Back. Tested last: a Take with nothing ready is refused as such.
         self.if_full(2)?;
         Ok(self.take_out(cpu, slot))
     }

@@ -1,4 +1,6 @@
-//! The kernel: it makes each event, and records the history of all events.
+//! The kernel: it makes each event, and records the history of all events. `take` lends a process to a
+//! processor, `back` takes it home, and `event` is all else. The services are moved into the kernel, and
+//! `into_services` hands them back.
 #![tactic(auto)]
 
 mod booting;

@@ -37,7 +37,7 @@ numbered_row from bytes i = memory_row (from + 16 * i) (take 16 (drop (16 * i) b
 abbrev pub memory_rows : ℕ → List ℕ → List ℕ
 memory_rows from bytes = flat_map (numbered_row from bytes) (range_with_len 0 (div_ceil (length bytes) 16))
 
--- n bytes of a process's data from an address on, if all of them are inside
+-- a count of bytes of a process's data from an address on, if all of them are inside
 abbrev pub memory_text : Option Image → ℕ → ℕ → List ℕ
 memory_text None from count = not_here
 memory_text (Some m) from count =

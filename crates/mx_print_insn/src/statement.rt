@@ -39,7 +39,7 @@ fn extend(size: OperandSize) -> Mnemonic
 }
 
 /// CWD or CDQ.
-fn spread(size: OperandSize) -> Mnemonic
+fn spread_sign(size: OperandSize) -> Mnemonic
     ensures { result ≡ spread_mnemonic size }
 {
     match size {
@@ -78,7 +78,7 @@ fn mnemonic(insn: &Insn) -> Mnemonic
         Insn::Return(_) => Mnemonic::Single(Single::Ret),
         Insn::Interrupt(_) => Mnemonic::Single(Single::Int),
         Insn::ExtendAccumulator(size) => extend(size),
-        Insn::SpreadSign(size) => spread(size),
+        Insn::SpreadSign(size) => spread_sign(size),
         Insn::Transfer {
             operation,
             size,

@@ -3,8 +3,8 @@
 //! # A sound table
 //!
 //! Soundness is the invariant of `Table`, so no call has it as a condition. A process that the kernel serves
-//! is in no queue, and has a state for that, `Home`: `dequeue` leaves a process there, and `enqueue` and
-//! `trap` need one that is there.
+//! is in no queue, and has a state for that, `Home`: `dequeue` leaves a process in it, and `enqueue` needs
+//! one that is in no queue.
 //!
 //! # No memory after boot
 //!

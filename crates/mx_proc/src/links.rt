@@ -180,6 +180,7 @@ impl<const LISTS: usize> Links<LISTS> {
         requires there { 1 ≤ times slot (list_at self.old list) }
         ensures { self.new ≡ slice_set self.old list (without slot (list_at self.old list)) }
     {
+        // Both directions skip the slot. Its own links stay: nobody follows them until it is in a list again.
         let before = self.backward.next(slot);
         let after = self.forward.next(slot);
         self.forward.lead(list, before, after);

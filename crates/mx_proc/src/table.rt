@@ -129,6 +129,7 @@ impl Table {
                 Ok(slot)
             }
             Err(refused) => {
+                // The process that found no room comes back, and with it the caller's image.
                 *image = refused.value.image;
                 Err(NoMemory)
             }
@@ -212,7 +213,7 @@ impl Table {
     }
 
     /// The slot whose quantum `to_end` renewed last, or `None` if it renewed none yet.
-    pub fn renewed(&self) -> Option<Slot>
+    pub fn last_renewed(&self) -> Option<Slot>
         ensures { result ≡ self.now.renewed }
     {
         self.renewed

@@ -63,6 +63,7 @@ pub fn respawn(table: &mut Table, slot: Slot, service: &Service)
     ensures used { length table.new.slots ≡ length table.old.slots }
     ensures settled { NoneComesHome table.old table.new }
 {
+    // The image goes out of the table, is filled again, and comes back: no memory is taken.
     let image = table.take_image(slot);
     let process = next_process(table.process(slot), image, service);
     table.revive(slot, process);

@@ -34,11 +34,12 @@ pub fn enqueue(table: &mut Table, slot: Slot)
 {
     let process = table.process(slot);
     if process.ticks > 0 {
+        // So the one that is queued last comes first: a sender overtakes its receiver on the same level.
         table.to_front(slot);
         return;
     }
     let (level, best) = (process.level, process.best);
-    let again = match table.renewed() {
+    let again = match table.last_renewed() {
         Some(last) => last == slot,
         None => false,
     };

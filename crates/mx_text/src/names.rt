@@ -41,7 +41,7 @@ fn byte_at(word: &[u8], at: usize) -> u8
     if at < word.len() { word[at] } else { 0 }
 }
 
-fn padded(word: &[u8]) -> [u8; 8]
+fn pad(word: &[u8]) -> [u8; 8]
     ensures { result ≡ padded_name word.now }
 {
     [
@@ -77,9 +77,7 @@ pub fn name_of(word: &[u8]) -> Option<Name>
     ensures { result ≡ name_of word.now }
 {
     if is_name(word) {
-        Some(Name {
-            bytes: padded(word),
-        })
+        Some(Name { bytes: pad(word) })
     } else {
         None
     }

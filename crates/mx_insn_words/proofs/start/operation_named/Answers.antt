@@ -3,4 +3,4 @@ use Rattle.mx_insn_words.proofs.start.operation_named.Goals as goal
 
 pub returns : goal.returns
 unfolding all_starts
-returns c = operation_found c.args.word.now c.found.result c.found.ensures
+returns c = operation_found c.args.word.now c.find_word.result c.find_word.ensures

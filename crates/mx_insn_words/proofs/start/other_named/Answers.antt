@@ -3,4 +3,4 @@ use Rattle.mx_insn_words.proofs.start.other_named.Goals as goal
 
 pub returns : goal.returns
 unfolding all_starts
-returns c = other_found c.args.word.now c.found.result c.found.ensures
+returns c = other_found c.args.word.now c.find_word.result c.find_word.ensures

@@ -3,7 +3,7 @@ use Rattle.std.specs.Prelude.{find}
 use Rattle.mx_decode.specs.Map.{begins}
 use Rattle.mx_decode.specs.Given.{head_seen}
 use Rattle.mx_decode.proofs.Map.{followed_none, followed_is}
-use Rattle.mx_decode.proofs.select.followed.Goals as goal
+use Rattle.mx_decode.proofs.select.row_with_byte.Goals as goal
 
 pub returns-in-None : goal.returns-in-None
 returns-in-None c rest = followed_none (head_seen c.args.head) c.args.modrm rest (ap (find (begins (head_seen c.args.head) (Some c.args.modrm))) (sym c.rows_near.ensures) ∙ sym c.in-None.ensures)

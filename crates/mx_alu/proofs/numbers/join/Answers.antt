@@ -2,7 +2,7 @@ use Rattle.std.proofs.Common.{◌≡◌, ◌^◌, ℤ, pos, ◌+ℤ◌, ◌*ℤ�
 use Rattle.std.proofs.lemmas.Int.{to_z-of_z}
 use Rattle.mx_word.specs.Word.{width, signed}
 use Rattle.mx_alu.proofs.Joined.{raised_fits, joined_fits}
-use Rattle.mx_alu.proofs.numbers.joined.Goals as goal
+use Rattle.mx_alu.proofs.numbers.join.Goals as goal
 
 same : (z : ℤ) → FitsSigned w64 z → to_z w64 (of_z w64 z) ≡ z
 same z fits = to_z-of_z w64 z fits
