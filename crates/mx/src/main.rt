@@ -1,4 +1,4 @@
-//! The program `mx`: `main` alone.
+//! The program `mx`: only `main`.
 #![tactic(auto)]
 
 pub use mx_app::{

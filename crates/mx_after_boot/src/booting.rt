@@ -28,7 +28,7 @@ pub(crate) fn booted<R: Files + AllocGlobal>(
     }
 }
 
-/// Says where no memory is wanted any more, and where it is wanted again.
+/// Marks from where on no memory may be taken, and where it may be taken again.
 pub(crate) fn mark<R: Eprint>(rt: &R) {
     let _ = eprint!(rt; "mark\n");
 }

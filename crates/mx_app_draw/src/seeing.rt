@@ -32,7 +32,7 @@ pub(crate) fn last_drawn(from: u32, to: u32) -> u32
     from.max(1).saturating_add(MOST_DRAWN - 1).min(to)
 }
 
-/// Keeps a step, if it is one from `from` on.
+/// Appends a step, if it is one from `from` on.
 fn keep_step(steps: &mut Vec<Step>, step: &Step, from: u32) -> Result<(), AllocError>
     ensures { OnOk result (steps.new.items ≡ steps.old.items ++ drawn_of from step.now) }
 {
@@ -42,7 +42,7 @@ fn keep_step(steps: &mut Vec<Step>, step: &Step, from: u32) -> Result<(), AllocE
     Ok(())
 }
 
-/// Makes records up to the first that is refused, and keeps each from `from` on as a step.
+/// Makes records up to the first that is refused, and appends each from `from` on as a step.
 pub(crate) fn see_records(
     alloc: Global,
     machine: &mut Machine,

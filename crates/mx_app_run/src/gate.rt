@@ -24,7 +24,7 @@ struct LoopState {
     questions: AtomicU32,
 }
 
-/// The gate of a run: it ends all loops where the machine is at rest after the last tick, and where one
+/// The gate of a run: it ends all loops if the machine is at rest after the last tick, and if one
 /// loop has ended.
 #[derive(Drop)]
 pub struct RunGate<'a, R> {
@@ -77,7 +77,7 @@ impl<'a, R: Clock> Gate for RunGate<'a, R> {
 
     fn given(&self, _cpu: u8) {}
 
-    /// It ends where a loop has ended, or where an earlier question of this actor came after the last
+    /// Ends the loop if one has ended, or if an earlier question of this actor came after the last
     /// tick and the machine is at rest now.
     fn again(&self, actor: u8, at_rest: bool) -> bool {
         if self.has_ended.load(Ordering::SeqCst) {

@@ -72,9 +72,9 @@ pub struct RunNames<'a> {
     pub log: &'a str,
 }
 
-/// Runs the machine of a configuration, each processor in a thread of its own, until it is at rest after
-/// that many ticks or its history is full. Then writes the history to a file, and prints the report. The
-/// configuration isn't written over: if both have one name, nothing is read or written.
+/// Runs the machine of a configuration, each processor in a thread of its own, until it is at rest
+/// after all ticks or its history is full. Then writes the history to a file, and prints the
+/// report. The configuration isn't written over: if both have one name, nothing is read or written.
 pub fn run<
     T: Threads + Wait + Clock + Sync,
     R: Reader + Drop,

@@ -3,7 +3,7 @@
 use crate::service::ServiceWords;
 use mx_proc::Rules;
 
-/// What a line of a configuration says. It takes no memory: a file's name stays where the line has it.
+/// What a line of a configuration sets. It takes no memory: a file's name is a part of the line.
 #[derive(Clone, Copy)]
 pub enum ConfigItem<'a> {
     /// How many processors there are.

@@ -1,5 +1,5 @@
 //! One machine that many threads share: each call takes the lock, does one thing to the kernel, and
-//! tells the caller what stands in the history now.
+//! shows the caller's seat what is in the history now.
 #![tactic(auto)]
 
 mod blank;

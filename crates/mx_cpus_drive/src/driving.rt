@@ -43,7 +43,7 @@ struct ThreadContext<'s, M: Naming, G: Gate, R: Wait> {
     ticks: u32,
 }
 
-/// The loop of an actor: a processor's, or the respawner's. At its end the gate is told.
+/// The loop of an actor: a processor's, or the respawner's. Its end is reported to the gate.
 fn serve<M: Naming, G: Gate, R: Wait>(
     rt: &R,
     shared: &Shared<M>,
@@ -69,7 +69,8 @@ fn serve<M: Naming, G: Gate, R: Wait>(
     seat
 }
 
-/// Starts a thread with the loop of an actor. If none can be made, the gate is told that the loop has ended.
+/// Starts a thread with the loop of an actor. If no thread can be made, it reports to the gate that
+/// the loop has ended.
 fn start<'s, E, M: Naming + Send + Sync, G: Gate + Sync, R: Wait + Sync>(
     scope: &Scope<'s, E>,
     context: &ThreadContext<'s, M, G, R>,
@@ -148,11 +149,11 @@ fn drive_all<'s, E, M: Naming + Send + Sync, G: Gate + Sync, R: Threads + Wait +
     Ok(())
 }
 
-/// Runs the loops of all processors, and that of the first other actor as respawner, each in a thread of
-/// its own, and gives the seats back in order once all have ended. The seats of further actors stay as
-/// they are. The gate is told of each loop that has ended, and of each for which no thread could be
-/// made: then the answer is `NoMemory`, the seats are spent, and what was recorded stays. Takes no memory
-/// but that of the threads.
+/// Runs the loops of all processors, and that of the first other actor as respawner, each in a
+/// thread of its own, and gives the seats back in order once all have ended. The seats of further
+/// actors stay as they are. The end of each loop is reported to the gate, and so is each loop for
+/// which no thread could be made: then the answer is `NoMemory`, the seats are spent, and what was
+/// recorded stays. Takes no memory but that of the threads.
 pub fn drive<M: Naming + Send + Sync, G: Gate + Sync, R: Threads + Wait + Sync>(
     rt: &R,
     shared: &Shared<M>,

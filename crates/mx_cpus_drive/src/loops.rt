@@ -12,7 +12,7 @@ use mx_cpus::{ActorSeat, Naming, Shared};
 use mx_machine_world::{Held, Refusal};
 use std::sync::Wait;
 
-/// A processor's turns, and its questions of the gate where nothing is ready.
+/// A processor's turns, and its questions to the gate if nothing is ready.
 #[tactic(auto, using(crate::proofs::LoopLemmas::processor_made))]
 pub(crate) fn make_turns<M: Naming, G: Gate, R: Wait>(
     rt: &R,
@@ -58,9 +58,9 @@ pub(crate) fn make_turns<M: Naming, G: Gate, R: Wait>(
     unreachable!()
 }
 
-/// A processor takes a process, runs it until its budget is spent or it stops, and gives it back, turn
-/// after turn. Where nothing is ready the gate says whether it goes on. It ends at a full history too.
-/// Takes no memory.
+/// A processor takes a process, runs it until its budget is spent or it stops, and gives it back,
+/// again and again. If nothing is ready, the gate decides whether the loop goes on. It ends at a
+/// full history too. Takes no memory.
 pub fn processor<M: Naming, G: Gate, R: Wait>(
     rt: &R,
     shared: &Shared<M>,
@@ -156,9 +156,9 @@ pub(crate) fn make_rounds<M: Naming, G: Gate, R: Wait>(
     unreachable!()
 }
 
-/// Makes one tick, while some are left, and one sweep over the slots, in which each that is down and not
-/// worn is respawned, round after round. After each the gate says whether it goes on. It ends at a full
-/// history too. Takes no memory.
+/// Makes rounds: in each one tick, while some are left, and one sweep over the slots, in which each
+/// that is down and not worn is respawned. After each round the gate decides whether the loop goes
+/// on. It ends at a full history too. Takes no memory.
 pub fn respawner<M: Naming, G: Gate, R: Wait>(
     rt: &R,
     shared: &Shared<M>,

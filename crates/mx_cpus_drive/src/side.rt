@@ -47,7 +47,7 @@ impl FreeSide {
         }
     }
 
-    /// Tells the gate of a loan that hasn't run yet.
+    /// Reports to the gate a loan that hasn't run yet.
     pub(crate) fn held<G: Gate>(self, door: &Door<'_, G>, loan: &Loan) -> HoldingSide
         requires goes_on { self.goes_on ≡ true }
         requires actor { loan.now.actor ≡ self.actor }
@@ -91,7 +91,7 @@ impl FreeSide {
         self.goes_on
     }
 
-    /// Tells the gate that the loop has ended.
+    /// Reports to the gate that the loop has ended.
     pub(crate) fn ended<G: Gate>(self, door: &Door<'_, G>)
         ensures { G.was_called door.now.gate.now (ended_call self.actor) }
     {
@@ -103,7 +103,7 @@ impl FreeSide {
         door.gate.ended(actor);
     }
 
-    /// Leaves it to the caller to tell the gate of the end.
+    /// Leaves it to the caller to report the end to the gate.
     pub(crate) fn leave(self) {
         let FreeSide {
             actor: _,
@@ -114,7 +114,7 @@ impl FreeSide {
 }
 
 impl HoldingSide {
-    /// Tells the gate that the loan was given back, by the seat that came back for it.
+    /// Reports to the gate that the loan was given back, by the seat that came back for it.
     pub(crate) fn given<G: Gate>(self, door: &Door<'_, G>, seat: &ActorSeat) -> FreeSide
         requires actor { seat.now.actor ≡ self.actor }
         requires back { seat.now.held ≡ None }

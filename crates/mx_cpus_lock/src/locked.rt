@@ -12,8 +12,8 @@ use mx_machine_kernel::{Kernel, recorded_as};
 use mx_machine_world::{Answer, Event, Refusal, actors_stay};
 use std::marker::{Model, PhantomData};
 
-/// What lies under the lock: the kernel, which stands where the table stands after its history, and its
-/// desk, which has the same history and lends what that world shows as out. Contracts see the kernel.
+/// What lies under the lock: the kernel, in the state to which its history leads, and its desk,
+/// which has this history and lends what that state shows as out. Contracts see the kernel.
 pub struct Locked<M: Naming> {
     kernel: Kernel,
     desk: Desk,
@@ -45,7 +45,7 @@ impl<M: Naming> Locked<M> {
         }
     }
 
-    /// The kernel that the lock guarded. It stands where the table stands after its history.
+    /// The kernel that the lock guarded, in the state to which its history leads.
     pub fn into_kernel(self) -> Kernel
         ensures kernel { result ≡ self }
         ensures boot { result.boot ≡ M.boot }

@@ -16,7 +16,7 @@ use mx_machine_world::{Out, Record, Recorded};
 use std::alloc::{AllocError, Global};
 use std::marker::Model;
 
-/// The kernel's end of the table, with the table itself. It lies beside the kernel, under the lock.
+/// The kernel's end of the table, with the table itself. It is next to the kernel, under the lock.
 /// Contracts see it as the history, and what each processor is lent, as it was lent.
 #[derive(Drop)]
 pub struct Desk {

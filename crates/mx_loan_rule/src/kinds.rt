@@ -4,7 +4,7 @@ use crate::knowledge::{Announcement, Knowledge, TableSizes};
 use atomic_table::{Join, Play, Split, TableRule};
 use mx_loan_shown::Shown;
 
-/// What each word says of its actor, and that all seats speak of one history.
+/// What each word means for its actor, and that all seats agree on one history.
 pub struct LoanRule;
 
 impl TableRule<Shown<Announcement>, Knowledge, TableSizes> for LoanRule {

@@ -1,4 +1,4 @@
--- Deliveries, and notifications that are kept (our own).
+-- Deliveries, and notifications that become pending (our own).
 use Rattle.std.specs.Prelude.{ℕ, ◌+◌, ◌-◌, ◌==◌, ◌&&◌, ◌||◌, not, nat_lt, Bool, false, count_by, Option, Some, None, slice_index_or, if◌then◌else◌}
 use Rattle.std.specs.List.{range_with_len}
 use Rattle.mx_proc.specs.declared.deliveries.Delivery.{Delivery}
@@ -19,6 +19,6 @@ delivery_to x s = if got x s then slice_index_or x.after.deliveries (got_from x 
 abbrev pub is_pending : SlotGlance → ℕ → Bool
 is_pending g place = nat_lt place 34 && slice_index_or g.pending place false
 
--- A NOTIFICATION IS KEPT: it waits and didn't, or it is of other interrupt lines
+-- A NOTIFICATION BECOMES PENDING: it is pending and wasn't, or it has other interrupt lines
 unfoldable pub is_new_bit : SlotGlance → SlotGlance → ℕ → Bool
 is_new_bit v u place = is_pending u place && (not (is_pending v place) || ((place == 0) && not (v.lines == u.lines)))

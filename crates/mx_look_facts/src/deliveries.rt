@@ -1,4 +1,4 @@
-//! Deliveries, and notifications that are kept.
+//! Deliveries, and notifications that become pending.
 
 ghost use Rattle.std.specs.Prelude.{◌≡◌, ◌≤◌, ◌<◌, ◌+◌};
 ghost use Rattle.mx_look_facts.specs.Deliveries.{got_from, delivery_to, is_pending, is_new_bit};
@@ -36,8 +36,8 @@ fn is_pending(seen: &SlotGlance, place: u32) -> bool
     place < 34 && seen.pending[place as usize]
 }
 
-/// Whether a notification is kept for a slot: it waits and didn't, or is of other interrupt lines.
-/// Places are those of the sources: HARDWARE 0, CLOCK 1, slot 0 from 2 on.
+/// Whether a notification becomes pending for a slot: it is pending and wasn't, or it has other
+/// interrupt lines. Places are those of the sources: HARDWARE 0, CLOCK 1, slot 0 from 2 on.
 #[tactic(auto, unfolding(crate::specs::Deliveries::is_new_bit))]
 pub fn is_new_bit(before: &SlotGlance, after: &SlotGlance, place: u32) -> bool
     ensures { result ≡ is_new_bit before.now after.now place }

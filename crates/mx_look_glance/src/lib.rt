@@ -1,4 +1,5 @@
-//! A glance at a machine: all that is looked at when it is told what an event did.
+//! A glance at a machine: all of its state that is looked at, before and after an event, to find
+//! out what the event did.
 #![tactic(auto)]
 
 mod doing;

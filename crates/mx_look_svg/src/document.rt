@@ -138,7 +138,7 @@ fn push_values(
 }
 
 /// Appends the drawing of a run as a document: SVG 1.1, with no script, and nothing from outside.
-/// An error says that there is no memory.
+/// An error means that there is no memory.
 #[tactic(auto, unfolding(crate::specs::Document::drawing_text))]
 pub fn push_drawing(
     alloc: Global,

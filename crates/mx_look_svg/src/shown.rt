@@ -25,7 +25,7 @@ pub(crate) fn push_pair(out: &mut Vec<u8>, first: u64, second: u64) -> Result<()
     push_number(out, second)
 }
 
-/// Appends a byte that stands between tags.
+/// Appends a byte of a text, between tags.
 #[tactic(auto, unfolding(crate::specs::Shown::escaped))]
 fn push_escaped(out: &mut Vec<u8>, byte: u8) -> Result<(), AllocError>
     ensures { OnOk result (out.new.items ≡ out.old.items ++ escaped byte) }

@@ -53,7 +53,7 @@ pub fn push_label(out: &mut Vec<u8>, name: &[u8]) -> Result<(), AllocError>
     push_name(out, name)
 }
 
-/// The endpoint of a slot's process; where no process ever was its generation counts as 0.
+/// The endpoint of a slot's process; if no process ever was there, its generation counts as 0.
 pub fn endpoint_of(table: &Table, slot: Slot) -> u32
     ensures { result ≡ endpoint_of table.now slot }
 {

@@ -17,8 +17,8 @@ use std::thread::Threads;
 /// How long a processor waits for the other one, in turns.
 const TURNS: u32 = 10_000_000;
 
-/// A processor goes on with its first process only once a number of processors hold one. A loop ends where
-/// the machine is at rest, or another loop has ended.
+/// A processor goes on with its first process only once a number of processors hold one. A loop
+/// ends if the machine is at rest, or if another loop has ended.
 #[derive(Drop)]
 struct Meeting {
     /// How many processors have to hold one.

@@ -9,7 +9,7 @@ use std::process::Abort;
 const TURNS: &str =
     "0 take\n0 back 4\n0 take\n0 back 4\n0 take\n0 back 3\n0 take\n0 back 5\n0 take\n0 back 4\n";
 
-/// The same by the strict rules.
+/// `TURNS` by the strict rules.
 const STRICT_TURNS: &str =
     "rules 2\n0 take\n0 back 4\n0 take\n0 back 4\n0 take\n0 back 3\n0 take\n0 back 5\n\
      0 take\n0 back 4\n";
@@ -64,7 +64,8 @@ fn told(alloc: Global, text: &[u8], out: &mut Vec<u8>) -> Result<Replayed, Failu
     replay(alloc, &mut NamedFiles::new(&files), "pair", "cut", out)
 }
 
-/// What is told of a text with that many whole lines, that many above the records, and what is printed.
+/// The answer for a text with so many whole lines, some of them above the records, and what is
+/// printed.
 fn wanted(lines: usize, above: usize, is_whole: bool) -> (Result<Replayed, Failure>, &'static str) {
     match REPORTS.get(lines.saturating_sub(above)) {
         Some(report) if is_whole => (Ok(Replayed::Whole), *report),

@@ -1,4 +1,4 @@
-//! Of two faults in a machine's files the first is told, in the order of the files.
+//! Of two faults in a machine's files the first is reported, in the order of the files.
 
 use crate::files::reader;
 use mx_aout::FileError;
@@ -12,7 +12,7 @@ const BAD_RECORD: Failure = Failure::Misstated(BootError::BadRecord(2));
 
 const TRUNCATED: Failure = Failure::Refused(FileError::Truncated);
 
-/// A configuration and a script by the names of their files, and what is told of them.
+/// A configuration and a script by the names of their files, and what is reported of them.
 struct Row {
     name: &'static str,
     config: &'static str,

@@ -11,7 +11,7 @@ use std::io::Write;
 use std::process::Abort;
 use std::test::Fail;
 
-/// A configuration, and what is told of it.
+/// A configuration, and its fault, if it has one.
 struct Setup {
     name: &'static str,
     text: &'static str,
@@ -278,7 +278,7 @@ fn configurations(rt: HostRuntime) -> Result<(), Fail> {
     Ok(())
 }
 
-/// A text, and what is told of it: how many lines or records it has, or the fault.
+/// A text, and what it is read as: how many lines or records it has, or the fault.
 struct Text {
     name: &'static str,
     text: &'static str,
@@ -541,7 +541,7 @@ fn is_script_read(alloc: Global) -> bool {
     }
 }
 
-/// A writer that takes that many bytes, at most three at a time, and then fails.
+/// A writer that takes a number of bytes, at most three at a time, and then fails.
 #[derive(Drop)]
 pub(crate) struct Narrow {
     pub bytes: Vec<u8>,
@@ -660,7 +660,8 @@ static SAVES: &[Saved] = &[
     },
 ];
 
-/// Whether a writer that fails after that many bytes got just these of the text, or all if it has room.
+/// Whether a writer that fails after a number of bytes got just these of the text, or all if it has
+/// room.
 fn is_saved_to(alloc: Global, row: &Saved, room: usize) -> bool {
     let narrow = Narrow {
         bytes: Vec::new(alloc),

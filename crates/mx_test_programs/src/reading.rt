@@ -15,7 +15,7 @@ fn told(alloc: Global, text: &[u8]) -> Option<u8> {
     }
 }
 
-/// A line, and the problem that is told of it, if there is one.
+/// A line, and its problem, if it has one.
 struct Row {
     text: &'static str,
     problem: Option<Problem>,
@@ -144,7 +144,7 @@ static LINES: &[Row] = &[
     },
 ];
 
-/// The number of what is told of a line.
+/// The number of a line's problem.
 fn code_of(problem: Option<Problem>) -> Option<u8> {
     match problem {
         Some(problem) => Some(problem.code()),

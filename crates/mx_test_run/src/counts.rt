@@ -15,8 +15,8 @@ use std::test::Fail;
 use std::thread;
 use std::thread::Threads;
 
-/// Counts what each of two processors gives back. A loop ends where the machine is at rest after all ticks,
-/// or where another loop has ended.
+/// Counts what each of two processors gives back. A loop ends if the machine is at rest after all
+/// ticks, or if another loop has ended.
 #[derive(Drop)]
 struct Counting {
     /// The actor that makes the ticks, how many it makes, and how many rounds it has made.

@@ -21,8 +21,8 @@ const TURNS: u32 = 10_000_000;
 /// The turn in which the driver is held and the client awaits its answer.
 const AWAITED: u64 = 2;
 
-/// A processor waits in one of its turns until another actor has killed its process. A loop ends where the
-/// machine is at rest.
+/// A processor waits in one of its turns until another actor has killed its process. A loop ends if
+/// the machine is at rest.
 #[derive(Drop)]
 struct Waiting {
     is_held: AtomicBool,

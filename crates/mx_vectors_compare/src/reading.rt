@@ -89,7 +89,7 @@ fn change_bytes(bytes: &mut [u8], changes: &str) -> Result<(), CaseError>
     Ok(())
 }
 
-/// The bytes after the changes that a text names, or none where it is `-`.
+/// The bytes after the changes that a text names; `-` names none.
 fn changed(alloc: Global, memory: &[u8], changes: &str) -> Result<Vec<u8>, CaseError>
     ensures limit { IfOk result (λ after. length after.items ≡ length memory.now) }
     ensures none { changes.now ≡ codes "-" → IfOk result (λ after. after.items ≡ memory.now) }
@@ -119,7 +119,7 @@ fn bytes_of(alloc: Global, text: &str) -> Result<Bytes, CaseError>
     Ok(Bytes::from_vec(hex::decode(alloc, text)?))
 }
 
-/// The code, where it doesn't stand in the data.
+/// The code, if it isn't in the data.
 fn code_of(alloc: Global, text: &str) -> Result<Option<Bytes>, CaseError>
     ensures { ReadsField (IsCode text.now) result }
 {
