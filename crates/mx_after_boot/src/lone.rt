@@ -139,7 +139,7 @@ pub(crate) fn call_in_turn<R: Files + Eprint + AllocGlobal + Wait>(
 }
 
 /// Kills the process of an endpoint in slot 0, and puts a new one there. Its endpoint, if both are done.
-fn replaced<M: Naming>(
+fn replace_process<M: Naming>(
     rt: &impl Wait,
     shared: &Shared<M>,
     seat: ActorSeat,
@@ -178,7 +178,7 @@ fn rounds_made<M: Naming>(
     let mut last: u32 = 0;
     mark(rt);
     for round in 0..ROUNDS {
-        let (next, endpoint) = replaced(rt, &shared, seat, last);
+        let (next, endpoint) = replace_process(rt, &shared, seat, last);
         seat = next;
         made = round + 1;
         last = made * GENERATION;

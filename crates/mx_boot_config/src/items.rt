@@ -34,7 +34,7 @@ pub fn before_comment(line: &[u8]) -> &[u8]
 }
 
 /// The number that a line is.
-fn numbered(line: &[u8], least: u32, most: u32) -> Option<u32>
+fn only_number(line: &[u8], least: u32, most: u32) -> Option<u32>
     ensures value { result ≡ number_after_word least most (fields line.now) }
     ensures most { IfSome result (λ n. n ≤ most) }
     ensures least { IfSome result (λ n. least ≤ n) }
@@ -47,7 +47,7 @@ fn numbered(line: &[u8], least: u32, most: u32) -> Option<u32>
 fn rules_of(line: &[u8]) -> Option<Rules>
     ensures { result ≡ rules_after_word (fields line.now) }
 {
-    match numbered(line, 1, 2)? {
+    match only_number(line, 1, 2)? {
         1 => Some(Rules::Lenient),
         _ => Some(Rules::Strict),
     }
@@ -104,9 +104,9 @@ pub fn item_at<'a>(word: &[u8], line: &'a [u8]) -> Option<ConfigItem<'a>>
         };
     }
     match word {
-        b"cpus" => Some(ConfigItem::Cpus(numbered(line, 1, 8)? as u8)),
-        b"log" => Some(ConfigItem::Log(numbered(line, 1, 1_048_576)?)),
-        b"others" => Some(ConfigItem::Others(numbered(line, 1, 4)? as u8)),
+        b"cpus" => Some(ConfigItem::Cpus(only_number(line, 1, 8)? as u8)),
+        b"log" => Some(ConfigItem::Log(only_number(line, 1, 1_048_576)?)),
+        b"others" => Some(ConfigItem::Others(only_number(line, 1, 4)? as u8)),
         b"rules" => Some(ConfigItem::ByRules(rules_of(line)?)),
         _ => None,
     }

@@ -40,7 +40,7 @@ fn recorded_of(verb: Verb, rest: &[u8]) -> Option<Recorded>
 }
 
 /// What a line records after its actor.
-fn recorded(line: &[u8]) -> Option<Recorded>
+fn recorded_after_actor(line: &[u8]) -> Option<Recorded>
     ensures { result ≡ after_verb recorded_of (fields line.now) }
 {
     let (word, rest) = next_field(line)?;
@@ -75,7 +75,7 @@ impl ReadsLine for RecordReader {
     fn read(&self, line: &[u8]) -> Option<Record> {
         let (word, rest) = next_field(line)?;
         let actor = actor(word)?;
-        let event = recorded(rest)?;
+        let event = recorded_after_actor(rest)?;
         made_by(self.actors, actor, event)
     }
 }

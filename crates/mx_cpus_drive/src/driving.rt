@@ -65,7 +65,7 @@ fn serve<M: Naming, G: Gate, R: Wait>(
     } else {
         make_rounds(rt, shared, seat, &door, side, ticks)
     };
-    side.ended(&door);
+    side.report_end(&door);
     seat
 }
 

@@ -37,10 +37,10 @@ pub(crate) fn make_turns<M: Naming, G: Gate, R: Wait>(
         let (next, taken) = shared.take(rt, seat);
         match taken {
             Ok(mut loan) => {
-                let holding = side.held(door, &loan);
+                let holding = side.report_loan(door, &loan);
                 let _stop = loan.run(u32::MAX);
                 seat = shared.give(rt, next, loan);
-                side = holding.given(door, &seat);
+                side = holding.report_return(door, &seat);
             }
             Err(refusal) => {
                 if let Refusal::LogFull = refusal {
@@ -48,7 +48,7 @@ pub(crate) fn make_turns<M: Naming, G: Gate, R: Wait>(
                 }
                 let (next, at_rest) = shared.at_rest(rt, next);
                 seat = next;
-                side = side.asked(door, at_rest);
+                side = side.ask(door, at_rest);
                 if !side.goes_on() {
                     return (seat, side);
                 }
@@ -148,7 +148,7 @@ pub(crate) fn make_rounds<M: Naming, G: Gate, R: Wait>(
         }
         let (next, at_rest) = shared.at_rest(rt, next);
         seat = next;
-        side = side.asked(door, at_rest);
+        side = side.ask(door, at_rest);
         if !side.goes_on() {
             return (seat, side);
         }

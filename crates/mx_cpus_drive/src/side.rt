@@ -48,7 +48,7 @@ impl FreeSide {
     }
 
     /// Reports to the gate a loan that hasn't run yet.
-    pub(crate) fn held<G: Gate>(self, door: &Door<'_, G>, loan: &Loan) -> HoldingSide
+    pub(crate) fn report_loan<G: Gate>(self, door: &Door<'_, G>, loan: &Loan) -> HoldingSide
         requires goes_on { self.goes_on ≡ true }
         requires actor { loan.now.actor ≡ self.actor }
         requires fresh { loan.now.out ≡ loan.now.lent }
@@ -66,7 +66,7 @@ impl FreeSide {
     }
 
     /// Asks the gate whether the loop goes on.
-    pub(crate) fn asked<G: Gate>(self, door: &Door<'_, G>, at_rest: bool) -> FreeSide
+    pub(crate) fn ask<G: Gate>(self, door: &Door<'_, G>, at_rest: bool) -> FreeSide
         requires goes_on { self.goes_on ≡ true }
         ensures called { G.was_called door.now.gate.now (again_call self.actor at_rest result.goes_on) }
         ensures side { (result.actor ≡ self.actor) × (result.turn ≡ self.turn) }
@@ -92,7 +92,7 @@ impl FreeSide {
     }
 
     /// Reports to the gate that the loop has ended.
-    pub(crate) fn ended<G: Gate>(self, door: &Door<'_, G>)
+    pub(crate) fn report_end<G: Gate>(self, door: &Door<'_, G>)
         ensures { G.was_called door.now.gate.now (ended_call self.actor) }
     {
         let FreeSide {
@@ -115,7 +115,7 @@ impl FreeSide {
 
 impl HoldingSide {
     /// Reports to the gate that the loan was given back, by the seat that came back for it.
-    pub(crate) fn given<G: Gate>(self, door: &Door<'_, G>, seat: &ActorSeat) -> FreeSide
+    pub(crate) fn report_return<G: Gate>(self, door: &Door<'_, G>, seat: &ActorSeat) -> FreeSide
         requires actor { seat.now.actor ≡ self.actor }
         requires back { seat.now.held ≡ None }
         ensures called { G.was_called door.now.gate.now (given_call self.actor) }

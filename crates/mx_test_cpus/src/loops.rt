@@ -314,7 +314,7 @@ fn each_slot_is_respawned_in_turn(rt: HostRuntime) -> Result<(), Fail> {
 }
 
 /// Drives a machine, and answers how many records it made.
-fn driven<M: Naming + Send + Sync, R: Threads + Wait + Sync>(
+fn drive_and_count<M: Naming + Send + Sync, R: Threads + Wait + Sync>(
     rt: &R,
     blank: Blank,
     seats: Vec<ActorSeat>,
@@ -344,7 +344,7 @@ fn ends_are_told(rt: HostRuntime) -> Result<(), Fail> {
         let config = config(rt.alloc(), 2, others, 64, 0)?;
         let (blank, seats) = boot(rt.alloc(), &config, &mut services).map_err(|_| "memory")?;
         let gate = NotingGate::new(20);
-        let records = driven::<Brand, _>(&rt, blank, seats, &gate);
+        let records = drive_and_count::<Brand, _>(&rt, blank, seats, &gate);
         assert!(rt; records.is_some(), "{others}");
         for actor in 0..6 {
             let told = gate.count(GateCall::Ended(actor));

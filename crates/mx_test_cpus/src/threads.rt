@@ -92,7 +92,7 @@ fn is_full<M: Naming>(rt: &impl Wait, shared: &Shared<M>, seats: &mut Vec<ActorS
 }
 
 /// Drives a machine until its loops have ended.
-fn driven<M: Naming + Send + Sync, G: Gate + Sync, R: Threads + Wait + Sync>(
+fn drive_to_end<M: Naming + Send + Sync, G: Gate + Sync, R: Threads + Wait + Sync>(
     rt: &R,
     alloc: Global,
     booted: (Blank, Vec<ActorSeat>),
@@ -180,7 +180,7 @@ fn hold_at_once(rt: HostRuntime) -> Result<(), Fail> {
             return Err(Fail::new("no memory"));
         };
         let gate = Meeting::new(row.holders);
-        let ending = driven::<Brand, _, _>(&rt, rt.alloc(), booted, &gate, row.ticks);
+        let ending = drive_to_end::<Brand, _, _>(&rt, rt.alloc(), booted, &gate, row.ticks);
         let (met, ended) = (
             gate.met.load(Ordering::SeqCst),
             gate.ended.load(Ordering::SeqCst),

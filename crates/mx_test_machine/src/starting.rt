@@ -83,7 +83,7 @@ static ROWS: &[Row] = &[
     },
 ];
 
-fn told(alloc: Global, row: &Row) -> Option<Failure> {
+fn fault_of_start(alloc: Global, row: &Row) -> Option<Failure> {
     start::<Script, _>(alloc, &mut reader(), row.config, row.script).err()
 }
 
@@ -91,7 +91,7 @@ fn told(alloc: Global, row: &Row) -> Option<Failure> {
 fn first_faults(rt: HostRuntime) -> Result<(), Fail> {
     for row in ROWS {
         let name = row.name;
-        assert!(rt; told(rt.alloc(), row) == row.told, "{name}");
+        assert!(rt; fault_of_start(rt.alloc(), row) == row.told, "{name}");
     }
     Ok(())
 }

@@ -491,7 +491,7 @@ static HISTORIES: &[Text] = &[
     },
 ];
 
-fn told<T: Drop>(read: Result<Vec<T>, BootError>) -> Result<usize, BootError> {
+fn count_or_fault<T: Drop>(read: Result<Vec<T>, BootError>) -> Result<usize, BootError> {
     match read {
         Ok(lines) => Ok(lines.len()),
         Err(fault) => Err(fault),
@@ -507,14 +507,14 @@ fn records_of(alloc: Global, text: &str, machine: &Config) -> Result<Vec<Record>
 fn read_scripts(rt: &impl Abort, alloc: Global) {
     for row in SCRIPTS {
         let name = row.name;
-        assert!(rt; told(script(alloc, row.text)) == row.told, "{name}");
+        assert!(rt; count_or_fault(script(alloc, row.text)) == row.told, "{name}");
     }
 }
 
 fn read_debug_scripts(rt: &impl Abort, alloc: Global) {
     for row in DEBUG_SCRIPTS {
         let name = row.name;
-        assert!(rt; told(debug_script(alloc, row.text)) == row.told, "{name}");
+        assert!(rt; count_or_fault(debug_script(alloc, row.text)) == row.told, "{name}");
     }
 }
 
@@ -522,7 +522,7 @@ fn read_histories(rt: &impl Abort, alloc: Global, machine: &Config) {
     for row in HISTORIES {
         let name = row.name;
         assert!(rt;
-            told(records_of(alloc, row.text, machine)) == row.told,
+            count_or_fault(records_of(alloc, row.text, machine)) == row.told,
             "{name}"
         );
     }

@@ -1031,7 +1031,7 @@ fn image_of(alloc: Global, row: &Row) -> Result<Image, Fail> {
 }
 
 /// A run by the trait's bound only.
-fn ended<R: Runs>(machine: &mut R, budget: u32) -> (u32, Stop) {
+fn run_by_bound<R: Runs>(machine: &mut R, budget: u32) -> (u32, Stop) {
     machine.run(budget)
 }
 
@@ -1053,7 +1053,7 @@ fn is_left<R: Runs>(machine: &R, memory: &Segment, row: &Row) -> bool {
 fn is_run(image: &mut Image, cache: Option<&mut Cache>, row: &Row) -> bool {
     let made = match cache {
         Some(cache) => run_with(image, cache, row.budget),
-        None => ended(image, row.budget),
+        None => run_by_bound(image, row.budget),
     };
     made == (row.count, row.stop) && image.flags.to_bits() == row.flags_after
 }

@@ -5,7 +5,7 @@ use mx_asm_line::read_line;
 use mx_asm_statement::{Saying, Section, Statement, refusal};
 use std::alloc::Global;
 
-fn told(alloc: Global, text: &[u8]) -> Option<u8> {
+fn code_of_line(alloc: Global, text: &[u8]) -> Option<u8> {
     match read_line(alloc, text) {
         Ok(line) => match refusal(&line, Section::Text, Saying::First) {
             Some(reason) => Some(reason.code()),
@@ -166,7 +166,7 @@ fn is_ascii(alloc: Global) -> bool {
 fn lines(rt: HostRuntime) {
     for row in LINES {
         let text = row.text;
-        let code = told(rt.alloc(), text.as_bytes());
+        let code = code_of_line(rt.alloc(), text.as_bytes());
         assert!(rt; code == code_of(row.problem), "line: {text}");
     }
     assert!(rt; is_ascii(rt.alloc()));

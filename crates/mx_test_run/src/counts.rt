@@ -63,7 +63,7 @@ impl Gate for Counting {
 }
 
 /// A machine once its loops have ended, and what they counted.
-fn driven<M: Naming + Send + Sync, R: Threads + Wait + Sync>(
+fn drive_and_count<M: Naming + Send + Sync, R: Threads + Wait + Sync>(
     rt: &R,
     alloc: Global,
     blank: Blank,
@@ -104,7 +104,7 @@ fn is_counted(history: &[Record], gate: &Counting) -> bool {
 /// Whether a run of a row ends as the row wants, and its threads counted what its history has.
 fn counts_well<R: Threads + Wait + Sync>(rt: &R, alloc: Global, row: &Row) -> Result<bool, Fail> {
     let (blank, seats) = booted(alloc, row)?;
-    let Some((kernel, gate)) = driven::<Brand, _>(rt, alloc, blank, seats, row.ticks) else {
+    let Some((kernel, gate)) = drive_and_count::<Brand, _>(rt, alloc, blank, seats, row.ticks) else {
         return Err(Fail::new("no threads"));
     };
     Ok(is_counted(kernel.history(), &gate) && is_end(alloc, row, &kernel)?)

@@ -135,7 +135,7 @@ fn last_seat<M: Naming>(seats: &mut Vec<ActorSeat>) -> Option<ActorSeat>
 }
 
 /// A machine at its end, and whether the driver was killed while it was held.
-fn killed<M: Naming + Send + Sync, R: Threads + Wait + Sync>(
+fn run_with_kill<M: Naming + Send + Sync, R: Threads + Wait + Sync>(
     rt: &R,
     alloc: Global,
     blank: Blank,
@@ -249,7 +249,7 @@ fn wrong_runs<R: Threads + Wait + Sync>(
     let mut wrong: u32 = 0;
     for _ in 0..RUNS {
         let (blank, seats) = booted(alloc, row)?;
-        let (kernel, was_killed) = killed::<Brand, R>(rt, alloc, blank, seats, runner);
+        let (kernel, was_killed) = run_with_kill::<Brand, R>(rt, alloc, blank, seats, runner);
         if !was_killed || !is_end(alloc, row, &kernel)? {
             wrong = wrong.saturating_add(1);
         }

@@ -73,7 +73,7 @@ fn is_log(text: &[u8], wanted: Log) -> bool {
 }
 
 /// What a replay of a history prints.
-fn replayed(alloc: Global, row: &Row, log: &[u8]) -> Result<Vec<u8>, Fail> {
+fn replay_report(alloc: Global, row: &Row, log: &[u8]) -> Result<Vec<u8>, Fail> {
     let [config, driver, client] = files_of(row);
     let history = NamedFile {
         name: "log",
@@ -97,7 +97,7 @@ fn replayed(alloc: Global, row: &Row, log: &[u8]) -> Result<Vec<u8>, Fail> {
 /// Whether the text of a history and a report are what a row wants, and a replay of the text prints
 /// that report too.
 pub(crate) fn is_left(alloc: Global, row: &Row, log: &[u8], report: &[u8]) -> Result<bool, Fail> {
-    let again = replayed(alloc, row, log)?;
+    let again = replay_report(alloc, row, log)?;
     let wanted = row.report.as_bytes();
     Ok(is_log(log, row.log) && report == wanted && again.as_slice() == wanted)
 }
