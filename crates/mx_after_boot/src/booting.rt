@@ -8,7 +8,7 @@ use mx_cpus_drive::{ActorSeat, Blank, boot};
 use std::rt::Files;
 
 /// The machine of a configuration, and the seats of its actors.
-pub(crate) fn booted<R: Files + AllocGlobal>(
+pub(crate) fn boot_config<R: Files + AllocGlobal>(
     rt: &R,
     config: &str,
 ) -> Result<(Blank, Vec<ActorSeat>), Fault>

@@ -3,7 +3,7 @@
 ghost use Rattle.std.specs.Prelude.{◌≡◌, ◌<◌, All, IfSome, length};
 
 use crate::Fault;
-use crate::booting::{booted, mark};
+use crate::booting::{boot_config, mark};
 use mx_app_step::{Machine, RuntimeFiles, Script, start};
 use mx_cpus_drive::{ActorSeat, Blank, Naming, Shared};
 use mx_exec::Outcome;
@@ -133,7 +133,7 @@ pub(crate) fn call_in_turn<R: Files + Eprint + AllocGlobal + Wait>(
     rt: &R,
     config: &str,
 ) -> Result<(), Fault> {
-    let (blank, seats) = booted(rt, config)?;
+    let (blank, seats) = boot_config(rt, config)?;
     let is_done = are_lent::<Brand>(rt, blank, seats);
     done_or(is_done, "a turn is answered otherwise")
 }
@@ -195,7 +195,7 @@ pub(crate) fn kill_and_respawn<R: Files + Eprint + AllocGlobal + Wait>(
     rt: &R,
     config: &str,
 ) -> Result<(), Fault> {
-    let (blank, seats) = booted(rt, config)?;
+    let (blank, seats) = boot_config(rt, config)?;
     let made = rounds_made::<Brand>(rt, blank, seats);
     done_or(made == (ROUNDS, 20_000), "a round is refused")
 }

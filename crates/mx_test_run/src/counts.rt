@@ -2,7 +2,7 @@
 
 ghost use Rattle.std.specs.Prelude.{◌≡◌, All, None};
 
-use crate::machine::{RUNS, Row, booted, is_end};
+use crate::machine::{RUNS, Row, boot_row, is_end};
 use crate::pairs::{FULL, TALK, TALK_AGAIN, TALK_AND_TICK};
 use mx_cpus_drive::{ActorSeat, Blank, Gate, Kernel, Naming, Shared, drive};
 use mx_machine_world::{Record, Recorded};
@@ -103,7 +103,7 @@ fn is_counted(history: &[Record], gate: &Counting) -> bool {
 
 /// Whether a run of a row ends as the row wants, and its threads counted what its history has.
 fn counts_well<R: Threads + Wait + Sync>(rt: &R, alloc: Global, row: &Row) -> Result<bool, Fail> {
-    let (blank, seats) = booted(alloc, row)?;
+    let (blank, seats) = boot_row(alloc, row)?;
     let Some((kernel, gate)) = drive_and_count::<Brand, _>(rt, alloc, blank, seats, row.ticks) else {
         return Err(Fail::new("no threads"));
     };

@@ -2,7 +2,7 @@
 
 ghost use Rattle.std.specs.Prelude.{◌≡◌, All, IfSome, None};
 
-use crate::machine::{Log, RUNS, Row, booted, is_end};
+use crate::machine::{Log, RUNS, Row, boot_row, is_end};
 use mx_cpus_drive::{ActorSeat, Blank, Gate, Kernel, Naming, Shared, drive};
 use mx_debug::Debugger;
 use mx_machine_world::Answer;
@@ -248,7 +248,7 @@ fn wrong_runs<R: Threads + Wait + Sync>(
 ) -> Result<u32, Fail> {
     let mut wrong: u32 = 0;
     for _ in 0..RUNS {
-        let (blank, seats) = booted(alloc, row)?;
+        let (blank, seats) = boot_row(alloc, row)?;
         let (kernel, was_killed) = run_with_kill::<Brand, R>(rt, alloc, blank, seats, runner);
         if !was_killed || !is_end(alloc, row, &kernel)? {
             wrong = wrong.saturating_add(1);

@@ -103,7 +103,7 @@ pub(crate) fn is_left(alloc: Global, row: &Row, log: &[u8], report: &[u8]) -> Re
 }
 
 /// A row's machine at its boot, and the seats of its actors.
-pub(crate) fn booted(alloc: Global, row: &Row) -> Result<(Blank, Vec<ActorSeat>), Fail>
+pub(crate) fn boot_row(alloc: Global, row: &Row) -> Result<(Blank, Vec<ActorSeat>), Fail>
     ensures tables { IfOk result (λ r. All (λ s. s.table ≡ r.0.table) r.1.items) }
     ensures empties { IfOk result (λ r. All (λ s. s.held ≡ None) r.1.items) }
 {
