@@ -1,4 +1,4 @@
-//! Machines of configurations.
+//! Boots the machines of the tests, and marks where no memory may be taken.
 
 ghost use Rattle.std.specs.Prelude.{◌≡◌, All, IfOk, None};
 

@@ -1,4 +1,4 @@
-//! Events of one thread, after the boot.
+//! Events of one thread after the boot, without memory.
 
 ghost use Rattle.std.specs.Prelude.{◌≡◌, ◌<◌, All, IfSome, length};
 

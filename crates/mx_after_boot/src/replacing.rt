@@ -1,4 +1,4 @@
-//! A driver that is killed while its client awaits it, and respawned.
+//! A driver that is killed while its client awaits it, and respawned, without memory.
 
 use crate::Fault;
 use crate::booting::mark;

@@ -1,4 +1,4 @@
-//! Steps up to a breakpoint.
+//! The line `go` of a debugger's script: steps up to a breakpoint.
 
 ghost use Rattle.std.specs.Prelude.{◌≡◌, IfOk, IfErr};
 ghost use Rattle.mx_app_step.specs.Machine.{world_of};

@@ -1,4 +1,9 @@
 //! What is seen of a history's records.
+//!
+//! # As a trace, but with all steps
+//!
+//! The records are walked by `look_record`, as by `mx trace`. The steps are put into a list, since
+//! the size of the paper comes before the first value.
 
 ghost use Rattle.std.specs.Prelude.{◌≡◌, ◌<◌, ◌≤◌, ◌^◌, ◌++◌, All, IfOk, IfSome, OnOk, length};
 ghost use Rattle.mx_app_step.specs.Machine.{world_of};

@@ -1,4 +1,4 @@
-//! What `one` prints.
+//! What `mx one` prints: registers, flags, and why and when the program stopped.
 
 ghost use Rattle.std.specs.Prelude.{◌≡◌, ℕ, IfErr, IfOk, List, OnOk, string_bytes};
 ghost use Rattle.std.specs.Io.KnownBytes.{Appends};

@@ -1,4 +1,4 @@
-//! A machine whose processors are threads.
+//! `mx run`: boots a machine, drives it by threads, saves its history and prints its report.
 
 ghost use Rattle.std.specs.Prelude.{◌≡◌, ◌<◌, ◌≤◌, ◌++◌, List, All, IfOk, None, length};
 ghost use Rattle.std.specs.Io.KnownBytes.{Appends};
@@ -98,6 +98,7 @@ pub fn run<
     }
     let (config, services) = setup_of(alloc, &mut channels.reader, names.config)?;
     let kernel = run_machine(rt, alloc, &config, services, ticks)?;
+    // If memory runs out for the report, the history is written already.
     write_history(alloc, &kernel, &mut channels.files, names.log)?;
     print_kernel_report(alloc, &kernel, &mut channels.out)
 }

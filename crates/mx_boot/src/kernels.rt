@@ -1,4 +1,4 @@
-//! What is written of a kernel.
+//! The texts of a kernel: its history, and its report.
 
 ghost use Rattle.std.specs.Prelude.{◌≡◌, ◌+◌, ◌++◌, ℕ, List, true, false, OnOk, OnErr, IfOk};
 ghost use Rattle.mx_boot_history.specs.Log.{IsHistory};

@@ -1,4 +1,9 @@
 //! A configuration while its lines are read.
+//!
+//! # Lines without memory
+//!
+//! The lines are judged without memory: services are in a list of 32 places, and their files' names
+//! are parts of the text. Only `into_config` takes memory, after all lines.
 
 ghost use Rattle.std.specs.Prelude.{◌≡◌, ◌≢◌, ◌⊎◌, ◌≤◌, [], None, IfOk, IfErr, OnOk, All, false, length};
 ghost use Rattle.mx_text.specs.declared.error.BootError.TheVariants.{BadLine, NoMemory};

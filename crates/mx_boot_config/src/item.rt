@@ -1,4 +1,4 @@
-//! Items of a configuration.
+//! Items of a configuration: what one line of it can set.
 
 use crate::service::ServiceWords;
 use mx_proc::Rules;

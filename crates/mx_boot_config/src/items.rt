@@ -1,4 +1,4 @@
-//! What a line of a configuration sets.
+//! From a line of a configuration to the item that it sets.
 
 ghost use Rattle.std.specs.Prelude.{◌≡◌, ◌≢◌, ◌≤◌, ◌∷◌, [], ℕ, List, Some, None, MatchOption, IfOk, IfSome, codes, length, take};
 ghost use Rattle.std.specs.List.{before_first, list_any};

@@ -1,4 +1,4 @@
-//! Configurations.
+//! Reads a configuration's text, line by line, up to its first fault.
 
 ghost use Rattle.std.specs.Prelude.{◌≡◌, ◌≤◌, ◌+◌, length, IfOk, IfErr};
 ghost use Rattle.mx_text.specs.Lines.{lines, last_line};

@@ -1,4 +1,4 @@
-//! Services, as lines of a configuration.
+//! A configuration's services, as the words of their lines.
 
 use mx_proc::Masks;
 use mx_text::Name;

@@ -1,4 +1,4 @@
-//! The terms of a service: what its line has after the file.
+//! The terms of a service: what its line in a configuration has after the file.
 
 ghost use Rattle.std.specs.Prelude.{◌≡◌, ◌≤◌, Some, None, MatchOption, IfSome};
 ghost use Rattle.mx_text.specs.Fields.{fields};

@@ -1,4 +1,4 @@
-//! Laws of histories' texts.
+//! Laws of the texts of histories: what is saved is read again, and is of one history only.
 
 ghost use Rattle.std.specs.Prelude.{◌≡◌, ◌≤◌, ℕ, List, All};
 ghost use Rattle.mx_machine_world.specs.declared.history.Record.{Record};

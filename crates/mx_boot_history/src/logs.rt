@@ -1,4 +1,4 @@
-//! Reads the text of a history.
+//! Reads the text of a history: its rules, and its records.
 
 ghost use Rattle.std.specs.Prelude.{◌≡◌, ◌≤◌, ◌+◌, length, List, All, IfOk, IfErr, MatchResult};
 ghost use Rattle.mx_text.specs.declared.error.BootError.TheVariants.{NoMemory};
@@ -170,6 +170,7 @@ fn read_log(alloc: Global, text: &str, actors: u8) -> Result<(Rules, Vec<Record>
 {
     let bytes = text.as_bytes();
     let read = read_records(alloc, text, actors);
+    // After all lines, so that a fault above the last line comes first.
     if is_ended(bytes) {
         return read;
     }

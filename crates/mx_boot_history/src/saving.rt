@@ -1,4 +1,4 @@
-//! Writes the text of a history.
+//! Writes the text of a history to a sink.
 
 ghost use Rattle.std.specs.Prelude.{◌≡◌, ◌≤◌, ◌<◌, ◌+◌, ◌++◌, ◌∷◌, ℕ, List, true, false, length, OnOk, OnErr, codes};
 ghost use Rattle.std.specs.Fmt.{decimal};

@@ -1,4 +1,10 @@
 //! What takes bytes.
+//!
+//! # No sink over a file
+//!
+//! A contract can't state what a file took. So a history is saved as one text in memory, which is
+//! then written. Each error of a writer, an interruption too, is the sink's failure: nothing is
+//! tried again.
 
 ghost use Rattle.std.specs.Prelude.{◌≡◌, ◌<◌, ◌∷◌, [], ℕ, Bool, false, List, IsSome, Some, length};
 ghost use Rattle.mx_boot_history.specs.Taking.{SinkTakes};

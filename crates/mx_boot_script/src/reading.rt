@@ -1,4 +1,9 @@
 //! Texts that are read line by line.
+//!
+//! # One loop
+//!
+//! Scripts, debugger's scripts and histories are read by `read_lines`, each with its own reader of
+//! one line. So the number of the line at fault is counted only here.
 
 ghost use Rattle.std.specs.Prelude.{◌≡◌, ◌++◌, ◌∷◌, [], false, ℕ, List, Option, IfOk, IfErr};
 ghost use Rattle.mx_text.specs.Lines.{lines};
@@ -55,6 +60,7 @@ where
         rest = below;
         number += 1;
     }
+    // Only now: each line is well formed.
     if is_wanting {
         return Err(BootError::NoMemory);
     }

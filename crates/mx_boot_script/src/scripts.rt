@@ -1,4 +1,4 @@
-//! The lines of a script.
+//! The lines of a script, as values.
 
 ghost use Rattle.std.specs.Prelude.{◌≡◌, IfOk, IfErr};
 ghost use Rattle.mx_text.specs.Lines.{lines};

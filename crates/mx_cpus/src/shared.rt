@@ -1,4 +1,4 @@
-//! The machine that threads share.
+//! The machine that threads share, and its calls under the lock.
 
 ghost use Rattle.std.specs.Prelude.{◌≡◌, IfOk, IfErr, All, length};
 ghost use Rattle.mx_machine_world.specs.declared.events.Event.TheVariants as events;
@@ -15,6 +15,7 @@ use std::sync::{Mutex, Wait};
 /// memory.
 pub struct Shared<M: Naming> {
     lock: Mutex<Locked<M>>,
+    /// How many processors there are. It never changes, so it isn't under the lock.
     cpus: u8,
     ghost counted: { cpus ≡ length M.boot.cpus },
 }
@@ -48,6 +49,7 @@ impl<M: Naming> Shared<M> {
     {
         let Shared { lock, cpus: _ } = self;
         let mut locked = lock.into_inner();
+        // Each seat sees the history here, so what it shows is in the history.
         for seat in seats {
             let _seat = locked.show(seat);
         }

@@ -1,4 +1,10 @@
 //! A thread for each processor, and one for the respawner.
+//!
+//! # Threads without a list
+//!
+//! `drive_all` takes the last seat, starts a thread for it, goes on with the seats before it, and
+//! joins the thread on its way back. So no list of threads is needed, each thread is joined on each
+//! way out, and the room of the list of seats takes the seats back.
 
 ghost use Rattle.std.specs.Prelude.{◌≡◌, ◌≤◌, None, IfOk, OnErr, OnOk, All, length, vec_capacity, vec_len};
 ghost use Rattle.mx_cpus_drive.specs.Gates.{ended_call};
@@ -60,6 +66,7 @@ fn serve<M: Naming, G: Gate, R: Wait>(
     let door = Door::new(gate);
     let actor = seat.actor();
     let side = FreeSide::new(actor);
+    // The seat's actor decides which loop it gets, so the order of the seats doesn't matter.
     let (seat, side) = if actor < shared.cpus() {
         make_turns(rt, shared, seat, &door, side)
     } else {
@@ -136,12 +143,14 @@ fn drive_all<'s, E, M: Naming + Send + Sync, G: Gate + Sync, R: Threads + Wait +
     let Some(seat) = seats.pop() else {
         return Ok(());
     };
+    // A further actor has no loop.
     if seat.actor() > context.shared.cpus() {
         drive_all(scope, context, seats)?;
         seats.push_reserved(seat);
         return Ok(());
     }
     let started = start(scope, context, seat);
+    // Also if this thread couldn't be made: the gate knows it, and ends the other loops.
     let others = drive_all(scope, context, seats);
     let seat = started?.join(context.rt);
     others?;

@@ -1,4 +1,4 @@
-//! Which machine a type speaks of.
+//! The name of a shared machine, as a type.
 
 use std::marker::Brand;
 

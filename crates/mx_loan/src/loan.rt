@@ -1,4 +1,4 @@
-//! A process that is lent to an actor.
+//! A loan: a process that is lent to an actor, who may only run it and bring it back.
 
 ghost use Rattle.std.specs.Prelude.{◌≡◌};
 ghost use Rattle.mx_machine_world.specs.Held.{IsRunOf};

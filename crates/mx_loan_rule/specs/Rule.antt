@@ -141,8 +141,11 @@ pub record RuleHolds (words : List ℕ) (views : List Knowledge) : Type 0 where
   -- which seat has the kernel's half, and which an actor's
   pub kernel : ℕ
   pub place : ℕ → ℕ
+  -- only this seat has the kernel's half, and it knows this history and this list
   pub knows : (by : ℕ) (v : Knowledge) → get_elem? views by ≡ some v → v.knows ≡ true → (by ≡ kernel) × KernelFacts words log lent v
+  -- each actor's half is in one seat, and the actor's word relates it to the history and the list
   pub sits : (by : ℕ) (v : Knowledge) → get_elem? views by ≡ some v → v.sits ≡ true → (by ≡ place v.actor) × ActorFacts words log lent v
+  -- only the kernel's seat makes actors' seats, before anything has happened
   pub found : (by : ℕ) (v : Knowledge) → get_elem? views by ≡ some v → v.founding ≡ true → (by ≡ kernel) × FoundingFacts words views log lent v
 
 -- the rule for a view that has both halves, by that view only

@@ -1,4 +1,4 @@
-//! The rule of the table, and the kinds of step that keep it.
+//! The rule of the loans' table, and the kinds of step that preserve it.
 
 use crate::knowledge::{Announcement, Knowledge, TableSizes};
 use atomic_table::{Join, Play, Split, TableRule};

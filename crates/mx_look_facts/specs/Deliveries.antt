@@ -14,7 +14,7 @@ got_from x s = count_by (got x) (range_with_len s (32 - s))
 unfoldable pub delivery_to : Step → ℕ → Option Delivery
 delivery_to x s = if got x s then slice_index_or x.after.deliveries (got_from x (s + 1)) None else None
 
--- ---- notifications that wait: HARDWARE at 0, CLOCK at 1, slot 0 from 2 on
+-- ---- pending notifications: HARDWARE at 0, CLOCK at 1, slot 0 from 2 on
 
 abbrev pub is_pending : SlotGlance → ℕ → Bool
 is_pending g place = nat_lt place 34 && slice_index_or g.pending place false

@@ -1,4 +1,4 @@
-//! Deliveries, and notifications that become pending.
+//! The facts of deliveries in a step, and of notifications that become pending.
 
 ghost use Rattle.std.specs.Prelude.{◌≡◌, ◌≤◌, ◌<◌, ◌+◌};
 ghost use Rattle.mx_look_facts.specs.Deliveries.{got_from, delivery_to, is_pending, is_new_bit};
@@ -29,7 +29,7 @@ pub fn delivery_to(step: &Step, slot: u32) -> Option<Delivery>
     step.after.deliveries[got_from(step, slot + 1)]
 }
 
-/// Whether a notification waits.
+/// Whether a notification is pending.
 fn is_pending(seen: &SlotGlance, place: u32) -> bool
     ensures { result ≡ is_pending seen.now place }
 {

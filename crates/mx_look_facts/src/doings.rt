@@ -1,4 +1,4 @@
-//! Kinds of what a process does.
+//! Kinds of what a process does, and when two of them are equal.
 
 ghost use Rattle.std.specs.Prelude.{◌≡◌};
 ghost use Rattle.mx_look_facts.specs.Doings.{is_ready, is_waiting, is_listening, is_out, is_down, same_cause, same_awaited, same_doing};

@@ -1,4 +1,4 @@
-//! What a process does.
+//! What a process does at a glance: it is ready, waits, is out, is down.
 
 ghost use Rattle.std.specs.Prelude.{◌≡◌};
 ghost use Rattle.mx_proc.specs.TableState.{endpoint_of};

@@ -1,4 +1,4 @@
-//! A glance at a machine.
+//! A glance at a whole machine: its slots, its processors, its devices and deliveries.
 
 ghost use Rattle.std.specs.Prelude.{◌≡◌};
 ghost use Rattle.mx_machine_world.specs.World.{held_by};

@@ -1,4 +1,4 @@
-//! What is looked at of an image.
+//! A glance at an image: its registers of a trap, and its message.
 
 ghost use Rattle.std.specs.Prelude.{◌≡◌, ◌+◌, ◌≤◌};
 ghost use Rattle.mx_look_glance.specs.Images.{word_at, nine_words, message_at, image_glance};

@@ -1,4 +1,4 @@
-//! What is looked at of the console and of the recorded deliveries.
+//! A glance at the console and at the recorded deliveries.
 
 ghost use Rattle.std.specs.Prelude.{◌≡◌, ◌≤◌};
 ghost use Rattle.mx_look_glance.specs.Kept.{last_byte, kept_count, latest, latest_deliveries};
@@ -21,6 +21,7 @@ fn kept_count(table: &Table) -> usize
     ensures count { result ≡ kept_count table.now.deliveries }
     ensures few { result ≤ 1024 }
 {
+    // By halving, because a table has no count of its recorded deliveries.
     let mut low = 0;
     let mut high = KEPT_DELIVERIES;
     while low < high {

@@ -1,5 +1,10 @@
 //! The laws. They have no code: they state that the facts from two glances are what the event
 //! between them did.
+//!
+//! # What an event delivers
+//!
+//! It is what is recorded after the event in this world without recorded deliveries. That an event
+//! makes these deliveries whatever is recorded before is shown first.
 
 ghost use Rattle.std.specs.Prelude.{ℕ};
 ghost use Rattle.mx_machine_world.specs.declared.history.Record.{Record};

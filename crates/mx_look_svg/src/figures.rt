@@ -1,4 +1,4 @@
-//! The figures: each value's element.
+//! The figures of a picture: each value's SVG element.
 
 ghost use Rattle.std.specs.Prelude.{◌≡◌, ◌++◌, OnOk};
 ghost use Rattle.mx_look_svg.specs.Figures.{class, bar_text, anchored, placed, label_text, point, circle, head_base, head_text, ring_text, arrow_end, line_text, stem_text, arrow_text, moved, path_text, death_text, mark_text, value_text};

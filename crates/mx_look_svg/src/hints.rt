@@ -1,4 +1,9 @@
 //! What a viewer shows when it is asked about a value.
+//!
+//! # From a hint to its text
+//!
+//! A hint names a record and perhaps a slot. It becomes a line of the trace only when its value is
+//! printed.
 
 ghost use Rattle.std.specs.Prelude.{◌≡◌, ◌++◌, OnOk};
 ghost use Rattle.mx_look_svg.specs.Hints.{step_line, kept_hint, on_processor, standing_hint, placed_line, hint_line, told, hint_text, end_text};

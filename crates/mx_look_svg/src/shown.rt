@@ -1,4 +1,4 @@
-//! Text between tags.
+//! Texts and numbers of an SVG document, between its tags and in them.
 
 ghost use Rattle.std.specs.Prelude.{◌≡◌, ◌<◌, ◌++◌, length, OnOk};
 ghost use Rattle.std.specs.Fmt.{decimal};

@@ -1,4 +1,4 @@
-//! The words of a text.
+//! The words of a picture's texts.
 
 ghost use Rattle.std.specs.Prelude.{◌≡◌, ◌++◌, OnOk};
 ghost use Rattle.mx_look_svg.specs.Texts.{counted, span_text, title_text, who_text, standing_text, two_digits, call_name, kernel_name, deed_word, deed_text, refused_text, key_text, text_words};

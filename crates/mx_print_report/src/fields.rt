@@ -1,4 +1,4 @@
-//! The fields of a slot's line.
+//! The fields of a service's line in the report.
 
 ghost use Rattle.std.specs.Prelude.{◌≡◌, ◌<◌, ◌++◌, ◌∷◌, OnOk, codes, length};
 ghost use Rattle.std.specs.Fmt.{decimal};
@@ -111,6 +111,7 @@ pub fn push_state(
         ++ spaced_fields (state_words table.now slot state)) }
 {
     match state {
+        // No process is at home once an event is over. With this row the report needs no condition.
         State::Home => push_field(out, b"home"),
         State::Ready => push_field(out, b"ready"),
         State::Out => push_field(out, b"out"),

@@ -1,4 +1,4 @@
-//! The report.
+//! The report on a machine's table of processes, as text.
 
 ghost use Rattle.std.specs.Prelude.{◌≡◌, ◌<◌, ◌++◌, OnOk, IfOk, codes, length};
 ghost use Rattle.std.specs.Fmt.{decimal};

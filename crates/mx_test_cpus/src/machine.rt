@@ -1,4 +1,4 @@
-//! Machines for the trials: some number of equal services on some number of processors.
+//! Shared machines for the tests: some number of equal services on some number of processors.
 
 ghost use Rattle.std.specs.Prelude.{◌≡◌, ◌<◌, ◌≤◌, All, IfOk, IfSome, None, length};
 

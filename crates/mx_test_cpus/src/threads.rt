@@ -1,4 +1,4 @@
-//! Processors that run at the same time, each in a thread of its own.
+//! Tests of processors that run at the same time, each in a thread of its own.
 
 ghost use Rattle.std.specs.Prelude.{◌≡◌, All, None};
 

@@ -1,4 +1,4 @@
-//! Texts that go the whole way.
+//! Texts that go the whole way: assembled, written, read, loaded and listed.
 
 use crate::aout::SHORT;
 use crate::bytes::has_bytes;

@@ -1,4 +1,4 @@
-//! What is seen of a machine's memory.
+//! Whether bytes of a machine's memory are as a row wants them.
 
 use mx_exec::Image;
 use mx_image::Runs;

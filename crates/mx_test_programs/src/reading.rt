@@ -1,4 +1,4 @@
-//! Lines of every kind.
+//! Lines of an assembler's text, of every kind.
 
 use mx_asm::Problem;
 use mx_asm_line::read_line;

@@ -1,4 +1,4 @@
-//! The order of the reasons.
+//! The order of the reasons to refuse a statement of the assembler.
 
 use mx_asm_statement::{Line, Reason, Saying, Section, StatementStart, Value, refusal};
 

@@ -1,4 +1,4 @@
-//! A case, as a line has it.
+//! A case: one step of a real processor, as a line has it.
 
 ghost use Rattle.std.specs.Prelude.{◌≡◌, length};
 

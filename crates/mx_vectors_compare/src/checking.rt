@@ -1,4 +1,4 @@
-//! Takes the step of a case and compares.
+//! Takes the step of a case, and compares it with the processor's.
 
 ghost use Rattle.std.specs.Prelude.{◌≡◌, ◌↔◌, length, IsTrue, IfOk, IfErr, IsOk, Some};
 ghost use Rattle.mx_decode.specs.Decode.{front};

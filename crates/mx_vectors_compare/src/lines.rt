@@ -1,4 +1,4 @@
-//! Every line of a text.
+//! Takes the step of each line of a text, and counts.
 
 ghost use Rattle.std.specs.Prelude.{◌≡◌, ◌≤◌, ◌↔◌, ◌⊎◌, Bool, IsTrue, IfOk, IfErr};
 ghost use Rattle.mx_vectors_compare.specs.declared.case.Case.{Case};

@@ -1,4 +1,4 @@
-//! Reads a line.
+//! Reads a line of the processor's steps as a case.
 
 ghost use Rattle.std.specs.Prelude.{◌≡◌, ◌==◌, IfOk, codes, length, map};
 ghost use Rattle.std.specs.List.{slice_split};

@@ -1,4 +1,4 @@
-//! Prints what isn't as a case has it.
+//! Prints the fields of a step that aren't as a case has them.
 
 use crate::{Case, compared_flags, number_of, wanted_flags};
 use mx_exec::{Image, Outcome};
