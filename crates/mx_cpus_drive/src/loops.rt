@@ -38,6 +38,7 @@ pub(crate) fn make_turns<M: Naming, G: Gate, R: Wait>(
         match taken {
             Ok(mut loan) => {
                 let holding = side.report_loan(door, &loan);
+                // No budget is larger, so it runs until its budget is spent or it stops.
                 let _stop = loan.run(u32::MAX);
                 seat = shared.give(rt, next, loan);
                 side = holding.report_return(door, &seat);
@@ -92,6 +93,7 @@ fn sweep<M: Naming, R: Wait>(rt: &R, shared: &Shared<M>, seat: ActorSeat) -> (Ac
     for slot in 0..SLOTS {
         let (next, answer) = shared.respawn(rt, seat, slot);
         seat = next;
+        // Another refusal, as of a slot that isn't down, doesn't end the sweep.
         if let Err(Refusal::LogFull) = answer {
             return (seat, Progress::Full);
         }
@@ -113,6 +115,7 @@ fn make_round<M: Naming, R: Wait>(
         return sweep(rt, shared, seat);
     }
     let (seat, ticked) = shared.tick(rt, seat);
+    // A tick is refused only at a full history.
     if ticked.is_err() {
         return (seat, Progress::Full);
     }
