@@ -66,7 +66,11 @@ fn replay_text(alloc: Global, text: &[u8], out: &mut Vec<u8>) -> Result<Replayed
 
 /// The answer for a text with so many whole lines, some of them above the records, and what is
 /// printed.
-fn wanted_answer(lines: usize, above: usize, is_whole: bool) -> (Result<Replayed, Failure>, &'static str) {
+fn wanted_answer(
+    lines: usize,
+    above: usize,
+    is_whole: bool,
+) -> (Result<Replayed, Failure>, &'static str) {
     match REPORTS.get(lines.saturating_sub(above)) {
         Some(report) if is_whole => (Ok(Replayed::Whole), *report),
         _ => {

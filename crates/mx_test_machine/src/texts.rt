@@ -507,14 +507,20 @@ fn records_of(alloc: Global, text: &str, machine: &Config) -> Result<Vec<Record>
 fn read_scripts(rt: &impl Abort, alloc: Global) {
     for row in SCRIPTS {
         let name = row.name;
-        assert!(rt; count_or_fault(script(alloc, row.text)) == row.told, "{name}");
+        assert!(rt;
+            count_or_fault(script(alloc, row.text)) == row.told,
+            "{name}"
+        );
     }
 }
 
 fn read_debug_scripts(rt: &impl Abort, alloc: Global) {
     for row in DEBUG_SCRIPTS {
         let name = row.name;
-        assert!(rt; count_or_fault(debug_script(alloc, row.text)) == row.told, "{name}");
+        assert!(rt;
+            count_or_fault(debug_script(alloc, row.text)) == row.told,
+            "{name}"
+        );
     }
 }
 

@@ -104,7 +104,8 @@ fn is_counted(history: &[Record], gate: &Counting) -> bool {
 /// Whether a run of a row ends as the row wants, and its threads counted what its history has.
 fn counts_well<R: Threads + Wait + Sync>(rt: &R, alloc: Global, row: &Row) -> Result<bool, Fail> {
     let (blank, seats) = boot_row(alloc, row)?;
-    let Some((kernel, gate)) = drive_and_count::<Brand, _>(rt, alloc, blank, seats, row.ticks) else {
+    let Some((kernel, gate)) = drive_and_count::<Brand, _>(rt, alloc, blank, seats, row.ticks)
+    else {
         return Err(Fail::new("no threads"));
     };
     Ok(is_counted(kernel.history(), &gate) && is_end(alloc, row, &kernel)?)
