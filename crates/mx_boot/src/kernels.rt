@@ -1,4 +1,8 @@
 //! The texts of a kernel: its history, and its report.
+//!
+//! # Why here
+//!
+//! These functions print by the crates of texts, which the kernel's own crate doesn't know.
 
 ghost use Rattle.std.specs.Prelude.{◌≡◌, ◌+◌, ◌++◌, ℕ, List, true, false, OnOk, OnErr, IfOk};
 ghost use Rattle.mx_boot_history.specs.Log.{IsHistory};
