@@ -838,8 +838,8 @@ fn is_done<R: Threads + Wait + Clock + Sync>(rt: &R, alloc: Global, row: &Done) 
         && is_kept(channels.files.writer().files(), row.file)
 }
 
-/// Whether words fail so, with nothing printed or written, if standard output breaks in this way; a
-/// mistake in the words has lines of clap's own.
+/// Whether words fail so, with nothing printed or written, if what takes bytes is broken in this
+/// way; a mistake in the words has lines of clap's own.
 fn is_told<R: Threads + Wait + Clock + Sync>(
     rt: &R,
     alloc: Global,

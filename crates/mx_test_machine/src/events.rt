@@ -707,7 +707,7 @@ fn are_rounds(alloc: Global, machine: &mut Machine, rounds: &[Round]) -> bool {
     true
 }
 
-/// Whether a tool's run has an answer through its bound, and is refused if a processor is empty.
+/// Whether a tool's run by its trait's bound is as wanted, and is refused if a processor is empty.
 fn is_lent(machine: &mut Machine) -> bool {
     work(machine, 0, &mut Steps(9)) == Err(Refusal::CpuEmpty)
         && work(machine, 8, &mut Steps(1)) == Err(Refusal::CpuEmpty)
