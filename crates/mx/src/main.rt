@@ -1,4 +1,9 @@
-//! The program `mx`: `main` alone.
+//! The program `mx`: only `main`.
+//!
+//! # Why it is so small
+//!
+//! What `mx` does is in the library `mx_app`, so that a change of one function doesn't build and
+//! link a program.
 #![tactic(auto)]
 
 pub use mx_app::{

@@ -1,4 +1,4 @@
-//! Machines of configurations.
+//! Boots the machines of the tests, and marks where no memory may be taken.
 
 ghost use Rattle.std.specs.Prelude.{◌≡◌, All, IfOk, None};
 
@@ -8,7 +8,7 @@ use mx_cpus_drive::{ActorSeat, Blank, boot};
 use std::rt::Files;
 
 /// The machine of a configuration, and the seats of its actors.
-pub(crate) fn booted<R: Files + AllocGlobal>(
+pub(crate) fn boot_config<R: Files + AllocGlobal>(
     rt: &R,
     config: &str,
 ) -> Result<(Blank, Vec<ActorSeat>), Fault>
@@ -28,7 +28,7 @@ pub(crate) fn booted<R: Files + AllocGlobal>(
     }
 }
 
-/// Says where no memory is wanted any more, and where it is wanted again.
+/// Marks from where on no memory may be taken, and where it may be taken again.
 pub(crate) fn mark<R: Eprint>(rt: &R) {
     let _ = eprint!(rt; "mark\n");
 }

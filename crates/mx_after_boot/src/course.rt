@@ -1,4 +1,4 @@
-//! What the threads of a soak share beside the machine.
+//! What the threads of a soak share, other than the machine.
 
 use mx_cpus_drive::Gate;
 use std::sync::Barrier;
@@ -14,7 +14,7 @@ pub(crate) const SLOTS: usize = 8;
 /// How often an actor looks whether processes were given back, before it goes on anyway.
 const PATIENCE: u32 = 1_000;
 
-/// Where the threads wait for each other, and what they tell each other.
+/// Where the threads wait for each other, and what each lets the others know.
 #[derive(Drop)]
 pub(crate) struct Course {
     /// All threads have started; no more memory is wanted; all loops have ended.
@@ -62,7 +62,8 @@ impl Course {
         self.is_full.store(true, Ordering::SeqCst);
     }
 
-    /// Waits until processes were given back that many times, for a while.
+    /// Waits for a while until processes were given back `times` more times, or the history is
+    /// full.
     pub(crate) fn wait_for_gives(&self, times: u32) {
         let before = self.given.load(Ordering::SeqCst);
         for _ in 0..PATIENCE {

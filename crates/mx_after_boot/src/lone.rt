@@ -1,9 +1,9 @@
-//! Events of one thread, after the boot.
+//! Events of one thread after the boot, without memory.
 
 ghost use Rattle.std.specs.Prelude.{◌≡◌, ◌<◌, All, IfSome, length};
 
 use crate::Fault;
-use crate::booting::{booted, mark};
+use crate::booting::{boot_config, mark};
 use mx_app_step::{Machine, RuntimeFiles, Script, start};
 use mx_cpus_drive::{ActorSeat, Blank, Naming, Shared};
 use mx_exec::Outcome;
@@ -133,13 +133,13 @@ pub(crate) fn call_in_turn<R: Files + Eprint + AllocGlobal + Wait>(
     rt: &R,
     config: &str,
 ) -> Result<(), Fault> {
-    let (blank, seats) = booted(rt, config)?;
+    let (blank, seats) = boot_config(rt, config)?;
     let is_done = are_lent::<Brand>(rt, blank, seats);
     done_or(is_done, "a turn is answered otherwise")
 }
 
 /// Kills the process of an endpoint in slot 0, and puts a new one there. Its endpoint, if both are done.
-fn replaced<M: Naming>(
+fn replace_process<M: Naming>(
     rt: &impl Wait,
     shared: &Shared<M>,
     seat: ActorSeat,
@@ -178,7 +178,7 @@ fn rounds_made<M: Naming>(
     let mut last: u32 = 0;
     mark(rt);
     for round in 0..ROUNDS {
-        let (next, endpoint) = replaced(rt, &shared, seat, last);
+        let (next, endpoint) = replace_process(rt, &shared, seat, last);
         seat = next;
         made = round + 1;
         last = made * GENERATION;
@@ -195,7 +195,7 @@ pub(crate) fn kill_and_respawn<R: Files + Eprint + AllocGlobal + Wait>(
     rt: &R,
     config: &str,
 ) -> Result<(), Fault> {
-    let (blank, seats) = booted(rt, config)?;
+    let (blank, seats) = boot_config(rt, config)?;
     let made = rounds_made::<Brand>(rt, blank, seats);
     done_or(made == (ROUNDS, 20_000), "a round is refused")
 }

@@ -1,4 +1,4 @@
-//! A driver that is killed while its client awaits it, and respawned.
+//! A driver that is killed while its client awaits it, and respawned, without memory.
 
 use crate::Fault;
 use crate::booting::mark;
@@ -19,7 +19,7 @@ const OTHER: u8 = 2;
 /// What a call to a process that is dead answers: EDEADDST.
 const DEAD: u32 = 0xFFFF_FF97;
 
-/// Where the driver keeps a byte, what its file has there, and what the driver writes there.
+/// Where the driver has a byte, what its file has there, and what the driver writes there.
 const PLACE: u32 = 0;
 
 const OF_THE_FILE: u32 = 5;
@@ -54,7 +54,8 @@ fn is_told(machine: &Machine, answer: u32) -> bool {
     CLIENT < table.used() && table.process(CLIENT).image.register(Register::Eax) == answer
 }
 
-/// Whether the client awaits the driver, is told of its death, and the driver's data are the file's again.
+/// Whether the client awaits the driver, has the notice of its death, and the driver's data are the
+/// file's again.
 fn is_respawned(machine: &mut Machine) -> bool {
     is_turn(machine, 0, WAIT)
         && is_turn(machine, 0, CALL)

@@ -3,7 +3,7 @@
 ghost use Rattle.std.specs.Prelude.{◌≡◌, All, None, length};
 
 use crate::Fault;
-use crate::booting::{booted, mark};
+use crate::booting::{boot_config, mark};
 use crate::course::{Course, SLOTS, THREADS};
 use mx_app_step::{FileWriter, RuntimeWriter, print_text, report, saved_text};
 use mx_cpus_drive::{ActorSeat, Blank, Kernel, Naming, Shared, processor};
@@ -208,7 +208,7 @@ pub(crate) fn fill_history<R>(rt: &R, config: &str, log: &str) -> Result<(), Fau
 where
     R: Files + Print + Eprint + AllocGlobal + Threads + Wait + Sync,
 {
-    let (blank, seats) = booted(rt, config)?;
+    let (blank, seats) = boot_config(rt, config)?;
     let kernel = drive_until_full::<Brand, _>(rt, rt.alloc(), blank, seats)?;
     let saved = saved_text(rt.alloc(), &kernel).map_err(|_| Fault("no memory"))?;
     let printed = report(rt.alloc(), &kernel).map_err(|_| Fault("no memory"))?;

@@ -16,7 +16,7 @@ use Rattle.mx_app_db.proofs.Made.{both}
 abbrev pub report_on : DebuggedWorld → List ℕ
 report_on d = report_text d.world.table d.world.services
 
--- what is told of lines, and the report on where they lead
+-- the answers to lines, and the report on where they lead
 abbrev pub text_of : ℕ → DebuggedWorld → List DebugLine → List ℕ
 text_of other d lines = debug_lines_text other d lines ++ report_on (debug_lines_made other d lines)
 

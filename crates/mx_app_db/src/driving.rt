@@ -48,6 +48,7 @@ fn print_said<W: Write>(
     if let Err(Failure::File) = done {
         return done;
     }
+    // Also if memory ran out: what was made before is printed.
     print_text(text.as_bytes(), out)?;
     done?;
     Ok(())

@@ -1,4 +1,4 @@
-//! Steps up to a breakpoint.
+//! The line `go` of a debugger's script: steps up to a breakpoint.
 
 ghost use Rattle.std.specs.Prelude.{◌≡◌, IfOk, IfErr};
 ghost use Rattle.mx_app_step.specs.Machine.{world_of};
@@ -63,6 +63,7 @@ pub fn go(machine: &mut Machine, debugger: &Debugger, cpu: u8, steps: u32) -> Re
         },
     };
     machine.work(cpu, &mut tool)?;
+    // The first step is made also at a breakpoint, so the process is at a stop.
     if steps != 0 && tool.halt.count == 0 {
         return Err(Refusal::AtStop);
     }

@@ -1,4 +1,4 @@
-//! Lines of a debugger's script.
+//! Performs the lines of a debugger's script, and prints their answers.
 
 ghost use Rattle.std.specs.Prelude.{◌≡◌, ◌<◌, ◌++◌, [], IfErr, OnOk, string_bytes};
 ghost use Rattle.mx_app_step.specs.Failure.{IsWanting};

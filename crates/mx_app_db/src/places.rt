@@ -25,7 +25,7 @@ fn address_of(program: &Program, place: &CodePlace) -> Result<u32, DebugError>
 }
 
 /// The slot and the address that a line of a script names, or why there is none.
-fn found(kernel: &Kernel, slot: u32, place: &CodePlace) -> Result<(Slot, u32), Refused>
+fn find_place(kernel: &Kernel, slot: u32, place: &CodePlace) -> Result<(Slot, u32), Refused>
     ensures { result ≡ place_found (replay kernel.now).services slot place.now }
 {
     kernel.opened();
@@ -47,7 +47,7 @@ pub fn set_breakpoint(
     ensures { breakpoints_after_break debugger.old
         (place_found (replay kernel.now).services slot place.now) ≡ (result, debugger.new) }
 {
-    let (slot, at) = found(kernel, slot, place)?;
+    let (slot, at) = find_place(kernel, slot, place)?;
     debugger.add(slot, at)?;
     Ok(())
 }
@@ -63,7 +63,7 @@ pub fn clear_breakpoint(
     ensures { breakpoints_after_clear debugger.old
         (place_found (replay kernel.now).services slot place.now) ≡ (result, debugger.new) }
 {
-    let (slot, at) = found(kernel, slot, place)?;
+    let (slot, at) = find_place(kernel, slot, place)?;
     debugger.remove(slot, at);
     Ok(())
 }

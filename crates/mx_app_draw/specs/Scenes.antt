@@ -17,7 +17,7 @@ use Rattle.mx_app_step.specs.Records.{IsRefusedAt}
 use Rattle.mx_app_step.specs.Traces.{step_of}
 use Rattle.mx_app_draw.specs.declared.seeing.Seen.{Seen}
 
--- at most 1,000 records are drawn, the first of which is 1 where 0 is asked for
+-- at most 1,000 records are drawn, the first of which is 1 if 0 is asked for
 abbrev pub last_drawn : ℕ → ℕ → ℕ
 last_drawn from to = min (max from 1 + 999) to
 
@@ -40,7 +40,7 @@ IsSeen w records from seen =
     (made : List Record) × AreMade w records seen.refused made
     × (seen.steps.items ≡ steps_drawn from w 1 made) × (seen.world ≡ glance_of (world_after_events w (events_of_history made)))
 
--- a number that doesn't fit into 32 bits is told as the largest that does
+-- of a number that doesn't fit into 32 bits, the largest that does
 abbrev pub told_number : ℕ → ℕ
 told_number n = min n 4294967295
 

@@ -1,4 +1,4 @@
-//! The picture of a history, from files' names to its text.
+//! `mx draw`: the picture of a history, from files' names to its text.
 
 ghost use Rattle.std.specs.Prelude.{◌≡◌, ◌<◌, ◌≤◌, ◌+◌, ◌^◌, ◌++◌, ℕ, List, All, IfOk, IfErr, OnOk, length, max};
 ghost use Rattle.std.specs.Io.KnownBytes.{Appends};
@@ -40,8 +40,8 @@ fn print_picture<W: Write>(alloc: Global, scene: &Scene, out: &mut W) -> Result<
     print_text(text.as_slice(), out)
 }
 
-/// Makes records, which are the first of a history, and prints the picture of a part of it; at an event that
-/// is refused, of the records above it.
+/// Makes records, which are the first of a history, and prints the picture of a part of it. At an
+/// event that is refused it prints the picture of the records above it.
 fn print_drawing<W: Write>(
     alloc: Global,
     machine: &mut Machine,

@@ -13,7 +13,7 @@ use mx_look_svg::Scene;
 use mx_machine_world::Refusal;
 use std::alloc::{AllocError, Global};
 
-/// A number as one of 32 bits: a larger one is told as the largest.
+/// A number as one of 32 bits: of a larger one, the largest of these.
 fn told_number(number: usize) -> u32
     ensures { result ≡ told_number number }
 {
@@ -30,7 +30,7 @@ fn service_count(machine: &Machine) -> u32
     machine.kernel().services().len() as u32
 }
 
-/// The line of a record by its number, if `above` lines stand above the first record.
+/// The line of a record by its number, if `above` lines are above the first record.
 fn refused_line(above: usize, refused: Option<(usize, Refusal)>) -> Option<(u32, Refusal)>
     requires { above ≤ 1 }
     ensures { result ≡ refused_line above refused }

@@ -1,4 +1,9 @@
 //! What is seen of a history's records.
+//!
+//! # As a trace, but with all steps
+//!
+//! The records are walked by `look_record`, as by `mx trace`. The steps are put into a list, since
+//! the size of the paper comes before the first value.
 
 ghost use Rattle.std.specs.Prelude.{◌≡◌, ◌<◌, ◌≤◌, ◌^◌, ◌++◌, All, IfOk, IfSome, OnOk, length};
 ghost use Rattle.mx_app_step.specs.Machine.{world_of};
@@ -32,7 +37,7 @@ pub(crate) fn last_drawn(from: u32, to: u32) -> u32
     from.max(1).saturating_add(MOST_DRAWN - 1).min(to)
 }
 
-/// Keeps a step, if it is one from `from` on.
+/// Appends a step, if it is one from `from` on.
 fn keep_step(steps: &mut Vec<Step>, step: &Step, from: u32) -> Result<(), AllocError>
     ensures { OnOk result (steps.new.items ≡ steps.old.items ++ drawn_of from step.now) }
 {
@@ -42,7 +47,7 @@ fn keep_step(steps: &mut Vec<Step>, step: &Step, from: u32) -> Result<(), AllocE
     Ok(())
 }
 
-/// Makes records up to the first that is refused, and keeps each from `from` on as a step.
+/// Makes records up to the first that is refused, and appends each from `from` on as a step.
 pub(crate) fn see_records(
     alloc: Global,
     machine: &mut Machine,

@@ -1,4 +1,4 @@
--- What is told and written of a file's program, from what is shown of it.
+-- What is reported and written of a file's program, from what is shown of it.
 use Rattle.std.proofs.Common.{◌≡◌, ℕ, List, Option, Some, None, Result, Ok, Err, IfErr, OnOk, inr, ap, sym, subst, refl, ◌∙◌}
 use Rattle.std.specs.Io.KnownBytes.{Appends, Keeps}
 use Rattle.mx_aout.specs.declared.program.Program.{Program}

@@ -1,4 +1,4 @@
--- What is told of a file, from what is answered of it.
+-- The error of a file, from what is answered of it.
 use Rattle.std.proofs.Common.{◌≡◌, ℕ, List, Option, Some, None, Result, Ok, Err, IfErr, OnOk, inr, ap, sym, subst, refl}
 use Rattle.std.specs.Io.KnownBytes.{Appends}
 use Rattle.std.specs.Str.{IsUtf8}
@@ -31,7 +31,7 @@ printed_on (Some d) b n p x y r h w = absurd cc
 printed_on None b n p x y (Ok u) h w = (one_text p.0 p.1 p.2, (h.0, h.1, ap (λ (m : RunEnd). one_text m.count m.stop m.image) (sym h.2)), w)
 printed_on None b n p x y (Err e) h w = tt
 
--- what is told of a text that is UTF-8
+-- the error of a text that is UTF-8
 pub tells_text : (text slice : List ℕ) (e : AsmError) → slice ≡ text → IsUtf8 text → TellsTextFault slice e → TellsText text (failure_of_text e)
 tells_text text slice NoMemory of utf8 h = utf8
 tells_text text slice (At f) of utf8 h = subst (λ (t : List ℕ). HasTextFault t f) of h

@@ -12,7 +12,7 @@ use Rattle.mx_app_failure.specs.declared.failure.Failure.TheVariants.{Faulty, Fi
 abbrev pub IsAssembledFile : List ℕ → List ℕ → Type 0
 IsAssembledFile text bytes = (p : Program) × IsAssembled text p × FileIs bytes p × (bytes ≡ short_file p)
 
--- the text's first fault, or that it is no UTF-8; memory runs out only where it is
+-- the text's first fault, or that it isn't UTF-8; out of memory only if it is
 abbrev pub TellsText : List ℕ → Kind → Type 0
 TellsText text (Faulty f) = HasTextFault text f
 TellsText text File = ¬ (IsUtf8 text)

@@ -1,4 +1,4 @@
-//! What `as` makes.
+//! `mx as`: from a text to the bytes of its program's file.
 
 ghost use Rattle.std.specs.Prelude.{IfErr, IfOk};
 ghost use Rattle.mx_app_program.specs.Assembling.{IsAssembledFile, TellsText};

@@ -1,4 +1,8 @@
 //! `mx one`, `mx as`, `mx dis` and `mx nm`: what is done with one program.
+//!
+//! # Without a machine
+//!
+//! These four commands need none of the machine's crates, so their proofs don't wait for those.
 #![tactic(auto)]
 
 mod assembly;

@@ -1,4 +1,4 @@
-//! What `dis` and `nm` print.
+//! `mx dis` and `mx nm`: the listing of a program's file, and of its symbols.
 
 ghost use Rattle.std.specs.Prelude.{ℕ, List, OnOk, string_bytes};
 ghost use Rattle.std.specs.Io.KnownBytes.{Appends};

@@ -1,4 +1,4 @@
-//! What `one` prints.
+//! What `mx one` prints: registers, flags, and why and when the program stopped.
 
 ghost use Rattle.std.specs.Prelude.{◌≡◌, ℕ, IfErr, IfOk, List, OnOk, string_bytes};
 ghost use Rattle.std.specs.Io.KnownBytes.{Appends};
@@ -42,6 +42,7 @@ fn print_steps<R: Runs, W: Write>(
     ensures bytes { OnOk result (Appends (W.contents out.old) (W.contents out.new)
         (one_text count stop (R.image image.now))) }
 {
+    // One text, so only one write may fail.
     let text = four_lines(alloc, count, stop, image)?;
     print_text(text.as_bytes(), out)
 }

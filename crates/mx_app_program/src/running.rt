@@ -1,4 +1,4 @@
-//! A file's first steps.
+//! `mx one`: the first steps of a program's file.
 
 ghost use Rattle.mx_aout.specs.File.{refusal_of};
 ghost use Rattle.mx_app_program.specs.One.{Answers};

@@ -64,7 +64,7 @@ rules_at_boot : (c : Config) (vs : List Service) → (world_at_boot c vs).table.
 unfolding first_table
 rules_at_boot c vs = refl
 
--- ---- what `mx run` tells, by how it ends
+-- ---- what `mx run` reports, by how it ends
 
 module _ (config log : List ℕ) (ticks : ℕ) (qs : List Asked) (Prints : List ℕ → Type 0) (apart : config ≢ log) where
   pub not_set_up : (f : Kind) (r : Result (Unit {0}) Kind) → IsSetupFault config qs f → IsErrAnd r (λ y. y ≡ f) → Runs config log ticks qs [] Prints r

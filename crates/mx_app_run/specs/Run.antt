@@ -28,11 +28,11 @@ use Rattle.mx_app_step.specs.declared.records.Replayed.TheVariants.{Whole}
 
 -- ---- a run
 
--- the loops of these seats have ended, and what each seat shows then stands in the history
+-- the loops of these seats have ended, and what each seat shows then is in the history
 abbrev pub EndsDriven : ℕ → ℕ → List SeatView → List Record → Type 0
 EndsDriven cpus ticks seats history = (ended : List SeatView) × AreDriven cpus ticks seats ended × All (StandsIn history) ended
 
--- A RUN of a configuration and its services with at most that many ticks ends at a kernel: it was booted so, each event
+-- A RUN of a configuration and its services with at most some ticks ends at a kernel. It was booted so, each event
 -- of its history is accepted, and the records of each actor there are those of its loop.
 pub record IsRun (c : Config) (vs : List Service) (ticks : ℕ) (k : BootAndHistory) : Type 0 where
   pub boot : k.boot ≡ world_at_boot c vs
@@ -43,8 +43,8 @@ pub record IsRun (c : Config) (vs : List Service) (ticks : ℕ) (k : BootAndHist
 
 -- ---- `mx run`
 
--- no history is written: both files have one name; or the first fault of the configuration and its services' files; or,
--- where there is none, out of memory
+-- no history is written: both files have one name; or the first fault of the configuration and its services' files;
+-- or, if there is none, out of memory
 abbrev pub IsNotRun : List ℕ → List ℕ → List Asked → Kind → Type 0
 IsNotRun config log qs f = ((config ≡ log) × (qs ≡ []) × (f ≡ File)) ⊎ ((config ≢ log)
     × (IsSetupFault config qs f ⊎ ((c : Config) × (vs : List Service) × IsSetup config qs c vs × (f ≡ NoMemory))))
@@ -55,8 +55,8 @@ IsRunUntold log text ws f =
     ((kind : ErrorKind) × (ws ≡ unkept log text kind ∷ []) × (f ≡ failure_of_kind kind))
     ⊎ ((ws ≡ kept log text ∷ []) × IsWanting f)
 
--- WHAT `mx run` DOES: it writes the text of a run's history, whole, and prints the report on the replay of that history;
--- or it tells why it didn't
+-- WHAT `mx run` DOES: it writes the text of a run's history, whole, and prints the report on the replay of that
+-- history; or it reports why it didn't
 abbrev pub Runs : List ℕ → List ℕ → ℕ → List Asked → List Written → (List ℕ → Type 0) → Result (Unit {0}) Kind → Type 0
 Runs config log ticks qs ws Prints (Ok u) =
     (c : Config) × (vs : List Service) × (k : BootAndHistory) × (config ≢ log) × IsSetup config qs c vs × IsRun c vs ticks k
@@ -72,7 +72,8 @@ Runs config log ticks qs ws Prints (Err f) =
 abbrev pub RunsAreHistories : Type 0
 RunsAreHistories = (c : Config) (vs : List Service) (ticks : ℕ) (k : BootAndHistory) → IsRun c vs ticks k → IsSaved (saved_text c.rules k.history) c c k.history
 
--- `mx replay` of the same configuration and services prints, of the text that was written, the same report
+-- `mx replay` of this configuration, these services and the text that was written prints the report that the run
+-- printed
 abbrev pub RunsReplay : Type 0
 RunsReplay = (c d : Config) (vs : List Service) (ticks : ℕ) (k : BootAndHistory) (records : List Record) (how : Replayed) (before after : Option (List ℕ))
     → IsRun c vs ticks k → IsSaved (saved_text c.rules k.history) c d records → IsReplayPrinted (world_at_boot d vs) records how (λ text. Appends before after text)

@@ -1,4 +1,10 @@
 //! When the loops of a run wait, and when they end.
+//!
+//! # How a loop waits
+//!
+//! A processor that finds nothing ready yields, and from the seventeenth time in a row on it sleeps
+//! a millisecond too. The respawner sleeps a millisecond after each round. So an idle loop costs
+//! little.
 
 use mx_cpus_drive::Gate;
 use std::sync::atomic::{AtomicBool, AtomicU32, Ordering};
@@ -24,7 +30,7 @@ struct LoopState {
     questions: AtomicU32,
 }
 
-/// The gate of a run: it ends all loops where the machine is at rest after the last tick, and where one
+/// The gate of a run: it ends all loops if the machine is at rest after the last tick, and if one
 /// loop has ended.
 #[derive(Drop)]
 pub struct RunGate<'a, R> {
@@ -77,8 +83,8 @@ impl<'a, R: Clock> Gate for RunGate<'a, R> {
 
     fn given(&self, _cpu: u8) {}
 
-    /// It ends where a loop has ended, or where an earlier question of this actor came after the last
-    /// tick and the machine is at rest now.
+    /// Ends the loop if any loop has ended, or if an earlier question of this actor came after the
+    /// last tick and the machine is at rest now.
     fn again(&self, actor: u8, at_rest: bool) -> bool {
         if self.has_ended.load(Ordering::SeqCst) {
             return false;
@@ -89,6 +95,7 @@ impl<'a, R: Clock> Gate for RunGate<'a, R> {
         if actor == self.respawner {
             self.note_round();
         }
+        // No tick comes any more, so nothing can become ready.
         if at_rest && state.is_past_ticks.load(Ordering::SeqCst) {
             return false;
         }

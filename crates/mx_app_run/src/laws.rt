@@ -1,4 +1,4 @@
-//! What a replay of a run's history prints.
+//! The law of `mx run`: what a replay of a run's history prints.
 
 ghost use Rattle.mx_app_run.specs.Run.{RunsAreHistories, RunsReplay};
 

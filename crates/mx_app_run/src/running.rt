@@ -1,4 +1,4 @@
-//! A machine whose processors are threads.
+//! `mx run`: boots a machine, drives it by threads, saves its history and prints its report.
 
 ghost use Rattle.std.specs.Prelude.{◌≡◌, ◌<◌, ◌≤◌, ◌++◌, List, All, IfOk, None, length};
 ghost use Rattle.std.specs.Io.KnownBytes.{Appends};
@@ -72,9 +72,9 @@ pub struct RunNames<'a> {
     pub log: &'a str,
 }
 
-/// Runs the machine of a configuration, each processor in a thread of its own, until it is at rest after
-/// that many ticks or its history is full. Then writes the history to a file, and prints the report. The
-/// configuration isn't written over: if both have one name, nothing is read or written.
+/// Runs the machine of a configuration, each processor in a thread of its own, until it is at rest
+/// after all ticks or its history is full. Then writes the history to a file, and prints the
+/// report. The configuration isn't written over: if both have one name, nothing is read or written.
 pub fn run<
     T: Threads + Wait + Clock + Sync,
     R: Reader + Drop,
@@ -98,6 +98,7 @@ pub fn run<
     }
     let (config, services) = setup_of(alloc, &mut channels.reader, names.config)?;
     let kernel = run_machine(rt, alloc, &config, services, ticks)?;
+    // If memory runs out for the report, the history is written already.
     write_history(alloc, &kernel, &mut channels.files, names.log)?;
     print_kernel_report(alloc, &kernel, &mut channels.out)
 }

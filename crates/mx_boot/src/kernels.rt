@@ -1,4 +1,8 @@
-//! What is written of a kernel.
+//! The texts of a kernel: its history, and its report.
+//!
+//! # Why here
+//!
+//! These functions print by the crates of texts, which the kernel's own crate doesn't know.
 
 ghost use Rattle.std.specs.Prelude.{◌≡◌, ◌+◌, ◌++◌, ℕ, List, true, false, OnOk, OnErr, IfOk};
 ghost use Rattle.mx_boot_history.specs.Log.{IsHistory};
@@ -15,9 +19,9 @@ use mx_print_report::report_of;
 use mx_word::NoMemory;
 use std::alloc::Global;
 
-/// Writes the text of a kernel's history, by the rules of its machine, to a sink that hasn't failed.
-/// Where that is an error, the sink has failed, and what it took is a front of the text. Takes no
-/// memory.
+/// Writes the text of a kernel's history, by the rules of its machine, to a sink that hasn't
+/// failed. If it answers an error, the sink has failed, and what it took is a front of the text.
+/// Takes no memory.
 pub fn save<S: Sink>(kernel: &Kernel, sink: &mut S) -> Result<(), SaveFault>
     requires { S.has_failed sink.old ≡ false }
     ensures taken { OnOk result (S.taken sink.new ≡ S.taken sink.old

@@ -1,4 +1,4 @@
--- A line that begins as a service's does and is none says nothing.
+-- A line that begins as a service's does and is none sets nothing.
 use Rattle.std.proofs.Common.{◌≡◌, ◌∙◌, ℕ, List, ◌∷◌, codes, sym}
 use Rattle.mx_boot_config.specs.declared.service.ServiceWords.{ServiceWords}
 use Rattle.mx_boot_config.specs.declared.item.ConfigItem.{ConfigItem}

@@ -39,7 +39,7 @@ count_more line left more n total next e =
     let longer : length left ≡ suc (length more) = ap length next in
     omega (arith, longer, e)
 
--- ---- what is told
+-- ---- the error
 
 pub told_last : (text : List ℕ) (a : ItemsAbove) (n : ℕ) (e : BootError) → AreItemsTaken nothing_above 1 (lines text) a → n ≡ last_line (lines text)
     → ((a.services ≡ []) × (e ≡ BadLine n)) ⊎ ((a.services ≢ []) × (e ≡ NoMemory)) → TellsConfigFault text e

@@ -1,4 +1,4 @@
--- What stands above a line of a configuration.
+-- What the lines above a line of a configuration have set.
 use Rattle.std.specs.Prelude.{ℕ, ◌≤◌, List, [], length, Option, None, IfSome, All}
 use Rattle.mx_proc.specs.declared.windows.Rules.{Rules}
 use Rattle.mx_boot_config.specs.declared.service.ServiceWords.{ServiceWords}

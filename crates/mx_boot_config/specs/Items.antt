@@ -1,4 +1,4 @@
--- What a line of a configuration says (our own notation).
+-- What a line of a configuration sets (our own notation).
 use Rattle.std.specs.Prelude.{◌≡◌, ◌≤◌, ⊤, ℕ, Bool, false, ◌==◌, ◌||◌, List, [], ◌∷◌, codes, Option, Some, if◌then◌else◌}
 use Rattle.std.specs.List.{before_first, list_any}
 use Rattle.std.specs.Str.{IsUtf8}
@@ -38,7 +38,7 @@ rules_after_word fs = do
 abbrev pub is_stray : ℕ → Bool
 is_stray b = b == 9 || b == 13
 
--- NAME FILE and what stands after: a name that isn't reserved, and a text
+-- NAME FILE and the terms: a name that isn't reserved, and a text
 abbrev pub SaysService : List (List ℕ) → ServiceWords → Type 0
 SaysService (name ∷ file ∷ fs) s =
     (name_of name ≡ Some s.name) × (IsReserved name → ⊥)
@@ -58,7 +58,7 @@ SaysItem (word ∷ fs) (Service s) = (word ≡ codes "service") × SaysService f
 abbrev pub SaysNothing : List (List ℕ) → Type 0
 SaysNothing fs = (item : ConfigItem) → SaysItem fs item → ⊥
 
--- what is said lies within a configuration's limits
+-- its words are within a configuration's limits
 abbrev pub IsServiceWithin : ServiceWords → Type 0
 IsServiceWithin s = AreWithin s.terms
 

@@ -1,4 +1,4 @@
--- The lines of a configuration, and what is told of them (our own notation; the codes are our choice).
+-- The lines of a configuration, and the errors that they have (our own notation; the codes are our choice).
 use Rattle.std.specs.Prelude.{◌≡◌, ◌≢◌, ◌⊎◌, ℕ, ◌+◌, Bool, false, nat_le, if◌then◌else◌, List, [], ◌∷◌, ◌++◌, length, Option, Some, None, is_some, unwrap_or}
 use Rattle.std.specs.List.{list_any}
 use Rattle.std.specs.Str.{bytes_eq}
@@ -17,12 +17,12 @@ use Rattle.mx_boot_config.specs.declared.item.ConfigItem.TheVariants.{Cpus, Log,
 use Rattle.mx_boot_config.specs.Items.{said_in, SaysItem, SaysNothing}
 use Rattle.mx_boot_config.specs.Above.{ItemsAbove, nothing_above}
 
--- ---- what a line may not say below others
+-- ---- what a line may not set below others
 
 abbrev pub has_service_name : List ServiceWords → Name → Bool
 has_service_name above name = list_any (λ (t : ServiceWords). bytes_eq t.name.bytes name.bytes) above
 
--- an item, or a service's name, that stands above already
+-- an item, or a service's name, that a line above has already
 abbrev pub is_twice : ItemsAbove → ConfigItem → Bool
 is_twice a (Cpus n) = is_some a.cpus
 is_twice a (Log n) = is_some a.log
@@ -35,7 +35,7 @@ abbrev pub is_service_too_many : ItemsAbove → ConfigItem → Bool
 is_service_too_many a (Service s) = nat_le 32 (length a.services)
 is_service_too_many a item = false
 
--- the first reason to refuse what line n says
+-- the first reason to refuse what line n sets
 abbrev pub item_refusal : ℕ → ItemsAbove → ConfigItem → Option BootError
 item_refusal n a item = if is_twice a item then Some (TwiceNamed n) else if is_service_too_many a item then Some (TooMany n) else None
 
@@ -48,13 +48,13 @@ items_with a (Service s) = record a { services = a.services ++ s ∷ [] }
 
 -- ---- lines
 
--- a line of which nothing is left but a comment, or one that says what may stand there
+-- a line that is empty but for a comment, or one that sets what it may
 abbrev pub IsItemTaken : ItemsAbove → ℕ → List ℕ → ItemsAbove → Type 0
 IsItemTaken a n line b =
     ((said_in line ≡ []) × (b ≡ a))
     ⊎ ((item : ConfigItem) × SaysItem (said_in line) item × (item_refusal n a item ≡ None) × (b ≡ items_with a item))
 
--- what is told of line n
+-- the error of line n
 abbrev pub IsItemWrong : ItemsAbove → ℕ → List ℕ → BootError → Type 0
 IsItemWrong a n line e =
     ((said_in line ≢ []) × SaysNothing (said_in line) × (e ≡ BadLine n))
@@ -71,11 +71,11 @@ IsFirstItemWrong a n (l ∷ ls) e = IsItemWrong a n l e ⊎ ((b : ItemsAbove) ×
 
 -- ---- configurations
 
--- the words that say what a service gives its processes
+-- the words for what a service gives its processes
 abbrev pub words_of_terms : Terms → TermWords
 words_of_terms t = record { masks = t.masks; level = t.level; best = t.best; quantum = t.quantum; restarts = t.restarts }
 
--- The service's line is what these words say.
+-- The service's line has these words.
 pub record IsLineOf (words : ServiceWords) (line : ServiceLine) : Type 0 where
   pub name : line.name ≡ words.name
   pub file : line.file ≡ words.file.now
@@ -86,7 +86,7 @@ AreLinesOf [] [] = Unit {0}
 AreLinesOf (w ∷ ws) (l ∷ ls) = IsLineOf w l × AreLinesOf ws ls
 AreLinesOf _ _ = ⊥
 
--- what isn't said is 1 processor, room for 65,536 records, 1 other and the strict rules
+-- if no line sets them: 1 processor, room for 65,536 records, 1 other and the strict rules
 pub record IsConfigOf (a : ItemsAbove) (config : Config) : Type 0 where
   pub cpus : config.cpus ≡ unwrap_or a.cpus 1
   pub others : config.others ≡ unwrap_or a.others 1
@@ -94,19 +94,19 @@ pub record IsConfigOf (a : ItemsAbove) (config : Config) : Type 0 where
   pub rules : config.rules ≡ unwrap_or a.rules Strict
   pub lines : AreLinesOf a.services config.lines
 
--- a text without a fault says all this
+-- a text without a fault sets all this
 abbrev pub SaysConfig : List ℕ → ItemsAbove → Type 0
 SaysConfig text a = AreItemsTaken nothing_above 1 (lines text) a × (a.services ≢ [])
 
 abbrev pub IsConfig : List ℕ → Config → Type 0
 IsConfig text config = (a : ItemsAbove) × SaysConfig text a × IsConfigOf a config
 
--- the first line at fault, else the last line, where there is no service
+-- the first line at fault, else the last line, if there is no service
 abbrev pub HasConfigFault : List ℕ → BootError → Type 0
 HasConfigFault text e =
     IsFirstItemWrong nothing_above 1 (lines text) e
     ⊎ ((a : ItemsAbove) × AreItemsTaken nothing_above 1 (lines text) a × (a.services ≡ []) × (e ≡ BadLine (last_line (lines text))))
 
--- what is told where no configuration is answered: its first fault, and out of memory only where it has none
+-- the error if no configuration is answered: the first fault, and out of memory only if there is none
 abbrev pub TellsConfigFault : List ℕ → BootError → Type 0
 TellsConfigFault text e = HasConfigFault text e ⊎ ((a : ItemsAbove) × SaysConfig text a × (e ≡ NoMemory))

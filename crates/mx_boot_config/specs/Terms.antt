@@ -1,4 +1,4 @@
--- What a service's line says after its file (our own notation).
+-- The terms of a service: what its line has after the file (our own notation).
 use Rattle.std.specs.Prelude.{ℕ, ◌≤◌, ◌<◌, nat_lt, if◌then◌else◌, List, [], ◌∷◌, length, codes, Option, Some, None}
 use Rattle.std.specs.Str.{bytes_eq}
 use Rattle.mx_text.specs.Fields.{◌>>=◌}
@@ -36,7 +36,7 @@ masks_of fs = do
   c ← read_as mask (codes "calls") s.1
   Some (record { traps = t.0; sends = s.0; calls = c.0 }, c.1)
 
--- what is said, where no field follows
+-- the terms, if no field follows
 abbrev pub term_words_at_end : TermWords → List (List ℕ) → Option TermWords
 term_words_at_end terms [] = Some terms
 term_words_at_end terms _ = None
@@ -55,7 +55,7 @@ term_words_of fs = do
   m ← masks_of fs
   rest_of m.0 m.1
 
--- the limits of what is said
+-- the limits of the terms
 pub record AreWithin (t : TermWords) : Type 0 where
   pub level : t.level ≤ 14
   pub best : t.best ≤ t.level

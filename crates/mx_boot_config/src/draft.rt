@@ -1,4 +1,9 @@
 //! A configuration while its lines are read.
+//!
+//! # Lines without memory
+//!
+//! The lines are judged without memory: services are in a list of 32 places, and their files' names
+//! are parts of the text. Only `into_config` takes memory, after all lines.
 
 ghost use Rattle.std.specs.Prelude.{◌≡◌, ◌≢◌, ◌⊎◌, ◌≤◌, [], None, IfOk, IfErr, OnOk, All, false, length};
 ghost use Rattle.mx_text.specs.declared.error.BootError.TheVariants.{BadLine, NoMemory};
@@ -16,7 +21,7 @@ use mx_text::{BootError, Name, next_field};
 use std::alloc::{AllocError, Global};
 use std::marker::Model;
 
-/// What the lines of a configuration have said so far. It takes no memory.
+/// What the lines of a configuration have set so far. It takes no memory.
 #[derive(Drop)]
 pub struct Draft<'a> {
     pub cpus: Option<u8>,
@@ -126,7 +131,7 @@ impl<'a> Draft<'a> {
         }
     }
 
-    /// Why an item may not stand below these lines, as the line of this number.
+    /// Why an item may not come below these lines, in the line of this number.
     fn reason_of(&self, item: &ConfigItem<'_>, number: usize) -> Option<BootError>
         ensures { result ≡ item_refusal number self.now item.now }
     {
@@ -154,7 +159,7 @@ impl<'a> Draft<'a> {
         }
     }
 
-    /// Takes a line in, or tells what is wrong with it.
+    /// Takes a line in, or reports what is wrong with it.
     pub fn take_line(&mut self, line: &'a [u8], number: usize) -> Result<(), BootError>
         ensures taken { IfOk result (λ _. IsItemTaken self.old number line.now self.new) }
         ensures wrong { IfErr result (IsItemWrong self.old number line.now) }
@@ -175,8 +180,8 @@ impl<'a> Draft<'a> {
         Ok(())
     }
 
-    /// The configuration that is said, or that there is no service, told of the last line. Takes memory
-    /// for what it answers.
+    /// The configuration that the lines set; or, if they have no service, an error at the last
+    /// line. Takes memory for what it answers.
     pub fn into_config(self, alloc: Global, last: usize) -> Result<Config, BootError>
         ensures config { IfOk result (IsConfigOf self.entry) }
         ensures some { OnOk result (self.entry.services ≢ []) }

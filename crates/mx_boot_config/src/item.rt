@@ -1,9 +1,9 @@
-//! Items of a configuration.
+//! Items of a configuration: what one line of it can set.
 
 use crate::service::ServiceWords;
 use mx_proc::Rules;
 
-/// What a line of a configuration says. It takes no memory: a file's name stays where the line has it.
+/// What a line of a configuration sets. It takes no memory: a file's name is a part of the line.
 #[derive(Clone, Copy)]
 pub enum ConfigItem<'a> {
     /// How many processors there are.

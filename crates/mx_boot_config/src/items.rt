@@ -1,4 +1,4 @@
-//! What a line of a configuration says.
+//! From a line of a configuration to the item that it sets.
 
 ghost use Rattle.std.specs.Prelude.{◌≡◌, ◌≢◌, ◌≤◌, ◌∷◌, [], ℕ, List, Some, None, MatchOption, IfOk, IfSome, codes, length, take};
 ghost use Rattle.std.specs.List.{before_first, list_any};
@@ -14,7 +14,7 @@ use crate::terms::{number_between, term_words_of};
 use mx_proc::Rules;
 use mx_text::{next_field, one_field};
 
-/// How much stands before a comment.
+/// The length of a line up to its comment.
 fn length_of_item(line: &[u8]) -> usize
     ensures within { result ≤ length line.now }
     ensures before { take result line.now ≡ before_first is_hash line.now }
@@ -26,7 +26,7 @@ fn length_of_item(line: &[u8]) -> usize
     end
 }
 
-/// What stands before a comment in a configuration's line.
+/// A configuration's line up to its comment.
 pub fn before_comment(line: &[u8]) -> &[u8]
     ensures { result.now ≡ before_first is_hash line.now }
 {
@@ -34,7 +34,7 @@ pub fn before_comment(line: &[u8]) -> &[u8]
 }
 
 /// The number that a line is.
-fn numbered(line: &[u8], least: u32, most: u32) -> Option<u32>
+fn only_number(line: &[u8], least: u32, most: u32) -> Option<u32>
     ensures value { result ≡ number_after_word least most (fields line.now) }
     ensures most { IfSome result (λ n. n ≤ most) }
     ensures least { IfSome result (λ n. least ≤ n) }
@@ -47,7 +47,7 @@ fn numbered(line: &[u8], least: u32, most: u32) -> Option<u32>
 fn rules_of(line: &[u8]) -> Option<Rules>
     ensures { result ≡ rules_after_word (fields line.now) }
 {
-    match numbered(line, 1, 2)? {
+    match only_number(line, 1, 2)? {
         1 => Some(Rules::Lenient),
         _ => Some(Rules::Strict),
     }
@@ -90,7 +90,7 @@ fn service_of(line: &[u8]) -> Option<ServiceWords<'_>>
     }
 }
 
-/// What a line says whose fields begin with a word. Takes no memory.
+/// What a line sets whose fields begin with a word. Takes no memory.
 #[tactic(auto, using(crate::proofs::Services::only_service))]
 pub fn item_at<'a>(word: &[u8], line: &'a [u8]) -> Option<ConfigItem<'a>>
     ensures said { MatchOption result ((i : ConfigItem) → SaysItem (word.now ∷ fields line.now) i
@@ -104,9 +104,9 @@ pub fn item_at<'a>(word: &[u8], line: &'a [u8]) -> Option<ConfigItem<'a>>
         };
     }
     match word {
-        b"cpus" => Some(ConfigItem::Cpus(numbered(line, 1, 8)? as u8)),
-        b"log" => Some(ConfigItem::Log(numbered(line, 1, 1_048_576)?)),
-        b"others" => Some(ConfigItem::Others(numbered(line, 1, 4)? as u8)),
+        b"cpus" => Some(ConfigItem::Cpus(only_number(line, 1, 8)? as u8)),
+        b"log" => Some(ConfigItem::Log(only_number(line, 1, 1_048_576)?)),
+        b"others" => Some(ConfigItem::Others(only_number(line, 1, 4)? as u8)),
         b"rules" => Some(ConfigItem::ByRules(rules_of(line)?)),
         _ => None,
     }

@@ -1,4 +1,4 @@
-//! Names of services.
+//! Names of services in a configuration.
 
 ghost use Rattle.std.specs.Prelude.{◌≡◌, Some, MatchOption};
 ghost use Rattle.mx_text.specs.declared.names.Name.{Name};

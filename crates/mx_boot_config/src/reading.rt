@@ -1,4 +1,4 @@
-//! Configurations.
+//! Reads a configuration's text, line by line, up to its first fault.
 
 ghost use Rattle.std.specs.Prelude.{◌≡◌, ◌≤◌, ◌+◌, length, IfOk, IfErr};
 ghost use Rattle.mx_text.specs.Lines.{lines, last_line};
@@ -10,7 +10,7 @@ use mx_machine_world::Config;
 use mx_text::{BootError, next_line};
 use std::alloc::Global;
 
-/// What the lines of a text say, and the number of the last one. Takes no memory.
+/// What the lines of a text set, and the number of the last one. Takes no memory.
 fn read_lines(text: &[u8]) -> Result<(Draft<'_>, usize), BootError>
     ensures taken { IfOk result (λ p. AreItemsTaken nothing_above 1 (lines text.now) p.0) }
     ensures last { IfOk result (λ p. p.1 ≡ last_line (lines text.now)) }
@@ -28,7 +28,7 @@ fn read_lines(text: &[u8]) -> Result<(Draft<'_>, usize), BootError>
 }
 
 /// The configuration that a text is, or the first line at fault. Takes memory only for what it
-/// answers, once no line is at fault: so a line at fault is told whatever memory there is.
+/// answers, once no line is at fault: so a line at fault is reported whatever memory there is.
 #[tactic(auto, using(crate::proofs::Taking::told_last))]
 pub fn config(alloc: Global, text: &str) -> Result<Config, BootError>
     ensures config { IfOk result (IsConfig text.now) }

@@ -1,9 +1,10 @@
-//! Services, as a line tells them.
+//! A configuration's services, as the words of their lines.
 
 use mx_proc::Masks;
 use mx_text::Name;
 
-/// What a service's line says after its file. `Terms` has the same fields, with their limits.
+/// The terms of a service's line, after its file. `Terms` has the same fields as this, with their
+/// limits.
 #[derive(Clone, Copy)]
 pub struct TermWords {
     pub masks: Masks,
@@ -13,7 +14,7 @@ pub struct TermWords {
     pub restarts: u32,
 }
 
-/// What a service's line says. The file's name stays where the line has it.
+/// The words of a service's line. The file's name is a part of the line.
 #[derive(Clone, Copy)]
 pub struct ServiceWords<'a> {
     pub name: Name,
@@ -21,7 +22,7 @@ pub struct ServiceWords<'a> {
     pub terms: TermWords,
 }
 
-/// No line's words: what stands in a list where no line's are.
+/// No line's words: they are in the places of a list that no line has filled.
 impl<'a> Default for ServiceWords<'a> {
     fn default() -> ServiceWords<'a> {
         let masks = Masks {

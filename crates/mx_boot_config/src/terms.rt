@@ -1,4 +1,4 @@
-//! What a service's line says after its file.
+//! The terms of a service: what its line in a configuration has after the file.
 
 ghost use Rattle.std.specs.Prelude.{◌≡◌, ◌≤◌, Some, None, MatchOption, IfSome};
 ghost use Rattle.mx_text.specs.Fields.{fields};
@@ -29,7 +29,7 @@ fn mask(word: &[u8]) -> Option<u32>
     }
 }
 
-/// What stands after a key that is the line's first field, and the line after that.
+/// What follows a key that is the line's first field, and the line after that.
 fn value_of<'a>(line: &'a [u8], key: &[u8]) -> Option<(&'a [u8], &'a [u8])>
     ensures { MatchOption result (key_with_value key.now (fields line.now) ≡ None) (λ p.
         key_with_value key.now (fields line.now) ≡ Some (p.0.now, fields p.1.now)) }
@@ -106,7 +106,7 @@ fn rest_of(masks: Masks, line: &[u8]) -> Option<TermWords>
     }
 }
 
-/// What the fields after a service's file say: masks, levels, quantum, restarts.
+/// The terms in the fields after a service's file: masks, levels, quantum, restarts.
 pub fn term_words_of(line: &[u8]) -> Option<TermWords>
     ensures value { result ≡ term_words_of (fields line.now) }
     ensures within { IfSome result AreWithin }

@@ -1,4 +1,4 @@
--- What a writer holds that says so.
+-- What a writer holds after it appended, if its contents are known.
 use Rattle.std.proofs.Common.{◌≡◌, ℕ, List, [], ◌++◌, Option, Some, None, IsSome, unwrap_or, refl}
 use Rattle.std.specs.Io.KnownBytes.{Appends, Keeps}
 

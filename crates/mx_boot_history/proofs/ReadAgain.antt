@@ -24,7 +24,7 @@ use Rattle.mx_machine_world.specs.History.{number_of_record, IsWritable}
 use Rattle.mx_boot_history.specs.Text.{event_words, record_words, history_text, saved_text}
 use Rattle.mx_boot_history.specs.Log.{recorded_of, record_by, record_of, record_line, is_ended, says_strict, rules_of_lines, record_lines, IsHistory}
 
--- what is a record says no rules
+-- what is a record isn't the line of the rules
 no_rules : (actors : ℕ) (fs : List (List ℕ)) (r : Record) → record_of actors fs ≡ Some r → says_strict fs ≡ false
 no_rules actors [] r e = refl
 no_rules actors (word ∷ []) r e = refl

@@ -35,7 +35,7 @@ recorded_of verbs.Respawn fs = do
   Some (Respawn s)
 recorded_of _ fs = None
 
--- a record where the actor is one of this many
+-- a record if the actor is one of this many
 abbrev pub record_by : ℕ → ℕ → Recorded → Option Record
 record_by actors a e = if nat_lt a actors then Some (record { actor = a; event = e }) else None
 
@@ -46,7 +46,7 @@ record_of actors (f ∷ fs) = do
   e ← after_verb recorded_of fs
   record_by actors a e
 
--- the record that a line says, where there are that many actors
+-- the record that a line is, if there are n actors
 abbrev pub record_line : ℕ → List ℕ → Option Record
 record_line actors line = record_of actors (fields line)
 
@@ -61,7 +61,7 @@ abbrev pub says_strict : List (List ℕ) → Bool
 says_strict (word ∷ number ∷ []) = bytes_eq word (codes "rules") && bytes_eq number (codes "2")
 says_strict _ = false
 
--- the strict rules where the first line says them, else the lenient ones
+-- the strict rules if the first line is theirs, else the lenient ones
 abbrev pub rules_of_lines : List (List ℕ) → Rules
 rules_of_lines [] = Lenient
 rules_of_lines (l ∷ ls) = if says_strict (fields l) then Strict else Lenient
@@ -71,7 +71,7 @@ abbrev pub record_lines : List (List ℕ) → List (List ℕ)
 record_lines [] = []
 record_lines (l ∷ ls) = if says_strict (fields l) then ls else l ∷ ls
 
--- how many lines stand above those of the records
+-- how many lines are above those of the records
 abbrev pub lines_above : Rules → ℕ
 lines_above Lenient = 0
 lines_above Strict = 1
@@ -81,24 +81,24 @@ abbrev pub IsHistory : ℕ → List ℕ → Rules → List Record → Type 0
 IsHistory actors t rules records =
     AreLinesRead (record_line actors) (record_lines (lines t)) records × (is_ended t ≡ true) × (rules ≡ rules_of_lines (lines t))
 
--- the line of this number is the first of the records' lines that says none
+-- the line of this number is the first of the records' lines that is no record
 abbrev pub IsFirstNoRecord : ℕ → List ℕ → ℕ → Type 0
 IsFirstNoRecord actors t n =
     (k : ℕ) × IsFirstUnread (record_line actors) (record_lines (lines t)) k × (n ≡ lines_above (rules_of_lines (lines t)) + k)
 
--- the first line at fault: it says no record, or it is the last and isn't ended
+-- the first line at fault: it is no record, or it is the last and isn't ended
 abbrev pub IsHistoryFault : ℕ → List ℕ → ℕ → Type 0
 IsHistoryFault actors t n =
     IsFirstNoRecord actors t n
     ⊎ ((records : List Record) × AreLinesRead (record_line actors) (record_lines (lines t)) records × (is_ended t ≡ false) × (n ≡ length (lines t)))
 
--- what is told of the records' lines where they aren't answered
+-- the error of the records' lines if they aren't answered
 abbrev pub TellsNoRecords : ℕ → List ℕ → BootError → Type 0
 TellsNoRecords actors t (BadRecord n) = IsFirstNoRecord actors t n
 TellsNoRecords actors t NoMemory = (records : List Record) × AreLinesRead (record_line actors) (record_lines (lines t)) records
 TellsNoRecords actors t _ = ⊥
 
--- what is told where no history is answered: the first line at fault, and out of memory only where there is none
+-- the error if no history is answered: the first line at fault, and out of memory only if there is none
 abbrev pub TellsHistoryFault : ℕ → List ℕ → BootError → Type 0
 TellsHistoryFault actors t (BadRecord n) = IsHistoryFault actors t n
 TellsHistoryFault actors t NoMemory = (rules : Rules) × (records : List Record) × IsHistory actors t rules records

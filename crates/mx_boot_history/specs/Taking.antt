@@ -2,7 +2,7 @@
 use Rattle.std.specs.Prelude.{◌≡◌, ℕ, ◌==◌, ◌≤◌, Bool, true, List, ◌++◌, length, take, Result, Ok, Err}
 use Rattle.mx_boot_history.specs.declared.sink.SinkFault.{SinkFault}
 
--- that many of the bytes were taken, in order; a sink has failed once it takes none
+-- the answered number of the bytes were taken, in order; a sink has failed once it takes none
 abbrev pub SinkTakes : List ℕ → List ℕ → Bool → List ℕ → Result ℕ SinkFault → Type 0
 SinkTakes before after failed bytes (Ok n) = (n ≤ length bytes) × (after ≡ before ++ take n bytes) × (failed ≡ (n == 0))
 SinkTakes before after failed bytes (Err e) = (after ≡ before) × (failed ≡ true)

@@ -1,5 +1,5 @@
--- The text of a history (our own): the rules, where they are the strict ones, then a record a line, the fields parted by
--- one space, each line ended by a line feed.
+-- The text of a history (our own): the rules, if they are the strict ones, then a record a line, the fields parted
+-- by one space, each line ended by a line feed.
 use Rattle.std.specs.Prelude.{ℕ, List, [], ◌∷◌, ◌++◌, codes}
 use Rattle.std.specs.List.{flat_map}
 use Rattle.std.specs.Fmt.{decimal}

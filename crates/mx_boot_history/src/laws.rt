@@ -1,4 +1,4 @@
-//! Laws of histories' texts.
+//! Laws of the texts of histories: what is saved is read again, and is of one history only.
 
 ghost use Rattle.std.specs.Prelude.{◌≡◌, ◌≤◌, ℕ, List, All};
 ghost use Rattle.mx_machine_world.specs.declared.history.Record.{Record};
@@ -9,7 +9,7 @@ ghost use Rattle.mx_boot_history.specs.Log.{IsHistory, IsHistoryFault};
 
 use mx_boot_script::{number_again, verb_again, words_again};
 
-/// Law: a text is one history at most, by one of the rules, and none where it has a fault.
+/// Law: a text is one history at most, by one of the rules, and none if it has a fault.
 pub fn one_history()
     ensures one { (actors : ℕ) (t : List ℕ) (r s : Rules) (a b : List Record)
         → IsHistory actors t r a → IsHistory actors t s b → (r ≡ s) × (a ≡ b) }
@@ -17,7 +17,7 @@ pub fn one_history()
         → IsHistory actors t r a → IsHistoryFault actors t n → ⊥ }
 {}
 
-/// Law: what is saved of a history is read as that history, by the same rules.
+/// Law: what is saved of a history is read as that history, by the rules of its machine.
 pub fn history_again()
     ensures { (actors : ℕ) (rules : Rules) (records : List Record) → actors ≤ 256
         → All (IsWritable actors) records

@@ -1,4 +1,4 @@
-//! Reads the text of a history.
+//! Reads the text of a history: its rules, and its records.
 
 ghost use Rattle.std.specs.Prelude.{◌≡◌, ◌≤◌, ◌+◌, length, List, All, IfOk, IfErr, MatchResult};
 ghost use Rattle.mx_text.specs.declared.error.BootError.TheVariants.{NoMemory};
@@ -18,7 +18,7 @@ use mx_machine_world::{Config, Record, Recorded, Rules};
 use mx_text::{BootError, next_field, next_line};
 use std::alloc::Global;
 
-/// What was recorded, of a verb and what stands after it.
+/// What was recorded, of a verb and the fields after it.
 fn recorded_of(verb: Verb, rest: &[u8]) -> Option<Recorded>
     ensures { result ≡ recorded_of verb (fields rest.now) }
 {
@@ -39,8 +39,8 @@ fn recorded_of(verb: Verb, rest: &[u8]) -> Option<Recorded>
     }
 }
 
-/// What a line says after its actor.
-fn recorded(line: &[u8]) -> Option<Recorded>
+/// What a line records after its actor.
+fn recorded_after_actor(line: &[u8]) -> Option<Recorded>
     ensures { result ≡ after_verb recorded_of (fields line.now) }
 {
     let (word, rest) = next_field(line)?;
@@ -48,7 +48,7 @@ fn recorded(line: &[u8]) -> Option<Recorded>
     recorded_of(verb, rest)
 }
 
-/// A record, where the actor is one of this many.
+/// A record, if the actor is one of this many.
 fn made_by(actors: u8, actor: u8, event: Recorded) -> Option<Record>
     ensures { result ≡ record_by actors actor event }
 {
@@ -75,7 +75,7 @@ impl ReadsLine for RecordReader {
     fn read(&self, line: &[u8]) -> Option<Record> {
         let (word, rest) = next_field(line)?;
         let actor = actor(word)?;
-        let event = recorded(rest)?;
+        let event = recorded_after_actor(rest)?;
         made_by(self.actors, actor, event)
     }
 }
@@ -104,7 +104,7 @@ fn count_of_lines(text: &[u8]) -> usize
     count
 }
 
-/// Whether a line says the strict rules: `rules 2`.
+/// Whether a line is that of the strict rules: `rules 2`.
 fn says_strict(line: &[u8]) -> bool
     ensures { result ≡ says_strict (fields line.now) }
 {
@@ -120,7 +120,7 @@ fn says_strict(line: &[u8]) -> bool
     }
 }
 
-/// The rules that a text says, and what stands below their line.
+/// The rules of a text, and the text below their line.
 fn split_rules(text: &[u8]) -> (Rules, &[u8])
     ensures rules { result.0 ≡ rules_of_lines (lines text.now) }
     ensures below { lines result.1.now ≡ record_lines (lines text.now) }
@@ -136,7 +136,7 @@ fn split_rules(text: &[u8]) -> (Rules, &[u8])
     }
 }
 
-/// How many lines stand above those of the records in what is saved by these rules.
+/// How many lines are above those of the records in what is saved by these rules.
 pub fn lines_above(rules: Rules) -> usize
     ensures value { result ≡ lines_above rules }
     ensures few { result ≤ 1 }
@@ -147,7 +147,7 @@ pub fn lines_above(rules: Rules) -> usize
     }
 }
 
-/// The rules and the records that a text's lines say, or the first line that says no record.
+/// The rules and the records of a text, or the first line that is no record.
 fn read_records(alloc: Global, text: &str, actors: u8) -> Result<(Rules, Vec<Record>), BootError>
     ensures rules { IfOk result (λ found. found.0 ≡ rules_of_lines (lines text.now)) }
     ensures read { IfOk result (λ found.
@@ -162,14 +162,15 @@ fn read_records(alloc: Global, text: &str, actors: u8) -> Result<(Rules, Vec<Rec
     }
 }
 
-/// The rules and the records of a text, or its first line at fault. Out of memory is told after all
-/// lines are judged, so that a line at fault is told whatever memory there is.
+/// The rules and the records of a text, or its first line at fault. Out of memory is reported after
+/// all lines are judged, so that a line at fault is reported whatever memory there is.
 fn read_log(alloc: Global, text: &str, actors: u8) -> Result<(Rules, Vec<Record>), BootError>
     ensures history { IfOk result (λ found. IsHistory actors text.now found.0 found.1.items) }
     ensures fault { IfErr result (λ e. TellsHistoryFault actors text.now e) }
 {
     let bytes = text.as_bytes();
     let read = read_records(alloc, text, actors);
+    // After all lines, so that a fault above the last line comes first.
     if is_ended(bytes) {
         return read;
     }
@@ -179,12 +180,12 @@ fn read_log(alloc: Global, text: &str, actors: u8) -> Result<(Rules, Vec<Record>
     }
 }
 
-/// The history that a text is, and the rules by which its machine was booted: the strict ones where
+/// The history that a text is, and the rules by which its machine was booted: the strict ones if
 /// the first line is `rules 2`, else the lenient ones. Each line below is a record: `A take`,
-/// `A back N`, `A line L`, `A tick`, `A kill E`, `A respawn S`, A the actor; each line is ended by a
-/// line feed. The numbers are decimal; A is below the count of the configuration's processors and
+/// `A back N`, `A line L`, `A tick`, `A kill E`, `A respawn S`, A the actor; each line is ended by
+/// a line feed. The numbers are decimal; A is below the count of the configuration's processors and
 /// others, the other numbers at most 2,147,483,647. Else `BadRecord` with the first line at fault;
-/// `NoMemory` comes only where the text is a history. So what is saved of a history is read as that
+/// `NoMemory` comes only if the text is a history. So what is saved of a history is read as that
 /// history.
 pub fn log(alloc: Global, text: &str, config: &Config) -> Result<(Rules, Vec<Record>), BootError>
     ensures history { IfOk result (λ found.

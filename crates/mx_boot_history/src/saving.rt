@@ -1,4 +1,4 @@
-//! Writes the text of a history.
+//! Writes the text of a history to a sink.
 
 ghost use Rattle.std.specs.Prelude.{◌≡◌, ◌≤◌, ◌<◌, ◌+◌, ◌++◌, ◌∷◌, ℕ, List, true, false, length, OnOk, OnErr, codes};
 ghost use Rattle.std.specs.Fmt.{decimal};
@@ -99,7 +99,7 @@ fn put_all<S: Sink>(sink: &mut S, bytes: &[u8]) -> Result<(), SaveFault>
     Ok(())
 }
 
-/// Writes the lines of records to a sink that hasn't failed. Where that is an error, the sink has
+/// Writes the lines of records to a sink that hasn't failed. If it answers an error, the sink has
 /// failed, and what it took is a front of them.
 fn save_records<S: Sink>(records: &[Record], sink: &mut S) -> Result<(), SaveFault>
     requires { S.has_failed sink.old ≡ false }
@@ -125,8 +125,8 @@ fn rules_text(rules: Rules) -> &'static [u8]
     }
 }
 
-/// Writes the text of a history, by the rules of its machine, to a sink that hasn't failed. Where that
-/// is an error, the sink has failed, and what it took is a front of the text. Takes no memory.
+/// Writes the text of a history, by the rules of its machine, to a sink that hasn't failed. If it
+/// answers an error, the sink has failed, and what it took is a front of the text. Takes no memory.
 pub fn save_history<S: Sink>(
     rules: Rules,
     records: &[Record],

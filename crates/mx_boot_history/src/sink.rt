@@ -1,4 +1,10 @@
 //! What takes bytes.
+//!
+//! # No sink over a file
+//!
+//! A contract can't state what a file took. So a history is saved as one text in memory, which is
+//! then written. Each error of a writer, an interruption too, is the sink's failure: nothing is
+//! tried again.
 
 ghost use Rattle.std.specs.Prelude.{◌≡◌, ◌<◌, ◌∷◌, [], ℕ, Bool, false, List, IsSome, Some, length};
 ghost use Rattle.mx_boot_history.specs.Taking.{SinkTakes};
@@ -9,15 +15,15 @@ use std::io::Write;
 #[derive(Clone, Copy, Debug, PartialEq, Eq)]
 pub struct SinkFault;
 
-/// What takes bytes, and may fail. `Over` is one. Contracts use the trait to tell which bytes were taken
-/// before a failure.
+/// What takes bytes, and may fail. `Over` is one. Contracts use the trait to state which bytes were
+/// taken before a failure.
 pub trait Sink {
     ghost taken: { Self → List ℕ };
 
     ghost has_failed: { Self → Bool };
 
-    /// Takes some of the bytes from their front on, and answers how many. It has failed where that
-    /// is an error, or none.
+    /// Takes some of the bytes from their front on, and answers how many. It has failed if it
+    /// answers an error, or none.
     fn put(&mut self, bytes: &[u8]) -> Result<usize, SinkFault>
         requires whole { has_failed self.old ≡ false }
         requires some { 0 < length bytes.now }
@@ -25,8 +31,8 @@ pub trait Sink {
             result };
 }
 
-/// A sink over a writer that says what it holds, as a `Vec` does. What the sink took is what its writer
-/// holds.
+/// A sink over a writer whose contents contracts can state, as a `Vec`. What the sink took is what
+/// its writer holds.
 #[derive(Drop)]
 pub struct Over<W: Write> {
     writer: W,

@@ -4,7 +4,7 @@ use Rattle.std.proofs.lemmas.List.{map-append}
 use Rattle.std.specs.Prelude.{map, ◌||◌}
 use Rattle.mx_text.specs.Lines.{lines}
 
--- what the lines above say is what was found, unless memory ran out
+-- what the lines above are read as is what was found, unless memory ran out
 pub record ReadSoFar {T : Type 0} (says : List ℕ → Option T) (text rest : List ℕ) (found : List T) (is_wanting : Bool) (number : ℕ) : Type 0 where
   pub above : List (List ℕ)
   pub said : List T

@@ -37,7 +37,7 @@ mem_line_of (f ∷ fs) = do
   n ← count_field p.1
   Some (Memory c m n)
 
--- what a line says that begins with a verb and goes on with these fields
+-- the line of a debugger's script that is a verb and these fields
 abbrev pub debug_line_of : Verb → List (List ℕ) → Option DebugLine
 debug_line_of verbs.Break fs = do
   p ← slot_and_place fs
@@ -58,6 +58,6 @@ debug_line_of v fs = do
   plain ← script_line_of v fs
   Some (Plain plain)
 
--- what a line of a debugger's script says
+-- what a line of a debugger's script is read as
 abbrev pub debug_line : List ℕ → Option DebugLine
 debug_line line = after_verb debug_line_of (fields line)

@@ -33,7 +33,7 @@ actor_and_count fs = do
   k ← count_field p.1
   Some (c, k)
 
--- what a line says that begins with a verb and goes on with these fields
+-- the line of a script that is a verb and these fields
 abbrev pub script_line_of : Verb → List (List ℕ) → Option ScriptLine
 script_line_of verbs.Step fs = do
   p ← actor_and_count fs
@@ -57,13 +57,13 @@ script_line_of verbs.Respawn fs = do
   Some (Respawn s)
 script_line_of _ fs = None
 
--- what follows a verb, as `rest` tells
+-- what the fields after a verb are read as, by `rest`
 abbrev pub after_verb : {T : Type 0} → (Verb → List (List ℕ) → Option T) → List (List ℕ) → Option T
 after_verb rest [] = None
 after_verb rest (f ∷ fs) = do
   v ← verb_of f
   rest v fs
 
--- what a line of a script says
+-- what a line of a script is read as
 abbrev pub script_line : List ℕ → Option ScriptLine
 script_line line = after_verb script_line_of (fields line)

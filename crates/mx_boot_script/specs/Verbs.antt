@@ -1,4 +1,4 @@
--- The words that say what a line of a script or of a history is about (our own).
+-- The first words of the lines of a script or of a history (our own).
 use Rattle.std.specs.Prelude.{ℕ, List, [], ◌∷◌, Option, codes, find}
 use Rattle.std.specs.Str.{bytes_eq}
 use Rattle.mx_boot_script.specs.declared.verb.Verb.{Verb}

@@ -1,4 +1,4 @@
-//! The lines of a debugger's script.
+//! The lines of a debugger's script, as values.
 
 ghost use Rattle.std.specs.Prelude.{◌≡◌, IfOk, IfErr};
 ghost use Rattle.mx_text.specs.Lines.{lines};
@@ -23,13 +23,13 @@ pub enum DebugLine {
     Break(u32, CodePlace),
     /// No breakpoint any more.
     Clear(u32, CodePlace),
-    /// At most that many steps on a processor, up to a breakpoint.
+    /// On a processor at most a number of steps, up to a breakpoint.
     Go(u8, u32),
     /// The registers of a processor's process.
     Registers(u8),
-    /// Of a processor's process, from an address on, that many bytes.
+    /// Of a processor's process, from an address on, a number of bytes.
     Memory(u8, u32, u32),
-    /// The deliveries that are kept.
+    /// The recorded deliveries.
     Messages,
 }
 
@@ -55,7 +55,7 @@ fn memory(line: &[u8]) -> Option<DebugLine>
     Some(DebugLine::Memory(cpu, from, bytes))
 }
 
-/// What a line says that begins with a verb and goes on like this.
+/// The line of a debugger's script that is a verb and these fields.
 fn debug_line_of(verb: Verb, rest: &[u8]) -> Option<DebugLine>
     ensures { result ≡ debug_line_of verb (fields rest.now) }
 {

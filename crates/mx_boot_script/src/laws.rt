@@ -1,4 +1,4 @@
-//! Laws of what is written and read again.
+//! Laws of a script's words and lines that are written and read again.
 
 ghost use Rattle.std.specs.Prelude.{◌≡◌, ◌≤◌, ◌<◌, ◌^◌, ℕ, true, List, Some, map};
 ghost use Rattle.std.specs.Fmt.{decimal};

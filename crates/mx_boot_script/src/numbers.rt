@@ -1,4 +1,4 @@
-//! The numbers of a line.
+//! The numbers in a line of a script: actors, and all others.
 
 ghost use Rattle.std.specs.Prelude.{◌≡◌};
 ghost use Rattle.mx_text.specs.Fields.{fields};

@@ -1,4 +1,4 @@
-//! Places in a program.
+//! Places in a program, as a debugger's script names them: by an address or a symbol.
 
 ghost use Rattle.std.specs.Prelude.{◌≡◌, ◌<◌, ◌≤◌, length, Some, None};
 ghost use Rattle.mx_boot_script.specs.Debug.{named_place, code_place_of};

@@ -1,4 +1,9 @@
-//! Texts of which each line says one thing.
+//! Texts that are read line by line.
+//!
+//! # One loop
+//!
+//! Scripts, debugger's scripts and histories are read by `read_lines`, each with its own reader of
+//! one line. So the number of the line at fault is counted only here.
 
 ghost use Rattle.std.specs.Prelude.{◌≡◌, ◌++◌, ◌∷◌, [], false, ℕ, List, Option, IfOk, IfErr};
 ghost use Rattle.mx_text.specs.Lines.{lines};
@@ -7,26 +12,27 @@ ghost use Rattle.mx_boot_script.specs.Reading.{AreLinesRead, TellsUnread};
 use mx_text::{BootError, next_line};
 use std::alloc::Global;
 
-/// Tells what one line says.
+/// Reads one line.
 pub trait ReadsLine {
     type Said;
 
     ghost says: { Self → List ℕ → Option Self.Said };
 
-    /// What a line says, if it says anything. Takes no memory.
+    /// What a line is read as, if it is well formed. Takes no memory.
     fn read(&self, line: &[u8]) -> Option<Self::Said>
         ensures { result ≡ says self.now line.now };
 }
 
-/// Keeps what a line says, and answers whether it is lost, if memory runs out.
+/// Appends what a line is read as, and answers whether it is lost because there is no memory.
 fn is_lost<T: Drop>(found: &mut Vec<T>, said: T) -> bool
     ensures { result ≡ false → found.new.items ≡ found.old.items ++ said ∷ [] }
 {
     found.push(said).is_err()
 }
 
-/// What the lines of a text say, or `BadRecord` with the first line that says nothing. A lack of memory
-/// is told after all lines are judged, so that a line at fault is told whatever memory there is.
+/// What the lines of a text are read as, or `BadRecord` with the first line that isn't well formed.
+/// A lack of memory is reported after all lines are judged, so that a line at fault is reported
+/// whatever memory there is.
 #[tactic(auto, using(crate::proofs::ReadSoFar::more))]
 pub fn read_lines<R: ReadsLine>(
     alloc: Global,
@@ -54,6 +60,7 @@ where
         rest = below;
         number += 1;
     }
+    // Only now: each line is well formed.
     if is_wanting {
         return Err(BootError::NoMemory);
     }

@@ -1,4 +1,4 @@
-//! The lines of a script.
+//! The lines of a script, as values.
 
 ghost use Rattle.std.specs.Prelude.{◌≡◌, IfOk, IfErr};
 ghost use Rattle.mx_text.specs.Lines.{lines};
@@ -15,7 +15,7 @@ use std::alloc::Global;
 /// A line of a script. The last four are events of the first actor that is no processor.
 #[derive(Clone, Copy, Debug, PartialEq, Eq)]
 pub enum ScriptLine {
-    /// At most that many steps on a processor.
+    /// On a processor at most a number of steps.
     Step(u8, u32),
     /// A processor takes a process.
     Take(u8),
@@ -30,7 +30,7 @@ pub enum ScriptLine {
     Respawn(u32),
 }
 
-/// What a line says that begins with a verb and goes on like this.
+/// The line of a script that is a verb and these fields.
 pub fn script_line_of(verb: Verb, rest: &[u8]) -> Option<ScriptLine>
     ensures { result ≡ script_line_of verb (fields rest.now) }
 {

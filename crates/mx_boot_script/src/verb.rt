@@ -1,4 +1,4 @@
-//! The words that say what a line is about.
+//! The first words of lines: each names what its line is about.
 
 ghost use Rattle.std.specs.Prelude.{◌≡◌, find, option_copied};
 ghost use Rattle.std.specs.Str.{bytes_eq};

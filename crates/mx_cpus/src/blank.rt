@@ -1,4 +1,4 @@
-//! Booting a machine that threads share.
+//! Boots a machine that threads will share.
 
 ghost use Rattle.std.specs.Prelude.{◌≡◌, ◌<◌, ◌≤◌, [], All, IfOk, None, OnErr, OnOk, length};
 ghost use Rattle.mx_machine_world.specs.Boot.{world_at_boot};

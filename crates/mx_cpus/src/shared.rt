@@ -1,4 +1,4 @@
-//! The machine that threads share.
+//! The machine that threads share, and its calls under the lock.
 
 ghost use Rattle.std.specs.Prelude.{◌≡◌, IfOk, IfErr, All, length};
 ghost use Rattle.mx_machine_world.specs.declared.events.Event.TheVariants as events;
@@ -9,11 +9,13 @@ use mx_cpus_lock::{ActorSeat, Kernel, Loan, Locked, Naming};
 use mx_machine_world::{Answer, Event, Refusal};
 use std::sync::{Mutex, Wait};
 
-/// The machine that threads share: a kernel under a lock. Each call takes its actor's seat and gives it
-/// back with what the call did: the seat's own records, the history as it has seen it, and what it
-/// holds. A call that waits for the lock keeps its promises if it returns. None takes memory.
+/// The machine that threads share: a kernel under a lock. Each call takes its actor's seat and
+/// gives it back with what the call did: the seat's own records, the history as it has seen it, and
+/// what it holds. A call may wait for the lock; what it promises holds if it returns. None takes
+/// memory.
 pub struct Shared<M: Naming> {
     lock: Mutex<Locked<M>>,
+    /// How many processors there are. It never changes, so it isn't under the lock.
     cpus: u8,
     ghost counted: { cpus ≡ length M.boot.cpus },
 }
@@ -35,9 +37,10 @@ impl<M: Naming> Shared<M> {
         self.cpus
     }
 
-    /// Ends the sharing: the kernel, for the seats of all actors. The kernel stands where the table
-    /// stands after its history, in which stands all that the seats show. Of an actor whose seat isn't
-    /// handed in it says only that the history's records, its own too, are accepted from the boot on.
+    /// Ends the sharing: takes the seats of all actors, and gives out the kernel, in the state to
+    /// which its history leads. All that the seats show is in the history. Of an actor whose seat
+    /// isn't handed in, only this is known: the history's records, its own too, are accepted from
+    /// the boot on.
     pub fn into_kernel(self, seats: Vec<ActorSeat>) -> Kernel
         requires table { All (λ s. s.table ≡ M.table) seats.items }
         ensures stands { All (λ s. StandsIn result.history s) seats.items }
@@ -46,6 +49,7 @@ impl<M: Naming> Shared<M> {
     {
         let Shared { lock, cpus: _ } = self;
         let mut locked = lock.into_inner();
+        // Each seat sees the history here, so what it shows is in the history.
         for seat in seats {
             let _seat = locked.show(seat);
         }

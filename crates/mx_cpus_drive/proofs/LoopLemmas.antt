@@ -318,7 +318,7 @@ full_by : (b : Bool) (r : Refusal) → (if b then Some LogFull else None) ≡ So
 full_by true r h = let same : Some r ≡ Some LogFull = sym h in cc
 full_by false r h = cc
 
--- a tick is refused for a full history alone
+-- a tick is refused only for a full history
 pub tick_refused : (w : World) (a : ℕ) (r : Refusal) → event_refusal w a events.Tick ≡ Some r → r ≡ LogFull
 unfolding event_refusal
 tick_refused w a r h = full_by (nat_lt (free_records w) 1) r h
@@ -438,7 +438,7 @@ driven_respawner cpus ticks s t is made = record { processor = λ h. absurd (ome
 pub driven_other : (cpus ticks : ℕ) (s : SeatView) → cpus < s.actor → IsDriven cpus ticks s s
 driven_other cpus ticks s lt = record { processor = λ h. absurd (omega (arith, lt, h)); respawner = λ h. absurd (omega (arith, lt, h)); other = λ h. refl }
 
--- the same of what each loop did
+-- as `driven_last`, for what each loop did
 served_last : (boot : World) (WasCalled : GateCall → Type 0) (cpus ticks : ℕ) (xs ys : List SeatView) (x y : SeatView) → AreServed boot WasCalled cpus ticks xs ys
     → (x.actor ≤ cpus → IsServed boot WasCalled cpus ticks x y) → AreServed boot WasCalled cpus ticks (xs ++ x ∷ []) (ys ++ y ∷ [])
 served_last boot WasCalled cpus ticks [] [] x y p q = (q, tt)

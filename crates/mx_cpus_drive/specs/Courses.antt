@@ -1,4 +1,4 @@
--- What the loops of actors do, call by call. WasCalled says which calls of the gate were made.
+-- What the loops of actors do, call by call. WasCalled holds of the calls of the gate that were made.
 use Rattle.std.specs.Prelude.{◌≡◌, ◌≢◌, ◌<◌, ◌≤◌, ◌+◌, ◌-◌, ◌⊎◌, ◌^◌, ℕ, zero, suc, min, Bool, true, false, List, [], ◌∷◌}
 use Rattle.mx_machine_world.specs.declared.events.Answer.{Answer}
 use Rattle.mx_machine_world.specs.declared.events.Event.TheVariants as events
@@ -128,8 +128,8 @@ pub record IsRespawnerRun (boot : World) (WasCalled : GateCall → Type 0) (tick
 
 -- ---- all loops
 
--- THE LOOP OF AN ACTOR, by how many processors and how many ticks there are: a processor's, or the respawner's; and then
--- the gate was told that it has ended.
+-- THE LOOP OF AN ACTOR, by how many processors and how many ticks there are: a processor's, or the respawner's; and
+-- then its end was reported to the gate.
 pub record IsServed (boot : World) (WasCalled : GateCall → Type 0) (cpus ticks : ℕ) (s t : SeatView) : Type 0 where
   pub processor : s.actor < cpus → IsProcessorRun boot WasCalled s t
   pub respawner : s.actor ≡ cpus → IsRespawnerRun boot WasCalled ticks s t

@@ -13,7 +13,7 @@ abbrev pub turns_of : ℕ → List ℕ → List Record
 turns_of a [] = []
 turns_of a (n ∷ ns) = take_record a ∷ back_record a n ∷ turns_of a ns
 
--- events that are ticks and respawns alone
+-- events that are only ticks and respawns
 abbrev pub AreTicksAndRespawns : List Recorded → Type 0
 AreTicksAndRespawns [] = Unit {0}
 AreTicksAndRespawns (Tick ∷ es) = AreTicksAndRespawns es

@@ -1,4 +1,10 @@
 //! A thread for each processor, and one for the respawner.
+//!
+//! # Threads without a list
+//!
+//! `drive_all` takes the last seat, starts a thread for it, goes on with the seats before it, and
+//! joins the thread on its way back. So no list of threads is needed, each thread is joined on each
+//! way out, and the room of the list of seats takes the seats back.
 
 ghost use Rattle.std.specs.Prelude.{◌≡◌, ◌≤◌, None, IfOk, OnErr, OnOk, All, length, vec_capacity, vec_len};
 ghost use Rattle.mx_cpus_drive.specs.Gates.{ended_call};
@@ -43,7 +49,7 @@ struct ThreadContext<'s, M: Naming, G: Gate, R: Wait> {
     ticks: u32,
 }
 
-/// The loop of an actor: a processor's, or the respawner's. At its end the gate is told.
+/// The loop of an actor: a processor's, or the respawner's. Its end is reported to the gate.
 fn serve<M: Naming, G: Gate, R: Wait>(
     rt: &R,
     shared: &Shared<M>,
@@ -60,16 +66,18 @@ fn serve<M: Naming, G: Gate, R: Wait>(
     let door = Door::new(gate);
     let actor = seat.actor();
     let side = FreeSide::new(actor);
+    // The seat's actor decides which loop it gets, so the order of the seats doesn't matter.
     let (seat, side) = if actor < shared.cpus() {
         make_turns(rt, shared, seat, &door, side)
     } else {
         make_rounds(rt, shared, seat, &door, side, ticks)
     };
-    side.ended(&door);
+    side.report_end(&door);
     seat
 }
 
-/// Starts a thread with the loop of an actor. If none can be made, the gate is told that the loop has ended.
+/// Starts a thread with the loop of an actor. If no thread can be made, it reports to the gate that
+/// the loop has ended.
 fn start<'s, E, M: Naming + Send + Sync, G: Gate + Sync, R: Wait + Sync>(
     scope: &Scope<'s, E>,
     context: &ThreadContext<'s, M, G, R>,
@@ -135,12 +143,14 @@ fn drive_all<'s, E, M: Naming + Send + Sync, G: Gate + Sync, R: Threads + Wait +
     let Some(seat) = seats.pop() else {
         return Ok(());
     };
+    // A further actor has no loop.
     if seat.actor() > context.shared.cpus() {
         drive_all(scope, context, seats)?;
         seats.push_reserved(seat);
         return Ok(());
     }
     let started = start(scope, context, seat);
+    // Also if this thread couldn't be made: the gate knows it, and ends the other loops.
     let others = drive_all(scope, context, seats);
     let seat = started?.join(context.rt);
     others?;
@@ -148,11 +158,11 @@ fn drive_all<'s, E, M: Naming + Send + Sync, G: Gate + Sync, R: Threads + Wait +
     Ok(())
 }
 
-/// Runs the loops of all processors, and that of the first other actor as respawner, each in a thread of
-/// its own, and gives the seats back in order once all have ended. The seats of further actors stay as
-/// they are. The gate is told of each loop that has ended, and of each for which no thread could be
-/// made: then the answer is `NoMemory`, the seats are spent, and what was recorded stays. Takes no memory
-/// but that of the threads.
+/// Runs the loops of all processors, and that of the first other actor as respawner, each in a
+/// thread of its own, and gives the seats back in order once all have ended. The seats of further
+/// actors stay as they are. The end of each loop is reported to the gate, and so is each loop for
+/// which no thread could be made: then the answer is `NoMemory`, the seats are spent, and what was
+/// recorded stays. Takes no memory but that of the threads.
 pub fn drive<M: Naming + Send + Sync, G: Gate + Sync, R: Threads + Wait + Sync>(
     rt: &R,
     shared: &Shared<M>,

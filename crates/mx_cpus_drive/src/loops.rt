@@ -12,7 +12,7 @@ use mx_cpus::{ActorSeat, Naming, Shared};
 use mx_machine_world::{Held, Refusal};
 use std::sync::Wait;
 
-/// A processor's turns, and its questions of the gate where nothing is ready.
+/// A processor's turns, and its questions to the gate if nothing is ready.
 #[tactic(auto, using(crate::proofs::LoopLemmas::processor_made))]
 pub(crate) fn make_turns<M: Naming, G: Gate, R: Wait>(
     rt: &R,
@@ -37,10 +37,11 @@ pub(crate) fn make_turns<M: Naming, G: Gate, R: Wait>(
         let (next, taken) = shared.take(rt, seat);
         match taken {
             Ok(mut loan) => {
-                let holding = side.held(door, &loan);
+                let holding = side.report_loan(door, &loan);
+                // No budget is larger, so it runs until its budget is spent or it stops.
                 let _stop = loan.run(u32::MAX);
                 seat = shared.give(rt, next, loan);
-                side = holding.given(door, &seat);
+                side = holding.report_return(door, &seat);
             }
             Err(refusal) => {
                 if let Refusal::LogFull = refusal {
@@ -48,7 +49,7 @@ pub(crate) fn make_turns<M: Naming, G: Gate, R: Wait>(
                 }
                 let (next, at_rest) = shared.at_rest(rt, next);
                 seat = next;
-                side = side.asked(door, at_rest);
+                side = side.ask(door, at_rest);
                 if !side.goes_on() {
                     return (seat, side);
                 }
@@ -58,9 +59,9 @@ pub(crate) fn make_turns<M: Naming, G: Gate, R: Wait>(
     unreachable!()
 }
 
-/// A processor takes a process, runs it until its budget is spent or it stops, and gives it back, turn
-/// after turn. Where nothing is ready the gate says whether it goes on. It ends at a full history too.
-/// Takes no memory.
+/// A processor takes a process, runs it until its budget is spent or it stops, and gives it back,
+/// again and again. If nothing is ready, the gate decides whether the loop goes on. It ends at a
+/// full history too. Takes no memory.
 pub fn processor<M: Naming, G: Gate, R: Wait>(
     rt: &R,
     shared: &Shared<M>,
@@ -92,6 +93,7 @@ fn sweep<M: Naming, R: Wait>(rt: &R, shared: &Shared<M>, seat: ActorSeat) -> (Ac
     for slot in 0..SLOTS {
         let (next, answer) = shared.respawn(rt, seat, slot);
         seat = next;
+        // Another refusal, as of a slot that isn't down, doesn't end the sweep.
         if let Err(Refusal::LogFull) = answer {
             return (seat, Progress::Full);
         }
@@ -113,6 +115,7 @@ fn make_round<M: Naming, R: Wait>(
         return sweep(rt, shared, seat);
     }
     let (seat, ticked) = shared.tick(rt, seat);
+    // A tick is refused only at a full history.
     if ticked.is_err() {
         return (seat, Progress::Full);
     }
@@ -148,7 +151,7 @@ pub(crate) fn make_rounds<M: Naming, G: Gate, R: Wait>(
         }
         let (next, at_rest) = shared.at_rest(rt, next);
         seat = next;
-        side = side.asked(door, at_rest);
+        side = side.ask(door, at_rest);
         if !side.goes_on() {
             return (seat, side);
         }
@@ -156,9 +159,9 @@ pub(crate) fn make_rounds<M: Naming, G: Gate, R: Wait>(
     unreachable!()
 }
 
-/// Makes one tick, while some are left, and one sweep over the slots, in which each that is down and not
-/// worn is respawned, round after round. After each the gate says whether it goes on. It ends at a full
-/// history too. Takes no memory.
+/// Makes rounds: in each one tick, while some are left, and one sweep over the slots, in which each
+/// that is down and not worn is respawned. After each round the gate decides whether the loop goes
+/// on. It ends at a full history too. Takes no memory.
 pub fn respawner<M: Naming, G: Gate, R: Wait>(
     rt: &R,
     shared: &Shared<M>,

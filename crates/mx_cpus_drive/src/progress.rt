@@ -1,4 +1,4 @@
-//! How a round of the respawner ended.
+//! How a round of the respawner ended, by which its loop goes on or ends.
 
 /// Whether a loop goes on.
 #[derive(Clone, Copy)]

@@ -47,8 +47,8 @@ impl FreeSide {
         }
     }
 
-    /// Tells the gate of a loan that hasn't run yet.
-    pub(crate) fn held<G: Gate>(self, door: &Door<'_, G>, loan: &Loan) -> HoldingSide
+    /// Reports to the gate a loan that hasn't run yet.
+    pub(crate) fn report_loan<G: Gate>(self, door: &Door<'_, G>, loan: &Loan) -> HoldingSide
         requires goes_on { self.goes_on ≡ true }
         requires actor { loan.now.actor ≡ self.actor }
         requires fresh { loan.now.out ≡ loan.now.lent }
@@ -66,7 +66,7 @@ impl FreeSide {
     }
 
     /// Asks the gate whether the loop goes on.
-    pub(crate) fn asked<G: Gate>(self, door: &Door<'_, G>, at_rest: bool) -> FreeSide
+    pub(crate) fn ask<G: Gate>(self, door: &Door<'_, G>, at_rest: bool) -> FreeSide
         requires goes_on { self.goes_on ≡ true }
         ensures called { G.was_called door.now.gate.now (again_call self.actor at_rest result.goes_on) }
         ensures side { (result.actor ≡ self.actor) × (result.turn ≡ self.turn) }
@@ -91,8 +91,8 @@ impl FreeSide {
         self.goes_on
     }
 
-    /// Tells the gate that the loop has ended.
-    pub(crate) fn ended<G: Gate>(self, door: &Door<'_, G>)
+    /// Reports to the gate that the loop has ended.
+    pub(crate) fn report_end<G: Gate>(self, door: &Door<'_, G>)
         ensures { G.was_called door.now.gate.now (ended_call self.actor) }
     {
         let FreeSide {
@@ -103,7 +103,7 @@ impl FreeSide {
         door.gate.ended(actor);
     }
 
-    /// Leaves it to the caller to tell the gate of the end.
+    /// Leaves it to the caller to report the end to the gate.
     pub(crate) fn leave(self) {
         let FreeSide {
             actor: _,
@@ -114,8 +114,8 @@ impl FreeSide {
 }
 
 impl HoldingSide {
-    /// Tells the gate that the loan was given back, by the seat that came back for it.
-    pub(crate) fn given<G: Gate>(self, door: &Door<'_, G>, seat: &ActorSeat) -> FreeSide
+    /// Reports to the gate that the loan was given back, by the seat that came back for it.
+    pub(crate) fn report_return<G: Gate>(self, door: &Door<'_, G>, seat: &ActorSeat) -> FreeSide
         requires actor { seat.now.actor ≡ self.actor }
         requires back { seat.now.held ≡ None }
         ensures called { G.was_called door.now.gate.now (given_call self.actor) }

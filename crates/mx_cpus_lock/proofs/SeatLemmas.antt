@@ -1,4 +1,4 @@
--- What a record says of a seat, of the desk and of a loan.
+-- What a record does to a seat, to the desk and to a loan.
 use Rattle.std.proofs.Common.{◌≡◌, ◌∙◌, ℕ, Bool, Result, Ok, List, [], ◌∷◌, ◌++◌, slice_set, Option, Some, None, refl, sym, ap, subst}
 use mathlib.Core.List.{IsPrefix}
 use Rattle.atomic_table.specs.Seated.{TableId}
@@ -21,7 +21,7 @@ use Rattle.mx_loan.specs.Seats.{DeskView, SeatView, LoanView, IsSeatOf, back_rec
 use Rattle.mx_cpus_lock.specs.Calls.{Follows, IsAcceptedCall, IsLentAt, IsRefusedCall, IsRestCall, IsAcceptedHistory, desk_beside, event_of, outs_of, steps_of, world_after}
 use Rattle.mx_cpus_lock.proofs.WorldLemmas.{back_outs, moved_by}
 
--- the seat after its own record, beside the kernel as it was
+-- the seat after its own record, with the kernel as it was
 abbrev pub recorded_seat : SeatView → BootAndHistory → Recorded → Option Out → SeatView
 recorded_seat s k e x = record { table = s.table; actor = s.actor; mine = s.mine ++ record_of s.actor e ∷ []; seen = k.history ++ record_of s.actor e ∷ []; held = x }
 
@@ -49,7 +49,7 @@ pub seat_of_back : (z : TableId) (k : BootAndHistory) (d e : DeskView) (s t : Se
     → t ≡ recorded_seat s k (recorded.Back n) None
 seat_of_back z k d e s t n is desk seat = seat ∙ ap (λ (y : DeskView). seat_after_back s y n) (desk ∙ ap (λ (y : DeskView). desk_after_back y s.actor n) is)
 
--- what the desk knows of a seat, the kernel's history says
+-- what the desk knows of a seat holds of the kernel's history
 pub known_by : (z : TableId) (k : BootAndHistory) (d : DeskView) (s : SeatView) → d ≡ desk_beside z k → IsSeatOf s d → IsSeatOf s (desk_beside z k)
 known_by z k d s is known = subst (IsSeatOf s) is known
 

@@ -1,4 +1,4 @@
--- What a call of the shared machine says of the caller's seat.
+-- What a call of the shared machine does to the caller's seat.
 use Rattle.std.specs.Prelude.{◌≡◌, ℕ, Bool, List, [], ◌∷◌, ◌++◌, map, Option, Some, None, Ok, replicate}
 use mathlib.Core.List.{IsPrefix}
 use Rattle.atomic_table.specs.Seated.{TableId}
@@ -31,7 +31,7 @@ unnamed_boot = world_at_boot_with Lenient [] 0 0 0
 
 -- ---- the world after a history
 
--- where a machine stands after a history
+-- the world of a machine after a history
 abbrev pub world_after : World → List Record → World
 world_after boot history = replay (record { boot = boot; history = history })
 
@@ -43,18 +43,19 @@ out_of_lent (Some l) = Some l.out
 abbrev pub outs_of : World → List (Option Out)
 outs_of w = map out_of_lent w.cpus
 
--- the desk of a kernel: the same history, and what its world shows as out
+-- the desk of a kernel: its history is the kernel's, and it lends what the kernel's world shows as out
 abbrev pub desk_beside : TableId → BootAndHistory → DeskView
 desk_beside z k = record { table = z; history = k.history; lent = outs_of (replay k) }
 
--- WHAT ALWAYS HOLDS UNDER THE LOCK: the kernel was booted so, the table has a word for each actor, and the desk agrees
--- with the kernel. That the kernel stands at the replay of its history is what `replay` means of a kernel.
+-- WHAT ALWAYS HOLDS UNDER THE LOCK: the kernel was booted so, the table has a word for each actor, and the desk
+-- agrees with the kernel. That the kernel is at the replay of its history is what `replay` means of a kernel.
 abbrev pub IsLocked : TableId → World → BootAndHistory → DeskView → Type 0
 IsLocked z boot k d = (k.boot ≡ boot) × (z.words ≡ actors boot) × (d ≡ desk_beside z k)
 
 -- ---- calls
 
--- the same seat, which has seen no less, and whose own records are all of its actor's that it has seen
+-- t is the seat of the actor of s, later: it has seen no less, and its own records are all of its actor's that it
+-- has seen
 pub record Follows (s t : SeatView) : Type 0 where
   pub table : t.table ≡ s.table
   pub actor : t.actor ≡ s.actor
@@ -130,7 +131,7 @@ IsGiveCall boot s t l = IsAcceptedCall boot s t (recorded.Back l.out.count) None
 abbrev pub IsLoanOf : SeatView → LoanView → Type 0
 IsLoanOf s l = (l.actor ≡ s.actor) × (s.held ≡ Some l.lent)
 
--- the same seat, which did nothing, but may have seen more
+-- the own records of t and what it holds are those of s; it may have seen more
 abbrev pub IsSameSeat : SeatView → SeatView → Type 0
 IsSameSeat s t = (t.mine ≡ s.mine) × (t.held ≡ s.held)
 
@@ -144,7 +145,7 @@ pub record IsRestCall (boot : World) (s t : SeatView) (rest : Bool) : Type 0 whe
   pub lent : t.held ≡ lent_to (outs_of (world_after boot t.seen)) t.actor
   pub answered : rest ≡ at_rest (world_after boot t.seen)
 
--- what a seat shows stands in this history
+-- what a seat shows is in this history
 pub record StandsIn (history : List Record) (s : SeatView) : Type 0 where
   pub seen : IsPrefix s.seen history
   pub mine : s.mine ≡ part_of history s.actor

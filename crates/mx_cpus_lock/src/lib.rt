@@ -1,5 +1,5 @@
-//! What lies under the lock: the kernel and the desk, always in agreement, so that whoever takes the
-//! lock finds the kernel exactly where its history leads.
+//! What lies under the lock: the kernel and the desk, always in agreement, so that whoever takes
+//! the lock finds the kernel in exactly the state to which its history leads.
 #![tactic(auto)]
 
 mod locked;

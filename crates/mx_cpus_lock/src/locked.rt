@@ -12,8 +12,8 @@ use mx_machine_kernel::{Kernel, recorded_as};
 use mx_machine_world::{Answer, Event, Refusal, actors_stay};
 use std::marker::{Model, PhantomData};
 
-/// What lies under the lock: the kernel, which stands where the table stands after its history, and its
-/// desk, which has the same history and lends what that world shows as out. Contracts see the kernel.
+/// What lies under the lock: the kernel, in the state to which its history leads, and its desk,
+/// which has this history and lends what that state shows as out. Contracts see the kernel.
 pub struct Locked<M: Naming> {
     kernel: Kernel,
     desk: Desk,
@@ -45,7 +45,7 @@ impl<M: Naming> Locked<M> {
         }
     }
 
-    /// The kernel that the lock guarded. It stands where the table stands after its history.
+    /// The kernel that the lock guarded, in the state to which its history leads.
     pub fn into_kernel(self) -> Kernel
         ensures kernel { result ≡ self }
         ensures boot { result.boot ≡ M.boot }
@@ -85,6 +85,7 @@ impl<M: Naming> Locked<M> {
         ensures ok { IfOk result.1 (λ l. IsTakeCall M.boot seat result.0 l) }
         ensures err { IfErr result.1 (λ r. IsRefusedCall M.boot seat result.0 events.Take r) }
     {
+        // The seat sees the history first, also if the take is refused.
         let seat = self.desk.note(seat);
         self.kernel.opened();
         match self.kernel.take(seat.actor()) {
@@ -104,6 +105,7 @@ impl<M: Naming> Locked<M> {
         ensures { IsGiveCall M.boot seat result loan }
     {
         let actor = seat.actor();
+        // By the desk's contract this is what was lent, after the steps that it counts.
         let (seat, out) = self.desk.redeem(seat, loan);
         self.kernel.back(actor, out);
         self.kernel.opened();
@@ -118,6 +120,7 @@ impl<M: Naming> Locked<M> {
         ensures err { IfErr result.1 (λ r. IsRefusedCall M.boot seat result.0 event r) }
     {
         actors_stay();
+        // The seat sees the history first, also if the event is refused.
         let seat = self.desk.note(seat);
         seat.opened();
         self.kernel.opened();

@@ -1,10 +1,10 @@
-//! Which machine a type speaks of.
+//! The name of a shared machine, as a type.
 
 use std::marker::Brand;
 
-/// Which machine it is: the table of its seats, and the world at its boot. Both are for clauses alone.
-/// Nothing is known of a value under a lock but its type's invariant, so the type names the machine.
-/// A caller picks the members for `Brand`, by those of the blank that it opens.
+/// Which machine it is: the table of its seats, and the world at its boot. Both are only for
+/// clauses. Of a value under a lock only its type's invariant is known, so the type names the
+/// machine. A caller picks the members for `Brand`, by those of the blank that it opens.
 pub trait Naming {
     ghost use Rattle.atomic_table.specs.Seated.{TableId};
     ghost use Rattle.mx_machine_world.specs.World.{World};

@@ -46,8 +46,8 @@ HasMadeNoStep o = (o.count ≡ 0) × (o.stop ≡ Spent)
 abbrev pub IsLoan : Out → Out → Type 0
 IsLoan lent out = IsRunOf lent out × HasMadeNoStep lent
 
--- the same by the image alone: the steps that are counted lead from the image as it was lent to the image, and to the
--- stop of the last of them
+-- what `IsLoan` means for the image only: the steps that are counted lead from the image as it was lent to the
+-- image, and to the stop of the last of them
 pub record IsAdvanced (lent out : Out) : Type 0 where
   pub image : out.image ≡ (run_of out.count lent.image).image
   pub count : out.count ≡ (run_of out.count lent.image).count
@@ -57,7 +57,8 @@ pub record IsAdvanced (lent out : Out) : Type 0 where
 abbrev pub seat_of : TableId → ℕ → Knowledge → SeatView
 seat_of z a v = record { table = z; actor = a; mine = v.mine; seen = v.seen; held = v.held }
 
--- a seat has its actor's half alone, whose word is 2 if it holds something, and whose records are all that it has seen
+-- a seat has only its actor's half: its word is 2 if it holds something, and its own records are all of its actor's
+-- that it has seen
 abbrev pub IsActorSeat : TableId → ℕ → Bool → Me (Shown Announcement) Knowledge → Type 0
 IsActorSeat z a holds me = (me ≡ (actor_half me.0, [])) × (me.0.actor ≡ a) × (a < z.words) × (word_at_rest me.0.held ≡ (if holds then 2 else 0)) × (me.0.mine ≡ part_of me.0.seen a)
 
@@ -65,7 +66,7 @@ IsActorSeat z a holds me = (me ≡ (actor_half me.0, [])) × (me.0.actor ≡ a) 
 abbrev pub desk_of : TableId → Knowledge → DeskView
 desk_of z v = record { table = z; history = v.history; lent = v.lent }
 
--- it has the kernel's half alone
+-- it has only the kernel's half
 abbrev pub IsKernelSeat : Me (Shown Announcement) Knowledge → Type 0
 IsKernelSeat me = me ≡ (kernel_half me.0, [])
 

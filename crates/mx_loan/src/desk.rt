@@ -1,4 +1,9 @@
 //! The kernel's desk, which lends processes to actors and takes them back.
+//!
+//! # How a call goes
+//!
+//! Each call joins the kernel's seat with the actor's, makes its steps on the actor's word, and
+//! splits the seats again. So between two calls a word is 0, at home, or 2, lent out.
 
 ghost use Rattle.std.specs.Prelude.{◌≡◌, ◌<◌, None, Some, IfOk, length};
 ghost use Rattle.mx_machine_world.specs.Held.{IsRunOf};
@@ -16,7 +21,7 @@ use mx_machine_world::{Out, Record, Recorded};
 use std::alloc::{AllocError, Global};
 use std::marker::Model;
 
-/// The kernel's end of the table, with the table itself. It lies beside the kernel, under the lock.
+/// The kernel's end of the table, with the table itself. It is next to the kernel, under the lock.
 /// Contracts see it as the history, and what each processor is lent, as it was lent.
 #[derive(Drop)]
 pub struct Desk {
@@ -87,6 +92,7 @@ impl Desk {
         let table = &self.table;
         let both = &mut self.seat;
         steps::join_seats(table, both, seat);
+        // The word goes from 0 to 1 and 2.
         steps::offer(table, both, &take);
         steps::take(table, both, &take);
         let seat = steps::split_seats(table, both);
@@ -132,6 +138,7 @@ impl Desk {
         let table = &self.table;
         let both = &mut self.seat;
         steps::join_seats(table, both, seat);
+        // The word goes from 2 to 3 and 0. Then the seat sees all of the history.
         steps::bring_back(table, both, &back);
         steps::close(table, both, &back);
         steps::note(table, both, &back, 0, 0);
@@ -158,6 +165,7 @@ impl Desk {
         };
         let table = &self.table;
         let both = &mut self.seat;
+        // The word between two calls: 4 more means that the record awaits the actor's note.
         let at = if holds { 2 } else { 0 };
         steps::join_seats(table, both, seat);
         steps::record_event(table, both, &said, at);

@@ -1,4 +1,4 @@
-//! A process that is lent to an actor.
+//! A loan: a process that is lent to an actor, who may only run it and bring it back.
 
 ghost use Rattle.std.specs.Prelude.{◌≡◌};
 ghost use Rattle.mx_machine_world.specs.Held.{IsRunOf};
@@ -9,8 +9,8 @@ use mx_loan_shown::Shown;
 use mx_machine_world::{Held, Out, Stop, held_runs_join};
 use std::marker::Model;
 
-/// A process that is lent to an actor. It can't be dropped or copied: `Desk::redeem` alone ends it.
-/// Contracts see whose it is, what was lent (for clauses alone; no call changes it), and what has
+/// A process that is lent to an actor. It can't be dropped or copied: only `Desk::redeem` ends it.
+/// Contracts see whose it is, what was lent (only for clauses; no call changes it), and what has
 /// become of it: the image, the budget, the count of steps, and how the last of them ended.
 pub struct Loan {
     pub(crate) out: Out,

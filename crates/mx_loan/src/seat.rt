@@ -1,4 +1,4 @@
-//! What one actor knows of the history.
+//! An actor's seat at the lending desk: what the actor knows of the history.
 
 ghost use Rattle.std.specs.Prelude.{◌≡◌, ◌<◌};
 ghost use Rattle.mx_machine_world.specs.History.{part_of};

@@ -6,7 +6,7 @@ use Rattle.mx_loan_rule.specs.declared.knowledge.Knowledge.{Knowledge}
 use Rattle.mx_loan_rule.specs.declared.knowledge.Announcement.{Announcement}
 use Rattle.mx_loan_rule.specs.Rule.{IsJoined, JoinedFacts, lent_to}
 
--- the history and what is lent change for one actor alone
+-- the history and what is lent change for only one actor
 pub record ChangesOneActor (v w : Knowledge) : Type 0 where
   pub actor : w.actor ≡ v.actor
   pub both : IsJoined w

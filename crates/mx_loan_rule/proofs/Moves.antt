@@ -1,4 +1,4 @@
--- Each step keeps the rule.
+-- Each step preserves the rule.
 use Rattle.std.proofs.Common.{◌≡◌, ◌≢◌, ◌==◌, ◌⊎◌, ℕ, zero, suc, ◌+◌, ◌<◌, List, [], ◌∷◌, ◌++◌, length, replicate, set, Some, None, Option, Bool, true, false, true≢false, refl, sym, ap, ◌∙◌, subst, inl, inr, ⊎_elim, arith, length-set, eq-eqb, ne_eqb, get_or-set_same}
 use Rattle.std.specs.Prelude.{slice_index}
 use Rattle.std.proofs.lemmas.List.{append-nil, get_or-set_other, length-replicate}
@@ -25,7 +25,7 @@ use Rattle.mx_loan_rule.proofs.Fronts.{prefix_trans}
 off : {A : Type 0} (b : Bool) → b ≡ false → b ≡ true → A
 off b never it = absurd (true≢false (sym it ∙ never))
 
--- what the rule says of a joined_view view
+-- the rule for a view that has both halves
 pub own_of : (words : List ℕ) (views : List Knowledge) (id : ℕ) (v : Knowledge) → RuleHolds words views → get_elem? views id ≡ some v → IsJoined v
     → (v.actor < length words) × (slice_index words v.actor ≡ v.phase) × JoinedFacts v
 own_of words views id v h at both =
@@ -114,7 +114,7 @@ keeps_rule words views id v w h at both alone own =
           },
         )
 
--- the words of a step: any step that keeps the joined_view view's own facts is allowed
+-- the words of a step: any step that preserves the facts of the view with both halves is allowed
 pub allows : (f : Knowledge → Announcement → Knowledge) (slots id : ℕ) (v : Knowledge) (c : List (ℕ × Shown Announcement)) (old new : ℕ) (x : Shown Announcement) → IsJoined v
     → (JoinedFacts v → (v.phase ≡ old) × ((f v x.value).phase ≡ new) × ChangesOneActor v (f v x.value) × JoinedFacts (f v x.value))
     → Allows {S = Shown Announcement} {V = Knowledge} (λ s. RuleHolds s.words s.views) slots id (v, c) v.actor (λ n. either (n == old) new n) (StepMakes f (step slots v.actor old new (some x)) (v, c))
@@ -281,7 +281,7 @@ splits id v both rest s h at = record {
         (λ (same : b ≡ v.actor). subst IsResting (sym (ap (slice_index s.words) same ∙ kernel.1.phase both.1 ∙ rest)) (still_rest v.held))
         (λ (other : b ≢ v.actor). kernel.1.still b (λ _. other))
 
--- the same, where the word's number is known by an equation
+-- as `allows`, if the word's number is known by an equation
 pub allows_at : (f : Knowledge → Announcement → Knowledge) (slots id : ℕ) (v : Knowledge) (c : List (ℕ × Shown Announcement)) (old new : ℕ) (x : Shown Announcement) (i : ℕ) → i ≡ v.actor → IsJoined v
     → (JoinedFacts v → (v.phase ≡ old) × ((f v x.value).phase ≡ new) × ChangesOneActor v (f v x.value) × JoinedFacts (f v x.value))
     → Allows {S = Shown Announcement} {V = Knowledge} (λ s. RuleHolds s.words s.views) slots id (v, c) i (λ n. either (n == old) new n) (StepMakes f (step slots i old new (some x)) (v, c))

@@ -93,8 +93,8 @@ newborn_view v = record spent_view { sits = true; actor = v.made }
 
 -- ---- THE RULE
 
--- what the word n says of an actor: of its records in the history and those that it knows, and of what the kernel
--- lends it and what it holds
+-- what the word n means for an actor: for its records in the history and those that it knows, and for what the
+-- kernel lends it and what it holds
 pub data WordMeans (n : ℕ) (all mine : List Record) (lent held : Option Out) : Type 0 where
   home : n ≡ at_home → all ≡ mine → lent ≡ None → held ≡ None → WordMeans n all mine lent held
   offer : (r : Record) (x : Out) → n ≡ offered → r.event ≡ Take → all ≡ mine ++ r ∷ [] → lent ≡ Some x → held ≡ None → WordMeans n all mine lent held
@@ -107,24 +107,24 @@ pub data WordMeans (n : ℕ) (all mine : List Record) (lent held : Option Out) :
 abbrev pub IsResting : ℕ → Type 0
 IsResting n = (n ≡ at_home) ⊎ (n ≡ lent_out)
 
--- what the rule says of a view that has the kernel's half: it is the history and what is lent, and every word rests
--- but that of an actor whose half is here too, which is its phase
+-- the rule for a view that has the kernel's half: it is the history and what is lent, and every word rests but that
+-- of an actor whose half is here too, which is its phase
 pub record KernelFacts (words : List ℕ) (log : List Record) (lent : List (Option Out)) (v : Knowledge) : Type 0 where
   pub history : v.history ≡ log
   pub lends : v.lent ≡ lent
   pub still : (b : ℕ) → (v.sits ≡ true → b ≢ v.actor) → IsResting (slice_index words b)
   pub phase : v.sits ≡ true → slice_index words v.actor ≡ v.phase
 
--- what it says of a view that has an actor's half: what was seen begins the history, the actor's records in it begin
--- its own, and its word says the rest
+-- the rule for a view that has an actor's half: what was seen begins the history, the actor's records in it begin
+-- its own, and its word gives the rest
 pub record ActorFacts (words : List ℕ) (log : List Record) (lent : List (Option Out)) (v : Knowledge) : Type 0 where
   pub inside : v.actor < length words
   pub seen : IsPrefix v.seen log
   pub known : IsPrefix (part_of v.seen v.actor) v.mine
   pub word : WordMeans (slice_index words v.actor) (part_of log v.actor) v.mine (lent_to lent v.actor) v.held
 
--- what it says of the first seat, while it still makes actors' seats: nothing has happened, and the actors from
--- `made` on have none yet
+-- the rule for the first seat, while it still makes actors' seats: nothing has happened, and the actors from `made`
+-- on have no seat yet
 pub record FoundingFacts (words : List ℕ) (views : List Knowledge) (log : List Record) (lent : List (Option Out)) (v : Knowledge) : Type 0 where
   pub both : (v.knows ≡ true) × (v.sits ≡ false)
   pub empty : log ≡ []
@@ -141,11 +141,14 @@ pub record RuleHolds (words : List ℕ) (views : List Knowledge) : Type 0 where
   -- which seat has the kernel's half, and which an actor's
   pub kernel : ℕ
   pub place : ℕ → ℕ
+  -- only this seat has the kernel's half, and it knows this history and this list
   pub knows : (by : ℕ) (v : Knowledge) → get_elem? views by ≡ some v → v.knows ≡ true → (by ≡ kernel) × KernelFacts words log lent v
+  -- each actor's half is in one seat, and the actor's word relates it to the history and the list
   pub sits : (by : ℕ) (v : Knowledge) → get_elem? views by ≡ some v → v.sits ≡ true → (by ≡ place v.actor) × ActorFacts words log lent v
+  -- only the kernel's seat makes actors' seats, before anything has happened
   pub found : (by : ℕ) (v : Knowledge) → get_elem? views by ≡ some v → v.founding ≡ true → (by ≡ kernel) × FoundingFacts words views log lent v
 
--- what the rule says of a view that has both halves, by that view alone
+-- the rule for a view that has both halves, by that view only
 pub record JoinedFacts (v : Knowledge) : Type 0 where
   pub seen : IsPrefix v.seen v.history
   pub known : IsPrefix (part_of v.seen v.actor) v.mine
@@ -153,7 +156,7 @@ pub record JoinedFacts (v : Knowledge) : Type 0 where
 
 -- ---- THE SIX KINDS OF STEP
 
--- what an announcement says is lent
+-- what is lent by an announcement
 abbrev pub value_of_shown : Option (Shown Out) → Option Out
 value_of_shown None = None
 value_of_shown (Some x) = Some x.value

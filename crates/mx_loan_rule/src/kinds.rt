@@ -1,10 +1,10 @@
-//! The rule of the table, and the kinds of step that keep it.
+//! The rule of the loans' table, and the kinds of step that preserve it.
 
 use crate::knowledge::{Announcement, Knowledge, TableSizes};
 use atomic_table::{Join, Play, Split, TableRule};
 use mx_loan_shown::Shown;
 
-/// What each word says of its actor, and that all seats speak of one history.
+/// What each word means for its actor, and that all seats agree on one history.
 pub struct LoanRule;
 
 impl TableRule<Shown<Announcement>, Knowledge, TableSizes> for LoanRule {

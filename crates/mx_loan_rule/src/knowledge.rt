@@ -1,4 +1,4 @@
-//! What a seat knows, and what a step announces.
+//! What a seat of the loans' table knows, and what a step announces.
 
 use mx_loan_shown::Shown;
 use mx_machine_world::{Out, Record};

@@ -1,5 +1,6 @@
-//! Like a library's cards: the librarian's list says what is lent and each reader's card says what
-//! the reader has; this crate states how list and cards agree, and that six kinds of step keep them so.
+//! Like a library's cards: the librarian's list shows what is lent, each reader's card shows what
+//! the reader has, and this crate states how list and cards agree, and that six kinds of step
+//! preserve it.
 #![tactic(auto)]
 
 mod kinds;

@@ -1,4 +1,5 @@
-//! The steps on the table, each with its contract on the view that has both halves.
+//! The steps on the loans' table, each with its contract on the view that has both halves: the
+//! kernel's and an actor's.
 
 ghost use Rattle.std.specs.Prelude.{◌≡◌, ℕ, ◌<◌, ◌+◌, ◌++◌, ◌∷◌, ◌⊎◌, List, [], length, true, Some, IfOk, replicate};
 ghost use Rattle.mx_machine_world.specs.declared.history.Record.{Record};

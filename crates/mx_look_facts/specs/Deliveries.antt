@@ -1,4 +1,4 @@
--- Deliveries, and notifications that are kept (our own).
+-- Deliveries, and notifications that become pending (our own).
 use Rattle.std.specs.Prelude.{ℕ, ◌+◌, ◌-◌, ◌==◌, ◌&&◌, ◌||◌, not, nat_lt, Bool, false, count_by, Option, Some, None, slice_index_or, if◌then◌else◌}
 use Rattle.std.specs.List.{range_with_len}
 use Rattle.mx_proc.specs.declared.deliveries.Delivery.{Delivery}
@@ -14,11 +14,11 @@ got_from x s = count_by (got x) (range_with_len s (32 - s))
 unfoldable pub delivery_to : Step → ℕ → Option Delivery
 delivery_to x s = if got x s then slice_index_or x.after.deliveries (got_from x (s + 1)) None else None
 
--- ---- notifications that wait: HARDWARE at 0, CLOCK at 1, slot 0 from 2 on
+-- ---- pending notifications: HARDWARE at 0, CLOCK at 1, slot 0 from 2 on
 
 abbrev pub is_pending : SlotGlance → ℕ → Bool
 is_pending g place = nat_lt place 34 && slice_index_or g.pending place false
 
--- A NOTIFICATION IS KEPT: it waits and didn't, or it is of other interrupt lines
+-- A NOTIFICATION BECOMES PENDING: it is pending and wasn't, or it has other interrupt lines
 unfoldable pub is_new_bit : SlotGlance → SlotGlance → ℕ → Bool
 is_new_bit v u place = is_pending u place && (not (is_pending v place) || ((place == 0) && not (v.lines == u.lines)))

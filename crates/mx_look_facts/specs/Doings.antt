@@ -40,7 +40,7 @@ abbrev pub seen_is : (Doing → Bool) → Option SlotGlance → Bool
 seen_is f None = false
 seen_is f (Some g) = f g.doing
 
--- ---- the same
+-- ---- equal ones
 
 abbrev pub same_cause : DeathCause → DeathCause → Bool
 same_cause cause.Exit cause.Exit = true

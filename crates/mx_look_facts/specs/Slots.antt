@@ -43,7 +43,7 @@ ticks_used_by (Some h) s = if h.slot == s then h.count else 0
 abbrev pub ticks_used : Step → ℕ → ℕ
 ticks_used x s = if is_back x.event then ticks_used_by (held_before x) s else 0
 
--- of the same process: no ticks were left, and some are
+-- one process, before and after: no ticks were left, and some are
 unfoldable pub is_new_quantum : SlotGlance → ℕ → SlotGlance → Bool
 is_new_quantum v used u = (v.endpoint == u.endpoint) && nat_le v.ticks used && nat_lt 0 u.ticks
 

@@ -1,4 +1,4 @@
-//! Kernel calls.
+//! The facts of kernel calls in a step.
 
 ghost use Rattle.std.specs.Prelude.{◌≡◌, None, Some, MatchOption};
 ghost use Rattle.mx_look_facts.specs.Calls.{asks_kernel, is_served, kernel_call};

@@ -1,4 +1,4 @@
-//! Deliveries, and notifications that are kept.
+//! The facts of deliveries in a step, and of notifications that become pending.
 
 ghost use Rattle.std.specs.Prelude.{◌≡◌, ◌≤◌, ◌<◌, ◌+◌};
 ghost use Rattle.mx_look_facts.specs.Deliveries.{got_from, delivery_to, is_pending, is_new_bit};
@@ -29,15 +29,15 @@ pub fn delivery_to(step: &Step, slot: u32) -> Option<Delivery>
     step.after.deliveries[got_from(step, slot + 1)]
 }
 
-/// Whether a notification waits.
+/// Whether a notification is pending.
 fn is_pending(seen: &SlotGlance, place: u32) -> bool
     ensures { result ≡ is_pending seen.now place }
 {
     place < 34 && seen.pending[place as usize]
 }
 
-/// Whether a notification is kept for a slot: it waits and didn't, or is of other interrupt lines.
-/// Places are those of the sources: HARDWARE 0, CLOCK 1, slot 0 from 2 on.
+/// Whether a notification becomes pending for a slot: it is pending and wasn't, or it has other
+/// interrupt lines. Places are those of the sources: HARDWARE 0, CLOCK 1, slot 0 from 2 on.
 #[tactic(auto, unfolding(crate::specs::Deliveries::is_new_bit))]
 pub fn is_new_bit(before: &SlotGlance, after: &SlotGlance, place: u32) -> bool
     ensures { result ≡ is_new_bit before.now after.now place }

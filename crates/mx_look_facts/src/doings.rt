@@ -1,4 +1,4 @@
-//! Kinds of what a process does.
+//! Kinds of what a process does, and when two of them are equal.
 
 ghost use Rattle.std.specs.Prelude.{◌≡◌};
 ghost use Rattle.mx_look_facts.specs.Doings.{is_ready, is_waiting, is_listening, is_out, is_down, same_cause, same_awaited, same_doing};
@@ -43,7 +43,7 @@ pub(crate) fn is_down(doing: Doing) -> bool
     matches!(doing, Doing::Down(_))
 }
 
-/// Whether two processes died of the same.
+/// Whether two causes of death are equal.
 fn same_cause(a: DeathCause, b: DeathCause) -> bool
     ensures { result ≡ same_cause a b }
 {
@@ -54,7 +54,7 @@ fn same_cause(a: DeathCause, b: DeathCause) -> bool
     }
 }
 
-/// Whether two processes receive from the same.
+/// Whether two processes receive from one sender, or both from any.
 fn same_awaited(a: Awaited, b: Awaited) -> bool
     ensures { result ≡ same_awaited a b }
 {
@@ -68,7 +68,7 @@ fn same_awaited(a: Awaited, b: Awaited) -> bool
     }
 }
 
-/// Whether two processes do the same.
+/// Whether two processes do equal things.
 pub fn same_doing(a: Doing, b: Doing) -> bool
     ensures { result ≡ same_doing a b }
 {

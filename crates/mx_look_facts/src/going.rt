@@ -1,4 +1,4 @@
-//! Who goes on, and whose trap is acted.
+//! The facts of traps in a step: who goes on with a result, and whose trap is acted.
 
 ghost use Rattle.std.specs.Prelude.{◌≡◌, None, Some, MatchOption};
 ghost use Rattle.mx_look_facts.specs.Doings.{is_out, is_waiting, is_listening, seen_is};

@@ -1,5 +1,5 @@
-//! The facts of a step of a machine: what a record of a history did, told from the glances at the
-//! worlds before and after its event.
+//! The facts of a step of a machine: what a record of a history did, as the glances at the worlds
+//! before and after its event show it.
 #![tactic(auto)]
 
 mod calls;

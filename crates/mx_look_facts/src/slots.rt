@@ -1,4 +1,4 @@
-//! What has changed of a slot.
+//! What a step has changed of a slot.
 
 ghost use Rattle.std.specs.Prelude.{◌≡◌};
 ghost use Rattle.mx_look_facts.specs.Slots.{ticks_used, is_new_quantum, has_changed, has_rung, is_renewed};

@@ -1,4 +1,4 @@
-//! Steps.
+//! A step: a record of a history, with the glances before and after its event.
 
 ghost use Rattle.std.specs.Prelude.{◌≡◌, None, Some, MatchOption};
 ghost use Rattle.std.specs.Option.{option_map};

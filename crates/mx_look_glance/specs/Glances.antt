@@ -1,4 +1,4 @@
--- A GLANCE at a world: all that is looked at when it is told what an event did (our own).
+-- A GLANCE at a world: all that is looked at to find out what an event did (our own).
 use Rattle.std.specs.Prelude.{ℕ, List, length, map, Option, slice_get}
 use Rattle.std.specs.List.{range_with_len}
 use Rattle.std.specs.Option.{option_map}

@@ -1,14 +1,14 @@
--- What is looked at of the console and of the deliveries that are kept (our own).
+-- What is looked at of the console and of the recorded deliveries (our own).
 use Rattle.std.specs.Prelude.{ℕ, ◌-◌, ◌==◌, ◌&&◌, nat_lt, min, List, length, map, Option, None, slice_get, if◌then◌else◌}
 use Rattle.std.specs.List.{range_with_len}
 use Rattle.mx_proc.specs.Console.{ConsoleState}
 use Rattle.mx_proc.specs.declared.deliveries.Delivery.{Delivery}
 
--- the byte that was written last, if any was: of all bytes the last 4,096 are kept
+-- the byte that was written last, if any was: of all bytes the console holds the last 4,096
 unfoldable pub last_byte : ConsoleState → Option ℕ
 last_byte c = if c.count == 0 then None else slice_get c.kept (min c.count 4096 - 1)
 
--- how many deliveries are kept, at most 1,024
+-- how many deliveries are recorded, at most 1,024
 abbrev pub kept_count : List Delivery → ℕ
 kept_count ds = min (length ds) 1024
 

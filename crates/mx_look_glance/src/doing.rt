@@ -1,4 +1,4 @@
-//! What a process does.
+//! What a process does at a glance: it is ready, waits, is out, is down.
 
 ghost use Rattle.std.specs.Prelude.{◌≡◌};
 ghost use Rattle.mx_proc.specs.TableState.{endpoint_of};
@@ -34,7 +34,7 @@ pub enum Doing {
     Down(DeathCause),
 }
 
-/// The endpoint of a slot's process; where no process ever was its generation counts as 0.
+/// The endpoint of a slot's process; if no process ever was there, its generation counts as 0.
 fn endpoint_of(table: &Table, slot: Slot) -> Endpoint
     ensures { result ≡ endpoint_of table.now slot }
 {

@@ -1,4 +1,4 @@
-//! A glance at a machine.
+//! A glance at a whole machine: its slots, its processors, its devices and deliveries.
 
 ghost use Rattle.std.specs.Prelude.{◌≡◌};
 ghost use Rattle.mx_machine_world.specs.World.{held_by};
@@ -35,8 +35,8 @@ pub struct Glance {
     /// How many bytes were ever written to the console, and the last of them.
     pub written: u32,
     pub last_byte: Option<u8>,
-    /// The deliveries that are kept, the latest first, and of these as many as there are services: no event
-    /// makes more.
+    /// The recorded deliveries, the latest first, and of these as many as there are services: no
+    /// event makes more.
     pub deliveries: [Option<Delivery>; 32],
 }
 

@@ -1,4 +1,4 @@
-//! What is looked at of an image.
+//! A glance at an image: its registers of a trap, and its message.
 
 ghost use Rattle.std.specs.Prelude.{◌≡◌, ◌+◌, ◌≤◌};
 ghost use Rattle.mx_look_glance.specs.Images.{word_at, nine_words, message_at, image_glance};
@@ -7,7 +7,7 @@ use mx_exec::Image;
 use mx_mem::{MESSAGE_SIZE, Segment};
 use mx_word::{Register, read_dword};
 
-/// What is looked at of an image: the registers that say a trap and its result, and the nine words of
+/// What is looked at of an image: the registers of a trap and of its result, and the nine words of
 /// the message at its buffer (source, type, p0 to p6), if they lie inside its memory.
 #[derive(Clone, Copy)]
 pub struct ImageGlance {

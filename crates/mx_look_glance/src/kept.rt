@@ -1,4 +1,4 @@
-//! What is looked at of the console and of the deliveries that are kept.
+//! A glance at the console and at the recorded deliveries.
 
 ghost use Rattle.std.specs.Prelude.{◌≡◌, ◌≤◌};
 ghost use Rattle.mx_look_glance.specs.Kept.{last_byte, kept_count, latest, latest_deliveries};
@@ -16,11 +16,12 @@ pub(crate) fn last_byte(console: &Console) -> Option<u8>
     }
 }
 
-/// How many deliveries are kept: a table keeps at most 1,024.
+/// How many deliveries are recorded: a table has at most 1,024.
 fn kept_count(table: &Table) -> usize
     ensures count { result ≡ kept_count table.now.deliveries }
     ensures few { result ≤ 1024 }
 {
+    // By halving, because a table has no count of its recorded deliveries.
     let mut low = 0;
     let mut high = KEPT_DELIVERIES;
     while low < high {
@@ -33,8 +34,8 @@ fn kept_count(table: &Table) -> usize
     low
 }
 
-/// Of `count` deliveries that are kept the one at a place, counted back from the latest, which is at 0, if it is
-/// among the latest `most`.
+/// Of `count` recorded deliveries the one at a place, counted back from the latest, which is at 0,
+/// if it is among the latest `most`.
 #[tactic(auto, unfolding(crate::specs::Kept::latest))]
 fn latest(table: &Table, count: usize, most: usize, back: usize) -> Option<Delivery>
     ensures { result ≡ latest table.now.deliveries count most back }
@@ -46,7 +47,7 @@ fn latest(table: &Table, count: usize, most: usize, back: usize) -> Option<Deliv
     }
 }
 
-/// Looks at the deliveries that are kept, the latest first, and of these at most `most`, and at most 32.
+/// Looks at the recorded deliveries, the latest first, and of these at most `most`, and at most 32.
 pub(crate) fn look_at_deliveries(
     deliveries: &mut [Option<Delivery>; 32],
     table: &Table,

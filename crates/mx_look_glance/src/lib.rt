@@ -1,4 +1,10 @@
-//! A glance at a machine: all that is looked at when it is told what an event did.
+//! A glance at a machine: all of its state that is looked at, before and after an event, to find
+//! out what the event did.
+//!
+//! # In place
+//!
+//! A glance is about six kilobytes long. `Glance::look` fills one that is there, since a new one is
+//! moved from call to call.
 #![tactic(auto)]
 
 mod doing;

@@ -1,4 +1,4 @@
-//! What is looked at of a slot.
+//! A glance at a slot: its service and its process.
 
 ghost use Rattle.std.specs.Prelude.{◌≡◌, ◌<◌, length};
 ghost use Rattle.mx_look_glance.specs.Glances.{glance_of_slot, slot_glance, slot_glances};
@@ -19,7 +19,7 @@ pub struct SlotGlance {
     pub level: u8,
     /// The ticks of its quantum that are left.
     pub ticks: u32,
-    /// Notifications that wait: HARDWARE, CLOCK, slot 0 and up.
+    /// Pending notifications: HARDWARE, CLOCK, slot 0 and up.
     pub pending: [bool; 34],
     /// Interrupt lines that were raised, bit l for line l.
     pub lines: u32,

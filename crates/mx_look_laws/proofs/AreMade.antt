@@ -1,4 +1,4 @@
--- The deliveries that are told are those that the event makes.
+-- The deliveries in the facts are those that the event makes.
 use Rattle.std.proofs.Common.{◌≡◌, ◌≢◌, ◌∙◌, ℕ, zero, suc, ◌<◌, ◌≤◌, ◌%◌, ◌==◌, ◌&&◌, ◌||◌, not, nat_lt, Bool, true, false, cond, List, [], ◌∷◌, ◌++◌, length, length-append, length-set, map, Option, Some, None, refl, sym, ap, ap₂, subst, get_or, slice_get, slice_set, inl, inr, arith}
 use Rattle.std.proofs.lemmas.Bool.{cases_eq, eq-eqb, lt-ltb, ltb-false, ltb-true, ne_eqb}
 use Rattle.std.proofs.lemmas.Option.{slice_get_past}
@@ -239,7 +239,7 @@ module _ (v : World) (a n : ℕ) (sound : IsSound v) (few : length v.cpus ≤ 8)
         let few_cpus : a < 8 = omega (arith, few, holds_in v.cpus a l held) in
         ap (acting_of (step_to (recorded.Back k) u)) (cpu_seen v a few_cpus ∙ ap (option_map held_glance) held)
 
-    -- a caller is told to get a message by its own RECEIVE
+    -- a caller gets a message, by the facts, by its own RECEIVE
     calls : (b : Bool) (s : ℕ) → (is_acted_by (cond b (Some (held_glance l)) None) s && calls_receive_by (cond b (Some (held_glance l)) None)) ≡ (b && (l.slot == s) && (l.out.image.regs.ecx == 2))
     unfolding held_glance image_glance
     calls true s = refl
@@ -302,7 +302,7 @@ module _ (v : World) (a n : ℕ) (sound : IsSound v) (few : length v.cpus ≤ 8)
 
   -- ---- each event
 
-  -- what it makes is in order, and told of whom it comes to, by the diary of each slot
+  -- what it makes is in order, and by the diary of each slot it is for whom it comes to
   record IsTold (u : World) (r : Recorded) (own : ℕ → List Item) (ds : List Delivery) : Type 0 where
     pub ascends : Ascend 0 (length v.table.slots) ds
     pub gets : (s : ℕ) (p : Service) → s < 32 → slice_get v.services s ≡ Some p → gone_on (step_to r u) s ≡ result_written (own s) → got (step_to r u) s ≡ is_to s ds

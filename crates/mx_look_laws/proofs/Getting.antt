@@ -360,7 +360,7 @@ receives_is n = by_bools (n == 1) (n == 2) (n == 3) (n == 4) refl refl
     by_bools false false false true e f = refl
     by_bools false false false false e f = refl
 
--- THE CALLER is told to have got a message exactly if one is delivered to it: then it called RECEIVE
+-- THE CALLER got a message, by the facts, exactly if one is delivered to it: then it called RECEIVE
 abbrev pub OwnIsGot : Bool → List (ℕ × Item) → List Delivery → ℕ → Type 0
 OwnIsGot b items ds s = (is_told_zero (items_for s items) && b) ≡ is_to s ds
 

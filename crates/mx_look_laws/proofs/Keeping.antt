@@ -1,4 +1,5 @@
--- No event reads the deliveries that are kept: whichever they are, it makes the same ones, and else does the same.
+-- No event reads the recorded deliveries: whatever they are, it makes these deliveries, and all else is as without
+-- them.
 use Rattle.std.proofs.Common.{◌≡◌, ◌∙◌, ℕ, ◌%◌, ◌==◌, nat_lt, not, slice_get, Bool, true, false, cond, List, [], ◌∷◌, ◌++◌, Option, Some, None, refl, sym, ap}
 use Rattle.circular_buffer.specs.Buffer.{keep_last}
 use Rattle.mx_image.specs.declared.runs.Stop.{Stop}
@@ -48,11 +49,11 @@ use Rattle.mx_machine_world.specs.declared.events.Event.TheVariants as event
 use Rattle.mx_machine_world.specs.Move.{is_doomed, table_after_back, table_after_coming_home, table_after_end_of_turn, table_after_kill, table_after_sending_out, table_after_trap_at_back, world_after_back, world_after_event, world_after_line, world_after_respawn, world_after_step, world_after_take}
 use Rattle.mx_machine_world.specs.World.{World, HeldProcess, held_by}
 
--- the same table with these deliveries kept
+-- a table with these recorded deliveries
 abbrev pub kept : TableState → List Delivery → TableState
 kept t xs = record t { deliveries = xs }
 
--- those that are kept after more are made
+-- those that are recorded after more are made
 abbrev pub keep : List Delivery → List Delivery → List Delivery
 keep xs [] = xs
 keep xs (d ∷ ds) = keep (keep_last 1024 (xs ++ d ∷ [])) ds
@@ -401,11 +402,11 @@ kill_kept : (t : TableState) (s : ℕ) (xs : List Delivery) → table_after_kill
 unfolding table_after_kill
 kill_kept t s xs = quiet (is_out (process_at t s).state) _ _ (with_state t s Doomed) (table_after_death t s cause.Kill) xs refl (death_kept t s cause.Kill xs)
 
--- a world with these deliveries kept
+-- a world with these recorded deliveries
 abbrev pub keeping : World → List Delivery → World
 keeping w xs = record w { table = kept w.table xs }
 
--- WHAT IS KEPT AFTER AN EVENT, whatever was kept before
+-- WHAT IS RECORDED AFTER AN EVENT, whatever was recorded before
 pub event_keeps : (w : World) (a : ℕ) (e : Event) (xs : List Delivery) → (world_after_event (keeping w xs) a e).table.deliveries ≡ keep xs (made_in w a e)
 unfolding world_after_event table_after_sending_out table_after_respawn
 event_keeps w a event.Step xs = by_option (held_by w a)

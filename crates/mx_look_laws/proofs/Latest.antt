@@ -1,4 +1,5 @@
--- Deliveries that were made stand last among those that are kept, and are told of their slots.
+-- Deliveries that were made are the last of those that are recorded, and the facts of a step have them for their
+-- slots.
 use Rattle.std.proofs.Common.{◌≡◌, ◌≢◌, ◌∙◌, ℕ, zero, suc, ◌+◌, ◌-◌, ◌<◌, ◌≤◌, ◌==◌, ◌&&◌, ◌||◌, nat_lt, Bool, true, false, cond, List, [], ◌∷◌, ◌++◌, append_assoc, length, length-append, length-drop, map, filter, drop, Some, None, refl, sym, ap, get_or, slice_get, arith}
 use Rattle.std.specs.List.{count_by, range_with_len}
 use Rattle.std.proofs.lemmas.Bool.{eqb-false, eqb-true, lt-ltb, ltb-false, ltb-true, ne_eqb}
@@ -15,7 +16,7 @@ use Rattle.mx_look_facts.specs.Going.{got}
 use Rattle.mx_look_laws.specs.Made.{slot_to, told_of_slot, told_of_slots, with_slot}
 use Rattle.mx_look_laws.proofs.Keeping.{keep}
 
--- ---- what is kept ends with what was made
+-- ---- what is recorded ends with what was made
 
 -- a list that ends with these
 pub record Ends (xs ds : List Delivery) : Type 0 where
@@ -52,7 +53,7 @@ kept_short xs ds d =
     let all = xs ++ d ∷ [] in
     keep_short ds (keep_last 1024 all) (omega (arith, length-drop (length all - 1024) all))
 
--- if none was kept before, just what was made is kept
+-- if none was recorded before, just what was made is recorded
 pub only_made : (ds : List Delivery) → length ds ≤ 1024 → keep [] ds ≡ ds
 only_made ds few = by_first ends.first ends.whole
   where
@@ -133,7 +134,7 @@ pub ascend_length : (s n : ℕ) (ds : List Delivery) → s ≤ n → Ascend s n 
 ascend_length s n [] le h = omega (arith, le)
 ascend_length s n (d ∷ ds) le h = omega (arith, ascend_length (slot_to d + 1) n ds (omega (arith, h.1)) h.2, h.0)
 
--- ---- what is told
+-- ---- the deliveries in the facts
 
 -- which slots got one, from a slot on
 abbrev Gets : Step → ℕ → List Delivery → Type 0

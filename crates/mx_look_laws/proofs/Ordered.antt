@@ -168,7 +168,7 @@ rings_receives (s ∷ ps) t q few e = by_bool (is_to q made) refl (sym (to-appen
     by_bool true f k rest = alarm_receives t s q (notified_receives v source.Clock s q (alarm_few t s few) f)
     by_bool false f k rest = alarm_receives t s q (notifying_receives v source.Clock s q (rest k))
 
--- who is told of a tick
+-- who gets a notification at a tick
 pub rings_got : (ps : List ℕ) (t : TableState) (q : ℕ) → AreFew t → (is_zero (result_after None (items_for q (items_of_rings ps t))) && is_receiving (process_at t q).state) ≡ is_to q (made_of_rings ps t)
 rings_got ps t q few = ap (λ o. is_zero o && is_receiving (process_at t q).state) (rings_result ps t q None few) ∙ by_bool (is_to q (made_of_rings ps t)) refl
   where

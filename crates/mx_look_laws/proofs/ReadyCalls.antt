@@ -46,7 +46,7 @@ use Rattle.mx_look_laws.proofs.Readies.{death_readies, delivery_readies, flag, g
 
 -- ---- blocked sends
 
--- who isn't sending stands in no blocked send
+-- who isn't sending is in no blocked send
 pub record IsQueued (t : TableState) : Type 0 where
   pub each : (p : ℕ) → is_sending (process_at t p).state ≡ false → sends_of p t.waits ≡ 0
 
@@ -102,7 +102,7 @@ idle_caller t s x h = by_option (caller_of s x t.waits) refl
     by_option None e = tt
     by_option (Some p) e = readies-at t.slots p ∙ sending_idle (process_at t p).state (sending_caller t s x h p e)
 
--- nobody else is taken from d alone, if d stands in no blocked send
+-- nobody else is taken only from d, if d is in no blocked send
 no_caller : (s d : ℕ) (pairs : List (ℕ × ℕ)) → sends_of d pairs ≡ 0 → caller_of s (partner.Only (source.Slot d)) pairs ≡ None
 no_caller s d [] e = refl
 no_caller s d (a ∷ rest) e = by_bool (a.0 == d) refl (λ f. no_caller s d rest f) e
@@ -217,7 +217,7 @@ unfolding table_after_call
 trap_by_readies t s None n h home idle = goes_on_readies t s (errno_bits Denied)
 trap_by_readies t s (Some c) n h home idle = call_by_readies t s c (party_of t n) (call_refusal t s c (party_of t n)) h home idle
 
--- ---- who is told to be ready: a slot that wasn't is ready exactly if it has a result
+-- ---- who is ready, by the facts: a slot that wasn't is ready exactly if it has a result
 
 -- whether a slot has a result
 abbrev pub is_result : Item → Bool
@@ -389,7 +389,7 @@ death_tells t s why q h within idle =
 
 -- ---- kernel calls
 
--- nothing that is told changes
+-- no fact changes
 quiet : (t u : TableState) (items : List (ℕ × Item)) (q : ℕ) → readies u ≡ readies t → gives q items ≡ false → Tells t u items q
 quiet t u items q same none within idle = ap (λ fs. flag fs q) same ∙ idle ∙ sym none
 

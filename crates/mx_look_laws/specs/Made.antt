@@ -1,4 +1,4 @@
--- What an event makes, and what is told of it (our own).
+-- What an event makes, and what the facts of its step are (our own).
 use Rattle.std.specs.Prelude.{◌≡◌, ◌%◌, ◌++◌, ℕ, List, [], ◌∷◌, map, Option, Some, None}
 use Rattle.std.specs.List.{range_with_len}
 use Rattle.mx_proc.specs.declared.deliveries.Delivery.{Delivery}
@@ -13,11 +13,11 @@ use Rattle.mx_look_laws.specs.Told.{world_before}
 
 -- ---- deliveries
 
--- the same world, but for the deliveries of before: none is kept
+-- this world without its recorded deliveries
 abbrev pub with_none_kept : World → World
 with_none_kept w = record w { table = record w.table { deliveries = [] } }
 
--- WHAT AN EVENT DELIVERS: what is kept after it, if none was before
+-- WHAT AN EVENT DELIVERS: what is recorded after it, if nothing was before
 abbrev pub deliveries_made : World → ℕ → Event → List Delivery
 deliveries_made w a e = (world_after_event (with_none_kept w) a e).table.deliveries
 
@@ -37,10 +37,10 @@ abbrev pub told_of_slots : Step → List ℕ → List (ℕ × Delivery)
 told_of_slots x [] = []
 told_of_slots x (s ∷ slots) = told_of_slot s (delivery_to x s) ++ told_of_slots x slots
 
--- WHAT IS TOLD that the slots got, in their order
+-- WHAT THE SLOTS GOT, by the facts of a step, in their order
 abbrev pub told_deliveries : Step → List (ℕ × Delivery)
 told_deliveries x = told_of_slots x (range_with_len 0 32)
 
--- THE DELIVERIES THAT ARE TOLD of a record are those that its event makes, each told of the slot that it came to
+-- THE DELIVERIES IN THE FACTS of a record are those that its event makes, each with the slot that it came to
 abbrev pub ToldAreMade : World → ℕ → Record → Type 0
 ToldAreMade w n x = told_deliveries (step_of w n x) ≡ map with_slot (deliveries_made (world_before w x) x.actor (own_event x.event))

@@ -1,4 +1,4 @@
--- The laws of what is told, as statements (our own).
+-- The laws of the facts of a step, as statements (our own).
 use Rattle.std.specs.Prelude.{◌≡◌, ◌<◌, ◌≤◌, ℕ, List, [], ◌∷◌, length, Option, Some, None}
 use Rattle.mx_machine_world.specs.declared.history.Record.{Record}
 use Rattle.mx_machine_world.specs.History.{AreAccepted, events_of, world_after_events}
@@ -10,7 +10,7 @@ use Rattle.mx_isolation_diary.specs.Diaries.{diary}
 use Rattle.mx_look_facts.specs.Going.{gone_on}
 use Rattle.mx_app_step.specs.Traces.{own_event, step_of, steps_before}
 
--- the world in which the event of a record is made: after the steps that it stands for
+-- the world in which the event of a record is made: after the steps that the record counts
 abbrev pub world_before : World → Record → World
 world_before w x = world_after_events w (steps_before x.actor x.event)
 
@@ -38,6 +38,6 @@ result_after r (Copy place bytes ∷ xs) = result_after r xs
 abbrev pub result_written : List Item → Option ℕ
 result_written items = result_after None items
 
--- WHO HAS GONE ON WITH A RESULT, as it is told of a record, is whose EAX its event set to it
+-- WHO HAS GONE ON WITH A RESULT, in the facts of a record, is whose EAX its event set to it
 abbrev pub ToldGoneOn : World → ℕ → Record → ℕ → Type 0
 ToldGoneOn w n x s = gone_on (step_of w n x) s ≡ result_written (diary (world_before w x) x.actor (own_event x.event) s)

@@ -1,4 +1,5 @@
-//! Laws of looking: what is told of a step is what its event did.
+//! Laws of looking: the facts of a step, which a trace prints and a picture draws, are what its
+//! event did.
 #![tactic(auto)]
 
 mod laws;

@@ -1,4 +1,4 @@
--- Each column of a strip is in just one run of a slot, and in it the slot stands as where the run begins.
+-- Each column of a strip is in just one run of a slot, and shows what the run's first column shows.
 use Rattle.std.proofs.Common.{◌≡◌, ℕ, zero, suc, ◌+◌, ◌-◌, ◌<◌, ◌≤◌, ◌==◌, not, true, false, Option, refl, subst, arith}
 use Rattle.std.proofs.lemmas.Bool.{or_parts, not-false}
 use Rattle.mx_look_values.specs.declared.scene.Scene.{Scene}

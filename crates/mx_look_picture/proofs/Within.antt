@@ -1,4 +1,4 @@
--- What stands on the paper: products, quotients and rests are small.
+-- What is on the paper: products, quotients and rests are small.
 use Rattle.std.proofs.Common.{◌≤◌, ℕ, ◌*◌, ◌/◌, ◌%◌}
 use Rattle.std.proofs.Math.Nat.{div-le_self, mod-le}
 use Rattle.std.proofs.lemmas.Nat.{mul-le}

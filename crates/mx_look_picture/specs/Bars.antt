@@ -1,5 +1,5 @@
--- The bars of a strip (our own). As long as a service does the same, with the same endpoint and on the same
--- processor, it has one bar; when one of these changes, a new bar begins. A dead process has no bar.
+-- The bars of a strip (our own). As long as what a service does, its endpoint and its processor don't change, it
+-- has one bar; when one of these changes, a new bar begins. A dead process has no bar.
 use Rattle.std.specs.Prelude.{ℕ, IsTrue, find, ◌≡◌, ◌+◌, ◌-◌, ◌*◌, ◌<◌, ◌≤◌, ◌==◌, ◌||◌, not, unwrap_or, if◌then◌else◌, Bool, List, [], ◌∷◌, Option, Some, None}
 use Rattle.std.specs.List.{flat_map, range_with_len}
 use Rattle.mx_look_facts.specs.Doing.{Doing}
@@ -24,7 +24,7 @@ use Rattle.mx_look_picture.specs.Scene.{world_at, number_at, standing_of, same_s
 abbrev pub IsWithin : Strip → Type 0
 IsWithin strip = (strip.place ≤ 960) × (strip.count ≤ 40) × (strip.top ≤ 30000)
 
--- ---- the shape of a bar, and its colour too, says what its process does
+-- ---- the shape of a bar, and its colour too, shows what its process does
 
 -- its top is `above` pixels above the middle of its row, and it is `height` pixels high
 abbrev pub part : Span → BarKind → ℕ → ℕ → Hint → Value
@@ -48,7 +48,7 @@ state_bar_by at cpu t _ = []
 unfoldable pub state_bar : Span → Standing → Hint → List Value
 state_bar at a t = state_bar_by at a.cpu t a.doing
 
--- ---- a run of columns: the slot shows the same in all of them. It ends where the next run begins
+-- ---- a run of columns: the slot shows one thing in all of them. It ends where the next run begins
 
 unfoldable pub seen_at : Scene → Strip → ℕ → ℕ → Option Standing
 seen_at v strip s c = standing_of (world_at v strip.place c) s
@@ -78,7 +78,7 @@ bars_of_slot v strip s = flat_map (bar_here v strip s) (range_with_len 0 (strip.
 unfoldable pub bars : Scene → Strip → List Value
 bars v strip = flat_map (bars_of_slot v strip) (range_with_len 0 v.services)
 
--- ---- the law: EACH COLUMN IS IN EXACTLY ONE RUN, and shows the same as the run's first column
+-- ---- the law: EACH COLUMN IS IN EXACTLY ONE RUN, and shows what the run's first column shows
 
 abbrev pub Covers : Scene → Strip → ℕ → ℕ → ℕ → Type 0
 Covers v strip s b c = IsTrue (begins v strip s b) × (b ≤ c) × (c < run_end v strip s b)

@@ -41,7 +41,7 @@ height_of at s = row at.top (row_of at.services s)
 abbrev pub line_to : Spot → ArrowKind → ℕ → ℕ → Hint → Value
 line_to at k from s t = arrow_at k at.x from (toward from (height_of at s)) t
 
--- a text beside the row of a service
+-- a text next to the row of a service
 abbrev pub note : LabelKind → Spot → ℕ → Text → Hint → Value
 note k at s what t = label_at k (at.x + 6) (height_of at s - 8) anchor.Start what t
 

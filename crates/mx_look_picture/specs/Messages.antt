@@ -1,4 +1,4 @@
--- Arrows at a record (our own): messages, notifications, and notifications that begin to wait.
+-- Arrows at a record (our own): messages, notifications, and notifications that become pending.
 use Rattle.std.specs.Prelude.{ℕ, ◌-◌, ◌==◌, ◌&&◌, not, nat_lt, if◌then◌else◌, Bool, true, false, List, [], ◌∷◌, Option, Some, None}
 use Rattle.std.specs.List.{flat_map, range_with_len}
 use Rattle.mx_proc.specs.declared.deliveries.Delivery.{Delivery}
@@ -47,7 +47,7 @@ delivery_by at s (Some d) =
 unfoldable pub delivery_values : Step → Spot → ℕ → List Value
 delivery_values x at s = delivery_by at s (delivery_to x s)
 
--- ---- notifications that begin to wait
+-- ---- notifications that become pending
 
 abbrev pub is_kept : Step → ℕ → ℕ → Bool
 is_kept x s place = both (λ v u. is_new_bit v u place) (slot_in x.before s) (slot_in x.after s)

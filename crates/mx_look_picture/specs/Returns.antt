@@ -29,7 +29,7 @@ use Rattle.mx_look_picture.specs.Fates.{height_of}
 
 -- ---- what it did
 
--- the type of a kernel call stands after the source; SENDREC is call 3
+-- the type of a kernel call follows the source; SENDREC is call 3
 abbrev pub kernel_deed : Option (List ℕ) → Deed
 kernel_deed None = deed.Call 3
 kernel_deed (Some message) = deed.Kernel (slice_index message 1)

@@ -1,5 +1,5 @@
-//! The bars of a strip. As long as a service does the same, from column to column, it has one bar; when it
-//! begins to do something else, a new bar begins.
+//! The bars of a strip. As long as a service does one thing, from column to column, it has one bar;
+//! when it begins to do something else, a new bar begins.
 
 ghost use Rattle.std.specs.Prelude.{◌≡◌, ◌<◌, ◌≤◌, ◌+◌, ◌++◌, OnOk, IfSome};
 ghost use Rattle.mx_look_picture.specs.Bars.{IsWithin, part, cpu_label, state_bar, seen_at, begins, next_run, run_end, bar_here, bars_of_slot, bars};
@@ -92,8 +92,9 @@ pub(crate) fn seen_at(scene: &Scene, strip: Strip, slot: u32, index: u32) -> Opt
     standing_of(world_at(scene, strip.place, index), slot)
 }
 
-/// Whether a run of a slot begins in a column. A run is columns side by side in which the slot shows the
-/// same: so one begins in column 0, and in each column that shows another thing than the column before.
+/// Whether a run of a slot begins in a column. A run is columns side by side in which the slot
+/// shows one thing: so one begins in column 0, and in each column that shows another thing than the
+/// column before.
 #[tactic(auto, unfolding(crate::specs::Bars::begins))]
 fn begins(scene: &Scene, strip: Strip, slot: u32, index: u32) -> bool
     ensures { result ≡ begins scene.now strip slot index }

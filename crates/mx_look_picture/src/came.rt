@@ -85,7 +85,7 @@ fn push_deliveries(out: &mut Vec<Value>, step: &Step, spot: Spot) -> Result<(), 
     Ok(())
 }
 
-/// Appends the arrows of notifications that wait for a process from this step on.
+/// Appends the arrows of notifications that become pending for a process at this step.
 fn push_all_kept(out: &mut Vec<Value>, step: &Step, spot: Spot) -> Result<(), AllocError>
     requires { IsOnPaper spot }
     ensures { OnOk result (out.new.items ≡ out.old.items ++ all_kept step.now spot) }

@@ -1,4 +1,4 @@
-//! The whole picture.
+//! The whole picture: its title, its strips, one below the other, and its legend.
 
 ghost use Rattle.std.specs.Prelude.{◌≡◌, ◌≤◌, ◌++◌, OnOk, IfOk, length};
 ghost use Rattle.mx_look_picture.specs.Picture.{IsDrawable, title, strips, refused_values, picture, IsPicture, IsOnItsPaper, AllAreCovered};

@@ -29,7 +29,7 @@ pub(crate) fn line_to(spot: Spot, kind: ArrowKind, from: u32, slot: u32, hint: H
     arrow(kind, tail, toward(from, height_of(spot, slot)), hint)
 }
 
-/// A text beside the record, just above the middle of a service's row.
+/// A text next to the record, just above the middle of a service's row.
 pub(crate) fn note(kind: LabelKind, spot: Spot, slot: u32, text: Text, hint: Hint) -> Value
     requires { IsOnPaper spot }
     ensures { result ≡ note kind spot slot text hint }

@@ -112,7 +112,7 @@ pub(crate) fn paper_width(count: u32) -> u32
     column(count.min(STRIP_RECORDS).max(12) + 1) + 200
 }
 
-/// How many items of the legend stand side by side.
+/// How many items of the legend are side by side.
 pub(crate) fn items_abreast(count: u32) -> u32
     ensures abreast { result ≡ items_abreast count }
     ensures some { 4 ≤ result }

@@ -1,4 +1,9 @@
 //! The picture of a run: what is drawn of its records, as a list of values with whole coordinates.
+//!
+//! # Nothing outside the paper
+//!
+//! Whatever is no service has the row `outside`, and only services have rows of their own. So all
+//! that is drawn is on the paper, whatever the worlds of the run are.
 #![tactic(auto)]
 
 mod bars;

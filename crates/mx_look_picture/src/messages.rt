@@ -1,4 +1,4 @@
-//! Arrows of messages, of notifications, and of notifications that begin to wait.
+//! Arrows of messages, of notifications, and of notifications that become pending.
 
 ghost use Rattle.std.specs.Prelude.{◌≡◌, ◌<◌, ◌≤◌, ◌++◌, OnOk};
 ghost use Rattle.mx_look_picture.specs.Fates.{IsOnPaper};
@@ -83,7 +83,7 @@ pub(crate) fn push_delivery(
     push_type(out, spot, slot, delivery)
 }
 
-/// Whether a notification by the source with this place begins to wait for a slot.
+/// Whether a notification by the source with this place becomes pending for a slot.
 fn is_kept(step: &Step, slot: u32, place: u32) -> bool
     ensures { result ≡ is_kept step.now slot place }
 {
@@ -93,7 +93,7 @@ fn is_kept(step: &Step, slot: u32, place: u32) -> bool
     }
 }
 
-/// Appends the arrow of a notification that begins to wait, if there is one.
+/// Appends the arrow of a notification that becomes pending, if there is one.
 #[tactic(auto, unfolding(crate::specs::Messages::kept_arrow))]
 fn push_kept_arrow(
     out: &mut Vec<Value>,
@@ -113,7 +113,7 @@ fn push_kept_arrow(
     Ok(())
 }
 
-/// Appends the arrows of all notifications that begin to wait for a slot.
+/// Appends the arrows of all notifications that become pending for a slot.
 pub(crate) fn push_kept(
     out: &mut Vec<Value>,
     step: &Step,

@@ -72,7 +72,7 @@ pub(crate) fn standing_of(glance: &Glance, slot: u32) -> Option<Standing>
     })
 }
 
-/// Whether both are on the same processor, or on none.
+/// Whether both are on one processor, or on none.
 fn same_cpu(a: Option<u8>, b: Option<u8>) -> bool
     ensures { result ≡ same_cpu a b }
 {
@@ -90,7 +90,8 @@ fn same_standing(a: &Standing, b: &Standing) -> bool
     a.endpoint == b.endpoint && same_doing(a.doing, b.doing) && same_cpu(a.cpu, b.cpu)
 }
 
-/// The same for what may be missing: two columns without such a slot belong together too.
+/// Whether two columns of a slot belong to one bar, if they may have no such slot: two without it
+/// belong together too.
 pub(crate) fn same_seen(a: &Option<Standing>, b: &Option<Standing>) -> bool
     ensures { result ≡ same_seen a.now b.now }
 {

@@ -23,7 +23,7 @@ description = codes "<desc>Time runs from left to right, one column a record. Ea
 unfoldable pub told_title : Scene → List ℕ
 told_title v = codes "<title>" ++ shown (title_text v) ++ codes "</title>\n" ++ description
 
--- ---- the style sheet: Okabe and Ito's colours, which colour-blind readers can tell apart
+-- ---- the style sheet: Okabe and Ito's colours, which colour-blind readers can distinguish
 
 unfoldable pub letters_style : List ℕ
 letters_style =

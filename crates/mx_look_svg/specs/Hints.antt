@@ -1,4 +1,5 @@
--- What a value tells when it is asked (our own): a line of the trace, or what a process does after a record.
+-- What a viewer shows when it is asked about a value (our own): a line of the trace, or what a process does after a
+-- record.
 use Rattle.std.specs.Prelude.{ℕ, nat_lt, if◌then◌else◌, List, [], ◌++◌, codes, Option, Some, None, slice_get}
 use Rattle.std.specs.Fmt.{decimal}
 use Rattle.mx_look_facts.specs.SlotGlance.{SlotGlance}
@@ -54,7 +55,7 @@ hint_line v (Console i) = placed_line v i (Console i)
 abbrev pub told : Scene → Hint → List ℕ
 told v h = codes "<title>" ++ shown (hint_line v h) ++ codes "</title>"
 
--- A HINT, if it tells anything
+-- A HINT, if it has any text
 unfoldable pub hint_text : Scene → Hint → List ℕ
 hint_text v Nothing = []
 hint_text v h = told v h

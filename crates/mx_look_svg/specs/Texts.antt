@@ -1,4 +1,4 @@
--- What the texts of a picture say (our own).
+-- The words of the texts of a picture (our own).
 use Rattle.std.specs.Prelude.{ℕ, ◌-◌, ◌==◌, nat_lt, if◌then◌else◌, List, [], ◌∷◌, ◌++◌, codes, Option, Some, None, length, slice_get}
 use Rattle.std.specs.Fmt.{decimal, signed_decimal}
 use Rattle.std.specs.Int.{w32, cast_signed}
@@ -106,7 +106,7 @@ key_text item.Birth = codes "respawn"
 key_text item.Wrong = codes "error result"
 key_text item.Unmade = codes "killed, not made"
 
--- WHAT A TEXT SAYS
+-- THE WORDS OF A TEXT
 unfoldable pub text_words : Scene → Text → List ℕ
 text_words v text.Title = title_text v
 text_words v text.Outside = codes "outside"

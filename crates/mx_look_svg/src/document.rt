@@ -1,4 +1,4 @@
-//! The whole drawing.
+//! The whole drawing as an SVG document: its head, its style sheet, and all figures.
 
 ghost use Rattle.std.specs.Prelude.{◌≡◌, ◌++◌, OnOk};
 ghost use Rattle.mx_look_svg.specs.Document.{size_text, document_head, opening_text, description, told_title, paper_text, letters_style, words_style, figures_style, dark_style, values_text, drawing_text};
@@ -138,7 +138,7 @@ fn push_values(
 }
 
 /// Appends the drawing of a run as a document: SVG 1.1, with no script, and nothing from outside.
-/// An error says that there is no memory.
+/// An error means that there is no memory.
 #[tactic(auto, unfolding(crate::specs::Document::drawing_text))]
 pub fn push_drawing(
     alloc: Global,

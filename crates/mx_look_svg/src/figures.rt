@@ -1,4 +1,4 @@
-//! The figures: each value's element.
+//! The figures of a picture: each value's SVG element.
 
 ghost use Rattle.std.specs.Prelude.{◌≡◌, ◌++◌, OnOk};
 ghost use Rattle.mx_look_svg.specs.Figures.{class, bar_text, anchored, placed, label_text, point, circle, head_base, head_text, ring_text, arrow_end, line_text, stem_text, arrow_text, moved, path_text, death_text, mark_text, value_text};
@@ -47,7 +47,7 @@ fn push_anchored(out: &mut Vec<u8>, anchor: Anchor) -> Result<(), AllocError>
     out.extend_from_slice(b"\">")
 }
 
-/// Appends the begin of a text: what it is for, and where it stands.
+/// Appends the begin of a text: what it is for, and where it is.
 #[tactic(auto, unfolding(crate::specs::Figures::placed))]
 fn push_placed(out: &mut Vec<u8>, label: Label) -> Result<(), AllocError>
     ensures { OnOk result (out.new.items ≡ out.old.items ++ placed label) }
@@ -85,7 +85,7 @@ fn push_point(out: &mut Vec<u8>, letter: u8, x: u64, y: u64) -> Result<(), Alloc
     push_pair(out, x, y)
 }
 
-/// Appends where a circle stands, and how large it is.
+/// Appends where a circle is, and how large it is.
 #[tactic(auto, unfolding(crate::specs::Figures::circle))]
 fn push_circle(out: &mut Vec<u8>, x: u32, y: u32, radius: u32) -> Result<(), AllocError>
     ensures { OnOk result (out.new.items ≡ out.old.items ++ circle x y radius) }
@@ -120,7 +120,7 @@ fn push_head(out: &mut Vec<u8>, arrow: Arrow) -> Result<(), AllocError>
     out.extend_from_slice(b"Z\"/>")
 }
 
-/// Appends the ring of an arrow that is kept.
+/// Appends the ring at the end of the arrow of a notification that becomes pending.
 #[tactic(auto, unfolding(crate::specs::Figures::ring_text))]
 fn push_ring(out: &mut Vec<u8>, arrow: Arrow) -> Result<(), AllocError>
     ensures { OnOk result (out.new.items ≡ out.old.items ++ ring_text arrow) }
@@ -130,7 +130,8 @@ fn push_ring(out: &mut Vec<u8>, arrow: Arrow) -> Result<(), AllocError>
     out.extend_from_slice(b"/>")
 }
 
-/// Appends how an arrow ends: a message and a notification in a head, one that is kept in a ring.
+/// Appends how an arrow ends: that of a message or a notification in a head, that of a notification
+/// that becomes pending in a ring.
 #[tactic(auto, unfolding(crate::specs::Figures::arrow_end))]
 fn push_arrow_end(out: &mut Vec<u8>, arrow: Arrow) -> Result<(), AllocError>
     ensures { OnOk result (out.new.items ≡ out.old.items ++ arrow_end arrow) }
@@ -183,7 +184,7 @@ fn push_arrow(
     out.extend_from_slice(b"</g>\n")
 }
 
-/// Appends where a mark stands.
+/// Appends where a mark is.
 #[tactic(auto, unfolding(crate::specs::Figures::moved))]
 fn push_moved(out: &mut Vec<u8>, mark: Mark) -> Result<(), AllocError>
     ensures { OnOk result (out.new.items ≡ out.old.items ++ moved mark) }

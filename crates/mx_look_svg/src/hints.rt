@@ -1,4 +1,9 @@
-//! What a value tells when it is asked.
+//! What a viewer shows when it is asked about a value.
+//!
+//! # From a hint to its text
+//!
+//! A hint names a record and perhaps a slot. It becomes a line of the trace only when its value is
+//! printed.
 
 ghost use Rattle.std.specs.Prelude.{◌≡◌, ◌++◌, OnOk};
 ghost use Rattle.mx_look_svg.specs.Hints.{step_line, kept_hint, on_processor, standing_hint, placed_line, hint_line, told, hint_text, end_text};
@@ -11,7 +16,7 @@ use mx_look_values::{Hint, Scene, Standing, Step};
 use mx_print_report::push_decimal;
 use std::alloc::{AllocError, Global};
 
-/// Appends the line of a notification that is kept for a slot, if it is.
+/// Appends the line of a notification that becomes pending for a slot, if it does.
 #[tactic(auto, unfolding(crate::specs::Hints::kept_hint))]
 fn push_kept_hint(out: &mut Vec<u8>, step: &Step, slot: u32, place: u32) -> Result<(), AllocError>
     ensures { OnOk result (out.new.items ≡ out.old.items ++ kept_hint step.now slot place) }
@@ -75,7 +80,7 @@ fn push_placed_line(
     }
 }
 
-/// Appends what a hint tells.
+/// Appends the text of a hint.
 #[tactic(auto, unfolding(crate::specs::Hints::hint_line))]
 fn push_hint_line(out: &mut Vec<u8>, scene: &Scene, hint: Hint) -> Result<(), AllocError>
     ensures { OnOk result (out.new.items ≡ out.old.items ++ hint_line scene.now hint) }
@@ -91,7 +96,7 @@ fn push_hint_line(out: &mut Vec<u8>, scene: &Scene, hint: Hint) -> Result<(), Al
     }
 }
 
-/// Appends what a hint tells, as a title.
+/// Appends the text of a hint, as a title.
 fn push_told(alloc: Global, out: &mut Vec<u8>, scene: &Scene, hint: Hint) -> Result<(), AllocError>
     ensures { OnOk result (out.new.items ≡ out.old.items ++ told scene.now hint) }
 {
@@ -102,7 +107,7 @@ fn push_told(alloc: Global, out: &mut Vec<u8>, scene: &Scene, hint: Hint) -> Res
     out.extend_from_slice(b"</title>")
 }
 
-/// Appends the title that a hint is, if it tells anything.
+/// Appends the title that a hint is, if it has any text.
 #[tactic(auto, unfolding(crate::specs::Hints::hint_text))]
 pub(crate) fn push_hint(
     alloc: Global,

@@ -1,4 +1,4 @@
-//! Text between tags.
+//! Texts and numbers of an SVG document, between its tags and in them.
 
 ghost use Rattle.std.specs.Prelude.{◌≡◌, ◌<◌, ◌++◌, length, OnOk};
 ghost use Rattle.std.specs.Fmt.{decimal};
@@ -25,7 +25,7 @@ pub(crate) fn push_pair(out: &mut Vec<u8>, first: u64, second: u64) -> Result<()
     push_number(out, second)
 }
 
-/// Appends a byte that stands between tags.
+/// Appends a byte of a text, between tags.
 #[tactic(auto, unfolding(crate::specs::Shown::escaped))]
 fn push_escaped(out: &mut Vec<u8>, byte: u8) -> Result<(), AllocError>
     ensures { OnOk result (out.new.items ≡ out.old.items ++ escaped byte) }

@@ -1,4 +1,4 @@
-//! What a text says.
+//! The words of a picture's texts.
 
 ghost use Rattle.std.specs.Prelude.{◌≡◌, ◌++◌, OnOk};
 ghost use Rattle.mx_look_svg.specs.Texts.{counted, span_text, title_text, who_text, standing_text, two_digits, call_name, kernel_name, deed_word, deed_text, refused_text, key_text, text_words};
@@ -188,7 +188,7 @@ fn key_text(item: Item) -> &'static [u8]
     }
 }
 
-/// Appends what a text says.
+/// Appends the words of a text.
 #[tactic(auto, unfolding(crate::specs::Texts::text_words))]
 pub(crate) fn push_words(out: &mut Vec<u8>, scene: &Scene, text: Text) -> Result<(), AllocError>
     ensures { OnOk result (out.new.items ≡ out.old.items ++ text_words scene.now text) }

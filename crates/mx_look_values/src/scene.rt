@@ -1,4 +1,4 @@
-//! The run that is drawn.
+//! The scene: the run that a picture is drawn from.
 
 use mx_look_facts::{Doing, Glance, Step};
 use mx_machine_world::Refusal;

@@ -2,7 +2,7 @@
 
 use crate::scene::Standing;
 
-/// What a viewer tells when it is asked about a value. A place counts the steps of a scene from 0.
+/// What a viewer shows when it is asked about a value. A place counts the steps of a scene from 0.
 #[derive(Clone, Copy)]
 pub enum Hint {
     Nothing,
@@ -12,8 +12,8 @@ pub enum Hint {
     Change(u32, u32),
     /// At a place, the line of what a slot got.
     Delivery(u32, u32),
-    /// At a place, the line of a notification that is kept for a slot. The last number is the place
-    /// of its source among the pending bits: HARDWARE, CLOCK, slot 0 and up.
+    /// At a place, the line of a notification that becomes pending for a slot. The last number is
+    /// the place of its source among the pending bits: HARDWARE, CLOCK, slot 0 and up.
     Kept(u32, u32, u32),
     /// At a place, the line of a byte of the console.
     Console(u32),
@@ -21,7 +21,7 @@ pub enum Hint {
     Standing(Standing, u32),
 }
 
-/// What a rectangle stands for.
+/// What a rectangle shows.
 #[derive(Clone, Copy)]
 pub enum BarKind {
     /// The ground of a row.
@@ -52,7 +52,7 @@ pub struct Bar {
 pub enum ArrowKind {
     Message,
     Notification,
-    /// A notification that is kept.
+    /// A pending notification.
     Pending,
     Kill,
     Respawn,
@@ -68,7 +68,7 @@ pub struct Arrow {
     pub hint: Hint,
 }
 
-/// What a small figure stands for.
+/// What a small figure shows.
 #[derive(Clone, Copy)]
 pub enum MarkKind {
     Tick,
@@ -165,7 +165,7 @@ pub enum LabelKind {
     Axis,
     /// The name of a row.
     Name,
-    /// What stands at the end of a row.
+    /// What is at the end of a row.
     End,
     /// The number of a processor.
     Cpu,

@@ -64,7 +64,7 @@ slot_lines w s [] = []
 slot_lines w s (v ∷ vs) = slot_line w s v.name.bytes ++ slot_lines w (s + 1) vs
 
 -- a line for each service, one for the ticks since boot, one for how many bytes were written to the console, and of
--- these bytes those that are kept
+-- these bytes those that it still holds
 unfoldable pub report_text : TableState → List Service → List ℕ
 report_text w services =
     slot_lines w 0 services ++ (codes "uptime " ++ decimal w.uptime ++ codes "\n")

@@ -1,4 +1,4 @@
-//! The fields of a slot's line.
+//! The fields of a service's line in the report.
 
 ghost use Rattle.std.specs.Prelude.{◌≡◌, ◌<◌, ◌++◌, ◌∷◌, OnOk, codes, length};
 ghost use Rattle.std.specs.Fmt.{decimal};
@@ -53,7 +53,7 @@ pub fn push_label(out: &mut Vec<u8>, name: &[u8]) -> Result<(), AllocError>
     push_name(out, name)
 }
 
-/// The endpoint of a slot's process; where no process ever was its generation counts as 0.
+/// The endpoint of a slot's process; if no process ever was there, its generation counts as 0.
 pub fn endpoint_of(table: &Table, slot: Slot) -> u32
     ensures { result ≡ endpoint_of table.now slot }
 {
@@ -111,6 +111,7 @@ pub fn push_state(
         ++ spaced_fields (state_words table.now slot state)) }
 {
     match state {
+        // No process is at home once an event is over. With this row the report needs no condition.
         State::Home => push_field(out, b"home"),
         State::Ready => push_field(out, b"ready"),
         State::Out => push_field(out, b"out"),

@@ -1,4 +1,4 @@
-//! The report.
+//! The report on a machine's table of processes, as text.
 
 ghost use Rattle.std.specs.Prelude.{◌≡◌, ◌<◌, ◌++◌, OnOk, IfOk, codes, length};
 ghost use Rattle.std.specs.Fmt.{decimal};
@@ -49,7 +49,7 @@ fn push_count(out: &mut Vec<u8>, word: &[u8], count: u32) -> Result<(), AllocErr
     Ok(())
 }
 
-/// Appends the bytes of the console that are kept.
+/// Appends the bytes that the console still holds.
 fn push_console(out: &mut Vec<u8>, console: &Console) -> Result<(), AllocError>
     ensures { OnOk result (out.new.items ≡ out.old.items ++ console.now.kept) }
 {
@@ -61,9 +61,9 @@ fn push_console(out: &mut Vec<u8>, console: &Console) -> Result<(), AllocError>
     Ok(())
 }
 
-/// The report on a table of processes: for each service in slot order its slot, name, endpoint,
-/// state, level and ticks left; the ticks since boot; how many bytes were written to the console,
-/// and of these those that are kept, as they are.
+/// The report on a table of processes. For each service, in slot order, it has the slot, name,
+/// endpoint, state, level and ticks left. Below are the ticks since boot, how many bytes were
+/// written to the console, and, as they are, those that the console still holds.
 #[tactic(auto, unfolding(crate::specs::Report::report_text))]
 pub fn report_of(alloc: Global, table: &Table, services: &[Service]) -> Result<Vec<u8>, NoMemory>
     requires { length services.now ≡ length table.now.slots }

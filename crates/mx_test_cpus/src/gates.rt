@@ -1,4 +1,4 @@
-//! A gate that notes each call that a loop makes of it.
+//! A gate for tests, which notes each call that a loop makes of it.
 
 use mx_cpus_drive::Gate;
 use std::array;

@@ -1,4 +1,4 @@
-//! Tests alone: what the shared machine answers, call by call, from one thread and from several.
+//! Only tests: what the shared machine answers, call by call, from one thread and from several.
 #![tactic(auto)]
 
 #[cfg(test)]

@@ -243,9 +243,9 @@ fn loops_call_their_gate(rt: HostRuntime) -> Result<(), Fail> {
 /// How many slots a machine may have.
 const SLOTS: u8 = 32;
 
-/// Kills the process of each slot in turn, and lets the respawner make one round after each kill; then the same
-/// after all are killed once more. Answers the kernel's history, or whether it is the wanted one: each slot's
-/// respawn follows its kill, and the sweep over all goes up from slot 0.
+/// Kills the process of each slot in turn, and lets the respawner make one round after each kill.
+/// Then kills each once more, and lets it make one round. Answers whether the history is the wanted
+/// one: each slot's respawn follows its kill, and the sweep over all goes up from slot 0.
 fn sweeps_all<M: Naming>(rt: &impl Wait, blank: Blank, mut seats: Vec<ActorSeat>) -> bool
     requires table { blank.table ≡ M.table }
     requires boot { blank.boot ≡ M.boot }
@@ -314,7 +314,7 @@ fn each_slot_is_respawned_in_turn(rt: HostRuntime) -> Result<(), Fail> {
 }
 
 /// Drives a machine, and answers how many records it made.
-fn driven<M: Naming + Send + Sync, R: Threads + Wait + Sync>(
+fn drive_and_count<M: Naming + Send + Sync, R: Threads + Wait + Sync>(
     rt: &R,
     blank: Blank,
     seats: Vec<ActorSeat>,
@@ -336,7 +336,7 @@ fn driven<M: Naming + Send + Sync, R: Threads + Wait + Sync>(
     }
 }
 
-/// Each loop is told as ended once, and no actor that has no loop.
+/// The end of each loop is reported once, and that of no actor that has no loop.
 #[test]
 fn ends_are_told(rt: HostRuntime) -> Result<(), Fail> {
     for others in [1, 2, 4] {
@@ -344,7 +344,7 @@ fn ends_are_told(rt: HostRuntime) -> Result<(), Fail> {
         let config = config(rt.alloc(), 2, others, 64, 0)?;
         let (blank, seats) = boot(rt.alloc(), &config, &mut services).map_err(|_| "memory")?;
         let gate = NotingGate::new(20);
-        let records = driven::<Brand, _>(&rt, blank, seats, &gate);
+        let records = drive_and_count::<Brand, _>(&rt, blank, seats, &gate);
         assert!(rt; records.is_some(), "{others}");
         for actor in 0..6 {
             let told = gate.count(GateCall::Ended(actor));

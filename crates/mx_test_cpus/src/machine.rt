@@ -1,4 +1,4 @@
-//! Machines for the trials: some number of equal services on some number of processors.
+//! Shared machines for the tests: some number of equal services on some number of processors.
 
 ghost use Rattle.std.specs.Prelude.{◌≡◌, ◌<◌, ◌≤◌, All, IfOk, IfSome, None, length};
 
@@ -68,7 +68,7 @@ fn line(alloc: Global, restarts: u32) -> Result<ServiceLine, Fail>
     })
 }
 
-/// A configuration with some actors beside the processors.
+/// A configuration with some processors and some other actors.
 pub fn config(alloc: Global, cpus: u8, others: u8, log: u32, restarts: u32) -> Result<Config, Fail>
     requires some { 0 < cpus }
     requires few { cpus ≤ 8 }
@@ -99,7 +99,7 @@ pub fn last_seat<M: Naming>(seats: &mut Vec<ActorSeat>) -> Option<ActorSeat>
     seats.pop()
 }
 
-/// The seat of the last actor, where none holds a process.
+/// The seat of the last actor, if none holds a process.
 pub fn last_idle_seat<M: Naming>(seats: &mut Vec<ActorSeat>) -> Option<ActorSeat>
     requires tables { All (λ s. s.table ≡ M.table) seats.old.items }
     requires empties { All (λ s. s.held ≡ None) seats.old.items }

@@ -1,4 +1,4 @@
-//! Processors that run at the same time, each in a thread of its own.
+//! Tests of processors that run at the same time, each in a thread of its own.
 
 ghost use Rattle.std.specs.Prelude.{◌≡◌, All, None};
 
@@ -17,8 +17,8 @@ use std::thread::Threads;
 /// How long a processor waits for the other one, in turns.
 const TURNS: u32 = 10_000_000;
 
-/// A processor goes on with its first process only once a number of processors hold one. A loop ends where
-/// the machine is at rest, or another loop has ended.
+/// A processor goes on with its first process only once a number of processors hold one. A loop
+/// ends if the machine is at rest, or if another loop has ended.
 #[derive(Drop)]
 struct Meeting {
     /// How many processors have to hold one.
@@ -92,7 +92,7 @@ fn is_full<M: Naming>(rt: &impl Wait, shared: &Shared<M>, seats: &mut Vec<ActorS
 }
 
 /// Drives a machine until its loops have ended.
-fn driven<M: Naming + Send + Sync, G: Gate + Sync, R: Threads + Wait + Sync>(
+fn drive_to_end<M: Naming + Send + Sync, G: Gate + Sync, R: Threads + Wait + Sync>(
     rt: &R,
     alloc: Global,
     booted: (Blank, Vec<ActorSeat>),
@@ -180,7 +180,7 @@ fn hold_at_once(rt: HostRuntime) -> Result<(), Fail> {
             return Err(Fail::new("no memory"));
         };
         let gate = Meeting::new(row.holders);
-        let ending = driven::<Brand, _, _>(&rt, rt.alloc(), booted, &gate, row.ticks);
+        let ending = drive_to_end::<Brand, _, _>(&rt, rt.alloc(), booted, &gate, row.ticks);
         let (met, ended) = (
             gate.met.load(Ordering::SeqCst),
             gate.ended.load(Ordering::SeqCst),

@@ -1,4 +1,5 @@
-//! Several loans at once, a kill while its process is out, and a loan under a debugger.
+//! Tests of several loans at once, of a kill while its process is out, and of a loan under a
+//! debugger.
 
 ghost use Rattle.std.specs.Prelude.{◌≡◌, ◌<◌, All, length};
 

@@ -1,4 +1,5 @@
-//! Calls of a processor's seat and of another's, in turn, from one thread.
+//! Tests of one thread's calls on the shared machine, by a processor's seat and another's, one
+//! after the other.
 
 ghost use Rattle.std.specs.Prelude.{◌≡◌, All};
 

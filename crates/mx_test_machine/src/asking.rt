@@ -5,7 +5,7 @@ use std::alloc::Global;
 use std::io::Write;
 use std::test::Fail;
 
-/// Words, and the texts that they stand for.
+/// Words, and the names of the texts that they ask for.
 struct Asked {
     name: &'static str,
     words: &'static [&'static str],
@@ -83,7 +83,7 @@ fn ends_of_texts(rt: HostRuntime) {
     }
 }
 
-/// That there are no symbols is told at a terminal, of a listing of symbols that is empty.
+/// Of a listing of symbols that is empty, a reader at a terminal gets a line that there are none.
 #[test]
 fn notes_of_symbols(rt: HostRuntime) {
     for out in [false, true] {

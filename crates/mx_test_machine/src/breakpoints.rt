@@ -1,4 +1,4 @@
-//! Breakpoints in a loop of three instructions that counts in EAX, and ends in a trap where EDX is 0.
+//! Breakpoints in a loop of three instructions that counts in EAX, and ends in a trap if EDX is 0.
 
 use mx_debug::{DebugError, Debugger, Halt, HaltCause};
 use mx_exec::{Code, Image, TextSegment};
@@ -39,8 +39,8 @@ fn out_of(alloc: Global) -> Result<Out, Fail> {
     })
 }
 
-/// 64 breakpoints, the room for which is then full but for those that stand; one is taken away for
-/// another.
+/// 64 breakpoints fill the room for them: then only one that is set may be set again. One is taken
+/// away for another.
 fn is_marked(debugger: &mut Debugger) -> bool {
     for address in 1..65 {
         if debugger.add(3, address) != Ok(()) {
@@ -115,7 +115,7 @@ static ROWS: &[Row] = &[
     },
 ];
 
-/// Whether a row's run ends as it says.
+/// Whether a row's run ends as the row wants.
 fn is_halted(debugger: &Debugger, out: &mut Out, row: &Row) -> bool {
     let halt = debugger.resume(row.slot, out, row.steps);
     halt.count == row.count && halt.cause == row.cause && out.image.eip == row.eip
@@ -129,7 +129,7 @@ fn halt_in_turn(rt: &impl Abort, debugger: &Debugger, out: &mut Out) {
     }
 }
 
-/// The trap is told before the breakpoint after it, and again of no step.
+/// The trap is reported before the breakpoint after it, and again for a run of no step.
 fn is_trapped(debugger: &mut Debugger, out: &mut Out) -> bool {
     out.image.eip = 4;
     debugger.remove(3, 3);

@@ -561,7 +561,7 @@ fn is_copied(rt: &impl Abort, table: &mut Table, copy: &Copied) -> bool {
         && word_at(rt, table, 0, copy.place) == copy.word
 }
 
-/// That many ticks.
+/// A number of ticks.
 fn make_ticks(rt: &impl Abort, table: &mut Table, count: u8) {
     for _ in 0..count {
         assert!(rt; table.uptime() < 100);
@@ -577,7 +577,7 @@ fn raise_own(rt: &impl Abort, table: &mut Table, line: u8) {
     raise(table, line);
 }
 
-/// What stands in a buffer at 512 after a RECEIVE from HARDWARE.
+/// What is in a buffer at 512 after a RECEIVE from HARDWARE.
 static NOTIFIED: [u32; 9] = [HARDWARE, NOTIFY_MESSAGE, 9, 0x22, 0, 0, 0, 0, 0];
 
 /// What an alarm's call of slot 0 replies.
@@ -600,7 +600,7 @@ fn is_timed(rt: &impl Abort, table: &mut Table) -> bool {
     is_notified && is_set
 }
 
-/// What stands in the buffer of who waits for anybody, after its alarm rang at uptime 14.
+/// What is in the buffer of who waits for anybody, after its alarm rang at uptime 14.
 static RUNG: [u32; 9] = [CLOCK, NOTIFY_MESSAGE, 14, 0, 0, 0, 0, 0, 0];
 
 /// An alarm that is set for five ticks at uptime 9, by a process that then waits: silent for four, it
@@ -633,7 +633,7 @@ fn word_of(register: u32) -> u32 {
     register.wrapping_mul(0x0101_0101)
 }
 
-/// Whether each register but the console keeps a word of its own.
+/// Whether each register but the console holds a word of its own.
 fn keep_words(rt: &impl Abort, table: &mut Table) -> bool {
     for register in 1..256 {
         make_call(rt, table, 0, &[DEVIO, 1, register, word_of(register), 0, 0]);
@@ -647,7 +647,7 @@ fn keep_words(rt: &impl Abort, table: &mut Table) -> bool {
     table.devices().console.count() == 0
 }
 
-/// Whether of one byte more than the console keeps the first is gone, and all are counted.
+/// Whether, after one byte more than the console holds, the first is gone, and all are counted.
 fn keeps_last_bytes(rt: &impl Abort, table: &mut Table) -> bool {
     for number in 0..4097 {
         make_call(rt, table, 0, &[DEVIO, 1, 0, number, 0, 0]);

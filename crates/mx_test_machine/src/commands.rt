@@ -1,4 +1,5 @@
-//! From the words of a command line to the status, to what is printed and told, and to the files.
+//! From the words of a command line to the status, to what is printed on both outputs, and to the
+//! files.
 
 use crate::files::{SUM, reader};
 use mx_app::{
@@ -70,7 +71,7 @@ const SUMMED: &str = "EAX 00000080 ECX 00000000 EDX 00000000 EBX 00000000\n\
     EIP 0000000a CF 0 PF 0 AF 1 ZF 0 SF 0 DF 0 OF 0\n\
     stop trap after 3\n";
 
-/// What is said of the lines of the script `kills`.
+/// What is printed of the lines of the script `kills`.
 const KILLED: &str = "done\ndone\nrefused 54 NoProcess\nrefused 41 Worn\nrefused 53 NoLine\n\
     refused 42 NoService\n";
 
@@ -143,7 +144,7 @@ static DONE: &[Done] = &[
                   refused 42 NoService\n0 a 0 down kill 7 5\nuptime 1\nconsole 0\n",
         file: Some(("new.log", b"rules 2\n1 tick\n1 kill 0\n")),
     },
-    // One processor, so the history is the same whatever the schedule.
+    // One processor, so the history doesn't depend on the schedule.
     Done {
         name: "run: a sum and a fault",
         words: &["mx", "run", "one", "new.log"],
@@ -796,7 +797,7 @@ static EXPLAINED: &[Failed] = &[
     },
 ];
 
-/// Performs words, and answers the status; what is to be told is appended.
+/// Performs words, and answers the status; the line of a failure is appended.
 fn perform<R: Threads + Wait + Clock + Sync>(
     channels: &mut Held,
     rt: &R,
@@ -837,8 +838,8 @@ fn is_done<R: Threads + Wait + Clock + Sync>(rt: &R, alloc: Global, row: &Done) 
         && is_kept(channels.files.writer().files(), row.file)
 }
 
-/// Whether words end so, with nothing printed or written, where this breaks; a mistake in the words is told
-/// in lines of clap's own.
+/// Whether words fail so, with nothing printed or written, if what takes bytes is broken in this
+/// way; a mistake in the words has lines of clap's own.
 fn is_told<R: Threads + Wait + Clock + Sync>(
     rt: &R,
     alloc: Global,
@@ -886,7 +887,7 @@ fn failures_explained(rt: HostRuntime) -> Result<(), Fail> {
     Ok(())
 }
 
-/// A history that can't be written is told by its word, and so is an output that takes nothing.
+/// A history that can't be written is reported by its word, and so is an output that takes nothing.
 #[test]
 fn writing_explained(rt: HostRuntime) {
     let broken = Some(io::ErrorKind::BrokenPipe);
@@ -896,7 +897,7 @@ fn writing_explained(rt: HostRuntime) {
     }
 }
 
-/// A failure for whose line there is no memory says so, and keeps its status.
+/// A failure for whose line there is no memory reports this, and has the status that it had.
 #[test]
 fn nothing_explained(rt: HostRuntime) -> Result<(), Fail> {
     let complaint = Complaint::Unexplained(Failure::File);
@@ -906,7 +907,7 @@ fn nothing_explained(rt: HostRuntime) -> Result<(), Fail> {
     Ok(())
 }
 
-/// Words that write, and what is told where nothing can be written.
+/// Words that write, and what is reported if nothing can be written.
 static UNWRITABLE: &[Failed] = &[
     Failed {
         name: "explain: standard output",
@@ -999,7 +1000,7 @@ static UNWRITTEN: &[Unwritten] = &[
     },
 ];
 
-/// Whether words fail, and print just this, where no file may be written.
+/// Whether words fail, and print just this, if no file may be written.
 fn is_unwritten<R: Threads + Wait + Clock + Sync>(rt: &R, alloc: Global, row: &Unwritten) -> bool {
     let mut channels = channels(alloc, None);
     channels.files = NotingFiles::new(MemoryWriter::refusing(
@@ -1014,8 +1015,8 @@ fn is_unwritten<R: Threads + Wait + Clock + Sync>(rt: &R, alloc: Global, row: &U
         && is_kept(channels.files.writer().files(), None)
 }
 
-/// Three ticks come whenever they come, and the report is the same; the history has the line of the rules,
-/// four records of the processor and three ticks.
+/// The three ticks come at any time, and the report is always the wanted one; the history has the
+/// line of the rules, four records of the processor and three ticks.
 #[test]
 fn run_with_ticks(rt: HostRuntime) {
     let alloc = rt.alloc();
@@ -1184,8 +1185,8 @@ fn ends_so<R: Threads + Wait + Clock + Sync>(rt: &R, alloc: Global, row: &Help) 
         && out.flushed == out.bytes.len()
 }
 
-/// A picture is a whole document, whose title says which records it has; that a record is refused is told
-/// in it, and by the status.
+/// A picture is a whole document, whose title has the numbers of its records; that a record is
+/// refused is in its text, and in the status.
 #[test]
 fn pictures(rt: HostRuntime) -> Result<(), Fail> {
     for row in PICTURES {

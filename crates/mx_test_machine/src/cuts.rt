@@ -9,7 +9,7 @@ use std::process::Abort;
 const TURNS: &str =
     "0 take\n0 back 4\n0 take\n0 back 4\n0 take\n0 back 3\n0 take\n0 back 5\n0 take\n0 back 4\n";
 
-/// The same by the strict rules.
+/// `TURNS` by the strict rules.
 const STRICT_TURNS: &str =
     "rules 2\n0 take\n0 back 4\n0 take\n0 back 4\n0 take\n0 back 3\n0 take\n0 back 5\n\
      0 take\n0 back 4\n";
@@ -54,7 +54,7 @@ fn file<'a>(name: &'a str, bytes: &'a [u8]) -> NamedFile<'a> {
 }
 
 /// What comes of a text that is replayed; what is printed is appended.
-fn told(alloc: Global, text: &[u8], out: &mut Vec<u8>) -> Result<Replayed, Failure> {
+fn replay_text(alloc: Global, text: &[u8], out: &mut Vec<u8>) -> Result<Replayed, Failure> {
     let files = [
         file("pair", PAIR),
         file("drv.out", DRIVER),
@@ -64,8 +64,13 @@ fn told(alloc: Global, text: &[u8], out: &mut Vec<u8>) -> Result<Replayed, Failu
     replay(alloc, &mut NamedFiles::new(&files), "pair", "cut", out)
 }
 
-/// What is told of a text with that many whole lines, that many above the records, and what is printed.
-fn wanted(lines: usize, above: usize, is_whole: bool) -> (Result<Replayed, Failure>, &'static str) {
+/// The answer for a text with so many whole lines, some of them above the records, and what is
+/// printed.
+fn wanted_answer(
+    lines: usize,
+    above: usize,
+    is_whole: bool,
+) -> (Result<Replayed, Failure>, &'static str) {
     match REPORTS.get(lines.saturating_sub(above)) {
         Some(report) if is_whole => (Ok(Replayed::Whole), *report),
         _ => {
@@ -88,8 +93,8 @@ fn cut_at_each_byte(rt: &impl Abort, alloc: Global, history: &History) {
             lines = lines.wrapping_add(1);
         }
         let mut out = Vec::new(alloc);
-        let found = told(alloc, front, &mut out);
-        let (answer, printed) = wanted(lines, history.above, is_whole);
+        let found = replay_text(alloc, front, &mut out);
+        let (answer, printed) = wanted_answer(lines, history.above, is_whole);
         assert!(rt;
             found == answer && out.as_slice() == printed.as_bytes(),
             "{name}, {length} bytes"

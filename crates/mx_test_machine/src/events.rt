@@ -45,7 +45,7 @@ struct Turn {
     answer: Result<Answer, Refusal>,
 }
 
-/// A turn of which a row tells only what differs.
+/// The turn from which a row gives only what differs.
 const TURN: Turn = Turn {
     actor: 0,
     event: Event::Step,
@@ -69,7 +69,7 @@ const DONE: Result<Answer, Refusal> = Ok(Answer::Done);
 /// The actor that is none of the eight processors.
 const OTHER: u8 = 8;
 
-/// A slot after the last turn, with the number that stands at a place of its memory.
+/// A slot after the last turn, with the number at a place of its memory.
 struct End {
     slot: u8,
     state: State,
@@ -564,7 +564,7 @@ static ROWS: &[Row] = &[
                 turn! { actor: 0, event: Event::Step, times: 4, answer: TRAP },
                 turn! { actor: 0, event: Event::Back, answer: Ok(Answer::Returned(4)) },
                 turn! { actor: 0, event: Event::Take, answer: Err(Refusal::NoProcess) },
-                // 1,008 records stand by now.
+                // There are 1,008 records by now.
                 turn! { actor: OTHER, event: Event::Tick, times: 92, answer: DONE },
                 turn! { actor: OTHER, event: Event::Tick, answer: Err(Refusal::LogFull) },
             ],
@@ -707,7 +707,7 @@ fn are_rounds(alloc: Global, machine: &mut Machine, rounds: &[Round]) -> bool {
     true
 }
 
-/// Whether a tool's run is told through its bound, and refused where a processor is empty.
+/// Whether a tool's run by its trait's bound is as wanted, and is refused if a processor is empty.
 fn is_lent(machine: &mut Machine) -> bool {
     work(machine, 0, &mut Steps(9)) == Err(Refusal::CpuEmpty)
         && work(machine, 8, &mut Steps(1)) == Err(Refusal::CpuEmpty)
@@ -739,8 +739,8 @@ fn down(alloc: Global, masks: Masks, generation: u32, restarts_used: u32) -> Pro
     }
 }
 
-/// Whether a process of the last service is worn, or isn't, as told. It is made by hand, since no history is
-/// long enough for the last generation.
+/// Whether a process of the last service is worn, or isn't, as the row wants. It is made by hand,
+/// since no history is long enough for the last generation.
 fn has_worn(alloc: Global, services: &[Service], worn: &Worn) -> bool {
     match services {
         [.., service] => {

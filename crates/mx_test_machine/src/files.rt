@@ -256,7 +256,7 @@ const WORKS: &[u8] = &[
     0xCD, 0x21, // int 0x21
 ];
 
-/// TIMES: the uptime stands at 8 and the steps at 12.
+/// TIMES: the uptime is at 8 and the steps at 12.
 const COUNTS: &[u8] = &[
     // The header: text 0x1b, data 0x0, bss 0x80, entry 0x0, total 0x1000, symbols 0x0.
     1, 3, 0x30, 0x10, 0x20, 0, 0, 0, 0x1b, 0, 0, 0, 0, 0, 0, 0, 0x80, 0, 0, 0, 0, 0, 0, 0, 0, 0x10,

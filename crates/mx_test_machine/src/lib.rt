@@ -1,4 +1,4 @@
-//! Tests alone: worked rows of the process layer, the machine, and the texts that drive it.
+//! Only tests: worked rows of the process layer, the machine, and the texts that drive it.
 #![tactic(auto)]
 
 #[cfg(test)]

@@ -159,7 +159,8 @@ fn make_turns(machine: &mut Machine) -> bool {
     true
 }
 
-/// Whether a history is saved up to this many bytes, and told as whole exactly if there is room for it.
+/// Whether a history is saved up to this many bytes, and reported as whole exactly if there is room
+/// for it.
 fn is_saved(alloc: Global, machine: &Machine, room: usize) -> bool {
     let mut sink = Over::new(Narrow {
         bytes: Vec::new(alloc),

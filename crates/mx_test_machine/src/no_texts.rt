@@ -75,7 +75,8 @@ const LINE: &[u8] = b"tick\n";
 const RECORD: &[u8] = b"1 tick\n";
 
 static ROWS: &[Row] = &[
-    // A letter may stand in a comment and in a text, which has no end here; no other word begins with it.
+    // A letter may be in a comment and in a text, which has no end here; no other word begins with
+    // it.
     Row {
         name: "as: a comment",
         request: ASSEMBLED,

@@ -6,7 +6,7 @@ pub(crate) const SEND: u32 = 1;
 /// The trap that receives.
 pub(crate) const RECEIVE: u32 = 2;
 
-/// The trap that sends and then receives from the same process.
+/// The trap that sends to a process and then receives from it.
 pub(crate) const SENDREC: u32 = 3;
 
 /// The trap that notifies.
@@ -39,7 +39,7 @@ pub(crate) const VIRCOPY: u32 = 0x605;
 /// The kernel call that kills another process, or the caller.
 pub(crate) const KILL: u32 = 0x606;
 
-/// The kernel call that tells a slot's endpoint.
+/// The kernel call that answers a slot's endpoint.
 pub(crate) const WHOIS: u32 = 0x607;
 
 /// The kernel call that opens a window of the caller's memory.

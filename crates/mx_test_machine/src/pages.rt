@@ -54,7 +54,7 @@ static COPIES: &[Copied] = &[
     },
 ];
 
-/// What stands at a place before a copy.
+/// What is at a place before a copy.
 fn byte_before(at: u32) -> u8 {
     (at % 251) as u8
 }
@@ -107,7 +107,7 @@ fn two_processes(rt: &impl Abort, alloc: Global) -> Result<Table, Fail> {
     Ok(table)
 }
 
-/// Whether slot 1, which waits, has the message of slot 0: its source, and what stood after it.
+/// Whether slot 1, which waits, has the message of slot 0: its source, and what followed it.
 fn is_sent(rt: &impl Abort, table: &mut Table) -> bool {
     make_trap(rt, table, 1, Trap::Receive(ANY));
     make_trap(rt, table, 0, Trap::Send(1));
@@ -119,7 +119,7 @@ fn is_sent(rt: &impl Abort, table: &mut Table) -> bool {
     true
 }
 
-/// Whether slot 0 is told slot 1's endpoint, in a reply over its request.
+/// Whether slot 0 gets slot 1's endpoint, in a reply over its request.
 fn is_told(rt: &impl Abort, table: &mut Table) -> bool {
     make_call(rt, table, 0, &[WHOIS, 1, 0, 0, 0, 0]) == After::Reply(OK)
         && word_at(rt, table, 0, BUFFER) == SYSTEM
@@ -127,7 +127,7 @@ fn is_told(rt: &impl Abort, table: &mut Table) -> bool {
         && word_at(rt, table, 0, BUFFER + 8) == 1
 }
 
-/// What stands at a place after a copy, as if all bytes were read first.
+/// What is at a place after a copy, as if all bytes were read first.
 fn byte_after(copy: &Copied, at: u32) -> u8 {
     if at >= copy.to && at - copy.to < copy.count {
         byte_before((at - copy.to).saturating_add(copy.from))

@@ -204,7 +204,7 @@ fn killed_callers(rt: HostRuntime) -> Result<(), Fail> {
 /// The queues as plain lists, and what each process does.
 #[derive(Drop)]
 struct Plain {
-    /// The ready ones with their levels; those of one level stand in their order.
+    /// The ready ones with their levels; those of one level are in their order.
     ready: Vec<(u8, Slot)>,
     /// Who sends, and to whom, in order of blocking.
     waits: Vec<(Slot, Slot)>,
@@ -322,7 +322,7 @@ impl Plain {
         Ok(())
     }
 
-    /// A quantum is spent: a level lower if the same slot spent the one before, else one higher.
+    /// A quantum is spent: a level lower if this slot spent the one before too, else one higher.
     fn spend(&mut self, slot: Slot) -> Result<(), Fail> {
         let level = self.level(slot);
         let next = if self.renewed == Some(slot) {
@@ -364,8 +364,8 @@ impl Plain {
         Ok(())
     }
 
-    /// SEND or SENDREC: refused to a dead process and where it would lock, else it delivers or waits. The
-    /// state in which it waits, Sending or Calling, tells which of the two it is.
+    /// SEND or SENDREC: refused to a dead process and if it would lock, else it delivers or waits.
+    /// The state in which it waits, Sending or Calling, shows which of the two it is.
     fn send(&mut self, slot: Slot, to: Slot, waiting: State) -> Result<(), Fail> {
         self.unqueue(slot);
         if self.state(to).is_down() || to == slot || self.leads(to, slot) {
@@ -397,7 +397,7 @@ impl Plain {
         }
     }
 
-    /// Its callers go on, then those that receive from it alone, in slot order.
+    /// Its callers go on, then those that receive only from it, in slot order.
     fn die(&mut self, slot: Slot) -> Result<(), Fail> {
         self.unqueue(slot);
         self.unblock(slot);
@@ -473,8 +473,8 @@ fn deed_of_ready(numbers: &mut Numbers) -> Deed {
     }
 }
 
-/// The next event: of a slot that a number tells, or of who is picked if that one waits; now and then,
-/// and if nobody is ready, who waits is killed.
+/// The next event: of a slot that a number picks, or of who is picked if that one waits; now and
+/// then, and if nobody is ready, who waits is killed.
 fn next_event(plain: &Plain, numbers: &mut Numbers) -> (Slot, Deed) {
     let slot = numbers.slot();
     let is_killed = numbers.below(24) == 0;
@@ -488,8 +488,8 @@ fn next_event(plain: &Plain, numbers: &mut Numbers) -> (Slot, Deed) {
     }
 }
 
-/// Whether a slot is seen alike: its state and level, as the report tells them, whom it sends to, its
-/// first caller, and the one that another slot is.
+/// Whether both have a slot alike: its state and level, as the report prints them, whom it sends
+/// to, its first caller, and the one that another slot is.
 fn is_alike(rt: &impl Abort, table: &Table, plain: &Plain, slot: Slot, other: Slot) -> bool {
     assert!(rt; slot < table.used());
     let process = table.process(slot);

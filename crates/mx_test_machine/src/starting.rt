@@ -1,4 +1,4 @@
-//! Of two faults in a machine's files the first is told, in the order of the files.
+//! Of two faults in a machine's files the first is reported, in the order of the files.
 
 use crate::files::reader;
 use mx_aout::FileError;
@@ -12,7 +12,7 @@ const BAD_RECORD: Failure = Failure::Misstated(BootError::BadRecord(2));
 
 const TRUNCATED: Failure = Failure::Refused(FileError::Truncated);
 
-/// A configuration and a script by the names of their files, and what is told of them.
+/// A configuration and a script by the names of their files, and what is reported of them.
 struct Row {
     name: &'static str,
     config: &'static str,
@@ -83,7 +83,7 @@ static ROWS: &[Row] = &[
     },
 ];
 
-fn told(alloc: Global, row: &Row) -> Option<Failure> {
+fn fault_of_start(alloc: Global, row: &Row) -> Option<Failure> {
     start::<Script, _>(alloc, &mut reader(), row.config, row.script).err()
 }
 
@@ -91,7 +91,7 @@ fn told(alloc: Global, row: &Row) -> Option<Failure> {
 fn first_faults(rt: HostRuntime) -> Result<(), Fail> {
     for row in ROWS {
         let name = row.name;
-        assert!(rt; told(rt.alloc(), row) == row.told, "{name}");
+        assert!(rt; fault_of_start(rt.alloc(), row) == row.told, "{name}");
     }
     Ok(())
 }

@@ -11,7 +11,7 @@ use std::test::Fail;
 /// The limit of every process.
 pub(crate) const LIMIT: u32 = 0x1000;
 
-/// An image whose EBX is 512, and at 100 stand five bytes.
+/// An image whose EBX is 512, with five bytes at 100.
 fn image_of(alloc: Global) -> Result<Image, Fail> {
     let mut image = Image::blank(alloc);
     image.memory = Segment::new(alloc, LIMIT)?;
@@ -20,7 +20,7 @@ fn image_of(alloc: Global) -> Result<Image, Fail> {
     Ok(image)
 }
 
-/// Adds a process at level 7 with a quantum of 5: its EBX is 512, and at 100 stand five bytes.
+/// Adds a process at level 7 with a quantum of 5: its EBX is 512, and five bytes are at 100.
 pub(crate) fn add_process(
     rt: &impl Abort,
     alloc: Global,
@@ -50,7 +50,7 @@ pub(crate) fn word_at(rt: &impl Abort, table: &Table, slot: Slot, place: u32) ->
     }
 }
 
-/// Whether these words stand at 512 and on in a slot's memory.
+/// Whether these words are at 512 and on in a slot's memory.
 pub(crate) fn has_words(rt: &impl Abort, table: &Table, slot: Slot, words: &[u32]) -> bool {
     for (place, word) in (512..548).step_by(4).zip(words) {
         if word_at(rt, table, slot, place) != *word {

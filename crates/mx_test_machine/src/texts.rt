@@ -11,7 +11,7 @@ use std::io::Write;
 use std::process::Abort;
 use std::test::Fail;
 
-/// A configuration, and what is told of it.
+/// A configuration, and its fault, if it has one.
 struct Setup {
     name: &'static str,
     text: &'static str,
@@ -278,7 +278,7 @@ fn configurations(rt: HostRuntime) -> Result<(), Fail> {
     Ok(())
 }
 
-/// A text, and what is told of it: how many lines or records it has, or the fault.
+/// A text, and what it is read as: how many lines or records it has, or the fault.
 struct Text {
     name: &'static str,
     text: &'static str,
@@ -491,7 +491,7 @@ static HISTORIES: &[Text] = &[
     },
 ];
 
-fn told<T: Drop>(read: Result<Vec<T>, BootError>) -> Result<usize, BootError> {
+fn count_or_fault<T: Drop>(read: Result<Vec<T>, BootError>) -> Result<usize, BootError> {
     match read {
         Ok(lines) => Ok(lines.len()),
         Err(fault) => Err(fault),
@@ -507,14 +507,20 @@ fn records_of(alloc: Global, text: &str, machine: &Config) -> Result<Vec<Record>
 fn read_scripts(rt: &impl Abort, alloc: Global) {
     for row in SCRIPTS {
         let name = row.name;
-        assert!(rt; told(script(alloc, row.text)) == row.told, "{name}");
+        assert!(rt;
+            count_or_fault(script(alloc, row.text)) == row.told,
+            "{name}"
+        );
     }
 }
 
 fn read_debug_scripts(rt: &impl Abort, alloc: Global) {
     for row in DEBUG_SCRIPTS {
         let name = row.name;
-        assert!(rt; told(debug_script(alloc, row.text)) == row.told, "{name}");
+        assert!(rt;
+            count_or_fault(debug_script(alloc, row.text)) == row.told,
+            "{name}"
+        );
     }
 }
 
@@ -522,7 +528,7 @@ fn read_histories(rt: &impl Abort, alloc: Global, machine: &Config) {
     for row in HISTORIES {
         let name = row.name;
         assert!(rt;
-            told(records_of(alloc, row.text, machine)) == row.told,
+            count_or_fault(records_of(alloc, row.text, machine)) == row.told,
             "{name}"
         );
     }
@@ -541,7 +547,7 @@ fn is_script_read(alloc: Global) -> bool {
     }
 }
 
-/// A writer that takes that many bytes, at most three at a time, and then fails.
+/// A writer that takes a number of bytes, at most three at a time, and then fails.
 #[derive(Drop)]
 pub(crate) struct Narrow {
     pub bytes: Vec<u8>,
@@ -660,7 +666,8 @@ static SAVES: &[Saved] = &[
     },
 ];
 
-/// Whether a writer that fails after that many bytes got just these of the text, or all if it has room.
+/// Whether a writer that fails after a number of bytes got just these of the text, or all if it has
+/// room.
 fn is_saved_to(alloc: Global, row: &Saved, room: usize) -> bool {
     let narrow = Narrow {
         bytes: Vec::new(alloc),

@@ -596,7 +596,7 @@ fn look_at(rt: &impl Abort, table: &Table, slot: Slot) -> Seen {
     }
 }
 
-/// Whether the other slot that a step names, if it names one, is then seen as it says.
+/// Whether the other slot that a step names, if it names one, is then as the step wants.
 fn is_other_seen(rt: &impl Abort, table: &Table, step: &Step) -> bool {
     match step.other {
         Some((slot, seen)) => look_at(rt, table, slot) == seen,
@@ -604,8 +604,8 @@ fn is_other_seen(rt: &impl Abort, table: &Table, step: &Step) -> bool {
     }
 }
 
-/// Whether a step's slot and the other are then seen as it says, and the answer says whether a call is
-/// left to the kernel.
+/// Whether a step's slot and the other are then as the step wants, and the answer shows whether a
+/// call is left to the kernel.
 fn is_seen(rt: &impl Abort, table: &mut Table, step: &Step) -> bool {
     let words = (step.call, step.partner, step.buffer);
     let after = make_trap(rt, table, step.slot, words, &[]);
@@ -638,13 +638,13 @@ static MESSAGE: [u8; 36] = [
     0, 0, 4, 0, 0, 0, 5, 0, 0, 0x7F,
 ];
 
-/// What then stands in the buffer of slot 1.
+/// What is then in the buffer of slot 1.
 static DELIVERED: [u32; 9] = [2, 7, 9, 0xFF, 0x8000_0001, 2, 3, 4, 0x7F00_0005];
 
-/// What stands there after a notification by slot 0.
+/// What is in it after a notification by slot 0.
 static NOTIFIED: [u32; 9] = [0, NOTIFY_MESSAGE, 0, 0, 0, 0, 0, 0, 0];
 
-/// Whether a message or a notification to slot 1, which waits, stands at 512, both go on with 0, and
+/// Whether a message or a notification to slot 1, which waits, is at 512, both go on with 0, and
 /// the caller overtakes its partner.
 fn is_delivered(
     rt: &impl Abort,
@@ -661,7 +661,8 @@ fn is_delivered(
         && look_at(rt, table, 1) == Goes(OK)
 }
 
-/// Whether both deliveries are kept, and the receiver's endpoint is that of its generation alone.
+/// Whether both deliveries are recorded, and the receiver's endpoint is only that of its
+/// generation.
 fn are_kept(table: &Table) -> bool {
     let first = Delivery {
         from: 2,
@@ -704,7 +705,7 @@ fn delivery_of(message_type: u32) -> Delivery {
     }
 }
 
-/// Whether of one message more than are kept, each of the next type, the first is gone.
+/// Whether, after one message more than are recorded, each of the next type, the first is gone.
 fn are_last_kept(rt: &impl Abort, table: &mut Table) -> bool {
     let mut message = [0; 8];
     for number in 0..1025 {

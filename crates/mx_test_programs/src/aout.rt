@@ -1,4 +1,4 @@
-//! Files of programs, and what is told of others.
+//! Files of programs, and the faults of others.
 
 use crate::load::FILE;
 use mx_aout::{FileError, Program, one_program, read, read_back, write};
@@ -13,7 +13,7 @@ const TRAP: [u8; 34] = [
     0xCD, 0x21, // int 0x21
 ];
 
-/// The same without a text.
+/// `TRAP` without a text.
 const EMPTY: [u8; 32] = [
     0x01, 0x03, 0x10, 0x10, 0x20, 0, 0, 0, // magic, flags, processor, header of 32 bytes
     0, 0, 0, 0, 0, 0, 0, 0, 0, 0, 0, 0, // text, data, bss
@@ -112,7 +112,7 @@ fn whole_files(rt: HostRuntime) {
     one_program();
 }
 
-/// A file that is changed, and what is then told of it.
+/// A file that is changed, and its fault after that.
 struct Change {
     name: &'static str,
     file: &'static [u8],
@@ -277,7 +277,7 @@ fn changed_bytes(rt: HostRuntime) -> Result<(), Fail> {
     Ok(())
 }
 
-/// A file whose header has dwords at their limits, and what is told of it.
+/// A file whose header has dwords at their limits, and its fault.
 struct Sizes {
     name: &'static str,
     file: &'static [u8],
@@ -310,8 +310,8 @@ const TEXT_RELOCATIONS: usize = 32;
 
 const INIT_RELOCATIONS: usize = 36;
 
-/// A size at a limit is accepted if the file has the bytes, and told as the next fault if it hasn't; one
-/// more is too large.
+/// A size at a limit is accepted if the file has the bytes, and leads to the next fault if it
+/// hasn't; one more is too large.
 static LIMITS: &[Sizes] = &[
     Sizes {
         name: "symbols of 17 bytes",
@@ -496,7 +496,7 @@ static CUTS: &[Cut] = &[
     },
 ];
 
-/// What is told of the first bytes of a file.
+/// The fault of the first bytes of a file.
 fn told_of_front(alloc: Global, file: &[u8], length: usize) -> Option<FileError> {
     read(alloc, file.get(..length)?).err()
 }

@@ -1,16 +1,16 @@
-//! Texts that go the whole way.
+//! Texts that go the whole way: assembled, written, read, loaded and listed.
 
 use crate::aout::SHORT;
 use crate::bytes::has_bytes;
 use mx_asm_roundtrip::{Journey, around};
 use std::alloc::Global;
 
-/// A text, its listing, some bytes of its image, and its file, if that is told.
+/// A text, its listing, some bytes of its image, and its file, if the row has it.
 struct Row {
     name: &'static str,
     text: &'static str,
     listing: &'static str,
-    /// Places of the image, and the bytes that stand there.
+    /// Places of the image, and the bytes at them.
     bytes: &'static [(u32, u8)],
     file: Option<&'static [u8]>,
 }

@@ -89,7 +89,7 @@ fn spellings(rt: HostRuntime) {
     }
 }
 
-/// A text that is refused: the problem that is told of it, and its line.
+/// A text that is refused: its problem, and the line of the problem.
 struct Refused {
     text: &'static str,
     problem: Problem,
@@ -234,10 +234,10 @@ static REFUSED: &[Refused] = &[
     },
 ];
 
-/// Texts beside them that make a program.
+/// Other texts, which make a program.
 static ACCEPTED: &[&str] = &["", "loop l\n.space 127\nl:", "mov eax, [ebx-0x80000000]"];
 
-/// What is told of a problem on a line.
+/// The error of a problem on a line.
 fn at(problem: Problem, line: usize) -> Option<AsmError> {
     Some(AsmError::At(Fault { problem, line }))
 }
@@ -251,7 +251,7 @@ fn faults(rt: HostRuntime) {
     }
 }
 
-/// A problem, and the number that messages tell.
+/// A problem, and its number in messages.
 struct Code {
     name: &'static str,
     problem: Problem,

@@ -1,4 +1,4 @@
-//! Lines of texts and of symbols.
+//! Lines of listings: of a program's instructions and of its symbols.
 
 use mx_aout::{Program, read};
 use mx_dis::{list, names};

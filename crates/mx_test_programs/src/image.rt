@@ -18,7 +18,7 @@ struct Row {
     name: &'static str,
     /// The code is the data segment itself.
     shared: bool,
-    /// Where the run begins, and the text of its own too.
+    /// Where the run begins, and where its text begins, if that is a segment of its own.
     eip: u32,
     text: &'static [u8],
     /// The data segment's limit.
@@ -1030,8 +1030,8 @@ fn image_of(alloc: Global, row: &Row) -> Result<Image, Fail> {
     })
 }
 
-/// A run by the trait's bound alone.
-fn ended<R: Runs>(machine: &mut R, budget: u32) -> (u32, Stop) {
+/// A run by the trait's bound only.
+fn run_by_bound<R: Runs>(machine: &mut R, budget: u32) -> (u32, Stop) {
     machine.run(budget)
 }
 
@@ -1048,12 +1048,12 @@ fn is_left<R: Runs>(machine: &R, memory: &Segment, row: &Row) -> bool {
     is_same
 }
 
-/// Whether a run takes as many steps and stops as a row says, with or without what is kept of earlier
-/// rows at the same addresses.
+/// Whether a run takes as many steps and stops as a row wants, with or without what is cached of
+/// earlier rows at its addresses.
 fn is_run(image: &mut Image, cache: Option<&mut Cache>, row: &Row) -> bool {
     let made = match cache {
         Some(cache) => run_with(image, cache, row.budget),
-        None => ended(image, row.budget),
+        None => run_by_bound(image, row.budget),
     };
     made == (row.count, row.stop) && image.flags.to_bits() == row.flags_after
 }

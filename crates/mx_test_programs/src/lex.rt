@@ -5,7 +5,7 @@ use std::test::Fail;
 
 const TEXT: &str = "a: .ascii \"\\n;\" ; b\r\nmov\t[esi*4-0x10], 9";
 
-/// A token of that text: what it is, and from where to where it stands.
+/// A token of that text: what it is, and where it begins and ends.
 struct Row {
     name: &'static str,
     kind: TokenKind,
@@ -106,7 +106,7 @@ static TOKENS: &[Row] = &[
     },
 ];
 
-/// A text that has a fault, and what is told of it.
+/// A text that has a fault, and the fault.
 struct Faulty {
     text: &'static str,
     error: LexError,

@@ -1,4 +1,4 @@
-//! Tests alone: worked rows of instructions, the assembler, files and listings.
+//! Only tests: worked rows of instructions, the assembler, files and listings.
 #![tactic(auto)]
 
 #[cfg(test)]

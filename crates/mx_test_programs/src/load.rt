@@ -1,4 +1,4 @@
-//! Images of a program in both kinds.
+//! Images of a program, of both kinds: with a text of its own, and without.
 
 use crate::bytes::has_bytes;
 use mx_aout::{Program, read};

@@ -10,7 +10,7 @@ use std::alloc::{AllocGlobal, Global};
 use std::process::Abort;
 use std::string::String;
 
-/// Where the instruction after the printed one stands.
+/// The address of the instruction after the printed one.
 const NEXT: u32 = 0x1000;
 
 /// The shortest spelling is asked for.
@@ -19,15 +19,15 @@ const SHORTEST: Wide = Wide {
     displacement: false,
 };
 
-/// What stands before an opcode.
+/// What comes before an opcode.
 struct Front {
     name: &'static str,
     bytes: &'static [u8],
 }
 
-/// What stands after an opcode and the byte after it: a SIB byte, if there is one, and numbers.
+/// What follows an opcode and the byte after it: a SIB byte, if there is one, and numbers.
 struct Tail {
-    /// What the SIB byte says.
+    /// What the SIB byte means.
     name: &'static str,
     bytes: &'static [u8],
 }
@@ -51,7 +51,7 @@ static FRONTS: &[Front] = &[
     },
 ];
 
-/// The same after 66.
+/// `FRONTS` after 66.
 static MARKED_FRONTS: &[Front] = &[
     Front {
         name: "66",
@@ -86,11 +86,11 @@ static TAILS: &[Tail] = &[
     },
 ];
 
-/// The byte after an opcode: each mode with each register, and as the other register EBX, ESP, which
-/// stands for a SIB byte, and EBP.
+/// The byte after an opcode: each mode with each register, and as the other register EBX, ESP,
+/// which means a SIB byte, and EBP.
 const SHAPES: u16 = 4 * 8 * 3;
 
-/// Whether two instructions are the same: bytes spell at most one.
+/// Whether two instructions are equal: bytes spell at most one.
 fn is_spelled_alike(found: &Insn, wanted: &Insn) -> bool {
     match (encode(found, SHORTEST), encode(wanted, SHORTEST)) {
         (Ok(found), Ok(wanted)) => found.as_slice() == wanted.as_slice(),
@@ -116,7 +116,7 @@ fn is_branch(branch: Branch, target: &Value, insn: Insn) -> bool {
     target.name.is_none() && !target.minus && is_spelled_alike(&found, &insn)
 }
 
-/// Whether a line of a text says this instruction, or a jump to the same target.
+/// Whether a line of a text is this instruction, or a jump to its target.
 fn says(alloc: Global, text: &str, insn: Insn) -> bool {
     match read_line(alloc, text.as_bytes()) {
         Ok(line) => match &line.statement {

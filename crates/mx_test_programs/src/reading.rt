@@ -1,11 +1,11 @@
-//! Lines of every kind.
+//! Lines of an assembler's text, of every kind.
 
 use mx_asm::Problem;
 use mx_asm_line::read_line;
 use mx_asm_statement::{Saying, Section, Statement, refusal};
 use std::alloc::Global;
 
-fn told(alloc: Global, text: &[u8]) -> Option<u8> {
+fn code_of_line(alloc: Global, text: &[u8]) -> Option<u8> {
     match read_line(alloc, text) {
         Ok(line) => match refusal(&line, Section::Text, Saying::First) {
             Some(reason) => Some(reason.code()),
@@ -15,7 +15,7 @@ fn told(alloc: Global, text: &[u8]) -> Option<u8> {
     }
 }
 
-/// A line, and the problem that is told of it, if there is one.
+/// A line, and its problem, if it has one.
 struct Row {
     text: &'static str,
     problem: Option<Problem>,
@@ -144,7 +144,7 @@ static LINES: &[Row] = &[
     },
 ];
 
-/// The number of what is told of a line.
+/// The number of a line's problem.
 fn code_of(problem: Option<Problem>) -> Option<u8> {
     match problem {
         Some(problem) => Some(problem.code()),
@@ -166,7 +166,7 @@ fn is_ascii(alloc: Global) -> bool {
 fn lines(rt: HostRuntime) {
     for row in LINES {
         let text = row.text;
-        let code = told(rt.alloc(), text.as_bytes());
+        let code = code_of_line(rt.alloc(), text.as_bytes());
         assert!(rt; code == code_of(row.problem), "line: {text}");
     }
     assert!(rt; is_ascii(rt.alloc()));

@@ -63,7 +63,7 @@ static COPIES: &[Copied] = &[
     },
 ];
 
-/// What stands at a place before a copy. No two places a page or a few bytes apart are alike.
+/// What is at a place before a copy. No two places a page or a few bytes apart are alike.
 fn byte_before(at: u32) -> u8 {
     (at % 251) as u8
 }
@@ -76,7 +76,7 @@ fn segment_before(alloc: Global) -> Result<Segment, Fail> {
     Ok(segment)
 }
 
-/// What stands at a place after it, as if all bytes were read first.
+/// What is at a place after it, as if all bytes were read first.
 fn byte_after(copy: &Copied, at: u32) -> u8 {
     if at >= copy.to && at - copy.to < copy.count {
         byte_before((at - copy.to).saturating_add(copy.from))

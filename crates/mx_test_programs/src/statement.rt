@@ -1,12 +1,12 @@
-//! The order of the reasons.
+//! The order of the reasons to refuse a statement of the assembler.
 
 use mx_asm_statement::{Line, Reason, Saying, Section, StatementStart, Value, refusal};
 
-/// Where an instruction stands, and what is told of it.
+/// Where an instruction is, and the reason to refuse it.
 struct Row {
     name: &'static str,
     section: Section,
-    /// Whether its label stands above already.
+    /// Whether its label is above already.
     saying: Saying,
     reason: Reason,
 }

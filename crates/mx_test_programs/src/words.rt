@@ -1,4 +1,4 @@
-//! Words of every kind.
+//! Words that may begin a statement of the assembler.
 
 use mx_insn::{Condition, Loop, Register, Size, Transfer};
 use mx_insn_words::{

@@ -2,7 +2,7 @@
 
 ghost use Rattle.std.specs.Prelude.{◌≡◌, All, None};
 
-use crate::machine::{RUNS, Row, booted, is_end};
+use crate::machine::{RUNS, Row, boot_row, is_end};
 use crate::pairs::{FULL, TALK, TALK_AGAIN, TALK_AND_TICK};
 use mx_cpus_drive::{ActorSeat, Blank, Gate, Kernel, Naming, Shared, drive};
 use mx_machine_world::{Record, Recorded};
@@ -15,8 +15,8 @@ use std::test::Fail;
 use std::thread;
 use std::thread::Threads;
 
-/// Counts what each of two processors gives back. A loop ends where the machine is at rest after all ticks,
-/// or where another loop has ended.
+/// Counts what each of two processors gives back. A loop ends if the machine is at rest after all
+/// ticks, or if another loop has ended.
 #[derive(Drop)]
 struct Counting {
     /// The actor that makes the ticks, how many it makes, and how many rounds it has made.
@@ -63,7 +63,7 @@ impl Gate for Counting {
 }
 
 /// A machine once its loops have ended, and what they counted.
-fn driven<M: Naming + Send + Sync, R: Threads + Wait + Sync>(
+fn drive_and_count<M: Naming + Send + Sync, R: Threads + Wait + Sync>(
     rt: &R,
     alloc: Global,
     blank: Blank,
@@ -103,8 +103,9 @@ fn is_counted(history: &[Record], gate: &Counting) -> bool {
 
 /// Whether a run of a row ends as the row wants, and its threads counted what its history has.
 fn counts_well<R: Threads + Wait + Sync>(rt: &R, alloc: Global, row: &Row) -> Result<bool, Fail> {
-    let (blank, seats) = booted(alloc, row)?;
-    let Some((kernel, gate)) = driven::<Brand, _>(rt, alloc, blank, seats, row.ticks) else {
+    let (blank, seats) = boot_row(alloc, row)?;
+    let Some((kernel, gate)) = drive_and_count::<Brand, _>(rt, alloc, blank, seats, row.ticks)
+    else {
         return Err(Fail::new("no threads"));
     };
     Ok(is_counted(kernel.history(), &gate) && is_end(alloc, row, &kernel)?)

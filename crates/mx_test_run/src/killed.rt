@@ -2,7 +2,7 @@
 
 ghost use Rattle.std.specs.Prelude.{◌≡◌, All, IfSome, None};
 
-use crate::machine::{Log, RUNS, Row, booted, is_end};
+use crate::machine::{Log, RUNS, Row, boot_row, is_end};
 use mx_cpus_drive::{ActorSeat, Blank, Gate, Kernel, Naming, Shared, drive};
 use mx_debug::Debugger;
 use mx_machine_world::Answer;
@@ -21,8 +21,8 @@ const TURNS: u32 = 10_000_000;
 /// The turn in which the driver is held and the client awaits its answer.
 const AWAITED: u64 = 2;
 
-/// A processor waits in one of its turns until another actor has killed its process. A loop ends where the
-/// machine is at rest.
+/// A processor waits in one of its turns until another actor has killed its process. A loop ends if
+/// the machine is at rest.
 #[derive(Drop)]
 struct Waiting {
     is_held: AtomicBool,
@@ -135,7 +135,7 @@ fn last_seat<M: Naming>(seats: &mut Vec<ActorSeat>) -> Option<ActorSeat>
 }
 
 /// A machine at its end, and whether the driver was killed while it was held.
-fn killed<M: Naming + Send + Sync, R: Threads + Wait + Sync>(
+fn run_with_kill<M: Naming + Send + Sync, R: Threads + Wait + Sync>(
     rt: &R,
     alloc: Global,
     blank: Blank,
@@ -248,8 +248,8 @@ fn wrong_runs<R: Threads + Wait + Sync>(
 ) -> Result<u32, Fail> {
     let mut wrong: u32 = 0;
     for _ in 0..RUNS {
-        let (blank, seats) = booted(alloc, row)?;
-        let (kernel, was_killed) = killed::<Brand, R>(rt, alloc, blank, seats, runner);
+        let (blank, seats) = boot_row(alloc, row)?;
+        let (kernel, was_killed) = run_with_kill::<Brand, R>(rt, alloc, blank, seats, runner);
         if !was_killed || !is_end(alloc, row, &kernel)? {
             wrong = wrong.saturating_add(1);
         }

@@ -1,4 +1,4 @@
-//! Tests alone: runs of machines whose processors are threads.
+//! Only tests: runs of machines whose processors are threads.
 #![tactic(auto)]
 
 #[cfg(test)]

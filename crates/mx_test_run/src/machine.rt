@@ -26,7 +26,7 @@ const CLIENT: [u8; 107] = [
 /// How many runs are made of a row.
 pub(crate) const RUNS: u32 = 200;
 
-/// What is the same of a history in all schedules.
+/// What a history has in every schedule.
 #[derive(Clone, Copy)]
 pub(crate) enum Log {
     /// How many records it has.
@@ -73,7 +73,7 @@ fn is_log(text: &[u8], wanted: Log) -> bool {
 }
 
 /// What a replay of a history prints.
-fn replayed(alloc: Global, row: &Row, log: &[u8]) -> Result<Vec<u8>, Fail> {
+fn replay_report(alloc: Global, row: &Row, log: &[u8]) -> Result<Vec<u8>, Fail> {
     let [config, driver, client] = files_of(row);
     let history = NamedFile {
         name: "log",
@@ -94,16 +94,16 @@ fn replayed(alloc: Global, row: &Row, log: &[u8]) -> Result<Vec<u8>, Fail> {
     }
 }
 
-/// Whether the text of a history and a report are what a row wants, and a replay of the text prints the same
-/// report.
+/// Whether the text of a history and a report are what a row wants, and a replay of the text prints
+/// that report too.
 pub(crate) fn is_left(alloc: Global, row: &Row, log: &[u8], report: &[u8]) -> Result<bool, Fail> {
-    let again = replayed(alloc, row, log)?;
+    let again = replay_report(alloc, row, log)?;
     let wanted = row.report.as_bytes();
     Ok(is_log(log, row.log) && report == wanted && again.as_slice() == wanted)
 }
 
 /// A row's machine at its boot, and the seats of its actors.
-pub(crate) fn booted(alloc: Global, row: &Row) -> Result<(Blank, Vec<ActorSeat>), Fail>
+pub(crate) fn boot_row(alloc: Global, row: &Row) -> Result<(Blank, Vec<ActorSeat>), Fail>
     ensures tables { IfOk result (λ r. All (λ s. s.table ≡ r.0.table) r.1.items) }
     ensures empties { IfOk result (λ r. All (λ s. s.held ≡ None) r.1.items) }
 {
@@ -121,7 +121,8 @@ pub(crate) fn booted(alloc: Global, row: &Row) -> Result<(Blank, Vec<ActorSeat>)
     }
 }
 
-/// Whether a machine's history and its report are what a row wants, and a replay prints the same report.
+/// Whether a machine's history and its report are what a row wants, and a replay prints that report
+/// too.
 pub(crate) fn is_end(alloc: Global, row: &Row, kernel: &Kernel) -> Result<bool, Fail> {
     let log = saved_text(alloc, kernel).map_err(|_| "memory")?;
     let report = report(alloc, kernel).map_err(|_| "memory")?;

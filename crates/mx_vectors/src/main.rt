@@ -1,4 +1,4 @@
-//! The program that compares our steps with those of a real processor: `main` alone.
+//! The program that compares our steps with those of a real processor: only `main`.
 #![tactic(auto)]
 
 pub use mx_vectors_compare::{CompareFailure, Tally, check_all};

@@ -15,7 +15,7 @@ both true true p q = ((λ _. (p.0 refl, q.0 refl)), (λ _. refl))
 both true false p q = ((λ e. absurd cc), (λ h. q.1 h.1))
 both false b p q = ((λ e. absurd cc), (λ h. p.1 h.0))
 
--- the first i bytes are the same, of lists of one length
+-- the first i bytes are equal, of lists of one length
 pub record SameFirst (i : ℕ) (a b : List ℕ) : Type 0 where
   pub limit : length a ≡ length b
   pub first : take i a ≡ take i b

@@ -13,7 +13,7 @@ abbrev pub case_failure_of_kind : ErrorKind → Kind
 case_failure_of_kind kinds.OutOfMemory = NoMemory
 case_failure_of_kind k = File
 
--- what the line of this number is told to be
+-- the failure of the line of this number
 abbrev pub failure_of_line : ℕ → CaseError → Kind
 failure_of_line n case_errors.Malformed = Line n
 failure_of_line n case_errors.NoMemory = NoMemory

@@ -1,4 +1,4 @@
-//! A case, as a line has it.
+//! A case: one step of a real processor, as a line has it.
 
 ghost use Rattle.std.specs.Prelude.{◌≡◌, length};
 
@@ -22,7 +22,7 @@ pub struct Case<'a> {
     /// The instruction's bytes, as text and as bytes.
     pub spelling: &'a str,
     pub bytes: Bytes,
-    /// The code, where it doesn't stand in the data.
+    /// The code, if it isn't in the data.
     pub code: Option<Bytes>,
     pub memory: Bytes,
     pub before: StepState,

@@ -1,4 +1,4 @@
-//! Takes the step of a case and compares.
+//! Takes the step of a case, and compares it with the processor's.
 
 ghost use Rattle.std.specs.Prelude.{◌≡◌, ◌↔◌, length, IsTrue, IfOk, IfErr, IsOk, Some};
 ghost use Rattle.mx_decode.specs.Decode.{front};
@@ -36,7 +36,7 @@ fn is_whole(case: &Case<'_>) -> bool
     length_of(bytes) as usize == bytes.len()
 }
 
-/// What an instruction's spelling decodes as: where it has one, as itself.
+/// What an instruction's spelling decodes as, if it has one: as itself.
 fn decoded_again(insn: &Insn, wide: Wide) -> Option<Insn>
     ensures { IsTrue (has_form insn.now) → result ≡ Some insn.now }
 {
@@ -49,8 +49,8 @@ fn decoded_again(insn: &Insn, wide: Wide) -> Option<Insn>
     }
 }
 
-/// Whether two instructions have one spelling: if they are the same, and have one. Bytes spell at
-/// most one instruction.
+/// Whether two instructions have one spelling: so they have, if they are equal and have a spelling.
+/// Bytes spell at most one instruction.
 fn is_spelled_alike(found: &Insn, wanted: &Insn, wide: Wide) -> bool
     ensures { IsTrue (has_form wanted.now) → found.now ≡ wanted.now → IsTrue result }
 {
@@ -85,7 +85,7 @@ fn is_always_again(insn: &Insn) -> bool
         & is_again(insn, true, true)
 }
 
-/// Whether the case's instruction, spelled with any marks, decodes again: where there is one.
+/// Whether the case's instruction, if there is one, decodes again, spelled with any marks.
 fn is_spelled(case: &Case<'_>) -> bool
     ensures { IsTrue result ↔ IsOk (front case.now.bytes) }
 {
@@ -101,7 +101,7 @@ fn is_spelled(case: &Case<'_>) -> bool
 enum Way {
     /// As one step, which decodes.
     Step,
-    /// As the only step of a run, by the instruction that the cache keeps where it keeps it.
+    /// As the only step of a run, by the cached instruction, if it is cached.
     Run,
 }
 
@@ -137,8 +137,8 @@ fn is_step_same<W: Write>(
     Ok(same)
 }
 
-/// Takes the step of a case: in a step, and in two runs, the second of which finds it kept. What
-/// went wrong in one way isn't tried in the next, so that it is told once.
+/// Takes the step of a case: in a step, and in two runs, the second of which finds it cached. What
+/// went wrong in one way isn't tried in the next, so that it is reported once.
 fn is_step_same_each_way<W: Write>(
     alloc: Global,
     case: &Case<'_>,
@@ -155,8 +155,8 @@ fn is_step_same_each_way<W: Write>(
     )
 }
 
-/// Takes the step of a case, decoded and by the instruction that the cache then keeps. Prints a
-/// line for each field that isn't as wanted, and answers whether there is none.
+/// Takes the step of a case, decoded and by the instruction that is then cached. Prints a line for
+/// each field that isn't as wanted, and answers whether there is none.
 pub fn check_case<W: Write>(
     alloc: Global,
     case: &Case<'_>,

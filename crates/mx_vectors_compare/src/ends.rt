@@ -1,4 +1,4 @@
-//! The image that a case begins with, and whether a step of it ended as the case says.
+//! The image that a case begins with, and whether a step of it ended as the case wants.
 
 ghost use Rattle.std.specs.Prelude.{◌≡◌, ◌<◌, ◌^◌, ◌↔◌, length, IsTrue, IfOk, OnOk, List, ℕ};
 ghost use Rattle.mx_flags.specs.Flags.{bits_of};
@@ -124,9 +124,9 @@ const CARRY: u32 = 0x001;
 
 const DIRECTION: u32 = 0x400;
 
-/// Which flags to compare: all, but carry where a byte or word was shifted beyond its width, for
-/// which the manual gives none; and direction alone in an iteration of a repeated comparison, of
-/// which the processor showed no other flag.
+/// Which flags to compare: all, but not carry if a byte or word was shifted beyond its width, for
+/// which the manual gives none. In an iteration of a repeated comparison only direction, since the
+/// processor showed no other flag.
 pub fn compared_flags(mask: u32) -> u32
     ensures { result ≡ compared_flags mask }
 {

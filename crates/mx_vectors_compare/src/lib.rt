@@ -1,7 +1,7 @@
 //! Steps that a real processor took, read from a text, and compared with ours.
 //!
-//! Each is taken three times: as one step, as the only step of a run that decodes it, and again of
-//! one that finds it kept.
+//! Each is taken three times: as one step, as the only step of a run that decodes it, and in
+//! another run, which finds it cached.
 #![tactic(auto)]
 
 mod case;

@@ -1,4 +1,4 @@
-//! Every line of a text.
+//! Takes the step of each line of a text, and counts.
 
 ghost use Rattle.std.specs.Prelude.{◌≡◌, ◌≤◌, ◌↔◌, ◌⊎◌, Bool, IsTrue, IfOk, IfErr};
 ghost use Rattle.mx_vectors_compare.specs.declared.case.Case.{Case};
@@ -85,7 +85,7 @@ impl From<NoMemory> for CompareFailure {
     }
 }
 
-/// What the line of this number is told to be, which isn't read.
+/// The failure of the line of this number, which can't be read.
 fn line_failure(number: u64, error: CaseError) -> CompareFailure
     ensures { result ≡ failure_of_line number error }
 {

@@ -1,4 +1,4 @@
-//! Reads a line.
+//! Reads a line of the processor's steps as a case.
 
 ghost use Rattle.std.specs.Prelude.{◌≡◌, ◌==◌, IfOk, codes, length, map};
 ghost use Rattle.std.specs.List.{slice_split};
@@ -17,7 +17,7 @@ fn read_number(text: &str) -> Result<u32, CaseError>
 }
 
 /// What spaces part.
-fn parted<'a>(alloc: Global, text: &'a str) -> Result<Vec<&'a str>, AllocError>
+fn split_words<'a>(alloc: Global, text: &'a str) -> Result<Vec<&'a str>, AllocError>
     ensures { IfOk result (λ words. map (λ x. x.now) words.items
         ≡ slice_split (λ b. b == 32) text.now) }
 {
@@ -43,7 +43,7 @@ fn eight_numbers(words: &[&str]) -> Result<[u32; 8], CaseError>
 fn read_registers(alloc: Global, text: &str) -> Result<[u32; 8], CaseError>
     ensures { IfOk result (λ words. AreRegisters text.now words) }
 {
-    eight_numbers(parted(alloc, text)?.as_slice())
+    eight_numbers(split_words(alloc, text)?.as_slice())
 }
 
 /// How the step ended.
@@ -89,8 +89,8 @@ fn change_bytes(bytes: &mut [u8], changes: &str) -> Result<(), CaseError>
     Ok(())
 }
 
-/// The bytes after the changes that a text names, or none where it is `-`.
-fn changed(alloc: Global, memory: &[u8], changes: &str) -> Result<Vec<u8>, CaseError>
+/// The bytes after the changes that a text names; `-` names none.
+fn memory_with_changes(alloc: Global, memory: &[u8], changes: &str) -> Result<Vec<u8>, CaseError>
     ensures limit { IfOk result (λ after. length after.items ≡ length memory.now) }
     ensures none { changes.now ≡ codes "-" → IfOk result (λ after. after.items ≡ memory.now) }
 {
@@ -119,7 +119,7 @@ fn bytes_of(alloc: Global, text: &str) -> Result<Bytes, CaseError>
     Ok(Bytes::from_vec(hex::decode(alloc, text)?))
 }
 
-/// The code, where it doesn't stand in the data.
+/// The code, if it isn't in the data.
 fn code_of(alloc: Global, text: &str) -> Result<Option<Bytes>, CaseError>
     ensures { ReadsField (IsCode text.now) result }
 {
@@ -161,7 +161,7 @@ fn case_of<'a>(alloc: Global, fields: &Fields<'a>) -> Result<Case<'a>, CaseError
     )?;
     let mask = read_number(fields.mask)?;
     let memory = bytes_of(alloc, fields.memory)?;
-    let memory_after = changed(alloc, memory.as_slice(), fields.changes)?;
+    let memory_after = memory_with_changes(alloc, memory.as_slice(), fields.changes)?;
     let code = code_of(alloc, fields.code)?;
     let bytes = bytes_of(alloc, fields.spelling)?;
     Ok(Case {

@@ -1,4 +1,4 @@
-//! Prints what isn't as a case has it.
+//! Prints the fields of a step that aren't as a case has them.
 
 use crate::{Case, compared_flags, number_of, wanted_flags};
 use mx_exec::{Image, Outcome};
@@ -24,8 +24,8 @@ fn tell<W: Write>(
     Ok(())
 }
 
-/// Prints a line where the instruction at the front has another length than the case's, and one
-/// where its spellings don't decode as the instruction.
+/// Prints a line if the instruction at the front has another length than the case's, and one if its
+/// spellings don't decode as the instruction.
 pub fn tell_decoding<W: Write>(
     case: &Case<'_>,
     length: u32,

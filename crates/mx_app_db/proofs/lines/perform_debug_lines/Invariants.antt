@@ -8,7 +8,7 @@ use Rattle.mx_app_db.specs.Told.{debug_lines_text}
 use Rattle.mx_app_db.proofs.Made.{both}
 use Rattle.mx_app_db.proofs.lines.perform_debug_lines.Given as goal
 
--- the lines so far are done, and each is told, in what is printed or in the text
+-- the lines so far are done, and the answer to each is printed or is in the text
 abbrev pub invariant-loop-line : goal.invariant-loop-line
 invariant-loop-line g l = record {
   made : debug_lines_made l.other (both (world_of l.initial.machine) []) (take l.line-index l.lines) ≡ both (world_of l.machine) l.debugger;

@@ -24,9 +24,9 @@ at_rest-next-requires g c =
 pub returns-then-not-goes_on-clause-course : goal.returns-then-not-goes_on-clause-course
 returns-then-not-goes_on-clause-course g c =
     let next = c.make_round-next.result.0 in
-    let off : c.asked-side.result.goes_on ≡ false = search rules in
-    rounds_end g.M.Naming.boot (g.G.Gate.was_called c.args.door.now.gate.now) c.args.ticks c.args.seat c.loop.seat next c.at_rest-next.result.0 c.loop.side c.asked-side.result c.loop.left c.at_rest-next.result.1 c.loop.invariant
-    (subst (IsRoundTo g.M.Naming.boot c.loop.left c.loop.seat next) c.in-GoesOn.is c.make_round-next.ensures) c.at_rest-next.ensures c.asked-side.ensures.called off
+    let off : c.ask-side.result.goes_on ≡ false = search rules in
+    rounds_end g.M.Naming.boot (g.G.Gate.was_called c.args.door.now.gate.now) c.args.ticks c.args.seat c.loop.seat next c.at_rest-next.result.0 c.loop.side c.ask-side.result c.loop.left c.at_rest-next.result.1 c.loop.invariant
+    (subst (IsRoundTo g.M.Naming.boot c.loop.left c.loop.seat next) c.in-GoesOn.is c.make_round-next.ensures) c.at_rest-next.ensures c.ask-side.ensures.called off
 
 pub returns-then-not-goes_on-clause-made : goal.returns-then-not-goes_on-clause-made
 returns-then-not-goes_on-clause-made g c =
@@ -35,6 +35,6 @@ returns-then-not-goes_on-clause-made g c =
 pub loop-preserved : goal.loop-preserved
 loop-preserved g c =
     let next = c.make_round-next.result.0 in
-    let on : c.asked-side.result.goes_on ≡ true = search rules in
-    rounds_go_on g.M.Naming.boot (g.G.Gate.was_called c.args.door.now.gate.now) c.args.ticks c.args.seat c.loop.seat next c.at_rest-next.result.0 c.loop.side c.asked-side.result c.loop.left c.saturating_sub-left.result c.at_rest-next.result.1 c.loop.invariant
-    (subst (IsRoundTo g.M.Naming.boot c.loop.left c.loop.seat next) c.in-GoesOn.is c.make_round-next.ensures) c.at_rest-next.ensures c.asked-side.ensures.called c.asked-side.ensures.side.0 on c.saturating_sub-left.ensures
+    let on : c.ask-side.result.goes_on ≡ true = search rules in
+    rounds_go_on g.M.Naming.boot (g.G.Gate.was_called c.args.door.now.gate.now) c.args.ticks c.args.seat c.loop.seat next c.at_rest-next.result.0 c.loop.side c.ask-side.result c.loop.left c.saturating_sub-left.result c.at_rest-next.result.1 c.loop.invariant
+    (subst (IsRoundTo g.M.Naming.boot c.loop.left c.loop.seat next) c.in-GoesOn.is c.make_round-next.ensures) c.at_rest-next.ensures c.ask-side.ensures.called c.ask-side.ensures.side.0 on c.saturating_sub-left.ensures

@@ -1,7 +1,7 @@
 use Rattle.std.proofs.Common.{◌≤◌, ◌<◌, ◌-◌, length}
 use Rattle.mx_look_glance.proofs.kept.kept_count.Given as goal
 
--- that many are kept for certain, and past `high` none is
+-- at least `low` are recorded, and none from `high` on
 abbrev pub invariant-loop-low : goal.invariant-loop-low
 invariant-loop-low l = record {
   order : l.low ≤ l.high;
