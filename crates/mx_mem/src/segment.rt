@@ -9,6 +9,7 @@ mod copies;
 mod limit;
 mod page;
 
+pub use copies::PIECE;
 use limit::Limit;
 use mx_insn::ArrayVec;
 use mx_word::{NoMemory, Size};

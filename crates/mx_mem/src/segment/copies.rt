@@ -1,10 +1,16 @@
 //! Copies bytes within a segment, copies them from one segment to another, and clears a segment.
 
-ghost use Rattle.std.specs.Prelude.{◌≡◌, ◌+◌, ◌-◌, ◌%◌, ◌<◌, ◌≤◌, length, replicate};
-ghost use Rattle.mx_mem.specs.Segment.{with_bytes_at, part, zero_page};
+ghost use Rattle.std.specs.Prelude.{◌≡◌, ◌+◌, ◌-◌, ◌*◌, ◌%◌, ◌^◌, ◌<◌, ◌≤◌, length, replicate};
+ghost use Rattle.mx_word.specs.Word.{bytes_in, width};
+ghost use Rattle.mx_mem.specs.Segment.{with_bytes_at, part, repeated, zero_page, IsPiece};
 
 use super::page::{PAGE, Page};
 use super::{Segment, piece};
+use mx_word::Size;
+
+/// How many bytes are copied at once within a segment, by `copy_piece`. More are worth little: a copy begins
+/// with a buffer of this many zeros.
+pub const PIECE: usize = 1024;
 
 /// Makes every byte of the pages zero.
 fn clear_pages(pages: &mut [Page])
@@ -38,9 +44,9 @@ impl Segment {
         requires to { to + count ≤ length self.old }
         requires from_page { from % 4096 + count ≤ 4096 }
         requires to_page { to % 4096 + count ≤ 4096 }
-        requires buffer { length buffer.old ≡ 4096 }
+        requires buffer { count ≤ length buffer.old }
         ensures value { self.new ≡ with_bytes_at self.old to (part self.old from count) }
-        ensures buffer { length buffer.new ≡ 4096 }
+        ensures buffer { length buffer.new ≡ length buffer.old }
     {
         buffer[..count].copy_from_slice(self.part_of_page(from, count));
         self.put_in_page(to, &buffer[..count]);
@@ -119,6 +125,48 @@ impl Segment {
             self.put_in_page(to + done, source.part_of_page(from + done, both));
             done += both;
         }
+    }
+
+    /// How many numbers of a size, at most `most`, lie one after another from an address on, all of them
+    /// inside and in one page. None if the first doesn't.
+    #[inline(always)]
+    pub fn run_of(&self, at: u32, size: Size, most: usize) -> usize
+        ensures most { result ≤ most }
+        ensures piece { 0 < result → IsPiece self.now at (result * bytes_in size) }
+        ensures low { 0 < result → at + result * bytes_in size ≤ 4294967295 }
+    {
+        let at = at as usize;
+        let limit = self.limit().min(u32::MAX as usize);
+        let room = limit.saturating_sub(at).min(PAGE - at % PAGE);
+        most.min(room / size.bytes() as usize)
+    }
+
+    /// Writes a number `count` times, one after another from an address on, lowest byte first. All of them
+    /// must lie inside and in one page, as `run_of` answers.
+    #[tactic(auto, unfolding(crate::specs::Segment::up_to, crate::specs::Segment::IsPaged))]
+    #[inline(always)]
+    pub fn fill_piece(&mut self, at: u32, size: Size, count: usize, value: u32)
+        requires some { 0 < count }
+        requires piece { IsPiece self.old at (count * bytes_in size) }
+        requires value { value < 2 ^ width size }
+        ensures { self.new ≡ with_bytes_at self.old at (repeated count (bytes_in size) value) }
+    {
+        let at = at as usize;
+        self.pages[at / PAGE].fill(at % PAGE, size, count, value);
+    }
+
+    /// Copies `count` bytes from address `from` to address `to`: at most `PIECE`. All bytes that it reads must
+    /// lie inside and in one page, and so must all that it writes, as `run_of` answers. They may overlap: what
+    /// arrives is always the bytes as they were before the call.
+    pub fn copy_piece(&mut self, from: u32, to: u32, count: usize)
+        requires some { 0 < count }
+        requires few { count ≤ 1024 }
+        requires from { IsPiece self.old from count }
+        requires to { IsPiece self.old to count }
+        ensures { self.new ≡ with_bytes_at self.old to (part self.old from count) }
+    {
+        let mut buffer = [0; PIECE];
+        self.move_piece(from as usize, to as usize, count, &mut buffer[..]);
     }
 
     /// Makes every byte of the segment zero. The limit stays, and so do the pages.

@@ -1,8 +1,8 @@
 //! A page of a segment: 4,096 bytes in an allocation of their own.
 
-ghost use Rattle.std.specs.Prelude.{◌≡◌, ◌+◌, ◌^◌, ◌<◌, ◌≤◌, IfOk, ℕ, length, slice_index, slice_set, replicate};
+ghost use Rattle.std.specs.Prelude.{◌≡◌, ◌+◌, ◌*◌, ◌^◌, ◌<◌, ◌≤◌, IfOk, ℕ, length, slice_index, slice_set, replicate};
 ghost use Rattle.mx_word.specs.Word.{width, bytes_in, value_at};
-ghost use Rattle.mx_mem.specs.Segment.{IsPage, with_value, with_bytes_at};
+ghost use Rattle.mx_mem.specs.Segment.{IsPage, repeated, with_value, with_bytes_at};
 
 use byteorder::{ByteOrder, LittleEndian};
 use mx_word::{NoMemory, Size};
@@ -75,6 +75,16 @@ impl Page {
         overwrite(&mut self.bytes[..], at, source);
     }
 
+    /// Writes a number `count` times, one after another, lowest byte first. They must fit.
+    #[inline(always)]
+    pub(crate) fn fill(&mut self, at: usize, size: Size, count: usize, value: u32)
+        requires inside { at + count * bytes_in size ≤ 4096 }
+        requires value { value < 2 ^ width size }
+        ensures { self.new ≡ with_bytes_at self.old at (repeated count (bytes_in size) value) }
+    {
+        write_values(&mut self.bytes[..], at, size, count, value);
+    }
+
     /// Makes every byte zero.
     pub(crate) fn clear(&mut self)
         ensures { self.new ≡ replicate 4096 0 }
@@ -99,6 +109,20 @@ fn write_value(bytes: &mut [u8], at: usize, size: Size, value: u32)
             bytes[at + 2] = (value / 0x100 / 0x100 % 0x100) as u8;
             bytes[at + 3] = (value / 0x100 / 0x100 / 0x100) as u8;
         }
+    }
+}
+
+/// Writes a number `count` times, one after another from a place on, lowest byte first.
+#[inline(always)]
+fn write_values(bytes: &mut [u8], at: usize, size: Size, count: usize, value: u32)
+    requires inside { at + count * bytes_in size ≤ length bytes.old }
+    requires value { value < 2 ^ width size }
+    ensures { bytes.new ≡ with_bytes_at bytes.old at (repeated count (bytes_in size) value) }
+{
+    let mut place = at;
+    for _k in 0..count {
+        write_value(bytes, place, size, value);
+        place += size.bytes() as usize;
     }
 }
 

@@ -18,5 +18,5 @@ loop-done-preserved c =
       value = value;
       within = within;
       long = ap length value ∙ overwritten_long old to (part old from (done + count)) (omega (arith, c.requires.order, inside, part_long old from (done + count) (omega (arith, inside))));
-      buffer = c.move_piece.ensures.buffer;
+      buffer = c.move_piece.ensures.buffer ∙ c.loop-done.invariant.buffer;
     }

@@ -30,5 +30,5 @@ loop-left-preserved c =
       value = value;
       within = omega (arith, c.loop-left.invariant.within);
       long = ap length value ∙ overwritten_long old (to + rest) (part old (from + rest) (count - rest)) (omega (arith, inside, more, long));
-      buffer = c.move_piece.ensures.buffer;
+      buffer = c.move_piece.ensures.buffer ∙ c.loop-left.invariant.buffer;
     }
