@@ -1,4 +1,6 @@
-"""Reads the MINIX file system, version 1, from its format alone; and takes a disk's image out of a run."""
+"""Reads the MINIX file system, version 1, from its format alone, and puts a file on an empty one; and takes a disk's
+image out of a run."""
+import itertools
 import re
 import struct
 import subprocess
@@ -72,6 +74,39 @@ class Image:
             at = start * BLOCK
             return sum(not self.data[at + bit // 8] >> bit % 8 & 1 for bit in range(1, bits))
         return (clear(2 + self.inode_map, self.zones - self.first_zone + 1), clear(2, self.inodes + 1))
+
+
+def with_file(data, name, content):
+    """A disk on which `mkfs.minix` has made a file system, with one file more, which is its first."""
+    image, disk = Image(data), bytearray(data)
+    zones = itertools.count(image.first_zone + 1)  # the root has the first one
+
+    def put(part):
+        zone = next(zones)
+        disk[zone * BLOCK:zone * BLOCK + len(part)] = part
+        set_bit(disk, 2 + image.inode_map, zone - image.first_zone + 1)
+        return zone
+
+    def put_all(parts):
+        return [put(parts[at:at + BLOCK]) for at in range(0, len(parts), BLOCK)]
+
+    def put_numbers(numbers):
+        return put_all(struct.pack(f"<{len(numbers)}H", *numbers))
+
+    parts = put_all(content)
+    (indirect, *_), (double, *_) = put_numbers(parts[7:519]) or [0], put_numbers(put_numbers(parts[519:])) or [0]
+    table = (2 + image.inode_map + image.zone_map) * BLOCK
+    struct.pack_into("<HHIIBB9H", disk, table + 32 * ROOT, 0o100644, 0, len(content), 0, 0, 1,
+                     *(parts[:7] + [0] * 7)[:7], indirect, double)
+    set_bit(disk, 2, ROOT + 1)
+    _, size, _, (first, *_) = image.inode(ROOT)
+    struct.pack_into("<H14s", disk, first * BLOCK + size, ROOT + 1, name.encode())
+    struct.pack_into("<I", disk, table + 4, size + 16)
+    return bytes(disk)
+
+
+def set_bit(disk, block, bit):
+    disk[block * BLOCK + bit // 8] |= 1 << bit % 8
 
 
 def as_script(history):

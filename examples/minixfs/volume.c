@@ -4,6 +4,7 @@
 
 #define BITS_PER_BLOCK (8 * BLOCK_SIZE)
 #define INODE_MAP (SUPERBLOCK + 1)      /* the first block of the bitmap of inodes */
+#define FULL ((char)0xff)               /* a byte of a bitmap without a clear bit */
 
 void *memcpy(void *to, const void *from, size_t count);
 void *memset(void *to, int byte, size_t count);
@@ -71,7 +72,9 @@ static int take_bit(uint32_t map, uint32_t bits)
                 return result;
         }
         char *byte = &buffer->bytes[bit % BITS_PER_BLOCK / 8];
-        if (!(*byte & 1 << bit % 8)) {
+        if (*byte == FULL) {
+            bit |= 7;           /* the last one of the byte */
+        } else if (!(*byte & 1 << bit % 8)) {
             *byte |= 1 << bit % 8;
             result = put_block(buffer);
             return result == OK ? (int)bit : result;

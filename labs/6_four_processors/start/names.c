@@ -1,0 +1,14 @@
+/* The name server. It knows no request. */
+#include "mx.h"
+#include "services.h"
+
+int main(void)
+{
+    message m;
+
+    while (receive(ANY, &m) == OK) {
+        m.m_type = EBADREQUEST;
+        send(m.m_source, &m);
+    }
+    return 1;
+}

@@ -1,0 +1,28 @@
+/* A producer: it makes the items 1 to 12, one after the other, and puts each into the queue. */
+#include "mx.h"
+#include "services.h"
+
+#define ITEMS 12
+#define WORK 2000               /* rounds, to make an item */
+
+static volatile uint32_t made;
+
+int main(void)
+{
+    message m = {.m_type = LOOKUP, .p = {NAME_QUEUE}};
+    int queue, item, i;
+
+    if (sendrec(NAMES_SLOT, &m) != OK || m.m_type != OK)
+        return 1;
+    queue = m.p[0];
+    for (item = 1; item <= ITEMS; item++) {
+        for (i = 0; i < WORK; i++)
+            made++;
+        m.m_type = PUT;
+        m.p[0] = item;
+        if (sendrec(queue, &m) != OK || m.m_type != OK)
+            return 1;
+    }
+    m.m_type = END;
+    return sendrec(queue, &m) != OK;
+}

@@ -1,0 +1,45 @@
+/* A consumer that asks whether an item is there until one is. It reports what it had and what that cost. */
+#include "mx.h"
+#include "services.h"
+
+static int ask(int to, int type, int word, message *m)
+{
+    int result;
+
+    m->m_type = type;
+    m->p[0] = word;
+    result = sendrec(to, m);
+    return result == OK ? m->m_type : result;
+}
+
+/* The next item in the message: OK, or ENDED. */
+static int next(int queue, message *m)
+{
+    for (;;) {
+        int result = ask(queue, TRY, 0, m);
+
+        if (result != NOTHING)
+            return result;
+    }
+}
+
+int main(void)
+{
+    uint32_t items = 0, sum = 0, uptime;
+    uint64_t steps;
+    message m;
+    int queue, judge;
+
+    ask(NAMES_SLOT, LOOKUP, NAME_QUEUE, &m);
+    queue = m.p[0];
+    while (next(queue, &m) == OK) {
+        items++;
+        sum += m.p[0];
+    }
+    ask(NAMES_SLOT, LOOKUP, NAME_JUDGE, &m);
+    judge = m.p[0];
+    sys_times(&uptime, &steps);
+    m.p[1] = sum;
+    m.p[2] = steps;
+    return ask(judge, REPORT, items, &m);
+}
