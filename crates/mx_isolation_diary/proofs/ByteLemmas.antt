@@ -41,7 +41,8 @@ use Rattle.mx_machine_world.specs.Sound.{IsSound}
 use Rattle.mx_machine_world.specs.World.{World}
 use Rattle.mx_isolation_diary.specs.Diary.{Item, images, play}
 use Rattle.mx_isolation_diary.specs.Diary.Item.{Ran, Result, Message, Copy}
-use Rattle.mx_isolation_diary.specs.Diaries.{diary, diary_of_step, image_now, image_or, IsNoRespawnOf}
+use Rattle.mx_isolation_diary.proofs.DiaryLemmas.{image_or}
+use Rattle.mx_isolation_diary.specs.Diaries.{diary, diary_of_step, image_now, IsNoRespawnOf}
 use Rattle.mx_isolation_diary.specs.Entries.{AreEntries, byte_of, caller_in, copy_in, CopyMade, IsEntry, IsOfCopy, IsOfOthers, MissesSlot, registers_and_code}
 use Rattle.mx_isolation_diary.specs.Laws.{LeavesImage}
 use Rattle.mx_isolation_diary.proofs.DiaryMoves.{event_law, image_in}

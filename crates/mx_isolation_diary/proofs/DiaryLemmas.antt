@@ -1,5 +1,6 @@
 -- What each call does to the images of a table is what it writes down.
-use Rattle.std.proofs.Common.{◌≡◌, ◌∙◌, ℕ, zero, suc, ◌<◌, Bool, true, false, cond, List, [], ◌∷◌, ◌++◌, length, map, Option, Some, None, refl, sym, ap, subst, get_or, slice_set, nat_lt, get_or-set_same, get_or-set_other, length-set, inl, inr, arith}
+use Rattle.std.proofs.Common.{◌≡◌, ◌∙◌, ℕ, zero, suc, ◌<◌, ◌==◌, Bool, true, false, cond, List, [], ◌∷◌, ◌++◌, length, map, Option, Some, None, refl, sym, ap, subst, get_or, slice_set, nat_lt, get_or-set_same, get_or-set_other, length-set, inl, inr, arith}
+use Rattle.std.specs.Option.{unwrap_or}
 use Rattle.std.proofs.lemmas.Bool.{cases_eq, eq-eqb, ne_eqb}
 use Rattle.mx_exec.specs.declared.image.Image.{Image}
 use Rattle.mx_exec.specs.Image.{blank}
@@ -16,9 +17,26 @@ use Rattle.mx_proc.specs.TableState.{TableState, nobody, process_at, with_proces
 use Rattle.mx_kcall.specs.Queueing.{table_after_queueing}
 use Rattle.mx_kcall.specs.Calls.{goes_on, accepts, hears, table_after_send, table_after_notifying, table_after_release, table_after_taking_from}
 use Rattle.mx_kcall.specs.Death.{table_after_taking_out, table_after_freeing, table_after_freeing_all, waiting_for, table_after_death}
+use Rattle.mx_machine_world.specs.World.{HeldProcess}
+use Rattle.mx_isolation_diary.specs.Diaries.{image_held_in}
 use Rattle.mx_isolation_diary.specs.Diary.{Item, image_after_item, play, play_all, items_for, image_of, images}
 use Rattle.mx_isolation_diary.specs.Items.{items_of_send, bytes_of_notice, items_of_notifying, items_of_release, items_of_taking, items_of_freeing}
 use Rattle.mx_isolation_diary.specs.Diary.Item.{Result, Message}
+
+-- ---- where an image is
+
+-- the held one, or else this
+abbrev pub image_or : Image → Option Image → Image
+image_or m held = unwrap_or held m
+
+-- what one processor holds of slot s, or else the rest
+abbrev pub image_held_by : ℕ → Option HeldProcess → Option Image → Option Image
+image_held_by s None rest = rest
+image_held_by s (Some l) rest = cond (l.slot == s) (Some l.out.image) rest
+
+pub held_first : (s : ℕ) (x : Option HeldProcess) (xs : List (Option HeldProcess)) → image_held_in s (x ∷ xs) ≡ image_held_by s x (image_held_in s xs)
+held_first s None xs = refl
+held_first s (Some l) xs = refl
 
 -- ---- lists of images
 

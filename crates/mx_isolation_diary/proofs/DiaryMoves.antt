@@ -22,8 +22,8 @@ use Rattle.mx_machine_world.specs.World.{World, HeldProcess, held_by, free_recor
 use Rattle.mx_isolation_diary.specs.Diary.{Item, play, play_all, items_for, images}
 use Rattle.mx_isolation_diary.specs.Items.{items_of_notifying, items_of_end_of_turn}
 use Rattle.mx_isolation_diary.specs.Diary.Item.{Ran}
-use Rattle.mx_isolation_diary.specs.Diaries.{image_held_by, image_held_in, image_or, image_now, items_of_rings, items_of_line, items_of_kill, items_of_event, unless_held, diary_of_step, diary_of_back, diary, IsNoRespawnOf}
-use Rattle.mx_isolation_diary.proofs.DiaryLemmas.{get_or-images, images-kept, images-set, play_all-append, play_all-at, by_case, notifying_images, death_images}
+use Rattle.mx_isolation_diary.specs.Diaries.{image_held_in, image_now, items_of_rings, items_of_line, items_of_kill, items_of_event, unless_held, diary_of_step, diary_of_back, diary, IsNoRespawnOf}
+use Rattle.mx_isolation_diary.proofs.DiaryLemmas.{image_held_by, image_or, held_first, get_or-images, images-kept, images-set, play_all-append, play_all-at, by_case, notifying_images, death_images}
 use Rattle.mx_isolation_diary.proofs.ItemLemmas.{end_of_turn_images}
 
 -- What processors hold is held once, and who is first to run isn't held.
@@ -44,18 +44,18 @@ skipped s (Some l) rest n = rw (ne_eqb l.slot s n) refl
 -- another slot's
 held_other : (s : ℕ) (xs : List (Option HeldProcess)) (a : ℕ) (x : Option HeldProcess) → Skips s (get_or xs a None) → Skips s x → image_held_in s (slice_set xs a x) ≡ image_held_in s xs
 held_other s [] a x m n = refl
-held_other s (y ∷ ys) zero x m n = skipped s x (image_held_in s ys) n ∙ sym (skipped s y (image_held_in s ys) m)
-held_other s (y ∷ ys) (suc a) x m n = ap (image_held_by s y) (held_other s ys a x m n)
+held_other s (y ∷ ys) zero x m n = held_first s x ys ∙ skipped s x (image_held_in s ys) n ∙ sym (skipped s y (image_held_in s ys) m) ∙ sym (held_first s y ys)
+held_other s (y ∷ ys) (suc a) x m n = held_first s y (slice_set ys a x) ∙ ap (image_held_by s y) (held_other s ys a x m n) ∙ sym (held_first s y ys)
 
 none_held : (s : ℕ) (xs : List (Option HeldProcess)) → ((b : ℕ) → Skips s (get_or xs b None)) → image_held_in s xs ≡ None
 none_held s [] f = refl
-none_held s (y ∷ ys) f = skipped s y (image_held_in s ys) (f zero) ∙ none_held s ys (λ b. f (suc b))
+none_held s (y ∷ ys) f = held_first s y ys ∙ skipped s y (image_held_in s ys) (f zero) ∙ none_held s ys (λ b. f (suc b))
 
 -- its own, where no other processor holds it
 held_own : (s : ℕ) (xs : List (Option HeldProcess)) (a : ℕ) (x : Option HeldProcess) → a < length xs → ((b : ℕ) → b ≢ a → Skips s (get_or xs b None)) → image_held_in s (slice_set xs a x) ≡ image_held_by s x None
 held_own s [] a x lt f = absurd (omega (arith, lt))
-held_own s (y ∷ ys) zero x lt f = ap (image_held_by s x) (none_held s ys (λ b. f (suc b) (λ e. cc)))
-held_own s (y ∷ ys) (suc a) x lt f = skipped s y (image_held_in s (slice_set ys a x)) (f zero (λ e. cc)) ∙ held_own s ys a x (omega arith) (λ b n. f (suc b) (λ e. n (omega arith)))
+held_own s (y ∷ ys) zero x lt f = held_first s x ys ∙ ap (image_held_by s x) (none_held s ys (λ b. f (suc b) (λ e. cc)))
+held_own s (y ∷ ys) (suc a) x lt f = held_first s y (slice_set ys a x) ∙ skipped s y (image_held_in s (slice_set ys a x)) (f zero (λ e. cc)) ∙ held_own s ys a x (omega arith) (λ b n. f (suc b) (λ e. n (omega arith)))
 
 set-own : {X : Type 0} (xs : List X) (i : ℕ) (d y : X) → get_or xs i d ≡ y → slice_set xs i y ≡ xs
 set-own [] i d y e = refl
@@ -81,7 +81,7 @@ skips_others w a l h e b n = by_held (held_by w b) refl
 take_own : (p : ℕ) (xs : List (Option HeldProcess)) (a : ℕ) (l : HeldProcess) → a < length xs → l.slot ≡ p → image_held_in p xs ≡ None → get_or xs a None ≡ None → image_held_in p (slice_set xs a (Some l)) ≡ Some l.out.image
 take_own p [] a l lt e f g = absurd (omega (arith, lt))
 take_own p (y ∷ ys) zero l lt e f g = rw (eq-eqb l.slot p e) refl
-take_own p (y ∷ ys) (suc a) l lt e f g = let k = not_first y f in k.0 (image_held_in p (slice_set ys a (Some l))) ∙ take_own p ys a l (omega arith) e k.1 g
+take_own p (y ∷ ys) (suc a) l lt e f g = let k = not_first y (sym (held_first p y ys) ∙ f) in held_first p y (slice_set ys a (Some l)) ∙ k.0 (image_held_in p (slice_set ys a (Some l))) ∙ take_own p ys a l (omega arith) e k.1 g
   where
     not_first : (y : Option HeldProcess) → image_held_by p y (image_held_in p ys) ≡ None → ((rest : Option Image) → image_held_by p y rest ≡ rest) × (image_held_in p ys ≡ None)
     not_first None f = (λ rest. refl, f)

@@ -20,15 +20,16 @@ use Rattle.mx_machine_world.specs.declared.events.Refusal.{Refusal}
 use Rattle.mx_machine_world.specs.Boot.{first_process, first_table, world_at_boot, world_at_boot_with}
 use Rattle.mx_machine_world.specs.declared.events.Refusal.TheVariants.{NotDown, Worn}
 use Rattle.mx_machine_world.specs.Move.{event_refusal, if_full, move, move_by, moves, respawn_refusal, world_after_event, world_after_step, world_after_take, world_after_back, world_after_line, world_after_respawn}
+use Rattle.mx_machine_world.specs.History.{BootAndHistory, events_of_history, replay}
 use Rattle.mx_machine_world.specs.Sound.{IsSound}
 use Rattle.mx_machine_world.specs.World.{World, HeldProcess, free_records, held_by}
 use Rattle.mx_proc.specs.Queues.{first_ready}
 use Rattle.mx_kcall.specs.Refusals.{owner_of}
 use Rattle.mx_machine.specs.Machine.{AreSound}
 use Rattle.mx_isolation_diary.specs.Diary.{Item, image_after_item, image_of, images, play}
-use Rattle.mx_isolation_diary.specs.Diaries.{diary, image_held_in, image_now, image_or, IsNoRespawnOf}
-use Rattle.mx_isolation_diary.specs.Runs.{AreNoRespawnsOf, written_down, diary_along, diary_with, diary_after, diary_of_life, generation_diary, image_of_life, IsLife, Life}
-use Rattle.mx_isolation_diary.proofs.DiaryLemmas.{images-set}
+use Rattle.mx_isolation_diary.specs.Diaries.{diary, image_held_in, image_now, IsNoRespawnOf}
+use Rattle.mx_isolation_diary.specs.Runs.{AreNoRespawnsOf, written_down, diary_along, diary_with, diary_after, diary_of_life, generation_diary, image_of_life, IsLife, Life, life_of}
+use Rattle.mx_isolation_diary.proofs.DiaryLemmas.{image_or, images-set}
 use Rattle.mx_isolation_diary.proofs.DiaryMoves.{event_law}
 use Rattle.mx_isolation_diary.proofs.SoundDiaries.{held_once, not_held}
 
@@ -235,3 +236,28 @@ begins_again w a s v xs h f e sound = record {
   begins = respawn_law w a s v h f e;
   sound = sound;
 }
+
+-- ---- kernels
+
+-- What is known of a kernel's history.
+pub record IsRunFromBoot (k : BootAndHistory) : Type 0 where
+  pub booted : k.boot ≡ world_at_boot_with k.boot.table.rules k.boot.services (length k.boot.cpus) k.boot.others k.boot.capacity
+  pub sound : AreSound k.boot (events_of_history k.history)
+  pub leads : (moves k.boot (events_of_history k.history)).1 ≡ replay k
+
+pub kernel_life : (k : BootAndHistory) (s : ℕ) (v : Service) → IsRunFromBoot k → slice_get k.boot.services s ≡ Some v → IsLife (life_of k s v)
+kernel_life k s v h e = record {
+  service = e;
+  begins = ap (λ w. image_now w s) h.booted ∙ boot_law k.boot.table.rules k.boot.services (length k.boot.cpus) k.boot.others k.boot.capacity s v e;
+  sound = h.sound;
+}
+
+pub kernel_law : (k : BootAndHistory) (s : ℕ) (v : Service) → IsRunFromBoot k → slice_get k.boot.services s ≡ Some v → image_now (replay k) s ≡ play (diary_of_life (life_of k s v)) (image_of_program v.program)
+kernel_law k s v h e = ap (λ w. image_now w s) (sym h.leads) ∙ life_law (life_of k s v) (kernel_life k s v h e)
+
+pub kernels_agree : (k n : BootAndHistory) (s t : ℕ) (v u : Service) → IsRunFromBoot k → IsRunFromBoot n → slice_get k.boot.services s ≡ Some v → slice_get n.boot.services t ≡ Some u
+    → v.program ≡ u.program → diary_of_life (life_of k s v) ≡ diary_of_life (life_of n t u) → image_now (replay k) s ≡ image_now (replay n) t
+kernels_agree k n s t v u h g e f p d =
+    ap (λ w. image_now w s) (sym h.leads)
+    ∙ lives_agree (life_of k s v) (life_of n t u) (kernel_life k s v h e) (kernel_life n t u g f) p d
+    ∙ ap (λ w. image_now w t) g.leads

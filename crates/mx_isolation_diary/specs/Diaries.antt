@@ -1,5 +1,6 @@
 -- The image of a slot, at home or on a processor, and its diary over one event.
 use Rattle.std.specs.Prelude.{◌≢◌, ℕ, ◌==◌, ◌++◌, List, [], ◌∷◌, Option, Some, None, slice_index_or, if◌then◌else◌}
+use Rattle.std.specs.Option.{unwrap_or}
 use Rattle.mx_exec.specs.declared.image.Image.{Image}
 use Rattle.mx_exec.specs.Image.{blank}
 use Rattle.mx_proc.specs.declared.process.Source.TheVariants.{Hardware, Clock}
@@ -19,24 +20,15 @@ use Rattle.mx_isolation_diary.specs.Diary.Item.{Ran}
 
 -- ---- where an image is
 
--- what a processor holds of slot s, or else the rest
-abbrev pub image_held_by : ℕ → Option HeldProcess → Option Image → Option Image
-image_held_by s None rest = rest
-image_held_by s (Some l) rest = if l.slot == s then Some l.out.image else rest
-
--- what the first processor that holds a slot has
+-- the image of slot s on the first processor that holds its process, if one does
 abbrev pub image_held_in : ℕ → List (Option HeldProcess) → Option Image
 image_held_in s [] = None
-image_held_in s (x ∷ xs) = image_held_by s x (image_held_in s xs)
+image_held_in s (None ∷ xs) = image_held_in s xs
+image_held_in s (Some l ∷ xs) = if l.slot == s then Some l.out.image else image_held_in s xs
 
--- the held one, or else this
-abbrev pub image_or : Image → Option Image → Image
-image_or m None = m
-image_or m (Some k) = k
-
--- THE IMAGE of a slot
+-- THE IMAGE of a slot: on a processor, or else at home
 abbrev pub image_now : World → ℕ → Image
-image_now w s = image_or (slice_index_or (images w.table) s blank) (image_held_in s w.cpus)
+image_now w s = unwrap_or (image_held_in s w.cpus) (slice_index_or (images w.table) s blank)
 
 -- ---- what an event writes down
 

@@ -9,6 +9,7 @@ use Rattle.mx_machine_world.specs.declared.config.Config.{Config}
 use Rattle.mx_machine_world.specs.declared.events.Event.{Event}
 use Rattle.mx_machine_world.specs.declared.events.Event.TheVariants.{Step, Respawn}
 use Rattle.mx_machine_world.specs.Boot.{world_at_boot}
+use Rattle.mx_machine_world.specs.History.{BootAndHistory, replay}
 use Rattle.mx_machine_world.specs.Move.{event_refusal, moves, world_after_event}
 use Rattle.mx_machine_world.specs.Sound.{IsSound}
 use Rattle.mx_machine_world.specs.World.{World}
@@ -16,7 +17,7 @@ use Rattle.mx_machine.specs.Machine.{AreSound}
 use Rattle.mx_isolation_diary.specs.Diary.{play}
 use Rattle.mx_isolation_diary.specs.Diaries.{diary, image_now, IsNoRespawnOf}
 use Rattle.mx_isolation_diary.specs.Entries.{AreEntries, byte_of, caller_in, copy_in, CopyMade, IsInBuffer, IsInCopy, IsOpenToWriting, IsThroughWindows, IsOfOthers, MissesSlot, registers_and_code}
-use Rattle.mx_isolation_diary.specs.Runs.{AreNoRespawnsOf, diary_along, IsLife, Life, diary_of_life, image_of_life}
+use Rattle.mx_isolation_diary.specs.Runs.{AreNoRespawnsOf, diary_along, IsLife, Life, diary_of_life, image_of_life, life_of}
 
 -- A slot of a sound machine, which has a service.
 pub record IsSlot (w : World) (s : ℕ) : Type 0 where
@@ -58,6 +59,18 @@ LifeBeginsAgain w a s v xs = let u = world_after_event w a (Respawn s) in event_
 -- two lives, on any machines and in any slots, that agree on program and diary end with equal images
 abbrev pub LivesAgree : Life → Life → Type 0
 LivesAgree x y = x.service.program ≡ y.service.program → diary_of_life x ≡ diary_of_life y → image_of_life x ≡ image_of_life y
+
+-- ---- kernels: each history of one is such a run
+
+-- the image of a kernel's slot is the program of its service with the diary of its generation played on it
+abbrev pub KernelTellsImage : BootAndHistory → ℕ → Service → Type 0
+KernelTellsImage k s v = slice_get k.boot.services s ≡ Some v → image_now (replay k) s ≡ play (diary_of_life (life_of k s v)) (image_of_program v.program)
+
+-- two slots, of any two kernels, that agree on program and diary have equal images
+abbrev pub KernelsAgree : BootAndHistory → BootAndHistory → ℕ → ℕ → Service → Service → Type 0
+KernelsAgree k n s t v u =
+    slice_get k.boot.services s ≡ Some v → slice_get n.boot.services t ≡ Some u → v.program ≡ u.program
+    → diary_of_life (life_of k s v) ≡ diary_of_life (life_of n t u) → image_now (replay k) s ≡ image_now (replay n) t
 
 -- ---- what a diary holds
 

@@ -6,6 +6,7 @@ use Rattle.mx_kcall.specs.Service.{Service}
 use Rattle.mx_machine_world.specs.declared.events.Event.{Event}
 use Rattle.mx_machine_world.specs.declared.events.Event.TheVariants.{Respawn}
 use Rattle.mx_machine_world.specs.declared.events.Refusal.{Refusal}
+use Rattle.mx_machine_world.specs.History.{BootAndHistory, events_of_history}
 use Rattle.mx_machine_world.specs.Move.{event_refusal, move, moves}
 use Rattle.mx_machine_world.specs.World.{World}
 use Rattle.mx_machine.specs.Machine.{AreSound}
@@ -66,3 +67,7 @@ pub record IsLife (x : Life) : Type 0 where
   pub service : slice_get x.world.services x.slot ≡ Some x.service
   pub begins : image_now x.world x.slot ≡ play x.before (image_of_program x.service.program)
   pub sound : AreSound x.world x.events
+
+-- the life of a slot of a kernel, from the boot on through all of its history
+abbrev pub life_of : BootAndHistory → ℕ → Service → Life
+life_of k s v = record { world = k.boot; slot = s; service = v; before = []; events = events_of_history k.history }

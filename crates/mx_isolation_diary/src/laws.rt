@@ -7,8 +7,10 @@ ghost use Rattle.mx_machine_world.specs.declared.config.Config.{Config};
 ghost use Rattle.mx_machine_world.specs.declared.events.Event.{Event};
 ghost use Rattle.mx_machine_world.specs.World.{World};
 ghost use Rattle.mx_isolation_diary.specs.Entries.{CopyMade};
-ghost use Rattle.mx_isolation_diary.specs.Laws.{BootLoads, CopyIsThroughWindows, CopyIsWhole, HasEntries, IsSlot, IsWritten, LifeBeginsAgain, LifeBeginsAtBoot, LifeIsWritten, LivesAgree, OthersLeaveImage, RespawnLoads, RunIsWritten};
+ghost use Rattle.mx_isolation_diary.specs.Laws.{BootLoads, CopyIsThroughWindows, CopyIsWhole, HasEntries, IsSlot, IsWritten, KernelTellsImage, KernelsAgree, LifeBeginsAgain, LifeBeginsAtBoot, LifeIsWritten, LivesAgree, OthersLeaveImage, RespawnLoads, RunIsWritten};
 ghost use Rattle.mx_isolation_diary.specs.Runs.{IsLife, Life};
+
+use mx_machine::{Kernel, histories_replay};
 
 /// Law: an accepted event does to the image of a slot, at home or on a processor, what the slot's
 /// diary over it says. At boot and after a respawn the image is the service's program, loaded.
@@ -34,6 +36,25 @@ pub fn lives_tell_images()
     ensures respawn { (w : World) (a s : ℕ) (v : Service) (xs : List (ℕ × Event)) → IsSlot w s
         → LifeBeginsAgain w a s v xs }
 {}
+
+/// Law: the image of each slot of a kernel, at home or on a processor, is its service's program with the
+/// diary of its generation played on it. Nothing is asked of the kernel: each event of its history found a
+/// sound machine.
+pub fn kernels_tell_images(kernel: &Kernel)
+    ensures { (s : ℕ) (v : Service) → KernelTellsImage kernel.now s v }
+{
+    kernel.opened();
+    histories_replay();
+}
+
+/// Law: so two processes of any two kernels that agree on program and diary have equal images.
+pub fn kernels_agree(first: &Kernel, second: &Kernel)
+    ensures { (s t : ℕ) (v u : Service) → KernelsAgree first.now second.now s t v u }
+{
+    first.opened();
+    second.opened();
+    histories_replay();
+}
 
 /// Law: a diary holds the steps of its own process, results and messages of calls that it made or
 /// waited in, and bytes of copies that were not refused: those of the copy, as many as it counts.

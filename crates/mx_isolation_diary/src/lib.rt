@@ -5,5 +5,5 @@ mod laws;
 
 pub use laws::{
     copies_go_through_windows, diaries_have_entries, diaries_tell_images, diaries_tell_runs,
-    lives_tell_images, others_leave_images,
+    kernels_agree, kernels_tell_images, lives_tell_images, others_leave_images,
 };

@@ -27,7 +27,7 @@ use Rattle.mx_ipc.specs.declared.calls.Party.TheVariants.{Any, Hardware, Clock, 
 use Rattle.mx_word.specs.Bits.{has_bit}
 use Rattle.mx_ipc.specs.Checks.{call_of, party_of, call_refusal, first_error, call_number, of_party, of_process, out_of_place, to_pseudo, is_notify, is_outside, is_receive, is_send}
 use Rattle.mx_kcall.specs.Calls.{goes_on, accepts, hears, table_after_send, table_after_release, table_after_taking_from, table_after_taking, table_after_receive_by, table_after_receive, table_after_sendrec, table_after_notifying, partner_of, table_after_checked_call, table_after_call_by, table_after_call, call_answer_by, call_answer, table_after_trap_by, trap_answer_by, table_after_trap, trap_answer}
-use Rattle.mx_isolation_secrecy.specs.Twins.{is_slot, Twins}
+use Rattle.mx_isolation_secrecy.proofs.Twins.{is_slot, Twins}
 use Rattle.mx_isolation_secrecy.specs.Senders.{IsNot, sender_of_receive, sender_of_sendrec, sender_of_checked_call, sender_of_call, sender_of_trap}
 use Rattle.mx_isolation_secrecy.proofs.TwinLemmas.{other_slot, all_but_image_at, state_at, other_at, by_test, quiet, state_other, pending_twins, unblock_twins, block_twins, goes_on_twins, message_twins, message_other, endpoint_same, delivery_kept_twins, delivery_twins, delivery_other, slots_of, waits_of, uptime_of}
 

@@ -18,7 +18,7 @@ use Rattle.mx_kcall.specs.Service.{Service}
 use Rattle.mx_kcall.specs.Clock.{table_after_line, is_due, due_slots, table_after_ring, table_after_rings, table_after_tick}
 use Rattle.mx_machine_world.specs.Move.{table_after_sending_out, table_after_coming_home}
 use Rattle.mx_machine_world.specs.World.{HeldProcess}
-use Rattle.mx_isolation_secrecy.specs.Twins.{process_seen, is_slot, Alike, AllAlike, Twins}
+use Rattle.mx_isolation_secrecy.proofs.Twins.{process_seen, is_slot, Alike, AllAlike, Twins}
 use Rattle.mx_isolation_secrecy.proofs.TwinLemmas.{at, put, requeued, all_but_image_at, state_at, by_test, quiet, quiet_alike, unblock_twins, dequeue_twins, goes_on_twins, waits_of, ready_of, uptime_of}
 use Rattle.mx_isolation_secrecy.proofs.CallLemmas.{notifying_twins}
 

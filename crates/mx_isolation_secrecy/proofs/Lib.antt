@@ -1,3 +1,5 @@
+pub mod Twins
+pub mod TwinWorlds
 pub mod TwinLemmas
 pub mod CallLemmas
 pub mod DeathLemmas
@@ -5,3 +7,4 @@ pub mod ServingLemmas
 pub mod MoveLemmas
 pub mod RulesLemmas
 pub mod SoundTwins
+pub mod SameLemmas

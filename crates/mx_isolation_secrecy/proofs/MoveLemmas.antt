@@ -25,8 +25,8 @@ use Rattle.mx_machine_world.specs.declared.events.Refusal.TheVariants.{CpuBusy}
 use Rattle.mx_machine_world.specs.declared.events.Answer.TheVariants.{Taken, Respawned}
 use Rattle.mx_machine_world.specs.Move.{world_after_back, world_after_event, world_after_line, world_after_respawn, world_after_step, world_after_take, back_answer, back_refusal, table_after_coming_home, event_answer, event_refusal, if_full, is_doomed, kill_refusal, table_after_kill, held_at_take, line_refusal, move, move_by, moves, world_with_record, respawn_refusal, table_after_end_of_turn, table_after_back, table_after_sending_out, step_answer, step_refusal, take_answer, take_refusal, table_after_trap_at_back, with_held}
 use Rattle.mx_machine_world.specs.World.{World, HeldProcess, held_by, out_count, free_records}
-use Rattle.mx_isolation_secrecy.specs.Twins.{image_seen, process_seen, is_slot, Twins}
-use Rattle.mx_isolation_secrecy.specs.Same.{held_process_seen, held_seen, SameBut}
+use Rattle.mx_isolation_secrecy.proofs.Twins.{image_seen, process_seen, is_slot, Twins}
+use Rattle.mx_isolation_secrecy.proofs.TwinWorlds.{held_process_seen, held_seen, TwinWorlds}
 use Rattle.mx_isolation_secrecy.specs.Apart.{TrapIsApart, ReturnIsApart, StepIsApart, BackIsApart, IsApart, AreApart}
 use Rattle.mx_isolation_secrecy.proofs.TwinLemmas.{other_slot, at, all_but_image_at, state_at, by_test, state_twins, queueing_twins, endpoint_same, ready_of}
 use Rattle.mx_isolation_secrecy.proofs.CallLemmas.{trap_twins, trap_answer_same}
@@ -50,13 +50,13 @@ out-hidden q [] = refl
 out-hidden q (None ∷ xs) = out-hidden q xs
 out-hidden q (Some x ∷ xs) = ap suc (out-hidden q xs)
 
-pub held_alike : {q : ℕ} {w v : World} → SameBut q w v → (a : ℕ) → held_seen q (held_by w a) ≡ held_seen q (held_by v a)
+pub held_alike : {q : ℕ} {w v : World} → TwinWorlds q w v → (a : ℕ) → held_seen q (held_by w a) ≡ held_seen q (held_by v a)
 held_alike {q} {w} {v} h a = sym (get_or-hidden q w.cpus a) ∙ ap (λ xs. get_or xs a None) h.cpus ∙ get_or-hidden q v.cpus a
 
-cpus_same : {q : ℕ} {w v : World} → SameBut q w v → length w.cpus ≡ length v.cpus
+cpus_same : {q : ℕ} {w v : World} → TwinWorlds q w v → length w.cpus ≡ length v.cpus
 cpus_same {q} {w} {v} h = sym (length-map w.cpus (held_seen q)) ∙ ap (λ (xs : List (Option HeldProcess)). length xs) h.cpus ∙ length-map v.cpus (held_seen q)
 
-free_same : {q : ℕ} {w v : World} → SameBut q w v → free_records w ≡ free_records v
+free_same : {q : ℕ} {w v : World} → TwinWorlds q w v → free_records w ≡ free_records v
 free_same {q} {w} {v} h =
     ap (λ (x : World). x.capacity - (x.records + out_count w.cpus)) h.frame
     ∙ ap (λ n. v.capacity - (v.records + n)) (sym (out-hidden q w.cpus) ∙ ap (λ (xs : List (Option HeldProcess)). out_count xs) h.cpus ∙ out-hidden q v.cpus)
@@ -81,14 +81,14 @@ same_held q (Some l) (Some k) e d =
 
 -- ---- what a machine becomes
 
-with_held_same : {q : ℕ} {w v : World} → SameBut q w v → (a : ℕ) (x y : Option HeldProcess) → held_seen q x ≡ held_seen q y → SameBut q (with_held w a x) (with_held v a y)
+with_held_same : {q : ℕ} {w v : World} → TwinWorlds q w v → (a : ℕ) (x y : Option HeldProcess) → held_seen q x ≡ held_seen q y → TwinWorlds q (with_held w a x) (with_held v a y)
 with_held_same {q} {w} {v} h a x y e = record {
   table = h.table;
   cpus = map-hidden q w.cpus a x ∙ ap (λ xs. slice_set xs a (held_seen q x)) h.cpus ∙ ap (slice_set (map (held_seen q) v.cpus) a) e ∙ sym (map-hidden q v.cpus a y);
   frame = h.frame;
 }
 
-with_record_same : {q : ℕ} {w v : World} → SameBut q w v → (t u : TableState) → Twins q t u → SameBut q (world_with_record w t) (world_with_record v u)
+with_record_same : {q : ℕ} {w v : World} → TwinWorlds q w v → (t u : TableState) → Twins q t u → TwinWorlds q (world_with_record w t) (world_with_record v u)
 with_record_same {q} {w} {v} h t u e = record { table = e; cpus = h.cpus; frame = ap (λ (x : World). let y : World = record x { records = x.records + 1 } in y) h.frame }
 
 -- ---- a return
@@ -111,26 +111,26 @@ back_twins {q} {t} {u} h l m =
 
 -- ---- each event
 
-step_same : {q : ℕ} {w v : World} → SameBut q w v → (a : ℕ) (x : Option HeldProcess) → SameBut q (world_after_step w a x) (world_after_step v a x)
+step_same : {q : ℕ} {w v : World} → TwinWorlds q w v → (a : ℕ) (x : Option HeldProcess) → TwinWorlds q (world_after_step w a x) (world_after_step v a x)
 step_same h a None = h
 step_same h a (Some l) = with_held_same h a _ _ refl
 
 taken_alike : {q : ℕ} {t u : TableState} → Twins q t u → (s : ℕ) → held_seen q (Some (held_at_take t s)) ≡ held_seen q (Some (held_at_take u s))
 taken_alike {q} {t} {u} h s = ap (λ (p : Process). let x : HeldProcess = record { slot = s; out = record { image = p.image; budget = p.ticks; count = 0; stop = Spent; decoded = tt } } in Some x) (at h s).same
 
-take_world_same : {q : ℕ} {w v : World} → SameBut q w v → (a : ℕ) (s : Option ℕ) → SameBut q (world_after_take w a s) (world_after_take v a s)
+take_world_same : {q : ℕ} {w v : World} → TwinWorlds q w v → (a : ℕ) (s : Option ℕ) → TwinWorlds q (world_after_take w a s) (world_after_take v a s)
 take_world_same h a None = h
 take_world_same {q} {w} {v} h a (Some s) = with_held_same (with_record_same h (table_after_sending_out w.table s) (table_after_sending_out v.table s) (sending_out_twins h.table s)) a (Some (held_at_take w.table s)) (Some (held_at_take v.table s)) (taken_alike h.table s)
 
-back_same : {q : ℕ} {w v : World} → SameBut q w v → (a : ℕ) (x : Option HeldProcess) → BackIsApart q w.table x → SameBut q (world_after_back w a x) (world_after_back v a x)
+back_same : {q : ℕ} {w v : World} → TwinWorlds q w v → (a : ℕ) (x : Option HeldProcess) → BackIsApart q w.table x → TwinWorlds q (world_after_back w a x) (world_after_back v a x)
 back_same h a None m = h
 back_same {q} {w} {v} h a (Some l) m = with_held_same (with_record_same h (table_after_back w.table l) (table_after_back v.table l) (back_twins h.table l m)) a None None refl
 
-line_same : {q : ℕ} {w v : World} → SameBut q w v → (l : ℕ) (s : Option ℕ) → SameBut q (world_after_line w l s) (world_after_line v l s)
+line_same : {q : ℕ} {w v : World} → TwinWorlds q w v → (l : ℕ) (s : Option ℕ) → TwinWorlds q (world_after_line w l s) (world_after_line v l s)
 line_same h l None = h
 line_same {q} {w} {v} h l (Some s) = with_record_same h (table_after_line w.table l s) (table_after_line v.table l s) (line_raised_twins h.table l s)
 
-respawn_same : {q : ℕ} {w v : World} → SameBut q w v → (s : ℕ) (x : Option Service) → SameBut q (world_after_respawn w s x) (world_after_respawn v s x)
+respawn_same : {q : ℕ} {w v : World} → TwinWorlds q w v → (s : ℕ) (x : Option Service) → TwinWorlds q (world_after_respawn w s x) (world_after_respawn v s x)
 respawn_same h s None = h
 respawn_same {q} {w} {v} h s (Some x) = with_record_same h (table_after_respawn w.table s x) (table_after_respawn v.table s x) (respawn_twins h.table s x)
 
@@ -138,13 +138,13 @@ kill_twins : {q : ℕ} {t u : TableState} → Twins q t u → (s : ℕ) → Twin
 unfolding table_after_kill
 kill_twins h s = by_test _ _ (ap is_out (state_at h s)) (λ b. state_twins h s Doomed refl) (λ b. death_twins h s cause.Kill)
 
-services_same : {q : ℕ} {w v : World} → SameBut q w v → (s : ℕ) → slice_get w.services s ≡ slice_get v.services s
+services_same : {q : ℕ} {w v : World} → TwinWorlds q w v → (s : ℕ) → slice_get w.services s ≡ slice_get v.services s
 services_same h s = ap (λ (x : World). slice_get x.services s) h.frame
 
-first_same : {q : ℕ} {w v : World} → SameBut q w v → first_ready w.table.ready ≡ first_ready v.table.ready
+first_same : {q : ℕ} {w v : World} → TwinWorlds q w v → first_ready w.table.ready ≡ first_ready v.table.ready
 first_same h = ap first_ready (ready_of h.table)
 
-owner_same : {q : ℕ} {w v : World} → SameBut q w v → (l : ℕ) → owner_of w.table l ≡ owner_of v.table l
+owner_same : {q : ℕ} {w v : World} → TwinWorlds q w v → (l : ℕ) → owner_of w.table l ≡ owner_of v.table l
 owner_same h l = ap (λ (x : TableState). owner_of x l) h.table.rest
 
 back_step : (q : ℕ) (t : TableState) (x : Option HeldProcess) → BackIsApart q t x → StepIsApart q x
@@ -152,15 +152,15 @@ back_step q t None m = tt
 back_step q t (Some l) m = m.0
 
 -- THE WORLD after an event
-pub world_same : {q : ℕ} {w v : World} → SameBut q w v → (a : ℕ) (e : Event) → IsApart q w a e → SameBut q (world_after_event w a e) (world_after_event v a e)
+pub world_same : {q : ℕ} {w v : World} → TwinWorlds q w v → (a : ℕ) (e : Event) → IsApart q w a e → TwinWorlds q (world_after_event w a e) (world_after_event v a e)
 unfolding world_after_event
-world_same {q} {w} {v} h a Step m = subst (λ x. SameBut q (world_after_step w a (held_by w a)) (world_after_step v a x)) (same_held q (held_by w a) (held_by v a) (held_alike h a) m) (step_same h a (held_by w a))
-world_same {q} {w} {v} h a Take m = subst (λ x. SameBut q (world_after_take w a (first_ready w.table.ready)) (world_after_take v a x)) (first_same h) (take_world_same h a (first_ready w.table.ready))
-world_same {q} {w} {v} h a Back m = subst (λ x. SameBut q (world_after_back w a (held_by w a)) (world_after_back v a x)) (same_held q (held_by w a) (held_by v a) (held_alike h a) (back_step q w.table (held_by w a) m)) (back_same h a (held_by w a) m)
-world_same {q} {w} {v} h a (Line l) m = subst (λ x. SameBut q (world_after_line w l (owner_of w.table l)) (world_after_line v l x)) (owner_same h l) (line_same h l (owner_of w.table l))
+world_same {q} {w} {v} h a Step m = subst (λ x. TwinWorlds q (world_after_step w a (held_by w a)) (world_after_step v a x)) (same_held q (held_by w a) (held_by v a) (held_alike h a) m) (step_same h a (held_by w a))
+world_same {q} {w} {v} h a Take m = subst (λ x. TwinWorlds q (world_after_take w a (first_ready w.table.ready)) (world_after_take v a x)) (first_same h) (take_world_same h a (first_ready w.table.ready))
+world_same {q} {w} {v} h a Back m = subst (λ x. TwinWorlds q (world_after_back w a (held_by w a)) (world_after_back v a x)) (same_held q (held_by w a) (held_by v a) (held_alike h a) (back_step q w.table (held_by w a) m)) (back_same h a (held_by w a) m)
+world_same {q} {w} {v} h a (Line l) m = subst (λ x. TwinWorlds q (world_after_line w l (owner_of w.table l)) (world_after_line v l x)) (owner_same h l) (line_same h l (owner_of w.table l))
 world_same {q} {w} {v} h a Tick m = with_record_same h _ _ (tick_twins h.table)
 world_same {q} {w} {v} h a (Kill e) m = with_record_same h _ _ (kill_twins h.table (e % 1024))
-world_same {q} {w} {v} h a (Respawn s) m = subst (λ x. SameBut q (world_after_respawn w s (slice_get w.services s)) (world_after_respawn v s x)) (services_same h s) (respawn_same h s (slice_get w.services s))
+world_same {q} {w} {v} h a (Respawn s) m = subst (λ x. TwinWorlds q (world_after_respawn w s (slice_get w.services s)) (world_after_respawn v s x)) (services_same h s) (respawn_same h s (slice_get w.services s))
 
 -- ---- answers and refusals
 
@@ -177,7 +177,7 @@ take_hidden q n None None = refl
 take_hidden q n None (Some s) = refl
 take_hidden q n (Some l) s = refl
 
-take_same : {q : ℕ} {w v : World} → SameBut q w v → (a : ℕ) → take_refusal (free_records w) (held_by w a) (first_ready w.table.ready) ≡ take_refusal (free_records v) (held_by v a) (first_ready v.table.ready)
+take_same : {q : ℕ} {w v : World} → TwinWorlds q w v → (a : ℕ) → take_refusal (free_records w) (held_by w a) (first_ready w.table.ready) ≡ take_refusal (free_records v) (held_by v a) (first_ready v.table.ready)
 take_same {q} {w} {v} h a =
     sym (take_hidden q (free_records w) (held_by w a) (first_ready w.table.ready))
     ∙ ap (λ x. take_refusal (free_records w) x (first_ready w.table.ready)) (held_alike h a)
@@ -189,7 +189,7 @@ respawn_read : (n : ℕ) (p : Process) (x : Option Service) → respawn_refusal 
 respawn_read n p None = refl
 respawn_read n p (Some x) = refl
 
-pub refusal_same : {q : ℕ} {w v : World} → SameBut q w v → (a : ℕ) (e : Event) → event_refusal w a e ≡ event_refusal v a e
+pub refusal_same : {q : ℕ} {w v : World} → TwinWorlds q w v → (a : ℕ) (e : Event) → event_refusal w a e ≡ event_refusal v a e
 unfolding event_refusal
 refusal_same {q} {w} {v} h a Step = sym (step_hidden q (held_by w a)) ∙ ap step_refusal (held_alike h a) ∙ step_hidden q (held_by v a)
 refusal_same {q} {w} {v} h a Take =
@@ -214,7 +214,7 @@ take_answer_same : {q : ℕ} {t u : TableState} → Twins q t u → (s : Option 
 take_answer_same h None = refl
 take_answer_same {q} {t} {u} h (Some s) = ap (λ e. Taken e (process_at t s).ticks) (endpoint_same h s) ∙ ap (λ (p : Process). Taken (endpoint_of u s) p.ticks) (all_but_image_at h s)
 
-pub answer_same : {q : ℕ} {w v : World} → SameBut q w v → (a : ℕ) (e : Event) → IsApart q w a e → event_answer w a e ≡ event_answer v a e
+pub answer_same : {q : ℕ} {w v : World} → TwinWorlds q w v → (a : ℕ) (e : Event) → IsApart q w a e → event_answer w a e ≡ event_answer v a e
 unfolding event_answer
 answer_same {q} {w} {v} h a Step m = ap step_answer (same_held q (held_by w a) (held_by v a) (held_alike h a) m)
 answer_same {q} {w} {v} h a Take m = take_answer_same h.table (first_ready w.table.ready) ∙ ap (take_answer v.table) (first_same h)
@@ -226,15 +226,15 @@ answer_same h a (Respawn s) m = ap (λ (p : Process). Respawned ((p.generation +
 
 -- ---- events that may be refused
 
-move_by_same : {q : ℕ} {w v : World} → SameBut q w v → (a : ℕ) (e : Event) (r : Option Refusal) → IsApart q w a e → ((move_by w a e r).0 ≡ (move_by v a e r).0) × SameBut q (move_by w a e r).1 (move_by v a e r).1
+move_by_same : {q : ℕ} {w v : World} → TwinWorlds q w v → (a : ℕ) (e : Event) (r : Option Refusal) → IsApart q w a e → ((move_by w a e r).0 ≡ (move_by v a e r).0) × TwinWorlds q (move_by w a e r).1 (move_by v a e r).1
 move_by_same h a e (Some r) m = (refl, h)
 move_by_same h a e None m = (ap Ok (answer_same h a e m), world_same h a e m)
 
-pub move_same : {q : ℕ} {w v : World} → SameBut q w v → (a : ℕ) (e : Event) → IsApart q w a e → ((move w a e).0 ≡ (move v a e).0) × SameBut q (move w a e).1 (move v a e).1
+pub move_same : {q : ℕ} {w v : World} → TwinWorlds q w v → (a : ℕ) (e : Event) → IsApart q w a e → ((move w a e).0 ≡ (move v a e).0) × TwinWorlds q (move w a e).1 (move v a e).1
 unfolding move
-move_same {q} {w} {v} h a e m = subst (λ r. ((move_by w a e (event_refusal w a e)).0 ≡ (move_by v a e r).0) × SameBut q (move_by w a e (event_refusal w a e)).1 (move_by v a e r).1) (refusal_same h a e) (move_by_same h a e (event_refusal w a e) m)
+move_same {q} {w} {v} h a e m = subst (λ r. ((move_by w a e (event_refusal w a e)).0 ≡ (move_by v a e r).0) × TwinWorlds q (move_by w a e (event_refusal w a e)).1 (move_by v a e r).1) (refusal_same h a e) (move_by_same h a e (event_refusal w a e) m)
 
-pub moves_same : (xs : List (ℕ × Event)) {q : ℕ} (w v : World) → SameBut q w v → AreApart q w xs → ((moves w xs).0 ≡ (moves v xs).0) × SameBut q (moves w xs).1 (moves v xs).1
+pub moves_same : (xs : List (ℕ × Event)) {q : ℕ} (w v : World) → TwinWorlds q w v → AreApart q w xs → ((moves w xs).0 ≡ (moves v xs).0) × TwinWorlds q (moves w xs).1 (moves v xs).1
 moves_same [] w v h m = (refl, h)
 moves_same (x ∷ xs) w v h m =
     let first = move_same h x.0 x.1 m.0 in

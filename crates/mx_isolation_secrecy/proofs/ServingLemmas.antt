@@ -26,7 +26,7 @@ use Rattle.mx_kcall.specs.declared.request.MessageWords.{MessageWords}
 use Rattle.mx_kcall.specs.Requests.{kernel_call_under, message_words_at, message_words_of, bit_of, no_reply_words, reply_bytes}
 use Rattle.mx_kcall.specs.Refusals.{is_away, kernel_call_reasons, kernel_call_refusal_by, kernel_call_refusal}
 use Rattle.mx_kcall.specs.Serving.{table_after_change, words_of_reply, ends_caller, table_after_reply, table_after_serving, table_after_kernel_call_by, table_after_kernel_call, due_after, ticks_left}
-use Rattle.mx_isolation_secrecy.specs.Twins.{is_slot, Twins}
+use Rattle.mx_isolation_secrecy.proofs.Twins.{is_slot, Twins}
 use Rattle.mx_kcall.specs.Windows.{allows_reading, allows_writing, granted, is_open, is_strict}
 use Rattle.mx_proc.specs.declared.windows.Rules.{Rules}
 use Rattle.mx_proc.specs.declared.windows.Window.{Window}

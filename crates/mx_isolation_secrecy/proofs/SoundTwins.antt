@@ -6,8 +6,9 @@ use Rattle.mx_proc.specs.declared.process.Process.{Process}
 use Rattle.mx_proc.specs.Sound.{Sound}
 use Rattle.mx_proc.specs.TableState.{TableState, nobody, with_image, memory_at}
 use Rattle.mx_machine_world.specs.World.{World, HeldProcess, held_by}
-use Rattle.mx_isolation_secrecy.specs.Twins.{image_seen, is_slot, HasRoom, AllAlike}
-use Rattle.mx_isolation_secrecy.specs.Same.{held_seen, SameBut, world_with_image, world_with_image_held}
+use Rattle.mx_isolation_secrecy.proofs.Twins.{image_seen, is_slot, HasRoom, AllAlike}
+use Rattle.mx_isolation_secrecy.specs.Same.{world_with_image, world_with_image_held}
+use Rattle.mx_isolation_secrecy.proofs.TwinWorlds.{held_seen, TwinWorlds}
 use Rattle.mx_isolation_secrecy.specs.Laws.{IsElsewhereSame}
 use Rattle.mx_isolation_secrecy.proofs.TwinLemmas.{other_slot, other_at, all_but_image_at, devices_of}
 use Rattle.mx_isolation_secrecy.proofs.MoveLemmas.{same_held, held_alike}
@@ -18,7 +19,7 @@ alike_imaged q [] r e n f g = tt
 alike_imaged zero (p ∷ ps) r e n f g = (record { same = ap (λ (x : Process). let y : Process = record x { image = blank } in y) (sym e); limit = sym n; left = f; right = g }, refl)
 alike_imaged (suc q) (p ∷ ps) r e n f g = (refl, alike_imaged q ps r e n f g)
 
-pub sound_twins : (q : ℕ) (w : World) (m : Image) → Sound w.table → Sound (with_image w.table q m) → length m.memory ≡ length (memory_at w.table q) → SameBut q w (world_with_image w q m)
+pub sound_twins : (q : ℕ) (w : World) (m : Image) → Sound w.table → Sound (with_image w.table q m) → length m.memory ≡ length (memory_at w.table q) → TwinWorlds q w (world_with_image w q m)
 sound_twins q w m h k n = record {
   table = record { rest = refl; slots = alike_imaged q w.table.slots (record (get_or w.table.slots q nobody) { image = m }) refl n (λ t z. (h.each q).process.buffer z) (λ t z. (k.each q).process.buffer z) };
   cpus = refl;
@@ -27,7 +28,7 @@ sound_twins q w m h k n = record {
 
 -- ---- another image on a processor
 
-is_own_slot : (s : ℕ) → is_slot s s ≡ true
+pub is_own_slot : (s : ℕ) → is_slot s s ≡ true
 is_own_slot zero = refl
 is_own_slot (suc s) = is_own_slot s
 
@@ -47,7 +48,7 @@ with_seen l b m = Some (record l { out = record l.out { image = image_seen b m }
 image_hidden : (l : HeldProcess) (m : Image) → with_seen l (is_slot l.slot l.slot) l.out.image ≡ with_seen l (is_slot l.slot l.slot) m
 image_hidden l m = ap (λ b. with_seen l b l.out.image) (is_own_slot l.slot) ∙ sym (ap (λ b. with_seen l b m) (is_own_slot l.slot))
 
-pub held_twins : (w : World) (a : ℕ) (l : HeldProcess) (m : Image) → Sound w.table → held_by w a ≡ Some l → SameBut l.slot w (world_with_image_held w a l m)
+pub held_twins : (w : World) (a : ℕ) (l : HeldProcess) (m : Image) → Sound w.table → held_by w a ≡ Some l → TwinWorlds l.slot w (world_with_image_held w a l m)
 held_twins w a l m h e = record {
   table = record { rest = refl; slots = all_alike_itself l.slot w.table.slots (λ t z. (h.each l.slot).process.buffer z) };
   cpus = seen_set l.slot w.cpus a (Some l) (Some (record l { out = record l.out { image = m } })) e (image_hidden l m);
@@ -56,15 +57,15 @@ held_twins w a l m h e = record {
 
 -- ---- what is the same
 
-other_held : (q : ℕ) (w v : World) (a : ℕ) (l : HeldProcess) → SameBut q w v → held_by w a ≡ Some l → q ≢ l.slot → held_by v a ≡ Some l
+other_held : (q : ℕ) (w v : World) (a : ℕ) (l : HeldProcess) → TwinWorlds q w v → held_by w a ≡ Some l → q ≢ l.slot → held_by v a ≡ Some l
 other_held q w v a l h e n =
     let f : held_seen q (Some l) ≡ held_seen q (held_by v a) = ap (held_seen q) (sym e) ∙ held_alike h a in
     sym (same_held q (Some l) (held_by v a) f n)
 
-pub else_same : (q : ℕ) (w v : World) → SameBut q w v → IsElsewhereSame q w v
+pub else_same : (q : ℕ) (w v : World) → TwinWorlds q w v → IsElsewhereSame q w v
 else_same q w v h = record {
   others = λ s n. other_at h.table s (other_slot q s n);
-  own = λ s. all_but_image_at h.table s;
+  own = all_but_image_at h.table q;
   held = λ a l e n. other_held q w v a l h e n;
   devices = devices_of h.table;
   deliveries = ap (λ (t : TableState). t.deliveries) h.table.rest;

@@ -19,7 +19,8 @@ use Rattle.mx_proc.specs.States.{is_blocked}
 use Rattle.mx_proc.specs.TableState.{TableState, nobody, process_at, with_process, with_result, with_state, with_pending, table_with_first, table_with_last, table_after_dequeue, table_after_unblock, table_after_block, endpoint_of, with_message, with_delivery_kept, table_after_delivery, message_of, memory_at, buffer_at}
 use Rattle.mx_kcall.specs.Queueing.{table_after_queueing, next_level, is_last_renewed}
 use Rattle.mx_kcall.specs.Calls.{goes_on}
-use Rattle.mx_isolation_secrecy.specs.Twins.{process_seen, is_slot, Alike, AllAlike, rest_of, Twins}
+use Rattle.mx_isolation_secrecy.specs.Same.{rest_of}
+use Rattle.mx_isolation_secrecy.proofs.Twins.{process_seen, is_slot, Alike, AllAlike, Twins}
 
 -- ---- processes
 

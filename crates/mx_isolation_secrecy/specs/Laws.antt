@@ -1,5 +1,5 @@
 -- The laws of secrecy, as statements.
-use Rattle.std.specs.Prelude.{◌≡◌, ◌≢◌, ℕ, true, List, Some, length}
+use Rattle.std.specs.Prelude.{◌≡◌, ◌≢◌, ℕ, List, Some, length}
 use Rattle.mx_exec.specs.declared.image.Image.{Image}
 use Rattle.mx_proc.specs.Sound.{Sound}
 use Rattle.mx_proc.specs.TableState.{memory_at, process_at, with_image}
@@ -7,8 +7,7 @@ use Rattle.mx_machine_world.specs.declared.events.Event.{Event}
 use Rattle.mx_machine_world.specs.Move.{move, moves}
 use Rattle.mx_machine_world.specs.World.{World, HeldProcess, held_by}
 use Rattle.mx_isolation_secrecy.specs.Apart.{IsApart, AreApart}
-use Rattle.mx_isolation_secrecy.specs.Same.{SameBut, world_with_image, world_with_image_held}
-use Rattle.mx_isolation_secrecy.specs.Twins.{process_seen}
+use Rattle.mx_isolation_secrecy.specs.Same.{SameBut, without_image, world_with_image, world_with_image_held}
 
 -- ---- secrecy
 
@@ -46,7 +45,7 @@ KeepRules w xs = (moves w xs).1.table.rules ≡ w.table.rules
 pub record IsElsewhereSame (q : ℕ) (w v : World) : Type 0 where
   -- every other process, and of q's all but the image
   pub others : (s : ℕ) → q ≢ s → process_at w.table s ≡ process_at v.table s
-  pub own : (s : ℕ) → process_seen true (process_at w.table s) ≡ process_seen true (process_at v.table s)
+  pub own : without_image (process_at w.table q) ≡ without_image (process_at v.table q)
   -- what a processor holds of another process
   pub held : (a : ℕ) (l : HeldProcess) → held_by w a ≡ Some l → q ≢ l.slot → held_by v a ≡ Some l
   -- devices and console, the deliveries that are kept, and how many records there are

@@ -1,4 +1,3 @@
-pub mod Twins
 pub mod Same
 pub mod Senders
 pub mod Apart

@@ -29,11 +29,11 @@ use Rattle.mx_machine_world.specs.Move.{back_refusal, event_refusal, is_doomed, 
 use Rattle.mx_machine_world.specs.Sound.{IsSound}
 use Rattle.mx_machine_world.specs.World.{World, HeldProcess, free_records, held_by}
 use Rattle.mx_isolation_diary.specs.Diary.{Item, image_of, items_for, images, play}
-use Rattle.mx_isolation_diary.specs.Diaries.{diary, diary_of_back, image_held_in, image_now, image_or, items_of_event, items_of_line, unless_held}
+use Rattle.mx_isolation_diary.specs.Diaries.{diary, diary_of_back, image_held_in, image_now, items_of_event, items_of_line, unless_held}
 use Rattle.mx_isolation_diary.specs.Entries.{AreEntries, caller_in}
 use Rattle.mx_isolation_diary.specs.Items.{items_of_death, items_of_end_of_turn}
 use Rattle.mx_isolation_diary.specs.Laws.{IsSlot, IsWritten}
-use Rattle.mx_isolation_diary.proofs.DiaryLemmas.{get_or-images, play_all-at}
+use Rattle.mx_isolation_diary.proofs.DiaryLemmas.{image_or, get_or-images, play_all-at}
 use Rattle.mx_isolation_diary.proofs.EventEntries.{event_entries}
 use Rattle.mx_isolation_diary.proofs.ItemLemmas.{end_of_turn_images}
 use Rattle.mx_isolation_diary.proofs.SoundDiaries.{not_held}

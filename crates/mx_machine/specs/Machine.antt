@@ -12,10 +12,10 @@ use Rattle.mx_machine_world.specs.declared.holding.Out.{Out}
 use Rattle.mx_machine_world.specs.World.{World, HeldProcess, actors, held_by}
 pub use Rattle.mx_machine_world.specs.Held.{IsRunOf}
 use Rattle.mx_machine_world.specs.Held.{held_run, outcome_of_step, out_after_step}
-use Rattle.mx_machine_world.specs.Move.{at_stop, move}
-use Rattle.mx_machine_world.specs.Sound.{IsSound}
+use Rattle.mx_machine_world.specs.Move.{at_stop}
 use Rattle.mx_machine_world.specs.History.{BootAndHistory, AreAccepted, world_after_events, replay, with_record}
 use Rattle.mx_machine_world.specs.Steps.{steps_of}
+pub use Rattle.mx_machine_kernel.specs.Agrees.{AreSound}
 use Rattle.mx_machine_kernel.specs.KernelState.{is_for_all, recorded_as}
 
 -- What a machine is seen as: its kernel, and what each processor holds.
@@ -91,8 +91,3 @@ abbrev pub kept_along : BootAndHistory → List (ℕ × Event) → List (Result 
 kept_along k [] rs = k
 kept_along k (x ∷ xs) [] = k
 kept_along k (x ∷ xs) (r ∷ rs) = kept_along (kept_after k x.0 x.1 r) xs rs
-
--- each machine of a run is sound: the machine before each event
-abbrev pub AreSound : World → List (ℕ × Event) → Type 0
-AreSound w [] = Unit {0}
-AreSound w (x ∷ xs) = IsSound w × AreSound (move w x.0 x.1).1 xs

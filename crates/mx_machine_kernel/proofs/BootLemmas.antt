@@ -148,6 +148,7 @@ boot_agrees rules ss cpus others capacity room leases items eight idle none fits
       records = refl;
       space = fits;
       accepted = tt;
+      sound = tt;
       few = omega (arith, length-replicate {A = Option HeldProcess} cpus None);
       as_many = refl;
       written = All-nil _;

@@ -3,4 +3,5 @@ pub mod FrameLemmas
 pub mod ServingLemmas
 pub mod HoldsLemmas
 pub mod CurrentLemmas
+pub mod SoundLemmas
 pub mod ReplayLemmas

@@ -31,10 +31,11 @@ use Rattle.mx_machine_world.specs.Steps.{StepsTo}
 use Rattle.mx_machine_world.specs.World.{World, HeldProcess, actors, held_by, out_count, free_records}
 use Rattle.mx_machine_world.proofs.LentLemmas.{back_lasts}
 use Rattle.mx_machine_world.proofs.StepLemmas.{set_twice}
-use Rattle.mx_machine_kernel.specs.Agrees.{IsAtReplay, IsFresh, IsEventAccepted}
+use Rattle.mx_machine_kernel.specs.Agrees.{AreSound, IsAtReplay, IsFresh, IsEventAccepted}
 use Rattle.mx_machine_kernel.specs.KernelState.{KernelState, kernel_state_of, records_left, state_with_record, state_after_take, state_after_back, refusal_to_take, HasTaken, HasAccepted, refusal_to, table_after_line_by, table_after_respawn_by, table_after, answer_to, is_for_all, recorded_as}
 use Rattle.mx_machine_kernel.proofs.HoldsLemmas.{holds_in}
 use Rattle.mx_machine_kernel.proofs.CurrentLemmas.{HoldsOf, ready_loan}
+use Rattle.mx_machine_kernel.proofs.SoundLemmas.{sound_after_steps, sound_append, steps_sound}
 
 -- ---- one record more
 
@@ -80,6 +81,12 @@ unfolding replay
 accepted-recorded k a x h e = subst (λ l. AreAccepted k.boot l) (sym (unfold_last k.history (record { actor = a; event = x })))
     (accepted_append k.boot (events_of_history k.history) (events_of a x ++ []) h (accepted_append (world_after_events k.boot (events_of_history k.history)) (events_of a x) [] e tt))
 
+sound-recorded : (k : BootAndHistory) (a : ℕ) (x : Recorded) → AreAccepted k.boot (events_of_history k.history) → AreSound k.boot (events_of_history k.history) → AreAccepted (replay k) (events_of a x) → AreSound (replay k) (events_of a x)
+    → AreSound k.boot (events_of_history (with_record k a x).history)
+unfolding replay
+sound-recorded k a x taken h accepted e = subst (λ l. AreSound k.boot l) (sym (unfold_last k.history (record { actor = a; event = x })))
+    (sound_append k.boot (events_of_history k.history) (events_of a x ++ []) taken h (sound_append (world_after_events k.boot (events_of_history k.history)) (events_of a x) [] accepted e tt))
+
 -- where all events of a history are accepted, those of its last record are accepted where the others lead
 pub last_accepted : (k n : BootAndHistory) (a : ℕ) (x : Recorded) → n ≡ with_record k a x → AreAccepted n.boot (events_of_history n.history) → AreAccepted (replay k) (events_of a x)
 unfolding replay
@@ -89,16 +96,17 @@ last_accepted k n a x is h =
     accepted_front (replay k) (events_of a x) [] (accepted_rest k.boot (events_of_history k.history) (events_of a x ++ []) parted)
 
 -- THE STEP from one record to the next
-recorded-agrees : (d n : KernelState) (room more : ℕ) (k : BootAndHistory) (a : ℕ) (x : Recorded) (v : World) → IsAtReplay d room k → AreAccepted (replay k) (events_of a x) → world_after_events (replay k) (events_of a x) ≡ v
+recorded-agrees : (d n : KernelState) (room more : ℕ) (k : BootAndHistory) (a : ℕ) (x : Recorded) (v : World) → IsAtReplay d room k → AreAccepted (replay k) (events_of a x) → AreSound (replay k) (events_of a x) → world_after_events (replay k) (events_of a x) ≡ v
     → n ≡ kernel_state_of v → n.records ≡ d.records + 1 → n.capacity ≡ d.capacity → actors v ≡ actors (replay k) → IsWritable (actors k.boot) (record { actor = a; event = x })
     → ((b : ℕ) (l : HeldProcess) → held_by v b ≡ Some l → IsFresh v l) → room ≤ more → IsAtReplay n more (with_record k a x)
-recorded-agrees d n room more k a x v h accepted e is records capacity as_many written fresh bigger =
+recorded-agrees d n room more k a x v h accepted sound e is records capacity as_many written fresh bigger =
     let z : replay (with_record k a x) ≡ v = replay-recorded k a x ∙ e in
     record {
       present = is ∙ ap kernel_state_of (sym z);
       records = omega (arith, records, h.records, length-more k.history (record { actor = a; event = x }));
       space = omega (arith, capacity, h.space, bigger);
       accepted = accepted-recorded k a x h.accepted accepted;
+      sound = sound-recorded k a x h.accepted h.sound accepted sound;
       few = h.few;
       as_many = ap actors z ∙ as_many ∙ h.as_many;
       written = all-more (IsWritable (actors k.boot)) k.history (record { actor = a; event = x }) h.written written;
@@ -196,14 +204,14 @@ act_is d room k n m a e v h all is same = subst (λ k. IsEventAccepted k m a e (
     (one-event k m a e (recorded_as e) (events-same a e all) (act_accepted d room k a e h all is) same)
 
 -- such an event leaves what is lent alone
-pub act_agrees : (d n : KernelState) (room more : ℕ) (k : BootAndHistory) (a : ℕ) (e : Event) (x : Answer) → IsAtReplay d room k → is_for_all e ≡ true → HasAccepted d n e x → IsWritable (actors k.boot) (record { actor = a; event = recorded_as e }) → room ≤ more
+pub act_agrees : (d n : KernelState) (room more : ℕ) (k : BootAndHistory) (a : ℕ) (e : Event) (x : Answer) → IsAtReplay d room k → IsSound (replay k) → is_for_all e ≡ true → HasAccepted d n e x → IsWritable (actors k.boot) (record { actor = a; event = recorded_as e }) → room ≤ more
     → IsAtReplay n more (with_record k a (recorded_as e))
-act_agrees d n room more k a e x h all acted written bigger =
+act_agrees d n room more k a e x h sound all acted written bigger =
     let w = replay k in
     let accepted = act_accepted d room k a e h all acted.accepted in
     let v : World = world_with_record w (table_after (kernel_state_of w) e) in
     let one = events-same a e all in
-    recorded-agrees d n room more k a (recorded_as e) v h (subst (λ l. AreAccepted w l) (sym one) (accepted, tt)) (ap (world_after_events w) one ∙ after-same w a e all accepted)
+    recorded-agrees d n room more k a (recorded_as e) v h (subst (λ l. AreAccepted w l) (sym one) (accepted, tt)) (subst (λ l. AreSound w l) (sym one) (sound, tt)) (ap (world_after_events w) one ∙ after-same w a e all accepted)
     (acted.after ∙ ap (λ d. state_with_record d (table_after d e)) h.present) (ap (λ (d : KernelState). d.records) acted.after) (ap (λ (d : KernelState). d.capacity) acted.after) refl written
     (λ b l i. let f = h.fresh b l i in record { count = f.count; stop = f.stop; loaded = f.loaded }) bigger
 
@@ -244,16 +252,16 @@ take_lent d n room k m a s o h taken same =
     )
 
 -- IsLoadedFrom of each image that is at home comes from what always holds
-pub take_agrees : (d n : KernelState) (room more : ℕ) (k : BootAndHistory) (a s : ℕ) (o : Out) → IsAtReplay d room k → HasTaken d n a s o → HoldsOf d
+pub take_agrees : (d n : KernelState) (room more : ℕ) (k : BootAndHistory) (a s : ℕ) (o : Out) → IsAtReplay d room k → IsSound (replay k) → HasTaken d n a s o → HoldsOf d
     → IsWritable (actors k.boot) (record { actor = a; event = recorded.Take }) → room ≤ more → IsAtReplay n more (with_record k a recorded.Take)
-take_agrees d n room more k a s o h taken holds written bigger =
+take_agrees d n room more k a s o h sound taken holds written bigger =
     let loaded : (v : Service) → slice_get d.services s ≡ Some v → IsLoadedFrom (process_at d.table s).image v.program = λ v g. holds.loaded s v g (ready_loan (process_at d.table s) taken.ready) in
     let w = replay k in
     let first : first_ready w.table.ready ≡ Some s = ap (λ (d : KernelState). first_ready d.table.ready) (sym h.present) ∙ taken.first in
     let l : HeldProcess = held_at_take w.table s in
     let v : World = with_held (world_with_record w (table_after_sending_out w.table s)) a (Some l) in
     let below : a < length w.cpus = omega (arith, taken.processor, ap (λ (d : KernelState). length d.leases) h.present, length-map w.cpus lease_of) in
-    recorded-agrees d n room more k a recorded.Take v h (take_accepted d room k a h taken.accepted, tt) (after_take-is w a s first)
+    recorded-agrees d n room more k a recorded.Take v h (take_accepted d room k a h taken.accepted, tt) (sound, tt) (after_take-is w a s first)
     (taken.after ∙ ap (λ d. state_after_take d a s) h.present ∙ ap (λ x. let y : KernelState = record (kernel_state_of w) { table = table_after_sending_out w.table s; records = w.records + 1; leases = x } in y) (sym (map_put lease_of w.cpus a (Some l))))
     (ap (λ (d : KernelState). d.records) taken.after) (ap (λ (d : KernelState). d.capacity) taken.after)
     (ap (λ n. n + w.others) (length-set w.cpus a (Some l))) written
@@ -321,17 +329,22 @@ back_world d room k n m a l o v h at s same =
     ap replay same ∙ replay-recorded k a (recorded.Back o.count) ∙ after_append (replay k) (replicate o.count (a, events.Step)) ((a, events.Back) ∷ [])
     ∙ ap (λ w. world_after_event w a events.Back) s.after ∙ ap (λ k. world_after_event (with_held (replay k) a (Some (record l { out = o }))) a events.Back) v
 
+-- the world that a return finds is sound
+pub back_sound : (d : KernelState) (room : ℕ) (k n : BootAndHistory) (a : ℕ) (l : HeldProcess) (o : Out) → k ≡ n → IsAtReplay d room k → IsSound (replay k) → StepsTo (replay k) a o.count l o → IsSound (with_held (replay n) a (Some (record l { out = o })))
+back_sound d room k n a l o v h sound s = subst (λ (k : BootAndHistory). IsSound (with_held (replay k) a (Some (record l { out = o })))) v (subst IsSound s.after (sound_after_steps o.count (replay k) a sound s.accepted))
+
 nothing : (m : HeldProcess) → None ≡ Some m → ⊥
 nothing m e = cc
 
-pub back_agrees : (d n : KernelState) (room more : ℕ) (k : BootAndHistory) (a : ℕ) (l : HeldProcess) (o : Out) (x : Lease) → IsAtReplay d room k → held_by (replay k) a ≡ Some l → StepsTo (replay k) a o.count l o → x.slot ≡ l.slot → n ≡ state_after_back d a x.slot o
+pub back_agrees : (d n : KernelState) (room more : ℕ) (k : BootAndHistory) (a : ℕ) (l : HeldProcess) (o : Out) (x : Lease) → IsAtReplay d room k → IsSound (replay k) → held_by (replay k) a ≡ Some l → StepsTo (replay k) a o.count l o → x.slot ≡ l.slot → n ≡ state_after_back d a x.slot o
     → IsWritable (actors k.boot) (record { actor = a; event = recorded.Back o.count }) → room ≤ more → IsAtReplay n more (with_record k a (recorded.Back o.count))
-back_agrees d n room more k a l o x h at s same after written bigger =
+back_agrees d n room more k a l o x h sound at s same after written bigger =
     let w = replay k in
     let v : World = with_held (world_with_record w (table_after_back w.table (record l { out = o }))) a None in
     let steps = replicate o.count (a, events.Step) in
     recorded-agrees d n room more k a (recorded.Back o.count) v h
     (accepted_append w steps ((a, events.Back) ∷ []) s.accepted (back-refusal w (world_after_events w steps) a l o at s.after, tt))
+    (sound_append w steps ((a, events.Back) ∷ []) s.accepted (steps_sound o.count w a sound s.accepted) (sound_after_steps o.count w a sound s.accepted, tt))
     (after_append w steps ((a, events.Back) ∷ []) ∙ after_back-is w (world_after_events w steps) a l o at s.after)
     (after ∙ ap (λ q. state_after_back d a q o) same ∙ ap (λ d. state_after_back d a l.slot o) h.present
     ∙ ap (λ y. let z : KernelState = record (kernel_state_of w) { table = table_after_back w.table (record l { out = o }); records = w.records + 1; leases = y } in z) (sym (map_put lease_of w.cpus a None)))
@@ -395,6 +408,9 @@ opened_sound d room k n v h sound holds = subst (λ k. IsSound (replay k)) v (re
 
 pub opened_accepted : (d : KernelState) (room : ℕ) (k n : BootAndHistory) → k ≡ n → IsAtReplay d room k → AreAccepted n.boot (events_of_history n.history)
 opened_accepted d room k n v h = subst (λ (k : BootAndHistory). AreAccepted k.boot (events_of_history k.history)) v h.accepted
+
+pub opened_history : (d : KernelState) (room : ℕ) (k n : BootAndHistory) → k ≡ n → IsAtReplay d room k → AreSound n.boot (events_of_history n.history)
+opened_history d room k n v h = subst (λ (k : BootAndHistory). AreSound k.boot (events_of_history k.history)) v h.sound
 
 pub opened_written : (d : KernelState) (room : ℕ) (k n : BootAndHistory) → k ≡ n → IsAtReplay d room k → All (IsWritable (actors (replay n))) n.history
 opened_written d room k n v h = subst (λ (k : BootAndHistory). All (IsWritable (actors (replay k))) k.history) v (subst (λ m. All (IsWritable m) k.history) (sym h.as_many) h.written)

@@ -11,7 +11,7 @@ ghost use Rattle.mx_machine_world.specs.Move.{event_refusal, event_answer, world
 ghost use Rattle.mx_machine_world.specs.Rest.{at_rest};
 ghost use Rattle.mx_machine_world.specs.Sound.{IsSound, lease_of};
 ghost use Rattle.mx_machine_world.specs.World.{HeldProcess, actors, held_by};
-ghost use Rattle.mx_machine_kernel.specs.Agrees.{IsEventAccepted, IsFresh, IsEventRefused};
+ghost use Rattle.mx_machine_kernel.specs.Agrees.{AreSound, IsBoot, IsEventAccepted, IsFresh, IsEventRefused};
 ghost use Rattle.mx_machine_kernel.specs.KernelState.{is_for_all, recorded_as};
 
 use crate::booting::first_present;
@@ -131,7 +131,8 @@ impl Kernel {
         Ok(out)
     }
 
-    /// A processor brings back what it was lent, after a run. Answers the steps of the run.
+    /// A processor brings back what it was lent, after a run. Answers the steps of the run. The world that
+    /// this event finds is sound.
     pub fn back(&mut self, cpu: u8, mut out: Out) -> u32
         requires { (l : HeldProcess) × (held_by (replay self.old) cpu ≡ Some l) × IsBack l.out out }
         ensures count { result ≡ out.count }
@@ -139,8 +140,11 @@ impl Kernel {
         ensures world { (l : HeldProcess) → held_by (replay self.old) cpu ≡ Some l
             → replay self.new ≡ world_after_event
             (with_held (replay self.old) cpu (Some (record l { out = out }))) cpu events.Back }
+        ensures found { (l : HeldProcess) → held_by (replay self.old) cpu ≡ Some l
+            → IsSound (with_held (replay self.old) cpu (Some (record l { out = out }))) }
     {
         runs_are_steps();
+        self.present.opened();
         let count = out.count;
         let decoded = mem::replace(&mut out.decoded, Decoded::nothing());
         self.caches.take_home(cpu, decoded);
@@ -162,6 +166,7 @@ impl Kernel {
         ensures err { IfErr result (λ refusal.
             IsEventRefused self.old self.new actor event refusal) }
     {
+        self.present.opened();
         let answer = self.present.act(event)?;
         self.present.opened();
         note(&mut self.records, actor, recorded_as(event));
@@ -250,12 +255,15 @@ impl Kernel {
         self.table().delivery(index)
     }
 
-    /// Law: a replay of a kernel's history is sound and has at most 8 processors; its events are accepted
-    /// and its records can be written; what an actor holds is fresh.
+    /// Law: a kernel's history begins at a boot, and each of its events is accepted and finds a sound world.
+    /// So is the replay, with at most 8 processors. The records can be written, and what an actor holds is
+    /// fresh.
     pub fn opened(&self)
         ensures sound { IsSound (replay self.now) }
         ensures few { length (replay self.now).cpus ≤ 8 }
+        ensures booted { IsBoot self.now.boot }
         ensures accepted { AreAccepted self.now.boot (events_of_history self.now.history) }
+        ensures history { AreSound self.now.boot (events_of_history self.now.history) }
         ensures written { All (IsWritable (actors (replay self.now))) self.now.history }
         ensures fresh { (a : ℕ) (l : HeldProcess) → held_by (replay self.now) a ≡ Some l
             → IsFresh (replay self.now) l }

@@ -1,5 +1,6 @@
 use Rattle.std.proofs.Common.{refl}
-use Rattle.mx_machine_kernel.proofs.ReplayLemmas.{opened_sound, opened_accepted, opened_written, opened_fresh, opened_few}
+use Rattle.mx_machine_kernel.proofs.ReplayLemmas.{opened_sound, opened_accepted, opened_history, opened_written, opened_fresh, opened_few}
+use Rattle.mx_machine_kernel.proofs.SoundLemmas.{opened_booted}
 use Rattle.mx_machine_kernel.proofs.kernel.Kernel.opened.Goals as goal
 
 pub returns-clause-sound : goal.returns-clause-sound
@@ -16,3 +17,9 @@ returns-clause-fresh c = opened_fresh _ _ _ _ c.self.view_is c.self.invariant
 
 pub returns-clause-few : goal.returns-clause-few
 returns-clause-few c = opened_few _ _ _ _ c.self.view_is c.self.invariant refl
+
+pub returns-clause-history : goal.returns-clause-history
+returns-clause-history c = opened_history _ _ _ _ c.self.view_is c.self.invariant
+
+pub returns-clause-booted : goal.returns-clause-booted
+returns-clause-booted c = opened_booted _ _ _ _ _ _ _ c.self.view_is

@@ -1,4 +1,5 @@
--- Two tables that are the same but for the image of one process, whose limits are equal.
+-- Two tables that are the same but for the image of one process, as their proofs go along them: slot by slot, with a flag
+-- that says of each whether its image is hidden.
 use Rattle.std.specs.Prelude.{◌≡◌, ℕ, zero, suc, Bool, true, false, List, [], ◌∷◌, length}
 use Rattle.mx_exec.specs.declared.image.Image.{Image}
 use Rattle.mx_exec.specs.Image.{blank}
@@ -6,6 +7,7 @@ use Rattle.mx_proc.specs.declared.process.Process.{Process}
 use Rattle.mx_proc.specs.Sound.{HasBuffer}
 use Rattle.mx_proc.specs.States.{is_blocked}
 use Rattle.mx_proc.specs.TableState.{TableState}
+use Rattle.mx_isolation_secrecy.specs.Same.{rest_of}
 
 -- an image as it is seen: blank where it is hidden
 abbrev pub image_seen : Bool → Image → Image
@@ -41,10 +43,6 @@ AllAlike q [] (r ∷ rs) = ⊥
 AllAlike q (p ∷ ps) [] = ⊥
 AllAlike zero (p ∷ ps) (r ∷ rs) = Alike true p r × (ps ≡ rs)
 AllAlike (suc q) (p ∷ ps) (r ∷ rs) = (p ≡ r) × AllAlike q ps rs
-
--- a table without its processes
-abbrev pub rest_of : TableState → TableState
-rest_of w = record w { slots = [] }
 
 -- TWINS: the same but for the image of the process in slot q
 pub record Twins (q : ℕ) (w v : TableState) : Type 0 where
