@@ -1,17 +1,17 @@
 -- THE FAULT OF A LINE of a configuration (our own): the first place where another word is wanted, and the word that is there.
 -- That a name is a register's or a size's, and what lines above say, is no fault of a line here.
-use Rattle.std.specs.Prelude.{ℕ, not, if◌then◌else◌, Bool, List, [], ◌∷◌, ◌++◌, codes, Option, Some, None, is_some, Result, Ok, Err}
+use Rattle.std.specs.Prelude.{ℕ, ◌-◌, not, if◌then◌else◌, Bool, List, [], ◌∷◌, ◌++◌, codes, Option, Some, None, is_some, Result, Ok, Err, slice_get}
 use Rattle.std.specs.List.{list_any}
 use Rattle.std.specs.Str.{bytes_eq}
 use Rattle.mx_text.specs.Names.{name_of}
-use Rattle.mx_boot_config.specs.Items.{is_stray}
+use Rattle.mx_text.specs.Lines.{lines}
+use Rattle.mx_boot_config.specs.Items.{is_stray, said_in}
 use Rattle.mx_boot_config.specs.Terms.{mask, number_between}
 use Rattle.mx_config_fault.specs.declared.place.Key.{Key as Kind}
 use Rattle.mx_config_fault.specs.declared.place.Key.TheVariants as keys
 use Rattle.mx_config_fault.specs.declared.place.Place.{Place}
 use Rattle.mx_config_fault.specs.declared.place.Place.TheVariants.{Item, Cpus, Others, Log, Rules, Name, File, Key, Value, End}
-use Rattle.mx_config_fault.specs.Places.{key_word, label_of, wanted_at}
-use Rattle.mx_config_fault.specs.Stands.{stands_at}
+use Rattle.mx_config_fault.specs.Places.{key_word}
 
 -- a place and what is there
 abbrev pub Seen : Type 0
@@ -110,6 +110,10 @@ unfoldable pub fault_in : List (List ℕ) → Option Seen
 fault_in [] = None
 fault_in (word ∷ fs) = fault_of_item word fs
 
--- ---- as it is printed: the value's name, what is wanted there, and what is there
-abbrev pub seen_told : Seen → List ℕ × List ℕ × List ℕ
-seen_told (place, word) = (label_of place, wanted_at place, stands_at word)
+-- the fault of the line of a text that has this number, counted from 1
+abbrev pub fault_of_line : Option (List ℕ) → Option Seen
+fault_of_line None = None
+fault_of_line (Some line) = fault_in (said_in line)
+
+abbrev pub text_fault : List ℕ → ℕ → Option Seen
+text_fault text number = fault_of_line (slice_get (lines text) (number - 1))

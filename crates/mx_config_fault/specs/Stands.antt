@@ -3,7 +3,7 @@ use Rattle.std.specs.Prelude.{ℕ, ◌==◌, ◌||◌, nat_lt, Bool, if◌then�
 use Rattle.std.specs.List.{list_any}
 use Rattle.std.specs.Str.{bytes_eq, is_utf8}
 use Rattle.mx_config_fault.specs.declared.stands.Stands.{Stands}
-use Rattle.mx_config_fault.specs.declared.stands.Stands.TheVariants.{Nothing, Word, Return, Mark, Bytes}
+use Rattle.mx_config_fault.specs.declared.stands.Stands.TheVariants.{Unseen, Nothing, Word, Return, Mark, Bytes}
 
 abbrev pub is_return : ℕ → Bool
 is_return b = b == 13
@@ -46,6 +46,7 @@ stands_at None = nothing_told
 stands_at (Some word) = field_told word
 
 abbrev pub stands_told : Stands → List ℕ
+stands_told Unseen = []
 stands_told Nothing = nothing_told
 stands_told (Word text) = word_told text.now
 stands_told Return = return_told

@@ -7,7 +7,9 @@
 mod line;
 mod place;
 mod stands;
+mod text;
 
 pub use line::{LineFault, line_fault};
+pub use text::text_fault;
 pub use place::{Key, Place};
 pub use stands::Stands;

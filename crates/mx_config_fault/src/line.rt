@@ -3,6 +3,7 @@
 ghost use Rattle.std.specs.Prelude.{◌≡◌, Err, None, Ok, Some, MatchOption, MatchResult, option_map};
 ghost use Rattle.mx_text.specs.Fields.{fields};
 ghost use Rattle.mx_boot_config.specs.Items.{said_in};
+ghost use Rattle.mx_config_fault.specs.Stands.{stands_at, stands_told};
 ghost use Rattle.mx_config_fault.specs.Faults.{after_file, after_key, after_levels, after_mask, after_masks, after_number, after_service, end_fault, fault_after, fault_in, number_at, word_at};
 
 use crate::place::{Key, Place};
@@ -20,7 +21,9 @@ pub struct LineFault<'a> {
 
 impl<'a> LineFault<'a> {
     /// The word, as far as it can be printed.
-    pub fn stands(self) -> Stands<'a> {
+    pub fn stands(self) -> Stands<'a>
+        ensures { stands_told result ≡ stands_at (option_map (λ w. w.now) self.word) }
+    {
         stands_at(self.word)
     }
 }
@@ -163,7 +166,10 @@ fn after_service(line: &[u8]) -> Result<(u32, &[u8]), LineFault<'_>>
 }
 
 /// The fault after a part of a line that may have one: a word that is left.
-fn fault_after<'a>(part: Result<(u32, &'a [u8]), LineFault<'a>>) -> Option<LineFault<'a>> {
+fn fault_after<'a>(part: Result<(u32, &'a [u8]), LineFault<'a>>) -> Option<LineFault<'a>>
+    ensures { option_map (λ f. (f.place, option_map (λ w. w.now) f.word)) result
+        ≡ fault_after (part_seen part.entry) }
+{
     match part {
         Err(fault) => Some(fault),
         Ok((_, rest)) => match next_field(rest) {

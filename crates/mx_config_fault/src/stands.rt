@@ -13,6 +13,8 @@ const MARK: [u8; 3] = [0xEF, 0xBB, 0xBF];
 /// The word that is at a place of a line, as far as it can be printed.
 #[derive(Clone, Copy, Debug, PartialEq, Eq)]
 pub enum Stands<'a> {
+    /// It isn't looked at.
+    Unseen,
     /// The line ends here.
     Nothing,
     Word(&'a str),
@@ -33,6 +35,7 @@ impl fmt::Display for Stands<'_> {
 
     fn fmt<W: fmt::Write>(&self, f: &mut fmt::Formatter<W>) -> fmt::Result {
         match *self {
+            Stands::Unseen => Ok(()),
             Stands::Nothing => write!(f, ", where the line ends"),
             Stands::Word(word) => write!(f, ", stands \"{word}\""),
             Stands::Return => write!(
