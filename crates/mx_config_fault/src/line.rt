@@ -165,20 +165,39 @@ fn after_service(line: &[u8]) -> Result<(u32, &[u8]), LineFault<'_>>
     after_levels(rest)
 }
 
-/// The fault after a part of a line that may have one: a word that is left.
-fn fault_after<'a>(part: Result<(u32, &'a [u8]), LineFault<'a>>) -> Option<LineFault<'a>>
+/// The fault of what is after all words: a word that is left.
+fn end_fault(rest: &[u8]) -> Option<LineFault<'_>>
     ensures { option_map (λ f. (f.place, option_map (λ w. w.now) f.word)) result
-        ≡ fault_after (part_seen part.entry) }
+        ≡ end_fault (fields rest.now) }
 {
-    match part {
+    match next_field(rest) {
+        Some((word, _)) => Some(LineFault {
+            place: Place::End,
+            word: Some(word),
+        }),
+        None => None,
+    }
+}
+
+/// The fault of a service's line after its first word.
+fn service_fault(line: &[u8]) -> Option<LineFault<'_>>
+    ensures { option_map (λ f. (f.place, option_map (λ w. w.now) f.word)) result
+        ≡ fault_after (after_service (fields line.now)) }
+{
+    match after_service(line) {
+        Ok((_, rest)) => end_fault(rest),
         Err(fault) => Some(fault),
-        Ok((_, rest)) => match next_field(rest) {
-            Some((word, _)) => Some(LineFault {
-                place: Place::End,
-                word: Some(word),
-            }),
-            None => None,
-        },
+    }
+}
+
+/// The fault of a line that has one number after its first word.
+fn number_fault(line: &[u8], place: Place, least: u32, most: u32) -> Option<LineFault<'_>>
+    ensures { option_map (λ f. (f.place, option_map (λ w. w.now) f.word)) result
+        ≡ fault_after (number_at place least most (fields line.now)) }
+{
+    match number_at(line, place, least, most) {
+        Ok((_, rest)) => end_fault(rest),
+        Err(fault) => Some(fault),
     }
 }
 
@@ -191,13 +210,13 @@ pub fn line_fault(line: &[u8]) -> Option<LineFault<'_>>
 {
     let (word, rest) = next_field(before_comment(line))?;
     if word == b"service".as_slice() {
-        return fault_after(after_service(rest));
+        return service_fault(rest);
     }
     match word {
-        b"cpus" => fault_after(number_at(rest, Place::Cpus, 1, 8)),
-        b"others" => fault_after(number_at(rest, Place::Others, 1, 4)),
-        b"log" => fault_after(number_at(rest, Place::Log, 1, 1_048_576)),
-        b"rules" => fault_after(number_at(rest, Place::Rules, 1, 2)),
+        b"cpus" => number_fault(rest, Place::Cpus, 1, 8),
+        b"others" => number_fault(rest, Place::Others, 1, 4),
+        b"log" => number_fault(rest, Place::Log, 1, 1_048_576),
+        b"rules" => number_fault(rest, Place::Rules, 1, 2),
         _ => Some(LineFault {
             place: Place::Item,
             word: Some(word),
