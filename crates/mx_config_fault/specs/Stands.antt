@@ -1,7 +1,7 @@
 -- The word that is at a place, as it is printed (our own).
-use Rattle.std.specs.Prelude.{ℕ, ◌==◌, ◌||◌, nat_lt, Bool, if◌then◌else◌, List, [], ◌∷◌, ◌++◌, codes, take, Option, Some, None}
+use Rattle.std.specs.Prelude.{ℕ, ◌==◌, ◌||◌, ◌&&◌, nat_lt, Bool, if◌then◌else◌, List, [], ◌++◌, codes, slice_index, Option, Some, None}
 use Rattle.std.specs.List.{list_any}
-use Rattle.std.specs.Str.{bytes_eq, is_utf8}
+use Rattle.std.specs.Str.{is_utf8}
 use Rattle.mx_config_fault.specs.declared.stands.Stands.{Stands}
 use Rattle.mx_config_fault.specs.declared.stands.Stands.TheVariants.{Unseen, Nothing, Word, Return, Mark, Bytes}
 
@@ -14,7 +14,7 @@ is_control b = nat_lt b 32 || b == 127
 
 -- the byte order mark of UTF-8
 abbrev pub is_marked : List ℕ → Bool
-is_marked word = bytes_eq (take 3 word) (239 ∷ 187 ∷ 191 ∷ [])
+is_marked word = slice_index word 0 == 239 && slice_index word 1 == 187 && slice_index word 2 == 191
 
 abbrev pub word_told : List ℕ → List ℕ
 word_told word = codes ", stands \"" ++ word ++ codes "\""

@@ -1,14 +1,11 @@
 //! The word that is at a place of a line.
 
-ghost use Rattle.std.specs.Prelude.{◌≡◌, option_map};
+ghost use Rattle.std.specs.Prelude.{◌≡◌, option_map, slice_index};
 ghost use Rattle.std.specs.List.{list_any};
 ghost use Rattle.mx_config_fault.specs.Stands.{field_told, is_control, is_marked, is_return, stands_at, stands_told};
 
 use std::fmt;
 use std::str;
-
-/// The byte order mark of UTF-8.
-const MARK: [u8; 3] = [0xEF, 0xBB, 0xBF];
 
 /// The word that is at a place of a line, as far as it can be printed.
 #[derive(Clone, Copy, Debug, PartialEq, Eq)]
@@ -72,10 +69,18 @@ fn has_control(word: &[u8]) -> bool
     word.iter().any(|byte| is_control(*byte))
 }
 
+/// A word's byte, and 0 after its end.
+fn byte_at(word: &[u8], at: usize) -> u8
+    ensures { result ≡ slice_index word.now at }
+{
+    if at < word.len() { word[at] } else { 0 }
+}
+
+/// Whether a word begins with the byte order mark of UTF-8.
 fn is_marked(word: &[u8]) -> bool
     ensures { result ≡ is_marked word.now }
 {
-    word.len() >= 3 && word[..3] == MARK
+    byte_at(word, 0) == 0xEF && byte_at(word, 1) == 0xBB && byte_at(word, 2) == 0xBF
 }
 
 /// A word that a line has.
