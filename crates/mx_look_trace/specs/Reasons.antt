@@ -1,6 +1,6 @@
 -- WHY a trap or a kernel call is refused, in brackets after its result (our own): the check that has this error. Where several
 -- have it, that is the first which says so.
-use Rattle.std.specs.Prelude.{ℕ, ◌+◌, ◌^◌, ◌==◌, ◌&&◌, ◌||◌, not, nat_lt, nat_le, Bool, false, if◌then◌else◌, List, [], ◌++◌, codes, Option, Some, None, is_some, slice_index}
+use Rattle.std.specs.Prelude.{ℕ, ◌+◌, ◌==◌, ◌&&◌, ◌||◌, not, nat_lt, nat_le, Bool, false, if◌then◌else◌, List, [], ◌++◌, codes, Option, Some, None, is_some, slice_index}
 use Rattle.std.specs.Fmt.{decimal}
 use Rattle.mx_word.specs.Bits.{has_bit}
 use Rattle.mx_proc.specs.EndpointNumbers.{slot_of, any_endpoint, hardware_endpoint, system_endpoint, clock_endpoint}
@@ -71,7 +71,7 @@ invalid_text request =
 
 -- an endpoint names the slot of a service
 abbrev pub names_service : Glance → ℕ → Bool
-names_service g e = nat_lt e (2 ^ 31) && is_some (slot_in g (slot_of e))
+names_service g e = nat_lt e 2147483648 && is_some (slot_in g (slot_of e))
 
 -- EBADSRCDST: of VIRCOPY the endpoint that is copied from, or else the other
 unfoldable pub absent_text : Glance → List ℕ → List ℕ

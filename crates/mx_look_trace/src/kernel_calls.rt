@@ -109,7 +109,7 @@ pub(crate) fn push_answer(
     request: &[u32; 9],
     reply: &[u32; 9],
 ) -> Result<(), AllocError>
-    ensures { OnOk result (out.new.items ≡ out.old.items 
+    ensures { OnOk result (out.new.items ≡ out.old.items
         ++ answer_text glance.now request.now reply.now) }
 {
     out.extend_from_slice(b"answer ")?;

@@ -166,11 +166,7 @@ fn outside_text(glance: &Glance, request: &[u32; 9]) -> &'static [u8]
 
 /// Why a request is answered so, by the machine that has answered it.
 #[tactic(auto, unfolding(crate::specs::Reasons::request_reason))]
-pub(crate) fn request_reason(
-    glance: &Glance,
-    request: &[u32; 9],
-    outcome: u32,
-) -> &'static [u8]
+pub(crate) fn request_reason(glance: &Glance, request: &[u32; 9], outcome: u32) -> &'static [u8]
     ensures { result.now ≡ request_reason glance.now request.now outcome }
 {
     match outcome {
