@@ -6,6 +6,7 @@
  * own memory alone is which files are open, and how far each was read or written.
  */
 #include "mx.h"
+#include "memory.h"
 #include "requests.h"
 
 #define MARK "mx files"         /* the name in the directory's first entry */
@@ -25,10 +26,6 @@ struct open_file {
     uint32_t entry;             /* of the directory; 0: no file is open */
     uint32_t position;
 };
-
-void *memcpy(void *to, const void *from, size_t count);
-void *memset(void *to, int byte, size_t count);
-int memcmp(const void *left, const void *right, size_t count);
 
 static struct entry directory[ENTRIES];
 static struct open_file open_files[SLOTS];      /* by the client's slot */

@@ -1,4 +1,5 @@
 /* memory.c: the functions that gcc may call wherever C copies, fills or compares memory. */
+#include "memory.h"
 #include "mx.h"
 
 void *memcpy(void *to, const void *from, size_t count)

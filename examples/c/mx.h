@@ -1,7 +1,7 @@
 /* mx.h: what a process of the machine can ask its kernel, in C.
  *
  * A process reaches the kernel by one instruction, int $33. Everything here is that instruction with
- * its registers filled in: four traps for messages, and eight kernel calls, each of which is a message
+ * its registers filled in: four traps for messages, and nine kernel calls, each of which is a message
  * to the kernel itself.
  */
 #ifndef MX_H

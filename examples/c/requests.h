@@ -29,6 +29,12 @@
 #define FILES_WRITE 3           /* p[0] address, p[1] count; the count that was written */
 #define NAME_SIZE 12            /* bytes of a name, with the zeros that fill it up: one at least */
 
+/* The block server: window.config. It copies through a window that the client opens to it. */
+#define BLOCKS_SLOT 0
+#define BLOCKS_PUT 1            /* p[0] address of BLOCKS_SIZE bytes, which the server may read */
+#define BLOCKS_GET 2            /* p[0] address of BLOCKS_SIZE bytes, which the server may write */
+#define BLOCKS_SIZE 16
+
 /* Results of the file server, with the numbers that MINIX gives them. */
 #define ENOENT (-2)             /* no such file */
 #define EIO (-5)                /* the disk didn't do it */

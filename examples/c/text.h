@@ -2,9 +2,8 @@
 #ifndef TEXT_H
 #define TEXT_H
 
+#include "memory.h"
 #include "mx.h"
-
-size_t strlen(const char *text);
 
 /* Copies a text to a place, and returns the place behind it, where a zero byte stands. */
 char *put_text(char *to, const char *text);

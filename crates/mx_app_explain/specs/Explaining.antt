@@ -166,7 +166,7 @@ record_wanted r =
 
 abbrev pub lines_wanted : CommandRequest → BootError → List ℕ
 lines_wanted r (lines.BadLine n) =
-    codes "an item: cpus, others, log, rules or service; and at least one service"
+    codes "an item: cpus 1 to 8, others 1 to 4, log 1 to 1048576, rules 1 or 2, or service NAME FILE traps T send S calls C level L best B quantum Q restarts R, with T, S, C hexadecimal without 0x, L 0 to 14, B 0 to L, Q 1 to 65535, R 0 to 1048575, NAME at most 8 bytes and no register; a line feed alone at the end, no byte order mark; and at least one service"
 lines_wanted r (lines.TwiceNamed n) =
     codes "each item once, and a name of its own for each service"
 lines_wanted r (lines.TooMany n) = codes "at most 32 services"

@@ -34,11 +34,21 @@ fn problem_wanted(problem: Problem) -> &'static str
     ensures { result.now ≡ problem_wanted problem }
 {
     match problem {
-        Problem::BadByte => "a token, or an escape that is known",
-        Problem::BadNumber => "a number of 32 bits, decimal or after 0x",
+        Problem::BadByte => {
+            "a token, or an escape that is known; a character is written as its number, and \
+             there are no constants"
+        }
+        Problem::BadNumber => "a number of 32 bits, decimal or hexadecimal after 0x, as 33 or 0x21",
         Problem::OpenText => "the quote that ends a text",
-        Problem::UnknownWord => "an instruction or a directive",
-        Problem::BadOperands => "operands that the statement takes",
+        Problem::UnknownWord => {
+            "an instruction or a directive, in lower case; jz for je, jnz for jne, jb for jc, \
+             jnb for jae, jnbe for ja, jnl for jge, jnle for jg"
+        }
+        Problem::BadOperands => {
+            "operands that the statement takes: registers, numbers that fit, and at most one \
+             bracket, with byte, word or dword before it if no register has the size; a comment \
+             begins with ;"
+        }
         Problem::Twice => "each label, .sep, .entry and .stack once",
         Problem::Undefined => "a name that a line defines",
         Problem::TooFar => "a target at most 127 bytes ahead or 128 back",
@@ -73,7 +83,11 @@ fn lines_wanted(request: CommandRequest<'_>, error: BootError) -> &'static str
 {
     match error {
         BootError::BadLine(_) => {
-            "an item: cpus, others, log, rules or service; and at least one service"
+            "an item: cpus 1 to 8, others 1 to 4, log 1 to 1048576, rules 1 or 2, or service \
+             NAME FILE traps T send S calls C level L best B quantum Q restarts R, with T, S, C \
+             hexadecimal without 0x, L 0 to 14, B 0 to L, Q 1 to 65535, R 0 to 1048575, NAME at \
+             most 8 bytes and no register; a line feed alone at the end, no byte order mark; \
+             and at least one service"
         }
         BootError::TwiceNamed(_) => "each item once, and a name of its own for each service",
         BootError::TooMany(_) => "at most 32 services",

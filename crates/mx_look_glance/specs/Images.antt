@@ -19,6 +19,6 @@ unfoldable pub message_at : List ℕ → ℕ → Option (List ℕ)
 message_at memory at =
     if nat_lt (length memory) (at + 36) then None else Some (nine_words (take 36 (drop at memory)))
 
--- trap and result, and the message at the buffer
+-- trap and result, the memory's length, and the message at the buffer
 unfoldable pub image_glance : Image → ImageGlance
-image_glance m = record { eax = m.regs.eax; ecx = m.regs.ecx; words = message_at m.memory m.regs.ebx }
+image_glance m = record { eax = m.regs.eax; ecx = m.regs.ecx; limit = length m.memory; words = message_at m.memory m.regs.ebx }

@@ -7,12 +7,13 @@ use mx_exec::Image;
 use mx_mem::{MESSAGE_SIZE, Segment};
 use mx_word::{Register, read_dword};
 
-/// What is looked at of an image: the registers of a trap and of its result, and the nine words of
-/// the message at its buffer (source, type, p0 to p6), if they lie inside its memory.
+/// What is looked at of an image: the registers of a trap and of its result, the length of its memory, and
+/// the nine words of the message at its buffer (source, type, p0 to p6), if they lie inside its memory.
 #[derive(Clone, Copy)]
 pub struct ImageGlance {
     pub eax: u32,
     pub ecx: u32,
+    pub limit: usize,
     pub words: Option<[u32; 9]>,
 }
 
@@ -61,6 +62,7 @@ pub(crate) fn image_glance(image: &Image) -> ImageGlance
     ImageGlance {
         eax: image.register(Register::Eax),
         ecx: image.register(Register::Ecx),
+        limit: image.memory.limit(),
         words: message_at(&image.memory, image.register(Register::Ebx)),
     }
 }

@@ -15,6 +15,8 @@ use mx_text::Name;
 pub struct SlotGlance {
     pub name: Name,
     pub endpoint: Endpoint,
+    /// The traps that it may make, bit n for trap n.
+    pub traps: u32,
     pub doing: Doing,
     pub level: u8,
     /// The ticks of its quantum that are left.
@@ -38,6 +40,7 @@ fn glance_of_slot(table: &Table, slot: Slot, service: &Service) -> SlotGlance
     SlotGlance {
         name: service.name,
         endpoint: table.endpoint(slot),
+        traps: process.masks.traps,
         doing: doing_of(table, slot, process.state),
         level: process.level,
         ticks: process.ticks,

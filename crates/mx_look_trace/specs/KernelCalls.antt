@@ -1,10 +1,12 @@
 -- Kernel calls, as a trace has them (our own): types, names, and how many words requests and replies have. A type has one
 -- name by both rules; by the lenient ones GRANT is answered EBADREQUEST.
-use Rattle.std.specs.Prelude.{ℕ, ◌==◌, ◌&&◌, ◌||◌, if◌then◌else◌, List, [], ◌++◌, codes, take, drop, Option, Some, None, slice_index}
+use Rattle.std.specs.Prelude.{ℕ, ◌+◌, ◌-◌, ◌==◌, ◌&&◌, ◌||◌, nat_le, if◌then◌else◌, List, [], ◌++◌, codes, take, drop, Option, Some, None, slice_index}
 use Rattle.std.specs.Fmt.{decimal}
 use Rattle.mx_look_facts.specs.CpuGlance.{CpuGlance}
+use Rattle.mx_look_facts.specs.Glance.{Glance}
 use Rattle.mx_look_facts.specs.Calls.{asks_kernel}
 use Rattle.mx_look_trace.specs.Numbers.{result_text, spaced_numbers}
+use Rattle.mx_look_trace.specs.Reasons.{request_reason}
 
 unfoldable pub request_name : ℕ → List ℕ
 request_name kind =
@@ -32,8 +34,14 @@ request_count kind =
 abbrev pub words_from : ℕ → List ℕ → List ℕ
 words_from count message = spaced_numbers (take count (drop 2 message))
 
+-- a type that no request has; 600 to 608 are the hexadecimal digits of one that has a name
+unfoldable pub other_type : ℕ → List ℕ
+other_type kind =
+    codes ", type " ++ decimal kind
+    ++ (if nat_le 600 kind && nat_le kind 608 then codes ": 0x" ++ decimal kind ++ codes " is " ++ request_name (kind - 600 + 0x600) else [])
+
 abbrev pub named_request : List ℕ → ℕ → List ℕ → List ℕ
-named_request [] kind message = codes ", type " ++ decimal kind
+named_request [] kind message = other_type kind
 named_request name kind message = codes ", " ++ name ++ words_from (request_count kind) message
 
 unfoldable pub request_words : List ℕ → List ℕ
@@ -55,8 +63,9 @@ answer_count kind action =
     if (kind == 0x604) && (action == 0) then 1 else
     0
 
--- AN ANSWER: the result, which is the type of the reply, and of OK the reply's words
-unfoldable pub answer_text : List ℕ → List ℕ → List ℕ
-answer_text request reply =
+-- AN ANSWER: the result, which is the type of the reply; of OK the reply's words, and else why
+unfoldable pub answer_text : Glance → List ℕ → List ℕ → List ℕ
+answer_text g request reply =
     codes "answer " ++ result_text (slice_index reply 1)
-    ++ (if slice_index reply 1 == 0 then words_from (answer_count (slice_index request 1) (slice_index request 2)) reply else [])
+    ++ (if slice_index reply 1 == 0 then words_from (answer_count (slice_index request 1) (slice_index request 2)) reply
+    else request_reason g request (slice_index reply 1))

@@ -1,5 +1,6 @@
 pub mod Numbers
 pub mod Words
+pub mod Reasons
 pub mod KernelCalls
 pub mod Trace
 pub use Rattle.mx_look_facts.specs.declared.step.Step

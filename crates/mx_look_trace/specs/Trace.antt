@@ -24,6 +24,7 @@ use Rattle.mx_look_facts.specs.Calls.{kernel_call}
 use Rattle.mx_look_facts.specs.Slots.{has_changed, has_rung, is_renewed}
 use Rattle.mx_look_trace.specs.Numbers.{hex_text, spaced_numbers, used_count, result_text}
 use Rattle.mx_look_trace.specs.Words.{who, who_of, party_text, doing_text}
+use Rattle.mx_look_trace.specs.Reasons.{refusal_part}
 use Rattle.mx_look_trace.specs.KernelCalls.{request_text, answer_text}
 
 -- ---- a record's own line
@@ -105,7 +106,7 @@ margin x = decimal x.number ++ codes "   "
 
 -- a kernel call's caller that goes on has its answer in its buffer
 abbrev pub answered_by : Step → SlotGlance → Option (List ℕ) → Option (List ℕ) → List ℕ
-answered_by x u (Some request) (Some reply) = if is_ready u.doing then margin x ++ answer_text request reply ++ codes "\n" else []
+answered_by x u (Some request) (Some reply) = if is_ready u.doing then margin x ++ answer_text x.after request reply ++ codes "\n" else []
 answered_by x u _ _ = []
 
 unfoldable pub answered : Step → CpuGlance → SlotGlance → List ℕ
@@ -183,12 +184,12 @@ kept_lines_by x _ _ = []
 unfoldable pub kept_lines : Step → ℕ → List ℕ
 kept_lines x s = kept_lines_by x (slot_in x.before s) (slot_in x.after s)
 
-abbrev pub result_part_by : Option ℕ → List ℕ
-result_part_by None = []
-result_part_by (Some r) = codes ", result " ++ result_text r
+abbrev pub result_part_by : Step → ℕ → Option ℕ → List ℕ
+result_part_by x s None = []
+result_part_by x s (Some r) = codes ", result " ++ result_text r ++ refusal_part x s r
 
 unfoldable pub result_part : Step → ℕ → List ℕ
-result_part x s = result_part_by (gone_on x s)
+result_part x s = result_part_by x s (gone_on x s)
 
 unfoldable pub changed : Step → ℕ → SlotGlance → SlotGlance → List ℕ
 changed x s v u = margin x ++ who_of u ++ codes ": " ++ doing_text v.doing ++ codes " -> " ++ doing_text u.doing ++ result_part x s ++ codes "\n"

@@ -2,10 +2,12 @@
 //! `request_name`, in `request_count`, and in `answer_count` if its reply has words.
 
 ghost use Rattle.std.specs.Prelude.{◌≡◌, ◌≤◌, ◌++◌, OnOk, slice_index};
-ghost use Rattle.mx_look_trace.specs.KernelCalls.{request_name, request_count, request_words, request_text, answer_count, answer_text};
+ghost use Rattle.mx_look_trace.specs.KernelCalls.{request_name, request_count, other_type, request_words, request_text, answer_count, answer_text};
 
 use crate::numbers::{push_result, push_spaced};
-use mx_look_facts::{CpuGlance, asks_kernel};
+use crate::reasons::request_reason;
+use crate::words::push_counted;
+use mx_look_facts::{CpuGlance, Glance, asks_kernel};
 use mx_print_report::push_decimal;
 use std::alloc::AllocError;
 
@@ -44,6 +46,21 @@ fn request_count(kind: u32) -> usize
     }
 }
 
+/// Appends a type that no request has, and the request whose type it is if its digits are hexadecimal.
+#[tactic(auto, unfolding(crate::specs::KernelCalls::other_type))]
+fn push_other_type(out: &mut Vec<u8>, kind: u32) -> Result<(), AllocError>
+    ensures { OnOk result (out.new.items ≡ out.old.items ++ other_type kind) }
+{
+    push_counted(out, b", type", kind)?;
+    if kind < 600 || kind > 608 {
+        return Ok(());
+    }
+    out.extend_from_slice(b": 0x")?;
+    push_decimal(out, kind)?;
+    out.extend_from_slice(b" is ")?;
+    out.extend_from_slice(request_name(kind - 600 + 0x600))
+}
+
 /// Appends a request.
 #[tactic(auto, unfolding(crate::specs::KernelCalls::request_words))]
 fn push_request_words(out: &mut Vec<u8>, words: &[u32; 9]) -> Result<(), AllocError>
@@ -52,8 +69,7 @@ fn push_request_words(out: &mut Vec<u8>, words: &[u32; 9]) -> Result<(), AllocEr
     let kind = words[1];
     let name = request_name(kind);
     if name.is_empty() {
-        out.extend_from_slice(b", type ")?;
-        return push_decimal(out, kind);
+        return push_other_type(out, kind);
     }
     out.extend_from_slice(b", ")?;
     out.extend_from_slice(name)?;
@@ -85,19 +101,21 @@ fn answer_count(kind: u32, action: u32) -> usize
     }
 }
 
-/// Appends the reply to a request.
+/// Appends the reply to a request, by the machine that has answered it.
 #[tactic(auto, unfolding(crate::specs::KernelCalls::answer_text))]
 pub(crate) fn push_answer(
     out: &mut Vec<u8>,
+    glance: &Glance,
     request: &[u32; 9],
     reply: &[u32; 9],
 ) -> Result<(), AllocError>
-    ensures { OnOk result (out.new.items ≡ out.old.items ++ answer_text request.now reply.now) }
+    ensures { OnOk result (out.new.items ≡ out.old.items
+        ++ answer_text glance.now request.now reply.now) }
 {
     out.extend_from_slice(b"answer ")?;
     push_result(out, reply[1])?;
     if reply[1] != 0 {
-        return Ok(());
+        return out.extend_from_slice(request_reason(glance, request, reply[1]));
     }
     push_spaced(out, &reply[2..2 + answer_count(request[1], request[2])])
 }

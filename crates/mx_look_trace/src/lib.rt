@@ -6,6 +6,7 @@ mod kernel_calls;
 mod lines;
 mod numbers;
 mod pending;
+mod reasons;
 mod record;
 mod words;
 

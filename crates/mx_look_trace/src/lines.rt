@@ -6,6 +6,7 @@ ghost use Rattle.mx_look_trace.specs.Trace.{margin, answered, answer_line, conso
 
 use crate::kernel_calls::push_answer;
 use crate::numbers::{push_hex, push_result, push_spaced, used_count};
+use crate::reasons::push_refusal;
 use crate::words::{push_counted, push_doing, push_party, push_who, push_who_of};
 use mx_look_facts::{
     CpuGlance, Delivery, DeliveryKind, SlotGlance, Step, delivery_to, gone_on, has_changed,
@@ -36,7 +37,7 @@ fn push_answered(
     match (&held.image.words, &seen.image.words) {
         (Some(request), Some(reply)) if is_ready(seen.doing) => {
             push_margin(out, step)?;
-            push_answer(out, request, reply)?;
+            push_answer(out, &step.after, request, reply)?;
             out.push(b'\n')?;
             Ok(())
         }
@@ -163,7 +164,7 @@ pub fn push_delivery(out: &mut Vec<u8>, step: &Step, slot: u32) -> Result<(), Al
     Ok(())
 }
 
-/// Appends the result with which a slot's process has gone on, if it has.
+/// Appends the result with which a slot's process has gone on, if it has, and why it is an error.
 #[tactic(auto, unfolding(crate::specs::Trace::result_part))]
 fn push_result_part(out: &mut Vec<u8>, step: &Step, slot: u32) -> Result<(), AllocError>
     ensures { OnOk result (out.new.items ≡ out.old.items ++ result_part step.now slot) }
@@ -171,7 +172,8 @@ fn push_result_part(out: &mut Vec<u8>, step: &Step, slot: u32) -> Result<(), All
     match gone_on(step, slot) {
         Some(outcome) => {
             out.extend_from_slice(b", result ")?;
-            push_result(out, outcome)
+            push_result(out, outcome)?;
+            push_refusal(out, step, slot, outcome)
         }
         None => Ok(()),
     }

@@ -677,7 +677,10 @@ static EXPLAINED: &[Failed] = &[
         words: &["mx", "as", "wrong.s", "new.out", "--explain"],
         status: 1,
         told: "mx: 11 BadOperands line 2\n\
-               mx: TEXT wrong.s: wanted operands that the statement takes\n",
+               mx: TEXT wrong.s: wanted operands that the statement takes: registers, numbers that \
+               fit, and at most one bracket, with byte, word or dword \
+               before it if no register has the size; a comment begins with \
+               ;\n",
     },
     Failed {
         name: "as: a text isn't written over by its own file",
@@ -793,7 +796,12 @@ static EXPLAINED: &[Failed] = &[
         words: &["mx", "db", "bad", "look", "--explain"],
         status: 1,
         told: "mx: 70 BadLine line 2\nmx: CONFIG bad: \
-               wanted an item: cpus, others, log, rules or service; and at least one service\n",
+               wanted an item: cpus 1 to 8, others 1 to 4, log 1 to 1048576, rules 1 or 2, \
+               or service NAME FILE traps T send S calls C level L best B quantum Q \
+               restarts R, with T, S, C hexadecimal without 0x, L 0 to 14, B 0 to L, \
+               Q 1 to 65535, R 0 to 1048575, NAME at most 8 bytes and no register; a \
+               line feed alone at the end, no byte order mark; and at least one \
+               service\n",
     },
 ];
 

@@ -1,0 +1,100 @@
+-- WHY a trap or a kernel call is refused, in brackets after its result (our own): the check that has this error. Where several
+-- have it, that is the first which says so.
+use Rattle.std.specs.Prelude.{ℕ, ◌+◌, ◌==◌, ◌&&◌, ◌||◌, not, nat_lt, nat_le, Bool, false, if◌then◌else◌, List, [], ◌++◌, codes, Option, Some, None, is_some, slice_index}
+use Rattle.std.specs.Fmt.{decimal}
+use Rattle.mx_word.specs.Bits.{has_bit}
+use Rattle.mx_proc.specs.EndpointNumbers.{slot_of, any_endpoint, hardware_endpoint, system_endpoint, clock_endpoint}
+use Rattle.mx_proc.specs.Errors.{errno_bits}
+use Rattle.mx_proc.specs.declared.errors.Errno.TheVariants.{BadAddress, Invalid, BadEndpoint, Denied}
+use Rattle.mx_look_facts.specs.SlotGlance.{SlotGlance}
+use Rattle.mx_look_facts.specs.CpuGlance.{CpuGlance}
+use Rattle.mx_look_facts.specs.Glance.{Glance}
+use Rattle.mx_look_facts.specs.declared.step.Step.{Step}
+use Rattle.mx_look_facts.specs.Step.{slot_in, held_before}
+use Rattle.mx_look_facts.specs.Going.{is_acted}
+use Rattle.mx_look_trace.specs.Words.{party_text}
+
+-- ---- of a trap
+
+-- HARDWARE, SYSTEM or CLOCK
+abbrev pub is_pseudo : ℕ → Bool
+is_pseudo e = (e == hardware_endpoint) || (e == system_endpoint) || (e == clock_endpoint)
+
+-- the partner that the call can't have
+abbrev pub partner_text : Glance → ℕ → List ℕ
+partner_text g party = codes " (to " ++ party_text g party ++ codes ")"
+
+-- ECALLDENIED: no such call, the trap mask, SEND or NOTIFY to a pseudo-process, or else the send mask
+unfoldable pub denied_text : Glance → ℕ → ℕ → ℕ → List ℕ
+denied_text g traps call party =
+    if (call == 0) || nat_lt 4 call then codes " (no call " ++ decimal call ++ codes ")" else
+    if not (has_bit traps call) then codes " (trap mask)" else
+    if is_pseudo party then partner_text g party else
+    codes " (send mask)"
+
+-- EBADSRCDST: ANY, HARDWARE or CLOCK out of place, or the endpoint of no service
+unfoldable pub misnamed_text : Glance → ℕ → List ℕ
+misnamed_text g party =
+    if (party == any_endpoint) || is_pseudo party then partner_text g party else codes " (no such slot)"
+
+-- the refusal of a trap that was held, by a process as it was seen: EFAULT is about the 36 bytes at EBX
+unfoldable pub trap_reason : Glance → CpuGlance → SlotGlance → ℕ → List ℕ
+trap_reason g h v r =
+    if r == errno_bits Denied then denied_text g v.traps h.image.ecx h.image.eax else
+    if r == errno_bits BadEndpoint then misnamed_text g h.image.eax else
+    if r == errno_bits BadAddress then codes " (buffer)" else
+    []
+
+abbrev pub refusal_part_by : Step → Option CpuGlance → Option SlotGlance → ℕ → List ℕ
+refusal_part_by x (Some h) (Some v) r = trap_reason x.before h v r
+refusal_part_by x _ _ r = []
+
+-- WHY A SLOT'S TRAP HAS THIS RESULT, if that is the result of its trap
+unfoldable pub refusal_part : Step → ℕ → ℕ → List ℕ
+refusal_part x s r = if is_acted x s then refusal_part_by x (held_before x) (slot_in x.before s) r else []
+
+-- ---- of a kernel call: the word of the request that is at fault, p0 at place 2, and what it is
+
+-- EINVAL
+unfoldable pub invalid_text : List ℕ → List ℕ
+invalid_text request =
+    let kind = slice_index request 1 in
+    let action = slice_index request 2 in
+    if ((kind == 0x603) || (kind == 0x604)) && nat_lt 1 action then codes " (p0, action)" else
+    if kind == 0x603 then codes " (p1, line)" else
+    if kind == 0x604 then codes " (p1, register)" else
+    if kind == 0x605 then codes " (p4, count)" else
+    if kind == 0x607 then codes " (p0, slot)" else
+    if (kind == 0x608) && nat_lt 3 (slice_index request 5) then codes " (p3, access)" else
+    if kind == 0x608 then codes " (p0, oneself)" else
+    []
+
+-- an endpoint names the slot of a service
+abbrev pub names_service : Glance → ℕ → Bool
+names_service g e = nat_lt e 2147483648 && is_some (slot_in g (slot_of e))
+
+-- EBADSRCDST: of VIRCOPY the endpoint that is copied from, or else the other
+unfoldable pub absent_text : Glance → List ℕ → List ℕ
+absent_text g request =
+    if (slice_index request 1 == 0x605) && names_service g (slice_index request 2) then codes " (p2, endpoint)"
+    else codes " (p0, endpoint)"
+
+-- so many bytes from an address on lie inside the memory of a slot's process
+abbrev pub holds_in : Option SlotGlance → ℕ → ℕ → Bool
+holds_in None at count = false
+holds_in (Some u) at count = nat_le (at + count) u.image.limit
+
+-- EFAULT: of VIRCOPY the range that is copied from, or else the other
+unfoldable pub outside_text : Glance → List ℕ → List ℕ
+outside_text g request =
+    if (slice_index request 1 == 0x605) && holds_in (slot_in g (slot_of (slice_index request 2))) (slice_index request 3) (slice_index request 6)
+    then codes " (p3, address)" else codes " (p1, address)"
+
+-- WHY A REQUEST IS ANSWERED SO, by the machine that has answered it
+unfoldable pub request_reason : Glance → List ℕ → ℕ → List ℕ
+request_reason g request r =
+    if r == errno_bits Denied then codes " (call mask)" else
+    if r == errno_bits Invalid then invalid_text request else
+    if r == errno_bits BadEndpoint then absent_text g request else
+    if r == errno_bits BadAddress then outside_text g request else
+    []
