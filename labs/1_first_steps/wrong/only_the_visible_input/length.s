@@ -1,8 +1,0 @@
-; The length of the text at `input`, which ends with a zero byte: in EAX.
-.sep
-.data
-input:  .ascii "hello\0"
-        .space 58
-.text
-        mov eax, 5
-        int 33
