@@ -1,0 +1,3 @@
+mod SoFar
+mod Moving
+mod Laws

@@ -1,0 +1,51 @@
+-- Positions that requests lead to.
+use Rattle.std.proofs.Common.{◌≡◌, ◌∙◌, ◌≤◌, ◌<◌, ◌⊎◌, ℕ, zero, suc, ◌+◌, ◌-◌, cond, Bool, true, false, List, Option, Some, None, refl, ap, sym, subst, inl, inr, arith}
+use Rattle.std.proofs.lemmas.Bool.{cases_lt}
+use Rattle.mx_machine_world.specs.declared.events.Event.{Event}
+use Rattle.mx_machine_world.specs.declared.history.Record.{Record}
+use Rattle.mx_walk.specs.declared.positions.Position.{Position}
+use Rattle.mx_walk.specs.Positions.{IsAbove, IsPosition, IsUpTo, event_below, first_steps, is_up_to, next_position, position_before}
+use Rattle.mx_walk.specs.Walks.{Walk}
+use Rattle.mx_walk.proofs.Arriving.{has_event, not_itself}
+use Rattle.mx_walk.proofs.Next.{is_position_too, next_up_to, up_to_of}
+use Rattle.mx_app_look.specs.Moves.{steps_back, steps_on}
+
+pub records_up_to : (p q : Position) → IsUpTo p q → p.records ≤ q.records
+records_up_to p q (inl lt) = omega (arith, lt)
+records_up_to p q (inr h) = let e = h.0 in omega (arith, e)
+
+pub up_to_itself : (p : Position) → IsUpTo p p
+up_to_itself p = let le : p.steps ≤ p.steps = omega arith in inr (refl, le)
+
+-- the start of a record that isn't below a position is one
+pub start_is_position : (records : List Record) (p q : Position) → p.steps ≡ 0 → p.records ≤ q.records → IsPosition records q → IsPosition records p
+start_is_position records p q e le h = record {
+  above = let a = h.above in omega (arith, le, a);
+  inside = omega (arith, e);
+}
+
+pub start_up_to : (p here last : Position) → p.steps ≡ 0 → p.records ≤ here.records → IsUpTo here last → IsUpTo p last
+start_up_to p here last e le (inl lt) = let below : p.records < last.records = omega (arith, le, lt) in inl below
+start_up_to p here last e le (inr h) = elim (cases_lt p.records last.records) [
+  | inl lt ↦ inl lt
+  | inr ge ↦
+      let s = h.0 in
+      let same : p.records ≡ last.records = omega (arith, ge, le, s) in
+      let few : p.steps ≤ last.steps = omega (arith, e) in inr (same, few)
+]
+
+-- ---- one event on
+
+pub on_by_one : (k : Walk) (n : ℕ) (p : Position) → is_up_to k.last p ≡ false → steps_on (suc n) k p ≡ steps_on n k (next_position k.records p)
+on_by_one k n p e = ap (λ b. let r : Position = cond b p (steps_on n k (next_position k.records p)) in r) e
+
+pub on_stays : (k : Walk) (n : ℕ) (p : Position) → is_up_to k.last p ≡ true → steps_on n k p ≡ p
+on_stays k zero p e = refl
+on_stays k (suc n) p e = ap (λ b. let r : Position = cond b p (steps_on n k (next_position k.records p)) in r) e
+
+pub next_is_early : (records : List Record) (p last : Position) (x : ℕ × Event) → IsPosition records p → IsPosition records last → IsAbove p last → event_below records p ≡ Some x
+    → IsUpTo (next_position records p) last
+next_is_early records p last x h l lt e = next_up_to records p last x h l e (up_to_of p last lt) (not_itself p last lt)
+
+pub no_end : (records : List Record) (p last : Position) → IsPosition records last → IsAbove p last → event_below records p ≡ None → ⊥
+no_end records p last l lt e = let x = has_event records p last l lt in let no : None ≡ Some x.0 = sym e ∙ x.1 in cc
