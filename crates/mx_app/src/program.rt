@@ -77,7 +77,11 @@ where
         PrintedText::Other
     };
     // a session's reader has ended the last line
-    let last = if begin_with(words, "look") { None } else { channels.out.last() };
+    let last = if begin_with(words, "look") {
+        None
+    } else {
+        channels.out.last()
+    };
     help_reader(rt, terminals, printed, last);
     answer
 }

@@ -2,9 +2,7 @@
 
 use crate::files::reader;
 use crate::texts::Narrow;
-use mx_app::{
-    Channels, CommandRequest, Failure, InputLines, MemoryWriter, RecordRange, perform,
-};
+use mx_app::{Channels, CommandRequest, Failure, InputLines, MemoryWriter, RecordRange, perform};
 use mx_app_db::{Script, make_steps, start};
 use mx_boot::{Over, save};
 use mx_machine::{Event, Machine};
