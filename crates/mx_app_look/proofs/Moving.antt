@@ -1,13 +1,13 @@
 -- Positions that requests lead to.
-use Rattle.std.proofs.Common.{◌≡◌, ◌∙◌, ◌≤◌, ◌<◌, ◌⊎◌, ℕ, zero, suc, ◌+◌, ◌-◌, cond, Bool, true, false, List, Option, Some, None, refl, ap, sym, subst, inl, inr, arith}
-use Rattle.std.proofs.lemmas.Bool.{cases_lt}
+use Rattle.std.proofs.Common.{◌≡◌, ◌∙◌, ◌≤◌, ◌<◌, ◌⊎◌, ℕ, zero, suc, ◌+◌, ◌-◌, eqb, ◌&&◌, cond, Bool, true, false, List, Option, Some, None, refl, ap, sym, subst, inl, inr, arith}
+use Rattle.std.proofs.lemmas.Bool.{cases_lt, ne_eqb}
 use Rattle.mx_machine_world.specs.declared.events.Event.{Event}
 use Rattle.mx_machine_world.specs.declared.history.Record.{Record}
 use Rattle.mx_walk.specs.declared.positions.Position.{Position}
 use Rattle.mx_walk.specs.Positions.{IsAbove, IsPosition, IsUpTo, event_below, first_steps, is_up_to, next_position, position_before}
-use Rattle.mx_walk.specs.Walks.{Walk}
+use Rattle.mx_walk.specs.Walks.{Walk, first}
 use Rattle.mx_walk.proofs.Arriving.{has_event, not_itself}
-use Rattle.mx_walk.proofs.Next.{is_position_too, next_up_to, up_to_of}
+use Rattle.mx_walk.proofs.Next.{above_trans, is_position_too, next_up_to, up_to_of}
 use Rattle.mx_app_look.specs.Moves.{steps_back, steps_on}
 
 pub records_up_to : (p q : Position) → IsUpTo p q → p.records ≤ q.records
@@ -49,3 +49,36 @@ next_is_early records p last x h l lt e = next_up_to records p last x h l e (up_
 
 pub no_end : (records : List Record) (p last : Position) → IsPosition records last → IsAbove p last → event_below records p ≡ None → ⊥
 no_end records p last l lt e = let x = has_event records p last l lt in let no : None ≡ Some x.0 = sym e ∙ x.1 in cc
+
+-- ---- one event back
+
+abbrev is_first : Position → Bool
+is_first p = eqb p.records 0 && eqb p.steps 0
+
+no_and : (a b : Bool) → b ≡ false → a && b ≡ false
+no_and true b e = e
+no_and false b e = refl
+
+not_first : (q p : Position) → IsAbove q p → is_first p ≡ false
+not_first q p (inl lt) = ap (λ b. b && eqb p.steps 0) (ne_eqb p.records 0 (λ e. omega (arith, e, lt)))
+not_first q p (inr h) = no_and (eqb p.records 0) (eqb p.steps 0) (ne_eqb p.steps 0 (λ e. let lt = h.1 in omega (arith, e, lt)))
+
+pub back_by_one : (k : Walk) (n : ℕ) (q p : Position) → IsAbove q p → steps_back (suc n) k p ≡ steps_back n k (position_before k.records p)
+back_by_one k n q p lt = ap (λ b. let r : Position = cond b p (steps_back n k (position_before k.records p)) in r) (not_first q p lt)
+
+pub back_stays : (k : Walk) (n : ℕ) (p : Position) → p ≡ first → steps_back n k p ≡ p
+back_stays k zero p e = refl
+back_stays k (suc n) p e =
+    let is : is_first p ≡ true = ap is_first e in
+    ap (λ b. let r : Position = cond b p (steps_back n k (position_before k.records p)) in r) is
+
+pub before_is_early : (q p last : Position) → IsAbove q p → IsUpTo p last → IsUpTo q last
+before_is_early q p last lt le = up_to_of q last (above_trans q p last lt le)
+
+-- ---- how many are left
+
+pub one_less : (n i : ℕ) → i < n → n - i ≡ suc (n - (i + 1))
+one_less n i lt = omega (arith, lt)
+
+pub none_left : (n i : ℕ) → n ≤ i → n - i ≡ 0
+none_left n i ge = omega (arith, ge)
