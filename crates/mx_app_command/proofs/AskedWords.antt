@@ -231,7 +231,7 @@ turns_fits words fine =
 
 replay_fits : Fits (whole_of (of_two (codes "replay") (codes "CONFIG") (codes "LOG")))
 replay_fits words fine = let given = two_texts_given (codes "replay") (codes "CONFIG") (codes "LOG") (refl, refl) (refl, refl) refl refl words fine in
-    ((λ e. (given.0, inr (inr (given.1, inr (inl refl))))), (λ e. absurd (true≢false e)))
+    ((λ e. (given.0, inr (inr (given.1, inr (inl (inl refl)))))), (λ e. absurd (true≢false e)))
 
 abbrev looking_whole : Text → Shape
 looking_whole name = whole_of (looking_shape name)
@@ -277,7 +277,7 @@ draw_fits words fine = let given = looking_values (codes "draw") words fine in
 
 look_fits : Fits (whole_of (of_two (codes "look") (codes "CONFIG") (codes "LOG")))
 look_fits words fine = let given = two_texts_given (codes "look") (codes "CONFIG") (codes "LOG") (refl, refl) (refl, refl) refl refl words fine in
-    ((λ e. (given.0, inr (inr (given.1, inr (inr (inl refl)))))), (λ e. absurd (true≢false e)))
+    ((λ e. (given.0, inr (inr (given.1, inr (inl (inr refl)))))), (λ e. absurd (true≢false e)))
 
 db_fits : Fits (whole_of (of_two (codes "db") (codes "CONFIG") (codes "SCRIPT")))
 db_fits words fine = let given = two_texts_given (codes "db") (codes "CONFIG") (codes "SCRIPT") (refl, refl) (refl, refl) refl refl words fine in

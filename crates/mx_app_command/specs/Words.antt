@@ -214,10 +214,9 @@ abbrev pub IsHistoryAsked : Text → List Row → Type 0
 IsHistoryAsked name rows =
     IsGiven (codes "LOG") rows
     × (((name ≡ codes "run") × MayHaveNumber (codes "T") rows)
-    ⊎ ((name ≡ codes "replay")
-    ⊎ ((name ≡ codes "look")
+    ⊎ (((name ≡ codes "replay") ⊎ (name ≡ codes "look"))
     ⊎ ((((name ≡ codes "trace") ⊎ (name ≡ codes "draw")) × MayHaveRange rows)
-    ⊎ ((name ≡ codes "turns") × MayHaveTurns rows)))))
+    ⊎ ((name ≡ codes "turns") × MayHaveTurns rows))))
 
 -- those that work on a machine: each has a configuration, and all but `explain` a script or a history
 abbrev pub IsMachineAsked : Text → List Row → Type 0
