@@ -1,3 +1,3 @@
 mod SoFar
 mod Moving
-mod Laws
+mod Traced

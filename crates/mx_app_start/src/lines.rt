@@ -1,6 +1,6 @@
 //! What gives the lines that are typed.
 
-ghost use Rattle.std.specs.Prelude.{◌≡◌, ◌++◌, ◌∷◌, [], List, IfOk, OnErr, true, false};
+ghost use Rattle.std.specs.Prelude.{◌≡◌, ◌++◌, ◌∷◌, [], ℕ, List, IfOk, OnErr, true, false};
 ghost use Rattle.mx_app_start.specs.Asked.{lines_in};
 
 use crate::noted::Noted;

@@ -1,7 +1,7 @@
 use Rattle.std.proofs.Common.{◌∙◌, ◌++◌, ap, subst, sym}
 use Rattle.mx_walk.specs.Walks.{IsLast, Walk}
 use Rattle.mx_app_look.specs.Sessions.{begun_text, session_text}
-use Rattle.mx_app_look.proofs.Laws.{same_walk}
+use Rattle.mx_app_look.proofs.Traced.{same_walk}
 use Rattle.mx_app_look.proofs.laws.one_session.Goals as goal
 
 pub returns : goal.returns
