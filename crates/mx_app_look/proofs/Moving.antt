@@ -1,6 +1,6 @@
 -- Positions that requests lead to.
-use Rattle.std.proofs.Common.{◌≡◌, ◌∙◌, ◌≤◌, ◌<◌, ◌⊎◌, ℕ, zero, suc, ◌+◌, ◌-◌, eqb, ◌&&◌, cond, Bool, true, false, List, [], ◌∷◌, length, drop, Option, Some, None, slice_get, refl, ap, sym, subst, inl, inr, arith}
-use Rattle.std.proofs.lemmas.Bool.{cases_lt, ne_eqb}
+use Rattle.std.proofs.Common.{◌≡◌, ◌∙◌, ◌≤◌, ◌<◌, ◌⊎◌, ℕ, zero, suc, ◌+◌, ◌-◌, eqb, leb, ltb, ◌&&◌, cond, Bool, true, false, List, [], ◌∷◌, length, drop, Option, Some, None, slice_get, refl, ap, sym, subst, inl, inr, arith}
+use Rattle.std.proofs.lemmas.Bool.{cases_lt, le-ltb, ne_eqb}
 use Rattle.mx_machine_world.specs.declared.events.Event.{Event}
 use Rattle.mx_machine_world.specs.declared.history.Record.{Record}
 use Rattle.mx_walk.specs.declared.positions.Position.{Position}
@@ -8,7 +8,7 @@ use Rattle.mx_walk.specs.Positions.{IsAbove, IsPosition, IsUpTo, event_below, fi
 use Rattle.mx_walk.specs.Walks.{Walk, first}
 use Rattle.mx_walk.proofs.Arriving.{has_event, not_itself}
 use Rattle.mx_walk.proofs.Next.{above_trans, is_position_too, next_up_to, up_to_of}
-use Rattle.mx_app_look.specs.Moves.{steps_back, steps_on}
+use Rattle.mx_app_look.specs.Moves.{steps_back, steps_on, up_to_last}
 
 pub records_up_to : (p q : Position) → IsUpTo p q → p.records ≤ q.records
 records_up_to p q (inl lt) = omega (arith, lt)
@@ -33,6 +33,14 @@ start_up_to p here last e le (inr h) = elim (cases_lt p.records last.records) [
       let same : p.records ≡ last.records = omega (arith, ge, le, s) in
       let few : p.steps ≤ last.steps = omega (arith, e) in inr (same, few)
 ]
+
+-- a position below all that a walker comes to
+pub below_last : (k : Walk) (p : Position) → k.last.records < p.records → up_to_last k p ≡ k.last
+below_last k p lt =
+    let other : eqb p.records k.last.records ≡ false = ne_eqb p.records k.last.records (λ e. omega (arith, e, lt)) in
+    let less : ltb p.records k.last.records ≡ false = le-ltb p.records k.last.records (omega (arith, lt)) in
+    ap (λ b. cond (cond b (leb p.steps k.last.steps) (ltb p.records k.last.records)) p k.last) other
+    ∙ ap (λ b. cond b p k.last) less
 
 -- ---- one event on
 

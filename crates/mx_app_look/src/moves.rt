@@ -28,11 +28,10 @@ pub(crate) fn forward_from(walker: &Walker, count: u32) -> Position
     if count == 0 {
         return here;
     }
-    let to = Position {
-        records: here.records + count as usize,
-        steps: 0,
-    };
-    up_to_last(walker, to)
+    match here.records.checked_add(count as usize) {
+        Some(records) => up_to_last(walker, Position { records, steps: 0 }),
+        None => walker.last(),
+    }
 }
 
 /// The start of the record that one is in, or of one above.

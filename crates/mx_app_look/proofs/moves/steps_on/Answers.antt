@@ -37,8 +37,8 @@ loop-preserved c =
       early = subst (λ (q : Position). IsUpTo q k.last) (sym next) (next_is_early k.records p k.last (c.in-Some.next.actor, c.in-Some.next.event) inv.position l lt there);
     }
 
-pub prove-unreachable-requires : goal.prove-unreachable-requires
-prove-unreachable-requires c =
+pub unreachable-requires : goal.unreachable-requires
+unreachable-requires c =
     let k = c.args.walker.now in
     let p = c.loop.at in
     let l : IsPosition k.records k.last = subst (λ (q : Position). IsPosition k.records q) c.last.ensures.last c.last.ensures.is.position in
