@@ -129,7 +129,8 @@ pub fn refusal_line(alloc: Global, number: usize, refusal: Refusal) -> Result<St
     ensures { IfOk result (λ line. string_bytes line ≡ refused_record_line number refusal) }
 {
     let said = Said::Refused(refusal);
-    format!(in alloc; "line {number}: {said}\n")
+    let line = format!(in alloc; "line {number}: {said}\n")?;
+    Ok(line)
 }
 
 /// Prints in which line a record's event is refused, and why.
