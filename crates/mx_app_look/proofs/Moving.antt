@@ -1,5 +1,5 @@
 -- Positions that requests lead to.
-use Rattle.std.proofs.Common.{◌≡◌, ◌∙◌, ◌≤◌, ◌<◌, ◌⊎◌, ℕ, zero, suc, ◌+◌, ◌-◌, eqb, leb, ltb, ◌&&◌, cond, Bool, true, false, List, [], ◌∷◌, length, drop, Option, Some, None, slice_get, refl, ap, sym, subst, inl, inr, arith}
+use Rattle.std.proofs.Common.{◌≡◌, ◌∙◌, ◌≤◌, ◌<◌, ◌⊎◌, ℕ, zero, suc, ◌+◌, ◌-◌, eqb, leb, ltb, ◌&&◌, cond, Bool, true, false, List, [], ◌∷◌, length, drop, get_or, Option, Some, None, slice_get, refl, ap, sym, subst, inl, inr, arith}
 use Rattle.std.proofs.lemmas.Bool.{cases_lt, le-ltb, ne_eqb}
 use Rattle.mx_machine_world.specs.declared.events.Event.{Event}
 use Rattle.mx_machine_world.specs.declared.history.Record.{Record}
@@ -7,7 +7,8 @@ use Rattle.mx_walk.specs.declared.positions.Position.{Position}
 use Rattle.mx_walk.specs.Positions.{IsAbove, IsPosition, IsUpTo, event_below, first_steps, is_up_to, next_position, position_before, steps_in}
 use Rattle.mx_walk.specs.Walks.{Walk, first}
 use Rattle.mx_walk.proofs.Arriving.{has_event, not_itself}
-use Rattle.mx_walk.proofs.Next.{above_trans, is_position_too, next_up_to, up_to_of}
+use Rattle.mx_walk.proofs.Along.{any_record, at, is_few, is_inside, is_position}
+use Rattle.mx_walk.proofs.Next.{above_trans, back_inside, back_over, is_position_too, next_up_to, up_to_of}
 use Rattle.mx_app_look.specs.Moves.{steps_back, steps_on, up_to_last}
 
 pub records_up_to : (p q : Position) → IsUpTo p q → p.records ≤ q.records
@@ -82,6 +83,35 @@ back_stays k (suc n) p e =
 
 pub before_is_early : (q p last : Position) → IsAbove q p → IsUpTo p last → IsUpTo q last
 before_is_early q p last lt le = up_to_of q last (above_trans q p last lt le)
+
+before_first : (q p : Position) → p.steps ≤ 0 → p.records ≤ 0 → IsAbove q p → ⊥
+before_first q p none no_more (inl lt) = omega (arith, lt, no_more)
+before_first q p none no_more (inr h) = let lt = h.1 in omega (arith, lt, none)
+
+-- the position before one that isn't the first is a position
+pub before_is_position : (records : List Record) (q p : Position) → IsPosition records p → IsAbove q p → IsPosition records (position_before records p)
+before_is_position records q p h lt = elim (cases_lt 0 p.steps) [
+  | inl some ↦
+      let k = p.records in
+      let b = is_inside records p h some in
+      let few = is_few records k any_record b p.steps h in
+      let one : p.steps - 1 + 1 ≡ p.steps = omega (arith, some) in
+      let same : at k (p.steps - 1 + 1) ≡ p = ap (λ j. at k j) one in
+      subst (λ (r : Position). IsPosition records r) (sym (back_inside records k b (p.steps - 1)) ∙ ap (λ (r : Position). position_before records r) same)
+      (is_position records k any_record b (p.steps - 1) (omega (arith, few)))
+  | inr none ↦ elim (cases_lt 0 p.records) [
+    | inl more ↦
+        let k = p.records - 1 in
+        let a = h.above in
+        let b : k < length records = omega (arith, a, more) in
+        let one : k + 1 ≡ p.records = omega (arith, more) in
+        let zero_steps : 0 ≡ p.steps = omega (arith, none) in
+        let same : at (k + 1) 0 ≡ p = ap (λ i. at i 0) one ∙ ap (λ j. at p.records j) zero_steps in
+        subst (λ (r : Position). IsPosition records r) (sym (back_over records k b) ∙ ap (λ (r : Position). position_before records r) same)
+        (is_position records k any_record b (steps_in (get_or records k any_record).event) (omega arith))
+    | inr no_more ↦ absurd (before_first q p none no_more lt)
+  ]
+]
 
 -- ---- how many are left
 

@@ -103,8 +103,7 @@ pub fn next_event(records: &[Record], at: Position) -> Option<NextEvent>
 pub fn position_before(records: &[Record], at: Position) -> Option<Position>
     requires { IsPosition records.now at }
     ensures { MatchOption result (at ≡ record { records = 0; steps = 0 }) (λ before.
-        (before ≡ position_before records.now at) × IsAbove before at
-        × IsPosition records.now before) }
+        (before ≡ position_before records.now at) × IsAbove before at) }
 {
     if at.steps > 0 {
         return Some(Position {

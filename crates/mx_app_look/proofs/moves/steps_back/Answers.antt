@@ -3,7 +3,7 @@ use Rattle.mx_machine_world.specs.declared.history.Record.{Record}
 use Rattle.mx_walk.specs.declared.positions.Position.{Position}
 use Rattle.mx_walk.specs.Positions.{IsPosition, IsUpTo, position_before}
 use Rattle.mx_app_look.specs.Moves.{steps_back}
-use Rattle.mx_app_look.proofs.Moving.{back_by_one, back_stays, before_is_early, none_left, one_less}
+use Rattle.mx_app_look.proofs.Moving.{back_by_one, back_stays, before_is_early, before_is_position, none_left, one_less}
 use Rattle.mx_app_look.proofs.moves.steps_back.Goals as goal
 
 pub returns-in-None : goal.returns-in-None
@@ -27,7 +27,7 @@ loop-preserved c =
     let before : q ≡ position_before k.records p = e.0 ∙ ap (λ (rs : List Record). position_before rs p) c.records.ensures in
     record {
       left = ap (λ (r : Position). steps_back n k r) before ∙ sym (back_by_one k n q p e.1) ∙ ap (λ i. steps_back i k p) (sym (one_less c.args.count c.loop.counter c.loop-test.true)) ∙ inv.left;
-      position = subst (λ (rs : List Record). IsPosition rs q) c.records.ensures e.2;
+      position = subst (λ (r : Position). IsPosition k.records r) (sym before) (before_is_position k.records q p inv.position e.1);
       early = before_is_early q p k.last e.1 inv.early;
     }
 
