@@ -49,9 +49,9 @@ session_text asks k (l ∷ ls) = if ends l then [] else answer_text asks k l ++ 
 abbrev pub begun_text : Bool → Walk → List ℕ
 begun_text asks k = place_text k ++ prompt_text asks k
 
--- a walk at the first position of a history that begins at a world
-pub record IsBegun (boot : World) (records : List Record) (k : Walk) : Type 0 where
-  pub boot : k.boot ≡ boot
-  pub records : k.records ≡ records
+-- a walk at the first position of a history of these records, which begins at this world
+pub record IsBegun (w : World) (xs : List Record) (k : Walk) : Type 0 where
+  pub boot : k.boot ≡ w
+  pub records : k.records ≡ xs
   pub here : k.here ≡ first
-  pub last : IsLast boot records k.last
+  pub last : IsLast w xs k.last

@@ -14,6 +14,9 @@ use mx_print_answers::push_messages;
 use mx_walk::{Position, Walker, steps_in};
 use std::alloc::{AllocError, Global};
 
+/// A record's number is one of 32 bits.
+const NUMBERS: usize = 1 << 32;
+
 /// Appends what record `above + 1` did, and goes back to where the walker was.
 fn push_record_above(
     alloc: Global,
@@ -43,7 +46,7 @@ fn push_record_above(
     let walker = walker.go_to(alloc, made)?;
     let after = Glance::of(walker.machine());
     let step = Step {
-        number: (above + 1) as u32,
+        number: ((above + 1) % NUMBERS) as u32,
         before,
         actor: entry.actor,
         event: entry.event,
