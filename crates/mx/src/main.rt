@@ -13,7 +13,6 @@ use std::process::ExitCode;
 
 fn main(rt: HostRuntime) -> ExitCode {
     let terminals = Terminals {
-        input: rt.stdin().is_terminal(),
         out: rt.stdout().is_terminal(),
         err: rt.stderr().is_terminal(),
     };

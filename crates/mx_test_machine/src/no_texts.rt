@@ -2,8 +2,7 @@
 
 use crate::files::{CLIENT, DRIVER, PAIR};
 use mx_app::{
-    Channels, CommandRequest, Failure, InputLines, MemoryWriter, NamedFile, NamedFiles,
-    RecordRange, perform,
+    Channels, CommandRequest, Failure, MemoryWriter, NamedFile, NamedFiles, RecordRange, perform,
 };
 use std::alloc::Global;
 use std::process::Abort;
@@ -228,8 +227,7 @@ fn answer<R: Threads + Wait + Clock + Sync>(
         files: MemoryWriter::new(alloc),
         out: Vec::new(alloc),
     };
-    let mut lines = InputLines::new(b"".as_slice());
-    let answer = perform(rt, alloc, &mut channels, &mut lines, false, row.request);
+    let answer = perform(rt, alloc, &mut channels, row.request);
     let is_silent = channels.out.is_empty() && channels.files.files().is_empty();
     Ok((answer, is_silent))
 }

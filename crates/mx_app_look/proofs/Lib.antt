@@ -1,4 +1,0 @@
-mod SoFar
-mod Moving
-mod Traced
-mod Starting

@@ -1,4 +1,0 @@
-pub mod Places
-pub mod Moves
-pub mod Answers
-pub mod Sessions
