@@ -30,3 +30,8 @@ asked_of p = record { name = noted_bytes p.0; answer = answer_of p.1 }
 
 abbrev pub asked_in : List (Noted ℕ × Result (Noted ℕ) ErrorKind) → List Asked
 asked_in answers = map asked_of answers
+
+-- ---- lines that were typed
+
+abbrev pub lines_in : List (Noted ℕ) → List (List ℕ)
+lines_in lines = map noted_bytes lines

@@ -4,6 +4,7 @@
 mod channels;
 mod course;
 mod limits;
+mod lines;
 mod memory;
 mod named;
 mod noted;
@@ -17,6 +18,7 @@ mod writer;
 
 pub use channels::Channels;
 pub use course::{Course, DebugScript, History, Script};
+pub use lines::{InputLines, LineReader};
 pub use memory::{KeptFile, MemoryWriter};
 pub use mx_app_failure::{Failure, print_text};
 pub use mx_boot::{BootError, Config, DebugLine, ScriptLine, lines_above, report, saved_text};

@@ -10,7 +10,7 @@ use crate::noted::Noted;
 use std::io;
 
 /// Bytes that a contract remembers.
-type Bytes = Noted<u8>;
+pub(crate) type Bytes = Noted<u8>;
 
 /// The names that a reader was asked for, and its answers.
 pub(crate) type Answers = Noted<(Bytes, Result<Bytes, io::ErrorKind>)>;
@@ -19,7 +19,7 @@ pub(crate) type Answers = Noted<(Bytes, Result<Bytes, io::ErrorKind>)>;
 pub(crate) type Writes = Noted<((Bytes, Bytes), Result<(), io::ErrorKind>)>;
 
 /// Remembers bytes.
-fn bytes_noted(bytes: &[u8]) -> Bytes
+pub(crate) fn bytes_noted(bytes: &[u8]) -> Bytes
     ensures { noted_bytes result ≡ bytes.now }
 {
     let mut noted = Noted::new();

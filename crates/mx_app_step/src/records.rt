@@ -1,6 +1,6 @@
 //! A machine that is driven by a saved history.
 
-ghost use Rattle.std.specs.Prelude.{◌≡◌, ◌<◌, ◌≤◌, ◌++◌, List, All, length, IfOk, IfErr, OnOk, None, Some};
+ghost use Rattle.std.specs.Prelude.{◌≡◌, ◌<◌, ◌≤◌, ◌++◌, List, All, length, IfOk, IfErr, OnOk, None, Some, string_bytes};
 ghost use Rattle.std.specs.Io.KnownBytes.{Appends};
 ghost use Rattle.mx_app_start.specs.Failure.{IsWanting};
 ghost use Rattle.mx_app_start.specs.Machine.{IsActor, world_of};
@@ -27,7 +27,7 @@ use mx_app_start::{
 };
 use mx_machine_world::{Refusal, actors_stay};
 use mx_print_answers::Said;
-use std::alloc::Global;
+use std::alloc::{AllocError, Global};
 use std::io::Write;
 
 /// How a history was replayed.
@@ -124,6 +124,15 @@ fn perform_records(machine: &mut Machine, records: &[Record]) -> Result<(), (usi
     Ok(())
 }
 
+/// In which line a record's event is refused, and why.
+pub fn refusal_line(alloc: Global, number: usize, refusal: Refusal) -> Result<String, AllocError>
+    ensures { IfOk result (λ line. string_bytes line ≡ refused_record_line number refusal) }
+{
+    let said = Said::Refused(refusal);
+    let line = format!(in alloc; "line {number}: {said}\n")?;
+    Ok(line)
+}
+
 /// Prints in which line a record's event is refused, and why.
 pub(crate) fn print_refusal<W: Write>(
     alloc: Global,
@@ -135,8 +144,7 @@ pub(crate) fn print_refusal<W: Write>(
     ensures bytes { OnOk result (Appends (W.contents out.old) (W.contents out.new)
         (refused_record_line number refusal)) }
 {
-    let said = Said::Refused(refusal);
-    let line = format!(in alloc; "line {number}: {said}\n")?;
+    let line = refusal_line(alloc, number, refusal)?;
     print_text(line.as_bytes(), out)
 }
 

@@ -12,7 +12,7 @@ use mx_print_report::push_decimal;
 use std::alloc::AllocError;
 
 /// Appends what was recorded, as a saved history has it.
-fn push_event(out: &mut Vec<u8>, event: Recorded) -> Result<(), AllocError>
+pub fn push_event(out: &mut Vec<u8>, event: Recorded) -> Result<(), AllocError>
     ensures { OnOk result (out.new.items ≡ out.old.items ++ event_text event) }
 {
     match event {

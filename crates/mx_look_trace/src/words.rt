@@ -38,7 +38,7 @@ pub(crate) fn push_who_of(out: &mut Vec<u8>, seen: &SlotGlance) -> Result<(), Al
 
 /// Appends the name and the endpoint of a slot, if it has a service.
 #[tactic(auto, unfolding(crate::specs::Words::who))]
-pub(crate) fn push_who(out: &mut Vec<u8>, glance: &Glance, slot: u32) -> Result<(), AllocError>
+pub fn push_who(out: &mut Vec<u8>, glance: &Glance, slot: u32) -> Result<(), AllocError>
     ensures { OnOk result (out.new.items ≡ out.old.items ++ who glance.now slot) }
 {
     match slot_in(glance, slot) {

@@ -1,0 +1,70 @@
+//! What gives the lines that are typed.
+
+ghost use Rattle.std.specs.Prelude.{◌≡◌, ◌++◌, ◌∷◌, [], ℕ, List, IfOk, OnErr, true, false};
+ghost use Rattle.mx_app_start.specs.Asked.{lines_in};
+
+use crate::noted::Noted;
+use crate::noting::{Bytes, bytes_noted};
+use std::io;
+use std::io::{BufRead, Read};
+
+/// How many bytes of a line are kept. A session refuses a line that is so long.
+const KEPT: usize = 4097;
+
+/// Gives the lines that are typed.
+pub trait LineReader {
+    /// The lines that it gave, in order.
+    ghost given: { Self → List (List ℕ) };
+
+    /// Puts the next line, without its line feed, in place of what `line` had. Answers false at the end of
+    /// the input. Out of memory is the error `OutOfMemory`.
+    fn next(&mut self, line: &mut Vec<u8>) -> io::Result<bool>
+        ensures more { IfOk result (λ more. more ≡ true
+            → given self.new ≡ given self.old ++ line.new.items ∷ []) }
+        ensures end { IfOk result (λ more. more ≡ false → given self.new ≡ given self.old) }
+        ensures failed { OnErr result (given self.new ≡ given self.old) };
+}
+
+/// Gives the lines of an input. The last one counts without a line feed too. Of a line of more than 4,096
+/// bytes it gives the first 4,097.
+#[derive(Drop)]
+pub struct InputLines<B: Drop> {
+    input: B,
+    lines: Noted<Bytes>,
+}
+
+impl<B: Drop> InputLines<B> {
+    /// What gives an input's lines, and has given none yet.
+    pub fn new(input: B) -> InputLines<B>
+        ensures { result.lines.items ≡ [] }
+    {
+        InputLines {
+            input,
+            lines: Noted::new(),
+        }
+    }
+}
+
+/// Reads a line, or its first bytes if it is too long. Answers false at the end of the input.
+fn read_line<B: BufRead>(input: &mut B, line: &mut Vec<u8>) -> io::Result<bool> {
+    let count = input.by_ref().take(KEPT as u64).read_until(b'\n', line)?;
+    if line.last() == Some(&b'\n') {
+        line.pop();
+    } else if count >= KEPT {
+        input.skip_until(b'\n')?;
+    }
+    Ok(count > 0)
+}
+
+impl<B: BufRead + Drop> LineReader for InputLines<B> {
+    ghost given = { λ lines. lines_in lines.lines.items };
+
+    fn next(&mut self, line: &mut Vec<u8>) -> io::Result<bool> {
+        line.clear();
+        let more = read_line(&mut self.input, line)?;
+        if more {
+            self.lines = self.lines.and(&bytes_noted(line.as_slice()));
+        }
+        Ok(more)
+    }
+}

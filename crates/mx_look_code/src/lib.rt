@@ -1,0 +1,8 @@
+//! Lines of code, as it stands in a process's memory now, with the nearest symbol.
+#![tactic(auto)]
+
+mod code;
+mod nearest;
+
+pub use code::push_code_line;
+pub use nearest::nearest_symbol;

@@ -1,0 +1,10 @@
+//! The lines that are typed when a saved history is looked at: what each asks for.
+#![tactic(auto)]
+
+mod position_word;
+mod request;
+mod verb;
+
+pub use position_word::PositionWord;
+pub use request::{Request, request_of};
+pub use verb::{Verb, push_unknown};
