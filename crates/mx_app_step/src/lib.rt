@@ -15,11 +15,11 @@ pub use mx_app_start::{
     BootError, Channels, Config, DebugScript, Failure, FileWriter, History, InputLines, KeptFile,
     LineReader, Machine, MemoryWriter, NamedFile, NamedFiles, Out, Reader, Record, RuntimeFiles,
     RuntimeWriter, Script, ScriptLine, Started, Tool, config_of, lines_above, print_text, report,
-    saved_text, setup_of, start,
+    saved_text, setup_of, start, text_of,
 };
 pub use mx_print_answers::Said;
 pub use printing::{pieces_join, print_kernel_report, print_piece, print_report};
-pub use records::{Replayed, refusal_line, replay};
+pub use records::{Replayed, perform_records, print_refusal, refusal_line, replay};
 pub use saving::{step_saved, write_history};
 pub use stepping::make_steps;
 pub use tracing::{HistoryPart, first_records, look_record, resting_step, trace};
