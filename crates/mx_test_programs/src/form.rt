@@ -1,8 +1,8 @@
 //! Forms that a size decides.
 
 use mx_asm_form::{
-    Address, Argument, JumpLength, Mnemonic, Name, Prefix, Register, Single, Size, Value, repeated,
-    stated,
+    Address, Argument, JumpLength, Mnemonic, Name, Prefix, Register, Single, Size, Value,
+    statement_after_prefix, statement_for,
 };
 use mx_insn::{BitScan, BitTest, DoubleShift};
 
@@ -325,11 +325,11 @@ static BITS: &[Row] = &[
 ];
 
 fn is_right(row: &Row) -> bool {
-    stated(JumpLength::Long, row.mnemonic, row.arguments).is_some() == row.is_taken
+    statement_for(JumpLength::Long, row.mnemonic, row.arguments).is_some() == row.is_taken
 }
 
 fn is_long_refused() -> bool {
-    stated(JumpLength::Short, Mnemonic::Single(Single::Jmp), &[EAX]).is_none()
+    statement_for(JumpLength::Short, Mnemonic::Single(Single::Jmp), &[EAX]).is_none()
 }
 
 #[test]
@@ -338,7 +338,7 @@ fn sizes(rt: HostRuntime) {
         let name = row.name;
         assert!(rt; is_right(row), "{name}");
     }
-    assert!(rt; is_long_refused() && repeated(Prefix::Rep, MOV).is_none());
+    assert!(rt; is_long_refused() && statement_after_prefix(Prefix::Rep, MOV).is_none());
 }
 
 #[test]
