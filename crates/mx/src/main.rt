@@ -18,6 +18,7 @@ use std::process::ExitCode;
 
 fn main(rt: HostRuntime) -> ExitCode {
     let terminals = Terminals {
+        input: rt.stdin().is_terminal(),
         out: rt.stdout().is_terminal(),
         err: rt.stderr().is_terminal(),
     };

@@ -1,8 +1,8 @@
 -- What is done of requests (our own).
-use Rattle.std.specs.Prelude.{◌≡◌, ◌⊎◌, ℕ, List, [], ◌∷◌, ◌++◌, Some, None, Result, Ok, Err, option_map, take}
+use Rattle.std.specs.Prelude.{◌≡◌, ◌⊎◌, ℕ, Bool, List, [], ◌∷◌, ◌++◌, Some, None, Result, Ok, Err, option_map, take}
 use Rattle.mx_app_command.specs.declared.words.CommandRequest.{CommandRequest}
 use Rattle.mx_app_command.specs.declared.words.RecordRange.{RecordRange}
-use Rattle.mx_app_command.specs.declared.words.CommandRequest.TheVariants.{One, As, Dis, Nm, Explain, Step, Run, Turns, Replay, Trace, Draw, Db}
+use Rattle.mx_app_command.specs.declared.words.CommandRequest.TheVariants.{One, As, Dis, Nm, Explain, Step, Run, Turns, Replay, Trace, Draw, Look, Db}
 use Rattle.mx_app_db.specs.ScriptLine.{ScriptLine}
 use Rattle.mx_app_db.specs.DebugLine.{DebugLine}
 use Rattle.mx_app_failure.specs.declared.failure.Failure.{Failure as Kind}
@@ -27,9 +27,11 @@ use Rattle.mx_app_db.specs.Traces.{IsTracePrinted}
 use Rattle.mx_app_db.specs.Replayed.{Replayed}
 use Rattle.mx_app_db.specs.Replayed.TheVariants as replayed
 use Rattle.mx_app_draw.specs.Scenes.{IsDrawingPrinted}
+use Rattle.mx_app_look.specs.Sessions.{IsBegun, begun_text, session_text}
 use Rattle.mx_app_run.specs.Run.{Runs}
 use Rattle.mx_app_turns.specs.Turned.{MakesTurns}
 use Rattle.mx_turns.specs.declared.turns.Ending.{Ending}
+use Rattle.mx_walk.specs.Walks.{Walk}
 use Rattle.mx_app_db.specs.DebugLines.{DebuggedWorld, debug_lines_made}
 use Rattle.mx_app_db.specs.Told.{debug_lines_text}
 use Rattle.mx_app.specs.Explained.{ExplainsConfig}
@@ -99,6 +101,13 @@ Draws config log range qs Prints (Ok how) =
     × IsDrawingPrinted (world_at_boot c vs) c.cpus records range.from range.to how Prints
 Draws config log range qs Prints (Err f) = IsTold IsSaved TellsSaved config log qs f
 
+-- a session over a history: what it prints is determined by the lines that are typed
+abbrev pub Looks : List ℕ → List ℕ → Bool → List Asked → List (List ℕ) → (List ℕ → Type 0) → Result (Unit {0}) Kind → Type 0
+Looks config log asks qs typed Prints (Ok u) =
+    (c : Config) × (vs : List Service) × (records : List Record) × (k : Walk) × IsStart IsSaved config log qs c vs records
+    × IsBegun (world_at_boot c vs) records k × Prints (begun_text asks k ++ session_text asks k typed)
+Looks config log asks qs typed Prints (Err f) = IsTold IsSaved TellsSaved config log qs f
+
 -- ---- requests
 
 -- a file is read, shown, and none is written
@@ -111,27 +120,35 @@ abbrev pub Explains : List ℕ → List Asked → List Written → (List ℕ →
 Explains name qs ws Prints r =
     (q : Asked) × (d : Result (Unit {0}) Kind) × (qs ≡ q ∷ []) × (ws ≡ []) × ExplainsConfig name q Prints d × (r ≡ status_after_work d)
 
--- WHAT IS DONE OF A REQUEST, by the files that were asked for and written, what is printed, and how it ends
-abbrev pub Performs : CommandRequest → List Asked → List Written → (List ℕ → Type 0) → Result ℕ Kind → Type 0
-Performs (One file steps) qs ws Prints r = Shows (λ bytes text. IsPrinted bytes steps text) file.now qs ws Prints r
-Performs (As text file) qs ws Prints r =
+-- what is done of a request that takes no lines
+abbrev pub PerformsUntyped : CommandRequest → List Asked → List Written → (List ℕ → Type 0) → Result ℕ Kind → Type 0
+PerformsUntyped (One file steps) qs ws Prints r = Shows (λ bytes text. IsPrinted bytes steps text) file.now qs ws Prints r
+PerformsUntyped (As text file) qs ws Prints r =
     (d : Result (Unit {0}) Kind) × Assembles text.now file.now qs ws d × Prints [] × (r ≡ status_after_work d)
-Performs (Dis file) qs ws Prints r = Shows (λ bytes text. IsShown HasListing bytes text) file.now qs ws Prints r
-Performs (Nm file) qs ws Prints r = Shows (λ bytes text. IsShown HasNames bytes text) file.now qs ws Prints r
-Performs (Explain config) qs ws Prints r = Explains config.now qs ws Prints r
-Performs (Step config script None) qs ws Prints r =
+PerformsUntyped (Dis file) qs ws Prints r = Shows (λ bytes text. IsShown HasListing bytes text) file.now qs ws Prints r
+PerformsUntyped (Nm file) qs ws Prints r = Shows (λ bytes text. IsShown HasNames bytes text) file.now qs ws Prints r
+PerformsUntyped (Explain config) qs ws Prints r = Explains config.now qs ws Prints r
+PerformsUntyped (Step config script None) qs ws Prints r =
     (d : Result (Unit {0}) Kind) × (ws ≡ []) × Steps config.now script.now qs Prints d × (r ≡ status_after_work d)
-Performs (Step config script (Some log)) qs ws Prints r =
+PerformsUntyped (Step config script (Some log)) qs ws Prints r =
     (d : Result (Unit {0}) Kind) × SavesSteps config.now script.now log.now qs ws Prints d × (r ≡ status_after_work d)
-Performs (Run config log ticks) qs ws Prints r =
+PerformsUntyped (Run config log ticks) qs ws Prints r =
     (d : Result (Unit {0}) Kind) × Runs config.now log.now ticks qs ws Prints d × (r ≡ status_after_work d)
-Performs (Turns config log ticks events bound) qs ws Prints r =
+PerformsUntyped (Turns config log ticks events bound) qs ws Prints r =
     (d : Result Ending Kind) × MakesTurns config.now (option_map (λ s. s.now) events) log.now ticks bound qs ws Prints d × (r ≡ status_after_turns d)
-Performs (Replay config log) qs ws Prints r =
+PerformsUntyped (Replay config log) qs ws Prints r =
     (d : Result Replayed Kind) × (ws ≡ []) × Replays config.now log.now qs Prints d × (r ≡ status_after_replay d)
-Performs (Trace config log range) qs ws Prints r =
+PerformsUntyped (Trace config log range) qs ws Prints r =
     (d : Result Replayed Kind) × (ws ≡ []) × Traces config.now log.now range qs Prints d × (r ≡ status_after_replay d)
-Performs (Draw config log range) qs ws Prints r =
+PerformsUntyped (Draw config log range) qs ws Prints r =
     (d : Result Replayed Kind) × (ws ≡ []) × Draws config.now log.now range qs Prints d × (r ≡ status_after_replay d)
-Performs (Db config script) qs ws Prints r =
+PerformsUntyped (Look config log) qs ws Prints r = ⊥
+PerformsUntyped (Db config script) qs ws Prints r =
     (d : Result (Unit {0}) Kind) × (ws ≡ []) × Debugs config.now script.now qs Prints d × (r ≡ status_after_work d)
+
+-- WHAT IS DONE OF A REQUEST, by the files that were asked for and written, the lines that were typed, what is printed, and
+-- how it ends. Only a session takes lines
+abbrev pub Performs : CommandRequest → Bool → List Asked → List Written → List (List ℕ) → (List ℕ → Type 0) → Result ℕ Kind → Type 0
+Performs (Look config log) asks qs ws typed Prints r =
+    (d : Result (Unit {0}) Kind) × (ws ≡ []) × Looks config.now log.now asks qs typed Prints d × (r ≡ status_after_work d)
+Performs request asks qs ws typed Prints r = (typed ≡ []) × PerformsUntyped request qs ws Prints r

@@ -20,6 +20,7 @@ pub enum PrintedText {
 /// Which of the streams are terminals.
 #[derive(Clone, Copy)]
 pub struct Terminals {
+    pub input: bool,
     pub out: bool,
     pub err: bool,
 }

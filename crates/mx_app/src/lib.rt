@@ -17,11 +17,12 @@ pub use ending::{NotingOutput, PrintedText, Terminals};
 pub use explain::explain_named;
 pub use mx_app_command::{CommandLine, CommandRequest, RecordRange, command};
 pub use mx_app_db::{
-    Channels, FileWriter, KeptFile, MemoryWriter, NamedFile, NamedFiles, Reader, Replayed, db,
-    replay, step, step_saved, trace,
+    Channels, FileWriter, InputLines, KeptFile, LineReader, MemoryWriter, NamedFile, NamedFiles,
+    Reader, Replayed, db, replay, step, step_saved, trace,
 };
 pub use mx_app_draw::draw;
 pub use mx_app_failure::{BootError, Failure, FileError};
+pub use mx_app_look::look;
 pub use mx_app_program::{assemble_file, one, print_listing, print_names, print_one};
 pub use mx_app_run::run;
 pub use mx_app_turns::turns;

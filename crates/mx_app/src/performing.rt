@@ -1,6 +1,6 @@
 //! Does what the program's words ask for.
 
-ghost use Rattle.std.specs.Prelude.{◌≡◌, ◌++◌, List};
+ghost use Rattle.std.specs.Prelude.{◌≡◌, ◌++◌, List, ℕ};
 ghost use Rattle.std.specs.Io.KnownBytes.{Appends};
 ghost use Rattle.mx_app_db.specs.Asked.{Asked};
 ghost use Rattle.mx_app_db.specs.Written.{Written};
@@ -10,10 +10,12 @@ use crate::explain::explain_named;
 use crate::named::{as_named, dis_named, nm_named, one_named};
 use mx_app_command::{CommandRequest, RecordRange};
 use mx_app_db::{
-    Channels, FileWriter, HistoryPart, Reader, Replayed, db, replay, step, step_saved, trace,
+    Channels, FileWriter, HistoryPart, LineReader, Reader, Replayed, db, replay, step, step_saved,
+    trace,
 };
 use mx_app_draw::draw;
 use mx_app_failure::Failure;
+use mx_app_look::{SessionNames, look};
 use mx_app_run::{RunNames, run};
 use mx_app_turns::{Ending, TurnsNames, TurnsWanted, turns};
 use std::alloc::Global;
@@ -53,22 +55,27 @@ fn status_after_turns(done: Result<Ending, Failure>) -> Result<u8, Failure>
     }
 }
 
-/// Does what a request asks for, and answers the status to end with. The processors of `run` are threads.
+/// Does what a request asks for, and answers the status to end with. The processors of `run` are threads;
+/// `look` answers the lines, and with `asks` prints the position before each.
 pub fn perform<
     T: Threads + Wait + Clock + Sync,
     R: Reader + Drop,
     F: FileWriter + Drop,
     W: Write + Drop,
+    L: LineReader,
 >(
     rt: &T,
     alloc: Global,
     channels: &mut Channels<R, F, W>,
+    lines: &mut L,
+    asks: bool,
     request: CommandRequest<'_>,
 ) -> Result<u8, Failure>
-    ensures { (qs : List Asked) × (ws : List Written)
+    ensures { (qs : List Asked) × (ws : List Written) × (typed : List (List ℕ))
         × (R.asked channels.new.reader ≡ R.asked channels.old.reader ++ qs)
         × (F.written channels.new.files ≡ F.written channels.old.files ++ ws)
-        × Performs request.entry qs ws
+        × (L.given lines.new ≡ L.given lines.old ++ typed)
+        × Performs request.entry asks qs ws typed
         (λ text. Appends (W.contents channels.old.out) (W.contents channels.new.out) text) result }
 {
     let reader = &mut channels.reader;
@@ -134,6 +141,10 @@ pub fn perform<
                 to,
             };
             status_after_replay(draw(alloc, reader, records, out))
+        }
+        CommandRequest::Look { config, log } => {
+            let names = SessionNames { config, log };
+            status_after_work(look(alloc, reader, lines, names, asks, out))
         }
         CommandRequest::Db { config, script } => status_after_work(db(
             alloc, reader, config, script, out,

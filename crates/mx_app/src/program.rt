@@ -9,7 +9,7 @@ use crate::complaint::Complaint;
 use crate::ending::{NotingOutput, PrintedText, Terminals};
 use crate::noting::{NotingFiles, NotingReader};
 use crate::words::perform_words;
-use mx_app_db::{Channels, RuntimeFiles, RuntimeWriter};
+use mx_app_db::{Channels, InputLines, RuntimeFiles, RuntimeWriter};
 use mx_app_failure::Failure;
 use std::rt::{Env, Files};
 use std::sync::Wait;
@@ -58,7 +58,7 @@ fn help_reader(
 /// Does what the program's words ask for, and answers the status to end with, or what to tell.
 fn perform_arguments<R>(rt: &R, terminals: Terminals) -> Result<u8, Complaint>
 where
-    R: Env + Files + Print + Eprint + AllocGlobal + Threads + Wait + Clock + Sync,
+    R: Env + Files + Input + Print + Eprint + AllocGlobal + Threads + Wait + Clock + Sync,
 {
     let arguments = arguments(rt)?;
     let texts = texts_asked(rt.alloc(), arguments.as_slice())?;
@@ -68,13 +68,21 @@ where
         files: NotingFiles::new(RuntimeWriter::new(rt)),
         out: NotingOutput::new(io::writer(rt)),
     };
-    let answer = perform_words(rt, rt.alloc(), words, &mut channels);
+    let mut lines = InputLines::new(rt.reader());
+    let asks = terminals.input && terminals.out;
+    let answer = perform_words(rt, rt.alloc(), words, &mut channels, &mut lines, asks);
     let printed = if answer.is_ok() && begin_with(words, "nm") {
         PrintedText::Symbols
     } else {
         PrintedText::Other
     };
-    help_reader(rt, terminals, printed, channels.out.last());
+    // a session's reader has ended the last line
+    let last = if begin_with(words, "look") {
+        None
+    } else {
+        channels.out.last()
+    };
+    help_reader(rt, terminals, printed, last);
     answer
 }
 
@@ -82,7 +90,7 @@ where
 /// it tells why on standard error. Answers the status to end with.
 pub fn run_program<R>(rt: &R, terminals: Terminals) -> u8
 where
-    R: Env + Files + Print + Eprint + AllocGlobal + Threads + Wait + Clock + Sync,
+    R: Env + Files + Input + Print + Eprint + AllocGlobal + Threads + Wait + Clock + Sync,
 {
     match perform_arguments(rt, terminals) {
         Ok(status) => status,

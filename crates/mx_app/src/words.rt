@@ -1,6 +1,6 @@
 //! From the words of the command line to a status.
 
-ghost use Rattle.std.specs.Prelude.{◌≡◌, ◌++◌, IfErr, List, map};
+ghost use Rattle.std.specs.Prelude.{◌≡◌, ◌++◌, IfErr, List, map, ℕ};
 ghost use Rattle.std.specs.Io.KnownBytes.{Appends};
 ghost use Rattle.mx_app_failure.specs.Failure.{IsWanting};
 ghost use Rattle.mx_app_db.specs.Asked.{Asked};
@@ -14,7 +14,7 @@ use crate::performing::perform;
 use clap::Error;
 use clap::error::ErrorKind;
 use mx_app_command::{CommandLine, command};
-use mx_app_db::{Channels, FileWriter, Reader};
+use mx_app_db::{Channels, FileWriter, LineReader, Reader};
 use mx_app_explain::{Notes, explain_failure};
 use mx_app_failure::{Failure, print_text};
 use std::alloc::Global;
@@ -82,22 +82,26 @@ pub fn perform_words<
     R: Reader + Drop,
     F: FileWriter + Drop,
     W: Write + Drop,
+    L: LineReader,
 >(
     rt: &T,
     alloc: Global,
     words: &'a [&'a str],
     channels: &mut Channels<NotingReader<R>, NotingFiles<F>, W>,
+    lines: &mut L,
+    asks: bool,
 ) -> Result<u8, Complaint>
-    ensures { (qs : List Asked) × (ws : List Written)
+    ensures { (qs : List Asked) × (ws : List Written) × (typed : List (List ℕ))
         × (R.asked channels.new.reader.reader ≡ R.asked channels.old.reader.reader ++ qs)
         × (F.written channels.new.files.files ≡ F.written channels.old.files.files ++ ws)
-        × IsPerformed (map (λ s. s.now) words.now) qs ws
+        × (L.given lines.new ≡ L.given lines.old ++ typed)
+        × IsPerformed (map (λ s. s.now) words.now) asks qs ws typed
         (noted_by channels.new.reader.last channels.new.reader.is_missed channels.new.files.is_unwritten)
         (λ text. Appends (W.contents channels.old.out) (W.contents channels.new.out) text) result }
 {
     match command(alloc, words) {
         Ok(line) => {
-            let done = perform(rt, alloc, channels, line.request);
+            let done = perform(rt, alloc, channels, lines, asks, line.request);
             answer(alloc, line, done, noted(&channels.reader, &channels.files))
         }
         Err(error) => explain(alloc, error, &mut channels.out),

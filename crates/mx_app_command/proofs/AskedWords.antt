@@ -231,7 +231,7 @@ turns_fits words fine =
 
 replay_fits : Fits (whole_of (of_two (codes "replay") (codes "CONFIG") (codes "LOG")))
 replay_fits words fine = let given = two_texts_given (codes "replay") (codes "CONFIG") (codes "LOG") (refl, refl) (refl, refl) refl refl words fine in
-    ((λ e. (given.0, inr (inr (given.1, inr (inl refl))))), (λ e. absurd (true≢false e)))
+    ((λ e. (given.0, inr (inr (given.1, inr (inl (inl refl)))))), (λ e. absurd (true≢false e)))
 
 abbrev looking_whole : Text → Shape
 looking_whole name = whole_of (looking_shape name)
@@ -275,6 +275,10 @@ draw_fits : Fits (looking_whole (codes "draw"))
 draw_fits words fine = let given = looking_values (codes "draw") words fine in
     ((λ e. (given.0, inr (inr (given.1, inr (inr (inl (inr refl, given.2))))))), (λ e. absurd (true≢false e)))
 
+look_fits : Fits (whole_of (of_two (codes "look") (codes "CONFIG") (codes "LOG")))
+look_fits words fine = let given = two_texts_given (codes "look") (codes "CONFIG") (codes "LOG") (refl, refl) (refl, refl) refl refl words fine in
+    ((λ e. (given.0, inr (inr (given.1, inr (inl (inr refl)))))), (λ e. absurd (true≢false e)))
+
 db_fits : Fits (whole_of (of_two (codes "db") (codes "CONFIG") (codes "SCRIPT")))
 db_fits words fine = let given = two_texts_given (codes "db") (codes "CONFIG") (codes "SCRIPT") (refl, refl) (refl, refl) refl refl words fine in
     ((λ e. (given.0, inr (inl (given.1, inr refl)))), (λ e. absurd (true≢false e)))
@@ -284,7 +288,7 @@ explain_fits words fine = let given = one_text_given (codes "explain") (codes "C
     ((λ e. (given, inl refl)), (λ e. absurd (true≢false e)))
 
 all_fit : AllByRecursion Fits whole.subs
-all_fit = (one_fits, (as_fits, (dis_fits, (nm_fits, (explain_fits, (step_fits, (run_fits, (turns_fits, (replay_fits, (trace_fits, (draw_fits, (db_fits, tt))))))))))))
+all_fit = (one_fits, (as_fits, (dis_fits, (nm_fits, (explain_fits, (step_fits, (run_fits, (turns_fits, (replay_fits, (trace_fits, (draw_fits, (look_fits, (db_fits, tt)))))))))))))
 
 -- ---- the words of a command line
 

@@ -11,7 +11,7 @@ use Rattle.clap.specs.declared.builder.command.Command.TheViews.{out-Command}
 use Rattle.clap.specs.declared.builder.value_parser.ValueParser.TheVariants.{Signed}
 use Rattle.mx_app_command.specs.declared.words.CommandRequest.{CommandRequest}
 use Rattle.mx_app_command.specs.declared.words.RecordRange.{RecordRange}
-use Rattle.mx_app_command.specs.declared.words.CommandRequest.TheVariants.{One, As, Dis, Nm, Explain, Step, Run, Turns, Replay, Trace, Draw, Db}
+use Rattle.mx_app_command.specs.declared.words.CommandRequest.TheVariants.{One, As, Dis, Nm, Explain, Step, Run, Turns, Replay, Trace, Draw, Look, Db}
 
 -- ---- the grammar
 
@@ -104,6 +104,7 @@ mx_grammar = record {
       ∷ of_two (codes "replay") (codes "CONFIG") (codes "LOG")
       ∷ looking_shape (codes "trace")
       ∷ looking_shape (codes "draw")
+      ∷ of_two (codes "look") (codes "CONFIG") (codes "LOG")
       ∷ of_two (codes "db") (codes "CONFIG") (codes "SCRIPT")
       ∷ [];
 }
@@ -157,6 +158,8 @@ AsksBy (Trace config log range) name rows =
     (name ≡ codes "trace") × HasText (codes "CONFIG") rows config.now × HasText (codes "LOG") rows log.now × HasRange rows range
 AsksBy (Draw config log range) name rows =
     (name ≡ codes "draw") × HasText (codes "CONFIG") rows config.now × HasText (codes "LOG") rows log.now × HasRange rows range
+AsksBy (Look config log) name rows =
+    (name ≡ codes "look") × HasText (codes "CONFIG") rows config.now × HasText (codes "LOG") rows log.now
 AsksBy (Db config script) name rows =
     (name ≡ codes "db") × HasText (codes "CONFIG") rows config.now × HasText (codes "SCRIPT") rows script.now
 
@@ -211,7 +214,7 @@ abbrev pub IsHistoryAsked : Text → List Row → Type 0
 IsHistoryAsked name rows =
     IsGiven (codes "LOG") rows
     × (((name ≡ codes "run") × MayHaveNumber (codes "T") rows)
-    ⊎ ((name ≡ codes "replay")
+    ⊎ (((name ≡ codes "replay") ⊎ (name ≡ codes "look"))
     ⊎ ((((name ≡ codes "trace") ⊎ (name ≡ codes "draw")) × MayHaveRange rows)
     ⊎ ((name ≡ codes "turns") × MayHaveTurns rows))))
 
@@ -228,7 +231,7 @@ is_machine name =
     || (bytes_eq name (codes "turns")
     || (bytes_eq name (codes "replay")
     || (bytes_eq name (codes "trace")
-    || (bytes_eq name (codes "draw") || bytes_eq name (codes "db")))))))
+    || (bytes_eq name (codes "draw") || (bytes_eq name (codes "look") || bytes_eq name (codes "db"))))))))
 
 abbrev pub IsAsked : Text → List Row → Type 0
 IsAsked name rows =

@@ -154,7 +154,7 @@ const EXPLAIN: CommandArgument<'static> = CommandArgument {
 };
 
 /// The subcommands, those that work on one program first.
-static SUBCOMMANDS: [Subcommand<'static>; 12] = [
+static SUBCOMMANDS: [Subcommand<'static>; 13] = [
     Subcommand {
         name: "one",
         help: "Runs one program for at most N steps and prints its registers, flags and how it stopped",
@@ -220,6 +220,12 @@ static SUBCOMMANDS: [Subcommand<'static>; 12] = [
         help: "Runs a saved history again and prints a picture of it as SVG",
         arguments: &[CONFIG, LOG, FROM, TO, EXPLAIN],
         example: Example::Draw,
+    },
+    Subcommand {
+        name: "look",
+        help: "Looks at a saved history forward and back, by commands on standard input",
+        arguments: &[CONFIG, LOG, EXPLAIN],
+        example: Example::Look,
     },
     Subcommand {
         name: "db",

@@ -26,6 +26,8 @@ pub(crate) enum Example {
     Trace,
     /// A picture of a history.
     Draw,
+    /// A session over a history.
+    Look,
     /// A debugger's script.
     Db,
 }
@@ -45,6 +47,7 @@ impl Example {
             Example::Replay => REPLAY_EXAMPLE,
             Example::Trace => TRACE_EXAMPLE,
             Example::Draw => DRAW_EXAMPLE,
+            Example::Look => LOOK_EXAMPLE,
             Example::Db => DB_EXAMPLE,
         }
     }
@@ -244,6 +247,27 @@ steps, with a tick by the actor after the processors, here number 1:
 Status: 0 done; 1 a text or a program's file is refused, or an event, which is told
 by its line; 2 a mistake in the words; 3 a file can't be read; 4 no memory. Formats:
 docs/use/REFERENCE.md.";
+
+/// A session over a history.
+const LOOK_EXAMPLE: &str = "In the folder examples/machines/restart:
+
+$ printf 'goto 29\\nwhy\\nstep\\n' | mx look restart.config restart.log
+at 0 of 36, record 1: 0 take
+at 29 of 36, record 30: 0 back 6
+counter 1024 00000011 top+11 add dword [0x24], 0x1
+29 0 take: counter 1024 budget 95
+at 29.1 of 36, record 30: 0 back 6
+counter 1024 00000018 top+18 mov eax, dword [0x24]
+
+A position is K, below K records, or K.J, below J steps of the next record as well.
+At a terminal each command is asked for with the position. Commands:
+
+forward [N], back [N]    by records         step [N], stepback [N]    by events
+goto K, K.J or end       to a position      where, why                the record above
+ps, messages             as mx step, mx db  help, quit
+
+Status: 0 the session ended; 1 a text or a program's file is refused; 2 a mistake in
+the words; 3 a file can't be read; 4 no memory. Formats: docs/use/REFERENCE.md.";
 
 /// A debugger's script.
 const DB_EXAMPLE: &str = "In the folder examples/machines/pair:

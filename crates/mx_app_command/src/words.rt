@@ -82,6 +82,11 @@ pub enum CommandRequest<'a> {
         log: &'a str,
         range: RecordRange,
     },
+    /// `look CONFIG LOG`.
+    Look {
+        config: &'a str,
+        log: &'a str,
+    },
     /// `db CONFIG SCRIPT`.
     Db {
         config: &'a str,
@@ -220,6 +225,9 @@ fn history_request<'a>(name: &str, config: &'a str, matches: &ArgMatches<'a>) ->
     if name == "replay" {
         return CommandRequest::Replay { config, log };
     }
+    if name == "look" {
+        return CommandRequest::Look { config, log };
+    }
     let range = range_asked(matches);
     if name == "trace" {
         CommandRequest::Trace { config, log, range }
@@ -254,6 +262,7 @@ fn is_machine(name: &str) -> bool
         || name == "replay"
         || name == "trace"
         || name == "draw"
+        || name == "look"
         || name == "db"
 }
 

@@ -9,9 +9,9 @@ mod places;
 pub use driving::db;
 pub use going::go;
 pub use mx_app_step::{
-    BootError, Channels, Failure, FileWriter, HistoryPart, KeptFile, MemoryWriter, NamedFile,
-    NamedFiles, Reader, Replayed, RuntimeFiles, RuntimeWriter, Script, config_of, make_steps,
-    print_text, replay, start, step, step_saved, trace,
+    BootError, Channels, Failure, FileWriter, HistoryPart, InputLines, KeptFile, LineReader,
+    MemoryWriter, NamedFile, NamedFiles, Reader, Replayed, RuntimeFiles, RuntimeWriter, Script,
+    config_of, make_steps, print_text, replay, start, step, step_saved, trace,
 };
 pub use mx_print_answers::Refused;
 pub use places::{clear_breakpoint, set_breakpoint};

@@ -5,7 +5,7 @@ use Rattle.mx_aout.specs.declared.program.FileError.TheVariants as errors
 use Rattle.mx_text.specs.declared.error.BootError.{BootError}
 use Rattle.mx_text.specs.declared.error.BootError.TheVariants as lines
 use Rattle.mx_app_command.specs.declared.words.CommandRequest.{CommandRequest}
-use Rattle.mx_app_command.specs.declared.words.CommandRequest.TheVariants.{One, As, Dis, Nm, Explain, Step, Run, Turns, Replay, Trace, Draw, Db}
+use Rattle.mx_app_command.specs.declared.words.CommandRequest.TheVariants.{One, As, Dis, Nm, Explain, Step, Run, Turns, Replay, Trace, Draw, Look, Db}
 use Rattle.mx_app_failure.specs.declared.failure.Failure.{Failure as Kind}
 use Rattle.mx_app_failure.specs.declared.failure.Failure.TheVariants.{Refused, Faulty, Misstated, NotText, File, NoMemory}
 use Rattle.mx_app_explain.specs.Wanted.{problem_wanted, refusal_wanted}
@@ -51,6 +51,7 @@ first_name (Turns config log ticks events bound) = config.now
 first_name (Replay config log) = config.now
 first_name (Trace config log range) = config.now
 first_name (Draw config log range) = config.now
+first_name (Look config log) = config.now
 first_name (Db config script) = config.now
 
 abbrev pub first_label : CommandRequest → List ℕ
@@ -74,6 +75,7 @@ second_name (Turns config log ticks (Some events) bound) = events.now
 second_name (Replay config log) = log.now
 second_name (Trace config log range) = log.now
 second_name (Draw config log range) = log.now
+second_name (Look config log) = log.now
 second_name (Db config script) = script.now
 
 abbrev pub second_label : CommandRequest → List ℕ

@@ -67,6 +67,7 @@ fn first_name(request: CommandRequest<'_>) -> &str
         CommandRequest::Replay { config, .. } => config,
         CommandRequest::Trace { config, .. } => config,
         CommandRequest::Draw { config, .. } => config,
+        CommandRequest::Look { config, .. } => config,
         CommandRequest::Db { config, .. } => config,
     }
 }
@@ -91,6 +92,7 @@ fn second_name(request: CommandRequest<'_>) -> &str
         CommandRequest::Replay { log, .. } => log,
         CommandRequest::Trace { log, .. } => log,
         CommandRequest::Draw { log, .. } => log,
+        CommandRequest::Look { log, .. } => log,
         CommandRequest::Db { script, .. } => script,
     }
 }

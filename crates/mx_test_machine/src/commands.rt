@@ -3,8 +3,8 @@
 
 use crate::files::{SUM, reader};
 use mx_app::{
-    Channels, Complaint, Failure, KeptFile, MemoryWriter, NamedFiles, NotingFiles, NotingReader,
-    perform_words,
+    Channels, Complaint, Failure, InputLines, KeptFile, MemoryWriter, NamedFiles, NotingFiles,
+    NotingReader, perform_words,
 };
 use std::alloc::Global;
 use std::fmt::Write as _;
@@ -813,7 +813,8 @@ fn perform<R: Threads + Wait + Clock + Sync>(
     words: &'static [&'static str],
     told: &mut String,
 ) -> u8 {
-    match perform_words(rt, alloc, words, channels) {
+    let mut lines = InputLines::new(b"".as_slice());
+    match perform_words(rt, alloc, words, channels, &mut lines, false) {
         Ok(status) => status,
         Err(complaint) => {
             let _ = write!(told, "{complaint}");

@@ -22,6 +22,8 @@ mod files;
 #[cfg(test)]
 mod limits;
 #[cfg(test)]
+mod looks;
+#[cfg(test)]
 mod narrow;
 #[cfg(test)]
 mod no_texts;

@@ -2,7 +2,7 @@
 
 use crate::files::reader;
 use crate::texts::Narrow;
-use mx_app::{Channels, CommandRequest, Failure, MemoryWriter, RecordRange, perform};
+use mx_app::{Channels, CommandRequest, Failure, InputLines, MemoryWriter, RecordRange, perform};
 use mx_app_db::{Script, make_steps, start};
 use mx_boot::{Over, save};
 use mx_machine::{Event, Machine};
@@ -124,7 +124,8 @@ fn is_printed<R: Threads + Wait + Clock + Sync>(
     } else {
         Ok(0)
     };
-    let answer = perform(rt, alloc, &mut channels, row.request);
+    let mut lines = InputLines::new(b"".as_slice());
+    let answer = perform(rt, alloc, &mut channels, &mut lines, false, row.request);
     answer == wanted && channels.out.bytes.as_slice() == &text[..room.min(text.len())]
 }
 

@@ -2,7 +2,8 @@
 
 use crate::files::{CLIENT, DRIVER, PAIR};
 use mx_app::{
-    Channels, CommandRequest, Failure, MemoryWriter, NamedFile, NamedFiles, RecordRange, perform,
+    Channels, CommandRequest, Failure, InputLines, MemoryWriter, NamedFile, NamedFiles,
+    RecordRange, perform,
 };
 use std::alloc::Global;
 use std::process::Abort;
@@ -228,7 +229,8 @@ fn answer<R: Threads + Wait + Clock + Sync>(
         files: MemoryWriter::new(alloc),
         out: Vec::new(alloc),
     };
-    let answer = perform(rt, alloc, &mut channels, row.request);
+    let mut lines = InputLines::new(b"".as_slice());
+    let answer = perform(rt, alloc, &mut channels, &mut lines, false, row.request);
     let is_silent = channels.out.is_empty() && channels.files.files().is_empty();
     Ok((answer, is_silent))
 }

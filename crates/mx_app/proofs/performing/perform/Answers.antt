@@ -3,7 +3,7 @@ use Rattle.mx_app_program.specs.Shown.{HasListing, HasNames, IsShown}
 use Rattle.std.proofs.Common.{◌∙◌, ap, Option}
 use Rattle.std.specs.Prelude.{option_map}
 use Rattle.mx_app_command.specs.declared.words.CommandRequest.TheVariants.{Step}
-use Rattle.mx_app.proofs.Done.{as_asked, assembled, debugs, draws, explains, replays, runs, saves, shows, steps, traces, turned}
+use Rattle.mx_app.proofs.Done.{as_asked, as_typed, assembled, debugs, draws, explains, looks, replays, runs, saves, shows, steps, traces, turned}
 use Rattle.mx_app.proofs.performing.perform.Goals as goal
 
 pub returns-in-One : goal.returns-in-One
@@ -52,3 +52,6 @@ returns-in-Trace g c = as_asked _ _ _ _ _ _ _ _ c.in-Trace.is (traces _ _ _ c.in
 
 pub returns-in-Draw : goal.returns-in-Draw
 returns-in-Draw g c = as_asked _ _ _ _ _ _ _ _ c.in-Draw.is (draws _ _ _ c.in-Draw.config.now c.in-Draw.log.now c.in-Draw.range _ _ c.draw.result c.status_after_replay-in-Draw.result c.draw.ensures.printed c.draw.ensures.fault c.status_after_replay-in-Draw.ensures)
+
+pub returns-in-Look : goal.returns-in-Look
+returns-in-Look g c = as_typed _ _ _ _ _ _ _ _ _ _ _ c.in-Look.is (looks _ _ _ _ _ c.in-Look.config.now c.in-Look.log.now _ _ _ c.look.result c.status_after_work-in-Look.result c.look.ensures.printed c.look.ensures.fault c.status_after_work-in-Look.ensures)

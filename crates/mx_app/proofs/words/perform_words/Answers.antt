@@ -6,7 +6,7 @@ use Rattle.mx_app.proofs.Told.{noted_same}
 use Rattle.mx_app.proofs.words.perform_words.Goals as goal
 
 pub returns-in-Err : goal.returns-in-Err
-returns-in-Err g c = ([], [], sym (append-nil _), sym (append-nil _), inr (c.in-Err.error, c.in-Err.ensures.kinds, refl, refl, c.explain.ensures))
+returns-in-Err g c = ([], [], [], sym (append-nil _), sym (append-nil _), sym (append-nil _), inr (c.in-Err.error, c.in-Err.ensures.kinds, refl, refl, refl, c.explain.ensures))
 
 pub returns-in-Ok : goal.returns-in-Ok
 returns-in-Ok g c =
@@ -16,12 +16,14 @@ returns-in-Ok g c =
       done.1,
       done.2,
       done.3,
+      done.4,
+      done.5,
       inl (
         c.in-Ok.line,
         c.perform-done.result,
         c.in-Ok.ensures.asks,
         c.in-Ok.ensures.explains,
-        done.4,
+        done.6,
         subst (λ (n : Noted). IsAnswered c.in-Ok.line c.perform-done.result n c.answer.result) same c.answer.ensures,
       ),
     )

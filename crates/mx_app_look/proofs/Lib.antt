@@ -1,0 +1,4 @@
+mod SoFar
+mod Moving
+mod Traced
+mod Starting

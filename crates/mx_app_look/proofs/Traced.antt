@@ -1,0 +1,44 @@
+-- One session of the same lines; and what is told of the record above.
+use Rattle.std.proofs.Common.{◌≡◌, ◌∙◌, ℕ, zero, suc, ◌+◌, List, [], ◌∷◌, ◌++◌, take, Option, Some, None, slice_get, refl, ap, sym, subst, arith}
+use Rattle.std.proofs.lemmas.List.{append-nil}
+use Rattle.mx_machine_world.specs.declared.events.Event.{Event}
+use Rattle.mx_machine_world.specs.declared.history.Record.{Record}
+use Rattle.mx_machine_world.specs.declared.history.Recorded.{Recorded}
+use Rattle.mx_machine_world.specs.declared.history.Recorded.TheVariants as recorded
+use Rattle.mx_machine_world.specs.History.{events_of, events_of_history, world_after_events}
+use Rattle.mx_machine_world.specs.World.{World}
+use Rattle.mx_app_step.specs.Traces.{steps_before}
+use Rattle.mx_walk.specs.declared.positions.Position.{Position}
+use Rattle.mx_walk.specs.Positions.{steps_in, steps_of}
+use Rattle.mx_walk.specs.Walks.{Walk}
+use Rattle.mx_walk.proofs.Made.{after_both}
+
+pub same_walk : (j k : Walk) → j.boot ≡ k.boot → j.records ≡ k.records → j.here ≡ k.here → j.last ≡ k.last → j ≡ k
+same_walk j k boot records here last =
+    let a : j ≡ record j { boot = k.boot } = ap (λ (w : World). record j { boot = w }) boot in
+    let b : record j { boot = k.boot } ≡ record k { here = j.here; last = j.last } = ap (λ (rs : List Record). let r : Walk = record { boot = k.boot; records = rs; here = j.here; last = j.last } in r) records in
+    let c : record k { here = j.here; last = j.last } ≡ record k { last = j.last } = ap (λ (p : Position). let r : Walk = record k { here = p; last = j.last } in r) here in
+    a ∙ b ∙ c ∙ ap (λ (p : Position). record k { last = p }) last
+
+-- the steps that a record stands for
+pub steps_are : (a : ℕ) (x : Recorded) → steps_of a (steps_in x) ≡ steps_before a x
+steps_are a recorded.Take = refl
+steps_are a (recorded.Back n) = refl
+steps_are a (recorded.Line l) = refl
+steps_are a recorded.Tick = refl
+steps_are a (recorded.Kill e) = refl
+steps_are a (recorded.Respawn s) = refl
+
+-- one record more is made
+pub one_record_more : (w : World) (records : List Record) (n : ℕ) (x : Record) → slice_get records n ≡ Some x
+    → world_after_events w (events_of_history (take (suc n) records)) ≡ world_after_events (world_after_events w (events_of_history (take n records))) (events_of x.actor x.event)
+one_record_more w [] n x e = absurd cc
+one_record_more w (y ∷ ys) zero x e =
+    let same : y ≡ x = cc in
+    ap (λ (es : List (ℕ × Event)). world_after_events w es) (append-nil (events_of y.actor y.event))
+    ∙ ap (λ (z : Record). world_after_events w (events_of z.actor z.event)) same
+one_record_more w (y ∷ ys) (suc n) x e =
+    let first = events_of y.actor y.event in
+    after_both w first (events_of_history (take (suc n) ys))
+    ∙ one_record_more (world_after_events w first) ys n x e
+    ∙ ap (λ (u : World). world_after_events u (events_of x.actor x.event)) (sym (after_both w first (events_of_history (take n ys))))

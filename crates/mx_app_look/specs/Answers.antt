@@ -1,0 +1,84 @@
+-- What each request prints, and where one is after it (our own).
+use Rattle.std.specs.Prelude.{ℕ, zero, suc, ◌+◌, ◌-◌, ◌%◌, ◌^◌, ◌==◌, Bool, true, false, List, [], ◌∷◌, ◌++◌, codes, Option, Some, None, if◌then◌else◌, slice_get}
+use Rattle.mx_app_step.specs.Report.{report_text}
+use Rattle.mx_look_line.specs.declared.request.Request.{Request}
+use Rattle.mx_look_line.specs.declared.request.Request.TheVariants.{Nothing, Forward, Back, Step, StepBack, GoTo, Where, Why, Processes, Messages, Help, Quit}
+use Rattle.mx_look_trace.specs.Glances.{glance_of}
+use Rattle.mx_look_trace.specs.Step.{Step as Seen}
+use Rattle.mx_look_trace.specs.Trace.{record_text}
+use Rattle.mx_machine_world.specs.declared.history.Record.{Record}
+use Rattle.mx_machine_world.specs.World.{World}
+use Rattle.mx_print_answers.specs.Messages.{delivery_lines}
+use Rattle.mx_walk.specs.declared.positions.Position.{Position}
+use Rattle.mx_walk.specs.Positions.{steps_in, world_at}
+use Rattle.mx_walk.specs.Walks.{Walk, world_here}
+use Rattle.mx_app_look.specs.Moves.{back_from, can_go, forward_from, position_asked, steps_back, steps_on}
+use Rattle.mx_app_look.specs.Places.{place_text}
+
+-- ---- what the record above did
+
+-- record n + 1: it is looked at after its steps, and after its own event. Its number is one of 32 bits
+abbrev pub step_above : World → List Record → ℕ → Record → Seen
+step_above boot records n x = record {
+  number = (n + 1) % 2 ^ 32;
+  before = glance_of (world_at boot records (record { records = n; steps = steps_in x.event }));
+  actor = x.actor;
+  event = x.event;
+  after = glance_of (world_at boot records (record { records = n + 1; steps = 0 }));
+}
+
+abbrev pub why_by : Walk → ℕ → Option Record → List ℕ
+why_by k n None = codes "boot\n"
+why_by k n (Some x) = record_text (step_above k.boot k.records n x)
+
+abbrev pub record_above : List Record → ℕ → Option Record
+record_above records zero = None
+record_above records (suc n) = slice_get records n
+
+-- WHY the world is as it is: what the record above did, or that the machine booted
+abbrev pub why_text : Walk → List ℕ
+why_text k = why_by k (k.here.records - 1) (record_above k.records k.here.records)
+
+-- ---- the report, whose last line ends
+
+abbrev pub line_end : List ℕ → List ℕ
+line_end [] = []
+line_end (b ∷ []) = if b == 10 then [] else codes "\n"
+line_end (b ∷ c ∷ bs) = line_end (c ∷ bs)
+
+abbrev pub processes_text : World → List ℕ
+processes_text w = report_text w.table w.services ++ line_end (report_text w.table w.services)
+
+-- ---- help
+
+abbrev pub help_text : List ℕ
+help_text = codes "forward [N]  on by N records           back [N]      back by N records\nstep [N]     on by N events            stepback [N]  back by N events\ngoto K       below K records           goto K.J      and J steps of the next\ngoto end     the last position         where         the position again\nwhy          what the record above did\nps           the report                messages      what was delivered\nhelp         this                      quit          the end\nA record stands for one event; back N stands for N steps of a process before it.\nA command may be shortened, as f, b or stepb. Without N it is 1.\n"
+
+-- ---- REQUESTS
+
+-- where one is after it
+abbrev pub to_of : Walk → Request → Position
+to_of k (Forward n) = forward_from k n
+to_of k (Back n) = back_from k n
+to_of k (Step n) = steps_on n k k.here
+to_of k (StepBack n) = steps_back n k k.here
+to_of k (GoTo p) = if can_go k (position_asked k p) then position_asked k p else k.here
+to_of k _ = k.here
+
+abbrev pub after : Walk → Request → Walk
+after k r = record k { here = to_of k r }
+
+-- what it prints; where it moves, that is the new place
+abbrev pub request_text : Walk → Request → List ℕ
+request_text k Nothing = []
+request_text k (Forward n) = place_text (after k (Forward n))
+request_text k (Back n) = place_text (after k (Back n))
+request_text k (Step n) = place_text (after k (Step n))
+request_text k (StepBack n) = place_text (after k (StepBack n))
+request_text k (GoTo p) = if can_go k (position_asked k p) then place_text (after k (GoTo p)) else codes "refused 63 NoPosition\n"
+request_text k Where = place_text k
+request_text k Why = why_text k
+request_text k Processes = processes_text (world_here k)
+request_text k Messages = delivery_lines (world_here k).table.deliveries
+request_text k Help = help_text
+request_text k Quit = []

@@ -1,0 +1,12 @@
+//! `mx look`: a saved history, looked at forward and back.
+#![tactic(auto)]
+
+mod answering;
+mod laws;
+mod moves;
+mod places;
+mod session;
+mod telling;
+
+pub use laws::{one_session, why_is_traced};
+pub use session::{SessionNames, look};

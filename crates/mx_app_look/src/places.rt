@@ -1,0 +1,176 @@
+//! Where one is in a history.
+
+ghost use Rattle.std.specs.Prelude.{◌≡◌, ◌++◌, ◌<◌, OnOk, length, slice_get};
+ghost use Rattle.std.specs.Fmt.{decimal};
+ghost use Rattle.mx_look_code.specs.Code.{code_line};
+ghost use Rattle.mx_machine_world.specs.History.{replay};
+ghost use Rattle.mx_machine_world.specs.World.{held_by};
+ghost use Rattle.mx_machine.specs.Machine.{world_of};
+ghost use Rattle.mx_walk.specs.Positions.{event_below};
+ghost use Rattle.mx_walk.specs.Walks.{refusal_here, world_here};
+ghost use Rattle.mx_app_look.specs.Places.{below_line, place_text, position_text, process_line, record_line, rest_of_place, step_line, symbols_by};
+
+use itoa::Buffer;
+use mx_aout::Symbol;
+use mx_app_step::{lines_above, refusal_line};
+use mx_exec::Image;
+use mx_look_code::push_code_line;
+use mx_look_trace::{Glance, push_event, push_who};
+use mx_machine::{Kernel, Machine};
+use mx_machine_world::{Event, Record, Refusal};
+use mx_proc::Slot;
+use mx_walk::{Position, Walker, next_event};
+use std::alloc::{AllocError, Global};
+
+/// Appends a number.
+fn push_number(out: &mut Vec<u8>, number: usize) -> Result<(), AllocError>
+    ensures { OnOk result (out.new.items ≡ out.old.items ++ decimal number) }
+{
+    out.extend_from_slice(Buffer::new().format(number).as_bytes())
+}
+
+/// Appends a position: `K`, or `K.J` inside the record below.
+pub(crate) fn push_position(out: &mut Vec<u8>, at: Position) -> Result<(), AllocError>
+    ensures { OnOk result (out.new.items ≡ out.old.items ++ position_text at) }
+{
+    push_number(out, at.records)?;
+    if at.steps == 0 {
+        return Ok(());
+    }
+    out.push(b'.')?;
+    push_number(out, at.steps as usize)
+}
+
+/// Appends the record below, with its number.
+fn push_record_line(out: &mut Vec<u8>, number: usize, entry: Record) -> Result<(), AllocError>
+    ensures { OnOk result (out.new.items ≡ out.old.items ++ record_line number entry) }
+{
+    out.extend_from_slice(b", record ")?;
+    push_number(out, number)?;
+    out.extend_from_slice(b": ")?;
+    push_number(out, entry.actor as usize)?;
+    out.extend_from_slice(b" ")?;
+    push_event(out, entry.event)?;
+    out.extend_from_slice(b"\n")
+}
+
+/// The symbols of a slot's program; none if the slot has no service.
+fn symbols_of(kernel: &Kernel, slot: Slot) -> &[Symbol]
+    ensures { result.now ≡ symbols_by (slice_get (replay kernel.now).services slot) }
+{
+    kernel.opened();
+    match kernel.services().get(slot as usize) {
+        Some(service) => service.program.symbols.as_slice(),
+        None => &[],
+    }
+}
+
+/// Appends the line of the next instruction of a process.
+fn push_instruction(
+    alloc: Global,
+    out: &mut Vec<u8>,
+    symbols: &[Symbol],
+    image: &Image,
+) -> Result<(), AllocError>
+    ensures { OnOk result (out.new.items ≡ out.old.items
+        ++ code_line symbols.now image.now image.now.eip) }
+{
+    let mut line = String::new(alloc);
+    push_code_line(&mut line, symbols, image, image.eip)?;
+    out.extend_from_slice(line.as_bytes())
+}
+
+/// Appends who is on a processor, and its next instruction, if there is anyone.
+fn push_process(
+    alloc: Global,
+    out: &mut Vec<u8>,
+    machine: &Machine,
+    cpu: u8,
+) -> Result<(), AllocError>
+    ensures { OnOk result (out.new.items ≡ out.old.items
+        ++ process_line (world_of machine.now) (held_by (world_of machine.now) cpu)) }
+{
+    let Some(image) = machine.image(cpu) else {
+        return Ok(());
+    };
+    let Some(slot) = machine.slot_on(cpu) else {
+        return Ok(());
+    };
+    push_who(out, &Glance::of(machine), u32::from(slot))?;
+    out.extend_from_slice(b" ")?;
+    push_instruction(alloc, out, symbols_of(machine.kernel(), slot), image)
+}
+
+/// Appends the next step, if the event below is one.
+fn push_step(alloc: Global, out: &mut Vec<u8>, walker: &Walker) -> Result<(), AllocError>
+    ensures { OnOk result (out.new.items ≡ out.old.items
+        ++ step_line (world_here walker.now) (event_below walker.now.records walker.now.here)) }
+{
+    let Some(next) = next_event(walker.records(), walker.here()) else {
+        return Ok(());
+    };
+    match next.event {
+        Event::Step => push_process(alloc, out, walker.machine(), next.actor),
+        _ => Ok(()),
+    }
+}
+
+/// Appends what is below: the next step; or, if the event below is refused, the line of the history and
+/// why.
+fn push_below(
+    alloc: Global,
+    out: &mut Vec<u8>,
+    walker: &Walker,
+    refusal: Option<Refusal>,
+) -> Result<(), AllocError>
+    requires { walker.now.here.records < length walker.now.records }
+    ensures { OnOk result (out.new.items ≡ out.old.items ++ below_line walker.now refusal) }
+{
+    match refusal {
+        None => push_step(alloc, out, walker),
+        Some(refusal) => {
+            let number = lines_above(walker.machine().rules()) + (walker.here().records + 1);
+            let line = refusal_line(alloc, number, refusal)?;
+            out.extend_from_slice(line.as_bytes())
+        }
+    }
+}
+
+/// Appends the record below and what is below, or that this is the end.
+fn push_rest(
+    alloc: Global,
+    out: &mut Vec<u8>,
+    walker: &Walker,
+    refusal: Option<Refusal>,
+) -> Result<(), AllocError>
+    requires { refusal ≡ refusal_here walker.now }
+    ensures { OnOk result (out.new.items ≡ out.old.items
+        ++ rest_of_place walker.now (slice_get walker.now.records walker.now.here.records)) }
+{
+    let here = walker.here();
+    match walker.records().get(here.records) {
+        None => out.extend_from_slice(b", the end\n"),
+        Some(entry) => {
+            push_record_line(out, here.records + 1, *entry)?;
+            push_below(alloc, out, walker, refusal)
+        }
+    }
+}
+
+/// Appends where a walker is. Nothing of the walker changes.
+#[tactic(auto, unfolding(crate::specs::Places::place_text))]
+pub(crate) fn push_place(
+    alloc: Global,
+    out: &mut Vec<u8>,
+    walker: &mut Walker,
+) -> Result<(), AllocError>
+    ensures text { OnOk result (out.new.items ≡ out.old.items ++ place_text walker.old) }
+    ensures same { walker.new ≡ walker.old }
+{
+    let refusal = walker.refusal();
+    out.extend_from_slice(b"at ")?;
+    push_position(out, walker.here())?;
+    out.extend_from_slice(b" of ")?;
+    push_number(out, walker.records().len())?;
+    push_rest(alloc, out, walker, refusal)
+}

@@ -1,0 +1,114 @@
+//! Sessions: from the files' names, through the lines that are typed, to the end.
+
+ghost use Rattle.std.specs.Prelude.{◌≡◌, ◌<◌, ◌++◌, All, IfErr, List, OnOk, ℕ};
+ghost use Rattle.std.specs.Io.KnownBytes.{Appends};
+ghost use Rattle.mx_app_step.specs.Asked.{Asked};
+ghost use Rattle.mx_app_step.specs.Config.{Config as Configured};
+ghost use Rattle.mx_app_step.specs.Course.{IsSaved, TellsSaved};
+ghost use Rattle.mx_app_step.specs.Failure.{IsWanting};
+ghost use Rattle.mx_app_step.specs.Service.{Service};
+ghost use Rattle.mx_app_step.specs.Setup.{IsStart};
+ghost use Rattle.mx_app_step.specs.Telling.{IsTold};
+ghost use Rattle.mx_machine_world.specs.Boot.{world_at_boot};
+ghost use Rattle.mx_machine_world.specs.declared.history.Record.{Record as Noted};
+ghost use Rattle.mx_walk.specs.Walks.{Walk};
+ghost use Rattle.mx_app_look.specs.Sessions.{IsBegun, begun_text, session_text};
+
+use crate::answering::{answer_line, push_prompt};
+use crate::places::push_place;
+use mx_app_step::{
+    Failure, History, LineReader, Reader, Started, print_text, records_are_of_actors, start,
+};
+use mx_walk::Walker;
+use std::alloc::Global;
+use std::io::Write;
+
+/// Prints where the walker is, and asks for the first line.
+fn begin<W: Write>(
+    alloc: Global,
+    walker: &mut Walker,
+    asks: bool,
+    out: &mut W,
+) -> Result<(), Failure>
+    ensures err { IfErr result IsWanting }
+    ensures same { walker.new ≡ walker.old }
+    ensures printed { OnOk result (Appends (W.contents out.old) (W.contents out.new)
+        (begun_text asks walker.old)) }
+{
+    let mut text = Vec::new(alloc);
+    push_place(alloc, &mut text, walker)?;
+    push_prompt(&mut text, asks, walker)?;
+    print_text(text.as_slice(), out)
+}
+
+/// Answers lines up to one that ends the session, or to the end of the input.
+fn converse<L: LineReader, W: Write>(
+    alloc: Global,
+    walker: Walker,
+    lines: &mut L,
+    asks: bool,
+    out: &mut W,
+) -> Result<(), Failure>
+    ensures err { IfErr result (λ f. IsWanting f × ((typed : List (List ℕ))
+        × (L.given lines.new ≡ L.given lines.old ++ typed))) }
+    ensures printed { OnOk result ((typed : List (List ℕ))
+        × (L.given lines.new ≡ L.given lines.old ++ typed)
+        × Appends (W.contents out.old) (W.contents out.new) (session_text asks walker typed)) }
+{
+    let mut walker = walker;
+    let mut line = Vec::new(alloc);
+    for _ in 0..u64::MAX {
+        if !lines.next(&mut line)? {
+            break;
+        }
+        match answer_line(alloc, walker, line.as_slice(), asks, out)? {
+            Some(next) => walker = next,
+            None => return Ok(()),
+        }
+    }
+    let end = if asks { "\n" } else { "" };
+    print_text(end.as_bytes(), out)
+}
+
+/// The names of the files of a configuration and of a saved history.
+#[derive(Clone, Copy)]
+pub struct SessionNames<'a> {
+    pub config: &'a str,
+    pub log: &'a str,
+}
+
+/// Starts the machine of a saved history, and answers the lines that are typed: requests to go forward and
+/// back in the history, and to show what is there. With `asks` it prints the position before each line. A
+/// session's text is a function of the configuration, the programs, the history and the lines.
+pub fn look<R: Reader, L: LineReader, W: Write>(
+    alloc: Global,
+    reader: &mut R,
+    lines: &mut L,
+    names: SessionNames<'_>,
+    asks: bool,
+    out: &mut W,
+) -> Result<(), Failure>
+    ensures printed { OnOk result ((qs : List Asked) × (c : Configured) × (vs : List Service)
+        × (records : List Noted) × (k : Walk) × (typed : List (List ℕ))
+        × (R.asked reader.new ≡ R.asked reader.old ++ qs)
+        × (L.given lines.new ≡ L.given lines.old ++ typed)
+        × IsStart IsSaved names.entry.config.now names.entry.log.now qs c vs records
+        × IsBegun (world_at_boot c vs) records k
+        × Appends (W.contents out.old) (W.contents out.new)
+        (begun_text asks k ++ session_text asks k typed)) }
+    ensures fault { IfErr result (λ f. (qs : List Asked) × (typed : List (List ℕ))
+        × (R.asked reader.new ≡ R.asked reader.old ++ qs)
+        × (L.given lines.new ≡ L.given lines.old ++ typed)
+        × IsTold IsSaved TellsSaved names.entry.config.now names.entry.log.now qs f) }
+{
+    records_are_of_actors();
+    let Started {
+        machine,
+        config,
+        other: _,
+        lines: records,
+    } = start::<History, R>(alloc, reader, names.config, names.log)?;
+    let mut walker = Walker::new(alloc, machine, config, records)?;
+    begin(alloc, &mut walker, asks, out)?;
+    converse(alloc, walker, lines, asks, out)
+}

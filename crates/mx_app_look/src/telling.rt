@@ -1,0 +1,113 @@
+//! What is shown of a position's world.
+
+ghost use Rattle.std.specs.Prelude.{◌≡◌, ◌++◌, ◌+◌, ◌≤◌, IfOk, IfErr, OnOk, Some, slice_get};
+ghost use Rattle.mx_app_step.specs.Failure.{IsWanting};
+ghost use Rattle.mx_look_trace.specs.Trace.{record_text};
+ghost use Rattle.mx_print_answers.specs.Messages.{delivery_lines};
+ghost use Rattle.mx_walk.specs.Walks.{world_here};
+ghost use Rattle.mx_app_look.specs.Answers.{line_end, processes_text, step_above, why_text};
+
+use mx_app_step::{Failure, report};
+use mx_look_trace::{Glance, Step, push_record};
+use mx_machine_world::Record;
+use mx_print_answers::push_messages;
+use mx_walk::{Position, Walker, steps_in};
+use std::alloc::{AllocError, Global};
+
+/// A record's number is one of 32 bits.
+const NUMBERS: usize = 1 << 32;
+
+/// Appends what record `above + 1` did, and goes back to where the walker was.
+fn push_record_above(
+    alloc: Global,
+    out: &mut Vec<u8>,
+    walker: Walker,
+    above: usize,
+    entry: Record,
+) -> Result<Walker, Failure>
+    requires there { above + 1 ≤ walker.here.records }
+    requires entry { slice_get walker.records above ≡ Some entry }
+    ensures err { IfErr result IsWanting }
+    ensures same { IfOk result (λ w. w ≡ walker) }
+    ensures text { OnOk result (out.new.items ≡ out.old.items
+        ++ record_text (step_above walker.boot walker.records above entry)) }
+{
+    let here = walker.here();
+    let begun = Position {
+        records: above,
+        steps: steps_in(entry.event),
+    };
+    let walker = walker.go_to(alloc, begun)?;
+    let before = Glance::of(walker.machine());
+    let made = Position {
+        records: above + 1,
+        steps: 0,
+    };
+    let walker = walker.go_to(alloc, made)?;
+    let after = Glance::of(walker.machine());
+    let step = Step {
+        number: ((above + 1) % NUMBERS) as u32,
+        before,
+        actor: entry.actor,
+        event: entry.event,
+        after,
+    };
+    push_record(out, &step)?;
+    Ok(walker.go_to(alloc, here)?)
+}
+
+/// Appends what the record above did, or that the machine booted. The walker is where it was.
+pub(crate) fn push_why(alloc: Global, out: &mut Vec<u8>, walker: Walker) -> Result<Walker, Failure>
+    ensures err { IfErr result IsWanting }
+    ensures same { IfOk result (λ w. w ≡ walker) }
+    ensures text { OnOk result (out.new.items ≡ out.old.items ++ why_text walker) }
+{
+    let here = walker.here();
+    if here.records == 0 {
+        out.extend_from_slice(b"boot\n")?;
+        return Ok(walker);
+    }
+    let above = here.records - 1;
+    let entry = walker.records()[above];
+    push_record_above(alloc, out, walker, above, entry)
+}
+
+/// The line feed that a text's last line wants.
+fn line_end(text: &[u8]) -> &'static [u8]
+    ensures { result.now ≡ line_end text.now }
+{
+    match text.last() {
+        Some(byte) => if *byte == b'\n' { b"" } else { b"\n" },
+        None => b"",
+    }
+}
+
+/// Appends the report, whose last line ends.
+pub(crate) fn push_processes(
+    alloc: Global,
+    out: &mut Vec<u8>,
+    walker: &Walker,
+) -> Result<(), Failure>
+    ensures err { IfErr result IsWanting }
+    ensures text { OnOk result (out.new.items ≡ out.old.items
+        ++ processes_text (world_here walker.now)) }
+{
+    let text = report(alloc, walker.machine().kernel())?;
+    out.extend_from_slice(text.as_slice())?;
+    out.extend_from_slice(line_end(text.as_slice()))?;
+    Ok(())
+}
+
+/// Appends the deliveries that are kept.
+pub(crate) fn push_deliveries(
+    alloc: Global,
+    out: &mut Vec<u8>,
+    walker: &Walker,
+) -> Result<(), AllocError>
+    ensures { OnOk result (out.new.items ≡ out.old.items
+        ++ delivery_lines (world_here walker.now).table.deliveries) }
+{
+    let mut lines = String::new(alloc);
+    push_messages(&mut lines, walker.machine().kernel())?;
+    out.extend_from_slice(lines.as_bytes())
+}
