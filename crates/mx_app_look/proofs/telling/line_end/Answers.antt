@@ -19,8 +19,8 @@ by_last xs b h = last_is xs (length xs - 1) b (counted xs b (sym h)) (sym h)
 
 pub returns-then-byte-eq10 : goal.returns-then-byte-eq10
 returns-then-byte-eq10 c =
-    let same : eqb 10 10 ≡ eqb c.in-Some.byte.now 10 = ap (λ b. eqb b 10) c.if-byte-eq10.true in
-    ap (λ b. cond b [] (10 ∷ [])) same ∙ sym (by_last c.args.text.now c.in-Some.byte.now c.in-Some.ensures.value)
+    let same : eqb c.in-Some.byte.now 10 ≡ true = ap (λ b. eqb b 10) c.if-byte-eq10.true in
+    ap (λ b. cond b [] (10 ∷ [])) (sym same) ∙ sym (by_last c.args.text.now c.in-Some.byte.now c.in-Some.ensures.value)
 
 pub returns-else-byte-eq10 : goal.returns-else-byte-eq10
 returns-else-byte-eq10 c =
