@@ -1,9 +1,9 @@
-use Rattle.std.proofs.Common.{◌≡◌, ◌∙◌, ◌+◌, ◌-◌, ◌++◌, ◌≤◌, ◌<◌, ℕ, zero, suc, List, [], ◌∷◌, length, get_or, Option, Some, OnOk, slice_get, refl, ap, subst, sym, arith}
+use Rattle.std.proofs.Common.{◌≡◌, ◌∙◌, ◌-◌, ◌++◌, ◌≤◌, ◌<◌, ℕ, suc, List, length, get_or, Option, Some, OnOk, slice_get, ap, subst, sym, arith}
 use Rattle.mx_machine_world.specs.declared.history.Record.{Record}
 use Rattle.mx_look_trace.specs.Trace.{record_text}
 use Rattle.mx_app_look.specs.Answers.{record_above, step_above, why_by, why_text}
-use Rattle.mx_walk.specs.Positions.{IsPosition}
 use Rattle.mx_walk.specs.Walks.{Walk}
+use Rattle.mx_app_look.proofs.Moving.{read_is}
 use Rattle.mx_app_look.proofs.telling.push_why.Goals as goal
 
 above_is : (records : List Record) (n m : ℕ) (x : Record) → n ≡ suc m → slice_get records m ≡ Some x → record_above records n ≡ Some x
@@ -14,11 +14,6 @@ why_is k m x e h =
     let less : k.here.records - 1 ≡ m = omega (arith, e) in
     ap (λ (o : Option Record). why_by k (k.here.records - 1) o) (above_is k.records k.here.records m x e h)
     ∙ ap (λ i. record_text (step_above k.boot k.records i x)) less
-
-read_is : (records : List Record) (n : ℕ) (x : Record) → n < length records → slice_get records n ≡ Some (get_or records n x)
-read_is [] n x lt = absurd (omega (arith, lt))
-read_is (y ∷ ys) zero x lt = refl
-read_is (y ∷ ys) (suc n) x lt = read_is ys n x (omega (arith, lt))
 
 -- what was read at this index of these records
 told_is : (k : Walk) (records : List Record) (n : ℕ) (x : Record) → records ≡ k.records → (n ≡ 0 → ⊥) → n ≡ k.here.records → k.here.records ≤ length k.records
