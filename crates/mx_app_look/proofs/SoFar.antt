@@ -1,5 +1,5 @@
 -- A session so far: the lines that were typed, what was printed, and where one is.
-use Rattle.std.proofs.Common.{◌≡◌, ◌∙◌, ℕ, Bool, true, false, cond, List, [], ◌∷◌, ◌++◌, append_assoc, Option, Some, None, Result, Ok, Err, MatchOption, IfErr, OnOk, codes, refl, ap, sym, subst}
+use Rattle.std.proofs.Common.{◌≡◌, ◌∙◌, ℕ, Bool, true, false, cond, List, [], ◌∷◌, ◌++◌, append_assoc, Option, Some, None, MatchOption, codes, refl, ap, sym, subst}
 use Rattle.std.proofs.KnownBytes.{Appends-nil, Appends-trans}
 use Rattle.std.proofs.lemmas.List.{append-nil}
 use Rattle.std.specs.Io.KnownBytes.{Appends}
@@ -15,14 +15,6 @@ none_case (Some x) P Q e h = absurd cc
 pub some_case : {A : Type 0} (o : Option A) (x : A) (P : Type 0) (Q : A → Type 0) → o ≡ Some x → MatchOption o P Q → Q x
 some_case None x P Q e h = absurd cc
 some_case (Some y) x P Q e h = let same : y ≡ x = cc in subst Q same h
-
-pub if_err_and : {T E : Type 0} (r : Result T E) (P : E → Type 0) (Q : Type 0) → IfErr r P → Q → IfErr r (λ e. P e × Q)
-if_err_and (Ok x) P Q h q = tt
-if_err_and (Err e) P Q h q = (h, q)
-
-pub on_ok_map : {T E : Type 0} (r : Result T E) (P Q : Type 0) → (P → Q) → OnOk r P → OnOk r Q
-on_ok_map (Ok x) P Q f h = f h
-on_ok_map (Err e) P Q f h = tt
 
 -- ---- the lines
 

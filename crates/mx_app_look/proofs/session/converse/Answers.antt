@@ -1,8 +1,9 @@
 use Rattle.std.proofs.Common.{rules, ◌≡◌, ◌∙◌, ◌++◌, cond, IfErr, List, OnOk, ℕ, true, false, [], ◌∷◌, Bor, ap, sym, subst}
+use Rattle.std.proofs.lemmas.Result.{IfErr-weaker, IfOk-weaker}
 use Rattle.std.specs.Io.KnownBytes.{Appends}
 use Rattle.mx_app_step.specs.Failure.{IsWanting}
 use Rattle.mx_app_look.specs.Sessions.{session_text}
-use Rattle.mx_app_look.proofs.SoFar.{ended, given_more, if_err_and, none_case, on_ok_map, one_more, over, some_case, stays}
+use Rattle.mx_app_look.proofs.SoFar.{ended, given_more, none_case, one_more, over, some_case, stays}
 use Rattle.mx_app_look.proofs.session.converse.Goals.{else-loop-test, then-loop-test+in_ok-next+then-not-branch, then-asks, else-asks}
 use Rattle.mx_app_look.proofs.session.converse.Goals as goal
 
@@ -10,16 +11,15 @@ pub returns-in_err-next-clause-err : goal.returns-in_err-next-clause-err
 returns-in_err-next-clause-err g c =
     let inv = c.loop.invariant in
     let wanting : IfErr c.from_residual.result IsWanting = search rules in
-    if_err_and c.from_residual.result IsWanting ((x : List (List ℕ)) × (g.L.LineReader.given c.next.new.self ≡ g.L.LineReader.given c.args.lines.now ++ x)) wanting
-    (inv.typed, c.in_err-next.ensures.failed ∙ inv.lines)
+    IfErr-weaker c.from_residual.result IsWanting _ (λ f h. (h, (inv.typed, c.in_err-next.ensures.failed ∙ inv.lines))) wanting
 
 pub returns-in_err-next-2-clause-err : goal.returns-in_err-next-2-clause-err
 returns-in_err-next-2-clause-err g c =
     let more = c.in_ok-next.ensures.more c.if-not-branch.false in
     let wanting : IfErr c.from_residual-in_err-next-2.result IsWanting = search rules in
-    if_err_and c.from_residual-in_err-next-2.result IsWanting ((x : List (List ℕ)) × (g.L.LineReader.given c.next.new.self ≡ g.L.LineReader.given c.args.lines.now ++ x)) wanting
-    (given_more c.args.asks c.args.walker c.loop.walker (g.L.LineReader.given c.args.lines.now) (g.L.LineReader.given c.loop.lines) (g.L.LineReader.given c.next.new.self)
-    (g.W.Write.contents c.args.out.now) (g.W.Write.contents c.loop.out) c.next.new.line.items c.loop.invariant more)
+    let given = given_more c.args.asks c.args.walker c.loop.walker (g.L.LineReader.given c.args.lines.now) (g.L.LineReader.given c.loop.lines) (g.L.LineReader.given c.next.new.self)
+    (g.W.Write.contents c.args.out.now) (g.W.Write.contents c.loop.out) c.next.new.line.items c.loop.invariant more in
+    IfErr-weaker c.from_residual-in_err-next-2.result IsWanting _ (λ f h. (h, given)) wanting
 
 pub returns-in-None-clause-printed : goal.returns-in-None-clause-printed
 returns-in-None-clause-printed g c =
@@ -41,8 +41,7 @@ returns-clause-err g c =
       | else-loop-test w ↦ ap g.L.LineReader.given w.lines-is
       | then-loop-test+in_ok-next+then-not-branch w ↦ ap g.L.LineReader.given w.lines-is ∙ w.in_ok-next.ensures.end w.if-not-branch.true
     ] in
-    if_err_and c.print_text.result IsWanting ((x : List (List ℕ)) × (g.L.LineReader.given c.loop-test.lines ≡ g.L.LineReader.given c.args.lines.now ++ x)) c.print_text.ensures.err
-    (c.loop.invariant.typed, same ∙ c.loop.invariant.lines)
+    IfErr-weaker c.print_text.result IsWanting _ (λ f h. (h, (c.loop.invariant.typed, same ∙ c.loop.invariant.lines))) c.print_text.ensures.err
 
 pub returns-clause-printed : goal.returns-clause-printed
 returns-clause-printed g c =
@@ -57,7 +56,7 @@ returns-clause-printed g c =
     let before = g.L.LineReader.given c.args.lines.now in
     let s = stays c.args.asks c.args.walker c.loop.walker before (g.L.LineReader.given c.loop.lines) (g.L.LineReader.given c.loop-test.lines)
     (g.W.Write.contents c.args.out.now) (g.W.Write.contents c.loop.out) c.loop.invariant same in
-    on_ok_map c.print_text.result _ _
-    (over c.args.asks c.args.walker c.loop.walker before (g.L.LineReader.given c.loop-test.lines)
-    (g.W.Write.contents c.args.out.now) (g.W.Write.contents c.loop.out) (g.W.Write.contents c.print_text.new.out) s)
+    IfOk-weaker c.print_text.result _ _
+    (λ r b. over c.args.asks c.args.walker c.loop.walker before (g.L.LineReader.given c.loop-test.lines)
+    (g.W.Write.contents c.args.out.now) (g.W.Write.contents c.loop.out) (g.W.Write.contents c.print_text.new.out) s b)
     (subst (λ (t : List ℕ). OnOk c.print_text.result (Appends (g.W.Write.contents c.loop.out) (g.W.Write.contents c.print_text.new.out) t)) end c.print_text.ensures.bytes)
