@@ -2,3 +2,4 @@ mod SoFar
 mod Moving
 mod Traced
 mod Starting
+mod Kernels

@@ -121,6 +121,14 @@ one_less n i lt = omega (arith, lt)
 pub none_left : (n i : ℕ) → n ≤ i → n - i ≡ 0
 none_left n i ge = omega (arith, ge)
 
+-- ---- a record that is read
+
+-- the one at an index
+pub read_is : (records : List Record) (n : ℕ) (x : Record) → n < length records → slice_get records n ≡ Some (get_or records n x)
+read_is [] n x lt = absurd (omega (arith, lt))
+read_is (y ∷ ys) zero x lt = refl
+read_is (y ∷ ys) (suc n) x lt = read_is ys n x (omega (arith, lt))
+
 -- ---- a record above a position
 
 inside_by : (records : List Record) (n : ℕ) (x : Record) → slice_get records n ≡ Some x → n < length records

@@ -1,10 +1,22 @@
 -- A session so far: the lines that were typed, what was printed, and where one is.
-use Rattle.std.proofs.Common.{◌≡◌, ◌∙◌, ℕ, Bool, true, false, cond, List, [], ◌∷◌, ◌++◌, append_assoc, Option, codes, refl, ap, sym, subst}
+use Rattle.std.proofs.Common.{◌≡◌, ◌∙◌, ℕ, Bool, true, false, cond, List, [], ◌∷◌, ◌++◌, append_assoc, Option, Some, None, MatchOption, codes, refl, ap, sym, subst}
 use Rattle.std.proofs.KnownBytes.{Appends-nil, Appends-trans}
 use Rattle.std.proofs.lemmas.List.{append-nil}
 use Rattle.std.specs.Io.KnownBytes.{Appends}
 use Rattle.mx_walk.specs.Walks.{Walk}
 use Rattle.mx_app_look.specs.Sessions.{after_line, answer_text, ends, session_text}
+
+-- ---- what a call answers
+
+pub none_case : {A : Type 0} (o : Option A) (P : Type 0) (Q : A → Type 0) → o ≡ None → MatchOption o P Q → P
+none_case None P Q e h = h
+none_case (Some x) P Q e h = absurd cc
+
+pub some_case : {A : Type 0} (o : Option A) (x : A) (P : Type 0) (Q : A → Type 0) → o ≡ Some x → MatchOption o P Q → Q x
+some_case None x P Q e h = absurd cc
+some_case (Some y) x P Q e h = let same : y ≡ x = cc in subst Q same h
+
+-- ---- the lines
 
 -- no line of these ends the session
 abbrev pub NoneEnds : List (List ℕ) → Type 0

@@ -1,7 +1,8 @@
 //! Where one is in a history.
 
-ghost use Rattle.std.specs.Prelude.{◌≡◌, ◌++◌, ◌<◌, OnOk, length, slice_get};
+ghost use Rattle.std.specs.Prelude.{◌≡◌, ◌++◌, ◌+◌, OnOk, slice_get};
 ghost use Rattle.std.specs.Fmt.{decimal};
+ghost use Rattle.mx_app_step.specs.Log.{lines_above};
 ghost use Rattle.mx_look_code.specs.Code.{code_line};
 ghost use Rattle.mx_machine_world.specs.History.{replay};
 ghost use Rattle.mx_machine_world.specs.World.{held_by};
@@ -121,17 +122,17 @@ fn push_below(
     alloc: Global,
     out: &mut Vec<u8>,
     walker: &Walker,
+    line: usize,
     refusal: Option<Refusal>,
 ) -> Result<(), AllocError>
-    requires { walker.now.here.records < length walker.now.records }
+    requires { line ≡ lines_above (world_here walker.now).table.rules + (walker.now.here.records + 1) }
     ensures { OnOk result (out.new.items ≡ out.old.items ++ below_line walker.now refusal) }
 {
     match refusal {
         None => push_step(alloc, out, walker),
         Some(refusal) => {
-            let number = lines_above(walker.machine().rules()) + (walker.here().records + 1);
-            let line = refusal_line(alloc, number, refusal)?;
-            out.extend_from_slice(line.as_bytes())
+            let text = refusal_line(alloc, line, refusal)?;
+            out.extend_from_slice(text.as_bytes())
         }
     }
 }
@@ -151,8 +152,10 @@ fn push_rest(
     match walker.records().get(here.records) {
         None => out.extend_from_slice(b", the end\n"),
         Some(entry) => {
-            push_record_line(out, here.records + 1, *entry)?;
-            push_below(alloc, out, walker, refusal)
+            let number = here.records + 1;
+            push_record_line(out, number, *entry)?;
+            let line = lines_above(walker.machine().rules()) + number;
+            push_below(alloc, out, walker, line, refusal)
         }
     }
 }

@@ -1,4 +1,5 @@
 use Rattle.std.proofs.Common.{◌≡◌, ◌∙◌, ◌+◌, ◌^◌, ◌%◌, ℕ, suc, List, take, ap, sym, arith}
+use Rattle.mx_app_step.specs.Traces.{steps_before}
 use Rattle.mx_look_trace.specs.Glances.{glance_of}
 use Rattle.mx_look_trace.specs.Step.{Step as Seen}
 use Rattle.mx_machine_world.specs.declared.events.Event.{Event}
@@ -19,4 +20,4 @@ returns c boot records n x small there =
     ∙ ap (λ k. world_after_events boot (events_of_history (take k records))) more ∙ one_record_more boot records n x there in
     ap (λ k. let s : Seen = record { number = k; before = glance_of (world_at boot records (record { records = n; steps = steps_in x.event })); actor = x.actor; event = x.event; after = glance_of (world_at boot records (record { records = n + 1; steps = 0 })) } in s) number
     ∙ ap (λ (u : World). let s : Seen = record { number = n + 1; before = glance_of u; actor = x.actor; event = x.event; after = glance_of (world_at boot records (record { records = n + 1; steps = 0 })) } in s) before
-    ∙ ap (λ (u : World). let s : Seen = record { number = n + 1; before = glance_of w; actor = x.actor; event = x.event; after = glance_of u } in s) after
+    ∙ ap (λ (u : World). let s : Seen = record { number = n + 1; before = glance_of (world_after_events w (steps_before x.actor x.event)); actor = x.actor; event = x.event; after = glance_of u } in s) after

@@ -1,0 +1,70 @@
+use Rattle.std.proofs.Common.{rules, ◌≡◌, ◌∙◌, ◌<◌, All, IfErr, List, ℕ, [], inl, inr, ap, subst, sym}
+use Rattle.std.proofs.KnownBytes.{Appends-trans}
+use Rattle.std.proofs.lemmas.List.{append-nil}
+use Rattle.std.proofs.lemmas.Result.{IfErr-weaker, IfOk-weaker, err_from_is_err_and}
+use Rattle.std.specs.Io.KnownBytes.{Appends}
+use Rattle.mx_app_step.specs.Failure.{IsWanting}
+use Rattle.mx_machine.specs.Machine.{world_of}
+use Rattle.mx_machine_world.specs.Boot.{world_at_boot}
+use Rattle.mx_machine_world.specs.History.{BootAndHistory}
+use Rattle.mx_machine_world.specs.World.{World, actors}
+use Rattle.mx_machine_world.specs.declared.history.Record.{Record}
+use Rattle.mx_walk.specs.Walks.{Walk}
+use Rattle.mx_app_look.specs.Sessions.{begun_text, session_text}
+use Rattle.mx_app_look.proofs.Starting.{is_begun}
+use Rattle.mx_app_look.proofs.session.look.Goals as goal
+
+pub returns-in_err-machine-clause-fault : goal.returns-in_err-machine-clause-fault
+returns-in_err-machine-clause-fault g c =
+    let p = err_from_is_err_and c.from_residual.result c.from_residual.ensures.1 in
+    let h = c.in_err-machine.ensures.fault in
+    rw (p.1, p.2) (h.0, [], h.1, sym (append-nil (g.L.LineReader.given c.args.lines.now)), inl h.2)
+
+pub new-requires-clause-actors : goal.new-requires-clause-actors
+new-requires-clause-actors g c =
+    let s = c.in_ok-machine.ensures.started in
+    let records = c.in_ok-machine.field-0.lines.items in
+    subst (λ (w : World). All (λ (x : Record). x.actor < actors w) records) (sym s.5)
+    (c.records_are_of_actors.ensures c.args.names.config.now c.args.names.log.now s.0 s.1 s.2 records s.4)
+
+pub returns-in_err-walker-clause-fault : goal.returns-in_err-walker-clause-fault
+returns-in_err-walker-clause-fault g c =
+    let s = c.in_ok-machine.ensures.started in
+    let wanting : IfErr c.from_residual-in_err-walker.result IsWanting = search rules in
+    IfErr-weaker c.from_residual-in_err-walker.result IsWanting _
+    (λ f h. (s.0, [], s.3, sym (append-nil (g.L.LineReader.given c.args.lines.now)), inr (s.1, s.2, c.in_ok-machine.field-0.lines.items, s.4, h))) wanting
+
+pub returns-in_err-begin-clause-fault : goal.returns-in_err-begin-clause-fault
+returns-in_err-begin-clause-fault g c =
+    let s = c.in_ok-machine.ensures.started in
+    let wanting : IfErr c.from_residual-in_err-begin.result IsWanting = search rules in
+    IfErr-weaker c.from_residual-in_err-begin.result IsWanting _
+    (λ f h. (s.0, [], s.3, sym (append-nil (g.L.LineReader.given c.args.lines.now)), inr (s.1, s.2, c.in_ok-machine.field-0.lines.items, s.4, h))) wanting
+
+pub returns-clause-printed : goal.returns-clause-printed
+returns-clause-printed g c =
+    let s = c.in_ok-machine.ensures.started in
+    let records = c.in_ok-machine.field-0.lines.items in
+    let k = c.in_ok-walker.walker in
+    let made = c.in_ok-walker.ensures.made in
+    let boot : k.boot ≡ world_at_boot s.1 s.2 = made.0 ∙ ap (λ (x : BootAndHistory). x.boot) c.in_ok-machine.ensures.kernel ∙ s.5 in
+    let begun = is_begun (world_at_boot s.1 s.2) records k boot made.1 made.2 c.in_ok-walker.ensures.last in
+    IfOk-weaker c.converse.result _ _ (λ r b. (
+      s.0,
+      s.1,
+      s.2,
+      records,
+      k,
+      b.0,
+      s.3,
+      b.1,
+      s.4,
+      begun,
+      Appends-trans (g.W.Write.contents c.args.out.now) (g.W.Write.contents c.begin.new.out) (g.W.Write.contents c.converse.new.out) (begun_text c.args.asks k) (session_text c.args.asks k b.0) c.in_ok-begin.ensures.printed
+          (subst (λ (j : Walk). Appends (g.W.Write.contents c.begin.new.out) (g.W.Write.contents c.converse.new.out) (session_text c.args.asks j b.0)) c.in_ok-begin.ensures.same b.2),
+    )) c.converse.ensures.printed
+
+pub returns-clause-fault : goal.returns-clause-fault
+returns-clause-fault g c =
+    let s = c.in_ok-machine.ensures.started in
+    IfErr-weaker c.converse.result _ _ (λ f h. (s.0, h.1.0, s.3, h.1.1, inr (s.1, s.2, c.in_ok-machine.field-0.lines.items, s.4, h.0))) c.converse.ensures.err
