@@ -24,6 +24,6 @@ pub use mx_machine::{Event, Held, Machine, Out, Record, Recorded, Tool, at_stop}
 pub use named::{NamedFile, NamedFiles};
 pub use reader::Reader;
 pub use runtime::{RuntimeFiles, RuntimeWriter};
-pub use setup::{config_of, setup_of};
+pub use setup::{config_of, setup_of, text_of};
 pub use starting::{Started, start};
 pub use writer::FileWriter;

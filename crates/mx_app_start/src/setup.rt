@@ -12,7 +12,7 @@ use mx_machine::Service;
 use std::alloc::Global;
 
 /// The text of a file.
-pub(crate) fn text_of<R: Reader>(
+pub fn text_of<R: Reader>(
     alloc: Global,
     reader: &mut R,
     name: &str,

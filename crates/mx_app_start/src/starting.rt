@@ -22,6 +22,8 @@ use std::alloc::Global;
 #[derive(Drop)]
 pub struct Started<L: Drop> {
     pub machine: Machine,
+    /// The configuration by which it booted.
+    pub config: Config,
     /// The first actor that is no processor.
     pub other: u8,
     /// What the lines of the text that drives it say.
@@ -56,7 +58,8 @@ where
     ensures started { IfOk result (λ s. (qs : List Asked) × (c : Configured) × (vs : List Served)
         × (R.asked reader.new ≡ R.asked reader.old ++ qs)
         × IsStart C.IsSaid config.now text.now qs c vs s.lines.items
-        × (world_of s.machine ≡ world_at_boot c vs) × (s.other ≡ c.cpus)) }
+        × (world_of s.machine ≡ world_at_boot c vs) × (s.other ≡ c.cpus)
+        × (s.config ≡ c) × (0 < length vs) × (length vs ≤ 32)) }
     ensures kernel { IfOk result (λ s. s.machine.kernel
         ≡ record { boot = world_of s.machine; history = [] }) }
     ensures other { IfOk result (λ s. s.other < actors (world_of s.machine)) }
@@ -68,9 +71,11 @@ where
     let text = text_of(alloc, reader, text)?;
     let lines = C::read(alloc, text.as_str(), &mut config)?;
     let machine = boot(alloc, &config, services)?;
+    let other = config.cpus;
     Ok(Started {
         machine,
-        other: config.cpus,
+        config,
+        other,
         lines,
     })
 }

@@ -9,16 +9,17 @@ mod saving;
 mod stepping;
 mod tracing;
 
-pub use laws::parts_of_a_trace_join;
+pub use laws::{parts_of_a_trace_join, records_are_of_actors};
 pub use lines::{perform_line, step};
 pub use mx_app_start::{
     BootError, Channels, Config, DebugScript, Failure, FileWriter, History, KeptFile, Machine,
     MemoryWriter, NamedFile, NamedFiles, Out, Reader, Record, RuntimeFiles, RuntimeWriter, Script,
-    ScriptLine, Tool, config_of, lines_above, print_text, report, saved_text, setup_of, start,
+    ScriptLine, Started, Tool, config_of, lines_above, print_text, report, saved_text, setup_of,
+    start, text_of,
 };
 pub use mx_print_answers::Said;
 pub use printing::{pieces_join, print_kernel_report, print_piece, print_report};
-pub use records::{Replayed, replay};
+pub use records::{Replayed, perform_records, print_refusal, refusal_line, replay};
 pub use saving::{step_saved, write_history};
 pub use stepping::make_steps;
 pub use tracing::{HistoryPart, first_records, look_record, resting_step, trace};

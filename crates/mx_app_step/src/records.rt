@@ -1,6 +1,6 @@
 //! A machine that is driven by a saved history.
 
-ghost use Rattle.std.specs.Prelude.{◌≡◌, ◌<◌, ◌≤◌, ◌++◌, List, All, length, IfOk, IfErr, OnOk, None, Some};
+ghost use Rattle.std.specs.Prelude.{◌≡◌, ◌<◌, ◌≤◌, ◌++◌, List, All, length, IfOk, IfErr, OnOk, None, Some, string_bytes};
 ghost use Rattle.std.specs.Io.KnownBytes.{Appends};
 ghost use Rattle.mx_app_start.specs.Failure.{IsWanting};
 ghost use Rattle.mx_app_start.specs.Machine.{IsActor, world_of};
@@ -27,7 +27,7 @@ use mx_app_start::{
 };
 use mx_machine_world::{Refusal, actors_stay};
 use mx_print_answers::Said;
-use std::alloc::Global;
+use std::alloc::{AllocError, Global};
 use std::io::Write;
 
 /// How a history was replayed.
@@ -44,6 +44,7 @@ pub(crate) fn steps_again(machine: &mut Machine, cpu: u8, steps: u32) -> Result<
     ensures ok { OnOk result (AreAccepted (world_of machine.old) (steps_of cpu steps)
         × (world_of machine.new ≡ world_after_events (world_of machine.old) (steps_of cpu steps))) }
     ensures err { IfErr result (IsFirstRefusal (world_of machine.old) (steps_of cpu steps)) }
+    ensures boot { machine.new.kernel.boot ≡ machine.old.kernel.boot }
 {
     if steps == 0 {
         return Ok(());
@@ -67,6 +68,7 @@ pub(crate) fn event_again(machine: &mut Machine, actor: u8, event: Event) -> Res
     ensures ok { OnOk result ((event_refusal (world_of machine.old) actor event ≡ None)
         × (world_of machine.new ≡ world_after_event (world_of machine.old) actor event)) }
     ensures err { IfErr result (λ r. event_refusal (world_of machine.old) actor event ≡ Some r) }
+    ensures boot { machine.new.kernel.boot ≡ machine.old.kernel.boot }
 {
     machine.apply(actor, event)?;
     Ok(())
@@ -80,6 +82,7 @@ fn return_again(machine: &mut Machine, cpu: u8, steps: u32) -> Result<(), Refusa
         ≡ world_after_events (world_of machine.old) (events_of cpu (recorded.Back steps)))) }
     ensures err { IfErr result
         (IsFirstRefusal (world_of machine.old) (events_of cpu (recorded.Back steps))) }
+    ensures boot { machine.new.kernel.boot ≡ machine.old.kernel.boot }
 {
     steps_again(machine, cpu, steps)?;
     event_again(machine, cpu, Event::Back)
@@ -92,6 +95,7 @@ fn perform_record(machine: &mut Machine, actor: u8, event: Recorded) -> Result<(
         × (world_of machine.new
         ≡ world_after_events (world_of machine.old) (events_of actor event))) }
     ensures err { IfErr result (IsFirstRefusal (world_of machine.old) (events_of actor event)) }
+    ensures boot { machine.new.kernel.boot ≡ machine.old.kernel.boot }
 {
     match event {
         Recorded::Take => event_again(machine, actor, Event::Take),
@@ -105,13 +109,14 @@ fn perform_record(machine: &mut Machine, actor: u8, event: Recorded) -> Result<(
 
 /// The events that records stand for, up to the first that is refused. Answers the number of its
 /// record, the first having the number 1, and why.
-fn perform_records(machine: &mut Machine, records: &[Record]) -> Result<(), (usize, Refusal)>
+pub fn perform_records(machine: &mut Machine, records: &[Record]) -> Result<(), (usize, Refusal)>
     requires { All (λ (x : Noted). x.actor < actors (world_of machine.old)) records.now }
     ensures ok { OnOk result (AreAccepted (world_of machine.old) (events_of_history records.now)
         × (world_of machine.new
         ≡ world_after_events (world_of machine.old) (events_of_history records.now))) }
     ensures err { IfErr result (λ p. IsRefusedAt (world_of machine.old) records.now p.0 p.1) }
     ensures few { IfErr result (λ p. p.0 ≤ length records.now) }
+    ensures boot { machine.new.kernel.boot ≡ machine.old.kernel.boot }
 {
     actors_stay();
     let mut number = 1;
@@ -124,8 +129,16 @@ fn perform_records(machine: &mut Machine, records: &[Record]) -> Result<(), (usi
     Ok(())
 }
 
+/// In which line a record's event is refused, and why.
+pub fn refusal_line(alloc: Global, number: usize, refusal: Refusal) -> Result<String, AllocError>
+    ensures { IfOk result (λ line. string_bytes line ≡ refused_record_line number refusal) }
+{
+    let said = Said::Refused(refusal);
+    format!(in alloc; "line {number}: {said}\n")
+}
+
 /// Prints in which line a record's event is refused, and why.
-pub(crate) fn print_refusal<W: Write>(
+pub fn print_refusal<W: Write>(
     alloc: Global,
     number: usize,
     refusal: Refusal,
@@ -135,8 +148,7 @@ pub(crate) fn print_refusal<W: Write>(
     ensures bytes { OnOk result (Appends (W.contents out.old) (W.contents out.new)
         (refused_record_line number refusal)) }
 {
-    let said = Said::Refused(refusal);
-    let line = format!(in alloc; "line {number}: {said}\n")?;
+    let line = refusal_line(alloc, number, refusal)?;
     print_text(line.as_bytes(), out)
 }
 

@@ -14,5 +14,5 @@ pub use laws::{number_again, verb_again, words_again};
 pub use numbers::{actor, count, only_actor, only_count};
 pub use place::{CodePlace, SymbolName, place_named};
 pub use reading::{ReadsLine, read_lines};
-pub use scripts::{ScriptLine, script};
+pub use scripts::{ScriptLine, script, script_line_of};
 pub use verb::{Verb, verb_named};

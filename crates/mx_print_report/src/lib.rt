@@ -4,5 +4,5 @@
 mod fields;
 mod reporting;
 
-pub use fields::{push_decimal, push_name};
-pub use reporting::report_of;
+pub use fields::{Naming, push_decimal, push_name, push_process};
+pub use reporting::{push_console, push_count, report_of};

@@ -4,7 +4,7 @@ ghost use Rattle.std.specs.Prelude.{◌≡◌, ◌<◌, ◌++◌, OnOk, IfOk, co
 ghost use Rattle.std.specs.Fmt.{decimal};
 ghost use Rattle.mx_print_report.specs.Report.{slot_line, slot_lines, report_text};
 
-use crate::fields::{endpoint_of, push_decimal, push_label, push_number, push_state};
+use crate::fields::{Naming, push_decimal, push_number, push_process};
 use mx_proc::{Console, Slot, Table};
 use mx_respawn::Service;
 use mx_word::NoMemory;
@@ -17,9 +17,8 @@ fn push_slot(out: &mut Vec<u8>, table: &Table, slot: Slot, name: &[u8]) -> Resul
 {
     let process = table.process(slot);
     push_decimal(out, u32::from(slot))?;
-    push_label(out, name)?;
-    push_number(out, endpoint_of(table, slot))?;
-    push_state(out, table, slot, process.state)?;
+    out.push(b' ')?;
+    push_process(out, Naming::Endpoints, table, slot, name)?;
     push_number(out, u32::from(process.level))?;
     push_number(out, process.ticks)?;
     out.push(b'\n')?;
@@ -39,7 +38,7 @@ fn push_slots(out: &mut Vec<u8>, table: &Table, services: &[Service]) -> Result<
 }
 
 /// Appends a line that counts something.
-fn push_count(out: &mut Vec<u8>, word: &[u8], count: u32) -> Result<(), AllocError>
+pub fn push_count(out: &mut Vec<u8>, word: &[u8], count: u32) -> Result<(), AllocError>
     ensures { OnOk result (out.new.items ≡ out.old.items
         ++ (word.now ++ decimal count ++ codes "\n")) }
 {
@@ -50,7 +49,7 @@ fn push_count(out: &mut Vec<u8>, word: &[u8], count: u32) -> Result<(), AllocErr
 }
 
 /// Appends the bytes of the console that are kept.
-fn push_console(out: &mut Vec<u8>, console: &Console) -> Result<(), AllocError>
+pub fn push_console(out: &mut Vec<u8>, console: &Console) -> Result<(), AllocError>
     ensures { OnOk result (out.new.items ≡ out.old.items ++ console.now.kept) }
 {
     let mut index = 0;

@@ -68,6 +68,9 @@ returns-clause-started g c =
       started g.C.Course.IsSaid c.args.config.now c.args.text.now (string_bytes c.in_ok-text.text) c.as_str.result.now s.0 t.0 c.in_ok-config.config c.read.new.config c.in_ok-config.services.items c.in_ok-lines.lines.items s.2 c.as_str.ensures.value t.2 c.in_ok-lines.ensures.said,
       c.in_ok-machine.ensures.world,
       refl,
+      refl,
+      omega (arith, as_many_services c.args.config.now s.0 c.in_ok-config.config c.in_ok-config.services.items s.2, c.in_ok-config.config.some_lines),
+      omega (arith, as_many_services c.args.config.now s.0 c.in_ok-config.config c.in_ok-config.services.items s.2, c.in_ok-config.config.lines_fit),
     )
 
 pub returns-clause-other : goal.returns-clause-other

@@ -1,0 +1,254 @@
+//! A history that is swept.
+
+use crate::faults::fault_lines;
+use mx_app_step::{
+    Channels, Failure, FileWriter, History, Machine, Reader, Record, Started, lines_above,
+    perform_records, print_refusal, print_text, start, text_of, write_history,
+};
+use mx_sweep::{Block, FaultLine, Outcome, Sweep, Total, outcome_at, push_block, push_total};
+use std::alloc::Global;
+use std::io::Write;
+
+/// The names of the files: those of the configuration, of the saved history and of the fault, which are read,
+/// and that of the history with the fault, which is written, if it is named.
+#[derive(Clone, Copy)]
+pub struct SweepNames<'a> {
+    pub config: &'a str,
+    pub log: &'a str,
+    pub fault: &'a str,
+    pub save: Option<&'a str>,
+}
+
+/// The first and the last position, and the most turns after each. Positions that the history hasn't are none.
+#[derive(Clone, Copy)]
+pub struct SweepWanted {
+    pub from: u32,
+    pub to: u32,
+    pub bound: u32,
+}
+
+/// How a sweep ended.
+#[derive(Clone, Copy, Debug, PartialEq, Eq)]
+pub enum Swept {
+    /// Each position has the outcome that it has without the fault.
+    Alike,
+    /// A position hasn't.
+    Differs,
+    /// The history itself is refused, and nothing was swept.
+    Refused,
+}
+
+/// A machine at boot, with a saved history and a fault.
+#[derive(Drop)]
+struct Begun {
+    started: Started<Record>,
+    fault: Vec<FaultLine>,
+}
+
+/// Boots the machine of a saved history, after the fault's file is read too.
+fn begin<R: Reader>(
+    alloc: Global,
+    reader: &mut R,
+    names: SweepNames<'_>,
+) -> Result<Begun, Failure> {
+    let started = start::<History, R>(alloc, reader, names.config, names.log)?;
+    let text = text_of(alloc, reader, names.fault)?;
+    let fault = fault_lines(alloc, text.as_str())?;
+    Ok(Begun { started, fault })
+}
+
+/// Whether a file that is read would be written over.
+fn writes_over(names: SweepNames<'_>) -> bool {
+    match names.save {
+        None => false,
+        Some(save) => names.config == save || names.log == save || names.fault == save,
+    }
+}
+
+/// Prints a block.
+fn print_block<W: Write>(alloc: Global, block: &Block, out: &mut W) -> Result<(), Failure> {
+    let mut text = Vec::new(alloc);
+    push_block(alloc, &mut text, block)?;
+    print_text(text.as_slice(), out)
+}
+
+/// What was swept: the machine after the last position's run, and the counts.
+#[derive(Drop)]
+struct Done {
+    machine: Machine,
+    total: Total,
+}
+
+/// Sweeps positions, of which the first is swept already, and prints their blocks.
+fn print_more<W: Write>(
+    alloc: Global,
+    machine: Machine,
+    sweep: Sweep<'_>,
+    first: Outcome,
+    range: Range,
+    out: &mut W,
+) -> Result<Done, Failure> {
+    let mut machine = machine;
+    let mut alike = usize::from(first.is_alike);
+    let mut blocks = 1;
+    let mut open = Block {
+        first: range.from,
+        last: range.from,
+        text: first.text,
+    };
+    for position in range.from + 1..range.end {
+        let (next, outcome) = outcome_at(alloc, machine, sweep, position)?;
+        machine = next;
+        alike += usize::from(outcome.is_alike);
+        if outcome.text.as_slice() == open.text.as_slice() {
+            open.last = position;
+        } else {
+            print_block(alloc, &open, out)?;
+            blocks += 1;
+            open = Block {
+                first: position,
+                last: position,
+                text: outcome.text,
+            };
+        }
+    }
+    print_block(alloc, &open, out)?;
+    let total = Total {
+        positions: range.end - range.from,
+        blocks,
+        alike,
+    };
+    Ok(Done { machine, total })
+}
+
+/// Sweeps positions, and prints their blocks.
+fn print_positions<W: Write>(
+    alloc: Global,
+    machine: Machine,
+    sweep: Sweep<'_>,
+    range: Range,
+    out: &mut W,
+) -> Result<Done, Failure> {
+    if range.from >= range.end {
+        let total = Total {
+            positions: 0,
+            blocks: 0,
+            alike: 0,
+        };
+        return Ok(Done { machine, total });
+    }
+    let (machine, first) = outcome_at(alloc, machine, sweep, range.from)?;
+    print_more(alloc, machine, sweep, first, range, out)
+}
+
+/// Positions of a history: the first, and the one after the last.
+#[derive(Clone, Copy)]
+struct Range {
+    from: usize,
+    end: usize,
+}
+
+/// The positions that are swept of a history of so many records.
+fn range_of(wanted: SweepWanted, records: usize) -> Range {
+    let last = (wanted.to as usize).min(records);
+    Range {
+        from: wanted.from as usize,
+        end: last + 1,
+    }
+}
+
+/// Prints the last line of a sweep.
+fn print_total<W: Write>(alloc: Global, total: Total, out: &mut W) -> Result<(), Failure> {
+    let mut text = Vec::new(alloc);
+    push_total(alloc, &mut text, total)?;
+    print_text(text.as_slice(), out)
+}
+
+/// Writes the history of the last position's run, if a file is named for it and a position was swept.
+fn save_history<F: FileWriter>(
+    alloc: Global,
+    done: &Done,
+    files: &mut F,
+    save: Option<&str>,
+) -> Result<(), Failure> {
+    match save {
+        Some(name) => if done.total.positions > 0 {
+            write_history(alloc, done.machine.kernel(), files, name)
+        } else {
+            Ok(())
+        },
+        None => Ok(()),
+    }
+}
+
+/// Sweeps a history that is read, prints its blocks and the counts, and then writes a history if that is
+/// wanted.
+fn sweep_begun<F: FileWriter, W: Write>(
+    alloc: Global,
+    begun: Begun,
+    files: &mut F,
+    out: &mut W,
+    save: Option<&str>,
+    wanted: SweepWanted,
+) -> Result<Swept, Failure> {
+    let Begun { started, fault } = begun;
+    let Started {
+        machine,
+        config,
+        other,
+        lines: records,
+    } = started;
+    let mut machine = machine;
+    let above = lines_above(machine.rules());
+    if let Err((number, refusal)) = perform_records(&mut machine, records.as_slice()) {
+        print_refusal(alloc, above + number, refusal, out)?;
+        return Ok(Swept::Refused);
+    }
+    let sweep = Sweep {
+        config: &config,
+        other,
+        records: records.as_slice(),
+        fault: fault.as_slice(),
+        bound: wanted.bound,
+    };
+    let range = range_of(wanted, records.len());
+    let done = print_positions(alloc, machine, sweep, range, out)?;
+    print_total(alloc, done.total, out)?;
+    save_history(alloc, &done, files, save)?;
+    Ok(swept(done.total))
+}
+
+/// How a sweep ended, by its counts.
+fn swept(total: Total) -> Swept {
+    if total.alike == total.positions {
+        Swept::Alike
+    } else {
+        Swept::Differs
+    }
+}
+
+/// Replays a saved history; then, for each of its positions that is wanted, boots the machine again, makes the
+/// records above the position, does what the fault's lines say, and makes turns. Prints what comes of each,
+/// positions in a row with the same lines as one block, and how many have the outcome that they have without
+/// the fault. Then writes the history of the last position's run to the file `save`, if it is named. If an event
+/// of the saved history is refused, prints that as `replay` does, and nothing is swept. No file that is read is
+/// written over: if `save` has its name, nothing is read or written.
+pub fn sweep<R: Reader + Drop, F: FileWriter + Drop, W: Write + Drop>(
+    alloc: Global,
+    channels: &mut Channels<R, F, W>,
+    names: SweepNames<'_>,
+    wanted: SweepWanted,
+) -> Result<Swept, Failure> {
+    if writes_over(names) {
+        return Err(Failure::File);
+    }
+    let begun = begin(alloc, &mut channels.reader, names)?;
+    sweep_begun(
+        alloc,
+        begun,
+        &mut channels.files,
+        &mut channels.out,
+        names.save,
+        wanted,
+    )
+}
