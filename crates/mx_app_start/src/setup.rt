@@ -12,11 +12,7 @@ use mx_machine::Service;
 use std::alloc::Global;
 
 /// The text of a file.
-pub fn text_of<R: Reader>(
-    alloc: Global,
-    reader: &mut R,
-    name: &str,
-) -> Result<String, Failure>
+pub fn text_of<R: Reader>(alloc: Global, reader: &mut R, name: &str) -> Result<String, Failure>
     ensures text { IfOk result (λ text. (q : Asked)
         × (R.asked reader.new ≡ R.asked reader.old ++ q ∷ [])
         × IsTextGiven name.now q (string_bytes text)) }

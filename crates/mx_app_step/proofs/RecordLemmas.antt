@@ -18,12 +18,14 @@ use Rattle.mx_machine_world.specs.declared.history.Record.{Record}
 use Rattle.mx_machine_world.specs.declared.holding.Out.{Out}
 use Rattle.mx_machine_world.specs.Held.{held_run, run_by_stop}
 use Rattle.mx_machine_world.specs.History.{AreAccepted, world_after_events, events_of, events_of_history}
-use Rattle.mx_machine_world.specs.Move.{world_after_event, at_stop, event_answer, event_refusal, is_stop, move, move_by, step_refusal}
+use Rattle.mx_machine_world.specs.Move.{world_after_event, at_stop, event_answer, event_refusal, is_stop, move, move_by, moves, step_refusal}
 use Rattle.mx_machine_world.specs.Steps.{steps_of}
 use Rattle.mx_machine_world.specs.World.{World, HeldProcess, held_by}
-use Rattle.mx_app_start.specs.Machine.{HasWorked}
+use Rattle.mx_machine_world.specs.History.{BootAndHistory}
+use Rattle.mx_app_start.specs.Machine.{HasWorked, kept_after, kept_along}
 use Rattle.mx_print_answers.specs.declared.said.Said.{Said}
 use Rattle.mx_print_answers.specs.declared.said.Said.TheVariants.{Stepped, Refused}
+use Rattle.mx_app_step.specs.Kept.{kept_of}
 use Rattle.mx_app_step.specs.Lines.{run_made}
 use Rattle.mx_app_step.specs.Records.{IsFirstRefusal, IsRefusedAt}
 
@@ -65,6 +67,29 @@ accepted_both w (x ∷ xs) ys a h = (a.0, accepted_both (world_after_event w x.0
 pub after_both : (w : World) (xs ys : List (ℕ × Event)) → world_after_events w (xs ++ ys) ≡ world_after_events (world_after_events w xs) ys
 after_both w [] ys = refl
 after_both w (x ∷ xs) ys = after_both (world_after_event w x.0 x.1) xs ys
+
+-- ---- what is kept
+
+accepted_moved : (w : World) (a : ℕ) (x : Event) → event_refusal w a x ≡ None → move w a x ≡ (Ok (event_answer w a x), world_after_event w a x)
+unfolding move
+accepted_moved w a x h = ap (move_by w a x) h
+
+-- events, and then others
+pub kept_both : (w : World) (k : BootAndHistory) (xs ys : List (ℕ × Event)) → AreAccepted w xs → kept_of k w (xs ++ ys) ≡ kept_of (kept_of k w xs) (world_after_events w xs) ys
+kept_both w k [] ys h = refl
+kept_both w k (x ∷ xs) ys h =
+    let r = (move w x.0 x.1).0 in
+    let v : (move w x.0 x.1).1 ≡ world_after_event w x.0 x.1 = ap (λ (p : Result Answer Refusal × World). p.1) (accepted_moved w x.0 x.1 h.0) in
+    ap (λ (u : World). kept_of (kept_after k x.0 x.1 r) u (xs ++ ys)) v
+    ∙ kept_both (world_after_event w x.0 x.1) (kept_after k x.0 x.1 r) xs ys h.1
+    ∙ ap (λ (u : World). kept_of (kept_of (kept_after k x.0 x.1 r) u xs) (world_after_events (world_after_event w x.0 x.1) xs) ys) (sym v)
+
+-- steps leave the history
+kept_steps : (k : BootAndHistory) (c n : ℕ) (rs : List (Result Answer Refusal)) → kept_along k (steps_of c n) rs ≡ k
+kept_steps k c zero rs = refl
+kept_steps k c (suc n) [] = refl
+kept_steps k c (suc n) (Ok y ∷ rs) = kept_steps k c n rs
+kept_steps k c (suc n) (Err r ∷ rs) = kept_steps k c n rs
 
 -- ---- runs
 
@@ -171,6 +196,12 @@ module _ (w v u : World) (c n : ℕ) (a : AreAccepted w (steps_of c n)) (after :
     h.1 ∙ ap (λ (x : World). world_after_event x c Back) after ∙ sym (after_both w (steps_of c n) ((c, Back) ∷ [])),
   )
 
+  pub return_kept : (k m l : BootAndHistory) → m ≡ k → l ≡ kept_of m v ((c, Back) ∷ []) → l ≡ kept_of k w (steps_of c n ++ (c, Back) ∷ [])
+  return_kept k m l same h =
+      h ∙ ap (λ (x : BootAndHistory). kept_of x v ((c, Back) ∷ [])) (same ∙ sym (kept_steps k c n (moves w (steps_of c n)).0))
+      ∙ ap (λ (x : World). kept_of (kept_of k w (steps_of c n)) x ((c, Back) ∷ [])) after
+      ∙ sym (kept_both w k (steps_of c n) ((c, Back) ∷ []) a)
+
   pub return_err : (r : Refusal) → event_refusal v c Back ≡ Some r → IsFirstRefusal w (steps_of c n ++ (c, Back) ∷ []) r
   return_err r h = refused_after w (steps_of c n) ((c, Back) ∷ []) r a (inl (subst (λ (x : World). event_refusal x c Back ≡ Some r) after h))
 
@@ -208,6 +239,13 @@ module _ (w v : World) (records : List Record) (i : ℕ) (d : Record) (b : i < l
   next_world u h =
       h ∙ ap (λ (x : World). world_after_events x (events_of entry.actor entry.event)) after
       ∙ sym (ap (λ (es : List (ℕ × Event)). world_after_events w es) more ∙ after_both w (events_of_history (take i records)) (events_of entry.actor entry.event))
+
+  pub next_kept : (k m l : BootAndHistory) → m ≡ kept_of k w (events_of_history (take i records)) → l ≡ kept_of m v (events_of entry.actor entry.event) → l ≡ kept_of k w (events_of_history (take (i + 1) records))
+  next_kept k m l above h =
+      h ∙ ap (λ (x : BootAndHistory). kept_of x v (events_of entry.actor entry.event)) above
+      ∙ ap (λ (x : World). kept_of (kept_of k w (events_of_history (take i records))) x (events_of entry.actor entry.event)) after
+      ∙ sym (kept_both w k (events_of_history (take i records)) (events_of entry.actor entry.event) a)
+      ∙ sym (ap (kept_of k w) more)
 
   pub refused_at : (n : ℕ) (r : Refusal) → n ≡ i + 1 → IsFirstRefusal v (events_of entry.actor entry.event) r → IsRefusedAt w records n r
   refused_at n r e h = (

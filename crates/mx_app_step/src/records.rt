@@ -1,6 +1,6 @@
 //! A machine that is driven by a saved history.
 
-ghost use Rattle.std.specs.Prelude.{◌≡◌, ◌<◌, ◌≤◌, ◌++◌, List, All, length, IfOk, IfErr, OnOk, None, Some, string_bytes};
+ghost use Rattle.std.specs.Prelude.{◌≡◌, ◌<◌, ◌≤◌, ◌++◌, ◌∷◌, [], List, All, length, IfOk, IfErr, OnOk, None, Some, string_bytes};
 ghost use Rattle.std.specs.Io.KnownBytes.{Appends};
 ghost use Rattle.mx_app_start.specs.Failure.{IsWanting};
 ghost use Rattle.mx_app_start.specs.Machine.{IsActor, world_of};
@@ -17,6 +17,7 @@ ghost use Rattle.mx_machine_world.specs.Move.{world_after_event, event_refusal};
 ghost use Rattle.mx_machine_world.specs.History.{AreAccepted, world_after_events, events_of, events_of_history};
 ghost use Rattle.mx_machine_world.specs.Steps.{steps_of};
 ghost use Rattle.mx_machine_world.specs.World.{actors};
+ghost use Rattle.mx_app_step.specs.Kept.{kept_of};
 ghost use Rattle.mx_app_step.specs.Records.{IsReplayPrinted, IsFirstRefusal, IsRefusedAt, refused_record_line};
 ghost use Rattle.mx_app_start.specs.Telling.{IsTold};
 
@@ -44,7 +45,7 @@ pub(crate) fn steps_again(machine: &mut Machine, cpu: u8, steps: u32) -> Result<
     ensures ok { OnOk result (AreAccepted (world_of machine.old) (steps_of cpu steps)
         × (world_of machine.new ≡ world_after_events (world_of machine.old) (steps_of cpu steps))) }
     ensures err { IfErr result (IsFirstRefusal (world_of machine.old) (steps_of cpu steps)) }
-    ensures boot { machine.new.kernel.boot ≡ machine.old.kernel.boot }
+    ensures kernel { machine.new.kernel ≡ machine.old.kernel }
 {
     if steps == 0 {
         return Ok(());
@@ -68,7 +69,8 @@ pub(crate) fn event_again(machine: &mut Machine, actor: u8, event: Event) -> Res
     ensures ok { OnOk result ((event_refusal (world_of machine.old) actor event ≡ None)
         × (world_of machine.new ≡ world_after_event (world_of machine.old) actor event)) }
     ensures err { IfErr result (λ r. event_refusal (world_of machine.old) actor event ≡ Some r) }
-    ensures boot { machine.new.kernel.boot ≡ machine.old.kernel.boot }
+    ensures kept { OnOk result (machine.new.kernel
+        ≡ kept_of machine.old.kernel (world_of machine.old) ((actor, event) ∷ [])) }
 {
     machine.apply(actor, event)?;
     Ok(())
@@ -82,7 +84,8 @@ fn return_again(machine: &mut Machine, cpu: u8, steps: u32) -> Result<(), Refusa
         ≡ world_after_events (world_of machine.old) (events_of cpu (recorded.Back steps)))) }
     ensures err { IfErr result
         (IsFirstRefusal (world_of machine.old) (events_of cpu (recorded.Back steps))) }
-    ensures boot { machine.new.kernel.boot ≡ machine.old.kernel.boot }
+    ensures kept { OnOk result (machine.new.kernel
+        ≡ kept_of machine.old.kernel (world_of machine.old) (events_of cpu (recorded.Back steps))) }
 {
     steps_again(machine, cpu, steps)?;
     event_again(machine, cpu, Event::Back)
@@ -95,7 +98,8 @@ fn perform_record(machine: &mut Machine, actor: u8, event: Recorded) -> Result<(
         × (world_of machine.new
         ≡ world_after_events (world_of machine.old) (events_of actor event))) }
     ensures err { IfErr result (IsFirstRefusal (world_of machine.old) (events_of actor event)) }
-    ensures boot { machine.new.kernel.boot ≡ machine.old.kernel.boot }
+    ensures kept { OnOk result (machine.new.kernel
+        ≡ kept_of machine.old.kernel (world_of machine.old) (events_of actor event)) }
 {
     match event {
         Recorded::Take => event_again(machine, actor, Event::Take),
@@ -116,7 +120,8 @@ pub fn perform_records(machine: &mut Machine, records: &[Record]) -> Result<(), 
         ≡ world_after_events (world_of machine.old) (events_of_history records.now))) }
     ensures err { IfErr result (λ p. IsRefusedAt (world_of machine.old) records.now p.0 p.1) }
     ensures few { IfErr result (λ p. p.0 ≤ length records.now) }
-    ensures boot { machine.new.kernel.boot ≡ machine.old.kernel.boot }
+    ensures kept { OnOk result (machine.new.kernel
+        ≡ kept_of machine.old.kernel (world_of machine.old) (events_of_history records.now)) }
 {
     actors_stay();
     let mut number = 1;

@@ -17,7 +17,11 @@ fn slot_named(line: &[u8]) -> Option<u32>
     ensures { result ≡ slot_named (fields line.now) }
 {
     let (word, slot) = two_fields(line)?;
-    if word == b"slot".as_slice() { count(slot) } else { None }
+    if word == b"slot".as_slice() {
+        count(slot)
+    } else {
+        None
+    }
 }
 
 /// What a line says that begins with a verb and goes on with the name of a slot.

@@ -1,5 +1,22 @@
 //! A history that is swept.
 
+ghost use Rattle.std.specs.Prelude.{◌≡◌, ◌<◌, ◌≤◌, ◌+◌, ◌-◌, ◌++◌, ◌∷◌, [], List, IfErr, IfOk, OnOk, length, min, option_map};
+ghost use Rattle.std.specs.Io.KnownBytes.{Appends};
+ghost use Rattle.std.specs.List.{flat_map};
+ghost use Rattle.mx_machine_world.specs.Boot.{world_at_boot};
+ghost use Rattle.mx_machine_world.specs.declared.history.Record.{Record as Noted};
+ghost use Rattle.mx_app_failure.specs.Failure.{IsWanting};
+ghost use Rattle.mx_app_step.specs.Asked.{Asked};
+ghost use Rattle.mx_app_step.specs.Config.{Config as Configured};
+ghost use Rattle.mx_app_step.specs.Machine.{world_of};
+ghost use Rattle.mx_app_step.specs.Service.{Service};
+ghost use Rattle.mx_app_step.specs.Written.{Written};
+ghost use Rattle.mx_sweep.specs.declared.faults.FaultLine.{FaultLine as Fault};
+ghost use Rattle.mx_sweep.specs.Sweep.{block_text, blocks, count_of, positions_of, total_text};
+ghost use Rattle.mx_sweep.specs.Swept.{IsSwept};
+ghost use Rattle.mx_app_sweep.specs.Sweeping.{IsBegun, IsNotBegun, IsSweptThrough, IsUntold, SweepOf, Sweeps, ended, is_alike_at, run_at, saved_if, text_at, writes_over};
+ghost use Rattle.mx_app_sweep.specs.Begun.{IsReady, sweep_of};
+
 use crate::faults::fault_lines;
 use mx_app_step::{
     Channels, Failure, FileWriter, History, Machine, Reader, Record, Started, lines_above,
@@ -46,11 +63,16 @@ struct Begun {
 }
 
 /// Boots the machine of a saved history, after the fault's file is read too.
-fn begin<R: Reader>(
-    alloc: Global,
-    reader: &mut R,
-    names: SweepNames<'_>,
-) -> Result<Begun, Failure> {
+fn begin<R: Reader>(alloc: Global, reader: &mut R, names: SweepNames<'_>) -> Result<Begun, Failure>
+    ensures begun { IfOk result (λ b. (qs : List Asked) × (c : Configured) × (vs : List Service)
+        × (R.asked reader.new ≡ R.asked reader.old ++ qs)
+        × IsBegun names.entry.config.now names.entry.log.now names.entry.fault.now qs c vs
+        b.started.lines.items b.fault.items
+        × IsReady b.started.machine b.started.config b.started.other c vs) }
+    ensures fault { IfErr result (λ f. (qs : List Asked)
+        × (R.asked reader.new ≡ R.asked reader.old ++ qs)
+        × IsNotBegun names.entry.config.now names.entry.log.now names.entry.fault.now qs f) }
+{
     let started = start::<History, R>(alloc, reader, names.config, names.log)?;
     let text = text_of(alloc, reader, names.fault)?;
     let fault = fault_lines(alloc, text.as_str())?;
@@ -58,7 +80,10 @@ fn begin<R: Reader>(
 }
 
 /// Whether a file that is read would be written over.
-fn writes_over(names: SweepNames<'_>) -> bool {
+fn writes_over(names: SweepNames<'_>) -> bool
+    ensures { result ≡ writes_over names.entry.config.now names.entry.log.now names.entry.fault.now
+        (option_map (λ s. s.now) names.entry.save) }
+{
     match names.save {
         None => false,
         Some(save) => names.config == save || names.log == save || names.fault == save,
@@ -66,7 +91,11 @@ fn writes_over(names: SweepNames<'_>) -> bool {
 }
 
 /// Prints a block.
-fn print_block<W: Write>(alloc: Global, block: &Block, out: &mut W) -> Result<(), Failure> {
+fn print_block<W: Write>(alloc: Global, block: &Block, out: &mut W) -> Result<(), Failure>
+    ensures err { IfErr result IsWanting }
+    ensures bytes { OnOk result (Appends (W.contents out.old) (W.contents out.new)
+        (block_text (positions_of block.now))) }
+{
     let mut text = Vec::new(alloc);
     push_block(alloc, &mut text, block)?;
     print_text(text.as_slice(), out)
@@ -87,7 +116,27 @@ fn print_more<W: Write>(
     first: Outcome,
     range: Range,
     out: &mut W,
-) -> Result<Done, Failure> {
+) -> Result<Done, Failure>
+    requires swept { IsSwept sweep.entry machine.kernel.boot }
+    requires some { range.from < range.end }
+    requires within { range.end ≤ length sweep.entry.records.now + 1 }
+    requires first { (first.text.items ≡ text_at (sweep_of sweep.entry machine.kernel.boot) range.from)
+        × (first.is_alike ≡ is_alike_at (sweep_of sweep.entry machine.kernel.boot) range.from)
+        × (machine.kernel ≡ (run_at (sweep_of sweep.entry machine.kernel.boot) range.from).kernel) }
+    ensures err { IfErr result IsWanting }
+    ensures printed { OnOk result (Appends (W.contents out.old) (W.contents out.new)
+        (flat_map block_text (blocks (text_at (sweep_of sweep.entry machine.kernel.boot))
+        (range.end - range.from) range.from))) }
+    ensures total { IfOk result (λ done. let s = sweep_of sweep.entry machine.kernel.boot in
+        let n = range.end - range.from in
+        done.total ≡ record {
+          positions = n;
+          blocks = length (blocks (text_at s) n range.from);
+          alike = count_of (is_alike_at s) n range.from;
+        }) }
+    ensures kernel { IfOk result (λ done. done.machine.kernel
+        ≡ (run_at (sweep_of sweep.entry machine.kernel.boot) (range.end - 1)).kernel) }
+{
     let mut machine = machine;
     let mut alike = usize::from(first.is_alike);
     let mut blocks = 1;
@@ -128,7 +177,23 @@ fn print_positions<W: Write>(
     sweep: Sweep<'_>,
     range: Range,
     out: &mut W,
-) -> Result<Done, Failure> {
+) -> Result<Done, Failure>
+    requires swept { IsSwept sweep.entry machine.kernel.boot }
+    requires within { range.end ≤ length sweep.entry.records.now + 1 }
+    ensures err { IfErr result IsWanting }
+    ensures printed { OnOk result (Appends (W.contents out.old) (W.contents out.new)
+        (flat_map block_text (blocks (text_at (sweep_of sweep.entry machine.kernel.boot))
+        (range.end - range.from) range.from))) }
+    ensures total { IfOk result (λ done. let s = sweep_of sweep.entry machine.kernel.boot in
+        let n = range.end - range.from in
+        done.total ≡ record {
+          positions = n;
+          blocks = length (blocks (text_at s) n range.from);
+          alike = count_of (is_alike_at s) n range.from;
+        }) }
+    ensures kernel { IfOk result (λ done. range.from < range.end → done.machine.kernel
+        ≡ (run_at (sweep_of sweep.entry machine.kernel.boot) (range.end - 1)).kernel) }
+{
     if range.from >= range.end {
         let total = Total {
             positions: 0,
@@ -149,7 +214,9 @@ struct Range {
 }
 
 /// The positions that are swept of a history of so many records.
-fn range_of(wanted: SweepWanted, records: usize) -> Range {
+fn range_of(wanted: SweepWanted, records: usize) -> Range
+    ensures { (result.from ≡ wanted.from) × (result.end ≡ min wanted.to records + 1) }
+{
     let last = (wanted.to as usize).min(records);
     Range {
         from: wanted.from as usize,
@@ -158,7 +225,11 @@ fn range_of(wanted: SweepWanted, records: usize) -> Range {
 }
 
 /// Prints the last line of a sweep.
-fn print_total<W: Write>(alloc: Global, total: Total, out: &mut W) -> Result<(), Failure> {
+fn print_total<W: Write>(alloc: Global, total: Total, out: &mut W) -> Result<(), Failure>
+    ensures err { IfErr result IsWanting }
+    ensures bytes { OnOk result (Appends (W.contents out.old) (W.contents out.new)
+        (total_text total.positions total.blocks total.alike)) }
+{
     let mut text = Vec::new(alloc);
     push_total(alloc, &mut text, total)?;
     print_text(text.as_slice(), out)
@@ -219,7 +290,9 @@ fn sweep_begun<F: FileWriter, W: Write>(
 }
 
 /// How a sweep ended, by its counts.
-fn swept(total: Total) -> Swept {
+fn swept(total: Total) -> Swept
+    ensures { result ≡ ended total.positions total.alike }
+{
     if total.alike == total.positions {
         Swept::Alike
     } else {
@@ -238,7 +311,14 @@ pub fn sweep<R: Reader + Drop, F: FileWriter + Drop, W: Write + Drop>(
     channels: &mut Channels<R, F, W>,
     names: SweepNames<'_>,
     wanted: SweepWanted,
-) -> Result<Swept, Failure> {
+) -> Result<Swept, Failure>
+    ensures { (qs : List Asked) × (ws : List Written)
+        × (R.asked channels.new.reader ≡ R.asked channels.old.reader ++ qs)
+        × (F.written channels.new.files ≡ F.written channels.old.files ++ ws)
+        × Sweeps names.entry.config.now names.entry.log.now names.entry.fault.now
+        (option_map (λ s. s.now) names.entry.save) wanted.from wanted.to wanted.bound qs ws
+        (λ text. Appends (W.contents channels.old.out) (W.contents channels.new.out) text) result }
+{
     if writes_over(names) {
         return Err(Failure::File);
     }

@@ -3,14 +3,13 @@ use Rattle.std.specs.Prelude.{ℕ, zero, suc, ◌+◌, ◌==◌, ◌≡◌, ◌<
 use Rattle.std.specs.Fmt.{decimal}
 use Rattle.std.specs.List.{flat_map}
 use Rattle.std.specs.Str.{bytes_eq}
-use Rattle.mx_app_step.specs.Machine.{kept_along}
+use Rattle.mx_app_step.specs.Kept.{kept_of}
 use Rattle.mx_machine_world.specs.declared.events.Event.{Event}
 use Rattle.mx_machine_world.specs.declared.events.Event.TheVariants as events
 use Rattle.mx_machine_world.specs.declared.history.Record.{Record}
 use Rattle.mx_machine_world.specs.declared.history.Recorded.{Recorded}
 use Rattle.mx_machine_world.specs.declared.history.Recorded.TheVariants as recorded
 use Rattle.mx_machine_world.specs.History.{BootAndHistory, events_of_history, world_after_events}
-use Rattle.mx_machine_world.specs.Move.{moves}
 use Rattle.mx_machine_world.specs.Service.{Service}
 use Rattle.mx_machine_world.specs.World.{World}
 use Rattle.mx_machine_world.specs.Proc.TableState.{TableState}
@@ -27,20 +26,7 @@ use Rattle.mx_sweep.specs.declared.faults.FaultLine.{FaultLine}
 use Rattle.mx_sweep.specs.declared.blocks.Block.{Block as Kept}
 use Rattle.mx_sweep.specs.Faults.{faults_kept, faults_made}
 
--- ---- records
-
--- how many steps a record stands for, and its own event after them
-abbrev pub steps_in : Recorded → ℕ
-steps_in (recorded.Back n) = n
-steps_in _ = 0
-
-abbrev pub own_event : Recorded → Event
-own_event recorded.Take = events.Take
-own_event (recorded.Back n) = events.Back
-own_event (recorded.Line l) = events.Line l
-own_event recorded.Tick = events.Tick
-own_event (recorded.Kill e) = events.Kill e
-own_event (recorded.Respawn s) = events.Respawn s
+-- ---- outside events
 
 -- the outside event of a record: a line or a tick
 abbrev pub outside_event : Recorded → Option Event
@@ -67,23 +53,19 @@ pub record Run : Type 0 where
   pub world : World
   pub kernel : BootAndHistory
 
--- the kernel after a history's records, from boot on
-abbrev pub kept_above : World → List Record → BootAndHistory
-kept_above boot records = let xs = events_of_history records in kept_along (record { boot = boot; history = [] }) xs (moves boot xs).0
-
 -- A RUN WITH A FAULT AT POSITION k: boot; the first k records; the fault's lines, in which `other` is the actor of those
 -- that name none; then at most n turns, with the lines and the ticks of the records after position k to come
 abbrev pub run_of : World → ℕ → List Record → ℕ → List FaultLine → ℕ → Run
 run_of boot other records n fault k =
     let above = world_after_events boot (events_of_history (take k records)) in
     let faulted = faults_made above other fault in
-    let kept = faults_kept (kept_above boot (take k records)) above other fault in
+    let kept = faults_kept (kept_of (record { boot = boot; history = [] }) boot (events_of_history (take k records))) above other fault in
     let course = turns n faulted.1 (coming (drop k records)) in
     record {
       said = faulted.0;
       ending = course.ending;
       world = world_after_events faulted.1 course.made;
-      kernel = kept_along kept course.made (moves faulted.1 course.made).0;
+      kernel = kept_of kept faulted.1 course.made;
     }
 
 -- ---- what is printed of an outcome: lines that begin with two spaces

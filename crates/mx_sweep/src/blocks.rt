@@ -52,7 +52,8 @@ pub fn push_total(alloc: Global, text: &mut Vec<u8>, total: Total) -> Result<(),
         blocks,
         alike,
     } = total;
-    let line =
-        format!(in alloc; "{positions} positions, {blocks} blocks, {alike} as without the fault\n")?;
+    let line = format!(in alloc;
+        "{positions} positions, {blocks} blocks, {alike} as without the fault\n"
+    )?;
     text.extend_from_slice(line.as_bytes())
 }

@@ -1,6 +1,6 @@
 //! The lines of a fault.
 
-ghost use Rattle.std.specs.Prelude.{◌≡◌, ◌<◌};
+ghost use Rattle.std.specs.Prelude.{◌≡◌, ◌<◌, length};
 ghost use Rattle.mx_app_step.specs.Machine.{world_of};
 ghost use Rattle.mx_machine_world.specs.World.{actors};
 ghost use Rattle.mx_sweep.specs.Faults.{fault_kept, fault_made, line_now};
@@ -43,6 +43,7 @@ pub fn perform_fault_line(machine: &mut Machine, other: u8, line: FaultLine) -> 
     ensures kept { machine.new.kernel
         ≡ fault_kept machine.old.kernel (world_of machine.old) other line }
     ensures actors { actors (world_of machine.new) ≡ actors (world_of machine.old) }
+    ensures cpus { length (world_of machine.new).cpus ≡ length (world_of machine.old).cpus }
 {
     match line_now(machine, line) {
         Some(line) => perform_line(machine, other, line),

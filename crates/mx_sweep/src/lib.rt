@@ -4,10 +4,10 @@
 #![tactic(auto)]
 
 mod blocks;
+mod booting;
 mod faults;
 mod outcomes;
 mod outside;
-mod records;
 mod running;
 
 pub use blocks::{Block, Total, push_block, push_total};

@@ -1,10 +1,11 @@
 //! The outcome of a position.
 
-ghost use Rattle.std.specs.Prelude.{◌≡◌, ◌≤◌, ◌++◌, codes, IfOk, OnOk, drop, length, map};
-ghost use Rattle.std.specs.Fmt.{decimal};
+ghost use Rattle.std.specs.Prelude.{◌≡◌, ◌≤◌, ◌++◌, [], IfOk, OnOk, length, map};
 ghost use Rattle.mx_app_step.specs.Machine.{world_of};
-ghost use Rattle.mx_sweep.specs.Sweep.{are_alike, end_text, ending_word, indented, kept_text, outcome_text, process_lines, run_of, seen_text, shown};
-ghost use Rattle.mx_sweep.specs.Swept.{HasRun, IsSwept};
+ghost use Rattle.mx_machine_world.specs.History.{replay};
+ghost use Rattle.mx_print_report.specs.declared.fields.Naming.TheVariants as by;
+ghost use Rattle.mx_sweep.specs.Sweep.{are_alike, end_text, ending_word, kept_text, outcome_text, process_lines, run_of, shown};
+ghost use Rattle.mx_sweep.specs.Swept.{IsSwept};
 
 use crate::running::{Sweep, run_at};
 use mx_app_step::Machine;
@@ -23,12 +24,21 @@ pub struct Outcome {
 }
 
 /// Appends a line for each service.
-fn push_processes(text: &mut Vec<u8>, naming: Naming, kernel: &Kernel) -> Result<(), AllocError> {
+fn push_processes(text: &mut Vec<u8>, naming: Naming, kernel: &Kernel) -> Result<(), AllocError>
+    ensures { OnOk result (text.new.items ≡ text.old.items ++ process_lines naming
+        (replay kernel.now).table 0 (replay kernel.now).services) }
+{
     let table = kernel.table();
     let services = kernel.services();
     for slot in 0..table.used() {
         text.extend_from_slice(b"  ")?;
-        push_process(text, naming, table, slot, &services[slot as usize].name.bytes)?;
+        push_process(
+            text,
+            naming,
+            table,
+            slot,
+            &services[slot as usize].name.bytes,
+        )?;
         text.push(b'\n')?;
     }
     Ok(())
@@ -60,7 +70,11 @@ fn push_end(
     text.extend_from_slice(b"  ")?;
     text.extend_from_slice(ending_word(ending))?;
     text.push(b'\n')?;
-    push_count(text, b"  console ", kernel.table().devices().console.count())
+    push_count(
+        text,
+        b"  console ",
+        kernel.table().devices().console.count(),
+    )
 }
 
 /// A byte of the console as it is printed.
@@ -100,7 +114,7 @@ fn push_kept(text: &mut Vec<u8>, bytes: &[u8]) -> Result<(), AllocError>
 
 /// What is compared of an outcome.
 fn seen(alloc: Global, machine: &Machine, ending: Ending) -> Result<Vec<u8>, AllocError>
-    ensures { IfOk result (λ seen. seen.items ≡ end_text Naming.Slots (world_of machine.now) ending
+    ensures { IfOk result (λ seen. seen.items ≡ end_text by.Slots (world_of machine.now) ending
         ++ (world_of machine.now).table.devices.console.kept) }
 {
     let mut seen = Vec::new(alloc);
@@ -115,7 +129,10 @@ fn push_outcome(
     text: &mut Vec<u8>,
     machine: &Machine,
     ending: Ending,
-) -> Result<(), AllocError> {
+) -> Result<(), AllocError>
+    ensures { OnOk result (let w = world_of machine.now in text.new.items ≡ text.old.items
+        ++ end_text by.Endpoints w ending ++ kept_text w.table.devices.console.kept) }
+{
     let mut kept = Vec::new(alloc);
     push_console(&mut kept, &machine.kernel().table().devices().console)?;
     push_end(text, Naming::Endpoints, machine, ending)?;
@@ -130,15 +147,18 @@ pub fn outcome_at(
     sweep: Sweep<'_>,
     position: usize,
 ) -> Result<(Machine, Outcome), NoMemory>
-    requires swept { IsSwept sweep machine.kernel.boot }
-    requires position { position ≤ length sweep.records.now }
-    ensures after { IfOk result (λ done. (done.0.kernel.boot ≡ machine.kernel.boot)
-        × (let run = run_of machine.kernel.boot sweep.other sweep.records.now sweep.bound
-        sweep.fault.now position in
-        HasRun run done.0 run.ending × (done.1.text.items ≡ outcome_text run))) }
-    ensures alike { IfOk result (λ done. let run = run_of machine.kernel.boot sweep.other
-        sweep.records.now sweep.bound in
-        done.1.is_alike ≡ are_alike (run sweep.fault.now position) (run [] position)) }
+    requires swept { IsSwept sweep.entry machine.kernel.boot }
+    requires position { position ≤ length sweep.entry.records.now }
+    ensures boot { IfOk result (λ done. done.0.kernel.boot ≡ machine.kernel.boot) }
+    ensures kernel { IfOk result (λ done. done.0.kernel ≡ (run_of machine.kernel.boot
+        sweep.entry.other sweep.entry.records.now sweep.entry.bound sweep.entry.fault.now
+        position).kernel) }
+    ensures text { IfOk result (λ done. done.1.text.items ≡ outcome_text
+        (run_of machine.kernel.boot sweep.entry.other sweep.entry.records.now sweep.entry.bound
+        sweep.entry.fault.now position)) }
+    ensures alike { IfOk result (λ done. let run = run_of machine.kernel.boot sweep.entry.other
+        sweep.entry.records.now sweep.entry.bound in
+        done.1.is_alike ≡ are_alike (run sweep.entry.fault.now position) (run [] position)) }
 {
     let mut text = Vec::new(alloc);
     let (machine, ending) = run_at(alloc, machine, sweep, &[], position, &mut text)?;

@@ -7,12 +7,12 @@ ghost use Rattle.mx_sweep.specs.Faults.{faults_kept, faults_made};
 ghost use Rattle.mx_sweep.specs.Sweep.{run_of, said_text};
 ghost use Rattle.mx_sweep.specs.Swept.{HasRun, IsSwept};
 
+use crate::booting::boot_again;
 use crate::faults::{FaultLine, perform_fault_line};
 use crate::outside::coming_of;
-use crate::records::make_records;
-use mx_app_step::{Config, Machine, Record};
+use mx_app_step::{Config, Machine, Record, perform_records};
+use mx_machine_world::actors_stay;
 use mx_turns::{Ending, Outside, make_turns};
-use mx_walk::boot_again;
 use mx_word::NoMemory;
 use std::alloc::{AllocError, Global};
 
@@ -44,6 +44,7 @@ fn perform_fault(
     ensures kept { OnOk result (machine.new.kernel
         ≡ faults_kept machine.old.kernel (world_of machine.old) other fault.now) }
     ensures actors { actors (world_of machine.new) ≡ actors (world_of machine.old) }
+    ensures cpus { length (world_of machine.new).cpus ≡ length (world_of machine.old).cpus }
 {
     for line in fault {
         let said = perform_fault_line(machine, other, *line);
@@ -66,13 +67,16 @@ pub(crate) fn run_at(
 ) -> Result<(Machine, Ending), NoMemory>
     requires swept { IsSwept sweep.entry machine.kernel.boot }
     requires position { position ≤ length sweep.entry.records.now }
-    ensures run { IfOk result (λ done. let run = run_of machine.kernel.boot sweep.other
-        sweep.records.now sweep.bound fault.now position in
+    ensures run { IfOk result (λ done. let run = run_of machine.kernel.boot sweep.entry.other
+        sweep.entry.records.now sweep.entry.bound fault.now position in
         HasRun run done.0 done.1 × (text.new.items ≡ text.old.items ++ said_text run.said)) }
     ensures boot { IfOk result (λ done. done.0.kernel.boot ≡ machine.kernel.boot) }
 {
+    actors_stay();
     let mut machine = boot_again(alloc, machine, sweep.config)?;
-    make_records(&mut machine, &sweep.records[..position]);
+    if let Err(_) = perform_records(&mut machine, &sweep.records[..position]) {
+        unreachable!();
+    }
     perform_fault(alloc, &mut machine, sweep.other, fault, text)?;
     let events = coming_of(alloc, &sweep.records[position..])?;
     let outside = Outside {

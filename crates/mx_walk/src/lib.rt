@@ -13,7 +13,6 @@ mod stopping;
 mod walker;
 mod watching;
 
-pub use booting::boot_again;
 pub use either::Either;
 pub use going::go_on;
 pub use laws::{

@@ -1,6 +1,6 @@
 use Rattle.std.proofs.Common.{ap, ◌+◌}
 use Rattle.mx_app_start.specs.Machine.{world_of}
-use Rattle.mx_app_step.proofs.RecordLemmas.{next_accepted, next_world, refused_at}
+use Rattle.mx_app_step.proofs.RecordLemmas.{next_accepted, next_kept, next_world, refused_at}
 use Rattle.mx_app_step.proofs.records.perform_records.Goals as goal
 
 pub returns-in-Err-clause-err : goal.returns-in-Err-clause-err
@@ -18,4 +18,5 @@ loop-entry-preserved c =
       accepted = next_accepted w v c.args.records.now c.loop-entry.entry-index _ c.loop-entry-test.true inv.accepted inv.world done.0;
       world = next_world w v c.args.records.now c.loop-entry.entry-index _ c.loop-entry-test.true inv.accepted inv.world (world_of c.perform_record.new.machine) done.1;
       number = ap (λ n. n + 1) inv.number;
+      kept = next_kept w v c.args.records.now c.loop-entry.entry-index _ c.loop-entry-test.true inv.accepted inv.world c.args.machine.now.kernel c.loop-entry.machine.kernel c.perform_record.new.machine.kernel inv.kept c.in_default.ensures.kept;
     }

@@ -3,7 +3,7 @@ use Rattle.std.proofs.lemmas.Result.{IfErr-weaker, err_from_is_err_and, on_ok_we
 use Rattle.mx_app_start.specs.Machine.{world_of}
 use Rattle.mx_machine_world.specs.declared.events.Event.TheVariants.{Back}
 use Rattle.mx_machine_world.specs.Steps.{steps_of}
-use Rattle.mx_app_step.proofs.RecordLemmas.{refused_front, return_err, return_ok}
+use Rattle.mx_app_step.proofs.RecordLemmas.{refused_front, return_err, return_kept, return_ok}
 use Rattle.mx_app_step.proofs.records.return_again.Goals as goal
 
 pub returns-in_err-steps_again-clause-err : goal.returns-in_err-steps_again-clause-err
@@ -20,3 +20,9 @@ pub returns-clause-err : goal.returns-clause-err
 returns-clause-err c =
     IfErr-weaker c.event_again.result _ _
     (return_err (world_of c.args.machine.now) (world_of c.steps_again.new.machine) (world_of c.event_again.new.machine) c.args.cpu c.args.steps c.in_ok-steps_again.ensures.ok.0 c.in_ok-steps_again.ensures.ok.1) c.event_again.ensures.err
+
+pub returns-clause-kept : goal.returns-clause-kept
+returns-clause-kept c =
+    on_ok_weaker c.event_again.result
+    (return_kept (world_of c.args.machine.now) (world_of c.steps_again.new.machine) (world_of c.event_again.new.machine) c.args.cpu c.args.steps c.in_ok-steps_again.ensures.ok.0 c.in_ok-steps_again.ensures.ok.1 c.args.machine.now.kernel c.steps_again.new.machine.kernel c.event_again.new.machine.kernel c.steps_again.ensures.kernel)
+    c.event_again.ensures.kept
