@@ -261,7 +261,7 @@ sweep_fits words fine =
     let bound = number_if_given sweep_whole (codes "turns") (codes "N") 4 only_sweep_bound words fine in
     let from = number_if_given sweep_whole (codes "from") (codes "A") 5 only_sweep_from words fine in
     let to = number_if_given sweep_whole (codes "to") (codes "B") 6 only_sweep_to words fine in
-    ((λ e. (ap is_some config.1, inr (inr (ap is_some log.1, inr (inr (inr (inr (refl, (ap is_some fault.1, (bound, (from, to))))))))))), (λ e. absurd (true≢false e)))
+    ((λ e. (ap is_some config.1, inr (inr (ap is_some log.1, inr (inr (inr (inr (refl, (ap is_some fault.1, bound, (from, to)))))))))), (λ e. absurd (true≢false e)))
 
 replay_fits : Fits (whole_of (of_two (codes "replay") (codes "CONFIG") (codes "LOG")))
 replay_fits words fine = let given = two_texts_given (codes "replay") (codes "CONFIG") (codes "LOG") (refl, refl) (refl, refl) refl refl words fine in
