@@ -81,18 +81,19 @@ alike_in s from to = count_of (is_alike_at s) (positions_in s from to) from
 abbrev pub sweep_text : SweepOf → ℕ → ℕ → List ℕ
 sweep_text s from to = swept_text (text_at s) (is_alike_at s) (positions_in s from to) from
 
--- the text that is saved, if a file is named for it and a position was swept: the history of the last one's run
-abbrev pub saved_text : SweepOf → ℕ → List ℕ
-saved_text s to = text_kept (run_at s (min to (length s.records))).kernel
+-- the text that may be saved: the history of the last one's run
+abbrev pub last_text : SweepOf → ℕ → List ℕ
+last_text s to = text_kept (run_at s (min to (length s.records))).kernel
 
-abbrev pub saved_if : SweepOf → ℕ → ℕ → ℕ → Option (List ℕ) → List Written
-saved_if s from to n None = []
-saved_if s from to n (Some name) = if n == 0 then [] else kept name (saved_text s to) ∷ []
+-- it is saved if a file is named for it and a position was swept
+abbrev pub saved_if : List ℕ → ℕ → Option (List ℕ) → List Written
+saved_if text n None = []
+saved_if text n (Some name) = if n == 0 then [] else kept name text ∷ []
 
 -- why it isn't written
-abbrev pub IsUnsaved : SweepOf → ℕ → Option (List ℕ) → List Written → Kind → Type 0
-IsUnsaved s to None ws f = ⊥
-IsUnsaved s to (Some name) ws f = IsUnwritten name (saved_text s to) ws f
+abbrev pub IsUnsaved : List ℕ → Option (List ℕ) → List Written → Kind → Type 0
+IsUnsaved text None ws f = ⊥
+IsUnsaved text (Some name) ws f = IsUnwritten name text ws f
 
 -- each position of a number of them has the outcome that it has without the fault, or one hasn't
 abbrev pub ended : ℕ → ℕ → Swept
@@ -104,11 +105,11 @@ abbrev pub IsSweptThrough : SweepOf → ℕ → ℕ → Option (List ℕ) → Li
 IsSweptThrough s from to save ws Prints Refused = (ws ≡ []) × IsReplayPrinted s.boot s.records replayed.Refused Prints
 IsSweptThrough s from to save ws Prints how =
     AreAccepted s.boot (events_of_history s.records) × (how ≡ ended (positions_in s from to) (alike_in s from to))
-    × Prints (sweep_text s from to) × (ws ≡ saved_if s from to (positions_in s from to) save)
+    × Prints (sweep_text s from to) × (ws ≡ saved_if (last_text s to) (positions_in s from to) save)
 
 -- why nothing is told of it, after it was read: memory or standard output; or the file that is saved
 abbrev pub IsUntold : SweepOf → ℕ → Option (List ℕ) → List Written → Kind → Type 0
-IsUntold s to save ws f = ((ws ≡ []) × IsWanting f) ⊎ IsUnsaved s to save ws f
+IsUntold s to save ws f = ((ws ≡ []) × IsWanting f) ⊎ IsUnsaved (last_text s to) save ws f
 
 abbrev pub of : Config → List Service → List Record → List FaultLine → ℕ → SweepOf
 of c vs records said n = record { boot = world_at_boot c vs; other = c.cpus; records = records; fault = said; bound = n }

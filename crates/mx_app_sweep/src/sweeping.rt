@@ -1,21 +1,20 @@
 //! A history that is swept.
 
-ghost use Rattle.std.specs.Prelude.{◌≡◌, ◌<◌, ◌≤◌, ◌+◌, ◌-◌, ◌++◌, ◌∷◌, [], List, IfErr, IfOk, OnOk, length, min, option_map};
+ghost use Rattle.std.specs.Prelude.{◌≡◌, ◌<◌, ◌≤◌, ◌+◌, ◌-◌, ◌++◌, List, IfErr, IfOk, OnOk, length, min, option_map};
 ghost use Rattle.std.specs.Io.KnownBytes.{Appends};
 ghost use Rattle.std.specs.List.{flat_map};
 ghost use Rattle.mx_machine_world.specs.Boot.{world_at_boot};
-ghost use Rattle.mx_machine_world.specs.declared.history.Record.{Record as Noted};
 ghost use Rattle.mx_app_failure.specs.Failure.{IsWanting};
 ghost use Rattle.mx_app_step.specs.Asked.{Asked};
 ghost use Rattle.mx_app_step.specs.Config.{Config as Configured};
 ghost use Rattle.mx_app_step.specs.Machine.{world_of};
 ghost use Rattle.mx_app_step.specs.Service.{Service};
 ghost use Rattle.mx_app_step.specs.Written.{Written};
-ghost use Rattle.mx_sweep.specs.declared.faults.FaultLine.{FaultLine as Fault};
 ghost use Rattle.mx_sweep.specs.Sweep.{block_text, blocks, count_of, positions_of, total_text};
 ghost use Rattle.mx_sweep.specs.Swept.{IsSwept};
-ghost use Rattle.mx_app_sweep.specs.Sweeping.{IsBegun, IsNotBegun, IsSweptThrough, IsUntold, SweepOf, Sweeps, ended, is_alike_at, run_at, saved_if, text_at, writes_over};
-ghost use Rattle.mx_app_sweep.specs.Begun.{IsReady, sweep_of};
+ghost use Rattle.mx_app_sweep.specs.Sweeping.{IsBegun, IsNotBegun, IsUnsaved, Sweeps, ended, is_alike_at, run_at, saved_if, text_at, writes_over};
+ghost use Rattle.mx_app_step.specs.Kept.{text_kept};
+ghost use Rattle.mx_app_sweep.specs.Begun.{IsDone, begun_of, is_ready, sweep_of};
 
 use crate::faults::fault_lines;
 use mx_app_step::{
@@ -68,7 +67,8 @@ fn begin<R: Reader>(alloc: Global, reader: &mut R, names: SweepNames<'_>) -> Res
         × (R.asked reader.new ≡ R.asked reader.old ++ qs)
         × IsBegun names.entry.config.now names.entry.log.now names.entry.fault.now qs c vs
         b.started.lines.items b.fault.items
-        × IsReady b.started.machine b.started.config b.started.other c vs) }
+        × (world_of b.started.machine ≡ world_at_boot c vs) × (b.started.other ≡ c.cpus)) }
+    ensures ready { IfOk result is_ready }
     ensures fault { IfErr result (λ f. (qs : List Asked)
         × (R.asked reader.new ≡ R.asked reader.old ++ qs)
         × IsNotBegun names.entry.config.now names.entry.log.now names.entry.fault.now qs f) }
@@ -241,7 +241,14 @@ fn save_history<F: FileWriter>(
     done: &Done,
     files: &mut F,
     save: Option<&str>,
-) -> Result<(), Failure> {
+) -> Result<(), Failure>
+    ensures written { OnOk result (F.written files.new ≡ F.written files.old
+        ++ saved_if (text_kept done.now.machine.kernel) done.now.total.positions
+        (option_map (λ s. s.now) save)) }
+    ensures unwritten { IfErr result (λ f. (ws : List Written)
+        × (F.written files.new ≡ F.written files.old ++ ws)
+        × IsUnsaved (text_kept done.now.machine.kernel) (option_map (λ s. s.now) save) ws f) }
+{
     match save {
         Some(name) => if done.total.positions > 0 {
             write_history(alloc, done.machine.kernel(), files, name)
@@ -261,7 +268,13 @@ fn sweep_begun<F: FileWriter, W: Write>(
     out: &mut W,
     save: Option<&str>,
     wanted: SweepWanted,
-) -> Result<Swept, Failure> {
+) -> Result<Swept, Failure>
+    requires { is_ready begun }
+    ensures { (ws : List Written) × (F.written files.new ≡ F.written files.old ++ ws)
+        × IsDone (begun_of begun wanted.bound) wanted.from wanted.to
+        (option_map (λ s. s.now) save) ws
+        (λ text. Appends (W.contents out.old) (W.contents out.new) text) result }
+{
     let Begun { started, fault } = begun;
     let Started {
         machine,

@@ -17,6 +17,7 @@ use Rattle.mx_machine_world.specs.World.{World, actors}
 use Rattle.mx_machine.specs.Machine.{MachineState, kept_after, kept_along, record_of, with_records, world_of}
 use Rattle.mx_turns.specs.declared.turns.Ending.{Ending}
 use Rattle.mx_turns.specs.Made.{HasMade}
+use Rattle.mx_turns.proofs.MadeLemmas.{kept_boot}
 use Rattle.mx_turns.specs.Turns.{turns}
 use Rattle.mx_app_failure.specs.declared.failure.Failure.{Failure as Kind}
 use Rattle.mx_app_step.specs.Asked.{Asked}
@@ -32,19 +33,6 @@ use Rattle.mx_app_step.specs.declared.records.Replayed.TheVariants as replayed
 use Rattle.mx_app_turns.specs.Turned.{IsBegun, IsNotBegun, IsTurned, MakesTurns, coming, writes_over}
 
 -- ---- a machine's turns
-
-same_boot : (k : BootAndHistory) (a : ℕ) (x : Event) (r : Result Answer Refusal) → (kept_after k a x r).boot ≡ k.boot
-same_boot k a x (Err r) = refl
-same_boot k a x (Ok y) = by (record_of x y)
-  where
-    by : (o : Option _) → (with_records k a o).boot ≡ k.boot
-    by None = refl
-    by (Some e) = refl
-
-kept_boot : (k : BootAndHistory) (xs : List (ℕ × Event)) (rs : List (Result Answer Refusal)) → (kept_along k xs rs).boot ≡ k.boot
-kept_boot k [] rs = refl
-kept_boot k (x ∷ xs) [] = refl
-kept_boot k (x ∷ xs) (r ∷ rs) = kept_boot (kept_after k x.0 x.1 r) xs rs ∙ same_boot k x.0 x.1 r
 
 shown_now : (m : MachineState) → ((world_of m).table ≡ (replay m.kernel).table) × ((world_of m).services ≡ (replay m.kernel).services)
 unfolding world_of

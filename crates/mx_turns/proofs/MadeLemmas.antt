@@ -11,7 +11,7 @@ use Rattle.mx_machine_world.specs.Move.{back_refusal, event_answer, event_refusa
 use Rattle.mx_machine_world.specs.Steps.{steps_of}
 use Rattle.mx_machine_world.specs.World.{World, HeldProcess, held_by}
 use Rattle.mx_machine_kernel.proofs.ReplayLemmas.{accepted_append, after_append}
-use Rattle.mx_machine.specs.Machine.{HasWorked, MachineState, kept_after, kept_along, world_of}
+use Rattle.mx_machine.specs.Machine.{HasWorked, MachineState, kept_after, kept_along, record_of, with_records, world_of}
 use Rattle.mx_turns.specs.Made.{HasMade, HasOffered, is_full}
 use Rattle.mx_turns.specs.Turns.{Offered, most_steps, offered, offered_first, outside, respawns, then_offered}
 use Rattle.mx_turns.proofs.OfferLemmas.{Joins, Offers, empty_offered, offered_full, offered_more, steps_offered}
@@ -83,6 +83,20 @@ kept_steps k c zero rs = refl
 kept_steps k c (suc n) [] = refl
 kept_steps k c (suc n) (Ok y ∷ rs) = kept_steps k c n rs
 kept_steps k c (suc n) (Err r ∷ rs) = kept_steps k c n rs
+
+-- events leave the boot
+pub same_boot : (k : BootAndHistory) (a : ℕ) (x : Event) (r : Result Answer Refusal) → (kept_after k a x r).boot ≡ k.boot
+same_boot k a x (Err r) = refl
+same_boot k a x (Ok y) = by (record_of x y)
+  where
+    by : (o : Option _) → (with_records k a o).boot ≡ k.boot
+    by None = refl
+    by (Some e) = refl
+
+pub kept_boot : (k : BootAndHistory) (xs : List (ℕ × Event)) (rs : List (Result Answer Refusal)) → (kept_along k xs rs).boot ≡ k.boot
+kept_boot k [] rs = refl
+kept_boot k (x ∷ xs) [] = refl
+kept_boot k (x ∷ xs) (r ∷ rs) = kept_boot (kept_after k x.0 x.1 r) xs rs ∙ same_boot k x.0 x.1 r
 
 -- ---- offers in a row
 

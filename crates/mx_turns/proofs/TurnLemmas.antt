@@ -67,7 +67,7 @@ by_event w a Tick = refl
 by_event w a (Kill e) = refl
 by_event w a (Respawn s) = by_respawn w s (slice_get w.services s)
 
-cpus_stay : (w : World) (xs : Offers) → length (world_after_events w xs).cpus ≡ length w.cpus
+pub cpus_stay : (w : World) (xs : Offers) → length (world_after_events w xs).cpus ≡ length w.cpus
 cpus_stay w [] = refl
 cpus_stay w (x ∷ xs) = cpus_stay (world_after_event w x.0 x.1) xs ∙ by_event w x.0 x.1
 
