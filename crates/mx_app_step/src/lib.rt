@@ -19,7 +19,7 @@ pub use mx_app_start::{
 };
 pub use mx_print_answers::Said;
 pub use printing::{pieces_join, print_kernel_report, print_piece, print_report};
-pub use records::{Replayed, perform_records, print_refusal, refusal_line, replay};
+pub use records::{Replayed, perform_records, print_refusal, replay};
 pub use saving::{step_saved, write_history};
 pub use stepping::make_steps;
 pub use tracing::{HistoryPart, first_records, look_record, resting_step, trace};

@@ -1,6 +1,6 @@
 //! A machine that is driven by a saved history.
 
-ghost use Rattle.std.specs.Prelude.{◌≡◌, ◌<◌, ◌≤◌, ◌++◌, ◌∷◌, [], List, All, length, IfOk, IfErr, OnOk, None, Some, string_bytes};
+ghost use Rattle.std.specs.Prelude.{◌≡◌, ◌<◌, ◌≤◌, ◌++◌, ◌∷◌, [], List, All, length, IfOk, IfErr, OnOk, None, Some};
 ghost use Rattle.std.specs.Io.KnownBytes.{Appends};
 ghost use Rattle.mx_app_start.specs.Failure.{IsWanting};
 ghost use Rattle.mx_app_start.specs.Machine.{IsActor, world_of};
@@ -28,7 +28,7 @@ use mx_app_start::{
 };
 use mx_machine_world::{Refusal, actors_stay};
 use mx_print_answers::Said;
-use std::alloc::{AllocError, Global};
+use std::alloc::Global;
 use std::io::Write;
 
 /// How a history was replayed.
@@ -134,14 +134,6 @@ pub fn perform_records(machine: &mut Machine, records: &[Record]) -> Result<(), 
     Ok(())
 }
 
-/// In which line a record's event is refused, and why.
-pub fn refusal_line(alloc: Global, number: usize, refusal: Refusal) -> Result<String, AllocError>
-    ensures { IfOk result (λ line. string_bytes line ≡ refused_record_line number refusal) }
-{
-    let said = Said::Refused(refusal);
-    format!(in alloc; "line {number}: {said}\n")
-}
-
 /// Prints in which line a record's event is refused, and why.
 pub fn print_refusal<W: Write>(
     alloc: Global,
@@ -153,7 +145,8 @@ pub fn print_refusal<W: Write>(
     ensures bytes { OnOk result (Appends (W.contents out.old) (W.contents out.new)
         (refused_record_line number refusal)) }
 {
-    let line = refusal_line(alloc, number, refusal)?;
+    let said = Said::Refused(refusal);
+    let line = format!(in alloc; "line {number}: {said}\n")?;
     print_text(line.as_bytes(), out)
 }
 

@@ -117,12 +117,12 @@ fn print_more<W: Write>(
     range: Range,
     out: &mut W,
 ) -> Result<Done, Failure>
-    requires swept { IsSwept sweep.entry machine.kernel.boot }
+    requires swept { IsSwept sweep machine.kernel.boot }
     requires some { range.from < range.end }
-    requires within { range.end ≤ length sweep.entry.records.now + 1 }
-    requires first { (first.text.items ≡ text_at (sweep_of sweep.entry machine.kernel.boot) range.from)
-        × (first.is_alike ≡ is_alike_at (sweep_of sweep.entry machine.kernel.boot) range.from)
-        × (machine.kernel ≡ (run_at (sweep_of sweep.entry machine.kernel.boot) range.from).kernel) }
+    requires within { range.end ≤ length sweep.records.now + 1 }
+    requires first { (first.text.items ≡ text_at (sweep_of sweep machine.kernel.boot) range.from)
+        × (first.is_alike ≡ is_alike_at (sweep_of sweep machine.kernel.boot) range.from)
+        × (machine.kernel ≡ (run_at (sweep_of sweep machine.kernel.boot) range.from).kernel) }
     ensures err { IfErr result IsWanting }
     ensures printed { OnOk result (Appends (W.contents out.old) (W.contents out.new)
         (flat_map block_text (blocks (text_at (sweep_of sweep.entry machine.kernel.boot))
@@ -140,7 +140,7 @@ fn print_more<W: Write>(
     let mut machine = machine;
     let mut alike = usize::from(first.is_alike);
     let mut blocks = 1;
-    let mut open = Block {
+    let mut current = Block {
         first: range.from,
         last: range.from,
         text: first.text,
@@ -149,19 +149,19 @@ fn print_more<W: Write>(
         let (next, outcome) = outcome_at(alloc, machine, sweep, position)?;
         machine = next;
         alike += usize::from(outcome.is_alike);
-        if outcome.text.as_slice() == open.text.as_slice() {
-            open.last = position;
+        if outcome.text.as_slice() == current.text.as_slice() {
+            current.last = position;
         } else {
-            print_block(alloc, &open, out)?;
+            print_block(alloc, &current, out)?;
             blocks += 1;
-            open = Block {
+            current = Block {
                 first: position,
                 last: position,
                 text: outcome.text,
             };
         }
     }
-    print_block(alloc, &open, out)?;
+    print_block(alloc, &current, out)?;
     let total = Total {
         positions: range.end - range.from,
         blocks,
@@ -178,8 +178,8 @@ fn print_positions<W: Write>(
     range: Range,
     out: &mut W,
 ) -> Result<Done, Failure>
-    requires swept { IsSwept sweep.entry machine.kernel.boot }
-    requires within { range.end ≤ length sweep.entry.records.now + 1 }
+    requires swept { IsSwept sweep machine.kernel.boot }
+    requires within { range.end ≤ length sweep.records.now + 1 }
     ensures err { IfErr result IsWanting }
     ensures printed { OnOk result (Appends (W.contents out.old) (W.contents out.new)
         (flat_map block_text (blocks (text_at (sweep_of sweep.entry machine.kernel.boot))

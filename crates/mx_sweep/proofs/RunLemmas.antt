@@ -16,6 +16,8 @@ use Rattle.mx_machine_world.specs.Move.{event_refusal, move, move_by, moves}
 use Rattle.mx_machine_world.specs.Steps.{steps_of}
 use Rattle.mx_machine_world.specs.World.{HeldProcess, World, held_by}
 use Rattle.mx_print_answers.specs.declared.said.Said.{Said}
+use Rattle.mx_print_answers.specs.declared.said.Said.TheVariants.{Refused}
+use Rattle.mx_machine_world.specs.declared.events.Refusal.TheVariants.{NoProcess}
 use Rattle.mx_print_answers.specs.Said.{said_line}
 use Rattle.mx_turns.specs.declared.turns.Ending.{Ending}
 use Rattle.mx_turns.specs.Made.{HasMade}
@@ -147,3 +149,21 @@ run_done boot other records n fault k m0 m1 m2 m3 above below evs how up down fi
           ∙ ap (λ (u : World). kept_of (faults_kept kept w other fault) u (turns n (world_of m2) evs).made) two
           ∙ ap (λ c. kept_of (faults_kept kept w other fault) v c.made) course;
     }
+
+-- ---- a fault's line, by the script's line that it is
+
+pub fault_some : (w : World) (other : ℕ) (l : FaultLine) (line : ScriptLine) → line_now w.table l ≡ Some line → fault_made w other l ≡ line_made w other line
+unfolding fault_made
+fault_some w other l line e = ap (made_now w other) e
+
+pub fault_none : (w : World) (other : ℕ) (l : FaultLine) → line_now w.table l ≡ None → fault_made w other l ≡ (Refused NoProcess, w)
+unfolding fault_made
+fault_none w other l e = ap (made_now w other) e
+
+pub kept_some : (k : BootAndHistory) (w : World) (other : ℕ) (l : FaultLine) (line : ScriptLine) → line_now w.table l ≡ Some line → fault_kept k w other l ≡ kept_by k w (event_of_line other line)
+unfolding fault_kept
+kept_some k w other l line e = ap (kept_now k w other) e
+
+pub kept_none : (k : BootAndHistory) (w : World) (other : ℕ) (l : FaultLine) → line_now w.table l ≡ None → fault_kept k w other l ≡ k
+unfolding fault_kept
+kept_none k w other l e = ap (kept_now k w other) e

@@ -147,8 +147,8 @@ pub fn outcome_at(
     sweep: Sweep<'_>,
     position: usize,
 ) -> Result<(Machine, Outcome), NoMemory>
-    requires swept { IsSwept sweep.entry machine.kernel.boot }
-    requires position { position ≤ length sweep.entry.records.now }
+    requires swept { IsSwept sweep machine.kernel.boot }
+    requires position { position ≤ length sweep.records.now }
     ensures boot { IfOk result (λ done. done.0.kernel.boot ≡ machine.kernel.boot) }
     ensures kernel { IfOk result (λ done. done.0.kernel ≡ (run_of machine.kernel.boot
         sweep.entry.other sweep.entry.records.now sweep.entry.bound sweep.entry.fault.now

@@ -65,8 +65,8 @@ pub(crate) fn run_at(
     position: usize,
     text: &mut Vec<u8>,
 ) -> Result<(Machine, Ending), NoMemory>
-    requires swept { IsSwept sweep.entry machine.kernel.boot }
-    requires position { position ≤ length sweep.entry.records.now }
+    requires swept { IsSwept sweep machine.kernel.boot }
+    requires position { position ≤ length sweep.records.now }
     ensures run { IfOk result (λ done. let run = run_of machine.kernel.boot sweep.entry.other
         sweep.entry.records.now sweep.entry.bound fault.now position in
         HasRun run done.0 done.1 × (text.new.items ≡ text.old.items ++ said_text run.said)) }
