@@ -20,7 +20,8 @@ fn head(alloc: Global, first: usize, last: usize) -> Result<String, AllocError>
     if first == last {
         format!(in alloc; "position {first}\n")
     } else {
-        format!(in alloc; "positions {first} to {last}\n")
+        let head = format!(in alloc; "positions {first} to {last}\n")?;
+        Ok(head)
     }
 }
 
@@ -42,10 +43,10 @@ pub struct Total {
     pub alike: usize,
 }
 
-/// Appends the last line of a sweep.
-pub fn push_total(alloc: Global, text: &mut Vec<u8>, total: Total) -> Result<(), AllocError>
-    ensures { OnOk result (text.new.items ≡ text.old.items
-        ++ total_text total.positions total.blocks total.alike) }
+/// The last line of a sweep.
+fn total_line(alloc: Global, total: Total) -> Result<String, AllocError>
+    ensures { IfOk result (λ line. string_bytes line
+        ≡ total_text total.positions total.blocks total.alike) }
 {
     let Total {
         positions,
@@ -55,5 +56,14 @@ pub fn push_total(alloc: Global, text: &mut Vec<u8>, total: Total) -> Result<(),
     let line = format!(in alloc;
         "{positions} positions, {blocks} blocks, {alike} as without the fault\n"
     )?;
+    Ok(line)
+}
+
+/// Appends the last line of a sweep.
+pub fn push_total(alloc: Global, text: &mut Vec<u8>, total: Total) -> Result<(), AllocError>
+    ensures { OnOk result (text.new.items ≡ text.old.items
+        ++ total_text total.positions total.blocks total.alike) }
+{
+    let line = total_line(alloc, total)?;
     text.extend_from_slice(line.as_bytes())
 }

@@ -9,8 +9,10 @@ ghost use Rattle.mx_sweep.specs.Swept.{IsSwept};
 
 use crate::running::{Sweep, run_at};
 use mx_app_step::Machine;
+use mx_machine::Service;
 use mx_machine_kernel::Kernel;
 use mx_print_report::{Naming, push_console, push_count, push_process};
+use mx_proc::Table;
 use mx_text::next_line;
 use mx_turns::Ending;
 use mx_word::NoMemory;
@@ -24,12 +26,17 @@ pub struct Outcome {
 }
 
 /// Appends a line for each service.
-fn push_processes(text: &mut Vec<u8>, naming: Naming, kernel: &Kernel) -> Result<(), AllocError>
-    ensures { OnOk result (text.new.items ≡ text.old.items ++ process_lines naming
-        (replay kernel.now).table 0 (replay kernel.now).services) }
+#[tactic(auto, using(crate::proofs::LineLemmas::process_lines_more))]
+fn push_processes(
+    text: &mut Vec<u8>,
+    naming: Naming,
+    table: &Table,
+    services: &[Service],
+) -> Result<(), AllocError>
+    requires { length services.now ≡ length table.now.slots }
+    ensures { OnOk result (text.new.items ≡ text.old.items
+        ++ process_lines naming table.now 0 services.now) }
 {
-    let table = kernel.table();
-    let services = kernel.services();
     for slot in 0..table.used() {
         text.extend_from_slice(b"  ")?;
         push_process(
@@ -59,14 +66,14 @@ fn ending_word(ending: Ending) -> &'static [u8]
 fn push_end(
     text: &mut Vec<u8>,
     naming: Naming,
-    machine: &Machine,
+    kernel: &Kernel,
     ending: Ending,
 ) -> Result<(), AllocError>
     ensures { OnOk result (text.new.items ≡ text.old.items
-        ++ end_text naming (world_of machine.now) ending) }
+        ++ end_text naming (replay kernel.now) ending) }
 {
-    let kernel = machine.kernel();
-    push_processes(text, naming, kernel)?;
+    kernel.opened();
+    push_processes(text, naming, kernel.table(), kernel.services())?;
     text.extend_from_slice(b"  ")?;
     text.extend_from_slice(ending_word(ending))?;
     text.push(b'\n')?;
@@ -113,17 +120,19 @@ fn push_kept(text: &mut Vec<u8>, bytes: &[u8]) -> Result<(), AllocError>
 }
 
 /// What is compared of an outcome.
+#[tactic(auto, unfolding(mx_machine::specs::Machine::world_of))]
 fn seen(alloc: Global, machine: &Machine, ending: Ending) -> Result<Vec<u8>, AllocError>
     ensures { IfOk result (λ seen. seen.items ≡ end_text by.Slots (world_of machine.now) ending
         ++ (world_of machine.now).table.devices.console.kept) }
 {
     let mut seen = Vec::new(alloc);
-    push_end(&mut seen, Naming::Slots, machine, ending)?;
+    push_end(&mut seen, Naming::Slots, machine.kernel(), ending)?;
     push_console(&mut seen, &machine.kernel().table().devices().console)?;
     Ok(seen)
 }
 
 /// Appends the lines of an outcome that follow those of the fault.
+#[tactic(auto, unfolding(mx_machine::specs::Machine::world_of))]
 fn push_outcome(
     alloc: Global,
     text: &mut Vec<u8>,
@@ -135,7 +144,7 @@ fn push_outcome(
 {
     let mut kept = Vec::new(alloc);
     push_console(&mut kept, &machine.kernel().table().devices().console)?;
-    push_end(text, Naming::Endpoints, machine, ending)?;
+    push_end(text, Naming::Endpoints, machine.kernel(), ending)?;
     push_kept(text, kept.as_slice())
 }
 
