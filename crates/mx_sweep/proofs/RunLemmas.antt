@@ -1,6 +1,7 @@
 -- Runs with a fault at a position.
 use Rattle.std.proofs.Common.{◌≡◌, ◌∙◌, ◌<◌, ◌+◌, ℕ, zero, suc, ◌++◌, List, [], ◌∷◌, length, drop, take, get_or, Option, Some, None, append_assoc, refl, ap, sym, subst, arith}
 use Rattle.std.proofs.Math.Seq.{drop-cons}
+use Rattle.std.proofs.lemmas.List.{take-append-drop}
 use Rattle.mx_app_step.specs.Kept.{event_of_line, kept_by, kept_of}
 use Rattle.mx_app_step.specs.Lines.{line_made, run_made, steps_made}
 use Rattle.mx_app_step.specs.Machine.{MachineState, kept_along, world_of}
@@ -11,8 +12,8 @@ use Rattle.mx_machine_world.specs.declared.events.Event.TheVariants as events
 use Rattle.mx_machine_world.specs.declared.events.Refusal.{Refusal}
 use Rattle.mx_machine_world.specs.declared.history.Record.{Record}
 use Rattle.mx_machine_world.specs.Held.{held_run}
-use Rattle.mx_machine_world.specs.History.{BootAndHistory, events_of_history, world_after_events}
-use Rattle.mx_machine_world.specs.Move.{event_refusal, move, move_by, moves}
+use Rattle.mx_machine_world.specs.History.{AreAccepted, BootAndHistory, events_of, events_of_history, world_after_events}
+use Rattle.mx_machine_world.specs.Move.{event_refusal, move, move_by, moves, world_after_event}
 use Rattle.mx_machine_world.specs.Steps.{steps_of}
 use Rattle.mx_machine_world.specs.World.{HeldProcess, World, held_by}
 use Rattle.mx_print_answers.specs.declared.said.Said.{Said}
@@ -167,3 +168,18 @@ kept_some k w other l line e = ap (kept_now k w other) e
 pub kept_none : (k : BootAndHistory) (w : World) (other : ℕ) (l : FaultLine) → line_now w.table l ≡ None → fault_kept k w other l ≡ k
 unfolding fault_kept
 kept_none k w other l e = ap (kept_now k w other) e
+
+-- ---- the first records of an accepted history
+
+accepted_front : (w : World) (xs ys : List (ℕ × Event)) → AreAccepted w (xs ++ ys) → AreAccepted w xs
+accepted_front w [] ys h = tt
+accepted_front w (x ∷ xs) ys h = (h.0, accepted_front (world_after_event w x.0 x.1) xs ys h.1)
+
+events_both : (xs ys : List Record) → events_of_history (xs ++ ys) ≡ events_of_history xs ++ events_of_history ys
+events_both [] ys = refl
+events_both (x ∷ xs) ys = ap (λ l. events_of x.actor x.event ++ l) (events_both xs ys) ∙ sym (append_assoc (events_of x.actor x.event) (events_of_history xs) (events_of_history ys))
+
+pub front_accepted : (w : World) (records : List Record) (k : ℕ) → AreAccepted w (events_of_history records) → AreAccepted w (events_of_history (take k records))
+front_accepted w records k h =
+    accepted_front w (events_of_history (take k records)) (events_of_history (drop k records))
+    (subst (AreAccepted w) (ap events_of_history (sym (take-append-drop k records)) ∙ events_both (take k records) (drop k records)) h)
