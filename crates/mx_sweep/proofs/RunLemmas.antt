@@ -15,7 +15,7 @@ use Rattle.mx_machine_world.specs.Held.{held_run}
 use Rattle.mx_machine_world.specs.History.{AreAccepted, BootAndHistory, events_of, events_of_history, world_after_events}
 use Rattle.mx_machine_world.specs.Move.{event_refusal, move, move_by, moves, world_after_event}
 use Rattle.mx_machine_world.specs.Steps.{steps_of}
-use Rattle.mx_machine_world.specs.World.{HeldProcess, World, held_by}
+use Rattle.mx_machine_world.specs.World.{HeldProcess, World, actors, held_by}
 use Rattle.mx_print_answers.specs.declared.said.Said.{Said}
 use Rattle.mx_print_answers.specs.declared.said.Said.TheVariants.{Refused}
 use Rattle.mx_machine_world.specs.declared.events.Refusal.TheVariants.{NoProcess}
@@ -117,6 +117,20 @@ module _ (other : ℕ) (fault : List FaultLine) (i : ℕ) (d : FaultLine) (b : i
       ∙ sym (ap (λ (p : Said × World). faults_kept (fault_kept k w other line) p.1 other (drop (i + 1) fault)) h)
       ∙ sym (ap (λ (ls : List FaultLine). faults_kept k w other ls) left) ∙ before
 
+-- ---- the world above the position, and its processors
+
+pub world_above : (boot w v : World) (records above : List Record) (k : ℕ) → above ≡ take k records → w ≡ boot → v ≡ world_after_events w (events_of_history above) → v ≡ world_after_events boot (events_of_history (take k records))
+world_above boot w v records above k up booted is =
+    is ∙ ap (λ (u : World). world_after_events u (events_of_history above)) booted ∙ ap (λ (rs : List Record). world_after_events boot (events_of_history rs)) up
+
+-- an actor that is no processor stays
+pub alone_still : (boot w v u : World) (xs : List (ℕ × Event)) → ((z : World) (ys : List (ℕ × Event)) → actors (world_after_events z ys) ≡ actors z) → w ≡ boot → v ≡ world_after_events w xs
+    → actors u ≡ actors v → length u.cpus ≡ length v.cpus → length boot.cpus < actors boot → length u.cpus < actors u
+alone_still boot w v u xs stay booted is same as_many h =
+    let all : actors u ≡ actors boot = same ∙ ap actors is ∙ stay w xs ∙ ap actors booted in
+    let own : length u.cpus ≡ length boot.cpus = as_many ∙ ap (λ (z : World). length z.cpus) is ∙ cpus_stay w xs ∙ ap (λ (z : World). length z.cpus) booted in
+    subst (λ n. n < actors u) (sym own) (subst (λ n. length boot.cpus < n) (sym all) h)
+
 -- ---- a run, from its parts
 
 pub run_done : (boot : World) (other : ℕ) (records : List Record) (n : ℕ) (fault : List FaultLine) (k : ℕ) (m0 m1 m2 m3 : MachineState) (above below : List Record) (evs : List Event) (how : Ending)
@@ -128,8 +142,7 @@ pub run_done : (boot : World) (other : ℕ) (records : List Record) (n : ℕ) (f
 run_done boot other records n fault k m0 m1 m2 m3 above below evs how up down first booted world1 kernel1 world2 kernel2 come made ends =
     let xs = events_of_history (take k records) in
     let w = world_after_events boot xs in
-    let one : world_of m1 ≡ w =
-    world1 ∙ ap (λ (u : World). world_after_events u (events_of_history above)) booted ∙ ap (λ (rs : List Record). world_after_events boot (events_of_history rs)) up in
+    let one : world_of m1 ≡ w = world_above boot (world_of m0) (world_of m1) records above k up booted world1 in
     let kept = kept_of (record { boot = boot; history = [] }) boot xs in
     let kept1 : m1.kernel ≡ kept =
     kernel1 ∙ ap (λ (x : BootAndHistory). kept_of x (world_of m0) (events_of_history above)) first
@@ -168,18 +181,3 @@ kept_some k w other l line e = ap (kept_now k w other) e
 pub kept_none : (k : BootAndHistory) (w : World) (other : ℕ) (l : FaultLine) → line_now w.table l ≡ None → fault_kept k w other l ≡ k
 unfolding fault_kept
 kept_none k w other l e = ap (kept_now k w other) e
-
--- ---- the first records of an accepted history
-
-accepted_front : (w : World) (xs ys : List (ℕ × Event)) → AreAccepted w (xs ++ ys) → AreAccepted w xs
-accepted_front w [] ys h = tt
-accepted_front w (x ∷ xs) ys h = (h.0, accepted_front (world_after_event w x.0 x.1) xs ys h.1)
-
-events_both : (xs ys : List Record) → events_of_history (xs ++ ys) ≡ events_of_history xs ++ events_of_history ys
-events_both [] ys = refl
-events_both (x ∷ xs) ys = ap (λ l. events_of x.actor x.event ++ l) (events_both xs ys) ∙ sym (append_assoc (events_of x.actor x.event) (events_of_history xs) (events_of_history ys))
-
-pub front_accepted : (w : World) (records : List Record) (k : ℕ) → AreAccepted w (events_of_history records) → AreAccepted w (events_of_history (take k records))
-front_accepted w records k h =
-    accepted_front w (events_of_history (take k records)) (events_of_history (drop k records))
-    (subst (AreAccepted w) (ap events_of_history (sym (take-append-drop k records)) ∙ events_both (take k records) (drop k records)) h)
