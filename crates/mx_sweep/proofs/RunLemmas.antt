@@ -168,7 +168,7 @@ run_done boot other records n fault k m0 m1 m2 m3 above below evs how up down fi
 
 pub fault_some : (w : World) (other : ℕ) (l : FaultLine) (line : ScriptLine) → line_now w.table l ≡ Some line → fault_made w other l ≡ line_made w other line
 unfolding fault_made
-fault_some w other l line e = ap (made_now w other) e
+fault_some w other l is e = ap (made_now w other) e
 
 pub fault_none : (w : World) (other : ℕ) (l : FaultLine) → line_now w.table l ≡ None → fault_made w other l ≡ (Refused NoProcess, w)
 unfolding fault_made
@@ -176,7 +176,7 @@ fault_none w other l e = ap (made_now w other) e
 
 pub kept_some : (k : BootAndHistory) (w : World) (other : ℕ) (l : FaultLine) (line : ScriptLine) → line_now w.table l ≡ Some line → fault_kept k w other l ≡ kept_by k w (event_of_line other line)
 unfolding fault_kept
-kept_some k w other l line e = ap (kept_now k w other) e
+kept_some k w other l is e = ap (kept_now k w other) e
 
 pub kept_none : (k : BootAndHistory) (w : World) (other : ℕ) (l : FaultLine) → line_now w.table l ≡ None → fault_kept k w other l ≡ k
 unfolding fault_kept
