@@ -29,7 +29,7 @@ ready m config k other records vs kernel booted same some few first by =
       booted = booted ∙ ap (λ (c : Config). world_at_boot c vs) (sym same) ∙ ap (λ (xs : List Service). world_at_boot config xs) (sym own);
       some = subst (λ (xs : List Service). 0 < length xs) (sym own) some;
       few = subst (λ (xs : List Service). length xs ≤ 32) (sym own) few;
-      other = first ∙ ap (λ (c : Config). c.cpus) (sym same);
+      first = first ∙ ap (λ (c : Config). c.cpus) (sym same);
       by_actors = by;
     }
 
@@ -50,7 +50,7 @@ module _ (m : MachineState) (config : Config) (other : ℕ) (records : List Reco
         few = is.few;
         by_actors = subst (λ (rs : List Record). All (λ (x : Record). x.actor < actors (world_of m)) rs) (sym same) is.by_actors;
         accepted = subst (λ (rs : List Record). AreAccepted (world_of m) (events_of_history rs)) (sym same) accepted;
-        other = subst (λ n. n < actors (world_of m)) (sym (first ∙ is.other)) below;
+        other = subst (λ n. n < actors (world_of m)) (sym (first ∙ is.first)) below;
         alone = subst (λ n. n < actors (world_of m)) (sym as_many) below;
       })
 

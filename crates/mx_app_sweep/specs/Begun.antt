@@ -18,7 +18,7 @@ pub record IsReady (m : MachineState) (config : Config) (other : ℕ) (records :
   pub booted : world_of m ≡ world_at_boot config (world_of m).services
   pub some : 0 < length (world_of m).services
   pub few : length (world_of m).services ≤ 32
-  pub other : other ≡ config.cpus
+  pub first : other ≡ config.cpus
   pub by_actors : All (λ (x : Record). x.actor < actors (world_of m)) records
 
 abbrev pub is_ready : Begun → Type 0

@@ -244,10 +244,11 @@ fn save_history<F: FileWriter>(
 ) -> Result<(), Failure>
     ensures written { OnOk result (F.written files.new ≡ F.written files.old
         ++ saved_if (text_kept done.now.machine.kernel) done.now.total.positions
-        (option_map (λ s. s.now) save)) }
+        (option_map (λ s. s.now) save.entry)) }
+    ensures some { IfErr result (λ _. 0 < done.now.total.positions) }
     ensures unwritten { IfErr result (λ f. (ws : List Written)
         × (F.written files.new ≡ F.written files.old ++ ws)
-        × IsUnsaved (text_kept done.now.machine.kernel) (option_map (λ s. s.now) save) ws f) }
+        × IsUnsaved (text_kept done.now.machine.kernel) (option_map (λ s. s.now) save.entry) ws f) }
 {
     match save {
         Some(name) => if done.total.positions > 0 {
@@ -272,7 +273,7 @@ fn sweep_begun<F: FileWriter, W: Write>(
     requires { is_ready begun }
     ensures { (ws : List Written) × (F.written files.new ≡ F.written files.old ++ ws)
         × IsDone (begun_of begun wanted.bound) wanted.from wanted.to
-        (option_map (λ s. s.now) save) ws
+        (option_map (λ s. s.now) save.entry) ws
         (λ text. Appends (W.contents out.old) (W.contents out.new) text) result }
 {
     let Begun { started, fault } = begun;
@@ -299,11 +300,11 @@ fn sweep_begun<F: FileWriter, W: Write>(
     let done = print_positions(alloc, machine, sweep, range, out)?;
     print_total(alloc, done.total, out)?;
     save_history(alloc, &done, files, save)?;
-    Ok(swept(done.total))
+    Ok(how_ended(done.total))
 }
 
 /// How a sweep ended, by its counts.
-fn swept(total: Total) -> Swept
+fn how_ended(total: Total) -> Swept
     ensures { result ≡ ended total.positions total.alike }
 {
     if total.alike == total.positions {
