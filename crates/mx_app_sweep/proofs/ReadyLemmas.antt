@@ -16,7 +16,7 @@ use Rattle.mx_turns.proofs.MadeLemmas.{kept_boot}
 use Rattle.mx_sweep.specs.declared.faults.FaultLine.{FaultLine}
 use Rattle.mx_sweep.specs.declared.running.Sweep.{Sweep}
 use Rattle.mx_sweep.specs.Swept.{IsSwept}
-use Rattle.mx_app_sweep.specs.Begun.{IsReady, sweep_of}
+use Rattle.mx_app_sweep.specs.Begun.{IsReady}
 use Rattle.mx_app_sweep.specs.Sweeping.{SweepOf}
 
 -- a machine that is started is ready
@@ -55,11 +55,9 @@ module _ (m : MachineState) (config : Config) (other : ℕ) (records : List Reco
       })
 
 -- what it is a sweep of
-pub same_sweep : (s : Sweep) (boot w : World) (other : ℕ) (records : List Record) (fault : List FaultLine) (n : ℕ) → boot ≡ w → s.other ≡ other → s.records.now ≡ records → s.fault.now ≡ fault → s.bound ≡ n
-    → sweep_of s boot ≡ record { boot = w; other = other; records = records; fault = fault; bound = n }
-same_sweep s boot w other records fault n at first read said bound =
-    ap (λ (b : World). record { boot = b; other = s.other; records = s.records.now; fault = s.fault.now; bound = s.bound }) at
-    ∙ ap (λ (o : ℕ). record { boot = w; other = o; records = s.records.now; fault = s.fault.now; bound = s.bound }) first
-    ∙ ap (λ (rs : List Record). record { boot = w; other = other; records = rs; fault = s.fault.now; bound = s.bound }) read
-    ∙ ap (λ (ls : List FaultLine). record { boot = w; other = other; records = records; fault = ls; bound = s.bound }) said
-    ∙ ap (λ (b : ℕ). record { boot = w; other = other; records = records; fault = fault; bound = b }) bound
+pub same_sweep : (boot w : World) (other : ℕ) (read records : List Record) (said fault : List FaultLine) (n : ℕ) → boot ≡ w → read ≡ records → said ≡ fault
+    → ◌≡◌ {A = SweepOf} (record { boot = boot; other = other; records = read; fault = said; bound = n }) (record { boot = w; other = other; records = records; fault = fault; bound = n })
+same_sweep boot w other read records said fault n at same told =
+    ap (λ (b : World). record { boot = b; other = other; records = read; fault = said; bound = n }) at
+    ∙ ap (λ (rs : List Record). record { boot = w; other = other; records = rs; fault = said; bound = n }) same
+    ∙ ap (λ (ls : List FaultLine). record { boot = w; other = other; records = records; fault = ls; bound = n }) told

@@ -1,4 +1,5 @@
-use Rattle.std.proofs.Common.{◌≡◌, ◌∙◌, ◌+◌, ℕ, Bool, true, false, List, ap, ap₂, arith, refl, sym}
+use Rattle.std.proofs.Common.{◌≡◌, ◌∙◌, ◌+◌, ℕ, Bool, true, false, cond, List, ap, ap₂, arith, refl, sym}
+use Rattle.std.specs.Int.{from_bool}
 use Rattle.std.specs.Str.{bytes_eq}
 use Rattle.mx_machine_world.specs.World.{World}
 use Rattle.mx_sweep.specs.declared.blocks.Total.{Total}
@@ -13,6 +14,10 @@ use Rattle.mx_app_sweep.proofs.sweeping.print_more.Goals.{then-eq, else-eq+in_ok
 one : (p : ℕ) (t u : List ℕ) → t ≡ u → ◌≡◌ {A = Positions} (record { first = p; last = p; text = t }) (record { first = p; last = p; text = u })
 one p t u e = ap (λ (x : List ℕ). record { first = p; last = p; text = x }) e
 
+as_number : (b : Bool) → from_bool b ≡ cond b 1 0
+as_number true = refl
+as_number false = refl
+
 totals : (n b d a k : ℕ) → b ≡ d → a ≡ k → ◌≡◌ {A = Total} (record { positions = n; blocks = b; alike = a }) (record { positions = n; blocks = d; alike = k })
 totals n b d a k e h = ap₂ (λ (x y : ℕ). record { positions = n; blocks = x; alike = y }) e h
 
@@ -22,7 +27,7 @@ loop-position-init g c =
     let first = c.requires.first in
     record {
       swept = first_swept s c.args.range.from c.args.range.end (g.W.Write.contents c.args.out.now) _ c.from-alike.result c.args.first.is_alike c.args.machine.kernel c.requires.some
-          (one c.args.range.from c.args.first.text.items (text_at s c.args.range.from) first.0) first.1 c.from-alike.ensures first.2;
+          (one c.args.range.from c.args.first.text.items (text_at s c.args.range.from) first.0) first.1 (c.from-alike.ensures ∙ as_number c.args.first.is_alike) first.2;
       boot = refl;
     }
 
@@ -41,7 +46,7 @@ loop-position-preserved g c =
     let text : c.in_ok-next.outcome.text.items ≡ text_at s p = made.text ∙ ap (λ (b : World). text_at (sweep_of c.args.sweep b) p) inv.boot in
     let which : c.in_ok-next.outcome.is_alike ≡ is_alike_at s p = made.alike ∙ ap (λ (b : World). is_alike_at (sweep_of c.args.sweep b) p) inv.boot in
     let more = c.loop-position.alike + c.from-alike-in-loop-position.result in
-    let next = ap (λ n. c.loop-position.alike + n) c.from-alike-in-loop-position.ensures in
+    let next = ap (λ n. c.loop-position.alike + n) (c.from-alike-in-loop-position.ensures ∙ as_number c.in_ok-next.outcome.is_alike) in
     let same : bytes_eq (text_at s p) current.text ≡ c.eq.result =
     ap₂ bytes_eq (sym (c.as_slice.ensures.value ∙ text)) (sym c.as_slice-in-loop-position.ensures.value) ∙ sym c.eq.ensures in
     let boot = made.boot ∙ inv.boot in
