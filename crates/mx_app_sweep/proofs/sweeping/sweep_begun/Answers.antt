@@ -1,4 +1,4 @@
-use Rattle.std.proofs.Common.{◌≡◌, ◌∙◌, ◌<◌, ◌-◌, ℕ, List, [], Option, ap, refl, subst, sym}
+use Rattle.std.proofs.Common.{◌≡◌, ◌∙◌, ◌<◌, ◌-◌, ℕ, List, [], Option, ap, length, refl, subst, sym}
 use Rattle.std.proofs.lemmas.List.{append-nil}
 use Rattle.std.specs.Io.KnownBytes.{Appends}
 use Rattle.std.specs.Prelude.{option_map}
@@ -43,9 +43,10 @@ returns-in_err-save_history g c =
     let boot = boot_stays started.machine started.config started.other started.lines.items c.requires c.perform_records.new.machine (events_of_history c.as_slice.result.now) c.in_default.ensures.kept in
     let same = same_sweep c.perform_records.new.machine.kernel.boot (world_of started.machine) started.other c.as_slice-2.result.now started.lines.items c.as_slice-3.result.now c.args.begun.fault.items c.args.wanted.bound
     boot c.as_slice-2.ensures.value c.as_slice-3.ensures.value in
+    let many : c.len.result ≡ length started.lines.items = c.len.ensures ∙ sym c.as_slice-2.ensures.len ∙ ap length c.as_slice-2.ensures.value in
     let range = c.range_of-range.result in
     let done = c.in_ok-done.done in
-    let text = last_kept _ s same c.args.wanted.from c.args.wanted.to range.from range.end c.len.result c.range_of-range.ensures.0 c.len.ensures c.range_of-range.ensures.1 done.total c.in_ok-done.ensures.total
+    let text = last_kept _ s same c.args.wanted.from c.args.wanted.to range.from range.end c.len.result c.range_of-range.ensures.0 many c.range_of-range.ensures.1 done.total c.in_ok-done.ensures.total
     done.machine.kernel c.in_ok-done.ensures.kernel c.in_err-save_history.ensures.some in
     let h = c.in_err-save_history.ensures.unwritten in
     (h.0, h.1, unsaved s c.args.wanted.from c.args.wanted.to save (λ (text : List ℕ). Appends (g.W.Write.contents c.args.out.now) (g.W.Write.contents c.print_total.new.out) text) (text_kept done.machine.kernel) h.0
@@ -60,6 +61,7 @@ returns g c =
     let same = same_sweep c.perform_records.new.machine.kernel.boot (world_of started.machine) started.other c.as_slice-2.result.now started.lines.items c.as_slice-3.result.now c.args.begun.fault.items c.args.wanted.bound
     boot c.as_slice-2.ensures.value c.as_slice-3.ensures.value in
     let accepted = subst (λ (rs : List Record). AreAccepted (world_of started.machine) (events_of_history rs)) c.as_slice.ensures.value c.in_default.ensures.ok.0 in
+    let many : c.len.result ≡ length started.lines.items = c.len.ensures ∙ sym c.as_slice-2.ensures.len ∙ ap length c.as_slice-2.ensures.value in
     let range = c.range_of-range.result in
     let done = c.in_ok-done.done in
     let from = c.args.wanted.from in
@@ -73,7 +75,7 @@ returns g c =
     let ws = saved_if (text_kept done.machine.kernel) done.total.positions save in (
       ws,
       c.in_ok-save_history.ensures.written,
-      through s from to save ws (λ (text : List ℕ). Appends old now text) c.how_ended.result accepted (how_is _ s same from to range.from range.end c.len.result at c.len.ensures end done.total total c.how_ended.result c.how_ended.ensures)
-          (all_printed _ s same from to range.from range.end c.len.result at c.len.ensures end done.total total old mid now c.in_ok-done.ensures.printed c.in_ok-print_total.ensures.bytes)
-          (last_saved _ s same from to range.from range.end c.len.result at c.len.ensures end done.total total done.machine.kernel save c.in_ok-done.ensures.kernel),
+      through s from to save ws (λ (text : List ℕ). Appends old now text) c.how_ended.result accepted (how_is _ s same from to range.from range.end c.len.result at many end done.total total c.how_ended.result c.how_ended.ensures)
+          (all_printed _ s same from to range.from range.end c.len.result at many end done.total total old mid now c.in_ok-done.ensures.printed c.in_ok-print_total.ensures.bytes)
+          (last_saved _ s same from to range.from range.end c.len.result at many end done.total total done.machine.kernel save c.in_ok-done.ensures.kernel),
     )
