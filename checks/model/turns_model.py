@@ -577,7 +577,7 @@ def outcome(config, records, place, fault, bound):
 
 
 def swept(config, records, fault, bound=1000, first=0, last=None):
-    """What `mx sweep` prints."""
+    """What `mx sweep` prints, and whether the fault changes the outcome of a position."""
     last = len(records) if last is None else min(last, len(records))
     blocks, same = [], 0
     for place in range(first, last + 1):
@@ -591,5 +591,6 @@ def swept(config, records, fault, bound=1000, first=0, last=None):
     for begin, end, lines in blocks:
         text.append(f"position {begin}" if begin == end else f"positions {begin} to {end}")
         text += ["  " + it for it in lines]
-    text.append(f"{max(0, last + 1 - first)} positions, {len(blocks)} blocks, {same} as without the fault")
-    return "\n".join(text) + "\n"
+    positions = max(0, last + 1 - first)
+    text.append(f"{positions} positions, {len(blocks)} blocks, {same} as without the fault")
+    return "\n".join(text) + "\n", same != positions

@@ -31,12 +31,14 @@ use Rattle.mx_app_db.specs.Told.{debug_lines_text}
 use Rattle.mx_app_draw.specs.Scenes.{IsDrawingPrinted}
 use Rattle.mx_app_look.specs.Sessions.{IsBegun, begun_text, session_text}
 use Rattle.mx_app_run.specs.Run.{Runs}
+use Rattle.mx_app_sweep.specs.Sweeping.{Sweeps}
+use Rattle.mx_app_sweep.specs.declared.sweeping.Swept.{Swept}
 use Rattle.mx_app_turns.specs.Turned.{MakesTurns}
 use Rattle.mx_turns.specs.declared.turns.Ending.{Ending}
 use Rattle.mx_walk.specs.Walks.{Walk}
 use Rattle.mx_app.specs.Explained.{ExplainsConfig}
 use Rattle.mx_app.specs.Named.{Assembles, ShowsFile}
-use Rattle.mx_app.specs.Requests.{Debugs, Draws, Explains, Looks, Performs, PerformsUntyped, Replays, SavesSteps, Shows, Steps, Traces, status_after_replay, status_after_turns, status_after_work}
+use Rattle.mx_app.specs.Requests.{Debugs, Draws, Explains, Looks, Performs, PerformsUntyped, Replays, SavesSteps, Shows, Steps, Traces, status_after_replay, status_after_sweep, status_after_turns, status_after_work}
 
 -- nothing is printed where a writer wasn't touched
 pub appends_nothing : (known : Option (List ℕ)) → Appends known known []
@@ -104,6 +106,12 @@ pub turned : (asked now : List Asked) (files written : List Written) (config log
     → (qs : List Asked) × (ws : List Written) × (now ≡ asked ++ qs) × (written ≡ files ++ ws) × MakesTurns config events log ticks bound qs ws (λ text. Appends x y text) d → r ≡ status_after_turns d
     → Does asked now files written (λ qs ws. (e : Result Ending Kind) × MakesTurns config events log ticks bound qs ws (λ text. Appends x y text) e × (r ≡ status_after_turns e))
 turned asked now files written config log events ticks bound x y d r p e = (p.0, p.1, p.2, p.3, (d, p.4, e))
+
+-- a history was swept, or it wasn't
+pub swept : (asked now : List Asked) (files written : List Written) (config log fault : List ℕ) (save : Option (List ℕ)) (from to bound : ℕ) (strict : Bool) (x y : Option (List ℕ)) (d : Result Swept Kind) (r : Result ℕ Kind)
+    → (qs : List Asked) × (ws : List Written) × (now ≡ asked ++ qs) × (written ≡ files ++ ws) × Sweeps config log fault save from to bound qs ws (λ text. Appends x y text) d → r ≡ status_after_sweep strict d
+    → Does asked now files written (λ qs ws. (e : Result Swept Kind) × Sweeps config log fault save from to bound qs ws (λ text. Appends x y text) e × (r ≡ status_after_sweep strict e))
+swept asked now files written config log fault save from to bound strict x y d r p e = (p.0, p.1, p.2, p.3, (d, p.4, e))
 
 -- a script was done, and its history saved or not
 pub saves : (asked now : List Asked) (files written : List Written) (config script log : List ℕ) (x y : Option (List ℕ)) (d : Result (Unit {0}) Kind) (r : Result ℕ Kind)

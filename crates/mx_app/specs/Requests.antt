@@ -1,8 +1,8 @@
 -- What is done of requests (our own).
-use Rattle.std.specs.Prelude.{◌≡◌, ◌⊎◌, ℕ, Bool, List, [], ◌∷◌, ◌++◌, Some, None, Result, Ok, Err, option_map, take}
+use Rattle.std.specs.Prelude.{◌≡◌, ◌⊎◌, ℕ, Bool, if◌then◌else◌, List, [], ◌∷◌, ◌++◌, Some, None, Result, Ok, Err, option_map, take}
 use Rattle.mx_app_command.specs.declared.words.CommandRequest.{CommandRequest}
 use Rattle.mx_app_command.specs.declared.words.RecordRange.{RecordRange}
-use Rattle.mx_app_command.specs.declared.words.CommandRequest.TheVariants.{One, As, Dis, Nm, Explain, Step, Run, Turns, Replay, Trace, Draw, Look, Db}
+use Rattle.mx_app_command.specs.declared.words.CommandRequest.TheVariants.{One, As, Dis, Nm, Explain, Step, Run, Turns, Sweep, Replay, Trace, Draw, Look, Db}
 use Rattle.mx_app_db.specs.ScriptLine.{ScriptLine}
 use Rattle.mx_app_db.specs.DebugLine.{DebugLine}
 use Rattle.mx_app_failure.specs.declared.failure.Failure.{Failure as Kind}
@@ -29,6 +29,9 @@ use Rattle.mx_app_db.specs.Replayed.TheVariants as replayed
 use Rattle.mx_app_draw.specs.Scenes.{IsDrawingPrinted}
 use Rattle.mx_app_look.specs.Sessions.{IsBegun, begun_text, session_text}
 use Rattle.mx_app_run.specs.Run.{Runs}
+use Rattle.mx_app_sweep.specs.Sweeping.{Sweeps}
+use Rattle.mx_app_sweep.specs.declared.sweeping.Swept.{Swept}
+use Rattle.mx_app_sweep.specs.declared.sweeping.Swept.TheVariants as swept
 use Rattle.mx_app_turns.specs.Turned.{MakesTurns}
 use Rattle.mx_turns.specs.declared.turns.Ending.{Ending}
 use Rattle.mx_walk.specs.Walks.{Walk}
@@ -53,6 +56,13 @@ status_after_replay (Err f) = Err f
 abbrev pub status_after_turns : Result Ending Kind → Result ℕ Kind
 status_after_turns (Ok ending) = Ok 0
 status_after_turns (Err f) = Err f
+
+-- a sweep is done; its status is 1 if the history is refused, and, if it is strict, if an outcome differs
+abbrev pub status_after_sweep : Bool → Result Swept Kind → Result ℕ Kind
+status_after_sweep strict (Ok swept.Alike) = Ok 0
+status_after_sweep strict (Ok swept.Differs) = Ok (if strict then 1 else 0)
+status_after_sweep strict (Ok swept.Refused) = Ok 1
+status_after_sweep strict (Err f) = Err f
 
 -- ---- machines: the files are as the start wants them, and the text is printed; or the first fault is told
 
@@ -136,6 +146,8 @@ PerformsUntyped (Run config log ticks) qs ws Prints r =
     (d : Result (Unit {0}) Kind) × Runs config.now log.now ticks qs ws Prints d × (r ≡ status_after_work d)
 PerformsUntyped (Turns config log ticks events bound) qs ws Prints r =
     (d : Result Ending Kind) × MakesTurns config.now (option_map (λ s. s.now) events) log.now ticks bound qs ws Prints d × (r ≡ status_after_turns d)
+PerformsUntyped (Sweep config log fault bound from to strict save) qs ws Prints r =
+    (d : Result Swept Kind) × Sweeps config.now log.now fault.now (option_map (λ s. s.now) save) from to bound qs ws Prints d × (r ≡ status_after_sweep strict d)
 PerformsUntyped (Replay config log) qs ws Prints r =
     (d : Result Replayed Kind) × (ws ≡ []) × Replays config.now log.now qs Prints d × (r ≡ status_after_replay d)
 PerformsUntyped (Trace config log range) qs ws Prints r =

@@ -4,7 +4,7 @@ ghost use Rattle.std.specs.Prelude.{◌≡◌, ◌++◌, List, ℕ};
 ghost use Rattle.std.specs.Io.KnownBytes.{Appends};
 ghost use Rattle.mx_app_db.specs.Asked.{Asked};
 ghost use Rattle.mx_app_db.specs.Written.{Written};
-ghost use Rattle.mx_app.specs.Requests.{Performs, status_after_replay, status_after_turns, status_after_work};
+ghost use Rattle.mx_app.specs.Requests.{Performs, status_after_replay, status_after_sweep, status_after_turns, status_after_work};
 
 use crate::explain::explain_named;
 use crate::named::{as_named, dis_named, nm_named, one_named};
@@ -17,6 +17,7 @@ use mx_app_draw::draw;
 use mx_app_failure::Failure;
 use mx_app_look::{SessionNames, look};
 use mx_app_run::{RunNames, run};
+use mx_app_sweep::{SweepNames, SweepWanted, Swept, sweep};
 use mx_app_turns::{Ending, TurnsNames, TurnsWanted, turns};
 use std::alloc::Global;
 use std::io::Write;
@@ -51,6 +52,19 @@ fn status_after_turns(done: Result<Ending, Failure>) -> Result<u8, Failure>
 {
     match done {
         Ok(_) => Ok(0),
+        Err(failure) => Err(failure),
+    }
+}
+
+/// The status after a sweep: that of a history that is refused is 1, and so is, if it is strict, that of one
+/// whose outcomes differ.
+fn status_after_sweep(done: Result<Swept, Failure>, strict: bool) -> Result<u8, Failure>
+    ensures { result ≡ status_after_sweep strict done }
+{
+    match done {
+        Ok(Swept::Alike) => Ok(0),
+        Ok(Swept::Differs) => Ok(u8::from(strict)),
+        Ok(Swept::Refused) => Ok(1),
         Err(failure) => Err(failure),
     }
 }
@@ -118,6 +132,25 @@ pub fn perform<
             };
             let wanted = TurnsWanted { ticks, bound };
             status_after_turns(turns(alloc, channels, names, wanted))
+        }
+        CommandRequest::Sweep {
+            config,
+            log,
+            fault,
+            bound,
+            from,
+            to,
+            strict,
+            save,
+        } => {
+            let names = SweepNames {
+                config,
+                log,
+                fault,
+                save,
+            };
+            let wanted = SweepWanted { from, to, bound };
+            status_after_sweep(sweep(alloc, channels, names, wanted), strict)
         }
         CommandRequest::Replay { config, log } => {
             status_after_replay(replay(alloc, reader, config, log, out))

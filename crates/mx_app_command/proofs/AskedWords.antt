@@ -15,7 +15,7 @@ use Rattle.clap.specs.Faults.{defaults_fault, entered_fault, level_fault, settle
 use Rattle.clap.specs.Walk.{answers_to, finished, nothing_held, rows_after, settled, stop_after, walk, walk_from}
 use Rattle.clap.specs.declared.builder.value_parser.ValueParser.TheVariants.{Signed}
 use Rattle.clap.proofs.ValueTestLemmas.{accepts-Accepts}
-use Rattle.mx_app_command.specs.Words.{HasNumber, IsAsked, IsGiven, MayHaveNumber, MayHaveRange, looking_shape, mx_grammar, number_after, of_one, of_two, one_shape, run_shape, step_shape, turns_shape, wanted, wanted_number}
+use Rattle.mx_app_command.specs.Words.{HasNumber, IsAsked, IsGiven, MayHaveNumber, MayHaveRange, looking_shape, mx_grammar, number_after, of_one, of_two, one_shape, run_shape, step_shape, sweep_shape, turns_shape, wanted, wanted_number}
 use Rattle.mx_app_command.proofs.Given.{IsOnly, SetsValue, all_found, has_wanted, no_fault, value_given, value_if_given}
 
 -- the grammar as a parse sees it: with the help flag, and each argument's place
@@ -227,7 +227,41 @@ turns_fits words fine =
     let log = value_given log_rule (wanted_sets (codes "LOG") 2) turns_whole only_turns_log words refl (inr (inl refl)) refl fine in
     let ticks = number_if_given turns_whole (codes "ticks") (codes "T") 3 only_turns_ticks words fine in
     let bound = number_if_given turns_whole (codes "turns") (codes "N") 5 only_bound words fine in
-    ((λ e. (ap is_some config.1, inr (inr (ap is_some log.1, inr (inr (inr (refl, (ticks, bound)))))))), (λ e. absurd (true≢false e)))
+    ((λ e. (ap is_some config.1, inr (inr (ap is_some log.1, inr (inr (inr (inl (refl, (ticks, bound))))))))), (λ e. absurd (true≢false e)))
+
+abbrev sweep_whole : Shape
+sweep_whole = whole_of sweep_shape
+
+abbrev fault_rule : Rule
+fault_rule = with_index 3 (filled (wanted (codes "FAULT")))
+
+only_sweep_config : IsOnly config_rule sweep_whole.rules
+only_sweep_config = ((λ e. refl), ((λ e. cc), ((λ e. cc), ((λ e. cc), ((λ e. cc), ((λ e. cc), ((λ e. cc), ((λ e. cc), ((λ e. cc), ((λ e. cc), tt))))))))))
+
+only_sweep_log : IsOnly log_rule sweep_whole.rules
+only_sweep_log = ((λ e. cc), ((λ e. refl), ((λ e. cc), ((λ e. cc), ((λ e. cc), ((λ e. cc), ((λ e. cc), ((λ e. cc), ((λ e. cc), ((λ e. cc), tt))))))))))
+
+only_sweep_fault : IsOnly fault_rule sweep_whole.rules
+only_sweep_fault = ((λ e. cc), ((λ e. cc), ((λ e. refl), ((λ e. cc), ((λ e. cc), ((λ e. cc), ((λ e. cc), ((λ e. cc), ((λ e. cc), ((λ e. cc), tt))))))))))
+
+only_sweep_bound : IsOnly (with_index 4 (filled (number_after (codes "turns") (codes "N")))) sweep_whole.rules
+only_sweep_bound = ((λ e. cc), ((λ e. cc), ((λ e. cc), ((λ e. refl), ((λ e. cc), ((λ e. cc), ((λ e. cc), ((λ e. cc), ((λ e. cc), ((λ e. cc), tt))))))))))
+
+only_sweep_from : IsOnly (with_index 5 (filled (number_after (codes "from") (codes "A")))) sweep_whole.rules
+only_sweep_from = ((λ e. cc), ((λ e. cc), ((λ e. cc), ((λ e. cc), ((λ e. refl), ((λ e. cc), ((λ e. cc), ((λ e. cc), ((λ e. cc), ((λ e. cc), tt))))))))))
+
+only_sweep_to : IsOnly (with_index 6 (filled (number_after (codes "to") (codes "B")))) sweep_whole.rules
+only_sweep_to = ((λ e. cc), ((λ e. cc), ((λ e. cc), ((λ e. cc), ((λ e. cc), ((λ e. refl), ((λ e. cc), ((λ e. cc), ((λ e. cc), ((λ e. cc), tt))))))))))
+
+sweep_fits : Fits sweep_whole
+sweep_fits words fine =
+    let config = value_given config_rule (wanted_sets (codes "CONFIG") 1) sweep_whole only_sweep_config words refl (inl refl) refl fine in
+    let log = value_given log_rule (wanted_sets (codes "LOG") 2) sweep_whole only_sweep_log words refl (inr (inl refl)) refl fine in
+    let fault = value_given fault_rule (wanted_sets (codes "FAULT") 3) sweep_whole only_sweep_fault words refl (inr (inr (inl refl))) refl fine in
+    let bound = number_if_given sweep_whole (codes "turns") (codes "N") 4 only_sweep_bound words fine in
+    let from = number_if_given sweep_whole (codes "from") (codes "A") 5 only_sweep_from words fine in
+    let to = number_if_given sweep_whole (codes "to") (codes "B") 6 only_sweep_to words fine in
+    ((λ e. (ap is_some config.1, inr (inr (ap is_some log.1, inr (inr (inr (inr (refl, (ap is_some fault.1, bound, (from, to)))))))))), (λ e. absurd (true≢false e)))
 
 replay_fits : Fits (whole_of (of_two (codes "replay") (codes "CONFIG") (codes "LOG")))
 replay_fits words fine = let given = two_texts_given (codes "replay") (codes "CONFIG") (codes "LOG") (refl, refl) (refl, refl) refl refl words fine in
@@ -288,7 +322,7 @@ explain_fits words fine = let given = one_text_given (codes "explain") (codes "C
     ((λ e. (given, inl refl)), (λ e. absurd (true≢false e)))
 
 all_fit : AllByRecursion Fits whole.subs
-all_fit = (one_fits, (as_fits, (dis_fits, (nm_fits, (explain_fits, (step_fits, (run_fits, (turns_fits, (replay_fits, (trace_fits, (draw_fits, (look_fits, (db_fits, tt)))))))))))))
+all_fit = (one_fits, (as_fits, (dis_fits, (nm_fits, (explain_fits, (step_fits, (run_fits, (turns_fits, (sweep_fits, (replay_fits, (trace_fits, (draw_fits, (look_fits, (db_fits, tt))))))))))))))
 
 -- ---- the words of a command line
 

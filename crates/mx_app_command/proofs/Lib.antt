@@ -1,3 +1,4 @@
+pub mod Asked
 mod Given
 mod AskedWords
 mod Tables

@@ -11,7 +11,7 @@ use Rattle.clap.specs.declared.builder.command.Command.TheViews.{out-Command}
 use Rattle.clap.specs.declared.builder.value_parser.ValueParser.TheVariants.{Signed}
 use Rattle.mx_app_command.specs.declared.words.CommandRequest.{CommandRequest}
 use Rattle.mx_app_command.specs.declared.words.RecordRange.{RecordRange}
-use Rattle.mx_app_command.specs.declared.words.CommandRequest.TheVariants.{One, As, Dis, Nm, Explain, Step, Run, Turns, Replay, Trace, Draw, Look, Db}
+use Rattle.mx_app_command.specs.declared.words.CommandRequest.TheVariants.{One, As, Dis, Nm, Explain, Step, Run, Turns, Sweep, Replay, Trace, Draw, Look, Db}
 
 -- ---- the grammar
 
@@ -68,6 +68,13 @@ turns_shape =
     subcommand (codes "turns")
     (wanted (codes "CONFIG") ∷ wanted (codes "LOG") ∷ number_after (codes "ticks") (codes "T") ∷ after_name (codes "events") (codes "EVENTS") ∷ number_after (codes "turns") (codes "N") ∷ [])
 
+-- `sweep CONFIG LOG FAULT --turns N --from A --to B --strict --save FILE`
+abbrev pub sweep_shape : Shape
+sweep_shape =
+    subcommand (codes "sweep")
+    (wanted (codes "CONFIG") ∷ wanted (codes "LOG") ∷ wanted (codes "FAULT") ∷ number_after (codes "turns") (codes "N") ∷ number_after (codes "from") (codes "A")
+    ∷ number_after (codes "to") (codes "B") ∷ flag (codes "strict") ∷ after_name (codes "save") (codes "FILE") ∷ [])
+
 -- `NAME CONFIG LOG --from A --to B`, what is told of a history's records
 abbrev pub looking_shape : Text → Shape
 looking_shape name =
@@ -101,6 +108,7 @@ mx_grammar = record {
       ∷ step_shape
       ∷ run_shape
       ∷ turns_shape
+      ∷ sweep_shape
       ∷ of_two (codes "replay") (codes "CONFIG") (codes "LOG")
       ∷ looking_shape (codes "trace")
       ∷ looking_shape (codes "draw")
@@ -133,6 +141,13 @@ HasText id rows text = first_of id rows ≡ Some text
 abbrev pub MayHaveText : Text → List Row → Option Text → Type 0
 MayHaveText id rows text = first_of id rows ≡ text
 
+-- the flag is given, or it isn't
+abbrev pub IsFlag : Text → List Row → Bool → Type 0
+IsFlag id rows given =
+    (one_of id rows ≡ Some (codes "true") → given ≡ true)
+    × ((one_of id rows ≡ Some (codes "false") → given ≡ false)
+    × (one_of id rows ≡ None → given ≡ false))
+
 -- the request is what the subcommand of this name and its values ask for
 abbrev pub AsksBy : CommandRequest → Text → List Row → Type 0
 AsksBy (One file steps) name rows =
@@ -152,6 +167,10 @@ AsksBy (Turns config log ticks events bound) name rows =
     (name ≡ codes "turns") × HasText (codes "CONFIG") rows config.now × HasText (codes "LOG") rows log.now
     × HasNumberOr 0 (codes "T") rows ticks × MayHaveText (codes "EVENTS") rows (option_map (λ s. s.now) events)
     × HasNumberOr 4294967295 (codes "N") rows bound
+AsksBy (Sweep config log fault bound from to strict save) name rows =
+    (name ≡ codes "sweep") × HasText (codes "CONFIG") rows config.now × HasText (codes "LOG") rows log.now × HasText (codes "FAULT") rows fault.now
+    × HasNumberOr 1000 (codes "N") rows bound × HasNumberOr 0 (codes "A") rows from × HasNumberOr 4294967295 (codes "B") rows to
+    × IsFlag (codes "strict") rows strict × MayHaveText (codes "FILE") rows (option_map (λ s. s.now) save)
 AsksBy (Replay config log) name rows =
     (name ≡ codes "replay") × HasText (codes "CONFIG") rows config.now × HasText (codes "LOG") rows log.now
 AsksBy (Trace config log range) name rows =
@@ -162,13 +181,6 @@ AsksBy (Look config log) name rows =
     (name ≡ codes "look") × HasText (codes "CONFIG") rows config.now × HasText (codes "LOG") rows log.now
 AsksBy (Db config script) name rows =
     (name ≡ codes "db") × HasText (codes "CONFIG") rows config.now × HasText (codes "SCRIPT") rows script.now
-
--- the flag is given, or it isn't
-abbrev pub IsFlag : Text → List Row → Bool → Type 0
-IsFlag id rows given =
-    (one_of id rows ≡ Some (codes "true") → given ≡ true)
-    × ((one_of id rows ≡ Some (codes "false") → given ≡ false)
-    × (one_of id rows ≡ None → given ≡ false))
 
 -- the words ask that a failure is explained, or they don't
 abbrev pub AsksToExplain : Bool → Option (Text × List Row) → Type 0
@@ -209,14 +221,19 @@ IsScriptAsked name rows = IsGiven (codes "SCRIPT") rows × ((name ≡ codes "ste
 abbrev pub MayHaveTurns : List Row → Type 0
 MayHaveTurns rows = MayHaveNumber (codes "T") rows × MayHaveNumber (codes "N") rows
 
--- those with a history: `run` may have a number, `turns`, `trace` and `draw` two
+-- `sweep` has a fault, and may have the numbers of turns, and of the first and the last position
+abbrev pub MayHaveSweep : List Row → Type 0
+MayHaveSweep rows = IsGiven (codes "FAULT") rows × MayHaveNumber (codes "N") rows × MayHaveRange rows
+
+-- those with a history: `run` may have a number, `turns`, `trace` and `draw` two, `sweep` three
 abbrev pub IsHistoryAsked : Text → List Row → Type 0
 IsHistoryAsked name rows =
     IsGiven (codes "LOG") rows
     × (((name ≡ codes "run") × MayHaveNumber (codes "T") rows)
     ⊎ (((name ≡ codes "replay") ⊎ (name ≡ codes "look"))
     ⊎ ((((name ≡ codes "trace") ⊎ (name ≡ codes "draw")) × MayHaveRange rows)
-    ⊎ ((name ≡ codes "turns") × MayHaveTurns rows))))
+    ⊎ (((name ≡ codes "turns") × MayHaveTurns rows)
+    ⊎ ((name ≡ codes "sweep") × MayHaveSweep rows)))))
 
 -- those that work on a machine: each has a configuration, and all but `explain` a script or a history
 abbrev pub IsMachineAsked : Text → List Row → Type 0
@@ -229,9 +246,10 @@ is_machine name =
     || (bytes_eq name (codes "step")
     || (bytes_eq name (codes "run")
     || (bytes_eq name (codes "turns")
+    || (bytes_eq name (codes "sweep")
     || (bytes_eq name (codes "replay")
     || (bytes_eq name (codes "trace")
-    || (bytes_eq name (codes "draw") || (bytes_eq name (codes "look") || bytes_eq name (codes "db"))))))))
+    || (bytes_eq name (codes "draw") || (bytes_eq name (codes "look") || bytes_eq name (codes "db")))))))))
 
 abbrev pub IsAsked : Text → List Row → Type 0
 IsAsked name rows =

@@ -125,6 +125,48 @@ const TURNS: CommandArgument<'static> = CommandArgument {
     form: ArgumentForm::NumberAfter("turns"),
 };
 
+/// What happens at each position of a history.
+const FAULT: CommandArgument<'static> = CommandArgument {
+    name: "FAULT",
+    help: "What happens at each position: lines of a script, and kill slot S",
+    form: ArgumentForm::Text,
+};
+
+/// How many turns are made after each position.
+const TURNS_AFTER: CommandArgument<'static> = CommandArgument {
+    name: "N",
+    help: "How many turns at most after the fault, 1000 by default",
+    form: ArgumentForm::NumberAfter("turns"),
+};
+
+/// The first position that is swept.
+const FIRST_POSITION: CommandArgument<'static> = CommandArgument {
+    name: "A",
+    help: "The first position, 0 by default; position K is the one after K records",
+    form: ArgumentForm::NumberAfter("from"),
+};
+
+/// The last position that is swept.
+const LAST_POSITION: CommandArgument<'static> = CommandArgument {
+    name: "B",
+    help: "The last position, the history's end by default",
+    form: ArgumentForm::NumberAfter("to"),
+};
+
+/// Whether a difference is an error.
+const STRICT: CommandArgument<'static> = CommandArgument {
+    name: "strict",
+    help: "Ends with status 1 if the fault changes the outcome of a position",
+    form: ArgumentForm::Flag,
+};
+
+/// Where the history with the fault is kept.
+const SAVED_FAULT: CommandArgument<'static> = CommandArgument {
+    name: "FILE",
+    help: "Writes the history of the last position's run, with the fault, to FILE",
+    form: ArgumentForm::After("save"),
+};
+
 /// The first record that is told or drawn.
 const FROM: CommandArgument<'static> = CommandArgument {
     name: "A",
@@ -154,7 +196,7 @@ const EXPLAIN: CommandArgument<'static> = CommandArgument {
 };
 
 /// The subcommands, those that work on one program first.
-static SUBCOMMANDS: [Subcommand<'static>; 13] = [
+static SUBCOMMANDS: [Subcommand<'static>; 14] = [
     Subcommand {
         name: "one",
         help: "Runs one program for at most N steps and prints its registers, flags and how it stopped",
@@ -202,6 +244,22 @@ static SUBCOMMANDS: [Subcommand<'static>; 13] = [
         help: "Runs a machine on one thread, always the same, writes its history and prints a report",
         arguments: &[CONFIG, RECORDED, TICKS, EVENTS, TURNS, EXPLAIN],
         example: Example::Turns,
+    },
+    Subcommand {
+        name: "sweep",
+        help: "Runs a saved history with a fault at each position and prints what comes of it",
+        arguments: &[
+            CONFIG,
+            LOG,
+            FAULT,
+            TURNS_AFTER,
+            FIRST_POSITION,
+            LAST_POSITION,
+            STRICT,
+            SAVED_FAULT,
+            EXPLAIN,
+        ],
+        example: Example::Sweep,
     },
     Subcommand {
         name: "replay",

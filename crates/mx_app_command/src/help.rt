@@ -20,6 +20,8 @@ pub(crate) enum Example {
     Run,
     /// Turns on one thread, and their history.
     Turns,
+    /// A history with a fault at each position.
+    Sweep,
     /// A history, and what a refused event of it gives.
     Replay,
     /// What a history's records did.
@@ -44,6 +46,7 @@ impl Example {
             Example::Step => STEP_EXAMPLE,
             Example::Run => RUN_EXAMPLE,
             Example::Turns => TURNS_EXAMPLE,
+            Example::Sweep => SWEEP_EXAMPLE,
             Example::Replay => REPLAY_EXAMPLE,
             Example::Trace => TRACE_EXAMPLE,
             Example::Draw => DRAW_EXAMPLE,
@@ -225,6 +228,30 @@ a line: line L, tick or kill E. The ticks come after them.
 Status: 0 done, also if the history was full; 1 a text or a program's file is refused;
 2 a mistake in the words; 3 a file can't be read or written, or LOG is CONFIG; 4 no
 memory. Formats: docs/use/REFERENCE.md.";
+
+/// A history with a fault at each position.
+const SWEEP_EXAMPLE: &str = "In the folder examples/machines/pair:
+
+$ echo 'kill 0' >/tmp/kill
+$ mx sweep pair.config pair.log /tmp/kill
+positions 0 to 10
+  done
+  drv 0 down kill
+  cli 1 down exit
+  rest
+  console 0
+11 positions, 1 blocks, 0 as without the fault
+
+For each position K of the history: boot, the first K records, the lines of FAULT,
+and then turns as mx turns makes them, with the lines and ticks of the later records
+to come. Positions in a row that print the same are one block: what is answered to
+FAULT's lines, each service's name, endpoint and state, how the turns ended (rest,
+turns or full), and the console. FAULT has lines of a script, and kill slot S, which
+kills who is in slot S then.
+
+Status: 0 done; 1 a text or a program's file is refused, or an event of LOG, or, with
+--strict, a position ends otherwise than without the fault; 2 a mistake in the words;
+3 a file can't be read or written; 4 no memory. Formats: docs/use/REFERENCE.md.";
 
 /// A history, and what a refused event of it gives.
 const REPLAY_EXAMPLE: &str = "In the folder examples/machines/pair:

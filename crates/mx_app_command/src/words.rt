@@ -2,7 +2,7 @@
 
 ghost use Rattle.std.specs.Prelude.{◌≡◌, ℕ, Bool, IfErr, IfOk, codes, false, is_some, map, option_map, true};
 ghost use Rattle.clap.specs.Words.{FailsBy, HasMatchesOf, fault_of, first_of, found_of, kind_of, rows_of, subcommand_of, takes};
-ghost use Rattle.mx_app_command.specs.Words.{Asks, AsksBy, AsksToExplain, HasNumber, HasNumberOr, HasRange, HasText, IsFlag, MayHaveNumber, MayHaveRange, MayHaveText, MayHaveTurns, IsAsked, IsHistoryAsked, IsMachineAsked, IsProgramAsked, IsScriptAsked, is_machine, mx_grammar};
+ghost use Rattle.mx_app_command.specs.Words.{Asks, AsksBy, AsksToExplain, HasNumber, HasNumberOr, HasRange, HasText, IsFlag, MayHaveNumber, MayHaveRange, MayHaveSweep, MayHaveText, MayHaveTurns, IsAsked, IsHistoryAsked, IsMachineAsked, IsProgramAsked, IsScriptAsked, is_machine, mx_grammar};
 
 use crate::grammar::grammar;
 use clap::error::ErrorKind;
@@ -18,6 +18,9 @@ pub struct RecordRange {
     /// The last.
     pub to: u32,
 }
+
+/// The most turns after each position, if none are given.
+const TURNS_AFTER: u32 = 1000;
 
 /// What the words of a command line ask for.
 #[derive(Clone, Copy, Debug, PartialEq, Eq)]
@@ -64,6 +67,21 @@ pub enum CommandRequest<'a> {
         events: Option<&'a str>,
         /// The most turns, which a history can't have if none are given.
         bound: u32,
+    },
+    /// `sweep CONFIG LOG FAULT`, with `--turns N`, `--from A`, `--to B`, `--strict` and `--save FILE` or
+    /// without.
+    Sweep {
+        config: &'a str,
+        log: &'a str,
+        fault: &'a str,
+        /// The most turns after each position.
+        bound: u32,
+        /// The first position.
+        from: u32,
+        /// The last.
+        to: u32,
+        strict: bool,
+        save: Option<&'a str>,
     },
     /// `replay CONFIG LOG`.
     Replay {
@@ -208,6 +226,31 @@ fn turns_request<'a>(config: &'a str, log: &'a str, matches: &ArgMatches<'a>) ->
     }
 }
 
+/// What the words of `sweep` ask for.
+fn sweep_request<'a>(config: &'a str, log: &'a str, matches: &ArgMatches<'a>) -> CommandRequest<'a>
+    requires config { HasText (codes "CONFIG") (rows_of (found_of matches.now)) config.now }
+    requires log { HasText (codes "LOG") (rows_of (found_of matches.now)) log.now }
+    requires asked { MayHaveSweep (rows_of (found_of matches.now)) }
+    ensures { AsksBy result (codes "sweep") (rows_of (found_of matches.now)) }
+{
+    let fault = value_asked(matches, "FAULT");
+    let bound = number_or(matches, "N", TURNS_AFTER);
+    let from = number_or(matches, "A", 0);
+    let to = number_or(matches, "B", u32::MAX);
+    let strict = flag_asked(matches, "strict");
+    let save = value_if_asked(matches, "FILE");
+    CommandRequest::Sweep {
+        config,
+        log,
+        fault,
+        bound,
+        from,
+        to,
+        strict,
+        save,
+    }
+}
+
 /// What the words of a subcommand with a history ask for.
 fn history_request<'a>(name: &str, config: &'a str, matches: &ArgMatches<'a>) -> CommandRequest<'a>
     requires config { HasText (codes "CONFIG") (rows_of (found_of matches.now)) config.now }
@@ -221,6 +264,9 @@ fn history_request<'a>(name: &str, config: &'a str, matches: &ArgMatches<'a>) ->
     }
     if name == "turns" {
         return turns_request(config, log, matches);
+    }
+    if name == "sweep" {
+        return sweep_request(config, log, matches);
     }
     if name == "replay" {
         return CommandRequest::Replay { config, log };
@@ -259,6 +305,7 @@ fn is_machine(name: &str) -> bool
         || name == "step"
         || name == "run"
         || name == "turns"
+        || name == "sweep"
         || name == "replay"
         || name == "trace"
         || name == "draw"

@@ -5,7 +5,7 @@ use Rattle.mx_aout.specs.declared.program.FileError.TheVariants as errors
 use Rattle.mx_text.specs.declared.error.BootError.{BootError}
 use Rattle.mx_text.specs.declared.error.BootError.TheVariants as lines
 use Rattle.mx_app_command.specs.declared.words.CommandRequest.{CommandRequest}
-use Rattle.mx_app_command.specs.declared.words.CommandRequest.TheVariants.{One, As, Dis, Nm, Explain, Step, Run, Turns, Replay, Trace, Draw, Look, Db}
+use Rattle.mx_app_command.specs.declared.words.CommandRequest.TheVariants.{One, As, Dis, Nm, Explain, Step, Run, Turns, Sweep, Replay, Trace, Draw, Look, Db}
 use Rattle.mx_app_failure.specs.declared.failure.Failure.{Failure as Kind}
 use Rattle.mx_app_failure.specs.declared.failure.Failure.TheVariants.{Refused, Faulty, Misstated, NotText, File, NoMemory}
 use Rattle.mx_app_explain.specs.Wanted.{problem_wanted, refusal_wanted}
@@ -48,6 +48,7 @@ first_name (Explain config) = config.now
 first_name (Step config script save) = config.now
 first_name (Run config log ticks) = config.now
 first_name (Turns config log ticks events bound) = config.now
+first_name (Sweep config log fault bound from to strict save) = config.now
 first_name (Replay config log) = config.now
 first_name (Trace config log range) = config.now
 first_name (Draw config log range) = config.now
@@ -72,6 +73,7 @@ second_name (Step config script save) = script.now
 second_name (Run config log ticks) = log.now
 second_name (Turns config log ticks None bound) = log.now
 second_name (Turns config log ticks (Some events) bound) = events.now
+second_name (Sweep config log fault bound from to strict save) = log.now
 second_name (Replay config log) = log.now
 second_name (Trace config log range) = log.now
 second_name (Draw config log range) = log.now
@@ -99,6 +101,7 @@ second_word r = word_told (second_label r) (second_name r)
 abbrev pub written_word : CommandRequest → List ℕ
 written_word (Step config script (Some log)) = word_told (codes "LOG") log.now
 written_word (Turns config log ticks events bound) = word_told (codes "LOG") log.now
+written_word (Sweep config log fault bound from to strict (Some file)) = word_told (codes "FILE") file.now
 written_word r = second_word r
 
 -- one program is read, and nothing else
@@ -114,6 +117,7 @@ writes_over (As text file) = bytes_eq text.now file.now
 writes_over (Run config log ticks) = bytes_eq config.now log.now
 writes_over (Turns config log ticks None bound) = bytes_eq config.now log.now
 writes_over (Turns config log ticks (Some events) bound) = bytes_eq config.now log.now || bytes_eq events.now log.now
+writes_over (Sweep config log fault bound from to strict (Some file)) = bytes_eq config.now file.now || (bytes_eq log.now file.now || bytes_eq fault.now file.now)
 writes_over r = false
 
 -- a machine runs by itself
@@ -124,12 +128,16 @@ is_run r = false
 
 -- ---- what a failure is about
 
--- a service's program has the name of no word
+-- a file with the name of neither word is the fault's, or a service's program
+abbrev pub last_word : CommandRequest → List ℕ → List ℕ
+last_word (Sweep config log fault bound from to strict save) name = if bytes_eq name fault.now then word_told (codes "FAULT") name else service_told name
+last_word r name = service_told name
+
 abbrev pub asked_subject : CommandRequest → Option (List ℕ) → List ℕ
 asked_subject r None = unknown_told
 asked_subject r (Some name) =
     if bytes_eq name (first_name r) then first_word r
-    else (if bytes_eq name (second_name r) then second_word r else service_told name)
+    else (if bytes_eq name (second_name r) then second_word r else last_word r name)
 
 abbrev pub refused_subject : CommandRequest → Option (List ℕ) → List ℕ
 refused_subject r last = if reads_one_program r then first_word r else asked_subject r last
@@ -143,12 +151,17 @@ file_subject r last is_missed is_unwritten =
     if writes_over r || is_unwritten then written_word r
     else (if is_missed then asked_subject r last else given_subject r last)
 
+-- the text with a line that says nothing: of two, the one that was asked for last
+abbrev pub misstated_subject : CommandRequest → Option (List ℕ) → List ℕ
+misstated_subject (Sweep config log fault bound from to strict save) last = asked_subject (Sweep config log fault bound from to strict save) last
+misstated_subject r last = second_word r
+
 abbrev pub subject_of : CommandRequest → Kind → Option (List ℕ) → Bool → Bool → List ℕ
 subject_of r (Refused errors.NoMemory) last m u = memory_told
 subject_of r (Refused e) last m u = refused_subject r last
 subject_of r (Faulty f) last m u = first_word r
 subject_of r (Misstated lines.NoMemory) last m u = memory_told
-subject_of r (Misstated (lines.BadRecord n)) last m u = second_word r
+subject_of r (Misstated (lines.BadRecord n)) last m u = misstated_subject r last
 subject_of r (Misstated e) last m u = first_word r
 subject_of r NotText last m u = first_word r
 subject_of r File last m u = file_subject r last m u
@@ -163,6 +176,7 @@ record_wanted (Step config script save) =
 record_wanted (Db config script) =
     codes "an event, or break S PLACE, clear S PLACE, go C K, regs C, mem C M N or messages"
 record_wanted (Turns config log ticks events bound) = codes "an outside event: line L, tick or kill E"
+record_wanted (Sweep config log fault bound from to strict save) = codes "in LOG a record and its line feed; in FAULT an event of a script, or kill slot S"
 record_wanted r =
     codes "a record and its line feed: A take, A back N, A line L, A tick, A kill E or A respawn S; or rules 2 on line 1"
 

@@ -1,7 +1,7 @@
 //! What a failure is about.
 
 ghost use Rattle.std.specs.Prelude.{◌≡◌, option_map};
-ghost use Rattle.mx_app_explain.specs.Explaining.{asked_subject, file_subject, first_label, first_name, first_word, given_subject, is_run, reads_one_program, refused_subject, second_label, second_name, second_word, subject_of, subject_told, writes_over, written_word};
+ghost use Rattle.mx_app_explain.specs.Explaining.{asked_subject, file_subject, first_label, first_name, first_word, given_subject, is_run, last_word, misstated_subject, reads_one_program, refused_subject, second_label, second_name, second_word, subject_of, subject_told, writes_over, written_word};
 
 use mx_app_command::CommandRequest;
 use mx_app_failure::{BootError, Failure, FileError};
@@ -64,6 +64,7 @@ fn first_name(request: CommandRequest<'_>) -> &str
         CommandRequest::Step { config, .. } => config,
         CommandRequest::Run { config, .. } => config,
         CommandRequest::Turns { config, .. } => config,
+        CommandRequest::Sweep { config, .. } => config,
         CommandRequest::Replay { config, .. } => config,
         CommandRequest::Trace { config, .. } => config,
         CommandRequest::Draw { config, .. } => config,
@@ -89,6 +90,7 @@ fn second_name(request: CommandRequest<'_>) -> &str
             ..
         } => events,
         CommandRequest::Turns { log, .. } => log,
+        CommandRequest::Sweep { log, .. } => log,
         CommandRequest::Replay { log, .. } => log,
         CommandRequest::Trace { log, .. } => log,
         CommandRequest::Draw { log, .. } => log,
@@ -141,6 +143,10 @@ fn written_word(request: CommandRequest<'_>) -> Subject<'_>
             ..
         } => Subject::Word("LOG", log),
         CommandRequest::Turns { log, .. } => Subject::Word("LOG", log),
+        CommandRequest::Sweep {
+            save: Some(file),
+            ..
+        } => Subject::Word("FILE", file),
         _ => second_word(request),
     }
 }
@@ -168,6 +174,13 @@ pub(crate) fn writes_over(request: CommandRequest<'_>) -> bool
             events,
             ..
         } => config == log || events == Some(log),
+        CommandRequest::Sweep {
+            config,
+            log,
+            fault,
+            save: Some(file),
+            ..
+        } => config == file || log == file || fault == file,
         _ => false,
     }
 }
@@ -179,6 +192,33 @@ pub(crate) fn is_run(request: CommandRequest<'_>) -> bool
     match request {
         CommandRequest::Run { .. } | CommandRequest::Turns { .. } => true,
         _ => false,
+    }
+}
+
+/// A file with the name of neither word: the fault's, or that of a service's program.
+fn last_word<'a>(request: CommandRequest<'a>, name: &'a str) -> Subject<'a>
+    ensures { subject_told result ≡ last_word request.entry name.entry.now }
+{
+    match request {
+        CommandRequest::Sweep { fault, .. } => {
+            if name == fault {
+                Subject::Word("FAULT", name)
+            } else {
+                Subject::Service(name)
+            }
+        }
+        _ => Subject::Service(name),
+    }
+}
+
+/// The text with a line that says nothing: of two, the one that was asked for last.
+fn misstated_subject<'a>(request: CommandRequest<'a>, last: Option<&'a str>) -> Subject<'a>
+    ensures { subject_told result
+        ≡ misstated_subject request.entry (option_map (λ s. s.now) last.entry) }
+{
+    match request {
+        CommandRequest::Sweep { .. } => asked_subject(request, last),
+        _ => second_word(request),
     }
 }
 
@@ -195,7 +235,7 @@ fn asked_subject<'a>(request: CommandRequest<'a>, last: Option<&'a str>) -> Subj
             } else if name == second_name(request) {
                 second_word(request)
             } else {
-                Subject::Service(name)
+                last_word(request, name)
             }
         }
     }
@@ -237,7 +277,7 @@ pub(crate) fn subject_of<'a>(
                 asked_subject(request, notes.last)
             }
         }
-        Failure::Misstated(BootError::BadRecord(_)) => second_word(request),
+        Failure::Misstated(BootError::BadRecord(_)) => misstated_subject(request, notes.last),
         Failure::Faulty(_) | Failure::Misstated(_) | Failure::NotText => first_word(request),
         Failure::File => file_subject(request, notes),
     }

@@ -70,6 +70,9 @@ fn record_wanted(request: CommandRequest<'_>) -> &'static str
             "an event, or break S PLACE, clear S PLACE, go C K, regs C, mem C M N or messages"
         }
         CommandRequest::Turns { .. } => "an outside event: line L, tick or kill E",
+        CommandRequest::Sweep { .. } => {
+            "in LOG a record and its line feed; in FAULT an event of a script, or kill slot S"
+        }
         _ => {
             "a record and its line feed: A take, A back N, A line L, A tick, A kill E or \
              A respawn S; or rules 2 on line 1"

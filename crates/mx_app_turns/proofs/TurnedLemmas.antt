@@ -20,6 +20,7 @@ use Rattle.mx_turns.specs.Made.{HasMade}
 use Rattle.mx_turns.proofs.MadeLemmas.{kept_boot}
 use Rattle.mx_turns.specs.Turns.{turns}
 use Rattle.mx_app_failure.specs.declared.failure.Failure.{Failure as Kind}
+use Rattle.mx_app_step.proofs.AcceptedLemmas.{not_refused}
 use Rattle.mx_app_step.specs.Asked.{Asked}
 use Rattle.mx_app_step.specs.Failure.{IsWanting}
 use Rattle.mx_app_step.specs.Kept.{IsUnwritten, text_kept}
@@ -110,31 +111,6 @@ module _ (config : List ℕ) (file : Option (List ℕ)) (log : List ℕ) (ticks 
 pub actors_turned : (c : Config) (vs : List Service) (k : BootAndHistory) → ((w : World) (xs : List (ℕ × Event)) → actors (world_after_events w xs) ≡ actors w) → k.boot ≡ world_at_boot c vs → actors (replay k) ≡ c.cpus + c.others
 unfolding replay
 actors_turned c vs k stay boot = stay k.boot (events_of_history k.history) ∙ ap actors boot ∙ ap (λ n. n + c.others) (length-replicate c.cpus None)
-
-events_both : (xs ys : List Record) → events_of_history (xs ++ ys) ≡ events_of_history xs ++ events_of_history ys
-events_both [] ys = refl
-events_both (x ∷ xs) ys = ap (λ l. events_of x.actor x.event ++ l) (events_both xs ys) ∙ sym (append_assoc (events_of x.actor x.event) (events_of_history xs) (events_of_history ys))
-
-accepted_after : (w : World) (xs ys : List (ℕ × Event)) → AreAccepted w (xs ++ ys) → AreAccepted (world_after_events w xs) ys
-accepted_after w [] ys h = h
-accepted_after w (x ∷ xs) ys h = accepted_after (world_after_event w x.0 x.1) xs ys h.1
-
-never_refused : (w : World) (xs ys : List (ℕ × Event)) (r : Refusal) → AreAccepted w (xs ++ ys) → IsFirstRefusal w xs r → ⊥
-never_refused w [] ys r h q = q
-never_refused w (x ∷ xs) ys r h q = elim q [
-  | inl e ↦ (let both : None ≡ Some r = sym h.0 ∙ e in absurd cc)
-  | inr p ↦ never_refused (world_after_event w x.0 x.1) xs ys r h.1 p.1
-]
-
--- no record of an accepted history is refused
-not_refused : (w : World) (records : List Record) (n : ℕ) (r : Refusal) → AreAccepted w (events_of_history records) → IsRefusedAt w records n r → ⊥
-not_refused w records n r h q =
-    let above = q.0 in
-    let below = q.1 in
-    let x = q.2 in
-    let parts = ap events_of_history q.3 ∙ events_both above (x ∷ below) in
-    never_refused (world_after_events w (events_of_history above)) (events_of x.actor x.event) (events_of_history below) r
-    (accepted_after w (events_of_history above) (events_of_history (x ∷ below)) (subst (AreAccepted w) parts h)) q.5
 
 pub printed_whole : (c : Config) (vs : List Service) (k : BootAndHistory) (records : List Record) (how : Replayed) (before after : Option (List ℕ))
     → k.boot ≡ world_at_boot c vs → AreAccepted k.boot (events_of_history k.history) → records ≡ k.history → IsReplayPrinted (world_at_boot c vs) records how (λ text. Appends before after text)

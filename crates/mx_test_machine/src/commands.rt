@@ -226,6 +226,73 @@ static DONE: &[Done] = &[
         )),
     },
     Done {
+        name: "turns: so many",
+        words: &["mx", "turns", "restart", "new.log", "--turns", "20"],
+        status: 0,
+        printed: "0 counter 0 receiving any 4 40\n1 asker 1 ready 7 31\nuptime 0\nconsole 4\n1234",
+        file: Some((
+            "new.log",
+            b"rules 2\n0 take\n0 back 4\n0 take\n0 back 4\n0 take\n0 back 6\n0 take\n\
+              0 back 5\n0 take\n0 back 11\n0 take\n0 back 5\n0 take\n0 back 6\n0 take\n\
+              0 back 5\n0 take\n0 back 11\n0 take\n0 back 5\n0 take\n0 back 6\n0 take\n\
+              0 back 5\n0 take\n0 back 11\n0 take\n0 back 5\n0 take\n0 back 6\n0 take\n\
+              0 back 5\n0 take\n0 back 11\n0 take\n0 back 5\n0 take\n0 back 6\n0 take\n\
+              0 back 5\n",
+        )),
+    },
+    Done {
+        name: "turns: up to a full history",
+        words: &["mx", "turns", "restart", "new.log", "--turns", "40"],
+        status: 0,
+        printed: "0 counter 0 ready 4 12\n1 asker 1 ready 7 82\nuptime 0\nconsole 7\n1234567",
+        file: Some((
+            "new.log",
+            b"rules 2\n0 take\n0 back 4\n0 take\n0 back 4\n0 take\n0 back 6\n0 take\n\
+              0 back 5\n0 take\n0 back 11\n0 take\n0 back 5\n0 take\n0 back 6\n0 take\n\
+              0 back 5\n0 take\n0 back 11\n0 take\n0 back 5\n0 take\n0 back 6\n0 take\n\
+              0 back 5\n0 take\n0 back 11\n0 take\n0 back 5\n0 take\n0 back 6\n0 take\n\
+              0 back 5\n0 take\n0 back 11\n0 take\n0 back 5\n0 take\n0 back 6\n0 take\n\
+              0 back 5\n0 take\n0 back 11\n0 take\n0 back 5\n0 take\n0 back 6\n0 take\n\
+              0 back 5\n0 take\n0 back 11\n0 take\n0 back 4\n0 take\n0 back 1\n0 take\n\
+              0 back 6\n0 take\n0 back 5\n0 take\n0 back 11\n0 take\n0 back 5\n0 take\n\
+              0 back 6\n",
+        )),
+    },
+    Done {
+        name: "turns: lines and ticks of a file",
+        words: &["mx", "turns", "pressed", "new.log", "--events", "presses"],
+        status: 0,
+        printed: "0 button 0 receiving -1 4 33\nuptime 2\nconsole 4\n1234",
+        file: Some((
+            "new.log",
+            b"rules 2\n0 take\n0 back 7\n1 tick\n0 take\n0 back 3\n1 line 5\n0 take\n\
+              0 back 10\n1 tick\n0 take\n0 back 4\n1 line 5\n0 take\n0 back 10\n1 line 5\n\
+              0 take\n0 back 4\n1 line 5\n0 take\n0 back 10\n0 take\n0 back 4\n0 take\n\
+              0 back 10\n0 take\n0 back 4\n",
+        )),
+    },
+    Done {
+        name: "sweep: the driver is killed",
+        words: &["mx", "sweep", "pair", "pair_log", "kill_driver"],
+        status: 0,
+        printed: "positions 0 to 10\n  done\n  drv 0 down kill\n  cli 1 down exit\n  rest\n  console 0\n11 positions, 1 blocks, 0 as without the fault\n",
+        file: None,
+    },
+    Done {
+        name: "sweep: the client is killed, strictly",
+        words: &["mx", "sweep", "pair", "pair_log", "kill_client", "--strict"],
+        status: 1,
+        printed: "positions 0 to 9\n  done\n  drv 0 receiving any\n  cli 1 down kill\n  rest\n  console 0\nposition 10\n  refused 54 NoProcess\n  drv 0 receiving any\n  cli 1 down exit\n  rest\n  console 0\n11 positions, 2 blocks, 1 as without the fault\n",
+        file: None,
+    },
+    Done {
+        name: "sweep: no position",
+        words: &["mx", "sweep", "pair", "pair_log", "kill_driver", "--from", "11"],
+        status: 0,
+        printed: "0 positions, 0 blocks, 0 as without the fault\n",
+        file: None,
+    },
+    Done {
         name: "replay: a whole history",
         words: &["mx", "replay", "one", "whole"],
         status: 0,
@@ -390,6 +457,20 @@ static FAILED: &[Failed] = &[
         words: &["mx", "run", "cut_first", "new.log"],
         status: 1,
         told: "mx: 20 Truncated\n",
+    },
+    Failed {
+        name: "sweep: the history would be written over",
+        words: &[
+            "mx", "sweep", "pair", "pair_log", "kill_driver", "--save", "pair_log",
+        ],
+        status: 3,
+        told: "mx: 80 File\n",
+    },
+    Failed {
+        name: "sweep: a line that is no line of a fault",
+        words: &["mx", "sweep", "pair", "pair_log", "no_fault"],
+        status: 1,
+        told: "mx: 73 BadRecord line 2\n",
     },
     Failed {
         name: "turns: the configuration would be written over",

@@ -232,6 +232,68 @@ const BUTTON: &[u8] = &[
     0x77, 0x61, 0x69, 0x74, 0, 0, 0, 0, 0x2f, 0, 0, 0, 2, 0, 0, 0, // wait: 0x2f of the text
 ];
 
+/// RECEIVE from anybody, count, and SEND the count back, in a loop.
+const COUNTER: &[u8] = &[
+    // The header: text 0x36, data 0x28, bss 0x0, entry 0x0, total 0x1000, symbols 0x30.
+    1, 3, 0x30, 0x10, 0x20, 0, 0, 0, 0x36, 0, 0, 0, 0x28, 0, 0, 0, 0, 0, 0, 0, 0, 0, 0, 0, 0, 0x10, 0, 0, 0x30, 0, 0, 0,
+    // The text.
+    0xb9, 2, 0, 0, 0, // mov ecx, 0x2
+    0xb8, 0xce, 0x7a, 0, 0, // mov eax, 0x7ace
+    0xbb, 0, 0, 0, 0, // mov ebx, 0x0
+    0xcd, 0x21, // int 0x21
+    0x83, 5, 0x24, 0, 0, 0, 1, // add dword [0x24], 0x1
+    0x8b, 5, 0x24, 0, 0, 0, // mov eax, dword [0x24]
+    0x89, 5, 8, 0, 0, 0, // mov dword [0x8], eax
+    0x8b, 5, 0, 0, 0, 0, // mov eax, dword [0x0]
+    0xb9, 1, 0, 0, 0, // mov ecx, 0x1
+    0xcd, 0x21, // int 0x21
+    0xe9, 0xca, 0xff, 0xff, 0xff, // jmp 0x0
+    // The data.
+    0, 0, 0, 0, 0, 0, 0, 0, 0, 0, 0, 0, 0, 0, 0, 0, 0, 0, 0, 0, 0, 0, 0, 0, 0, 0, 0, 0, 0, 0, 0, 0, 0, 0, 0, 0, 0, 0, 0, 0,
+    // The symbols.
+    0x62, 0x75, 0x66, 0, 0, 0, 0, 0, 0, 0, 0, 0, 3, 0, 0, 0, // buf: 0x0 of the data
+    0x63, 0x6f, 0x75, 0x6e, 0x74, 0, 0, 0, 0x24, 0, 0, 0, 3, 0, 0, 0, // count: 0x24 of the data
+    0x74, 0x6f, 0x70, 0, 0, 0, 0, 0, 0, 0, 0, 0, 2, 0, 0, 0, // top: 0x0 of the text
+];
+
+/// SENDREC to the counter, and DEVIO of the digit that it answers, in a loop; WHOIS of slot 0 where it is gone.
+const ASKER: &[u8] = &[
+    // The header: text 0x8a, data 0x28, bss 0x0, entry 0x0, total 0x1000, symbols 0x40.
+    1, 3, 0x30, 0x10, 0x20, 0, 0, 0, 0x8a, 0, 0, 0, 0x28, 0, 0, 0, 0, 0, 0, 0, 0, 0, 0, 0, 0, 0x10, 0, 0, 0x40, 0, 0, 0,
+    // The text.
+    0xb9, 3, 0, 0, 0, // mov ecx, 0x3
+    0x8b, 5, 0x24, 0, 0, 0, // mov eax, dword [0x24]
+    0xbb, 0, 0, 0, 0, // mov ebx, 0x0
+    0xcd, 0x21, // int 0x21
+    0x83, 0xf8, 0, // cmp eax, 0x0
+    0x0f, 0x85, 0x3e, 0, 0, 0, // jnz 0x59
+    0x8b, 5, 8, 0, 0, 0, // mov eax, dword [0x8]
+    0x83, 0xc0, 0x30, // add eax, 0x30
+    0x89, 5, 0x10, 0, 0, 0, // mov dword [0x10], eax
+    0xc7, 5, 4, 0, 0, 0, 4, 6, 0, 0, // mov dword [0x4], 0x604
+    0xc7, 5, 8, 0, 0, 0, 1, 0, 0, 0, // mov dword [0x8], 0x1
+    0xc7, 5, 0x0c, 0, 0, 0, 0, 0, 0, 0, // mov dword [0xc], 0x0
+    0xb9, 3, 0, 0, 0, // mov ecx, 0x3
+    0xb8, 0xfe, 0xff, 0xff, 0xff, // mov eax, 0xfffffffe
+    0xcd, 0x21, // int 0x21
+    0xe9, 0xa7, 0xff, 0xff, 0xff, // jmp 0x0
+    0xc7, 5, 4, 0, 0, 0, 7, 6, 0, 0, // mov dword [0x4], 0x607
+    0xc7, 5, 8, 0, 0, 0, 0, 0, 0, 0, // mov dword [0x8], 0x0
+    0xb9, 3, 0, 0, 0, // mov ecx, 0x3
+    0xb8, 0xfe, 0xff, 0xff, 0xff, // mov eax, 0xfffffffe
+    0xcd, 0x21, // int 0x21
+    0x8b, 5, 8, 0, 0, 0, // mov eax, dword [0x8]
+    0x89, 5, 0x24, 0, 0, 0, // mov dword [0x24], eax
+    0xe9, 0x76, 0xff, 0xff, 0xff, // jmp 0x0
+    // The data.
+    0, 0, 0, 0, 0, 0, 0, 0, 0, 0, 0, 0, 0, 0, 0, 0, 0, 0, 0, 0, 0, 0, 0, 0, 0, 0, 0, 0, 0, 0, 0, 0, 0, 0, 0, 0, 0, 0, 0, 0,
+    // The symbols.
+    0x62, 0x75, 0x66, 0, 0, 0, 0, 0, 0, 0, 0, 0, 3, 0, 0, 0, // buf: 0x0 of the data
+    0x77, 0x68, 0x6f, 0x6d, 0, 0, 0, 0, 0x24, 0, 0, 0, 3, 0, 0, 0, // whom: 0x24 of the data
+    0x61, 0x73, 0x6b, 0, 0, 0, 0, 0, 0, 0, 0, 0, 2, 0, 0, 0, // ask: 0x0 of the text
+    0x67, 0x6f, 0x6e, 0x65, 0, 0, 0, 0, 0x59, 0, 0, 0, 2, 0, 0, 0, // gone: 0x59 of the text
+];
+
 /// Never runs.
 const IDLE: &[u8] = &[
     // The header: text 0x1, data 0x0, bss 0x80, entry 0x0, total 0x1000, symbols 0x0.
@@ -353,6 +415,50 @@ static FILES: &[NamedFile<'static>] = &[
     NamedFile {
         name: "not_outside",
         bytes: b"tick\nrespawn 0\n",
+    },
+    NamedFile {
+        name: "pair_log",
+        bytes: b"rules 2\n0 take\n0 back 4\n0 take\n0 back 4\n0 take\n0 back 3\n\
+            0 take\n0 back 5\n0 take\n0 back 4\n",
+    },
+    NamedFile {
+        name: "kill_driver",
+        bytes: b"kill 0\n",
+    },
+    NamedFile {
+        name: "kill_client",
+        bytes: b"kill slot 1\n",
+    },
+    NamedFile {
+        name: "no_fault",
+        bytes: b"tick\nreport\n",
+    },
+    NamedFile {
+        name: "restart",
+        bytes: b"cpus 1\nlog 64\n\
+            service counter counter.out traps 1e send 2 calls 0 level 4 best 4 quantum 99 restarts 1\n\
+            service asker asker.out traps 1e send 1 calls 90 level 7 best 7 quantum 99 restarts 0\n",
+    },
+    NamedFile {
+        name: "counter.out",
+        bytes: COUNTER,
+    },
+    NamedFile {
+        name: "asker.out",
+        bytes: ASKER,
+    },
+    NamedFile {
+        name: "pressed",
+        bytes: b"cpus 1\nlog 64\n\
+            service button button.out traps c send 0 calls 18 level 4 best 4 quantum 99 restarts 0\n",
+    },
+    NamedFile {
+        name: "presses",
+        bytes: b"tick\nline 5\ntick\nline 5\nline 5\nline 5\n",
+    },
+    NamedFile {
+        name: "button.out",
+        bytes: BUTTON,
     },
     NamedFile {
         name: "again",

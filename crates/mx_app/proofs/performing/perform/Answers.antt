@@ -3,7 +3,7 @@ use Rattle.mx_app_program.specs.Shown.{HasListing, HasNames, IsShown}
 use Rattle.std.proofs.Common.{◌∙◌, ap, Option}
 use Rattle.std.specs.Prelude.{option_map}
 use Rattle.mx_app_command.specs.declared.words.CommandRequest.TheVariants.{Step}
-use Rattle.mx_app.proofs.Done.{as_asked, as_typed, assembled, debugs, draws, explains, looks, replays, runs, saves, shows, steps, traces, turned}
+use Rattle.mx_app.proofs.Done.{as_asked, as_typed, assembled, debugs, draws, explains, looks, replays, runs, saves, shows, steps, swept, traces, turned}
 use Rattle.mx_app.proofs.performing.perform.Goals as goal
 
 pub returns-in-One : goal.returns-in-One
@@ -40,6 +40,11 @@ pub returns-in-Turns : goal.returns-in-Turns
 returns-in-Turns g c =
     as_asked _ _ _ _ _ _ _ _ c.in-Turns.is
     (turned _ _ _ _ c.in-Turns.config.now c.in-Turns.log.now (option_map (λ s. s.now) c.in-Turns.events) c.in-Turns.ticks c.in-Turns.bound _ _ c.turns.result c.status_after_turns.result c.turns.ensures c.status_after_turns.ensures)
+
+pub returns-in-Sweep : goal.returns-in-Sweep
+returns-in-Sweep g c =
+    as_asked _ _ _ _ _ _ _ _ c.in-Sweep.is
+    (swept _ _ _ _ c.in-Sweep.config.now c.in-Sweep.log.now c.in-Sweep.fault.now (option_map (λ s. s.now) c.in-Sweep.save) c.in-Sweep.from c.in-Sweep.to c.in-Sweep.bound c.in-Sweep.strict _ _ c.sweep.result c.status_after_sweep.result c.sweep.ensures c.status_after_sweep.ensures)
 
 pub returns-in-Replay : goal.returns-in-Replay
 returns-in-Replay g c = as_asked _ _ _ _ _ _ _ _ c.in-Replay.is (replays _ _ _ c.in-Replay.config.now c.in-Replay.log.now _ _ c.replay.result c.status_after_replay.result c.replay.ensures.printed c.replay.ensures.fault c.status_after_replay.ensures)

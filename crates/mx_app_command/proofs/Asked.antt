@@ -1,0 +1,21 @@
+-- What is left of the subcommands on a machine.
+use Rattle.std.proofs.Common.{◌≡◌, ◌∙◌, Bool, true, false, List, codes, ap, inl, inr, sym, refl, true≢false}
+use Rattle.std.specs.Str.{bytes_eq}
+use Rattle.clap.specs.Words.{Row, Text}
+use Rattle.mx_app_command.specs.Words.{IsHistoryAsked, IsMachineAsked}
+
+not_named : (name word : Text) → bytes_eq word word ≡ true → bytes_eq name word ≡ false → name ≡ word → ⊥
+not_named name word same h e = true≢false (sym same ∙ ap (λ (t : Text). bytes_eq t word) (sym e) ∙ h)
+
+-- neither `explain` nor a script's
+pub history_left : (name : Text) (rows : List Row) → bytes_eq name (codes "explain") ≡ false → bytes_eq name (codes "step") ≡ false → bytes_eq name (codes "db") ≡ false → IsMachineAsked name rows → IsHistoryAsked name rows
+history_left name rows explain step db asked = elim asked.1 [
+  | inl e ↦ absurd (not_named name (codes "explain") refl explain e)
+  | inr rest ↦ elim rest [
+    | inl script ↦ elim script.1 [
+      | inl s ↦ absurd (not_named name (codes "step") refl step s)
+      | inr d ↦ absurd (not_named name (codes "db") refl db d)
+    ]
+    | inr history ↦ history
+  ]
+]

@@ -1,0 +1,3 @@
+pub mod BlockLemmas
+pub mod ReadyLemmas
+pub mod SweptLemmas
