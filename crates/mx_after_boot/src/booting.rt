@@ -4,7 +4,7 @@ ghost use Rattle.std.specs.Prelude.{◌≡◌, All, IfOk, None};
 
 use crate::Fault;
 use mx_app_step::{RuntimeFiles, setup_of};
-use mx_cpus_drive::{ActorSeat, Blank, boot};
+use mx_cpus::{ActorSeat, Blank, boot};
 use std::rt::Files;
 
 /// The machine of a configuration, and the seats of its actors.

@@ -1,6 +1,6 @@
 //! What the threads of a soak share, other than the machine.
 
-use mx_cpus_drive::Gate;
+use mx_cpus::Gate;
 use std::sync::Barrier;
 use std::sync::atomic::{AtomicBool, AtomicU32, Ordering};
 use std::{array, thread};

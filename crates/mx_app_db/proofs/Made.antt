@@ -1,12 +1,12 @@
 -- What a line does, from what its function answers.
 use Rattle.std.proofs.Common.{◌≡◌, ◌∙◌, ◌<◌, ◌+◌, ℕ, List, [], ◌∷◌, ◌++◌, length, get_or, take, Result, Ok, Err, OnOk, sym, ap, refl}
 use Rattle.std.proofs.lemmas.List.{take_more}
-use Rattle.mx_boot_script.specs.declared.debug.DebugLine.{DebugLine}
-use Rattle.mx_boot_script.specs.declared.debug.DebugLine.TheVariants.{Plain, Break, Clear, Go, Registers, Memory, Messages}
-use Rattle.mx_boot_script.specs.declared.place.CodePlace.{CodePlace}
-use Rattle.mx_boot_script.specs.declared.scripts.ScriptLine.{ScriptLine}
-use Rattle.mx_machine_world.specs.History.{BootAndHistory, replay}
-use Rattle.mx_machine_world.specs.World.{World, held_by}
+use Rattle.mx_boot.specs.declared.debug.DebugLine.{DebugLine}
+use Rattle.mx_boot.specs.declared.debug.DebugLine.TheVariants.{Plain, Break, Clear, Go, Registers, Memory, Messages}
+use Rattle.mx_boot.specs.declared.place.CodePlace.{CodePlace}
+use Rattle.mx_boot.specs.declared.scripts.ScriptLine.{ScriptLine}
+use Rattle.mx_machine.specs.History.{BootAndHistory, replay}
+use Rattle.mx_machine.specs.World.{World, held_by}
 use Rattle.mx_app_step.specs.Machine.{MachineState, world_of}
 use Rattle.mx_print_answers.specs.declared.said.Said.{Said}
 use Rattle.mx_app_step.specs.Lines.{line_made}

@@ -4,10 +4,10 @@ use Rattle.std.proofs.KnownBytes.{Appends-trans}
 use Rattle.std.specs.Io.KnownBytes.{Appends}
 use Rattle.mx_app_step.specs.Config.{Config}
 use Rattle.mx_app_step.specs.Service.{Service}
-use Rattle.mx_boot_script.specs.declared.debug.DebugLine.{DebugLine}
+use Rattle.mx_boot.specs.declared.debug.DebugLine.{DebugLine}
 use Rattle.mx_app_step.specs.Report.{report_text}
-use Rattle.mx_machine_world.specs.Boot.{world_at_boot}
-use Rattle.mx_machine_world.specs.World.{World}
+use Rattle.mx_machine.specs.Boot.{world_at_boot}
+use Rattle.mx_machine.specs.World.{World}
 use Rattle.mx_app_db.specs.DebugLines.{DebuggedWorld, debug_lines_made}
 use Rattle.mx_app_db.specs.Told.{debug_lines_text}
 use Rattle.mx_app_db.proofs.Made.{both}

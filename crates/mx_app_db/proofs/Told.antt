@@ -5,14 +5,14 @@ use Rattle.std.specs.Prelude.{codes, MatchOption}
 use Rattle.std.specs.Option.{option_map}
 use Rattle.std.proofs.lemmas.List.{append-nil, take_more}
 use Rattle.mx_exec.specs.declared.image.Image.{Image}
-use Rattle.mx_boot_script.specs.declared.debug.DebugLine.{DebugLine}
-use Rattle.mx_boot_script.specs.declared.debug.DebugLine.TheVariants.{Plain, Break, Clear, Go, Registers, Memory, Messages}
-use Rattle.mx_boot_script.specs.declared.place.CodePlace.{CodePlace}
-use Rattle.mx_boot_script.specs.declared.scripts.ScriptLine.{ScriptLine}
-use Rattle.mx_machine_world.specs.declared.events.Refusal.{Refusal}
-use Rattle.mx_machine_world.specs.declared.events.Refusal.TheVariants.{NotDown, Worn, NoService, CpuBusy, CpuEmpty, LogFull, NoLine, NoProcess, AtStop}
-use Rattle.mx_machine_world.specs.History.{BootAndHistory, replay}
-use Rattle.mx_machine_world.specs.World.{World, HeldProcess, held_by}
+use Rattle.mx_boot.specs.declared.debug.DebugLine.{DebugLine}
+use Rattle.mx_boot.specs.declared.debug.DebugLine.TheVariants.{Plain, Break, Clear, Go, Registers, Memory, Messages}
+use Rattle.mx_boot.specs.declared.place.CodePlace.{CodePlace}
+use Rattle.mx_boot.specs.declared.scripts.ScriptLine.{ScriptLine}
+use Rattle.mx_machine.specs.declared.events.Refusal.{Refusal}
+use Rattle.mx_machine.specs.declared.events.Refusal.TheVariants.{NotDown, Worn, NoService, CpuBusy, CpuEmpty, LogFull, NoLine, NoProcess, AtStop}
+use Rattle.mx_machine.specs.History.{BootAndHistory, replay}
+use Rattle.mx_machine.specs.World.{World, HeldProcess, held_by}
 use Rattle.mx_app_step.specs.Machine.{MachineState, world_of}
 use Rattle.mx_app_step.specs.Lines.{line_made}
 use Rattle.mx_print_answers.specs.HaltCause.{HaltCause}

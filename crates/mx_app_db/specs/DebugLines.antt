@@ -1,10 +1,10 @@
 -- What each line of a debugger's script does to a machine and to the debugger's breakpoints (our own).
 use Rattle.std.specs.Prelude.{ℕ, List, [], ◌∷◌, Option, Some, None}
-use Rattle.mx_boot_script.specs.declared.debug.DebugLine.{DebugLine}
-use Rattle.mx_boot_script.specs.declared.debug.DebugLine.TheVariants.{Plain, Break, Clear, Go, Registers, Memory, Messages}
-use Rattle.mx_machine_world.specs.History.{world_after_events}
-use Rattle.mx_machine_world.specs.Steps.{steps_of}
-use Rattle.mx_machine_world.specs.World.{World, HeldProcess, held_by}
+use Rattle.mx_boot.specs.declared.debug.DebugLine.{DebugLine}
+use Rattle.mx_boot.specs.declared.debug.DebugLine.TheVariants.{Plain, Break, Clear, Go, Registers, Memory, Messages}
+use Rattle.mx_machine.specs.History.{world_after_events}
+use Rattle.mx_machine.specs.Steps.{steps_of}
+use Rattle.mx_machine.specs.World.{World, HeldProcess, held_by}
 use Rattle.mx_app_step.specs.Lines.{line_made}
 use Rattle.mx_print_answers.specs.Breakpoint.{Breakpoint}
 use Rattle.mx_print_answers.specs.Halts.{steps_to_halt}

@@ -1,8 +1,8 @@
 -- Steps up to a breakpoint, on a processor (our own).
 use Rattle.std.specs.Prelude.{◌≡◌, ◌≢◌, ℕ, List, None, Some}
-use Rattle.mx_machine_world.specs.declared.events.Refusal.{Refusal}
-use Rattle.mx_machine_world.specs.declared.events.Refusal.TheVariants.{AtStop, CpuEmpty}
-use Rattle.mx_machine_world.specs.World.{World, HeldProcess, held_by}
+use Rattle.mx_machine.specs.declared.events.Refusal.{Refusal}
+use Rattle.mx_machine.specs.declared.events.Refusal.TheVariants.{AtStop, CpuEmpty}
+use Rattle.mx_machine.specs.World.{World, HeldProcess, held_by}
 use Rattle.mx_app_step.specs.Machine.{HasWorked}
 use Rattle.mx_print_answers.specs.Halt.{Halt}
 use Rattle.mx_print_answers.specs.Breakpoint.{Breakpoint}

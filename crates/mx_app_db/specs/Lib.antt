@@ -17,6 +17,6 @@ pub use Rattle.mx_app_step.specs.Lines
 pub use Rattle.mx_app_step.specs.Records
 pub use Rattle.mx_app_step.specs.Traces
 pub use Rattle.mx_app_step.specs.declared.records.Replayed
-pub use Rattle.mx_boot_script.specs.declared.debug.DebugLine
-pub use Rattle.mx_boot_script.specs.declared.scripts.ScriptLine
+pub use Rattle.mx_boot.specs.declared.debug.DebugLine
+pub use Rattle.mx_boot.specs.declared.scripts.ScriptLine
 pub use Rattle.mx_print_answers.specs.Said

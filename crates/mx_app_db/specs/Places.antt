@@ -2,9 +2,9 @@
 use Rattle.std.specs.Prelude.{ℕ, List, Option, Some, None, Result, Ok, Err, slice_get}
 use Rattle.mx_aout.specs.declared.program.Program.{Program}
 use Rattle.mx_app_step.specs.Service.{Service}
-use Rattle.mx_boot_script.specs.declared.place.CodePlace.{CodePlace}
-use Rattle.mx_boot_script.specs.declared.place.CodePlace.TheVariants.{Address, Symbol, NoName}
-use Rattle.mx_machine_world.specs.declared.events.Refusal.TheVariants.{NoService}
+use Rattle.mx_boot.specs.declared.place.CodePlace.{CodePlace}
+use Rattle.mx_boot.specs.declared.place.CodePlace.TheVariants.{Address, Symbol, NoName}
+use Rattle.mx_machine.specs.declared.events.Refusal.TheVariants.{NoService}
 use Rattle.mx_print_answers.specs.DebugError.TheVariants.{NoSymbol, TooMany}
 use Rattle.mx_print_answers.specs.Breakpoint.{Breakpoint}
 use Rattle.mx_print_answers.specs.Finding.{first_named}

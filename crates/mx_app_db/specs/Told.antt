@@ -2,10 +2,10 @@
 use Rattle.std.specs.Prelude.{ℕ, zero, suc, List, [], ◌∷◌, ◌++◌, codes, Option, Some, None}
 use Rattle.std.specs.Option.{option_map}
 use Rattle.mx_exec.specs.declared.image.Image.{Image}
-use Rattle.mx_boot_script.specs.declared.debug.DebugLine.{DebugLine}
-use Rattle.mx_boot_script.specs.declared.debug.DebugLine.TheVariants.{Plain, Break, Clear, Go, Registers, Memory, Messages}
-use Rattle.mx_machine_world.specs.declared.events.Refusal.TheVariants.{AtStop, CpuEmpty}
-use Rattle.mx_machine_world.specs.World.{HeldProcess, held_by}
+use Rattle.mx_boot.specs.declared.debug.DebugLine.{DebugLine}
+use Rattle.mx_boot.specs.declared.debug.DebugLine.TheVariants.{Plain, Break, Clear, Go, Registers, Memory, Messages}
+use Rattle.mx_machine.specs.declared.events.Refusal.TheVariants.{AtStop, CpuEmpty}
+use Rattle.mx_machine.specs.World.{HeldProcess, held_by}
 use Rattle.mx_app_step.specs.Lines.{line_made}
 use Rattle.mx_print_answers.specs.Breakpoint.{Breakpoint}
 use Rattle.mx_print_answers.specs.Halts.{held_after, cause_of, is_reached, steps_to_halt}

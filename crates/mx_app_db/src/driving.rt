@@ -6,14 +6,14 @@ ghost use Rattle.mx_app_step.specs.Failure.{IsWanting};
 ghost use Rattle.mx_app_step.specs.Machine.{world_of};
 ghost use Rattle.mx_app_step.specs.Report.{report_text};
 ghost use Rattle.mx_app_step.specs.Service.{Service};
-ghost use Rattle.mx_boot_script.specs.declared.debug.DebugLine.{DebugLine as Line};
+ghost use Rattle.mx_boot.specs.declared.debug.DebugLine.{DebugLine as Line};
 ghost use Rattle.mx_app_step.specs.Config.{Config};
 ghost use Rattle.mx_app_step.specs.Asked.{Asked};
 ghost use Rattle.mx_app_step.specs.Course.{IsDebugScript, TellsDebugScript};
 ghost use Rattle.mx_app_step.specs.Setup.{IsStart};
 ghost use Rattle.mx_app_step.specs.Telling.{IsTold};
-ghost use Rattle.mx_machine_world.specs.Boot.{world_at_boot};
-ghost use Rattle.mx_machine_world.specs.World.{actors};
+ghost use Rattle.mx_machine.specs.Boot.{world_at_boot};
+ghost use Rattle.mx_machine.specs.World.{actors};
 ghost use Rattle.mx_app_db.specs.DebugLines.{DebuggedWorld, debug_lines_made};
 ghost use Rattle.mx_app_db.specs.Told.{debug_lines_text};
 
@@ -21,7 +21,7 @@ use crate::lines::perform_debug_lines;
 use mx_app_step::{
     DebugScript, Failure, Machine, Reader, pieces_join, print_report, print_text, start,
 };
-use mx_boot_script::DebugLine;
+use mx_boot::DebugLine;
 use std::alloc::Global;
 use std::io::Write;
 

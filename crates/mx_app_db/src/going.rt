@@ -2,12 +2,12 @@
 
 ghost use Rattle.std.specs.Prelude.{◌≡◌, IfOk, IfErr};
 ghost use Rattle.mx_app_step.specs.Machine.{world_of};
-ghost use Rattle.mx_machine_world.specs.World.{actors, held_by};
+ghost use Rattle.mx_machine.specs.World.{actors, held_by};
 ghost use Rattle.mx_app_db.specs.Going.{HasGone, IsStuck};
 ghost use Rattle.mx_app_db.specs.DebugLines.{world_after_go};
 
 use mx_app_step::{Machine, Out, Tool};
-use mx_machine_world::Refusal;
+use mx_machine::Refusal;
 use mx_print_answers::{Debugger, Halt, HaltCause};
 use mx_proc::Slot;
 

@@ -4,7 +4,7 @@ ghost use Rattle.std.specs.Prelude.{◌≡◌, ◌<◌, ◌++◌, [], IfErr, OnO
 ghost use Rattle.mx_app_step.specs.Failure.{IsWanting};
 ghost use Rattle.mx_app_step.specs.Machine.{world_of};
 ghost use Rattle.mx_app_step.specs.Pieces.{IsPrintedBut};
-ghost use Rattle.mx_machine_world.specs.World.{actors, held_by};
+ghost use Rattle.mx_machine.specs.World.{actors, held_by};
 ghost use Rattle.mx_print_answers.specs.Processes.{registers_text, memory_text};
 ghost use Rattle.mx_app_db.specs.DebugLines.{world_after_go, debug_line_made, debug_lines_made};
 ghost use Rattle.mx_app_db.specs.Told.{eip_of, image_held, go_text, debug_line_text, debug_lines_text};
@@ -12,7 +12,7 @@ ghost use Rattle.mx_app_db.specs.Told.{eip_of, image_held, go_text, debug_line_t
 use crate::going::go;
 use crate::places::{clear_breakpoint, set_breakpoint};
 use mx_app_step::{Failure, Machine, perform_line, pieces_join, print_piece};
-use mx_boot_script::DebugLine;
+use mx_boot::DebugLine;
 use mx_print_answers::{Debugger, push_done, push_memory, push_messages, push_process, push_run};
 use std::alloc::AllocError;
 use std::fmt::Write;

@@ -1,13 +1,13 @@
 //! Breakpoints: the script names each by a slot, and an address or a symbol in the program of its service.
 
 ghost use Rattle.std.specs.Prelude.{◌≡◌, Some, None, MatchResult};
-ghost use Rattle.mx_machine_world.specs.History.{replay};
+ghost use Rattle.mx_machine.specs.History.{replay};
 ghost use Rattle.mx_print_answers.specs.DebugError.TheVariants as errors;
 ghost use Rattle.mx_app_db.specs.Places.{address_of_place, place_found, breakpoints_after_break, breakpoints_after_clear};
 
 use mx_aout::Program;
-use mx_boot_script::CodePlace;
-use mx_machine_world::Refusal;
+use mx_boot::CodePlace;
+use mx_machine::Refusal;
 use mx_print_answers::{DebugError, Debugger, Kernel, Refused};
 use mx_proc::Slot;
 

@@ -1,10 +1,10 @@
 -- From what is seen of records to the picture of a history.
 use Rattle.std.proofs.Common.{◌≡◌, ◌∙◌, ◌≤◌, ℕ, zero, suc, ◌+◌, ◌-◌, List, [], ◌∷◌, length, take, Option, Some, None, refl, ap, sym, subst, arith}
 use Rattle.std.specs.Prelude.{max}
-use Rattle.mx_machine_world.specs.declared.events.Refusal.{Refusal}
-use Rattle.mx_machine_world.specs.declared.history.Record.{Record}
-use Rattle.mx_machine_world.specs.Boot.{world_at_boot}
-use Rattle.mx_machine_world.specs.World.{World}
+use Rattle.mx_machine.specs.declared.events.Refusal.{Refusal}
+use Rattle.mx_machine.specs.declared.history.Record.{Record}
+use Rattle.mx_machine.specs.Boot.{world_at_boot}
+use Rattle.mx_machine.specs.World.{World}
 use Rattle.mx_app_step.specs.Config.{Config}
 use Rattle.mx_app_step.specs.Service.{Service}
 use Rattle.mx_app_step.specs.declared.records.Replayed.{Replayed}

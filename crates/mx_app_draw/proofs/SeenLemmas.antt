@@ -2,10 +2,10 @@
 use Rattle.std.proofs.Common.{◌≡◌, ◌∙◌, ◌<◌, ◌≤◌, ℕ, ◌+◌, ◌-◌, nat_lt, Bool, true, false, cond, List, [], ◌∷◌, ◌++◌, length, take, get_or, append_assoc, max, refl, ap, sym, subst, arith}
 use Rattle.std.proofs.lemmas.Bool.{ltb-false}
 use Rattle.std.proofs.lemmas.List.{append-nil, length-take-le, take_more, take_all}
-use Rattle.mx_machine_world.specs.declared.events.Refusal.{Refusal}
-use Rattle.mx_machine_world.specs.declared.history.Record.{Record}
-use Rattle.mx_machine_world.specs.History.{AreAccepted, world_after_events, events_of, events_of_history}
-use Rattle.mx_machine_world.specs.World.{World}
+use Rattle.mx_machine.specs.declared.events.Refusal.{Refusal}
+use Rattle.mx_machine.specs.declared.history.Record.{Record}
+use Rattle.mx_machine.specs.History.{AreAccepted, world_after_events, events_of, events_of_history}
+use Rattle.mx_machine.specs.World.{World}
 use Rattle.mx_app_step.specs.Step.{Step}
 use Rattle.mx_app_step.specs.Glance.{Glance}
 use Rattle.mx_app_step.specs.Glances.{glance_of}

@@ -2,15 +2,15 @@
 
 ghost use Rattle.std.specs.Prelude.{◌≡◌, ◌<◌, ◌≤◌, ◌+◌, ◌^◌, All, IfOk, length, max};
 ghost use Rattle.mx_app_step.specs.Machine.{world_of};
-ghost use Rattle.mx_machine_world.specs.declared.history.Record.{Record as Noted};
-ghost use Rattle.mx_machine_world.specs.World.{actors};
+ghost use Rattle.mx_machine.specs.declared.history.Record.{Record as Noted};
+ghost use Rattle.mx_machine.specs.World.{actors};
 ghost use Rattle.mx_look_picture.specs.Picture.{IsDrawable};
 ghost use Rattle.mx_app_draw.specs.Scenes.{IsHistoryScene, refused_line, told_number};
 
 use crate::seeing::see_records;
 use mx_app_step::{Machine, Record, lines_above};
 use mx_look_svg::Scene;
-use mx_machine_world::Refusal;
+use mx_machine::Refusal;
 use std::alloc::{AllocError, Global};
 
 /// A number as one of 32 bits: of a larger one, the largest of these.

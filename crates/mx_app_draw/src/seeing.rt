@@ -7,13 +7,13 @@
 
 ghost use Rattle.std.specs.Prelude.{◌≡◌, ◌<◌, ◌≤◌, ◌^◌, ◌++◌, All, IfOk, IfSome, OnOk, length};
 ghost use Rattle.mx_app_step.specs.Machine.{world_of};
-ghost use Rattle.mx_machine_world.specs.declared.history.Record.{Record as Noted};
-ghost use Rattle.mx_machine_world.specs.World.{actors};
+ghost use Rattle.mx_machine.specs.declared.history.Record.{Record as Noted};
+ghost use Rattle.mx_machine.specs.World.{actors};
 ghost use Rattle.mx_app_draw.specs.Scenes.{IsSeen, drawn_of, last_drawn};
 
 use mx_app_step::{Machine, Record, look_record, resting_step};
 use mx_look_svg::{Glance, Step};
-use mx_machine_world::{Refusal, actors_stay};
+use mx_machine::{Refusal, actors_stay};
 use std::alloc::{AllocError, Global};
 
 /// The most records that are drawn.

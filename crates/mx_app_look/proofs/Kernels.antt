@@ -2,9 +2,9 @@
 use Rattle.std.proofs.Common.{◌≡◌, ◌∙◌, List, ap}
 use Rattle.mx_app_step.specs.Service.{Service}
 use Rattle.mx_machine.specs.Machine.{MachineState, world_of}
-use Rattle.mx_machine_world.specs.History.{BootAndHistory, replay}
-use Rattle.mx_machine_world.specs.Proc.TableState.{TableState}
-use Rattle.mx_machine_world.specs.World.{World}
+use Rattle.mx_machine.specs.History.{BootAndHistory, replay}
+use Rattle.mx_machine.specs.Proc.TableState.{TableState}
+use Rattle.mx_machine.specs.World.{World}
 
 pub same_table : (k : BootAndHistory) (m : MachineState) (w : World) → k ≡ m.kernel → world_of m ≡ w → (replay k).table ≡ w.table
 unfolding world_of

@@ -1,8 +1,8 @@
 -- Positions that requests lead to.
 use Rattle.std.proofs.Common.{◌≡◌, ◌∙◌, ◌≤◌, ◌<◌, ◌⊎◌, ℕ, zero, suc, ◌+◌, ◌-◌, eqb, leb, ltb, ◌&&◌, cond, Bool, true, false, List, [], ◌∷◌, length, drop, get_or, Option, Some, None, slice_get, refl, ap, sym, subst, inl, inr, arith}
 use Rattle.std.proofs.lemmas.Bool.{cases_lt, le-ltb, ne_eqb}
-use Rattle.mx_machine_world.specs.declared.events.Event.{Event}
-use Rattle.mx_machine_world.specs.declared.history.Record.{Record}
+use Rattle.mx_machine.specs.declared.events.Event.{Event}
+use Rattle.mx_machine.specs.declared.history.Record.{Record}
 use Rattle.mx_walk.specs.declared.positions.Position.{Position}
 use Rattle.mx_walk.specs.Positions.{IsAbove, IsPosition, IsUpTo, event_below, first_steps, is_up_to, next_position, position_before, steps_in}
 use Rattle.mx_walk.specs.Walks.{Walk, first}

@@ -1,7 +1,7 @@
 -- A walk begins at the boot of its machine.
 use Rattle.std.proofs.Common.{◌≡◌, List, subst}
-use Rattle.mx_machine_world.specs.declared.history.Record.{Record}
-use Rattle.mx_machine_world.specs.World.{World}
+use Rattle.mx_machine.specs.declared.history.Record.{Record}
+use Rattle.mx_machine.specs.World.{World}
 use Rattle.mx_walk.specs.Walks.{IsLast, Walk, first}
 use Rattle.mx_app_look.specs.Sessions.{IsBegun}
 

@@ -6,8 +6,8 @@ use Rattle.mx_look_line.specs.declared.request.Request.TheVariants.{Nothing, For
 use Rattle.mx_look_trace.specs.Glances.{glance_of}
 use Rattle.mx_look_trace.specs.Step.{Step as Seen}
 use Rattle.mx_look_trace.specs.Trace.{record_text}
-use Rattle.mx_machine_world.specs.declared.history.Record.{Record}
-use Rattle.mx_machine_world.specs.World.{World}
+use Rattle.mx_machine.specs.declared.history.Record.{Record}
+use Rattle.mx_machine.specs.World.{World}
 use Rattle.mx_print_answers.specs.Messages.{delivery_lines}
 use Rattle.mx_walk.specs.declared.positions.Position.{Position}
 use Rattle.mx_walk.specs.Positions.{steps_in, world_at}

@@ -4,8 +4,8 @@ use Rattle.mx_look_line.specs.declared.request.Request.{Request}
 use Rattle.mx_look_line.specs.declared.request.Request.TheVariants.{Quit}
 use Rattle.mx_look_line.specs.Requests.{request_of}
 use Rattle.mx_look_line.specs.Verbs.{unknown_text}
-use Rattle.mx_machine_world.specs.declared.history.Record.{Record}
-use Rattle.mx_machine_world.specs.World.{World}
+use Rattle.mx_machine.specs.declared.history.Record.{Record}
+use Rattle.mx_machine.specs.World.{World}
 use Rattle.mx_walk.specs.Walks.{IsLast, Walk, first}
 use Rattle.mx_app_look.specs.Answers.{after, request_text}
 use Rattle.mx_app_look.specs.Places.{place_text, position_text}

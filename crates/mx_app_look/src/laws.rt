@@ -2,9 +2,9 @@
 
 ghost use Rattle.std.specs.Prelude.{◌≡◌, ◌<◌, ◌+◌, ◌++◌, ◌^◌, Bool, List, Some, slice_get, take, ℕ};
 ghost use Rattle.mx_app_step.specs.Traces.{step_of};
-ghost use Rattle.mx_machine_world.specs.History.{events_of_history, world_after_events};
-ghost use Rattle.mx_machine_world.specs.World.{World};
-ghost use Rattle.mx_machine_world.specs.declared.history.Record.{Record};
+ghost use Rattle.mx_machine.specs.History.{events_of_history, world_after_events};
+ghost use Rattle.mx_machine.specs.World.{World};
+ghost use Rattle.mx_machine.specs.declared.history.Record.{Record};
 ghost use Rattle.mx_walk.specs.Walks.{Walk};
 ghost use Rattle.mx_app_look.specs.Answers.{step_above};
 ghost use Rattle.mx_app_look.specs.Sessions.{IsBegun, begun_text, session_text};

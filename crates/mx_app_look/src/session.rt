@@ -9,8 +9,8 @@ ghost use Rattle.mx_app_step.specs.Failure.{IsWanting};
 ghost use Rattle.mx_app_step.specs.Service.{Service};
 ghost use Rattle.mx_app_step.specs.Setup.{IsStart};
 ghost use Rattle.mx_app_step.specs.Telling.{IsTold};
-ghost use Rattle.mx_machine_world.specs.Boot.{world_at_boot};
-ghost use Rattle.mx_machine_world.specs.declared.history.Record.{Record as Noted};
+ghost use Rattle.mx_machine.specs.Boot.{world_at_boot};
+ghost use Rattle.mx_machine.specs.declared.history.Record.{Record as Noted};
 ghost use Rattle.mx_walk.specs.Walks.{Walk};
 ghost use Rattle.mx_app_look.specs.Sessions.{IsBegun, begun_text, session_text};
 

@@ -9,7 +9,7 @@ ghost use Rattle.mx_app_look.specs.Answers.{line_end, processes_text, step_above
 
 use mx_app_step::{Failure, report};
 use mx_look_trace::{Glance, Step, push_record};
-use mx_machine_world::Record;
+use mx_machine::Record;
 use mx_print_answers::push_messages;
 use mx_walk::{Position, Walker, steps_in};
 use std::alloc::{AllocError, Global};

@@ -9,8 +9,8 @@ use Rattle.mx_aout.specs.declared.program.FileError.{FileError}
 use Rattle.mx_aout.specs.declared.program.FileError.TheVariants.{NoMemory}
 use Rattle.mx_aout.specs.File.{FileIs}
 use Rattle.mx_load.specs.Load.{image_of_program}
-use Rattle.mx_print_registers.specs.Registers.{register_lines}
-use Rattle.mx_print_registers.specs.Stops.{stop_text}
+use Rattle.mx_print_answers.specs.Registers.{register_lines}
+use Rattle.mx_print_answers.specs.Stops.{stop_text}
 
 -- the lines that are printed of an image after n steps that ended so
 abbrev pub one_text : ℕ → Stop → Image → List ℕ

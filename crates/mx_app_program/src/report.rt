@@ -9,7 +9,7 @@ ghost use Rattle.mx_app_program.specs.One.{IsPrinted, one_text};
 use crate::running::one;
 use mx_app_failure::{Failure, print_text};
 use mx_image::{Runs, Stop};
-use mx_print_registers::{push_registers, push_stop};
+use mx_print_answers::{push_registers, push_stop};
 use std::alloc::{AllocError, Global};
 use std::fmt::Write as _;
 use std::io::Write;

@@ -4,18 +4,18 @@ use Rattle.std.specs.Prelude.{IsErrAnd}
 use Rattle.std.specs.Io.KnownBytes.{Appends}
 use Rattle.std.proofs.lemmas.List.{length-replicate}
 use Rattle.atomic_table.specs.Seated.{TableId}
-use Rattle.mx_machine_world.specs.declared.config.Config.{Config}
-use Rattle.mx_machine_world.specs.declared.events.Event.{Event}
-use Rattle.mx_machine_world.specs.declared.events.Refusal.{Refusal}
-use Rattle.mx_machine_world.specs.declared.history.Record.{Record}
-use Rattle.mx_machine_world.specs.Boot.{first_table, world_at_boot}
-use Rattle.mx_machine_world.specs.History.{AreAccepted, BootAndHistory, IsWritable, events_of, events_of_history, replay, world_after_events}
-use Rattle.mx_machine_world.specs.Move.{world_after_event}
-use Rattle.mx_machine_world.specs.Rules.{Rules}
-use Rattle.mx_machine_world.specs.World.{World, actors}
-use Rattle.mx_machine_world.specs.Service.{Service}
-use Rattle.mx_cpus_drive.specs.Seats.{SeatView}
-use Rattle.mx_cpus_drive.specs.Boots.{all_seats}
+use Rattle.mx_machine.specs.declared.config.Config.{Config}
+use Rattle.mx_machine.specs.declared.events.Event.{Event}
+use Rattle.mx_machine.specs.declared.events.Refusal.{Refusal}
+use Rattle.mx_machine.specs.declared.history.Record.{Record}
+use Rattle.mx_machine.specs.Boot.{first_table, world_at_boot}
+use Rattle.mx_machine.specs.History.{AreAccepted, BootAndHistory, IsWritable, events_of, events_of_history, replay, world_after_events}
+use Rattle.mx_machine.specs.Move.{world_after_event}
+use Rattle.mx_machine.specs.Rules.{Rules}
+use Rattle.mx_machine.specs.World.{World, actors}
+use Rattle.mx_machine.specs.Service.{Service}
+use Rattle.mx_cpus.specs.Seats.{SeatView}
+use Rattle.mx_cpus.specs.Boots.{all_seats}
 use Rattle.mx_app_step.specs.Asked.{Asked}
 use Rattle.mx_app_step.specs.ServiceLine.{ServiceLine}
 use Rattle.mx_app_step.specs.Setup.{AreServicesRead, IsSetup}
@@ -26,7 +26,7 @@ use Rattle.mx_app_step.specs.Setup.{IsSetupFault}
 use Rattle.mx_app_step.specs.Kept.{text_kept, IsUnwritten}
 use Rattle.mx_app_step.specs.Written.{Written, kept, unkept}
 use Rattle.mx_app_step.specs.Report.{report_text}
-use Rattle.mx_boot_history.specs.Text.{saved_text}
+use Rattle.mx_boot.specs.Text.{saved_text}
 use Rattle.mx_app_step.specs.Records.{IsFirstRefusal, IsRefusedAt, IsReplayPrinted}
 use Rattle.mx_app_step.specs.declared.records.Replayed.{Replayed}
 use Rattle.mx_app_step.specs.declared.records.Replayed.TheVariants as replayed

@@ -3,18 +3,18 @@ use Rattle.std.specs.Prelude.{◌≡◌, ◌⊎◌, ◌≢◌, ℕ, List, [], �
 use Rattle.std.specs.Io.KnownBytes.{Appends}
 use Rattle.std.specs.declared.io.ErrorKind.{ErrorKind}
 use Rattle.atomic_table.specs.Seated.{TableId}
-use Rattle.mx_machine_world.specs.declared.config.Config.{Config}
-use Rattle.mx_machine_world.specs.declared.history.Record.{Record}
-use Rattle.mx_machine_world.specs.Boot.{world_at_boot}
-use Rattle.mx_machine_world.specs.History.{AreAccepted, BootAndHistory, IsWritable, events_of_history, replay}
-use Rattle.mx_machine_world.specs.World.{actors}
-use Rattle.mx_machine_world.specs.Service.{Service}
-use Rattle.mx_cpus_drive.specs.Seats.{SeatView}
-use Rattle.mx_cpus_drive.specs.Calls.{StandsIn}
-use Rattle.mx_cpus_drive.specs.Boots.{all_seats}
-use Rattle.mx_cpus_drive.specs.Loops.{AreDriven}
+use Rattle.mx_machine.specs.declared.config.Config.{Config}
+use Rattle.mx_machine.specs.declared.history.Record.{Record}
+use Rattle.mx_machine.specs.Boot.{world_at_boot}
+use Rattle.mx_machine.specs.History.{AreAccepted, BootAndHistory, IsWritable, events_of_history, replay}
+use Rattle.mx_machine.specs.World.{actors}
+use Rattle.mx_machine.specs.Service.{Service}
+use Rattle.mx_cpus.specs.Seats.{SeatView}
+use Rattle.mx_cpus.specs.Calls.{StandsIn}
+use Rattle.mx_cpus.specs.Boots.{all_seats}
+use Rattle.mx_cpus.specs.Loops.{AreDriven}
 use Rattle.mx_app_step.specs.Report.{report_text}
-use Rattle.mx_boot_history.specs.Text.{saved_text}
+use Rattle.mx_boot.specs.Text.{saved_text}
 use Rattle.mx_app_failure.specs.declared.failure.Failure.{Failure as Kind}
 use Rattle.mx_app_failure.specs.declared.failure.Failure.TheVariants.{File, NoMemory}
 use Rattle.mx_app_failure.specs.Failure.{IsWanting, failure_of_kind}

@@ -6,7 +6,7 @@
 //! a millisecond too. The respawner sleeps a millisecond after each round. So an idle loop costs
 //! little.
 
-use mx_cpus_drive::Gate;
+use mx_cpus::Gate;
 use std::sync::atomic::{AtomicBool, AtomicU32, Ordering};
 use std::time::{Clock, Duration};
 use std::{array, thread};

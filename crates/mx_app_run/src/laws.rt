@@ -2,8 +2,8 @@
 
 ghost use Rattle.mx_app_run.specs.Run.{RunsAreHistories, RunsReplay};
 
-use mx_boot_history::{history_again, one_history};
-use mx_machine_world::actors_stay;
+use mx_boot::{history_again, one_history};
+use mx_machine::actors_stay;
 
 /// Law: the text of a run's history is read as that history, by the run's configuration.
 pub fn run_again()

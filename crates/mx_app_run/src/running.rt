@@ -10,7 +10,7 @@ use crate::gate::RunGate;
 use mx_app_step::{
     Channels, Config, Failure, FileWriter, Reader, print_kernel_report, setup_of, write_history,
 };
-use mx_cpus_drive::{ActorSeat, Blank, Kernel, Naming, Service, Shared, boot, drive};
+use mx_cpus::{ActorSeat, Blank, Kernel, Naming, Service, Shared, boot, drive};
 use mx_word::NoMemory;
 use std::alloc::Global;
 use std::io::Write;

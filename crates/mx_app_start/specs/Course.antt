@@ -3,12 +3,12 @@ use Rattle.std.specs.Prelude.{◌≡◌, ℕ, ◌+◌, List}
 use Rattle.mx_text.specs.Lines.{lines}
 use Rattle.mx_text.specs.declared.error.BootError.{BootError}
 use Rattle.mx_boot.specs.Config.{Config}
-use Rattle.mx_boot_script.specs.declared.scripts.ScriptLine.{ScriptLine}
-use Rattle.mx_boot_script.specs.declared.debug.DebugLine.{DebugLine}
-use Rattle.mx_boot_script.specs.Reading.{AreLinesRead, TellsUnread}
-use Rattle.mx_boot_script.specs.Script.{script_line}
-use Rattle.mx_boot_script.specs.Debug.{debug_line}
-use Rattle.mx_machine.specs.Record.{Record}
+use Rattle.mx_boot.specs.declared.scripts.ScriptLine.{ScriptLine}
+use Rattle.mx_boot.specs.declared.debug.DebugLine.{DebugLine}
+use Rattle.mx_boot.specs.Reading.{AreLinesRead, TellsUnread}
+use Rattle.mx_boot.specs.Script.{script_line}
+use Rattle.mx_boot.specs.Debug.{debug_line}
+use Rattle.mx_machine.specs.declared.history.Record.{Record}
 use Rattle.mx_machine.specs.Rules.{Rules}
 use Rattle.mx_boot.specs.Log.{IsHistory, TellsHistoryFault}
 

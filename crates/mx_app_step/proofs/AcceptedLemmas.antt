@@ -1,12 +1,12 @@
 -- The first records of an accepted history, and its refusals: it has none.
 use Rattle.std.proofs.Common.{◌≡◌, ◌∙◌, ℕ, List, [], ◌∷◌, ◌++◌, Some, None, drop, take, append_assoc, inl, inr, refl, ap, sym, subst}
 use Rattle.std.proofs.lemmas.List.{take-append-drop}
-use Rattle.mx_machine_world.specs.declared.events.Event.{Event}
-use Rattle.mx_machine_world.specs.declared.events.Refusal.{Refusal}
-use Rattle.mx_machine_world.specs.declared.history.Record.{Record}
-use Rattle.mx_machine_world.specs.History.{AreAccepted, events_of, events_of_history, world_after_events}
-use Rattle.mx_machine_world.specs.Move.{world_after_event}
-use Rattle.mx_machine_world.specs.World.{World}
+use Rattle.mx_machine.specs.declared.events.Event.{Event}
+use Rattle.mx_machine.specs.declared.events.Refusal.{Refusal}
+use Rattle.mx_machine.specs.declared.history.Record.{Record}
+use Rattle.mx_machine.specs.History.{AreAccepted, events_of, events_of_history, world_after_events}
+use Rattle.mx_machine.specs.Move.{world_after_event}
+use Rattle.mx_machine.specs.World.{World}
 use Rattle.mx_app_step.specs.Records.{IsFirstRefusal, IsRefusedAt}
 
 events_both : (xs ys : List Record) → events_of_history (xs ++ ys) ≡ events_of_history xs ++ events_of_history ys

@@ -1,9 +1,9 @@
 -- Parts of a trace.
 use Rattle.std.proofs.Common.{◌≡◌, ◌∙◌, ℕ, zero, suc, ◌+◌, ◌≤◌, ◌<◌, nat_lt, Bool, true, false, cond, List, [], ◌∷◌, ◌++◌, take, append_assoc, refl, sym, ap, ap₂, arith}
 use Rattle.std.proofs.lemmas.Bool.{lt-ltb, ltb-true}
-use Rattle.mx_machine_world.specs.declared.history.Record.{Record}
-use Rattle.mx_machine_world.specs.History.{world_after_events, events_of}
-use Rattle.mx_machine_world.specs.World.{World}
+use Rattle.mx_machine.specs.declared.history.Record.{Record}
+use Rattle.mx_machine.specs.History.{world_after_events, events_of}
+use Rattle.mx_machine.specs.World.{World}
 use Rattle.mx_look_trace.specs.Step.{Step}
 use Rattle.mx_look_trace.specs.Trace.{record_text}
 use Rattle.mx_app_step.specs.Traces.{step_of, told_of, trace_text}

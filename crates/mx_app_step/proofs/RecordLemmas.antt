@@ -9,19 +9,19 @@ use Rattle.mx_exec.specs.Step.{one_step}
 use Rattle.mx_image.specs.declared.runs.Stop.{Stop}
 use Rattle.mx_image.specs.declared.runs.Stop.TheVariants.{Spent, Trap, Fault}
 use Rattle.mx_image.specs.Run.{RunEnd, run_of, run_end_from}
-use Rattle.mx_machine_world.specs.declared.events.Answer.{Answer}
-use Rattle.mx_machine_world.specs.declared.events.Event.{Event}
-use Rattle.mx_machine_world.specs.declared.events.Event.TheVariants.{Step, Back}
-use Rattle.mx_machine_world.specs.declared.events.Refusal.{Refusal}
-use Rattle.mx_machine_world.specs.declared.events.Refusal.TheVariants.{AtStop, CpuEmpty}
-use Rattle.mx_machine_world.specs.declared.history.Record.{Record}
-use Rattle.mx_machine_world.specs.declared.holding.Out.{Out}
-use Rattle.mx_machine_world.specs.Held.{held_run, run_by_stop}
-use Rattle.mx_machine_world.specs.History.{AreAccepted, world_after_events, events_of, events_of_history}
-use Rattle.mx_machine_world.specs.Move.{world_after_event, at_stop, event_answer, event_refusal, is_stop, move, move_by, moves, step_refusal}
-use Rattle.mx_machine_world.specs.Steps.{steps_of}
-use Rattle.mx_machine_world.specs.World.{World, HeldProcess, held_by}
-use Rattle.mx_machine_world.specs.History.{BootAndHistory}
+use Rattle.mx_machine.specs.declared.events.Answer.{Answer}
+use Rattle.mx_machine.specs.declared.events.Event.{Event}
+use Rattle.mx_machine.specs.declared.events.Event.TheVariants.{Step, Back}
+use Rattle.mx_machine.specs.declared.events.Refusal.{Refusal}
+use Rattle.mx_machine.specs.declared.events.Refusal.TheVariants.{AtStop, CpuEmpty}
+use Rattle.mx_machine.specs.declared.history.Record.{Record}
+use Rattle.mx_machine.specs.declared.holding.Out.{Out}
+use Rattle.mx_machine.specs.Held.{held_run, run_by_stop}
+use Rattle.mx_machine.specs.History.{AreAccepted, world_after_events, events_of, events_of_history}
+use Rattle.mx_machine.specs.Move.{world_after_event, at_stop, event_answer, event_refusal, is_stop, move, move_by, moves, step_refusal}
+use Rattle.mx_machine.specs.Steps.{steps_of}
+use Rattle.mx_machine.specs.World.{World, HeldProcess, held_by}
+use Rattle.mx_machine.specs.History.{BootAndHistory}
 use Rattle.mx_app_start.specs.Machine.{HasWorked, kept_after, kept_along}
 use Rattle.mx_print_answers.specs.declared.said.Said.{Said}
 use Rattle.mx_print_answers.specs.declared.said.Said.TheVariants.{Stepped, Refused}

@@ -6,14 +6,14 @@ use Rattle.std.specs.Io.KnownBytes.{Appends}
 use Rattle.mx_text.specs.Fields.{◌>>=◌, fields}
 use Rattle.mx_app_start.specs.Config.{Config}
 use Rattle.mx_app_start.specs.Service.{Service}
-use Rattle.mx_boot_script.specs.Script.{actor_field, after_verb}
+use Rattle.mx_boot.specs.Script.{actor_field, after_verb}
 use Rattle.mx_app_start.specs.Log.{record_by, record_line, record_of, recorded_of}
 use Rattle.mx_app_start.specs.Report.{report_text}
-use Rattle.mx_machine_world.specs.declared.history.Record.{Record}
-use Rattle.mx_machine_world.specs.declared.history.Recorded.{Recorded}
-use Rattle.mx_machine_world.specs.Boot.{world_at_boot}
-use Rattle.mx_machine_world.specs.History.{AreAccepted, world_after_events, events_of_history}
-use Rattle.mx_machine_world.specs.World.{World, actors}
+use Rattle.mx_machine.specs.declared.history.Record.{Record}
+use Rattle.mx_machine.specs.declared.history.Recorded.{Recorded}
+use Rattle.mx_machine.specs.Boot.{world_at_boot}
+use Rattle.mx_machine.specs.History.{AreAccepted, world_after_events, events_of_history}
+use Rattle.mx_machine.specs.World.{World, actors}
 use Rattle.mx_app_start.specs.Asked.{Asked}
 use Rattle.mx_app_start.specs.Course.{IsSaved}
 use Rattle.mx_app_start.specs.Setup.{IsStart}

@@ -4,21 +4,21 @@ use Rattle.std.proofs.KnownBytes.{Appends-trans}
 use Rattle.std.specs.Io.KnownBytes.{Appends}
 use Rattle.mx_app_start.specs.Config.{Config}
 use Rattle.mx_app_start.specs.Service.{Service}
-use Rattle.mx_boot_script.specs.declared.scripts.ScriptLine.{ScriptLine}
+use Rattle.mx_boot.specs.declared.scripts.ScriptLine.{ScriptLine}
 use Rattle.mx_app_start.specs.Report.{report_text}
-use Rattle.mx_machine_world.specs.declared.events.Answer.{Answer}
-use Rattle.mx_machine_world.specs.declared.events.Event.{Event}
-use Rattle.mx_machine_world.specs.declared.events.Refusal.{Refusal}
-use Rattle.mx_machine_world.specs.declared.history.Recorded.{Recorded}
-use Rattle.mx_machine_world.specs.Boot.{first_table, world_at_boot}
-use Rattle.mx_machine_world.specs.Move.{move}
-use Rattle.mx_machine_world.specs.Rules.{Rules}
-use Rattle.mx_machine_world.specs.World.{World}
+use Rattle.mx_machine.specs.declared.events.Answer.{Answer}
+use Rattle.mx_machine.specs.declared.events.Event.{Event}
+use Rattle.mx_machine.specs.declared.events.Refusal.{Refusal}
+use Rattle.mx_machine.specs.declared.history.Recorded.{Recorded}
+use Rattle.mx_machine.specs.Boot.{first_table, world_at_boot}
+use Rattle.mx_machine.specs.Move.{move}
+use Rattle.mx_machine.specs.Rules.{Rules}
+use Rattle.mx_machine.specs.World.{World}
 use Rattle.mx_print_answers.specs.declared.said.Said.{Said}
 use Rattle.mx_print_answers.specs.Said.{said_lines}
 use Rattle.mx_app_start.specs.Machine.{kept_after, record_of, with_records}
 use Rattle.mx_app_start.specs.Text.{saved_text}
-use Rattle.mx_machine_world.specs.History.{BootAndHistory}
+use Rattle.mx_machine.specs.History.{BootAndHistory}
 use Rattle.mx_app_step.specs.Kept.{event_of_line, history_made, kept_by, lines_kept, text_kept}
 use Rattle.mx_app_step.specs.Lines.{line_made, lines_made}
 

@@ -3,11 +3,11 @@ use Rattle.std.proofs.Common.{◌≡◌, ◌∙◌, ◌<◌, ℕ, ◌+◌, appen
 use Rattle.std.proofs.lemmas.List.{append-nil, take_more}
 use Rattle.std.proofs.lemmas.Grind.{flat_map-append}
 use Rattle.std.specs.Prelude.{codes}
-use Rattle.mx_boot_script.specs.declared.scripts.ScriptLine.{ScriptLine}
-use Rattle.mx_machine_world.specs.World.{World}
+use Rattle.mx_boot.specs.declared.scripts.ScriptLine.{ScriptLine}
+use Rattle.mx_machine.specs.World.{World}
 use Rattle.mx_print_answers.specs.declared.said.Said.{Said}
 use Rattle.mx_print_answers.specs.Said.{said_line, said_lines}
-use Rattle.mx_machine_world.specs.History.{BootAndHistory}
+use Rattle.mx_machine.specs.History.{BootAndHistory}
 use Rattle.mx_app_step.specs.Kept.{event_of_line, kept_by, lines_kept}
 use Rattle.mx_app_step.specs.Lines.{line_made, lines_made}
 

@@ -4,20 +4,20 @@ use Rattle.std.proofs.KnownBytes.{Appends-trans}
 use Rattle.std.proofs.lemmas.List.{append-nil, take_more, take_all, length-take-le}
 use Rattle.std.proofs.lemmas.List.Elements.{All-take}
 use Rattle.std.specs.Io.KnownBytes.{Appends}
-use Rattle.mx_machine_world.specs.declared.events.Event.{Event}
-use Rattle.mx_machine_world.specs.declared.events.Refusal.{Refusal}
-use Rattle.mx_machine_world.specs.declared.history.Record.{Record}
-use Rattle.mx_machine_world.specs.declared.history.Recorded.{Recorded}
-use Rattle.mx_machine_world.specs.declared.history.Recorded.TheVariants as recorded
-use Rattle.mx_machine_world.specs.History.{AreAccepted, world_after_events, events_of, events_of_history}
-use Rattle.mx_machine_world.specs.Move.{world_after_event, event_refusal}
-use Rattle.mx_machine_world.specs.World.{World}
+use Rattle.mx_machine.specs.declared.events.Event.{Event}
+use Rattle.mx_machine.specs.declared.events.Refusal.{Refusal}
+use Rattle.mx_machine.specs.declared.history.Record.{Record}
+use Rattle.mx_machine.specs.declared.history.Recorded.{Recorded}
+use Rattle.mx_machine.specs.declared.history.Recorded.TheVariants as recorded
+use Rattle.mx_machine.specs.History.{AreAccepted, world_after_events, events_of, events_of_history}
+use Rattle.mx_machine.specs.Move.{world_after_event, event_refusal}
+use Rattle.mx_machine.specs.World.{World}
 use Rattle.mx_look_trace.specs.Glance.{Glance}
 use Rattle.mx_look_trace.specs.Glances.{glance_of}
 use Rattle.mx_look_trace.specs.Step.{Step}
 use Rattle.mx_app_start.specs.Config.{Config}
 use Rattle.mx_app_start.specs.Service.{Service}
-use Rattle.mx_machine_world.specs.Boot.{world_at_boot}
+use Rattle.mx_machine.specs.Boot.{world_at_boot}
 use Rattle.mx_app_step.specs.declared.records.Replayed.{Replayed}
 use Rattle.mx_app_step.specs.Records.{IsFirstRefusal, IsRefusedAt}
 use Rattle.mx_app_step.specs.Traces.{steps_before, own_event, step_of, told_of, trace_text, IsTracePrinted}

@@ -7,14 +7,14 @@ use Rattle.mx_app_failure.specs.Failure.{failure_of_kind}
 use Rattle.mx_app_start.specs.Machine.{kept_after, kept_along}
 use Rattle.mx_app_start.specs.Text.{saved_text}
 use Rattle.mx_app_start.specs.Written.{Written, unkept}
-use Rattle.mx_boot_script.specs.declared.scripts.ScriptLine.{ScriptLine}
-use Rattle.mx_boot_script.specs.declared.scripts.ScriptLine.TheVariants.{Step, Take, Back, Line, Tick, Kill, Respawn}
-use Rattle.mx_machine_world.specs.declared.events.Event.{Event}
-use Rattle.mx_machine_world.specs.declared.events.Event.TheVariants as events
-use Rattle.mx_machine_world.specs.declared.history.Record.{Record}
-use Rattle.mx_machine_world.specs.History.{BootAndHistory}
-use Rattle.mx_machine_world.specs.Move.{move, moves}
-use Rattle.mx_machine_world.specs.World.{World}
+use Rattle.mx_boot.specs.declared.scripts.ScriptLine.{ScriptLine}
+use Rattle.mx_boot.specs.declared.scripts.ScriptLine.TheVariants.{Step, Take, Back, Line, Tick, Kill, Respawn}
+use Rattle.mx_machine.specs.declared.events.Event.{Event}
+use Rattle.mx_machine.specs.declared.events.Event.TheVariants as events
+use Rattle.mx_machine.specs.declared.history.Record.{Record}
+use Rattle.mx_machine.specs.History.{BootAndHistory}
+use Rattle.mx_machine.specs.Move.{move, moves}
+use Rattle.mx_machine.specs.World.{World}
 use Rattle.mx_app_step.specs.Lines.{line_made}
 
 -- the event that a line is, with its actor, where `other` is the actor of the lines that name none; steps are none

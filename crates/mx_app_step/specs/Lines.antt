@@ -1,18 +1,18 @@
 -- What the lines of a script do with a machine (our own).
 use Rattle.std.specs.Prelude.{ℕ, zero, suc, List, [], ◌∷◌, Option, Some, None, Result, if◌then◌else◌}
 use Rattle.mx_image.specs.declared.runs.Stop.TheVariants.{Spent}
-use Rattle.mx_boot_script.specs.declared.scripts.ScriptLine.{ScriptLine}
-use Rattle.mx_boot_script.specs.declared.scripts.ScriptLine.TheVariants.{Step, Take, Back, Line, Tick, Kill, Respawn}
-use Rattle.mx_machine_world.specs.declared.events.Answer.{Answer}
-use Rattle.mx_machine_world.specs.declared.events.Event.TheVariants as events
-use Rattle.mx_machine_world.specs.declared.events.Refusal.{Refusal}
-use Rattle.mx_machine_world.specs.declared.events.Refusal.TheVariants.{AtStop, CpuEmpty}
-use Rattle.mx_machine_world.specs.declared.holding.Out.{Out}
-use Rattle.mx_machine_world.specs.Held.{held_run}
-use Rattle.mx_machine_world.specs.History.{world_after_events}
-use Rattle.mx_machine_world.specs.Move.{at_stop, move}
-use Rattle.mx_machine_world.specs.Steps.{steps_of}
-use Rattle.mx_machine_world.specs.World.{World, HeldProcess, held_by}
+use Rattle.mx_boot.specs.declared.scripts.ScriptLine.{ScriptLine}
+use Rattle.mx_boot.specs.declared.scripts.ScriptLine.TheVariants.{Step, Take, Back, Line, Tick, Kill, Respawn}
+use Rattle.mx_machine.specs.declared.events.Answer.{Answer}
+use Rattle.mx_machine.specs.declared.events.Event.TheVariants as events
+use Rattle.mx_machine.specs.declared.events.Refusal.{Refusal}
+use Rattle.mx_machine.specs.declared.events.Refusal.TheVariants.{AtStop, CpuEmpty}
+use Rattle.mx_machine.specs.declared.holding.Out.{Out}
+use Rattle.mx_machine.specs.Held.{held_run}
+use Rattle.mx_machine.specs.History.{world_after_events}
+use Rattle.mx_machine.specs.Move.{at_stop, move}
+use Rattle.mx_machine.specs.Steps.{steps_of}
+use Rattle.mx_machine.specs.World.{World, HeldProcess, held_by}
 use Rattle.mx_print_answers.specs.declared.said.Said.{Said}
 use Rattle.mx_print_answers.specs.declared.said.Said.TheVariants.{Stepped, Refused}
 use Rattle.mx_print_answers.specs.Said.{said_of_answer}

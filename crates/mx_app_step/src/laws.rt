@@ -1,14 +1,14 @@
 //! Laws of traces.
 
 ghost use Rattle.std.specs.Prelude.{◌≤◌, ◌<◌, ◌+◌, ℕ, List, All};
-ghost use Rattle.mx_machine_world.specs.declared.history.Record.{Record};
+ghost use Rattle.mx_machine.specs.declared.history.Record.{Record};
 ghost use Rattle.mx_app_start.specs.Asked.{Asked};
 ghost use Rattle.mx_app_start.specs.Config.{Config};
 ghost use Rattle.mx_app_start.specs.Course.{IsSaved};
 ghost use Rattle.mx_app_start.specs.Service.{Service};
 ghost use Rattle.mx_app_start.specs.Setup.{IsStart};
-ghost use Rattle.mx_machine_world.specs.Boot.{world_at_boot};
-ghost use Rattle.mx_machine_world.specs.World.{World, actors};
+ghost use Rattle.mx_machine.specs.Boot.{world_at_boot};
+ghost use Rattle.mx_machine.specs.World.{World, actors};
 ghost use Rattle.mx_app_step.specs.Traces.{PartsJoin};
 
 /// Law: two parts of a trace join. What is told of the records from `a` to `b`, and then of those from the

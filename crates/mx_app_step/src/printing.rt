@@ -5,7 +5,7 @@ ghost use Rattle.std.specs.Io.KnownBytes.{Appends};
 ghost use Rattle.mx_app_start.specs.Failure.{IsWanting};
 ghost use Rattle.mx_app_start.specs.Machine.{world_of};
 ghost use Rattle.mx_app_start.specs.Report.{report_text};
-ghost use Rattle.mx_machine_world.specs.History.{replay};
+ghost use Rattle.mx_machine.specs.History.{replay};
 ghost use Rattle.mx_app_step.specs.Pieces.{IsPrintedBut};
 
 use mx_app_start::{Failure, Machine, print_text, report};

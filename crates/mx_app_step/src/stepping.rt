@@ -1,8 +1,8 @@
 //! Steps of a processor.
 
 ghost use Rattle.std.specs.Prelude.{◌≡◌, ◌<◌, Some, false};
-ghost use Rattle.mx_machine_world.specs.Move.{move};
-ghost use Rattle.mx_machine_world.specs.World.{HeldProcess, actors, held_by};
+ghost use Rattle.mx_machine.specs.Move.{move};
+ghost use Rattle.mx_machine.specs.World.{HeldProcess, actors, held_by};
 ghost use Rattle.mx_app_start.specs.KernelState.{is_for_all};
 ghost use Rattle.mx_app_start.specs.Machine.{HasWorked, world_of};
 ghost use Rattle.mx_app_step.specs.Kept.{kept_by};
@@ -10,7 +10,7 @@ ghost use Rattle.mx_app_step.specs.Lines.{event_made, run_made, steps_made};
 
 use mx_app_start::{Event, Held, Machine, Out, Tool, at_stop};
 use mx_image::Stop;
-use mx_machine_world::Refusal;
+use mx_machine::Refusal;
 use mx_print_answers::{Said, said_of};
 
 /// Makes that many steps, and notes what is said of them.

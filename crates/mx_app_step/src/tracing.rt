@@ -10,10 +10,10 @@ ghost use Rattle.mx_app_start.specs.Asked.{Asked};
 ghost use Rattle.mx_app_start.specs.Course.{IsSaved, TellsSaved};
 ghost use Rattle.mx_app_start.specs.Setup.{IsStart};
 ghost use Rattle.mx_app_start.specs.Telling.{IsTold};
-ghost use Rattle.mx_machine_world.specs.declared.history.Record.{Record as Noted};
-ghost use Rattle.mx_machine_world.specs.Boot.{world_at_boot};
-ghost use Rattle.mx_machine_world.specs.History.{AreAccepted, world_after_events, events_of};
-ghost use Rattle.mx_machine_world.specs.World.{actors};
+ghost use Rattle.mx_machine.specs.declared.history.Record.{Record as Noted};
+ghost use Rattle.mx_machine.specs.Boot.{world_at_boot};
+ghost use Rattle.mx_machine.specs.History.{AreAccepted, world_after_events, events_of};
+ghost use Rattle.mx_machine.specs.World.{actors};
 ghost use Rattle.mx_app_step.specs.Records.{IsFirstRefusal};
 ghost use Rattle.mx_app_step.specs.Traces.{IsTracePrinted, IsTraced, own_event, resting_step, step_of, steps_before, told_of};
 
@@ -22,7 +22,7 @@ use mx_app_start::{
     Event, Failure, History, Machine, Reader, Record, Recorded, lines_above, print_text, start,
 };
 use mx_look_trace::{Glance, Step, push_record};
-use mx_machine_world::{Refusal, actors_stay};
+use mx_machine::{Refusal, actors_stay};
 use std::alloc::Global;
 use std::io::Write;
 

@@ -6,7 +6,7 @@ use Rattle.std.proofs.lemmas.Grind.{flat_map-append}
 use Rattle.std.specs.Io.KnownBytes.{Appends}
 use Rattle.std.specs.List.{flat_map}
 use Rattle.std.specs.Str.{bytes_eq}
-use Rattle.mx_machine_world.specs.History.{BootAndHistory}
+use Rattle.mx_machine.specs.History.{BootAndHistory}
 use Rattle.mx_sweep.specs.Sweep.{Positions, block_text, blocks, blocks_from, count_of}
 use Rattle.mx_app_sweep.specs.Sweeping.{SweepOf, is_alike_at, run_at, text_at}
 

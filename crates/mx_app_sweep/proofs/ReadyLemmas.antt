@@ -6,12 +6,12 @@ use Rattle.mx_app_step.specs.Config.{Config}
 use Rattle.mx_app_step.specs.Kept.{kept_of}
 use Rattle.mx_app_step.specs.Machine.{MachineState, world_of}
 use Rattle.mx_app_step.specs.Service.{Service}
-use Rattle.mx_machine_world.specs.Boot.{world_at_boot}
-use Rattle.mx_machine_world.specs.declared.events.Event.{Event}
-use Rattle.mx_machine_world.specs.declared.history.Record.{Record}
-use Rattle.mx_machine_world.specs.History.{AreAccepted, BootAndHistory, events_of_history}
-use Rattle.mx_machine_world.specs.Move.{moves}
-use Rattle.mx_machine_world.specs.World.{World, actors}
+use Rattle.mx_machine.specs.Boot.{world_at_boot}
+use Rattle.mx_machine.specs.declared.events.Event.{Event}
+use Rattle.mx_machine.specs.declared.history.Record.{Record}
+use Rattle.mx_machine.specs.History.{AreAccepted, BootAndHistory, events_of_history}
+use Rattle.mx_machine.specs.Move.{moves}
+use Rattle.mx_machine.specs.World.{World, actors}
 use Rattle.mx_turns.proofs.MadeLemmas.{kept_boot}
 use Rattle.mx_sweep.specs.declared.faults.FaultLine.{FaultLine}
 use Rattle.mx_sweep.specs.declared.running.Sweep.{Sweep}

@@ -4,10 +4,10 @@ use Rattle.std.proofs.KnownBytes.{Appends-trans}
 use Rattle.std.specs.Io.KnownBytes.{Appends}
 use Rattle.std.specs.List.{flat_map}
 use Rattle.std.specs.Prelude.{IsErrAnd}
-use Rattle.mx_machine_world.specs.Boot.{world_at_boot}
-use Rattle.mx_machine_world.specs.declared.history.Record.{Record}
-use Rattle.mx_machine_world.specs.World.{World}
-use Rattle.mx_machine_world.specs.History.{AreAccepted, BootAndHistory, events_of_history}
+use Rattle.mx_machine.specs.Boot.{world_at_boot}
+use Rattle.mx_machine.specs.declared.history.Record.{Record}
+use Rattle.mx_machine.specs.World.{World}
+use Rattle.mx_machine.specs.History.{AreAccepted, BootAndHistory, events_of_history}
 use Rattle.mx_app_failure.specs.declared.failure.Failure.{Failure as Kind}
 use Rattle.mx_app_failure.specs.Failure.{IsWanting}
 use Rattle.mx_app_step.specs.Asked.{Asked}

@@ -1,8 +1,8 @@
 -- Machines that are ready to be swept.
 use Rattle.std.specs.Prelude.{◌≡◌, ◌<◌, ◌≤◌, ℕ, List, [], All, Option, Result, Ok, Err, length}
-use Rattle.mx_machine_world.specs.Boot.{world_at_boot}
-use Rattle.mx_machine_world.specs.declared.history.Record.{Record}
-use Rattle.mx_machine_world.specs.World.{World, actors}
+use Rattle.mx_machine.specs.Boot.{world_at_boot}
+use Rattle.mx_machine.specs.declared.history.Record.{Record}
+use Rattle.mx_machine.specs.World.{World, actors}
 use Rattle.mx_app_failure.specs.declared.failure.Failure.{Failure as Kind}
 use Rattle.mx_app_step.specs.Config.{Config}
 use Rattle.mx_app_step.specs.Machine.{MachineState, world_of}

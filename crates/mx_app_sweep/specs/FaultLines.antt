@@ -2,10 +2,10 @@
 use Rattle.std.specs.Prelude.{ℕ, if◌then◌else◌, List, [], ◌∷◌, Option, Some, None, codes}
 use Rattle.std.specs.Str.{bytes_eq}
 use Rattle.mx_text.specs.Fields.{fields, pair, ◌>>=◌}
-use Rattle.mx_boot_script.specs.declared.scripts.ScriptLine.{ScriptLine}
-use Rattle.mx_boot_script.specs.declared.verb.Verb.{Verb}
-use Rattle.mx_boot_script.specs.declared.verb.Verb.TheVariants as verbs
-use Rattle.mx_boot_script.specs.Script.{after_verb, count_field, script_line_of}
+use Rattle.mx_boot.specs.declared.scripts.ScriptLine.{ScriptLine}
+use Rattle.mx_boot.specs.declared.verb.Verb.{Verb}
+use Rattle.mx_boot.specs.declared.verb.Verb.TheVariants as verbs
+use Rattle.mx_boot.specs.Script.{after_verb, count_field, script_line_of}
 use Rattle.mx_sweep.specs.declared.faults.FaultLine.{FaultLine}
 use Rattle.mx_sweep.specs.declared.faults.FaultLine.TheVariants.{Plain, KillSlot}
 

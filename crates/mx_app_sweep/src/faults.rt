@@ -3,11 +3,11 @@
 ghost use Rattle.std.specs.Prelude.{◌≡◌, IfErr, IfOk};
 ghost use Rattle.mx_text.specs.Fields.{fields};
 ghost use Rattle.mx_text.specs.Lines.{lines};
-ghost use Rattle.mx_boot_script.specs.Reading.{AreLinesRead, TellsUnread};
+ghost use Rattle.mx_boot.specs.Reading.{AreLinesRead, TellsUnread};
 ghost use Rattle.mx_app_sweep.specs.FaultLines.{fault_line, fault_line_of, kill_of_slot, slot_named};
 
 use mx_app_step::BootError;
-use mx_boot_script::{ReadsLine, Verb, count, read_lines, script_line_of, verb_named};
+use mx_boot::{ReadsLine, Verb, count, read_lines, script_line_of, verb_named};
 use mx_sweep::FaultLine;
 use mx_text::{next_field, two_fields};
 use std::alloc::Global;

@@ -3,7 +3,7 @@
 ghost use Rattle.std.specs.Prelude.{◌≡◌, ◌<◌, ◌≤◌, ◌+◌, ◌-◌, ◌++◌, List, IfErr, IfOk, OnOk, length, min, option_map};
 ghost use Rattle.std.specs.Io.KnownBytes.{Appends};
 ghost use Rattle.std.specs.List.{flat_map};
-ghost use Rattle.mx_machine_world.specs.Boot.{world_at_boot};
+ghost use Rattle.mx_machine.specs.Boot.{world_at_boot};
 ghost use Rattle.mx_app_failure.specs.Failure.{IsWanting};
 ghost use Rattle.mx_app_step.specs.Asked.{Asked};
 ghost use Rattle.mx_app_step.specs.Config.{Config as Configured};

@@ -3,17 +3,17 @@ use Rattle.std.proofs.Common.{◌≡◌, ◌∙◌, ◌+◌, ℕ, ◌++◌, true
 use Rattle.std.specs.Io.KnownBytes.{Appends}
 use Rattle.std.specs.Prelude.{IsErrAnd}
 use Rattle.std.proofs.lemmas.List.{length-replicate}
-use Rattle.mx_machine_world.specs.declared.config.Config.{Config}
-use Rattle.mx_machine_world.specs.declared.events.Answer.{Answer}
-use Rattle.mx_machine_world.specs.declared.events.Event.{Event}
-use Rattle.mx_machine_world.specs.declared.events.Refusal.{Refusal}
-use Rattle.mx_machine_world.specs.declared.history.Record.{Record}
-use Rattle.mx_machine_world.specs.Boot.{first_table, world_at_boot}
-use Rattle.mx_machine_world.specs.History.{AreAccepted, BootAndHistory, IsWritable, events_of, events_of_history, replay, world_after_events}
-use Rattle.mx_machine_world.specs.Move.{moves, world_after_event}
-use Rattle.mx_machine_world.specs.Rules.{Rules}
-use Rattle.mx_machine_world.specs.Service.{Service}
-use Rattle.mx_machine_world.specs.World.{World, actors}
+use Rattle.mx_machine.specs.declared.config.Config.{Config}
+use Rattle.mx_machine.specs.declared.events.Answer.{Answer}
+use Rattle.mx_machine.specs.declared.events.Event.{Event}
+use Rattle.mx_machine.specs.declared.events.Refusal.{Refusal}
+use Rattle.mx_machine.specs.declared.history.Record.{Record}
+use Rattle.mx_machine.specs.Boot.{first_table, world_at_boot}
+use Rattle.mx_machine.specs.History.{AreAccepted, BootAndHistory, IsWritable, events_of, events_of_history, replay, world_after_events}
+use Rattle.mx_machine.specs.Move.{moves, world_after_event}
+use Rattle.mx_machine.specs.Rules.{Rules}
+use Rattle.mx_machine.specs.Service.{Service}
+use Rattle.mx_machine.specs.World.{World, actors}
 use Rattle.mx_machine.specs.Machine.{MachineState, kept_after, kept_along, record_of, with_records, world_of}
 use Rattle.mx_turns.specs.declared.turns.Ending.{Ending}
 use Rattle.mx_turns.specs.Made.{HasMade}

@@ -3,12 +3,12 @@ use Rattle.std.specs.Prelude.{◌≡◌, ℕ, List, [], ◌∷◌, Option, Some,
 use Rattle.mx_text.specs.Fields.{fields, ◌>>=◌}
 use Rattle.mx_text.specs.Lines.{lines}
 use Rattle.mx_text.specs.declared.error.BootError.{BootError}
-use Rattle.mx_boot_script.specs.declared.verb.Verb.{Verb}
-use Rattle.mx_boot_script.specs.declared.verb.Verb.TheVariants as verbs
-use Rattle.mx_boot_script.specs.Reading.{AreLinesRead, TellsUnread}
-use Rattle.mx_boot_script.specs.Script.{after_verb, only_count}
-use Rattle.mx_machine_world.specs.declared.events.Event.{Event}
-use Rattle.mx_machine_world.specs.declared.events.Event.TheVariants.{Line, Tick, Kill}
+use Rattle.mx_boot.specs.declared.verb.Verb.{Verb}
+use Rattle.mx_boot.specs.declared.verb.Verb.TheVariants as verbs
+use Rattle.mx_boot.specs.Reading.{AreLinesRead, TellsUnread}
+use Rattle.mx_boot.specs.Script.{after_verb, only_count}
+use Rattle.mx_machine.specs.declared.events.Event.{Event}
+use Rattle.mx_machine.specs.declared.events.Event.TheVariants.{Line, Tick, Kill}
 use Rattle.mx_app_step.specs.Config.{Config}
 
 -- what a line says that begins with a verb and goes on with these fields

@@ -3,11 +3,11 @@
 ghost use Rattle.std.specs.Prelude.{◌≡◌, IfErr, IfOk};
 ghost use Rattle.mx_text.specs.Fields.{fields};
 ghost use Rattle.mx_text.specs.Lines.{lines};
-ghost use Rattle.mx_boot_script.specs.Reading.{AreLinesRead, TellsUnread};
+ghost use Rattle.mx_boot.specs.Reading.{AreLinesRead, TellsUnread};
 ghost use Rattle.mx_app_turns.specs.Events.{outside_event_of, outside_line};
 
 use mx_app_start::{BootError, Config, Course};
-use mx_boot_script::{ReadsLine, Verb, only_count, read_lines, verb_named};
+use mx_boot::{ReadsLine, Verb, only_count, read_lines, verb_named};
 use mx_text::next_field;
 use mx_turns::Event;
 use std::alloc::Global;

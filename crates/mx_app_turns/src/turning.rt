@@ -3,10 +3,10 @@
 ghost use Rattle.std.specs.Prelude.{◌≡◌, ◌<◌, ◌++◌, [], List, None, IfErr, IfOk, length, option_map};
 ghost use Rattle.std.specs.Io.KnownBytes.{Appends};
 ghost use Rattle.mx_machine.specs.Machine.{world_of};
-ghost use Rattle.mx_machine_world.specs.Boot.{world_at_boot};
-ghost use Rattle.mx_machine_world.specs.Service.{Service};
-ghost use Rattle.mx_machine_world.specs.World.{actors};
-ghost use Rattle.mx_machine_world.specs.declared.config.Config.{Config as Configured};
+ghost use Rattle.mx_machine.specs.Boot.{world_at_boot};
+ghost use Rattle.mx_machine.specs.Service.{Service};
+ghost use Rattle.mx_machine.specs.World.{actors};
+ghost use Rattle.mx_machine.specs.declared.config.Config.{Config as Configured};
 ghost use Rattle.mx_app_step.specs.Asked.{Asked};
 ghost use Rattle.mx_app_step.specs.Written.{Written};
 ghost use Rattle.mx_app_turns.specs.Turned.{IsBegun, IsNotBegun, MakesTurns, writes_over};

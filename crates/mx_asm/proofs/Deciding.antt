@@ -16,7 +16,7 @@ use Rattle.mx_asm_statement.specs.declared.statement.Statement.TheVariants as sa
 use Rattle.mx_asm_statement.specs.declared.line.Line.{Line}
 use Rattle.mx_asm_statement.specs.declared.line.Reason.{Reason}
 use Rattle.mx_asm_statement.specs.Instructions.{marks}
-use Rattle.mx_asm_line.specs.Lines.{IsLine}
+use Rattle.mx_asm_statement.specs.Lines.{IsLine}
 use Rattle.mx_aout.specs.declared.program.Program.{Program}
 use Rattle.mx_aout.specs.Alike.{AreAlike}
 use Rattle.mx_asm.specs.declared.fault.Problem.{Problem}

@@ -23,7 +23,7 @@ use Rattle.mx_asm_statement.specs.declared.branch.Branch.TheVariants as branches
 use Rattle.mx_asm_statement.specs.declared.value.Value.{Value}
 use Rattle.mx_asm_statement.specs.declared.line.Line.{Line}
 use Rattle.mx_asm_statement.specs.Instructions.{marks}
-use Rattle.mx_asm_line.specs.Lines.{IsLine}
+use Rattle.mx_asm_statement.specs.Lines.{IsLine}
 use Rattle.mx_aout.specs.Limits.{rounded_to_pages, used_of, IsWithin}
 use Rattle.mx_aout.specs.declared.program.Program.{Program}
 use Rattle.mx_asm.specs.declared.sizes.SectionSizes.{SectionSizes}

@@ -12,7 +12,7 @@ use Rattle.mx_asm.proofs.Kept.{kept_more}
 use Rattle.mx_asm.proofs.Seeing.{seen_after}
 use Rattle.mx_asm.specs.declared.fault.AsmError.{AsmError}
 use Rattle.mx_asm.specs.declared.fault.AsmError.TheVariants.{At, NoMemory}
-use Rattle.mx_asm_line.specs.Lines.{IsLine}
+use Rattle.mx_asm_statement.specs.Lines.{IsLine}
 use Rattle.mx_asm.specs.Text.{IsLineTaken, AreLinesTaken, on_after, TakesLine, IsFirstLineWrong, TellsRefusal, TellsLineWrong}
 
 -- one line more is seen

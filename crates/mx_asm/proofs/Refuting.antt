@@ -21,8 +21,8 @@ use Rattle.mx_asm_statement.specs.declared.line.Reason.{Reason}
 use Rattle.mx_asm_statement.specs.declared.line.StatementStart.{StatementStart}
 use Rattle.mx_asm_statement.specs.declared.line.StatementStart.TheVariants as beginnings
 use Rattle.mx_asm_statement.specs.Reasons.{statement_refusal, is_said_again, is_unknown, is_misplaced}
-use Rattle.mx_asm_line.specs.Beginnings.{begins_with}
-use Rattle.mx_asm_line.specs.Lines.{IsLine}
+use Rattle.mx_asm_statement.specs.Beginnings.{begins_with}
+use Rattle.mx_asm_statement.specs.Lines.{IsLine}
 use Rattle.mx_aout.specs.Limits.{rounded_to_pages}
 use Rattle.mx_aout.specs.declared.program.Program.{Program}
 use Rattle.mx_asm.specs.declared.sizes.SectionSizes.{SectionSizes}

@@ -6,7 +6,7 @@ use Rattle.mx_lex.specs.declared.kinds.LexError.{LexError}
 use Rattle.mx_lex.specs.declared.kinds.LexError.TheVariants as lexical
 use Rattle.mx_asm_statement.specs.declared.line.Line.{Line}
 use Rattle.mx_asm_statement.specs.declared.line.Reason.{Reason}
-use Rattle.mx_asm_line.specs.Lines.{IsLine}
+use Rattle.mx_asm_statement.specs.Lines.{IsLine}
 use Rattle.mx_aout.specs.declared.program.Program.{Program}
 use Rattle.mx_asm.specs.declared.fault.Problem.{Problem}
 use Rattle.mx_asm.specs.declared.fault.Problem.TheVariants.{BadByte, BadNumber, OpenText}

@@ -8,7 +8,7 @@ ghost use Rattle.mx_asm.specs.Text.{AreLinesAccepted, IsAssembled, HasTextFault}
 
 use crate::branch_has_length;
 use mx_aout::alike_is_same;
-use mx_asm_line::{line_begins, line_fits, line_or_fault, one_line};
+use mx_asm_statement::{line_begins, line_fits, line_or_fault, one_line};
 use mx_encode::{
     displacement_keeps_length, filled_fits, immediate_keeps_length, one_chosen, some_chosen,
 };

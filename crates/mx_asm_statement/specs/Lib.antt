@@ -7,3 +7,16 @@ pub mod ValueItems
 pub mod Addresses
 pub mod Arguments
 pub mod Lists
+pub mod Numbers
+pub mod SizedOperands
+pub mod Pairs
+pub mod Moves
+pub mod Transfers
+pub mod Data
+pub mod Operations
+pub mod Stack
+pub mod Statements
+pub mod Opening
+pub mod LineStatements
+pub mod Lines
+pub mod Beginnings

@@ -1,29 +1,57 @@
-//! What a line of an assembler text is made of: its statement, and the operands of its tokens.
+//! A line of assembler: its tokens, the statement that they form, and the instruction that it names.
 #![tactic(auto)]
 
 mod argument;
+mod bits;
 mod branch;
+mod data;
+mod form;
 mod instruction;
 mod item;
+mod laws;
 mod line;
+mod line_laws;
 mod list;
 mod memory;
+mod moves;
+mod number;
+mod opening;
+mod operations;
+mod pair;
+mod reading;
+mod sized_operand;
 mod sorting;
+mod stack;
 mod statement;
+mod statements;
+mod transfers;
 mod value;
 mod value_items;
 
 pub use argument::{Argument, argument_of};
 pub use branch::{Branch, JumpLength};
+pub use data::data_of;
+pub use form::{statement_after_prefix, statement_for};
 pub use instruction::Instruction;
 pub use item::{Item, is_long};
+pub use laws::{code_is_stated, numbers_fit};
 pub use line::{Line, Reason, Saying, StatementStart, refusal};
+pub use line_laws::{line_begins, line_fits, line_or_fault, one_line};
 pub use list::{arguments_of, split_at_comma};
 pub use memory::{Address, address_of};
+pub use moves::{exchange, load_address, sign_extend, zero_extend};
 pub use mx_insn::{Index, Register, Scale, Size};
-pub use mx_lex::Mark;
+pub use mx_insn_words::{Mnemonic, Prefix, Single};
+pub use mx_lex::{LexError, Mark};
 pub use mx_text::Name;
+pub use number::{immediate_in, names_no_other, number_in, waiting};
+pub use pair::{Pair, operands_of};
+pub use reading::read_line;
+pub use sized_operand::{
+    SizedOperand, goes, memory_named, not_byte, says, spot_beside, spot_of, spot_of_size,
+};
 pub use sorting::{is_dotted, item_of, items_of, token_bytes};
 pub use statement::{DataValues, Section, Statement};
+pub use transfers::{call, jump, jump_if, looping};
 pub use value::Value;
 pub use value_items::value_of;

@@ -1,0 +1,14 @@
+pub mod Comment
+pub mod Services
+pub mod Taking
+mod VerbWords
+mod ReadSoFar
+mod WrittenWords
+mod WrittenNumbers
+mod Ended
+mod Faults
+mod ReadAgain
+mod OneHistory
+mod Fronts
+pub mod Held
+pub mod Unended

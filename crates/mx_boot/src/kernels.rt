@@ -5,16 +5,15 @@
 //! These functions print by the crates of texts, which the kernel's own crate doesn't know.
 
 ghost use Rattle.std.specs.Prelude.{◌≡◌, ◌+◌, ◌++◌, ℕ, List, true, false, OnOk, OnErr, IfOk};
-ghost use Rattle.mx_boot_history.specs.Log.{IsHistory};
-ghost use Rattle.mx_boot_history.specs.Taking.{IsTakenBut};
-ghost use Rattle.mx_boot_history.specs.Text.{saved_text};
+ghost use Rattle.mx_boot.specs.Log.{IsHistory};
+ghost use Rattle.mx_boot.specs.Taking.{IsTakenBut};
+ghost use Rattle.mx_boot.specs.Text.{saved_text};
 ghost use Rattle.mx_print_report.specs.Report.{report_text};
-ghost use Rattle.mx_machine_kernel.specs.History.{replay};
-ghost use Rattle.mx_machine_kernel.specs.World.{actors};
+ghost use Rattle.mx_machine.specs.History.{replay};
+ghost use Rattle.mx_machine.specs.World.{actors};
 
-use mx_boot_config::Config;
-use mx_boot_history::{Over, SaveFault, Sink, history_again, save_history};
-use mx_machine_kernel::Kernel;
+use crate::{Config, Over, SaveFault, Sink, history_again, save_history};
+use mx_machine::Kernel;
 use mx_print_report::report_of;
 use mx_word::NoMemory;
 use std::alloc::Global;

@@ -2,10 +2,38 @@
 //! scripts, histories, reports.
 #![tactic(auto)]
 
+mod debug;
+mod draft;
+mod history_laws;
+mod item;
+mod items;
 mod kernels;
+mod laws;
+mod logs;
+mod names;
+mod numbers;
+mod place;
+mod reading;
+mod saving;
+mod script_reading;
+mod scripts;
+mod service;
+mod sink;
+mod terms;
+mod verb;
 
+pub use debug::{DebugLine, debug_script};
+pub use history_laws::{history_again, one_history, one_text};
 pub use kernels::{report, save, saved_again, saved_text};
-pub use mx_boot_config::{Config, FileName, ServiceLine, ServiceLines, config};
-pub use mx_boot_history::{Over, SaveFault, Sink, SinkFault, lines_above, log};
-pub use mx_boot_script::{CodePlace, DebugLine, ScriptLine, SymbolName, debug_script, script};
+pub use laws::{number_again, verb_again, words_again};
+pub use logs::{lines_above, log};
+pub use mx_machine::{Config, FileName, ServiceLine, ServiceLines};
 pub use mx_text::BootError;
+pub use numbers::{actor, count, only_actor, only_count};
+pub use place::{CodePlace, SymbolName, place_named};
+pub use reading::config;
+pub use saving::{SaveFault, save_history};
+pub use script_reading::{ReadsLine, read_lines};
+pub use scripts::{ScriptLine, script, script_line_of};
+pub use sink::{Over, Sink, SinkFault};
+pub use verb::{Verb, verb_named};

@@ -4,8 +4,8 @@ use Rattle.std.specs.Prelude.{if◌then◌else◌, codes}
 use Rattle.std.proofs.Math.Seq.{drop-cons}
 use Rattle.std.proofs.lemmas.Bool.{eq-eqb, ne_eqb}
 use Rattle.std.proofs.lemmas.List.{append-nil, length-append}
-use Rattle.mx_machine_world.specs.declared.config.Config.{Config}
-use Rattle.mx_machine_world.specs.declared.config.ServiceLine.{ServiceLine}
+use Rattle.mx_machine.specs.declared.config.Config.{Config}
+use Rattle.mx_machine.specs.declared.config.ServiceLine.{ServiceLine}
 use Rattle.mx_config_words.specs.Words.{none_since, or_none, receiver_if, receiver_words, service_line, service_lines}
 
 -- a text to which words were appended, or none

@@ -3,8 +3,8 @@ use Rattle.std.specs.Prelude.{ℕ, ◌+◌, ◌==◌, if◌then◌else◌, List,
 use Rattle.std.specs.List.{flat_map, range_with_len}
 use Rattle.std.specs.Fmt.{decimal}
 use Rattle.mx_word.specs.Bits.{has_bit}
-use Rattle.mx_machine_world.specs.declared.config.Config.{Config}
-use Rattle.mx_machine_world.specs.declared.config.ServiceLine.{ServiceLine}
+use Rattle.mx_machine.specs.declared.config.Config.{Config}
+use Rattle.mx_machine.specs.declared.config.ServiceLine.{ServiceLine}
 use Rattle.mx_proc.specs.declared.process.Terms.{Terms}
 use Rattle.mx_proc.specs.declared.windows.Rules.{Rules}
 use Rattle.mx_proc.specs.declared.windows.Rules.TheVariants.{Lenient, Strict}

@@ -4,7 +4,7 @@ ghost use Rattle.std.specs.Prelude.{◌≡◌, ◌++◌, IfOk, OnOk};
 ghost use Rattle.mx_config_words.specs.Words.{head_words, mask_words, service_line, service_lines, services_text, term_words};
 
 use crate::allowed::{push_allowed_calls, push_allowed_receivers, push_allowed_traps};
-use mx_machine_world::{Config, ServiceLine, Terms};
+use mx_machine::{Config, ServiceLine, Terms};
 use mx_print_report::{push_decimal, push_name};
 use std::alloc::{AllocError, Global};
 

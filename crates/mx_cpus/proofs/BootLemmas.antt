@@ -3,15 +3,15 @@ use Rattle.std.proofs.Common.{◌≡◌, ◌∙◌, ℕ, zero, suc, ◌+◌, Lis
 use Rattle.std.specs.Prelude.{All}
 use Rattle.std.proofs.lemmas.List.{length-replicate}
 use Rattle.std.proofs.lemmas.List.Elements.{All-push}
-use Rattle.mx_machine_world.specs.Service.{Service}
-use Rattle.mx_machine_world.specs.Rules.{Rules}
-use Rattle.mx_machine_world.specs.declared.holding.Out.{Out}
-use Rattle.mx_machine_world.specs.Boot.{world_at_boot_with}
-use Rattle.mx_machine_world.specs.History.{BootAndHistory, replay}
-use Rattle.mx_machine_world.specs.World.{World, actors}
+use Rattle.mx_machine.specs.Service.{Service}
+use Rattle.mx_machine.specs.Rules.{Rules}
+use Rattle.mx_machine.specs.declared.holding.Out.{Out}
+use Rattle.mx_machine.specs.Boot.{world_at_boot_with}
+use Rattle.mx_machine.specs.History.{BootAndHistory, replay}
+use Rattle.mx_machine.specs.World.{World, actors}
 use Rattle.atomic_table.specs.Seated.{TableId}
-use Rattle.mx_cpus_lock.specs.Seats.{DeskView, SeatView, empty_desk, new_seat, new_seats}
-use Rattle.mx_cpus_lock.specs.Calls.{desk_beside, out_of_lent, outs_of, world_after}
+use Rattle.mx_cpus.specs.Seats.{DeskView, SeatView, empty_desk, new_seat, new_seats}
+use Rattle.mx_cpus.specs.Calls.{desk_beside, out_of_lent, outs_of, world_after}
 use Rattle.mx_cpus.specs.Boots.{IsBlank}
 
 no_outs : (n : ℕ) → map out_of_lent (replicate n None) ≡ replicate n None

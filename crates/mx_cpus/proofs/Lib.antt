@@ -1,1 +1,4 @@
+pub mod WorldLemmas
+pub mod SeatLemmas
 pub mod BootLemmas
+pub mod LoopLemmas

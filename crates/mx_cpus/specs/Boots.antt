@@ -1,12 +1,12 @@
 -- A machine that was just booted.
 use Rattle.std.specs.Prelude.{◌≡◌, ◌+◌, List, []}
 use Rattle.atomic_table.specs.Seated.{TableId}
-use Rattle.mx_machine_world.specs.declared.history.Record.{Record}
-use Rattle.mx_machine_world.specs.History.{BootAndHistory}
-use Rattle.mx_machine_world.specs.World.{World}
-use Rattle.mx_machine_world.specs.declared.config.Config.{Config}
-use Rattle.mx_cpus_lock.specs.Seats.{DeskView, SeatView, new_seats}
-use Rattle.mx_cpus_lock.specs.Calls.{IsLocked}
+use Rattle.mx_machine.specs.declared.history.Record.{Record}
+use Rattle.mx_machine.specs.History.{BootAndHistory}
+use Rattle.mx_machine.specs.World.{World}
+use Rattle.mx_machine.specs.declared.config.Config.{Config}
+use Rattle.mx_cpus.specs.Seats.{DeskView, SeatView, new_seats}
+use Rattle.mx_cpus.specs.Calls.{IsLocked}
 
 -- A blank: the table of its seats, the world at its boot, and the history so far
 pub record BlankView : Type 0 where

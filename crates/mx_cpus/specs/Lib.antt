@@ -1,3 +1,7 @@
+pub mod Calls
 pub mod Boots
-pub use Rattle.mx_cpus_lock.specs.Calls
-pub use Rattle.mx_cpus_lock.specs.Seats
+pub mod Gates
+pub mod Courses
+pub mod Loops
+pub mod Progresses
+pub use Rattle.mx_loan.specs.Seats

@@ -1,12 +1,12 @@
 //! Boots a machine that threads will share.
 
 ghost use Rattle.std.specs.Prelude.{◌≡◌, ◌<◌, ◌≤◌, [], All, IfOk, None, OnErr, OnOk, length};
-ghost use Rattle.mx_machine_world.specs.Boot.{world_at_boot};
+ghost use Rattle.mx_machine.specs.Boot.{world_at_boot};
 ghost use Rattle.mx_cpus.specs.Boots.{all_seats};
 
 use crate::shared::Shared;
-use mx_cpus_lock::{ActorSeat, Desk, Kernel, Locked, Naming, Service};
-use mx_machine_world::Config;
+use crate::{ActorSeat, Desk, Kernel, Locked, Naming, Service};
+use mx_machine::Config;
 use mx_word::NoMemory;
 use std::alloc::Global;
 use std::marker::Model;

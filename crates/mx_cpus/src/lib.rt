@@ -1,15 +1,37 @@
 //! One machine that many threads share: each call takes the lock, does one thing to the kernel, and
-//! shows the caller's seat what is in the history now.
+//! shows the caller's seat what is in the history now; and the loops of the threads that drive it.
 //!
 //! # How sharing begins and ends
 //!
 //! `boot` gives a `Blank` and the seats of all actors; `open` makes a `Shared` of the blank;
 //! `into_kernel` ends the sharing. Neither a `Blank` nor a `Shared` can be dropped.
+//!
+//! # What lies under the lock
+//!
+//! The kernel and the desk, always in agreement, so that whoever takes the lock finds the kernel in
+//! exactly the state to which its history leads.
+//!
+//! # Threads
+//!
+//! A loop for each processor, and one that makes ticks and respawns.
 #![tactic(auto)]
 
 mod blank;
+mod driving;
+mod gate;
+mod locked;
+mod loops;
+mod naming;
+mod progress;
 mod shared;
+mod side;
 
 pub use blank::{Blank, boot};
-pub use mx_cpus_lock::{ActorSeat, Kernel, Loan, Naming, Service};
+pub use driving::drive;
+pub use gate::Gate;
+pub use locked::Locked;
+pub use loops::{processor, respawner};
+pub use mx_loan::{ActorSeat, Desk, Loan};
+pub use mx_machine::{Kernel, Service};
+pub use naming::Naming;
 pub use shared::Shared;

@@ -1,12 +1,12 @@
 //! The machine that threads share, and its calls under the lock.
 
 ghost use Rattle.std.specs.Prelude.{◌≡◌, IfOk, IfErr, All, length};
-ghost use Rattle.mx_machine_world.specs.declared.events.Event.TheVariants as events;
-ghost use Rattle.mx_cpus_lock.specs.Calls.{IsAnsweredCall, IsGiveCall, IsLoanOf, IsRefusedCall};
-ghost use Rattle.mx_cpus_lock.specs.Calls.{IsRestCall, IsTakeCall, IsAcceptedHistory, StandsIn};
+ghost use Rattle.mx_machine.specs.declared.events.Event.TheVariants as events;
+ghost use Rattle.mx_cpus.specs.Calls.{IsAnsweredCall, IsGiveCall, IsLoanOf, IsRefusedCall};
+ghost use Rattle.mx_cpus.specs.Calls.{IsRestCall, IsTakeCall, IsAcceptedHistory, StandsIn};
 
-use mx_cpus_lock::{ActorSeat, Kernel, Loan, Locked, Naming};
-use mx_machine_world::{Answer, Event, Refusal};
+use crate::{ActorSeat, Kernel, Loan, Locked, Naming};
+use mx_machine::{Answer, Event, Refusal};
 use std::sync::{Mutex, Wait};
 
 /// The machine that threads share: a kernel under a lock. Each call takes its actor's seat and

@@ -10,8 +10,8 @@ use Rattle.mx_exec.specs.Step.{one_step}
 use Rattle.mx_image.specs.declared.runs.Stop.{Stop}
 use Rattle.mx_image.specs.declared.runs.Stop.TheVariants as stop
 use Rattle.mx_image.specs.Run.{run_of, RunEnd, run_end_from}
-use Rattle.mx_machine_kernel.specs.Out.{Out}
-use Rattle.mx_machine_kernel.specs.Held.{held_run, then_held, run_by_stop, out_after_run}
+use Rattle.mx_machine.specs.declared.holding.Out.{Out}
+use Rattle.mx_machine.specs.Held.{held_run, then_held, run_by_stop, out_after_run}
 use Rattle.mx_debug.specs.Halts.{held_after, has_stopped, is_over}
 
 -- runs of what is held join

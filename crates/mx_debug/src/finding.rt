@@ -3,7 +3,7 @@
 ghost use Rattle.std.specs.Prelude.{◌≡◌, ℕ, ◌≤◌, Some, None, IfOk, IfErr, OnErr, length, take, slice_get};
 ghost use Rattle.mx_dis.specs.Names.{before_zero};
 ghost use Rattle.mx_debug.specs.Finding.{has_name, first_named};
-ghost use Rattle.mx_machine_kernel.specs.History.{replay};
+ghost use Rattle.mx_machine.specs.History.{replay};
 ghost use Rattle.mx_debug.specs.declared.error.DebugError.TheVariants as errors;
 
 use crate::error::DebugError;
@@ -11,7 +11,7 @@ use crate::points::Debugger;
 use mx_aout::{Program, Symbol};
 use mx_exec::Image;
 use mx_image::Runs;
-use mx_machine_kernel::Kernel;
+use mx_machine::Kernel;
 use mx_proc::Delivery;
 
 /// A name's bytes up to the first zero byte.

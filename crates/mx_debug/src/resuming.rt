@@ -8,7 +8,7 @@ ghost use Rattle.mx_debug.specs.Halts.{Halts, is_breakpoint};
 
 use crate::halt::{Halt, HaltCause, NextPlace, cause_of};
 use crate::points::Debugger;
-use mx_machine_kernel::{Held, held_runs_join};
+use mx_machine::{Held, held_runs_join};
 use mx_proc::Slot;
 
 /// How many marks there are, one for each remainder of an address.

@@ -2,8 +2,8 @@
 use Rattle.std.specs.Prelude.{◌≡◌, ℕ, ◌+◌, List, [], ◌∷◌, ◌++◌, codes}
 use Rattle.mx_insn_words.specs.declared.start.Directive.TheVariants.{Data1}
 use Rattle.mx_insn_words.specs.Words.{directive_word}
-use Rattle.mx_print_insn.specs.Numbers.{number_text, eight_digits}
-use Rattle.mx_print_insn.specs.Statement.{statement_text}
+use Rattle.mx_insn_words.specs.Numbers.{number_text, eight_digits}
+use Rattle.mx_insn_words.specs.Statement.{statement_text}
 use Rattle.mx_dis.specs.declared.part.Part.{Part}
 use Rattle.mx_dis.specs.declared.part.Part.TheVariants.{Instruction, Byte}
 use Rattle.mx_dis.specs.Parting.{IsParting, part_size}

@@ -2,7 +2,7 @@
 use Rattle.std.specs.Prelude.{ℕ, ◌%◌, ◌==◌, ◌&&◌, nat_le, if◌then◌else◌, List, [], ◌∷◌, ◌++◌, codes, map}
 use Rattle.std.specs.List.{flat_map}
 use Rattle.mx_aout.specs.declared.program.Symbol.{Symbol}
-use Rattle.mx_print_insn.specs.Numbers.{eight_digits}
+use Rattle.mx_insn_words.specs.Numbers.{eight_digits}
 
 -- the letter of a class, by its low three bits: undefined, absolute, text, data or bss
 abbrev pub letter_of : ℕ → List ℕ

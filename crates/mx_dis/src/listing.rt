@@ -6,7 +6,7 @@ ghost use Rattle.mx_dis.specs.Listing.{part_text, listing_line, IsListing};
 
 use crate::part::{Part, first_part};
 use mx_aout::Program;
-use mx_print_insn::{push_eight_digits, push_number, push_statement};
+use mx_insn_words::{push_eight_digits, push_number, push_statement};
 use mx_word::NoMemory;
 use std::alloc::{AllocError, Global};
 

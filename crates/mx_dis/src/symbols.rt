@@ -4,7 +4,7 @@ ghost use Rattle.std.specs.Prelude.{◌≡◌, ◌++◌, OnOk, IfOk, string_byte
 ghost use Rattle.mx_dis.specs.Names.{letter_of, visible_byte, name_text, name_line, name_lines};
 
 use mx_aout::{Program, Symbol};
-use mx_print_insn::push_eight_digits;
+use mx_insn_words::push_eight_digits;
 use mx_word::NoMemory;
 use std::alloc::{AllocError, Global};
 

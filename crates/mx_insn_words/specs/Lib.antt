@@ -1,3 +1,7 @@
 pub mod Named
 pub mod Words
 pub mod Registers
+pub mod Numbers
+pub mod Operands
+pub mod Statement
+pub mod Listed

@@ -1,14 +1,22 @@
-//! The table of words: the word of each mnemonic, register, size, prefix and directive.
+//! The words of instructions, and how an instruction is printed.
 #![tactic(auto)]
 
 mod laws;
 mod mnemonic;
 mod named;
+mod number;
+mod operand;
 mod registers;
 mod start;
+mod statement;
 mod table;
+mod words;
+mod written;
 
 pub use laws::{one_register_or_size, one_start};
 pub use mnemonic::{Mnemonic, Single};
+pub use number::{push_eight_digits, push_number};
 pub use registers::{register_named, size_named};
 pub use start::{Directive, Prefix, WordStart, mnemonic_named, start_named};
+pub use statement::push_statement;
+pub use written::{Written, WrittenOperands};

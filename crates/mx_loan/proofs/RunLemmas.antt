@@ -1,11 +1,11 @@
 -- What a loan was lent, and what has become of it.
 use Rattle.std.proofs.Common.{◌≡◌, ◌∙◌, ◌+◌, ◌-◌, ℕ, refl, sym, ap, arith, min}
 use Rattle.mx_image.specs.Run.{run_of}
-use Rattle.mx_machine_world.specs.Stop.{Stop}
-use Rattle.mx_machine_world.specs.Stop.TheVariants.{Spent}
-use Rattle.mx_machine_world.specs.declared.holding.Out.{Out}
-use Rattle.mx_machine_world.specs.Held.{IsRunOf, held_run, out_after_run, run_by_stop}
-use Rattle.mx_machine_world.proofs.LentLemmas.{run_none}
+use Rattle.mx_machine.specs.Stop.{Stop}
+use Rattle.mx_machine.specs.Stop.TheVariants.{Spent}
+use Rattle.mx_machine.specs.declared.holding.Out.{Out}
+use Rattle.mx_machine.specs.Held.{IsRunOf, held_run, out_after_run, run_by_stop}
+use Rattle.mx_machine.proofs.LentLemmas.{run_none}
 use Rattle.mx_loan.specs.Seats.{HasMadeNoStep, IsAdvanced}
 
 -- it is a run of no steps

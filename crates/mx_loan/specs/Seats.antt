@@ -3,15 +3,15 @@ use Rattle.std.specs.Prelude.{◌≡◌, ◌<◌, ℕ, Bool, if◌then◌else◌
 use mathlib.Core.List.{IsPrefix}
 use Rattle.atomic_table.specs.Seated.{TableId}
 use Rattle.atomic_table.specs.Table.{Me}
-use Rattle.mx_machine_world.specs.History.{part_of}
-use Rattle.mx_machine_world.specs.declared.history.Record.{Record}
-use Rattle.mx_machine_world.specs.declared.history.Recorded.{Recorded}
-use Rattle.mx_machine_world.specs.declared.history.Recorded.TheVariants.{Take, Back}
-use Rattle.mx_machine_world.specs.declared.holding.Out.{Out}
-use Rattle.mx_machine_world.specs.Held.{IsRunOf}
-use Rattle.mx_machine_world.specs.Stop.TheVariants.{Spent}
+use Rattle.mx_machine.specs.History.{part_of}
+use Rattle.mx_machine.specs.declared.history.Record.{Record}
+use Rattle.mx_machine.specs.declared.history.Recorded.{Recorded}
+use Rattle.mx_machine.specs.declared.history.Recorded.TheVariants.{Take, Back}
+use Rattle.mx_machine.specs.declared.holding.Out.{Out}
+use Rattle.mx_machine.specs.Held.{IsRunOf}
+use Rattle.mx_machine.specs.Stop.TheVariants.{Spent}
 use Rattle.mx_image.specs.Run.{run_of}
-use Rattle.mx_loan_shown.specs.declared.shown.Shown.{Shown}
+use Rattle.mx_loan_rule.specs.declared.shown.Shown.{Shown}
 use Rattle.mx_loan_rule.specs.declared.knowledge.Announcement.{Announcement}
 use Rattle.mx_loan_rule.specs.declared.knowledge.Knowledge.{Knowledge}
 use Rattle.mx_loan_rule.specs.Rule.{actor_half, kernel_half, lent_to, word_at_rest}

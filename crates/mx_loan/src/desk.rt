@@ -6,7 +6,7 @@
 //! splits the seats again. So between two calls a word is 0, at home, or 2, lent out.
 
 ghost use Rattle.std.specs.Prelude.{◌≡◌, ◌<◌, None, Some, IfOk, length};
-ghost use Rattle.mx_machine_world.specs.Held.{IsRunOf};
+ghost use Rattle.mx_machine.specs.Held.{IsRunOf};
 ghost use Rattle.mx_loan_rule.specs.Rule.{lent_to};
 ghost use Rattle.mx_loan.specs.Seats.{HasMadeNoStep, IsSeatOf, empty_desk, new_seats, new_loan};
 ghost use Rattle.mx_loan.specs.Seats.{desk_after_take, desk_after_back, desk_after_event};
@@ -15,9 +15,8 @@ ghost use Rattle.mx_loan.specs.Seats.{seat_after_take, seat_after_back, seat_aft
 use crate::loan::Loan;
 use crate::seat::ActorSeat;
 use mx_loan_rule as steps;
-use mx_loan_rule::{ActorTable, Announcement, TableSeat};
-use mx_loan_shown::Shown;
-use mx_machine_world::{Out, Record, Recorded};
+use mx_loan_rule::{ActorTable, Announcement, Shown, TableSeat};
+use mx_machine::{Out, Record, Recorded};
 use std::alloc::{AllocError, Global};
 use std::marker::Model;
 

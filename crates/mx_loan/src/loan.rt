@@ -1,12 +1,12 @@
 //! A loan: a process that is lent to an actor, who may only run it and bring it back.
 
 ghost use Rattle.std.specs.Prelude.{◌≡◌};
-ghost use Rattle.mx_machine_world.specs.Held.{IsRunOf};
+ghost use Rattle.mx_machine.specs.Held.{IsRunOf};
 ghost use Rattle.mx_loan.specs.Seats.{HasMadeNoStep, IsAdvanced};
 
 use mx_exec::Image;
-use mx_loan_shown::Shown;
-use mx_machine_world::{Held, Out, Stop, held_runs_join};
+use mx_loan_rule::Shown;
+use mx_machine::{Held, Out, Stop, held_runs_join};
 use std::marker::Model;
 
 /// A process that is lent to an actor. It can't be dropped or copied: only `Desk::redeem` ends it.

@@ -1,7 +1,7 @@
 //! An actor's seat at the lending desk: what the actor knows of the history.
 
 ghost use Rattle.std.specs.Prelude.{◌≡◌, ◌<◌};
-ghost use Rattle.mx_machine_world.specs.History.{part_of};
+ghost use Rattle.mx_machine.specs.History.{part_of};
 
 use mx_loan_rule::TableSeat;
 use std::marker::Model;

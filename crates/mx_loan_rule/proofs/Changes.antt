@@ -1,7 +1,7 @@
 -- How a step changes the view that has both halves.
 use Rattle.std.specs.Prelude.{◌≡◌, ◌≢◌, ℕ, List, [], ◌++◌}
-use Rattle.mx_machine_world.specs.History.{part_of}
-use Rattle.mx_machine_world.specs.declared.history.Record.{Record}
+use Rattle.mx_machine.specs.History.{part_of}
+use Rattle.mx_machine.specs.declared.history.Record.{Record}
 use Rattle.mx_loan_rule.specs.declared.knowledge.Knowledge.{Knowledge}
 use Rattle.mx_loan_rule.specs.declared.knowledge.Announcement.{Announcement}
 use Rattle.mx_loan_rule.specs.Rule.{IsJoined, JoinedFacts, lent_to}

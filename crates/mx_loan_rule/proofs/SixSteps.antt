@@ -4,10 +4,10 @@ use Rattle.std.specs.Prelude.{cond}
 use Rattle.std.proofs.lemmas.List.{append-nil, get_or-set_other, same_from_push}
 use Rattle.std.proofs.lemmas.List.Elements.{filter-append}
 use mathlib.Core.List.{IsPrefix}
-use Rattle.mx_machine_world.specs.History.{part_of}
-use Rattle.mx_machine_world.specs.declared.history.Record.{Record}
-use Rattle.mx_machine_world.specs.declared.history.Recorded.TheVariants.{Take, Back}
-use Rattle.mx_machine_world.specs.declared.holding.Out.{Out}
+use Rattle.mx_machine.specs.History.{part_of}
+use Rattle.mx_machine.specs.declared.history.Record.{Record}
+use Rattle.mx_machine.specs.declared.history.Recorded.TheVariants.{Take, Back}
+use Rattle.mx_machine.specs.declared.holding.Out.{Out}
 use Rattle.mx_loan_rule.specs.declared.knowledge.Knowledge.{Knowledge}
 use Rattle.mx_loan_rule.specs.declared.knowledge.Announcement.{Announcement}
 use Rattle.mx_loan_rule.specs.Rule.{lent_to, word_at_rest, WordMeans, home, out, offer, back, home_with_note_due, out_with_note_due, JoinedFacts, IsJoined, view_after_offer, view_after_take, view_after_return, view_after_close, view_after_record, view_after_note, value_of_shown}

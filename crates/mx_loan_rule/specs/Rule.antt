@@ -15,11 +15,11 @@ use mathlib.Core.List.{IsPrefix}
 use mathlib.Core.Option.{some}
 use lib.ListN.{get_elem?}
 use Rattle.atomic_table.specs.Table.{Me, Step}
-use Rattle.mx_machine_world.specs.History.{part_of}
-use Rattle.mx_machine_world.specs.declared.history.Record.{Record}
-use Rattle.mx_machine_world.specs.declared.history.Recorded.TheVariants.{Take, Back}
-use Rattle.mx_machine_world.specs.declared.holding.Out.{Out}
-use Rattle.mx_loan_shown.specs.declared.shown.Shown.{Shown}
+use Rattle.mx_machine.specs.History.{part_of}
+use Rattle.mx_machine.specs.declared.history.Record.{Record}
+use Rattle.mx_machine.specs.declared.history.Recorded.TheVariants.{Take, Back}
+use Rattle.mx_machine.specs.declared.holding.Out.{Out}
+use Rattle.mx_loan_rule.specs.declared.shown.Shown.{Shown}
 use Rattle.mx_loan_rule.specs.declared.knowledge.Knowledge.{Knowledge}
 use Rattle.mx_loan_rule.specs.declared.knowledge.Announcement.{Announcement}
 use Rattle.mx_loan_rule.specs.declared.knowledge.TableSizes.{TableSizes}

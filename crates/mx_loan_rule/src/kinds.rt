@@ -1,8 +1,8 @@
 //! The rule of the loans' table, and the kinds of step that preserve it.
 
+use crate::Shown;
 use crate::knowledge::{Announcement, Knowledge, TableSizes};
 use atomic_table::{Join, Play, Split, TableRule};
-use mx_loan_shown::Shown;
 
 /// What each word means for its actor, and that all seats agree on one history.
 pub struct LoanRule;

@@ -1,7 +1,7 @@
 //! What a seat of the loans' table knows, and what a step announces.
 
-use mx_loan_shown::Shown;
-use mx_machine_world::{Out, Record};
+use crate::Shown;
+use mx_machine::{Out, Record};
 use std::collections::LinkedList;
 
 /// What a seat of the table knows: the kernel's half, an actor's half, or, while a call has joined them,

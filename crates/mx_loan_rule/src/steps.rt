@@ -2,22 +2,22 @@
 //! kernel's and an actor's.
 
 ghost use Rattle.std.specs.Prelude.{◌≡◌, ℕ, ◌<◌, ◌+◌, ◌++◌, ◌∷◌, ◌⊎◌, List, [], length, true, Some, IfOk, replicate};
-ghost use Rattle.mx_machine_world.specs.declared.history.Record.{Record};
-ghost use Rattle.mx_machine_world.specs.declared.history.Recorded.TheVariants as recorded;
-ghost use Rattle.mx_machine_world.specs.declared.holding.Out.{Out};
+ghost use Rattle.mx_machine.specs.declared.history.Record.{Record};
+ghost use Rattle.mx_machine.specs.declared.history.Recorded.TheVariants as recorded;
+ghost use Rattle.mx_machine.specs.declared.holding.Out.{Out};
 ghost use Rattle.mx_loan_rule.specs.Rule.{at_home, offered, lent_out, brought_back};
 ghost use Rattle.mx_loan_rule.specs.Rule.{lent_to, joined_view, kernel_half, actor_half, word_at_rest, founder_view, sizes_of};
 ghost use Rattle.mx_loan_rule.specs.Rule.{founder_after_birth, newborn_view, value_of_shown, IsJoined, JoinedFacts};
 ghost use Rattle.mx_loan_rule.specs.Rule.{view_after_offer, view_after_take, view_after_return};
 ghost use Rattle.mx_loan_rule.specs.Rule.{view_after_close, view_after_record, view_after_note};
 
+use crate::Shown;
 use crate::kinds::{
     CloseStep, FoundingEnd, Halves, LoanRule, NoteStep, OfferStep, RecordStep, ReturnStep,
     SeatBirth, TakeStep,
 };
 use crate::knowledge::{Announcement, Knowledge, TableSizes};
 use atomic_table::{Seat, Table};
-use mx_loan_shown::Shown;
 use std::alloc::{AllocError, Global};
 
 /// One word for each actor. It has no other content when the program runs.

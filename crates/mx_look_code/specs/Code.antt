@@ -6,7 +6,7 @@ use Rattle.mx_decode.specs.Decode.{front}
 use Rattle.mx_aout.specs.declared.program.Symbol.{Symbol}
 use Rattle.mx_exec.specs.declared.image.Image.{Image}
 use Rattle.mx_exec.specs.Image.{code_bytes, dword_sum}
-use Rattle.mx_print_insn.specs.Numbers.{eight_digits, hexadecimal}
+use Rattle.mx_insn_words.specs.Numbers.{eight_digits, hexadecimal}
 use Rattle.mx_dis.specs.declared.part.Part.TheVariants.{Instruction, Byte}
 use Rattle.mx_dis.specs.Listing.{part_text}
 use Rattle.mx_dis.specs.Names.{name_text}

@@ -8,7 +8,7 @@ use crate::nearest::nearest_symbol;
 use mx_aout::Symbol;
 use mx_decode::decode;
 use mx_exec::Image;
-use mx_print_insn::{push_eight_digits, push_number, push_statement};
+use mx_insn_words::{push_eight_digits, push_number, push_statement};
 use std::alloc::AllocError;
 use std::fmt::Write;
 

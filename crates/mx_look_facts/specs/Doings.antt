@@ -2,11 +2,11 @@
 use Rattle.std.specs.Prelude.{Bool, true, false, ◌==◌, Option, Some, None}
 use Rattle.mx_proc.specs.declared.process.DeathCause.{DeathCause}
 use Rattle.mx_proc.specs.declared.process.DeathCause.TheVariants as cause
-use Rattle.mx_look_glance.specs.declared.doing.Awaited.{Awaited}
-use Rattle.mx_look_glance.specs.declared.doing.Awaited.TheVariants as awaited
-use Rattle.mx_look_glance.specs.declared.doing.Doing.{Doing}
-use Rattle.mx_look_glance.specs.declared.doing.Doing.TheVariants.{Home, Ready, Out, Doomed, Sending, Calling, Receiving, Awaiting, Down}
-use Rattle.mx_look_glance.specs.declared.slots.SlotGlance.{SlotGlance}
+use Rattle.mx_look_facts.specs.declared.doing.Awaited.{Awaited}
+use Rattle.mx_look_facts.specs.declared.doing.Awaited.TheVariants as awaited
+use Rattle.mx_look_facts.specs.declared.doing.Doing.{Doing}
+use Rattle.mx_look_facts.specs.declared.doing.Doing.TheVariants.{Home, Ready, Out, Doomed, Sending, Calling, Receiving, Awaiting, Down}
+use Rattle.mx_look_facts.specs.declared.slot_glances.SlotGlance.{SlotGlance}
 
 abbrev pub is_ready : Doing → Bool
 is_ready Ready = true

@@ -1,9 +1,9 @@
 -- What has changed of a slot (our own).
 use Rattle.std.specs.Prelude.{ℕ, ◌==◌, ◌&&◌, not, nat_lt, nat_le, Bool, true, false, Option, Some, None, is_some, is_none, if◌then◌else◌}
-use Rattle.mx_machine_world.specs.declared.history.Recorded.{Recorded}
-use Rattle.mx_machine_world.specs.declared.history.Recorded.TheVariants.{Take, Back, Tick}
-use Rattle.mx_look_glance.specs.declared.slots.SlotGlance.{SlotGlance}
-use Rattle.mx_look_glance.specs.declared.glance.CpuGlance.{CpuGlance}
+use Rattle.mx_machine.specs.declared.history.Recorded.{Recorded}
+use Rattle.mx_machine.specs.declared.history.Recorded.TheVariants.{Take, Back, Tick}
+use Rattle.mx_look_facts.specs.declared.slot_glances.SlotGlance.{SlotGlance}
+use Rattle.mx_look_facts.specs.declared.glance.CpuGlance.{CpuGlance}
 use Rattle.mx_look_facts.specs.declared.step.Step.{Step}
 use Rattle.mx_look_facts.specs.Doings.{same_doing}
 use Rattle.mx_look_facts.specs.Step.{slot_in, held_before}

@@ -1,12 +1,12 @@
 -- Whom a record is about, and who holds what (our own).
 use Rattle.std.specs.Prelude.{ℕ, nat_lt, Option, Some, None, slice_index_or, if◌then◌else◌}
 use Rattle.std.specs.Option.{option_map}
-use Rattle.mx_machine_world.specs.declared.history.Recorded.{Recorded}
-use Rattle.mx_machine_world.specs.declared.history.Recorded.TheVariants.{Take, Back, Line, Tick, Kill, Respawn}
-use Rattle.mx_look_glance.specs.declared.slots.SlotGlance.{SlotGlance}
+use Rattle.mx_machine.specs.declared.history.Recorded.{Recorded}
+use Rattle.mx_machine.specs.declared.history.Recorded.TheVariants.{Take, Back, Line, Tick, Kill, Respawn}
+use Rattle.mx_look_facts.specs.declared.slot_glances.SlotGlance.{SlotGlance}
 use Rattle.mx_proc.specs.EndpointNumbers.{slot_of}
-use Rattle.mx_look_glance.specs.declared.glance.CpuGlance.{CpuGlance}
-use Rattle.mx_look_glance.specs.declared.glance.Glance.{Glance}
+use Rattle.mx_look_facts.specs.declared.glance.CpuGlance.{CpuGlance}
+use Rattle.mx_look_facts.specs.declared.glance.Glance.{Glance}
 use Rattle.mx_look_facts.specs.declared.step.Step.{Step}
 
 -- a slot, a processor, the owner of a line

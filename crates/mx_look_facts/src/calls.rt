@@ -6,7 +6,7 @@ ghost use Rattle.mx_look_facts.specs.Calls.{asks_kernel, is_served, kernel_call}
 use crate::doings::{is_down, is_ready};
 use crate::going::acting;
 use crate::step::{Step, slot_in};
-use mx_look_glance::{CpuGlance, SlotGlance};
+use crate::{CpuGlance, SlotGlance};
 use mx_proc::SYSTEM;
 
 /// The number of the call SENDREC.

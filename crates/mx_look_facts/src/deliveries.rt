@@ -5,7 +5,7 @@ ghost use Rattle.mx_look_facts.specs.Deliveries.{got_from, delivery_to, is_pendi
 
 use crate::going::got;
 use crate::step::Step;
-use mx_look_glance::{Delivery, SlotGlance};
+use crate::{Delivery, SlotGlance};
 
 /// How many slots from one on got a message.
 #[tactic(auto, unfolding(crate::specs::Deliveries::got_from))]

@@ -3,7 +3,7 @@
 ghost use Rattle.std.specs.Prelude.{◌≡◌};
 ghost use Rattle.mx_look_facts.specs.Doings.{is_ready, is_waiting, is_listening, is_out, is_down, same_cause, same_awaited, same_doing};
 
-use mx_look_glance::{Awaited, DeathCause, Doing};
+use crate::{Awaited, DeathCause, Doing};
 
 /// Whether a process is ready.
 pub fn is_ready(doing: Doing) -> bool

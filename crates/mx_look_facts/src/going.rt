@@ -7,9 +7,9 @@ ghost use Rattle.mx_look_facts.specs.Going.{is_trapped, acting, is_acted, calls_
 
 use crate::doings::{is_listening, is_out, is_ready, is_waiting};
 use crate::step::{Step, held_before, slot_in};
+use crate::{CpuGlance, Glance};
 use mx_image::Stop;
-use mx_look_glance::{CpuGlance, Glance};
-use mx_machine_world::Recorded;
+use mx_machine::Recorded;
 
 /// The number of the call RECEIVE.
 const RECEIVE: u32 = 2;

@@ -1,21 +1,32 @@
-//! The facts of a step of a machine: what a record of a history did, as the glances at the worlds
-//! before and after its event show it.
+//! What an event did: glances at the worlds before and after it, and the facts of the step between them.
+//!
+//! # In place
+//!
+//! A glance is about six kilobytes long. `Glance::look` fills one that is there, since a new one is
+//! moved from call to call.
 #![tactic(auto)]
 
 mod calls;
 mod deliveries;
+mod doing;
 mod doings;
+mod glance;
 mod going;
+mod images;
+mod kept;
+mod slot_glances;
 mod slots;
 mod step;
 
 pub use calls::{asks_kernel, kernel_call};
 pub use deliveries::{delivery_to, is_new_bit};
+pub use doing::{Awaited, Doing};
 pub use doings::{is_ready, same_doing};
+pub use glance::{CpuGlance, Glance};
 pub use going::{gone_on, got, is_acted};
-pub use mx_look_glance::{
-    Awaited, CpuGlance, DeathCause, Delivery, DeliveryKind, Doing, Glance, ImageGlance, Machine,
-    SlotGlance,
-};
+pub use images::ImageGlance;
+pub use mx_machine::Machine;
+pub use mx_proc::{DeathCause, Delivery, DeliveryKind};
+pub use slot_glances::SlotGlance;
 pub use slots::{has_changed, has_rung, is_renewed};
 pub use step::{Step, about, cpu_in, held_after, held_before, slot_in};

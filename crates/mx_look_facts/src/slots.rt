@@ -3,10 +3,10 @@
 ghost use Rattle.std.specs.Prelude.{◌≡◌};
 ghost use Rattle.mx_look_facts.specs.Slots.{ticks_used, is_new_quantum, has_changed, has_rung, is_renewed};
 
+use crate::SlotGlance;
 use crate::doings::same_doing;
 use crate::step::{Step, held_before, slot_in};
-use mx_look_glance::SlotGlance;
-use mx_machine_world::Recorded;
+use mx_machine::Recorded;
 
 /// Whether what a slot's process does has changed otherwise than by a take.
 pub fn has_changed(step: &Step, slot: u32) -> bool

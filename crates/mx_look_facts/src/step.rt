@@ -4,8 +4,8 @@ ghost use Rattle.std.specs.Prelude.{◌≡◌, None, Some, MatchOption};
 ghost use Rattle.std.specs.Option.{option_map};
 ghost use Rattle.mx_look_facts.specs.Step.{slot_in, cpu_in, owner_in, slot_held, held_before, held_after, about};
 
-use mx_look_glance::{CpuGlance, Glance, SlotGlance};
-use mx_machine_world::Recorded;
+use crate::{CpuGlance, Glance, SlotGlance};
+use mx_machine::Recorded;
 use mx_proc::slot_of;
 
 /// A record of a history, with the world in which its event is made, and the world after it.

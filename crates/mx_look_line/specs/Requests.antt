@@ -2,7 +2,7 @@
 use Rattle.std.specs.Prelude.{ℕ, ◌+◌, ◌==◌, Bool, List, [], ◌∷◌, length, take, drop, position, Option, Some, None, codes, if◌then◌else◌, nat_lt}
 use Rattle.std.specs.Str.{bytes_eq}
 use Rattle.mx_text.specs.Fields.{fields, only, ◌>>=◌}
-use Rattle.mx_boot_script.specs.Script.{count_field, only_count}
+use Rattle.mx_boot.specs.Script.{count_field, only_count}
 use Rattle.mx_look_line.specs.declared.position_word.PositionWord.{PositionWord}
 use Rattle.mx_look_line.specs.declared.position_word.PositionWord.TheVariants.{Below, End}
 use Rattle.mx_look_line.specs.declared.request.Request.{Request}

@@ -3,7 +3,7 @@
 ghost use Rattle.std.specs.Prelude.{◌≡◌, position};
 ghost use Rattle.mx_look_line.specs.Requests.{is_dot, position_of_word};
 
-use mx_boot_script::count;
+use mx_boot::count;
 
 /// A position of a history, as it is typed: `K`, `K.J` or `end`.
 #[derive(Clone, Copy, Debug, PartialEq, Eq)]

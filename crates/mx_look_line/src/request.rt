@@ -6,7 +6,7 @@ ghost use Rattle.mx_look_line.specs.Requests.{count_or_one, request_by, request_
 
 use crate::position_word::{PositionWord, position_named};
 use crate::verb::{Verb, verb_named};
-use mx_boot_script::{count, only_count};
+use mx_boot::{count, only_count};
 use mx_text::{next_field, one_field};
 
 /// How many bytes a line has at most.

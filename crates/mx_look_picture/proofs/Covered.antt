@@ -1,8 +1,8 @@
 -- Each column of a strip is in just one run of a slot, and shows what the run's first column shows.
 use Rattle.std.proofs.Common.{◌≡◌, ℕ, zero, suc, ◌+◌, ◌-◌, ◌<◌, ◌≤◌, ◌==◌, not, true, false, Option, refl, subst, arith}
 use Rattle.std.proofs.lemmas.Bool.{or_parts, not-false}
-use Rattle.mx_look_values.specs.declared.scene.Scene.{Scene}
-use Rattle.mx_look_values.specs.declared.scene.Standing.{Standing}
+use Rattle.mx_look_picture.specs.declared.scene_values.Scene.{Scene}
+use Rattle.mx_look_picture.specs.declared.scene_values.Standing.{Standing}
 use Rattle.mx_look_picture.specs.declared.layout.Strip.{Strip}
 use Rattle.mx_look_picture.specs.Scene.{same_seen}
 use Rattle.mx_look_picture.specs.Bars.{seen_at, begins, next_run, run_end, EachIsCovered}

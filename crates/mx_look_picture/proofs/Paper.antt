@@ -1,19 +1,19 @@
 -- Strips and the legend lie on the paper.
 use Rattle.std.proofs.Common.{ℕ, ◌+◌, ◌-◌, ◌*◌, ◌/◌, ◌%◌, ◌<◌, ◌≤◌, Option, Some, None, [], ◌∷◌, length, arith}
 use Rattle.std.specs.Prelude.{◌==◌, is_some}
-use Rattle.mx_look_facts.specs.Doing.{Doing}
-use Rattle.mx_look_facts.specs.Doing.TheVariants as doing
+use Rattle.mx_look_facts.specs.declared.doing.Doing.{Doing}
+use Rattle.mx_look_facts.specs.declared.doing.Doing.TheVariants as doing
 use Rattle.mx_look_facts.specs.declared.step.Step.{Step}
-use Rattle.mx_look_values.specs.declared.values.Hint.{Hint}
-use Rattle.mx_look_values.specs.declared.values.Hint.TheVariants as hint
-use Rattle.mx_look_values.specs.declared.values.BarKind.TheVariants as kind
-use Rattle.mx_look_values.specs.declared.values.LabelKind.TheVariants as written
-use Rattle.mx_look_values.specs.declared.values.Anchor.TheVariants as anchor
-use Rattle.mx_look_values.specs.declared.values.Text.TheVariants as text
-use Rattle.mx_look_values.specs.declared.values.Item.{Item}
-use Rattle.mx_look_values.specs.declared.values.Item.TheVariants as item
-use Rattle.mx_look_values.specs.declared.scene.Scene.{Scene}
-use Rattle.mx_look_values.specs.declared.scene.Standing.{Standing}
+use Rattle.mx_look_picture.specs.declared.values.Hint.{Hint}
+use Rattle.mx_look_picture.specs.declared.values.Hint.TheVariants as hint
+use Rattle.mx_look_picture.specs.declared.values.BarKind.TheVariants as kind
+use Rattle.mx_look_picture.specs.declared.values.LabelKind.TheVariants as written
+use Rattle.mx_look_picture.specs.declared.values.Anchor.TheVariants as anchor
+use Rattle.mx_look_picture.specs.declared.values.Text.TheVariants as text
+use Rattle.mx_look_picture.specs.declared.values.Item.{Item}
+use Rattle.mx_look_picture.specs.declared.values.Item.TheVariants as item
+use Rattle.mx_look_picture.specs.declared.scene_values.Scene.{Scene}
+use Rattle.mx_look_picture.specs.declared.scene_values.Standing.{Standing}
 use Rattle.mx_look_picture.specs.declared.layout.Strip.{Strip}
 use Rattle.mx_look_picture.specs.declared.layout.Spot.{Spot}
 use Rattle.mx_look_picture.specs.declared.bars.Span.{Span}

@@ -2,18 +2,18 @@
 -- has one bar; when one of these changes, a new bar begins. A dead process has no bar.
 use Rattle.std.specs.Prelude.{ℕ, IsTrue, find, ◌≡◌, ◌+◌, ◌-◌, ◌*◌, ◌<◌, ◌≤◌, ◌==◌, ◌||◌, not, unwrap_or, if◌then◌else◌, Bool, List, [], ◌∷◌, Option, Some, None}
 use Rattle.std.specs.List.{flat_map, range_with_len}
-use Rattle.mx_look_facts.specs.Doing.{Doing}
-use Rattle.mx_look_facts.specs.Doing.TheVariants as doing
-use Rattle.mx_look_values.specs.declared.values.Hint.{Hint}
-use Rattle.mx_look_values.specs.declared.values.Hint.TheVariants as hint
-use Rattle.mx_look_values.specs.declared.values.BarKind.{BarKind}
-use Rattle.mx_look_values.specs.declared.values.BarKind.TheVariants as kind
-use Rattle.mx_look_values.specs.declared.values.LabelKind.TheVariants as written
-use Rattle.mx_look_values.specs.declared.values.Anchor.TheVariants as anchor
-use Rattle.mx_look_values.specs.declared.values.Text.TheVariants as text
-use Rattle.mx_look_values.specs.declared.values.Value.{Value}
-use Rattle.mx_look_values.specs.declared.scene.Scene.{Scene}
-use Rattle.mx_look_values.specs.declared.scene.Standing.{Standing}
+use Rattle.mx_look_facts.specs.declared.doing.Doing.{Doing}
+use Rattle.mx_look_facts.specs.declared.doing.Doing.TheVariants as doing
+use Rattle.mx_look_picture.specs.declared.values.Hint.{Hint}
+use Rattle.mx_look_picture.specs.declared.values.Hint.TheVariants as hint
+use Rattle.mx_look_picture.specs.declared.values.BarKind.{BarKind}
+use Rattle.mx_look_picture.specs.declared.values.BarKind.TheVariants as kind
+use Rattle.mx_look_picture.specs.declared.values.LabelKind.TheVariants as written
+use Rattle.mx_look_picture.specs.declared.values.Anchor.TheVariants as anchor
+use Rattle.mx_look_picture.specs.declared.values.Text.TheVariants as text
+use Rattle.mx_look_picture.specs.declared.values.Value.{Value}
+use Rattle.mx_look_picture.specs.declared.scene_values.Scene.{Scene}
+use Rattle.mx_look_picture.specs.declared.scene_values.Standing.{Standing}
 use Rattle.mx_look_picture.specs.declared.layout.Strip.{Strip}
 use Rattle.mx_look_picture.specs.declared.bars.Span.{Span}
 use Rattle.mx_look_picture.specs.Figures.{bar_at, label_at}

@@ -3,28 +3,28 @@
 use Rattle.std.specs.Prelude.{ℕ, ◌+◌, ◌-◌, ◌≤◌, ◌==◌, ◌&&◌, not, if◌then◌else◌, Bool, true, false, List, [], ◌∷◌, ◌++◌, Option, Some, None}
 use Rattle.mx_proc.specs.declared.process.DeathCause.{DeathCause}
 use Rattle.mx_proc.specs.declared.process.DeathCause.TheVariants as cause
-use Rattle.mx_machine_world.specs.declared.history.Recorded.{Recorded}
-use Rattle.mx_machine_world.specs.declared.history.Recorded.TheVariants as recorded
-use Rattle.mx_look_facts.specs.Doing.{Doing}
-use Rattle.mx_look_facts.specs.Doing.TheVariants as doing
-use Rattle.mx_look_facts.specs.SlotGlance.{SlotGlance}
-use Rattle.mx_look_facts.specs.CpuGlance.{CpuGlance}
+use Rattle.mx_machine.specs.declared.history.Recorded.{Recorded}
+use Rattle.mx_machine.specs.declared.history.Recorded.TheVariants as recorded
+use Rattle.mx_look_facts.specs.declared.doing.Doing.{Doing}
+use Rattle.mx_look_facts.specs.declared.doing.Doing.TheVariants as doing
+use Rattle.mx_look_facts.specs.declared.slot_glances.SlotGlance.{SlotGlance}
+use Rattle.mx_look_facts.specs.declared.glance.CpuGlance.{CpuGlance}
 use Rattle.mx_look_facts.specs.declared.step.Step.{Step}
 use Rattle.mx_look_facts.specs.Step.{slot_in, held_before}
 use Rattle.mx_look_facts.specs.Slots.{both}
 use Rattle.mx_look_facts.specs.Going.{gone_on, is_acted}
-use Rattle.mx_look_values.specs.declared.values.Hint.{Hint}
-use Rattle.mx_look_values.specs.declared.values.Hint.TheVariants as hint
-use Rattle.mx_look_values.specs.declared.values.ArrowKind.{ArrowKind}
-use Rattle.mx_look_values.specs.declared.values.ArrowKind.TheVariants as drawn
-use Rattle.mx_look_values.specs.declared.values.MarkKind.{MarkKind}
-use Rattle.mx_look_values.specs.declared.values.MarkKind.TheVariants as marked
-use Rattle.mx_look_values.specs.declared.values.LabelKind.{LabelKind}
-use Rattle.mx_look_values.specs.declared.values.LabelKind.TheVariants as written
-use Rattle.mx_look_values.specs.declared.values.Anchor.TheVariants as anchor
-use Rattle.mx_look_values.specs.declared.values.Text.{Text}
-use Rattle.mx_look_values.specs.declared.values.Text.TheVariants as text
-use Rattle.mx_look_values.specs.declared.values.Value.{Value}
+use Rattle.mx_look_picture.specs.declared.values.Hint.{Hint}
+use Rattle.mx_look_picture.specs.declared.values.Hint.TheVariants as hint
+use Rattle.mx_look_picture.specs.declared.values.ArrowKind.{ArrowKind}
+use Rattle.mx_look_picture.specs.declared.values.ArrowKind.TheVariants as drawn
+use Rattle.mx_look_picture.specs.declared.values.MarkKind.{MarkKind}
+use Rattle.mx_look_picture.specs.declared.values.MarkKind.TheVariants as marked
+use Rattle.mx_look_picture.specs.declared.values.LabelKind.{LabelKind}
+use Rattle.mx_look_picture.specs.declared.values.LabelKind.TheVariants as written
+use Rattle.mx_look_picture.specs.declared.values.Anchor.TheVariants as anchor
+use Rattle.mx_look_picture.specs.declared.values.Text.{Text}
+use Rattle.mx_look_picture.specs.declared.values.Text.TheVariants as text
+use Rattle.mx_look_picture.specs.declared.values.Value.{Value}
 use Rattle.mx_look_picture.specs.declared.layout.Spot.{Spot}
 use Rattle.mx_look_picture.specs.Figures.{arrow_at, mark_at, label_at}
 use Rattle.mx_look_picture.specs.Layout.{row, row_of, toward}

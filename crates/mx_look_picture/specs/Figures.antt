@@ -1,14 +1,14 @@
 -- Values that are drawn (our own).
 use Rattle.std.specs.Prelude.{ℕ}
-use Rattle.mx_look_values.specs.declared.values.Hint.{Hint}
-use Rattle.mx_look_values.specs.declared.values.BarKind.{BarKind}
-use Rattle.mx_look_values.specs.declared.values.ArrowKind.{ArrowKind}
-use Rattle.mx_look_values.specs.declared.values.MarkKind.{MarkKind}
-use Rattle.mx_look_values.specs.declared.values.LabelKind.{LabelKind}
-use Rattle.mx_look_values.specs.declared.values.Anchor.{Anchor}
-use Rattle.mx_look_values.specs.declared.values.Text.{Text}
-use Rattle.mx_look_values.specs.declared.values.Value.{Value}
-use Rattle.mx_look_values.specs.declared.values.Value.TheVariants as value
+use Rattle.mx_look_picture.specs.declared.values.Hint.{Hint}
+use Rattle.mx_look_picture.specs.declared.values.BarKind.{BarKind}
+use Rattle.mx_look_picture.specs.declared.values.ArrowKind.{ArrowKind}
+use Rattle.mx_look_picture.specs.declared.values.MarkKind.{MarkKind}
+use Rattle.mx_look_picture.specs.declared.values.LabelKind.{LabelKind}
+use Rattle.mx_look_picture.specs.declared.values.Anchor.{Anchor}
+use Rattle.mx_look_picture.specs.declared.values.Text.{Text}
+use Rattle.mx_look_picture.specs.declared.values.Value.{Value}
+use Rattle.mx_look_picture.specs.declared.values.Value.TheVariants as value
 
 abbrev pub bar_at : BarKind → ℕ → ℕ → ℕ → ℕ → Hint → Value
 bar_at k x y w h t = value.Bar (record { kind = k; x = x; y = y; width = w; height = h; hint = t })

@@ -1,7 +1,7 @@
 -- INSIDE THE PAPER (our own): no coordinate of a value is beyond the right or the lower edge of the paper.
 use Rattle.std.specs.Prelude.{ℕ, ◌+◌, ◌≤◌}
-use Rattle.mx_look_values.specs.declared.values.Value.{Value}
-use Rattle.mx_look_values.specs.declared.values.Value.TheVariants as value
+use Rattle.mx_look_picture.specs.declared.values.Value.{Value}
+use Rattle.mx_look_picture.specs.declared.values.Value.TheVariants as value
 
 abbrev pub IsInside : ℕ → ℕ → Value → Type 0
 IsInside w h (value.Bar b) = (b.x + b.width ≤ w) × (b.y + b.height ≤ h)

@@ -1,23 +1,23 @@
 -- THE LEGEND, below the last strip (our own).
 use Rattle.std.specs.Prelude.{ℕ, ◌+◌, ◌-◌, ◌*◌, ◌/◌, ◌%◌, ◌≤◌, ◌==◌, if◌then◌else◌, List, [], ◌∷◌, ◌++◌}
 use Rattle.std.specs.List.{flat_map, range_with_len}
-use Rattle.mx_look_values.specs.declared.values.Hint.TheVariants as hint
-use Rattle.mx_look_values.specs.declared.values.BarKind.{BarKind}
-use Rattle.mx_look_values.specs.declared.values.BarKind.TheVariants as kind
-use Rattle.mx_look_values.specs.declared.values.ArrowKind.{ArrowKind}
-use Rattle.mx_look_values.specs.declared.values.ArrowKind.TheVariants as drawn
-use Rattle.mx_look_values.specs.declared.values.MarkKind.{MarkKind}
-use Rattle.mx_look_values.specs.declared.values.MarkKind.TheVariants as marked
-use Rattle.mx_look_values.specs.declared.values.LabelKind.{LabelKind}
-use Rattle.mx_look_values.specs.declared.values.LabelKind.TheVariants as written
-use Rattle.mx_look_values.specs.declared.values.Anchor.TheVariants as anchor
-use Rattle.mx_look_values.specs.declared.values.Deed.TheVariants as deed
-use Rattle.mx_look_values.specs.declared.values.Manner.TheVariants as manner
-use Rattle.mx_look_values.specs.declared.values.Item.{Item}
-use Rattle.mx_look_values.specs.declared.values.Item.TheVariants as item
-use Rattle.mx_look_values.specs.declared.values.Text.{Text}
-use Rattle.mx_look_values.specs.declared.values.Text.TheVariants as text
-use Rattle.mx_look_values.specs.declared.values.Value.{Value}
+use Rattle.mx_look_picture.specs.declared.values.Hint.TheVariants as hint
+use Rattle.mx_look_picture.specs.declared.values.BarKind.{BarKind}
+use Rattle.mx_look_picture.specs.declared.values.BarKind.TheVariants as kind
+use Rattle.mx_look_picture.specs.declared.values.ArrowKind.{ArrowKind}
+use Rattle.mx_look_picture.specs.declared.values.ArrowKind.TheVariants as drawn
+use Rattle.mx_look_picture.specs.declared.values.MarkKind.{MarkKind}
+use Rattle.mx_look_picture.specs.declared.values.MarkKind.TheVariants as marked
+use Rattle.mx_look_picture.specs.declared.values.LabelKind.{LabelKind}
+use Rattle.mx_look_picture.specs.declared.values.LabelKind.TheVariants as written
+use Rattle.mx_look_picture.specs.declared.values.Anchor.TheVariants as anchor
+use Rattle.mx_look_picture.specs.declared.values.Deed.TheVariants as deed
+use Rattle.mx_look_picture.specs.declared.values.Manner.TheVariants as manner
+use Rattle.mx_look_picture.specs.declared.values.Item.{Item}
+use Rattle.mx_look_picture.specs.declared.values.Item.TheVariants as item
+use Rattle.mx_look_picture.specs.declared.values.Text.{Text}
+use Rattle.mx_look_picture.specs.declared.values.Text.TheVariants as text
+use Rattle.mx_look_picture.specs.declared.values.Value.{Value}
 use Rattle.mx_look_picture.specs.declared.figures.Point.{Point}
 use Rattle.mx_look_picture.specs.Figures.{bar_at, arrow_at, mark_at, label_at}
 use Rattle.mx_look_picture.specs.Layout.{items_abreast, legend_top}

@@ -9,12 +9,12 @@ use Rattle.mx_look_facts.specs.declared.step.Step.{Step}
 use Rattle.mx_look_facts.specs.Step.{slot_in}
 use Rattle.mx_look_facts.specs.Slots.{both}
 use Rattle.mx_look_facts.specs.Deliveries.{delivery_to, is_new_bit}
-use Rattle.mx_look_values.specs.declared.values.Hint.TheVariants as hint
-use Rattle.mx_look_values.specs.declared.values.ArrowKind.{ArrowKind}
-use Rattle.mx_look_values.specs.declared.values.ArrowKind.TheVariants as drawn
-use Rattle.mx_look_values.specs.declared.values.LabelKind.TheVariants as written
-use Rattle.mx_look_values.specs.declared.values.Text.TheVariants as text
-use Rattle.mx_look_values.specs.declared.values.Value.{Value}
+use Rattle.mx_look_picture.specs.declared.values.Hint.TheVariants as hint
+use Rattle.mx_look_picture.specs.declared.values.ArrowKind.{ArrowKind}
+use Rattle.mx_look_picture.specs.declared.values.ArrowKind.TheVariants as drawn
+use Rattle.mx_look_picture.specs.declared.values.LabelKind.TheVariants as written
+use Rattle.mx_look_picture.specs.declared.values.Text.TheVariants as text
+use Rattle.mx_look_picture.specs.declared.values.Value.{Value}
 use Rattle.mx_look_picture.specs.declared.layout.Spot.{Spot}
 use Rattle.mx_look_picture.specs.Layout.{row}
 use Rattle.mx_look_picture.specs.Fates.{height_of, line_to, note}

@@ -1,13 +1,13 @@
 -- THE PICTURE of a run (our own): one function, from a run to all values of its picture.
 use Rattle.std.specs.Prelude.{ℕ, ◌≡◌, ◌-◌, ◌≤◌, ◌<◌, if◌then◌else◌, List, [], ◌∷◌, ◌++◌, length, is_some}
 use Rattle.std.specs.List.{All, flat_map, range_with_len}
-use Rattle.mx_look_values.specs.declared.values.Hint.TheVariants as hint
-use Rattle.mx_look_values.specs.declared.values.LabelKind.TheVariants as written
-use Rattle.mx_look_values.specs.declared.values.Anchor.TheVariants as anchor
-use Rattle.mx_look_values.specs.declared.values.Text.TheVariants as text
-use Rattle.mx_look_values.specs.declared.values.Value.{Value}
-use Rattle.mx_look_values.specs.declared.values.Drawing.{Drawing}
-use Rattle.mx_look_values.specs.declared.scene.Scene.{Scene}
+use Rattle.mx_look_picture.specs.declared.values.Hint.TheVariants as hint
+use Rattle.mx_look_picture.specs.declared.values.LabelKind.TheVariants as written
+use Rattle.mx_look_picture.specs.declared.values.Anchor.TheVariants as anchor
+use Rattle.mx_look_picture.specs.declared.values.Text.TheVariants as text
+use Rattle.mx_look_picture.specs.declared.values.Value.{Value}
+use Rattle.mx_look_picture.specs.declared.values.Drawing.{Drawing}
+use Rattle.mx_look_picture.specs.declared.scene_values.Scene.{Scene}
 use Rattle.mx_look_picture.specs.Figures.{label_at}
 use Rattle.mx_look_picture.specs.Inside.{IsInside}
 use Rattle.mx_look_picture.specs.Bars.{EachIsCovered}

@@ -2,11 +2,11 @@
 use Rattle.std.specs.Prelude.{ℕ, ◌+◌, ◌==◌, ◌&&◌, nat_lt, if◌then◌else◌, List, [], ◌∷◌, ◌++◌, Option, Some, None}
 use Rattle.std.specs.List.{flat_map, range_with_len}
 use Rattle.mx_look_facts.specs.declared.step.Step.{Step}
-use Rattle.mx_look_values.specs.declared.values.Hint.TheVariants as hint
-use Rattle.mx_look_values.specs.declared.values.LabelKind.TheVariants as written
-use Rattle.mx_look_values.specs.declared.values.Anchor.TheVariants as anchor
-use Rattle.mx_look_values.specs.declared.values.Text.TheVariants as text
-use Rattle.mx_look_values.specs.declared.values.Value.{Value}
+use Rattle.mx_look_picture.specs.declared.values.Hint.TheVariants as hint
+use Rattle.mx_look_picture.specs.declared.values.LabelKind.TheVariants as written
+use Rattle.mx_look_picture.specs.declared.values.Anchor.TheVariants as anchor
+use Rattle.mx_look_picture.specs.declared.values.Text.TheVariants as text
+use Rattle.mx_look_picture.specs.declared.values.Value.{Value}
 use Rattle.mx_look_picture.specs.declared.layout.Spot.{Spot}
 use Rattle.mx_look_picture.specs.Figures.{label_at}
 use Rattle.mx_look_picture.specs.Layout.{row}

@@ -2,27 +2,27 @@
 use Rattle.std.specs.Prelude.{ℕ, ◌+◌, ◌-◌, ◌==◌, ◌&&◌, ◌||◌, not, nat_lt, if◌then◌else◌, Bool, true, false, List, [], ◌∷◌, Option, Some, None, slice_index}
 use Rattle.mx_image.specs.declared.runs.Stop.{Stop}
 use Rattle.mx_image.specs.declared.runs.Stop.TheVariants as stop
-use Rattle.mx_machine_world.specs.declared.history.Recorded.{Recorded}
-use Rattle.mx_machine_world.specs.declared.history.Recorded.TheVariants.{Back}
-use Rattle.mx_look_facts.specs.Doing.{Doing}
-use Rattle.mx_look_facts.specs.Doing.TheVariants as doing
-use Rattle.mx_look_facts.specs.SlotGlance.{SlotGlance}
-use Rattle.mx_look_facts.specs.CpuGlance.{CpuGlance}
+use Rattle.mx_machine.specs.declared.history.Recorded.{Recorded}
+use Rattle.mx_machine.specs.declared.history.Recorded.TheVariants.{Back}
+use Rattle.mx_look_facts.specs.declared.doing.Doing.{Doing}
+use Rattle.mx_look_facts.specs.declared.doing.Doing.TheVariants as doing
+use Rattle.mx_look_facts.specs.declared.slot_glances.SlotGlance.{SlotGlance}
+use Rattle.mx_look_facts.specs.declared.glance.CpuGlance.{CpuGlance}
 use Rattle.mx_look_facts.specs.declared.step.Step.{Step}
 use Rattle.mx_look_facts.specs.Step.{slot_in, held_before}
 use Rattle.mx_look_facts.specs.Doings.{is_ready, seen_is}
 use Rattle.mx_look_facts.specs.Going.{gone_on, is_acted}
 use Rattle.mx_look_facts.specs.Calls.{asks_kernel, kernel_call}
-use Rattle.mx_look_values.specs.declared.values.Hint.TheVariants as hint
-use Rattle.mx_look_values.specs.declared.values.Deed.{Deed}
-use Rattle.mx_look_values.specs.declared.values.Deed.TheVariants as deed
-use Rattle.mx_look_values.specs.declared.values.Manner.{Manner}
-use Rattle.mx_look_values.specs.declared.values.Manner.TheVariants as manner
-use Rattle.mx_look_values.specs.declared.values.LabelKind.{LabelKind}
-use Rattle.mx_look_values.specs.declared.values.LabelKind.TheVariants as written
-use Rattle.mx_look_values.specs.declared.values.Anchor.TheVariants as anchor
-use Rattle.mx_look_values.specs.declared.values.Text.TheVariants as text
-use Rattle.mx_look_values.specs.declared.values.Value.{Value}
+use Rattle.mx_look_picture.specs.declared.values.Hint.TheVariants as hint
+use Rattle.mx_look_picture.specs.declared.values.Deed.{Deed}
+use Rattle.mx_look_picture.specs.declared.values.Deed.TheVariants as deed
+use Rattle.mx_look_picture.specs.declared.values.Manner.{Manner}
+use Rattle.mx_look_picture.specs.declared.values.Manner.TheVariants as manner
+use Rattle.mx_look_picture.specs.declared.values.LabelKind.{LabelKind}
+use Rattle.mx_look_picture.specs.declared.values.LabelKind.TheVariants as written
+use Rattle.mx_look_picture.specs.declared.values.Anchor.TheVariants as anchor
+use Rattle.mx_look_picture.specs.declared.values.Text.TheVariants as text
+use Rattle.mx_look_picture.specs.declared.values.Value.{Value}
 use Rattle.mx_look_picture.specs.declared.layout.Spot.{Spot}
 use Rattle.mx_look_picture.specs.Figures.{label_at}
 use Rattle.mx_look_picture.specs.Fates.{height_of}

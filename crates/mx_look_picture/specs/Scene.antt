@@ -1,14 +1,14 @@
 -- What the picture shows of a run: its steps, and the worlds between them (our own).
 use Rattle.std.specs.Prelude.{ℕ, find, ◌+◌, ◌-◌, ◌==◌, ◌&&◌, Bool, true, false, Option, Some, None, slice_get, if◌then◌else◌}
 use Rattle.std.specs.List.{range_with_len}
-use Rattle.mx_look_facts.specs.SlotGlance.{SlotGlance}
-use Rattle.mx_look_facts.specs.CpuGlance.{CpuGlance}
-use Rattle.mx_look_facts.specs.Glance.{Glance}
+use Rattle.mx_look_facts.specs.declared.slot_glances.SlotGlance.{SlotGlance}
+use Rattle.mx_look_facts.specs.declared.glance.CpuGlance.{CpuGlance}
+use Rattle.mx_look_facts.specs.declared.glance.Glance.{Glance}
 use Rattle.mx_look_facts.specs.declared.step.Step.{Step}
 use Rattle.mx_look_facts.specs.Step.{slot_in, cpu_in}
 use Rattle.mx_look_facts.specs.Doings.{same_doing}
-use Rattle.mx_look_values.specs.declared.scene.Scene.{Scene}
-use Rattle.mx_look_values.specs.declared.scene.Standing.{Standing}
+use Rattle.mx_look_picture.specs.declared.scene_values.Scene.{Scene}
+use Rattle.mx_look_picture.specs.declared.scene_values.Standing.{Standing}
 
 -- ---- worlds. Take the strip whose first step has the index `place`: its column 0 has the world before that
 -- step, and column c the world after the strip's c-th step

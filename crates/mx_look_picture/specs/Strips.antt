@@ -2,16 +2,16 @@
 use Rattle.std.specs.Prelude.{ℕ, ◌+◌, ◌-◌, ◌*◌, ◌%◌, ◌==◌, ◌&&◌, ◌||◌, not, if◌then◌else◌, Bool, List, [], ◌∷◌, ◌++◌, Option, Some, None, slice_get}
 use Rattle.std.specs.List.{flat_map, range_with_len}
 use Rattle.mx_look_facts.specs.declared.step.Step.{Step}
-use Rattle.mx_look_values.specs.declared.values.Hint.TheVariants as hint
-use Rattle.mx_look_values.specs.declared.values.BarKind.TheVariants as kind
-use Rattle.mx_look_values.specs.declared.values.LabelKind.TheVariants as written
-use Rattle.mx_look_values.specs.declared.values.Anchor.TheVariants as anchor
-use Rattle.mx_look_values.specs.declared.values.Text.{Text}
-use Rattle.mx_look_values.specs.declared.values.Text.TheVariants as text
-use Rattle.mx_look_values.specs.declared.values.Value.{Value}
+use Rattle.mx_look_picture.specs.declared.values.Hint.TheVariants as hint
+use Rattle.mx_look_picture.specs.declared.values.BarKind.TheVariants as kind
+use Rattle.mx_look_picture.specs.declared.values.LabelKind.TheVariants as written
+use Rattle.mx_look_picture.specs.declared.values.Anchor.TheVariants as anchor
+use Rattle.mx_look_picture.specs.declared.values.Text.{Text}
+use Rattle.mx_look_picture.specs.declared.values.Text.TheVariants as text
+use Rattle.mx_look_picture.specs.declared.values.Value.{Value}
 use Rattle.mx_look_picture.specs.declared.layout.Strip.{Strip}
-use Rattle.mx_look_values.specs.declared.scene.Scene.{Scene}
-use Rattle.mx_look_values.specs.declared.scene.Standing.{Standing}
+use Rattle.mx_look_picture.specs.declared.scene_values.Scene.{Scene}
+use Rattle.mx_look_picture.specs.declared.scene_values.Standing.{Standing}
 use Rattle.mx_look_picture.specs.Figures.{bar_at, label_at}
 use Rattle.mx_look_picture.specs.Layout.{column, row, rows}
 use Rattle.mx_look_picture.specs.Scene.{world_at}

@@ -9,8 +9,8 @@ use crate::figures::{Point, label};
 use crate::layout::{Spot, row};
 use crate::messages::{push_delivery, push_kept};
 use crate::returns::push_return;
+use crate::{Anchor, Hint, LabelKind, Text, Value};
 use mx_look_facts::Step;
-use mx_look_values::{Anchor, Hint, LabelKind, Text, Value};
 use std::alloc::AllocError;
 
 /// A byte of the console: its character if it is one from ! to ~, else two hexadecimal digits.

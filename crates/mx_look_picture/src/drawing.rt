@@ -7,7 +7,7 @@ use crate::figures::{Point, label};
 use crate::layout::{paper_height, paper_width, strip_at, strip_count};
 use crate::legend::push_legend;
 use crate::strips::push_strip;
-use mx_look_values::{Anchor, Drawing, Hint, LabelKind, Scene, Text, Value};
+use crate::{Anchor, Drawing, Hint, LabelKind, Scene, Text, Value};
 use std::alloc::{AllocError, Global};
 
 /// The title.

@@ -3,7 +3,7 @@
 ghost use Rattle.std.specs.Prelude.{◌≡◌};
 ghost use Rattle.mx_look_picture.specs.Figures.{bar_at, arrow_at, mark_at, label_at};
 
-use mx_look_values::{
+use crate::{
     Anchor, Arrow, ArrowKind, Bar, BarKind, Hint, Label, LabelKind, Mark, MarkKind, Text, Value,
 };
 

@@ -5,7 +5,7 @@ ghost use Rattle.mx_look_picture.specs.Legend.{IsCorner, item_at, sample_bar, sa
 
 use crate::figures::{Point, arrow, bar, label, mark};
 use crate::layout::{items_abreast, legend_top};
-use mx_look_values::{
+use crate::{
     Anchor, ArrowKind, BarKind, Deed, Hint, Item, LabelKind, Manner, MarkKind, Text, Value,
 };
 use std::alloc::AllocError;

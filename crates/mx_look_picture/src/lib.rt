@@ -1,9 +1,4 @@
 //! The picture of a run: what is drawn of its records, as a list of values with whole coordinates.
-//!
-//! # Nothing outside the paper
-//!
-//! Whatever is no service has the row `outside`, and only services have rows of their own. So all
-//! that is drawn is on the paper, whatever the worlds of the run are.
 #![tactic(auto)]
 
 mod bars;
@@ -16,7 +11,14 @@ mod legend;
 mod messages;
 mod returns;
 mod scene;
+mod scene_values;
 mod strips;
+mod values;
 
 pub use drawing::picture;
-pub use mx_look_values::{Drawing, Scene};
+pub use mx_look_facts::{Glance, Step};
+pub use scene_values::{Scene, Standing};
+pub use values::{
+    Anchor, Arrow, ArrowKind, Bar, BarKind, Deed, Drawing, Hint, Item, Label, LabelKind, Manner,
+    Mark, MarkKind, Text, Value,
+};

@@ -7,13 +7,13 @@ ghost use Rattle.mx_look_picture.specs.Returns.{trap_deed, deed_of, is_doomed_in
 use crate::fates::height_of;
 use crate::figures::{Point, label};
 use crate::layout::Spot;
+use crate::{Anchor, Deed, Hint, LabelKind, Manner, Text, Value};
 use mx_image::Stop;
 use mx_look_facts::{
     CpuGlance, Doing, SlotGlance, Step, asks_kernel, gone_on, held_before, is_acted, is_ready,
     kernel_call, slot_in,
 };
-use mx_look_values::{Anchor, Deed, Hint, LabelKind, Manner, Text, Value};
-use mx_machine_world::Recorded;
+use mx_machine::Recorded;
 use std::alloc::AllocError;
 
 /// The number of the call SENDREC.

@@ -3,8 +3,8 @@
 ghost use Rattle.std.specs.Prelude.{◌≡◌};
 ghost use Rattle.mx_look_picture.specs.Scene.{world_at, number_at, holds, cpu_of, standing_of, same_cpu, same_standing, same_seen};
 
+use crate::{Glance, Scene, Standing};
 use mx_look_facts::{cpu_in, same_doing, slot_in};
-use mx_look_values::{Glance, Scene, Standing};
 
 /// The world of a column in the strip whose first step has the index `place`. Column 0 has the world before
 /// the strip, and column c the world after the strip's c-th step.

@@ -9,8 +9,8 @@ use crate::came::push_record;
 use crate::figures::{Point, bar, label};
 use crate::layout::{Spot, Strip, column, row, rows};
 use crate::scene::world_at;
+use crate::{Anchor, BarKind, Hint, LabelKind, Scene, Text, Value};
 use mx_look_facts::Step;
-use mx_look_values::{Anchor, BarKind, Hint, LabelKind, Scene, Text, Value};
 use std::alloc::AllocError;
 
 /// The `x` where names begin, in pixels.

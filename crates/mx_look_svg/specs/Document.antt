@@ -1,9 +1,9 @@
 -- THE DRAWING AS TEXT (SVG 1.1): its head, a title, a style sheet, the paper, and the values.
 use Rattle.std.specs.Prelude.{ℕ, List, ◌++◌, codes}
 use Rattle.std.specs.List.{flat_map}
-use Rattle.mx_look_values.specs.declared.scene.Scene.{Scene}
-use Rattle.mx_look_values.specs.declared.values.Drawing.{Drawing}
-use Rattle.mx_look_values.specs.declared.values.Value.{Value}
+use Rattle.mx_look_picture.specs.declared.scene_values.Scene.{Scene}
+use Rattle.mx_look_picture.specs.declared.values.Drawing.{Drawing}
+use Rattle.mx_look_picture.specs.declared.values.Value.{Value}
 use Rattle.mx_look_svg.specs.Shown.{shown, attribute, pair}
 use Rattle.mx_look_svg.specs.Texts.{title_text}
 use Rattle.mx_look_svg.specs.Figures.{value_text}

@@ -4,5 +4,5 @@ pub mod Hints
 pub mod Classes
 pub mod Figures
 pub mod Document
-pub use Rattle.mx_look_values.specs.declared.scene.Scene
-pub use Rattle.mx_look_values.specs.declared.values.Drawing
+pub use Rattle.mx_look_picture.specs.declared.scene_values.Scene
+pub use Rattle.mx_look_picture.specs.declared.values.Drawing

@@ -2,23 +2,23 @@
 use Rattle.std.specs.Prelude.{ℕ, ◌-◌, ◌==◌, nat_lt, if◌then◌else◌, List, [], ◌∷◌, ◌++◌, codes, Option, Some, None, length, slice_get}
 use Rattle.std.specs.Fmt.{decimal, signed_decimal}
 use Rattle.std.specs.Int.{w32, cast_signed}
-use Rattle.mx_machine_world.specs.declared.events.Refusal.{Refusal}
-use Rattle.mx_machine_world.specs.Refusals.{code_of_refusal, name_of_refusal}
+use Rattle.mx_machine.specs.declared.events.Refusal.{Refusal}
+use Rattle.mx_machine.specs.Refusals.{code_of_refusal, name_of_refusal}
 use Rattle.mx_print_report.specs.Report.{name_bytes}
 use Rattle.mx_look_facts.specs.declared.step.Step.{Step}
 use Rattle.mx_look_trace.specs.Numbers.{hex_text}
 use Rattle.mx_look_trace.specs.Words.{doing_text}
 use Rattle.mx_look_trace.specs.KernelCalls.{request_name}
-use Rattle.mx_look_values.specs.declared.scene.Scene.{Scene}
-use Rattle.mx_look_values.specs.declared.scene.Standing.{Standing}
-use Rattle.mx_look_values.specs.declared.values.Deed.{Deed}
-use Rattle.mx_look_values.specs.declared.values.Deed.TheVariants as deed
-use Rattle.mx_look_values.specs.declared.values.Manner.{Manner}
-use Rattle.mx_look_values.specs.declared.values.Manner.TheVariants as manner
-use Rattle.mx_look_values.specs.declared.values.Item.{Item}
-use Rattle.mx_look_values.specs.declared.values.Item.TheVariants as item
-use Rattle.mx_look_values.specs.declared.values.Text.{Text}
-use Rattle.mx_look_values.specs.declared.values.Text.TheVariants as text
+use Rattle.mx_look_picture.specs.declared.scene_values.Scene.{Scene}
+use Rattle.mx_look_picture.specs.declared.scene_values.Standing.{Standing}
+use Rattle.mx_look_picture.specs.declared.values.Deed.{Deed}
+use Rattle.mx_look_picture.specs.declared.values.Deed.TheVariants as deed
+use Rattle.mx_look_picture.specs.declared.values.Manner.{Manner}
+use Rattle.mx_look_picture.specs.declared.values.Manner.TheVariants as manner
+use Rattle.mx_look_picture.specs.declared.values.Item.{Item}
+use Rattle.mx_look_picture.specs.declared.values.Item.TheVariants as item
+use Rattle.mx_look_picture.specs.declared.values.Text.{Text}
+use Rattle.mx_look_picture.specs.declared.values.Text.TheVariants as text
 
 -- how many there are of something
 unfoldable pub counted : ℕ → List ℕ → List ℕ

@@ -6,7 +6,7 @@ ghost use Rattle.mx_look_svg.specs.Document.{size_text, document_head, opening_t
 use crate::figures::push_value;
 use crate::shown::{push_attribute, push_pair, push_shown};
 use crate::texts::push_title;
-use mx_look_values::{Drawing, Scene, Value};
+use mx_look_picture::{Drawing, Scene, Value};
 use std::alloc::{AllocError, Global};
 
 /// Appends the size of the paper.

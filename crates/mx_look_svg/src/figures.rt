@@ -7,7 +7,7 @@ use crate::classes::{anchor_word, arrow_class, bar_class, label_class};
 use crate::hints::{push_end, push_hint};
 use crate::shown::{push_attribute, push_pair, push_shown};
 use crate::texts::push_words;
-use mx_look_values::{Anchor, Arrow, ArrowKind, Bar, Label, Mark, MarkKind, Scene, Value};
+use mx_look_picture::{Anchor, Arrow, ArrowKind, Bar, Label, Mark, MarkKind, Scene, Value};
 use mx_print_report::push_decimal;
 use std::alloc::{AllocError, Global};
 

@@ -11,8 +11,8 @@ ghost use Rattle.mx_look_svg.specs.Hints.{step_line, kept_hint, on_processor, st
 use crate::shown::push_shown;
 use crate::texts::push_standing;
 use mx_look_facts::slot_in;
+use mx_look_picture::{Hint, Scene, Standing, Step};
 use mx_look_trace::{push_change, push_console_line, push_delivery, push_head, push_kept};
-use mx_look_values::{Hint, Scene, Standing, Step};
 use mx_print_report::push_decimal;
 use std::alloc::{AllocError, Global};
 

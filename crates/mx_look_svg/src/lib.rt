@@ -9,4 +9,4 @@ mod shown;
 mod texts;
 
 pub use document::push_drawing;
-pub use mx_look_values::{Drawing, Glance, Scene, Step, Value};
+pub use mx_look_picture::{Drawing, Glance, Scene, Step, Value};

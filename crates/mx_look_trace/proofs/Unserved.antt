@@ -1,7 +1,7 @@
 -- Of a slot without a service nothing is told.
 use Rattle.std.proofs.Common.{◌≡◌, ◌∙◌, ◌+◌, ◌&&◌, ◌||◌, ℕ, Bool, true, false, cond, List, [], ◌++◌, Option, Some, None, get_or, refl, ap}
 use Rattle.std.specs.Prelude.{codes, is_some}
-use Rattle.mx_look_facts.specs.SlotGlance.{SlotGlance}
+use Rattle.mx_look_facts.specs.declared.slot_glances.SlotGlance.{SlotGlance}
 use Rattle.mx_look_facts.specs.declared.step.Step.{Step}
 use Rattle.mx_look_facts.specs.Doings.{is_waiting, is_listening, seen_is}
 use Rattle.mx_look_facts.specs.Going.{calls_receive, gone_on, got, is_acted, is_zero, result_in}

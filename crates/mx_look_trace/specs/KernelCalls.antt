@@ -2,8 +2,8 @@
 -- name by both rules; by the lenient ones GRANT is answered EBADREQUEST.
 use Rattle.std.specs.Prelude.{ℕ, ◌+◌, ◌-◌, ◌==◌, ◌&&◌, ◌||◌, nat_le, if◌then◌else◌, List, [], ◌++◌, codes, take, drop, Option, Some, None, slice_index}
 use Rattle.std.specs.Fmt.{decimal}
-use Rattle.mx_look_facts.specs.CpuGlance.{CpuGlance}
-use Rattle.mx_look_facts.specs.Glance.{Glance}
+use Rattle.mx_look_facts.specs.declared.glance.CpuGlance.{CpuGlance}
+use Rattle.mx_look_facts.specs.declared.glance.Glance.{Glance}
 use Rattle.mx_look_facts.specs.Calls.{asks_kernel}
 use Rattle.mx_look_trace.specs.Numbers.{result_text, spaced_numbers}
 use Rattle.mx_look_trace.specs.Reasons.{request_reason}

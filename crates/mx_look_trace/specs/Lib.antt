@@ -5,4 +5,4 @@ pub mod KernelCalls
 pub mod Trace
 pub use Rattle.mx_look_facts.specs.declared.step.Step
 pub use Rattle.mx_look_facts.specs.Glances
-pub use Rattle.mx_look_facts.specs.Glance
+pub use Rattle.mx_look_facts.specs.declared.glance.Glance

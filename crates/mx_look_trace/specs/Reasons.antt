@@ -6,9 +6,9 @@ use Rattle.mx_word.specs.Bits.{has_bit}
 use Rattle.mx_proc.specs.EndpointNumbers.{slot_of, any_endpoint, hardware_endpoint, system_endpoint, clock_endpoint}
 use Rattle.mx_proc.specs.Errors.{errno_bits}
 use Rattle.mx_proc.specs.declared.errors.Errno.TheVariants.{BadAddress, Invalid, BadEndpoint, Denied}
-use Rattle.mx_look_facts.specs.SlotGlance.{SlotGlance}
-use Rattle.mx_look_facts.specs.CpuGlance.{CpuGlance}
-use Rattle.mx_look_facts.specs.Glance.{Glance}
+use Rattle.mx_look_facts.specs.declared.slot_glances.SlotGlance.{SlotGlance}
+use Rattle.mx_look_facts.specs.declared.glance.CpuGlance.{CpuGlance}
+use Rattle.mx_look_facts.specs.declared.glance.Glance.{Glance}
 use Rattle.mx_look_facts.specs.declared.step.Step.{Step}
 use Rattle.mx_look_facts.specs.Step.{slot_in, held_before}
 use Rattle.mx_look_facts.specs.Going.{is_acted}

@@ -6,12 +6,12 @@ use Rattle.mx_proc.specs.declared.process.DeathCause.{DeathCause}
 use Rattle.mx_proc.specs.declared.process.DeathCause.TheVariants as cause
 use Rattle.mx_proc.specs.EndpointNumbers.{slot_of, any_endpoint, hardware_endpoint, system_endpoint, clock_endpoint}
 use Rattle.mx_print_report.specs.Report.{name_bytes}
-use Rattle.mx_look_facts.specs.Awaited.{Awaited}
-use Rattle.mx_look_facts.specs.Awaited.TheVariants.{Any, System, Hardware, Clock, Process}
-use Rattle.mx_look_facts.specs.Doing.{Doing}
-use Rattle.mx_look_facts.specs.Doing.TheVariants.{Home, Ready, Out, Doomed, Sending, Calling, Receiving, Awaiting, Down}
-use Rattle.mx_look_facts.specs.SlotGlance.{SlotGlance}
-use Rattle.mx_look_facts.specs.Glance.{Glance}
+use Rattle.mx_look_facts.specs.declared.doing.Awaited.{Awaited}
+use Rattle.mx_look_facts.specs.declared.doing.Awaited.TheVariants.{Any, System, Hardware, Clock, Process}
+use Rattle.mx_look_facts.specs.declared.doing.Doing.{Doing}
+use Rattle.mx_look_facts.specs.declared.doing.Doing.TheVariants.{Home, Ready, Out, Doomed, Sending, Calling, Receiving, Awaiting, Down}
+use Rattle.mx_look_facts.specs.declared.slot_glances.SlotGlance.{SlotGlance}
+use Rattle.mx_look_facts.specs.declared.glance.Glance.{Glance}
 use Rattle.mx_look_facts.specs.Step.{slot_in}
 
 -- ---- who

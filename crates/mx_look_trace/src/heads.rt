@@ -7,7 +7,7 @@ use crate::kernel_calls::push_request;
 use crate::words::{push_counted, push_party, push_who};
 use mx_image::Stop;
 use mx_look_facts::{CpuGlance, Doing, Glance, Step, about, held_after, held_before, slot_in};
-use mx_machine_world::Recorded;
+use mx_machine::Recorded;
 use mx_print_report::push_decimal;
 use std::alloc::AllocError;
 

@@ -3,28 +3,28 @@ use Rattle.std.proofs.Common.{◌≡◌, ◌≢◌, ◌∙◌, ◌<◌, ◌≤�
 use Rattle.std.proofs.lemmas.Bool.{cases_lt}
 use Rattle.std.proofs.lemmas.List.{set-get_or, set-set, get_or-set_same, get_or-set_other, length-set}
 use Rattle.std.proofs.Math.ListN.{get_or-eq_default}
-use Rattle.mx_machine_world.specs.declared.events.Event.{Event}
-use Rattle.mx_machine_world.specs.declared.events.Event.TheVariants.{Step, Take, Back, Line, Tick, Kill, Respawn}
-use Rattle.mx_machine_world.specs.declared.events.Refusal.{Refusal}
-use Rattle.mx_machine_world.specs.declared.events.Refusal.TheVariants.{AtStop, CpuEmpty}
-use Rattle.mx_machine_world.specs.declared.events.Answer.{Answer}
-use Rattle.mx_machine_world.specs.declared.events.Answer.TheVariants.{Went}
-use Rattle.mx_machine_world.specs.declared.holding.Out.{Out}
-use Rattle.mx_machine_world.specs.Held.{held_run, outcome_of_step, out_after_step, then_held}
-use Rattle.mx_machine_world.specs.History.{BootAndHistory, replay, with_record}
+use Rattle.mx_machine.specs.declared.events.Event.{Event}
+use Rattle.mx_machine.specs.declared.events.Event.TheVariants.{Step, Take, Back, Line, Tick, Kill, Respawn}
+use Rattle.mx_machine.specs.declared.events.Refusal.{Refusal}
+use Rattle.mx_machine.specs.declared.events.Refusal.TheVariants.{AtStop, CpuEmpty}
+use Rattle.mx_machine.specs.declared.events.Answer.{Answer}
+use Rattle.mx_machine.specs.declared.events.Answer.TheVariants.{Went}
+use Rattle.mx_machine.specs.declared.holding.Out.{Out}
+use Rattle.mx_machine.specs.Held.{held_run, outcome_of_step, out_after_step, then_held}
+use Rattle.mx_machine.specs.History.{BootAndHistory, replay, with_record}
 use Rattle.std.specs.Option.{option_map}
-use Rattle.mx_machine_world.specs.Proc.Queues.{first_ready}
-use Rattle.mx_machine_world.specs.Proc.Frame.{loan_of}
-use Rattle.mx_machine_world.specs.Proc.TableState.{nobody, process_at}
-use Rattle.mx_machine_kernel.specs.Agrees.{IsEventAccepted, IsEventRefused}
-use Rattle.mx_machine_kernel.specs.KernelState.{recorded_as}
-use Rattle.mx_machine_world.specs.declared.history.Recorded.{Recorded}
-use Rattle.mx_machine_world.specs.Sound.{IsSound, lease_of}
-use Rattle.mx_machine_world.specs.Move.{world_after_back, world_after_event, world_after_take, at_stop, event_answer, held_at_take, move, with_held}
-use Rattle.mx_machine_world.specs.Steps.{StepsTo}
-use Rattle.mx_machine_world.specs.World.{World, HeldProcess, actors, held_by, out_count}
-use Rattle.mx_machine_world.proofs.LentLemmas.{run_more}
-use Rattle.mx_machine_world.proofs.ProcessorLemmas.{cpus_after}
+use Rattle.mx_machine.specs.Proc.Queues.{first_ready}
+use Rattle.mx_machine.specs.Proc.Frame.{loan_of}
+use Rattle.mx_machine.specs.Proc.TableState.{nobody, process_at}
+use Rattle.mx_machine.specs.Agrees.{IsEventAccepted, IsEventRefused}
+use Rattle.mx_machine.specs.KernelState.{recorded_as}
+use Rattle.mx_machine.specs.declared.history.Recorded.{Recorded}
+use Rattle.mx_machine.specs.Sound.{IsSound, lease_of}
+use Rattle.mx_machine.specs.Move.{world_after_back, world_after_event, world_after_take, at_stop, event_answer, held_at_take, move, with_held}
+use Rattle.mx_machine.specs.Steps.{StepsTo}
+use Rattle.mx_machine.specs.World.{World, HeldProcess, actors, held_by, out_count}
+use Rattle.mx_machine.proofs.LentLemmas.{run_more}
+use Rattle.mx_machine.proofs.ProcessorLemmas.{cpus_after}
 use Rattle.mx_machine.specs.Machine.{HasWorked, IsHeld, IsRunOf, IsMachineState, MachineState, all_held_now, kept_after, record_of, hold_after_step, with_records, world_of}
 use Rattle.mx_machine.proofs.MachineLemmas.{IsAnyones, anyones-accepted, anyones-refused, empty-refused, held-now, held_now-length, holds_in, none-now, take-refused, with_cpus, world-replaced}
 use Rattle.mx_machine.proofs.RunLemmas.{held-set, stepped-run}

@@ -1,3 +1,17 @@
+pub mod WorldRunLemmas
+pub mod JoinLemmas
+pub mod WorldStepLemmas
+pub mod ActorLemmas
+pub mod LentLemmas
+pub mod ProcessorLemmas
+pub mod PartLemmas
+pub mod BootLemmas
+pub mod FrameLemmas
+pub mod ServingLemmas
+pub mod HoldsLemmas
+pub mod CurrentLemmas
+pub mod KernelSoundLemmas
+pub mod ReplayLemmas
 pub mod StepLemmas
 pub mod MachineLemmas
 pub mod RunLemmas

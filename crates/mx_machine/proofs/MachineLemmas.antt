@@ -2,26 +2,26 @@
 use Rattle.std.proofs.Common.{◌≡◌, ◌∙◌, ◌<◌, ℕ, zero, suc, ◌+◌, ◌-◌, ◌*◌, cond, nat_lt, Bool, true, false, List, [], ◌∷◌, ◌++◌, length, Option, Some, None, Result, Ok, Err, slice_get, slice_set, get_or, refl, sym, ap, arith}
 use Rattle.std.specs.Option.{option_map}
 use Rattle.std.proofs.lemmas.List.{set-get_or, set-set, get_or-set_same, length-set}
-use Rattle.mx_machine_world.specs.Proc.Queues.{first_ready}
-use Rattle.mx_machine_world.specs.Proc.Endpoints.{is_alive}
+use Rattle.mx_machine.specs.Proc.Queues.{first_ready}
+use Rattle.mx_machine.specs.Proc.Endpoints.{is_alive}
 use Rattle.mx_exec.specs.Image.{blank}
-use Rattle.mx_machine_world.specs.Proc.TableState.{TableState, process_at, nobody, endpoint_of, table_after_dequeue}
-use Rattle.mx_machine_world.specs.Proc.declared.process.State.TheVariants.{Home, Out as OnProcessor}
-use Rattle.mx_machine_world.specs.Proc.declared.process.Process.{Process}
-use Rattle.mx_machine_kernel.specs.Refusals.{owner_of}
-use Rattle.mx_machine_kernel.specs.Service.{Service}
-use Rattle.mx_machine_world.specs.declared.events.Event.{Event}
-use Rattle.mx_machine_world.specs.declared.events.Event.TheVariants.{Step, Take, Back, Line, Tick, Kill, Respawn}
-use Rattle.mx_machine_world.specs.declared.events.Refusal.{Refusal}
-use Rattle.mx_machine_world.specs.declared.events.Refusal.TheVariants.{CpuBusy, CpuEmpty}
-use Rattle.mx_machine_world.specs.declared.events.Answer.{Answer}
-use Rattle.mx_machine_world.specs.declared.events.Answer.TheVariants.{Returned, Taken}
-use Rattle.mx_machine_world.specs.declared.holding.Out.{Out}
-use Rattle.mx_machine_world.specs.World.{World, HeldProcess, held_by, out_count, free_records}
-use Rattle.mx_machine_world.specs.Move.{if_full, take_refusal, line_refusal, kill_refusal, respawn_refusal, event_refusal, world_after_event, event_answer, move_by, move, world_after_line, world_after_respawn, world_after_take, world_after_back, with_held, world_with_record, table_after_back, held_at_take, step_refusal, back_refusal, back_answer, take_answer, table_after_sending_out, moves}
-use Rattle.mx_machine_world.specs.History.{BootAndHistory, replay}
-use Rattle.mx_machine_world.proofs.ProcessorLemmas.{cpus_after}
-use Rattle.mx_machine_kernel.specs.KernelState.{is_for_all}
+use Rattle.mx_machine.specs.Proc.TableState.{TableState, process_at, nobody, endpoint_of, table_after_dequeue}
+use Rattle.mx_machine.specs.Proc.declared.process.State.TheVariants.{Home, Out as OnProcessor}
+use Rattle.mx_machine.specs.Proc.declared.process.Process.{Process}
+use Rattle.mx_machine.specs.CallRefusals.{owner_of}
+use Rattle.mx_machine.specs.Service.{Service}
+use Rattle.mx_machine.specs.declared.events.Event.{Event}
+use Rattle.mx_machine.specs.declared.events.Event.TheVariants.{Step, Take, Back, Line, Tick, Kill, Respawn}
+use Rattle.mx_machine.specs.declared.events.Refusal.{Refusal}
+use Rattle.mx_machine.specs.declared.events.Refusal.TheVariants.{CpuBusy, CpuEmpty}
+use Rattle.mx_machine.specs.declared.events.Answer.{Answer}
+use Rattle.mx_machine.specs.declared.events.Answer.TheVariants.{Returned, Taken}
+use Rattle.mx_machine.specs.declared.holding.Out.{Out}
+use Rattle.mx_machine.specs.World.{World, HeldProcess, held_by, out_count, free_records}
+use Rattle.mx_machine.specs.Move.{if_full, take_refusal, line_refusal, kill_refusal, respawn_refusal, event_refusal, world_after_event, event_answer, move_by, move, world_after_line, world_after_respawn, world_after_take, world_after_back, with_held, world_with_record, table_after_back, held_at_take, step_refusal, back_refusal, back_answer, take_answer, table_after_sending_out, moves}
+use Rattle.mx_machine.specs.History.{BootAndHistory, replay}
+use Rattle.mx_machine.proofs.ProcessorLemmas.{cpus_after}
+use Rattle.mx_machine.specs.KernelState.{is_for_all}
 use Rattle.mx_machine.specs.Machine.{held_now, all_held_now, world_of}
 
 -- ---- lists

@@ -6,13 +6,13 @@ use Rattle.mx_exec.specs.declared.image.Image.{Image}
 use Rattle.mx_exec.specs.declared.image.Outcome.{Outcome}
 use Rattle.mx_exec.specs.declared.image.Outcome.TheVariants.{Go, Trap, Fault}
 use Rattle.mx_exec.specs.Step.{one_step}
-use Rattle.mx_machine_world.specs.Run.{run_of, run_end_from}
-use Rattle.mx_machine_world.specs.Stop.{Stop}
-use Rattle.mx_machine_world.specs.Stop.TheVariants as stop
-use Rattle.mx_machine_world.specs.declared.holding.Out.{Out}
-use Rattle.mx_machine_world.specs.Held.{out_after_run, out_after_outcome, held_run, run_by_stop, out_after_step}
-use Rattle.mx_machine_world.specs.Move.{at_stop, is_stop}
-use Rattle.mx_machine_world.specs.World.{HeldProcess}
+use Rattle.mx_machine.specs.Run.{run_of, run_end_from}
+use Rattle.mx_machine.specs.Stop.{Stop}
+use Rattle.mx_machine.specs.Stop.TheVariants as stop
+use Rattle.mx_machine.specs.declared.holding.Out.{Out}
+use Rattle.mx_machine.specs.Held.{out_after_run, out_after_outcome, held_run, run_by_stop, out_after_step}
+use Rattle.mx_machine.specs.Move.{at_stop, is_stop}
+use Rattle.mx_machine.specs.World.{HeldProcess}
 use Rattle.mx_machine.specs.Machine.{IsHeld}
 
 -- ---- a step

@@ -1,13 +1,13 @@
 -- A run of events, one more each time.
 use Rattle.std.proofs.Common.{◌≡◌, ◌∙◌, ℕ, List, [], ◌∷◌, ◌++◌, Result, refl, sym, ap, subst}
 use Rattle.std.proofs.lemmas.List.{append_assoc}
-use Rattle.mx_machine_world.specs.declared.events.Answer.{Answer}
-use Rattle.mx_machine_world.specs.declared.events.Event.{Event}
-use Rattle.mx_machine_world.specs.declared.events.Refusal.{Refusal}
-use Rattle.mx_machine_world.specs.Move.{move, moves}
-use Rattle.mx_machine_world.specs.Sound.{IsSound}
-use Rattle.mx_machine_world.specs.World.{World}
-use Rattle.mx_machine_world.specs.History.{BootAndHistory}
+use Rattle.mx_machine.specs.declared.events.Answer.{Answer}
+use Rattle.mx_machine.specs.declared.events.Event.{Event}
+use Rattle.mx_machine.specs.declared.events.Refusal.{Refusal}
+use Rattle.mx_machine.specs.Move.{move, moves}
+use Rattle.mx_machine.specs.Sound.{IsSound}
+use Rattle.mx_machine.specs.World.{World}
+use Rattle.mx_machine.specs.History.{BootAndHistory}
 use Rattle.mx_machine.specs.Machine.{AreSound, kept_after, kept_along}
 use Rattle.mx_machine.proofs.MachineLemmas.{moves-more}
 

@@ -1,11 +1,11 @@
 -- The world of a machine is sound.
 use Rattle.std.proofs.Common.{◌≡◌, ◌∙◌, ℕ, suc, List, [], ◌∷◌, map, Option, Some, None, get_or, slice_get, refl, sym, ap, subst}
-use Rattle.mx_machine_world.specs.declared.holding.Lease.{Lease}
-use Rattle.mx_machine_world.specs.declared.holding.Out.{Out}
-use Rattle.mx_machine_world.specs.History.{replay}
-use Rattle.mx_machine_world.specs.Sound.{IsConsistent, IsSound, lease_of}
-use Rattle.mx_machine_world.specs.World.{HeldProcess, held_by}
-use Rattle.mx_machine_world.proofs.LentLemmas.{back_lasts, run_budget}
+use Rattle.mx_machine.specs.declared.holding.Lease.{Lease}
+use Rattle.mx_machine.specs.declared.holding.Out.{Out}
+use Rattle.mx_machine.specs.History.{replay}
+use Rattle.mx_machine.specs.Sound.{IsConsistent, IsSound, lease_of}
+use Rattle.mx_machine.specs.World.{HeldProcess, held_by}
+use Rattle.mx_machine.proofs.LentLemmas.{back_lasts, run_budget}
 use Rattle.mx_machine.specs.Machine.{IsHeld, IsRunOf, IsMachineState, MachineState, held_now, all_held_now, world_of}
 use Rattle.mx_machine.proofs.MachineLemmas.{held_now-at}
 

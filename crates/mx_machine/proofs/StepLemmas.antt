@@ -1,21 +1,21 @@
 -- A step of one processor, and what else happens.
 use Rattle.std.proofs.Common.{◌≡◌, ◌≢◌, ◌∙◌, ℕ, zero, suc, ◌+◌, ◌-◌, cond, nat_lt, Bool, true, false, List, [], ◌∷◌, length, Option, Some, None, Result, Ok, Err, slice_get, slice_set, get_or, refl, sym, ap}
 use Rattle.std.proofs.lemmas.List.{set_comm, get_or-set_other, length-set}
-use Rattle.mx_machine_world.specs.Proc.Queues.{first_ready}
-use Rattle.mx_machine_world.specs.Proc.Endpoints.{is_alive}
-use Rattle.mx_machine_world.specs.Proc.TableState.{process_at}
-use Rattle.mx_machine_kernel.specs.Refusals.{owner_of}
-use Rattle.mx_machine_kernel.specs.Service.{Service}
-use Rattle.mx_machine_world.specs.declared.events.Event.{Event}
-use Rattle.mx_machine_world.specs.declared.events.Event.TheVariants.{Step, Take, Back, Line, Tick, Kill, Respawn}
-use Rattle.mx_machine_world.specs.declared.events.Refusal.{Refusal}
-use Rattle.mx_machine_world.specs.declared.events.Refusal.TheVariants.{CpuBusy, AtStop}
-use Rattle.mx_machine_world.specs.declared.events.Answer.{Answer}
-use Rattle.mx_machine_world.specs.declared.events.Answer.TheVariants.{Went}
-use Rattle.mx_machine_world.specs.Held.{out_after_step, outcome_of_step}
-use Rattle.mx_machine_world.specs.World.{World, HeldProcess, held_by, out_count, free_records}
-use Rattle.mx_machine_world.specs.Move.{if_full, at_stop, step_refusal, back_refusal, take_refusal, line_refusal, kill_refusal, respawn_refusal, event_refusal, world_after_event, event_answer, move_by, move, with_held, world_with_record, world_after_step, world_after_take, world_after_back, world_after_line, world_after_respawn, step_answer, back_answer, held_at_take, table_after_sending_out, table_after_back}
-use Rattle.mx_machine_world.proofs.ProcessorLemmas.{held_after, held_by_any}
+use Rattle.mx_machine.specs.Proc.Queues.{first_ready}
+use Rattle.mx_machine.specs.Proc.Endpoints.{is_alive}
+use Rattle.mx_machine.specs.Proc.TableState.{process_at}
+use Rattle.mx_machine.specs.CallRefusals.{owner_of}
+use Rattle.mx_machine.specs.Service.{Service}
+use Rattle.mx_machine.specs.declared.events.Event.{Event}
+use Rattle.mx_machine.specs.declared.events.Event.TheVariants.{Step, Take, Back, Line, Tick, Kill, Respawn}
+use Rattle.mx_machine.specs.declared.events.Refusal.{Refusal}
+use Rattle.mx_machine.specs.declared.events.Refusal.TheVariants.{CpuBusy, AtStop}
+use Rattle.mx_machine.specs.declared.events.Answer.{Answer}
+use Rattle.mx_machine.specs.declared.events.Answer.TheVariants.{Went}
+use Rattle.mx_machine.specs.Held.{out_after_step, outcome_of_step}
+use Rattle.mx_machine.specs.World.{World, HeldProcess, held_by, out_count, free_records}
+use Rattle.mx_machine.specs.Move.{if_full, at_stop, step_refusal, back_refusal, take_refusal, line_refusal, kill_refusal, respawn_refusal, event_refusal, world_after_event, event_answer, move_by, move, with_held, world_with_record, world_after_step, world_after_take, world_after_back, world_after_line, world_after_respawn, step_answer, back_answer, held_at_take, table_after_sending_out, table_after_back}
+use Rattle.mx_machine.proofs.ProcessorLemmas.{held_after, held_by_any}
 use Rattle.mx_machine.specs.Laws.{ChangePlaces, IsOthers}
 
 -- ---- what a processor has is replaced

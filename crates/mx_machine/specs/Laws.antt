@@ -1,10 +1,10 @@
 -- Laws of events.
 use Rattle.std.specs.Prelude.{ℕ, ◌≡◌, ◌≢◌, All, IsOk}
-use Rattle.mx_machine_world.specs.declared.events.Event.{Event}
-use Rattle.mx_machine_world.specs.declared.events.Event.TheVariants.{Step, Take, Back}
-use Rattle.mx_machine_world.specs.World.{World}
-use Rattle.mx_machine_world.specs.History.{BootAndHistory, events_of_history, replay}
-use Rattle.mx_machine_world.specs.Move.{move, moves}
+use Rattle.mx_machine.specs.declared.events.Event.{Event}
+use Rattle.mx_machine.specs.declared.events.Event.TheVariants.{Step, Take, Back}
+use Rattle.mx_machine.specs.World.{World}
+use Rattle.mx_machine.specs.History.{BootAndHistory, events_of_history, replay}
+use Rattle.mx_machine.specs.Move.{move, moves}
 use Rattle.mx_machine.specs.Machine.{IsActor}
 
 -- two events commute: in both orders each has one answer, and one world comes after them

@@ -1,22 +1,22 @@
 -- The machine of one thread: a kernel, and what its processors hold.
 use Rattle.std.specs.Prelude.{ℕ, true, ◌≡◌, ◌<◌, ◌≤◌, List, [], ◌∷◌, Option, Some, None, Result, Ok, Err, length, slice_index_or, if◌then◌else◌}
-use Rattle.mx_machine_world.specs.declared.events.Answer.{Answer}
-use Rattle.mx_machine_world.specs.declared.events.Answer.TheVariants.{Went, Returned}
-use Rattle.mx_machine_world.specs.declared.events.Event.{Event}
-use Rattle.mx_machine_world.specs.declared.events.Event.TheVariants.{Step, Take, Back}
-use Rattle.mx_machine_world.specs.declared.events.Refusal.{Refusal}
-use Rattle.mx_machine_world.specs.declared.events.Refusal.TheVariants.{AtStop, CpuEmpty}
-use Rattle.mx_machine_world.specs.declared.history.Recorded.{Recorded}
-use Rattle.mx_machine_world.specs.declared.history.Recorded.TheVariants as recorded
-use Rattle.mx_machine_world.specs.declared.holding.Out.{Out}
-use Rattle.mx_machine_world.specs.World.{World, HeldProcess, actors, held_by}
-pub use Rattle.mx_machine_world.specs.Held.{IsRunOf}
-use Rattle.mx_machine_world.specs.Held.{held_run, outcome_of_step, out_after_step}
-use Rattle.mx_machine_world.specs.Move.{at_stop}
-use Rattle.mx_machine_world.specs.History.{BootAndHistory, AreAccepted, world_after_events, replay, with_record}
-use Rattle.mx_machine_world.specs.Steps.{steps_of}
-pub use Rattle.mx_machine_kernel.specs.Agrees.{AreSound}
-use Rattle.mx_machine_kernel.specs.KernelState.{is_for_all, recorded_as}
+use Rattle.mx_machine.specs.declared.events.Answer.{Answer}
+use Rattle.mx_machine.specs.declared.events.Answer.TheVariants.{Went, Returned}
+use Rattle.mx_machine.specs.declared.events.Event.{Event}
+use Rattle.mx_machine.specs.declared.events.Event.TheVariants.{Step, Take, Back}
+use Rattle.mx_machine.specs.declared.events.Refusal.{Refusal}
+use Rattle.mx_machine.specs.declared.events.Refusal.TheVariants.{AtStop, CpuEmpty}
+use Rattle.mx_machine.specs.declared.history.Recorded.{Recorded}
+use Rattle.mx_machine.specs.declared.history.Recorded.TheVariants as recorded
+use Rattle.mx_machine.specs.declared.holding.Out.{Out}
+use Rattle.mx_machine.specs.World.{World, HeldProcess, actors, held_by}
+pub use Rattle.mx_machine.specs.Held.{IsRunOf}
+use Rattle.mx_machine.specs.Held.{held_run, outcome_of_step, out_after_step}
+use Rattle.mx_machine.specs.Move.{at_stop}
+use Rattle.mx_machine.specs.History.{BootAndHistory, AreAccepted, world_after_events, replay, with_record}
+use Rattle.mx_machine.specs.Steps.{steps_of}
+pub use Rattle.mx_machine.specs.Agrees.{AreSound}
+use Rattle.mx_machine.specs.KernelState.{is_for_all, recorded_as}
 
 -- What a machine is seen as: its kernel, and what each processor holds.
 pub record MachineState : Type 0 where

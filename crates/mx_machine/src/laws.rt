@@ -1,16 +1,15 @@
 //! Laws of a machine's events: order, replay, and runs after one another.
 
 ghost use Rattle.std.specs.Prelude.{◌≡◌, ℕ, Some};
-ghost use Rattle.mx_machine_world.specs.declared.events.Event.{Event};
-ghost use Rattle.mx_machine_world.specs.declared.events.Event.TheVariants as e;
-ghost use Rattle.mx_machine_world.specs.History.{BootAndHistory, AreAccepted, events_of_history};
-ghost use Rattle.mx_machine_world.specs.World.{World, HeldProcess, held_by};
+ghost use Rattle.mx_machine.specs.declared.events.Event.{Event};
+ghost use Rattle.mx_machine.specs.declared.events.Event.TheVariants as e;
+ghost use Rattle.mx_machine.specs.History.{BootAndHistory, AreAccepted, events_of_history};
+ghost use Rattle.mx_machine.specs.World.{World, HeldProcess, held_by};
 ghost use Rattle.mx_machine.specs.Laws.{ChangePlaces, IsOthers, Replays, RunsAgain};
 ghost use Rattle.mx_machine.specs.Machine.{world_of};
 
 use crate::machine::Machine;
-use mx_machine_kernel::Kernel;
-use mx_machine_world::actors_stay;
+use crate::{Kernel, actors_stay};
 
 /// Law: while a processor has a process, its step commutes with any event but its own steps, takes and
 /// returns.

@@ -1,16 +1,49 @@
-//! The machine of one thread: a kernel, its processors, and laws about events in a row. `apply` makes one
-//! event, `run` a list of them.
+//! The model of the whole machine, the kernel that makes each event and records all of them, and the
+//! machine of one thread.
+//!
+//! # The model
+//!
+//! Read first `Event` (what an actor may do), then `Answer` and `Refusal` (what the machine answers to an
+//! event), and `Record` (what the history has of it). `specs/Move.antt` defines what each event does.
+//!
+//! # The kernel
+//!
+//! `take` lends a process to a processor, `back` takes it home, and `event` is all else. The services are
+//! moved into the kernel, and `into_services` hands them back.
+//!
+//! # The machine of one thread
+//!
+//! `Machine::apply` makes one event, `Machine::run` a list of them.
 #![tactic(auto)]
 
+mod booting;
+mod caches;
+mod config;
+mod current;
+mod decoded;
+mod events;
+mod history;
+mod holding;
+mod kernel;
 mod laws;
 mod machine;
+mod serving;
 mod steps;
+mod world_laws;
 
+pub use config::{Config, FileName, ServiceLine, ServiceLines};
+pub use decoded::Decoded;
+pub use events::{Answer, Event, Refusal};
+pub use history::{Record, Recorded};
+pub use holding::{Held, Lease, Out};
+pub use kernel::{Kernel, recorded_as};
 pub use laws::{histories_replay, runs_again, steps_change_places};
 pub use machine::Machine;
-pub use mx_machine_kernel::{Kernel, Service};
-pub use mx_machine_world::{
-    Answer, Config, Event, FileName, Held, Out, Record, Recorded, Refusal, ServiceLine,
-    ServiceLines,
+pub use mx_image::Stop;
+pub use mx_kcall::{
+    Endpoint, Name, Rules, Service, Slot, Terms, call, die, is_worn, load, raise, respawn, tick,
 };
 pub use steps::{Tool, at_stop};
+pub use world_laws::{
+    actors_stay, back_empties, held_runs_join, others_keep, parts_join, runs_are_steps,
+};

@@ -2,22 +2,22 @@
 
 ghost use Rattle.std.specs.Prelude.{◌≡◌, ℕ, true, ◌+◌, ◌<◌, ◌≤◌, ◌++◌, ◌∷◌, [], All, Ok, None, Some, IsSome, IfSome, IfErr, OnOk, OnErr, MatchOption, vec_len, vec_capacity};
 ghost use Rattle.std.specs.Option.{option_map};
-ghost use Rattle.mx_machine_world.specs.Proc.TableState.{endpoint_of};
-ghost use Rattle.mx_machine_world.specs.declared.events.Event.TheVariants as events;
-ghost use Rattle.mx_machine_world.specs.declared.events.Refusal.TheVariants.{CpuEmpty};
-ghost use Rattle.mx_machine_world.specs.History.{replay};
-ghost use Rattle.mx_machine_world.specs.Move.{move, moves};
-ghost use Rattle.mx_machine_world.specs.Sound.{IsSound};
-ghost use Rattle.mx_machine_world.specs.World.{HeldProcess, actors, held_by, out_count};
-ghost use Rattle.mx_machine_kernel.specs.KernelState.{is_for_all};
+ghost use Rattle.mx_machine.specs.Proc.TableState.{endpoint_of};
+ghost use Rattle.mx_machine.specs.declared.events.Event.TheVariants as events;
+ghost use Rattle.mx_machine.specs.declared.events.Refusal.TheVariants.{CpuEmpty};
+ghost use Rattle.mx_machine.specs.History.{replay};
+ghost use Rattle.mx_machine.specs.Move.{move, moves};
+ghost use Rattle.mx_machine.specs.Sound.{IsSound};
+ghost use Rattle.mx_machine.specs.World.{HeldProcess, actors, held_by, out_count};
+ghost use Rattle.mx_machine.specs.KernelState.{is_for_all};
 ghost use Rattle.mx_machine.specs.Machine.{AreSound, HasWorked, IsActor, IsMachineState, kept_after, kept_along, world_of};
 
 use crate::steps::{Tool, step_held, work_held};
-use mx_exec::Image;
-use mx_machine_kernel::Kernel;
-use mx_machine_world::{
-    Answer, Endpoint, Event, Out, Refusal, Rules, Slot, actors_stay, held_runs_join, runs_are_steps,
+use crate::{
+    Answer, Endpoint, Event, Kernel, Out, Refusal, Rules, Slot, actors_stay, held_runs_join,
+    runs_are_steps,
 };
+use mx_exec::Image;
 use mx_word::NoMemory;
 use std::marker::Model;
 use std::mem;

@@ -1,15 +1,15 @@
 //! What a machine does with the process that a processor holds: a step, or the work of a tool.
 
 ghost use Rattle.std.specs.Prelude.{◌≡◌, ℕ, ◌+◌, ◌<◌, ◌^◌, true, false, IfOk, IfErr, OnOk, None, Some};
-ghost use Rattle.mx_machine_world.specs.declared.events.Answer.TheVariants.{Went};
-ghost use Rattle.mx_machine_world.specs.declared.events.Refusal.TheVariants.{AtStop, CpuEmpty};
-ghost use Rattle.mx_machine_world.specs.declared.holding.Out.{Out};
-ghost use Rattle.mx_machine_world.specs.Held.{held_run, outcome_of_step, out_after_step, stop_of_outcome};
-ghost use Rattle.mx_machine_world.specs.Move.{at_stop};
+ghost use Rattle.mx_machine.specs.declared.events.Answer.TheVariants.{Went};
+ghost use Rattle.mx_machine.specs.declared.events.Refusal.TheVariants.{AtStop, CpuEmpty};
+ghost use Rattle.mx_machine.specs.declared.holding.Out.{Out};
+ghost use Rattle.mx_machine.specs.Held.{held_run, outcome_of_step, out_after_step, stop_of_outcome};
+ghost use Rattle.mx_machine.specs.Move.{at_stop};
 ghost use Rattle.mx_machine.specs.Machine.{hold_after_step};
 
+use crate::{Answer, Out, Refusal, Stop};
 use mx_exec::{Outcome, step};
-use mx_machine_world::{Answer, Out, Refusal, Stop};
 
 /// What makes steps with what a processor holds, as a debugger does.
 pub trait Tool {
@@ -48,7 +48,7 @@ pub fn at_stop(out: &Out) -> bool
 }
 
 /// One step of what a processor holds, unless it is at a stop.
-#[tactic(auto, unfolding(mx_machine_world::specs::Held::out_after_step, mx_machine_world::specs::Held::outcome_of_step))]
+#[tactic(auto, unfolding(crate::specs::Held::out_after_step, crate::specs::Held::outcome_of_step))]
 fn step_of(out: &mut Out) -> Result<Answer, Refusal>
     ensures stop { IfErr result (λ refusal. (refusal ≡ AtStop) × (at_stop out.old ≡ true)
         × (out.new ≡ out.old)) }

@@ -7,7 +7,7 @@ use Rattle.std.proofs.lemmas.Fmt.{hex_byte}
 use Rattle.std.proofs.lemmas.Grind.{flat_map-append}
 use Rattle.std.proofs.lemmas.List.{drop-drop, drop-take}
 use Rattle.std.proofs.Math.Seq.{take-add}
-use Rattle.mx_print_insn.specs.Numbers.{eight_digits}
+use Rattle.mx_insn_words.specs.Numbers.{eight_digits}
 use Rattle.mx_print_answers.specs.Processes.{byte_field, memory_row, numbered_row}
 use Rattle.mx_print_answers.proofs.Lines.{next_number}
 

@@ -1,7 +1,7 @@
 -- Why a debugger's line is refused, and the answer to a breakpoint's line (our own).
 use Rattle.std.specs.Prelude.{ℕ, List, ◌++◌, codes, Result, Ok, Err}
 use Rattle.std.specs.Fmt.{decimal}
-use Rattle.mx_machine_world.specs.Refusals.{code_of_refusal, name_of_refusal}
+use Rattle.mx_machine.specs.Refusals.{code_of_refusal, name_of_refusal}
 use Rattle.mx_debug.specs.Errors.{error_code, error_name}
 use Rattle.mx_print_answers.specs.declared.refused.Refused.{Refused as Kind}
 use Rattle.mx_print_answers.specs.declared.refused.Refused.TheVariants.{ByMachine, ByDebugger}

@@ -1,3 +1,5 @@
+pub mod Registers
+pub mod Stops
 pub mod Said
 pub mod Answers
 pub mod Runs

@@ -4,8 +4,8 @@ use Rattle.std.specs.List.{flat_map, range_with_len}
 use Rattle.std.specs.Fmt.{digit_glyph}
 use Rattle.std.specs.Int.{div_ceil}
 use Rattle.mx_exec.specs.declared.image.Image.{Image}
-use Rattle.mx_print_insn.specs.Numbers.{eight_digits}
-use Rattle.mx_print_registers.specs.Registers.{register_lines}
+use Rattle.mx_insn_words.specs.Numbers.{eight_digits}
+use Rattle.mx_print_answers.specs.Registers.{register_lines}
 use Rattle.mx_debug.specs.declared.error.DebugError.TheVariants.{NotHere}
 use Rattle.mx_print_answers.specs.declared.refused.Refused.TheVariants.{ByDebugger}
 use Rattle.mx_print_answers.specs.Answers.{refused_line}

@@ -1,10 +1,10 @@
 -- The answer to a run up to a breakpoint (our own).
 use Rattle.std.specs.Prelude.{ℕ, suc, List, ◌++◌, codes, Result, Ok, Err}
 use Rattle.std.specs.Fmt.{decimal}
-use Rattle.mx_machine_world.specs.Stop.{Stop}
-use Rattle.mx_machine_world.specs.Stop.TheVariants as stop
-use Rattle.mx_print_insn.specs.Numbers.{eight_digits}
-use Rattle.mx_machine_world.specs.declared.events.Refusal.{Refusal}
+use Rattle.mx_machine.specs.Stop.{Stop}
+use Rattle.mx_machine.specs.Stop.TheVariants as stop
+use Rattle.mx_insn_words.specs.Numbers.{eight_digits}
+use Rattle.mx_machine.specs.declared.events.Refusal.{Refusal}
 use Rattle.mx_debug.specs.declared.halt.HaltCause.{HaltCause}
 use Rattle.mx_debug.specs.declared.halt.HaltCause.TheVariants.{Breakpoint, Trap, Fault}
 use Rattle.mx_debug.specs.declared.halt.Halt.{Halt}

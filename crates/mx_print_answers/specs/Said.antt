@@ -2,13 +2,13 @@
 use Rattle.std.specs.Prelude.{ℕ, List, ◌++◌, codes, Result, Ok, Err}
 use Rattle.std.specs.List.{flat_map}
 use Rattle.std.specs.Fmt.{decimal}
-use Rattle.mx_machine_world.specs.Stop.{Stop}
-use Rattle.mx_machine_world.specs.Stop.TheVariants.{Spent, Trap, Fault}
-use Rattle.mx_machine_world.specs.declared.events.Answer.{Answer}
-use Rattle.mx_machine_world.specs.declared.events.Answer.TheVariants.{Went, Taken, Returned, Done, Respawned}
-use Rattle.mx_machine_world.specs.declared.events.Refusal.{Refusal}
-use Rattle.mx_machine_world.specs.Held.{stop_of_outcome}
-use Rattle.mx_machine_world.specs.Refusals.{code_of_refusal, name_of_refusal}
+use Rattle.mx_machine.specs.Stop.{Stop}
+use Rattle.mx_machine.specs.Stop.TheVariants.{Spent, Trap, Fault}
+use Rattle.mx_machine.specs.declared.events.Answer.{Answer}
+use Rattle.mx_machine.specs.declared.events.Answer.TheVariants.{Went, Taken, Returned, Done, Respawned}
+use Rattle.mx_machine.specs.declared.events.Refusal.{Refusal}
+use Rattle.mx_machine.specs.Held.{stop_of_outcome}
+use Rattle.mx_machine.specs.Refusals.{code_of_refusal, name_of_refusal}
 use Rattle.mx_print_answers.specs.declared.said.Said.{Said}
 use Rattle.mx_print_answers.specs.declared.said.Said.TheVariants.{Stepped, Answered, Refused}
 

@@ -1,16 +1,21 @@
-//! How the answers of a machine are printed: to events, to runs, to questions about memory and
-//! messages.
+//! How a machine's answers are printed: registers, flags and stops, and the answers to events, to runs
+//! and to questions about memory and messages.
 #![tactic(auto)]
 
 mod messages;
 mod processes;
 mod refused;
+mod registers;
 mod runs;
 mod said;
+mod stops;
 
 pub use messages::push_messages;
 pub use mx_debug::{DebugError, Debugger, Halt, HaltCause, Kernel};
+pub use mx_image::{Runs, Stop};
 pub use processes::{push_memory, push_process};
 pub use refused::{Refused, push_done};
+pub use registers::push_registers;
 pub use runs::push_run;
 pub use said::{Said, said_of};
+pub use stops::push_stop;

@@ -1,7 +1,7 @@
 //! Prints messages that were delivered.
 
 ghost use Rattle.std.specs.Prelude.{◌≡◌, ◌++◌, OnOk, string_bytes};
-ghost use Rattle.mx_machine_world.specs.History.{replay};
+ghost use Rattle.mx_machine.specs.History.{replay};
 ghost use Rattle.mx_print_answers.specs.Messages.{kind_word, delivery_line, delivery_lines};
 
 use mx_debug::{Debugger, Kernel};

@@ -5,12 +5,12 @@ ghost use Rattle.std.specs.List.{flat_map};
 ghost use Rattle.std.specs.Option.{option_map};
 ghost use Rattle.mx_print_answers.specs.Processes.{not_here, registers_text, byte_field, memory_row, memory_rows, memory_text};
 
+use crate::push_registers;
 use crate::refused::Refused;
 use mx_debug::DebugError;
 use mx_exec::Image;
+use mx_insn_words::push_eight_digits;
 use mx_mem::Segment;
-use mx_print_insn::push_eight_digits;
-use mx_print_registers::push_registers;
 use std::alloc::AllocError;
 use std::fmt::Write;
 

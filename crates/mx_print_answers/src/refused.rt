@@ -4,7 +4,7 @@ ghost use Rattle.std.specs.Prelude.{◌≡◌, ◌++◌, OnOk, string_bytes};
 ghost use Rattle.mx_print_answers.specs.Answers.{done_line};
 
 use mx_debug::DebugError;
-use mx_machine_world::Refusal;
+use mx_machine::Refusal;
 use std::alloc::AllocError;
 use std::fmt;
 use std::fmt::Write;

@@ -5,8 +5,8 @@ ghost use Rattle.mx_print_answers.specs.Runs.{stop_of_halt, halt_line, run_line}
 
 use crate::said::Said;
 use mx_debug::{Halt, HaltCause};
-use mx_machine_world::{Refusal, Stop};
-use mx_print_insn::push_eight_digits;
+use mx_insn_words::push_eight_digits;
+use mx_machine::{Refusal, Stop};
 use std::alloc::AllocError;
 use std::fmt::Write;
 

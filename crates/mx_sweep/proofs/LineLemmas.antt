@@ -1,8 +1,8 @@
 -- One line of an outcome more.
 use Rattle.std.proofs.Common.{◌≡◌, ◌∙◌, ◌<◌, ◌+◌, ℕ, suc, ◌++◌, List, length, drop, get_or, sym, ap, arith}
 use Rattle.std.proofs.Math.Seq.{drop-cons}
-use Rattle.mx_machine_world.specs.Proc.TableState.{TableState}
-use Rattle.mx_machine_world.specs.Service.{Service}
+use Rattle.mx_machine.specs.Proc.TableState.{TableState}
+use Rattle.mx_machine.specs.Service.{Service}
 use Rattle.mx_print_report.specs.declared.fields.Naming.{Naming}
 use Rattle.mx_print_report.specs.Report.{process_words}
 use Rattle.mx_sweep.specs.Sweep.{indented, process_lines}

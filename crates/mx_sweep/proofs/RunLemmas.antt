@@ -5,20 +5,20 @@ use Rattle.std.proofs.lemmas.List.{take-append-drop}
 use Rattle.mx_app_step.specs.Kept.{event_of_line, kept_by, kept_of}
 use Rattle.mx_app_step.specs.Lines.{line_made, run_made, steps_made}
 use Rattle.mx_app_step.specs.Machine.{MachineState, kept_along, world_of}
-use Rattle.mx_boot_script.specs.declared.scripts.ScriptLine.{ScriptLine}
-use Rattle.mx_boot_script.specs.declared.scripts.ScriptLine.TheVariants.{Step, Take, Back, Line, Tick, Kill, Respawn}
-use Rattle.mx_machine_world.specs.declared.events.Event.{Event}
-use Rattle.mx_machine_world.specs.declared.events.Event.TheVariants as events
-use Rattle.mx_machine_world.specs.declared.events.Refusal.{Refusal}
-use Rattle.mx_machine_world.specs.declared.history.Record.{Record}
-use Rattle.mx_machine_world.specs.Held.{held_run}
-use Rattle.mx_machine_world.specs.History.{AreAccepted, BootAndHistory, events_of, events_of_history, world_after_events}
-use Rattle.mx_machine_world.specs.Move.{event_refusal, move, move_by, moves, world_after_event}
-use Rattle.mx_machine_world.specs.Steps.{steps_of}
-use Rattle.mx_machine_world.specs.World.{HeldProcess, World, actors, held_by}
+use Rattle.mx_boot.specs.declared.scripts.ScriptLine.{ScriptLine}
+use Rattle.mx_boot.specs.declared.scripts.ScriptLine.TheVariants.{Step, Take, Back, Line, Tick, Kill, Respawn}
+use Rattle.mx_machine.specs.declared.events.Event.{Event}
+use Rattle.mx_machine.specs.declared.events.Event.TheVariants as events
+use Rattle.mx_machine.specs.declared.events.Refusal.{Refusal}
+use Rattle.mx_machine.specs.declared.history.Record.{Record}
+use Rattle.mx_machine.specs.Held.{held_run}
+use Rattle.mx_machine.specs.History.{AreAccepted, BootAndHistory, events_of, events_of_history, world_after_events}
+use Rattle.mx_machine.specs.Move.{event_refusal, move, move_by, moves, world_after_event}
+use Rattle.mx_machine.specs.Steps.{steps_of}
+use Rattle.mx_machine.specs.World.{HeldProcess, World, actors, held_by}
 use Rattle.mx_print_answers.specs.declared.said.Said.{Said}
 use Rattle.mx_print_answers.specs.declared.said.Said.TheVariants.{Refused}
-use Rattle.mx_machine_world.specs.declared.events.Refusal.TheVariants.{NoProcess}
+use Rattle.mx_machine.specs.declared.events.Refusal.TheVariants.{NoProcess}
 use Rattle.mx_print_answers.specs.Said.{said_line}
 use Rattle.mx_turns.specs.declared.turns.Ending.{Ending}
 use Rattle.mx_turns.specs.Made.{HasMade}

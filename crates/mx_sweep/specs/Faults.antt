@@ -2,12 +2,12 @@
 use Rattle.std.specs.Prelude.{ℕ, ◌<◌, nat_lt, if◌then◌else◌, List, [], ◌∷◌, length, Option, Some, None}
 use Rattle.mx_app_step.specs.Kept.{event_of_line, kept_by}
 use Rattle.mx_app_step.specs.Lines.{line_made}
-use Rattle.mx_boot_script.specs.declared.scripts.ScriptLine.{ScriptLine}
-use Rattle.mx_boot_script.specs.declared.scripts.ScriptLine.TheVariants.{Kill}
-use Rattle.mx_machine_world.specs.declared.events.Refusal.TheVariants.{NoProcess}
-use Rattle.mx_machine_world.specs.History.{BootAndHistory}
-use Rattle.mx_machine_world.specs.Proc.TableState.{TableState, endpoint_of}
-use Rattle.mx_machine_world.specs.World.{World}
+use Rattle.mx_boot.specs.declared.scripts.ScriptLine.{ScriptLine}
+use Rattle.mx_boot.specs.declared.scripts.ScriptLine.TheVariants.{Kill}
+use Rattle.mx_machine.specs.declared.events.Refusal.TheVariants.{NoProcess}
+use Rattle.mx_machine.specs.History.{BootAndHistory}
+use Rattle.mx_machine.specs.Proc.TableState.{TableState, endpoint_of}
+use Rattle.mx_machine.specs.World.{World}
 use Rattle.mx_print_answers.specs.declared.said.Said.{Said}
 use Rattle.mx_print_answers.specs.declared.said.Said.TheVariants.{Refused}
 use Rattle.mx_sweep.specs.declared.faults.FaultLine.{FaultLine}

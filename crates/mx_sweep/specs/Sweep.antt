@@ -4,15 +4,15 @@ use Rattle.std.specs.Fmt.{decimal}
 use Rattle.std.specs.List.{flat_map}
 use Rattle.std.specs.Str.{bytes_eq}
 use Rattle.mx_app_step.specs.Kept.{kept_of}
-use Rattle.mx_machine_world.specs.declared.events.Event.{Event}
-use Rattle.mx_machine_world.specs.declared.events.Event.TheVariants as events
-use Rattle.mx_machine_world.specs.declared.history.Record.{Record}
-use Rattle.mx_machine_world.specs.declared.history.Recorded.{Recorded}
-use Rattle.mx_machine_world.specs.declared.history.Recorded.TheVariants as recorded
-use Rattle.mx_machine_world.specs.History.{BootAndHistory, events_of_history, world_after_events}
-use Rattle.mx_machine_world.specs.Service.{Service}
-use Rattle.mx_machine_world.specs.World.{World}
-use Rattle.mx_machine_world.specs.Proc.TableState.{TableState}
+use Rattle.mx_machine.specs.declared.events.Event.{Event}
+use Rattle.mx_machine.specs.declared.events.Event.TheVariants as events
+use Rattle.mx_machine.specs.declared.history.Record.{Record}
+use Rattle.mx_machine.specs.declared.history.Recorded.{Recorded}
+use Rattle.mx_machine.specs.declared.history.Recorded.TheVariants as recorded
+use Rattle.mx_machine.specs.History.{BootAndHistory, events_of_history, world_after_events}
+use Rattle.mx_machine.specs.Service.{Service}
+use Rattle.mx_machine.specs.World.{World}
+use Rattle.mx_machine.specs.Proc.TableState.{TableState}
 use Rattle.mx_print_answers.specs.declared.said.Said.{Said}
 use Rattle.mx_print_answers.specs.Said.{said_line}
 use Rattle.mx_print_report.specs.declared.fields.Naming.{Naming}

@@ -1,10 +1,10 @@
 -- Machines that are swept.
 use Rattle.std.specs.Prelude.{ℕ, ◌≡◌, ◌<◌, ◌≤◌, List, All, length}
 use Rattle.mx_app_step.specs.Machine.{MachineState, world_of}
-use Rattle.mx_machine_world.specs.Boot.{world_at_boot}
-use Rattle.mx_machine_world.specs.declared.history.Record.{Record}
-use Rattle.mx_machine_world.specs.History.{AreAccepted, events_of_history}
-use Rattle.mx_machine_world.specs.World.{World, actors}
+use Rattle.mx_machine.specs.Boot.{world_at_boot}
+use Rattle.mx_machine.specs.declared.history.Record.{Record}
+use Rattle.mx_machine.specs.History.{AreAccepted, events_of_history}
+use Rattle.mx_machine.specs.World.{World, actors}
 use Rattle.mx_turns.specs.declared.turns.Ending.{Ending}
 use Rattle.mx_sweep.specs.declared.running.Sweep.{Sweep}
 use Rattle.mx_sweep.specs.Sweep.{Run}

@@ -2,10 +2,10 @@
 
 ghost use Rattle.std.specs.Prelude.{◌≡◌, ◌<◌, ◌≤◌, [], IfOk, length};
 ghost use Rattle.mx_app_step.specs.Machine.{world_of};
-ghost use Rattle.mx_machine_world.specs.Boot.{world_at_boot};
+ghost use Rattle.mx_machine.specs.Boot.{world_at_boot};
 
 use mx_app_step::{Config, Machine};
-use mx_machine_kernel::Kernel;
+use mx_machine::Kernel;
 use mx_word::NoMemory;
 use std::alloc::Global;
 

@@ -2,11 +2,11 @@
 
 ghost use Rattle.std.specs.Prelude.{◌≡◌, ◌<◌, length};
 ghost use Rattle.mx_app_step.specs.Machine.{world_of};
-ghost use Rattle.mx_machine_world.specs.World.{actors};
+ghost use Rattle.mx_machine.specs.World.{actors};
 ghost use Rattle.mx_sweep.specs.Faults.{fault_kept, fault_made, line_now};
 
 use mx_app_step::{Machine, Said, ScriptLine, perform_line};
-use mx_machine_world::Refusal;
+use mx_machine::Refusal;
 
 /// A line of a fault.
 #[derive(Clone, Copy, Debug, PartialEq, Eq)]

@@ -2,15 +2,14 @@
 
 ghost use Rattle.std.specs.Prelude.{◌≡◌, ◌≤◌, ◌++◌, [], IfOk, OnOk, length, map};
 ghost use Rattle.mx_app_step.specs.Machine.{world_of};
-ghost use Rattle.mx_machine_world.specs.History.{replay};
+ghost use Rattle.mx_machine.specs.History.{replay};
 ghost use Rattle.mx_print_report.specs.declared.fields.Naming.TheVariants as by;
 ghost use Rattle.mx_sweep.specs.Sweep.{are_alike, end_text, ending_word, kept_text, outcome_text, process_lines, run_of, shown};
 ghost use Rattle.mx_sweep.specs.Swept.{IsSwept};
 
 use crate::running::{Sweep, run_at};
 use mx_app_step::Machine;
-use mx_machine::Service;
-use mx_machine_kernel::Kernel;
+use mx_machine::{Kernel, Service};
 use mx_print_report::{Naming, push_console, push_count, push_process};
 use mx_proc::Table;
 use mx_text::next_line;

@@ -2,7 +2,7 @@
 
 ghost use Rattle.std.specs.Prelude.{◌≡◌, ◌<◌, ◌≤◌, ◌++◌, IfOk, OnOk, length};
 ghost use Rattle.mx_app_step.specs.Machine.{world_of};
-ghost use Rattle.mx_machine_world.specs.World.{actors};
+ghost use Rattle.mx_machine.specs.World.{actors};
 ghost use Rattle.mx_sweep.specs.Faults.{faults_kept, faults_made};
 ghost use Rattle.mx_sweep.specs.Sweep.{run_of, said_text};
 ghost use Rattle.mx_sweep.specs.Swept.{HasRun, IsSwept};
@@ -11,7 +11,7 @@ use crate::booting::boot_again;
 use crate::faults::{FaultLine, perform_fault_line};
 use crate::outside::coming_of;
 use mx_app_step::{Config, Machine, Record, perform_records};
-use mx_machine_world::actors_stay;
+use mx_machine::actors_stay;
 use mx_turns::{Ending, Outside, make_turns};
 use mx_word::NoMemory;
 use std::alloc::{AllocError, Global};

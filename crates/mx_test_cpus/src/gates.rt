@@ -1,6 +1,6 @@
 //! A gate for tests, which notes each call that a loop makes of it.
 
-use mx_cpus_drive::Gate;
+use mx_cpus::Gate;
 use std::array;
 use std::sync::atomic::{AtomicU32, AtomicU64, Ordering};
 

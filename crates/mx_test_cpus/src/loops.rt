@@ -4,8 +4,8 @@ ghost use Rattle.std.specs.Prelude.{◌≡◌, ◌≤◌, All, None};
 
 use crate::gates::{GateCall, NotingGate};
 use crate::machine::{config, is_history, last_idle_seat, services};
-use mx_cpus_drive::{ActorSeat, Blank, Naming, Shared, boot, drive, processor, respawner};
-use mx_machine_world::{Record, Recorded};
+use mx_cpus::{ActorSeat, Blank, Naming, Shared, boot, drive, processor, respawner};
+use mx_machine::{Record, Recorded};
 use std::marker::Brand;
 use std::sync::Wait;
 use std::test::Fail;

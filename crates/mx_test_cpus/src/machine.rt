@@ -3,8 +3,8 @@
 ghost use Rattle.std.specs.Prelude.{◌≡◌, ◌<◌, ◌≤◌, All, IfOk, IfSome, None, length};
 
 use mx_aout::read;
-use mx_cpus_drive::{ActorSeat, Naming};
-use mx_machine_world::{Config, FileName, Record, Recorded, Rules, ServiceLine, ServiceLines};
+use mx_cpus::{ActorSeat, Naming};
+use mx_machine::{Config, FileName, Record, Recorded, Rules, ServiceLine, ServiceLines};
 use mx_proc::{Masks, Terms};
 use mx_respawn::Service;
 use mx_text::name_of;

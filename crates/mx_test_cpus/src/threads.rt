@@ -3,8 +3,8 @@
 ghost use Rattle.std.specs.Prelude.{◌≡◌, All, None};
 
 use crate::machine::{config, last_seat, services};
-use mx_cpus_drive::{ActorSeat, Blank, Gate, Naming, Shared, boot, drive};
-use mx_machine_world::Refusal;
+use mx_cpus::{ActorSeat, Blank, Gate, Naming, Shared, boot, drive};
+use mx_machine::Refusal;
 use std::alloc::Global;
 use std::marker::Brand;
 use std::process::Abort;

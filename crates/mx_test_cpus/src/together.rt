@@ -4,10 +4,9 @@
 ghost use Rattle.std.specs.Prelude.{◌≡◌, ◌<◌, All, length};
 
 use crate::machine::{config, is_history, last_seat, services};
-use mx_cpus_drive::{ActorSeat, Blank, Naming, Shared, boot};
+use mx_cpus::{ActorSeat, Blank, Naming, Shared, boot};
 use mx_debug::{Debugger, Halt, HaltCause};
-use mx_machine_kernel::Kernel;
-use mx_machine_world::{Answer, Recorded, Refusal};
+use mx_machine::{Answer, Kernel, Recorded, Refusal};
 use mx_proc::{DeathCause, State};
 use std::marker::Brand;
 use std::process::Abort;

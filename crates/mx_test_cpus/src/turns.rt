@@ -4,8 +4,8 @@
 ghost use Rattle.std.specs.Prelude.{◌≡◌, All};
 
 use crate::machine::{config, is_history, last_seat, services};
-use mx_cpus_drive::{ActorSeat, Blank, Naming, Shared, boot};
-use mx_machine_world::{Answer, Held, Recorded, Refusal};
+use mx_cpus::{ActorSeat, Blank, Naming, Shared, boot};
+use mx_machine::{Answer, Held, Recorded, Refusal};
 use std::marker::Brand;
 use std::process::Abort;
 use std::sync::Wait;

@@ -4,7 +4,7 @@ use mx_debug::{DebugError, Debugger, Halt, HaltCause};
 use mx_exec::{Code, Image, TextSegment};
 use mx_flags::Flags;
 use mx_image::Stop;
-use mx_machine_world::{Decoded, Out};
+use mx_machine::{Decoded, Out};
 use mx_mem::Segment;
 use mx_proc::Slot;
 use mx_regs::Regs;

@@ -2,8 +2,7 @@
 
 use crate::files::reader;
 use mx_app_db::{Script, go, make_steps, set_breakpoint, start};
-use mx_boot::saved_text;
-use mx_boot_script::{CodePlace, SymbolName};
+use mx_boot::{CodePlace, SymbolName, saved_text};
 use mx_debug::Debugger;
 use mx_machine::{Event, Machine};
 use std::alloc::Global;

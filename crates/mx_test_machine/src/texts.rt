@@ -1,10 +1,11 @@
 //! Configurations, scripts and histories, read and saved.
 
 use BootError::{BadLine, BadRecord, TooMany, TwiceNamed};
-use mx_boot::{BootError, Config, Over, ScriptLine, config, debug_script, log, script};
-use mx_boot_history::{history_again, one_history, one_text, save_history};
-use mx_boot_script::{number_again, verb_again, words_again};
-use mx_machine_world::{Record, Recorded, Rules};
+use mx_boot::{
+    BootError, Config, Over, ScriptLine, config, debug_script, history_again, log, number_again,
+    one_history, one_text, save_history, script, verb_again, words_again,
+};
+use mx_machine::{Record, Recorded, Rules};
 use std::alloc::Global;
 use std::io;
 use std::io::Write;

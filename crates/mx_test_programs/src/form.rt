@@ -1,6 +1,6 @@
 //! Forms that a size decides.
 
-use mx_asm_form::{
+use mx_asm_statement::{
     Address, Argument, JumpLength, Mnemonic, Name, Prefix, Register, Single, Size, Value,
     statement_after_prefix, statement_for,
 };

@@ -1,11 +1,10 @@
 //! What is printed of an instruction is read again.
 
-use mx_asm_line::read_line;
-use mx_asm_statement::{Branch, Statement, Value};
+use mx_asm_statement::{Branch, Statement, Value, read_line};
 use mx_decode::decode;
 use mx_encode::{Wide, encode};
 use mx_insn::Insn;
-use mx_print_insn::push_statement;
+use mx_insn_words::push_statement;
 use std::alloc::{AllocGlobal, Global};
 use std::process::Abort;
 use std::string::String;

@@ -1,8 +1,7 @@
 //! Lines of an assembler's text, of every kind.
 
 use mx_asm::Problem;
-use mx_asm_line::read_line;
-use mx_asm_statement::{Saying, Section, Statement, refusal};
+use mx_asm_statement::{Saying, Section, Statement, read_line, refusal};
 use std::alloc::Global;
 
 fn code_of_line(alloc: Global, text: &[u8]) -> Option<u8> {

@@ -1,7 +1,7 @@
 //! The gate of a run, called from one thread: when it ends a loop.
 
 use mx_app_run::RunGate;
-use mx_cpus_drive::Gate;
+use mx_cpus::Gate;
 use std::test::Fail;
 
 /// A call of the gate. A question has the answer that is wanted.

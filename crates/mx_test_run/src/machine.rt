@@ -3,7 +3,7 @@
 ghost use Rattle.std.specs.Prelude.{◌≡◌, All, IfOk, None};
 
 use mx_app_run::{NamedFile, NamedFiles, Replayed, replay, report, saved_text, setup_of};
-use mx_cpus_drive::{ActorSeat, Blank, Kernel, boot};
+use mx_cpus::{ActorSeat, Blank, Kernel, boot};
 use std::alloc::Global;
 use std::test::Fail;
 

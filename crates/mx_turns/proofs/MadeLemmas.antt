@@ -1,16 +1,16 @@
 -- What a machine has made.
 use Rattle.std.proofs.Common.{◌≡◌, ◌∙◌, ℕ, suc, zero, ◌++◌, Bool, true, false, List, [], ◌∷◌, length, Option, Some, None, Result, Ok, Err, IfErr, OnOk, replicate, refl, ap, sym, subst}
-use Rattle.mx_machine_world.specs.declared.events.Answer.{Answer}
-use Rattle.mx_machine_world.specs.declared.events.Event.{Event}
-use Rattle.mx_machine_world.specs.declared.events.Event.TheVariants.{Step, Back}
-use Rattle.mx_machine_world.specs.declared.events.Refusal.{Refusal}
-use Rattle.mx_machine_world.specs.declared.events.Refusal.TheVariants.{LogFull, CpuEmpty}
-use Rattle.mx_machine_world.specs.History.{AreAccepted, BootAndHistory, world_after_events}
-use Rattle.mx_machine_world.specs.Held.{held_run}
-use Rattle.mx_machine_world.specs.Move.{back_refusal, event_answer, event_refusal, move, move_by, moves, world_after_event}
-use Rattle.mx_machine_world.specs.Steps.{steps_of}
-use Rattle.mx_machine_world.specs.World.{World, HeldProcess, held_by}
-use Rattle.mx_machine_kernel.proofs.ReplayLemmas.{accepted_append, after_append}
+use Rattle.mx_machine.specs.declared.events.Answer.{Answer}
+use Rattle.mx_machine.specs.declared.events.Event.{Event}
+use Rattle.mx_machine.specs.declared.events.Event.TheVariants.{Step, Back}
+use Rattle.mx_machine.specs.declared.events.Refusal.{Refusal}
+use Rattle.mx_machine.specs.declared.events.Refusal.TheVariants.{LogFull, CpuEmpty}
+use Rattle.mx_machine.specs.History.{AreAccepted, BootAndHistory, world_after_events}
+use Rattle.mx_machine.specs.Held.{held_run}
+use Rattle.mx_machine.specs.Move.{back_refusal, event_answer, event_refusal, move, move_by, moves, world_after_event}
+use Rattle.mx_machine.specs.Steps.{steps_of}
+use Rattle.mx_machine.specs.World.{World, HeldProcess, held_by}
+use Rattle.mx_machine.proofs.ReplayLemmas.{accepted_append, after_append}
 use Rattle.mx_machine.specs.Machine.{HasWorked, MachineState, kept_after, kept_along, record_of, with_records, world_of}
 use Rattle.mx_turns.specs.Made.{HasMade, HasOffered, is_full}
 use Rattle.mx_turns.specs.Turns.{Offered, most_steps, offered, offered_first, outside, respawns, then_offered}

@@ -8,20 +8,20 @@ use Rattle.mx_exec.specs.declared.image.Image.{Image}
 use Rattle.mx_exec.specs.declared.image.Outcome.{Outcome}
 use Rattle.mx_exec.specs.declared.image.Outcome.TheVariants.{Go, Trap, Fault}
 use Rattle.mx_exec.specs.Step.{one_step}
-use Rattle.mx_machine_world.specs.Run.{run_of, run_end_from}
-use Rattle.mx_machine_world.specs.Stop.{Stop}
-use Rattle.mx_machine_world.specs.Stop.TheVariants as stop
-use Rattle.mx_machine_world.specs.declared.events.Event.{Event}
-use Rattle.mx_machine_world.specs.declared.events.Event.TheVariants.{Step, Take, Back, Respawn}
-use Rattle.mx_machine_world.specs.declared.events.Refusal.{Refusal}
-use Rattle.mx_machine_world.specs.declared.events.Refusal.TheVariants.{LogFull, AtStop, CpuEmpty}
-use Rattle.mx_machine_world.specs.declared.holding.Out.{Out}
-use Rattle.mx_machine_world.specs.Held.{held_run, run_by_stop, then_held, out_after_step}
-use Rattle.mx_machine_world.specs.History.{world_after_events}
-use Rattle.mx_machine_world.specs.Move.{at_stop, is_stop, event_refusal, step_refusal, world_after_event, world_after_step, with_held}
-use Rattle.mx_machine_world.specs.Steps.{steps_of}
-use Rattle.mx_machine_world.specs.World.{World, HeldProcess, held_by}
-use Rattle.mx_machine_world.proofs.StepLemmas.{holds_in}
+use Rattle.mx_machine.specs.Run.{run_of, run_end_from}
+use Rattle.mx_machine.specs.Stop.{Stop}
+use Rattle.mx_machine.specs.Stop.TheVariants as stop
+use Rattle.mx_machine.specs.declared.events.Event.{Event}
+use Rattle.mx_machine.specs.declared.events.Event.TheVariants.{Step, Take, Back, Respawn}
+use Rattle.mx_machine.specs.declared.events.Refusal.{Refusal}
+use Rattle.mx_machine.specs.declared.events.Refusal.TheVariants.{LogFull, AtStop, CpuEmpty}
+use Rattle.mx_machine.specs.declared.holding.Out.{Out}
+use Rattle.mx_machine.specs.Held.{held_run, run_by_stop, then_held, out_after_step}
+use Rattle.mx_machine.specs.History.{world_after_events}
+use Rattle.mx_machine.specs.Move.{at_stop, is_stop, event_refusal, step_refusal, world_after_event, world_after_step, with_held}
+use Rattle.mx_machine.specs.Steps.{steps_of}
+use Rattle.mx_machine.specs.World.{World, HeldProcess, held_by}
+use Rattle.mx_machine.proofs.WorldStepLemmas.{holds_in}
 use Rattle.mx_machine.proofs.RunLemmas.{stepped-run}
 use Rattle.mx_turns.specs.Turns.{Offered, offered, offered_first, then_offered, takes, run_of as run_of_cpu, runs, respawns}
 

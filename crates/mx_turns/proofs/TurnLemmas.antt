@@ -1,15 +1,15 @@
 -- Turns in a row.
 use Rattle.std.proofs.Common.{◌≡◌, ◌∙◌, ℕ, zero, suc, ◌+◌, ◌-◌, ◌<◌, ◌≤◌, ◌++◌, ◌&&◌, ◌==◌, Bool, true, false, List, [], ◌∷◌, cond, drop, length, Option, Some, None, is_none, slice_get, refl, ap, sym, subst, arith, append_assoc}
 use Rattle.std.proofs.lemmas.List.{drop-drop, length-set}
-use Rattle.mx_machine_world.specs.Proc.Queues.{first_ready}
-use Rattle.mx_machine_world.specs.Service.{Service}
-use Rattle.mx_machine_world.specs.CallRefusals.{owner_of}
-use Rattle.mx_machine_world.specs.declared.events.Event.{Event}
-use Rattle.mx_machine_world.specs.declared.events.Event.TheVariants.{Step, Take, Back, Line, Tick, Kill, Respawn}
-use Rattle.mx_machine_world.specs.History.{replay, world_after_events}
-use Rattle.mx_machine_world.specs.Move.{world_after_back, world_after_event, world_after_line, world_after_respawn, world_after_step, world_after_take, held_at_take, world_with_record, table_after_sending_out}
-use Rattle.mx_machine_world.specs.Rest.{at_rest, down_are_worn}
-use Rattle.mx_machine_world.specs.World.{World, HeldProcess, actors, held_by}
+use Rattle.mx_machine.specs.Proc.Queues.{first_ready}
+use Rattle.mx_machine.specs.Service.{Service}
+use Rattle.mx_machine.specs.CallRefusals.{owner_of}
+use Rattle.mx_machine.specs.declared.events.Event.{Event}
+use Rattle.mx_machine.specs.declared.events.Event.TheVariants.{Step, Take, Back, Line, Tick, Kill, Respawn}
+use Rattle.mx_machine.specs.History.{replay, world_after_events}
+use Rattle.mx_machine.specs.Move.{world_after_back, world_after_event, world_after_line, world_after_respawn, world_after_step, world_after_take, held_at_take, world_with_record, table_after_sending_out}
+use Rattle.mx_machine.specs.Rest.{at_rest, down_are_worn}
+use Rattle.mx_machine.specs.World.{World, HeldProcess, actors, held_by}
 use Rattle.mx_machine.specs.Machine.{MachineState, world_of}
 use Rattle.mx_machine.proofs.MachineLemmas.{held_now-count, held_now-length}
 use Rattle.mx_turns.specs.declared.turns.Ending.{Ending}

@@ -1,12 +1,12 @@
 -- Events that a machine made, and the outside events of its turns.
 use Rattle.std.specs.Prelude.{ℕ, ◌≡◌, ◌++◌, Bool, true, false, List, Result, Err, replicate}
-use Rattle.mx_machine_world.specs.declared.events.Answer.{Answer}
-use Rattle.mx_machine_world.specs.declared.events.Event.{Event}
-use Rattle.mx_machine_world.specs.declared.events.Event.TheVariants.{Tick}
-use Rattle.mx_machine_world.specs.declared.events.Refusal.{Refusal}
-use Rattle.mx_machine_world.specs.declared.events.Refusal.TheVariants.{LogFull}
-use Rattle.mx_machine_world.specs.History.{AreAccepted, world_after_events}
-use Rattle.mx_machine_world.specs.Move.{moves}
+use Rattle.mx_machine.specs.declared.events.Answer.{Answer}
+use Rattle.mx_machine.specs.declared.events.Event.{Event}
+use Rattle.mx_machine.specs.declared.events.Event.TheVariants.{Tick}
+use Rattle.mx_machine.specs.declared.events.Refusal.{Refusal}
+use Rattle.mx_machine.specs.declared.events.Refusal.TheVariants.{LogFull}
+use Rattle.mx_machine.specs.History.{AreAccepted, world_after_events}
+use Rattle.mx_machine.specs.Move.{moves}
 use Rattle.mx_machine.specs.Machine.{MachineState, kept_along, world_of}
 use Rattle.mx_turns.specs.declared.outside.Outside.{Outside}
 use Rattle.mx_turns.specs.declared.turns.Ending.{Ending}

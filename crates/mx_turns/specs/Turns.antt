@@ -1,15 +1,15 @@
 -- Turns: one thread drives a whole machine, always in the same order (our own).
 use Rattle.std.specs.Prelude.{ℕ, zero, suc, ◌-◌, ◌^◌, ◌&&◌, Bool, true, false, List, [], ◌∷◌, ◌++◌, drop, length, map, Option, Some, None, is_none, slice_get, if◌then◌else◌}
 use Rattle.std.specs.List.{flat_map, range_with_len}
-use Rattle.mx_machine_world.specs.declared.events.Event.{Event}
-use Rattle.mx_machine_world.specs.declared.events.Event.TheVariants.{Take, Back, Respawn}
-use Rattle.mx_machine_world.specs.declared.events.Refusal.{Refusal}
-use Rattle.mx_machine_world.specs.declared.events.Refusal.TheVariants.{LogFull}
-use Rattle.mx_machine_world.specs.History.{world_after_events}
-use Rattle.mx_machine_world.specs.Move.{event_refusal, world_after_event}
-use Rattle.mx_machine_world.specs.Rest.{at_rest}
-use Rattle.mx_machine_world.specs.Steps.{steps_of}
-use Rattle.mx_machine_world.specs.World.{World}
+use Rattle.mx_machine.specs.declared.events.Event.{Event}
+use Rattle.mx_machine.specs.declared.events.Event.TheVariants.{Take, Back, Respawn}
+use Rattle.mx_machine.specs.declared.events.Refusal.{Refusal}
+use Rattle.mx_machine.specs.declared.events.Refusal.TheVariants.{LogFull}
+use Rattle.mx_machine.specs.History.{world_after_events}
+use Rattle.mx_machine.specs.Move.{event_refusal, world_after_event}
+use Rattle.mx_machine.specs.Rest.{at_rest}
+use Rattle.mx_machine.specs.Steps.{steps_of}
+use Rattle.mx_machine.specs.World.{World}
 use Rattle.mx_turns.specs.declared.turns.Ending.{Ending}
 use Rattle.mx_turns.specs.declared.turns.Ending.TheVariants.{Rest, Turns, Full}
 

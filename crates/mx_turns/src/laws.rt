@@ -1,10 +1,10 @@
 //! Laws of turns.
 
 ghost use Rattle.std.specs.Prelude.{◌≡◌, ℕ, ◌+◌, List, [], drop, true};
-ghost use Rattle.mx_machine_world.specs.declared.events.Event.{Event};
-ghost use Rattle.mx_machine_world.specs.History.{world_after_events};
-ghost use Rattle.mx_machine_world.specs.Rest.{at_rest};
-ghost use Rattle.mx_machine_world.specs.World.{World};
+ghost use Rattle.mx_machine.specs.declared.events.Event.{Event};
+ghost use Rattle.mx_machine.specs.History.{world_after_events};
+ghost use Rattle.mx_machine.specs.Rest.{at_rest};
+ghost use Rattle.mx_machine.specs.World.{World};
 ghost use Rattle.mx_turns.specs.Turns.{joined, turns};
 ghost use Rattle.mx_turns.specs.declared.turns.Ending.TheVariants as endings;
 

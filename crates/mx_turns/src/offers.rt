@@ -2,14 +2,13 @@
 
 ghost use Rattle.std.specs.Prelude.{◌≡◌, ◌∷◌, [], ◌++◌, ◌<◌, false};
 ghost use Rattle.mx_machine.specs.Machine.{IsActor, world_of};
-ghost use Rattle.mx_machine_world.specs.declared.events.Event.TheVariants as events;
-ghost use Rattle.mx_machine_world.specs.Steps.{steps_of};
-ghost use Rattle.mx_machine_world.specs.World.{actors};
+ghost use Rattle.mx_machine.specs.declared.events.Event.TheVariants as events;
+ghost use Rattle.mx_machine.specs.Steps.{steps_of};
+ghost use Rattle.mx_machine.specs.World.{actors};
 ghost use Rattle.mx_turns.specs.Made.{HasOffered, is_full};
 ghost use Rattle.mx_turns.specs.Turns.{most_steps, offered, outside, respawns, run_of, runs, takes};
 
-use mx_machine::{Answer, Event, Held, Machine, Out, Refusal, Tool};
-use mx_machine_world::held_runs_join;
+use mx_machine::{Answer, Event, Held, Machine, Out, Refusal, Tool, held_runs_join};
 
 /// More steps than any process may make before it comes back.
 const MOST_STEPS: u32 = u32::MAX;

@@ -2,15 +2,14 @@
 
 ghost use Rattle.std.specs.Prelude.{◌≡◌, ◌&&◌, ◌<◌, is_none, length};
 ghost use Rattle.mx_machine.specs.Machine.{world_of};
-ghost use Rattle.mx_machine_world.specs.Rest.{at_rest};
-ghost use Rattle.mx_machine_world.specs.World.{actors};
+ghost use Rattle.mx_machine.specs.Rest.{at_rest};
+ghost use Rattle.mx_machine.specs.World.{actors};
 ghost use Rattle.mx_turns.specs.Made.{HasMade, HasOffered, outside_events};
 ghost use Rattle.mx_turns.specs.Turns.{turn, turns};
 
 use crate::offers::{offer_others, offer_runs, offer_takes};
 use crate::outside::Outside;
-use mx_machine::{Event, Machine};
-use mx_machine_world::actors_stay;
+use mx_machine::{Event, Machine, actors_stay};
 
 /// How turns end.
 #[derive(Clone, Copy, Debug, PartialEq, Eq)]

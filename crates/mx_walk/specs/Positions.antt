@@ -1,14 +1,14 @@
 -- POSITIONS in a history, and the world at each of them (our own).
 use Rattle.std.specs.Prelude.{◌≡◌, ◌⊎◌, ◌<◌, ◌≤◌, ℕ, ◌+◌, ◌-◌, nat_lt, if◌then◌else◌, List, [], ◌∷◌, ◌++◌, length, take, drop, replicate, Option, Some, None, Bool, ◌==◌, ◌&&◌, nat_le}
-use Rattle.mx_machine_world.specs.declared.events.Event.{Event}
-use Rattle.mx_machine_world.specs.declared.events.Event.TheVariants as event
-use Rattle.mx_machine_world.specs.declared.events.Refusal.{Refusal}
-use Rattle.mx_machine_world.specs.declared.history.Record.{Record}
-use Rattle.mx_machine_world.specs.declared.history.Recorded.{Recorded}
-use Rattle.mx_machine_world.specs.declared.history.Recorded.TheVariants as recorded
-use Rattle.mx_machine_world.specs.History.{AreAccepted, world_after_events, events_of_history}
-use Rattle.mx_machine_world.specs.Move.{event_refusal}
-use Rattle.mx_machine_world.specs.World.{World}
+use Rattle.mx_machine.specs.declared.events.Event.{Event}
+use Rattle.mx_machine.specs.declared.events.Event.TheVariants as event
+use Rattle.mx_machine.specs.declared.events.Refusal.{Refusal}
+use Rattle.mx_machine.specs.declared.history.Record.{Record}
+use Rattle.mx_machine.specs.declared.history.Recorded.{Recorded}
+use Rattle.mx_machine.specs.declared.history.Recorded.TheVariants as recorded
+use Rattle.mx_machine.specs.History.{AreAccepted, world_after_events, events_of_history}
+use Rattle.mx_machine.specs.Move.{event_refusal}
+use Rattle.mx_machine.specs.World.{World}
 use Rattle.mx_machine.specs.Machine.{MachineState, world_of}
 use Rattle.mx_walk.specs.declared.positions.Position.{Position}
 

@@ -1,11 +1,11 @@
 //! Laws of positions.
 
 ghost use Rattle.std.specs.Prelude.{◌≡◌, ◌<◌, ℕ, Bool, List, length, take, Some, slice_get};
-ghost use Rattle.mx_machine_world.specs.declared.events.Event.{Event};
-ghost use Rattle.mx_machine_world.specs.declared.history.Record.{Record};
-ghost use Rattle.mx_machine_world.specs.History.{events_of_history, world_after_events};
-ghost use Rattle.mx_machine_world.specs.Move.{world_after_event};
-ghost use Rattle.mx_machine_world.specs.World.{World};
+ghost use Rattle.mx_machine.specs.declared.events.Event.{Event};
+ghost use Rattle.mx_machine.specs.declared.history.Record.{Record};
+ghost use Rattle.mx_machine.specs.History.{events_of_history, world_after_events};
+ghost use Rattle.mx_machine.specs.Move.{world_after_event};
+ghost use Rattle.mx_machine.specs.World.{World};
 ghost use Rattle.mx_walk.specs.declared.positions.Position.{Position};
 ghost use Rattle.mx_walk.specs.Positions.{IsAbove, IsPosition, event_below, next_position, position_before, steps_of, world_at};
 ghost use Rattle.mx_walk.specs.Seeking.{IsFirstMarked, IsLastMarked};

@@ -3,7 +3,7 @@
 ghost use Rattle.std.specs.Prelude.{◌≡◌, MatchOption, Some, None, true, false};
 ghost use Rattle.mx_walk.specs.Positions.{IsAbove, IsPosition, IsUpTo, event_below, is_position, is_up_to, next_position, own_event, position_before, steps_in};
 
-use mx_machine_world::{Event, Record, Recorded};
+use mx_machine::{Event, Record, Recorded};
 
 /// A position in a history: below this many of its records, and below this many steps of the record that
 /// comes next.

@@ -1,10 +1,10 @@
 //! A walker: a machine at a position of a history.
 
 ghost use Rattle.std.specs.Prelude.{◌≡◌, ◌<◌, ℕ, true, false, All, IfOk, IfSome, List, MatchOption, Some};
-ghost use Rattle.mx_machine_world.specs.declared.events.Event.{Event as Made};
-ghost use Rattle.mx_machine_world.specs.declared.history.Record.{Record as Noted};
-ghost use Rattle.mx_machine_world.specs.Move.{event_refusal};
-ghost use Rattle.mx_machine_world.specs.World.{actors};
+ghost use Rattle.mx_machine.specs.declared.events.Event.{Event as Made};
+ghost use Rattle.mx_machine.specs.declared.history.Record.{Record as Noted};
+ghost use Rattle.mx_machine.specs.Move.{event_refusal};
+ghost use Rattle.mx_machine.specs.World.{actors};
 ghost use Rattle.mx_machine.specs.Machine.{world_of};
 ghost use Rattle.mx_walk.specs.Positions.{IsAbove, IsAt, IsPosition, IsUpTo, event_below, position_before};
 ghost use Rattle.mx_walk.specs.Seeking.{IsFirstMarked, IsLastMarked, IsPassed};
@@ -17,8 +17,7 @@ use crate::positions::{FIRST, Position, is_up_to, next_event, position_before};
 use crate::records::make_event;
 use crate::seeking::{Mark, Sought, seek, seek_last};
 use crate::watching::{ByteChange, BytePlace};
-use mx_machine::Machine;
-use mx_machine_world::{Config, Record, Refusal};
+use mx_machine::{Config, Machine, Record, Refusal};
 use mx_word::NoMemory;
 use std::alloc::Global;
 use std::marker::Model;

@@ -2,7 +2,7 @@ use Rattle.std.proofs.Common.{◌≡◌, ◌++◌, [], take}
 use Rattle.std.specs.Prelude.{string_bytes}
 use Rattle.mx_app_step.specs.Machine.{world_of}
 use Rattle.mx_app_step.specs.Pieces.{IsPrintedBut}
-use Rattle.mx_machine_world.specs.World.{actors}
+use Rattle.mx_machine.specs.World.{actors}
 use Rattle.mx_app_db.specs.DebugLines.{debug_lines_made}
 use Rattle.mx_app_db.specs.Told.{debug_lines_text}
 use Rattle.mx_app_db.proofs.Made.{both}

@@ -2,7 +2,7 @@ use Rattle.std.proofs.Common.{◌≡◌, ◌++◌, Option, subst, OnOk}
 use Rattle.std.specs.Prelude.{string_bytes}
 use Rattle.mx_exec.specs.declared.image.Image.{Image}
 use Rattle.mx_app_step.specs.Machine.{world_of}
-use Rattle.mx_machine_world.specs.World.{held_by}
+use Rattle.mx_machine.specs.World.{held_by}
 use Rattle.mx_print_answers.specs.Processes.{registers_text}
 use Rattle.mx_app_db.proofs.Told.{image_told}
 use Rattle.mx_app_db.proofs.lines.show_registers.Goals as goal

@@ -3,8 +3,8 @@ use Rattle.std.proofs.lemmas.Result.{IfErr-weaker, IfOk-weaker, err_from_is_err_
 use Rattle.std.specs.Io.KnownBytes.{Appends}
 use Rattle.mx_app_step.specs.Failure.{IsWanting}
 use Rattle.mx_app_step.specs.Machine.{world_of}
-use Rattle.mx_machine_world.specs.World.{actors}
-use Rattle.mx_machine_world.specs.declared.history.Record.{Record}
+use Rattle.mx_machine.specs.World.{actors}
+use Rattle.mx_machine.specs.declared.history.Record.{Record}
 use Rattle.mx_app_step.proofs.ReplayLemmas.{saved_by_actors}
 use Rattle.mx_app_step.proofs.TraceLemmas.{front_by_actors}
 use Rattle.mx_app_draw.proofs.DrawnLemmas.{drawing_printed, front_few}

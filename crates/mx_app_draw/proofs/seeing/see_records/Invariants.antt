@@ -1,6 +1,6 @@
 use Rattle.std.proofs.Common.{◌≡◌, take}
 use Rattle.mx_app_step.specs.Machine.{world_of}
-use Rattle.mx_machine_world.specs.History.{AreAccepted, world_after_events, events_of_history}
+use Rattle.mx_machine.specs.History.{AreAccepted, world_after_events, events_of_history}
 use Rattle.mx_app_step.specs.Glances.{glance_of}
 use Rattle.mx_app_draw.specs.Scenes.{steps_drawn}
 use Rattle.mx_app_draw.proofs.seeing.see_records.Given as goal

@@ -1,5 +1,5 @@
 use Rattle.std.proofs.Common.{◌≡◌, ◌∙◌, ◌-◌, ◌+◌, ℕ, List, ap, subst, sym}
-use Rattle.mx_machine_world.specs.declared.history.Record.{Record}
+use Rattle.mx_machine.specs.declared.history.Record.{Record}
 use Rattle.mx_walk.specs.declared.positions.Position.{Position}
 use Rattle.mx_walk.specs.Positions.{IsPosition, IsUpTo, position_before}
 use Rattle.mx_app_look.specs.Moves.{steps_back}

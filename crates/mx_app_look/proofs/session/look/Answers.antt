@@ -5,10 +5,10 @@ use Rattle.std.proofs.lemmas.Result.{IfErr-weaker, IfOk-weaker, err_from_is_err_
 use Rattle.std.specs.Io.KnownBytes.{Appends}
 use Rattle.mx_app_step.specs.Failure.{IsWanting}
 use Rattle.mx_machine.specs.Machine.{world_of}
-use Rattle.mx_machine_world.specs.Boot.{world_at_boot}
-use Rattle.mx_machine_world.specs.History.{BootAndHistory}
-use Rattle.mx_machine_world.specs.World.{World, actors}
-use Rattle.mx_machine_world.specs.declared.history.Record.{Record}
+use Rattle.mx_machine.specs.Boot.{world_at_boot}
+use Rattle.mx_machine.specs.History.{BootAndHistory}
+use Rattle.mx_machine.specs.World.{World, actors}
+use Rattle.mx_machine.specs.declared.history.Record.{Record}
 use Rattle.mx_walk.specs.Walks.{Walk}
 use Rattle.mx_app_look.specs.Sessions.{begun_text, session_text}
 use Rattle.mx_app_look.proofs.Starting.{is_begun}

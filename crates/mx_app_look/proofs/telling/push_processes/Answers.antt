@@ -1,8 +1,8 @@
 use Rattle.std.proofs.Common.{◌≡◌, ◌∙◌, ◌++◌, append_assoc, List, ap, subst}
 use Rattle.mx_app_step.specs.Report.{report_text}
 use Rattle.mx_app_step.specs.Service.{Service}
-use Rattle.mx_machine_world.specs.History.{replay}
-use Rattle.mx_machine_world.specs.Proc.TableState.{TableState}
+use Rattle.mx_machine.specs.History.{replay}
+use Rattle.mx_machine.specs.Proc.TableState.{TableState}
 use Rattle.mx_walk.specs.Walks.{world_here}
 use Rattle.mx_app_look.specs.Answers.{line_end}
 use Rattle.mx_app_look.proofs.Kernels.{same_services, same_table}

@@ -4,7 +4,7 @@ use Rattle.mx_look_trace.specs.Glances.{glance_of}
 use Rattle.mx_look_trace.specs.Step.{Step as Seen}
 use Rattle.mx_look_trace.specs.Trace.{record_text}
 use Rattle.mx_machine.specs.Machine.{world_of}
-use Rattle.mx_machine_world.specs.World.{World}
+use Rattle.mx_machine.specs.World.{World}
 use Rattle.mx_walk.specs.declared.positions.Position.{Position}
 use Rattle.mx_walk.specs.Positions.{IsPosition, steps_in, world_at}
 use Rattle.mx_walk.specs.Walks.{Walk, world_here}

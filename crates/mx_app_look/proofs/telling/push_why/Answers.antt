@@ -1,5 +1,5 @@
 use Rattle.std.proofs.Common.{◌≡◌, ◌∙◌, ◌-◌, ◌++◌, ◌≤◌, ◌<◌, ℕ, suc, List, length, get_or, Option, Some, OnOk, slice_get, ap, subst, sym, arith}
-use Rattle.mx_machine_world.specs.declared.history.Record.{Record}
+use Rattle.mx_machine.specs.declared.history.Record.{Record}
 use Rattle.mx_look_trace.specs.Trace.{record_text}
 use Rattle.mx_app_look.specs.Answers.{record_above, step_above, why_by, why_text}
 use Rattle.mx_walk.specs.Walks.{Walk}

@@ -1,9 +1,9 @@
 use Rattle.std.proofs.Common.{◌≡◌, ◌∙◌, ◌+◌, List, ℕ, ap, subst, sym}
 use Rattle.std.specs.Io.KnownBytes.{Appends}
-use Rattle.mx_boot_history.specs.Text.{saved_text}
-use Rattle.mx_machine_world.specs.declared.config.Config.{Config}
-use Rattle.mx_machine_world.specs.Boot.{world_at_boot}
-use Rattle.mx_machine_world.specs.Rules.{Rules}
+use Rattle.mx_boot.specs.Text.{saved_text}
+use Rattle.mx_machine.specs.declared.config.Config.{Config}
+use Rattle.mx_machine.specs.Boot.{world_at_boot}
+use Rattle.mx_machine.specs.Rules.{Rules}
 use Rattle.mx_app_step.specs.Records.{IsReplayPrinted}
 use Rattle.mx_app_run.proofs.RunLemmas.{printed_whole}
 use Rattle.mx_app_run.proofs.laws.replay_again.Goals as goal

@@ -1,5 +1,5 @@
 use Rattle.std.proofs.Common.{◌+◌, All, arith, refl, subst}
-use Rattle.mx_machine_world.specs.History.{IsWritable}
+use Rattle.mx_machine.specs.History.{IsWritable}
 use Rattle.mx_app_run.proofs.RunLemmas.{actors_of_run}
 use Rattle.mx_app_run.proofs.laws.run_again.Goals as goal
 

@@ -1,5 +1,5 @@
 use Rattle.std.proofs.Common.{refl}
-use Rattle.mx_machine_world.specs.Boot.{world_at_boot}
+use Rattle.mx_machine.specs.Boot.{world_at_boot}
 use Rattle.mx_app_step.proofs.ReplayLemmas.{saved_by_actors}
 use Rattle.mx_app_step.proofs.laws.records_are_of_actors.Goals as goal
 

@@ -2,7 +2,7 @@ use Rattle.std.proofs.Common.{◌≡◌, ◌++◌, take}
 use Rattle.std.specs.Prelude.{string_bytes}
 use Rattle.mx_app_start.specs.Machine.{world_of}
 use Rattle.mx_print_answers.specs.Said.{said_lines}
-use Rattle.mx_machine_world.specs.World.{actors}
+use Rattle.mx_machine.specs.World.{actors}
 use Rattle.mx_app_step.specs.Kept.{lines_kept}
 use Rattle.mx_app_step.specs.Lines.{lines_made}
 use Rattle.mx_app_step.specs.Pieces.{IsPrintedBut}

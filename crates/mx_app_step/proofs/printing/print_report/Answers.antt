@@ -1,6 +1,6 @@
 use Rattle.std.proofs.Common.{◌≡◌, List, ℕ, OnOk, ap, subst}
 use Rattle.std.specs.Io.KnownBytes.{Appends}
-use Rattle.mx_machine_world.specs.History.{BootAndHistory, replay}
+use Rattle.mx_machine.specs.History.{BootAndHistory, replay}
 use Rattle.mx_app_start.specs.Machine.{MachineState, world_of}
 use Rattle.mx_app_start.specs.Report.{report_text}
 use Rattle.mx_app_step.proofs.printing.print_report.Goals as goal

@@ -1,6 +1,6 @@
 use Rattle.std.proofs.Common.{◌≡◌, ◌+◌, take}
 use Rattle.mx_app_start.specs.Machine.{world_of}
-use Rattle.mx_machine_world.specs.History.{AreAccepted, world_after_events, events_of_history}
+use Rattle.mx_machine.specs.History.{AreAccepted, world_after_events, events_of_history}
 use Rattle.mx_app_step.specs.Kept.{kept_of}
 use Rattle.mx_app_step.proofs.records.perform_records.Given as goal
 

@@ -1,8 +1,8 @@
 use Rattle.std.proofs.Common.{[], ◌∷◌}
 use Rattle.std.proofs.lemmas.Result.{IfErr-weaker, err_from_is_err_and, on_ok_weaker}
 use Rattle.mx_app_start.specs.Machine.{world_of}
-use Rattle.mx_machine_world.specs.declared.events.Event.TheVariants.{Back}
-use Rattle.mx_machine_world.specs.Steps.{steps_of}
+use Rattle.mx_machine.specs.declared.events.Event.TheVariants.{Back}
+use Rattle.mx_machine.specs.Steps.{steps_of}
 use Rattle.mx_app_step.proofs.RecordLemmas.{refused_front, return_err, return_kept, return_ok}
 use Rattle.mx_app_step.proofs.records.return_again.Goals as goal
 

@@ -6,8 +6,8 @@ use Rattle.mx_app_start.specs.Machine.{world_of}
 use Rattle.mx_app_start.specs.Report.{report_text}
 use Rattle.mx_app_start.specs.Telling.{IsUnsaved}
 use Rattle.mx_app_start.specs.Written.{Written, kept}
-use Rattle.mx_machine_world.specs.History.{BootAndHistory}
-use Rattle.mx_boot_script.specs.declared.scripts.ScriptLine.{ScriptLine}
+use Rattle.mx_machine.specs.History.{BootAndHistory}
+use Rattle.mx_boot.specs.declared.scripts.ScriptLine.{ScriptLine}
 use Rattle.mx_print_answers.specs.Said.{said_lines}
 use Rattle.mx_app_step.specs.Kept.{lines_kept, text_kept, IsUnwritten}
 use Rattle.mx_app_step.specs.Lines.{lines_made}

@@ -1,7 +1,7 @@
 use Rattle.std.proofs.Common.{◌≡◌, take}
 use Rattle.std.specs.Io.KnownBytes.{Appends}
 use Rattle.mx_app_start.specs.Machine.{world_of}
-use Rattle.mx_machine_world.specs.History.{AreAccepted, world_after_events, events_of_history}
+use Rattle.mx_machine.specs.History.{AreAccepted, world_after_events, events_of_history}
 use Rattle.mx_app_step.specs.Traces.{trace_text}
 use Rattle.mx_app_step.proofs.tracing.print_steps.Given as goal
 

@@ -5,7 +5,7 @@ use Rattle.mx_text.specs.Lines.{lines}
 use Rattle.mx_app_start.proofs.SetupLemmas.{asked_on}
 use Rattle.mx_app_step.proofs.ReplayLemmas.{saved_by_actors}
 use Rattle.mx_app_step.specs.Machine.{world_of}
-use Rattle.mx_boot_script.specs.Reading.{AreLinesRead, TellsUnread}
+use Rattle.mx_boot.specs.Reading.{AreLinesRead, TellsUnread}
 use Rattle.mx_app_sweep.specs.FaultLines.{fault_line}
 use Rattle.mx_app_sweep.proofs.ReadyLemmas.{ready}
 use Rattle.mx_app_sweep.proofs.sweeping.begin.Goals as goal
@@ -35,8 +35,16 @@ returns-in_err-fault-clause-fault g c =
     rw (p.1, p.2) (
       s.0 ++ t.0 ∷ [],
       asked_on (g.R.Reader.asked c.args.reader.now) (g.R.Reader.asked c.start.new.reader) (g.R.Reader.asked c.text_of.new.reader) s.0 (t.0 ∷ []) s.3 t.1,
-      inr (s.0, t.0, s.1, s.2, c.in_ok-started.started.lines.items, refl, s.4,
-          inr (string_bytes c.in_ok-text.text, c.in_err-fault.field-0.0, t.2, subst (λ x. TellsUnread fault_line (lines x) c.in_err-fault.field-0.0) c.as_str.ensures.value c.in_err-fault.ensures.unread, refl)),
+      inr (
+        s.0,
+        t.0,
+        s.1,
+        s.2,
+        c.in_ok-started.started.lines.items,
+        refl,
+        s.4,
+        inr (string_bytes c.in_ok-text.text, c.in_err-fault.field-0.0, t.2, subst (λ x. TellsUnread fault_line (lines x) c.in_err-fault.field-0.0) c.as_str.ensures.value c.in_err-fault.ensures.unread, refl),
+      ),
     )
 
 pub returns-clause-begun : goal.returns-clause-begun

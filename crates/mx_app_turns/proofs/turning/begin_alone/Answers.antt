@@ -1,6 +1,6 @@
 use Rattle.std.proofs.Common.{◌∙◌, [], ap, arith, inl, inr, sym}
 use Rattle.std.proofs.lemmas.Result.{err_from_is_err_and}
-use Rattle.mx_machine_world.specs.World.{World}
+use Rattle.mx_machine.specs.World.{World}
 use Rattle.mx_app_start.proofs.BootLemmas.{nothing_out, replay_booted}
 use Rattle.mx_app_start.proofs.SetupLemmas.{as_many_services}
 use Rattle.mx_app_turns.proofs.turning.begin_alone.Goals as goal

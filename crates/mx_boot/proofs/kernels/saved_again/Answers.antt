@@ -1,6 +1,6 @@
 use Rattle.std.proofs.Common.{◌≤◌, ◌+◌, ℕ, arith, sym, subst}
 use Rattle.std.specs.Prelude.{All}
-use Rattle.mx_machine_kernel.specs.History.{IsWritable}
+use Rattle.mx_machine.specs.History.{IsWritable}
 use Rattle.mx_boot.proofs.kernels.saved_again.Goals as goal
 
 pub returns : goal.returns

@@ -1,11 +1,11 @@
 use Rattle.std.proofs.Common.{◌≡◌, ◌∙◌, ℕ, All, None, Result, Ok, IsOk, List, [], ◌∷◌, ap, refl, sym, subst, rules}
 use Rattle.std.proofs.lemmas.List.Elements.{All-nil, All-cons}
-use Rattle.mx_machine_world.specs.declared.events.Event.{Event}
-use Rattle.mx_machine_world.specs.declared.events.Refusal.{Refusal}
-use Rattle.mx_machine_world.specs.declared.events.Answer.{Answer}
-use Rattle.mx_machine_world.specs.World.{World}
-use Rattle.mx_machine_world.specs.Move.{move, moves, move_by, event_refusal, event_answer, world_after_event}
-use Rattle.mx_machine_world.specs.History.{AreAccepted, world_after_events, events_of_history, replay}
+use Rattle.mx_machine.specs.declared.events.Event.{Event}
+use Rattle.mx_machine.specs.declared.events.Refusal.{Refusal}
+use Rattle.mx_machine.specs.declared.events.Answer.{Answer}
+use Rattle.mx_machine.specs.World.{World}
+use Rattle.mx_machine.specs.Move.{move, moves, move_by, event_refusal, event_answer, world_after_event}
+use Rattle.mx_machine.specs.History.{AreAccepted, world_after_events, events_of_history, replay}
 use Rattle.mx_machine.proofs.laws.histories_replay.Goals as goal
 
 move-accepted : (w : World) (a : ℕ) (x : Event) → event_refusal w a x ≡ None → move w a x ≡ (Ok (event_answer w a x), world_after_event w a x)

@@ -1,6 +1,6 @@
 use Rattle.std.proofs.Common.{◌<◌, length, sym, subst}
-use Rattle.mx_machine_world.specs.Proc.TableState.{TableState}
-use Rattle.mx_machine_world.specs.History.{replay}
+use Rattle.mx_machine.specs.Proc.TableState.{TableState}
+use Rattle.mx_machine.specs.History.{replay}
 use Rattle.mx_machine.proofs.DoneLemmas.{slot-used}
 use Rattle.mx_machine.proofs.machine.endpoint_on.Goals as goal
 

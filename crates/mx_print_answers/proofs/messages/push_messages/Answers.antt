@@ -1,6 +1,6 @@
 use Rattle.std.proofs.Common.{◌∙◌, sym, arith}
 use Rattle.std.specs.Prelude.{string_bytes}
-use Rattle.mx_machine_world.specs.History.{replay}
+use Rattle.mx_machine.specs.History.{replay}
 use Rattle.mx_print_answers.specs.Messages.{delivery_line}
 use Rattle.mx_print_answers.proofs.Lines.{all_lines, longer, next_line}
 use Rattle.mx_print_answers.proofs.messages.push_messages.Goals as goal

@@ -1,6 +1,6 @@
 use Rattle.std.proofs.Common.{◌≡◌, ◌++◌, ◌-◌, ◌≤◌, length, take}
 use Rattle.std.specs.Prelude.{string_bytes}
-use Rattle.mx_machine_world.specs.History.{replay}
+use Rattle.mx_machine.specs.History.{replay}
 use Rattle.mx_print_answers.specs.Messages.{delivery_lines}
 use Rattle.mx_print_answers.proofs.messages.push_messages.Given as goal
 

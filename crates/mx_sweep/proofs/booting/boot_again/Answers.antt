@@ -1,9 +1,9 @@
 use Rattle.std.proofs.Common.{◌≡◌, ◌∙◌, List, [], ap, sym}
 use Rattle.mx_app_start.proofs.BootLemmas.{nothing_out, replay_booted}
-use Rattle.mx_machine_world.specs.Boot.{world_at_boot}
-use Rattle.mx_machine_world.specs.History.{BootAndHistory}
-use Rattle.mx_machine_world.specs.Service.{Service}
-use Rattle.mx_machine_world.specs.World.{World}
+use Rattle.mx_machine.specs.Boot.{world_at_boot}
+use Rattle.mx_machine.specs.History.{BootAndHistory}
+use Rattle.mx_machine.specs.Service.{Service}
+use Rattle.mx_machine.specs.World.{World}
 use Rattle.mx_sweep.proofs.booting.boot_again.Goals as goal
 
 pub new-requires-2 : goal.new-requires-2

@@ -1,6 +1,6 @@
 use Rattle.std.proofs.Common.{◌≡◌, ◌++◌, drop, length}
 use Rattle.mx_app_step.specs.Machine.{world_of}
-use Rattle.mx_machine_world.specs.World.{actors}
+use Rattle.mx_machine.specs.World.{actors}
 use Rattle.mx_sweep.specs.Faults.{faults_kept, faults_made}
 use Rattle.mx_sweep.specs.Sweep.{said_text}
 use Rattle.mx_sweep.proofs.running.perform_fault.Given as goal

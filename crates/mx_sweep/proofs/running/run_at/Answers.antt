@@ -3,9 +3,9 @@ use Rattle.std.proofs.lemmas.List.{append-nil, length-drop, take_all}
 use Rattle.std.proofs.lemmas.List.Elements.{All-take}
 use Rattle.mx_app_step.proofs.AcceptedLemmas.{front_accepted, not_refused}
 use Rattle.mx_app_step.specs.Machine.{world_of}
-use Rattle.mx_machine_world.specs.declared.history.Record.{Record}
-use Rattle.mx_machine_world.specs.History.{AreAccepted, BootAndHistory, events_of_history}
-use Rattle.mx_machine_world.specs.World.{World, actors}
+use Rattle.mx_machine.specs.declared.history.Record.{Record}
+use Rattle.mx_machine.specs.History.{AreAccepted, BootAndHistory, events_of_history}
+use Rattle.mx_machine.specs.World.{World, actors}
 use Rattle.mx_sweep.specs.Faults.{faults_made}
 use Rattle.mx_sweep.specs.Sweep.{run_of, said_text}
 use Rattle.mx_sweep.specs.Swept.{HasRun}

@@ -1,5 +1,5 @@
 use Rattle.std.proofs.Common.{◌≡◌, ◌++◌, [], ◌∷◌, Bool, Option, false, refl, subst, sym}
-use Rattle.mx_machine_world.specs.declared.events.Event.{Event}
+use Rattle.mx_machine.specs.declared.events.Event.{Event}
 use Rattle.mx_machine.specs.Machine.{world_of}
 use Rattle.mx_turns.specs.Made.{HasOffered}
 use Rattle.mx_turns.specs.Turns.{offered, outside, respawns}

@@ -1,5 +1,5 @@
 use Rattle.std.proofs.Common.{◌∙◌, ◌+◌, drop, true, false, arith}
-use Rattle.mx_machine_world.specs.declared.events.Event.TheVariants.{Respawn}
+use Rattle.mx_machine.specs.declared.events.Event.TheVariants.{Respawn}
 use Rattle.mx_turns.specs.Turns.{respawns}
 use Rattle.mx_turns.proofs.OfferLemmas.{respawns_more, respawns_part}
 use Rattle.mx_turns.proofs.MadeLemmas.{full_done, next_done}

@@ -1,6 +1,6 @@
 use Rattle.std.proofs.Common.{◌∙◌, false, refl, sym}
-use Rattle.mx_machine_world.specs.declared.events.Event.TheVariants.{Back}
-use Rattle.mx_machine_world.specs.Steps.{steps_of}
+use Rattle.mx_machine.specs.declared.events.Event.TheVariants.{Back}
+use Rattle.mx_machine.specs.Steps.{steps_of}
 use Rattle.mx_machine.specs.Machine.{world_of}
 use Rattle.mx_turns.specs.Turns.{most_steps, run_of}
 use Rattle.mx_turns.proofs.MadeLemmas.{back_not_full, next_done}

@@ -1,5 +1,5 @@
 use Rattle.std.proofs.Common.{◌∙◌, ◌+◌, drop, true, false, arith}
-use Rattle.mx_machine_world.specs.declared.events.Event.TheVariants.{Take}
+use Rattle.mx_machine.specs.declared.events.Event.TheVariants.{Take}
 use Rattle.mx_turns.specs.Turns.{takes}
 use Rattle.mx_turns.proofs.OfferLemmas.{takes_more, takes_part}
 use Rattle.mx_turns.proofs.MadeLemmas.{full_done, next_done}

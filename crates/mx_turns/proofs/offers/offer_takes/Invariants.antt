@@ -1,5 +1,5 @@
 use Rattle.std.proofs.Common.{◌≡◌, false}
-use Rattle.mx_machine_world.specs.World.{actors}
+use Rattle.mx_machine.specs.World.{actors}
 use Rattle.mx_machine.specs.Machine.{world_of}
 use Rattle.mx_turns.specs.Made.{HasOffered}
 use Rattle.mx_turns.specs.Turns.{offered, takes}

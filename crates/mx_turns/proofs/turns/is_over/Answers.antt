@@ -1,8 +1,8 @@
 use Rattle.std.proofs.Common.{◌≡◌, ◌∙◌, ◌&&◌, not, Bool, true, false, Option, Some, None, is_none, is_some, ap, sym}
-use Rattle.mx_machine_world.specs.declared.events.Event.{Event}
-use Rattle.mx_machine_world.specs.History.{BootAndHistory}
-use Rattle.mx_machine_world.specs.History.{replay}
-use Rattle.mx_machine_world.specs.Rest.{at_rest}
+use Rattle.mx_machine.specs.declared.events.Event.{Event}
+use Rattle.mx_machine.specs.History.{BootAndHistory}
+use Rattle.mx_machine.specs.History.{replay}
+use Rattle.mx_machine.specs.Rest.{at_rest}
 use Rattle.mx_machine.specs.Machine.{world_of}
 use Rattle.mx_turns.proofs.TurnLemmas.{rest_now}
 use Rattle.mx_turns.proofs.turns.is_over.Goals as goal

@@ -1,6 +1,6 @@
 use Rattle.std.proofs.Common.{◌≡◌, ◌∙◌, ◌++◌, ℕ, Bool, true, false, length, ap, subst, sym, arith}
-use Rattle.mx_machine_world.specs.Proc.TableState.{TableState}
-use Rattle.mx_machine_world.specs.History.{BootAndHistory, replay}
+use Rattle.mx_machine.specs.Proc.TableState.{TableState}
+use Rattle.mx_machine.specs.History.{BootAndHistory, replay}
 use Rattle.mx_machine.specs.Machine.{world_of}
 use Rattle.mx_turns.specs.Made.{HasOffered}
 use Rattle.mx_turns.specs.Turns.{offered, outside, respawns, runs, takes}

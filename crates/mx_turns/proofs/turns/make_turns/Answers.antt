@@ -1,6 +1,6 @@
 use Rattle.std.proofs.Common.{◌≡◌, ◌∙◌, ◌&&◌, Bool, Option, true, false, is_none, slice_get, ap, arith, subst, sym}
-use Rattle.mx_machine_world.specs.declared.events.Event.{Event}
-use Rattle.mx_machine_world.specs.Rest.{at_rest}
+use Rattle.mx_machine.specs.declared.events.Event.{Event}
+use Rattle.mx_machine.specs.Rest.{at_rest}
 use Rattle.mx_machine.specs.Machine.{MachineState, world_of}
 use Rattle.mx_turns.specs.Made.{HasOffered, outside_events}
 use Rattle.mx_turns.specs.Turns.{turn}

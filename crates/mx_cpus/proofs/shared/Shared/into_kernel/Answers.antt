@@ -4,8 +4,8 @@ use Rattle.std.proofs.lemmas.List.Elements.{All-push}
 use Rattle.std.proofs.lemmas.List.Folds.{map_fixed}
 use Rattle.std.proofs.lemmas.Iterator.Consumers.{YieldsList-end}
 use Rattle.std.proofs.lemmas.Iterator.Adapters.{YieldsList-from_vec}
-use Rattle.mx_cpus_lock.specs.Seats.{SeatView}
-use Rattle.mx_cpus_lock.specs.Calls.{StandsIn}
+use Rattle.mx_cpus.specs.Seats.{SeatView}
+use Rattle.mx_cpus.specs.Calls.{StandsIn}
 use Rattle.mx_cpus.proofs.shared.Shared.into_kernel.Goals as goal
 
 pub loop-seat-preserved : goal.loop-seat-preserved

@@ -1,6 +1,6 @@
 use Rattle.std.proofs.Common.{◌≡◌}
 use Rattle.std.specs.Prelude.{All}
-use Rattle.mx_cpus_lock.specs.Calls.{StandsIn}
+use Rattle.mx_cpus.specs.Calls.{StandsIn}
 use Rattle.mx_cpus.proofs.shared.Shared.into_kernel.Given as goal
 
 abbrev pub invariant-loop-seat : goal.invariant-loop-seat

@@ -1,5 +1,5 @@
 use Rattle.std.proofs.Common.{ap, sym}
-use Rattle.mx_machine_world.proofs.LentLemmas.{run_more}
+use Rattle.mx_machine.proofs.LentLemmas.{run_more}
 use Rattle.mx_loan.proofs.loan.LoanHeld.run.Goals as goal
 
 pub invariant_of-self : goal.invariant_of-self

@@ -1,5 +1,5 @@
 use Rattle.std.proofs.Common.{◌≡◌, ◌∙◌, sym, subst}
-use Rattle.mx_machine_world.specs.World.{actors}
+use Rattle.mx_machine.specs.World.{actors}
 use Rattle.mx_machine.specs.Machine.{MachineState, world_of}
 use Rattle.mx_machine.proofs.DoneLemmas.{actors-now, on}
 use Rattle.mx_machine.proofs.machine.Machine.actors.Goals as goal

@@ -1,14 +1,14 @@
 use Rattle.std.proofs.Common.{◌≡◌, ◌∙◌, ◌<◌, ℕ, List, length, Option, None, Result, Ok, Err, slice_set, sym, ap, subst, arith}
-use Rattle.mx_machine_world.specs.declared.events.Answer.{Answer}
-use Rattle.mx_machine_world.specs.declared.events.Answer.TheVariants.{Returned}
-use Rattle.mx_machine_world.specs.declared.events.Event.TheVariants.{Back}
-use Rattle.mx_machine_world.specs.declared.events.Refusal.{Refusal}
-use Rattle.mx_machine_world.specs.declared.events.Refusal.TheVariants.{CpuEmpty}
-use Rattle.mx_machine_world.specs.declared.holding.Out.{Out}
-use Rattle.mx_machine_world.specs.declared.history.Recorded.TheVariants as recorded
-use Rattle.mx_machine_world.specs.History.{with_record}
-use Rattle.mx_machine_world.specs.Move.{move}
-use Rattle.mx_machine_world.specs.World.{World}
+use Rattle.mx_machine.specs.declared.events.Answer.{Answer}
+use Rattle.mx_machine.specs.declared.events.Answer.TheVariants.{Returned}
+use Rattle.mx_machine.specs.declared.events.Event.TheVariants.{Back}
+use Rattle.mx_machine.specs.declared.events.Refusal.{Refusal}
+use Rattle.mx_machine.specs.declared.events.Refusal.TheVariants.{CpuEmpty}
+use Rattle.mx_machine.specs.declared.holding.Out.{Out}
+use Rattle.mx_machine.specs.declared.history.Recorded.TheVariants as recorded
+use Rattle.mx_machine.specs.History.{with_record}
+use Rattle.mx_machine.specs.Move.{move}
+use Rattle.mx_machine.specs.World.{World}
 use Rattle.mx_machine.specs.Machine.{IsMachineState, MachineState, world_of}
 use Rattle.mx_machine.proofs.DoneLemmas.{any_default, back-running, lends, lends_none, none_beyond, on, same_set}
 use Rattle.mx_machine.proofs.MachineLemmas.{back-accepted, empty-refused}

@@ -1,5 +1,5 @@
 use Rattle.std.proofs.Common.{◌≡◌, ◌∙◌, ◌<◌, length, Some, None, refl, subst, arith}
-use Rattle.mx_machine_world.specs.World.{HeldProcess, held_by}
+use Rattle.mx_machine.specs.World.{HeldProcess, held_by}
 use Rattle.mx_machine.specs.Machine.{MachineState, world_of}
 use Rattle.mx_machine.proofs.DoneLemmas.{any_default, lends, lends_none, none_beyond}
 use Rattle.mx_machine.proofs.MachineLemmas.{held-now}

@@ -1,7 +1,7 @@
 use Rattle.std.proofs.Common.{◌≡◌, ◌∙◌, ◌<◌, ap, sym, subst}
-use Rattle.mx_machine_kernel.specs.KernelState.{recorded_as}
-use Rattle.mx_machine_world.specs.Move.{move}
-use Rattle.mx_machine_world.specs.World.{actors}
+use Rattle.mx_machine.specs.KernelState.{recorded_as}
+use Rattle.mx_machine.specs.Move.{move}
+use Rattle.mx_machine.specs.World.{actors}
 use Rattle.mx_machine.specs.Machine.{MachineState, kept_after, world_of}
 use Rattle.mx_machine.proofs.DoneLemmas.{actors-now, on, ruled, ruled-kept}
 use Rattle.mx_machine.proofs.machine.Machine.rule.Goals as goal

@@ -1,7 +1,7 @@
 use Rattle.std.proofs.Common.{◌≡◌, ◌+◌, ◌≤◌, ◌++◌, length, take, drop}
 use Rattle.std.specs.Vec.{vec_len, vec_capacity}
-use Rattle.mx_machine_world.specs.Move.{moves}
-use Rattle.mx_machine_world.specs.World.{actors}
+use Rattle.mx_machine.specs.Move.{moves}
+use Rattle.mx_machine.specs.World.{actors}
 use Rattle.mx_machine.specs.Machine.{AreSound, kept_along, world_of}
 use Rattle.mx_machine.proofs.machine.Machine.run.Given as goal
 

@@ -1,6 +1,6 @@
 use Rattle.std.proofs.Common.{◌≡◌, ◌∙◌, sym, subst}
 use Rattle.std.specs.Option.{option_map}
-use Rattle.mx_machine_world.specs.World.{HeldProcess, held_by}
+use Rattle.mx_machine.specs.World.{HeldProcess, held_by}
 use Rattle.mx_machine.specs.Machine.{MachineState, world_of}
 use Rattle.mx_machine.proofs.MachineLemmas.{slot-now}
 use Rattle.mx_machine.proofs.machine.Machine.slot_on.Goals as goal

@@ -1,5 +1,5 @@
 use Rattle.std.proofs.Common.{subst}
-use Rattle.mx_machine_world.specs.Sound.{IsSound}
+use Rattle.mx_machine.specs.Sound.{IsSound}
 use Rattle.mx_machine.specs.Machine.{MachineState, world_of}
 use Rattle.mx_machine.proofs.DoneLemmas.{on}
 use Rattle.mx_machine.proofs.SoundLemmas.{is-sound}

@@ -1,6 +1,6 @@
 use Rattle.std.proofs.Common.{◌≡◌, ◌∙◌, ap, get_or, ◌<◌, length, None, slice_set, subst, arith}
-use Rattle.mx_machine_world.specs.declared.events.Event.TheVariants.{Step}
-use Rattle.mx_machine_world.specs.Move.{move}
+use Rattle.mx_machine.specs.declared.events.Event.TheVariants.{Step}
+use Rattle.mx_machine.specs.Move.{move}
 use Rattle.mx_machine.specs.Machine.{MachineState, world_of}
 use Rattle.mx_machine.proofs.DoneLemmas.{any_default, none_beyond, on, step-done, step-kept}
 use Rattle.mx_machine.proofs.MachineLemmas.{empty-refused}

@@ -1,15 +1,15 @@
 use Rattle.std.proofs.Common.{◌≡◌, ◌∙◌, ◌<◌, length, Option, Some, Result, Ok, IfSome, slice_set, ap, subst, arith}
 use Rattle.std.proofs.lemmas.Result.{err_from_is_err_and}
-use Rattle.mx_machine_world.specs.Proc.TableState.{endpoint_of}
-use Rattle.mx_machine_world.specs.declared.events.Answer.{Answer}
-use Rattle.mx_machine_world.specs.declared.events.Answer.TheVariants.{Taken}
-use Rattle.mx_machine_world.specs.declared.events.Event.TheVariants.{Take}
-use Rattle.mx_machine_world.specs.declared.events.Refusal.{Refusal}
-use Rattle.mx_machine_world.specs.declared.history.Recorded.TheVariants.{Take as Taking}
-use Rattle.mx_machine_world.specs.History.{replay, with_record}
-use Rattle.mx_machine_world.specs.Move.{move}
-use Rattle.mx_machine_world.specs.World.{HeldProcess, World}
-use Rattle.mx_machine_world.proofs.LentLemmas.{run_none}
+use Rattle.mx_machine.specs.Proc.TableState.{endpoint_of}
+use Rattle.mx_machine.specs.declared.events.Answer.{Answer}
+use Rattle.mx_machine.specs.declared.events.Answer.TheVariants.{Taken}
+use Rattle.mx_machine.specs.declared.events.Event.TheVariants.{Take}
+use Rattle.mx_machine.specs.declared.events.Refusal.{Refusal}
+use Rattle.mx_machine.specs.declared.history.Recorded.TheVariants.{Take as Taking}
+use Rattle.mx_machine.specs.History.{replay, with_record}
+use Rattle.mx_machine.specs.Move.{move}
+use Rattle.mx_machine.specs.World.{HeldProcess, World}
+use Rattle.mx_machine.proofs.LentLemmas.{run_none}
 use Rattle.mx_machine.specs.Machine.{MachineState, world_of}
 use Rattle.mx_machine.proofs.DoneLemmas.{on, take-err, take-running, took-below}
 use Rattle.mx_machine.proofs.MachineLemmas.{take-accepted, taken-answer}

@@ -1,6 +1,6 @@
 use Rattle.std.proofs.Common.{◌≡◌, ◌<◌, get_or, length, None, OnOk, IfErr, slice_set, refl, ap, subst, arith}
-use Rattle.mx_machine_world.specs.declared.events.Refusal.TheVariants.{CpuEmpty}
-use Rattle.mx_machine_world.specs.World.{HeldProcess, held_by}
+use Rattle.mx_machine.specs.declared.events.Refusal.TheVariants.{CpuEmpty}
+use Rattle.mx_machine.specs.World.{HeldProcess, held_by}
 use Rattle.mx_machine.specs.Machine.{HasWorked, MachineState, world_of}
 use Rattle.mx_machine.proofs.DoneLemmas.{actors-of_kernel, any_default, none_beyond, on, worked}
 use Rattle.mx_machine.proofs.machine.Machine.work.Goals as goal

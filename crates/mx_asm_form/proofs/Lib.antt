@@ -1,2 +1,0 @@
-mod Valuing
-pub mod Widths

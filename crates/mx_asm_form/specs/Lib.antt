@@ -1,9 +1,0 @@
-pub mod Numbers
-pub mod SizedOperands
-pub mod Pairs
-pub mod Moves
-pub mod Transfers
-pub mod Data
-pub mod Operations
-pub mod Stack
-pub mod Statements

@@ -1,5 +1,0 @@
-mod Slices
-mod Unique
-mod Total
-mod Widths
-pub mod Beginnings

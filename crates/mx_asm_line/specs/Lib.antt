@@ -1,4 +1,0 @@
-pub mod Opening
-pub mod Statements
-pub mod Lines
-pub mod Beginnings

@@ -1,3 +1,0 @@
-pub mod Comment
-pub mod Services
-pub mod Taking

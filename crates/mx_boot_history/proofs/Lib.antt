@@ -1,7 +1,0 @@
-mod Ended
-mod Faults
-mod ReadAgain
-mod OneHistory
-mod Fronts
-pub mod Held
-pub mod Unended

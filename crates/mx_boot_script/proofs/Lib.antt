@@ -1,4 +1,0 @@
-mod VerbWords
-mod ReadSoFar
-mod WrittenWords
-mod WrittenNumbers

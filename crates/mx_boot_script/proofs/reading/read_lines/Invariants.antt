@@ -1,9 +1,0 @@
-use Rattle.std.proofs.Common.{length}
-use Rattle.mx_boot_script.proofs.ReadSoFar.{ReadSoFar}
-use Rattle.mx_boot_script.proofs.reading.read_lines.Given as goal
-
-abbrev pub decreases-loop-line : goal.decreases-loop-line
-decreases-loop-line g l = length l.rest
-
-abbrev pub invariant-loop-line : goal.invariant-loop-line
-invariant-loop-line g l = ReadSoFar (g.R.ReadsLine.says l.reader) l.text l.rest l.found.items l.is_wanting l.number

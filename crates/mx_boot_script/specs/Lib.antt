@@ -1,5 +1,0 @@
-pub mod Reading
-pub mod Verbs
-pub mod Script
-pub mod Debug
-pub mod Words

@@ -1,0 +1,471 @@
+-- Loops of calls, call by call.
+use Rattle.std.proofs.Common.{◌≡◌, ◌∙◌, ℕ, zero, suc, nat_lt, Bool, true, false, if◌then◌else◌, length, get_or, inl, inr, All, ◌+◌, ◌-◌, ◌^◌, ◌<◌, ◌≤◌, ◌≢◌, min, List, [], ◌∷◌, ◌++◌, map, Some, None, Result, Ok, Err, IsOk, IsErr, IfOk, IfErr, refl, sym, ap, subst, arith, append_assoc}
+use Rattle.std.proofs.lemmas.Bool.{cases_lt, ltb-true}
+use Rattle.std.proofs.lemmas.List.{append-nil}
+use Rattle.std.proofs.lemmas.List.Elements.{All-push}
+use Rattle.atomic_table.specs.Seated.{TableId}
+use Rattle.mx_machine.specs.declared.events.Answer.{Answer}
+use Rattle.mx_machine.specs.declared.events.Event.{Event}
+use Rattle.mx_machine.specs.declared.events.Event.TheVariants as events
+use Rattle.mx_machine.specs.declared.events.Refusal.{Refusal}
+use Rattle.mx_machine.specs.declared.events.Refusal.TheVariants.{LogFull}
+use Rattle.mx_machine.specs.declared.history.Record.{Record}
+use Rattle.mx_machine.specs.declared.history.Recorded.{Recorded}
+use Rattle.mx_machine.specs.declared.history.Recorded.TheVariants as recorded
+use Rattle.mx_machine.specs.History.{part_of}
+use Rattle.mx_machine.specs.Held.{held_run}
+use Rattle.mx_machine.specs.Move.{event_refusal}
+use Rattle.mx_machine.specs.World.{World, free_records}
+use Rattle.mx_loan_rule.proofs.Fronts.{prefix_self, prefix_trans}
+use Rattle.mx_cpus.specs.Seats.{SeatView, LoanView, back_record, record_of, take_record}
+use Rattle.mx_cpus.specs.Calls.{Follows, IsAnsweredCall, IsGiveCall, IsRefusedCall, IsRestCall, IsTakeCall}
+use Rattle.mx_cpus.specs.Gates.{GateCall, held_call, given_call, again_call, ended_call}
+use Rattle.mx_cpus.specs.declared.side.FreeSide.{FreeSide}
+use Rattle.mx_cpus.specs.declared.progress.Progress.{Progress}
+use Rattle.mx_cpus.specs.declared.progress.Progress.TheVariants.{GoesOn, Full}
+use Rattle.mx_cpus.specs.Progresses.{IsRoundTo, IsSweepTo}
+use Rattle.mx_cpus.specs.Courses.{AreRounds, AreServed, AreTried, AreTurns, IsAsked, IsProcessorRun, IsRespawnerRun, IsRound, IsRoundToFull, IsServed, IsSweepToFull, IsTicked, IsTickToFull, IsTried, IsWait, longest_run, slots, turn_number}
+use Rattle.mx_cpus.specs.Loops.{AreDriven, AreTicksAndRespawns, HasMadeTurns, HasTickedAndRespawned, IsDriven, ticks_among, turns_of}
+
+pub follows_self : (s : SeatView) → s.mine ≡ part_of s.seen s.actor → Follows s s
+follows_self s own = record { table = refl; actor = refl; seen = prefix_self s.seen; own = own }
+
+pub follows_trans : (s t u : SeatView) → Follows s t → Follows t u → Follows s u
+follows_trans s t u p q = record { table = q.table ∙ p.table; actor = q.actor ∙ p.actor; seen = prefix_trans s.seen t.seen u.seen p.seen q.seen; own = q.own }
+
+-- ---- a processor
+
+turns_last : (a : ℕ) (ns : List ℕ) (n : ℕ) → turns_of a (ns ++ n ∷ []) ≡ turns_of a ns ++ take_record a ∷ back_record a n ∷ []
+turns_last a [] n = refl
+turns_last a (m ∷ ns) n = ap (λ l. take_record a ∷ back_record a m ∷ l) (turns_last a ns n)
+
+-- two records more at the end
+two_more : (m t : List Record) (x y : Record) → ((m ++ t) ++ x ∷ []) ++ y ∷ [] ≡ m ++ (t ++ x ∷ y ∷ [])
+two_more m t x y = append_assoc (m ++ t) (x ∷ []) (y ∷ []) ∙ append_assoc m t (x ∷ y ∷ [])
+
+no_turns : (s : SeatView) → s.mine ≡ part_of s.seen s.actor → s.held ≡ None → HasMadeTurns s s
+no_turns s own empty = record { follows = follows_self s own; empty = empty; counts = []; mine = sym (append-nil s.mine) }
+
+-- one turn more
+turn_more : (boot : World) (s t u v : SeatView) (l m : LoanView) → HasMadeTurns s t → IsTakeCall boot t u l → IsGiveCall boot u v m → HasMadeTurns s v
+turn_more boot s t u v l m made took gave =
+    let a = s.actor in
+    let n = m.out.count in
+    let first : t.actor ≡ a = made.follows.actor in
+    let second : u.actor ≡ a = took.0.follows.actor ∙ first in
+    let taken : u.mine ≡ (s.mine ++ turns_of a made.counts) ++ take_record a ∷ [] =
+    took.0.mine ∙ ap (λ i. t.mine ++ take_record i ∷ []) first ∙ ap (λ (x : List Record). x ++ take_record a ∷ []) made.mine in
+    record {
+      follows = follows_trans s u v (follows_trans s t u made.follows took.0.follows) gave.follows;
+      empty = gave.held;
+      counts = made.counts ++ n ∷ [];
+      mine = gave.mine ∙ ap (λ i. u.mine ++ back_record i n ∷ []) second ∙ ap (λ (x : List Record). x ++ back_record a n ∷ []) taken
+          ∙ two_more s.mine (turns_of a made.counts) (take_record a) (back_record a n)
+          ∙ ap (λ (x : List Record). s.mine ++ x) (sym (turns_last a made.counts n));
+    }
+
+-- a call that records nothing
+turns_seen : (s t u : SeatView) → HasMadeTurns s t → Follows t u → u.mine ≡ t.mine → u.held ≡ t.held → HasMadeTurns s u
+turns_seen s t u made seen mine held = record {
+  follows = follows_trans s t u made.follows seen;
+  empty = held ∙ made.empty;
+  counts = made.counts;
+  mine = mine ∙ made.mine;
+}
+
+turns_refused : (boot : World) (s t u : SeatView) (e : Event) (r : Refusal) → HasMadeTurns s t → IsRefusedCall boot t u e r → HasMadeTurns s u
+turns_refused boot s t u e r made refused = turns_seen s t u made refused.follows refused.mine refused.held
+
+module _ (boot : World) (WasCalled : GateCall → Type 0) where
+  turns_waited : (s t u : SeatView) (b : Bool) → HasMadeTurns s t → IsWait boot WasCalled t u b → HasMadeTurns s u
+  turns_waited s t u b made wait =
+      let seen = turns_refused boot s t wait.seat events.Take wait.refusal made wait.takes in
+      let rests = wait.asks.rests in
+      turns_seen s wait.seat u seen rests.follows rests.mine rests.held
+
+  pub turns_made : (s : SeatView) → s.mine ≡ part_of s.seen s.actor → s.held ≡ None → (so_many n : ℕ) (t : SeatView) → AreTurns boot WasCalled s so_many n t → HasMadeTurns s t
+  turns_made s own empty zero n t first = subst (HasMadeTurns s) (sym first.1) (no_turns s own empty)
+  turns_made s own empty (suc so_many) n t more =
+      let m = more.0 in
+      let u = more.1 in
+      let before = turns_made s own empty so_many m u more.2 in
+      elim more.3 [
+        | inl turn ↦ turn_more boot s u turn.1.taken t turn.1.lent turn.1.back before turn.1.takes turn.1.gives
+        | inr wait ↦ turns_waited s u t true before wait.1
+      ]
+
+  -- what a processor's loop leaves
+  pub processor_made : (s t : SeatView) → s.mine ≡ part_of s.seen s.actor → s.held ≡ None → IsProcessorRun boot WasCalled s t → HasMadeTurns s t
+  processor_made s t own empty run =
+      let before = turns_made s own empty run.so_many run.turns run.last run.course in
+      elim run.ends [
+        | inl full ↦ turns_refused boot s run.last t events.Take LogFull before full
+        | inr wait ↦ turns_waited s run.last t false before wait
+      ]
+
+  -- a turn more
+  pub turn_after : (s t u v : SeatView) (l m : LoanView) (so_many n a k : ℕ) → AreTurns boot WasCalled s so_many n t → a ≡ t.actor → k ≡ turn_number n → IsTakeCall boot t u l → WasCalled (held_call a k)
+      → m.out ≡ (held_run longest_run l.out).1 → IsGiveCall boot u v m → WasCalled (given_call a) → AreTurns boot WasCalled s (suc so_many) (n + 1) v
+  turn_after s t u v l m so_many n a k before who number took held ran gave given = (
+    n,
+    t,
+    before,
+    inl (
+      refl,
+      record {
+        taken = u;
+        lent = l;
+        back = m;
+        takes = took;
+        held = subst (λ i. WasCalled (held_call i (turn_number n))) who (subst (λ j. WasCalled (held_call a j)) number held);
+        runs = ran;
+        gives = gave;
+        given = subst (λ i. WasCalled (given_call i)) who given;
+      },
+    ),
+  )
+
+  -- and its number
+  pub next_turn : (n k m : ℕ) → k ≡ turn_number n → m ≡ min (k + 1) (2 ^ 64 - 1) → m ≡ turn_number (n + 1)
+  next_turn n k m number is = omega (arith, number, is)
+
+  -- a question after a refusal
+  pub waited : (t u v : SeatView) (r : Refusal) (b goes_on : Bool) (a : ℕ) → a ≡ t.actor → IsRefusedCall boot t u events.Take r → r ≢ LogFull → IsRestCall boot u v b → WasCalled (again_call a b goes_on) → IsWait boot WasCalled t v goes_on
+  waited t u v r b goes_on a who took other rests asked = record {
+    seat = u;
+    refusal = r;
+    takes = took;
+    other = other;
+    asks = record { rest = b; rests = rests; asked = subst (λ i. WasCalled (again_call i b goes_on)) (who ∙ sym took.follows.actor) asked };
+  }
+
+  pub wait_after : (s t v : SeatView) (so_many n : ℕ) → AreTurns boot WasCalled s so_many n t → IsWait boot WasCalled t v true → AreTurns boot WasCalled s (suc so_many) n v
+  wait_after s t v so_many n before wait = (n, t, before, inr (refl, wait))
+
+-- what a processor's loop knows between two takes
+pub record TurnsSoFar (boot : World) (WasCalled : GateCall → Type 0) (s t : SeatView) (side : FreeSide) : Type 0 where
+  pub so_many : ℕ
+  pub turns : ℕ
+  pub course : AreTurns boot WasCalled s so_many turns t
+  pub made : HasMadeTurns s t
+  pub actor : side.actor ≡ s.actor
+  pub turn : side.turn ≡ turn_number turns
+  pub goes_on : side.goes_on ≡ true
+
+-- it goes on after a turn
+pub turns_go_on : (boot : World) (WasCalled : GateCall → Type 0) (s t u v : SeatView) (l m : LoanView) (x y : FreeSide) (a k : ℕ) → TurnsSoFar boot WasCalled s t x → s.held ≡ None → IsTakeCall boot t u l
+    → WasCalled (held_call x.actor x.turn) → a ≡ x.actor → k ≡ x.turn → m.out ≡ (held_run longest_run l.out).1 → IsGiveCall boot u v m → WasCalled (given_call a)
+    → y.actor ≡ a → y.turn ≡ min (k + 1) (2 ^ 64 - 1) → y.goes_on ≡ true → TurnsSoFar boot WasCalled s v y
+turns_go_on boot WasCalled s t u v l m x y a k so_far empty took held who number ran gave given same next on =
+    let n = so_far.turns in
+    let here : x.actor ≡ t.actor = so_far.actor ∙ sym so_far.made.follows.actor in
+    record {
+      so_many = suc so_far.so_many;
+      turns = n + 1;
+      course = turn_after boot WasCalled s t u v l m so_far.so_many n x.actor x.turn so_far.course here so_far.turn took held ran gave (subst (λ i. WasCalled (given_call i)) who given);
+      made = turn_more boot s t u v l m so_far.made took gave;
+      actor = same ∙ who ∙ so_far.actor;
+      turn = next_turn boot WasCalled n k y.turn (number ∙ so_far.turn) next;
+      goes_on = on;
+    }
+
+-- and after a question that was answered with yes
+pub turns_wait : (boot : World) (WasCalled : GateCall → Type 0) (s t u v : SeatView) (r : Refusal) (b : Bool) (x y : FreeSide) → TurnsSoFar boot WasCalled s t x → IsRefusedCall boot t u events.Take r → r ≢ LogFull → IsRestCall boot u v b
+    → WasCalled (again_call x.actor b y.goes_on) → y.actor ≡ x.actor → y.turn ≡ x.turn → y.goes_on ≡ true → TurnsSoFar boot WasCalled s v y
+turns_wait boot WasCalled s t u v r b x y so_far took other rests asked same next on =
+    let here : x.actor ≡ t.actor = so_far.actor ∙ sym so_far.made.follows.actor in
+    let wait = waited boot WasCalled t u v r b true x.actor here took other rests (subst (λ g. WasCalled (again_call x.actor b g)) on asked) in
+    record {
+      so_many = suc so_far.so_many;
+      turns = so_far.turns;
+      course = wait_after boot WasCalled s t v so_far.so_many so_far.turns so_far.course wait;
+      made = turns_waited boot WasCalled s t v true so_far.made wait;
+      actor = same ∙ so_far.actor;
+      turn = next ∙ so_far.turn;
+      goes_on = on;
+    }
+
+-- ---- the respawner
+
+only_both : (xs ys : List Recorded) → AreTicksAndRespawns xs → AreTicksAndRespawns ys → AreTicksAndRespawns (xs ++ ys)
+only_both [] ys p q = q
+only_both (recorded.Tick ∷ xs) ys p q = only_both xs ys p q
+only_both (recorded.Respawn s ∷ xs) ys p q = only_both xs ys p q
+only_both (recorded.Take ∷ xs) ys p q = absurd p
+only_both (recorded.Back n ∷ xs) ys p q = absurd p
+only_both (recorded.Line l ∷ xs) ys p q = absurd p
+only_both (recorded.Kill e ∷ xs) ys p q = absurd p
+
+ticks_both : (xs ys : List Recorded) → AreTicksAndRespawns xs → ticks_among (xs ++ ys) ≡ ticks_among xs + ticks_among ys
+ticks_both [] ys p = omega arith
+ticks_both (recorded.Tick ∷ xs) ys p = omega (arith, ticks_both xs ys p)
+ticks_both (recorded.Respawn s ∷ xs) ys p = ticks_both xs ys p
+ticks_both (recorded.Take ∷ xs) ys p = absurd p
+ticks_both (recorded.Back n ∷ xs) ys p = absurd p
+ticks_both (recorded.Line l ∷ xs) ys p = absurd p
+ticks_both (recorded.Kill e ∷ xs) ys p = absurd p
+
+map_both : {A B : Type 0} (f : A → B) (xs ys : List A) → map f (xs ++ ys) ≡ map f xs ++ map f ys
+map_both f [] ys = refl
+map_both f (x ∷ xs) ys = ap (λ l. f x ∷ l) (map_both f xs ys)
+
+-- one loop after another
+rounds_both : (n m k : ℕ) (s t u : SeatView) → HasTickedAndRespawned n s t → HasTickedAndRespawned m t u → n + m ≤ k → HasTickedAndRespawned k s u
+rounds_both n m k s t u p q le = record {
+  follows = follows_trans s t u p.follows q.follows;
+  held = q.held ∙ p.held;
+  events = p.events ++ q.events;
+  only = only_both p.events q.events p.only q.only;
+  few = omega (arith, ticks_both p.events q.events p.only, p.few, q.few, le);
+  mine = q.mine ∙ ap (λ i. t.mine ++ map (record_of i) q.events) p.follows.actor
+      ∙ ap (λ (x : List Record). x ++ map (record_of s.actor) q.events) p.mine
+      ∙ append_assoc s.mine (map (record_of s.actor) p.events) (map (record_of s.actor) q.events)
+      ∙ ap (λ (x : List Record). s.mine ++ x) (sym (map_both (record_of s.actor) p.events q.events));
+}
+
+rounds_weaker : (n k : ℕ) (s t : SeatView) → HasTickedAndRespawned n s t → n ≤ k → HasTickedAndRespawned k s t
+rounds_weaker n k s t p le = record { follows = p.follows; held = p.held; events = p.events; only = p.only; few = omega (arith, p.few, le); mine = p.mine }
+
+-- a tick, a respawn, or nothing at all
+nothing_made : (s t : SeatView) → Follows s t → t.mine ≡ s.mine → t.held ≡ s.held → HasTickedAndRespawned 0 s t
+nothing_made s t follows mine held = record { follows = follows; held = held; events = []; only = tt; few = omega arith; mine = mine ∙ sym (append-nil s.mine) }
+
+refused_made : (boot : World) (s t : SeatView) (e : Event) (r : Refusal) → IsRefusedCall boot s t e r → HasTickedAndRespawned 0 s t
+refused_made boot s t e r refused = nothing_made s t refused.follows refused.mine refused.held
+
+rest_made : (boot : World) (s t : SeatView) (b : Bool) → IsRestCall boot s t b → HasTickedAndRespawned 0 s t
+rest_made boot s t b asked = nothing_made s t asked.follows asked.mine asked.held
+
+tried_made : (boot : World) (slot : ℕ) (s t : SeatView) → IsTried boot slot s t → HasTickedAndRespawned 0 s t
+tried_made boot slot s t tried = elim tried [
+  | inl done ↦ record { follows = done.1.follows; held = done.1.held; events = recorded.Respawn slot ∷ []; only = tt; few = omega arith; mine = done.1.mine }
+  | inr other ↦ refused_made boot s t (events.Respawn slot) other.0 other.2
+]
+
+-- the seat that a loop begins with
+no_rounds : (s t : SeatView) → s.mine ≡ part_of s.seen s.actor → t ≡ s → HasTickedAndRespawned 0 s t
+no_rounds s t own same = subst (HasTickedAndRespawned 0 s) (sym same) (nothing_made s s (follows_self s own) refl refl)
+
+own_after : (n : ℕ) (s t : SeatView) → HasTickedAndRespawned n s t → t.mine ≡ part_of t.seen t.actor
+own_after n s t made = made.follows.own
+
+slots_made : (boot : World) (s : SeatView) → s.mine ≡ part_of s.seen s.actor → (n : ℕ) (t : SeatView) → AreTried boot s n t → HasTickedAndRespawned 0 s t
+slots_made boot s own zero t same = no_rounds s t own same
+slots_made boot s own (suc n) t tried = rounds_both 0 0 0 s tried.0 t (slots_made boot s own n tried.0 tried.1) (tried_made boot n tried.0 t tried.2) (omega arith)
+
+sweep_made : (boot : World) (s t : SeatView) → s.mine ≡ part_of s.seen s.actor → IsSweepToFull boot s t → HasTickedAndRespawned 0 s t
+sweep_made boot s t own full = rounds_both 0 0 0 s full.1 t (slots_made boot s own full.0 full.1 full.3) (refused_made boot full.1 t (events.Respawn full.0) LogFull full.4) (omega arith)
+
+-- a tick, if there is one, is one of those that are left
+tick_made : (boot : World) (left : ℕ) (s t : SeatView) → s.mine ≡ part_of s.seen s.actor → IsTicked boot left s t → HasTickedAndRespawned (left - (left - 1)) s t
+tick_made boot zero s t own same = no_rounds s t own same
+tick_made boot (suc n) s t own made =
+    let one : suc n - (suc n - 1) ≡ 1 = omega arith in
+    subst (λ k. HasTickedAndRespawned k s t) (sym one) record { follows = made.1.follows; held = made.1.held; events = recorded.Tick ∷ []; only = tt; few = omega arith; mine = made.1.mine }
+
+tick_full_made : (boot : World) (left : ℕ) (s t : SeatView) → IsTickToFull boot left s t → HasTickedAndRespawned 0 s t
+tick_full_made boot zero s t full = absurd full
+tick_full_made boot (suc n) s t full = refused_made boot s t events.Tick LogFull full
+
+round_made : (boot : World) (left : ℕ) (s t : SeatView) → s.mine ≡ part_of s.seen s.actor → IsRound boot left s t → HasTickedAndRespawned (left - (left - 1)) s t
+round_made boot left s t own made =
+    let first = tick_made boot left s made.0 own made.1 in
+    rounds_both (left - (left - 1)) 0 (left - (left - 1)) s made.0 t first (slots_made boot made.0 first.follows.own slots t made.2) (omega arith)
+
+round_full_made : (boot : World) (left : ℕ) (s t : SeatView) → s.mine ≡ part_of s.seen s.actor → IsRoundToFull boot left s t → HasTickedAndRespawned left s t
+round_full_made boot left s t own full = elim full [
+  | inl tick ↦ rounds_weaker 0 left s t (tick_full_made boot left s t tick) (omega arith)
+  | inr later ↦
+      let first = tick_made boot left s later.0 own later.1 in
+      rounds_both (left - (left - 1)) 0 left s later.0 t first (sweep_made boot later.0 t first.follows.own later.2) (omega arith)
+]
+
+-- a question after a round
+asked_by : (boot : World) (WasCalled : GateCall → Type 0) (u v : SeatView) (b goes_on : Bool) (a : ℕ) → a ≡ u.actor → IsRestCall boot u v b → WasCalled (again_call a b goes_on) → IsAsked boot WasCalled u v goes_on
+asked_by boot WasCalled u v b goes_on a who rests asked = record { rest = b; rests = rests; asked = subst (λ i. WasCalled (again_call i b goes_on)) who asked }
+
+-- the seat stays one of the table's
+pub round_table : (boot : World) (left : ℕ) (s t : SeatView) (z : TableId) → s.mine ≡ part_of s.seen s.actor → IsRound boot left s t → s.table ≡ z → t.table ≡ z
+round_table boot left s t z own made at = (round_made boot left s t own made).follows.table ∙ at
+
+module _ (boot : World) (WasCalled : GateCall → Type 0) (ticks : ℕ) (s : SeatView) (own : s.mine ≡ part_of s.seen s.actor) where
+  rounds_made : (n : ℕ) (t : SeatView) → AreRounds boot WasCalled ticks s n t → HasTickedAndRespawned (ticks - (ticks - n)) s t
+  rounds_made zero t same =
+      let none : ticks - (ticks - 0) ≡ 0 = omega arith in
+      subst (λ k. HasTickedAndRespawned k s t) (sym none) (no_rounds s t own same)
+  rounds_made (suc n) t more =
+      let u = more.0 in
+      let v = more.1 in
+      let before = rounds_made n u more.2 in
+      let now = round_made boot (ticks - n) u v before.follows.own more.3 in
+      let both = rounds_both (ticks - (ticks - n)) (ticks - n - (ticks - n - 1)) (ticks - (ticks - suc n)) s u v before now (omega arith) in
+      rounds_both (ticks - (ticks - suc n)) 0 (ticks - (ticks - suc n)) s v t both (rest_made boot v t more.4.rest more.4.rests) (omega arith)
+
+  -- what a respawner's loop leaves
+  pub respawner_made : (t : SeatView) → IsRespawnerRun boot WasCalled ticks s t → HasTickedAndRespawned ticks s t
+  respawner_made t run =
+      let before = rounds_made run.rounds run.last run.course in
+      let left = ticks - run.rounds in
+      elim run.ends [
+        | inl full ↦ rounds_both (ticks - left) left ticks s run.last t before (round_full_made boot left run.last t before.follows.own full) (omega arith)
+        | inr asked ↦
+            let now = round_made boot left run.last asked.0 before.follows.own asked.1 in
+            let both = rounds_both (ticks - left) (left - (left - 1)) ticks s run.last asked.0 before now (omega arith) in
+            rounds_both ticks 0 ticks s asked.0 t both (rest_made boot asked.0 t asked.2.rest asked.2.rests) (omega arith)
+      ]
+
+full_by : (b : Bool) (r : Refusal) → (if b then Some LogFull else None) ≡ Some r → r ≡ LogFull
+full_by true r h = let same : Some r ≡ Some LogFull = sym h in cc
+full_by false r h = cc
+
+-- a tick is refused only for a full history
+pub tick_refused : (w : World) (a : ℕ) (r : Refusal) → event_refusal w a events.Tick ≡ Some r → r ≡ LogFull
+unfolding event_refusal
+tick_refused w a r h = full_by (nat_lt (free_records w) 1) r h
+
+-- what a respawner's loop knows between two rounds
+pub record RoundsSoFar (boot : World) (WasCalled : GateCall → Type 0) (ticks : ℕ) (s t : SeatView) (side : FreeSide) (ticks_left : ℕ) : Type 0 where
+  pub rounds : ℕ
+  pub course : AreRounds boot WasCalled ticks s rounds t
+  pub follows : Follows s t
+  pub left : ticks_left ≡ ticks - rounds
+  pub actor : side.actor ≡ s.actor
+  pub goes_on : side.goes_on ≡ true
+
+-- it goes on after a round
+pub rounds_go_on : (boot : World) (WasCalled : GateCall → Type 0) (ticks : ℕ) (s t u v : SeatView) (x y : FreeSide) (left next : ℕ) (b : Bool) → RoundsSoFar boot WasCalled ticks s t x left → IsRound boot left t u → IsRestCall boot u v b
+    → WasCalled (again_call x.actor b y.goes_on) → y.actor ≡ x.actor → y.goes_on ≡ true → next ≡ left - 1 → RoundsSoFar boot WasCalled ticks s v y next
+rounds_go_on boot WasCalled ticks s t u v x y left next b so_far round rests asked who on down =
+    let made = round_made boot left t u so_far.follows.own round in
+    let a : x.actor ≡ u.actor = so_far.actor ∙ sym so_far.follows.actor ∙ sym made.follows.actor in
+    record {
+      rounds = suc so_far.rounds;
+      course = (t, u, so_far.course, subst (λ k. IsRound boot k t u) so_far.left round, asked_by boot WasCalled u v b true x.actor a rests (subst (λ g. WasCalled (again_call x.actor b g)) on asked));
+      follows = follows_trans s t v so_far.follows (follows_trans t u v made.follows rests.follows);
+      left = omega (arith, so_far.left, down);
+      actor = who ∙ so_far.actor;
+      goes_on = on;
+    }
+
+-- the gate ends it
+pub rounds_end : (boot : World) (WasCalled : GateCall → Type 0) (ticks : ℕ) (s t u v : SeatView) (x y : FreeSide) (left : ℕ) (b : Bool) → RoundsSoFar boot WasCalled ticks s t x left → IsRound boot left t u → IsRestCall boot u v b
+    → WasCalled (again_call x.actor b y.goes_on) → y.goes_on ≡ false → IsRespawnerRun boot WasCalled ticks s v
+rounds_end boot WasCalled ticks s t u v x y left b so_far round rests asked off =
+    let made = round_made boot left t u so_far.follows.own round in
+    let a : x.actor ≡ u.actor = so_far.actor ∙ sym so_far.follows.actor ∙ sym made.follows.actor in
+    record {
+      rounds = so_far.rounds;
+      last = t;
+      course = so_far.course;
+      ends = inr (u, subst (λ k. IsRound boot k t u) so_far.left round, asked_by boot WasCalled u v b false x.actor a rests (subst (λ g. WasCalled (again_call x.actor b g)) off asked));
+    }
+
+-- a full history ends it
+pub rounds_full : (boot : World) (WasCalled : GateCall → Type 0) (ticks : ℕ) (s t u : SeatView) (x : FreeSide) (left : ℕ) → RoundsSoFar boot WasCalled ticks s t x left → IsRoundToFull boot left t u → IsRespawnerRun boot WasCalled ticks s u
+rounds_full boot WasCalled ticks s t u x left so_far full = record {
+  rounds = so_far.rounds;
+  last = t;
+  course = so_far.course;
+  ends = inl (subst (λ k. IsRoundToFull boot k t u) so_far.left full);
+}
+
+-- a round without a tick
+pub none_left : (boot : World) (left : ℕ) (s t : SeatView) (p : Progress) → left ≡ 0 → IsSweepTo boot s t p → IsRoundTo boot left s t p
+none_left boot left s t GoesOn none swept = (s, subst (λ n. IsTicked boot n s s) (sym none) refl, swept)
+none_left boot left s t Full none swept = inr (s, subst (λ n. IsTicked boot n s s) (sym none) refl, swept)
+
+-- a tick, as the first thing of a round
+ticked : (boot : World) (left : ℕ) (s t : SeatView) (r : Result Answer Refusal) → 0 < left → IsOk r → IfOk r (λ x. IsAnsweredCall boot s t events.Tick x) → IsTicked boot left s t
+ticked boot zero s t r some is ok = absurd (omega arith)
+ticked boot (suc n) s t (Ok x) some is ok = (x, ok)
+ticked boot (suc n) s t (Err e) some is ok = cc
+
+pub ticked_then : (boot : World) (left : ℕ) (s t u : SeatView) (r : Result Answer Refusal) (p : Progress) → 0 < left → IsOk r → IfOk r (λ x. IsAnsweredCall boot s t events.Tick x) → IsSweepTo boot t u p → IsRoundTo boot left s u p
+ticked_then boot left s t u r GoesOn some is ok swept = (t, ticked boot left s t r some is ok, swept)
+ticked_then boot left s t u r Full some is ok swept = inr (t, ticked boot left s t r some is ok, swept)
+
+pub ticked_full : (boot : World) (left : ℕ) (s t : SeatView) (r : Result Answer Refusal) → 0 < left → IsErr r → IfErr r (λ e. IsRefusedCall boot s t events.Tick e) → IsRoundToFull boot left s t
+ticked_full boot zero s t r some is err = absurd (omega arith)
+ticked_full boot (suc n) s t (Err e) some is err = inl (subst (λ x. IsRefusedCall boot s t events.Tick x) (tick_refused _ s.actor e err.refused) err)
+ticked_full boot (suc n) s t (Ok x) some is err = cc
+
+-- ---- lists of seats
+
+pub driven_last : (cpus ticks : ℕ) (xs ys : List SeatView) (x y : SeatView) → AreDriven cpus ticks xs ys → IsDriven cpus ticks x y → AreDriven cpus ticks (xs ++ x ∷ []) (ys ++ y ∷ [])
+driven_last cpus ticks [] [] x y p q = (q, tt)
+driven_last cpus ticks (a ∷ xs) (b ∷ ys) x y p q = (p.0, driven_last cpus ticks xs ys x y p.1 q)
+driven_last cpus ticks [] (b ∷ ys) x y p q = absurd p
+driven_last cpus ticks (a ∷ xs) [] x y p q = absurd p
+
+pub driven_push : (cpus ticks : ℕ) (xs ys before after : List SeatView) (x y : SeatView) → before ≡ xs ++ x ∷ [] → after ≡ ys ++ y ∷ []
+    → AreDriven cpus ticks xs ys → IsDriven cpus ticks x y → AreDriven cpus ticks before after
+driven_push cpus ticks xs ys before after x y was is p q =
+    subst (λ (l : List SeatView). AreDriven cpus ticks l after) (sym was)
+    (subst (λ (l : List SeatView). AreDriven cpus ticks (xs ++ x ∷ []) l) (sym is) (driven_last cpus ticks xs ys x y p q))
+
+-- what a thread promised, by other names
+pub driven_by : (cpus n ticks m : ℕ) (s u t : SeatView) → s ≡ u → cpus ≡ n → ticks ≡ m → IsDriven cpus ticks s t → IsDriven n m u t
+driven_by cpus n ticks m s u t is many most p =
+    subst (λ (x : SeatView). IsDriven n m x t) is (subst (λ k. IsDriven k m s t) many (subst (λ k. IsDriven cpus k s t) most p))
+
+-- the seats are the table's as before
+driven_table : (cpus ticks : ℕ) (s t : SeatView) → IsDriven cpus ticks s t → t.table ≡ s.table
+driven_table cpus ticks s t p = elim (cases_lt s.actor cpus) [
+  | inl lt ↦ (p.processor lt).follows.table
+  | inr ge ↦ elim (cases_lt cpus s.actor) [
+    | inl lt ↦ ap (λ (x : SeatView). x.table) (p.other lt)
+    | inr le ↦ (p.respawner (omega (arith, ge, le))).follows.table
+  ]
+]
+
+tables_from : (z : TableId) (cpus ticks : ℕ) (xs ys : List SeatView) → All (λ (s : SeatView). s.table ≡ z) xs → AreDriven cpus ticks xs ys
+    → (k : ℕ) (d : SeatView) → k < length ys → (get_or ys k d).table ≡ z
+tables_from z cpus ticks [] [] h p k d below = absurd (omega arith)
+tables_from z cpus ticks (x ∷ xs) (y ∷ ys) h p zero d below = driven_table cpus ticks x y p.0 ∙ h 0 d (omega arith)
+tables_from z cpus ticks (x ∷ xs) (y ∷ ys) h p (suc k) d below = tables_from z cpus ticks xs ys (λ j e b. h (suc j) e (omega (arith, b))) p.1 k d (omega (arith, below))
+tables_from z cpus ticks [] (y ∷ ys) h p k d below = absurd p
+tables_from z cpus ticks (x ∷ xs) [] h p k d below = absurd p
+
+pub driven_tables : (z : TableId) (cpus ticks : ℕ) (xs ys : List SeatView) → All (λ (s : SeatView). s.table ≡ z) xs → AreDriven cpus ticks xs ys → All (λ (s : SeatView). s.table ≡ z) ys
+driven_tables z cpus ticks xs ys h p = tables_from z cpus ticks xs ys h p
+
+pub driven_processor : (cpus ticks : ℕ) (s t : SeatView) → s.actor < cpus → HasMadeTurns s t → IsDriven cpus ticks s t
+driven_processor cpus ticks s t lt made = record { processor = λ h. made; respawner = λ h. absurd (omega (arith, lt, h)); other = λ h. absurd (omega (arith, lt, h)) }
+
+pub driven_respawner : (cpus ticks : ℕ) (s t : SeatView) → s.actor ≡ cpus → HasTickedAndRespawned ticks s t → IsDriven cpus ticks s t
+driven_respawner cpus ticks s t is made = record { processor = λ h. absurd (omega (arith, is, h)); respawner = λ h. made; other = λ h. absurd (omega (arith, is, h)) }
+
+pub driven_other : (cpus ticks : ℕ) (s : SeatView) → cpus < s.actor → IsDriven cpus ticks s s
+driven_other cpus ticks s lt = record { processor = λ h. absurd (omega (arith, lt, h)); respawner = λ h. absurd (omega (arith, lt, h)); other = λ h. refl }
+
+-- as `driven_last`, for what each loop did
+served_last : (boot : World) (WasCalled : GateCall → Type 0) (cpus ticks : ℕ) (xs ys : List SeatView) (x y : SeatView) → AreServed boot WasCalled cpus ticks xs ys
+    → (x.actor ≤ cpus → IsServed boot WasCalled cpus ticks x y) → AreServed boot WasCalled cpus ticks (xs ++ x ∷ []) (ys ++ y ∷ [])
+served_last boot WasCalled cpus ticks [] [] x y p q = (q, tt)
+served_last boot WasCalled cpus ticks (a ∷ xs) (b ∷ ys) x y p q = (p.0, served_last boot WasCalled cpus ticks xs ys x y p.1 q)
+served_last boot WasCalled cpus ticks [] (b ∷ ys) x y p q = absurd p
+served_last boot WasCalled cpus ticks (a ∷ xs) [] x y p q = absurd p
+
+pub served_push : (boot : World) (WasCalled : GateCall → Type 0) (cpus ticks : ℕ) (xs ys before after : List SeatView) (x y : SeatView) → before ≡ xs ++ x ∷ [] → after ≡ ys ++ y ∷ []
+    → AreServed boot WasCalled cpus ticks xs ys → (x.actor ≤ cpus → IsServed boot WasCalled cpus ticks x y) → AreServed boot WasCalled cpus ticks before after
+served_push boot WasCalled cpus ticks xs ys before after x y was is p q =
+    subst (λ (l : List SeatView). AreServed boot WasCalled cpus ticks l after) (sym was)
+    (subst (λ (l : List SeatView). AreServed boot WasCalled cpus ticks (xs ++ x ∷ []) l) (sym is) (served_last boot WasCalled cpus ticks xs ys x y p q))
+
+-- what a thread promised, by other names
+pub served_by : {G : Type 0} (boot : World) (W : G → GateCall → Type 0) (g h : G) (cpus n ticks m : ℕ) (s u t : SeatView) → g ≡ h → s ≡ u → cpus ≡ n → ticks ≡ m
+    → IsServed boot (W g) cpus ticks s t → IsServed boot (W h) n m u t
+served_by boot W g h cpus n ticks m s u t gate is many most p =
+    subst (λ i. IsServed boot (W i) n m u t) gate (subst (λ (x : SeatView). IsServed boot (W g) n m x t) is
+    (subst (λ k. IsServed boot (W g) k m s t) many (subst (λ k. IsServed boot (W g) cpus k s t) most p)))
+
+pub told_push : (P : SeatView → Type 0) (xs before : List SeatView) (x : SeatView) → before ≡ xs ++ x ∷ [] → All P xs → P x → All P before
+told_push P xs before x was all last = subst (All P) (sym was) (All-push P xs x all last)
+
+pub served_processor : (boot : World) (WasCalled : GateCall → Type 0) (cpus ticks : ℕ) (s t : SeatView) → s.actor < cpus → IsProcessorRun boot WasCalled s t → WasCalled (ended_call s.actor)
+    → IsServed boot WasCalled cpus ticks s t
+served_processor boot WasCalled cpus ticks s t lt run told = record { processor = λ _. run; respawner = λ h. absurd (omega (arith, lt, h)); told = told }
+
+pub served_respawner : (boot : World) (WasCalled : GateCall → Type 0) (cpus ticks : ℕ) (s t : SeatView) → s.actor ≡ cpus → IsRespawnerRun boot WasCalled ticks s t → WasCalled (ended_call s.actor)
+    → IsServed boot WasCalled cpus ticks s t
+served_respawner boot WasCalled cpus ticks s t is run told = record { processor = λ h. absurd (omega (arith, is, h)); respawner = λ _. run; told = told }

@@ -1,0 +1,150 @@
+-- What a record does to a seat, to the desk and to a loan.
+use Rattle.std.proofs.Common.{◌≡◌, ◌∙◌, ℕ, Bool, Result, Ok, List, [], ◌∷◌, ◌++◌, slice_set, Option, Some, None, refl, sym, ap, subst}
+use mathlib.Core.List.{IsPrefix}
+use Rattle.atomic_table.specs.Seated.{TableId}
+use Rattle.mx_machine.specs.declared.events.Answer.{Answer}
+use Rattle.mx_machine.specs.declared.events.Event.{Event}
+use Rattle.mx_machine.specs.declared.events.Event.TheVariants as events
+use Rattle.mx_machine.specs.declared.events.Refusal.{Refusal}
+use Rattle.mx_machine.specs.declared.history.Record.{Record}
+use Rattle.mx_machine.specs.declared.history.Recorded.{Recorded}
+use Rattle.mx_machine.specs.declared.history.Recorded.TheVariants as recorded
+use Rattle.mx_machine.specs.declared.holding.Out.{Out}
+use Rattle.mx_machine.specs.History.{AreAccepted, BootAndHistory, events_of, part_of, replay, events_of_history, with_record, world_after_events}
+use Rattle.mx_machine.specs.Move.{world_after_event, event_answer, event_refusal, move, with_held}
+use Rattle.mx_machine.specs.Rest.{at_rest}
+use Rattle.mx_machine.specs.World.{World, HeldProcess, held_by}
+use Rattle.mx_machine.proofs.PartLemmas.{part_own}
+use Rattle.mx_machine.proofs.ReplayLemmas.{last_accepted}
+use Rattle.mx_loan_rule.proofs.Fronts.{prefix_trans}
+use Rattle.mx_loan.specs.Seats.{DeskView, SeatView, LoanView, IsSeatOf, back_record, desk_after_back, desk_after_event, desk_after_take, new_loan, record_of, seat_after_back, seat_after_event, seat_after_take, seat_seeing}
+use Rattle.mx_cpus.specs.Calls.{Follows, IsAcceptedCall, IsLentAt, IsRefusedCall, IsRestCall, IsAcceptedHistory, desk_beside, event_of, outs_of, steps_of, world_after}
+use Rattle.mx_cpus.proofs.WorldLemmas.{back_outs, moved_by}
+
+-- the seat after its own record, with the kernel as it was
+abbrev pub recorded_seat : SeatView → BootAndHistory → Recorded → Option Out → SeatView
+recorded_seat s k e x = record { table = s.table; actor = s.actor; mine = s.mine ++ record_of s.actor e ∷ []; seen = k.history ++ record_of s.actor e ∷ []; held = x }
+
+-- a seat that was shown the history, and whose event was recorded then
+pub seat_of_event : (z : TableId) (k : BootAndHistory) (d c e : DeskView) (s u t : SeatView) (r x : Recorded) → d ≡ desk_beside z k → u ≡ seat_seeing s d.history → c ≡ d → e ≡ desk_after_event c u.actor r → t ≡ seat_after_event u e r → r ≡ x
+    → t ≡ recorded_seat s k x s.held
+seat_of_event z k d c e s u t r x is shown same desk seat event =
+    let before = same ∙ is in
+    let noted = shown ∙ ap (λ (y : DeskView). seat_seeing s y.history) is in
+    seat ∙ ap (λ (y : DeskView). seat_after_event u y r) (desk ∙ ap (λ (y : DeskView). desk_after_event y u.actor r) before)
+    ∙ ap (λ (v : SeatView). seat_after_event v (desk_after_event (desk_beside z k) v.actor r) r) noted
+    ∙ ap (λ (y : Recorded). recorded_seat s k y s.held) event
+
+-- or which was lent something
+pub seat_of_take : (z : TableId) (k : BootAndHistory) (d c e : DeskView) (s u t : SeatView) (o : Out) → d ≡ desk_beside z k → u ≡ seat_seeing s d.history → c ≡ d → e ≡ desk_after_take c u.actor o → t ≡ seat_after_take u e o
+    → t ≡ recorded_seat s k recorded.Take (Some o)
+seat_of_take z k d c e s u t o is shown same desk seat =
+    let before = same ∙ is in
+    let noted = shown ∙ ap (λ (y : DeskView). seat_seeing s y.history) is in
+    seat ∙ ap (λ (y : DeskView). seat_after_take u y o) (desk ∙ ap (λ (y : DeskView). desk_after_take y u.actor o) before)
+    ∙ ap (λ (v : SeatView). seat_after_take v (desk_after_take (desk_beside z k) v.actor o) o) noted
+
+-- or which brought something back
+pub seat_of_back : (z : TableId) (k : BootAndHistory) (d e : DeskView) (s t : SeatView) (n : ℕ) → d ≡ desk_beside z k → e ≡ desk_after_back d s.actor n → t ≡ seat_after_back s e n
+    → t ≡ recorded_seat s k (recorded.Back n) None
+seat_of_back z k d e s t n is desk seat = seat ∙ ap (λ (y : DeskView). seat_after_back s y n) (desk ∙ ap (λ (y : DeskView). desk_after_back y s.actor n) is)
+
+-- what the desk knows of a seat holds of the kernel's history
+pub known_by : (z : TableId) (k : BootAndHistory) (d : DeskView) (s : SeatView) → d ≡ desk_beside z k → IsSeatOf s d → IsSeatOf s (desk_beside z k)
+known_by z k d s is known = subst (IsSeatOf s) is known
+
+-- a desk by its parts
+same_desk : (z : TableId) (g h : List Record) (l m : List (Option Out)) → g ≡ h → l ≡ m → (let d : DeskView = record { table = z; history = g; lent = l } in d) ≡ record { table = z; history = h; lent = m }
+same_desk z g h l m p q = ap (λ x. let d : DeskView = record { table = z; history = x; lent = l } in d) p ∙ ap (λ x. let d : DeskView = record { table = z; history = h; lent = x } in d) q
+
+-- what came back is lent no more
+pub desk_after_give : (z : TableId) (k n : BootAndHistory) (d e : DeskView) (a b c : ℕ) (l : HeldProcess) (o : Out) → d ≡ desk_beside z k → e ≡ desk_after_back d a c
+    → b ≡ a → o.count ≡ c → n ≡ with_record k b (recorded.Back o.count) → held_by (replay k) b ≡ Some l
+    → ((m : HeldProcess) → held_by (replay k) b ≡ Some m → replay n ≡ world_after_event (with_held (replay k) b (Some (record m { out = o }))) b events.Back)
+    → e ≡ desk_beside z n
+desk_after_give z k n d e a b c l o is now who count made held world =
+    now ∙ ap (λ x. desk_after_back x a c) is
+    ∙ same_desk z (k.history ++ back_record a c ∷ []) n.history (slice_set (outs_of (replay k)) a None) (outs_of (replay n))
+    (sym (ap (λ (x : BootAndHistory). x.history) made ∙ ap (λ i. k.history ++ record_of i (recorded.Back o.count) ∷ []) who ∙ ap (λ i. k.history ++ back_record a i ∷ []) count))
+    (sym (back_outs (replay k) (replay n) b l o held (world l held) ∙ ap (λ i. slice_set (outs_of (replay k)) i None) who))
+
+-- a call that was recorded
+pub accepted_by : (boot : World) (k n : BootAndHistory) (s t : SeatView) (b : ℕ) (e : Recorded) (holding : Option Out) (IsAnswered : World → Answer → Type 0) → k.boot ≡ boot → IsPrefix s.seen k.history → s.mine ≡ part_of k.history s.actor → b ≡ s.actor → n ≡ with_record k b e
+    → t ≡ recorded_seat s k e holding → AreAccepted n.boot (events_of_history n.history) → IsAnswered (replay k) (event_answer (world_after_events (replay k) (steps_of b e)) b (event_of e)) → IsAcceptedCall boot s t e holding IsAnswered
+accepted_by boot k n s t b e holding IsAnswered is front mine who made now all after =
+    let r = record_of s.actor e in
+    let seen : t.seen ≡ k.history ++ r ∷ [] = ap (λ (u : SeatView). u.seen) now in
+    let actor : t.actor ≡ s.actor = ap (λ (u : SeatView). u.actor) now in
+    let own : t.mine ≡ s.mine ++ r ∷ [] = ap (λ (u : SeatView). u.mine) now in
+    let accepted = last_accepted k n b e made all in
+    let x = event_answer (world_after_events (replay k) (steps_of b e)) b (event_of e) in
+    let same : n.history ≡ t.seen = ap (λ (m : BootAndHistory). m.history) made ∙ ap (λ i. k.history ++ record_of i e ∷ []) who ∙ sym seen in
+    record {
+      history = subst (λ c. IsAcceptedHistory c t.seen) (ap (λ (m : BootAndHistory). m.boot) made ∙ is) (subst (IsAcceptedHistory n.boot) same all);
+      follows = record {
+        table = ap (λ (u : SeatView). u.table) now;
+        actor = actor;
+        seen = subst (IsPrefix s.seen) (sym seen) (prefix_trans s.seen k.history (k.history ++ r ∷ []) front (r ∷ [], refl));
+        own = own ∙ ap (λ l. l ++ r ∷ []) mine ∙ sym (part_own k.history s.actor e) ∙ ap (λ h. part_of h s.actor) (sym seen) ∙ ap (part_of t.seen) (sym actor);
+      };
+      mine = own;
+      held = ap (λ (u : SeatView). u.held) now;
+      before = k.history;
+      ends = seen;
+      later = front;
+      allowed = subst (λ c. AreAccepted (world_after c k.history) (events_of s.actor e)) is (subst (λ i. AreAccepted (replay k) (events_of i e)) who accepted);
+      answer = x;
+      moves = subst (λ c. move (world_after_events (world_after c k.history) (steps_of s.actor e)) s.actor (event_of e) ≡ (Ok x, world_after c t.seen)) is
+          (subst (λ i. move (world_after_events (replay k) (steps_of i e)) i (event_of e) ≡ (Ok x, world_after k.boot t.seen)) who
+          (moved_by k b e accepted ∙ ap (λ u. let r : Result Answer Refusal × World = (Ok x, u) in r) (ap replay (sym made) ∙ ap (λ c. world_after c n.history) (ap (λ (m : BootAndHistory). m.boot) made) ∙ ap (world_after k.boot) same)));
+      answered = subst (λ c. IsAnswered (world_after c k.history) x) is after;
+    }
+
+-- a call that recorded nothing: the seat was shown the history
+shown_follows : (k : BootAndHistory) (s : SeatView) → IsPrefix s.seen k.history → s.mine ≡ part_of k.history s.actor → Follows s (seat_seeing s k.history)
+shown_follows k s front own = record { table = refl; actor = refl; seen = front; own = own }
+
+seat_shown : (z : TableId) (k : BootAndHistory) (d : DeskView) (s t : SeatView) → d ≡ desk_beside z k → t ≡ seat_seeing s d.history → seat_seeing s k.history ≡ t
+seat_shown z k d s t is shown = sym (shown ∙ ap (λ (y : DeskView). seat_seeing s y.history) is)
+
+pub refused_by : (boot : World) (z : TableId) (k : BootAndHistory) (d : DeskView) (s t : SeatView) (b : ℕ) (e : Event) (r : Refusal) → k.boot ≡ boot → d ≡ desk_beside z k → IsSeatOf s d → t ≡ seat_seeing s d.history
+    → b ≡ t.actor → IsAcceptedHistory k.boot k.history → event_refusal (replay k) b e ≡ Some r → IsRefusedCall boot s t e r
+refused_by boot z k d s t b e r is desk known shown who all refused =
+    let seat = seat_shown z k d s t desk shown in
+    let here = known_by z k d s desk known in
+    let same : b ≡ s.actor = who ∙ ap (λ (x : SeatView). x.actor) (sym seat) in
+    subst (λ w. IsRefusedCall w s t e r) is (subst (λ (x : SeatView). IsRefusedCall k.boot s x e r) seat record {
+      follows = shown_follows k s here.0 here.1;
+      history = all;
+      mine = refl;
+      held = refl;
+      refused = ap (λ i. event_refusal (replay k) i e) (sym same) ∙ refused;
+    })
+
+pub rest_by : (boot : World) (z : TableId) (k : BootAndHistory) (d : DeskView) (s t : SeatView) (rest : Bool) → k.boot ≡ boot → d ≡ desk_beside z k → IsSeatOf s d → t ≡ seat_seeing s d.history
+    → IsAcceptedHistory k.boot k.history → rest ≡ at_rest (replay k) → IsRestCall boot s t rest
+rest_by boot z k d s t rest is desk known shown all answered =
+    let here = known_by z k d s desk known in
+    subst (λ w. IsRestCall w s t rest) is (subst (λ (x : SeatView). IsRestCall k.boot s x rest) (seat_shown z k d s t desk shown) record {
+      follows = shown_follows k s here.0 here.1;
+      history = all;
+      mine = refl;
+      held = refl;
+      lent = here.2;
+      answered = answered;
+    })
+
+-- what was lent
+pub lent_by : (boot : World) (n : BootAndHistory) (t : SeatView) (l : LoanView) (a : ℕ) (o : Out) → n.boot ≡ boot → t.seen ≡ n.history → t.actor ≡ a → l ≡ new_loan a o → (x : HeldProcess) × (held_by (replay n) a ≡ Some x) × (x.out ≡ o)
+    → IsLentAt (world_after boot t.seen) t.actor l
+lent_by boot n t l a o is seen who made lent =
+    let same : l.lent ≡ o = ap (λ (m : LoanView). m.lent) made in
+    record {
+      actor = ap (λ (m : LoanView). m.actor) made ∙ sym who;
+      fresh = ap (λ (m : LoanView). m.out) made ∙ sym same;
+      lends = (
+        lent.0,
+        ap (λ h. held_by (world_after boot h) t.actor) seen ∙ ap (λ b. held_by (world_after b n.history) t.actor) (sym is) ∙ ap (held_by (replay n)) who ∙ lent.1,
+        lent.2 ∙ sym same,
+      );
+    }

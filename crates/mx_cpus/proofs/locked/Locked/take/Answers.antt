@@ -1,0 +1,38 @@
+use Rattle.std.proofs.Common.{◌≡◌, ◌∙◌, ◌++◌, ◌∷◌, [], Some, sym, ap, subst}
+use Rattle.mx_machine.specs.declared.history.Recorded.TheVariants as recorded
+use Rattle.mx_machine.specs.declared.events.Event.TheVariants as events
+use Rattle.mx_machine.specs.World.{World}
+use Rattle.mx_loan.specs.Seats.{LoanView, SeatView, new_loan, take_record}
+use Rattle.mx_cpus.specs.Calls.{IsAcceptedCall}
+use Rattle.mx_cpus.proofs.SeatLemmas.{accepted_by, known_by, lent_by, refused_by, seat_of_take}
+use Rattle.mx_cpus.proofs.locked.Locked.take.Goals as goal
+
+pub returns-in-Ok-clause-ok : goal.returns-in-Ok-clause-ok
+returns-in-Ok-clause-ok g c =
+    let z = g.M.Naming.table in
+    let b = g.M.Naming.boot in
+    let k = c.self.inside.kernel in
+    let d = c.self.inside.desk in
+    let n = c.take.new.self in
+    let s = c.args.seat in
+    let t = c.lend-seat.result.0 in
+    let out = c.in-Ok.out in
+    let is = c.self.invariant.2 in
+    let ok = c.in-Ok.ensures.ok in
+    let seat = c.note-seat.ensures.seat in
+    let loan = c.lend-seat.ensures.loan in
+    let known = known_by z k d s is c.note-seat.ensures.known in
+    let who = c.actor.ensures ∙ ap (λ (x : SeatView). x.actor) seat in
+    let now = seat_of_take z k d c.note-seat.new.self c.lend-seat.new.self s c.note-seat.result t out is seat c.note-seat.ensures.desk c.lend-seat.ensures.desk c.lend-seat.ensures.seat in (
+      subst (λ o. IsAcceptedCall b s t recorded.Take (Some o) (λ w answer. Unit {0})) (sym (ap (λ (l : LoanView). l.lent) loan))
+          (accepted_by b k n s t c.actor.result recorded.Take (Some out) (λ w answer. Unit {0}) c.self.invariant.0 known.0 known.1 who ok.recorded now c.opened-in-Ok.ensures.accepted tt),
+      lent_by b n t c.lend-seat.result.1 c.actor.result out (ap (λ m. m.boot) ok.recorded ∙ c.self.invariant.0)
+          (ap (λ (x : SeatView). x.seen) now ∙ ap (λ i. k.history ++ take_record i ∷ []) (sym who) ∙ sym (ap (λ m. m.history) ok.recorded))
+          (ap (λ (x : SeatView). x.actor) now ∙ sym who)
+          (loan ∙ ap (λ i. new_loan i out) (ap (λ (x : SeatView). x.actor) seat ∙ sym who)) c.in-Ok.ensures.lent,
+    )
+
+pub returns-in-Err-clause-err : goal.returns-in-Err-clause-err
+returns-in-Err-clause-err g c =
+    refused_by g.M.Naming.boot g.M.Naming.table c.self.inside.kernel c.self.inside.desk c.args.seat c.note-seat.result c.actor.result events.Take c.in-Err.refusal c.self.invariant.0 c.self.invariant.2
+    c.note-seat.ensures.known c.note-seat.ensures.seat c.actor.ensures c.opened.ensures.accepted c.in-Err.ensures.err.0

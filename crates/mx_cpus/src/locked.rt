@@ -1,0 +1,134 @@
+//! The kernel and its desk, as they lie under the lock.
+
+ghost use Rattle.std.specs.Prelude.{◌≡◌, true, IfOk, IfErr};
+ghost use Rattle.mx_machine.specs.declared.events.Event.TheVariants as events;
+ghost use Rattle.mx_machine.specs.KernelState.{is_for_all};
+ghost use Rattle.mx_cpus.specs.Calls.{Follows, IsAnsweredCall, IsGiveCall, IsLoanOf, IsLocked};
+ghost use Rattle.mx_cpus.specs.Calls.{IsRefusedCall, IsRestCall, IsSameSeat, IsTakeCall, StandsIn};
+
+use crate::naming::Naming;
+use mx_loan::{ActorSeat, Desk, Loan};
+use mx_machine::{Answer, Event, Kernel, Refusal, actors_stay, recorded_as};
+use std::marker::{Model, PhantomData};
+
+/// What lies under the lock: the kernel, in the state to which its history leads, and its desk,
+/// which has this history and lends what that state shows as out. Contracts see the kernel.
+pub struct Locked<M: Naming> {
+    kernel: Kernel,
+    desk: Desk,
+    of: PhantomData<M>,
+}
+
+impl<M: Naming> Model for Locked<M> {
+    ghost use Rattle.mx_machine.specs.History.{BootAndHistory};
+    ghost use Rattle.mx_cpus.specs.Calls.{IsLocked};
+
+    ghost Value = { BootAndHistory };
+
+    ghost view = { λ l. l.kernel };
+
+    ghost invariant = { λ l. IsLocked M.table M.boot l.kernel l.desk };
+}
+
+#[tactic(auto, using(crate::proofs::WorldLemmas::take_below, crate::proofs::WorldLemmas::take_empty, crate::proofs::WorldLemmas::take_outs, crate::proofs::WorldLemmas::take_fresh, crate::proofs::WorldLemmas::event_outs))]
+impl<M: Naming> Locked<M> {
+    /// What the lock guards: a kernel, and the desk that agrees with it.
+    pub fn new(kernel: Kernel, desk: Desk) -> Locked<M>
+        requires { IsLocked M.table M.boot kernel desk }
+        ensures { result ≡ kernel }
+    {
+        Locked {
+            kernel,
+            desk,
+            of: PhantomData,
+        }
+    }
+
+    /// The kernel that the lock guarded, in the state to which its history leads.
+    pub fn into_kernel(self) -> Kernel
+        ensures kernel { result ≡ self }
+        ensures boot { result.boot ≡ M.boot }
+    {
+        let Locked {
+            kernel,
+            desk: _,
+            of: _,
+        } = self;
+        kernel
+    }
+
+    /// The seat sees the history as the lock has it now.
+    pub fn show(&mut self, seat: ActorSeat) -> ActorSeat
+        requires table { seat.table ≡ M.table }
+        ensures kernel { self.new ≡ self.old }
+        ensures stands { StandsIn self.old.history seat }
+        ensures follows { Follows seat result }
+        ensures same { IsSameSeat seat result }
+    {
+        self.desk.note(seat)
+    }
+
+    /// Whether nothing is ready, nothing is out, and no slot that is down can be respawned. What the seat
+    /// holds is what the machine shows as out.
+    pub fn at_rest(&mut self, seat: ActorSeat) -> (ActorSeat, bool)
+        requires table { seat.table ≡ M.table }
+        ensures { IsRestCall M.boot seat result.0 result.1 }
+    {
+        self.kernel.opened();
+        (self.desk.note(seat), self.kernel.at_rest())
+    }
+
+    /// A processor takes the process that is first to run.
+    pub fn take(&mut self, seat: ActorSeat) -> (ActorSeat, Result<Loan, Refusal>)
+        requires table { seat.table ≡ M.table }
+        ensures ok { IfOk result.1 (λ l. IsTakeCall M.boot seat result.0 l) }
+        ensures err { IfErr result.1 (λ r. IsRefusedCall M.boot seat result.0 events.Take r) }
+    {
+        // The seat sees the history first, also if the take is refused.
+        let seat = self.desk.note(seat);
+        self.kernel.opened();
+        match self.kernel.take(seat.actor()) {
+            Ok(out) => {
+                self.kernel.opened();
+                let (seat, loan) = self.desk.lend(seat, out);
+                (seat, Ok(loan))
+            }
+            Err(refusal) => (seat, Err(refusal)),
+        }
+    }
+
+    /// A processor brings back its loan to the locked kernel.
+    pub fn give(&mut self, seat: ActorSeat, loan: Loan) -> ActorSeat
+        requires table { seat.table ≡ M.table }
+        requires loan { IsLoanOf seat loan }
+        ensures { IsGiveCall M.boot seat result loan }
+    {
+        let actor = seat.actor();
+        // By the desk's contract this is what was lent, after the steps that it counts.
+        let (seat, out) = self.desk.redeem(seat, loan);
+        self.kernel.back(actor, out);
+        self.kernel.opened();
+        seat
+    }
+
+    /// An actor raises a line, lets the clock tick, kills a process or respawns a slot.
+    pub fn event(&mut self, seat: ActorSeat, event: Event) -> (ActorSeat, Result<Answer, Refusal>)
+        requires table { seat.table ≡ M.table }
+        requires event { is_for_all event ≡ true }
+        ensures ok { IfOk result.1 (λ x. IsAnsweredCall M.boot seat result.0 event x) }
+        ensures err { IfErr result.1 (λ r. IsRefusedCall M.boot seat result.0 event r) }
+    {
+        actors_stay();
+        // The seat sees the history first, also if the event is refused.
+        let seat = self.desk.note(seat);
+        seat.opened();
+        self.kernel.opened();
+        match self.kernel.event(seat.actor(), event) {
+            Ok(answer) => {
+                self.kernel.opened();
+                (self.desk.record(seat, recorded_as(event)), Ok(answer))
+            }
+            Err(refusal) => (seat, Err(refusal)),
+        }
+    }
+}

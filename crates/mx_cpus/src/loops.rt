@@ -1,0 +1,181 @@
+//! What a processor does, turn after turn, and the respawner, round after round.
+
+ghost use Rattle.std.specs.Prelude.{◌≡◌, ◌<◌, true, None, if◌then◌else◌, length, nat_lt};
+ghost use Rattle.mx_cpus.specs.Courses.{IsProcessorRun, IsRespawnerRun};
+ghost use Rattle.mx_cpus.specs.Loops.{HasMadeTurns, HasTickedAndRespawned};
+ghost use Rattle.mx_cpus.specs.Progresses.{IsRoundTo, IsSweepTo};
+
+use crate::gate::Gate;
+use crate::progress::Progress;
+use crate::side::{Door, FreeSide};
+use crate::{ActorSeat, Naming, Shared};
+use mx_machine::{Held, Refusal};
+use std::sync::Wait;
+
+/// A processor's turns, and its questions to the gate if nothing is ready.
+#[tactic(auto, using(crate::proofs::LoopLemmas::processor_made))]
+pub(crate) fn make_turns<M: Naming, G: Gate, R: Wait>(
+    rt: &R,
+    shared: &Shared<M>,
+    seat: ActorSeat,
+    door: &Door<'_, G>,
+    side: FreeSide,
+) -> (ActorSeat, FreeSide)
+    requires table { seat.table ≡ M.table }
+    requires empty { seat.held ≡ None }
+    requires actor { side.actor ≡ seat.actor }
+    requires turn { side.turn ≡ 0 }
+    requires goes_on { side.goes_on ≡ true }
+    ensures made { HasMadeTurns seat result.0 }
+    ensures course { IsProcessorRun M.boot (G.was_called door.now.gate.now) seat result.0 }
+    ensures side { result.1.actor ≡ seat.actor }
+{
+    seat.opened();
+    let mut seat = seat;
+    let mut side = side;
+    for _ in rt.forever() {
+        let (next, taken) = shared.take(rt, seat);
+        match taken {
+            Ok(mut loan) => {
+                let holding = side.report_loan(door, &loan);
+                // No budget is larger, so it runs until its budget is spent or it stops.
+                let _stop = loan.run(u32::MAX);
+                seat = shared.give(rt, next, loan);
+                side = holding.report_return(door, &seat);
+            }
+            Err(refusal) => {
+                if let Refusal::LogFull = refusal {
+                    return (next, side);
+                }
+                let (next, at_rest) = shared.at_rest(rt, next);
+                seat = next;
+                side = side.ask(door, at_rest);
+                if !side.goes_on() {
+                    return (seat, side);
+                }
+            }
+        }
+    }
+    unreachable!()
+}
+
+/// A processor takes a process, runs it until its budget is spent or it stops, and gives it back,
+/// again and again. If nothing is ready, the gate decides whether the loop goes on. It ends at a
+/// full history too. Takes no memory.
+pub fn processor<M: Naming, G: Gate, R: Wait>(
+    rt: &R,
+    shared: &Shared<M>,
+    seat: ActorSeat,
+    gate: &G,
+) -> ActorSeat
+    requires table { seat.table ≡ M.table }
+    requires processor { seat.actor < length M.boot.cpus }
+    requires empty { seat.held ≡ None }
+    ensures made { HasMadeTurns seat result }
+    ensures course { IsProcessorRun M.boot (G.was_called gate.now) seat result }
+{
+    let door = Door::new(gate);
+    let side = FreeSide::new(seat.actor());
+    let (seat, side) = make_turns(rt, shared, seat, &door, side);
+    side.leave();
+    seat
+}
+
+/// How many slots a machine may have.
+const SLOTS: u32 = 32;
+
+/// Respawns each slot that is down and not worn, in turn.
+fn sweep<M: Naming, R: Wait>(rt: &R, shared: &Shared<M>, seat: ActorSeat) -> (ActorSeat, Progress)
+    requires table { seat.table ≡ M.table }
+    ensures { IsSweepTo M.boot seat result.0 result.1 }
+{
+    let mut seat = seat;
+    for slot in 0..SLOTS {
+        let (next, answer) = shared.respawn(rt, seat, slot);
+        seat = next;
+        // Another refusal, as of a slot that isn't down, doesn't end the sweep.
+        if let Err(Refusal::LogFull) = answer {
+            return (seat, Progress::Full);
+        }
+    }
+    (seat, Progress::GoesOn)
+}
+
+/// One tick, if `left` are left and not none, and one sweep.
+fn make_round<M: Naming, R: Wait>(
+    rt: &R,
+    shared: &Shared<M>,
+    seat: ActorSeat,
+    left: u32,
+) -> (ActorSeat, Progress)
+    requires table { seat.table ≡ M.table }
+    ensures { IsRoundTo M.boot left seat result.0 result.1 }
+{
+    if left == 0 {
+        return sweep(rt, shared, seat);
+    }
+    let (seat, ticked) = shared.tick(rt, seat);
+    // A tick is refused only at a full history.
+    if ticked.is_err() {
+        return (seat, Progress::Full);
+    }
+    sweep(rt, shared, seat)
+}
+
+/// The respawner's rounds, and its questions of the gate.
+pub(crate) fn make_rounds<M: Naming, G: Gate, R: Wait>(
+    rt: &R,
+    shared: &Shared<M>,
+    seat: ActorSeat,
+    door: &Door<'_, G>,
+    side: FreeSide,
+    ticks: u32,
+) -> (ActorSeat, FreeSide)
+    requires table { seat.table ≡ M.table }
+    requires actor { side.actor ≡ seat.actor }
+    requires goes_on { side.goes_on ≡ true }
+    ensures made { HasTickedAndRespawned ticks seat result.0 }
+    ensures course { IsRespawnerRun M.boot (G.was_called door.now.gate.now) ticks seat result.0 }
+    ensures side { result.1.actor ≡ seat.actor }
+{
+    seat.opened();
+    let mut seat = seat;
+    let mut side = side;
+    let mut left = ticks;
+    for _ in rt.forever() {
+        let (next, progress) = make_round(rt, shared, seat, left);
+        left = left.saturating_sub(1);
+        match progress {
+            Progress::Full => return (next, side),
+            Progress::GoesOn => {}
+        }
+        let (next, at_rest) = shared.at_rest(rt, next);
+        seat = next;
+        side = side.ask(door, at_rest);
+        if !side.goes_on() {
+            return (seat, side);
+        }
+    }
+    unreachable!()
+}
+
+/// Makes rounds: in each one tick, while some are left, and one sweep over the slots, in which each
+/// that is down and not worn is respawned. After each round the gate decides whether the loop goes
+/// on. It ends at a full history too. Takes no memory.
+pub fn respawner<M: Naming, G: Gate, R: Wait>(
+    rt: &R,
+    shared: &Shared<M>,
+    seat: ActorSeat,
+    gate: &G,
+    ticks: u32,
+) -> ActorSeat
+    requires table { seat.table ≡ M.table }
+    ensures made { HasTickedAndRespawned ticks seat result }
+    ensures course { IsRespawnerRun M.boot (G.was_called gate.now) ticks seat result }
+{
+    let door = Door::new(gate);
+    let side = FreeSide::new(seat.actor());
+    let (seat, side) = make_rounds(rt, shared, seat, &door, side, ticks);
+    side.leave();
+    seat
+}

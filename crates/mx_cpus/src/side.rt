@@ -1,0 +1,135 @@
+//! An actor's side of the gate: which call a loop may make when. A loop has no other way to the gate.
+
+ghost use Rattle.std.specs.Prelude.{◌≡◌, ◌+◌, ◌-◌, ◌^◌, true, None, min};
+ghost use Rattle.mx_cpus.specs.Gates.{held_call, given_call, again_call, ended_call};
+
+use crate::gate::Gate;
+use crate::{ActorSeat, Loan};
+
+/// The gate as a loop has it: only an actor's side calls it.
+#[derive(Drop)]
+pub(crate) struct Door<'g, G: Gate> {
+    gate: &'g G,
+}
+
+impl<'g, G: Gate> Door<'g, G> {
+    pub(crate) fn new(gate: &'g G) -> Door<'g, G>
+        ensures { result.gate.now ≡ gate.now }
+    {
+        Door { gate }
+    }
+}
+
+/// The side of an actor that holds nothing.
+pub(crate) struct FreeSide {
+    actor: u8,
+    /// How many takes of it were accepted.
+    turn: u64,
+    /// The gate's last answer: the loop goes on.
+    goes_on: bool,
+}
+
+/// The side of an actor that holds a loan, of which the gate knows.
+pub(crate) struct HoldingSide {
+    actor: u8,
+    turn: u64,
+}
+
+impl FreeSide {
+    /// The side of an actor whose loop begins.
+    pub(crate) fn new(actor: u8) -> FreeSide
+        ensures { (result.actor ≡ actor) × (result.turn ≡ 0) × (result.goes_on ≡ true) }
+    {
+        FreeSide {
+            actor,
+            turn: 0,
+            goes_on: true,
+        }
+    }
+
+    /// Reports to the gate a loan that hasn't run yet.
+    pub(crate) fn report_loan<G: Gate>(self, door: &Door<'_, G>, loan: &Loan) -> HoldingSide
+        requires goes_on { self.goes_on ≡ true }
+        requires actor { loan.now.actor ≡ self.actor }
+        requires fresh { loan.now.out ≡ loan.now.lent }
+        ensures called { G.was_called door.now.gate.now (held_call self.actor self.turn) }
+        ensures side { (result.actor ≡ self.actor) × (result.turn ≡ self.turn) }
+    {
+        let _loan = loan;
+        let FreeSide {
+            actor,
+            turn,
+            goes_on: _,
+        } = self;
+        door.gate.held(actor, turn);
+        HoldingSide { actor, turn }
+    }
+
+    /// Asks the gate whether the loop goes on.
+    pub(crate) fn ask<G: Gate>(self, door: &Door<'_, G>, at_rest: bool) -> FreeSide
+        requires goes_on { self.goes_on ≡ true }
+        ensures called { G.was_called door.now.gate.now (again_call self.actor at_rest result.goes_on) }
+        ensures side { (result.actor ≡ self.actor) × (result.turn ≡ self.turn) }
+    {
+        let FreeSide {
+            actor,
+            turn,
+            goes_on: _,
+        } = self;
+        let goes_on = door.gate.again(actor, at_rest);
+        FreeSide {
+            actor,
+            turn,
+            goes_on,
+        }
+    }
+
+    /// The gate's last answer.
+    pub(crate) fn goes_on(&self) -> bool
+        ensures { result ≡ self.now.goes_on }
+    {
+        self.goes_on
+    }
+
+    /// Reports to the gate that the loop has ended.
+    pub(crate) fn report_end<G: Gate>(self, door: &Door<'_, G>)
+        ensures { G.was_called door.now.gate.now (ended_call self.actor) }
+    {
+        let FreeSide {
+            actor,
+            turn: _,
+            goes_on: _,
+        } = self;
+        door.gate.ended(actor);
+    }
+
+    /// Leaves it to the caller to report the end to the gate.
+    pub(crate) fn leave(self) {
+        let FreeSide {
+            actor: _,
+            turn: _,
+            goes_on: _,
+        } = self;
+    }
+}
+
+impl HoldingSide {
+    /// Reports to the gate that the loan was given back, by the seat that came back for it.
+    pub(crate) fn report_return<G: Gate>(self, door: &Door<'_, G>, seat: &ActorSeat) -> FreeSide
+        requires actor { seat.now.actor ≡ self.actor }
+        requires back { seat.now.held ≡ None }
+        ensures called { G.was_called door.now.gate.now (given_call self.actor) }
+        ensures actor { result.actor ≡ self.actor }
+        ensures turn { result.turn ≡ min (self.turn + 1) (2 ^ 64 - 1) }
+        ensures goes_on { result.goes_on ≡ true }
+    {
+        let _seat = seat;
+        let HoldingSide { actor, turn } = self;
+        door.gate.given(actor);
+        FreeSide {
+            actor,
+            turn: turn.saturating_add(1),
+            goes_on: true,
+        }
+    }
+}

@@ -1,4 +1,0 @@
-pub mod Same
-pub mod Senders
-pub mod Apart
-pub mod Laws

@@ -1,0 +1,12 @@
+pub mod Same
+pub mod Senders
+pub mod Apart
+pub mod Laws
+pub mod Diary
+pub mod Items
+pub mod Diaries
+pub mod Runs
+pub mod Entries
+pub mod DiaryLaws
+pub mod Told
+pub mod Made

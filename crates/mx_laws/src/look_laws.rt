@@ -1,0 +1,32 @@
+//! The laws. They have no code: they state that the facts from two glances are what the event
+//! between them did.
+//!
+//! # What an event delivers
+//!
+//! It is what is recorded after the event in this world without recorded deliveries. That an event
+//! makes these deliveries whatever is recorded before is shown first.
+
+ghost use Rattle.std.specs.Prelude.{ℕ};
+ghost use Rattle.mx_machine.specs.declared.history.Record.{Record};
+ghost use Rattle.mx_machine.specs.World.{World};
+ghost use Rattle.mx_laws.specs.Made.{ToldAreMade};
+ghost use Rattle.mx_laws.specs.Told.{IsMadeIn, IsServed, ToldGoneOn};
+
+use crate::diaries_tell_images;
+
+/// Law: a slot has gone on with a result, in the facts of a record, exactly if the event of the
+/// record put that result into its EAX.
+pub fn told_gone_on()
+    ensures { (w : World) (n : ℕ) (x : Record) (s : ℕ) → IsMadeIn w x → IsServed w x s
+        → ToldGoneOn w n x s }
+{
+    diaries_tell_images();
+}
+
+/// Law: the deliveries in the facts of a record are those that its event makes, each with the slot
+/// that it came to.
+pub fn told_are_made()
+    ensures { (w : World) (n : ℕ) (x : Record) → IsMadeIn w x → ToldAreMade w n x }
+{
+    diaries_tell_images();
+}

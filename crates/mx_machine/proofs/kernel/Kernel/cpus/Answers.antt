@@ -1,0 +1,10 @@
+use Rattle.std.proofs.Common.{Option, None, refl}
+use Rattle.std.proofs.lemmas.List.{length-replicate}
+use Rattle.mx_machine.specs.World.{HeldProcess}
+use Rattle.mx_machine.proofs.ReplayLemmas.{cpus-is}
+use Rattle.mx_machine.proofs.kernel.Kernel.cpus.Goals as goal
+
+pub returns : goal.returns
+returns c =
+    let p = c.self.inside.processors in
+    cpus-is _ _ p _ _ c.self.view_is c.self.invariant refl (length-replicate {A = Option HeldProcess} p None)

@@ -1,0 +1,95 @@
+//! The events of a machine, the answers to them, and the reasons to refuse them.
+
+ghost use Rattle.std.specs.Prelude.{◌≡◌};
+ghost use Rattle.mx_machine.specs.Refusals.{code_of_refusal, name_of_refusal};
+
+use mx_image::Outcome;
+use mx_kcall::Endpoint;
+
+/// What an actor does to a machine. Only a processor can make a `Step`, a `Take` or a `Back`. Every
+/// actor, and so a processor too, can make the other four events.
+#[derive(Clone, Copy, PartialEq, Eq)]
+pub enum Event {
+    /// The processor makes one step (one instruction) of its process.
+    Step,
+    /// The processor takes the process at the front of the highest ready list that isn't empty. List 0
+    /// is the highest.
+    Take,
+    /// The processor brings its process back to the table.
+    Back,
+    /// The actor raises the interrupt line with this number, 0 to 15.
+    Line(u32),
+    /// The clock ticks once.
+    Tick,
+    /// The actor kills the process with this endpoint. If that process is on a processor, it dies at its
+    /// `Back`.
+    Kill(u32),
+    /// The actor gives the slot with this number a new process. The old process must be dead.
+    Respawn(u32),
+}
+
+/// What the machine answers to an accepted event.
+#[derive(Clone, Copy, PartialEq, Eq)]
+pub enum Answer {
+    /// To `Step`: how the step ended.
+    Went(Outcome),
+    /// To `Take`: the endpoint of the process, and its budget. The budget is how many steps it may make
+    /// before it has to come back.
+    Taken(Endpoint, u32),
+    /// To `Back`: how many steps the process made since its `Take`.
+    Returned(u32),
+    /// To `Line`, `Tick` and `Kill`: the event is made, and the answer has nothing else.
+    Done,
+    /// To `Respawn`: the endpoint of the new process.
+    Respawned(Endpoint),
+}
+
+/// Why the machine refuses an event. A refused event changes nothing.
+#[derive(Clone, Copy, PartialEq, Eq)]
+pub enum Refusal {
+    /// `Respawn`: the slot's process isn't dead.
+    NotDown = 40,
+    /// `Respawn`: the slot has no restart left, or its dead process was of the last generation.
+    Worn = 41,
+    /// `Respawn`: the slot has no service, because there is no such slot.
+    NoService = 42,
+    /// `Take`: there is no such processor, or it has a process already.
+    CpuBusy = 50,
+    /// `Step` and `Back`: there is no such processor, or it has no process.
+    CpuEmpty = 51,
+    /// `Take`: fewer than two records are free, one for the `Take` and one for its `Back`. `Line`,
+    /// `Tick`, `Kill` and `Respawn`: no record is free.
+    LogFull = 52,
+    /// `Line`: there is no such interrupt line, or no process owns it.
+    NoLine = 53,
+    /// `Take`: no process is ready. `Kill`: no process that is alive has the endpoint.
+    NoProcess = 54,
+    /// `Step`: the last step was a trap or a fault, or the process has spent its budget.
+    AtStop = 55,
+}
+
+impl Refusal {
+    /// The number of this reason: 52 for `LogFull`, for example.
+    pub fn code(self) -> u8
+        ensures { result ≡ code_of_refusal self }
+    {
+        self as u8
+    }
+
+    /// The name of this reason, as a text: `LogFull`, for example.
+    pub fn name(self) -> &'static str
+        ensures { result.now ≡ name_of_refusal self }
+    {
+        match self {
+            Refusal::NotDown => "NotDown",
+            Refusal::Worn => "Worn",
+            Refusal::NoService => "NoService",
+            Refusal::CpuBusy => "CpuBusy",
+            Refusal::CpuEmpty => "CpuEmpty",
+            Refusal::LogFull => "LogFull",
+            Refusal::NoLine => "NoLine",
+            Refusal::NoProcess => "NoProcess",
+            Refusal::AtStop => "AtStop",
+        }
+    }
+}

@@ -1,5 +1,0 @@
-use Rattle.mx_machine_kernel.proofs.CurrentLemmas.{killed_holds}
-use Rattle.mx_machine_kernel.proofs.current.CurrentState.kill.Goals as goal
-
-pub invariant_of-self : goal.invariant_of-self
-invariant_of-self c = killed_holds _ _ _ c.self.view_is c.self.invariant c.kill.ensures.frame c.kill.ensures.console c.kill.ensures.settled c.in_ok-if_full.ensures.ok.1

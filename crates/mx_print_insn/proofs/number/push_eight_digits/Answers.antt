@@ -1,6 +1,0 @@
--- What `{:08x}` writes of a number of 32 bits.
-use Rattle.mx_print_insn.proofs.Padding.{padded_to_eight}
-use Rattle.mx_print_insn.proofs.number.push_eight_digits.Goals as goal
-
-pub returns : goal.returns
-returns c = rw (← padded_to_eight) (rw (c.laid_out.ensures, c.in_radix.ensures) at c.write.ensures.bytes)

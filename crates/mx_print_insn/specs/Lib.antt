@@ -1,4 +1,0 @@
-pub mod Numbers
-pub mod Operands
-pub mod Statement
-pub mod Listed
