@@ -74,8 +74,16 @@ fn help_asked(rt: HostRuntime) -> Result<(), Fail> {
 #[test]
 fn ends_of_texts(rt: HostRuntime) {
     for err in [false, true] {
-        let shown = Terminals { out: true, err };
-        let hidden = Terminals { out: false, err };
+        let shown = Terminals {
+            input: false,
+            out: true,
+            err,
+        };
+        let hidden = Terminals {
+            input: false,
+            out: false,
+            err,
+        };
         assert!(rt; shown.text_end(Some(b'1')) == "\n");
         assert!(rt; shown.text_end(Some(b'\n')).is_empty());
         assert!(rt; shown.text_end(None).is_empty());
@@ -87,8 +95,16 @@ fn ends_of_texts(rt: HostRuntime) {
 #[test]
 fn notes_of_symbols(rt: HostRuntime) {
     for out in [false, true] {
-        let shown = Terminals { out, err: true };
-        let hidden = Terminals { out, err: false };
+        let shown = Terminals {
+            input: false,
+            out,
+            err: true,
+        };
+        let hidden = Terminals {
+            input: false,
+            out,
+            err: false,
+        };
         assert!(rt; shown.symbols_note(PrintedText::Symbols, None) == "mx: no symbols\n");
         assert!(rt;
             shown

@@ -334,7 +334,7 @@ static DONE: &[Done] = &[
         words: &["mx", "trace", "--to", "2", "one", "whole", "--from", "2"],
         status: 0,
         printed: "2 0 back 3: a 0 trap 0 128\n\
-                  2   a 0: out -> ready, result -104 ECALLDENIED\n",
+                  2   a 0: out -> ready, result -104 ECALLDENIED (no call 0)\n",
         file: None,
     },
     Done {

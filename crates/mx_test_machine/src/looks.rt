@@ -71,7 +71,7 @@ static SESSIONS: &[Session] = &[
         typed: b"why\ngoto 2\nwhy\ngoto 1.3\nwhy\ngoto end\nwhy\nwhere\n",
         printed: "at 0 of 4, record 1: 0 take\nboot\n\
                   at 2 of 4, record 3: 0 take\n\
-                  2 0 back 3: a 0 trap 0 128\n2   a 0: out -> ready, result -104 ECALLDENIED\n\
+                  2 0 back 3: a 0 trap 0 128\n2   a 0: out -> ready, result -104 ECALLDENIED (no call 0)\n\
                   at 1.3 of 4, record 2: 0 back 3\n1 0 take: a 0 budget 5\n\
                   at 4 of 4, the end\n\
                   4 0 back 1: a 0 fault 13\n4   a 0: out -> down fault 13\n\
