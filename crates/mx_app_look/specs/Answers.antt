@@ -2,7 +2,7 @@
 use Rattle.std.specs.Prelude.{ℕ, zero, suc, ◌+◌, ◌-◌, ◌%◌, ◌^◌, ◌==◌, Bool, true, false, List, [], ◌∷◌, ◌++◌, codes, Option, Some, None, if◌then◌else◌, slice_get}
 use Rattle.mx_app_step.specs.Report.{report_text}
 use Rattle.mx_look_line.specs.declared.request.Request.{Request}
-use Rattle.mx_look_line.specs.declared.request.Request.TheVariants.{Nothing, Forward, Back, Step, StepBack, GoTo, Where, Why, Processes, Messages, Help, Quit}
+use Rattle.mx_look_line.specs.declared.request.Request.TheVariants.{Nothing, Forward, Back, Step, StepBack, GoTo, Where, Why, Processes, Messages, Show, Help, Quit}
 use Rattle.mx_look_trace.specs.Glances.{glance_of}
 use Rattle.mx_look_trace.specs.Step.{Step as Seen}
 use Rattle.mx_look_trace.specs.Trace.{record_text}
@@ -14,6 +14,7 @@ use Rattle.mx_walk.specs.Positions.{steps_in, world_at}
 use Rattle.mx_walk.specs.Walks.{Walk, world_here}
 use Rattle.mx_app_look.specs.Moves.{back_from, can_go, forward_from, position_asked, steps_back, steps_on}
 use Rattle.mx_app_look.specs.Places.{place_text}
+use Rattle.mx_app_look.specs.Shown.{shown_text}
 
 -- ---- what the record above did
 
@@ -80,5 +81,6 @@ request_text k Where = place_text k
 request_text k Why = why_text k
 request_text k Processes = processes_text (world_here k)
 request_text k Messages = delivery_lines (world_here k).table.deliveries
+request_text k (Show s) = shown_text k s
 request_text k Help = help_text
 request_text k Quit = []

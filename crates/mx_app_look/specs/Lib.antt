@@ -1,4 +1,5 @@
 pub mod Places
 pub mod Moves
+pub mod Shown
 pub mod Answers
 pub mod Sessions

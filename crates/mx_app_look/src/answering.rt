@@ -11,6 +11,7 @@ ghost use Rattle.mx_app_look.specs.Sessions.{after_by, after_line, answer_by, an
 
 use crate::moves::{back_from, can_go, forward_from, position_asked, steps_back, steps_on};
 use crate::places::{push_place, push_position};
+use crate::showing::push_shown;
 use crate::telling::{push_deliveries, push_processes, push_why};
 use mx_app_step::{Failure, print_text};
 use mx_look_line::{PositionWord, Request, push_unknown, request_of};
@@ -107,6 +108,10 @@ pub(crate) fn perform(
         }
         Request::Messages => {
             push_deliveries(alloc, out, &walker)?;
+            Ok(walker)
+        }
+        Request::Show(shown) => {
+            push_shown(alloc, out, &walker, shown)?;
             Ok(walker)
         }
         Request::Help => {

@@ -6,6 +6,7 @@ mod laws;
 mod moves;
 mod places;
 mod session;
+mod showing;
 mod telling;
 
 pub use laws::{one_session, why_is_traced};

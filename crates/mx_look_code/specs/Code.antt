@@ -40,6 +40,15 @@ abbrev pub part_of_front : ℕ → List ℕ → List ℕ
 part_of_front at [] = []
 part_of_front at (b ∷ bs) = part_by at b (front (b ∷ bs))
 
+abbrev pub size_by : Result (Insn × ℕ) DecodeFault → ℕ
+size_by (Ok p) = p.1
+size_by (Err e) = 1
+
+-- how many of these bytes that is
+abbrev pub size_of_front : List ℕ → ℕ
+size_of_front [] = 0
+size_of_front (b ∷ bs) = size_by (front (b ∷ bs))
+
 -- ---- THE LINE
 
 unfoldable pub code_line : List Symbol → Image → ℕ → List ℕ

@@ -2,7 +2,7 @@
 
 ghost use Rattle.std.specs.Prelude.{◌≡◌, ◌++◌, OnOk, codes, string_bytes, option_copied};
 ghost use Rattle.mx_dis.specs.Names.{name_text, visible_byte};
-ghost use Rattle.mx_look_code.specs.Code.{code_front, code_line, part_of_front, place_text, symbol_text};
+ghost use Rattle.mx_look_code.specs.Code.{code_front, code_line, part_of_front, place_text, size_of_front, symbol_text};
 
 use crate::nearest::nearest_symbol;
 use mx_aout::Symbol;
@@ -73,6 +73,28 @@ fn push_part(out: &mut String, at: u32, front: &[u8]) -> Result<(), AllocError>
             push_number(out, u32::from(*byte))
         }
     }
+}
+
+/// How many bytes the instruction has that these begin with: one if they begin with none, 0 if there are
+/// none.
+fn size_of_front(front: &[u8]) -> u32
+    ensures { result ≡ size_of_front front.now }
+{
+    if front.is_empty() {
+        return 0;
+    }
+    match decode(front) {
+        Ok((_, size)) => u32::from(size),
+        Err(_) => 1,
+    }
+}
+
+/// How many bytes the instruction at an address of a process has: one if none begins there, 0 where the
+/// code ends.
+pub fn part_size(image: &Image, at: u32) -> u32
+    ensures { result ≡ size_of_front (code_front image.now at) }
+{
+    size_of_front(image.code_segment().copy_of_front(at).as_slice())
 }
 
 /// Appends the line of the code at an address of a process: the address, the nearest of its program's

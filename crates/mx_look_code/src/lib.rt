@@ -4,5 +4,5 @@
 mod code;
 mod nearest;
 
-pub use code::push_code_line;
+pub use code::{part_size, push_code_line};
 pub use nearest::nearest_symbol;

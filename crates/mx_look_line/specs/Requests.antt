@@ -1,12 +1,14 @@
 -- What typed lines ask for (our own).
 use Rattle.std.specs.Prelude.{ℕ, ◌+◌, ◌==◌, Bool, List, [], ◌∷◌, length, take, drop, position, Option, Some, None, codes, if◌then◌else◌, nat_lt}
 use Rattle.std.specs.Str.{bytes_eq}
-use Rattle.mx_text.specs.Fields.{fields, only, ◌>>=◌}
+use Rattle.mx_text.specs.Fields.{fields, only, pair, ◌>>=◌}
 use Rattle.mx_boot_script.specs.Script.{count_field, only_count}
 use Rattle.mx_look_line.specs.declared.position_word.PositionWord.{PositionWord}
 use Rattle.mx_look_line.specs.declared.position_word.PositionWord.TheVariants.{Below, End}
 use Rattle.mx_look_line.specs.declared.request.Request.{Request}
 use Rattle.mx_look_line.specs.declared.request.Request.TheVariants as request
+use Rattle.mx_look_line.specs.declared.request.Shown.{Shown}
+use Rattle.mx_look_line.specs.declared.request.Shown.TheVariants as shown
 use Rattle.mx_look_line.specs.declared.verb.Verb.{Verb}
 use Rattle.mx_look_line.specs.declared.verb.Verb.TheVariants as verb
 use Rattle.mx_look_line.specs.Verbs.{verb_of}
@@ -39,6 +41,34 @@ abbrev pub without_fields : List (List ℕ) → Request → Option Request
 without_fields [] r = Some r
 without_fields (f ∷ fs) r = None
 
+-- a slot, or none
+abbrev pub slot_or_none : List (List ℕ) → Option (Option ℕ)
+slot_or_none [] = Some None
+slot_or_none (f ∷ fs) = do
+  s ← only_count (f ∷ fs)
+  Some (Some s)
+
+-- a slot, an address and how many bytes
+abbrev pub memory_by : List (List ℕ) → Option Shown
+memory_by [] = None
+memory_by (f ∷ fs) = do
+  s ← count_field f
+  p ← pair fs
+  m ← count_field p.0
+  n ← count_field p.1
+  Some (shown.Memory s m n)
+
+-- a slot and an address, a slot, or none
+abbrev pub code_by : List (List ℕ) → Option Shown
+code_by [] = Some (shown.Code None None)
+code_by (f ∷ []) = do
+  s ← count_field f
+  Some (shown.Code (Some s) None)
+code_by (f ∷ g ∷ fs) = do
+  s ← count_field f
+  m ← only_count (g ∷ fs)
+  Some (shown.Code (Some s) (Some m))
+
 -- what a line asks for that begins with a verb and goes on with these fields
 abbrev pub request_by : Verb → List (List ℕ) → Option Request
 request_by verb.Forward fs = do
@@ -60,6 +90,15 @@ request_by verb.GoTo fs = do
 request_by verb.Where fs = without_fields fs request.Where
 request_by verb.Why fs = without_fields fs request.Why
 request_by verb.Processes fs = without_fields fs request.Processes
+request_by verb.Registers fs = do
+  s ← slot_or_none fs
+  Some (request.Show (shown.Registers s))
+request_by verb.Memory fs = do
+  s ← memory_by fs
+  Some (request.Show s)
+request_by verb.Code fs = do
+  s ← code_by fs
+  Some (request.Show s)
 request_by verb.Messages fs = without_fields fs request.Messages
 request_by verb.Help fs = without_fields fs request.Help
 request_by verb.Quit fs = without_fields fs request.Quit

@@ -6,5 +6,5 @@ mod request;
 mod verb;
 
 pub use position_word::PositionWord;
-pub use request::{Request, request_of};
+pub use request::{Request, Shown, request_of};
 pub use verb::{Verb, push_unknown};

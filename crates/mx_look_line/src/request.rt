@@ -2,15 +2,27 @@
 
 ghost use Rattle.std.specs.Prelude.{◌≡◌};
 ghost use Rattle.mx_text.specs.Fields.{fields};
-ghost use Rattle.mx_look_line.specs.Requests.{count_or_one, request_by, request_of, without_fields};
+ghost use Rattle.mx_look_line.specs.Requests.{code_by, count_or_one, memory_by, request_by, request_of, slot_or_none, without_fields};
 
 use crate::position_word::{PositionWord, position_named};
 use crate::verb::{Verb, verb_named};
 use mx_boot_script::{count, only_count};
-use mx_text::{next_field, one_field};
+use mx_text::{next_field, one_field, two_fields};
 
 /// How many bytes a line has at most.
 const LONGEST: usize = 4096;
+
+/// What is shown of a slot's process. Without a slot it is the process on the processor whose record is
+/// below.
+#[derive(Clone, Copy, Debug, PartialEq, Eq)]
+pub enum Shown {
+    /// Its registers.
+    Registers(Option<u32>),
+    /// Of a slot's process, from an address on, that many bytes.
+    Memory(u32, u32, u32),
+    /// Its code, from an address or from the next instruction on.
+    Code(Option<u32>, Option<u32>),
+}
 
 /// What a typed line asks for.
 #[derive(Clone, Copy, Debug, PartialEq, Eq)]
@@ -35,6 +47,8 @@ pub enum Request {
     Processes,
     /// The deliveries that are kept.
     Messages,
+    /// What is shown of a slot's process.
+    Show(Shown),
     /// The commands.
     Help,
     /// The end of the session.
@@ -61,6 +75,42 @@ fn without_fields(line: &[u8], request: Request) -> Option<Request>
     }
 }
 
+/// The slot that is a line's only field, if it has a field.
+fn slot_or_none(line: &[u8]) -> Option<Option<u32>>
+    ensures { result ≡ slot_or_none (fields line.now) }
+{
+    match next_field(line) {
+        None => Some(None),
+        Some(_) => Some(Some(only_count(line)?)),
+    }
+}
+
+/// The slot, the address and the count that are a line's three fields.
+fn memory(line: &[u8]) -> Option<Shown>
+    ensures { result ≡ memory_by (fields line.now) }
+{
+    let (first, rest) = next_field(line)?;
+    let slot = count(first)?;
+    let (second, third) = two_fields(rest)?;
+    let from = count(second)?;
+    let bytes = count(third)?;
+    Some(Shown::Memory(slot, from, bytes))
+}
+
+/// The slot and the address that are a line's fields, as far as it has them.
+fn code(line: &[u8]) -> Option<Shown>
+    ensures { result ≡ code_by (fields line.now) }
+{
+    let Some((first, rest)) = next_field(line) else {
+        return Some(Shown::Code(None, None));
+    };
+    let slot = count(first)?;
+    match next_field(rest) {
+        None => Some(Shown::Code(Some(slot), None)),
+        Some(_) => Some(Shown::Code(Some(slot), Some(only_count(rest)?))),
+    }
+}
+
 /// What a line asks for that begins with a verb and goes on like this.
 fn request_by(verb: Verb, rest: &[u8]) -> Option<Request>
     ensures { result ≡ request_by verb (fields rest.now) }
@@ -74,6 +124,9 @@ fn request_by(verb: Verb, rest: &[u8]) -> Option<Request>
         Verb::Where => without_fields(rest, Request::Where),
         Verb::Why => without_fields(rest, Request::Why),
         Verb::Processes => without_fields(rest, Request::Processes),
+        Verb::Registers => Some(Request::Show(Shown::Registers(slot_or_none(rest)?))),
+        Verb::Memory => Some(Request::Show(memory(rest)?)),
+        Verb::Code => Some(Request::Show(code(rest)?)),
         Verb::Messages => without_fields(rest, Request::Messages),
         Verb::Help => without_fields(rest, Request::Help),
         Verb::Quit => without_fields(rest, Request::Quit),
