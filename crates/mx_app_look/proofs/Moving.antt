@@ -1,10 +1,10 @@
 -- Positions that requests lead to.
-use Rattle.std.proofs.Common.{◌≡◌, ◌∙◌, ◌≤◌, ◌<◌, ◌⊎◌, ℕ, zero, suc, ◌+◌, ◌-◌, eqb, ◌&&◌, cond, Bool, true, false, List, Option, Some, None, refl, ap, sym, subst, inl, inr, arith}
+use Rattle.std.proofs.Common.{◌≡◌, ◌∙◌, ◌≤◌, ◌<◌, ◌⊎◌, ℕ, zero, suc, ◌+◌, ◌-◌, eqb, ◌&&◌, cond, Bool, true, false, List, [], ◌∷◌, length, drop, Option, Some, None, slice_get, refl, ap, sym, subst, inl, inr, arith}
 use Rattle.std.proofs.lemmas.Bool.{cases_lt, ne_eqb}
 use Rattle.mx_machine_world.specs.declared.events.Event.{Event}
 use Rattle.mx_machine_world.specs.declared.history.Record.{Record}
 use Rattle.mx_walk.specs.declared.positions.Position.{Position}
-use Rattle.mx_walk.specs.Positions.{IsAbove, IsPosition, IsUpTo, event_below, first_steps, is_up_to, next_position, position_before}
+use Rattle.mx_walk.specs.Positions.{IsAbove, IsPosition, IsUpTo, event_below, first_steps, is_up_to, next_position, position_before, steps_in}
 use Rattle.mx_walk.specs.Walks.{Walk, first}
 use Rattle.mx_walk.proofs.Arriving.{has_event, not_itself}
 use Rattle.mx_walk.proofs.Next.{above_trans, is_position_too, next_up_to, up_to_of}
@@ -82,3 +82,31 @@ one_less n i lt = omega (arith, lt)
 
 pub none_left : (n i : ℕ) → n ≤ i → n - i ≡ 0
 none_left n i ge = omega (arith, ge)
+
+-- ---- a record above a position
+
+inside_by : (records : List Record) (n : ℕ) (x : Record) → slice_get records n ≡ Some x → n < length records
+inside_by [] n x e = absurd cc
+inside_by (y ∷ ys) zero x e = omega arith
+inside_by (y ∷ ys) (suc n) x e = let lt = inside_by ys n x e in omega (arith, lt)
+
+steps_by : (records : List Record) (n : ℕ) (x : Record) → slice_get records n ≡ Some x → first_steps (drop n records) ≡ steps_in x.event
+steps_by [] n x e = absurd cc
+steps_by (y ∷ ys) zero x e = let same : y ≡ x = cc in ap (λ (z : Record). steps_in z.event) same
+steps_by (y ∷ ys) (suc n) x e = steps_by ys n x e
+
+-- its steps are made, but not its own event
+pub begun_position : (records : List Record) (n : ℕ) (x : Record) → slice_get records n ≡ Some x → IsPosition records (record { records = n; steps = steps_in x.event })
+begun_position records n x e = record {
+  above = let lt = inside_by records n x e in omega (arith, lt);
+  inside = let same = steps_by records n x e in omega (arith, same);
+}
+
+pub begun_is_early : (n j : ℕ) (here last : Position) → n < here.records → IsUpTo here last → IsUpTo (record { records = n; steps = j }) last
+begun_is_early n j here last lt early =
+    let le = records_up_to here last early in
+    let less : n < last.records = omega (arith, lt, le) in inl less
+
+-- it is made
+pub made_position : (records : List Record) (n : ℕ) (x : Record) → slice_get records n ≡ Some x → IsPosition records (record { records = n + 1; steps = 0 })
+made_position records n x e = record { above = let lt = inside_by records n x e in omega (arith, lt); inside = omega arith }
