@@ -53,7 +53,7 @@ processes_text w = report_text w.table w.services ++ line_end (report_text w.tab
 -- ---- help
 
 abbrev pub help_text : List ℕ
-help_text = codes "forward [N]  on by N records           back [N]      back by N records\nstep [N]     on by N events            stepback [N]  back by N events\ngoto K       below K records           goto K.J      and J steps of the next\ngoto end     the last position         where         the position again\nwhy          what the record above did\nps           the report                messages      what was delivered\nhelp         this                      quit          the end\nA record stands for one event; back N stands for N steps of a process before it.\nA command may be shortened, as f, b or stepb. Without N it is 1.\n"
+help_text = codes "forward [N]  on by N records           back [N]      back by N records\nstep [N]     on by N events            stepback [N]  back by N events\ngoto K       below K records           goto K.J      and J steps of the next\ngoto end     the last position         where         the position again\nwhy          what the record above did\nps           the report                messages      what was delivered\nregs [S]     registers of slot S       mem S A N     N bytes of it from A on\nlist [S [A]] eight of its instructions, from A or from the next one on\nhelp         this                      quit          the end\nA record stands for one event; back N stands for N steps of a process before it.\nA command may be shortened, as f, b or stepb. Without N it is 1;\nwithout S the slot is that of the process on the processor whose record is next.\n"
 
 -- ---- REQUESTS
 
