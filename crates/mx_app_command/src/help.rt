@@ -255,8 +255,9 @@ $ printf 'goto 29\\nwhy\\nstep\\n' | mx look restart.config restart.log
 at 0 of 36, record 1: 0 take
 at 29 of 36, record 30: 0 back 6
 counter 1024 00000011 top+11 add dword [0x24], 0x1
-29 0 take: counter 1024 budget 93
-29.1 of 36
+29 0 take: counter 1024 budget 95
+at 29.1 of 36, record 30: 0 back 6
+counter 1024 00000018 top+18 mov eax, dword [0x24]
 
 A position is K, below K records, or K.J, below J steps of the next record as well.
 At a terminal each command is asked for with the position. Commands:
