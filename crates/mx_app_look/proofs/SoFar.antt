@@ -1,6 +1,6 @@
 -- A session so far: the lines that were typed, what was printed, and where one is.
 use Rattle.std.proofs.Common.{◌≡◌, ◌∙◌, ℕ, Bool, true, false, cond, List, [], ◌∷◌, ◌++◌, append_assoc, Option, codes, refl, ap, sym, subst}
-use Rattle.std.proofs.KnownBytes.{Appends-trans}
+use Rattle.std.proofs.KnownBytes.{Appends-nil, Appends-trans}
 use Rattle.std.proofs.lemmas.List.{append-nil}
 use Rattle.std.specs.Io.KnownBytes.{Appends}
 use Rattle.mx_walk.specs.Walks.{Walk}
@@ -49,6 +49,17 @@ module _ (asks : Bool) where
     pub printed : Appends out out_now (answers k typed)
     pub here : now ≡ reached k typed
     pub none : NoneEnds typed
+
+  pub nothing_yet : (k : Walk) (given : List (List ℕ)) (out : Option (List ℕ)) → SoFar k k given given out out
+  nothing_yet k given out = record { typed = []; lines = sym (append-nil given); printed = Appends-nil out; here = refl; none = tt }
+
+  -- no line is left
+  pub stays : (k now : Walk) (given g h : List (List ℕ)) (out o : Option (List ℕ)) → SoFar k now given g out o → h ≡ g → SoFar k now given h out o
+  stays k now given g h out o s same = record { typed = s.typed; lines = same ∙ s.lines; printed = s.printed; here = s.here; none = s.none }
+
+  -- the lines that were given, where an answer fails
+  pub given_more : (k now : Walk) (given g h : List (List ℕ)) (out o : Option (List ℕ)) (l : List ℕ) → SoFar k now given g out o → h ≡ g ++ l ∷ [] → (typed : List (List ℕ)) × (h ≡ given ++ typed)
+  given_more k now given g h out o l s more = (s.typed ++ l ∷ [], more ∙ ap (λ x. x ++ l ∷ []) s.lines ∙ append_assoc given s.typed (l ∷ []))
 
   more_lines : (given g h typed : List (List ℕ)) (l : List ℕ) → g ≡ given ++ typed → h ≡ g ++ l ∷ [] → h ≡ given ++ (typed ++ l ∷ [])
   more_lines given g h typed l e f = f ∙ ap (λ x. x ++ l ∷ []) e ∙ append_assoc given typed (l ∷ [])
