@@ -1,3 +1,4 @@
 mod SoFar
 mod Moving
 mod Laws
+mod Images

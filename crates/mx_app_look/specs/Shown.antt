@@ -18,7 +18,7 @@ use Rattle.mx_print_answers.specs.declared.refused.Refused.{Refused as Kind}
 use Rattle.mx_print_answers.specs.declared.refused.Refused.TheVariants.{ByDebugger, ByMachine}
 use Rattle.mx_proc.specs.declared.process.Process.{Process}
 use Rattle.mx_walk.specs.Walks.{Walk, world_here}
-use Rattle.mx_walk.specs.Watching.{or_else}
+use Rattle.mx_walk.specs.Watching.{first_on, or_else}
 use Rattle.mx_app_look.specs.Places.{symbols_by}
 
 -- ---- the process
@@ -27,17 +27,12 @@ abbrev pub image_of_held : Option HeldProcess → ℕ → Option Image
 image_of_held None s = None
 image_of_held (Some l) s = if l.slot == s then Some l.out.image else None
 
--- that of the first of these processors that holds it
-abbrev pub image_on : World → ℕ → List ℕ → Option Image
-image_on w s [] = None
-image_on w s (a ∷ more) = or_else (image_of_held (held_by w a) s) (image_on w s more)
-
 abbrev pub image_at_home : World → ℕ → Option Image
 image_at_home w s = option_map (λ (p : Process). p.image) (slice_get w.table.slots s)
 
 -- THE PROCESS OF A SLOT, as the processor that has it has left it; else as it is in the kernel's table
 unfoldable pub image_in : World → ℕ → Option Image
-image_in w s = or_else (image_on w s (range_with_len 0 8)) (image_at_home w s)
+image_in w s = or_else (first_on (λ a. image_of_held (held_by w a) s) (range_with_len 0 8)) (image_at_home w s)
 
 -- ---- the slot: the one that is named, if it has a service; else that on the processor whose record is below
 
