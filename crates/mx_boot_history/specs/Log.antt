@@ -61,15 +61,17 @@ abbrev pub says_strict : List (List ℕ) → Bool
 says_strict (word ∷ number ∷ []) = bytes_eq word (codes "rules") && bytes_eq number (codes "2")
 says_strict _ = false
 
--- the strict rules where the first line says them, else the lenient ones
-abbrev pub rules_of_lines : List (List ℕ) → Rules
-rules_of_lines [] = Lenient
-rules_of_lines (l ∷ ls) = if says_strict (fields l) then Strict else Lenient
+-- the rules that a text says, and the lines of its records: the strict rules, and the lines below, where its first line
+-- says them; else the lenient rules, and all lines
+abbrev pub parted : List (List ℕ) → Rules × List (List ℕ)
+parted [] = (Lenient, [])
+parted (l ∷ ls) = if says_strict (fields l) then (Strict, ls) else (Lenient, l ∷ ls)
 
--- the lines below that one
+abbrev pub rules_of_lines : List (List ℕ) → Rules
+rules_of_lines ls = (parted ls).0
+
 abbrev pub record_lines : List (List ℕ) → List (List ℕ)
-record_lines [] = []
-record_lines (l ∷ ls) = if says_strict (fields l) then ls else l ∷ ls
+record_lines ls = (parted ls).1
 
 -- how many lines stand above those of the records
 abbrev pub lines_above : Rules → ℕ
