@@ -63,7 +63,7 @@ IsTold line f noted c =
     ((line.explains ≡ false) × (c ≡ Failed f))
     ⊎ ((line.explains ≡ true) × (c ≡ Unexplained f))
     ⊎ ((s : String Global) × (line.explains ≡ true) × (c ≡ Explained f s)
-    × (string_bytes s ≡ explained line.request f noted.last noted.is_missed noted.is_unwritten))
+    × (string_bytes s ≡ explained line.request f noted.last noted.is_missed noted.is_unwritten noted.text))
 
 -- what comes of a request's status or failure
 abbrev pub IsAnswered : CommandLine → Result ℕ Kind → Noted → Result ℕ Complaint → Type 0

@@ -3,31 +3,33 @@
 ghost use Rattle.std.specs.Prelude.{◌≡◌, ◌++◌, ◌∷◌, [], Err, IfErr, IfOk, None, Ok, false, option_map, string_bytes};
 ghost use Rattle.std.specs.IoError.{error_kind};
 ghost use Rattle.mx_app_db.specs.Written.{kept, unkept};
-ghost use Rattle.mx_app.specs.Noting.{IsNoted, is_failed};
+ghost use Rattle.mx_app.specs.Noting.{IsNoted, IsTextNoted, is_failed};
 
 use mx_app_db::{FileWriter, Reader};
 use mx_app_explain::Notes;
 use std::alloc::Global;
 use std::io;
 
-/// Reads by another reader, and notes the file that it was asked for last.
+/// Reads by another reader, and notes the file that it was asked for last, and the text that it read last.
 #[derive(Drop)]
 pub struct NotingReader<R: Drop> {
     reader: R,
     last: Option<String>,
     is_missed: bool,
+    text: Option<Vec<u8>>,
 }
 
 impl<R: Drop> NotingReader<R> {
     /// What reads by this reader, and has noted nothing yet.
     pub fn new(reader: R) -> NotingReader<R>
         ensures reader { result.reader ≡ reader }
-        ensures nothing { (result.last ≡ None) × (result.is_missed ≡ false) }
+        ensures nothing { (result.last ≡ None) × (result.is_missed ≡ false) × (result.text ≡ None) }
     {
         NotingReader {
             reader,
             last: None,
             is_missed: false,
+            text: None,
         }
     }
 
@@ -41,11 +43,38 @@ impl<R: Drop> NotingReader<R> {
         }
     }
 
+    /// The bytes of the text that was read last, where there was memory to note them.
+    fn text(&self) -> Option<&[u8]>
+        ensures { option_map (λ t. t.now) result ≡ option_map (λ t. t.items) self.now.text }
+    {
+        match &self.text {
+            Some(text) => Some(text.as_slice()),
+            None => None,
+        }
+    }
+
+    /// Notes a text that was read.
+    fn note_text(&mut self, alloc: Global, answer: &io::Result<Vec<u8>>)
+        ensures reader { self.new.reader ≡ self.old.reader }
+        ensures last { self.new.last ≡ self.old.last }
+        ensures missed { self.new.is_missed ≡ self.old.is_missed }
+        ensures text { IsTextNoted answer.now (option_map (λ t. t.items) self.new.text) }
+    {
+        self.text = match answer {
+            Ok(bytes) => match Vec::from_slice(alloc, bytes.as_slice()) {
+                Ok(text) => Some(text),
+                Err(_) => None,
+            },
+            Err(_) => None,
+        };
+    }
+
     /// Notes the file that was asked for.
     fn note(&mut self, alloc: Global, name: &str, answer: &io::Result<Vec<u8>>)
         ensures reader { self.new.reader ≡ self.old.reader }
         ensures last { IsNoted name.now (option_map string_bytes self.new.last) }
         ensures missed { self.new.is_missed ≡ is_failed answer.now }
+        ensures text { self.new.text ≡ self.old.text }
     {
         self.last = match String::from_str(alloc, name) {
             Ok(name) => Some(name),
@@ -65,9 +94,11 @@ impl<R: Reader + Drop> Reader for NotingReader<R> {
             ≡ R.asked self.old.reader ++ record { name = name.now; answer = Err (error_kind e) } ∷ []) }
         ensures noted { IsNoted name.now (option_map string_bytes self.new.last) }
         ensures failed { self.new.is_missed ≡ is_failed result }
+        ensures text { IsTextNoted result (option_map (λ t. t.items) self.new.text) }
     {
         let answer = self.reader.read(alloc, name);
         self.note(alloc, name, &answer);
+        self.note_text(alloc, &answer);
         answer
     }
 
@@ -78,6 +109,7 @@ impl<R: Reader + Drop> Reader for NotingReader<R> {
             ≡ R.asked self.old.reader ++ record { name = name.now; answer = Err (error_kind e) } ∷ []) }
         ensures noted { IsNoted name.now (option_map string_bytes self.new.last) }
         ensures failed { self.new.is_missed ≡ is_failed result }
+        ensures text { self.new.text ≡ self.old.text }
     {
         let answer = self.reader.read_program(alloc, name);
         self.note(alloc, name, &answer);
@@ -132,11 +164,13 @@ impl<F: FileWriter + Drop> FileWriter for NotingFiles<F> {
 pub fn noted<'a, R: Drop, F: Drop>(reader: &'a NotingReader<R>, files: &NotingFiles<F>) -> Notes<'a>
     ensures last { option_map (λ s. s.now) result.last ≡ option_map string_bytes reader.now.last }
     ensures missed { result.is_missed ≡ reader.now.is_missed }
+    ensures text { option_map (λ t. t.now) result.text ≡ option_map (λ t. t.items) reader.now.text }
     ensures unwritten { result.is_unwritten ≡ files.now.is_unwritten }
 {
     Notes {
         last: reader.last(),
         is_missed: reader.is_missed,
         is_unwritten: files.is_unwritten,
+        text: reader.text(),
     }
 }

@@ -92,7 +92,8 @@ pub fn perform_words<
         × (R.asked channels.new.reader.reader ≡ R.asked channels.old.reader.reader ++ qs)
         × (F.written channels.new.files.files ≡ F.written channels.old.files.files ++ ws)
         × IsPerformed (map (λ s. s.now) words.now) qs ws
-        (noted_by channels.new.reader.last channels.new.reader.is_missed channels.new.files.is_unwritten)
+        (noted_by channels.new.reader.last channels.new.reader.is_missed channels.new.files.is_unwritten
+        channels.new.reader.text)
         (λ text. Appends (W.contents channels.old.out) (W.contents channels.new.out) text) result }
 {
     match command(alloc, words) {

@@ -8,6 +8,9 @@ use Rattle.mx_app_command.specs.declared.words.CommandRequest.{CommandRequest}
 use Rattle.mx_app_command.specs.declared.words.CommandRequest.TheVariants.{One, As, Dis, Nm, Explain, Step, Run, Turns, Replay, Trace, Draw, Db}
 use Rattle.mx_app_failure.specs.declared.failure.Failure.{Failure as Kind}
 use Rattle.mx_app_failure.specs.declared.failure.Failure.TheVariants.{Refused, Faulty, Misstated, NotText, File, NoMemory}
+use Rattle.mx_config_fault.specs.Faults.{Seen, text_fault}
+use Rattle.mx_config_fault.specs.Places.{label_of, wanted_at}
+use Rattle.mx_config_fault.specs.Stands.{stands_at, stands_told}
 use Rattle.mx_app_explain.specs.Wanted.{problem_wanted, refusal_wanted}
 use Rattle.mx_app_explain.specs.declared.explaining.Explanation.{Explanation}
 use Rattle.mx_app_explain.specs.declared.subject.Subject.{Subject}
@@ -189,15 +192,26 @@ wanted_of r NotText m u = codes "UTF-8"
 wanted_of r File m u = file_wanted r m u
 wanted_of r NoMemory m u = codes "more of it"
 
+-- ---- the word at fault
+
+-- of a configuration's line, if the text is known
+abbrev pub config_fault : Kind → Option (List ℕ) → Option Seen
+config_fault (Misstated (lines.BadLine n)) (Some text) = text_fault text n
+config_fault f text = None
+
+-- what was wanted, at the place of the fault if there is one
+abbrev pub detail_told : List ℕ → Option Seen → List ℕ
+detail_told wanted None = codes "wanted " ++ wanted
+detail_told wanted (Some (place, word)) = label_of place ++ codes "wanted " ++ wanted_at place ++ stands_at word
+
 -- ---- the line, without its end
 
-abbrev pub line_told : List ℕ → List ℕ → List ℕ
-line_told subject wanted = codes "mx: " ++ subject ++ codes ": wanted " ++ wanted
-
 abbrev pub explanation_told : Explanation → List ℕ
-explanation_told e = line_told (subject_told e.subject) e.wanted.now
+explanation_told e =
+    codes "mx: " ++ subject_told e.subject ++ codes ": " ++ e.label.now ++ codes "wanted " ++ e.wanted.now ++ stands_told e.stands
 
--- WHAT EXPLAINS A FAILURE, by the request, the name of the file that was asked for last, whether it was missed, and whether a file wasn't written
-abbrev pub explained : CommandRequest → Kind → Option (List ℕ) → Bool → Bool → List ℕ
-explained r f last is_missed is_unwritten =
-    line_told (subject_of r f last is_missed is_unwritten) (wanted_of r f is_missed is_unwritten)
+-- WHAT EXPLAINS A FAILURE, by the request, the name of the file that was asked for last, whether it was missed, whether a file wasn't written, and the text that was read last
+abbrev pub explained : CommandRequest → Kind → Option (List ℕ) → Bool → Bool → Option (List ℕ) → List ℕ
+explained r f last is_missed is_unwritten text =
+    codes "mx: " ++ subject_of r f last is_missed is_unwritten ++ codes ": "
+    ++ detail_told (wanted_of r f is_missed is_unwritten) (config_fault f text)

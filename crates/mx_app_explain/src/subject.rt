@@ -16,6 +16,8 @@ pub struct Notes<'a> {
     pub is_missed: bool,
     /// A file couldn't be written.
     pub is_unwritten: bool,
+    /// The text that was read last, if it is known.
+    pub text: Option<&'a [u8]>,
 }
 
 /// What a failure is about.

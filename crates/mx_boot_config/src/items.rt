@@ -61,7 +61,7 @@ fn is_stray(byte: u8) -> bool
 }
 
 /// Whether a byte of a field is no part of a file's name.
-fn has_stray(file: &[u8]) -> bool
+pub fn has_stray(file: &[u8]) -> bool
     ensures { result ≡ list_any is_stray file.now }
 {
     file.iter().any(|byte| is_stray(*byte))

@@ -9,6 +9,8 @@ mod reading;
 mod service;
 mod terms;
 
+pub use items::{before_comment, has_stray};
 pub use mx_machine_world::{Config, FileName, ServiceLine, ServiceLines};
 pub use mx_text::BootError;
 pub use reading::config;
+pub use terms::{mask, number_between};

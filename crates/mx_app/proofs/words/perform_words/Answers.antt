@@ -11,7 +11,7 @@ returns-in-Err g c = ([], [], sym (append-nil _), sym (append-nil _), inr (c.in-
 pub returns-in-Ok : goal.returns-in-Ok
 returns-in-Ok g c =
     let done = c.perform-done.ensures in
-    let same = noted_same c.noted.result _ _ _ c.noted.ensures.last c.noted.ensures.missed c.noted.ensures.unwritten in (
+    let same = noted_same c.noted.result _ _ _ _ c.noted.ensures.last c.noted.ensures.missed c.noted.ensures.unwritten c.noted.ensures.text in (
       done.0,
       done.1,
       done.2,
