@@ -10,6 +10,6 @@ mod stands;
 mod text;
 
 pub use line::{LineFault, line_fault};
-pub use text::text_fault;
 pub use place::{Key, Place};
 pub use stands::Stands;
+pub use text::text_fault;

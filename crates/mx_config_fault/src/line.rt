@@ -94,12 +94,7 @@ fn number_at(
 }
 
 /// The number after a key, and what is after it.
-fn after_number(
-    line: &[u8],
-    key: Key,
-    least: u32,
-    most: u32,
-) -> Result<(u32, &[u8]), LineFault<'_>>
+fn after_number(line: &[u8], key: Key, least: u32, most: u32) -> Result<(u32, &[u8]), LineFault<'_>>
     ensures { MatchResult result (λ p. after_number key least most (fields line.now)
         ≡ Ok (p.0, fields p.1.now)) (λ e. after_number key least most (fields line.now)
         ≡ Err (e.place, option_map (λ w. w.now) e.word)) }

@@ -4,8 +4,7 @@ ghost use Rattle.std.specs.Prelude.{◌≡◌, option_map, slice_index};
 ghost use Rattle.std.specs.List.{list_any};
 ghost use Rattle.mx_config_fault.specs.Stands.{field_told, is_control, is_marked, is_return, stands_at, stands_told};
 
-use std::fmt;
-use std::str;
+use std::{fmt, str};
 
 /// The word that is at a place of a line, as far as it can be printed.
 #[derive(Clone, Copy, Debug, PartialEq, Eq)]
