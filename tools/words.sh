@@ -32,3 +32,46 @@ refuse_own_text() {
     [ -z "$explains" ] || echo "mx: FILE $file: wanted another file than the one that is read" >&2
     exit 3
 }
+
+# Prints the files that a `step`, `run` or `turns` of this configuration reads, one a line: CONFIG [FILE ..].
+files_read() {
+    printf '%s\n' "$@"
+    [ ! -f "$1" ] || awk '{ sub(/#.*/, "") } $1 == "service" { print $3 }' "$1"
+}
+
+# Ends with status 3 if these words are those of a `step`, `run` or `turns` that would write its history over a file
+# that it reads, also by another name of the same file.
+refuse_own_files() {
+    case ${1-} in step | run | turns) ;; *) return 0 ;; esac
+    command=$1 config='' second='' save='' events='' explains='' option=''
+    shift
+    for word in "$@"; do
+        case $option in
+            --save) save=$word option='' ; continue ;;
+            --events) events=$word option='' ; continue ;;
+            ?*) option='' ; continue ;;
+        esac
+        case $word in
+            --explain) explains=yes ;;
+            --save=*) save=${word#*=} ;;
+            --events=*) events=${word#*=} ;;
+            --*=*) ;;
+            --*) option=$word ;;
+            *)
+                if [ -z "$config" ]; then config=$word
+                elif [ -z "$second" ]; then second=$word
+                else return 0; fi ;;
+        esac
+    done
+    written=$save read=$second
+    [ "$command" = step ] || { written=$second read=$events; }
+    { [ -n "$written" ] && [ -e "$written" ] && [ -n "$config" ]; } || return 0
+    while read -r file; do
+        [ "$file" -ef "$written" ] || continue
+        echo "mx: 80 File" >&2
+        [ -z "$explains" ] || echo "mx: LOG $written: wanted another file than the one that is read" >&2
+        exit 3
+    done <<END
+$(files_read "$config" "$read")
+END
+}
