@@ -286,7 +286,15 @@ static DONE: &[Done] = &[
     },
     Done {
         name: "sweep: no position",
-        words: &["mx", "sweep", "pair", "pair_log", "kill_driver", "--from", "11"],
+        words: &[
+            "mx",
+            "sweep",
+            "pair",
+            "pair_log",
+            "kill_driver",
+            "--from",
+            "11",
+        ],
         status: 0,
         printed: "0 positions, 0 blocks, 0 as without the fault\n",
         file: None,
@@ -460,7 +468,13 @@ static FAILED: &[Failed] = &[
     Failed {
         name: "sweep: the history would be written over",
         words: &[
-            "mx", "sweep", "pair", "pair_log", "kill_driver", "--save", "pair_log",
+            "mx",
+            "sweep",
+            "pair",
+            "pair_log",
+            "kill_driver",
+            "--save",
+            "pair_log",
         ],
         status: 3,
         told: "mx: 80 File\n",

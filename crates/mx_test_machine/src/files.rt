@@ -235,7 +235,8 @@ const BUTTON: &[u8] = &[
 /// RECEIVE from anybody, count, and SEND the count back, in a loop.
 const COUNTER: &[u8] = &[
     // The header: text 0x36, data 0x28, bss 0x0, entry 0x0, total 0x1000, symbols 0x30.
-    1, 3, 0x30, 0x10, 0x20, 0, 0, 0, 0x36, 0, 0, 0, 0x28, 0, 0, 0, 0, 0, 0, 0, 0, 0, 0, 0, 0, 0x10, 0, 0, 0x30, 0, 0, 0,
+    1, 3, 0x30, 0x10, 0x20, 0, 0, 0, 0x36, 0, 0, 0, 0x28, 0, 0, 0, 0, 0, 0, 0, 0, 0, 0, 0, 0, 0x10,
+    0, 0, 0x30, 0, 0, 0,
     // The text.
     0xb9, 2, 0, 0, 0, // mov ecx, 0x2
     0xb8, 0xce, 0x7a, 0, 0, // mov eax, 0x7ace
@@ -249,7 +250,8 @@ const COUNTER: &[u8] = &[
     0xcd, 0x21, // int 0x21
     0xe9, 0xca, 0xff, 0xff, 0xff, // jmp 0x0
     // The data.
-    0, 0, 0, 0, 0, 0, 0, 0, 0, 0, 0, 0, 0, 0, 0, 0, 0, 0, 0, 0, 0, 0, 0, 0, 0, 0, 0, 0, 0, 0, 0, 0, 0, 0, 0, 0, 0, 0, 0, 0,
+    0, 0, 0, 0, 0, 0, 0, 0, 0, 0, 0, 0, 0, 0, 0, 0, 0, 0, 0, 0, 0, 0, 0, 0, 0, 0, 0, 0, 0, 0, 0, 0,
+    0, 0, 0, 0, 0, 0, 0, 0,
     // The symbols.
     0x62, 0x75, 0x66, 0, 0, 0, 0, 0, 0, 0, 0, 0, 3, 0, 0, 0, // buf: 0x0 of the data
     0x63, 0x6f, 0x75, 0x6e, 0x74, 0, 0, 0, 0x24, 0, 0, 0, 3, 0, 0, 0, // count: 0x24 of the data
@@ -259,7 +261,8 @@ const COUNTER: &[u8] = &[
 /// SENDREC to the counter, and DEVIO of the digit that it answers, in a loop; WHOIS of slot 0 where it is gone.
 const ASKER: &[u8] = &[
     // The header: text 0x8a, data 0x28, bss 0x0, entry 0x0, total 0x1000, symbols 0x40.
-    1, 3, 0x30, 0x10, 0x20, 0, 0, 0, 0x8a, 0, 0, 0, 0x28, 0, 0, 0, 0, 0, 0, 0, 0, 0, 0, 0, 0, 0x10, 0, 0, 0x40, 0, 0, 0,
+    1, 3, 0x30, 0x10, 0x20, 0, 0, 0, 0x8a, 0, 0, 0, 0x28, 0, 0, 0, 0, 0, 0, 0, 0, 0, 0, 0, 0, 0x10,
+    0, 0, 0x40, 0, 0, 0,
     // The text.
     0xb9, 3, 0, 0, 0, // mov ecx, 0x3
     0x8b, 5, 0x24, 0, 0, 0, // mov eax, dword [0x24]
@@ -286,7 +289,8 @@ const ASKER: &[u8] = &[
     0x89, 5, 0x24, 0, 0, 0, // mov dword [0x24], eax
     0xe9, 0x76, 0xff, 0xff, 0xff, // jmp 0x0
     // The data.
-    0, 0, 0, 0, 0, 0, 0, 0, 0, 0, 0, 0, 0, 0, 0, 0, 0, 0, 0, 0, 0, 0, 0, 0, 0, 0, 0, 0, 0, 0, 0, 0, 0, 0, 0, 0, 0, 0, 0, 0,
+    0, 0, 0, 0, 0, 0, 0, 0, 0, 0, 0, 0, 0, 0, 0, 0, 0, 0, 0, 0, 0, 0, 0, 0, 0, 0, 0, 0, 0, 0, 0, 0,
+    0, 0, 0, 0, 0, 0, 0, 0,
     // The symbols.
     0x62, 0x75, 0x66, 0, 0, 0, 0, 0, 0, 0, 0, 0, 3, 0, 0, 0, // buf: 0x0 of the data
     0x77, 0x68, 0x6f, 0x6d, 0, 0, 0, 0, 0x24, 0, 0, 0, 3, 0, 0, 0, // whom: 0x24 of the data

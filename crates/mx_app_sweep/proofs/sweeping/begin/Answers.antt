@@ -35,8 +35,16 @@ returns-in_err-fault-clause-fault g c =
     rw (p.1, p.2) (
       s.0 ++ t.0 ∷ [],
       asked_on (g.R.Reader.asked c.args.reader.now) (g.R.Reader.asked c.start.new.reader) (g.R.Reader.asked c.text_of.new.reader) s.0 (t.0 ∷ []) s.3 t.1,
-      inr (s.0, t.0, s.1, s.2, c.in_ok-started.started.lines.items, refl, s.4,
-          inr (string_bytes c.in_ok-text.text, c.in_err-fault.field-0.0, t.2, subst (λ x. TellsUnread fault_line (lines x) c.in_err-fault.field-0.0) c.as_str.ensures.value c.in_err-fault.ensures.unread, refl)),
+      inr (
+        s.0,
+        t.0,
+        s.1,
+        s.2,
+        c.in_ok-started.started.lines.items,
+        refl,
+        s.4,
+        inr (string_bytes c.in_ok-text.text, c.in_err-fault.field-0.0, t.2, subst (λ x. TellsUnread fault_line (lines x) c.in_err-fault.field-0.0) c.as_str.ensures.value c.in_err-fault.ensures.unread, refl),
+      ),
     )
 
 pub returns-clause-begun : goal.returns-clause-begun

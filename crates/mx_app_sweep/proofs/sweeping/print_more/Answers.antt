@@ -52,15 +52,15 @@ loop-position-preserved g c =
     let boot = made.boot ∙ inv.boot in
     elim c.if-eq.branch [
       | then-eq w ↦ rw (w.out-is, w.blocks-is, w.current-is) (record {
-          swept = goes_on s from end p old now current c.loop-position.blocks c.loop-position.alike more c.loop-position.machine.kernel inv.swept c.loop-position-test.true c.in_ok-next.outcome.is_alike which next _ c.in_ok-next.next.kernel
-              (same ∙ w.if-eq.true) refl kernel;
-          boot = boot;
-        })
+        swept = goes_on s from end p old now current c.loop-position.blocks c.loop-position.alike more c.loop-position.machine.kernel inv.swept c.loop-position-test.true c.in_ok-next.outcome.is_alike which next _ c.in_ok-next.next.kernel
+            (same ∙ w.if-eq.true) refl kernel;
+        boot = boot;
+      })
       | else-eq+in_ok-print_block w ↦ rw (w.out-is, w.blocks-is, w.current-is) (record {
-          swept = begins s from end p old now current c.loop-position.blocks c.loop-position.alike more c.loop-position.machine.kernel inv.swept c.loop-position-test.true c.in_ok-next.outcome.is_alike which next current _ _ _ c.in_ok-next.next.kernel
-              (same ∙ w.if-eq.false) refl w.in_ok-print_block.ensures.bytes (one p c.in_ok-next.outcome.text.items (text_at s p) text) refl kernel;
-          boot = boot;
-        })
+        swept = begins s from end p old now current c.loop-position.blocks c.loop-position.alike more c.loop-position.machine.kernel inv.swept c.loop-position-test.true c.in_ok-next.outcome.is_alike which next current _ _ _ c.in_ok-next.next.kernel
+            (same ∙ w.if-eq.false) refl w.in_ok-print_block.ensures.bytes (one p c.in_ok-next.outcome.text.items (text_at s p) text) refl kernel;
+        boot = boot;
+      })
     ]
 
 pub returns-clause-printed : goal.returns-clause-printed

@@ -14,9 +14,12 @@ use Rattle.mx_app_sweep.proofs.sweeping.sweep_begun.Goals as goal
 
 pub returns-in_err-print_refusal : goal.returns-in_err-print_refusal
 returns-in_err-print_refusal g c =
-    let save : Option (List ℕ) = option_map (λ s. s.now) c.args.save in
-    ([], sym (append-nil _), wanting (begun_of c.args.begun c.args.wanted.bound) c.args.wanted.from c.args.wanted.to save (λ (text : List ℕ). Appends (g.W.Write.contents c.args.out.now) (g.W.Write.contents c.print_refusal.new.out) text)
-    c.in_err-print_refusal.field-0.0 c.from_residual.result c.in_err-print_refusal.ensures.err c.from_residual.ensures.1)
+    let save : Option (List ℕ) = option_map (λ s. s.now) c.args.save in (
+      [],
+      sym (append-nil _),
+      wanting (begun_of c.args.begun c.args.wanted.bound) c.args.wanted.from c.args.wanted.to save (λ (text : List ℕ). Appends (g.W.Write.contents c.args.out.now) (g.W.Write.contents c.print_refusal.new.out) text)
+          c.in_err-print_refusal.field-0.0 c.from_residual.result c.in_err-print_refusal.ensures.err c.from_residual.ensures.1,
+    )
 
 pub print_positions-requires-clause-swept : goal.print_positions-requires-clause-swept
 print_positions-requires-clause-swept g c =
@@ -31,9 +34,12 @@ print_positions-requires-clause-swept g c =
 
 pub returns-in_err-print_total : goal.returns-in_err-print_total
 returns-in_err-print_total g c =
-    let save : Option (List ℕ) = option_map (λ s. s.now) c.args.save in
-    ([], sym (append-nil _), wanting (begun_of c.args.begun c.args.wanted.bound) c.args.wanted.from c.args.wanted.to save (λ (text : List ℕ). Appends (g.W.Write.contents c.args.out.now) (g.W.Write.contents c.print_total.new.out) text)
-    c.in_err-print_total.field-0.0 c.from_residual-in_err-print_total.result c.in_err-print_total.ensures.err c.from_residual-in_err-print_total.ensures.1)
+    let save : Option (List ℕ) = option_map (λ s. s.now) c.args.save in (
+      [],
+      sym (append-nil _),
+      wanting (begun_of c.args.begun c.args.wanted.bound) c.args.wanted.from c.args.wanted.to save (λ (text : List ℕ). Appends (g.W.Write.contents c.args.out.now) (g.W.Write.contents c.print_total.new.out) text)
+          c.in_err-print_total.field-0.0 c.from_residual-in_err-print_total.result c.in_err-print_total.ensures.err c.from_residual-in_err-print_total.ensures.1,
+    )
 
 pub returns-in_err-save_history : goal.returns-in_err-save_history
 returns-in_err-save_history g c =
@@ -48,9 +54,12 @@ returns-in_err-save_history g c =
     let done = c.in_ok-done.done in
     let text = last_kept _ s same c.args.wanted.from c.args.wanted.to range.from range.end c.len.result c.range_of-range.ensures.0 many c.range_of-range.ensures.1 done.total c.in_ok-done.ensures.total
     done.machine.kernel c.in_ok-done.ensures.kernel c.in_err-save_history.ensures.some in
-    let h = c.in_err-save_history.ensures.unwritten in
-    (h.0, h.1, unsaved s c.args.wanted.from c.args.wanted.to save (λ (text : List ℕ). Appends (g.W.Write.contents c.args.out.now) (g.W.Write.contents c.print_total.new.out) text) (text_kept done.machine.kernel) h.0
-    c.in_err-save_history.field-0.0 c.from_residual-in_err-save_history.result text h.2 c.from_residual-in_err-save_history.ensures.1)
+    let h = c.in_err-save_history.ensures.unwritten in (
+      h.0,
+      h.1,
+      unsaved s c.args.wanted.from c.args.wanted.to save (λ (text : List ℕ). Appends (g.W.Write.contents c.args.out.now) (g.W.Write.contents c.print_total.new.out) text) (text_kept done.machine.kernel) h.0
+          c.in_err-save_history.field-0.0 c.from_residual-in_err-save_history.result text h.2 c.from_residual-in_err-save_history.ensures.1,
+    )
 
 pub returns : goal.returns
 returns g c =
