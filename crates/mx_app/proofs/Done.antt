@@ -60,10 +60,10 @@ untyped (Look config log) asks qs ws Prints r h = absurd h
 untyped request asks qs ws Prints r h = (refl, h)
 
 -- what is done of the request that was asked for
-pub as_asked : {given : List (List ℕ)} {asks : Bool} (asked now : List Asked) (files written : List Written) (Prints : List ℕ → Type 0) (r : Result ℕ Kind) (request known : CommandRequest) → request ≡ known
+pub as_asked : {given : List (List ℕ)} (asks : Bool) (asked now : List Asked) (files written : List Written) (Prints : List ℕ → Type 0) (r : Result ℕ Kind) (request known : CommandRequest) → request ≡ known
     → Does asked now files written (λ qs ws. PerformsUntyped known qs ws Prints r)
     → DoesTyped asked now files written given given (λ qs ws typed. Performs request asks qs ws typed Prints r)
-as_asked {given} {asks} asked now files written Prints r request known same done =
+as_asked {given} asks asked now files written Prints r request known same done =
     let d = subst (λ (x : CommandRequest). Does asked now files written (λ qs ws. PerformsUntyped x qs ws Prints r)) (sym same) done in
     (d.0, d.1, [], d.2, d.3, sym (append-nil given), untyped request asks d.0 d.1 Prints r d.4)
 
