@@ -1,4 +1,4 @@
-//! `mx db`: a machine under a debugger.
+//! `mx db`: a machine under a debugger, whose script is performed line by line, with breakpoints.
 #![tactic(auto)]
 
 mod driving;

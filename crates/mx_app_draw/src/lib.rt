@@ -1,4 +1,4 @@
-//! `mx draw`: the picture of a saved history.
+//! `mx draw`: makes the records of a saved history, and prints the picture of a part of them.
 #![tactic(auto)]
 
 mod drawing;

@@ -1,4 +1,5 @@
-//! `mx run`: a machine whose processors are threads, and its history, saved at the end.
+//! `mx run`: a machine whose processors are threads, the gate that ends their loops, and the
+//! history, saved at the end.
 #![tactic(auto)]
 
 mod gate;

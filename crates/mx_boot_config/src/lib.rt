@@ -1,4 +1,5 @@
-//! From the text of a configuration to its value, or its first fault.
+//! Reads the text of a configuration: its items `cpus`, `log`, `others` and `rules`, and the line
+//! of each service; or finds its first fault.
 #![tactic(auto)]
 
 mod draft;

@@ -1,4 +1,4 @@
-//! Histories as texts: written by `save`, and read again.
+//! Histories as texts: the rules and a record a line, saved to a sink, and read again.
 #![tactic(auto)]
 
 mod laws;

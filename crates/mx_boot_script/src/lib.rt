@@ -1,4 +1,5 @@
-//! Reads scripts: texts in which each line is one thing to do with a machine.
+//! Reads scripts, a debugger's too: texts in which each line is a verb, and its numbers or a place
+//! in a program.
 #![tactic(auto)]
 
 mod debug;

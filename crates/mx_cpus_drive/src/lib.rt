@@ -1,4 +1,5 @@
-//! Threads that run a shared machine: a loop for each processor, and one that makes ticks and respawns.
+//! Threads that run a shared machine: a loop for each processor, one that makes ticks and respawns,
+//! and the gate that each loop asks whether it goes on.
 #![tactic(auto)]
 
 mod driving;

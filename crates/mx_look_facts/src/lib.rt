@@ -1,5 +1,5 @@
-//! The facts of a step of a machine: what a record of a history did, as the glances at the worlds
-//! before and after its event show it.
+//! The facts of a step: who goes on, what is delivered, whose state, alarm or quantum changed, from
+//! the glances before and after a record's event.
 #![tactic(auto)]
 
 mod calls;

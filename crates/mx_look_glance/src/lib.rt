@@ -1,5 +1,5 @@
-//! A glance at a machine: all of its state that is looked at, before and after an event, to find
-//! out what the event did.
+//! A glance at a machine: what is looked at of its slots, processors, images, console and
+//! deliveries, before and after an event.
 //!
 //! # In place
 //!

@@ -1,4 +1,5 @@
-//! The picture of a run: what is drawn of its records, as a list of values with whole coordinates.
+//! The picture of a run: its strips of records and its legend, as a list of bars, arrows, marks and
+//! labels with whole coordinates.
 //!
 //! # Nothing outside the paper
 //!

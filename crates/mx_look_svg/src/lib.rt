@@ -1,4 +1,5 @@
-//! The picture of a run as text: SVG 1.1.
+//! The picture of a run as text, SVG 1.1: its style sheet, its figures with their words, and the
+//! hints that a viewer shows.
 #![tactic(auto)]
 
 mod classes;

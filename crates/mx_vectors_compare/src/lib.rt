@@ -1,4 +1,4 @@
-//! Steps that a real processor took, read from a text, and compared with ours.
+//! Cases: steps that a real processor took, read from the lines of a text, and compared with ours.
 //!
 //! Each is taken three times: as one step, as the only step of a run that decodes it, and in
 //! another run, which finds it cached.
