@@ -13,7 +13,7 @@ use Rattle.mx_asm.specs.declared.sizes.SectionSizes.{SectionSizes}
 use Rattle.mx_asm.specs.Layout.{LinesAbove, no_lines_above, sizes_after, grown_in, size_in, section_offset_of, address_of_offset, statement_said}
 use Rattle.mx_asm.specs.Bytes.{AllStand, StandsIn, contents, put_into}
 use Rattle.mx_asm.specs.Assembled.{AreAssembled}
-use Rattle.mx_asm_roundtrip.specs.Around.{StandIfText, AllAtAddress, CodeKeeps, layout_of}
+use Rattle.mx_app_program.specs.Around.{StandIfText, AllAtAddress, CodeKeeps, layout_of}
 
 grown_text : (s : SectionSizes) (section : Section) (b : List ℕ) → (grown_in s section (length b)).text ≡ s.text + length (put_into Text section b)
 grown_text s Text b = refl

@@ -8,7 +8,7 @@ ghost use Rattle.mx_exec.specs.Image.{code_bytes};
 ghost use Rattle.mx_load.specs.Load.{image_of_program};
 ghost use Rattle.mx_dis.specs.declared.part.Part.{Part};
 ghost use Rattle.mx_dis.specs.Parting.{IsParting};
-ghost use Rattle.mx_asm_roundtrip.specs.Around.{CodeKeeps, PartsKeep};
+ghost use Rattle.mx_app_program.specs.Around.{CodeKeeps, PartsKeep};
 
 use mx_dis::parted_there;
 use mx_encode::chosen_spells;

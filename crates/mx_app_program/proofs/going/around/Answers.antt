@@ -2,8 +2,8 @@ use Rattle.std.proofs.Common.{ℕ, List, ◌∙◌, sym, subst}
 use Rattle.mx_aout.specs.File.{FileIs}
 use Rattle.mx_exec.specs.declared.image.Image.{Image}
 use Rattle.mx_exec.specs.Image.{code_bytes}
-use Rattle.mx_asm_roundtrip.specs.Around.{CodeKeeps}
-use Rattle.mx_asm_roundtrip.proofs.going.around.Goals as goal
+use Rattle.mx_app_program.specs.Around.{CodeKeeps}
+use Rattle.mx_app_program.proofs.going.around.Goals as goal
 
 pub returns-clause-around : goal.returns-clause-around
 returns-clause-around c =

@@ -3,8 +3,8 @@ use Rattle.std.specs.Prelude.{ℕ, List, ⊤}
 use Rattle.mx_asm.specs.declared.fault.AsmError.{AsmError}
 use Rattle.mx_asm.specs.declared.fault.AsmError.TheVariants as assembling
 use Rattle.mx_asm.specs.Text.{HasTextFault}
-use Rattle.mx_asm_roundtrip.specs.declared.error.AroundError.{AroundError}
-use Rattle.mx_asm_roundtrip.specs.declared.error.AroundError.TheVariants.{Text, NoMemory}
+use Rattle.mx_app_program.specs.declared.error.AroundError.{AroundError}
+use Rattle.mx_app_program.specs.declared.error.AroundError.TheVariants.{Text, NoMemory}
 
 abbrev pub error_of : AsmError → AroundError
 error_of (assembling.At f) = Text f

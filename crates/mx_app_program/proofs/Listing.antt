@@ -19,8 +19,8 @@ use Rattle.mx_asm.specs.Assembled.{AreAssembled}
 use Rattle.mx_dis.specs.declared.part.Part.{Part}
 use Rattle.mx_dis.specs.declared.part.Part.TheVariants.{Instruction}
 use Rattle.mx_dis.specs.Parting.{IsParting, BeginsWith, total_size}
-use Rattle.mx_asm_roundtrip.specs.Around.{ListedIfText, AllListed, PartsKeep, put_by_directive, layout_of}
-use Rattle.mx_asm_roundtrip.proofs.Placing.{text_after, address_here}
+use Rattle.mx_app_program.specs.Around.{ListedIfText, AllListed, PartsKeep, put_by_directive, layout_of}
+use Rattle.mx_app_program.proofs.Placing.{text_after, address_here}
 
 abbrev pub ChosenSpells : Type 0
 ChosenSpells = (i : Insn) (wide : Wide) (b : List ℕ) → Chosen i wide b → Spells b i

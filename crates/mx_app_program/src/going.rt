@@ -4,8 +4,8 @@ ghost use Rattle.std.specs.Prelude.{◌≡◌, ◌<◌, ◌^◌, length, string_
 ghost use Rattle.mx_aout.specs.File.{FileIs};
 ghost use Rattle.mx_load.specs.Load.{image_of_program};
 ghost use Rattle.mx_dis.specs.Listing.{IsListing};
-ghost use Rattle.mx_asm_roundtrip.specs.Failure.{TellsWhy};
-ghost use Rattle.mx_asm_roundtrip.specs.Around.{GoesAround};
+ghost use Rattle.mx_app_program.specs.Failure.{TellsWhy};
+ghost use Rattle.mx_app_program.specs.Around.{GoesAround};
 
 use crate::error::AroundError;
 use crate::laws::{code_keeps, listing_keeps};

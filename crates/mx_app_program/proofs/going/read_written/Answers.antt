@@ -2,7 +2,7 @@ use Rattle.std.proofs.Common.{subst}
 use Rattle.std.specs.Prelude.{Option, Ok}
 use Rattle.mx_aout.specs.declared.program.FileError.{FileError}
 use Rattle.mx_aout.specs.File.{ReadsFile}
-use Rattle.mx_asm_roundtrip.proofs.going.read_written.Goals as goal
+use Rattle.mx_app_program.proofs.going.read_written.Goals as goal
 
 pub returns-in-Ok : goal.returns-in-Ok
 returns-in-Ok c =

@@ -12,7 +12,7 @@ pub enum AroundError {
 
 impl From<AsmError> for AroundError {
     ghost use Rattle.std.specs.Prelude.{◌≡◌};
-    ghost use Rattle.mx_asm_roundtrip.specs.Failure.{error_of};
+    ghost use Rattle.mx_app_program.specs.Failure.{error_of};
 
     ghost from_gives = { λ e error. error ≡ error_of e };
 
@@ -26,7 +26,7 @@ impl From<AsmError> for AroundError {
 
 impl From<NoMemory> for AroundError {
     ghost use Rattle.std.specs.Prelude.{◌≡◌};
-    ghost use Rattle.mx_asm_roundtrip.specs.declared.error.AroundError.TheVariants as errors;
+    ghost use Rattle.mx_app_program.specs.declared.error.AroundError.TheVariants as errors;
 
     ghost from_gives = { λ _ error. error ≡ errors.NoMemory };
 
