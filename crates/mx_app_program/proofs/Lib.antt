@@ -2,4 +2,4 @@ pub mod Answering
 pub mod Telling
 mod Showing
 mod Placing
-mod Listing
+mod WayListing

@@ -1,4 +1,4 @@
-use Rattle.mx_app_program.proofs.Listing.{parts_keep}
+use Rattle.mx_app_program.proofs.WayListing.{parts_keep}
 use Rattle.mx_app_program.proofs.laws.listing_keeps.Goals as goal
 
 pub returns : goal.returns
