@@ -1,3 +1,5 @@
+pub mod RunLemmas
+pub mod LineLemmas
 pub mod BlockLemmas
 pub mod ReadyLemmas
 pub mod SweptLemmas

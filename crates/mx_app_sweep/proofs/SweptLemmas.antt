@@ -15,9 +15,9 @@ use Rattle.mx_app_step.specs.Config.{Config}
 use Rattle.mx_app_step.specs.Kept.{text_kept}
 use Rattle.mx_app_step.specs.Service.{Service}
 use Rattle.mx_app_step.specs.Written.{Written, kept}
-use Rattle.mx_sweep.specs.declared.blocks.Total.{Total}
-use Rattle.mx_sweep.specs.declared.faults.FaultLine.{FaultLine}
-use Rattle.mx_sweep.specs.Sweep.{block_text, blocks, count_of, total_text}
+use Rattle.mx_app_sweep.specs.declared.blocks.Total.{Total}
+use Rattle.mx_app_sweep.specs.declared.faults.FaultLine.{FaultLine}
+use Rattle.mx_app_sweep.specs.Sweep.{block_text, blocks, count_of, total_text}
 use Rattle.mx_app_sweep.specs.declared.sweeping.Swept.{Swept}
 use Rattle.mx_app_sweep.specs.declared.sweeping.Swept.TheVariants.{Alike, Differs, Refused}
 use Rattle.mx_app_sweep.specs.Begun.{IsDone}

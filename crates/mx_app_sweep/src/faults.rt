@@ -1,71 +1,52 @@
-//! Files of faults.
+//! The lines of a fault.
 
-ghost use Rattle.std.specs.Prelude.{◌≡◌, IfErr, IfOk};
-ghost use Rattle.mx_text.specs.Fields.{fields};
-ghost use Rattle.mx_text.specs.Lines.{lines};
-ghost use Rattle.mx_boot.specs.Reading.{AreLinesRead, TellsUnread};
-ghost use Rattle.mx_app_sweep.specs.FaultLines.{fault_line, fault_line_of, kill_of_slot, slot_named};
+ghost use Rattle.std.specs.Prelude.{◌≡◌, ◌<◌, length};
+ghost use Rattle.mx_app_step.specs.Machine.{world_of};
+ghost use Rattle.mx_machine.specs.World.{actors};
+ghost use Rattle.mx_app_sweep.specs.Faults.{fault_kept, fault_made, line_now};
 
-use mx_app_step::BootError;
-use mx_boot::{ReadsLine, Verb, count, read_lines, script_line_of, verb_named};
-use mx_sweep::FaultLine;
-use mx_text::{next_field, two_fields};
-use std::alloc::Global;
+use mx_app_step::{Machine, Said, ScriptLine, perform_line};
+use mx_machine::Refusal;
 
-/// The slot that `slot S` names.
-fn slot_named(line: &[u8]) -> Option<u32>
-    ensures { result ≡ slot_named (fields line.now) }
+/// A line of a fault.
+#[derive(Clone, Copy, Debug, PartialEq, Eq)]
+pub enum FaultLine {
+    /// A line of any script.
+    Plain(ScriptLine),
+    /// The process that a slot has then is killed.
+    KillSlot(u32),
+}
+
+/// The script's line that a fault's line is now. None if it names a slot that the machine hasn't.
+#[tactic(auto, unfolding(mx_machine::specs::Machine::world_of))]
+fn line_now(machine: &Machine, line: FaultLine) -> Option<ScriptLine>
+    ensures { result ≡ line_now (world_of machine.now).table line }
 {
-    let (word, slot) = two_fields(line)?;
-    if word == b"slot".as_slice() {
-        count(slot)
-    } else {
-        None
+    match line {
+        FaultLine::Plain(line) => Some(line),
+        FaultLine::KillSlot(slot) => {
+            let table = machine.kernel().table();
+            if slot < u32::from(table.used()) {
+                Some(ScriptLine::Kill(table.endpoint(slot as u8)))
+            } else {
+                None
+            }
+        }
     }
 }
 
-/// What a line says that begins with a verb and goes on with the name of a slot.
-fn kill_of_slot(verb: Verb, rest: &[u8]) -> Option<FaultLine>
-    ensures { result ≡ kill_of_slot verb (fields rest.now) }
+/// Does what a line of a fault says, and answers what is said of it. The lines that name no actor are
+/// events of `other`, the first actor that is no processor. Takes no memory.
+pub(crate) fn perform_fault_line(machine: &mut Machine, other: u8, line: FaultLine) -> Said
+    requires { other < actors (world_of machine.old) }
+    ensures made { fault_made (world_of machine.old) other line ≡ (result, world_of machine.new) }
+    ensures kept { machine.new.kernel
+        ≡ fault_kept machine.old.kernel (world_of machine.old) other line }
+    ensures actors { actors (world_of machine.new) ≡ actors (world_of machine.old) }
+    ensures cpus { length (world_of machine.new).cpus ≡ length (world_of machine.old).cpus }
 {
-    match verb {
-        Verb::Kill => Some(FaultLine::KillSlot(slot_named(rest)?)),
-        _ => None,
+    match line_now(machine, line) {
+        Some(line) => perform_line(machine, other, line),
+        None => Said::Refused(Refusal::NoProcess),
     }
-}
-
-/// What a line says that begins with a verb and goes on like this.
-fn fault_line_of(verb: Verb, rest: &[u8]) -> Option<FaultLine>
-    ensures { result ≡ fault_line_of verb (fields rest.now) }
-{
-    match script_line_of(verb, rest) {
-        Some(line) => Some(FaultLine::Plain(line)),
-        None => kill_of_slot(verb, rest),
-    }
-}
-
-/// Reads the lines of a fault.
-struct FaultReader;
-
-impl ReadsLine for FaultReader {
-    ghost use Rattle.mx_app_sweep.specs.FaultLines.{fault_line};
-
-    type Said = FaultLine;
-
-    ghost says = { λ _ line. fault_line line };
-
-    fn read(&self, line: &[u8]) -> Option<FaultLine> {
-        let (word, rest) = next_field(line)?;
-        let verb = verb_named(word)?;
-        fault_line_of(verb, rest)
-    }
-}
-
-/// The lines of a fault: those of a script, and `kill slot S`, which kills the process that slot S has then.
-/// The numbers are decimal, C at most 255, the others at most 2,147,483,647.
-pub fn fault_lines(alloc: Global, text: &str) -> Result<Vec<FaultLine>, BootError>
-    ensures read { IfOk result (λ found. AreLinesRead fault_line (lines text.now) found.items) }
-    ensures unread { IfErr result (λ e. TellsUnread fault_line (lines text.now) e) }
-{
-    read_lines(alloc, &FaultReader, text.as_bytes())
 }

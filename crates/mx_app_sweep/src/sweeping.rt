@@ -10,18 +10,21 @@ ghost use Rattle.mx_app_step.specs.Config.{Config as Configured};
 ghost use Rattle.mx_app_step.specs.Machine.{world_of};
 ghost use Rattle.mx_app_step.specs.Service.{Service};
 ghost use Rattle.mx_app_step.specs.Written.{Written};
-ghost use Rattle.mx_sweep.specs.Sweep.{block_text, blocks, count_of, positions_of, total_text};
-ghost use Rattle.mx_sweep.specs.Swept.{IsSwept};
+ghost use Rattle.mx_app_sweep.specs.Sweep.{block_text, blocks, count_of, positions_of, total_text};
+ghost use Rattle.mx_app_sweep.specs.Swept.{IsSwept};
 ghost use Rattle.mx_app_sweep.specs.Sweeping.{IsBegun, IsNotBegun, IsUnsaved, Sweeps, ended, is_alike_at, run_at, saved_if, text_at, writes_over};
 ghost use Rattle.mx_app_step.specs.Kept.{text_kept};
 ghost use Rattle.mx_app_sweep.specs.Begun.{IsDone, begun_of, is_ready, sweep_of};
 
-use crate::faults::fault_lines;
+use crate::blocks::{Block, Total, push_block, push_total};
+use crate::fault_files::fault_lines;
+use crate::faults::FaultLine;
+use crate::outcomes::{Outcome, outcome_at};
+use crate::running::Sweep;
 use mx_app_step::{
     Channels, Failure, FileWriter, History, Machine, Reader, Record, Started, lines_above,
     perform_records, print_refusal, print_text, start, text_of, write_history,
 };
-use mx_sweep::{Block, FaultLine, Outcome, Sweep, Total, outcome_at, push_block, push_total};
 use std::alloc::Global;
 use std::io::Write;
 

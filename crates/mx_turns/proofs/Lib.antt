@@ -2,3 +2,4 @@ pub mod OfferLemmas
 pub mod MadeLemmas
 pub mod TurnLemmas
 pub mod LawLemmas
+pub mod RoundLemmas

@@ -2,8 +2,8 @@ use Rattle.std.proofs.Common.{◌≡◌, ◌∙◌, ◌+◌, ℕ, Bool, true, fa
 use Rattle.std.specs.Int.{from_bool}
 use Rattle.std.specs.Str.{bytes_eq}
 use Rattle.mx_machine.specs.World.{World}
-use Rattle.mx_sweep.specs.declared.blocks.Total.{Total}
-use Rattle.mx_sweep.specs.Sweep.{Positions, positions_of}
+use Rattle.mx_app_sweep.specs.declared.blocks.Total.{Total}
+use Rattle.mx_app_sweep.specs.Sweep.{Positions, positions_of}
 use Rattle.mx_app_sweep.specs.Begun.{sweep_of}
 use Rattle.mx_app_sweep.specs.Sweeping.{is_alike_at, run_at, text_at}
 use Rattle.mx_app_sweep.proofs.BlockLemmas.{begins, first_swept, goes_on, last_alike, last_blocks, last_printed}

@@ -1,5 +1,5 @@
 use Rattle.std.proofs.Common.{◌≡◌}
-use Rattle.mx_sweep.specs.Sweep.{positions_of}
+use Rattle.mx_app_sweep.specs.Sweep.{positions_of}
 use Rattle.mx_app_sweep.specs.Begun.{sweep_of}
 use Rattle.mx_app_sweep.proofs.BlockLemmas.{SweptSoFar}
 use Rattle.mx_app_sweep.proofs.sweeping.print_more.Given as goal
