@@ -1,5 +1,0 @@
-pub mod RunLemmas
-pub mod LineLemmas
-pub mod BlockLemmas
-pub mod ReadyLemmas
-pub mod SweptLemmas

@@ -1,6 +1,0 @@
-pub mod Faults
-pub mod Sweep
-pub mod Swept
-pub mod FaultLines
-pub mod Sweeping
-pub mod Begun
