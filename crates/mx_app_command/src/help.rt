@@ -247,8 +247,7 @@ and then turns as mx turns makes them, with the lines and ticks of the later rec
 to come. Positions in a row that print the same are one block: what is answered to
 FAULT's lines, each service's name, endpoint and state, how the turns ended (rest,
 turns or full), and the console. FAULT has lines of a script, and kill slot S, which
-kills who is in slot S then. At a terminal standard error shows how many positions
-are done, if that takes over a second.
+kills who is in slot S then.
 
 Status: 0 done; 1 a text or a program's file is refused, or an event of LOG, or, with
 --strict, a position ends otherwise than without the fault; 2 a mistake in the words;

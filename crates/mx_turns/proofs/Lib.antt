@@ -3,3 +3,4 @@ pub mod MadeLemmas
 pub mod TurnLemmas
 pub mod LawLemmas
 pub mod RoundLemmas
+pub mod GrowthLemmas

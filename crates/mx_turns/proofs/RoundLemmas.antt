@@ -47,7 +47,7 @@ taken_held w s one ready =
 -- ---- the steps, and the return
 
 -- what a processor holds it holds after its steps too
-still_held : (n : ℕ) (w : World) (c : ℕ) (l : HeldProcess) → held_by w c ≡ Some l → (k : HeldProcess) × (held_by (world_after_events w (steps_of c n)) c ≡ Some k)
+pub still_held : (n : ℕ) (w : World) (c : ℕ) (l : HeldProcess) → held_by w c ≡ Some l → (k : HeldProcess) × (held_by (world_after_events w (steps_of c n)) c ≡ Some k)
 still_held zero w c l h = (l, h)
 still_held (suc n) w c l h =
     let next : HeldProcess = record l { out = out_after_step l.out } in
@@ -56,7 +56,7 @@ still_held (suc n) w c l h =
     let again = still_held n v c next held in
     (again.0, ap (λ (u : World). held_by (world_after_events u (steps_of c n)) c) (world_of_step w c (Some l) h) ∙ again.1)
 
-refusal_of_back : (w : World) (c : ℕ) (l : HeldProcess) → held_by w c ≡ Some l → event_refusal w c Back ≡ None
+pub refusal_of_back : (w : World) (c : ℕ) (l : HeldProcess) → held_by w c ≡ Some l → event_refusal w c Back ≡ None
 unfolding event_refusal
 refusal_of_back w c l h = ap back_refusal h
 

@@ -2,7 +2,7 @@
 use Rattle.std.specs.Prelude.{ℕ, zero, suc, ◌≡◌, ◌-◌, ◌^◌, ◌&&◌, ◌||◌, not, Bool, true, false, List, [], ◌∷◌, ◌++◌, drop, length, map, Option, Some, None, is_none, slice_get, if◌then◌else◌}
 use Rattle.std.specs.List.{flat_map, range_with_len}
 use Rattle.mx_machine.specs.declared.events.Event.{Event}
-use Rattle.mx_machine.specs.declared.events.Event.TheVariants.{Take, Back, Respawn}
+use Rattle.mx_machine.specs.declared.events.Event.TheVariants.{Take, Back, Respawn, Tick}
 use Rattle.mx_machine.specs.declared.events.Refusal.{Refusal}
 use Rattle.mx_machine.specs.declared.events.Refusal.TheVariants.{LogFull}
 use Rattle.mx_machine.specs.History.{world_after_events}
@@ -107,6 +107,12 @@ turns (suc n) w xs =
 -- what comes of turns, if more are made after them
 abbrev pub joined : List (ℕ × Event) → Course → Course
 joined made later = record { made = made ++ later.made; ending = later.ending }
+
+-- how many of these events may be refused, and so make no record: all but the ticks
+abbrev pub refusable : List Event → ℕ
+refusable [] = 0
+refusable (Tick ∷ xs) = refusable xs
+refusable (x ∷ xs) = suc (refusable xs)
 
 -- ---- a turn of one processor
 
