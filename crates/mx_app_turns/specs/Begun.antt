@@ -12,7 +12,7 @@ use Rattle.mx_app_turns.specs.declared.sweeping.Begun.{Begun}
 use Rattle.mx_app_turns.specs.declared.sweeping.Swept.{Swept}
 use Rattle.mx_app_turns.specs.Sweeping.{IsSweptThrough, IsUntold, SweepOf}
 
--- A machine stands at the boot of its configuration, and each record of the history is by an actor of it.
+-- A machine is at the boot of its configuration, and each record of the history is by an actor of it.
 pub record IsReady (m : MachineState) (config : Config) (other : ℕ) (records : List Record) : Type 0 where
   pub kernel : m.kernel ≡ record { boot = world_of m; history = [] }
   pub booted : world_of m ≡ world_at_boot config (world_of m).services
@@ -32,7 +32,7 @@ sweep_of s boot = record { boot = boot; other = s.other; records = s.records.now
 abbrev pub begun_of : Begun → ℕ → SweepOf
 begun_of b n = record { boot = world_of b.started.machine; other = b.started.other; records = b.started.lines.items; fault = b.fault.items; bound = n }
 
--- what is done of it, or why nothing is told
+-- what is done of it, or why it isn't finished
 abbrev pub IsDone : SweepOf → ℕ → ℕ → Option (List ℕ) → List Written → (List ℕ → Type 0) → Result Swept Kind → Type 0
 IsDone s from to save ws Prints (Ok how) = IsSweptThrough s from to save ws Prints how
 IsDone s from to save ws Prints (Err f) = IsUntold s to save ws f

@@ -24,11 +24,11 @@ abbrev pub made_now : World → ℕ → Option ScriptLine → Said × World
 made_now w other (Some line) = line_made w other line
 made_now w other None = (Refused NoProcess, w)
 
--- WHAT A LINE OF A FAULT DOES, where `other` is the actor of the lines that name none
+-- WHAT A LINE OF A FAULT DOES; `other` is the actor of the lines that name none
 unfoldable pub fault_made : World → ℕ → FaultLine → Said × World
 fault_made w other line = made_now w other (line_now w.table line)
 
--- and what is kept of it: the record of its event, if the event is accepted
+-- and the kernel after it: its history has the record of the event, if the event is accepted
 abbrev pub kept_now : BootAndHistory → World → ℕ → Option ScriptLine → BootAndHistory
 kept_now k w other (Some line) = kept_by k w (event_of_line other line)
 kept_now k w other None = k

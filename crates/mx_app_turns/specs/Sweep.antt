@@ -45,16 +45,16 @@ coming (x ∷ xs) = with_first (outside_event x.event) (coming xs)
 
 -- ---- outcomes
 
--- What comes of a position: what is said of the fault's lines, how the turns after them end, the world then, and
--- what the kernel keeps.
+-- What comes of a position: what is said of the fault's lines, how the turns after them end, and the world and the
+-- kernel then.
 pub record Run : Type 0 where
   pub said : List Said
   pub ending : Ending
   pub world : World
   pub kernel : BootAndHistory
 
--- A RUN WITH A FAULT AT POSITION k: boot; the first k records; the fault's lines, in which `other` is the actor of those
--- that name none; then at most n turns, with the lines and the ticks of the records after position k to come
+-- A RUN WITH A FAULT AT POSITION k: boot; the first k records; the fault's lines, in which `other` is the actor of
+-- those that name none; then at most n turns, with the lines and the ticks of the records after position k to come
 abbrev pub run_of : World → ℕ → List Record → ℕ → List FaultLine → ℕ → Run
 run_of boot other records n fault k =
     let above = world_after_events boot (events_of_history (take k records)) in
@@ -96,7 +96,7 @@ end_text by w ending =
 abbrev pub shown : ℕ → ℕ
 shown b = if nat_le 32 b && nat_le b 126 then b else 46
 
--- the bytes that the console keeps, as lines
+-- the last bytes of the console, as lines
 abbrev pub kept_text : List ℕ → List ℕ
 kept_text bytes = flat_map (λ line. codes "  > " ++ map shown line ++ codes "\n") (lines bytes)
 

@@ -33,7 +33,8 @@ IsBegun config log fault qs c vs records said =
     (before : List Asked) × (q : Asked) × (text : List ℕ) × (qs ≡ before ++ q ∷ []) × IsStart IsSaved config log before c vs records
     × IsTextGiven fault q text × AreLinesRead fault_line (lines text) said
 
--- the first fault of these files: no machine was started; or the fault's file is missed or no text, or a line of it says nothing
+-- the first fault of these files: no machine was started; or the fault's file is missed or no text, or a line of it
+-- says nothing
 abbrev pub IsNotBegun : List ℕ → List ℕ → List ℕ → List Asked → Kind → Type 0
 IsNotBegun config log fault qs f =
     IsNotStarted IsSaved TellsSaved config log qs f
@@ -107,7 +108,7 @@ IsSweptThrough s from to save ws Prints how =
     AreAccepted s.boot (events_of_history s.records) × (how ≡ ended (positions_in s from to) (alike_in s from to))
     × Prints (sweep_text s from to) × (ws ≡ saved_if (last_text s to) (positions_in s from to) save)
 
--- why nothing is told of it, after it was read: memory or standard output; or the file that is saved
+-- why it isn't finished, after it was read: memory or standard output; or the file that is saved
 abbrev pub IsUntold : SweepOf → ℕ → Option (List ℕ) → List Written → Kind → Type 0
 IsUntold s to save ws f = ((ws ≡ []) × IsWanting f) ⊎ IsUnsaved (last_text s to) save ws f
 

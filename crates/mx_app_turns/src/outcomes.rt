@@ -104,7 +104,7 @@ fn push_shown(text: &mut Vec<u8>, bytes: &[u8]) -> Result<(), AllocError>
     Ok(())
 }
 
-/// Appends the bytes that the console keeps, as lines.
+/// Appends the last bytes of the console, as lines.
 fn push_kept(text: &mut Vec<u8>, bytes: &[u8]) -> Result<(), AllocError>
     ensures { OnOk result (text.new.items ≡ text.old.items ++ kept_text bytes.now) }
 {

@@ -17,7 +17,7 @@ use mx_word::NoMemory;
 use std::alloc::{AllocError, Global};
 
 /// What is swept: the history of a machine of this configuration, with a fault at each of its positions, and
-/// then at most so many turns.
+/// then at most `bound` turns.
 #[derive(Clone, Copy)]
 pub(crate) struct Sweep<'a> {
     pub config: &'a Config,

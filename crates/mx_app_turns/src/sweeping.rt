@@ -216,7 +216,7 @@ struct Range {
     end: usize,
 }
 
-/// The positions that are swept of a history of so many records.
+/// The positions that are swept of a history, by the number of its records.
 fn range_of(wanted: SweepWanted, records: usize) -> Range
     ensures { (result.from ≡ wanted.from) × (result.end ≡ min wanted.to records + 1) }
 {

@@ -1,7 +1,7 @@
 -- Turns make records: each that isn't the last makes one, or uses up a line or a kill.
 use Rattle.std.proofs.Common.{◌≡◌, ◌≢◌, ◌∙◌, ◌⊎◌, ◌≤◌, ◌<◌, ℕ, zero, suc, ◌+◌, ◌-◌, ◌++◌, ◌||◌, ◌&&◌, ◌==◌, not, nat_lt, Bool, true, false, List, [], ◌∷◌, cond, drop, length, map, Option, Some, None, is_none, slice_get, slice_index_or, inl, inr, refl, ap, sym, subst, arith, true≢false}
 use Rattle.std.specs.List.{flat_map, range_with_len}
-use Rattle.std.proofs.lemmas.Bool.{cases_lt}
+use Rattle.std.proofs.lemmas.Bool.{cases_lt, lt-ltb}
 use Rattle.mx_machine.specs.CallRefusals.{owner_of}
 use Rattle.mx_machine.specs.Proc.Endpoints.{is_alive}
 use Rattle.mx_machine.specs.Proc.declared.process.Process.{Process}
@@ -174,12 +174,8 @@ not_ready left (Some s) r h n = by (nat_lt left 2) h
 
 none_ready : (w : World) → 0 < length w.cpus → held_by w 0 ≡ None → IsRefused w (0, Take) → first_ready w.table.ready ≡ None
 unfolding event_refusal
-none_ready w some empty refused = by (nat_lt 0 (length w.cpus)) (is_there (length w.cpus) some) (held_by w 0) empty refused.1
+none_ready w some empty refused = by (nat_lt 0 (length w.cpus)) (lt-ltb 0 (length w.cpus) some) (held_by w 0) empty refused.1
   where
-    is_there : (n : ℕ) → 0 < n → nat_lt 0 n ≡ true
-    is_there zero b = absurd (omega (arith, b))
-    is_there (suc n) b = refl
-
     by : (b : Bool) → b ≡ true → (held : Option HeldProcess) → held ≡ None → cond b (take_refusal (free_records w) held (first_ready w.table.ready)) (Some CpuBusy) ≡ Some refused.0 → first_ready w.table.ready ≡ None
     by true e None f h = not_ready (free_records w) (first_ready w.table.ready) refused.0 h refused.2
     by true e (Some l) f h = cc
@@ -334,7 +330,7 @@ module _ (w : World) (next : Option Event) where
   abbrev at_end : World
   at_end = world_after at_runs (offered at_runs others)
 
-  by_full : Bool → Offered
+  abbrev by_full : Bool → Offered
   by_full b = cond b (record ran { full = true }) (then_offered w ran others)
 
   -- the parts of a turn that met no full history
@@ -438,29 +434,33 @@ turn_uses join w (x ∷ xs) some busy h = let on = no_less_after w (turn w (Some
 
 -- ---- turns
 
+-- a turn, and n turns after it, by whether all is over before it, and whether it meets a full history
+abbrev course_by : ℕ → World → List Event → Bool → Bool → Course
+course_by n w coming over full =
+    let t = turn w (slice_get coming 0) in
+    let later = turns n (world_after w t) (drop 1 coming) in
+    cond over (record { made = []; ending = Rest }) (cond full (record { made = t.made; ending = Full }) (record { made = t.made ++ later.made; ending = later.ending }))
+
+few_by : Joins → (n : ℕ) (w : World) (coming : List Event) → 0 < length w.cpus
+    → (let u = world_after w (turn w (slice_get coming 0)) in let later = turns n u (drop 1 coming) in
+    later.ending ≡ Turns → n + u.records ≤ (world_after_events u later.made).records + refusable (drop 1 coming))
+    → (over full : Bool) → is_over w coming ≡ over → (turn w (slice_get coming 0)).full ≡ full → (course_by n w coming over full).ending ≡ Turns
+    → suc n + w.records ≤ (world_after_events w (course_by n w coming over full).made).records + refusable coming
+few_by join n w coming some rest true full o f e = cc
+few_by join n w coming some rest false true o f e = cc
+few_by join n w coming some rest false false o f e =
+    let t = turn w (slice_get coming 0) in
+    let u = world_after w t in
+    let later = turns n u (drop 1 coming) in
+    let one = turn_uses join w coming some o f in
+    let more = rest e in
+    subst (λ (y : World). suc n + w.records ≤ y.records + refusable coming) (sym (after_append w t.made later.made)) (omega (arith, one, more))
+
 -- as many turns as were asked for are at most as many as the records that they make, and the events that may be refused
 pub few : Joins → (n : ℕ) (w : World) (coming : List Event) → 0 < length w.cpus → (turns n w coming).ending ≡ Turns
     → n + w.records ≤ (world_after_events w (turns n w coming).made).records + refusable coming
 few join zero w coming some h = omega arith
-few join (suc n) w coming some h = by (is_over w coming) t.full refl refl h
-  where
-    t : Offered
-    t = turn w (slice_get coming 0)
-
-    u : World
-    u = world_after w t
-
-    later : Course
-    later = turns n u (drop 1 coming)
-
-    course : Bool → Bool → Course
-    course over full = cond over (record { made = []; ending = Rest }) (cond full (record { made = t.made; ending = Full }) (record { made = t.made ++ later.made; ending = later.ending }))
-
-    by : (over full : Bool) → is_over w coming ≡ over → t.full ≡ full → (course over full).ending ≡ Turns → suc n + w.records ≤ (world_after_events w (course over full).made).records + refusable coming
-    by true full o f e = cc
-    by false true o f e = cc
-    by false false o f e =
-        let some_left : 0 < length u.cpus = subst (λ k. 0 < k) (sym (cpus_stay w t.made)) some in
-        let one = turn_uses join w coming some o f in
-        let rest = few join n u (drop 1 coming) some_left e in
-        subst (λ (y : World). suc n + w.records ≤ y.records + refusable coming) (sym (after_append w t.made later.made)) (omega (arith, one, rest))
+few join (suc n) w coming some h =
+    let t = turn w (slice_get coming 0) in
+    let u = world_after w t in
+    few_by join n w coming some (λ e. few join n u (drop 1 coming) (subst (λ k. 0 < k) (sym (cpus_stay w t.made)) some) e) (is_over w coming) t.full refl refl h
