@@ -1,2 +1,3 @@
 pub mod Verbs
+pub mod Points
 pub mod Requests

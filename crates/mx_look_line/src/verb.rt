@@ -12,29 +12,41 @@ use std::alloc::AllocError;
 #[derive(Clone, Copy, Debug, PartialEq, Eq)]
 pub enum Verb {
     Back,
+    Break,
+    Clear,
+    Continue,
     Forward,
     GoTo,
     Help,
     Messages,
+    Points,
     Processes,
     Quit,
+    Reverse,
     Step,
     StepBack,
+    Watch,
     Where,
     Why,
 }
 
 /// All verbs, in the order of their words.
-const VERBS: [Verb; 11] = [
+const VERBS: [Verb; 17] = [
     Verb::Back,
+    Verb::Break,
+    Verb::Clear,
+    Verb::Continue,
     Verb::Forward,
     Verb::GoTo,
     Verb::Help,
     Verb::Messages,
+    Verb::Points,
     Verb::Processes,
     Verb::Quit,
+    Verb::Reverse,
     Verb::Step,
     Verb::StepBack,
+    Verb::Watch,
     Verb::Where,
     Verb::Why,
 ];
@@ -46,14 +58,20 @@ impl Verb {
     {
         match self {
             Verb::Back => b"back",
+            Verb::Break => b"break",
+            Verb::Clear => b"clear",
+            Verb::Continue => b"continue",
             Verb::Forward => b"forward",
             Verb::GoTo => b"goto",
             Verb::Help => b"help",
             Verb::Messages => b"messages",
+            Verb::Points => b"points",
             Verb::Processes => b"ps",
             Verb::Quit => b"quit",
+            Verb::Reverse => b"reverse",
             Verb::Step => b"step",
             Verb::StepBack => b"stepback",
+            Verb::Watch => b"watch",
             Verb::Where => b"where",
             Verb::Why => b"why",
         }
