@@ -5,7 +5,9 @@ mod answering;
 mod laws;
 mod moves;
 mod places;
+mod seeking;
 mod session;
+mod sight;
 mod telling;
 
 pub use laws::{one_session, why_is_traced};

@@ -1,6 +1,6 @@
 -- Bytes that are watched (our own).
 use Rattle.std.specs.Prelude.{ℕ, zero, suc, ◌+◌, ◌%◌, ◌^◌, ◌&&◌, nat_le, nat_lt, if◌then◌else◌, List, [], ◌∷◌, ◌++◌, length, Option, Some, None, Result, Ok, Err, slice_get}
-use Rattle.mx_app_db.specs.Service.{Service}
+use Rattle.mx_machine.specs.Service.{Service}
 use Rattle.mx_machine.specs.declared.events.Refusal.TheVariants.{NoService}
 use Rattle.mx_print_answers.specs.DebugError.TheVariants.{NotHere, TooMany}
 use Rattle.mx_print_answers.specs.declared.refused.Refused.{Refused as Kind}

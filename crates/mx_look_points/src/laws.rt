@@ -1,6 +1,6 @@
 //! Laws of searches.
 
-ghost use Rattle.std.specs.Prelude.{◌≡◌, ◌×◌, ℕ, List, Some, true};
+ghost use Rattle.std.specs.Prelude.{◌≡◌, ℕ, List, Some, true};
 ghost use Rattle.mx_machine.specs.declared.events.Event.{Event};
 ghost use Rattle.mx_walk.specs.declared.positions.Position.{Position};
 ghost use Rattle.mx_walk.specs.Positions.{IsPosition, IsUpTo, event_below, next_position, position_before};

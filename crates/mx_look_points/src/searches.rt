@@ -1,6 +1,6 @@
 //! Searches: on to the next halt, and back to the last one.
 
-ghost use Rattle.std.specs.Prelude.{◌≡◌, ◌×◌, IfOk, Some, string_bytes};
+ghost use Rattle.std.specs.Prelude.{◌≡◌, IfOk, Some, string_bytes};
 ghost use Rattle.mx_machine.specs.World.{World};
 ghost use Rattle.mx_walk.specs.Positions.{IsAbove, IsPosition, IsUpTo, event_below, next_position, position_before};
 ghost use Rattle.mx_walk.specs.Seeking.{is_marked};
