@@ -11,6 +11,7 @@ ghost use Rattle.mx_app_look.specs.Sessions.{after_by, after_line, answer_by, an
 
 use crate::moves::{back_from, can_go, forward_from, position_asked, steps_back, steps_on};
 use crate::places::{push_place, push_position};
+use crate::showing::push_shown;
 use crate::telling::{push_deliveries, push_processes, push_why};
 use mx_app_step::{Failure, print_text};
 use mx_look_line::{PositionWord, Request, push_unknown, request_of};
@@ -20,7 +21,7 @@ use std::io::Write;
 
 /// What `help` prints.
 const HELP: &str =
-    "forward [N]  on by N records           back [N]      back by N records\nstep [N]     on by N events            stepback [N]  back by N events\ngoto K       below K records           goto K.J      and J steps of the next\ngoto end     the last position         where         the position again\nwhy          what the record above did\nps           the report                messages      what was delivered\nhelp         this                      quit          the end\nA record stands for one event; back N stands for N steps of a process before it.\nA command may be shortened, as f, b or stepb. Without N it is 1.\n";
+    "forward [N]  on by N records           back [N]      back by N records\nstep [N]     on by N events            stepback [N]  back by N events\ngoto K       below K records           goto K.J      and J steps of the next\ngoto end     the last position         where         the position again\nwhy          what the record above did\nps           the report                messages      what was delivered\nregs [S]     registers of slot S       mem S A N     N bytes of it from A on\nlist [S [A]] its code from A on        stack [S [N]] N dwords of its stack\nprint S NAME its variable of that name\nhelp         this                      quit          the end\nA record stands for one event; back N stands for N steps of a process before it.\nA command may be shortened, as f, b or stepb. Without N it is 1, of a stack 8.\nWithout S it is the slot of the process on the processor whose record is next.\nA is a number, decimal or 0x.., or a symbol of the slot's program, as top or top+4.\n";
 
 /// What a position that isn't there is answered.
 const NO_POSITION: &str = "refused 63 NoPosition\n";
@@ -109,6 +110,10 @@ pub(crate) fn perform(
             push_deliveries(alloc, out, &walker)?;
             Ok(walker)
         }
+        Request::Show(shown) => {
+            push_shown(alloc, out, &walker, &shown)?;
+            Ok(walker)
+        }
         Request::Help => {
             out.extend_from_slice(HELP.as_bytes())?;
             Ok(walker)
@@ -150,8 +155,8 @@ pub(crate) fn push_prompt(out: &mut Vec<u8>, asks: bool, walker: &Walker) -> Res
 }
 
 /// Whether a request ends the session.
-fn is_quit(request: Option<Request>) -> bool
-    ensures { result ≡ is_quit request }
+fn is_quit(request: &Option<Request>) -> bool
+    ensures { result ≡ is_quit request.now }
 {
     match request {
         Some(Request::Quit) => true,
@@ -174,7 +179,7 @@ pub(crate) fn answer_line<W: Write>(
         × Appends (W.contents out.old) (W.contents out.new) (answer_text asks walker line.now))) }
 {
     let request = request_of(line);
-    if is_quit(request) {
+    if is_quit(&request) {
         return Ok(None);
     }
     let mut text = Vec::new(alloc);

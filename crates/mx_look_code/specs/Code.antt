@@ -1,5 +1,5 @@
 -- The line of code at an address of a process (our own).
-use Rattle.std.specs.Prelude.{ℕ, ◌-◌, List, [], ◌∷◌, ◌++◌, codes, drop, take, Option, Some, None, Result, Ok, Err, if◌then◌else◌, nat_lt}
+use Rattle.std.specs.Prelude.{ℕ, zero, suc, ◌-◌, ◌==◌, List, [], ◌∷◌, ◌++◌, codes, drop, take, Option, Some, None, Result, Ok, Err, if◌then◌else◌, nat_lt}
 use Rattle.mx_insn.specs.declared.insn.Insn.{Insn}
 use Rattle.mx_decode.specs.declared.DecodeFault.{DecodeFault}
 use Rattle.mx_decode.specs.Decode.{front}
@@ -16,11 +16,11 @@ use Rattle.mx_look_code.specs.Nearest.{nearest_symbol}
 
 -- its name, and how far the address lies after it
 unfoldable pub place_text : ℕ → Symbol → List ℕ
-place_text at s = name_text s.name ++ (if nat_lt s.value at then codes "+" ++ hexadecimal (at - s.value) else []) ++ codes " "
+place_text at s = name_text s.name ++ (if nat_lt s.value at then codes "+" ++ hexadecimal (at - s.value) else [])
 
 abbrev pub place_text_if : ℕ → Option Symbol → List ℕ
 place_text_if at None = []
-place_text_if at (Some s) = place_text at s
+place_text_if at (Some s) = place_text at s ++ codes " "
 
 abbrev pub symbol_text : ℕ → List Symbol → List ℕ
 symbol_text at symbols = place_text_if at (nearest_symbol at symbols)
@@ -40,7 +40,24 @@ abbrev pub part_of_front : ℕ → List ℕ → List ℕ
 part_of_front at [] = []
 part_of_front at (b ∷ bs) = part_by at b (front (b ∷ bs))
 
+abbrev pub size_by : Result (Insn × ℕ) DecodeFault → ℕ
+size_by (Ok p) = p.1
+size_by (Err e) = 1
+
+-- how many of these bytes it has
+abbrev pub size_of_front : List ℕ → ℕ
+size_of_front [] = 0
+size_of_front (b ∷ bs) = size_by (front (b ∷ bs))
+
 -- ---- THE LINE
 
 unfoldable pub code_line : List Symbol → Image → ℕ → List ℕ
 code_line symbols m at = eight_digits at ++ codes " " ++ symbol_text at symbols ++ part_of_front at (code_front m at) ++ codes "\n"
+
+-- ---- THE LINES of this many instructions from an address on, up to where the code ends
+
+abbrev pub code_lines : ℕ → List Symbol → Image → ℕ → List ℕ
+code_lines zero symbols m at = []
+code_lines (suc n) symbols m at =
+    if size_of_front (code_front m at) == 0 then []
+    else code_line symbols m at ++ code_lines n symbols m (dword_sum at (size_of_front (code_front m at)))

@@ -1,2 +1,4 @@
 pub mod Nearest
 pub mod Code
+pub mod Stack
+pub mod Variables
