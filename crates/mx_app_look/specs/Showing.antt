@@ -2,7 +2,7 @@
 use Rattle.std.specs.Prelude.{ℕ, List, ◌++◌, codes, Option, Some, None, Result, Ok, Err, slice_get}
 use Rattle.mx_aout.specs.declared.program.Symbol.{Symbol}
 use Rattle.mx_exec.specs.declared.image.Image.{Image}
-use Rattle.mx_look_code.specs.Code.{code_lines}
+use Rattle.mx_look_code.specs.Lines.{code_lines}
 use Rattle.mx_look_code.specs.Stack.{stack_text}
 use Rattle.mx_look_code.specs.Variables.{variable_line, variable_named, variable_value}
 use Rattle.mx_look_line.specs.declared.address_word.AddressWord.{AddressWord}

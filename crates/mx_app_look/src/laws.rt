@@ -22,7 +22,7 @@ pub fn one_session()
     one_last();
 }
 
-/// Law: what `why` shows of a record is the step of which a trace tells.
+/// Law: what `why` shows of a record is the step that a trace shows.
 pub fn why_is_traced()
     ensures { (boot : World) (records : List Record) (n : ℕ) (x : Record) → n + 1 < 2 ^ 32
         → slice_get records n ≡ Some x → step_above boot records n x

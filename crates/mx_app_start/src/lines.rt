@@ -8,8 +8,8 @@ use crate::noting::{Bytes, bytes_noted};
 use std::io;
 use std::io::{BufRead, Read};
 
-/// How many bytes of a line are kept. A session refuses a line that is so long.
-const KEPT: usize = 4097;
+/// How many bytes of a line are given. A session refuses a line that is so long.
+const GIVEN: usize = 4097;
 
 /// Gives the lines that are typed.
 pub trait LineReader {
@@ -55,10 +55,10 @@ fn line_noted(more: bool, line: &[u8]) -> Option<Bytes>
 
 /// Reads a line, or its first bytes if it is too long. Answers false at the end of the input.
 fn read_line<B: BufRead>(input: &mut B, line: &mut Vec<u8>) -> io::Result<bool> {
-    let count = input.by_ref().take(KEPT as u64).read_until(b'\n', line)?;
+    let count = input.by_ref().take(GIVEN as u64).read_until(b'\n', line)?;
     if line.last() == Some(&b'\n') {
         line.pop();
-    } else if count >= KEPT {
+    } else if count >= GIVEN {
         input.skip_until(b'\n')?;
     }
     Ok(count > 0)

@@ -1,6 +1,6 @@
 -- Lines of code and rows of a stack, one more; and sizes of calls.
-use Rattle.std.proofs.Common.{◌≡◌, ◌∙◌, ◌<◌, ◌+◌, ◌-◌, ◌||◌, ℕ, zero, suc, eqb, cond, Bool, true, false, List, [], ◌++◌, append_assoc, Result, Ok, Err, inl, inr, refl, ap, subst, sym, arith}
-use Rattle.std.proofs.lemmas.Bool.{cases_lt, ne_eqb}
+use Rattle.std.proofs.Common.{◌≡◌, ◌∙◌, ◌<◌, ◌+◌, ◌-◌, ◌||◌, ℕ, zero, suc, Bool, true, false, List, [], ◌++◌, append_assoc, Option, Some, None, Result, Ok, Err, inl, inr, refl, ap, subst, sym, arith}
+use Rattle.std.proofs.lemmas.Bool.{cases_lt}
 use Rattle.std.proofs.lemmas.List.{append-nil}
 use Rattle.mx_aout.specs.declared.program.Symbol.{Symbol}
 use Rattle.mx_exec.specs.declared.image.Image.{Image}
@@ -8,7 +8,10 @@ use Rattle.mx_exec.specs.Image.{dword_sum}
 use Rattle.mx_mem.specs.Segment.{read_at}
 use Rattle.mx_mem.specs.declared.segment.OutOfLimit.{OutOfLimit}
 use Rattle.mx_word.specs.declared.size.Size.TheVariants.{Dword}
-use Rattle.mx_look_code.specs.Code.{code_front, code_line, code_lines, size_of_front}
+use Rattle.mx_dis.specs.declared.part.Part.{Part}
+use Rattle.mx_dis.specs.Parting.{part_size}
+use Rattle.mx_look_code.specs.Code.{code_line, code_part}
+use Rattle.mx_look_code.specs.Lines.{and_lines, code_lines}
 use Rattle.mx_look_code.specs.Stack.{and_rows, call_ends, shorter_call_ends, stack_row, stack_rows}
 
 -- what is left is nothing
@@ -23,18 +26,16 @@ pub counts_down : (n i : ℕ) → i < n → n - i ≡ suc (n - (i + 1))
 counts_down n i lt = omega (arith, lt)
 
 module _ (symbols : List Symbol) (m : Image) where
-  pub one_line : (n k at size : ℕ) → k ≡ suc n → size ≡ size_of_front (code_front m at) → (size ≡ 0 → ⊥)
+  pub one_line : (n k at size : ℕ) (p : Part) → k ≡ suc n → code_part m at ≡ Some p → size ≡ part_size p
       → code_lines k symbols m at ≡ code_line symbols m at ++ code_lines n symbols m (dword_sum at size)
-  one_line n k at size one e some =
-      let isnt : eqb (size_of_front (code_front m at)) 0 ≡ false = ne_eqb (size_of_front (code_front m at)) 0 (λ z. some (e ∙ z)) in
+  one_line n k at size p one e s =
       ap (λ i. code_lines i symbols m at) one
-      ∙ ap (λ b. cond b [] (code_line symbols m at ++ code_lines n symbols m (dword_sum at (size_of_front (code_front m at))))) isnt
-      ∙ ap (λ i. code_line symbols m at ++ code_lines n symbols m (dword_sum at i)) (sym e)
+      ∙ ap (λ (o : Option Part). and_lines (code_line symbols m at) o at (code_lines n symbols m)) e
+      ∙ ap (λ i. code_line symbols m at ++ code_lines n symbols m (dword_sum at i)) (sym s)
 
-  pub no_line : (n at : ℕ) → size_of_front (code_front m at) ≡ 0 → code_lines n symbols m at ≡ []
+  pub no_line : (n at : ℕ) → code_part m at ≡ None → code_lines n symbols m at ≡ []
   no_line zero at e = refl
-  no_line (suc n) at e =
-      ap (λ i. cond (eqb i 0) [] (code_line symbols m at ++ code_lines n symbols m (dword_sum at (size_of_front (code_front m at))))) e
+  no_line (suc n) at e = ap (λ (o : Option Part). and_lines (code_line symbols m at) o at (code_lines n symbols m)) e
 
   pub one_row : (n k at v : ℕ) → k ≡ suc n → read_at m.memory at Dword ≡ Ok v → stack_rows k symbols m at ≡ stack_row symbols m at v ++ stack_rows n symbols m (dword_sum at 4)
   one_row n k at v one e =

@@ -1,8 +1,8 @@
 -- The top of a process's stack (our own).
 use Rattle.std.specs.Prelude.{ℕ, zero, suc, ◌-◌, ◌==◌, ◌&&◌, ◌||◌, Bool, true, false, List, [], ◌++◌, codes, Option, Some, None, Result, Ok, Err, if◌then◌else◌, nat_le}
 use Rattle.mx_aout.specs.declared.program.Symbol.{Symbol}
-use Rattle.mx_decode.specs.declared.DecodeFault.{DecodeFault}
-use Rattle.mx_decode.specs.Decode.{front}
+use Rattle.mx_dis.specs.declared.part.Part.{Part}
+use Rattle.mx_dis.specs.declared.part.Part.TheVariants.{Instruction}
 use Rattle.mx_exec.specs.declared.image.Image.{Image}
 use Rattle.mx_exec.specs.Image.{dword_sum, register_of}
 use Rattle.mx_insn.specs.declared.insn.Insn.{Insn}
@@ -12,8 +12,7 @@ use Rattle.mx_mem.specs.Segment.{read_at}
 use Rattle.mx_mem.specs.declared.segment.OutOfLimit.{OutOfLimit}
 use Rattle.mx_word.specs.declared.register.Register.TheVariants.{Esp}
 use Rattle.mx_word.specs.declared.size.Size.TheVariants.{Dword}
-use Rattle.mx_look_code.specs.Code.{code_front, place_text}
-use Rattle.mx_look_code.specs.Nearest.{nearest_symbol}
+use Rattle.mx_look_code.specs.Code.{code_line, code_part}
 
 -- ---- addresses that follow a call
 
@@ -22,13 +21,13 @@ is_call (Call far) = true
 is_call (CallTo operand) = true
 is_call _ = false
 
-abbrev pub is_call_of : ℕ → Result (Insn × ℕ) DecodeFault → Bool
-is_call_of size (Ok p) = is_call p.0 && (p.1 == size)
-is_call_of size (Err e) = false
+abbrev pub is_call_of : ℕ → Option Part → Bool
+is_call_of size (Some (Instruction i n)) = is_call i && (n == size)
+is_call_of size _ = false
 
 -- a call of this size ends at an address
 abbrev pub call_ends : Image → ℕ → ℕ → Bool
-call_ends m at size = nat_le size at && is_call_of size (front (code_front m (at - size)))
+call_ends m at size = nat_le size at && is_call_of size (code_part m (at - size))
 
 -- a call of less than this size does
 abbrev pub shorter_call_ends : Image → ℕ → ℕ → Bool
@@ -41,17 +40,13 @@ follows_call m at = shorter_call_ends m at 16
 
 -- ---- rows
 
-abbrev pub return_symbol_text : ℕ → Option Symbol → List ℕ
-return_symbol_text at None = []
-return_symbol_text at (Some s) = codes " " ++ place_text at s
+-- the dword; if it is an address that follows a call, the line of the code there
+abbrev pub dword_text : List Symbol → Image → ℕ → List ℕ
+dword_text symbols m v = if follows_call m v then code_line symbols m v else eight_digits v ++ codes "\n"
 
--- the nearest symbol of an address that follows a call
-abbrev pub return_text : List Symbol → Image → ℕ → List ℕ
-return_text symbols m v = if follows_call m v then return_symbol_text v (nearest_symbol v symbols) else []
-
--- a row: the address, the dword there, and of a return address the symbol
+-- a row: the address, and the dword there
 unfoldable pub stack_row : List Symbol → Image → ℕ → ℕ → List ℕ
-stack_row symbols m at v = eight_digits at ++ codes " " ++ eight_digits v ++ return_text symbols m v ++ codes "\n"
+stack_row symbols m at v = eight_digits at ++ codes " " ++ dword_text symbols m v
 
 -- a row and those after it, if the dword is inside
 abbrev pub and_rows : List Symbol → Image → ℕ → Result ℕ OutOfLimit → List ℕ → List ℕ

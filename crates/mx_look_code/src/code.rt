@@ -2,11 +2,12 @@
 
 ghost use Rattle.std.specs.Prelude.{◌≡◌, ◌++◌, OnOk, codes, string_bytes, option_copied};
 ghost use Rattle.mx_dis.specs.Names.{name_text, visible_byte};
-ghost use Rattle.mx_look_code.specs.Code.{code_front, code_line, code_lines, part_of_front, place_text, size_of_front, symbol_text};
+ghost use Rattle.mx_look_code.specs.Code.{code_line, code_part, code_text, part_text_if, place_text};
 
 use crate::nearest::nearest_symbol;
 use mx_aout::Symbol;
 use mx_decode::decode;
+use mx_dis::Part;
 use mx_exec::Image;
 use mx_insn_words::{push_eight_digits, push_number, push_statement};
 use std::alloc::AllocError;
@@ -32,9 +33,9 @@ pub(crate) fn push_name(out: &mut String, name: &[u8]) -> Result<(), AllocError>
     Ok(())
 }
 
-/// Appends where an address lies by a symbol: `top` or `top+1f`.
+/// Appends where an address lies by a symbol: `top ` or `top+1f `.
 #[tactic(auto, unfolding(crate::specs::Code::place_text))]
-pub(crate) fn push_place(out: &mut String, symbol: &Symbol, at: u32) -> Result<(), AllocError>
+fn push_place(out: &mut String, symbol: &Symbol, at: u32) -> Result<(), AllocError>
     ensures { OnOk result (string_bytes out.new ≡ string_bytes out.old
         ++ place_text at symbol.now) }
 {
@@ -43,61 +44,59 @@ pub(crate) fn push_place(out: &mut String, symbol: &Symbol, at: u32) -> Result<(
         let far = at - symbol.value;
         write!(out, "+{far:x}")?;
     }
-    Ok(())
+    out.push_str(" ")
 }
 
-/// Appends where an address lies by the nearest symbol of the text, if there is one.
-fn push_symbol(out: &mut String, symbols: &[Symbol], at: u32) -> Result<(), AllocError>
+/// Appends the instruction or the byte at an address, as a listing has it; nothing if the code ends there.
+fn push_part(out: &mut String, part: Option<Part>, at: u32) -> Result<(), AllocError>
     ensures { OnOk result (string_bytes out.new ≡ string_bytes out.old
-        ++ symbol_text at symbols.now) }
+        ++ part_text_if at part) }
 {
-    match nearest_symbol(symbols, at) {
-        Some(symbol) => {
-            push_place(out, symbol, at)?;
-            out.push_str(" ")
+    match part {
+        Some(Part::Instruction(insn, size)) => {
+            push_statement(out, &insn, at.wrapping_add(u32::from(size)))
+        }
+        Some(Part::Byte(byte)) => {
+            out.push_str(".data1 ")?;
+            push_number(out, u32::from(byte))
         }
         None => Ok(()),
     }
 }
 
-/// Appends the instruction that these bytes, at an address, begin with, or the first as data; nothing if
-/// there are none.
-fn push_part(out: &mut String, at: u32, front: &[u8]) -> Result<(), AllocError>
+/// What a listing has of the bytes that are now at an address of a process: an instruction, or a byte with
+/// which none begins; nothing if the code ends there.
+#[tactic(auto, unfolding(crate::specs::Code::code_part))]
+pub fn code_part(image: &Image, at: u32) -> Option<Part>
+    ensures { result ≡ code_part image.now at }
+{
+    let front = image.code_segment().copy_of_front(at);
+    let front = front.as_slice();
+    let byte = front.first()?;
+    match decode(front) {
+        Ok((insn, size)) => Some(Part::Instruction(insn, size)),
+        Err(_) => Some(Part::Byte(*byte)),
+    }
+}
+
+/// Appends the code at an address: the address, the symbol that it lies at or after, and what a listing has
+/// there.
+#[tactic(auto, unfolding(crate::specs::Code::code_text))]
+pub fn push_code(
+    out: &mut String,
+    symbol: Option<&Symbol>,
+    part: Option<Part>,
+    at: u32,
+) -> Result<(), AllocError>
     ensures { OnOk result (string_bytes out.new ≡ string_bytes out.old
-        ++ part_of_front at front.now) }
+        ++ code_text (option_copied symbol) part at) }
 {
-    let Some(byte) = front.first() else {
-        return Ok(());
-    };
-    match decode(front) {
-        Ok((insn, size)) => push_statement(out, &insn, at.wrapping_add(u32::from(size))),
-        Err(_) => {
-            out.push_str(".data1 ")?;
-            push_number(out, u32::from(*byte))
-        }
+    push_eight_digits(out, at)?;
+    out.push_str(" ")?;
+    if let Some(symbol) = symbol {
+        push_place(out, symbol, at)?;
     }
-}
-
-/// How many of these bytes the instruction has that they begin with: one if they begin with none, 0 if there
-/// are none.
-fn size_of_front(front: &[u8]) -> u32
-    ensures { result ≡ size_of_front front.now }
-{
-    if front.is_empty() {
-        return 0;
-    }
-    match decode(front) {
-        Ok((_, size)) => u32::from(size),
-        Err(_) => 1,
-    }
-}
-
-/// How many bytes the instruction at an address of a process has: one if none begins there, 0 where the
-/// code ends.
-fn size_at(image: &Image, at: u32) -> u32
-    ensures { result ≡ size_of_front (code_front image.now at) }
-{
-    size_of_front(image.code_segment().copy_of_front(at).as_slice())
+    push_part(out, part, at)
 }
 
 /// Appends the line of the code at an address of a process: the address, the nearest of its program's
@@ -112,33 +111,6 @@ pub fn push_code_line(
     ensures { OnOk result (string_bytes out.new ≡ string_bytes out.old
         ++ code_line symbols.now image.now at) }
 {
-    push_eight_digits(out, at)?;
-    out.push_str(" ")?;
-    push_symbol(out, symbols, at)?;
-    let front = image.code_segment().copy_of_front(at);
-    push_part(out, at, front.as_slice())?;
+    push_code(out, nearest_symbol(symbols, at), code_part(image, at), at)?;
     out.push_str("\n")
-}
-
-/// Appends the lines of at most that many instructions from an address on, up to where the code ends.
-pub fn push_code_lines(
-    out: &mut String,
-    symbols: &[Symbol],
-    image: &Image,
-    from: u32,
-    count: u32,
-) -> Result<(), AllocError>
-    ensures { OnOk result (string_bytes out.new ≡ string_bytes out.old
-        ++ code_lines count symbols.now image.now from) }
-{
-    let mut at = from;
-    for _ in 0..count {
-        let size = size_at(image, at);
-        if size == 0 {
-            return Ok(());
-        }
-        push_code_line(out, symbols, image, at)?;
-        at = at.wrapping_add(size);
-    }
-    Ok(())
 }

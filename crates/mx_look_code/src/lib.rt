@@ -3,11 +3,15 @@
 #![tactic(auto)]
 
 mod code;
+mod lines;
 mod nearest;
 mod stack;
 mod variables;
 
-pub use code::{push_code_line, push_code_lines};
+pub use code::{code_part, push_code, push_code_line};
+pub use lines::push_code_lines;
+pub use mx_aout::Symbol;
+pub use mx_dis::Part;
 pub use nearest::nearest_symbol;
 pub use stack::push_stack;
 pub use variables::{push_variable, variable_named, variable_value};

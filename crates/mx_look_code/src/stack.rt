@@ -1,13 +1,11 @@
 //! The top of a process's stack.
 
 ghost use Rattle.std.specs.Prelude.{◌≡◌, ◌++◌, OnOk, string_bytes};
-ghost use Rattle.mx_decode.specs.Decode.{front};
-ghost use Rattle.mx_look_code.specs.Stack.{call_ends, follows_call, is_call, is_call_of, return_text, stack_row, stack_rows, stack_text};
+ghost use Rattle.mx_look_code.specs.Stack.{call_ends, dword_text, follows_call, is_call, is_call_of, stack_row, stack_rows, stack_text};
 
-use crate::code::push_place;
-use crate::nearest::nearest_symbol;
+use crate::code::{code_part, push_code_line};
 use mx_aout::Symbol;
-use mx_decode::decode;
+use mx_dis::Part;
 use mx_exec::Image;
 use mx_insn::Insn;
 use mx_insn_words::push_eight_digits;
@@ -26,13 +24,13 @@ fn is_call(insn: &Insn) -> bool
     }
 }
 
-/// Whether these bytes begin with a call of this size.
-fn is_call_of(bytes: &[u8], size: u32) -> bool
-    ensures { result ≡ is_call_of size (front bytes.now) }
+/// Whether what the code has at a place is a call of this size.
+fn is_call_of(part: Option<Part>, size: u32) -> bool
+    ensures { result ≡ is_call_of size part }
 {
-    match decode(bytes) {
-        Ok((insn, length)) => is_call(&insn) && u32::from(length) == size,
-        Err(_) => false,
+    match part {
+        Some(Part::Instruction(insn, length)) => is_call(&insn) && u32::from(length) == size,
+        _ => false,
     }
 }
 
@@ -40,10 +38,7 @@ fn is_call_of(bytes: &[u8], size: u32) -> bool
 fn call_ends(image: &Image, at: u32, size: u32) -> bool
     ensures { result ≡ call_ends image.now at size }
 {
-    if size > at {
-        return false;
-    }
-    is_call_of(image.code_segment().copy_of_front(at - size).as_slice(), size)
+    size <= at && is_call_of(code_part(image, at - size), size)
 }
 
 /// Whether a call ends at an address of a process, so that it may be a return address.
@@ -58,26 +53,21 @@ fn follows_call(image: &Image, at: u32) -> bool
     false
 }
 
-/// Appends the nearest symbol of an address that follows a call.
-fn push_return(
+/// Appends a dword; if it is an address that follows a call, the line of the code there.
+fn push_dword(
     out: &mut String,
     symbols: &[Symbol],
     image: &Image,
-    at: u32,
+    value: u32,
 ) -> Result<(), AllocError>
     ensures { OnOk result (string_bytes out.new ≡ string_bytes out.old
-        ++ return_text symbols.now image.now at) }
+        ++ dword_text symbols.now image.now value) }
 {
-    if !follows_call(image, at) {
-        return Ok(());
+    if follows_call(image, value) {
+        return push_code_line(out, symbols, image, value);
     }
-    match nearest_symbol(symbols, at) {
-        Some(symbol) => {
-            out.push_str(" ")?;
-            push_place(out, symbol, at)
-        }
-        None => Ok(()),
-    }
+    push_eight_digits(out, value)?;
+    out.push_str("\n")
 }
 
 /// Appends the row of a dword of the stack.
@@ -94,9 +84,7 @@ fn push_row(
 {
     push_eight_digits(out, at)?;
     out.push_str(" ")?;
-    push_eight_digits(out, value)?;
-    push_return(out, symbols, image, value)?;
-    out.push_str("\n")
+    push_dword(out, symbols, image, value)
 }
 
 /// Appends the rows of at most that many dwords from an address on, up to where memory ends.
@@ -121,8 +109,8 @@ fn push_rows(
     Ok(())
 }
 
-/// Appends at most that many dwords of a process's stack from ESP on, with the nearest symbol of the text if
-/// a dword is an address that follows a call: `00000ff8 0000002f top+2f`.
+/// Appends the rows of at most that many dwords of a process's stack, from ESP on: `00000ff8 00000005`. If a
+/// dword is an address that follows a call, the row has the line of the code there.
 pub fn push_stack(
     out: &mut String,
     symbols: &[Symbol],

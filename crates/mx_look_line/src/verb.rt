@@ -103,7 +103,7 @@ fn count_begun(verbs: &[Verb], front: &[u8]) -> usize
     verbs.iter().filter(|verb| verb.begins_with(front)).count()
 }
 
-/// The verb that a word is, or whose word alone begins so.
+/// The verb that a word is; else the only verb whose word begins so.
 #[tactic(auto, unfolding(crate::specs::Verbs::verb_of))]
 pub(crate) fn verb_named(word: &[u8]) -> Option<Verb>
     ensures { result ≡ verb_of word.now }

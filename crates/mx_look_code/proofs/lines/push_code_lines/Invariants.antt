@@ -1,6 +1,6 @@
 use Rattle.std.proofs.Common.{◌≡◌, ◌++◌, ◌-◌, string_bytes}
-use Rattle.mx_look_code.specs.Code.{code_lines}
-use Rattle.mx_look_code.proofs.code.push_code_lines.Given as goal
+use Rattle.mx_look_code.specs.Lines.{code_lines}
+use Rattle.mx_look_code.proofs.lines.push_code_lines.Given as goal
 
 -- the lines so far, and those that are left
 abbrev pub invariant-loop : goal.invariant-loop
