@@ -1,5 +1,5 @@
 -- Sessions (our own).
-use Rattle.std.specs.Prelude.{◌≡◌, ◌⊎◌, ℕ, Bool, true, false, List, [], ◌∷◌, ◌++◌, codes, Option, Some, None, if◌then◌else◌}
+use Rattle.std.specs.Prelude.{◌≡◌, ◌⊎◌, ◌^◌, ◌-◌, ℕ, Bool, true, false, List, [], ◌∷◌, ◌++◌, codes, length, Option, Some, None, if◌then◌else◌}
 use Rattle.mx_look_line.specs.declared.request.Request.{Request}
 use Rattle.mx_look_line.specs.declared.request.Request.TheVariants.{Quit}
 use Rattle.mx_look_line.specs.Requests.{request_of}
@@ -33,13 +33,35 @@ IsAnswered s line u text = IsAnsweredBy s line (request_of line) u text
 abbrev pub prompt_text : Bool → Walk → List ℕ
 prompt_text asks k = if asks then position_text k.here ++ codes "> " else []
 
--- ---- THE SESSION: up to a line that ends it, or to the end of the input
+-- ---- WHAT A SESSION TAKES of its input: lines, and at the end of the input None
 
-abbrev pub IsSession : Bool → Sight → List (List ℕ) → List ℕ → Type 0
-IsSession asks s [] text = text ≡ (if asks then codes "\n" else [])
-IsSession asks s (l ∷ ls) text =
+abbrev pub is_nothing : List (Option (List ℕ)) → Bool
+is_nothing [] = true
+is_nothing (x ∷ xs) = false
+
+-- it is over after a line that ends it, or at the end of the input; and takes nothing more
+abbrev pub is_over : List (Option (List ℕ)) → Bool
+is_over [] = false
+is_over (None ∷ xs) = is_nothing xs
+is_over (Some l ∷ xs) = if ends l then is_nothing xs else is_over xs
+
+-- it is over, or it took as many lines as a number of 64 bits counts
+abbrev pub IsWhole : List (Option (List ℕ)) → Type 0
+IsWhole xs = (is_over xs ≡ true) ⊎ (length xs ≡ 2 ^ 64 - 1)
+
+-- ---- THE SESSION: what it prints
+
+-- at the end of the input, so that what follows begins a line
+abbrev pub end_text : Bool → List ℕ
+end_text asks = if asks then codes "\n" else []
+
+-- the answers, each followed by what asks for the next line
+abbrev pub IsSession : Bool → Sight → List (Option (List ℕ)) → List ℕ → Type 0
+IsSession asks s [] text = text ≡ []
+IsSession asks s (None ∷ xs) text = text ≡ end_text asks
+IsSession asks s (Some l ∷ xs) text =
     ((ends l ≡ true) × (text ≡ []))
-    ⊎ ((ends l ≡ false) × ((u : Sight) × (answer : List ℕ) × (rest : List ℕ) × IsAnswered s l u answer × IsSession asks u ls rest
+    ⊎ ((ends l ≡ false) × ((u : Sight) × (answer : List ℕ) × (rest : List ℕ) × IsAnswered s l u answer × IsSession asks u xs rest
     × (text ≡ (answer ++ prompt_text asks u.walker) ++ rest)))
 
 -- with nothing to halt at

@@ -6,24 +6,28 @@ ghost use Rattle.mx_app_step.specs.Failure.{IsWanting};
 ghost use Rattle.mx_look_line.specs.declared.request.Request.TheVariants as requests;
 ghost use Rattle.mx_walk.specs.Positions.{IsPosition, IsUpTo};
 ghost use Rattle.mx_app_look.specs.declared.sight.Sight.{Sight as Seen};
-ghost use Rattle.mx_app_look.specs.Answers.{IsMade, after, help_text, request_text};
+ghost use Rattle.mx_app_look.specs.Answers.{IsMade, after, help_text, processes_text, request_text, why_text};
+ghost use Rattle.mx_app_look.specs.Showing.{shown_text};
+ghost use Rattle.mx_print_answers.specs.Messages.{delivery_lines};
+ghost use Rattle.mx_walk.specs.Walks.{world_here};
 ghost use Rattle.mx_app_look.specs.Places.{place_text};
 ghost use Rattle.mx_app_look.specs.Sessions.{IsAnswered, IsAnsweredBy, ends, is_quit, prompt_text};
 
 use crate::moves::{back_from, can_go, forward_from, position_asked, steps_back, steps_on};
 use crate::places::{push_place, push_position};
 use crate::seeking::{go_back, go_on, perform_point};
+use crate::showing::push_shown;
 use crate::sight::Sight;
 use crate::telling::{push_deliveries, push_processes, push_why};
 use mx_app_step::{Failure, print_text};
-use mx_look_line::{PositionWord, Request, push_unknown, request_of};
+use mx_look_line::{PositionWord, Request, Shown, push_unknown, request_of};
 use mx_walk::{Position, Walker};
 use std::alloc::{AllocError, Global};
 use std::io::Write;
 
 /// What `help` prints.
 const HELP: &str =
-    "forward [N]  on by N records           back [N]      back by N records\nstep [N]     on by N events            stepback [N]  back by N events\ngoto K       below K records           goto K.J      and J steps of the next\ngoto end     the last position         where         the position again\nwhy          what the record above did\nps           the report                messages      what was delivered\nhelp         this                      quit          the end\nA record stands for one event; back N stands for N steps of a process before it.\nA command may be shortened, as f, b or stepb. Without N it is 1.\n";
+    "forward [N], back [N]       by N records, or one\nstep [N], stepback [N]      by N events, or one: a step, or what a record does besides\ngoto K, goto K.J, goto end  below K records; and J steps of the next; the last position\nwhere, why                  the position again; what the record above did\nps, messages                the report; what was delivered\nregs [SLOT]                 registers of the slot's process\nmem SLOT ADDRESS N          N bytes of its memory\nlist [SLOT [ADDRESS]]       its code, from the address or from EIP on\nstack [SLOT [N]]            N dwords of its stack, or eight\nprint SLOT NAME             its variable of that name\nhelp, quit                  this; the end\nA record is one event; back N is N steps of a process, and then its return.\nA command may be shortened, as f or stepb. Without SLOT it is the process on the\nprocessor whose record is next. ADDRESS is a number, decimal or 0x.., or a symbol\nof the slot's program, as count or top+4.\n";
 
 /// What a position that isn't there is answered.
 const NO_POSITION: &str = "refused 63 NoPosition\n";
@@ -120,6 +124,17 @@ fn show_deliveries(alloc: Global, sight: Sight) -> Result<(Sight, Vec<u8>), Fail
     Ok((sight, text))
 }
 
+/// Answers what is asked for of a slot's process.
+fn show(alloc: Global, sight: Sight, shown: &Shown) -> Result<(Sight, Vec<u8>), Failure>
+    ensures err { IfErr result IsWanting }
+    ensures same { IfOk result (λ r. r.0 ≡ sight) }
+    ensures text { IfOk result (λ r. r.1.items ≡ shown_text sight.walker shown.now) }
+{
+    let mut text = Vec::new(alloc);
+    push_shown(alloc, &mut text, &sight.walker, shown)?;
+    Ok((sight, text))
+}
+
 /// Does what a request asks for, and answers what it prints. What is refused changes nothing.
 pub(crate) fn perform(
     alloc: Global,
@@ -154,6 +169,7 @@ pub(crate) fn perform(
         Request::Why => show_why(alloc, sight),
         Request::Processes => show_processes(alloc, sight),
         Request::Messages => show_deliveries(alloc, sight),
+        Request::Show(shown) => show(alloc, sight, &shown),
         Request::Help => say(alloc, sight, HELP),
         Request::Nothing | Request::Quit => say(alloc, sight, ""),
     }

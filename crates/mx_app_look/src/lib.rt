@@ -7,7 +7,9 @@ mod moves;
 mod places;
 mod seeking;
 mod session;
+mod showing;
 mod sight;
+mod slots;
 mod telling;
 
 pub use laws::{one_session, why_is_traced};

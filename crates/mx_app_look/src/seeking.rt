@@ -2,35 +2,68 @@
 
 ghost use Rattle.std.specs.Prelude.{◌≡◌, ◌++◌, IfErr, IfOk, OnOk, string_bytes};
 ghost use Rattle.mx_app_step.specs.Failure.{IsWanting};
-ghost use Rattle.mx_machine.specs.History.{replay};
 ghost use Rattle.mx_app_look.specs.Places.{place_text};
-ghost use Rattle.mx_app_look.specs.Seeking.{IsGoneBack, IsGoneOn, point_made, point_text, points_after};
+ghost use Rattle.mx_app_look.specs.Seeking.{IsGoneBack, IsGoneOn, breaks_after, point_made, point_text, points_after, watches_after};
 
 use crate::places::push_place;
 use crate::sight::Sight;
-use mx_app_db::set_breakpoint;
+use crate::slots::{address_asked, slot_asked};
 use mx_app_step::Failure;
-use mx_look_line::PointRequest;
+use mx_look_line::{AddressWord, PointRequest};
 use mx_look_points::{Points, go_back_to_point, go_on_to_point};
-use mx_machine::Kernel;
 use mx_print_answers::{Refused, push_done};
 use mx_walk::Walker;
 use std::alloc::{AllocError, Global};
 
+/// Sets a breakpoint. Refuses if there is no such slot or symbol, or if it would be the 65th breakpoint, and
+/// then changes nothing.
+fn set_break(
+    walker: &Walker,
+    points: &mut Points,
+    slot: u32,
+    address: &AddressWord,
+) -> Result<(), Refused>
+    ensures { breaks_after walker.now points.old.breakpoints slot address.now
+        ≡ (result, points.new.breakpoints) }
+    ensures same { points.new.watches ≡ points.old.watches }
+{
+    let slot = slot_asked(walker, Some(slot))?;
+    let at = address_asked(walker, slot, address)?;
+    points.breakpoints.add(slot, at)?;
+    Ok(())
+}
+
+/// Sets a watch. Refuses if there is no such slot or symbol, if its bytes are none or too many, or if it would
+/// be the ninth watch, and then changes nothing.
+fn set_watch(
+    walker: &Walker,
+    points: &mut Points,
+    slot: u32,
+    address: &AddressWord,
+    count: u32,
+) -> Result<(), Refused>
+    ensures { watches_after walker.now points.old.watches slot address.now count
+        ≡ (result, points.new.watches) }
+    ensures same { points.new.breakpoints ≡ points.old.breakpoints }
+{
+    let slot = slot_asked(walker, Some(slot))?;
+    let at = address_asked(walker, slot, address)?;
+    points.watches.set(slot, at, count)?;
+    Ok(())
+}
+
 /// Sets a breakpoint or a watch, or takes all away, and answers whether it is done.
 fn set_point(
-    kernel: &Kernel,
+    walker: &Walker,
     points: &mut Points,
     request: &PointRequest,
 ) -> Option<Result<(), Refused>>
-    ensures { points_after (replay kernel.now).services points.old request.now ≡ (result, points.new) }
+    ensures { points_after walker.now points.old request.now ≡ (result, points.new) }
 {
     match request {
-        PointRequest::Break(slot, place) => {
-            Some(set_breakpoint(kernel, &mut points.breakpoints, *slot, place))
-        }
+        PointRequest::Break(slot, address) => Some(set_break(walker, points, *slot, address)),
         PointRequest::Watch(slot, address, count) => {
-            Some(points.watches.set(kernel, *slot, *address, *count))
+            Some(set_watch(walker, points, *slot, address, *count))
         }
         PointRequest::Show => None,
         PointRequest::Clear => {
@@ -68,7 +101,7 @@ pub(crate) fn perform_point(
 {
     let Sight { walker, points } = sight;
     let mut points = points;
-    let done = set_point(walker.machine().kernel(), &mut points, request);
+    let done = set_point(&walker, &mut points, request);
     let mut line = String::new(alloc);
     push_point(&mut line, &points, done)?;
     Ok((Sight { walker, points }, line.into_bytes()))

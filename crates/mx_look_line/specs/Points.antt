@@ -1,16 +1,18 @@
 -- What typed lines ask for about what a search halts at (our own).
 use Rattle.std.specs.Prelude.{ℕ, List, [], ◌∷◌, Option, Some, None}
-use Rattle.mx_boot.specs.Debug.{slot_and_place}
 use Rattle.mx_boot.specs.Script.{count_field}
 use Rattle.mx_text.specs.Fields.{pair, ◌>>=◌}
+use Rattle.mx_look_line.specs.Addresses.{address_of_word}
 use Rattle.mx_look_line.specs.declared.points.PointRequest.{PointRequest}
 use Rattle.mx_look_line.specs.declared.points.PointRequest.TheVariants.{Break, Watch}
 
--- a slot and a place
+-- a slot and an address
 abbrev pub break_asked : List (List ℕ) → Option PointRequest
 break_asked fs = do
-  p ← slot_and_place fs
-  Some (Break p.0 p.1)
+  p ← pair fs
+  s ← count_field p.0
+  at ← address_of_word p.1
+  Some (Break s at)
 
 -- a slot, an address and a number of bytes
 abbrev pub watch_asked : List (List ℕ) → Option PointRequest
@@ -18,6 +20,6 @@ watch_asked [] = None
 watch_asked (f ∷ fs) = do
   s ← count_field f
   p ← pair fs
-  at ← count_field p.0
+  at ← address_of_word p.0
   n ← count_field p.1
   Some (Watch s at n)

@@ -1,13 +1,12 @@
 //! Bytes that are watched.
 
 ghost use Rattle.std.specs.Prelude.{◌≡◌, Some, None, IfErr, IfOk, OnErr, OnOk};
-ghost use Rattle.mx_machine.specs.History.{replay};
-ghost use Rattle.mx_look_points.specs.Watches.{places_of, watch_found, watches_after_watch, with_watch};
-ghost use Rattle.mx_print_answers.specs.DebugError.TheVariants as errors;
+ghost use Rattle.mx_look_points.specs.Watches.{places_of, watch_set, with_watch};
+ghost use Rattle.mx_debug.specs.declared.error.DebugError.TheVariants as errors;
 
 use arrayvec::ArrayVec;
-use mx_machine::{Kernel, Refusal};
-use mx_print_answers::{DebugError, Refused};
+use mx_debug::DebugError;
+use mx_proc::Slot;
 use mx_walk::BytePlace;
 use std::alloc::{AllocError, Global};
 use std::marker::Model;
@@ -18,7 +17,7 @@ const MOST_BYTES: u32 = 16;
 /// Bytes of the memory of a slot's process, whoever that is, from an address on.
 #[derive(Clone, Copy, Debug, Default, PartialEq, Eq)]
 pub struct Watch {
-    pub slot: u8,
+    pub slot: Slot,
     pub address: u32,
     pub count: u32,
 }
@@ -71,40 +70,20 @@ impl Watches {
         Ok(())
     }
 
-    /// Watches `count` bytes of a slot's process from an address on. Refuses if there is no such slot, if
-    /// they are none or more than 16, or if it would be the ninth watch, and then changes nothing.
-    pub fn set(
-        &mut self,
-        kernel: &Kernel,
-        slot: u32,
-        address: u32,
-        count: u32,
-    ) -> Result<(), Refused>
-        ensures { watches_after_watch self.old (watch_found (replay kernel.now).services slot address count)
-            ≡ (result, self.new) }
+    /// Watches `count` bytes of a slot's process from an address on. Refuses if they are none or more than 16,
+    /// or if it would be the ninth watch, and then changes nothing.
+    pub fn set(&mut self, slot: Slot, address: u32, count: u32) -> Result<(), DebugError>
+        ensures { watch_set self.old slot address count ≡ (result, self.new) }
     {
-        let watch = find_watch(kernel, slot, address, count)?;
-        self.add(watch)?;
-        Ok(())
+        if count == 0 || count > MOST_BYTES {
+            return Err(DebugError::NotHere);
+        }
+        self.add(Watch {
+            slot,
+            address,
+            count,
+        })
     }
-}
-
-/// The watch that a line names, or why there is none.
-fn find_watch(kernel: &Kernel, slot: u32, address: u32, count: u32) -> Result<Watch, Refused>
-    ensures { result ≡ watch_found (replay kernel.now).services slot address count }
-{
-    kernel.opened();
-    if slot as usize >= kernel.services().len() {
-        return Err(Refused::ByMachine(Refusal::NoService));
-    }
-    if count == 0 || count > MOST_BYTES {
-        return Err(Refused::ByDebugger(DebugError::NotHere));
-    }
-    Ok(Watch {
-        slot: slot as u8,
-        address,
-        count,
-    })
 }
 
 /// The places of a watch's bytes. An address of 32 bits is 0 after the last one.
