@@ -82,7 +82,7 @@ IsAnswered line (Err f) noted r = (c : Complaint) × (r ≡ Err c) × IsTold lin
 
 -- WHAT IS DONE OF WORDS: what the request does that they ask for; or, if the grammar finds them at fault, no file is asked for or written, and the
 -- fault is explained; or, if they are `turns` with both `--ticks` and `--events`, nothing is either, and this is the complaint
-abbrev pub IsPerformed : List (List ℕ) → Bool → List Asked → List Written → List (List ℕ) → Noted → (List ℕ → Type 0) → Result Done Complaint → Type 0
+abbrev pub IsPerformed : List (List ℕ) → Bool → List Asked → List Written → List (Option (List ℕ)) → Noted → (List ℕ → Type 0) → Result Done Complaint → Type 0
 IsPerformed texts asks qs ws typed noted Prints r =
     ((line : CommandLine) × (d : Result Done Kind) × Asks line.request (subcommand_of mx_grammar texts) × AsksToExplain line.explains (subcommand_of mx_grammar texts)
     × (both_given (subcommand_of mx_grammar texts) ≡ false)
