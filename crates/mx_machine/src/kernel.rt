@@ -102,7 +102,7 @@ impl Kernel {
         ensures same { OnErr result (services.new.items ≡ services.old.items) }
     {
         let records = Vec::with_capacity(alloc, config.log as usize)?;
-        let caches = Caches::new(alloc, config.cpus)?;
+        let caches = Caches::new(alloc, config.cpus, services.as_slice())?;
         let present = first_present(alloc, config, services)?;
         Ok(Kernel {
             present,

@@ -1075,7 +1075,7 @@ fn work_all(rt: &impl Abort, alloc: Global, cache: &mut Cache, rows: &[Row]) -> 
 
 #[test]
 fn worked_rows(rt: HostRuntime) -> Result<(), Fail> {
-    let mut cache = Cache::new(rt.alloc())?;
+    let mut cache = Cache::new(rt.alloc(), 0)?;
     work_all(&rt, rt.alloc(), &mut cache, ARITHMETIC)?;
     work_all(&rt, rt.alloc(), &mut cache, BITS)?;
     work_all(&rt, rt.alloc(), &mut cache, PLACES)?;
@@ -1133,7 +1133,7 @@ fn words_around_a_write(image: &mut Image, cache: &mut Cache) -> (u32, u32) {
 fn writes_from_outside(rt: HostRuntime) -> Result<(), Fail> {
     for row in LOOPS {
         let name = row.name;
-        let mut cache = Cache::new(rt.alloc())?;
+        let mut cache = Cache::new(rt.alloc(), 0)?;
         let mut image = image_of(rt.alloc(), &row.begin)?;
         let words = words_around_a_write(&mut image, &mut cache);
         assert!(rt; words == (row.eax, row.edx), "{name}");
