@@ -16,6 +16,7 @@ use Rattle.mx_app_failure.specs.declared.failure.Failure.TheVariants.{NotText, N
 use Rattle.mx_app_failure.specs.Failure.{IsWanting, failure_line, status_of}
 use Rattle.mx_app_db.specs.Asked.{Asked}
 use Rattle.mx_app_db.specs.Written.{Written}
+use Rattle.mx_app_start.specs.declared.progress.Part.{Part}
 use Rattle.mx_app.specs.Noting.{Noted}
 use Rattle.mx_app.specs.Requests.{Performs, with_status}
 use Rattle.mx_app.specs.declared.performing.Done.{Done}
@@ -82,10 +83,10 @@ IsAnswered line (Err f) noted r = (c : Complaint) × (r ≡ Err c) × IsTold lin
 
 -- WHAT IS DONE OF WORDS: what the request does that they ask for; or, if the grammar finds them at fault, no file is asked for or written, and the
 -- fault is explained; or, if they are `turns` with both `--ticks` and `--events`, nothing is either, and this is the complaint
-abbrev pub IsPerformed : List (List ℕ) → Bool → List Asked → List Written → List (List ℕ) → Noted → (List ℕ → Type 0) → Result Done Complaint → Type 0
-IsPerformed texts asks qs ws typed noted Prints r =
+abbrev pub IsPerformed : List (List ℕ) → Bool → List Asked → List Written → List (List ℕ) → List Part → Noted → (List ℕ → Type 0) → Result Done Complaint → Type 0
+IsPerformed texts asks qs ws typed ps noted Prints r =
     ((line : CommandLine) × (d : Result Done Kind) × Asks line.request (subcommand_of mx_grammar texts) × AsksToExplain line.explains (subcommand_of mx_grammar texts)
     × (both_given (subcommand_of mx_grammar texts) ≡ false)
-    × Performs line.request asks qs ws typed Prints d × IsAnswered line d noted r)
-    ⊎ (((e : Error) × HasKind (fault_of mx_grammar texts) e × (qs ≡ []) × (ws ≡ []) × (typed ≡ []) × Explains e r)
-    ⊎ ((fault_of mx_grammar texts ≡ []) × (both_given (subcommand_of mx_grammar texts) ≡ true) × (qs ≡ []) × (ws ≡ []) × (typed ≡ []) × (r ≡ Err TicksAndEvents)))
+    × Performs line.request asks qs ws typed ps Prints d × IsAnswered line d noted r)
+    ⊎ (((e : Error) × HasKind (fault_of mx_grammar texts) e × (qs ≡ []) × (ws ≡ []) × (typed ≡ []) × (ps ≡ []) × Explains e r)
+    ⊎ ((fault_of mx_grammar texts ≡ []) × (both_given (subcommand_of mx_grammar texts) ≡ true) × (qs ≡ []) × (ws ≡ []) × (typed ≡ []) × (ps ≡ []) × (r ≡ Err TicksAndEvents)))
