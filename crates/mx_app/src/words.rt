@@ -6,7 +6,7 @@ ghost use Rattle.mx_app_failure.specs.Failure.{IsWanting};
 ghost use Rattle.mx_app_db.specs.Asked.{Asked};
 ghost use Rattle.mx_app_db.specs.Written.{Written};
 ghost use Rattle.mx_app.specs.Noting.{noted_by, noted_in};
-ghost use Rattle.mx_app.specs.Words.{Explains, IsAnswered, IsPerformed, IsTold};
+ghost use Rattle.mx_app.specs.Words.{AnswersMistake, Explains, IsAnswered, IsPerformed, IsTold};
 
 use crate::complaint::Complaint;
 use crate::noting::{NotingFiles, NotingReader, noted};
@@ -43,6 +43,17 @@ fn explain<W: Write>(alloc: Global, error: Error, out: &mut W) -> Result<Done, C
     }
     print_help(alloc, &error, out)?;
     Ok(Done::with_status(0))
+}
+
+/// What comes of words that ask for nothing: their error's, or that `--ticks` and `--events` exclude each
+/// other.
+fn complain<W: Write>(alloc: Global, mistake: Mistake, out: &mut W) -> Result<Done, Complaint>
+    ensures { AnswersMistake mistake result }
+{
+    match mistake {
+        Mistake::Grammar(error) => explain(alloc, error, out),
+        Mistake::TicksAndEvents => Err(Complaint::TicksAndEvents),
+    }
 }
 
 /// What is told of a failure, with what explains it if that is asked for.
@@ -104,7 +115,6 @@ pub fn perform_words<
             let done = perform(rt, alloc, channels, lines, asks, line.request);
             answer(alloc, line, done, noted(&channels.reader, &channels.files))
         }
-        Err(Mistake::Grammar(error)) => explain(alloc, error, &mut channels.out),
-        Err(Mistake::TicksAndEvents) => Err(Complaint::TicksAndEvents),
+        Err(mistake) => complain(alloc, mistake, &mut channels.out),
     }
 }
