@@ -28,7 +28,7 @@ use Rattle.mx_app_db.specs.Traces.{IsTracePrinted}
 use Rattle.mx_app_db.specs.Replayed.{Replayed}
 use Rattle.mx_app_db.specs.Replayed.TheVariants as replayed
 use Rattle.mx_app_draw.specs.Scenes.{IsDrawingPrinted}
-use Rattle.mx_app_look.specs.Sessions.{IsBegun, begun_text, session_text}
+use Rattle.mx_app_look.specs.Sessions.{IsBegun, IsSession, IsWhole, begun_text, sight_at}
 use Rattle.mx_app_run.specs.Run.{Runs}
 use Rattle.mx_app_turns.specs.Sweeping.{Sweeps}
 use Rattle.mx_app_turns.specs.declared.sweeping.Swept.{Swept}
@@ -117,11 +117,12 @@ Draws config log range qs Prints (Ok how) =
     × IsDrawingPrinted (world_at_boot c vs) c.cpus records range.from range.to how Prints
 Draws config log range qs Prints (Err f) = IsTold IsSaved TellsSaved config log qs f
 
--- a session over a history: what it prints is determined by the lines that are typed
-abbrev pub Looks : List ℕ → List ℕ → Bool → List Asked → List (List ℕ) → (List ℕ → Type 0) → Result (Unit {0}) Kind → Type 0
+-- a session over a history: what it prints is determined by the lines that are typed, which it takes up to `quit` or to
+-- the end of the input
+abbrev pub Looks : List ℕ → List ℕ → Bool → List Asked → List (Option (List ℕ)) → (List ℕ → Type 0) → Result (Unit {0}) Kind → Type 0
 Looks config log asks qs typed Prints (Ok u) =
-    (c : Config) × (vs : List Service) × (records : List Record) × (k : Walk) × IsStart IsSaved config log qs c vs records
-    × IsBegun (world_at_boot c vs) records k × Prints (begun_text asks k ++ session_text asks k typed)
+    (c : Config) × (vs : List Service) × (records : List Record) × (k : Walk) × (text : List ℕ) × IsStart IsSaved config log qs c vs records
+    × IsBegun (world_at_boot c vs) records k × IsWhole typed × IsSession asks (sight_at k) typed text × Prints (begun_text asks k ++ text)
 Looks config log asks qs typed Prints (Err f) = IsTold IsSaved TellsSaved config log qs f
 
 -- ---- requests
@@ -165,7 +166,7 @@ PerformsUntyped (Db config script) qs ws Prints r =
 
 -- WHAT IS DONE OF A REQUEST, by the files that were asked for and written, the lines that were typed, the progress that
 -- was shown, what is printed, and how it ends. Only a session takes lines, and only a sweep shows progress
-abbrev pub Performs : CommandRequest → Bool → List Asked → List Written → List (List ℕ) → List Part → (List ℕ → Type 0) → Result Done Kind → Type 0
+abbrev pub Performs : CommandRequest → Bool → List Asked → List Written → List (Option (List ℕ)) → List Part → (List ℕ → Type 0) → Result Done Kind → Type 0
 Performs (Look config log) asks qs ws typed ps Prints r =
     (d : Result (Unit {0}) Kind) × (ws ≡ []) × (ps ≡ []) × Looks config.now log.now asks qs typed Prints d × (r ≡ done_after_work d)
 Performs (Sweep config log fault bound from to strict save) asks qs ws typed ps Prints r =

@@ -1,13 +1,13 @@
 //! From the words of the command line to a status.
 
-ghost use Rattle.std.specs.Prelude.{◌≡◌, ◌++◌, IfErr, List, map, ℕ};
+ghost use Rattle.std.specs.Prelude.{◌≡◌, ◌++◌, IfErr, List, Option, map, ℕ};
 ghost use Rattle.std.specs.Io.KnownBytes.{Appends};
 ghost use Rattle.mx_app_failure.specs.Failure.{IsWanting};
 ghost use Rattle.mx_app_db.specs.Asked.{Asked};
 ghost use Rattle.mx_app_db.specs.Written.{Written};
 ghost use Rattle.mx_app_start.specs.declared.progress.Part.{Part as Parts};
 ghost use Rattle.mx_app.specs.Noting.{noted_by, noted_in};
-ghost use Rattle.mx_app.specs.Words.{Explains, IsAnswered, IsPerformed, IsTold};
+ghost use Rattle.mx_app.specs.Words.{AnswersMistake, Explains, IsAnswered, IsPerformed, IsTold};
 
 use crate::complaint::Complaint;
 use crate::noting::{NotingFiles, NotingReader, noted};
@@ -45,6 +45,17 @@ fn explain<W: Write>(alloc: Global, error: Error, out: &mut W) -> Result<Done, C
     }
     print_help(alloc, &error, out)?;
     Ok(Done::with_status(0))
+}
+
+/// What comes of words that ask for nothing: their error's, or that `--ticks` and `--events` exclude each
+/// other.
+fn complain<W: Write>(alloc: Global, mistake: Mistake, out: &mut W) -> Result<Done, Complaint>
+    ensures { AnswersMistake mistake result }
+{
+    match mistake {
+        Mistake::Grammar(error) => explain(alloc, error, out),
+        Mistake::TicksAndEvents => Err(Complaint::TicksAndEvents),
+    }
 }
 
 /// What is told of a failure, with what explains it if that is asked for.
@@ -95,7 +106,7 @@ pub fn perform_words<
     progress: &mut P,
     asks: bool,
 ) -> Result<Done, Complaint>
-    ensures { (qs : List Asked) × (ws : List Written) × (typed : List (List ℕ)) × (ps : List Parts)
+    ensures { (qs : List Asked) × (ws : List Written) × (typed : List (Option (List ℕ))) × (ps : List Parts)
         × (R.asked channels.new.reader.reader ≡ R.asked channels.old.reader.reader ++ qs)
         × (F.written channels.new.files.files ≡ F.written channels.old.files.files ++ ws)
         × (L.given lines.new ≡ L.given lines.old ++ typed)
@@ -109,7 +120,6 @@ pub fn perform_words<
             let done = perform(rt, alloc, channels, lines, progress, asks, line.request);
             answer(alloc, line, done, noted(&channels.reader, &channels.files))
         }
-        Err(Mistake::Grammar(error)) => explain(alloc, error, &mut channels.out),
-        Err(Mistake::TicksAndEvents) => Err(Complaint::TicksAndEvents),
+        Err(mistake) => complain(alloc, mistake, &mut channels.out),
     }
 }

@@ -6,7 +6,7 @@ use Rattle.mx_app.proofs.Told.{noted_same}
 use Rattle.mx_app.proofs.words.perform_words.Goals as goal
 
 pub returns-in-Err : goal.returns-in-Err
-returns-in-Err g c = ([], [], [], sym (append-nil _), sym (append-nil _), sym (append-nil _), inr (c.in-Err.error, c.in-Err.ensures.kinds, refl, refl, refl, c.explain.ensures))
+returns-in-Err g c = ([], [], [], sym (append-nil _), sym (append-nil _), sym (append-nil _), inr (c.in-Err.mistake, c.in-Err.ensures.kinds, refl, refl, refl, c.complain.ensures))
 
 pub returns-in-Ok : goal.returns-in-Ok
 returns-in-Ok g c =
@@ -23,6 +23,7 @@ returns-in-Ok g c =
         c.perform-done.result,
         c.in-Ok.ensures.asks,
         c.in-Ok.ensures.explains,
+        c.in-Ok.ensures.apart,
         done.6,
         subst (λ (n : Noted). IsAnswered c.in-Ok.line c.perform-done.result n c.answer.result) same c.answer.ensures,
       ),

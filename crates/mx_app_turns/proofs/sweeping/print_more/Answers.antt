@@ -55,7 +55,7 @@ loop-position-preserved g c =
     ap₂ bytes_eq (sym (c.as_slice.ensures.value ∙ text)) (sym c.as_slice-in-loop-position.ensures.value) ∙ sym c.eq.ensures in
     let boot = made.boot ∙ inv.boot in
     let before = g.P.Progress.shown c.args.progress.now in
-    let next_part : p + 1 - from ≡ p - from + 1 = omega (arith, inv.swept.after, c.loop-position-test.true) in
+    let next_part : p + 1 - from ≡ p - from + 1 = omega (arith, inv.swept.above, c.loop-position-test.true) in
     let shown = part_after (end - from) (p - from) (p + 1 - from) (p - from + 1) before (g.P.Progress.shown c.loop-position.progress) (g.P.Progress.shown c.show-in-loop-position.new.self) _ next_part (sym next_part) refl inv.shown c.show-in-loop-position.ensures in
     elim c.if-eq.branch [
       | then-eq w ↦ rw (w.out-is, w.blocks-is, w.current-is, w.progress-is) (record {
