@@ -27,11 +27,11 @@ pub trait Progress {
         ensures { shown self.new ≡ shown self.old };
 }
 
-/// How long a command works before its progress is printed.
-const PATIENCE: Duration = Duration::from_secs(1);
+/// How many milliseconds a command works before its progress is printed.
+const PATIENCE: u64 = 1000;
 
-/// How long a line of progress stays as it is.
-const PAUSE: Duration = Duration::from_millis(100);
+/// How many milliseconds a line of progress stays as it is.
+const PAUSE: u64 = 100;
 
 /// Goes back to the beginning of the line, and empties it.
 const EMPTY_LINE: &str = "\r\x1b[K";
@@ -73,13 +73,13 @@ impl<'a, R: Clock> RuntimeProgress<'a, R> {
         };
         match self.next {
             None => {
-                self.next = now.checked_add(PATIENCE);
+                self.next = now.checked_add(Duration::from_millis(PATIENCE));
                 false
             }
             Some(next) => {
                 let is_due = now >= next;
                 if is_due {
-                    self.next = now.checked_add(PAUSE);
+                    self.next = now.checked_add(Duration::from_millis(PAUSE));
                 }
                 is_due
             }
