@@ -12,6 +12,7 @@ use Rattle.mx_machine.specs.Boot.{world_at_boot}
 use Rattle.mx_machine.specs.declared.history.Record.{Record}
 use Rattle.mx_app_db.specs.Asked.{Asked}
 use Rattle.mx_app_db.specs.Written.{Written, kept}
+use Rattle.mx_app_start.specs.declared.progress.Part.{Part}
 use Rattle.mx_app_db.specs.Text.{saved_text}
 use Rattle.mx_app_db.specs.Config.{Config}
 use Rattle.mx_app_db.specs.Service.{Service}
@@ -136,7 +137,7 @@ abbrev pub Explains : List ℕ → List Asked → List Written → (List ℕ →
 Explains name qs ws Prints r =
     (q : Asked) × (d : Result (Unit {0}) Kind) × (qs ≡ q ∷ []) × (ws ≡ []) × ExplainsConfig name q Prints d × (r ≡ done_after_work d)
 
--- what is done of a request that takes no lines
+-- what is done of a request that takes no lines and shows no progress
 abbrev pub PerformsUntyped : CommandRequest → List Asked → List Written → (List ℕ → Type 0) → Result Done Kind → Type 0
 PerformsUntyped (One file steps) qs ws Prints r = Shows (λ bytes text. IsPrinted bytes steps text) file.now qs ws Prints r
 PerformsUntyped (As text file) qs ws Prints r =
@@ -152,8 +153,7 @@ PerformsUntyped (Run config log ticks) qs ws Prints r =
     (d : Result (Unit {0}) Kind) × Runs config.now log.now ticks qs ws Prints d × (r ≡ done_after_work d)
 PerformsUntyped (Turns config log ticks events bound) qs ws Prints r =
     (d : Result Ending Kind) × MakesTurns config.now (option_map (λ s. s.now) events) log.now ticks bound qs ws Prints d × (r ≡ done_after_turns d)
-PerformsUntyped (Sweep config log fault bound from to strict save) qs ws Prints r =
-    (d : Result Swept Kind) × Sweeps config.now log.now fault.now (option_map (λ s. s.now) save) from to bound qs ws Prints d × (r ≡ done_after_sweep strict d)
+PerformsUntyped (Sweep config log fault bound from to strict save) qs ws Prints r = ⊥
 PerformsUntyped (Replay config log) qs ws Prints r =
     (d : Result Replayed Kind) × (ws ≡ []) × Replays config.now log.now qs Prints d × (r ≡ done_after_replay d)
 PerformsUntyped (Trace config log range) qs ws Prints r =
@@ -164,9 +164,12 @@ PerformsUntyped (Look config log) qs ws Prints r = ⊥
 PerformsUntyped (Db config script) qs ws Prints r =
     (d : Result (Unit {0}) Kind) × (ws ≡ []) × Debugs config.now script.now qs Prints d × (r ≡ done_after_work d)
 
--- WHAT IS DONE OF A REQUEST, by the files that were asked for and written, the lines that were typed, what is printed, and
--- how it ends. Only a session takes lines
-abbrev pub Performs : CommandRequest → Bool → List Asked → List Written → List (Option (List ℕ)) → (List ℕ → Type 0) → Result Done Kind → Type 0
-Performs (Look config log) asks qs ws typed Prints r =
-    (d : Result (Unit {0}) Kind) × (ws ≡ []) × Looks config.now log.now asks qs typed Prints d × (r ≡ done_after_work d)
-Performs request asks qs ws typed Prints r = (typed ≡ []) × PerformsUntyped request qs ws Prints r
+-- WHAT IS DONE OF A REQUEST, by the files that were asked for and written, the lines that were typed, the progress that
+-- was shown, what is printed, and how it ends. Only a session takes lines, and only a sweep shows progress
+abbrev pub Performs : CommandRequest → Bool → List Asked → List Written → List (Option (List ℕ)) → List Part → (List ℕ → Type 0) → Result Done Kind → Type 0
+Performs (Look config log) asks qs ws typed ps Prints r =
+    (d : Result (Unit {0}) Kind) × (ws ≡ []) × (ps ≡ []) × Looks config.now log.now asks qs typed Prints d × (r ≡ done_after_work d)
+Performs (Sweep config log fault bound from to strict save) asks qs ws typed ps Prints r =
+    (typed ≡ []) × (d : Result Swept Kind) × Sweeps config.now log.now fault.now (option_map (λ s. s.now) save) from to bound qs ws ps Prints d
+    × (r ≡ done_after_sweep strict d)
+Performs request asks qs ws typed ps Prints r = (typed ≡ []) × (ps ≡ []) × PerformsUntyped request qs ws Prints r

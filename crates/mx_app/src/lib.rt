@@ -25,6 +25,7 @@ pub use mx_app_failure::{BootError, Failure, FileError};
 pub use mx_app_look::look;
 pub use mx_app_program::{assemble_file, one, print_listing, print_names, print_one};
 pub use mx_app_run::run;
+pub use mx_app_start::{NoProgress, Progress};
 pub use mx_app_turns::{Ending, sweep, turns};
 pub use named::{as_named, dis_named, nm_named, one_named};
 pub use noting::{NotingFiles, NotingReader};

@@ -5,8 +5,9 @@ ghost use Rattle.std.specs.Io.KnownBytes.{Appends};
 ghost use Rattle.mx_app_failure.specs.Failure.{IsWanting};
 ghost use Rattle.mx_app_db.specs.Asked.{Asked};
 ghost use Rattle.mx_app_db.specs.Written.{Written};
+ghost use Rattle.mx_app_start.specs.declared.progress.Part.{Part as Parts};
 ghost use Rattle.mx_app.specs.Noting.{noted_by, noted_in};
-ghost use Rattle.mx_app.specs.Words.{Explains, IsAnswered, IsPerformed, IsTold};
+ghost use Rattle.mx_app.specs.Words.{AnswersMistake, Explains, IsAnswered, IsPerformed, IsTold};
 
 use crate::complaint::Complaint;
 use crate::noting::{NotingFiles, NotingReader, noted};
@@ -17,6 +18,7 @@ use mx_app_command::{CommandLine, Mistake, command};
 use mx_app_db::{Channels, FileWriter, LineReader, Reader};
 use mx_app_explain::{Notes, explain_failure};
 use mx_app_failure::{Failure, print_text};
+use mx_app_start::Progress;
 use std::alloc::Global;
 use std::io::Write;
 use std::sync::Wait;
@@ -43,6 +45,17 @@ fn explain<W: Write>(alloc: Global, error: Error, out: &mut W) -> Result<Done, C
     }
     print_help(alloc, &error, out)?;
     Ok(Done::with_status(0))
+}
+
+/// What comes of words that ask for nothing: their error's, or that `--ticks` and `--events` exclude each
+/// other.
+fn complain<W: Write>(alloc: Global, mistake: Mistake, out: &mut W) -> Result<Done, Complaint>
+    ensures { AnswersMistake mistake result }
+{
+    match mistake {
+        Mistake::Grammar(error) => explain(alloc, error, out),
+        Mistake::TicksAndEvents => Err(Complaint::TicksAndEvents),
+    }
 }
 
 /// What is told of a failure, with what explains it if that is asked for.
@@ -83,28 +96,30 @@ pub fn perform_words<
     F: FileWriter + Drop,
     W: Write + Drop,
     L: LineReader,
+    P: Progress,
 >(
     rt: &T,
     alloc: Global,
     words: &'a [&'a str],
     channels: &mut Channels<NotingReader<R>, NotingFiles<F>, W>,
     lines: &mut L,
+    progress: &mut P,
     asks: bool,
 ) -> Result<Done, Complaint>
-    ensures { (qs : List Asked) × (ws : List Written) × (typed : List (Option (List ℕ)))
+    ensures { (qs : List Asked) × (ws : List Written) × (typed : List (Option (List ℕ))) × (ps : List Parts)
         × (R.asked channels.new.reader.reader ≡ R.asked channels.old.reader.reader ++ qs)
         × (F.written channels.new.files.files ≡ F.written channels.old.files.files ++ ws)
         × (L.given lines.new ≡ L.given lines.old ++ typed)
-        × IsPerformed (map (λ s. s.now) words.now) asks qs ws typed
+        × (P.shown progress.new ≡ P.shown progress.old ++ ps)
+        × IsPerformed (map (λ s. s.now) words.now) asks qs ws typed ps
         (noted_by channels.new.reader.last channels.new.reader.is_missed channels.new.files.is_unwritten)
         (λ text. Appends (W.contents channels.old.out) (W.contents channels.new.out) text) result }
 {
     match command(alloc, words) {
         Ok(line) => {
-            let done = perform(rt, alloc, channels, lines, asks, line.request);
+            let done = perform(rt, alloc, channels, lines, progress, asks, line.request);
             answer(alloc, line, done, noted(&channels.reader, &channels.files))
         }
-        Err(Mistake::Grammar(error)) => explain(alloc, error, &mut channels.out),
-        Err(Mistake::TicksAndEvents) => Err(Complaint::TicksAndEvents),
+        Err(mistake) => complain(alloc, mistake, &mut channels.out),
     }
 }

@@ -4,7 +4,7 @@
 use crate::files::{SUM, reader};
 use mx_app::{
     Channels, Complaint, Ending, Failure, InputLines, KeptFile, MemoryWriter, NamedFiles,
-    NotingFiles, NotingReader, perform_words,
+    NoProgress, NotingFiles, NotingReader, perform_words,
 };
 use std::alloc::Global;
 use std::fmt::Write as _;
@@ -917,7 +917,15 @@ fn perform<R: Threads + Wait + Clock + Sync>(
     told: &mut String,
 ) -> u8 {
     let mut lines = InputLines::new(b"".as_slice());
-    match perform_words(rt, alloc, words, channels, &mut lines, false) {
+    match perform_words(
+        rt,
+        alloc,
+        words,
+        channels,
+        &mut lines,
+        &mut NoProgress::new(),
+        false,
+    ) {
         Ok(done) => done.status,
         Err(complaint) => {
             let _ = write!(told, "{complaint}");
@@ -1097,7 +1105,15 @@ static TURNED: &[Turned] = &[
 fn is_ended<R: Threads + Wait + Clock + Sync>(rt: &R, alloc: Global, row: &Turned) -> bool {
     let mut channels = channels(alloc, None);
     let mut lines = InputLines::new(b"".as_slice());
-    match perform_words(rt, alloc, row.words, &mut channels, &mut lines, false) {
+    match perform_words(
+        rt,
+        alloc,
+        row.words,
+        &mut channels,
+        &mut lines,
+        &mut NoProgress::new(),
+        false,
+    ) {
         Ok(done) => done.ending == Some(row.ending),
         Err(_) => false,
     }

@@ -1,7 +1,7 @@
 //! Sessions over a saved history: the lines that are typed, and what is printed.
 
 use crate::files::reader;
-use mx_app::{Channels, CommandRequest, Done, InputLines, MemoryWriter, perform};
+use mx_app::{Channels, CommandRequest, Done, InputLines, MemoryWriter, NoProgress, perform};
 use std::alloc::Global;
 use std::sync::Wait;
 use std::test::Fail;
@@ -251,7 +251,15 @@ fn is_printed<R: Threads + Wait + Clock + Sync>(
         config,
         log: row.log,
     };
-    let answer = perform(rt, alloc, &mut channels, &mut lines, row.asks, request);
+    let answer = perform(
+        rt,
+        alloc,
+        &mut channels,
+        &mut lines,
+        &mut NoProgress::new(),
+        row.asks,
+        request,
+    );
     answer == Ok(Done::with_status(0)) && channels.out.as_slice() == row.printed.as_bytes()
 }
 

@@ -3,7 +3,8 @@
 use crate::files::reader;
 use crate::texts::Narrow;
 use mx_app::{
-    Channels, CommandRequest, Done, Failure, InputLines, MemoryWriter, RecordRange, perform,
+    Channels, CommandRequest, Done, Failure, InputLines, MemoryWriter, NoProgress, RecordRange,
+    perform,
 };
 use mx_app_db::{Script, make_steps, start};
 use mx_boot::{Over, save};
@@ -127,7 +128,15 @@ fn is_printed<R: Threads + Wait + Clock + Sync>(
         Ok(Done::with_status(0))
     };
     let mut lines = InputLines::new(b"".as_slice());
-    let answer = perform(rt, alloc, &mut channels, &mut lines, false, row.request);
+    let answer = perform(
+        rt,
+        alloc,
+        &mut channels,
+        &mut lines,
+        &mut NoProgress::new(),
+        false,
+        row.request,
+    );
     answer == wanted && channels.out.bytes.as_slice() == &text[..room.min(text.len())]
 }
 

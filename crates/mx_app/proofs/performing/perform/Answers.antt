@@ -43,8 +43,8 @@ returns-in-Turns g c =
 
 pub returns-in-Sweep : goal.returns-in-Sweep
 returns-in-Sweep g c =
-    as_asked c.args.asks _ _ _ _ _ _ _ _ c.in-Sweep.is
-    (swept _ _ _ _ c.in-Sweep.config.now c.in-Sweep.log.now c.in-Sweep.fault.now (option_map (λ s. s.now) c.in-Sweep.save) c.in-Sweep.from c.in-Sweep.to c.in-Sweep.bound c.in-Sweep.strict _ _ c.sweep.result c.done_after_sweep.result c.sweep.ensures c.done_after_sweep.ensures)
+    as_typed _ _ _ _ _ _ _ _ _ _ _ _ _ c.in-Sweep.is
+    (swept _ _ _ _ _ _ c.in-Sweep.config.now c.in-Sweep.log.now c.in-Sweep.fault.now (option_map (λ s. s.now) c.in-Sweep.save) c.in-Sweep.from c.in-Sweep.to c.in-Sweep.bound c.in-Sweep.strict _ _ c.sweep.result c.done_after_sweep.result c.sweep.ensures c.done_after_sweep.ensures)
 
 pub returns-in-Replay : goal.returns-in-Replay
 returns-in-Replay g c = as_asked c.args.asks _ _ _ _ _ _ _ _ c.in-Replay.is (replays _ _ _ c.in-Replay.config.now c.in-Replay.log.now _ _ c.replay.result c.done_after_replay.result c.replay.ensures.printed c.replay.ensures.fault c.done_after_replay.ensures)
@@ -59,4 +59,4 @@ pub returns-in-Draw : goal.returns-in-Draw
 returns-in-Draw g c = as_asked c.args.asks _ _ _ _ _ _ _ _ c.in-Draw.is (draws _ _ _ c.in-Draw.config.now c.in-Draw.log.now c.in-Draw.range _ _ c.draw.result c.done_after_replay-in-Draw.result c.draw.ensures.printed c.draw.ensures.fault c.done_after_replay-in-Draw.ensures)
 
 pub returns-in-Look : goal.returns-in-Look
-returns-in-Look g c = as_typed _ _ _ _ _ _ _ _ _ _ _ c.in-Look.is (looks _ _ _ _ _ c.in-Look.config.now c.in-Look.log.now _ _ _ c.look.result c.done_after_work-in-Look.result c.look.ensures.printed c.look.ensures.fault c.done_after_work-in-Look.ensures)
+returns-in-Look g c = as_typed _ _ _ _ _ _ _ _ _ _ _ _ _ c.in-Look.is (looks _ _ _ _ _ c.in-Look.config.now c.in-Look.log.now _ _ _ c.look.result c.done_after_work-in-Look.result c.look.ensures.printed c.look.ensures.fault c.done_after_work-in-Look.ensures)
