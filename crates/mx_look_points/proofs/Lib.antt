@@ -1,0 +1,3 @@
+mod Lists
+mod Marked
+mod Halting
