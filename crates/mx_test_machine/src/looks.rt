@@ -1,7 +1,7 @@
 //! Sessions over a saved history: the lines that are typed, and what is printed.
 
 use crate::files::reader;
-use mx_app::{Channels, CommandRequest, InputLines, MemoryWriter, perform};
+use mx_app::{Channels, CommandRequest, Done, InputLines, MemoryWriter, perform};
 use std::alloc::Global;
 use std::sync::Wait;
 use std::test::Fail;
@@ -252,7 +252,7 @@ fn is_printed<R: Threads + Wait + Clock + Sync>(
         log: row.log,
     };
     let answer = perform(rt, alloc, &mut channels, &mut lines, row.asks, request);
-    answer == Ok(0) && channels.out.as_slice() == row.printed.as_bytes()
+    answer == Ok(Done::with_status(0)) && channels.out.as_slice() == row.printed.as_bytes()
 }
 
 #[test]
