@@ -1,4 +1,4 @@
-use Rattle.std.proofs.Common.{◌≡◌, ◌∙◌, ◌<◌, ◌≤◌, ℕ, suc, ◌+◌, ◌-◌, ◌%◌, ◌^◌, List, [], ◌∷◌, ◌++◌, append-nil, append_assoc, ap, sym, arith}
+use Rattle.std.proofs.Common.{◌≡◌, ◌∙◌, ◌<◌, ◌≤◌, ℕ, suc, ◌+◌, ◌-◌, ◌%◌, ◌^◌, List, [], ◌∷◌, ◌++◌, append-nil, append_assoc, refl, ap, sym, arith}
 use Rattle.mx_walk.specs.declared.watching.BytePlace.{BytePlace}
 use Rattle.mx_look_points.specs.Watches.{places_from}
 use Rattle.mx_look_points.proofs.watches.places_of.Goals as goal
@@ -19,8 +19,8 @@ one_more slot at n i next so_far more whole lt e f h =
 
 pub loop-preserved : goal.loop-preserved
 loop-preserved c =
-    one_more c.args.watch.slot c.loop.at c.args.watch.count c.loop.counter c.wrapping_add.result c.loop.places.items c.push.new.self.items _
-    c.loop-test.true c.wrapping_add.ensures c.in_ok-push.ensures.items c.loop.invariant
+    one_more c.args.watch.slot c.loop.at c.args.watch.count c.loop.counter _ c.loop.places.items c.push.new.self.items _
+    c.loop-test.true refl c.in_ok-push.ensures.items c.loop.invariant
 
 pub returns : goal.returns
 returns c =
