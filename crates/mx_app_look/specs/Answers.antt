@@ -55,7 +55,7 @@ processes_text w = report_text w.table w.services ++ line_end (report_text w.tab
 -- ---- help
 
 abbrev pub help_text : List ℕ
-help_text = codes "forward [N], back [N]       by N records, or one\nstep [N], stepback [N]      by N events, or one: a step, or what a record does besides\ngoto K, goto K.J, goto end  below K records; and J steps of the next; the last position\nwhere, why                  the position again; what the record above did\nps, messages                the report; what was delivered\nregs [SLOT]                 registers of the slot's process\nmem SLOT ADDRESS N          N bytes of its memory\nlist [SLOT [ADDRESS]]       its code, from the address or from EIP on\nstack [SLOT [N]]            N dwords of its stack, or eight\nprint SLOT NAME             its variable of that name\nhelp, quit                  this; the end\nA record is one event; back N is N steps of a process, and then its return.\nA command may be shortened, as f or stepb. Without SLOT it is the process on the\nprocessor whose record is next. ADDRESS is a number, decimal or 0x.., or a symbol\nof the slot's program, as count or top+4.\n"
+help_text = codes "forward [N], back [N]       by N records, or one\nstep [N], stepback [N]      by N events, or one: a step, or what a record does besides\ngoto K, goto K.J, goto end  below K records; and J steps of the next; the last position\nbreak SLOT ADDRESS          a breakpoint of the slot's process\nwatch SLOT ADDRESS N        watches N bytes of its memory, 1 to 16\npoints, clear               what is set; takes all of them away\ncontinue, reverse           on to the next breakpoint or change of watched bytes, or back\nwhere, why                  the position again; what the record above did\nps, messages                the report; what was delivered\nregs [SLOT]                 registers of the slot's process\nmem SLOT ADDRESS N          N bytes of its memory\nlist [SLOT [ADDRESS]]       its code, from the address or from EIP on\nstack [SLOT [N]]            N dwords of its stack, or eight\nprint SLOT NAME             its variable of that name\nhelp, quit                  this; the end\nA record is one event; back N is N steps of a process, and then its return.\nA command may be shortened, as f or stepb. Without SLOT it is the process on the\nprocessor whose record is next. ADDRESS is a number, decimal or 0x.., or a symbol\nof the slot's program, as count or top+4.\n"
 
 -- ---- REQUESTS
 

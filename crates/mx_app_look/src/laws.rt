@@ -9,7 +9,6 @@ ghost use Rattle.mx_walk.specs.Walks.{Walk};
 ghost use Rattle.mx_app_look.specs.Answers.{step_above};
 ghost use Rattle.mx_app_look.specs.Sessions.{IsBegun, IsSession, begun_text, sight_at};
 
-use mx_look_points::one_halt;
 use mx_walk::{one_last, positions_replay};
 
 /// Law: what a session prints is determined by the world of the boot, the records of the history and the
@@ -21,7 +20,6 @@ pub fn one_session()
         → IsSession asks (sight_at k) typed t → begun_text asks j ++ s ≡ begun_text asks k ++ t }
 {
     one_last();
-    one_halt();
 }
 
 /// Law: what `why` shows of a record is the step that a trace shows.

@@ -23,7 +23,7 @@ fn set_break(
     slot: u32,
     address: &AddressWord,
 ) -> Result<(), Refused>
-    ensures { breaks_after walker.now points.old.breakpoints slot address.now
+    ensures breakpoints { breaks_after walker.now points.old.breakpoints slot address.now
         ≡ (result, points.new.breakpoints) }
     ensures same { points.new.watches ≡ points.old.watches }
 {
@@ -42,7 +42,7 @@ fn set_watch(
     address: &AddressWord,
     count: u32,
 ) -> Result<(), Refused>
-    ensures { watches_after walker.now points.old.watches slot address.now count
+    ensures watches { watches_after walker.now points.old.watches slot address.now count
         ≡ (result, points.new.watches) }
     ensures same { points.new.breakpoints ≡ points.old.breakpoints }
 {

@@ -61,13 +61,19 @@ pub(crate) fn all_bytes(
     Ok(seen)
 }
 
-/// Appends each of these bytes in two digits after a space.
+/// Appends a byte in two digits after a space.
+fn push_byte(out: &mut String, byte: u8) -> Result<(), AllocError>
+    ensures { OnOk result (string_bytes out.new ≡ string_bytes out.old ++ byte_field byte) }
+{
+    write!(out, " {byte:02x}")
+}
+
+/// Appends each of these bytes.
 fn push_bytes(out: &mut String, bytes: &[u8]) -> Result<(), AllocError>
     ensures { OnOk result (string_bytes out.new ≡ string_bytes out.old ++ flat_map byte_field bytes.now) }
 {
     for byte in bytes {
-        let byte = *byte;
-        write!(out, " {byte:02x}")?;
+        push_byte(out, *byte)?;
     }
     Ok(())
 }

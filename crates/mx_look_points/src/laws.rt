@@ -3,9 +3,9 @@
 ghost use Rattle.std.specs.Prelude.{◌≡◌, ℕ, List, Some, true};
 ghost use Rattle.mx_machine.specs.declared.events.Event.{Event};
 ghost use Rattle.mx_walk.specs.declared.positions.Position.{Position};
-ghost use Rattle.mx_walk.specs.Positions.{IsPosition, IsUpTo, event_below, next_position, position_before};
+ghost use Rattle.mx_walk.specs.Positions.{IsPosition, event_below, next_position, position_before};
 ghost use Rattle.mx_walk.specs.Seeking.{IsFirstMarked, is_marked};
-ghost use Rattle.mx_walk.specs.Walks.{IsLast, Walk, world_here};
+ghost use Rattle.mx_walk.specs.Walks.{Walk, world_here};
 ghost use Rattle.mx_look_points.specs.declared.points.Points.{Points};
 ghost use Rattle.mx_look_points.specs.Marks.{changes_watched, is_looked_for};
 ghost use Rattle.mx_look_points.specs.Searches.{IsLastHalt, IsNextHalt, changes_from};
@@ -26,9 +26,8 @@ pub fn searches_return()
 
 /// Law: each of the two searches halts at one position and no other, and prints one text.
 pub fn one_halt()
-    ensures next { (k : Walk) (s : Points) (g h : Position × List ℕ) → IsPosition k.records k.here
-        → IsUpTo k.here k.last → IsLast k.boot k.records k.last
+    ensures next { (k : Walk) (s : Points) (g h : Position × List ℕ) → IsPosition k.records k.last
         → IsNextHalt k s g → IsNextHalt k s h → g ≡ h }
-    ensures last { (k : Walk) (s : Points) (g h : Position × List ℕ) → IsPosition k.records k.here
-        → IsLastHalt k s g → IsLastHalt k s h → g ≡ h }
+    ensures last { (k : Walk) (s : Points) (g h : Position × List ℕ) → IsLastHalt k s g
+        → IsLastHalt k s h → g ≡ h }
 {}

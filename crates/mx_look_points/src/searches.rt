@@ -104,6 +104,8 @@ fn go_on_past(
     requires below { event_below walker.records walker.here ≡ Some (next.actor, next.event) }
     requires position { next.position ≡ next_position walker.records walker.here }
     requires early { IsAbove walker.here walker.last }
+    requires here { IsPosition walker.records walker.here }
+    requires last { IsPosition walker.records walker.last }
     ensures walker { IfOk result (λ r. r.0 ≡ record walker { here = r.0.here }) }
     ensures halt { IfOk result (λ r. IsHaltAfter walker points.now next.position
         (is_marked (changes_watched points.now) (world_here walker) (next.actor, next.event))
