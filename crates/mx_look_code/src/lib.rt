@@ -4,5 +4,7 @@
 mod code;
 mod nearest;
 
-pub use code::push_code_line;
+pub use code::{code_part, push_code, push_code_line};
+pub use mx_aout::Symbol;
+pub use mx_dis::Part;
 pub use nearest::nearest_symbol;
