@@ -1,0 +1,3 @@
+mod Explained
+mod Left
+mod Reasons
