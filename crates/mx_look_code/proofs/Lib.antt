@@ -1,3 +1,0 @@
-mod Explained
-mod Left
-mod Reasons

@@ -3,14 +3,12 @@
 
 mod accesses;
 mod code;
-mod laws;
 mod nearest;
 mod operands;
 mod reasons;
 
 pub use accesses::Access;
 pub use code::{code_part, push_code, push_code_line};
-pub use laws::faults_have_reasons;
 pub use mx_aout::Symbol;
 pub use mx_dis::Part;
 pub use nearest::nearest_symbol;
