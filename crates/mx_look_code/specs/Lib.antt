@@ -1,5 +1,8 @@
 pub mod Nearest
 pub mod Code
+pub mod Lines
+pub mod Stack
+pub mod Variables
 pub mod Operands
 pub mod Accesses
 pub mod Reasons

@@ -2,7 +2,9 @@
 
 use crate::files::reader;
 use crate::texts::Narrow;
-use mx_app::{Channels, CommandRequest, Failure, InputLines, MemoryWriter, RecordRange, perform};
+use mx_app::{
+    Channels, CommandRequest, Done, Failure, InputLines, MemoryWriter, RecordRange, perform,
+};
 use mx_app_db::{Script, make_steps, start};
 use mx_boot::{Over, save};
 use mx_machine::{Event, Machine};
@@ -123,7 +125,7 @@ fn is_printed<R: Threads + Wait + Clock + Sync>(
     let wanted = if room < text.len() {
         Err(Failure::File)
     } else {
-        Ok(0)
+        Ok(Done::with_status(0))
     };
     let mut lines = InputLines::new(b"".as_slice());
     let answer = perform(rt, alloc, &mut channels, &mut lines, false, row.request);

@@ -2,7 +2,7 @@
 
 use crate::files::{CLIENT, DRIVER, PAIR};
 use mx_app::{
-    Channels, CommandRequest, Failure, InputLines, MemoryWriter, NamedFile, NamedFiles,
+    Channels, CommandRequest, Done, Failure, InputLines, MemoryWriter, NamedFile, NamedFiles,
     RecordRange, perform,
 };
 use std::alloc::Global;
@@ -214,7 +214,7 @@ fn answer<R: Threads + Wait + Clock + Sync>(
     alloc: Global,
     row: &Row,
     end: &[u8],
-) -> Result<(Result<u8, Failure>, bool), Fail> {
+) -> Result<(Result<Done, Failure>, bool), Fail> {
     let mut text = Vec::from_slice(alloc, row.front)?;
     text.extend_from_slice(end)?;
     let files = [
@@ -235,9 +235,9 @@ fn answer<R: Threads + Wait + Clock + Sync>(
     Ok((answer, is_silent))
 }
 
-fn status(answer: Result<u8, Failure>) -> u8 {
+fn status(answer: Result<Done, Failure>) -> u8 {
     match answer {
-        Ok(status) => status,
+        Ok(done) => done.status,
         Err(failure) => failure.status(),
     }
 }
