@@ -74,7 +74,8 @@ static SESSIONS: &[Session] = &[
                   2 0 back 3: a 0 trap 0 128\n2   a 0: out -> ready, result -104 ECALLDENIED (no call 0)\n\
                   at 1.3 of 4, record 2: 0 back 3\n1 0 take: a 0 budget 5\n\
                   at 4 of 4, the end\n\
-                  4 0 back 1: a 0 fault 13\n4   a 0: out -> down fault 13\n\
+                  4 0 back 1: a 0 fault 13\n4   at 0000000a no code: the code ends at 0000000a\n\
+                  4   a 0: out -> down fault 13\n\
                   at 4 of 4, the end\n",
     },
     Session {

@@ -84,6 +84,7 @@ static ROWS: &[Row] = &[
             range: RecordRange { from: 3, to: 4 },
         },
         printed: "3 0 take: a 0 budget 2\n4 0 back 1: a 0 fault 13\n\
+                  4   at 0000000a no code: the code ends at 0000000a\n\
                   4   a 0: out -> down fault 13\n",
     },
     Row {
