@@ -1,7 +1,7 @@
 use Rattle.mx_laws.specs.Same.{world_with_image, world_with_image_held}
 use Rattle.mx_laws.proofs.SameLemmas.{of_twin_worlds}
 use Rattle.mx_laws.proofs.SoundTwins.{sound_twins, held_twins}
-use Rattle.mx_laws.proofs.laws.other_images_differ.Goals as goal
+use Rattle.mx_laws.proofs.secrecy_laws.other_images_differ.Goals as goal
 
 pub returns-clause-home : goal.returns-clause-home
 returns-clause-home c = λ w q m h. of_twin_worlds q w (world_with_image w q m) (sound_twins q w m h.before h.after h.limit)

@@ -1,5 +1,5 @@
 use Rattle.mx_laws.proofs.RulesLemmas.{move_keeps_rules, moves_keep_rules}
-use Rattle.mx_laws.proofs.laws.rules_stay.Goals as goal
+use Rattle.mx_laws.proofs.secrecy_laws.rules_stay.Goals as goal
 
 pub returns-clause-event : goal.returns-clause-event
 returns-clause-event c = move_keeps_rules

@@ -4,7 +4,7 @@ ghost use Rattle.std.specs.Prelude.{ℕ, List};
 ghost use Rattle.mx_exec.specs.declared.image.Image.{Image};
 ghost use Rattle.mx_machine.specs.declared.events.Event.{Event};
 ghost use Rattle.mx_machine.specs.World.{World, HeldProcess};
-ghost use Rattle.mx_laws.specs.Laws.{TellsNothing, TellNothing, KeepsRules, KeepRules, IsElsewhereSame, HomeImageIsHidden, HeldImageIsHidden};
+ghost use Rattle.mx_laws.specs.SecrecyLaws.{TellsNothing, TellNothing, KeepsRules, KeepRules, IsElsewhereSame, HomeImageIsHidden, HeldImageIsHidden};
 ghost use Rattle.mx_laws.specs.Same.{SameBut};
 
 /// Law: two machines that are the same but for the image of the process in slot `q` answer an
