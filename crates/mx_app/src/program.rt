@@ -70,7 +70,16 @@ where
     };
     let mut lines = InputLines::new(rt.reader());
     let asks = terminals.input && terminals.out;
-    let answer = perform_words(rt, rt.alloc(), words, &mut channels, &mut lines, asks);
+    let shows = terminals.err;
+    let answer = perform_words(
+        rt,
+        rt.alloc(),
+        words,
+        &mut channels,
+        &mut lines,
+        asks,
+        shows,
+    );
     let printed = if answer.is_ok() && begin_with(words, "nm") {
         PrintedText::Symbols
     } else {

@@ -35,9 +35,9 @@ number_after long id = record (after_name long id) { parser = Some (Signed (pos 
 abbrev pub flag : Text → Rule
 flag id = record (new_rule id) { long = Some id; action = Some SetTrue }
 
--- a subcommand, by its name and its arguments; each may be asked to explain a failure
+-- a subcommand, by its name and its arguments; each may be asked to explain a failure, and not to explain it
 abbrev pub subcommand : Text → List Rule → Shape
-subcommand name arguments = record (new_shape name) { rules = arguments ++ flag (codes "explain") ∷ [] }
+subcommand name arguments = record (new_shape name) { rules = arguments ++ flag (codes "explain") ∷ flag (codes "no-explain") ∷ [] }
 
 -- a subcommand of one text, and of two, by its name and theirs
 abbrev pub of_one : Text → Text → Shape
@@ -186,6 +186,11 @@ AsksBy (Db config script) name rows =
 abbrev pub AsksToExplain : Bool → Option (Text × List Row) → Type 0
 AsksToExplain explains (Some found) = IsFlag (codes "explain") found.1 explains
 AsksToExplain explains None = ⊥
+
+-- the words ask that a failure isn't explained, or they don't
+abbrev pub AsksForSilence : Bool → Option (Text × List Row) → Type 0
+AsksForSilence silent (Some found) = IsFlag (codes "no-explain") found.1 silent
+AsksForSilence silent None = ⊥
 
 abbrev pub Asks : CommandRequest → Option (Text × List Row) → Type 0
 Asks request (Some found) = AsksBy request found.0 found.1

@@ -191,7 +191,14 @@ const COMMANDS: CommandArgument<'static> = CommandArgument {
 /// Whether a failure is explained.
 const EXPLAIN: CommandArgument<'static> = CommandArgument {
     name: "explain",
-    help: "If it fails, tells in a second line which file it is about and what was wanted",
+    help: "If it fails, a second line says which file it is about and what was wanted; at a terminal by default",
+    form: ArgumentForm::Flag,
+};
+
+/// Whether a failure isn't explained.
+const SILENT: CommandArgument<'static> = CommandArgument {
+    name: "no-explain",
+    help: "If it fails, there is no second line, also at a terminal",
     form: ArgumentForm::Flag,
 };
 
@@ -200,49 +207,49 @@ static SUBCOMMANDS: [Subcommand<'static>; 14] = [
     Subcommand {
         name: "one",
         help: "Runs one program for at most N steps and prints its registers, flags and how it stopped",
-        arguments: &[FILE, STEPS, EXPLAIN],
+        arguments: &[FILE, STEPS, EXPLAIN, SILENT],
         example: Example::One,
     },
     Subcommand {
         name: "as",
         help: "Assembles a text to a program",
-        arguments: &[TEXT, WRITTEN, EXPLAIN],
+        arguments: &[TEXT, WRITTEN, EXPLAIN, SILENT],
         example: Example::As,
     },
     Subcommand {
         name: "dis",
         help: "Prints the instructions of a program, one a line",
-        arguments: &[FILE, EXPLAIN],
+        arguments: &[FILE, EXPLAIN, SILENT],
         example: Example::Dis,
     },
     Subcommand {
         name: "nm",
         help: "Prints the symbols of a program, one a line",
-        arguments: &[FILE, EXPLAIN],
+        arguments: &[FILE, EXPLAIN, SILENT],
         example: Example::Nm,
     },
     Subcommand {
         name: "explain",
         help: "Prints what the services of a machine may do, one a line",
-        arguments: &[CONFIG, EXPLAIN],
+        arguments: &[CONFIG, EXPLAIN, SILENT],
         example: Example::Explain,
     },
     Subcommand {
         name: "step",
         help: "Runs a machine by a script and prints its answers and a report",
-        arguments: &[CONFIG, SCRIPT, SAVED, EXPLAIN],
+        arguments: &[CONFIG, SCRIPT, SAVED, EXPLAIN, SILENT],
         example: Example::Step,
     },
     Subcommand {
         name: "run",
         help: "Runs a machine, each processor in a thread, writes its history and prints a report",
-        arguments: &[CONFIG, RECORDED, TICKS, EXPLAIN],
+        arguments: &[CONFIG, RECORDED, TICKS, EXPLAIN, SILENT],
         example: Example::Run,
     },
     Subcommand {
         name: "turns",
         help: "Runs a machine on one thread, always the same, writes its history and prints a report",
-        arguments: &[CONFIG, RECORDED, TICKS, EVENTS, TURNS, EXPLAIN],
+        arguments: &[CONFIG, RECORDED, TICKS, EVENTS, TURNS, EXPLAIN, SILENT],
         example: Example::Turns,
     },
     Subcommand {
@@ -258,37 +265,38 @@ static SUBCOMMANDS: [Subcommand<'static>; 14] = [
             STRICT,
             SAVED_FAULT,
             EXPLAIN,
+            SILENT,
         ],
         example: Example::Sweep,
     },
     Subcommand {
         name: "replay",
         help: "Runs a saved history again and prints the report",
-        arguments: &[CONFIG, LOG, EXPLAIN],
+        arguments: &[CONFIG, LOG, EXPLAIN, SILENT],
         example: Example::Replay,
     },
     Subcommand {
         name: "trace",
         help: "Runs a saved history again and prints what each record did",
-        arguments: &[CONFIG, LOG, FROM, TO, EXPLAIN],
+        arguments: &[CONFIG, LOG, FROM, TO, EXPLAIN, SILENT],
         example: Example::Trace,
     },
     Subcommand {
         name: "draw",
         help: "Runs a saved history again and prints a picture of it as SVG",
-        arguments: &[CONFIG, LOG, FROM, TO, EXPLAIN],
+        arguments: &[CONFIG, LOG, FROM, TO, EXPLAIN, SILENT],
         example: Example::Draw,
     },
     Subcommand {
         name: "look",
         help: "Looks at a saved history forward and back, by commands on standard input",
-        arguments: &[CONFIG, LOG, EXPLAIN],
+        arguments: &[CONFIG, LOG, EXPLAIN, SILENT],
         example: Example::Look,
     },
     Subcommand {
         name: "db",
         help: "Runs a machine by a script with breakpoints, and looks into it",
-        arguments: &[CONFIG, COMMANDS, EXPLAIN],
+        arguments: &[CONFIG, COMMANDS, EXPLAIN, SILENT],
         example: Example::Db,
     },
 ];
@@ -393,7 +401,8 @@ fn with_all<'a>(
 /// What the help of all subcommands ends with.
 const MORE_HELP: &str =
     "mx help SUBCOMMAND, or mx SUBCOMMAND --help, tells the words, examples and statuses of one.
-Each takes --explain: if it fails, a second line tells what was wanted.";
+If one fails, a second line says what was wanted: at a terminal, or with --explain.
+--no-explain leaves it out.";
 
 /// What `mx --version` prints beside the name.
 const VERSION: &str = "0.1";

@@ -890,13 +890,7 @@ static EXPLAINED: &[Failed] = &[
         name: "db: a configuration with a bad line",
         words: &["mx", "db", "bad", "look", "--explain"],
         status: 1,
-        told: "mx: 70 BadLine line 2\nmx: CONFIG bad: \
-               wanted an item: cpus 1 to 8, others 1 to 4, log 1 to 1048576, rules 1 or 2, \
-               or service NAME FILE traps T send S calls C level L best B quantum Q \
-               restarts R, with T, S, C hexadecimal without 0x, L 0 to 14, B 0 to L, \
-               Q 1 to 65535, R 0 to 1048575, NAME at most 8 bytes and no register; a \
-               line feed alone at the end, no byte order mark; and at least one \
-               service\n",
+        told: "mx: 70 BadLine line 2\nmx: CONFIG bad: cpus: wanted 1 to 8, stands \"9\"\n",
     },
 ];
 
@@ -909,7 +903,7 @@ fn perform<R: Threads + Wait + Clock + Sync>(
     told: &mut String,
 ) -> u8 {
     let mut lines = InputLines::new(b"".as_slice());
-    match perform_words(rt, alloc, words, channels, &mut lines, false) {
+    match perform_words(rt, alloc, words, channels, &mut lines, false, false) {
         Ok(status) => status,
         Err(complaint) => {
             let _ = write!(told, "{complaint}");

@@ -1,0 +1,4 @@
+mod WordLemmas
+mod Printed
+mod Spaced
+mod Reserved
