@@ -27,7 +27,7 @@ pub use mx_app_program::{assemble_file, one, print_listing, print_names, print_o
 pub use mx_app_run::run;
 pub use mx_app_sweep::sweep;
 pub use mx_app_turns::turns;
-pub use named::{as_named, dis_named, nm_named, one_named};
+pub use named::{as_named, dis_named, nm_named, one_named, step_apart};
 pub use noting::{NotingFiles, NotingReader};
 pub use performing::perform;
 pub use program::run_program;

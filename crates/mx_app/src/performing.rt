@@ -7,11 +7,10 @@ ghost use Rattle.mx_app_db.specs.Written.{Written};
 ghost use Rattle.mx_app.specs.Requests.{Performs, status_after_replay, status_after_sweep, status_after_turns, status_after_work};
 
 use crate::explain::explain_named;
-use crate::named::{as_named, dis_named, nm_named, one_named};
+use crate::named::{as_named, dis_named, nm_named, one_named, step_apart};
 use mx_app_command::{CommandRequest, RecordRange};
 use mx_app_db::{
-    Channels, FileWriter, HistoryPart, LineReader, Reader, Replayed, db, replay, step, step_saved,
-    trace,
+    Channels, FileWriter, HistoryPart, LineReader, Reader, Replayed, db, replay, step, trace,
 };
 use mx_app_draw::draw;
 use mx_app_failure::Failure;
@@ -112,7 +111,7 @@ pub fn perform<
             save,
         } => match save {
             None => status_after_work(step(alloc, reader, config, script, out)),
-            Some(log) => status_after_work(step_saved(alloc, channels, config, script, log)),
+            Some(log) => status_after_work(step_apart(alloc, channels, config, script, log)),
         },
         CommandRequest::Run { config, log, ticks } => {
             let names = RunNames { config, log };

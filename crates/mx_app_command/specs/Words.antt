@@ -99,17 +99,25 @@ program_shapes = one_shape
 abbrev pub program_app : App
 program_app = record { top = record top_app.top { is_leaf = false }; subs = program_shapes }
 
--- those, and the subcommands that work on a machine
+-- those that start a machine
+abbrev pub machine_shapes : List Shape
+machine_shapes = of_one (codes "explain") (codes "CONFIG")
+    ∷ step_shape
+    ∷ run_shape
+    ∷ turns_shape
+    ∷ sweep_shape
+    ∷ []
+
+abbrev pub machine_app : App
+machine_app = record { top = program_app.top; subs = program_shapes ++ machine_shapes }
+
+-- all of them, with those that follow a history or a script
 abbrev pub mx_grammar : App
 mx_grammar = record {
   top = program_app.top;
   subs = program_shapes
-      ++ of_one (codes "explain") (codes "CONFIG")
-      ∷ step_shape
-      ∷ run_shape
-      ∷ turns_shape
-      ∷ sweep_shape
-      ∷ of_two (codes "replay") (codes "CONFIG") (codes "LOG")
+      ++ machine_shapes
+      ++ of_two (codes "replay") (codes "CONFIG") (codes "LOG")
       ∷ looking_shape (codes "trace")
       ∷ looking_shape (codes "draw")
       ∷ of_two (codes "look") (codes "CONFIG") (codes "LOG")

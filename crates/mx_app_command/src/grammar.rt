@@ -2,7 +2,7 @@
 
 ghost use Rattle.std.specs.Prelude.{◌≡◌, IfOk, false, fold, map};
 ghost use Rattle.clap.specs.Words.{app_of, rule_of, shape_of, with_subcommand};
-ghost use Rattle.mx_app_command.specs.Words.{IsLocal, after_name, flag, mx_grammar, number_after, top_app, wanted, wanted_number};
+ghost use Rattle.mx_app_command.specs.Words.{IsLocal, after_name, flag, machine_app, mx_grammar, number_after, program_app, top_app, wanted, wanted_number};
 ghost use Rattle.mx_app_command.specs.Tables.{rule_of_argument, shape_of_subcommand};
 
 use crate::help::Example;
@@ -202,8 +202,8 @@ const SILENT: CommandArgument<'static> = CommandArgument {
     form: ArgumentForm::Flag,
 };
 
-/// The subcommands, those that work on one program first.
-static SUBCOMMANDS: [Subcommand<'static>; 14] = [
+/// The subcommands that work on one program.
+static PROGRAM_COMMANDS: [Subcommand<'static>; 4] = [
     Subcommand {
         name: "one",
         help: "Runs one program for at most N steps and prints its registers, flags and how it stopped",
@@ -228,6 +228,10 @@ static SUBCOMMANDS: [Subcommand<'static>; 14] = [
         arguments: &[FILE, EXPLAIN, SILENT],
         example: Example::Nm,
     },
+];
+
+/// Those that start a machine.
+static MACHINE_COMMANDS: [Subcommand<'static>; 5] = [
     Subcommand {
         name: "explain",
         help: "Prints what the services of a machine may do, one a line",
@@ -269,6 +273,10 @@ static SUBCOMMANDS: [Subcommand<'static>; 14] = [
         ],
         example: Example::Sweep,
     },
+];
+
+/// Those that follow a history or a script.
+static HISTORY_COMMANDS: [Subcommand<'static>; 5] = [
     Subcommand {
         name: "replay",
         help: "Runs a saved history again and prints the report",
@@ -419,9 +427,23 @@ fn program<'a>(alloc: Global) -> Command<'a>
         .disable_help_subcommand(true)
 }
 
+/// The program with the subcommands that work on one program.
+fn with_programs<'a>(alloc: Global) -> Result<Command<'a>, AllocError>
+    ensures app { IfOk result (λ c. app_of c ≡ program_app) }
+{
+    with_all(alloc, program(alloc), &PROGRAM_COMMANDS)
+}
+
+/// The same with those that start a machine.
+fn with_machines<'a>(alloc: Global) -> Result<Command<'a>, AllocError>
+    ensures app { IfOk result (λ c. app_of c ≡ machine_app) }
+{
+    with_all(alloc, with_programs(alloc)?, &MACHINE_COMMANDS)
+}
+
 /// The command line's grammar, with its help.
 pub fn grammar<'a>(alloc: Global) -> Result<Command<'a>, AllocError>
     ensures app { IfOk result (λ c. app_of c ≡ mx_grammar) }
 {
-    with_all(alloc, program(alloc), &SUBCOMMANDS)
+    with_all(alloc, with_machines(alloc)?, &HISTORY_COMMANDS)
 }

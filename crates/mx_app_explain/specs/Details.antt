@@ -1,5 +1,5 @@
 -- What was wanted, and where (our own words).
-use Rattle.std.specs.Prelude.{ℕ, ◌-◌, if◌then◌else◌, List, [], ◌++◌, codes, Option, Some, None, slice_get}
+use Rattle.std.specs.Prelude.{ℕ, ◌-◌, ◌==◌, if◌then◌else◌, List, [], ◌++◌, codes, Option, Some, None, slice_get}
 use Rattle.std.specs.Str.{is_utf8}
 use Rattle.mx_app_explain.specs.ConfigFaults.{fault_in, words_at}
 use Rattle.mx_app_explain.specs.ConfigPlaces.{value_name, wanted_at, words_before}
@@ -30,8 +30,7 @@ after_words first second = []
 -- a value is called by its name, and another word by the two words before it
 abbrev pub place_label : List (List ℕ) → ℕ → Option (List ℕ) → List ℕ
 place_label words before (Some name) = value_told name
-place_label words 0 None = []
-place_label words before None = after_words (slice_get words (before - 2)) (slice_get words (before - 1))
+place_label words before None = if before == 0 then [] else after_words (slice_get words (before - 2)) (slice_get words (before - 1))
 
 -- ---- the whole
 

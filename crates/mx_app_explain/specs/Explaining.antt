@@ -116,6 +116,7 @@ reads_one_program r = false
 -- what is read would be written over
 abbrev pub writes_over : CommandRequest → Bool
 writes_over (As text file) = bytes_eq text.now file.now
+writes_over (Step config script (Some log)) = bytes_eq config.now log.now || bytes_eq script.now log.now
 writes_over (Run config log ticks) = bytes_eq config.now log.now
 writes_over (Turns config log ticks None bound) = bytes_eq config.now log.now
 writes_over (Turns config log ticks (Some events) bound) = bytes_eq config.now log.now || bytes_eq events.now log.now

@@ -115,8 +115,12 @@ own_name w =
 abbrev pub Advised : Type 0
 Advised = List ℕ × Option (List ℕ)
 
+-- about no word
+abbrev pub plain : Problem → Advised
+plain p = (problem_wanted p, None)
+
 abbrev pub about : (List ℕ → List ℕ) → Problem → Option (List ℕ) → Advised
-about wanted p None = (problem_wanted p, None)
+about wanted p None = plain p
 about wanted p (Some w) = (wanted w, Some w)
 
 -- a character, a constant, or another word that is no token
@@ -129,7 +133,7 @@ token_wanted w =
 -- a text may have any bytes, so nothing is said of a word beside one
 abbrev pub byte_advice : List (List ℕ) → Advised
 byte_advice ws =
-    if is_some (find_word sought.Quoted ws) then (problem_wanted problems.BadByte, None)
+    if is_some (find_word sought.Quoted ws) then plain problems.BadByte
     else about token_wanted problems.BadByte (find_word sought.Odd ws)
 
 -- a number with an h at its end, or another word that is no number
@@ -148,31 +152,34 @@ number_advice ws = about number_wanted problems.BadNumber (find_word sought.BadN
 abbrev pub word_advice : List (List ℕ) → Advised
 word_advice ws = about word_wanted problems.UnknownWord (first_of (after_label ws))
 
--- two addresses; or a word too many; or an address without a size
-abbrev pub operand_advice : List (List ℕ) → Advised
-operand_advice ws = address_advice (second_address ws) ws
-
-abbrev pub address_advice : Option (List ℕ) → List (List ℕ) → Advised
-address_advice (Some w) ws = (codes "a register or a number in place of the second bracket, since no instruction has two", Some w)
-address_advice None ws = extra_advice (extra_word false ws) ws
-
-abbrev pub extra_advice : Option (List ℕ) → List (List ℕ) → Advised
-extra_advice (Some w) ws = (codes "a comma, the end of the line, or ; before a comment", Some w)
-extra_advice None ws = size_advice ws
-
-abbrev pub size_advice : List (List ℕ) → Advised
-size_advice ws =
-    if lacks_size ws then (codes "byte, word or dword before the bracket, since no register says the size", Some (codes "["))
-    else operand_word_advice (find_word sought.FreeWord ws) ws
+-- a number that doesn't fit, perhaps
+abbrev pub number_operand_advice : Option (List ℕ) → Advised
+number_operand_advice (Some w) = (codes "a number that fits, or another operand that the statement takes", Some w)
+number_operand_advice None = plain problems.BadOperands
 
 -- a name in place of another operand; or a number
 abbrev pub operand_word_advice : Option (List ℕ) → List (List ℕ) → Advised
 operand_word_advice (Some w) ws = (codes "a register, an address or a number of the operand's size", Some w)
 operand_word_advice None ws = number_operand_advice (find_word sought.Number ws)
 
-abbrev pub number_operand_advice : Option (List ℕ) → Advised
-number_operand_advice (Some w) = (codes "a number that fits, or another operand that the statement takes", Some w)
-number_operand_advice None = (problem_wanted problems.BadOperands, None)
+-- an address without a size; or one of these
+abbrev pub size_advice : List (List ℕ) → Advised
+size_advice ws =
+    if lacks_size ws then (codes "byte, word or dword before the bracket, since no register says the size", Some (codes "["))
+    else operand_word_advice (find_word sought.FreeWord ws) ws
+
+-- a word too many; or one of these
+abbrev pub extra_advice : Option (List ℕ) → List (List ℕ) → Advised
+extra_advice (Some w) ws = (codes "a comma, the end of the line, or ; before a comment", Some w)
+extra_advice None ws = size_advice ws
+
+-- two addresses; or one of these
+abbrev pub address_advice : Option (List ℕ) → List (List ℕ) → Advised
+address_advice (Some w) ws = (codes "a register or a number in place of the second bracket, since no instruction has two", Some w)
+address_advice None ws = extra_advice (extra_word false ws) ws
+
+abbrev pub operand_advice : List (List ℕ) → Advised
+operand_advice ws = address_advice (second_address ws) ws
 
 -- THE ADVICE on a line that has these words, by what is wrong with it
 abbrev pub advised : Problem → List (List ℕ) → Advised
@@ -183,7 +190,7 @@ advised problems.BadOperands ws = operand_advice (after_first (after_label ws))
 advised problems.WrongSection ws = (problem_wanted problems.WrongSection, first_of (after_label ws))
 advised problems.LongName ws = (problem_wanted problems.LongName, find_word sought.LongName ws)
 advised problems.Undefined ws = (problem_wanted problems.Undefined, only_free_word (after_first (after_label ws)))
-advised p ws = (problem_wanted p, None)
+advised p ws = plain p
 
 -- the words of a text's line that has this number, counted from 1
 abbrev pub words_of_line : Option (List ℕ) → List (List ℕ)

@@ -20,15 +20,15 @@ is_mark b = b == 91 || (b == 93 || (b == 43 || (b == 45 || (b == 42 || (b == 44 
 abbrev pub is_blank : ℕ → Bool
 is_blank b = b == 32 || (b == 9 || b == 13)
 
-abbrev pub is_semicolon : ℕ → Bool
-is_semicolon b = b == 59
+abbrev pub is_byte : ℕ → ℕ → Bool
+is_byte byte b = b == byte
 
--- a mark is a word of its own, and any blank is a space
+-- a mark is a word of its own, and any blank is a space; a semicolon begins a comment
 abbrev pub spaced_byte : ℕ → List ℕ
 spaced_byte b = if is_mark b then 32 ∷ b ∷ 32 ∷ [] else (if is_blank b then 32 ∷ [] else b ∷ [])
 
 abbrev pub spaced : List ℕ → List ℕ
-spaced line = flat_map spaced_byte (before_first is_semicolon line)
+spaced line = flat_map spaced_byte (before_first (is_byte 59) line)
 
 -- THE WORDS of a line, up to its comment
 abbrev pub words_in : List ℕ → List (List ℕ)

@@ -1,9 +1,9 @@
 //! The first place of a configuration's line where another word is wanted.
 
 ghost use Rattle.std.specs.Prelude.{◌≡◌, Err, Ok, Some, MatchResult, is_some};
-ghost use Rattle.std.specs.List.{before_first, list_any};
+ghost use Rattle.std.specs.List.{list_any};
 ghost use Rattle.mx_text.specs.Fields.{fields};
-ghost use Rattle.mx_boot.specs.Items.{is_hash, is_stray};
+ghost use Rattle.mx_boot.specs.Items.{is_stray};
 ghost use Rattle.mx_boot.specs.Terms.{mask, number_between};
 ghost use Rattle.mx_app_explain.specs.ConfigFaults.{after_file, after_key, after_levels, after_mask, after_masks, after_number, after_service, end_fault, fault_after, fault_in, number_at, word_at};
 ghost use Rattle.mx_app_explain.specs.declared.config_place.Place.TheVariants.{ItemEnd, ServiceEnd};
@@ -12,16 +12,6 @@ use crate::config_place::{Key, Place};
 use crate::text_words::is_reserved;
 use mx_text::{name_of, next_field, number_up_to};
 use std::str;
-
-/// A configuration's line up to its comment.
-pub(crate) fn before_comment(line: &[u8]) -> &[u8]
-    ensures { result.now ≡ before_first is_hash line.now }
-{
-    match line.iter().position(|byte| *byte == b'#') {
-        Some(at) => &line[..at],
-        None => line,
-    }
-}
 
 /// The number that decimal digits spell, from the least to the most that is allowed.
 fn number_between(word: &[u8], least: u32, most: u32) -> Option<u32>
@@ -154,7 +144,7 @@ fn after_service(line: &[u8]) -> Result<(u32, &[u8]), Place>
 
 /// The fault of a line of which so much was read: at the end, if a word is left.
 fn fault_after(read: Result<(u32, &[u8]), Place>, end: Place) -> Option<Place>
-    ensures { MatchResult read (λ p. result ≡ end_fault end (fields p.1.now)) (λ e. result ≡ Some e) }
+    ensures { MatchResult read.entry (λ p. result ≡ end_fault end (fields p.1.now)) (λ e. result ≡ Some e) }
 {
     match read {
         Ok((_, rest)) => match next_field(rest) {

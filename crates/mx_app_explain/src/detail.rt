@@ -4,9 +4,11 @@ ghost use Rattle.std.specs.Prelude.{◌≡◌, ◌-◌, None, option_map, slice_
 ghost use Rattle.mx_text.specs.Fields.{fields};
 ghost use Rattle.mx_text.specs.Lines.{lines};
 ghost use Rattle.mx_boot.specs.Items.{said_in};
+ghost use Rattle.mx_app_explain.specs.ConfigPlaces.{value_name, words_before};
 ghost use Rattle.mx_app_explain.specs.Details.{after_words, config_detail, detail_told, label_told, place_label, place_told, word_detail};
 
-use crate::config_line::{before_comment, line_fault};
+use crate::comment::before_comment;
+use crate::config_line::line_fault;
 use crate::config_place::Place;
 use crate::found_word::{FoundWord, found_at};
 use mx_text::{next_field, next_line};
@@ -147,7 +149,7 @@ fn place_detail(line: &[u8], place: Place) -> Detail<'_>
 pub(crate) fn config_detail(text: &[u8], number: usize) -> Option<Detail<'_>>
     ensures { option_map detail_told result ≡ config_detail text.now number }
 {
-    let line = before_comment(line_below(text, number.saturating_sub(1))?);
+    let line = before_comment(line_below(text, number.saturating_sub(1))?, b'#');
     let place = line_fault(line)?;
     Some(place_detail(line, place))
 }

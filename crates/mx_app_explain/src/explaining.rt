@@ -2,10 +2,8 @@
 
 ghost use Rattle.std.specs.Prelude.{◌≡◌, IfOk, option_map, string_bytes};
 ghost use Rattle.mx_app_explain.specs.Details.{detail_told};
-ghost use Rattle.mx_app_explain.specs.Explaining.{detail_of, explained, explanation_told};
-ghost use Rattle.mx_app_explain.specs.TextAdvice.{words_of_line};
+ghost use Rattle.mx_app_explain.specs.Explaining.{detail_of, explained, explanation_told, faulty_words, plain_detail};
 ghost use Rattle.mx_text.specs.Fields.{fields};
-ghost use Rattle.mx_text.specs.Lines.{lines};
 
 use crate::detail::{Detail, Label, config_detail, line_below};
 use crate::found_word::FoundWord;
@@ -72,7 +70,7 @@ fn detail_of<'a>(
     notes: Notes<'a>,
     words: &'a [u8],
 ) -> Detail<'a>
-    requires { fields words.now ≡ faulty_words failure (option_map (λ t. t.now) notes.entry.text) }
+    requires { fields words.now ≡ faulty_words failure (option_map (λ t. t.now) notes.text) }
     ensures { detail_told result ≡ detail_of request.entry failure notes.entry.is_missed
         notes.entry.is_unwritten (option_map (λ t. t.now) notes.entry.text) }
 {

@@ -169,6 +169,11 @@ pub(crate) fn writes_over(request: CommandRequest<'_>) -> bool
 {
     match request {
         CommandRequest::As { text, file } => text == file,
+        CommandRequest::Step {
+            config,
+            script,
+            save: Some(log),
+        } => config == log || script == log,
         CommandRequest::Run { config, log, .. } => config == log,
         CommandRequest::Turns {
             config,

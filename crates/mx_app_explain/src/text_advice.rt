@@ -3,8 +3,7 @@
 ghost use Rattle.std.specs.Prelude.{◌≡◌, None, Some, MatchOption, false, option_map};
 ghost use Rattle.mx_text.specs.Fields.{fields};
 ghost use Rattle.mx_app_explain.specs.Details.{detail_told};
-ghost use Rattle.mx_app_explain.specs.TextAdvice.{advice_told, advised, after_first, after_label, byte_advice, extra_word, find_word, first_of, is_sought, lacks_register, lacks_size, may_end, next_sought, number_advice, number_wanted, only_free_word, operand_advice, operand_word_advice, own_name, second_address, size_advice, token_wanted, word_advice, word_wanted};
-ghost use Rattle.mx_app_explain.specs.Wanted.{problem_wanted};
+ghost use Rattle.mx_app_explain.specs.TextAdvice.{advice_told, advised, after_first, after_label, byte_advice, extra_word, find_word, first_of, is_sought, lacks_register, lacks_size, may_end, next_sought, number_advice, number_wanted, only_free_word, operand_advice, operand_word_advice, own_name, plain, second_address, size_advice, token_wanted, word_advice, word_wanted};
 ghost use Rattle.mx_app_explain.specs.declared.text_advice.Sought.TheVariants.{FreeWord};
 
 use crate::detail::{Detail, Label};
@@ -28,7 +27,7 @@ impl<'a> Advice<'a> {
     /// As a second line has it.
     pub(crate) fn detail(self) -> Detail<'a>
         ensures { detail_told result
-            ≡ advice_told (self.wanted.now, option_map (λ w. w.now) self.word) }
+            ≡ advice_told (self.entry.wanted.now, option_map (λ w. w.now) self.entry.word) }
     {
         let found = match self.word {
             Some(_) => found_at(self.word),
@@ -282,7 +281,7 @@ fn word_wanted(word: &[u8]) -> &'static str
 /// Advice that is about no word.
 fn plain_advice<'a>(problem: Problem) -> Advice<'a>
     ensures { (result.wanted.now, option_map (λ w. w.now) result.word)
-        ≡ (problem_wanted problem, None) }
+        ≡ plain problem }
 {
     Advice {
         wanted: problem_wanted(problem),

@@ -1,9 +1,10 @@
 //! The words of a line of a text for the assembler, and what each of them is.
 
 ghost use Rattle.std.specs.Prelude.{◌≡◌, ◌++◌, IfOk, OnOk};
-ghost use Rattle.std.specs.List.{before_first, flat_map, list_any};
-ghost use Rattle.mx_app_explain.specs.TextWords.{begins_with_digit, is_bad_number, is_blank, is_capital, is_close, is_equals, is_free_word, is_long_name, is_mark, is_mark_word, is_number, is_odd_byte, is_open, is_quote, is_reserved, is_semicolon, is_size, spaced, spaced_byte};
+ghost use Rattle.std.specs.List.{flat_map, list_any};
+ghost use Rattle.mx_app_explain.specs.TextWords.{begins_with_digit, is_bad_number, is_blank, is_capital, is_close, is_equals, is_free_word, is_long_name, is_mark, is_mark_word, is_number, is_odd_byte, is_open, is_quote, is_reserved, is_size, spaced, spaced_byte};
 
+use crate::comment::before_comment;
 use crate::found_word::byte_at;
 use mx_insn_words::{register_named, size_named};
 use mx_text::{begins_name, is_digit, is_word_byte, number_up_to};
@@ -28,16 +29,6 @@ fn is_blank(byte: u8) -> bool
     byte == b' ' || byte == b'\t' || byte == b'\r'
 }
 
-/// A line up to its comment.
-fn before_comment(line: &[u8]) -> &[u8]
-    ensures { result.now ≡ before_first is_semicolon line.now }
-{
-    match line.iter().position(|byte| *byte == b';') {
-        Some(at) => &line[..at],
-        None => line,
-    }
-}
-
 /// Appends a byte, a mark between spaces, and a space for a blank.
 fn push_spaced(out: &mut Vec<u8>, byte: u8) -> Result<(), AllocError>
     ensures { OnOk result (out.new.items ≡ out.old.items ++ spaced_byte byte) }
@@ -60,7 +51,7 @@ pub(crate) fn spaced(alloc: Global, line: &[u8]) -> Result<Vec<u8>, AllocError>
     ensures { IfOk result (λ found. found.items ≡ spaced line.now) }
 {
     let mut out = Vec::new(alloc);
-    let said = before_comment(line);
+    let said = before_comment(line, b';');
     for byte in said {
         push_spaced(&mut out, *byte)?;
     }

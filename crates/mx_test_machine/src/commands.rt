@@ -900,10 +900,11 @@ fn perform<R: Threads + Wait + Clock + Sync>(
     rt: &R,
     alloc: Global,
     words: &'static [&'static str],
+    shows: bool,
     told: &mut String,
 ) -> u8 {
     let mut lines = InputLines::new(b"".as_slice());
-    match perform_words(rt, alloc, words, channels, &mut lines, false, false) {
+    match perform_words(rt, alloc, words, channels, &mut lines, false, shows) {
         Ok(status) => status,
         Err(complaint) => {
             let _ = write!(told, "{complaint}");
@@ -930,7 +931,7 @@ fn is_kept(files: &[KeptFile], wanted: Option<(&str, &[u8])>) -> bool {
 fn is_done<R: Threads + Wait + Clock + Sync>(rt: &R, alloc: Global, row: &Done) -> bool {
     let mut channels = channels(alloc, None);
     let mut told = String::new(alloc);
-    perform(&mut channels, rt, alloc, row.words, &mut told) == row.status
+    perform(&mut channels, rt, alloc, row.words, false, &mut told) == row.status
         && told.is_empty()
         && is_printed(&channels.out, row.printed)
         && is_kept(channels.files.writer().files(), row.file)
@@ -946,7 +947,7 @@ fn is_told<R: Threads + Wait + Clock + Sync>(
 ) -> bool {
     let mut channels = channels(alloc, refusal);
     let mut told = String::new(alloc);
-    let ended = perform(&mut channels, rt, alloc, row.words, &mut told);
+    let ended = perform(&mut channels, rt, alloc, row.words, false, &mut told);
     let is_told = if row.status == 2 {
         told.as_str().starts_with("error: ")
     } else {
@@ -983,6 +984,36 @@ fn failures_explained(rt: HostRuntime) -> Result<(), Fail> {
         assert!(rt; is_told(&rt, rt.alloc(), None, row), "{name}");
     }
     Ok(())
+}
+
+/// Words that fail, with standard error as a terminal or not, and whether the failure is explained.
+static TERMINALS: &[(&[&str], bool, bool)] = &[
+    (&["mx", "nm", "nothing"], false, false),
+    (&["mx", "nm", "nothing"], true, true),
+    (&["mx", "nm", "nothing", "--explain"], false, true),
+    (&["mx", "nm", "nothing", "--explain"], true, true),
+    (&["mx", "nm", "nothing", "--no-explain"], false, false),
+    (&["mx", "nm", "--no-explain", "nothing"], true, false),
+    (
+        &["mx", "nm", "nothing", "--explain", "--no-explain"],
+        true,
+        false,
+    ),
+];
+
+#[test]
+fn terminals_explained(rt: HostRuntime) {
+    for (words, shows, is_explained) in TERMINALS {
+        let mut channels = channels(rt.alloc(), None);
+        let mut told = String::new(rt.alloc());
+        let status = perform(&mut channels, &rt, rt.alloc(), words, *shows, &mut told);
+        let wanted = if *is_explained {
+            "mx: 80 File\nmx: FILE nothing: wanted a file that can be read\n"
+        } else {
+            "mx: 80 File\n"
+        };
+        assert!(rt; status == 3 && told.as_str() == wanted, "{told}");
+    }
 }
 
 /// A history that can't be written is reported by its word, and so is an output that takes nothing.
@@ -1106,7 +1137,7 @@ fn is_unwritten<R: Threads + Wait + Clock + Sync>(rt: &R, alloc: Global, row: &U
         io::ErrorKind::PermissionDenied,
     ));
     let mut told = String::new(alloc);
-    let status = perform(&mut channels, rt, alloc, row.words, &mut told);
+    let status = perform(&mut channels, rt, alloc, row.words, false, &mut told);
     status == 3
         && told.as_str() == "mx: 80 File\n"
         && is_printed(&channels.out, row.printed)
@@ -1121,7 +1152,7 @@ fn run_with_ticks(rt: HostRuntime) {
     let words: &[&str] = &["mx", "run", "one", "new.log", "--ticks", "3"];
     let mut channels = channels(alloc, None);
     let mut told = String::new(alloc);
-    let status = perform(&mut channels, &rt, alloc, words, &mut told);
+    let status = perform(&mut channels, &rt, alloc, words, false, &mut told);
     assert!(rt; status == 0 && told.is_empty());
     assert!(rt;
         is_printed(
@@ -1162,7 +1193,8 @@ static HELPS: &[Help] = &[
         ending: "  -V, --version  Print version
 
 mx help SUBCOMMAND, or mx SUBCOMMAND --help, tells the words, examples and statuses of one.
-Each takes --explain: if it fails, a second line tells what was wanted.
+If one fails, a second line says what was wanted: at a terminal, or with --explain.
+--no-explain leaves it out.
 ",
     },
     Help {
@@ -1275,7 +1307,7 @@ docs/use/REFERENCE.md.
 fn ends_so<R: Threads + Wait + Clock + Sync>(rt: &R, alloc: Global, row: &Help) -> bool {
     let mut channels = channels(alloc, None);
     let mut told = String::new(alloc);
-    let status = perform(&mut channels, rt, alloc, row.words, &mut told);
+    let status = perform(&mut channels, rt, alloc, row.words, false, &mut told);
     let out = &channels.out;
     status == 0
         && told.is_empty()
@@ -1358,7 +1390,7 @@ static PICTURES: &[Picture] = &[
 fn is_drawn<R: Threads + Wait + Clock + Sync>(rt: &R, alloc: Global, row: &Picture) -> bool {
     let mut channels = channels(alloc, None);
     let mut told = String::new(alloc);
-    let ended = perform(&mut channels, rt, alloc, row.words, &mut told);
+    let ended = perform(&mut channels, rt, alloc, row.words, false, &mut told);
     let out = &channels.out;
     let Some(rest) = out.bytes.as_slice().strip_prefix(SMALL_PICTURE.as_bytes()) else {
         return false;

@@ -182,9 +182,7 @@ static LINES: &[Line] = &[
 
 fn is_asked(alloc: Global, line: &Line) -> bool {
     match (command(alloc, line.words), line.asked) {
-        (Ok(found), Ok(request)) => {
-            found.request == request && !found.explains && !found.silent
-        }
+        (Ok(found), Ok(request)) => { found.request == request && !found.explains && !found.silent }
         (Err(error), Err(kind)) => error.kind() == kind,
         _ => false,
     }

@@ -71,5 +71,5 @@ returns-clause-silent c =
     let entered : subcommand_rows_of c.in_ok-matches.matches ≡ Some (asked.0, asked.1) = (c.in_ok-matches.ensures.matches refl).1 ∙ asked.2 in
     let rows = rows_of (found_of c.in-Some.found.now) in
     let rows_same = rows_is c.in_ok-matches.matches (asked.0, asked.1) entered c.in-Some.name.now rows c.in-Some.ensures.name c.in-Some.ensures.rows in
-    let by : IsFlag (codes "no-explain") asked.1 c.flag_asked-silent.result = subst (λ (r : List Row). IsFlag (codes "no-explain") r c.flag_asked-silent.result) rows_same c.flag_asked-silent.ensures in
-    subst (AsksForSilence c.flag_asked-silent.result) (sym asked.2) by
+    let by : IsFlag (codes "no-explain") asked.1 c.flag_asked-in-Some.result = subst (λ (r : List Row). IsFlag (codes "no-explain") r c.flag_asked-in-Some.result) rows_same c.flag_asked-in-Some.ensures in
+    subst (AsksForSilence c.flag_asked-in-Some.result) (sym asked.2) by
