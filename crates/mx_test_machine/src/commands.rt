@@ -887,6 +887,18 @@ static EXPLAINED: &[Failed] = &[
         told: "mx: 80 File\nmx: FILE nothing: wanted a file that can be read\n",
     },
     Failed {
+        name: "step: a script isn't written over by its history",
+        words: &["mx", "step", "one", "kills", "--save", "kills", "--explain"],
+        status: 3,
+        told: "mx: 80 File\nmx: LOG kills: wanted another file than the one that is read\n",
+    },
+    Failed {
+        name: "step: a configuration isn't written over",
+        words: &["mx", "step", "one", "kills", "--explain", "--save", "one"],
+        status: 3,
+        told: "mx: 80 File\nmx: LOG one: wanted another file than the one that is read\n",
+    },
+    Failed {
         name: "db: a configuration with a bad line",
         words: &["mx", "db", "bad", "look", "--explain"],
         status: 1,
