@@ -84,30 +84,53 @@ lacks_size ws = is_some (find_word sought.Open ws) && (is_none (find_word sought
 -- ---- the names of other assemblers
 
 -- of the names that the manual has for one condition, or one operation, this assembler takes one
-abbrev pub own_name : List ℕ → Option (List ℕ)
-own_name w =
+abbrev pub equal_name : List ℕ → Option (List ℕ)
+equal_name w =
     if bytes_eq w (codes "je") then Some (codes "jz") else
     if bytes_eq w (codes "jne") then Some (codes "jnz") else
     if bytes_eq w (codes "jc") || bytes_eq w (codes "jnae") then Some (codes "jb") else
     if bytes_eq w (codes "jae") || bytes_eq w (codes "jnc") then Some (codes "jnb") else
+    None
+
+abbrev pub order_name : List ℕ → Option (List ℕ)
+order_name w =
     if bytes_eq w (codes "ja") then Some (codes "jnbe") else
     if bytes_eq w (codes "jna") then Some (codes "jbe") else
     if bytes_eq w (codes "jge") then Some (codes "jnl") else
     if bytes_eq w (codes "jnge") then Some (codes "jl") else
     if bytes_eq w (codes "jg") then Some (codes "jnle") else
     if bytes_eq w (codes "jng") then Some (codes "jle") else
+    None
+
+abbrev pub single_name : List ℕ → Option (List ℕ)
+single_name w =
     if bytes_eq w (codes "sal") then Some (codes "shl") else
     if bytes_eq w (codes "jcxz") then Some (codes "jecxz") else
     if bytes_eq w (codes "repz") then Some (codes "repe") else
     if bytes_eq w (codes "repnz") then Some (codes "repne") else
+    None
+
+abbrev pub stack_name : List ℕ → Option (List ℕ)
+stack_name w =
     if bytes_eq w (codes "pusha") then Some (codes "pushad") else
     if bytes_eq w (codes "popa") then Some (codes "popad") else
     if bytes_eq w (codes "pushf") then Some (codes "pushfd") else
     if bytes_eq w (codes "popf") then Some (codes "popfd") else
+    None
+
+abbrev pub data_name : List ℕ → Option (List ℕ)
+data_name w =
     if bytes_eq w (codes "db") then Some (codes ".data1, or .ascii for a text,") else
     if bytes_eq w (codes "dw") then Some (codes ".data2") else
     if bytes_eq w (codes "dd") then Some (codes ".data4") else
     None
+
+abbrev pub name_or : Option (List ℕ) → Option (List ℕ) → Option (List ℕ)
+name_or (Some name) other = Some name
+name_or None other = other
+
+abbrev pub own_name : List ℕ → Option (List ℕ)
+own_name w = name_or (equal_name w) (name_or (order_name w) (name_or (single_name w) (name_or (stack_name w) (data_name w))))
 
 -- ---- advice
 

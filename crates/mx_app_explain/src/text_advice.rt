@@ -3,7 +3,7 @@
 ghost use Rattle.std.specs.Prelude.{◌≡◌, None, Some, MatchOption, false, option_map};
 ghost use Rattle.mx_text.specs.Fields.{fields};
 ghost use Rattle.mx_app_explain.specs.Details.{detail_told};
-ghost use Rattle.mx_app_explain.specs.TextAdvice.{advice_told, advised, after_first, after_label, byte_advice, extra_word, find_word, first_of, is_sought, lacks_register, lacks_size, may_end, next_sought, number_advice, number_wanted, only_free_word, operand_advice, operand_word_advice, own_name, plain, second_address, size_advice, token_wanted, word_advice, word_wanted};
+ghost use Rattle.mx_app_explain.specs.TextAdvice.{advice_told, advised, after_first, after_label, byte_advice, data_name, equal_name, extra_word, find_word, first_of, is_sought, lacks_register, lacks_size, may_end, name_or, next_sought, number_advice, number_wanted, only_free_word, operand_advice, operand_word_advice, order_name, own_name, plain, second_address, single_name, size_advice, stack_name, token_wanted, word_advice, word_wanted};
 ghost use Rattle.mx_app_explain.specs.declared.text_advice.Sought.TheVariants.{FreeWord};
 
 use crate::detail::{Detail, Label};
@@ -208,34 +208,89 @@ fn lacks_size(line: &[u8]) -> bool
         && (find_word(line, Sought::Size).is_none() && lacks_register(line))
 }
 
-/// This assembler's name for what others call so.
-fn own_name(word: &[u8]) -> Option<&'static str>
-    ensures { option_map (λ s. s.now) result ≡ own_name word.now }
+/// This assembler's name for a condition of equality or of the carry.
+fn equal_name(word: &[u8]) -> Option<&'static str>
+    ensures { option_map (λ s. s.now) result ≡ equal_name word.now }
 {
     match word {
         b"je" => Some("jz"),
         b"jne" => Some("jnz"),
         b"jc" | b"jnae" => Some("jb"),
         b"jae" | b"jnc" => Some("jnb"),
+        _ => None,
+    }
+}
+
+/// This assembler's name for a condition of order.
+fn order_name(word: &[u8]) -> Option<&'static str>
+    ensures { option_map (λ s. s.now) result ≡ order_name word.now }
+{
+    match word {
         b"ja" => Some("jnbe"),
         b"jna" => Some("jbe"),
         b"jge" => Some("jnl"),
         b"jnge" => Some("jl"),
         b"jg" => Some("jnle"),
         b"jng" => Some("jle"),
+        _ => None,
+    }
+}
+
+/// This assembler's name for other operations.
+fn single_name(word: &[u8]) -> Option<&'static str>
+    ensures { option_map (λ s. s.now) result ≡ single_name word.now }
+{
+    match word {
         b"sal" => Some("shl"),
         b"jcxz" => Some("jecxz"),
         b"repz" => Some("repe"),
         b"repnz" => Some("repne"),
+        _ => None,
+    }
+}
+
+/// This assembler's name for what is pushed and popped at once.
+fn stack_name(word: &[u8]) -> Option<&'static str>
+    ensures { option_map (λ s. s.now) result ≡ stack_name word.now }
+{
+    match word {
         b"pusha" => Some("pushad"),
         b"popa" => Some("popad"),
         b"pushf" => Some("pushfd"),
         b"popf" => Some("popfd"),
+        _ => None,
+    }
+}
+
+/// This assembler's name for data.
+fn data_name(word: &[u8]) -> Option<&'static str>
+    ensures { option_map (λ s. s.now) result ≡ data_name word.now }
+{
+    match word {
         b"db" => Some(".data1, or .ascii for a text,"),
         b"dw" => Some(".data2"),
         b"dd" => Some(".data4"),
         _ => None,
     }
+}
+
+/// This assembler's name, or another one.
+fn name_or(name: Option<&'static str>, other: Option<&'static str>) -> Option<&'static str>
+    ensures { option_map (λ s. s.now) result ≡ name_or (option_map (λ s. s.now) name.entry) (option_map (λ s. s.now) other.entry) }
+{
+    match name {
+        Some(name) => Some(name),
+        None => other,
+    }
+}
+
+/// This assembler's name for what others call so.
+fn own_name(word: &[u8]) -> Option<&'static str>
+    ensures { option_map (λ s. s.now) result ≡ own_name word.now }
+{
+    let last = name_or(stack_name(word), data_name(word));
+    let rest = name_or(order_name(word), name_or(single_name(word), last));
+    name_or(equal_name(word), rest)
 }
 
 /// What is wanted in place of a word that is no token.
