@@ -5,7 +5,11 @@ mod answering;
 mod laws;
 mod moves;
 mod places;
+mod seeking;
 mod session;
+mod showing;
+mod sight;
+mod slots;
 mod telling;
 
 pub use laws::{one_session, why_is_traced};

@@ -1,2 +1,5 @@
 pub mod Verbs
+pub mod Points
+pub mod Addresses
+pub mod Shown
 pub mod Requests

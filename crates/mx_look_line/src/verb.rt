@@ -12,29 +12,51 @@ use std::alloc::AllocError;
 #[derive(Clone, Copy, Debug, PartialEq, Eq)]
 pub enum Verb {
     Back,
+    Break,
+    Clear,
+    Continue,
     Forward,
     GoTo,
     Help,
+    Listing,
+    Memory,
     Messages,
+    Points,
+    Print,
     Processes,
     Quit,
+    Registers,
+    Reverse,
+    Stack,
     Step,
     StepBack,
+    Watch,
     Where,
     Why,
 }
 
 /// All verbs, in the order of their words.
-const VERBS: [Verb; 11] = [
+const VERBS: [Verb; 22] = [
     Verb::Back,
+    Verb::Break,
+    Verb::Clear,
+    Verb::Continue,
     Verb::Forward,
     Verb::GoTo,
     Verb::Help,
+    Verb::Listing,
+    Verb::Memory,
     Verb::Messages,
+    Verb::Points,
+    Verb::Print,
     Verb::Processes,
     Verb::Quit,
+    Verb::Registers,
+    Verb::Reverse,
+    Verb::Stack,
     Verb::Step,
     Verb::StepBack,
+    Verb::Watch,
     Verb::Where,
     Verb::Why,
 ];
@@ -46,14 +68,25 @@ impl Verb {
     {
         match self {
             Verb::Back => b"back",
+            Verb::Break => b"break",
+            Verb::Clear => b"clear",
+            Verb::Continue => b"continue",
             Verb::Forward => b"forward",
             Verb::GoTo => b"goto",
             Verb::Help => b"help",
+            Verb::Listing => b"list",
+            Verb::Memory => b"mem",
             Verb::Messages => b"messages",
+            Verb::Points => b"points",
+            Verb::Print => b"print",
             Verb::Processes => b"ps",
             Verb::Quit => b"quit",
+            Verb::Registers => b"regs",
+            Verb::Reverse => b"reverse",
+            Verb::Stack => b"stack",
             Verb::Step => b"step",
             Verb::StepBack => b"stepback",
+            Verb::Watch => b"watch",
             Verb::Where => b"where",
             Verb::Why => b"why",
         }
@@ -88,7 +121,7 @@ fn count_begun(verbs: &[Verb], front: &[u8]) -> usize
     verbs.iter().filter(|verb| verb.begins_with(front)).count()
 }
 
-/// The verb that a word is, or whose word alone begins so.
+/// The verb that a word is; else the only verb whose word begins so.
 #[tactic(auto, unfolding(crate::specs::Verbs::verb_of))]
 pub(crate) fn verb_named(word: &[u8]) -> Option<Verb>
     ensures { result ≡ verb_of word.now }
