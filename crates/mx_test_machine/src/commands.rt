@@ -1152,6 +1152,7 @@ fn is_ended<R: Threads + Wait + Clock + Sync>(rt: &R, alloc: Global, row: &Turne
         &mut lines,
         &mut NoProgress::new(),
         false,
+        false,
     ) {
         Ok(done) => done.ending == Some(row.ending),
         Err(_) => false,
