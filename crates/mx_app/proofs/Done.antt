@@ -1,5 +1,5 @@
 -- What is done of a request, from what its subcommand does.
-use Rattle.std.proofs.Common.{◌≡◌, ◌⊎◌, ◌++◌, ℕ, Bool, List, [], ◌∷◌, Option, Some, None, Result, Ok, Err, IfErr, OnOk, refl, subst, sym, take}
+use Rattle.std.proofs.Common.{◌≡◌, ◌⊎◌, ◌++◌, ℕ, Bool, List, [], ◌∷◌, Option, Some, None, Result, Ok, Err, IfErr, OnOk, false, inr, refl, subst, sym, take}
 use Rattle.std.specs.Prelude.{IfOk}
 use Rattle.std.specs.Io.KnownBytes.{Appends}
 use Rattle.std.proofs.lemmas.List.{append-nil}
@@ -40,7 +40,7 @@ use Rattle.mx_walk.specs.Walks.{Walk}
 use Rattle.mx_app.specs.Explained.{ExplainsConfig}
 use Rattle.mx_app.specs.Named.{Assembles, ShowsFile}
 use Rattle.mx_app.specs.declared.performing.Done.{Done}
-use Rattle.mx_app.specs.Requests.{Debugs, Draws, Explains, Looks, Performs, PerformsUntyped, Replays, SavesSteps, Shows, Steps, Traces, done_after_replay, done_after_sweep, done_after_turns, done_after_work}
+use Rattle.mx_app.specs.Requests.{Debugs, Draws, Explains, Looks, Performs, PerformsUntyped, Replays, SavesApart, Shows, Steps, Traces, saves_over, done_after_replay, done_after_sweep, done_after_turns, done_after_work}
 
 -- nothing is printed where a writer wasn't touched
 pub appends_nothing : (known : Option (List ℕ)) → Appends known known []
@@ -120,7 +120,8 @@ swept {given} asked now files written shown later config log fault save from to 
     (p.0, p.1, [], p.2, p.3, p.4, sym (append-nil given), p.5, (refl, d, p.6, e))
 
 -- a script was done, and its history saved or not
-pub saves : (asked now : List Asked) (files written : List Written) (config script log : List ℕ) (x y : Option (List ℕ)) (d : Result (Unit {0}) Kind) (r : Result Done Kind)
+pub saves : (asked now : List Asked) (files written : List Written) (config script log : List ℕ) (x y : Option (List ℕ)) (d : Result (Unit {0}) Kind)
+    → saves_over config script log ≡ false
     → OnOk d ((qs : List Asked) × (c : Config) × (vs : List Service) × (said : List ScriptLine)
     × (now ≡ asked ++ qs) × IsStart IsScript config script qs c vs said
     × (written ≡ files ++ kept log (saved_text c.rules (history_made (world_at_boot c vs) c.cpus said)) ∷ [])
@@ -129,11 +130,15 @@ pub saves : (asked now : List Asked) (files written : List Written) (config scri
     × (((ws ≡ []) × IsNotStarted IsScript TellsScript config script qs f)
     ⊎ ((c : Config) × (vs : List Service) × (said : List ScriptLine) × IsStart IsScript config script qs c vs said
     × IsUnsaved log (saved_text c.rules (history_made (world_at_boot c vs) c.cpus said)) ws f)))
-    → r ≡ done_after_work d
-    → Does asked now files written (λ qs ws. (e : Result (Unit {0}) Kind) × SavesSteps config script log qs ws (λ text. Appends x y text) e × (r ≡ done_after_work e))
-saves asked now files written config script log x y (Ok u) r p f e =
-    (p.0, kept log (saved_text p.1.rules (history_made (world_at_boot p.1 p.2) p.1.cpus p.3)) ∷ [], p.4, p.6, (Ok u, (p.1, p.2, p.3, p.5, refl, p.7), e))
-saves asked now files written config script log x y (Err why) r p f e = (f.0, f.1, f.2, f.3, (Err why, f.4, e))
+    → Does asked now files written (λ qs ws. SavesApart config script log qs ws (λ text. Appends x y text) d)
+saves asked now files written config script log x y (Ok u) apart p f =
+    (p.0, kept log (saved_text p.1.rules (history_made (world_at_boot p.1 p.2) p.1.cpus p.3)) ∷ [], p.4, p.6, inr (apart, (p.1, p.2, p.3, p.5, refl, p.7)))
+saves asked now files written config script log x y (Err why) apart p f = (f.0, f.1, f.2, f.3, inr (apart, f.4))
+
+pub saved : (asked now : List Asked) (files written : List Written) (config script log : List ℕ) (x y : Option (List ℕ)) (d : Result (Unit {0}) Kind) (r : Result Done Kind)
+    → (qs : List Asked) × (ws : List Written) × (now ≡ asked ++ qs) × (written ≡ files ++ ws) × SavesApart config script log qs ws (λ text. Appends x y text) d → r ≡ done_after_work d
+    → Does asked now files written (λ qs ws. (e : Result (Unit {0}) Kind) × SavesApart config script log qs ws (λ text. Appends x y text) e × (r ≡ done_after_work e))
+saved asked now files written config script log x y d r p e = (p.0, p.1, p.2, p.3, (d, p.4, e))
 
 -- `asked` and `files` before, `now` asked after; no file is written
 module _ (asked now : List Asked) (files : List Written) where

@@ -1,11 +1,13 @@
 -- What is done of requests (our own).
-use Rattle.std.specs.Prelude.{◌≡◌, ◌⊎◌, ℕ, Bool, if◌then◌else◌, List, [], ◌∷◌, ◌++◌, Some, None, Result, Ok, Err, option_map, take}
+use Rattle.std.specs.Prelude.{◌≡◌, ◌⊎◌, ◌||◌, ℕ, Bool, true, false, if◌then◌else◌, List, [], ◌∷◌, ◌++◌, Some, None, Result, Ok, Err, option_map, take}
+use Rattle.std.specs.Str.{bytes_eq}
 use Rattle.mx_app_command.specs.declared.words.CommandRequest.{CommandRequest}
 use Rattle.mx_app_command.specs.declared.words.RecordRange.{RecordRange}
 use Rattle.mx_app_command.specs.declared.words.CommandRequest.TheVariants.{One, As, Dis, Nm, Explain, Step, Run, Turns, Sweep, Replay, Trace, Draw, Look, Db}
 use Rattle.mx_app_db.specs.ScriptLine.{ScriptLine}
 use Rattle.mx_app_db.specs.DebugLine.{DebugLine}
 use Rattle.mx_app_failure.specs.declared.failure.Failure.{Failure as Kind}
+use Rattle.mx_app_failure.specs.declared.failure.Failure.TheVariants.{File}
 use Rattle.mx_app_program.specs.One.{IsPrinted}
 use Rattle.mx_app_program.specs.Shown.{HasListing, HasNames, IsShown}
 use Rattle.mx_machine.specs.Boot.{world_at_boot}
@@ -89,6 +91,16 @@ SavesSteps config script log qs ws Prints (Err f) =
     ⊎ ((c : Config) × (vs : List Service) × (said : List ScriptLine) × IsStart IsScript config script qs c vs said
     × IsUnsaved log (saved_text c.rules (history_made (world_at_boot c vs) c.cpus said)) ws f)
 
+-- a text that is read would be written over
+abbrev pub saves_over : List ℕ → List ℕ → List ℕ → Bool
+saves_over config script log = bytes_eq config log || bytes_eq script log
+
+-- then nothing is read or written
+abbrev pub SavesApart : List ℕ → List ℕ → List ℕ → List Asked → List Written → (List ℕ → Type 0) → Result (Unit {0}) Kind → Type 0
+SavesApart config script log qs ws Prints r =
+    ((saves_over config script log ≡ true) × (qs ≡ []) × (ws ≡ []) × (r ≡ Err File))
+    ⊎ ((saves_over config script log ≡ false) × SavesSteps config script log qs ws Prints r)
+
 abbrev pub Debugs : List ℕ → List ℕ → List Asked → (List ℕ → Type 0) → Result (Unit {0}) Kind → Type 0
 Debugs config script qs Prints (Ok u) =
     (c : Config) × (vs : List Service) × (said : List DebugLine) × IsStart IsDebugScript config script qs c vs said
@@ -148,7 +160,7 @@ PerformsUntyped (Explain config) qs ws Prints r = Explains config.now qs ws Prin
 PerformsUntyped (Step config script None) qs ws Prints r =
     (d : Result (Unit {0}) Kind) × (ws ≡ []) × Steps config.now script.now qs Prints d × (r ≡ done_after_work d)
 PerformsUntyped (Step config script (Some log)) qs ws Prints r =
-    (d : Result (Unit {0}) Kind) × SavesSteps config.now script.now log.now qs ws Prints d × (r ≡ done_after_work d)
+    (d : Result (Unit {0}) Kind) × SavesApart config.now script.now log.now qs ws Prints d × (r ≡ done_after_work d)
 PerformsUntyped (Run config log ticks) qs ws Prints r =
     (d : Result (Unit {0}) Kind) × Runs config.now log.now ticks qs ws Prints d × (r ≡ done_after_work d)
 PerformsUntyped (Turns config log ticks events bound) qs ws Prints r =

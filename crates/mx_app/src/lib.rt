@@ -27,7 +27,7 @@ pub use mx_app_program::{assemble_file, one, print_listing, print_names, print_o
 pub use mx_app_run::run;
 pub use mx_app_start::{NoProgress, Progress};
 pub use mx_app_turns::{Ending, sweep, turns};
-pub use named::{as_named, dis_named, nm_named, one_named};
+pub use named::{as_named, dis_named, nm_named, one_named, step_apart};
 pub use noting::{NotingFiles, NotingReader};
 pub use performing::{Done, perform};
 pub use program::run_program;

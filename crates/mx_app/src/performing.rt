@@ -8,11 +8,10 @@ ghost use Rattle.mx_app_start.specs.declared.progress.Part.{Part as Parts};
 ghost use Rattle.mx_app.specs.Requests.{Performs, done_after_replay, done_after_sweep, done_after_turns, done_after_work, with_status};
 
 use crate::explain::explain_named;
-use crate::named::{as_named, dis_named, nm_named, one_named};
+use crate::named::{as_named, dis_named, nm_named, one_named, step_apart};
 use mx_app_command::{CommandRequest, RecordRange};
 use mx_app_db::{
-    Channels, FileWriter, HistoryPart, LineReader, Reader, Replayed, db, replay, step, step_saved,
-    trace,
+    Channels, FileWriter, HistoryPart, LineReader, Reader, Replayed, db, replay, step, trace,
 };
 use mx_app_draw::draw;
 use mx_app_failure::Failure;
@@ -141,7 +140,7 @@ pub fn perform<
             save,
         } => match save {
             None => done_after_work(step(alloc, reader, config, script, out)),
-            Some(log) => done_after_work(step_saved(alloc, channels, config, script, log)),
+            Some(log) => done_after_work(step_apart(alloc, channels, config, script, log)),
         },
         CommandRequest::Run { config, log, ticks } => {
             let names = RunNames { config, log };

@@ -85,6 +85,7 @@ where
     let mut lines = InputLines::new(rt.reader());
     let mut progress = RuntimeProgress::new(rt, terminals.err);
     let asks = terminals.input && terminals.out;
+    let shows = terminals.err;
     let answer = perform_words(
         rt,
         rt.alloc(),
@@ -93,6 +94,7 @@ where
         &mut lines,
         &mut progress,
         asks,
+        shows,
     );
     progress.clear();
     let printed = match &answer {

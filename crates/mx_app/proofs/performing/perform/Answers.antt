@@ -3,7 +3,7 @@ use Rattle.mx_app_program.specs.Shown.{HasListing, HasNames, IsShown}
 use Rattle.std.proofs.Common.{◌∙◌, ap, Option}
 use Rattle.std.specs.Prelude.{option_map}
 use Rattle.mx_app_command.specs.declared.words.CommandRequest.TheVariants.{Step}
-use Rattle.mx_app.proofs.Done.{as_asked, as_typed, assembled, debugs, draws, explains, looks, replays, runs, saves, shows, steps, swept, traces, turned}
+use Rattle.mx_app.proofs.Done.{as_asked, as_typed, assembled, debugs, draws, explains, looks, replays, runs, saved, shows, steps, swept, traces, turned}
 use Rattle.mx_app.proofs.performing.perform.Goals as goal
 
 pub returns-in-One : goal.returns-in-One
@@ -29,7 +29,7 @@ returns-in-None g c =
 pub returns-in-Some : goal.returns-in-Some
 returns-in-Some g c =
     as_asked c.args.asks _ _ _ _ _ _ _ _ (c.in-Step.is ∙ ap (λ (o : Option _). Step c.in-Step.config c.in-Step.script o) c.in-Some.is)
-    (saves _ _ _ _ c.in-Step.config.now c.in-Step.script.now c.in-Some.log.now _ _ c.step_saved.result c.done_after_work-in-Some.result c.step_saved.ensures.saved c.step_saved.ensures.fault c.done_after_work-in-Some.ensures)
+    (saved _ _ _ _ c.in-Step.config.now c.in-Step.script.now c.in-Some.log.now _ _ c.step_apart.result c.done_after_work-in-Some.result c.step_apart.ensures c.done_after_work-in-Some.ensures)
 
 pub returns-in-Run : goal.returns-in-Run
 returns-in-Run g c =
