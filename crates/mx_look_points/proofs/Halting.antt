@@ -14,15 +14,12 @@ use Rattle.mx_walk.proofs.Made.{after_both}
 use Rattle.mx_walk.proofs.Meeting.{above_first, meets}
 use Rattle.mx_walk.proofs.Naming.{first_is_one, last_is_one}
 use Rattle.mx_walk.proofs.Next.{above_it, is_position_too}
+use Rattle.mx_look_points.proofs.Lists.{same_rest}
 use Rattle.mx_look_points.specs.declared.points.Points.{Points}
 use Rattle.mx_look_points.specs.Marks.{changes_watched, is_looked_for, leaves_breakpoint}
 use Rattle.mx_look_points.specs.Searches.{IsHalt, IsHaltAfter, IsHaltBy, IsLastHalt, IsNextHalt, changes_from, halt_by, next_made, not_met}
 
 -- ---- what is passed isn't met
-
-same_rest : {X : Type 0} (xs ys zs : List X) → xs ++ ys ≡ xs ++ zs → ys ≡ zs
-same_rest [] ys zs e = e
-same_rest (x ∷ xs) ys zs e = let t : xs ++ ys ≡ xs ++ zs = cc in same_rest xs ys zs t
 
 first_position : (records : List Record) → IsPosition records first
 first_position records = record { above = omega arith; inside = omega arith }
