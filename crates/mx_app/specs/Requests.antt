@@ -1,17 +1,20 @@
 -- What is done of requests (our own).
-use Rattle.std.specs.Prelude.{◌≡◌, ◌⊎◌, ℕ, Bool, if◌then◌else◌, List, [], ◌∷◌, ◌++◌, Some, None, Result, Ok, Err, option_map, take}
+use Rattle.std.specs.Prelude.{◌≡◌, ◌⊎◌, ◌||◌, ℕ, Bool, true, false, if◌then◌else◌, List, [], ◌∷◌, ◌++◌, Some, None, Result, Ok, Err, option_map, take}
+use Rattle.std.specs.Str.{bytes_eq}
 use Rattle.mx_app_command.specs.declared.words.CommandRequest.{CommandRequest}
 use Rattle.mx_app_command.specs.declared.words.RecordRange.{RecordRange}
 use Rattle.mx_app_command.specs.declared.words.CommandRequest.TheVariants.{One, As, Dis, Nm, Explain, Step, Run, Turns, Sweep, Replay, Trace, Draw, Look, Db}
 use Rattle.mx_app_db.specs.ScriptLine.{ScriptLine}
 use Rattle.mx_app_db.specs.DebugLine.{DebugLine}
 use Rattle.mx_app_failure.specs.declared.failure.Failure.{Failure as Kind}
+use Rattle.mx_app_failure.specs.declared.failure.Failure.TheVariants.{File}
 use Rattle.mx_app_program.specs.One.{IsPrinted}
 use Rattle.mx_app_program.specs.Shown.{HasListing, HasNames, IsShown}
 use Rattle.mx_machine.specs.Boot.{world_at_boot}
 use Rattle.mx_machine.specs.declared.history.Record.{Record}
 use Rattle.mx_app_db.specs.Asked.{Asked}
 use Rattle.mx_app_db.specs.Written.{Written, kept}
+use Rattle.mx_app_start.specs.declared.progress.Part.{Part}
 use Rattle.mx_app_db.specs.Text.{saved_text}
 use Rattle.mx_app_db.specs.Config.{Config}
 use Rattle.mx_app_db.specs.Service.{Service}
@@ -88,6 +91,16 @@ SavesSteps config script log qs ws Prints (Err f) =
     ⊎ ((c : Config) × (vs : List Service) × (said : List ScriptLine) × IsStart IsScript config script qs c vs said
     × IsUnsaved log (saved_text c.rules (history_made (world_at_boot c vs) c.cpus said)) ws f)
 
+-- a text that is read would be written over
+abbrev pub saves_over : List ℕ → List ℕ → List ℕ → Bool
+saves_over config script log = bytes_eq config log || bytes_eq script log
+
+-- then nothing is read or written
+abbrev pub SavesApart : List ℕ → List ℕ → List ℕ → List Asked → List Written → (List ℕ → Type 0) → Result (Unit {0}) Kind → Type 0
+SavesApart config script log qs ws Prints r =
+    ((saves_over config script log ≡ true) × (qs ≡ []) × (ws ≡ []) × (r ≡ Err File))
+    ⊎ ((saves_over config script log ≡ false) × SavesSteps config script log qs ws Prints r)
+
 abbrev pub Debugs : List ℕ → List ℕ → List Asked → (List ℕ → Type 0) → Result (Unit {0}) Kind → Type 0
 Debugs config script qs Prints (Ok u) =
     (c : Config) × (vs : List Service) × (said : List DebugLine) × IsStart IsDebugScript config script qs c vs said
@@ -136,7 +149,7 @@ abbrev pub Explains : List ℕ → List Asked → List Written → (List ℕ →
 Explains name qs ws Prints r =
     (q : Asked) × (d : Result (Unit {0}) Kind) × (qs ≡ q ∷ []) × (ws ≡ []) × ExplainsConfig name q Prints d × (r ≡ done_after_work d)
 
--- what is done of a request that takes no lines
+-- what is done of a request that takes no lines and shows no progress
 abbrev pub PerformsUntyped : CommandRequest → List Asked → List Written → (List ℕ → Type 0) → Result Done Kind → Type 0
 PerformsUntyped (One file steps) qs ws Prints r = Shows (λ bytes text. IsPrinted bytes steps text) file.now qs ws Prints r
 PerformsUntyped (As text file) qs ws Prints r =
@@ -147,13 +160,12 @@ PerformsUntyped (Explain config) qs ws Prints r = Explains config.now qs ws Prin
 PerformsUntyped (Step config script None) qs ws Prints r =
     (d : Result (Unit {0}) Kind) × (ws ≡ []) × Steps config.now script.now qs Prints d × (r ≡ done_after_work d)
 PerformsUntyped (Step config script (Some log)) qs ws Prints r =
-    (d : Result (Unit {0}) Kind) × SavesSteps config.now script.now log.now qs ws Prints d × (r ≡ done_after_work d)
+    (d : Result (Unit {0}) Kind) × SavesApart config.now script.now log.now qs ws Prints d × (r ≡ done_after_work d)
 PerformsUntyped (Run config log ticks) qs ws Prints r =
     (d : Result (Unit {0}) Kind) × Runs config.now log.now ticks qs ws Prints d × (r ≡ done_after_work d)
 PerformsUntyped (Turns config log ticks events bound) qs ws Prints r =
     (d : Result Ending Kind) × MakesTurns config.now (option_map (λ s. s.now) events) log.now ticks bound qs ws Prints d × (r ≡ done_after_turns d)
-PerformsUntyped (Sweep config log fault bound from to strict save) qs ws Prints r =
-    (d : Result Swept Kind) × Sweeps config.now log.now fault.now (option_map (λ s. s.now) save) from to bound qs ws Prints d × (r ≡ done_after_sweep strict d)
+PerformsUntyped (Sweep config log fault bound from to strict save) qs ws Prints r = ⊥
 PerformsUntyped (Replay config log) qs ws Prints r =
     (d : Result Replayed Kind) × (ws ≡ []) × Replays config.now log.now qs Prints d × (r ≡ done_after_replay d)
 PerformsUntyped (Trace config log range) qs ws Prints r =
@@ -164,9 +176,12 @@ PerformsUntyped (Look config log) qs ws Prints r = ⊥
 PerformsUntyped (Db config script) qs ws Prints r =
     (d : Result (Unit {0}) Kind) × (ws ≡ []) × Debugs config.now script.now qs Prints d × (r ≡ done_after_work d)
 
--- WHAT IS DONE OF A REQUEST, by the files that were asked for and written, the lines that were typed, what is printed, and
--- how it ends. Only a session takes lines
-abbrev pub Performs : CommandRequest → Bool → List Asked → List Written → List (Option (List ℕ)) → (List ℕ → Type 0) → Result Done Kind → Type 0
-Performs (Look config log) asks qs ws typed Prints r =
-    (d : Result (Unit {0}) Kind) × (ws ≡ []) × Looks config.now log.now asks qs typed Prints d × (r ≡ done_after_work d)
-Performs request asks qs ws typed Prints r = (typed ≡ []) × PerformsUntyped request qs ws Prints r
+-- WHAT IS DONE OF A REQUEST, by the files that were asked for and written, the lines that were typed, the progress that
+-- was shown, what is printed, and how it ends. Only a session takes lines, and only a sweep shows progress
+abbrev pub Performs : CommandRequest → Bool → List Asked → List Written → List (Option (List ℕ)) → List Part → (List ℕ → Type 0) → Result Done Kind → Type 0
+Performs (Look config log) asks qs ws typed ps Prints r =
+    (d : Result (Unit {0}) Kind) × (ws ≡ []) × (ps ≡ []) × Looks config.now log.now asks qs typed Prints d × (r ≡ done_after_work d)
+Performs (Sweep config log fault bound from to strict save) asks qs ws typed ps Prints r =
+    (typed ≡ []) × (d : Result Swept Kind) × Sweeps config.now log.now fault.now (option_map (λ s. s.now) save) from to bound qs ws ps Prints d
+    × (r ≡ done_after_sweep strict d)
+Performs request asks qs ws typed ps Prints r = (typed ≡ []) × (ps ≡ []) × PerformsUntyped request qs ws Prints r

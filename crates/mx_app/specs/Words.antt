@@ -1,21 +1,24 @@
 -- What is done and told of the words of the command line (our own).
-use Rattle.std.specs.Prelude.{◌≡◌, ◌⊎◌, ◌++◌, ℕ, Bool, true, false, List, [], codes, Option, Some, None, Result, Ok, Err, MatchResult, String, string_bytes}
+use Rattle.std.specs.Prelude.{◌≡◌, ◌⊎◌, ◌++◌, ◌||◌, ◌&&◌, not, ℕ, Bool, true, false, List, [], codes, Option, Some, None, Result, Ok, Err, MatchResult, String, string_bytes}
 use Rattle.std.specs.declared.alloc.Global.{Global}
 use Rattle.std.specs.declared.io.ErrorKind.{ErrorKind}
 use Rattle.std.specs.declared.io.ErrorKind.TheVariants as kinds
-use Rattle.clap.specs.Words.{HasKind, fault_of, kind_of, subcommand_of}
+use Rattle.clap.specs.Words.{kind_of, subcommand_of}
 use Rattle.clap.specs.declared.error.Error.{Error}
 use Rattle.clap.specs.declared.error.kind.ErrorKind.{ErrorKind as WordsErrorKind}
 use Rattle.clap.specs.declared.error.kind.ErrorKind.TheVariants as words
 use Rattle.mx_app_command.specs.declared.words.CommandLine.{CommandLine}
 use Rattle.mx_app_explain.specs.Explaining.{explained}
-use Rattle.mx_app_command.specs.Mistakes.{both_given}
-use Rattle.mx_app_command.specs.Words.{Asks, AsksToExplain, mx_grammar}
+use Rattle.mx_app_command.specs.Mistakes.{IsMistake, both_given}
+use Rattle.mx_app_command.specs.declared.words.Mistake.{Mistake}
+use Rattle.mx_app_command.specs.declared.words.Mistake.TheVariants as mistakes
+use Rattle.mx_app_command.specs.Words.{Asks, AsksForSilence, AsksToExplain, mx_grammar}
 use Rattle.mx_app_failure.specs.declared.failure.Failure.{Failure as Kind}
 use Rattle.mx_app_failure.specs.declared.failure.Failure.TheVariants.{NotText, NoMemory}
 use Rattle.mx_app_failure.specs.Failure.{IsWanting, failure_line, status_of}
 use Rattle.mx_app_db.specs.Asked.{Asked}
 use Rattle.mx_app_db.specs.Written.{Written}
+use Rattle.mx_app_start.specs.declared.progress.Part.{Part}
 use Rattle.mx_app.specs.Noting.{Noted}
 use Rattle.mx_app.specs.Requests.{Performs, with_status}
 use Rattle.mx_app.specs.declared.performing.Done.{Done}
@@ -65,27 +68,35 @@ ExplainsKind k e r = r ≡ Err (Mistaken e)
 abbrev pub Explains : Error → Result Done Complaint → Type 0
 Explains e r = ExplainsKind (kind_of e) e r
 
+-- what comes of a mistake: what its error says; or the complaint that only one of ticks and outside events may be given
+abbrev pub AnswersMistake : Mistake → Result Done Complaint → Type 0
+AnswersMistake (mistakes.Grammar e) r = Explains e r
+AnswersMistake mistakes.TicksAndEvents r = r ≡ Err TicksAndEvents
+
 -- ---- all words
 
--- a failure is told alone; or, if that is asked for, with the line that explains it, unless there was no memory for this line
-abbrev pub IsTold : CommandLine → Kind → Noted → Complaint → Type 0
-IsTold line f noted c =
-    ((line.explains ≡ false) × (c ≡ Failed f))
-    ⊎ ((line.explains ≡ true) × (c ≡ Unexplained f))
-    ⊎ ((s : String Global) × (line.explains ≡ true) × (c ≡ Explained f s)
-    × (string_bytes s ≡ explained line.request f noted.last noted.is_missed noted.is_unwritten))
+-- a failure is explained if the words ask for it, or if standard error is a terminal; not if they ask for no explanation
+abbrev pub explains : CommandLine → Bool → Bool
+explains line shows = (line.explains || shows) && not line.silent
+
+-- a failure is told alone; or, if it is to be explained, with the line that explains it, unless there was no memory for this line
+abbrev pub IsTold : CommandLine → Bool → Kind → Noted → Complaint → Type 0
+IsTold line shows f noted c =
+    ((explains line shows ≡ false) × (c ≡ Failed f))
+    ⊎ ((explains line shows ≡ true) × (c ≡ Unexplained f))
+    ⊎ ((s : String Global) × (explains line shows ≡ true) × (c ≡ Explained f s)
+    × (string_bytes s ≡ explained line.request f noted.last noted.is_missed noted.is_unwritten noted.text))
 
 -- what comes of a request that is done, or of its failure
-abbrev pub IsAnswered : CommandLine → Result Done Kind → Noted → Result Done Complaint → Type 0
-IsAnswered line (Ok done) noted r = r ≡ Ok done
-IsAnswered line (Err f) noted r = (c : Complaint) × (r ≡ Err c) × IsTold line f noted c
+abbrev pub IsAnswered : CommandLine → Bool → Result Done Kind → Noted → Result Done Complaint → Type 0
+IsAnswered line shows (Ok done) noted r = r ≡ Ok done
+IsAnswered line shows (Err f) noted r = (c : Complaint) × (r ≡ Err c) × IsTold line shows f noted c
 
--- WHAT IS DONE OF WORDS: what the request does that they ask for; or, if the grammar finds them at fault, no file is asked for or written, and the
--- fault is explained; or, if they are `turns` with both `--ticks` and `--events`, nothing is either, and this is the complaint
-abbrev pub IsPerformed : List (List ℕ) → Bool → List Asked → List Written → List (Option (List ℕ)) → Noted → (List ℕ → Type 0) → Result Done Complaint → Type 0
-IsPerformed texts asks qs ws typed noted Prints r =
+-- WHAT IS DONE OF WORDS: what the request does that they ask for; or, if something is wrong with them, no file is asked
+-- for or written, and the mistake is answered
+abbrev pub IsPerformed : List (List ℕ) → Bool → Bool → List Asked → List Written → List (Option (List ℕ)) → List Part → Noted → (List ℕ → Type 0) → Result Done Complaint → Type 0
+IsPerformed texts asks shows qs ws typed ps noted Prints r =
     ((line : CommandLine) × (d : Result Done Kind) × Asks line.request (subcommand_of mx_grammar texts) × AsksToExplain line.explains (subcommand_of mx_grammar texts)
-    × (both_given (subcommand_of mx_grammar texts) ≡ false)
-    × Performs line.request asks qs ws typed Prints d × IsAnswered line d noted r)
-    ⊎ (((e : Error) × HasKind (fault_of mx_grammar texts) e × (qs ≡ []) × (ws ≡ []) × (typed ≡ []) × Explains e r)
-    ⊎ ((fault_of mx_grammar texts ≡ []) × (both_given (subcommand_of mx_grammar texts) ≡ true) × (qs ≡ []) × (ws ≡ []) × (typed ≡ []) × (r ≡ Err TicksAndEvents)))
+    × AsksForSilence line.silent (subcommand_of mx_grammar texts) × (both_given (subcommand_of mx_grammar texts) ≡ false)
+    × Performs line.request asks qs ws typed ps Prints d × IsAnswered line shows d noted r)
+    ⊎ ((m : Mistake) × IsMistake texts m × (qs ≡ []) × (ws ≡ []) × (typed ≡ []) × (ps ≡ []) × AnswersMistake m r)

@@ -4,19 +4,20 @@ ghost use Rattle.std.specs.Prelude.{◌≡◌, ◌++◌, List, Option, ℕ};
 ghost use Rattle.std.specs.Io.KnownBytes.{Appends};
 ghost use Rattle.mx_app_db.specs.Asked.{Asked};
 ghost use Rattle.mx_app_db.specs.Written.{Written};
+ghost use Rattle.mx_app_start.specs.declared.progress.Part.{Part as Parts};
 ghost use Rattle.mx_app.specs.Requests.{Performs, done_after_replay, done_after_sweep, done_after_turns, done_after_work, with_status};
 
 use crate::explain::explain_named;
-use crate::named::{as_named, dis_named, nm_named, one_named};
+use crate::named::{as_named, dis_named, nm_named, one_named, step_apart};
 use mx_app_command::{CommandRequest, RecordRange};
 use mx_app_db::{
-    Channels, FileWriter, HistoryPart, LineReader, Reader, Replayed, db, replay, step, step_saved,
-    trace,
+    Channels, FileWriter, HistoryPart, LineReader, Reader, Replayed, db, replay, step, trace,
 };
 use mx_app_draw::draw;
 use mx_app_failure::Failure;
 use mx_app_look::{SessionNames, look};
 use mx_app_run::{RunNames, run};
+use mx_app_start::Progress;
 use mx_app_turns::{Ending, SweepNames, SweepWanted, Swept, TurnsNames, TurnsWanted, sweep, turns};
 use std::alloc::Global;
 use std::io::Write;
@@ -93,26 +94,30 @@ fn done_after_sweep(done: Result<Swept, Failure>, strict: bool) -> Result<Done, 
 }
 
 /// Does what a request asks for, and answers the status to end with, and how turns ended. The processors of `run` are threads;
-/// `look` answers the lines, and with `asks` prints the position before each.
+/// `look` answers the lines, and with `asks` prints the position before each; `progress` is shown how far a sweep
+/// is.
 pub fn perform<
     T: Threads + Wait + Clock + Sync,
     R: Reader + Drop,
     F: FileWriter + Drop,
     W: Write + Drop,
     L: LineReader,
+    P: Progress,
 >(
     rt: &T,
     alloc: Global,
     channels: &mut Channels<R, F, W>,
     lines: &mut L,
+    progress: &mut P,
     asks: bool,
     request: CommandRequest<'_>,
 ) -> Result<Done, Failure>
-    ensures { (qs : List Asked) × (ws : List Written) × (typed : List (Option (List ℕ)))
+    ensures { (qs : List Asked) × (ws : List Written) × (typed : List (Option (List ℕ))) × (ps : List Parts)
         × (R.asked channels.new.reader ≡ R.asked channels.old.reader ++ qs)
         × (F.written channels.new.files ≡ F.written channels.old.files ++ ws)
         × (L.given lines.new ≡ L.given lines.old ++ typed)
-        × Performs request.entry asks qs ws typed
+        × (P.shown progress.new ≡ P.shown progress.old ++ ps)
+        × Performs request.entry asks qs ws typed ps
         (λ text. Appends (W.contents channels.old.out) (W.contents channels.new.out) text) result }
 {
     let reader = &mut channels.reader;
@@ -135,7 +140,7 @@ pub fn perform<
             save,
         } => match save {
             None => done_after_work(step(alloc, reader, config, script, out)),
-            Some(log) => done_after_work(step_saved(alloc, channels, config, script, log)),
+            Some(log) => done_after_work(step_apart(alloc, channels, config, script, log)),
         },
         CommandRequest::Run { config, log, ticks } => {
             let names = RunNames { config, log };
@@ -173,7 +178,7 @@ pub fn perform<
                 save,
             };
             let wanted = SweepWanted { from, to, bound };
-            done_after_sweep(sweep(alloc, channels, names, wanted), strict)
+            done_after_sweep(sweep(alloc, channels, progress, names, wanted), strict)
         }
         CommandRequest::Replay { config, log } => {
             done_after_replay(replay(alloc, reader, config, log, out))

@@ -12,6 +12,7 @@ use crate::performing::Done;
 use crate::words::perform_words;
 use mx_app_db::{Channels, InputLines, RuntimeFiles, RuntimeWriter};
 use mx_app_failure::Failure;
+use mx_app_start::{Progress, RuntimeProgress};
 use std::rt::{Env, Files};
 use std::sync::Wait;
 use std::thread::Threads;
@@ -82,8 +83,20 @@ where
         out: NotingOutput::new(io::writer(rt)),
     };
     let mut lines = InputLines::new(rt.reader());
+    let mut progress = RuntimeProgress::new(rt, terminals.err);
     let asks = terminals.input && terminals.out;
-    let answer = perform_words(rt, rt.alloc(), words, &mut channels, &mut lines, asks);
+    let shows = terminals.err;
+    let answer = perform_words(
+        rt,
+        rt.alloc(),
+        words,
+        &mut channels,
+        &mut lines,
+        &mut progress,
+        asks,
+        shows,
+    );
+    progress.clear();
     let printed = match &answer {
         Ok(done) => printed_text(words, *done),
         Err(_) => PrintedText::Other,

@@ -2,7 +2,7 @@
 
 ghost use Rattle.std.specs.Prelude.{◌≡◌, ◌&&◌, ℕ, Bool, IfErr, IfOk, MatchResult, [], codes, false, is_some, map, not, option_map, true};
 ghost use Rattle.clap.specs.Words.{FailsBy, HasMatchesOf, fault_of, first_of, found_of, kind_of, rows_of, subcommand_of, takes};
-ghost use Rattle.mx_app_command.specs.Words.{Asks, AsksBy, AsksToExplain, HasNumber, HasNumberOr, HasRange, HasText, IsFlag, MayHaveNumber, MayHaveRange, MayHaveSweep, MayHaveText, MayHaveTurns, IsAsked, IsHistoryAsked, IsMachineAsked, IsProgramAsked, IsScriptAsked, is_machine, mx_grammar};
+ghost use Rattle.mx_app_command.specs.Words.{Asks, AsksBy, AsksForSilence, AsksToExplain, HasNumber, HasNumberOr, HasRange, HasText, IsFlag, MayHaveNumber, MayHaveRange, MayHaveSweep, MayHaveText, MayHaveTurns, IsAsked, IsHistoryAsked, IsMachineAsked, IsProgramAsked, IsScriptAsked, is_machine, mx_grammar};
 ghost use Rattle.mx_app_command.specs.Mistakes.{IsMistake, IsOutOfMemory, both_given, has_both};
 
 use crate::grammar::grammar;
@@ -117,8 +117,10 @@ pub enum CommandRequest<'a> {
 #[derive(Clone, Copy, Debug, PartialEq, Eq)]
 pub struct CommandLine<'a> {
     pub request: CommandRequest<'a>,
-    /// Whether a failure is to be explained.
+    /// Whether a failure is to be explained, also if standard error is no terminal.
     pub explains: bool,
+    /// Whether a failure is not to be explained, also if standard error is a terminal.
+    pub silent: bool,
 }
 
 /// Why the words of a command line ask for nothing.
@@ -376,6 +378,8 @@ pub fn command<'a>(alloc: Global, words: &'a [&'a str]) -> Result<CommandLine<'a
         (subcommand_of mx_grammar (map (λ s. s.now) words.now))) }
     ensures explains { IfOk result (λ l. AsksToExplain l.explains
         (subcommand_of mx_grammar (map (λ s. s.now) words.now))) }
+    ensures silent { IfOk result (λ l. AsksForSilence l.silent
+        (subcommand_of mx_grammar (map (λ s. s.now) words.now))) }
     ensures passes { IfErr result (λ m.
         (takes mx_grammar (map (λ s. s.now) words.now)
         && not (both_given (subcommand_of mx_grammar (map (λ s. s.now) words.now)))) ≡ true
@@ -395,6 +399,7 @@ pub fn command<'a>(alloc: Global, words: &'a [&'a str]) -> Result<CommandLine<'a
             Ok(CommandLine {
                 request: request_of(name, found),
                 explains: flag_asked(found, "explain"),
+                silent: flag_asked(found, "no-explain"),
             })
         }
         None => unreachable!(),

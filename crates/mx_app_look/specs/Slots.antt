@@ -8,12 +8,13 @@ use Rattle.mx_look_line.specs.declared.address_word.AddressWord.{AddressWord}
 use Rattle.mx_look_line.specs.declared.address_word.AddressWord.TheVariants.{Number, Symbol as AtSymbol}
 use Rattle.mx_machine.specs.declared.events.Refusal.TheVariants.{NoService}
 use Rattle.mx_machine.specs.declared.history.Record.{Record}
+use Rattle.mx_app_step.specs.Service.{Service}
+use Rattle.mx_machine.specs.Proc.TableState.{process_at}
 use Rattle.mx_machine.specs.World.{HeldProcess, World, held_by}
 use Rattle.mx_print_answers.specs.DebugError.TheVariants.{NoSymbol, NotHere}
 use Rattle.mx_print_answers.specs.Finding.{first_named}
 use Rattle.mx_print_answers.specs.declared.refused.Refused.{Refused as Kind}
 use Rattle.mx_print_answers.specs.declared.refused.Refused.TheVariants.{ByDebugger, ByMachine}
-use Rattle.mx_proc.specs.declared.process.Process.{Process}
 use Rattle.mx_walk.specs.Walks.{Walk, world_here}
 use Rattle.mx_walk.specs.Watching.{or_else}
 use Rattle.mx_app_look.specs.Places.{symbols_by}
@@ -30,7 +31,7 @@ image_on w s [] = None
 image_on w s (a ∷ more) = or_else (image_of_held (held_by w a) s) (image_on w s more)
 
 abbrev pub image_at_home : World → ℕ → Option Image
-image_at_home w s = option_map (λ (p : Process). p.image) (slice_get w.table.slots s)
+image_at_home w s = if nat_lt s (length w.table.slots) then Some (process_at w.table s).image else None
 
 -- THE PROCESS OF A SLOT, as the processor that has it has left it; else as it is in the kernel's table
 unfoldable pub image_in : World → ℕ → Option Image
@@ -46,9 +47,12 @@ abbrev pub or_not_here : Option ℕ → Result ℕ Kind
 or_not_here None = Err (ByDebugger NotHere)
 or_not_here (Some s) = Ok s
 
+abbrev pub slot_numbered : List Service → ℕ → Result ℕ Kind
+slot_numbered services s = if nat_lt s (length services) then Ok s else Err (ByMachine NoService)
+
 abbrev pub slot_asked : Walk → Option ℕ → Result ℕ Kind
 slot_asked k None = or_not_here (slot_next (world_here k) (slice_get k.records k.here.records))
-slot_asked k (Some s) = if nat_lt s (length (world_here k).services) then Ok s else Err (ByMachine NoService)
+slot_asked k (Some s) = slot_numbered (world_here k).services s
 
 -- ---- THE ADDRESS that is named: a number, or so many bytes after the first symbol of a name
 

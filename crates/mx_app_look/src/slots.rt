@@ -4,9 +4,10 @@ ghost use Rattle.std.specs.Prelude.{◌≡◌, option_map, slice_get};
 ghost use Rattle.mx_machine.specs.History.{replay};
 ghost use Rattle.mx_machine.specs.Machine.{world_of};
 ghost use Rattle.mx_machine.specs.World.{held_by};
+ghost use Rattle.mx_print_answers.specs.Finding.{first_named};
 ghost use Rattle.mx_walk.specs.Walks.{world_here};
 ghost use Rattle.mx_app_look.specs.Places.{symbols_by};
-ghost use Rattle.mx_app_look.specs.Slots.{address_after, address_asked, address_in, image_at_home, image_in, image_of_held, slot_asked, slot_next, value_named};
+ghost use Rattle.mx_app_look.specs.Slots.{address_after, address_asked, address_in, image_at_home, image_in, image_of_held, or_not_here, slot_asked, slot_next, slot_numbered, value_named};
 
 use mx_exec::Image;
 use mx_look_line::{AddressWord, SymbolName};
@@ -56,19 +57,27 @@ fn slot_next(walker: &Walker) -> Option<Slot>
     ensures { result ≡ slot_next (world_here walker.now)
         (slice_get walker.now.records walker.now.here.records) }
 {
-    let entry = walker.records().get(walker.here().records)?;
-    walker.machine().slot_on(entry.actor)
+    let here = walker.here();
+    match walker.records().get(here.records) {
+        Some(entry) => walker.machine().slot_on(entry.actor),
+        None => None,
+    }
 }
 
-/// The slot that is named, if it has a service; without a name that of the process on the processor whose
-/// record is next.
-pub(crate) fn slot_asked(walker: &Walker, asked: Option<u32>) -> Result<Slot, Refused>
-    ensures { result ≡ slot_asked walker.now asked }
+/// The slot, or that there is none.
+fn or_not_here(slot: Option<Slot>) -> Result<Slot, Refused>
+    ensures { result ≡ or_not_here slot }
 {
-    let Some(slot) = asked else {
-        return slot_next(walker).ok_or(Refused::ByDebugger(DebugError::NotHere));
-    };
-    let kernel = walker.machine().kernel();
+    match slot {
+        Some(slot) => Ok(slot),
+        None => Err(Refused::ByDebugger(DebugError::NotHere)),
+    }
+}
+
+/// The slot of that number, if it has a service.
+fn slot_numbered(kernel: &Kernel, slot: u32) -> Result<Slot, Refused>
+    ensures { result ≡ slot_numbered (replay kernel.now).services slot }
+{
     kernel.opened();
     if (slot as usize) < kernel.services().len() {
         Ok(slot as Slot)
@@ -77,16 +86,36 @@ pub(crate) fn slot_asked(walker: &Walker, asked: Option<u32>) -> Result<Slot, Re
     }
 }
 
+/// The slot that is named, if it has a service; without a name that of the process on the processor whose
+/// record is next.
+pub(crate) fn slot_asked(walker: &Walker, asked: Option<u32>) -> Result<Slot, Refused>
+    ensures { result ≡ slot_asked walker.now asked }
+{
+    match asked {
+        Some(slot) => slot_numbered(walker.machine().kernel(), slot),
+        None => or_not_here(slot_next(walker)),
+    }
+}
+
 /// The value of the first symbol of a name in the program of a slot's service.
+fn value_of(kernel: &Kernel, slot: Slot, name: &[u8]) -> Option<u32>
+    ensures { result ≡ first_named (symbols_by (slice_get (replay kernel.now).services slot)) name.now }
+{
+    kernel.opened();
+    match kernel.services().get(slot as usize) {
+        Some(service) => Debugger::address(&service.program, name).ok(),
+        None => None,
+    }
+}
+
+/// The same, if the name isn't too long for a symbol.
 fn value_named(kernel: &Kernel, slot: Slot, name: &Option<SymbolName>) -> Option<u32>
     ensures { result ≡ value_named (symbols_by (slice_get (replay kernel.now).services slot)) name.now }
 {
-    let Some(name) = name else {
-        return None;
-    };
-    kernel.opened();
-    let service = kernel.services().get(slot as usize)?;
-    Debugger::address(&service.program, name.as_slice()).ok()
+    match name {
+        Some(name) => value_of(kernel, slot, name.as_slice()),
+        None => None,
+    }
 }
 
 /// So many bytes after a symbol's value, if there is one.
@@ -95,7 +124,10 @@ fn address_after(value: Option<u32>, after: u32) -> Result<u32, Refused>
 {
     match value {
         None => Err(Refused::ByDebugger(DebugError::NoSymbol)),
-        Some(value) => value.checked_add(after).ok_or(Refused::ByDebugger(DebugError::NotHere)),
+        Some(value) => match value.checked_add(after) {
+            Some(at) => Ok(at),
+            None => Err(Refused::ByDebugger(DebugError::NotHere)),
+        },
     }
 }
 

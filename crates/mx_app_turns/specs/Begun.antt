@@ -3,6 +3,7 @@ use Rattle.std.specs.Prelude.{◌≡◌, ◌<◌, ◌≤◌, ℕ, List, [], All,
 use Rattle.mx_machine.specs.Boot.{world_at_boot}
 use Rattle.mx_machine.specs.declared.history.Record.{Record}
 use Rattle.mx_machine.specs.World.{World, actors}
+use Rattle.mx_app_start.specs.declared.progress.Part.{Part}
 use Rattle.mx_app_failure.specs.declared.failure.Failure.{Failure as Kind}
 use Rattle.mx_app_step.specs.Config.{Config}
 use Rattle.mx_app_step.specs.Machine.{MachineState, world_of}
@@ -33,6 +34,6 @@ abbrev pub begun_of : Begun → ℕ → SweepOf
 begun_of b n = record { boot = world_of b.started.machine; other = b.started.other; records = b.started.lines.items; fault = b.fault.items; bound = n }
 
 -- what is done of it, or why it isn't finished
-abbrev pub IsDone : SweepOf → ℕ → ℕ → Option (List ℕ) → List Written → (List ℕ → Type 0) → Result Swept Kind → Type 0
-IsDone s from to save ws Prints (Ok how) = IsSweptThrough s from to save ws Prints how
-IsDone s from to save ws Prints (Err f) = IsUntold s to save ws f
+abbrev pub IsDone : SweepOf → ℕ → ℕ → Option (List ℕ) → List Written → List Part → (List ℕ → Type 0) → Result Swept Kind → Type 0
+IsDone s from to save ws ps Prints (Ok how) = IsSweptThrough s from to save ws ps Prints how
+IsDone s from to save ws ps Prints (Err f) = IsUntold s from to save ws ps f

@@ -1,5 +1,5 @@
 -- What `mx sweep` reads, prints and writes (our own).
-use Rattle.std.specs.Prelude.{◌≡◌, ◌⊎◌, ◌||◌, ◌+◌, ◌-◌, ◌==◌, if◌then◌else◌, ℕ, Bool, true, false, List, [], ◌∷◌, ◌++◌, length, min, Option, Some, None, Result, Ok, Err}
+use Rattle.std.specs.Prelude.{◌≡◌, ◌≤◌, ◌⊎◌, ◌||◌, ◌+◌, ◌-◌, ◌==◌, if◌then◌else◌, ℕ, Bool, true, false, List, [], ◌∷◌, ◌++◌, length, map, min, Option, Some, None, Result, Ok, Err}
 use Rattle.std.specs.Str.{bytes_eq}
 use Rattle.mx_text.specs.Lines.{lines}
 use Rattle.mx_boot.specs.Reading.{AreLinesRead, TellsUnread}
@@ -7,6 +7,8 @@ use Rattle.mx_machine.specs.Boot.{world_at_boot}
 use Rattle.mx_machine.specs.declared.history.Record.{Record}
 use Rattle.mx_machine.specs.History.{AreAccepted, events_of_history}
 use Rattle.mx_machine.specs.World.{World}
+use Rattle.std.specs.List.{range_with_len}
+use Rattle.mx_app_start.specs.declared.progress.Part.{Part}
 use Rattle.mx_app_failure.specs.declared.failure.Failure.{Failure as Kind}
 use Rattle.mx_app_failure.specs.declared.failure.Failure.TheVariants.{File}
 use Rattle.mx_app_failure.specs.Failure.{IsWanting}
@@ -100,28 +102,38 @@ IsUnsaved text (Some name) ws f = IsUnwritten name text ws f
 abbrev pub ended : ℕ → ℕ → Swept
 ended positions alike = if alike == positions then Alike else Differs
 
--- WHAT IS DONE OF A HISTORY: a refused event of it is printed; or its positions are swept and printed, and a history is
--- saved
-abbrev pub IsSweptThrough : SweepOf → ℕ → ℕ → Option (List ℕ) → List Written → (List ℕ → Type 0) → Swept → Type 0
-IsSweptThrough s from to save ws Prints Refused = (ws ≡ []) × IsReplayPrinted s.boot s.records replayed.Refused Prints
-IsSweptThrough s from to save ws Prints how =
-    AreAccepted s.boot (events_of_history s.records) × (how ≡ ended (positions_in s from to) (alike_in s from to))
+-- what is shown while positions are swept: after each of the first n, how many of all are done
+abbrev pub parts_shown : ℕ → ℕ → List Part
+parts_shown all n = map (λ i. let x : Part = record { done = i + 1; all = all } in x) (range_with_len 0 n)
+
+-- what was shown of all positions; or, if the sweep failed, of the first n
+abbrev pub IsShown : {X : Type 0} → List Part → List Part → ℕ → Result X Kind → Type 0
+IsShown before after all (Ok x) = after ≡ before ++ parts_shown all all
+IsShown before after all (Err f) = (n : ℕ) × (n ≤ all) × (after ≡ before ++ parts_shown all n)
+
+-- WHAT IS DONE OF A HISTORY: a refused event of it is printed; or its positions are swept, shown and printed, and a
+-- history is saved
+abbrev pub IsSweptThrough : SweepOf → ℕ → ℕ → Option (List ℕ) → List Written → List Part → (List ℕ → Type 0) → Swept → Type 0
+IsSweptThrough s from to save ws ps Prints Refused = (ws ≡ []) × (ps ≡ []) × IsReplayPrinted s.boot s.records replayed.Refused Prints
+IsSweptThrough s from to save ws ps Prints how =
+    (let n = positions_in s from to in ps ≡ parts_shown n n) × AreAccepted s.boot (events_of_history s.records) × (how ≡ ended (positions_in s from to) (alike_in s from to))
     × Prints (sweep_text s from to) × (ws ≡ saved_if (last_text s to) (positions_in s from to) save)
 
 -- why it isn't finished, after it was read: memory or standard output; or the file that is saved
-abbrev pub IsUntold : SweepOf → ℕ → Option (List ℕ) → List Written → Kind → Type 0
-IsUntold s to save ws f = ((ws ≡ []) × IsWanting f) ⊎ IsUnsaved (last_text s to) save ws f
+abbrev pub IsUntold : SweepOf → ℕ → ℕ → Option (List ℕ) → List Written → List Part → Kind → Type 0
+IsUntold s from to save ws ps f =
+    (n : ℕ) × (n ≤ positions_in s from to) × (ps ≡ parts_shown (positions_in s from to) n) × (((ws ≡ []) × IsWanting f) ⊎ IsUnsaved (last_text s to) save ws f)
 
 abbrev pub of : Config → List Service → List Record → List FaultLine → ℕ → SweepOf
 of c vs records said n = record { boot = world_at_boot c vs; other = c.cpus; records = records; fault = said; bound = n }
 
 -- WHAT `mx sweep` DOES
-abbrev pub Sweeps : List ℕ → List ℕ → List ℕ → Option (List ℕ) → ℕ → ℕ → ℕ → List Asked → List Written → (List ℕ → Type 0) → Result Swept Kind → Type 0
-Sweeps config log fault save from to n qs ws Prints (Ok how) =
+abbrev pub Sweeps : List ℕ → List ℕ → List ℕ → Option (List ℕ) → ℕ → ℕ → ℕ → List Asked → List Written → List Part → (List ℕ → Type 0) → Result Swept Kind → Type 0
+Sweeps config log fault save from to n qs ws ps Prints (Ok how) =
     (c : Config) × (vs : List Service) × (records : List Record) × (said : List FaultLine) × (writes_over config log fault save ≡ false)
-    × IsBegun config log fault qs c vs records said × IsSweptThrough (of c vs records said n) from to save ws Prints how
-Sweeps config log fault save from to n qs ws Prints (Err f) =
-    ((writes_over config log fault save ≡ true) × (qs ≡ []) × (ws ≡ []) × (f ≡ File))
-    ⊎ (((writes_over config log fault save ≡ false) × (ws ≡ []) × IsNotBegun config log fault qs f)
+    × IsBegun config log fault qs c vs records said × IsSweptThrough (of c vs records said n) from to save ws ps Prints how
+Sweeps config log fault save from to n qs ws ps Prints (Err f) =
+    ((writes_over config log fault save ≡ true) × (qs ≡ []) × (ws ≡ []) × (ps ≡ []) × (f ≡ File))
+    ⊎ (((writes_over config log fault save ≡ false) × (ws ≡ []) × (ps ≡ []) × IsNotBegun config log fault qs f)
     ⊎ ((c : Config) × (vs : List Service) × (records : List Record) × (said : List FaultLine) × (writes_over config log fault save ≡ false)
-    × IsBegun config log fault qs c vs records said × IsUntold (of c vs records said n) to save ws f))
+    × IsBegun config log fault qs c vs records said × IsUntold (of c vs records said n) from to save ws ps f))

@@ -10,9 +10,10 @@ ghost use Rattle.mx_app_step.specs.Config.{Config as Configured};
 ghost use Rattle.mx_app_step.specs.Machine.{world_of};
 ghost use Rattle.mx_app_step.specs.Service.{Service};
 ghost use Rattle.mx_app_step.specs.Written.{Written};
+ghost use Rattle.mx_app_start.specs.declared.progress.Part.{Part as Parts};
 ghost use Rattle.mx_app_turns.specs.Sweep.{block_text, blocks, count_of, positions_of, total_text};
 ghost use Rattle.mx_app_turns.specs.Swept.{IsSwept};
-ghost use Rattle.mx_app_turns.specs.Sweeping.{IsBegun, IsNotBegun, IsUnsaved, Sweeps, ended, is_alike_at, run_at, saved_if, text_at, writes_over};
+ghost use Rattle.mx_app_turns.specs.Sweeping.{IsBegun, IsNotBegun, IsShown, IsUnsaved, Sweeps, ended, is_alike_at, run_at, saved_if, text_at, writes_over};
 ghost use Rattle.mx_app_step.specs.Kept.{text_kept};
 ghost use Rattle.mx_app_turns.specs.Begun.{IsDone, begun_of, is_ready, sweep_of};
 
@@ -21,6 +22,7 @@ use crate::fault_files::fault_lines;
 use crate::faults::FaultLine;
 use crate::outcomes::{Outcome, outcome_at};
 use crate::running::Sweep;
+use mx_app_start::{Part, Progress};
 use mx_app_step::{
     Channels, Failure, FileWriter, History, Machine, Reader, Record, Started, lines_above,
     perform_records, print_refusal, print_text, start, text_of, write_history,
@@ -94,13 +96,20 @@ fn writes_over(names: SweepNames<'_>) -> bool
 }
 
 /// Prints a block.
-fn print_block<W: Write>(alloc: Global, block: &Block, out: &mut W) -> Result<(), Failure>
+fn print_block<P: Progress, W: Write>(
+    alloc: Global,
+    block: &Block,
+    progress: &mut P,
+    out: &mut W,
+) -> Result<(), Failure>
     ensures err { IfErr result IsWanting }
     ensures bytes { OnOk result (Appends (W.contents out.old) (W.contents out.new)
         (block_text (positions_of block.now))) }
+    ensures shown { P.shown progress.new ≡ P.shown progress.old }
 {
     let mut text = Vec::new(alloc);
     push_block(alloc, &mut text, block)?;
+    progress.clear();
     print_text(text.as_slice(), out)
 }
 
@@ -112,12 +121,13 @@ struct Done {
 }
 
 /// Sweeps positions, of which the first is swept already, and prints their blocks.
-fn print_more<W: Write>(
+fn print_more<P: Progress, W: Write>(
     alloc: Global,
     machine: Machine,
     sweep: Sweep<'_>,
     first: Outcome,
     range: Range,
+    progress: &mut P,
     out: &mut W,
 ) -> Result<Done, Failure>
     requires swept { IsSwept sweep machine.kernel.boot }
@@ -139,7 +149,10 @@ fn print_more<W: Write>(
         }) }
     ensures kernel { IfOk result (λ done. done.machine.kernel
         ≡ (run_at (sweep_of sweep.entry machine.kernel.boot) (range.end - 1)).kernel) }
+    ensures shown { IsShown (P.shown progress.old) (P.shown progress.new) (range.end - range.from)
+        result }
 {
+    let all = range.end - range.from;
     let mut machine = machine;
     let mut alike = usize::from(first.is_alike);
     let mut blocks = 1;
@@ -148,14 +161,19 @@ fn print_more<W: Write>(
         last: range.from,
         text: first.text,
     };
+    progress.show(Part { done: 1, all });
     for position in range.from + 1..range.end {
         let (next, outcome) = outcome_at(alloc, machine, sweep, position)?;
         machine = next;
+        progress.show(Part {
+            done: position - range.from + 1,
+            all,
+        });
         alike += usize::from(outcome.is_alike);
         if outcome.text.as_slice() == current.text.as_slice() {
             current.last = position;
         } else {
-            print_block(alloc, &current, out)?;
+            print_block(alloc, &current, progress, out)?;
             blocks += 1;
             current = Block {
                 first: position,
@@ -164,9 +182,9 @@ fn print_more<W: Write>(
             };
         }
     }
-    print_block(alloc, &current, out)?;
+    print_block(alloc, &current, progress, out)?;
     let total = Total {
-        positions: range.end - range.from,
+        positions: all,
         blocks,
         alike,
     };
@@ -174,11 +192,12 @@ fn print_more<W: Write>(
 }
 
 /// Sweeps positions, and prints their blocks.
-fn print_positions<W: Write>(
+fn print_positions<P: Progress, W: Write>(
     alloc: Global,
     machine: Machine,
     sweep: Sweep<'_>,
     range: Range,
+    progress: &mut P,
     out: &mut W,
 ) -> Result<Done, Failure>
     requires swept { IsSwept sweep machine.kernel.boot }
@@ -196,6 +215,8 @@ fn print_positions<W: Write>(
         }) }
     ensures kernel { IfOk result (λ done. range.from < range.end → done.machine.kernel
         ≡ (run_at (sweep_of sweep.entry machine.kernel.boot) (range.end - 1)).kernel) }
+    ensures shown { IsShown (P.shown progress.old) (P.shown progress.new) (range.end - range.from)
+        result }
 {
     if range.from >= range.end {
         let total = Total {
@@ -206,7 +227,7 @@ fn print_positions<W: Write>(
         return Ok(Done { machine, total });
     }
     let (machine, first) = outcome_at(alloc, machine, sweep, range.from)?;
-    print_more(alloc, machine, sweep, first, range, out)
+    print_more(alloc, machine, sweep, first, range, progress, out)
 }
 
 /// Positions of a history: the first, and the one after the last.
@@ -265,18 +286,21 @@ fn save_history<F: FileWriter>(
 
 /// Sweeps a history that is read, prints its blocks and the counts, and then writes a history if that is
 /// wanted.
-fn sweep_begun<F: FileWriter, W: Write>(
+fn sweep_begun<F: FileWriter, P: Progress, W: Write>(
     alloc: Global,
     begun: Begun,
     files: &mut F,
+    progress: &mut P,
     out: &mut W,
     save: Option<&str>,
     wanted: SweepWanted,
 ) -> Result<Swept, Failure>
     requires { is_ready begun }
-    ensures { (ws : List Written) × (F.written files.new ≡ F.written files.old ++ ws)
+    ensures { (ws : List Written) × (ps : List Parts)
+        × (F.written files.new ≡ F.written files.old ++ ws)
+        × (P.shown progress.new ≡ P.shown progress.old ++ ps)
         × IsDone (begun_of begun wanted.bound) wanted.from wanted.to
-        (option_map (λ s. s.now) save.entry) ws
+        (option_map (λ s. s.now) save.entry) ws ps
         (λ text. Appends (W.contents out.old) (W.contents out.new) text) result }
 {
     let Begun { started, fault } = begun;
@@ -300,7 +324,7 @@ fn sweep_begun<F: FileWriter, W: Write>(
         bound: wanted.bound,
     };
     let range = range_of(wanted, records.len());
-    let done = print_positions(alloc, machine, sweep, range, out)?;
+    let done = print_positions(alloc, machine, sweep, range, progress, out)?;
     print_total(alloc, done.total, out)?;
     save_history(alloc, &done, files, save)?;
     Ok(how_ended(done.total))
@@ -322,18 +346,21 @@ fn how_ended(total: Total) -> Swept
 /// positions in a row with the same lines as one block, and how many have the outcome that they have without
 /// the fault. Then writes the history of the last position's run to the file `save`, if it is named. If an event
 /// of the saved history is refused, prints that as `replay` does, and nothing is swept. No file that is read is
-/// written over: if `save` has its name, nothing is read or written.
-pub fn sweep<R: Reader + Drop, F: FileWriter + Drop, W: Write + Drop>(
+/// written over: if `save` has its name, nothing is read or written. After each position `progress` is shown how
+/// many are done.
+pub fn sweep<R: Reader + Drop, F: FileWriter + Drop, W: Write + Drop, P: Progress>(
     alloc: Global,
     channels: &mut Channels<R, F, W>,
+    progress: &mut P,
     names: SweepNames<'_>,
     wanted: SweepWanted,
 ) -> Result<Swept, Failure>
-    ensures { (qs : List Asked) × (ws : List Written)
+    ensures { (qs : List Asked) × (ws : List Written) × (ps : List Parts)
         × (R.asked channels.new.reader ≡ R.asked channels.old.reader ++ qs)
         × (F.written channels.new.files ≡ F.written channels.old.files ++ ws)
+        × (P.shown progress.new ≡ P.shown progress.old ++ ps)
         × Sweeps names.entry.config.now names.entry.log.now names.entry.fault.now
-        (option_map (λ s. s.now) names.entry.save) wanted.from wanted.to wanted.bound qs ws
+        (option_map (λ s. s.now) names.entry.save) wanted.from wanted.to wanted.bound qs ws ps
         (λ text. Appends (W.contents channels.old.out) (W.contents channels.new.out) text) result }
 {
     if writes_over(names) {
@@ -344,6 +371,7 @@ pub fn sweep<R: Reader + Drop, F: FileWriter + Drop, W: Write + Drop>(
         alloc,
         begun,
         &mut channels.files,
+        progress,
         &mut channels.out,
         names.save,
         wanted,

@@ -1,2 +1,2 @@
 pub mod Naming
-pub mod Lines
+pub mod Rows

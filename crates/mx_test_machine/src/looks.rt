@@ -1,7 +1,7 @@
 //! Sessions over a saved history: the lines that are typed, and what is printed.
 
 use crate::files::reader;
-use mx_app::{Channels, CommandRequest, Done, InputLines, MemoryWriter, perform};
+use mx_app::{Channels, CommandRequest, Done, InputLines, MemoryWriter, NoProgress, perform};
 use std::alloc::Global;
 use std::sync::Wait;
 use std::test::Fail;
@@ -74,7 +74,8 @@ static SESSIONS: &[Session] = &[
                   2 0 back 3: a 0 trap 0 128\n2   a 0: out -> ready, result -104 ECALLDENIED (no call 0)\n\
                   at 1.3 of 4, record 2: 0 back 3\n1 0 take: a 0 budget 5\n\
                   at 4 of 4, the end\n\
-                  4 0 back 1: a 0 fault 13\n4   a 0: out -> down fault 13\n\
+                  4 0 back 1: a 0 fault 13\n4   at 0000000a no code: the code ends at 0000000a\n\
+                  4   a 0: out -> down fault 13\n\
                   at 4 of 4, the end\n",
     },
     Session {
@@ -326,7 +327,15 @@ fn is_printed<R: Threads + Wait + Clock + Sync>(
         config,
         log: row.log,
     };
-    let answer = perform(rt, alloc, &mut channels, &mut lines, row.asks, request);
+    let answer = perform(
+        rt,
+        alloc,
+        &mut channels,
+        &mut lines,
+        &mut NoProgress::new(),
+        row.asks,
+        request,
+    );
     answer == Ok(Done::with_status(0)) && channels.out.as_slice() == row.printed.as_bytes()
 }
 

@@ -3,7 +3,7 @@
 use crate::files::{CLIENT, DRIVER, PAIR};
 use mx_app::{
     Channels, CommandRequest, Done, Failure, InputLines, MemoryWriter, NamedFile, NamedFiles,
-    RecordRange, perform,
+    NoProgress, RecordRange, perform,
 };
 use std::alloc::Global;
 use std::process::Abort;
@@ -230,7 +230,15 @@ fn answer<R: Threads + Wait + Clock + Sync>(
         out: Vec::new(alloc),
     };
     let mut lines = InputLines::new(b"".as_slice());
-    let answer = perform(rt, alloc, &mut channels, &mut lines, false, row.request);
+    let answer = perform(
+        rt,
+        alloc,
+        &mut channels,
+        &mut lines,
+        &mut NoProgress::new(),
+        false,
+        row.request,
+    );
     let is_silent = channels.out.is_empty() && channels.files.files().is_empty();
     Ok((answer, is_silent))
 }

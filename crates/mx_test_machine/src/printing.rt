@@ -202,7 +202,7 @@ static LINES: &[Line] = &[
 
 fn is_asked(alloc: Global, line: &Line) -> bool {
     match (command(alloc, line.words), line.asked) {
-        (Ok(found), Ok(request)) => found.request == request && !found.explains,
+        (Ok(found), Ok(request)) => found.request == request && !found.explains && !found.silent,
         (Err(Mistake::Grammar(error)), Err(kind)) => error.kind() == kind,
         (Err(Mistake::TicksAndEvents), Err(kind)) => kind == ErrorKind::ArgumentConflict,
         _ => false,

@@ -3,7 +3,7 @@ use Rattle.mx_app_program.specs.Shown.{HasListing, HasNames, IsShown}
 use Rattle.std.proofs.Common.{◌∙◌, ap, Option}
 use Rattle.std.specs.Prelude.{option_map}
 use Rattle.mx_app_command.specs.declared.words.CommandRequest.TheVariants.{Step}
-use Rattle.mx_app.proofs.Done.{as_asked, as_typed, assembled, debugs, draws, explains, looks, replays, runs, saves, shows, steps, swept, traces, turned}
+use Rattle.mx_app.proofs.Done.{as_asked, as_typed, assembled, debugs, draws, explains, looks, replays, runs, saved, shows, steps, swept, traces, turned}
 use Rattle.mx_app.proofs.performing.perform.Goals as goal
 
 pub returns-in-One : goal.returns-in-One
@@ -29,7 +29,7 @@ returns-in-None g c =
 pub returns-in-Some : goal.returns-in-Some
 returns-in-Some g c =
     as_asked c.args.asks _ _ _ _ _ _ _ _ (c.in-Step.is ∙ ap (λ (o : Option _). Step c.in-Step.config c.in-Step.script o) c.in-Some.is)
-    (saves _ _ _ _ c.in-Step.config.now c.in-Step.script.now c.in-Some.log.now _ _ c.step_saved.result c.done_after_work-in-Some.result c.step_saved.ensures.saved c.step_saved.ensures.fault c.done_after_work-in-Some.ensures)
+    (saved _ _ _ _ c.in-Step.config.now c.in-Step.script.now c.in-Some.log.now _ _ c.step_apart.result c.done_after_work-in-Some.result c.step_apart.ensures c.done_after_work-in-Some.ensures)
 
 pub returns-in-Run : goal.returns-in-Run
 returns-in-Run g c =
@@ -43,8 +43,8 @@ returns-in-Turns g c =
 
 pub returns-in-Sweep : goal.returns-in-Sweep
 returns-in-Sweep g c =
-    as_asked c.args.asks _ _ _ _ _ _ _ _ c.in-Sweep.is
-    (swept _ _ _ _ c.in-Sweep.config.now c.in-Sweep.log.now c.in-Sweep.fault.now (option_map (λ s. s.now) c.in-Sweep.save) c.in-Sweep.from c.in-Sweep.to c.in-Sweep.bound c.in-Sweep.strict _ _ c.sweep.result c.done_after_sweep.result c.sweep.ensures c.done_after_sweep.ensures)
+    as_typed _ _ _ _ _ _ _ _ _ _ _ _ _ c.in-Sweep.is
+    (swept _ _ _ _ _ _ c.in-Sweep.config.now c.in-Sweep.log.now c.in-Sweep.fault.now (option_map (λ s. s.now) c.in-Sweep.save) c.in-Sweep.from c.in-Sweep.to c.in-Sweep.bound c.in-Sweep.strict _ _ c.sweep.result c.done_after_sweep.result c.sweep.ensures c.done_after_sweep.ensures)
 
 pub returns-in-Replay : goal.returns-in-Replay
 returns-in-Replay g c = as_asked c.args.asks _ _ _ _ _ _ _ _ c.in-Replay.is (replays _ _ _ c.in-Replay.config.now c.in-Replay.log.now _ _ c.replay.result c.done_after_replay.result c.replay.ensures.printed c.replay.ensures.fault c.done_after_replay.ensures)
@@ -59,4 +59,4 @@ pub returns-in-Draw : goal.returns-in-Draw
 returns-in-Draw g c = as_asked c.args.asks _ _ _ _ _ _ _ _ c.in-Draw.is (draws _ _ _ c.in-Draw.config.now c.in-Draw.log.now c.in-Draw.range _ _ c.draw.result c.done_after_replay-in-Draw.result c.draw.ensures.printed c.draw.ensures.fault c.done_after_replay-in-Draw.ensures)
 
 pub returns-in-Look : goal.returns-in-Look
-returns-in-Look g c = as_typed _ _ _ _ _ _ _ _ _ _ _ c.in-Look.is (looks _ _ _ _ _ c.in-Look.config.now c.in-Look.log.now _ _ _ c.look.result c.done_after_work-in-Look.result c.look.ensures.printed c.look.ensures.fault c.done_after_work-in-Look.ensures)
+returns-in-Look g c = as_typed _ _ _ _ _ _ _ _ _ _ _ _ _ c.in-Look.is (looks _ _ _ _ _ c.in-Look.config.now c.in-Look.log.now _ _ _ c.look.result c.done_after_work-in-Look.result c.look.ensures.printed c.look.ensures.fault c.done_after_work-in-Look.ensures)
