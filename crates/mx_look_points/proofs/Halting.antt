@@ -1,5 +1,5 @@
 -- A search halts at one position; and one back after one on comes to the position before.
-use Rattle.std.proofs.Common.{◌≡◌, ◌∙◌, ◌⊎◌, ℕ, Bool, true, false, cond, List, [], ◌∷◌, ◌++◌, ◌||◌, append_assoc, append-nil, Option, Some, None, inl, inr, refl, ap, sym, subst, arith}
+use Rattle.std.proofs.Common.{◌≡◌, ◌∙◌, ℕ, Bool, true, false, List, [], ◌∷◌, ◌++◌, ◌||◌, append_assoc, Option, Some, None, inl, inr, refl, ap, sym, subst, arith}
 use Rattle.mx_machine.specs.declared.events.Event.{Event}
 use Rattle.mx_machine.specs.declared.history.Record.{Record}
 use Rattle.mx_machine.specs.History.{world_after_events}
@@ -13,11 +13,11 @@ use Rattle.mx_walk.proofs.Arriving.{begins, first_up_to}
 use Rattle.mx_walk.proofs.Made.{after_both}
 use Rattle.mx_walk.proofs.Meeting.{above_first, meets}
 use Rattle.mx_walk.proofs.Naming.{first_is_one, last_is_one}
-use Rattle.mx_walk.proofs.Next.{above_it, is_position_too}
+use Rattle.mx_walk.proofs.Next.{above_it}
 use Rattle.mx_look_points.proofs.Lists.{same_rest}
 use Rattle.mx_look_points.specs.declared.points.Points.{Points}
 use Rattle.mx_look_points.specs.Marks.{changes_watched, is_looked_for, leaves_breakpoint}
-use Rattle.mx_look_points.specs.Searches.{IsHalt, IsHaltAfter, IsHaltBy, IsLastHalt, IsNextHalt, changes_from, halt_by, next_made, not_met}
+use Rattle.mx_look_points.specs.Searches.{IsHalt, IsHaltAfter, IsHaltBy, IsLastHalt, IsNextHalt, changes_from, halt_by, next_made}
 
 -- ---- what is passed isn't met
 
@@ -82,7 +82,7 @@ module _ (k : Walk) (s : Points) where
   one_last_halt g h (inr a) (inl b) = absurd (passed_isnt_last (is_looked_for s) k.boot k.records b.0 k.here b.1 b.2 a.0)
   one_last_halt g h (inr a) (inr b) = a.1 ∙ sym b.1
 
--- ---- on, and then back
+  -- ---- on, and then back
 
   -- from right below the first event
   pub first_returns : (x : ℕ × Event) → IsPosition k.records k.here → event_below k.records k.here ≡ Some x → is_marked (changes_watched s) (world_here k) x ≡ true

@@ -3,10 +3,8 @@ use Rattle.std.proofs.Common.{◌≡◌, ◌∙◌, ℕ, Bool, ◌||◌, List, m
 use Rattle.std.specs.List.{flat_map}
 use Rattle.mx_machine.specs.declared.events.Event.{Event}
 use Rattle.mx_machine.specs.World.{World}
-use Rattle.mx_walk.specs.declared.stopping.CodePlace.{CodePlace}
 use Rattle.mx_walk.specs.declared.stopping.Leaving.{Leaving}
 use Rattle.mx_walk.specs.declared.watching.ByteChange.{ByteChange}
-use Rattle.mx_walk.specs.declared.watching.BytePlace.{BytePlace}
 use Rattle.mx_walk.specs.Several.{any_marks}
 use Rattle.mx_walk.specs.Stopping.{leaves}
 use Rattle.mx_walk.specs.Watching.{is_changed}
@@ -24,7 +22,6 @@ by_change m w x u = is_changed m.place w u
 
 abbrev pub by_leaving : Leaving → Marks
 by_leaving m w x u = leaves m.place w x
-
 
 pub bytes_are : (s : Points) (ms : List ByteChange) → map (λ (m : ByteChange). m.place) ms ≡ flat_map places_of s.watches
     → (λ w x u. any_marks (map by_change ms) w x u) ≡ changes_watched s

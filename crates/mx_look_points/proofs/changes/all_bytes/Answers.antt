@@ -1,4 +1,4 @@
-use Rattle.std.proofs.Common.{◌≡◌, ◌∙◌, ℕ, List, ap, get_or, map}
+use Rattle.std.proofs.Common.{◌∙◌, ℕ, List, ap, get_or, map}
 use Rattle.std.proofs.lemmas.List.{take_all}
 use Rattle.mx_machine.specs.Machine.{world_of}
 use Rattle.mx_look_points.specs.Changes.{as_seen, seen_in}

@@ -6,9 +6,8 @@ use Rattle.mx_walk.specs.Positions.{IsPosition, IsUpTo, position_before}
 use Rattle.mx_walk.specs.Seeking.{IsFirstMarked, IsPassed}
 use Rattle.mx_walk.specs.Walks.{Walk}
 use Rattle.mx_walk.proofs.Meeting.{above_first, not_first}
-use Rattle.mx_walk.proofs.Next.{above_trans, up_to_of}
 use Rattle.mx_look_points.specs.Marks.{is_looked_for}
-use Rattle.mx_look_points.proofs.Coming.{gone, halts_nowhere, halts_there}
+use Rattle.mx_look_points.proofs.Coming.{halts_nowhere, halts_there}
 use Rattle.mx_look_points.proofs.Marked.{Marks, both_are}
 use Rattle.mx_look_points.proofs.searches.go_on_from.Goals as goal
 
