@@ -1,16 +1,17 @@
 -- Where a search comes to is where it halts.
-use Rattle.std.proofs.Common.{◌≡◌, ◌∙◌, ◌⊎◌, ℕ, Bool, true, false, cond, List, [], Option, Some, None, Result, Ok, Err, IfOk, inl, inr, ap, sym, subst}
+use Rattle.std.proofs.Common.{◌≡◌, ◌∙◌, ◌⊎◌, ◌<◌, ◌≤◌, ℕ, Bool, true, false, cond, List, [], ◌∷◌, ◌++◌, append-nil, append_assoc, Option, Some, None, inl, inr, ap, sym, subst, arith}
+use Rattle.std.proofs.lemmas.Bool.{cases_lt}
 use Rattle.mx_machine.specs.declared.events.Event.{Event}
 use Rattle.mx_machine.specs.declared.history.Record.{Record}
 use Rattle.mx_machine.specs.Move.{world_after_event}
 use Rattle.mx_machine.specs.World.{World}
 use Rattle.mx_walk.specs.declared.positions.Position.{Position}
-use Rattle.mx_walk.specs.Positions.{IsAbove, IsPosition, IsUpTo, event_below, is_up_to, next_position, position_before, world_at}
+use Rattle.mx_walk.specs.Positions.{IsAbove, IsPosition, IsUpTo, event_below, events_above, is_up_to, next_position, position_before, world_at}
 use Rattle.mx_walk.specs.Seeking.{IsFirstMarked, IsLastMarked, IsPassed, is_marked}
 use Rattle.mx_walk.specs.Walks.{Walk, first, world_here}
-use Rattle.mx_walk.proofs.Meeting.{above_first}
-use Rattle.mx_walk.proofs.Next.{above_trans, is_position_too, next_up_to, up_to_of, world_next}
-use Rattle.mx_walk.proofs.Arriving.{not_itself}
+use Rattle.mx_walk.proofs.Next.{next_up_to, up_to_of, world_next}
+use Rattle.mx_walk.proofs.Arriving.{begins, has_event, not_itself}
+use Rattle.mx_app_look.proofs.Lists.{same_rest}
 use Rattle.mx_app_look.specs.declared.points.Points.{Points}
 use Rattle.mx_app_look.specs.Marks.{changes_watched, is_looked_for}
 use Rattle.mx_app_look.specs.Searches.{IsHalt, IsHaltAfter, IsHaltBy, IsLastHalt, IsNextHalt, changes_from, halt_by, is_break, next_made, not_met}
@@ -44,8 +45,8 @@ module _ (k : Walk) (s : Points) where
       inl (q, subst (λ (xs : List Record). IsPosition xs q) records position, subst (λ (l : Position). IsUpTo q l) (ap (λ (w : Walk). w.last) moved) early, found, told)
 
   -- none is looked for
-  pub halts_nowhere : (j : Walk) (told : List ℕ) → j.here ≡ k.last → IsPassed (is_looked_for s) k.boot k.records k.here k.last → told ≡ not_met → IsHalt k s k.here (j.here, told)
-  halts_nowhere j told at passed e = inr (passed, ap (λ t. (j.here, t)) e ∙ ap (λ (p : Position). (p, not_met)) at)
+  pub halts_nowhere : (p : Position) (told : List ℕ) → p ≡ k.last → IsPassed (is_looked_for s) k.boot k.records k.here k.last → told ≡ not_met → IsHalt k s k.here (p, told)
+  halts_nowhere p told at passed e = inr (passed, ap (λ t. (p, t)) e ∙ ap (λ (r : Position). (r, not_met)) at)
 
   -- the first event changes watched bytes, or doesn't
   pub halts_after_one : (j : Walk) (x : ℕ × Event) (next : Position) (told : List ℕ) → IsPosition k.records k.here → event_below k.records k.here ≡ Some x → next ≡ next_position k.records k.here
@@ -100,17 +101,60 @@ module _ (k : Walk) (s : Points) where
   pub no_last_halt : (j : Walk) (told : List ℕ) → j.here ≡ first → IsPassed (is_looked_for s) k.boot k.records first k.here → told ≡ not_met → IsLastHalt k s (j.here, told)
   no_last_halt j told at passed e = inr (passed, ap (λ t. (j.here, t)) e ∙ ap (λ (p : Position). (p, not_met)) at)
 
-  -- right above the first event that is looked for
-  pub above_is_position : (q : Position) → IsPosition k.records q → IsFirstMarked (is_looked_for s) k.boot k.records k.here q → IsPosition k.records (position_before k.records q)
-  above_is_position q h found = let b = above_first (is_looked_for s) k.boot k.records k.here q h found in b.position
+-- ---- the last event that is looked for is above where one was
 
-  pub above_is_early : (q : Position) → IsPosition k.records q → IsUpTo q k.last → IsFirstMarked (is_looked_for s) k.boot k.records k.here q → IsUpTo (position_before k.records q) k.last
-  above_is_early q h early found =
-      let b = above_first (is_looked_for s) k.boot k.records k.here q h found in
-      up_to_of (position_before k.records q) k.last (above_trans (position_before k.records q) q k.last b.above early)
+none_there : {X : Type 0} (xs : List X) (a : X) (ys : List X) → [] ≡ xs ++ a ∷ ys → ⊥
+none_there [] a ys e = cc
+none_there (x ∷ xs) a ys e = cc
 
--- ---- what a call answers
+longer : {X : Type 0} (es rest : List X) (a : X) (more : List X) → es ≡ (es ++ rest) ++ a ∷ more → ⊥
+longer es rest a more e = none_there rest a more (same_rest es [] (rest ++ a ∷ more) (append-nil es ∙ e ∙ append_assoc es rest (a ∷ more)))
 
-pub both_hold : {A E : Type 0} (r : Result A E) (P Q R : A → Type 0) → ((a : A) → P a → Q a → R a) → IfOk r P → IfOk r Q → IfOk r R
-both_hold (Ok a) P Q R f p q = f a p q
-both_hold (Err e) P Q R f p q = tt
+up_to_trans : (p q r : Position) → IsUpTo p q → IsUpTo q r → IsUpTo p r
+up_to_trans p q r (inl lt) (inl more) = let less : p.records < r.records = omega (arith, lt, more) in inl less
+up_to_trans p q r (inl lt) (inr h) = let same = h.0 in let less : p.records < r.records = omega (arith, lt, same) in inl less
+up_to_trans p q r (inr g) (inl lt) = let same = g.0 in let less : p.records < r.records = omega (arith, lt, same) in inl less
+up_to_trans p q r (inr g) (inr h) = let a = g.1 in let b = h.1 in let few : p.steps ≤ r.steps = omega (arith, a, b) in inr (g.0 ∙ h.0, few)
+
+order : (p q : Position) → IsUpTo q p ⊎ IsAbove p q
+order p q = elim (cases_lt p.records q.records) [
+  | inl lt ↦ inr (inl lt)
+  | inr ge ↦ elim (cases_lt q.records p.records) [
+    | inl lt ↦ inl (inl lt)
+    | inr le ↦
+        let a : p.records ≡ q.records = omega (arith, ge, le) in
+        elim (cases_lt p.steps q.steps) [
+          | inl lt ↦ inr (inr (a, lt))
+          | inr few ↦ inl (inr (sym a, few))
+        ]
+  ]
+]
+
+above_by : (f : World → ℕ × Event → World → Bool) (boot : World) (records : List Record) (p q : Position) → IsPosition records p → IsPosition records q → IsLastMarked f boot records p q → IsUpTo q p ⊎ IsAbove p q → IsAbove p q
+above_by f boot records p q h l found (inr lt) = lt
+above_by f boot records p q h l found (inl le) =
+    let r = begins records q p l h le in
+    absurd (longer (events_above records q) r.0 found.0 found.1 (found.2 ∙ ap (λ (es : List (ℕ × Event)). es ++ found.0 ∷ found.1) r.1))
+
+module _ (k : Walk) (s : Points) (j : Walk) (moved : j ≡ gone k j.here) (position : IsPosition j.records j.here) (l : IsPosition k.records k.here) (found : IsLastMarked (is_looked_for s) k.boot k.records j.here k.here) where
+  above : IsAbove j.here k.here
+  above =
+      let p = subst (λ (xs : List Record). IsPosition xs j.here) (ap (λ (w : Walk). w.records) moved) position in
+      above_by (is_looked_for s) k.boot k.records j.here k.here p l found (order j.here k.here)
+
+  -- so the next position is early
+  pub next_is_early : (x : ℕ × Event) (next : Position) → IsUpTo k.here k.last → event_below j.records j.here ≡ Some x → next ≡ next_position j.records j.here → IsUpTo next j.last
+  next_is_early x next early below there =
+      let records : j.records ≡ k.records = ap (λ (w : Walk). w.records) moved in
+      let p = subst (λ (xs : List Record). IsPosition xs j.here) records position in
+      let e : event_below k.records j.here ≡ Some x = ap (λ (xs : List Record). event_below xs j.here) (sym records) ∙ below in
+      let le : IsUpTo (next_position k.records j.here) k.here = next_up_to k.records j.here k.here x p l e (up_to_of j.here k.here above) (not_itself j.here k.here above) in
+      let at : next ≡ next_position k.records j.here = there ∙ ap (λ (xs : List Record). next_position xs j.here) records in
+      subst (λ (q : Position). IsUpTo q j.last) (sym at)
+      (subst (λ (q : Position). IsUpTo (next_position k.records j.here) q) (sym (ap (λ (w : Walk). w.last) moved)) (up_to_trans (next_position k.records j.here) k.here k.last le early))
+
+  -- and there is an event below
+  pub some_below : event_below j.records j.here ≡ None → ⊥
+  some_below none =
+      let x = has_event k.records j.here k.here l above in
+      let no : None ≡ Some x.0 = sym none ∙ ap (λ (xs : List Record). event_below xs j.here) (ap (λ (w : Walk). w.records) moved) ∙ x.1 in cc

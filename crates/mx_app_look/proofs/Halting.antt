@@ -1,5 +1,5 @@
 -- A search halts at one position; and one back after one on comes to the position before.
-use Rattle.std.proofs.Common.{◌≡◌, ◌∙◌, ◌⊎◌, ℕ, Bool, true, false, cond, List, [], ◌∷◌, ◌++◌, ◌||◌, append_assoc, append-nil, Option, Some, None, inl, inr, refl, ap, sym, subst, arith}
+use Rattle.std.proofs.Common.{◌≡◌, ◌∙◌, ℕ, Bool, true, false, List, [], ◌∷◌, ◌++◌, ◌||◌, append_assoc, Option, Some, None, inl, inr, refl, ap, sym, subst, arith}
 use Rattle.mx_machine.specs.declared.events.Event.{Event}
 use Rattle.mx_machine.specs.declared.history.Record.{Record}
 use Rattle.mx_machine.specs.History.{world_after_events}
@@ -13,16 +13,13 @@ use Rattle.mx_walk.proofs.Arriving.{begins, first_up_to}
 use Rattle.mx_walk.proofs.Made.{after_both}
 use Rattle.mx_walk.proofs.Meeting.{above_first, meets}
 use Rattle.mx_walk.proofs.Naming.{first_is_one, last_is_one}
-use Rattle.mx_walk.proofs.Next.{above_it, is_position_too}
+use Rattle.mx_walk.proofs.Next.{above_it}
+use Rattle.mx_app_look.proofs.Lists.{same_rest}
 use Rattle.mx_app_look.specs.declared.points.Points.{Points}
 use Rattle.mx_app_look.specs.Marks.{changes_watched, is_looked_for, leaves_breakpoint}
-use Rattle.mx_app_look.specs.Searches.{IsHalt, IsHaltAfter, IsHaltBy, IsLastHalt, IsNextHalt, changes_from, halt_by, next_made, not_met}
+use Rattle.mx_app_look.specs.Searches.{IsHalt, IsHaltAfter, IsHaltBy, IsLastHalt, IsNextHalt, changes_from, halt_by, next_made}
 
 -- ---- what is passed isn't met
-
-same_rest : {X : Type 0} (xs ys zs : List X) → xs ++ ys ≡ xs ++ zs → ys ≡ zs
-same_rest [] ys zs e = e
-same_rest (x ∷ xs) ys zs e = let t : xs ++ ys ≡ xs ++ zs = cc in same_rest xs ys zs t
 
 first_position : (records : List Record) → IsPosition records first
 first_position records = record { above = omega arith; inside = omega arith }

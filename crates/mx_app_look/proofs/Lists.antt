@@ -34,3 +34,8 @@ spread_more f xs i d so_far more here lt front e now =
 pub map_both : {X Y Z : Type 0} (f : X → Y) (g : Y → Z) (h : X → Z) (xs : List X) → ((x : X) → h x ≡ g (f x)) → map h xs ≡ map g (map f xs)
 map_both f g h [] same = refl
 map_both f g h (x ∷ xs) same = ap (λ z. z ∷ map h xs) (same x) ∙ ap (λ zs. g (f x) ∷ zs) (map_both f g h xs same)
+
+-- what two lists have after the same elements
+pub same_rest : {X : Type 0} (xs ys zs : List X) → xs ++ ys ≡ xs ++ zs → ys ≡ zs
+same_rest [] ys zs e = e
+same_rest (x ∷ xs) ys zs e = let t : xs ++ ys ≡ xs ++ zs = cc in same_rest xs ys zs t

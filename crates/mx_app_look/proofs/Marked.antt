@@ -3,10 +3,8 @@ use Rattle.std.proofs.Common.{◌≡◌, ◌∙◌, ℕ, Bool, ◌||◌, List, m
 use Rattle.std.specs.List.{flat_map}
 use Rattle.mx_machine.specs.declared.events.Event.{Event}
 use Rattle.mx_machine.specs.World.{World}
-use Rattle.mx_walk.specs.declared.stopping.CodePlace.{CodePlace}
 use Rattle.mx_walk.specs.declared.stopping.Leaving.{Leaving}
 use Rattle.mx_walk.specs.declared.watching.ByteChange.{ByteChange}
-use Rattle.mx_walk.specs.declared.watching.BytePlace.{BytePlace}
 use Rattle.mx_walk.specs.Several.{any_marks}
 use Rattle.mx_walk.specs.Stopping.{leaves}
 use Rattle.mx_walk.specs.Watching.{is_changed}

@@ -1,5 +1,5 @@
 -- What a session halts at (our own).
-use Rattle.std.specs.Prelude.{ℕ, ◌||◌, Bool, List, map}
+use Rattle.std.specs.Prelude.{ℕ, ◌||◌, Bool, map}
 use Rattle.std.specs.List.{flat_map}
 use Rattle.mx_debug.specs.declared.points.Breakpoint.{Breakpoint}
 use Rattle.mx_machine.specs.declared.events.Event.{Event}

@@ -1,4 +1,4 @@
-use Rattle.std.proofs.Common.{◌≡◌, ◌∙◌, ap, map}
+use Rattle.std.proofs.Common.{◌∙◌, ap, map}
 use Rattle.std.proofs.lemmas.List.{take_all}
 use Rattle.mx_walk.specs.declared.stopping.Leaving.{Leaving}
 use Rattle.mx_app_look.specs.Marks.{code_place}
