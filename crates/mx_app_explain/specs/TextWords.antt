@@ -1,6 +1,6 @@
 -- The words of a line of a text for the assembler, as one who mends it sees them (our own). A line at fault need not have
 -- tokens, so it is parted without them.
-use Rattle.std.specs.Prelude.{◌==◌, ◌||◌, ◌&&◌, ◌+◌, not, nat_lt, ℕ, Bool, true, false, if◌then◌else◌, List, [], ◌∷◌, length, drop, slice_index, Option, Some, None, is_some}
+use Rattle.std.specs.Prelude.{◌==◌, ◌||◌, ◌&&◌, not, nat_lt, ℕ, Bool, if◌then◌else◌, List, [], ◌∷◌, length, drop, slice_index, is_some}
 use Rattle.std.specs.List.{before_first, flat_map, list_any}
 use Rattle.std.specs.Str.{bytes_eq}
 use Rattle.std.specs.Prelude.{codes}

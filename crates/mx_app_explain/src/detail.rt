@@ -1,11 +1,11 @@
 //! What was wanted of a line, and where.
 
-ghost use Rattle.std.specs.Prelude.{◌≡◌, ◌-◌, None, option_map, slice_get};
+ghost use Rattle.std.specs.Prelude.{◌≡◌, option_map, slice_get};
 ghost use Rattle.mx_text.specs.Fields.{fields};
 ghost use Rattle.mx_text.specs.Lines.{lines};
-ghost use Rattle.mx_boot.specs.Items.{said_in};
+ghost use Rattle.mx_app_explain.specs.ConfigFaults.{fault_in};
 ghost use Rattle.mx_app_explain.specs.ConfigPlaces.{value_name, words_before};
-ghost use Rattle.mx_app_explain.specs.Details.{after_words, config_detail, detail_told, label_told, place_label, place_told, word_detail};
+ghost use Rattle.mx_app_explain.specs.Details.{after_words, config_detail, detail_told, label_told, place_detail, place_label, place_told};
 
 use crate::comment::before_comment;
 use crate::config_line::line_fault;
@@ -144,12 +144,25 @@ fn place_detail(line: &[u8], place: Place) -> Detail<'_>
     }
 }
 
+/// What was wanted of a configuration's line up to its comment. None if the line has no fault of its own.
+fn line_detail(line: &[u8]) -> Option<Detail<'_>>
+    ensures { option_map detail_told result
+        ≡ place_detail (fields line.now) (fault_in (fields line.now)) }
+{
+    match line_fault(line) {
+        None => None,
+        Some(place) => Some(place_detail(line, place)),
+    }
+}
+
 /// What was wanted of the line of a configuration's text that has this number, counted from 1. None if the line
 /// has no fault of its own.
+#[tactic(auto, unfolding(crate::specs::ConfigFaults::fault_in))]
 pub(crate) fn config_detail(text: &[u8], number: usize) -> Option<Detail<'_>>
     ensures { option_map detail_told result ≡ config_detail text.now number }
 {
-    let line = before_comment(line_below(text, number.saturating_sub(1))?, b'#');
-    let place = line_fault(line)?;
-    Some(place_detail(line, place))
+    match line_below(text, number.saturating_sub(1)) {
+        None => None,
+        Some(line) => line_detail(before_comment(line, b'#')),
+    }
 }

@@ -134,11 +134,12 @@ pub(crate) fn is_size(word: &[u8]) -> bool
 }
 
 /// Whether a word is a register or a size.
-#[tactic(auto, using(crate::proofs::Reserved::register_reserved, crate::proofs::Reserved::size_reserved, crate::proofs::Reserved::not_reserved))]
 pub(crate) fn is_reserved(word: &[u8]) -> bool
     ensures { result ≡ is_reserved word.now }
 {
-    register_named(word).is_some() || size_named(word).is_some()
+    let register = register_named(word);
+    let size = size_named(word);
+    register.is_some() | size.is_some()
 }
 
 /// Whether a word may be a name: it is no mark, no number, no text, no register and no size.
