@@ -20,7 +20,11 @@ pub enum AddressWord {
 pub(crate) fn symbol_name(word: &[u8]) -> Option<SymbolName>
     ensures { result ≡ symbol_name word.now }
 {
-    if word.len() <= 8 { Some(SymbolName::new(word)) } else { None }
+    if word.len() <= 8 {
+        Some(SymbolName::new(word))
+    } else {
+        None
+    }
 }
 
 /// The number that a word is: decimal, or hexadecimal after `0x`.
