@@ -1,5 +1,5 @@
 -- The words of verbs, one more.
-use Rattle.std.proofs.Common.{◌≡◌, ◌∙◌, ◌<◌, ℕ, suc, ◌+◌, Bool, true, false, List, [], ◌∷◌, ◌++◌, append_assoc, cond, codes, drop, filter, get_or, length, ap, sym, arith}
+use Rattle.std.proofs.Common.{◌≡◌, ◌∙◌, ◌<◌, ℕ, suc, ◌+◌, true, false, List, ◌∷◌, ◌++◌, cond, codes, drop, filter, get_or, length, ap, arith}
 use Rattle.std.proofs.Math.Seq.{drop-cons}
 use Rattle.mx_app_look.specs.declared.verb.Verb.{Verb}
 use Rattle.mx_app_look.specs.Verbs.{begins_verb, names_after, verb_word}

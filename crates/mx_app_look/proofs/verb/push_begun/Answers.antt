@@ -1,4 +1,4 @@
-use Rattle.std.proofs.Common.{◌≡◌, ◌∙◌, ◌++◌, ◌+◌, ℕ, List, codes, drop, filter, append_assoc, Vec, Global, ap, sym}
+use Rattle.std.proofs.Common.{◌≡◌, ◌∙◌, ◌++◌, ◌+◌, ℕ, codes, drop, filter, append_assoc, Vec, Global, ap, sym}
 use Rattle.mx_app_look.specs.Verbs.{begins_verb, names_after}
 use Rattle.mx_app_look.proofs.Begun.{named, passed}
 use Rattle.mx_app_look.proofs.verb.push_begun.Goals as goal
