@@ -1,9 +1,9 @@
 -- A session has one text.
 use Rattle.std.proofs.Common.{◌≡◌, ◌∙◌, ◌⊎◌, ℕ, Bool, true, false, List, [], ◌∷◌, ◌++◌, Option, Some, None, inl, inr, refl, ap, ap₂, sym, subst}
-use Rattle.mx_look_line.specs.declared.request.Request.{Request}
-use Rattle.mx_look_line.specs.declared.request.Request.TheVariants.{Nothing, Forward, Back, Step, StepBack, GoTo, Point, Continue, Reverse, Where, Why, Processes, Messages, Show, Help, Quit}
-use Rattle.mx_look_line.specs.Requests.{request_of}
-use Rattle.mx_look_points.proofs.Halting.{one_last_halt, one_next_halt}
+use Rattle.mx_app_look.specs.declared.request.Request.{Request}
+use Rattle.mx_app_look.specs.declared.request.Request.TheVariants.{Nothing, Forward, Back, Step, StepBack, GoTo, Point, Continue, Reverse, Where, Why, Processes, Messages, Show, Help, Quit}
+use Rattle.mx_app_look.specs.Requests.{request_of}
+use Rattle.mx_app_look.proofs.Halting.{one_last_halt, one_next_halt}
 use Rattle.mx_walk.specs.declared.positions.Position.{Position}
 use Rattle.mx_walk.specs.Positions.{IsPosition}
 use Rattle.mx_app_look.specs.declared.sight.Sight.{Sight}

@@ -1,3 +1,8 @@
+mod Begun
+mod Lists
+mod Marked
+mod Halting
+mod Coming
 mod SoFar
 mod Moving
 mod Traced

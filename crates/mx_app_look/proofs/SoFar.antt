@@ -81,13 +81,13 @@ module _ (asks : Bool) where
       → h ≡ g ++ Some l ∷ [] → ends l ≡ false → ((answer : List ℕ) × IsAnswered now l next answer × Appends o p (answer ++ prompt_text asks next.walker)) → SoFar s next (n + 1) given h out p
   one_more s now next n given g h out o p l f more isnt a =
       let answer = a.0 ++ prompt_text asks next.walker in record {
-    typed = f.typed ++ Some l ∷ [];
-    text = f.text ++ answer;
-    lines = more_lines given g h f.typed (Some l) f.lines more;
-    printed = Appends-trans out o p f.text answer f.printed a.2;
-    leads = leads_more s now next f.typed f.text a.0 l f.leads isnt a.1;
-    count = one_longer f.typed (Some l) ∙ ap (λ i. i + 1) f.count;
-  }
+        typed = f.typed ++ Some l ∷ [];
+        text = f.text ++ answer;
+        lines = more_lines given g h f.typed (Some l) f.lines more;
+        printed = Appends-trans out o p f.text answer f.printed a.2;
+        leads = leads_more s now next f.typed f.text a.0 l f.leads isnt a.1;
+        count = one_longer f.typed (Some l) ∙ ap (λ i. i + 1) f.count;
+      }
 
   abbrev pub Whole : Sight → List (Option (List ℕ)) → List (Option (List ℕ)) → Option (List ℕ) → Option (List ℕ) → Type 0
   Whole s given given_now out out_now =

@@ -1,3 +1,13 @@
+pub mod Verbs
+pub mod PointRequests
+pub mod Addresses
+pub mod Shown
+pub mod Requests
+pub mod Watches
+pub mod Points
+pub mod Marks
+pub mod Changes
+pub mod Searches
 pub mod Places
 pub mod Moves
 pub mod Slots

@@ -4,14 +4,14 @@ use Rattle.mx_debug.specs.declared.error.DebugError.{DebugError}
 use Rattle.mx_debug.specs.declared.error.DebugError.TheVariants.{TooMany}
 use Rattle.mx_debug.specs.declared.points.Breakpoint.{Breakpoint}
 use Rattle.mx_debug.specs.Points.{with_point}
-use Rattle.mx_look_line.specs.declared.address_word.AddressWord.{AddressWord}
-use Rattle.mx_look_line.specs.declared.points.PointRequest.{PointRequest}
-use Rattle.mx_look_line.specs.declared.points.PointRequest.TheVariants.{Break, Clear, Show, Watch}
-use Rattle.mx_look_points.specs.declared.points.Points.{Points}
-use Rattle.mx_look_points.specs.Points.{points_text}
-use Rattle.mx_look_points.specs.Searches.{IsLastHalt, IsNextHalt}
-use Rattle.mx_look_points.specs.declared.watches.Watch.{Watch as Watched}
-use Rattle.mx_look_points.specs.Watches.{watch_set}
+use Rattle.mx_app_look.specs.declared.address_word.AddressWord.{AddressWord}
+use Rattle.mx_app_look.specs.declared.point_request.PointRequest.{PointRequest}
+use Rattle.mx_app_look.specs.declared.point_request.PointRequest.TheVariants.{Break, Clear, Show, Watch}
+use Rattle.mx_app_look.specs.declared.points.Points.{Points}
+use Rattle.mx_app_look.specs.Points.{points_text}
+use Rattle.mx_app_look.specs.Searches.{IsLastHalt, IsNextHalt}
+use Rattle.mx_app_look.specs.declared.watches.Watch.{Watch as Watched}
+use Rattle.mx_app_look.specs.Watches.{watch_set}
 use Rattle.mx_print_answers.specs.Answers.{done_line}
 use Rattle.mx_print_answers.specs.declared.refused.Refused.{Refused}
 use Rattle.mx_print_answers.specs.declared.refused.Refused.TheVariants.{ByDebugger}

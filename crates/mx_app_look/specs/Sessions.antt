@@ -1,9 +1,9 @@
 -- Sessions (our own).
 use Rattle.std.specs.Prelude.{◌≡◌, ◌⊎◌, ◌^◌, ◌-◌, ℕ, Bool, true, false, List, [], ◌∷◌, ◌++◌, codes, length, Option, Some, None, if◌then◌else◌}
-use Rattle.mx_look_line.specs.declared.request.Request.{Request}
-use Rattle.mx_look_line.specs.declared.request.Request.TheVariants.{Quit}
-use Rattle.mx_look_line.specs.Requests.{request_of}
-use Rattle.mx_look_line.specs.Verbs.{unknown_text}
+use Rattle.mx_app_look.specs.declared.request.Request.{Request}
+use Rattle.mx_app_look.specs.declared.request.Request.TheVariants.{Quit}
+use Rattle.mx_app_look.specs.Requests.{request_of}
+use Rattle.mx_app_look.specs.Verbs.{unknown_text}
 use Rattle.mx_machine.specs.declared.history.Record.{Record}
 use Rattle.mx_machine.specs.World.{World}
 use Rattle.mx_walk.specs.Walks.{IsLast, Walk, first}

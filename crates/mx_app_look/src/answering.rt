@@ -3,7 +3,7 @@
 ghost use Rattle.std.specs.Prelude.{◌≡◌, ◌++◌, IfErr, IfOk, MatchOption, OnOk, true, false};
 ghost use Rattle.std.specs.Io.KnownBytes.{Appends};
 ghost use Rattle.mx_app_step.specs.Failure.{IsWanting};
-ghost use Rattle.mx_look_line.specs.declared.request.Request.TheVariants as requests;
+ghost use Rattle.mx_app_look.specs.declared.request.Request.TheVariants as requests;
 ghost use Rattle.mx_walk.specs.Positions.{IsPosition, IsUpTo};
 ghost use Rattle.mx_app_look.specs.declared.sight.Sight.{Sight as Seen};
 ghost use Rattle.mx_app_look.specs.Answers.{IsMade, after, help_text, processes_text, request_text, why_text};
@@ -15,12 +15,15 @@ ghost use Rattle.mx_app_look.specs.Sessions.{IsAnswered, IsAnsweredBy, ends, is_
 
 use crate::moves::{back_from, can_go, forward_from, position_asked, steps_back, steps_on};
 use crate::places::{push_place, push_position};
+use crate::position_word::PositionWord;
+use crate::request::{Request, request_of};
 use crate::seeking::{go_back, go_on, perform_point};
 use crate::showing::push_shown;
+use crate::shown::Shown;
 use crate::sight::Sight;
 use crate::telling::{push_deliveries, push_processes, push_why};
+use crate::verb::push_unknown;
 use mx_app_step::{Failure, print_text};
-use mx_look_line::{PositionWord, Request, Shown, push_unknown, request_of};
 use mx_walk::{Position, Walker};
 use std::alloc::{AllocError, Global};
 use std::io::Write;

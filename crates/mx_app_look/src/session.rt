@@ -16,11 +16,11 @@ ghost use Rattle.mx_app_look.specs.Sessions.{IsBegun, IsSession, IsWhole, begun_
 
 use crate::answering::{answer_line, push_prompt};
 use crate::places::push_place;
+use crate::points::Points;
 use crate::sight::Sight;
 use mx_app_step::{
     Failure, History, LineReader, Reader, Started, print_text, records_are_of_actors, start,
 };
-use mx_look_points::Points;
 use mx_walk::Walker;
 use std::alloc::Global;
 use std::io::Write;

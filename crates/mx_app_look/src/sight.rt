@@ -1,6 +1,6 @@
 //! What a session has in hand.
 
-use mx_look_points::Points;
+use crate::points::Points;
 use mx_walk::Walker;
 
 /// A walker, and what its searches halt at.

@@ -2,6 +2,7 @@
 use Rattle.std.proofs.Common.{◌≡◌, ◌∙◌, ◌<◌, ◌≤◌, ◌+◌, ◌-◌, ◌==◌, ℕ, zero, suc, Bool, true, false, cond, nat_eq, List, [], ◌∷◌, ◌++◌, length, min, Option, Some, None, Result, Ok, Err, inl, inr, refl, ap, ap₂, append_assoc, arith, subst, sym}
 use Rattle.std.proofs.KnownBytes.{Appends-trans}
 use Rattle.std.specs.Io.KnownBytes.{Appends}
+use Rattle.std.proofs.lemmas.List.{append-nil}
 use Rattle.std.proofs.lemmas.List.FromFn.{map-range_with_len_more}
 use Rattle.std.specs.List.{flat_map}
 use Rattle.std.specs.Prelude.{IsErrAnd}
@@ -106,6 +107,16 @@ part_after all m n k before now then x next same is shown more =
 pub shown_failed : {X : Type 0} (before after : List Part) (all n : ℕ) (f : Kind) (r : Result X Kind) → IsErrAnd r (λ y. y ≡ f) → n ≤ all → after ≡ before ++ parts_shown all n → IsShown before after all r
 shown_failed before after all n f (Ok x) h few shown = absurd h
 shown_failed before after all n f (Err y) h few shown = (n, few, shown)
+
+-- nothing was shown: no position is swept, or the first one failed
+pub none_shown : (before : List Part) (from end : ℕ) → end ≤ from → before ≡ before ++ parts_shown (end - from) (end - from)
+none_shown before from end none =
+    let z : end - from ≡ 0 = omega (arith, none) in
+    sym (append-nil before) ∙ ap (λ n. before ++ parts_shown n n) (sym z)
+
+pub none_shown_failed : {X : Type 0} (before : List Part) (all : ℕ) (f : Kind) (r : Result X Kind) → IsErrAnd r (λ y. y ≡ f) → IsShown before before all r
+none_shown_failed before all f (Ok x) h = absurd h
+none_shown_failed before all f (Err y) h = (0, omega arith, sym (append-nil before))
 
 -- ---- what ends it
 

@@ -192,6 +192,7 @@ fn print_more<P: Progress, W: Write>(
 }
 
 /// Sweeps positions, and prints their blocks.
+#[tactic(auto, using(crate::proofs::SweptLemmas::none_shown, crate::proofs::SweptLemmas::none_shown_failed))]
 fn print_positions<P: Progress, W: Write>(
     alloc: Global,
     machine: Machine,

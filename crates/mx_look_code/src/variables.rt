@@ -14,6 +14,7 @@ use std::fmt::Write;
 
 /// The classes of symbols in the data and the bss, in their low three bits.
 const DATA: u8 = 3;
+
 const BSS: u8 = 4;
 
 /// Whether a symbol is in the data or the bss.
@@ -45,7 +46,9 @@ fn is_variable_named(symbol: &Symbol, name: &[u8]) -> bool
 pub fn variable_named<'a>(symbols: &'a [Symbol], name: &[u8]) -> Option<&'a Symbol>
     ensures { option_copied result ≡ variable_named name.now symbols.now }
 {
-    symbols.iter().find(|symbol| is_variable_named(symbol, name))
+    symbols
+        .iter()
+        .find(|symbol| is_variable_named(symbol, name))
 }
 
 /// The dword of a variable in a process's memory, if it is inside.

@@ -2,7 +2,7 @@
 
 ghost use Rattle.std.specs.Prelude.{◌≡◌, ◌++◌, OnOk, string_bytes};
 ghost use Rattle.mx_insn_words.specs.Numbers.{eight_digits};
-ghost use Rattle.mx_look_trace.specs.Faults.{access_text, fault_line, fault_text, faulted, no_code, reason_text};
+ghost use Rattle.mx_look_trace.specs.Faults.{access_text, fault_line, fault_text, faulted, limit_number, no_code, reason_text, size_text, target_text, touched_text};
 
 use crate::lines::push_margin;
 use mx_insn_words::push_eight_digits;
@@ -11,27 +11,64 @@ use mx_machine::Recorded;
 use std::alloc::AllocError;
 use std::fmt::Write;
 
-/// Appends a limit in eight digits, as an address is printed.
-fn push_limit(out: &mut String, limit: usize) -> Result<(), AllocError>
-    ensures { OnOk result (string_bytes out.new ≡ string_bytes out.old ++ eight_digits limit) }
+/// A limit as a number of 32 bits, as an address is one; no memory has a larger one.
+fn limit_number(limit: usize) -> u32
+    ensures { result ≡ limit_number limit }
 {
-    write!(out, "{limit:08x}")
+    limit.min(u32::MAX as usize) as u32
 }
 
-/// Appends the access that isn't inside: its address, and how many bytes from there on if the address is.
-#[tactic(auto, unfolding(crate::specs::Faults::access_text))]
-fn push_access(out: &mut String, access: Access, limit: usize) -> Result<(), AllocError>
+/// Appends words and a limit in eight digits, as an address is printed.
+fn push_limit(out: &mut String, words: &str, limit: usize) -> Result<(), AllocError>
     ensures { OnOk result (string_bytes out.new ≡ string_bytes out.old
-        ++ access_text access limit) }
+        ++ (words.now ++ eight_digits (limit_number limit))) }
+{
+    out.push_str(words)?;
+    push_eight_digits(out, limit_number(limit))
+}
+
+/// Appends how many bytes an access has, if it begins inside.
+#[tactic(auto, unfolding(crate::specs::Faults::size_text))]
+fn push_size(out: &mut String, at: u32, count: u32, limit: usize) -> Result<(), AllocError>
+    ensures { OnOk result (string_bytes out.new ≡ string_bytes out.old
+        ++ size_text at count limit) }
+{
+    if at as usize >= limit {
+        return Ok(());
+    }
+    write!(out, "+{count}")
+}
+
+/// Appends the place of an access: its address, and how many bytes from there on if it begins inside.
+#[tactic(auto, unfolding(crate::specs::Faults::touched_text))]
+fn push_touched(out: &mut String, at: u32, count: u32, limit: usize) -> Result<(), AllocError>
+    ensures { OnOk result (string_bytes out.new ≡ string_bytes out.old
+        ++ touched_text at count limit) }
 {
     out.push_str(": ")?;
-    push_eight_digits(out, access.at)?;
-    if (access.at as usize) < limit {
-        let count = access.size.bytes();
-        write!(out, "+{count}")?;
-    }
-    out.push_str(" is past the limit ")?;
-    push_limit(out, limit)
+    push_eight_digits(out, at)?;
+    push_size(out, at, count, limit)
+}
+
+/// Appends the access that isn't inside.
+#[tactic(auto, unfolding(crate::specs::Faults::access_text))]
+fn push_access(out: &mut String, at: u32, count: u32, limit: usize) -> Result<(), AllocError>
+    ensures { OnOk result (string_bytes out.new ≡ string_bytes out.old
+        ++ access_text at count limit) }
+{
+    push_touched(out, at, count, limit)?;
+    push_limit(out, " is past the limit ", limit)
+}
+
+/// Appends the target that isn't in the code.
+#[tactic(auto, unfolding(crate::specs::Faults::target_text))]
+fn push_target(out: &mut String, target: u32, limit: usize) -> Result<(), AllocError>
+    ensures { OnOk result (string_bytes out.new ≡ string_bytes out.old
+        ++ target_text target limit) }
+{
+    out.push_str(": the target ")?;
+    push_eight_digits(out, target)?;
+    push_limit(out, " is past the code's limit ", limit)
 }
 
 /// Appends why an instruction faulted, unless its vector says it.
@@ -41,17 +78,11 @@ fn push_reason(out: &mut String, fault: &FaultGlance) -> Result<(), AllocError>
         ++ reason_text fault.now fault.now.reason) }
 {
     match fault.reason {
-        FaultReason::Outside(access) => push_access(out, access, fault.memory_limit),
-        FaultReason::CodeEnd => {
-            out.push_str(": the code ends at ")?;
-            push_limit(out, fault.code_limit)
+        FaultReason::Outside(Access { at, size }) => {
+            push_access(out, at, size.bytes(), fault.memory_limit)
         }
-        FaultReason::Target(target) => {
-            out.push_str(": the target ")?;
-            push_eight_digits(out, target)?;
-            out.push_str(" is past the code's limit ")?;
-            push_limit(out, fault.code_limit)
-        }
+        FaultReason::CodeEnd => push_limit(out, ": the code ends at ", fault.code_limit),
+        FaultReason::Target(target) => push_target(out, target, fault.code_limit),
         FaultReason::Forbidden => out.push_str(": no process may do this"),
         FaultReason::Other => Ok(()),
     }

@@ -1,5 +1,5 @@
 use Rattle.std.proofs.Common.{◌≡◌, ◌∙◌, ◌++◌, ap, sym}
-use Rattle.mx_look_line.specs.declared.request.Request.{Request}
+use Rattle.mx_app_look.specs.declared.request.Request.{Request}
 use Rattle.mx_app_look.specs.Answers.{help_text, request_text}
 use Rattle.mx_app_look.proofs.answering.perform.Goals as goal
 

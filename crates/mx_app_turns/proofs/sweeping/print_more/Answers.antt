@@ -1,11 +1,11 @@
-use Rattle.std.proofs.Common.{◌≡◌, ◌∙◌, ◌+◌, ◌-◌, ℕ, Bool, true, false, cond, List, ap, ap₂, arith, refl, sym}
+use Rattle.std.proofs.Common.{◌≡◌, ◌∙◌, ◌+◌, ◌-◌, ◌++◌, ℕ, Bool, true, false, cond, List, ap, ap₂, arith, refl, sym}
 use Rattle.std.specs.Int.{from_bool}
 use Rattle.std.specs.Str.{bytes_eq}
 use Rattle.mx_machine.specs.World.{World}
 use Rattle.mx_app_turns.specs.declared.blocks.Total.{Total}
 use Rattle.mx_app_turns.specs.Sweep.{Positions, positions_of}
 use Rattle.mx_app_turns.specs.Begun.{sweep_of}
-use Rattle.mx_app_turns.specs.Sweeping.{is_alike_at, run_at, text_at}
+use Rattle.mx_app_turns.specs.Sweeping.{is_alike_at, parts_shown, run_at, text_at}
 use Rattle.mx_app_turns.proofs.SweptLemmas.{part_after, shown_failed}
 use Rattle.std.proofs.lemmas.List.{append-nil}
 use Rattle.mx_app_turns.proofs.BlockLemmas.{begins, first_swept, goes_on, last_alike, last_blocks, last_printed}
@@ -104,3 +104,29 @@ returns-in_err-next-clause-shown g c =
     let all = c.args.range.end - c.args.range.from in
     shown_failed (g.P.Progress.shown c.args.progress.now) (g.P.Progress.shown c.loop-position.progress) all (c.loop-position.position - c.args.range.from) _ c.from_residual.result c.from_residual.ensures.1
     (omega (arith, c.loop-position-test.true)) c.loop-position.invariant.shown
+
+pub returns-in_err-print_block-clause-shown : goal.returns-in_err-print_block-clause-shown
+returns-in_err-print_block-clause-shown g c =
+    let p = c.loop-position.position in
+    let from = c.args.range.from in
+    let all = c.args.range.end - from in
+    let before = g.P.Progress.shown c.args.progress.now in
+    let inv = c.loop-position.invariant in
+    let shown = part_after all (p - from) (p - from + 1) (p - from + 1) before (g.P.Progress.shown c.loop-position.progress) (g.P.Progress.shown c.show-in-loop-position.new.self) _ refl refl refl inv.shown c.show-in-loop-position.ensures in
+    shown_failed before (g.P.Progress.shown c.print_block.new.progress) all (p - from + 1) _ c.from_residual-in_err-print_block.result c.from_residual-in_err-print_block.ensures.1
+    (omega (arith, c.loop-position-test.true, inv.swept.above)) (c.in_err-print_block.ensures.shown ∙ shown)
+
+pub returns-in_err-print_block-2-clause-shown : goal.returns-in_err-print_block-2-clause-shown
+returns-in_err-print_block-2-clause-shown g c =
+    let from = c.args.range.from in
+    let inv = c.loop-position.invariant in
+    shown_failed (g.P.Progress.shown c.args.progress.now) (g.P.Progress.shown c.print_block-2.new.progress) (c.args.range.end - from) (c.loop-position.position - from) _ c.from_residual-in_err-print_block-2.result c.from_residual-in_err-print_block-2.ensures.1
+    (omega (arith, inv.swept.within)) (c.in_err-print_block-2.ensures.shown ∙ inv.shown)
+
+pub returns-clause-shown : goal.returns-clause-shown
+returns-clause-shown g c =
+    let from = c.args.range.from in
+    let end = c.args.range.end in
+    let inv = c.loop-position.invariant in
+    let last : c.loop-position.position ≡ end = omega (arith, inv.swept.within, c.loop-position-test.false) in
+    c.in_ok-print_block-2.ensures.shown ∙ inv.shown ∙ ap (λ i. g.P.Progress.shown c.args.progress.now ++ parts_shown (end - from) (i - from)) last

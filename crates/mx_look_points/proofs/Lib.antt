@@ -1,4 +1,0 @@
-mod Lists
-mod Marked
-mod Halting
-mod Coming
