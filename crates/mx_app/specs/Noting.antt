@@ -9,8 +9,9 @@ IsNoted name last = (last ≡ Some name) ⊎ (last ≡ None)
 
 -- the first text was noted, or there was no memory for it; nothing is noted of a text that was missed, or of those after the first
 abbrev pub IsTextNoted : {E : Type 0} → Bool → Result (Vec ℕ Global) E → Option (List ℕ) → Option (List ℕ) → Type 0
+IsTextNoted true answer old new = new ≡ old
 IsTextNoted false (Ok bytes) old new = (new ≡ Some bytes.items) ⊎ (new ≡ None)
-IsTextNoted asked answer old new = new ≡ old
+IsTextNoted false (Err e) old new = new ≡ old
 
 abbrev pub is_failed : {A E : Type 0} → Result A E → Bool
 is_failed (Ok x) = false

@@ -135,8 +135,13 @@ pub fn perform_words<
     match command(alloc, words) {
         Ok(line) => {
             let done = perform(rt, alloc, channels, lines, progress, asks, line.request);
-            let noted = noted(&channels.reader, &channels.files);
-            answer(alloc, line, shows, done, noted)
+            answer(
+                alloc,
+                line,
+                shows,
+                done,
+                noted(&channels.reader, &channels.files),
+            )
         }
         Err(mistake) => complain(alloc, mistake, &mut channels.out),
     }
