@@ -8,5 +8,6 @@ mod Moving
 mod Traced
 mod Starting
 mod Alike
+mod Halted
 mod Kernels
 mod Images

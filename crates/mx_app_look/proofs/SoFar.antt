@@ -38,12 +38,12 @@ module _ (asks : Bool) where
       → Leads s (xs ++ Some l ∷ []) (text ++ (answer ++ prompt_text asks v.walker)) v
   leads_more s u v [] text answer l h e g =
       let more = answer ++ prompt_text asks v.walker in
-      (e, v, answer, [], subst (λ (r : Sight). IsAnswered r l v answer) h.1 g, (refl, refl), ap (λ t. t ++ more) h.0 ∙ sym (append-nil more))
+      (e, (v, answer, [], subst (λ (r : Sight). IsAnswered r l v answer) h.1 g, (refl, refl), ap (λ t. t ++ more) h.0 ∙ sym (append-nil more)))
   leads_more s u v (None ∷ xs) text answer l h e g = absurd h
   leads_more s u v (Some m ∷ xs) text answer l h e g =
       let more = answer ++ prompt_text asks v.walker in
       let p = h.1 in
-      (h.0, p.0, p.1, p.2 ++ more, p.3, leads_more p.0 u v xs p.2 answer l p.4 e g, ap (λ t. t ++ more) p.5 ∙ append_assoc (p.1 ++ prompt_text asks p.0.walker) p.2 more)
+      (h.0, (p.0, p.1, p.2 ++ more, p.3, leads_more p.0 u v xs p.2 answer l p.4 e g, ap (λ t. t ++ more) p.5 ∙ append_assoc (p.1 ++ prompt_text asks p.0.walker) p.2 more))
 
   -- the session of these lines and more
   on : (s u : Sight) (xs ys : List (Option (List ℕ))) (text rest : List ℕ) → Leads s xs text u → IsSession asks u ys rest → IsSession asks s (xs ++ ys) (text ++ rest)
@@ -51,7 +51,7 @@ module _ (asks : Bool) where
   on s u (None ∷ xs) ys text rest h g = absurd h
   on s u (Some l ∷ xs) ys text rest h g =
       let p = h.1 in
-      inr (h.0, p.0, p.1, p.2 ++ rest, p.3, on p.0 u xs ys p.2 rest p.4 g, ap (λ t. t ++ rest) p.5 ∙ append_assoc (p.1 ++ prompt_text asks p.0.walker) p.2 rest)
+      inr (h.0, (p.0, p.1, p.2 ++ rest, p.3, on p.0 u xs ys p.2 rest p.4 g, ap (λ t. t ++ rest) p.5 ∙ append_assoc (p.1 ++ prompt_text asks p.0.walker) p.2 rest))
 
   -- it is over with what comes after them
   over_after : (s u : Sight) (xs ys : List (Option (List ℕ))) (text : List ℕ) → Leads s xs text u → is_over (xs ++ ys) ≡ is_over ys

@@ -62,7 +62,7 @@ returns-clause-printed g c =
       b.3,
       s.4,
       begun,
-      held_by_walk c.args.asks c.begin.new.walker k c.points.result b.0 b.1 c.in_ok-begin.ensures.same c.new-points.ensures.breakpoints c.new-points.ensures.watches b.4,
+      held_by_walk c.args.asks c.begin.new.walker k c.new-2.result b.0 b.1 c.in_ok-begin.ensures.same c.new-2.ensures.breakpoints c.new-2.ensures.watches b.4,
       Appends-trans (g.W.Write.contents c.args.out.now) (g.W.Write.contents c.begin.new.out) (g.W.Write.contents c.converse.new.out) (begun_text c.args.asks k) b.1 c.in_ok-begin.ensures.printed b.5,
     )) c.converse.ensures.printed
 
