@@ -1,6 +1,6 @@
 use Rattle.std.proofs.Common.{◌∙◌, [], inl, refl, sym}
 use Rattle.std.proofs.lemmas.List.{append-nil}
-use Rattle.mx_app.proofs.Done.{saves}
+use Rattle.mx_app.proofs.Doing.{saves}
 use Rattle.mx_app.proofs.named.step_apart.Goals as goal
 
 pub returns-then-saves_over : goal.returns-then-saves_over

@@ -3,7 +3,7 @@ use Rattle.mx_app_program.specs.Shown.{HasListing, HasNames, IsShown}
 use Rattle.std.proofs.Common.{◌∙◌, ap, Option}
 use Rattle.std.specs.Prelude.{option_map}
 use Rattle.mx_app_command.specs.declared.words.CommandRequest.TheVariants.{Step}
-use Rattle.mx_app.proofs.Done.{as_asked, as_typed, assembled, debugs, draws, explains, looks, replays, runs, saved, shows, steps, swept, traces, turned}
+use Rattle.mx_app.proofs.Doing.{as_asked, as_typed, assembled, debugs, draws, explains, looks, replays, runs, saved, shows, steps, swept, traces, turned}
 use Rattle.mx_app.proofs.performing.perform.Goals as goal
 
 pub returns-in-One : goal.returns-in-One
