@@ -1,6 +1,6 @@
 mod Services
 mod Shown
-mod Done
+mod Doing
 mod Explained
 mod Told
 mod Grown

@@ -6,7 +6,7 @@ use Rattle.mx_app_failure.specs.Failure.{IsWanting}
 use Rattle.mx_app_db.specs.Asked.{Asked}
 use Rattle.mx_app_db.specs.Config.{Config}
 use Rattle.mx_app_db.specs.Setup.{IsConfigRead}
-use Rattle.mx_config_words.specs.Words.{services_text}
+use Rattle.mx_app_explain.specs.ServiceWords.{services_text}
 use Rattle.mx_app.specs.Explained.{ExplainsConfig}
 
 pub services_printed : (name : List ℕ) (q : Asked) (c : Config) (text slice : List ℕ) (x y : Option (List ℕ)) (r : Result (Unit {0}) Kind)

@@ -1,26 +1,27 @@
 -- What is noted of files, as it is held and as it is handed on.
 use Rattle.std.proofs.Common.{◌≡◌, Bool, Option, false, inl, inr, refl, true}
-use Rattle.std.specs.Prelude.{String, option_map, string_bytes}
+use Rattle.std.specs.Prelude.{ℕ, String, Vec, option_map, string_bytes}
 use Rattle.std.specs.declared.alloc.Global.{Global}
 use Rattle.mx_app_explain.specs.declared.subject.Notes.{Notes}
 use Rattle.mx_app_command.specs.declared.words.CommandLine.{CommandLine}
 use Rattle.mx_app_explain.specs.Explaining.{explained}
 use Rattle.mx_app_failure.specs.declared.failure.Failure.{Failure as Kind}
 use Rattle.mx_app.specs.Noting.{Noted, noted_by, noted_in}
-use Rattle.mx_app.specs.Words.{IsTold}
+use Rattle.mx_app.specs.Words.{IsTold, explains}
 use Rattle.mx_app.specs.declared.complaint.Complaint.TheVariants.{Explained, Failed, Unexplained}
 
-pub noted_same : (n : Notes) (last : Option (String Global)) (m u : Bool)
+pub noted_same : (n : Notes) (last : Option (String Global)) (m u : Bool) (text : Option (Vec ℕ Global))
     → option_map (λ s. s.now) n.last ≡ option_map string_bytes last → n.is_missed ≡ m → n.is_unwritten ≡ u
-    → noted_in n ≡ noted_by last m u
-noted_same n last m u a b d = cc
+    → option_map (λ t. t.now) n.text ≡ option_map (λ (t : Vec ℕ Global). t.items) text
+    → noted_in n ≡ noted_by last m u text
+noted_same n last m u text a b d e = cc
 
-pub told_so : (line : CommandLine) (f : Kind) (n : Noted) (s : String Global) → line.explains ≡ true
-    → string_bytes s ≡ explained line.request f n.last n.is_missed n.is_unwritten → IsTold line f n (Explained f s)
-told_so line f n s asked text = inr (inr (s, asked, refl, text))
+pub told_so : (line : CommandLine) (shows : Bool) (f : Kind) (n : Noted) (s : String Global) → explains line shows ≡ true
+    → string_bytes s ≡ explained line.request f n.last n.is_missed n.is_unwritten n.text → IsTold line shows f n (Explained f s)
+told_so line shows f n s asked text = inr (inr (s, asked, refl, text))
 
-pub told_alone : (line : CommandLine) (f : Kind) (n : Noted) → line.explains ≡ false → IsTold line f n (Failed f)
-told_alone line f n asked = inl (asked, refl)
+pub told_alone : (line : CommandLine) (shows : Bool) (f : Kind) (n : Noted) → explains line shows ≡ false → IsTold line shows f n (Failed f)
+told_alone line shows f n asked = inl (asked, refl)
 
-pub told_short : (line : CommandLine) (f : Kind) (n : Noted) → line.explains ≡ true → IsTold line f n (Unexplained f)
-told_short line f n asked = inr (inl (asked, refl))
+pub told_short : (line : CommandLine) (shows : Bool) (f : Kind) (n : Noted) → explains line shows ≡ true → IsTold line shows f n (Unexplained f)
+told_short line shows f n asked = inr (inl (asked, refl))

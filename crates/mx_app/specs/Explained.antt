@@ -5,7 +5,7 @@ use Rattle.mx_app_failure.specs.Failure.{IsWanting}
 use Rattle.mx_app_db.specs.Asked.{Asked}
 use Rattle.mx_app_db.specs.Config.{Config}
 use Rattle.mx_app_db.specs.Setup.{IsConfigFault, IsConfigRead}
-use Rattle.mx_config_words.specs.Words.{services_text}
+use Rattle.mx_app_explain.specs.ServiceWords.{services_text}
 
 -- the lines of its services are printed; or its first fault is told, or what is wanting
 abbrev pub ExplainsConfig : List ℕ → Asked → (List ℕ → Type 0) → Result (Unit {0}) Kind → Type 0

@@ -6,8 +6,8 @@ ghost use Rattle.mx_app_db.specs.Asked.{Asked};
 ghost use Rattle.mx_app.specs.Explained.{ExplainsConfig};
 
 use mx_app_db::{Reader, config_of, print_text};
+use mx_app_explain::services_text;
 use mx_app_failure::Failure;
-use mx_config_words::services_text;
 use std::alloc::Global;
 use std::io::Write;
 

@@ -1,4 +1,4 @@
-//! The subcommands on one program, by the names of its files.
+//! Subcommands by the names of their files.
 
 ghost use Rattle.std.specs.Prelude.{◌≡◌, ◌++◌, ◌∷◌, [], List};
 ghost use Rattle.std.specs.Io.KnownBytes.{Appends};
@@ -7,8 +7,9 @@ ghost use Rattle.mx_app_db.specs.Written.{Written};
 ghost use Rattle.mx_app_program.specs.One.{IsPrinted};
 ghost use Rattle.mx_app_program.specs.Shown.{HasListing, HasNames, IsShown};
 ghost use Rattle.mx_app.specs.Named.{Assembles, ShowsFile};
+ghost use Rattle.mx_app.specs.Requests.{SavesApart, saves_over};
 
-use mx_app_db::{FileWriter, Reader};
+use mx_app_db::{Channels, FileWriter, Reader, step_saved};
 use mx_app_failure::Failure;
 use mx_app_program::{assemble_file, print_listing, print_names, print_one};
 use std::alloc::Global;
@@ -82,4 +83,32 @@ pub fn nm_named<R: Reader, W: Write>(
 {
     let bytes = reader.read_program(alloc, file)?;
     print_names(alloc, bytes.as_slice(), out)
+}
+
+/// Whether a text that is read would be written over: the history's file has its name.
+fn saves_over(config: &str, script: &str, log: &str) -> bool
+    ensures { result ≡ saves_over config.now script.now log.now }
+{
+    config == log || script == log
+}
+
+/// Does what a script says, and saves the history that it made. No text that is read is written over: if LOG has
+/// its name, nothing is read or written.
+pub fn step_apart<R: Reader + Drop, F: FileWriter + Drop, W: Write + Drop>(
+    alloc: Global,
+    channels: &mut Channels<R, F, W>,
+    config: &str,
+    script: &str,
+    log: &str,
+) -> Result<(), Failure>
+    ensures { (qs : List Asked) × (ws : List Written)
+        × (R.asked channels.new.reader ≡ R.asked channels.old.reader ++ qs)
+        × (F.written channels.new.files ≡ F.written channels.old.files ++ ws)
+        × SavesApart config.now script.now log.now qs ws
+        (λ text. Appends (W.contents channels.old.out) (W.contents channels.new.out) text) result }
+{
+    if saves_over(config, script, log) {
+        return Err(Failure::File);
+    }
+    step_saved(alloc, channels, config, script, log)
 }

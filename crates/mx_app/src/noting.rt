@@ -1,21 +1,24 @@
 //! Readers and writers that note what became of the files that they were asked for.
 
-ghost use Rattle.std.specs.Prelude.{◌≡◌, ◌++◌, ◌∷◌, [], Err, IfErr, IfOk, None, Ok, false, option_map, string_bytes};
+ghost use Rattle.std.specs.Prelude.{◌≡◌, ◌++◌, ◌∷◌, [], Err, IfErr, IfOk, None, Ok, false, option_map, string_bytes, true};
 ghost use Rattle.std.specs.IoError.{error_kind};
 ghost use Rattle.mx_app_db.specs.Written.{kept, unkept};
-ghost use Rattle.mx_app.specs.Noting.{IsNoted, is_failed};
+ghost use Rattle.mx_app.specs.Noting.{IsNoted, IsTextNoted, is_failed};
 
 use mx_app_db::{FileWriter, Reader};
 use mx_app_explain::Notes;
 use std::alloc::Global;
 use std::io;
 
-/// Reads by another reader, and notes the file that it was asked for last.
+/// Reads by another reader, and notes the file that it was asked for last, and the first text that it read.
 #[derive(Drop)]
 pub struct NotingReader<R: Drop> {
     reader: R,
     last: Option<String>,
     is_missed: bool,
+    /// Whether a text was asked for.
+    has_asked: bool,
+    text: Option<Vec<u8>>,
 }
 
 impl<R: Drop> NotingReader<R> {
@@ -23,11 +26,14 @@ impl<R: Drop> NotingReader<R> {
     pub fn new(reader: R) -> NotingReader<R>
         ensures reader { result.reader ≡ reader }
         ensures nothing { (result.last ≡ None) × (result.is_missed ≡ false) }
+        ensures no_text { (result.has_asked ≡ false) × (result.text ≡ None) }
     {
         NotingReader {
             reader,
             last: None,
             is_missed: false,
+            has_asked: false,
+            text: None,
         }
     }
 
@@ -41,11 +47,44 @@ impl<R: Drop> NotingReader<R> {
         }
     }
 
+    /// The bytes of the first text that was read, if there was memory to note them.
+    fn text(&self) -> Option<&[u8]>
+        ensures { option_map (λ t. t.now) result ≡ option_map (λ t. t.items) self.now.text }
+    {
+        match &self.text {
+            Some(text) => Some(text.as_slice()),
+            None => None,
+        }
+    }
+
+    /// Notes the first text that was asked for. Those after it are what drives a machine, and may be long.
+    fn note_text(&mut self, alloc: Global, answer: &io::Result<Vec<u8>>)
+        ensures reader { self.new.reader ≡ self.old.reader }
+        ensures last { self.new.last ≡ self.old.last }
+        ensures missed { self.new.is_missed ≡ self.old.is_missed }
+        ensures text { IsTextNoted self.old.has_asked answer.now
+            (option_map (λ t. t.items) self.old.text) (option_map (λ t. t.items) self.new.text) }
+        ensures asked { self.new.has_asked ≡ true }
+    {
+        if self.has_asked {
+            return;
+        }
+        self.has_asked = true;
+        if let Ok(bytes) = answer {
+            self.text = match Vec::from_slice(alloc, bytes.as_slice()) {
+                Ok(text) => Some(text),
+                Err(_) => None,
+            };
+        }
+    }
+
     /// Notes the file that was asked for.
     fn note(&mut self, alloc: Global, name: &str, answer: &io::Result<Vec<u8>>)
         ensures reader { self.new.reader ≡ self.old.reader }
         ensures last { IsNoted name.now (option_map string_bytes self.new.last) }
         ensures missed { self.new.is_missed ≡ is_failed answer.now }
+        ensures asked { self.new.has_asked ≡ self.old.has_asked }
+        ensures text { self.new.text ≡ self.old.text }
     {
         self.last = match String::from_str(alloc, name) {
             Ok(name) => Some(name),
@@ -65,9 +104,13 @@ impl<R: Reader + Drop> Reader for NotingReader<R> {
             ≡ R.asked self.old.reader ++ record { name = name.now; answer = Err (error_kind e) } ∷ []) }
         ensures noted { IsNoted name.now (option_map string_bytes self.new.last) }
         ensures failed { self.new.is_missed ≡ is_failed result }
+        ensures text { IsTextNoted self.old.has_asked result
+            (option_map (λ t. t.items) self.old.text) (option_map (λ t. t.items) self.new.text) }
+        ensures asked { self.new.has_asked ≡ true }
     {
         let answer = self.reader.read(alloc, name);
         self.note(alloc, name, &answer);
+        self.note_text(alloc, &answer);
         answer
     }
 
@@ -78,6 +121,8 @@ impl<R: Reader + Drop> Reader for NotingReader<R> {
             ≡ R.asked self.old.reader ++ record { name = name.now; answer = Err (error_kind e) } ∷ []) }
         ensures noted { IsNoted name.now (option_map string_bytes self.new.last) }
         ensures failed { self.new.is_missed ≡ is_failed result }
+        ensures asked { self.new.has_asked ≡ self.old.has_asked }
+        ensures text { self.new.text ≡ self.old.text }
     {
         let answer = self.reader.read_program(alloc, name);
         self.note(alloc, name, &answer);
@@ -132,11 +177,13 @@ impl<F: FileWriter + Drop> FileWriter for NotingFiles<F> {
 pub fn noted<'a, R: Drop, F: Drop>(reader: &'a NotingReader<R>, files: &NotingFiles<F>) -> Notes<'a>
     ensures last { option_map (λ s. s.now) result.last ≡ option_map string_bytes reader.now.last }
     ensures missed { result.is_missed ≡ reader.now.is_missed }
+    ensures text { option_map (λ t. t.now) result.text ≡ option_map (λ t. t.items) reader.now.text }
     ensures unwritten { result.is_unwritten ≡ files.now.is_unwritten }
 {
     Notes {
         last: reader.last(),
         is_missed: reader.is_missed,
         is_unwritten: files.is_unwritten,
+        text: reader.text(),
     }
 }

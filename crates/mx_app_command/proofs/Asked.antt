@@ -1,5 +1,5 @@
 -- What is left of the subcommands on a machine.
-use Rattle.std.proofs.Common.{◌≡◌, ◌∙◌, Bool, true, false, List, codes, ap, inl, inr, sym, refl, true≢false}
+use Rattle.std.proofs.Common.{◌≡◌, ◌∙◌, true, false, List, codes, ap, inl, inr, sym, refl, true≢false}
 use Rattle.std.specs.Str.{bytes_eq}
 use Rattle.clap.specs.Words.{Row, Text}
 use Rattle.mx_app_command.specs.Words.{IsHistoryAsked, IsMachineAsked}

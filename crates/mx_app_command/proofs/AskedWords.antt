@@ -67,16 +67,16 @@ number_of t passed =
 wanted_sets : (id : Text) (n : ℕ) → SetsValue (with_index n (filled (wanted id)))
 wanted_sets id n = record { set = refl; least = omega arith; defaults = refl }
 
--- a text's name is none that the two flags have
+-- a text's name is none that the three flags have
 abbrev IsOwn : Text → Type 0
-IsOwn id = (bytes_eq (codes "explain") id ≡ false) × (bytes_eq (codes "help") id ≡ false)
+IsOwn id = (bytes_eq (codes "explain") id ≡ false) × (bytes_eq (codes "no-explain") id ≡ false) × (bytes_eq (codes "help") id ≡ false)
 
 one_text_given : (name first : Text) → IsOwn first → (words : List Text)
     → level_fault (whole_of (of_one name first)) [] nothing_held words false [] ≡ []
     → IsGiven first (rows_after (whole_of (of_one name first)).rules [] words)
 one_text_given name first own words fine =
     let only : IsOnly (with_index 1 (filled (wanted first))) (whole_of (of_one name first)).rules =
-    ((λ e. refl), ((λ e. absurd (true≢false (sym e ∙ own.0))), ((λ e. absurd (true≢false (sym e ∙ own.1))), tt))) in
+    ((λ e. refl), ((λ e. absurd (true≢false (sym e ∙ own.0))), ((λ e. absurd (true≢false (sym e ∙ own.1))), ((λ e. absurd (true≢false (sym e ∙ own.2))), tt)))) in
     ap is_some (value_given (with_index 1 (filled (wanted first))) (wanted_sets first 1) (whole_of (of_one name first)) only words refl (inl refl) refl fine).1
 
 two_texts_given : (name first second : Text) → IsOwn first → IsOwn second → bytes_eq second first ≡ false → bytes_eq first second ≡ false
@@ -88,9 +88,9 @@ two_texts_given name first second own other apart back words fine =
     let a = with_index 1 (filled (wanted first)) in
     let b = with_index 2 (filled (wanted second)) in
     let only_a : IsOnly a s.rules =
-    ((λ e. refl), ((λ e. absurd (true≢false (sym e ∙ apart))), ((λ e. absurd (true≢false (sym e ∙ own.0))), ((λ e. absurd (true≢false (sym e ∙ own.1))), tt)))) in
+    ((λ e. refl), ((λ e. absurd (true≢false (sym e ∙ apart))), ((λ e. absurd (true≢false (sym e ∙ own.0))), ((λ e. absurd (true≢false (sym e ∙ own.1))), ((λ e. absurd (true≢false (sym e ∙ own.2))), tt))))) in
     let only_b : IsOnly b s.rules =
-    ((λ e. absurd (true≢false (sym e ∙ back))), ((λ e. refl), ((λ e. absurd (true≢false (sym e ∙ other.0))), ((λ e. absurd (true≢false (sym e ∙ other.1))), tt)))) in
+    ((λ e. absurd (true≢false (sym e ∙ back))), ((λ e. refl), ((λ e. absurd (true≢false (sym e ∙ other.0))), ((λ e. absurd (true≢false (sym e ∙ other.1))), ((λ e. absurd (true≢false (sym e ∙ other.2))), tt))))) in
     (ap is_some (value_given a (wanted_sets first 1) s only_a words refl (inl refl) refl fine).1, ap is_some (value_given b (wanted_sets second 2) s only_b words refl (inr (inl refl)) refl fine).1)
 
 -- ---- `one`
@@ -108,10 +108,10 @@ steps_sets : SetsValue steps_rule
 steps_sets = record { set = refl; least = omega arith; defaults = refl }
 
 only_file : IsOnly file_rule one_whole.rules
-only_file = ((λ e. refl), ((λ e. cc), ((λ e. cc), ((λ e. cc), tt))))
+only_file = ((λ e. refl), ((λ e. cc), ((λ e. cc), ((λ e. cc), ((λ e. cc), tt)))))
 
 only_steps : IsOnly steps_rule one_whole.rules
-only_steps = ((λ e. cc), ((λ e. refl), ((λ e. cc), ((λ e. cc), tt))))
+only_steps = ((λ e. cc), ((λ e. refl), ((λ e. cc), ((λ e. cc), ((λ e. cc), tt)))))
 
 one_values : (words : List Text) → level_fault one_whole [] nothing_held words false [] ≡ []
     → IsGiven (codes "FILE") (rows_after one_whole.rules [] words) × ((n : ℕ) × HasNumber (codes "N") (rows_after one_whole.rules [] words) n)
@@ -132,15 +132,15 @@ one_fits words fine = let given = one_values words fine in
     ((λ e. absurd (true≢false (sym e))), (λ e. (given.0, inl (refl, given.1))))
 
 as_fits : Fits (whole_of (of_two (codes "as") (codes "TEXT") (codes "FILE")))
-as_fits words fine = let given = two_texts_given (codes "as") (codes "TEXT") (codes "FILE") (refl, refl) (refl, refl) refl refl words fine in
+as_fits words fine = let given = two_texts_given (codes "as") (codes "TEXT") (codes "FILE") (refl, refl, refl) (refl, refl, refl) refl refl words fine in
     ((λ e. absurd (true≢false (sym e))), (λ e. (given.1, inr (inl (refl, given.0)))))
 
 dis_fits : Fits (whole_of (of_one (codes "dis") (codes "FILE")))
-dis_fits words fine = let given = one_text_given (codes "dis") (codes "FILE") (refl, refl) words fine in
+dis_fits words fine = let given = one_text_given (codes "dis") (codes "FILE") (refl, refl, refl) words fine in
     ((λ e. absurd (true≢false (sym e))), (λ e. (given, inr (inr (inl refl)))))
 
 nm_fits : Fits (whole_of (of_one (codes "nm") (codes "FILE")))
-nm_fits words fine = let given = one_text_given (codes "nm") (codes "FILE") (refl, refl) words fine in
+nm_fits words fine = let given = one_text_given (codes "nm") (codes "FILE") (refl, refl, refl) words fine in
     ((λ e. absurd (true≢false (sym e))), (λ e. (given, inr (inr (inr refl)))))
 
 abbrev step_whole : Shape
@@ -153,10 +153,10 @@ abbrev script_rule : Rule
 script_rule = with_index 2 (filled (wanted (codes "SCRIPT")))
 
 only_config : IsOnly config_rule step_whole.rules
-only_config = ((λ e. refl), ((λ e. cc), ((λ e. cc), ((λ e. cc), ((λ e. cc), tt)))))
+only_config = ((λ e. refl), ((λ e. cc), ((λ e. cc), ((λ e. cc), ((λ e. cc), ((λ e. cc), tt))))))
 
 only_script : IsOnly script_rule step_whole.rules
-only_script = ((λ e. cc), ((λ e. refl), ((λ e. cc), ((λ e. cc), ((λ e. cc), tt)))))
+only_script = ((λ e. cc), ((λ e. refl), ((λ e. cc), ((λ e. cc), ((λ e. cc), ((λ e. cc), tt))))))
 
 step_fits : Fits step_whole
 step_fits words fine =
@@ -177,13 +177,13 @@ number_sets : (long id : Text) (n : ℕ) → SetsValue (with_index n (filled (nu
 number_sets long id n = record { set = refl; least = omega arith; defaults = refl }
 
 only_run_config : IsOnly config_rule run_whole.rules
-only_run_config = ((λ e. refl), ((λ e. cc), ((λ e. cc), ((λ e. cc), ((λ e. cc), tt)))))
+only_run_config = ((λ e. refl), ((λ e. cc), ((λ e. cc), ((λ e. cc), ((λ e. cc), ((λ e. cc), tt))))))
 
 only_log : IsOnly log_rule run_whole.rules
-only_log = ((λ e. cc), ((λ e. refl), ((λ e. cc), ((λ e. cc), ((λ e. cc), tt)))))
+only_log = ((λ e. cc), ((λ e. refl), ((λ e. cc), ((λ e. cc), ((λ e. cc), ((λ e. cc), tt))))))
 
 only_ticks : IsOnly ticks_rule run_whole.rules
-only_ticks = ((λ e. cc), ((λ e. cc), ((λ e. refl), ((λ e. cc), ((λ e. cc), tt)))))
+only_ticks = ((λ e. cc), ((λ e. cc), ((λ e. refl), ((λ e. cc), ((λ e. cc), ((λ e. cc), tt))))))
 
 -- a number after a long name, of which the argument is the only one
 number_if_given : (s : Shape) (long id : Text) (n : ℕ) → IsOnly (with_index n (filled (number_after long id))) s.rules
@@ -210,16 +210,16 @@ abbrev bound_rule : Rule
 bound_rule = with_index 5 (filled (number_after (codes "turns") (codes "N")))
 
 only_turns_config : IsOnly config_rule turns_whole.rules
-only_turns_config = ((λ e. refl), ((λ e. cc), ((λ e. cc), ((λ e. cc), ((λ e. cc), ((λ e. cc), ((λ e. cc), tt)))))))
+only_turns_config = ((λ e. refl), ((λ e. cc), ((λ e. cc), ((λ e. cc), ((λ e. cc), ((λ e. cc), ((λ e. cc), ((λ e. cc), tt))))))))
 
 only_turns_log : IsOnly log_rule turns_whole.rules
-only_turns_log = ((λ e. cc), ((λ e. refl), ((λ e. cc), ((λ e. cc), ((λ e. cc), ((λ e. cc), ((λ e. cc), tt)))))))
+only_turns_log = ((λ e. cc), ((λ e. refl), ((λ e. cc), ((λ e. cc), ((λ e. cc), ((λ e. cc), ((λ e. cc), ((λ e. cc), tt))))))))
 
 only_turns_ticks : IsOnly ticks_rule turns_whole.rules
-only_turns_ticks = ((λ e. cc), ((λ e. cc), ((λ e. refl), ((λ e. cc), ((λ e. cc), ((λ e. cc), ((λ e. cc), tt)))))))
+only_turns_ticks = ((λ e. cc), ((λ e. cc), ((λ e. refl), ((λ e. cc), ((λ e. cc), ((λ e. cc), ((λ e. cc), ((λ e. cc), tt))))))))
 
 only_bound : IsOnly bound_rule turns_whole.rules
-only_bound = ((λ e. cc), ((λ e. cc), ((λ e. cc), ((λ e. cc), ((λ e. refl), ((λ e. cc), ((λ e. cc), tt)))))))
+only_bound = ((λ e. cc), ((λ e. cc), ((λ e. cc), ((λ e. cc), ((λ e. refl), ((λ e. cc), ((λ e. cc), ((λ e. cc), tt))))))))
 
 turns_fits : Fits turns_whole
 turns_fits words fine =
@@ -236,22 +236,22 @@ abbrev fault_rule : Rule
 fault_rule = with_index 3 (filled (wanted (codes "FAULT")))
 
 only_sweep_config : IsOnly config_rule sweep_whole.rules
-only_sweep_config = ((λ e. refl), ((λ e. cc), ((λ e. cc), ((λ e. cc), ((λ e. cc), ((λ e. cc), ((λ e. cc), ((λ e. cc), ((λ e. cc), ((λ e. cc), tt))))))))))
+only_sweep_config = ((λ e. refl), ((λ e. cc), ((λ e. cc), ((λ e. cc), ((λ e. cc), ((λ e. cc), ((λ e. cc), ((λ e. cc), ((λ e. cc), ((λ e. cc), ((λ e. cc), tt)))))))))))
 
 only_sweep_log : IsOnly log_rule sweep_whole.rules
-only_sweep_log = ((λ e. cc), ((λ e. refl), ((λ e. cc), ((λ e. cc), ((λ e. cc), ((λ e. cc), ((λ e. cc), ((λ e. cc), ((λ e. cc), ((λ e. cc), tt))))))))))
+only_sweep_log = ((λ e. cc), ((λ e. refl), ((λ e. cc), ((λ e. cc), ((λ e. cc), ((λ e. cc), ((λ e. cc), ((λ e. cc), ((λ e. cc), ((λ e. cc), ((λ e. cc), tt)))))))))))
 
 only_sweep_fault : IsOnly fault_rule sweep_whole.rules
-only_sweep_fault = ((λ e. cc), ((λ e. cc), ((λ e. refl), ((λ e. cc), ((λ e. cc), ((λ e. cc), ((λ e. cc), ((λ e. cc), ((λ e. cc), ((λ e. cc), tt))))))))))
+only_sweep_fault = ((λ e. cc), ((λ e. cc), ((λ e. refl), ((λ e. cc), ((λ e. cc), ((λ e. cc), ((λ e. cc), ((λ e. cc), ((λ e. cc), ((λ e. cc), ((λ e. cc), tt)))))))))))
 
 only_sweep_bound : IsOnly (with_index 4 (filled (number_after (codes "turns") (codes "N")))) sweep_whole.rules
-only_sweep_bound = ((λ e. cc), ((λ e. cc), ((λ e. cc), ((λ e. refl), ((λ e. cc), ((λ e. cc), ((λ e. cc), ((λ e. cc), ((λ e. cc), ((λ e. cc), tt))))))))))
+only_sweep_bound = ((λ e. cc), ((λ e. cc), ((λ e. cc), ((λ e. refl), ((λ e. cc), ((λ e. cc), ((λ e. cc), ((λ e. cc), ((λ e. cc), ((λ e. cc), ((λ e. cc), tt)))))))))))
 
 only_sweep_from : IsOnly (with_index 5 (filled (number_after (codes "from") (codes "A")))) sweep_whole.rules
-only_sweep_from = ((λ e. cc), ((λ e. cc), ((λ e. cc), ((λ e. cc), ((λ e. refl), ((λ e. cc), ((λ e. cc), ((λ e. cc), ((λ e. cc), ((λ e. cc), tt))))))))))
+only_sweep_from = ((λ e. cc), ((λ e. cc), ((λ e. cc), ((λ e. cc), ((λ e. refl), ((λ e. cc), ((λ e. cc), ((λ e. cc), ((λ e. cc), ((λ e. cc), ((λ e. cc), tt)))))))))))
 
 only_sweep_to : IsOnly (with_index 6 (filled (number_after (codes "to") (codes "B")))) sweep_whole.rules
-only_sweep_to = ((λ e. cc), ((λ e. cc), ((λ e. cc), ((λ e. cc), ((λ e. cc), ((λ e. refl), ((λ e. cc), ((λ e. cc), ((λ e. cc), ((λ e. cc), tt))))))))))
+only_sweep_to = ((λ e. cc), ((λ e. cc), ((λ e. cc), ((λ e. cc), ((λ e. cc), ((λ e. refl), ((λ e. cc), ((λ e. cc), ((λ e. cc), ((λ e. cc), ((λ e. cc), tt)))))))))))
 
 sweep_fits : Fits sweep_whole
 sweep_fits words fine =
@@ -264,7 +264,7 @@ sweep_fits words fine =
     ((λ e. (ap is_some config.1, inr (inr (ap is_some log.1, inr (inr (inr (inr (refl, (ap is_some fault.1, bound, (from, to)))))))))), (λ e. absurd (true≢false e)))
 
 replay_fits : Fits (whole_of (of_two (codes "replay") (codes "CONFIG") (codes "LOG")))
-replay_fits words fine = let given = two_texts_given (codes "replay") (codes "CONFIG") (codes "LOG") (refl, refl) (refl, refl) refl refl words fine in
+replay_fits words fine = let given = two_texts_given (codes "replay") (codes "CONFIG") (codes "LOG") (refl, refl, refl) (refl, refl, refl) refl refl words fine in
     ((λ e. (given.0, inr (inr (given.1, inr (inl (inl refl)))))), (λ e. absurd (true≢false e)))
 
 abbrev looking_whole : Text → Shape
@@ -277,16 +277,16 @@ abbrev to_rule : Rule
 to_rule = with_index 4 (filled (number_after (codes "to") (codes "B")))
 
 only_looking_config : (name : Text) → IsOnly config_rule (looking_whole name).rules
-only_looking_config name = ((λ e. refl), ((λ e. cc), ((λ e. cc), ((λ e. cc), ((λ e. cc), ((λ e. cc), tt))))))
+only_looking_config name = ((λ e. refl), ((λ e. cc), ((λ e. cc), ((λ e. cc), ((λ e. cc), ((λ e. cc), ((λ e. cc), tt)))))))
 
 only_looking_log : (name : Text) → IsOnly log_rule (looking_whole name).rules
-only_looking_log name = ((λ e. cc), ((λ e. refl), ((λ e. cc), ((λ e. cc), ((λ e. cc), ((λ e. cc), tt))))))
+only_looking_log name = ((λ e. cc), ((λ e. refl), ((λ e. cc), ((λ e. cc), ((λ e. cc), ((λ e. cc), ((λ e. cc), tt)))))))
 
 only_from : (name : Text) → IsOnly from_rule (looking_whole name).rules
-only_from name = ((λ e. cc), ((λ e. cc), ((λ e. refl), ((λ e. cc), ((λ e. cc), ((λ e. cc), tt))))))
+only_from name = ((λ e. cc), ((λ e. cc), ((λ e. refl), ((λ e. cc), ((λ e. cc), ((λ e. cc), ((λ e. cc), tt)))))))
 
 only_to : (name : Text) → IsOnly to_rule (looking_whole name).rules
-only_to name = ((λ e. cc), ((λ e. cc), ((λ e. cc), ((λ e. refl), ((λ e. cc), ((λ e. cc), tt))))))
+only_to name = ((λ e. cc), ((λ e. cc), ((λ e. cc), ((λ e. refl), ((λ e. cc), ((λ e. cc), ((λ e. cc), tt)))))))
 
 -- what looks at records has a configuration and a history, and may have two numbers
 abbrev Looks : List Row → Type 0
@@ -310,15 +310,15 @@ draw_fits words fine = let given = looking_values (codes "draw") words fine in
     ((λ e. (given.0, inr (inr (given.1, inr (inr (inl (inr refl, given.2))))))), (λ e. absurd (true≢false e)))
 
 look_fits : Fits (whole_of (of_two (codes "look") (codes "CONFIG") (codes "LOG")))
-look_fits words fine = let given = two_texts_given (codes "look") (codes "CONFIG") (codes "LOG") (refl, refl) (refl, refl) refl refl words fine in
+look_fits words fine = let given = two_texts_given (codes "look") (codes "CONFIG") (codes "LOG") (refl, refl, refl) (refl, refl, refl) refl refl words fine in
     ((λ e. (given.0, inr (inr (given.1, inr (inl (inr refl)))))), (λ e. absurd (true≢false e)))
 
 db_fits : Fits (whole_of (of_two (codes "db") (codes "CONFIG") (codes "SCRIPT")))
-db_fits words fine = let given = two_texts_given (codes "db") (codes "CONFIG") (codes "SCRIPT") (refl, refl) (refl, refl) refl refl words fine in
+db_fits words fine = let given = two_texts_given (codes "db") (codes "CONFIG") (codes "SCRIPT") (refl, refl, refl) (refl, refl, refl) refl refl words fine in
     ((λ e. (given.0, inr (inl (given.1, inr refl)))), (λ e. absurd (true≢false e)))
 
 explain_fits : Fits (whole_of (of_one (codes "explain") (codes "CONFIG")))
-explain_fits words fine = let given = one_text_given (codes "explain") (codes "CONFIG") (refl, refl) words fine in
+explain_fits words fine = let given = one_text_given (codes "explain") (codes "CONFIG") (refl, refl, refl) words fine in
     ((λ e. (given, inl refl)), (λ e. absurd (true≢false e)))
 
 all_fit : AllByRecursion Fits whole.subs

@@ -35,9 +35,9 @@ number_after long id = record (after_name long id) { parser = Some (Signed (pos 
 abbrev pub flag : Text → Rule
 flag id = record (new_rule id) { long = Some id; action = Some SetTrue }
 
--- a subcommand, by its name and its arguments; each may be asked to explain a failure
+-- a subcommand, by its name and its arguments; each may be asked to explain a failure, and not to explain it
 abbrev pub subcommand : Text → List Rule → Shape
-subcommand name arguments = record (new_shape name) { rules = arguments ++ flag (codes "explain") ∷ [] }
+subcommand name arguments = record (new_shape name) { rules = arguments ++ flag (codes "explain") ∷ flag (codes "no-explain") ∷ [] }
 
 -- a subcommand of one text, and of two, by its name and theirs
 abbrev pub of_one : Text → Text → Shape
@@ -62,7 +62,7 @@ step_shape = subcommand (codes "step") (wanted (codes "CONFIG") ∷ wanted (code
 abbrev pub run_shape : Shape
 run_shape = subcommand (codes "run") (wanted (codes "CONFIG") ∷ wanted (codes "LOG") ∷ number_after (codes "ticks") (codes "T") ∷ [])
 
--- `turns CONFIG LOG --ticks T --events EVENTS --turns N`
+-- `turns CONFIG LOG --ticks T --events EVENTS --turns N`; that only one of ticks and events is given, `Mistakes` has
 abbrev pub turns_shape : Shape
 turns_shape =
     subcommand (codes "turns")
@@ -99,17 +99,25 @@ program_shapes = one_shape
 abbrev pub program_app : App
 program_app = record { top = record top_app.top { is_leaf = false }; subs = program_shapes }
 
--- those, and the subcommands that work on a machine
+-- those that start a machine
+abbrev pub machine_shapes : List Shape
+machine_shapes = of_one (codes "explain") (codes "CONFIG")
+    ∷ step_shape
+    ∷ run_shape
+    ∷ turns_shape
+    ∷ sweep_shape
+    ∷ []
+
+abbrev pub machine_app : App
+machine_app = record { top = program_app.top; subs = program_shapes ++ machine_shapes }
+
+-- all of them, with those that follow a history or a script
 abbrev pub mx_grammar : App
 mx_grammar = record {
   top = program_app.top;
   subs = program_shapes
-      ++ of_one (codes "explain") (codes "CONFIG")
-      ∷ step_shape
-      ∷ run_shape
-      ∷ turns_shape
-      ∷ sweep_shape
-      ∷ of_two (codes "replay") (codes "CONFIG") (codes "LOG")
+      ++ machine_shapes
+      ++ of_two (codes "replay") (codes "CONFIG") (codes "LOG")
       ∷ looking_shape (codes "trace")
       ∷ looking_shape (codes "draw")
       ∷ of_two (codes "look") (codes "CONFIG") (codes "LOG")
@@ -186,6 +194,11 @@ AsksBy (Db config script) name rows =
 abbrev pub AsksToExplain : Bool → Option (Text × List Row) → Type 0
 AsksToExplain explains (Some found) = IsFlag (codes "explain") found.1 explains
 AsksToExplain explains None = ⊥
+
+-- the words ask that a failure isn't explained, or they don't
+abbrev pub AsksForSilence : Bool → Option (Text × List Row) → Type 0
+AsksForSilence silent (Some found) = IsFlag (codes "no-explain") found.1 silent
+AsksForSilence silent None = ⊥
 
 abbrev pub Asks : CommandRequest → Option (Text × List Row) → Type 0
 Asks request (Some found) = AsksBy request found.0 found.1

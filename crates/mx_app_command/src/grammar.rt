@@ -2,7 +2,7 @@
 
 ghost use Rattle.std.specs.Prelude.{◌≡◌, IfOk, false, fold, map};
 ghost use Rattle.clap.specs.Words.{app_of, rule_of, shape_of, with_subcommand};
-ghost use Rattle.mx_app_command.specs.Words.{IsLocal, after_name, flag, mx_grammar, number_after, top_app, wanted, wanted_number};
+ghost use Rattle.mx_app_command.specs.Words.{IsLocal, after_name, flag, machine_app, mx_grammar, number_after, program_app, top_app, wanted, wanted_number};
 ghost use Rattle.mx_app_command.specs.Tables.{rule_of_argument, shape_of_subcommand};
 
 use crate::help::Example;
@@ -114,7 +114,7 @@ const TICKS: CommandArgument<'static> = CommandArgument {
 /// What happens from outside while turns are made.
 const EVENTS: CommandArgument<'static> = CommandArgument {
     name: "EVENTS",
-    help: "A file of outside events, one for each turn: line L, tick or kill E",
+    help: "A file of outside events, one for each turn: line L, tick or kill E; not with --ticks",
     form: ArgumentForm::After("events"),
 };
 
@@ -191,58 +191,69 @@ const COMMANDS: CommandArgument<'static> = CommandArgument {
 /// Whether a failure is explained.
 const EXPLAIN: CommandArgument<'static> = CommandArgument {
     name: "explain",
-    help: "If it fails, tells in a second line which file it is about and what was wanted",
+    help: "If it fails, a second line says which file it is about and what was wanted; at a terminal by default",
     form: ArgumentForm::Flag,
 };
 
-/// The subcommands, those that work on one program first.
-static SUBCOMMANDS: [Subcommand<'static>; 14] = [
+/// Whether a failure isn't explained.
+const SILENT: CommandArgument<'static> = CommandArgument {
+    name: "no-explain",
+    help: "If it fails, there is no second line, also at a terminal",
+    form: ArgumentForm::Flag,
+};
+
+/// The subcommands that work on one program.
+static PROGRAM_COMMANDS: [Subcommand<'static>; 4] = [
     Subcommand {
         name: "one",
         help: "Runs one program for at most N steps and prints its registers, flags and how it stopped",
-        arguments: &[FILE, STEPS, EXPLAIN],
+        arguments: &[FILE, STEPS, EXPLAIN, SILENT],
         example: Example::One,
     },
     Subcommand {
         name: "as",
         help: "Assembles a text to a program",
-        arguments: &[TEXT, WRITTEN, EXPLAIN],
+        arguments: &[TEXT, WRITTEN, EXPLAIN, SILENT],
         example: Example::As,
     },
     Subcommand {
         name: "dis",
         help: "Prints the instructions of a program, one a line",
-        arguments: &[FILE, EXPLAIN],
+        arguments: &[FILE, EXPLAIN, SILENT],
         example: Example::Dis,
     },
     Subcommand {
         name: "nm",
         help: "Prints the symbols of a program, one a line",
-        arguments: &[FILE, EXPLAIN],
+        arguments: &[FILE, EXPLAIN, SILENT],
         example: Example::Nm,
     },
+];
+
+/// Those that start a machine.
+static MACHINE_COMMANDS: [Subcommand<'static>; 5] = [
     Subcommand {
         name: "explain",
         help: "Prints what the services of a machine may do, one a line",
-        arguments: &[CONFIG, EXPLAIN],
+        arguments: &[CONFIG, EXPLAIN, SILENT],
         example: Example::Explain,
     },
     Subcommand {
         name: "step",
         help: "Runs a machine by a script and prints its answers and a report",
-        arguments: &[CONFIG, SCRIPT, SAVED, EXPLAIN],
+        arguments: &[CONFIG, SCRIPT, SAVED, EXPLAIN, SILENT],
         example: Example::Step,
     },
     Subcommand {
         name: "run",
         help: "Runs a machine, each processor in a thread, writes its history and prints a report",
-        arguments: &[CONFIG, RECORDED, TICKS, EXPLAIN],
+        arguments: &[CONFIG, RECORDED, TICKS, EXPLAIN, SILENT],
         example: Example::Run,
     },
     Subcommand {
         name: "turns",
         help: "Runs a machine on one thread, always the same, writes its history and prints a report",
-        arguments: &[CONFIG, RECORDED, TICKS, EVENTS, TURNS, EXPLAIN],
+        arguments: &[CONFIG, RECORDED, TICKS, EVENTS, TURNS, EXPLAIN, SILENT],
         example: Example::Turns,
     },
     Subcommand {
@@ -258,37 +269,42 @@ static SUBCOMMANDS: [Subcommand<'static>; 14] = [
             STRICT,
             SAVED_FAULT,
             EXPLAIN,
+            SILENT,
         ],
         example: Example::Sweep,
     },
+];
+
+/// Those that follow a history or a script.
+static HISTORY_COMMANDS: [Subcommand<'static>; 5] = [
     Subcommand {
         name: "replay",
         help: "Runs a saved history again and prints the report",
-        arguments: &[CONFIG, LOG, EXPLAIN],
+        arguments: &[CONFIG, LOG, EXPLAIN, SILENT],
         example: Example::Replay,
     },
     Subcommand {
         name: "trace",
         help: "Runs a saved history again and prints what each record did",
-        arguments: &[CONFIG, LOG, FROM, TO, EXPLAIN],
+        arguments: &[CONFIG, LOG, FROM, TO, EXPLAIN, SILENT],
         example: Example::Trace,
     },
     Subcommand {
         name: "draw",
         help: "Runs a saved history again and prints a picture of it as SVG",
-        arguments: &[CONFIG, LOG, FROM, TO, EXPLAIN],
+        arguments: &[CONFIG, LOG, FROM, TO, EXPLAIN, SILENT],
         example: Example::Draw,
     },
     Subcommand {
         name: "look",
         help: "Looks at a saved history forward and back, by commands on standard input",
-        arguments: &[CONFIG, LOG, EXPLAIN],
+        arguments: &[CONFIG, LOG, EXPLAIN, SILENT],
         example: Example::Look,
     },
     Subcommand {
         name: "db",
         help: "Runs a machine by a script with breakpoints, and looks into it",
-        arguments: &[CONFIG, COMMANDS, EXPLAIN],
+        arguments: &[CONFIG, COMMANDS, EXPLAIN, SILENT],
         example: Example::Db,
     },
 ];
@@ -393,7 +409,8 @@ fn with_all<'a>(
 /// What the help of all subcommands ends with.
 const MORE_HELP: &str =
     "mx help SUBCOMMAND, or mx SUBCOMMAND --help, tells the words, examples and statuses of one.
-Each takes --explain: if it fails, a second line tells what was wanted.";
+If one fails, a second line says what was wanted: at a terminal, or with --explain.
+--no-explain leaves it out.";
 
 /// What `mx --version` prints beside the name.
 const VERSION: &str = "0.1";
@@ -410,9 +427,23 @@ fn program<'a>(alloc: Global) -> Command<'a>
         .disable_help_subcommand(true)
 }
 
+/// The program with the subcommands that work on one program.
+fn with_programs<'a>(alloc: Global) -> Result<Command<'a>, AllocError>
+    ensures app { IfOk result (λ c. app_of c ≡ program_app) }
+{
+    with_all(alloc, program(alloc), &PROGRAM_COMMANDS)
+}
+
+/// The same with those that start a machine.
+fn with_machines<'a>(alloc: Global) -> Result<Command<'a>, AllocError>
+    ensures app { IfOk result (λ c. app_of c ≡ machine_app) }
+{
+    with_all(alloc, with_programs(alloc)?, &MACHINE_COMMANDS)
+}
+
 /// The command line's grammar, with its help.
 pub fn grammar<'a>(alloc: Global) -> Result<Command<'a>, AllocError>
     ensures app { IfOk result (λ c. app_of c ≡ mx_grammar) }
 {
-    with_all(alloc, program(alloc), &SUBCOMMANDS)
+    with_all(alloc, with_machines(alloc)?, &HISTORY_COMMANDS)
 }

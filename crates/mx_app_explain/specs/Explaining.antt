@@ -1,5 +1,5 @@
 -- The second line of a failure: what it is about, and what was wanted (our own).
-use Rattle.std.specs.Prelude.{◌++◌, ◌||◌, ℕ, Bool, true, false, if◌then◌else◌, List, codes, Option, Some, None}
+use Rattle.std.specs.Prelude.{◌++◌, ◌||◌, ℕ, Bool, true, false, if◌then◌else◌, List, [], codes, Option, Some, None}
 use Rattle.std.specs.Str.{bytes_eq}
 use Rattle.mx_aout.specs.declared.program.FileError.TheVariants as errors
 use Rattle.mx_text.specs.declared.error.BootError.{BootError}
@@ -8,6 +8,8 @@ use Rattle.mx_app_command.specs.declared.words.CommandRequest.{CommandRequest}
 use Rattle.mx_app_command.specs.declared.words.CommandRequest.TheVariants.{One, As, Dis, Nm, Explain, Step, Run, Turns, Sweep, Replay, Trace, Draw, Look, Db}
 use Rattle.mx_app_failure.specs.declared.failure.Failure.{Failure as Kind}
 use Rattle.mx_app_failure.specs.declared.failure.Failure.TheVariants.{Refused, Faulty, Misstated, NotText, File, NoMemory}
+use Rattle.mx_app_explain.specs.Details.{config_detail, detail_told, wanted_told}
+use Rattle.mx_app_explain.specs.TextAdvice.{advice_told, advised, words_at}
 use Rattle.mx_app_explain.specs.Wanted.{problem_wanted, refusal_wanted}
 use Rattle.mx_app_explain.specs.declared.explaining.Explanation.{Explanation}
 use Rattle.mx_app_explain.specs.declared.subject.Subject.{Subject}
@@ -114,6 +116,7 @@ reads_one_program r = false
 -- what is read would be written over
 abbrev pub writes_over : CommandRequest → Bool
 writes_over (As text file) = bytes_eq text.now file.now
+writes_over (Step config script (Some log)) = bytes_eq config.now log.now || bytes_eq script.now log.now
 writes_over (Run config log ticks) = bytes_eq config.now log.now
 writes_over (Turns config log ticks None bound) = bytes_eq config.now log.now
 writes_over (Turns config log ticks (Some events) bound) = bytes_eq config.now log.now || bytes_eq events.now log.now
@@ -205,15 +208,32 @@ wanted_of r NotText m u = codes "UTF-8"
 wanted_of r File m u = file_wanted r m u
 wanted_of r NoMemory m u = codes "more of it"
 
+-- ---- the word at fault
+
+abbrev pub plain_detail : CommandRequest → Kind → Bool → Bool → List ℕ
+plain_detail r f m u = wanted_told [] (wanted_of r f m u) []
+
+-- the words of the line at fault of a text for the assembler
+abbrev pub faulty_words : Kind → Option (List ℕ) → List (List ℕ)
+faulty_words (Faulty f) (Some text) = words_at text f.line
+faulty_words f text = []
+
+-- what was wanted of a line of the text that was read first, if that is known
+abbrev pub config_detail_or : List ℕ → Option (List ℕ) → List ℕ
+config_detail_or wanted None = wanted_told [] wanted []
+config_detail_or wanted (Some detail) = detail
+
+abbrev pub detail_of : CommandRequest → Kind → Bool → Bool → Option (List ℕ) → List ℕ
+detail_of r (Misstated (lines.BadLine n)) m u (Some text) = config_detail_or (lines_wanted r (lines.BadLine n)) (config_detail text n)
+detail_of r (Faulty f) m u (Some text) = advice_told (advised f.problem (words_at text f.line))
+detail_of r f m u text = wanted_told [] (wanted_of r f m u) []
+
 -- ---- the line, without its end
 
-abbrev pub line_told : List ℕ → List ℕ → List ℕ
-line_told subject wanted = codes "mx: " ++ subject ++ codes ": wanted " ++ wanted
-
 abbrev pub explanation_told : Explanation → List ℕ
-explanation_told e = line_told (subject_told e.subject) e.wanted.now
+explanation_told e = codes "mx: " ++ subject_told e.subject ++ codes ": " ++ detail_told e.detail
 
--- WHAT EXPLAINS A FAILURE, by the request, the name of the file that was asked for last, whether it was missed, and whether a file wasn't written
-abbrev pub explained : CommandRequest → Kind → Option (List ℕ) → Bool → Bool → List ℕ
-explained r f last is_missed is_unwritten =
-    line_told (subject_of r f last is_missed is_unwritten) (wanted_of r f is_missed is_unwritten)
+-- WHAT EXPLAINS A FAILURE, by the request, the name of the file that was asked for last, whether it was missed, whether a file wasn't written, and the text that was read first
+abbrev pub explained : CommandRequest → Kind → Option (List ℕ) → Bool → Bool → Option (List ℕ) → List ℕ
+explained r f last is_missed is_unwritten text =
+    codes "mx: " ++ subject_of r f last is_missed is_unwritten ++ codes ": " ++ detail_of r f is_missed is_unwritten text

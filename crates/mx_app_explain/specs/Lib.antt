@@ -1,2 +1,9 @@
+pub mod ConfigFaults
+pub mod ConfigPlaces
+pub mod Details
 pub mod Explaining
+pub mod FoundWords
+pub mod ServiceWords
+pub mod TextAdvice
+pub mod TextWords
 pub mod Wanted

@@ -20,7 +20,7 @@ abbrev pub problem_wanted : Problem → List ℕ
 problem_wanted problems.BadByte = codes "a token, or an escape that is known; a character is written as its number, and there are no constants"
 problem_wanted problems.BadNumber = codes "a number of 32 bits, decimal or hexadecimal after 0x, as 33 or 0x21"
 problem_wanted problems.OpenText = codes "the quote that ends a text"
-problem_wanted problems.UnknownWord = codes "an instruction or a directive, in lower case; jz for je, jnz for jne, jb for jc, jnb for jae, jnbe for ja, jnl for jge, jnle for jg"
+problem_wanted problems.UnknownWord = codes "an instruction or a directive, in lower case"
 problem_wanted problems.BadOperands = codes "operands that the statement takes: registers, numbers that fit, and at most one bracket, with byte, word or dword before it if no register has the size; a comment begins with ;"
 problem_wanted problems.Twice = codes "each label, .sep, .entry and .stack once"
 problem_wanted problems.Undefined = codes "a name that a line defines"

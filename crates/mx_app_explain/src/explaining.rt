@@ -1,19 +1,26 @@
 //! The second line of a failure.
 
-ghost use Rattle.std.specs.Prelude.{◌≡◌, option_map};
-ghost use Rattle.mx_app_explain.specs.Explaining.{explained, explanation_told};
+ghost use Rattle.std.specs.Prelude.{◌≡◌, IfOk, option_map, string_bytes};
+ghost use Rattle.mx_app_explain.specs.Details.{detail_told};
+ghost use Rattle.mx_app_explain.specs.Explaining.{detail_of, explained, explanation_told, faulty_words, plain_detail};
+ghost use Rattle.mx_text.specs.Fields.{fields};
 
+use crate::detail::{Detail, Label, config_detail, line_below};
+use crate::found_word::FoundWord;
 use crate::subject::{Notes, Subject, subject_of};
+use crate::text_advice::advice_on;
+use crate::text_words::spaced;
 use crate::wanted::wanted_of;
 use mx_app_command::CommandRequest;
-use mx_app_failure::Failure;
+use mx_app_failure::{BootError, Failure};
+use std::alloc::{AllocError, Global};
 use std::fmt;
 
 /// What explains a failure: what it is about, and what was wanted.
 #[derive(Clone, Copy)]
-pub struct Explanation<'a> {
+struct Explanation<'a> {
     subject: Subject<'a>,
-    wanted: &'static str,
+    detail: Detail<'a>,
 }
 
 /// The line without its end, as `mx: SCRIPT a.script: wanted an event: take C, ..`.
@@ -24,23 +31,76 @@ impl fmt::Display for Explanation<'_> {
     ghost output = { λ explanation. Some (explanation_told explanation) };
 
     fn fmt<W: fmt::Write>(&self, f: &mut fmt::Formatter<W>) -> fmt::Result {
-        let subject = self.subject;
-        let wanted = self.wanted;
-        write!(f, "mx: {subject}: wanted {wanted}")
+        let Explanation { subject, detail } = *self;
+        write!(f, "mx: {subject}: {detail}")
     }
 }
 
-/// What explains the failure of a request, by what was noted of its files.
-pub fn explain_failure<'a>(
+/// The line at fault of a text for the assembler, with its words between spaces; empty if the failure is no
+/// such line's, or the text isn't known.
+fn faulty_words(alloc: Global, failure: Failure, text: Option<&[u8]>) -> Result<Vec<u8>, AllocError>
+    ensures { IfOk result (λ line. fields line.items ≡ faulty_words failure (option_map (λ t. t.now) text.entry)) }
+{
+    match (failure, text) {
+        (Failure::Faulty(fault), Some(text)) => {
+            match line_below(text, fault.line.saturating_sub(1)) {
+                Some(line) => spaced(alloc, line),
+                None => Ok(Vec::new(alloc)),
+            }
+        }
+        _ => Ok(Vec::new(alloc)),
+    }
+}
+
+/// What was wanted of no line that is known.
+fn plain_detail<'a>(request: CommandRequest<'_>, failure: Failure, notes: Notes<'_>) -> Detail<'a>
+    ensures { detail_told result ≡ plain_detail request.entry failure notes.entry.is_missed notes.entry.is_unwritten }
+{
+    Detail {
+        label: Label::Nowhere,
+        wanted: wanted_of(request, failure, notes),
+        found: FoundWord::Unseen,
+    }
+}
+
+/// What was wanted, by the line at fault if that is known: of a text for the assembler its words are given.
+fn detail_of<'a>(
     request: CommandRequest<'a>,
     failure: Failure,
     notes: Notes<'a>,
-) -> Explanation<'a>
-    ensures { explanation_told result ≡ explained request.entry failure
-        (option_map (λ s. s.now) notes.entry.last) notes.entry.is_missed notes.entry.is_unwritten }
+    words: &'a [u8],
+) -> Detail<'a>
+    requires { fields words.now ≡ faulty_words failure (option_map (λ t. t.now) notes.text) }
+    ensures { detail_told result ≡ detail_of request.entry failure notes.entry.is_missed
+        notes.entry.is_unwritten (option_map (λ t. t.now) notes.entry.text) }
 {
-    Explanation {
-        subject: subject_of(request, failure, notes),
-        wanted: wanted_of(request, failure, notes),
+    match (failure, notes.text) {
+        (Failure::Misstated(BootError::BadLine(number)), Some(text)) => {
+            match config_detail(text, number) {
+                Some(detail) => detail,
+                None => plain_detail(request, failure, notes),
+            }
+        }
+        (Failure::Faulty(fault), Some(_)) => advice_on(words, fault.problem).detail(),
+        _ => plain_detail(request, failure, notes),
     }
+}
+
+/// What explains the failure of a request, by what was noted of its files: a line without its end.
+pub fn explain_failure(
+    alloc: Global,
+    request: CommandRequest<'_>,
+    failure: Failure,
+    notes: Notes<'_>,
+) -> Result<String, AllocError>
+    ensures { IfOk result (λ line. string_bytes line ≡ explained request.entry failure
+        (option_map (λ s. s.now) notes.entry.last) notes.entry.is_missed notes.entry.is_unwritten
+        (option_map (λ t. t.now) notes.entry.text)) }
+{
+    let words = faulty_words(alloc, failure, notes.text)?;
+    let explanation = Explanation {
+        subject: subject_of(request, failure, notes),
+        detail: detail_of(request, failure, notes, words.as_slice()),
+    };
+    explanation.to_string(alloc)
 }

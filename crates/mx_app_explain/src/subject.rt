@@ -16,6 +16,8 @@ pub struct Notes<'a> {
     pub is_missed: bool,
     /// A file couldn't be written.
     pub is_unwritten: bool,
+    /// The text that was read first, if it is known: that of a configuration, or one for the assembler.
+    pub text: Option<&'a [u8]>,
 }
 
 /// What a failure is about.
@@ -167,6 +169,11 @@ pub(crate) fn writes_over(request: CommandRequest<'_>) -> bool
 {
     match request {
         CommandRequest::As { text, file } => text == file,
+        CommandRequest::Step {
+            config,
+            script,
+            save: Some(log),
+        } => config == log || script == log,
         CommandRequest::Run { config, log, .. } => config == log,
         CommandRequest::Turns {
             config,

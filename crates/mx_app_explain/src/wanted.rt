@@ -30,7 +30,7 @@ fn refusal_wanted(error: FileError) -> &'static str
 }
 
 /// What is wanted of a line of a text for the assembler.
-fn problem_wanted(problem: Problem) -> &'static str
+pub(crate) fn problem_wanted(problem: Problem) -> &'static str
     ensures { result.now ≡ problem_wanted problem }
 {
     match problem {
@@ -40,10 +40,7 @@ fn problem_wanted(problem: Problem) -> &'static str
         }
         Problem::BadNumber => "a number of 32 bits, decimal or hexadecimal after 0x, as 33 or 0x21",
         Problem::OpenText => "the quote that ends a text",
-        Problem::UnknownWord => {
-            "an instruction or a directive, in lower case; jz for je, jnz for jne, jb for jc, \
-             jnb for jae, jnbe for ja, jnl for jge, jnle for jg"
-        }
+        Problem::UnknownWord => "an instruction or a directive, in lower case",
         Problem::BadOperands => {
             "operands that the statement takes: registers, numbers that fit, and at most one \
              bracket, with byte, word or dword before it if no register has the size; a comment \

@@ -1,5 +1,13 @@
+mod Begun
+mod Lists
+mod Marked
+mod Halting
+mod Coming
 mod SoFar
 mod Moving
 mod Traced
 mod Starting
+mod Alike
+mod Halted
 mod Kernels
+mod Images

@@ -1,4 +1,17 @@
+pub mod Verbs
+pub mod PointRequests
+pub mod Addresses
+pub mod Shown
+pub mod Requests
+pub mod Watches
+pub mod Points
+pub mod Marks
+pub mod Changes
+pub mod Searches
 pub mod Places
 pub mod Moves
+pub mod Slots
+pub mod Showing
+pub mod Seeking
 pub mod Answers
 pub mod Sessions

@@ -1,7 +1,7 @@
 -- Where requests lead (our own).
 use Rattle.std.specs.Prelude.{ℕ, zero, suc, ◌+◌, ◌-◌, ◌==◌, ◌&&◌, Bool, if◌then◌else◌}
-use Rattle.mx_look_line.specs.declared.position_word.PositionWord.{PositionWord}
-use Rattle.mx_look_line.specs.declared.position_word.PositionWord.TheVariants.{Below, End}
+use Rattle.mx_app_look.specs.declared.position_word.PositionWord.{PositionWord}
+use Rattle.mx_app_look.specs.declared.position_word.PositionWord.TheVariants.{Below, End}
 use Rattle.mx_walk.specs.declared.positions.Position.{Position}
 use Rattle.mx_walk.specs.Positions.{is_position, is_up_to, next_position, position_before}
 use Rattle.mx_walk.specs.Walks.{Walk}

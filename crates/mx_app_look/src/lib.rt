@@ -1,12 +1,29 @@
 //! `mx look`: a saved history, looked at forward and back.
 #![tactic(auto)]
 
+mod address_word;
 mod answering;
+mod changes;
+mod halt_laws;
 mod laws;
+mod marks;
 mod moves;
 mod places;
+mod point_request;
+mod points;
+mod position_word;
+mod request;
+mod searches;
+mod seeking;
 mod session;
+mod showing;
+mod shown;
+mod sight;
+mod slots;
 mod telling;
+mod verb;
+mod watches;
 
+pub use halt_laws::{one_halt, searches_return};
 pub use laws::{one_session, why_is_traced};
 pub use session::{SessionNames, look};

@@ -4,7 +4,7 @@ ghost use Rattle.std.specs.Prelude.{◌≡◌, true};
 ghost use Rattle.mx_walk.specs.Positions.{IsPosition, IsUpTo};
 ghost use Rattle.mx_app_look.specs.Moves.{back_from, can_go, forward_from, position_asked, steps_back, steps_on, up_to_last};
 
-use mx_look_line::PositionWord;
+use crate::position_word::PositionWord;
 use mx_walk::{Position, Walker, is_position, is_up_to, next_event, position_before};
 
 /// A position, or the last one if that is above it.

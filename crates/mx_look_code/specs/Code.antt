@@ -7,9 +7,11 @@ use Rattle.mx_aout.specs.declared.program.Symbol.{Symbol}
 use Rattle.mx_exec.specs.declared.image.Image.{Image}
 use Rattle.mx_exec.specs.Image.{code_bytes, dword_sum}
 use Rattle.mx_insn_words.specs.Numbers.{eight_digits, hexadecimal}
+use Rattle.mx_dis.specs.declared.part.Part.{Part}
 use Rattle.mx_dis.specs.declared.part.Part.TheVariants.{Instruction, Byte}
 use Rattle.mx_dis.specs.Listing.{part_text}
 use Rattle.mx_dis.specs.Names.{name_text}
+use Rattle.mx_dis.specs.Parting.{part_size}
 use Rattle.mx_look_code.specs.Nearest.{nearest_symbol}
 
 -- ---- the symbol
@@ -22,25 +24,33 @@ abbrev pub place_text_if : ℕ → Option Symbol → List ℕ
 place_text_if at None = []
 place_text_if at (Some s) = place_text at s
 
-abbrev pub symbol_text : ℕ → List Symbol → List ℕ
-symbol_text at symbols = place_text_if at (nearest_symbol at symbols)
-
 -- ---- the instruction
 
 -- the bytes from an address on that an instruction there can have
 abbrev pub code_front : Image → ℕ → List ℕ
 code_front m at = take 15 (drop at (code_bytes m))
 
-abbrev pub part_by : ℕ → ℕ → Result (Insn × ℕ) DecodeFault → List ℕ
-part_by at b (Ok p) = part_text (dword_sum at p.1) (Instruction p.0 p.1)
-part_by at b (Err e) = part_text (dword_sum at 1) (Byte b)
+abbrev pub part_by : ℕ → Result (Insn × ℕ) DecodeFault → Part
+part_by b (Ok p) = Instruction p.0 p.1
+part_by b (Err e) = Byte b
 
 -- what a listing has of the first of these bytes; nothing where there is none
-abbrev pub part_of_front : ℕ → List ℕ → List ℕ
-part_of_front at [] = []
-part_of_front at (b ∷ bs) = part_by at b (front (b ∷ bs))
+abbrev pub part_of_front : List ℕ → Option Part
+part_of_front [] = None
+part_of_front (b ∷ bs) = Some (part_by b (front (b ∷ bs)))
+
+unfoldable pub code_part : Image → ℕ → Option Part
+code_part m at = part_of_front (code_front m at)
+
+abbrev pub part_text_if : ℕ → Option Part → List ℕ
+part_text_if at None = []
+part_text_if at (Some p) = part_text (dword_sum at (part_size p)) p
 
 -- ---- THE LINE
 
+-- an address, the symbol there, and what a listing has there
+unfoldable pub code_text : Option Symbol → Option Part → ℕ → List ℕ
+code_text symbol part at = eight_digits at ++ codes " " ++ place_text_if at symbol ++ part_text_if at part
+
 unfoldable pub code_line : List Symbol → Image → ℕ → List ℕ
-code_line symbols m at = eight_digits at ++ codes " " ++ symbol_text at symbols ++ part_of_front at (code_front m at) ++ codes "\n"
+code_line symbols m at = code_text (nearest_symbol at symbols) (code_part m at) at ++ codes "\n"

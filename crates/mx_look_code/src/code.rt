@@ -2,11 +2,12 @@
 
 ghost use Rattle.std.specs.Prelude.{◌≡◌, ◌++◌, OnOk, codes, string_bytes, option_copied};
 ghost use Rattle.mx_dis.specs.Names.{name_text, visible_byte};
-ghost use Rattle.mx_look_code.specs.Code.{code_front, code_line, part_of_front, place_text, symbol_text};
+ghost use Rattle.mx_look_code.specs.Code.{code_line, code_part, code_text, part_text_if, place_text};
 
 use crate::nearest::nearest_symbol;
 use mx_aout::Symbol;
 use mx_decode::decode;
+use mx_dis::Part;
 use mx_exec::Image;
 use mx_insn_words::{push_eight_digits, push_number, push_statement};
 use std::alloc::AllocError;
@@ -20,7 +21,7 @@ fn visible(byte: u8) -> u8
 }
 
 /// Appends a symbol's name up to its first zero byte.
-fn push_name(out: &mut String, name: &[u8]) -> Result<(), AllocError>
+pub(crate) fn push_name(out: &mut String, name: &[u8]) -> Result<(), AllocError>
     ensures { OnOk result (string_bytes out.new ≡ string_bytes out.old ++ name_text name.now) }
 {
     for byte in name {
@@ -46,33 +47,56 @@ fn push_place(out: &mut String, symbol: &Symbol, at: u32) -> Result<(), AllocErr
     out.push_str(" ")
 }
 
-/// Appends where an address lies by the nearest symbol of the text, if there is one.
-fn push_symbol(out: &mut String, symbols: &[Symbol], at: u32) -> Result<(), AllocError>
+/// Appends the instruction or the byte at an address, as a listing has it; nothing if the code ends there.
+fn push_part(out: &mut String, part: Option<Part>, at: u32) -> Result<(), AllocError>
     ensures { OnOk result (string_bytes out.new ≡ string_bytes out.old
-        ++ symbol_text at symbols.now) }
+        ++ part_text_if at part) }
 {
-    match nearest_symbol(symbols, at) {
-        Some(symbol) => push_place(out, symbol, at),
+    match part {
+        Some(Part::Instruction(insn, size)) => {
+            push_statement(out, &insn, at.wrapping_add(u32::from(size)))
+        }
+        Some(Part::Byte(byte)) => {
+            out.push_str(".data1 ")?;
+            push_number(out, u32::from(byte))
+        }
         None => Ok(()),
     }
 }
 
-/// Appends the instruction that these bytes, at an address, begin with, or the first as data; nothing if
-/// there are none.
-fn push_part(out: &mut String, at: u32, front: &[u8]) -> Result<(), AllocError>
-    ensures { OnOk result (string_bytes out.new ≡ string_bytes out.old
-        ++ part_of_front at front.now) }
+/// What a listing has of the bytes that are now at an address of a process: an instruction, or a byte with
+/// which none begins; nothing if the code ends there.
+#[tactic(auto, unfolding(crate::specs::Code::code_part))]
+pub fn code_part(image: &Image, at: u32) -> Option<Part>
+    ensures { result ≡ code_part image.now at }
 {
-    let Some(byte) = front.first() else {
-        return Ok(());
-    };
+    let front = image.code_segment().copy_of_front(at);
+    let front = front.as_slice();
+    let byte = front.first()?;
     match decode(front) {
-        Ok((insn, size)) => push_statement(out, &insn, at.wrapping_add(u32::from(size))),
-        Err(_) => {
-            out.push_str(".data1 ")?;
-            push_number(out, u32::from(*byte))
-        }
+        Ok((insn, size)) => Some(Part::Instruction(insn, size)),
+        Err(_) => Some(Part::Byte(*byte)),
     }
+}
+
+/// Appends the code at an address: the address, the symbol that it lies at or after, and what a listing has
+/// there.
+#[tactic(auto, unfolding(crate::specs::Code::code_text))]
+pub fn push_code(
+    out: &mut String,
+    symbol: Option<&Symbol>,
+    part: Option<Part>,
+    at: u32,
+) -> Result<(), AllocError>
+    ensures { OnOk result (string_bytes out.new ≡ string_bytes out.old
+        ++ code_text (option_copied symbol.entry) part at) }
+{
+    push_eight_digits(out, at)?;
+    out.push_str(" ")?;
+    if let Some(symbol) = symbol {
+        push_place(out, symbol, at)?;
+    }
+    push_part(out, part, at)
 }
 
 /// Appends the line of the code at an address of a process: the address, the nearest of its program's
@@ -87,10 +111,6 @@ pub fn push_code_line(
     ensures { OnOk result (string_bytes out.new ≡ string_bytes out.old
         ++ code_line symbols.now image.now at) }
 {
-    push_eight_digits(out, at)?;
-    out.push_str(" ")?;
-    push_symbol(out, symbols, at)?;
-    let front = image.code_segment().copy_of_front(at);
-    push_part(out, at, front.as_slice())?;
+    push_code(out, nearest_symbol(symbols, at), code_part(image, at), at)?;
     out.push_str("\n")
 }

@@ -9,6 +9,7 @@ use Rattle.mx_look_facts.specs.declared.slot_glances.SlotGlance.{SlotGlance}
 use Rattle.mx_look_facts.specs.declared.glance.CpuGlance.{CpuGlance}
 use Rattle.mx_look_facts.specs.declared.glance.Glance.{Glance}
 use Rattle.mx_look_facts.specs.SlotDoing.{doing_of}
+use Rattle.mx_look_facts.specs.Faults.{fault_glances}
 use Rattle.mx_look_facts.specs.Images.{image_glance}
 use Rattle.mx_look_facts.specs.Kept.{last_byte, latest_deliveries}
 
@@ -54,6 +55,7 @@ abbrev pub glance_of : World → Glance
 glance_of w = record {
   slots = slot_glances w.table w.services;
   cpus = cpu_glances w;
+  faults = fault_glances w;
   owners = w.table.devices.owners;
   uptime = w.table.uptime;
   written = w.table.devices.console.count;

@@ -1,6 +1,7 @@
 pub mod SlotDoing
 pub mod Images
 pub mod Kept
+pub mod Faults
 pub mod Glances
 pub mod Step
 pub mod Doings

@@ -6,15 +6,19 @@ use Rattle.mx_machine.specs.declared.history.Recorded.TheVariants.{Take, Back, L
 use Rattle.mx_look_facts.specs.declared.slot_glances.SlotGlance.{SlotGlance}
 use Rattle.mx_proc.specs.EndpointNumbers.{slot_of}
 use Rattle.mx_look_facts.specs.declared.glance.CpuGlance.{CpuGlance}
+use Rattle.mx_look_facts.specs.declared.faults.FaultGlance.{FaultGlance}
 use Rattle.mx_look_facts.specs.declared.glance.Glance.{Glance}
 use Rattle.mx_look_facts.specs.declared.step.Step.{Step}
 
--- a slot, a processor, the owner of a line
+-- a slot, a processor, the fault of its process, the owner of a line
 abbrev pub slot_in : Glance → ℕ → Option SlotGlance
 slot_in g s = if nat_lt s 32 then slice_index_or g.slots s None else None
 
 abbrev pub cpu_in : Glance → ℕ → Option CpuGlance
 cpu_in g a = if nat_lt a 8 then slice_index_or g.cpus a None else None
+
+abbrev pub fault_in : Glance → ℕ → Option FaultGlance
+fault_in g a = if nat_lt a 8 then slice_index_or g.faults a None else None
 
 abbrev pub owner_in : Glance → ℕ → Option ℕ
 owner_in g l = if nat_lt l 16 then slice_index_or g.owners l None else None

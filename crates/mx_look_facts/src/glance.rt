@@ -5,6 +5,7 @@ ghost use Rattle.mx_machine.specs.World.{held_by};
 ghost use Rattle.mx_machine.specs.Machine.{world_of};
 ghost use Rattle.mx_look_facts.specs.Glances.{glance_of, held_glance, cpu_glance, cpu_glances};
 
+use crate::faults::{FaultGlance, look_at_faults};
 use crate::images::{ImageGlance, image_glance};
 use crate::kept::{last_byte, look_at_deliveries};
 use crate::slot_glances::{SlotGlance, look_at_slots};
@@ -28,6 +29,8 @@ pub struct CpuGlance {
 pub struct Glance {
     pub slots: [Option<SlotGlance>; 32],
     pub cpus: [Option<CpuGlance>; 8],
+    /// The faults of the processes on the processors.
+    pub faults: [Option<FaultGlance>; 8],
     /// Who owns which interrupt line.
     pub owners: [Option<u8>; 16],
     /// The ticks since boot.
@@ -81,6 +84,7 @@ impl Glance {
         let mut glance = Glance {
             slots: [None; 32],
             cpus: [None; 8],
+            faults: [None; 8],
             owners: [None; 16],
             uptime: 0,
             written: 0,
@@ -97,6 +101,7 @@ impl Glance {
         ensures { self.new ≡ glance_of (world_of machine.now) }
     {
         look_at_cpus(&mut self.cpus, machine);
+        look_at_faults(&mut self.faults, machine);
         let kernel = machine.kernel();
         kernel.opened();
         let table = kernel.table();

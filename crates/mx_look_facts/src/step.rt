@@ -2,9 +2,9 @@
 
 ghost use Rattle.std.specs.Prelude.{◌≡◌, None, Some, MatchOption};
 ghost use Rattle.std.specs.Option.{option_map};
-ghost use Rattle.mx_look_facts.specs.Step.{slot_in, cpu_in, owner_in, slot_held, held_before, held_after, about};
+ghost use Rattle.mx_look_facts.specs.Step.{slot_in, cpu_in, fault_in, owner_in, slot_held, held_before, held_after, about};
 
-use crate::{CpuGlance, Glance, SlotGlance};
+use crate::{CpuGlance, FaultGlance, Glance, SlotGlance};
 use mx_machine::Recorded;
 use mx_proc::slot_of;
 
@@ -42,6 +42,20 @@ pub fn cpu_in(glance: &Glance, cpu: u8) -> Option<&CpuGlance>
         return None;
     }
     match &glance.cpus[cpu as usize] {
+        Some(seen) => Some(seen),
+        None => None,
+    }
+}
+
+/// The fault of the process on a processor, if its last step ended with one.
+pub fn fault_in(glance: &Glance, cpu: u8) -> Option<&FaultGlance>
+    ensures { MatchOption result (fault_in glance.now cpu ≡ None) (λ seen. fault_in glance.now cpu
+        ≡ Some seen.now) }
+{
+    if cpu as usize >= glance.faults.len() {
+        return None;
+    }
+    match &glance.faults[cpu as usize] {
         Some(seen) => Some(seen),
         None => None,
     }

@@ -5,6 +5,7 @@ use Rattle.std.specs.Fmt.{decimal}
 use Rattle.mx_look_facts.specs.declared.slot_glances.SlotGlance.{SlotGlance}
 use Rattle.mx_look_facts.specs.declared.step.Step.{Step}
 use Rattle.mx_look_facts.specs.Step.{slot_in}
+use Rattle.mx_look_trace.specs.Faults.{fault_line}
 use Rattle.mx_look_trace.specs.Trace.{head_line, change_line, delivery_line, kept_line, console_line}
 use Rattle.mx_look_picture.specs.declared.scene_values.Scene.{Scene}
 use Rattle.mx_look_picture.specs.declared.scene_values.Standing.{Standing}
@@ -22,7 +23,7 @@ kept_hint x s place = kept_by x place (slot_in x.before s) (slot_in x.after s)
 
 -- a line of the trace
 unfoldable pub step_line : Step → Hint → List ℕ
-step_line x (Record i) = head_line x
+step_line x (Record i) = head_line x ++ fault_line x
 step_line x (Change i s) = change_line x s
 step_line x (Delivery i s) = if nat_lt s 32 then delivery_line x s else []
 step_line x (Kept i s place) = kept_hint x s place

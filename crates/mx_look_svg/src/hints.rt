@@ -12,7 +12,9 @@ use crate::shown::push_shown;
 use crate::texts::push_standing;
 use mx_look_facts::slot_in;
 use mx_look_picture::{Hint, Scene, Standing, Step};
-use mx_look_trace::{push_change, push_console_line, push_delivery, push_head, push_kept};
+use mx_look_trace::{
+    push_change, push_console_line, push_delivery, push_fault_line, push_head, push_kept,
+};
 use mx_print_report::push_decimal;
 use std::alloc::{AllocError, Global};
 
@@ -33,7 +35,10 @@ fn push_step_line(out: &mut Vec<u8>, step: &Step, hint: Hint) -> Result<(), Allo
     ensures { OnOk result (out.new.items ≡ out.old.items ++ step_line step.now hint) }
 {
     match hint {
-        Hint::Record(_) => push_head(out, step),
+        Hint::Record(_) => {
+            push_head(out, step)?;
+            push_fault_line(out, step)
+        }
         Hint::Change(_, slot) => push_change(out, step, slot),
         Hint::Delivery(_, slot) if slot < 32 => push_delivery(out, step, slot),
         Hint::Kept(_, slot, place) => push_kept_hint(out, step, slot, place),

@@ -41,12 +41,13 @@ fn push_escaped(out: &mut Vec<u8>, byte: u8) -> Result<(), AllocError>
     }
 }
 
-/// Whether a byte of a line isn't shown: the end of the line, and a space after a space.
+/// Whether a byte of a text isn't shown: the end of its last line, and a space after a space.
 fn is_left_out(line: &[u8], index: usize) -> bool
     requires { index < length line.now }
     ensures { result ≡ is_left_out line.now index }
 {
-    line[index] == b'\n' || index > 0 && line[index] == b' ' && line[index - 1] == b' '
+    line[index] == b'\n' && index + 1 == line.len()
+        || index > 0 && line[index] == b' ' && line[index - 1] == b' '
 }
 
 /// Appends a byte of a line, if it is shown.

@@ -8,7 +8,8 @@ use Rattle.mx_look_facts.specs.Going.{calls_receive, gone_on, got, is_acted, is_
 use Rattle.mx_look_facts.specs.Deliveries.{delivery_to, got_from, is_new_bit}
 use Rattle.mx_look_facts.specs.Slots.{has_changed, is_renewed}
 use Rattle.mx_look_facts.specs.Step.{slot_in}
-use Rattle.mx_look_trace.specs.Trace.{change_line, changed_if, delivery_line, delivery_line_by, kept_line, kept_lines, kept_lines_by, margin, new_quantum, quantum_line, source_text}
+use Rattle.mx_look_trace.specs.Trace.{change_line, changed_if, delivery_line, delivery_line_by, kept_line, kept_lines, kept_lines_by, new_quantum, quantum_line, source_text}
+use Rattle.mx_look_trace.specs.Numbers.{margin}
 use Rattle.mx_look_trace.specs.Words.{who_of}
 
 either : {A : Type 0} (b : Bool) (x y : A) → x ≡ y → cond b x y ≡ y

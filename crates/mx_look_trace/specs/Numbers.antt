@@ -3,8 +3,13 @@ use Rattle.std.specs.Prelude.{ℕ, zero, suc, ◌/◌, ◌%◌, ◌==◌, false,
 use Rattle.std.specs.List.{flat_map}
 use Rattle.std.specs.Fmt.{decimal, signed_decimal, digit_glyph}
 use Rattle.std.specs.Int.{w32, cast_signed}
+use Rattle.mx_look_facts.specs.declared.step.Step.{Step}
 use Rattle.mx_proc.specs.Errors.{errno_bits}
 use Rattle.mx_proc.specs.declared.errors.Errno.TheVariants.{NotPermitted, BadAddress, Invalid, Locked, BadEndpoint, Denied, Dead, NotReady, BadRequest}
+
+-- a record's number, before a line of what came of it
+unfoldable pub margin : Step → List ℕ
+margin x = decimal x.number ++ codes "   "
 
 -- a byte in one hexadecimal digit or two
 unfoldable pub hex_text : ℕ → List ℕ

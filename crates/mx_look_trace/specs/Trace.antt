@@ -22,7 +22,8 @@ use Rattle.mx_look_facts.specs.Going.{gone_on}
 use Rattle.mx_look_facts.specs.Deliveries.{delivery_to, is_new_bit}
 use Rattle.mx_look_facts.specs.Calls.{kernel_call}
 use Rattle.mx_look_facts.specs.Slots.{has_changed, has_rung, is_renewed}
-use Rattle.mx_look_trace.specs.Numbers.{hex_text, spaced_numbers, used_count, result_text}
+use Rattle.mx_look_trace.specs.Faults.{fault_line}
+use Rattle.mx_look_trace.specs.Numbers.{hex_text, margin, spaced_numbers, used_count, result_text}
 use Rattle.mx_look_trace.specs.Words.{who, who_of, party_text, doing_text}
 use Rattle.mx_look_trace.specs.Reasons.{refusal_part}
 use Rattle.mx_look_trace.specs.KernelCalls.{request_text, answer_text}
@@ -100,9 +101,6 @@ unfoldable pub head_line : Step → List ℕ
 head_line x = decimal x.number ++ codes " " ++ decimal x.actor ++ codes " " ++ event_text x.event ++ codes ": " ++ about_text x ++ codes "\n"
 
 -- ---- what came of it
-
-unfoldable pub margin : Step → List ℕ
-margin x = decimal x.number ++ codes "   "
 
 -- a kernel call's caller that goes on has its answer in its buffer
 abbrev pub answered_by : Step → SlotGlance → Option (List ℕ) → Option (List ℕ) → List ℕ
@@ -226,4 +224,4 @@ unfoldable pub change_lines : Step → List ℕ
 change_lines x = of_slots (λ s. change_line x s ++ quantum_line x s)
 
 unfoldable pub record_text : Step → List ℕ
-record_text x = head_line x ++ answer_line x ++ console_line x ++ alarm_lines x ++ delivery_lines x ++ all_kept_lines x ++ change_lines x
+record_text x = head_line x ++ fault_line x ++ answer_line x ++ console_line x ++ alarm_lines x ++ delivery_lines x ++ all_kept_lines x ++ change_lines x

@@ -1,6 +1,7 @@
 //! The trace: what a record of a history did, in words.
 #![tactic(auto)]
 
+mod faults;
 mod heads;
 mod kernel_calls;
 mod lines;
@@ -10,6 +11,7 @@ mod reasons;
 mod record;
 mod words;
 
+pub use faults::push_fault_line;
 pub use heads::{push_call, push_event, push_head};
 pub use kernel_calls::request_name;
 pub use lines::{push_change, push_console_line, push_delivery};

@@ -2,7 +2,8 @@
 
 ghost use Rattle.std.specs.Prelude.{◌≡◌, ◌<◌, ◌++◌, OnOk};
 ghost use Rattle.mx_look_facts.specs.Step.{slot_in};
-ghost use Rattle.mx_look_trace.specs.Trace.{margin, answered, answer_line, console_text, console_line, alarm_line, kind_text, told_words, delivered_words, delivery_line, result_part, changed, change_line, quantum_line};
+ghost use Rattle.mx_look_trace.specs.Numbers.{margin};
+ghost use Rattle.mx_look_trace.specs.Trace.{answered, answer_line, console_text, console_line, alarm_line, kind_text, told_words, delivered_words, delivery_line, result_part, changed, change_line, quantum_line};
 
 use crate::kernel_calls::push_answer;
 use crate::numbers::{push_hex, push_result, push_spaced, used_count};
@@ -16,7 +17,7 @@ use mx_print_report::push_decimal;
 use std::alloc::AllocError;
 
 /// Appends a record's number, and three spaces.
-#[tactic(auto, unfolding(crate::specs::Trace::margin))]
+#[tactic(auto, unfolding(crate::specs::Numbers::margin))]
 pub(crate) fn push_margin(out: &mut Vec<u8>, step: &Step) -> Result<(), AllocError>
     ensures { OnOk result (out.new.items ≡ out.old.items ++ margin step.now) }
 {

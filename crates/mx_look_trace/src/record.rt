@@ -4,6 +4,7 @@ ghost use Rattle.std.specs.Prelude.{◌≡◌, ◌++◌, OnOk, is_some};
 ghost use Rattle.mx_look_facts.specs.Step.{slot_in};
 ghost use Rattle.mx_look_trace.specs.Trace.{alarm_lines, delivery_lines, all_kept_lines, change_lines, record_text};
 
+use crate::faults::push_fault_line;
 use crate::heads::push_head;
 use crate::lines::{
     push_alarm, push_answer_line, push_change, push_console_line, push_delivery, push_quantum,
@@ -72,6 +73,7 @@ pub fn push_record(out: &mut Vec<u8>, step: &Step) -> Result<(), AllocError>
     ensures { OnOk result (out.new.items ≡ out.old.items ++ record_text step.now) }
 {
     push_head(out, step)?;
+    push_fault_line(out, step)?;
     push_answer_line(out, step)?;
     push_console_line(out, step)?;
     push_alarms(out, step)?;

@@ -3,8 +3,8 @@
 
 use crate::files::{SUM, reader};
 use mx_app::{
-    Channels, Complaint, Failure, InputLines, KeptFile, MemoryWriter, NamedFiles, NotingFiles,
-    NotingReader, perform_words,
+    Channels, Complaint, Ending, Failure, InputLines, KeptFile, MemoryWriter, NamedFiles,
+    NoProgress, NotingFiles, NotingReader, perform_words,
 };
 use std::alloc::Global;
 use std::fmt::Write as _;
@@ -214,10 +214,8 @@ static DONE: &[Done] = &[
         file: Some(("new.log", b"rules 2\n")),
     },
     Done {
-        name: "turns: outside events, the first refused, and then ticks",
-        words: &[
-            "mx", "turns", "pair", "new.log", "--events", "outside", "--ticks", "2",
-        ],
+        name: "turns: outside events, the first refused",
+        words: &["mx", "turns", "pair", "new.log", "--events", "outside"],
         status: 0,
         printed: "0 drv 0 receiving any 4 8\n1 cli 1 down kill 7 16\nuptime 3\nconsole 0\n",
         file: Some((
@@ -326,6 +324,7 @@ static DONE: &[Done] = &[
         words: &["mx", "trace", "one", "whole", "--from", "3"],
         status: 0,
         printed: "3 0 take: a 0 budget 2\n4 0 back 1: a 0 fault 13\n\
+                  4   at 0000000a no code: the code ends at 0000000a\n\
                   4   a 0: out -> down fault 13\n",
         file: None,
     },
@@ -503,6 +502,16 @@ static FAILED: &[Failed] = &[
         words: &["mx", "turns", "one", "new.log", "--events", "not_outside"],
         status: 1,
         told: "mx: 73 BadRecord line 2\n",
+    },
+    Failed {
+        name: "turns: ticks and outside events",
+        words: &[
+            "mx", "turns", "one", "new.log", "--ticks", "3", "--events", "outside",
+        ],
+        status: 2,
+        told: "error: the argument '--ticks <T>' cannot be used with '--events <EVENTS>'\n\n\
+               Usage: mx turns [OPTIONS] <CONFIG> <LOG>\n\n\
+               For more information, try '--help'.\n",
     },
     Failed {
         name: "turns: no number of turns",
@@ -887,16 +896,22 @@ static EXPLAINED: &[Failed] = &[
         told: "mx: 80 File\nmx: FILE nothing: wanted a file that can be read\n",
     },
     Failed {
+        name: "step: a script isn't written over by its history",
+        words: &["mx", "step", "one", "kills", "--save", "kills", "--explain"],
+        status: 3,
+        told: "mx: 80 File\nmx: LOG kills: wanted another file than the one that is read\n",
+    },
+    Failed {
+        name: "step: a configuration isn't written over",
+        words: &["mx", "step", "one", "kills", "--explain", "--save", "one"],
+        status: 3,
+        told: "mx: 80 File\nmx: LOG one: wanted another file than the one that is read\n",
+    },
+    Failed {
         name: "db: a configuration with a bad line",
         words: &["mx", "db", "bad", "look", "--explain"],
         status: 1,
-        told: "mx: 70 BadLine line 2\nmx: CONFIG bad: \
-               wanted an item: cpus 1 to 8, others 1 to 4, log 1 to 1048576, rules 1 or 2, \
-               or service NAME FILE traps T send S calls C level L best B quantum Q \
-               restarts R, with T, S, C hexadecimal without 0x, L 0 to 14, B 0 to L, \
-               Q 1 to 65535, R 0 to 1048575, NAME at most 8 bytes and no register; a \
-               line feed alone at the end, no byte order mark; and at least one \
-               service\n",
+        told: "mx: 70 BadLine line 2\nmx: CONFIG bad: cpus: wanted 1 to 8, stands \"9\"\n",
     },
 ];
 
@@ -906,11 +921,21 @@ fn perform<R: Threads + Wait + Clock + Sync>(
     rt: &R,
     alloc: Global,
     words: &'static [&'static str],
+    shows: bool,
     told: &mut String,
 ) -> u8 {
     let mut lines = InputLines::new(b"".as_slice());
-    match perform_words(rt, alloc, words, channels, &mut lines, false) {
-        Ok(status) => status,
+    match perform_words(
+        rt,
+        alloc,
+        words,
+        channels,
+        &mut lines,
+        &mut NoProgress::new(),
+        false,
+        shows,
+    ) {
+        Ok(done) => done.status,
         Err(complaint) => {
             let _ = write!(told, "{complaint}");
             complaint.status()
@@ -936,14 +961,14 @@ fn is_kept(files: &[KeptFile], wanted: Option<(&str, &[u8])>) -> bool {
 fn is_done<R: Threads + Wait + Clock + Sync>(rt: &R, alloc: Global, row: &Done) -> bool {
     let mut channels = channels(alloc, None);
     let mut told = String::new(alloc);
-    perform(&mut channels, rt, alloc, row.words, &mut told) == row.status
+    perform(&mut channels, rt, alloc, row.words, false, &mut told) == row.status
         && told.is_empty()
         && is_printed(&channels.out, row.printed)
         && is_kept(channels.files.writer().files(), row.file)
 }
 
 /// Whether words fail so, with nothing printed or written, if what takes bytes is broken in this
-/// way; a mistake in the words has lines of clap's own.
+/// way; most mistakes in the words have lines of clap's own.
 fn is_told<R: Threads + Wait + Clock + Sync>(
     rt: &R,
     alloc: Global,
@@ -952,8 +977,8 @@ fn is_told<R: Threads + Wait + Clock + Sync>(
 ) -> bool {
     let mut channels = channels(alloc, refusal);
     let mut told = String::new(alloc);
-    let ended = perform(&mut channels, rt, alloc, row.words, &mut told);
-    let is_told = if row.status == 2 {
+    let ended = perform(&mut channels, rt, alloc, row.words, false, &mut told);
+    let is_told = if row.status == 2 && row.told.is_empty() {
         told.as_str().starts_with("error: ")
     } else {
         told.as_str() == row.told
@@ -989,6 +1014,36 @@ fn failures_explained(rt: HostRuntime) -> Result<(), Fail> {
         assert!(rt; is_told(&rt, rt.alloc(), None, row), "{name}");
     }
     Ok(())
+}
+
+/// Words that fail, with standard error as a terminal or not, and whether the failure is explained.
+static TERMINALS: &[(&[&str], bool, bool)] = &[
+    (&["mx", "nm", "nothing"], false, false),
+    (&["mx", "nm", "nothing"], true, true),
+    (&["mx", "nm", "nothing", "--explain"], false, true),
+    (&["mx", "nm", "nothing", "--explain"], true, true),
+    (&["mx", "nm", "nothing", "--no-explain"], false, false),
+    (&["mx", "nm", "--no-explain", "nothing"], true, false),
+    (
+        &["mx", "nm", "nothing", "--explain", "--no-explain"],
+        true,
+        false,
+    ),
+];
+
+#[test]
+fn terminals_explained(rt: HostRuntime) {
+    for (words, shows, is_explained) in TERMINALS {
+        let mut channels = channels(rt.alloc(), None);
+        let mut told = String::new(rt.alloc());
+        let status = perform(&mut channels, &rt, rt.alloc(), words, *shows, &mut told);
+        let wanted = if *is_explained {
+            "mx: 80 File\nmx: FILE nothing: wanted a file that can be read\n"
+        } else {
+            "mx: 80 File\n"
+        };
+        assert!(rt; status == 3 && told.as_str() == wanted, "{told}");
+    }
 }
 
 /// A history that can't be written is reported by its word, and so is an output that takes nothing.
@@ -1039,6 +1094,79 @@ static UNWRITABLE: &[Failed] = &[
         told: "mx: 80 File\nmx: standard output: wanted room for what is printed\n",
     },
 ];
+
+/// Words that make turns, and how the turns end.
+struct Turned {
+    name: &'static str,
+    words: &'static [&'static str],
+    ending: Ending,
+}
+
+static TURNED: &[Turned] = &[
+    Turned {
+        name: "up to rest",
+        words: &["mx", "turns", "pair", "new.log"],
+        ending: Ending::Rest,
+    },
+    Turned {
+        name: "none",
+        words: &["mx", "turns", "pair", "new.log", "--turns", "0"],
+        ending: Ending::Turns,
+    },
+    Turned {
+        name: "as many as up to rest",
+        words: &["mx", "turns", "pair", "new.log", "--turns", "5"],
+        ending: Ending::Rest,
+    },
+    Turned {
+        name: "so many",
+        words: &["mx", "turns", "restart", "new.log", "--turns", "20"],
+        ending: Ending::Turns,
+    },
+    Turned {
+        name: "as many as the history has room for",
+        words: &["mx", "turns", "restart", "new.log", "--turns", "32"],
+        ending: Ending::Turns,
+    },
+    Turned {
+        name: "up to a full history",
+        words: &["mx", "turns", "restart", "new.log", "--turns", "40"],
+        ending: Ending::Full,
+    },
+    Turned {
+        name: "a history too full for a take, and so for a tick",
+        words: &["mx", "turns", "two_full", "new.log", "--ticks", "1"],
+        ending: Ending::Full,
+    },
+];
+
+/// Whether the turns that words ask for end so.
+fn is_ended<R: Threads + Wait + Clock + Sync>(rt: &R, alloc: Global, row: &Turned) -> bool {
+    let mut channels = channels(alloc, None);
+    let mut lines = InputLines::new(b"".as_slice());
+    match perform_words(
+        rt,
+        alloc,
+        row.words,
+        &mut channels,
+        &mut lines,
+        &mut NoProgress::new(),
+        false,
+        false,
+    ) {
+        Ok(done) => done.ending == Some(row.ending),
+        Err(_) => false,
+    }
+}
+
+#[test]
+fn turns_end(rt: HostRuntime) -> Result<(), Fail> {
+    for row in TURNED {
+        let name = row.name;
+        assert!(rt; is_ended(&rt, rt.alloc(), row), "{name}");
+    }
+    Ok(())
+}
 
 /// What takes bytes is broken, or has no memory for them.
 #[test]
@@ -1112,7 +1240,7 @@ fn is_unwritten<R: Threads + Wait + Clock + Sync>(rt: &R, alloc: Global, row: &U
         io::ErrorKind::PermissionDenied,
     ));
     let mut told = String::new(alloc);
-    let status = perform(&mut channels, rt, alloc, row.words, &mut told);
+    let status = perform(&mut channels, rt, alloc, row.words, false, &mut told);
     status == 3
         && told.as_str() == "mx: 80 File\n"
         && is_printed(&channels.out, row.printed)
@@ -1127,7 +1255,7 @@ fn run_with_ticks(rt: HostRuntime) {
     let words: &[&str] = &["mx", "run", "one", "new.log", "--ticks", "3"];
     let mut channels = channels(alloc, None);
     let mut told = String::new(alloc);
-    let status = perform(&mut channels, &rt, alloc, words, &mut told);
+    let status = perform(&mut channels, &rt, alloc, words, false, &mut told);
     assert!(rt; status == 0 && told.is_empty());
     assert!(rt;
         is_printed(
@@ -1168,7 +1296,8 @@ static HELPS: &[Help] = &[
         ending: "  -V, --version  Print version
 
 mx help SUBCOMMAND, or mx SUBCOMMAND --help, tells the words, examples and statuses of one.
-Each takes --explain: if it fails, a second line tells what was wanted.
+If one fails, a second line says what was wanted: at a terminal, or with --explain.
+--no-explain leaves it out.
 ",
     },
     Help {
@@ -1281,7 +1410,7 @@ docs/use/REFERENCE.md.
 fn ends_so<R: Threads + Wait + Clock + Sync>(rt: &R, alloc: Global, row: &Help) -> bool {
     let mut channels = channels(alloc, None);
     let mut told = String::new(alloc);
-    let status = perform(&mut channels, rt, alloc, row.words, &mut told);
+    let status = perform(&mut channels, rt, alloc, row.words, false, &mut told);
     let out = &channels.out;
     status == 0
         && told.is_empty()
@@ -1364,7 +1493,7 @@ static PICTURES: &[Picture] = &[
 fn is_drawn<R: Threads + Wait + Clock + Sync>(rt: &R, alloc: Global, row: &Picture) -> bool {
     let mut channels = channels(alloc, None);
     let mut told = String::new(alloc);
-    let ended = perform(&mut channels, rt, alloc, row.words, &mut told);
+    let ended = perform(&mut channels, rt, alloc, row.words, false, &mut told);
     let out = &channels.out;
     let Some(rest) = out.bytes.as_slice().strip_prefix(SMALL_PICTURE.as_bytes()) else {
         return false;

@@ -1,4 +1,4 @@
-use Rattle.std.proofs.Common.{◌≡◌, ◌∙◌, rules, codes, false, sym, true≢false}
+use Rattle.std.proofs.Common.{◌≡◌, ◌∙◌, codes, false, sym, true≢false}
 use Rattle.std.specs.Str.{bytes_eq}
 use Rattle.clap.specs.Words.{found_of, rows_of}
 use Rattle.mx_app_command.proofs.Asked.{history_left}

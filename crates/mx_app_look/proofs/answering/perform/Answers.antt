@@ -1,11 +1,13 @@
-use Rattle.std.proofs.Common.{◌≡◌, ◌∙◌, ◌++◌, ap, sym}
-use Rattle.mx_look_line.specs.declared.request.Request.{Request}
-use Rattle.mx_app_look.specs.Answers.{help_text, request_text}
+use Rattle.std.proofs.Common.{◌≡◌, IfOk, ℕ, Vec, Global, subst, sym}
+use Rattle.mx_app_look.specs.declared.request.Request.{Request}
+use Rattle.mx_app_look.specs.declared.request.Request.TheVariants.{Help}
+use Rattle.mx_app_look.specs.declared.sight.Sight.{Sight}
+use Rattle.mx_app_look.specs.Answers.{IsMade}
+use Rattle.mx_app_look.proofs.Halted.{both_hold}
 use Rattle.mx_app_look.proofs.answering.perform.Goals as goal
 
-pub returns-in_ok-extend_from_slice-in-Help-clause-text :
-    goal.returns-in_ok-extend_from_slice-in-Help-clause-text
-returns-in_ok-extend_from_slice-in-Help-clause-text c =
-    let out = c.args.out.now.items in
-    c.in_ok-extend_from_slice-in-Help.ensures.items ∙ ap (λ t. out ++ t) c.as_bytes.ensures.value
-    ∙ ap (λ (r : Request). out ++ request_text c.args.walker r) (sym c.in-Help.is)
+pub returns-in-Help-clause-made : goal.returns-in-Help-clause-made
+returns-in-Help-clause-made c =
+    let s = c.args.sight in
+    subst (λ (q : Request). IfOk c.say.result (λ (r : Sight × Vec ℕ Global). IsMade s q r.0 r.1.items)) (sym c.in-Help.is)
+    (both_hold c.say.result _ _ (λ (r : Sight × Vec ℕ Global). IsMade s Help r.0 r.1.items) (λ r a b. (a, b)) c.say.ensures.same c.say.ensures.text)

@@ -1,0 +1,5 @@
+mod WordLemmas
+mod Printed
+mod Spaced
+mod Reserved
+mod Comments

@@ -1,0 +1,189 @@
+//! The first place of a configuration's line where another word is wanted.
+
+ghost use Rattle.std.specs.Prelude.{◌≡◌, Err, Ok, Some, MatchResult, is_some};
+ghost use Rattle.std.specs.List.{list_any};
+ghost use Rattle.mx_text.specs.Fields.{fields};
+ghost use Rattle.mx_boot.specs.Items.{is_stray};
+ghost use Rattle.mx_boot.specs.Terms.{mask, number_between};
+ghost use Rattle.mx_app_explain.specs.ConfigFaults.{after_file, after_key, after_levels, after_mask, after_masks, after_number, after_service, end_fault, fault_after, fault_in, number_at, word_at};
+ghost use Rattle.mx_app_explain.specs.declared.config_place.Place.TheVariants.{ItemEnd, ServiceEnd};
+
+use crate::config_place::{Key, Place};
+use crate::text_words::is_reserved;
+use mx_text::{name_of, next_field, number_up_to};
+use std::str;
+
+/// The number that decimal digits spell, from the least to the most that is allowed.
+fn number_between(word: &[u8], least: u32, most: u32) -> Option<u32>
+    ensures { result ≡ number_between least most word.now }
+{
+    let number = number_up_to(word, 10, most)?;
+    if number < least { None } else { Some(number) }
+}
+
+/// Whether a word is a mask: 1 to 8 hexadecimal digits.
+fn is_mask(word: &[u8]) -> bool
+    ensures { result ≡ is_some (mask word.now) }
+{
+    word.len() <= 8 && number_up_to(word, 16, u32::MAX).is_some()
+}
+
+/// Whether a word is no file's name, since it has a tab or a carriage return.
+fn has_stray(word: &[u8]) -> bool
+    ensures { result ≡ list_any is_stray word.now }
+{
+    word.iter().any(|byte| *byte == b'\t' || *byte == b'\r')
+}
+
+/// The first word of a line, and what is after it; the line's end is a fault at this place.
+fn word_at(line: &[u8], place: Place) -> Result<(&[u8], &[u8]), Place>
+    ensures { MatchResult result (λ p. word_at place (fields line.now)
+        ≡ Ok (p.0.now, fields p.1.now)) (λ e. word_at place (fields line.now) ≡ Err e) }
+{
+    match next_field(line) {
+        Some(parts) => Ok(parts),
+        None => Err(place),
+    }
+}
+
+/// What is after a key.
+fn after_key(line: &[u8], key: Key) -> Result<&[u8], Place>
+    ensures { MatchResult result (λ rest. after_key key (fields line.now) ≡ Ok (fields rest.now))
+        (λ e. after_key key (fields line.now) ≡ Err e) }
+{
+    let place = Place::Key(key);
+    let (word, rest) = word_at(line, place)?;
+    if word == key.word().as_bytes() {
+        Ok(rest)
+    } else {
+        Err(place)
+    }
+}
+
+/// What is after a key and its mask.
+fn after_mask(line: &[u8], key: Key) -> Result<&[u8], Place>
+    ensures { MatchResult result (λ rest. after_mask key (fields line.now) ≡ Ok (fields rest.now))
+        (λ e. after_mask key (fields line.now) ≡ Err e) }
+{
+    let place = Place::Value(key);
+    let (word, rest) = word_at(after_key(line, key)?, place)?;
+    if is_mask(word) { Ok(rest) } else { Err(place) }
+}
+
+/// The number at a place, and what is after it.
+fn number_at(line: &[u8], place: Place, least: u32, most: u32) -> Result<(u32, &[u8]), Place>
+    ensures { MatchResult result (λ p. number_at place least most (fields line.now)
+        ≡ Ok (p.0, fields p.1.now)) (λ e. number_at place least most (fields line.now) ≡ Err e) }
+{
+    let (word, rest) = word_at(line, place)?;
+    match number_between(word, least, most) {
+        Some(number) => Ok((number, rest)),
+        None => Err(place),
+    }
+}
+
+/// The number after a key, and what is after it.
+fn after_number(line: &[u8], key: Key, least: u32, most: u32) -> Result<(u32, &[u8]), Place>
+    ensures { MatchResult result (λ p. after_number key least most (fields line.now)
+        ≡ Ok (p.0, fields p.1.now)) (λ e. after_number key least most (fields line.now) ≡ Err e) }
+{
+    let rest = after_key(line, key)?;
+    number_at(rest, Place::Value(key), least, most)
+}
+
+/// What is after a service's name and file.
+#[tactic(auto, unfolding(crate::specs::ConfigFaults::after_file), using(crate::proofs::Printed::printed, crate::proofs::Printed::unprinted))]
+fn after_file(line: &[u8]) -> Result<&[u8], Place>
+    ensures { MatchResult result (λ rest. after_file (fields line.now) ≡ Ok (fields rest.now))
+        (λ e. after_file (fields line.now) ≡ Err e) }
+{
+    let (name, rest) = word_at(line, Place::Name)?;
+    if name_of(name).is_none() || is_reserved(name) {
+        return Err(Place::Name);
+    }
+    let (file, rest) = word_at(rest, Place::File)?;
+    if has_stray(file) || str::from_utf8(file).is_err() {
+        return Err(Place::File);
+    }
+    Ok(rest)
+}
+
+/// What is after a service's three masks.
+#[tactic(auto, unfolding(crate::specs::ConfigFaults::after_masks))]
+fn after_masks(line: &[u8]) -> Result<&[u8], Place>
+    ensures { MatchResult result (λ rest. after_masks (fields line.now) ≡ Ok (fields rest.now))
+        (λ e. after_masks (fields line.now) ≡ Err e) }
+{
+    let rest = after_mask(line, Key::Traps)?;
+    let rest = after_mask(rest, Key::Send)?;
+    after_mask(rest, Key::Calls)
+}
+
+/// The number of restarts, and what is after it.
+#[tactic(auto, unfolding(crate::specs::ConfigFaults::after_levels))]
+fn after_levels(line: &[u8]) -> Result<(u32, &[u8]), Place>
+    ensures { MatchResult result (λ p. after_levels (fields line.now) ≡ Ok (p.0, fields p.1.now))
+        (λ e. after_levels (fields line.now) ≡ Err e) }
+{
+    let (level, rest) = after_number(line, Key::Level, 0, 14)?;
+    let (_, rest) = after_number(rest, Key::Best, 0, level)?;
+    let (_, rest) = after_number(rest, Key::Quantum, 1, 65_535)?;
+    after_number(rest, Key::Restarts, 0, 1_048_575)
+}
+
+/// The number of restarts, and what is after all that a service's line has.
+#[tactic(auto, unfolding(crate::specs::ConfigFaults::after_service))]
+fn after_service(line: &[u8]) -> Result<(u32, &[u8]), Place>
+    ensures { MatchResult result (λ p. after_service (fields line.now) ≡ Ok (p.0, fields p.1.now))
+        (λ e. after_service (fields line.now) ≡ Err e) }
+{
+    let rest = after_file(line)?;
+    let rest = after_masks(rest)?;
+    after_levels(rest)
+}
+
+/// The fault of a line of which so much was read: at the end, if a word is left.
+fn fault_after(read: Result<(u32, &[u8]), Place>, end: Place) -> Option<Place>
+    ensures { MatchResult read.entry (λ p. result ≡ end_fault end (fields p.1.now)) (λ e. result ≡ Some e) }
+{
+    match read {
+        Ok((_, rest)) => match next_field(rest) {
+            Some(_) => Some(end),
+            None => None,
+        },
+        Err(place) => Some(place),
+    }
+}
+
+/// The fault of a service's line after its first word.
+fn service_fault(line: &[u8]) -> Option<Place>
+    ensures { result ≡ fault_after ServiceEnd (after_service (fields line.now)) }
+{
+    fault_after(after_service(line), Place::ServiceEnd)
+}
+
+/// The fault of a line that has one number after its first word.
+fn number_fault(line: &[u8], place: Place, least: u32, most: u32) -> Option<Place>
+    ensures { result ≡ fault_after ItemEnd (number_at place least most (fields line.now)) }
+{
+    fault_after(number_at(line, place, least, most), Place::ItemEnd)
+}
+
+/// The fault of a line up to its comment: the first place where another word is wanted. None if there is none,
+/// as in an empty line. What a name may not be, and what lines above say, isn't looked at.
+#[tactic(auto, unfolding(crate::specs::ConfigFaults::fault_in))]
+pub(crate) fn line_fault(line: &[u8]) -> Option<Place>
+    ensures { result ≡ fault_in (fields line.now) }
+{
+    let (word, rest) = next_field(line)?;
+    if word == b"service".as_slice() {
+        return service_fault(rest);
+    }
+    match word {
+        b"cpus" => number_fault(rest, Place::Cpus, 1, 8),
+        b"others" => number_fault(rest, Place::Others, 1, 4),
+        b"log" => number_fault(rest, Place::Log, 1, 1_048_576),
+        b"rules" => number_fault(rest, Place::Rules, 1, 2),
+        _ => Some(Place::Item),
+    }
+}

@@ -1,0 +1,168 @@
+//! What was wanted of a line, and where.
+
+ghost use Rattle.std.specs.Prelude.{◌≡◌, option_map, slice_get};
+ghost use Rattle.mx_text.specs.Fields.{fields};
+ghost use Rattle.mx_text.specs.Lines.{lines};
+ghost use Rattle.mx_app_explain.specs.ConfigFaults.{fault_in};
+ghost use Rattle.mx_app_explain.specs.ConfigPlaces.{value_name, words_before};
+ghost use Rattle.mx_app_explain.specs.Details.{after_words, config_detail, detail_told, label_told, place_detail, place_label, place_told};
+
+use crate::comment::before_comment;
+use crate::config_line::line_fault;
+use crate::config_place::Place;
+use crate::found_word::{FoundWord, found_at};
+use mx_text::{next_field, next_line};
+use std::{fmt, str};
+
+/// Where in a line something was wanted.
+#[derive(Clone, Copy, Debug, PartialEq, Eq)]
+pub enum Label<'a> {
+    /// It isn't said.
+    Nowhere,
+    /// As the value of this name.
+    Value(&'static str),
+    /// After these two words.
+    After(&'a str, &'a str),
+}
+
+/// As it is in a line, with a colon and a space.
+impl fmt::Display for Label<'_> {
+    ghost use Rattle.std.specs.Prelude.{Some};
+    ghost use Rattle.mx_app_explain.specs.Details.{label_told};
+
+    ghost output = { λ label. Some (label_told label) };
+
+    fn fmt<W: fmt::Write>(&self, f: &mut fmt::Formatter<W>) -> fmt::Result {
+        match *self {
+            Label::Nowhere => Ok(()),
+            Label::Value(name) => write!(f, "{name}: "),
+            Label::After(first, second) => write!(f, "after \"{first} {second}\": "),
+        }
+    }
+}
+
+/// What was wanted, where, and what is there.
+#[derive(Clone, Copy, Debug, PartialEq, Eq)]
+pub struct Detail<'a> {
+    pub label: Label<'a>,
+    pub wanted: &'static str,
+    pub found: FoundWord<'a>,
+}
+
+/// As `quantum: wanted 1 to 65535, stands "0"`.
+impl fmt::Display for Detail<'_> {
+    ghost use Rattle.std.specs.Prelude.{Some};
+    ghost use Rattle.mx_app_explain.specs.Details.{detail_told};
+
+    ghost output = { λ detail. Some (detail_told detail) };
+
+    fn fmt<W: fmt::Write>(&self, f: &mut fmt::Formatter<W>) -> fmt::Result {
+        let Detail {
+            label,
+            wanted,
+            found,
+        } = *self;
+        write!(f, "{label}wanted {wanted}{found}")
+    }
+}
+
+/// The line of a text that has so many lines above it.
+pub(crate) fn line_below(text: &[u8], above: usize) -> Option<&[u8]>
+    ensures { option_map (λ l. l.now) result ≡ slice_get (lines text.now) above }
+{
+    let mut rest = text;
+    let mut left = above;
+    while left > 0 {
+        match next_line(rest) {
+            Some((_, more)) => rest = more,
+            None => return None,
+        }
+        left -= 1;
+    }
+    match next_line(rest) {
+        Some((line, _)) => Some(line),
+        None => None,
+    }
+}
+
+/// The word of a line that has so many words before it.
+fn word_after(line: &[u8], before: usize) -> Option<&[u8]>
+    ensures { option_map (λ w. w.now) result ≡ slice_get (fields line.now) before }
+{
+    let (word, rest) = next_field(line)?;
+    if before == 0 {
+        Some(word)
+    } else {
+        word_after(rest, before - 1)
+    }
+}
+
+/// That something was wanted after two words, if they can be printed.
+#[tactic(auto, using(crate::proofs::Printed::printed, crate::proofs::Printed::unprinted))]
+fn after_words<'a>(first: Option<&'a [u8]>, second: Option<&'a [u8]>) -> Label<'a>
+    ensures { label_told result ≡ after_words (option_map (λ w. w.now) first.entry)
+        (option_map (λ w. w.now) second.entry) }
+{
+    match (first, second) {
+        (Some(first), Some(second)) => match (str::from_utf8(first), str::from_utf8(second)) {
+            (Ok(first), Ok(second)) => Label::After(first, second),
+            _ => Label::Nowhere,
+        },
+        _ => Label::Nowhere,
+    }
+}
+
+/// Where a place of a line is.
+fn place_label(line: &[u8], place: Place) -> Label<'_>
+    ensures { label_told result
+        ≡ place_label (fields line.now) (words_before place) (value_name place) }
+{
+    let before = place.words_before();
+    match place.value_name() {
+        Some(name) => Label::Value(name),
+        None => {
+            if before == 0 {
+                Label::Nowhere
+            } else {
+                after_words(
+                    word_after(line, before.saturating_sub(2)),
+                    word_after(line, before - 1),
+                )
+            }
+        }
+    }
+}
+
+/// What was wanted at a place of a configuration's line.
+fn place_detail(line: &[u8], place: Place) -> Detail<'_>
+    ensures { detail_told result ≡ place_told (fields line.now) place }
+{
+    Detail {
+        label: place_label(line, place),
+        wanted: place.wanted(),
+        found: found_at(word_after(line, place.words_before())),
+    }
+}
+
+/// What was wanted of a configuration's line up to its comment. None if the line has no fault of its own.
+fn line_detail(line: &[u8]) -> Option<Detail<'_>>
+    ensures { option_map detail_told result
+        ≡ place_detail (fields line.now) (fault_in (fields line.now)) }
+{
+    match line_fault(line) {
+        None => None,
+        Some(place) => Some(place_detail(line, place)),
+    }
+}
+
+/// What was wanted of the line of a configuration's text that has this number, counted from 1. None if the line
+/// has no fault of its own.
+#[tactic(auto, unfolding(crate::specs::ConfigFaults::fault_in))]
+pub(crate) fn config_detail(text: &[u8], number: usize) -> Option<Detail<'_>>
+    ensures { option_map detail_told result ≡ config_detail text.now number }
+{
+    match line_below(text, number.saturating_sub(1)) {
+        None => None,
+        Some(line) => line_detail(before_comment(line, b'#')),
+    }
+}

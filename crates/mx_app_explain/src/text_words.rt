@@ -1,0 +1,162 @@
+//! The words of a line of a text for the assembler, and what each of them is.
+
+ghost use Rattle.std.specs.Prelude.{◌≡◌, ◌++◌, IfOk, OnOk};
+ghost use Rattle.std.specs.List.{flat_map, list_any};
+ghost use Rattle.mx_app_explain.specs.TextWords.{begins_with_digit, is_bad_number, is_blank, is_capital, is_close, is_equals, is_free_word, is_long_name, is_mark, is_mark_word, is_number, is_odd_byte, is_open, is_quote, is_reserved, is_size, spaced, spaced_byte};
+
+use crate::comment::before_comment;
+use crate::found_word::byte_at;
+use mx_insn_words::{register_named, size_named};
+use mx_text::{begins_name, is_digit, is_word_byte, number_up_to};
+use std::alloc::{AllocError, Global};
+
+/// Whether a byte is a mark: a word of its own.
+fn is_mark(byte: u8) -> bool
+    ensures { result ≡ is_mark byte }
+{
+    byte == b'['
+        || byte == b']'
+        || byte == b'+'
+        || byte == b'-'
+        || byte == b'*'
+        || byte == b','
+        || byte == b':'
+}
+
+fn is_blank(byte: u8) -> bool
+    ensures { result ≡ is_blank byte }
+{
+    byte == b' ' || byte == b'\t' || byte == b'\r'
+}
+
+/// Appends a byte, a mark between spaces, and a space for a blank.
+fn push_spaced(out: &mut Vec<u8>, byte: u8) -> Result<(), AllocError>
+    ensures { OnOk result (out.new.items ≡ out.old.items ++ spaced_byte byte) }
+{
+    if is_mark(byte) {
+        out.push(b' ')?;
+        out.push(byte)?;
+        out.push(b' ')?;
+    } else if is_blank(byte) {
+        out.push(b' ')?;
+    } else {
+        out.push(byte)?;
+    }
+    Ok(())
+}
+
+/// A line up to its comment, with its words between spaces.
+#[tactic(auto, using(crate::proofs::Spaced::spaced_more))]
+pub(crate) fn spaced(alloc: Global, line: &[u8]) -> Result<Vec<u8>, AllocError>
+    ensures { IfOk result (λ found. found.items ≡ spaced line.now) }
+{
+    let mut out = Vec::new(alloc);
+    let said = before_comment(line, b';');
+    for byte in said {
+        push_spaced(&mut out, *byte)?;
+    }
+    Ok(out)
+}
+
+/// Whether a byte is no part of a word, of a mark or of a directive.
+fn is_odd_byte(byte: u8) -> bool
+    ensures { result ≡ is_odd_byte byte }
+{
+    !(is_word_byte(byte) || is_mark(byte) || byte == b'.')
+}
+
+/// Whether a word has a byte that is no part of any.
+pub(crate) fn is_odd(word: &[u8]) -> bool
+    ensures { result ≡ list_any is_odd_byte word.now }
+{
+    word.iter().any(|byte| is_odd_byte(*byte))
+}
+
+pub(crate) fn has_quote(word: &[u8]) -> bool
+    ensures { result ≡ list_any is_quote word.now }
+{
+    word.iter().any(|byte| *byte == b'"')
+}
+
+pub(crate) fn has_equals(word: &[u8]) -> bool
+    ensures { result ≡ list_any is_equals word.now }
+{
+    word.iter().any(|byte| *byte == b'=')
+}
+
+pub(crate) fn has_capital(word: &[u8]) -> bool
+    ensures { result ≡ list_any is_capital word.now }
+{
+    word.iter().any(|byte| *byte >= b'A' && *byte <= b'Z')
+}
+
+pub(crate) fn begins_with_digit(word: &[u8]) -> bool
+    ensures { result ≡ begins_with_digit word.now }
+{
+    is_digit(byte_at(word, 0))
+}
+
+/// Whether a word is a number of 32 bits, decimal or hexadecimal after 0x.
+fn is_number(word: &[u8]) -> bool
+    ensures { result ≡ is_number word.now }
+{
+    if word.len() > 2 && (word[0] == b'0' && word[1] == b'x') {
+        number_up_to(&word[2..], 16, u32::MAX).is_some()
+    } else {
+        number_up_to(word, 10, u32::MAX).is_some()
+    }
+}
+
+/// Whether a word begins as a number and is none.
+pub(crate) fn is_bad_number(word: &[u8]) -> bool
+    ensures { result ≡ is_bad_number word.now }
+{
+    begins_with_digit(word) && !is_number(word)
+}
+
+/// Whether a word is too long for a name.
+pub(crate) fn is_long_name(word: &[u8]) -> bool
+    ensures { result ≡ is_long_name word.now }
+{
+    begins_name(byte_at(word, 0)) && word.len() > 8
+}
+
+pub(crate) fn is_mark_word(word: &[u8]) -> bool
+    ensures { result ≡ is_mark_word word.now }
+{
+    is_mark(byte_at(word, 0))
+}
+
+pub(crate) fn is_size(word: &[u8]) -> bool
+    ensures { result ≡ is_size word.now }
+{
+    word == b"byte".as_slice() || word == b"word".as_slice() || word == b"dword".as_slice()
+}
+
+/// Whether a word is a register or a size.
+pub(crate) fn is_reserved(word: &[u8]) -> bool
+    ensures { result ≡ is_reserved word.now }
+{
+    let register = register_named(word);
+    let size = size_named(word);
+    register.is_some() | size.is_some()
+}
+
+/// Whether a word may be a name: it is no mark, no number, no text, no register and no size.
+pub(crate) fn is_free_word(word: &[u8]) -> bool
+    ensures { result ≡ is_free_word word.now }
+{
+    begins_name(byte_at(word, 0)) && !(is_reserved(word) || word == b"short".as_slice())
+}
+
+pub(crate) fn is_open(word: &[u8]) -> bool
+    ensures { result ≡ is_open word.now }
+{
+    word == b"[".as_slice()
+}
+
+pub(crate) fn is_close(word: &[u8]) -> bool
+    ensures { result ≡ is_close word.now }
+{
+    word == b"]".as_slice()
+}

@@ -1,0 +1,74 @@
+use Rattle.std.proofs.Common.{◌≡◌, ◌∙◌, List, Some, None, ap, subst, sym}
+use Rattle.mx_machine.specs.declared.history.Record.{Record}
+use Rattle.mx_walk.specs.declared.positions.Position.{Position}
+use Rattle.mx_walk.specs.Positions.{IsPosition, IsUpTo, event_below, next_position}
+use Rattle.mx_walk.specs.Seeking.{IsLastMarked, IsPassed}
+use Rattle.mx_walk.specs.Walks.{Walk, first}
+use Rattle.mx_walk.proofs.Next.{is_position_too}
+use Rattle.mx_app_look.specs.Marks.{is_looked_for}
+use Rattle.mx_app_look.proofs.Coming.{last_halt, next_is_early, no_last_halt, some_below}
+use Rattle.mx_app_look.proofs.Marked.{Marks, both_are}
+use Rattle.mx_app_look.proofs.searches.go_back_to_point.Goals as goal
+
+pub returns-then-not-found-clause-halt : goal.returns-then-not-found-clause-halt
+returns-then-not-found-clause-halt c =
+    let k = c.args.walker in
+    let s = c.args.points.now in
+    let m = c.in_ok-mark.mark in
+    let same = both_are s m.one.marks.items m.other.marks.items c.in_ok-mark.ensures.bytes c.in_ok-mark.ensures.breaks in
+    let n = c.in_ok-walker.ensures.nowhere c.if-not-found.true in
+    no_last_halt k s c.in_ok-walker.walker _ n.0 (subst (λ (f : Marks). IsPassed f k.boot k.records first k.here) same n.1) c.in_ok-not_met.ensures
+
+pub go_and_compare-requires-clause-position : goal.go_and_compare-requires-clause-position
+go_and_compare-requires-clause-position c =
+    let j = c.in_ok-walker.walker in
+    let p = c.here-halt.result in
+    let below : event_below j.records p ≡ Some (c.in-Some.next.actor, c.in-Some.next.event) = ap (λ (rs : List Record). event_below rs p) (sym c.records.ensures) ∙ c.in-Some.ensures.0 in
+    subst (λ (q : Position). IsPosition j.records q) (sym (c.in-Some.ensures.1 ∙ ap (λ (rs : List Record). next_position rs p) c.records.ensures))
+    (is_position_too j.records p (c.in-Some.next.actor, c.in-Some.next.event) c.here-halt.ensures.position below)
+
+pub go_and_compare-requires-clause-early : goal.go_and_compare-requires-clause-early
+go_and_compare-requires-clause-early c =
+    let k = c.args.walker in
+    let s = c.args.points.now in
+    let j = c.in_ok-walker.walker in
+    let p = c.here-halt.result in
+    let m = c.in_ok-mark.mark in
+    let same = both_are s m.one.marks.items m.other.marks.items c.in_ok-mark.ensures.bytes c.in_ok-mark.ensures.breaks in
+    let found : IsLastMarked (is_looked_for s) k.boot k.records j.here k.here = subst (λ (f : Marks). IsLastMarked f k.boot k.records j.here k.here) same (c.in_ok-walker.ensures.found c.if-not-found.false) in
+    let below : event_below j.records p ≡ Some (c.in-Some.next.actor, c.in-Some.next.event) = ap (λ (rs : List Record). event_below rs p) (sym c.records.ensures) ∙ c.in-Some.ensures.0 in
+    let position = subst (λ (q : Position). IsPosition j.records q) c.here-halt.ensures.here c.here-halt.ensures.position in
+    let l = subst (λ (w : Walk). IsPosition w.records w.here) c.walker.view_is c.walker.invariant.there.position in
+    let early = subst (λ (w : Walk). IsUpTo w.here w.last) c.walker.view_is c.walker.invariant.early in
+    next_is_early k s j c.in_ok-walker.ensures.same position l found (c.in-Some.next.actor, c.in-Some.next.event) c.in-Some.next.position early
+    (subst (λ (q : Position). event_below j.records q ≡ Some (c.in-Some.next.actor, c.in-Some.next.event)) c.here-halt.ensures.here below)
+    (c.in-Some.ensures.1 ∙ ap (λ (rs : List Record). next_position rs p) c.records.ensures ∙ ap (λ (q : Position). next_position j.records q) c.here-halt.ensures.here)
+
+pub unreachable-requires : goal.unreachable-requires
+unreachable-requires c =
+    let k = c.args.walker in
+    let s = c.args.points.now in
+    let j = c.in_ok-walker.walker in
+    let p = c.here-halt.result in
+    let m = c.in_ok-mark.mark in
+    let same = both_are s m.one.marks.items m.other.marks.items c.in_ok-mark.ensures.bytes c.in_ok-mark.ensures.breaks in
+    let found : IsLastMarked (is_looked_for s) k.boot k.records j.here k.here = subst (λ (f : Marks). IsLastMarked f k.boot k.records j.here k.here) same (c.in_ok-walker.ensures.found c.if-not-found.false) in
+    let none : event_below j.records p ≡ None = ap (λ (rs : List Record). event_below rs p) (sym c.records.ensures) ∙ c.in-None.ensures in
+    let l = subst (λ (w : Walk). IsPosition w.records w.here) c.walker.view_is c.walker.invariant.there.position in
+    let position = subst (λ (q : Position). IsPosition j.records q) c.here-halt.ensures.here c.here-halt.ensures.position in
+    some_below k s j c.in_ok-walker.ensures.same position l found (subst (λ (q : Position). event_below j.records q ≡ None) c.here-halt.ensures.here none)
+
+pub returns-clause-halt : goal.returns-clause-halt
+returns-clause-halt c =
+    let k = c.args.walker in
+    let s = c.args.points.now in
+    let j = c.in_ok-walker.walker in
+    let p = c.here-halt.result in
+    let m = c.in_ok-mark.mark in
+    let same = both_are s m.one.marks.items m.other.marks.items c.in_ok-mark.ensures.bytes c.in_ok-mark.ensures.breaks in
+    let found : IsLastMarked (is_looked_for s) k.boot k.records j.here k.here = subst (λ (f : Marks). IsLastMarked f k.boot k.records j.here k.here) same (c.in_ok-walker.ensures.found c.if-not-found.false) in
+    let here = c.here-halt.ensures.here in
+    let position = subst (λ (q : Position). IsPosition j.records q) here c.here-halt.ensures.position in
+    let there = c.in-Some.ensures.1 ∙ ap (λ (rs : List Record). next_position rs p) c.records.ensures ∙ ap (λ (q : Position). next_position j.records q) here in
+    last_halt k s j c.in_ok-go_to-in-Some.field-0 c.in-Some.next.position _ c.in_ok-walker.ensures.same position found there c.in_ok-walker-in-Some.ensures.told
+    (ap (λ (w : Walk). w.here) c.in_ok-go_to-in-Some.ensures ∙ here)

@@ -1,0 +1,61 @@
+use Rattle.std.proofs.Common.{◌≡◌, ◌∙◌, List, ap, subst, sym}
+use Rattle.std.proofs.lemmas.Result.{IfOk-weaker}
+use Rattle.mx_machine.specs.declared.history.Record.{Record}
+use Rattle.mx_walk.specs.declared.positions.Position.{Position}
+use Rattle.mx_walk.specs.Positions.{IsPosition, IsUpTo, position_before}
+use Rattle.mx_walk.specs.Seeking.{IsFirstMarked, IsPassed}
+use Rattle.mx_walk.specs.Walks.{Walk}
+use Rattle.mx_walk.proofs.Meeting.{above_first, not_first}
+use Rattle.mx_app_look.specs.Marks.{is_looked_for}
+use Rattle.mx_app_look.proofs.Coming.{halts_nowhere, halts_there}
+use Rattle.mx_app_look.proofs.Marked.{Marks, both_are}
+use Rattle.mx_app_look.proofs.searches.go_on_from.Goals as goal
+
+pub returns-then-not-seek-clause-halt : goal.returns-then-not-seek-clause-halt
+returns-then-not-seek-clause-halt c =
+    let k = c.args.walker in
+    let s = c.args.points.now in
+    let m = c.in_ok-mark.mark in
+    let same = both_are s m.one.marks.items m.other.marks.items c.in_ok-mark.ensures.bytes c.in_ok-mark.ensures.breaks in
+    let n = c.seek.ensures.nowhere c.if-not-seek.true in
+    halts_nowhere k s c.walker-2.inside.here _ (ap (λ (w : Walk). w.here) c.walker-2.view_is ∙ n.0) (subst (λ (f : Marks). IsPassed f k.boot k.records k.here k.last) same n.1) c.in_ok-not_met.ensures
+
+pub halt_by-requires-clause-position : goal.halt_by-requires-clause-position
+halt_by-requires-clause-position c =
+    let k = c.args.walker in
+    let j = c.seek.new.self in
+    let m = c.in_ok-mark.mark in
+    let q = c.here.result in
+    let same = both_are c.args.points.now m.one.marks.items m.other.marks.items c.in_ok-mark.ensures.bytes c.in_ok-mark.ensures.breaks in
+    let f = is_looked_for c.args.points.now in
+    let found : IsFirstMarked f k.boot k.records k.here j.here = subst (λ (g : Marks). IsFirstMarked g k.boot k.records k.here j.here) same (c.seek.ensures.found c.if-not-seek.false) in
+    let records : j.records ≡ k.records = ap (λ (w : Walk). w.records) c.seek.ensures.same in
+    let there : IsFirstMarked f k.boot j.records k.here q =
+    subst (λ (rs : List Record). IsFirstMarked f k.boot rs k.here q) (sym records) (subst (λ (p : Position). IsFirstMarked f k.boot k.records k.here p) (sym c.here.ensures.here) found) in
+    let b = above_first f k.boot j.records k.here q c.here.ensures.position there in
+    subst (λ (p : Position). IsPosition j.records p) (sym (c.in-Some.ensures.0 ∙ ap (λ (rs : List Record). position_before rs q) c.records.ensures)) b.position
+
+pub unreachable-requires : goal.unreachable-requires
+unreachable-requires c =
+    let k = c.args.walker in
+    let j = c.seek.new.self in
+    let m = c.in_ok-mark.mark in
+    let same = both_are c.args.points.now m.one.marks.items m.other.marks.items c.in_ok-mark.ensures.bytes c.in_ok-mark.ensures.breaks in
+    let f = is_looked_for c.args.points.now in
+    let found : IsFirstMarked f k.boot k.records k.here j.here = subst (λ (g : Marks). IsFirstMarked g k.boot k.records k.here j.here) same (c.seek.ensures.found c.if-not-seek.false) in
+    not_first f k.boot k.records k.here j.here found (sym c.here.ensures.here ∙ c.in-None.ensures)
+
+pub returns-clause-halt : goal.returns-clause-halt
+returns-clause-halt c =
+    let k = c.args.walker in
+    let s = c.args.points.now in
+    let j = c.seek.new.self in
+    let m = c.in_ok-mark.mark in
+    let same = both_are s m.one.marks.items m.other.marks.items c.in_ok-mark.ensures.bytes c.in_ok-mark.ensures.breaks in
+    let found : IsFirstMarked (is_looked_for s) k.boot k.records k.here j.here = subst (λ (g : Marks). IsFirstMarked g k.boot k.records k.here j.here) same (c.seek.ensures.found c.if-not-seek.false) in
+    let here = c.here.ensures.here in
+    let position = subst (λ (p : Position). IsPosition j.records p) here c.here.ensures.position in
+    let early = subst (λ (p : Position). IsUpTo p j.last) here c.here.ensures.early in
+    let up : c.in-Some.above ≡ position_before j.records j.here =
+    c.in-Some.ensures.0 ∙ ap (λ (rs : List Record). position_before rs c.here.result) c.records.ensures ∙ ap (λ (p : Position). position_before j.records p) here in
+    IfOk-weaker c.halt_by.result _ _ (λ r e. halts_there k s j c.in-Some.above _ c.seek.ensures.same position early found up e) c.halt_by.ensures.halt

@@ -1,0 +1,56 @@
+use Rattle.std.proofs.Common.{◌≡◌, ◌∙◌, ℕ, ap, subst, sym}
+use Rattle.std.proofs.lemmas.Result.{IfOk-weaker}
+use Rattle.mx_machine.specs.declared.events.Event.{Event}
+use Rattle.mx_machine.specs.Machine.{world_of}
+use Rattle.mx_machine.specs.World.{World}
+use Rattle.mx_walk.specs.declared.positions.Position.{Position}
+use Rattle.mx_walk.specs.Positions.{IsPosition, IsUpTo}
+use Rattle.mx_walk.specs.Walks.{world_here}
+use Rattle.mx_walk.proofs.Arriving.{not_itself}
+use Rattle.mx_walk.proofs.Next.{is_position_too, next_up_to, up_to_of}
+use Rattle.mx_app_look.specs.Marks.{changes_watched}
+use Rattle.mx_app_look.proofs.Coming.{halts_after_more, halts_after_one}
+use Rattle.mx_app_look.proofs.Marked.{Marks, bytes_are}
+use Rattle.mx_app_look.proofs.searches.go_on_past.Goals as goal
+
+pub go_and_compare-requires-clause-position : goal.go_and_compare-requires-clause-position
+go_and_compare-requires-clause-position c =
+    let k = c.args.walker in
+    subst (λ (p : Position). IsPosition k.records p) (sym c.requires.position) (is_position_too k.records k.here (c.args.next.actor, c.args.next.event) c.requires.here c.requires.below)
+
+pub go_and_compare-requires-clause-early : goal.go_and_compare-requires-clause-early
+go_and_compare-requires-clause-early c =
+    let k = c.args.walker in
+    subst (λ (p : Position). IsUpTo p k.last) (sym c.requires.position)
+    (next_up_to k.records k.here k.last (c.args.next.actor, c.args.next.event) c.requires.here c.requires.last c.requires.below (up_to_of k.here k.last c.requires.early) (not_itself k.here k.last c.requires.early))
+
+pub returns-then-is_met-clause-halt : goal.returns-then-is_met-clause-halt
+returns-then-is_met-clause-halt c =
+    let k = c.args.walker in
+    let s = c.args.points.now in
+    let j = c.in_ok-walker.walker in
+    let x : ℕ × Event = (c.args.next.actor, c.args.next.event) in
+    let w = world_of c.machine.result.now in
+    let u = world_of c.machine-2.result.now in
+    let met : c.is_met.result ≡ changes_watched s (world_here k) x (world_here j) =
+    c.is_met.ensures w x c.look.ensures.seen
+    ∙ ap (λ (f : Marks). f w x u) (c.look.ensures.same ∙ bytes_are s c.in_ok-bytes.bytes.marks.items c.in_ok-bytes.ensures)
+    ∙ ap (λ (v : World). changes_watched s v x u) c.machine.ensures.world
+    ∙ ap (λ (v : World). changes_watched s (world_here k) x v) c.machine-2.ensures.world in
+    halts_after_one k s j x c.args.next.position _ c.requires.here c.requires.below c.requires.position c.in_ok-walker.ensures.walker (sym met ∙ c.if-is_met.true) c.in_ok-walker.ensures.told
+
+pub returns-clause-halt : goal.returns-clause-halt
+returns-clause-halt c =
+    let k = c.args.walker in
+    let s = c.args.points.now in
+    let j = c.in_ok-walker.walker in
+    let x : ℕ × Event = (c.args.next.actor, c.args.next.event) in
+    let w = world_of c.machine.result.now in
+    let u = world_of c.machine-2.result.now in
+    let met : c.is_met.result ≡ changes_watched s (world_here k) x (world_here j) =
+    c.is_met.ensures w x c.look.ensures.seen
+    ∙ ap (λ (f : Marks). f w x u) (c.look.ensures.same ∙ bytes_are s c.in_ok-bytes.bytes.marks.items c.in_ok-bytes.ensures)
+    ∙ ap (λ (v : World). changes_watched s v x u) c.machine.ensures.world
+    ∙ ap (λ (v : World). changes_watched s (world_here k) x v) c.machine-2.ensures.world in
+    IfOk-weaker c.go_on_from.result _ _
+    (λ r h. halts_after_more k s j x c.args.next.position _ c.requires.here c.requires.below c.requires.position c.in_ok-walker.ensures.walker (sym met ∙ c.if-is_met.false) h) c.go_on_from.ensures.halt

@@ -1,8 +1,0 @@
-use Rattle.std.proofs.Common.{◌≡◌, ◌+◌, ◌++◌}
-use Rattle.std.specs.List.{flat_map, range_with_len}
-use Rattle.mx_config_words.specs.Words.{trap_if}
-use Rattle.mx_config_words.proofs.allowed.push_traps.Given as goal
-
--- the traps so far
-abbrev pub invariant-loop-index : goal.invariant-loop-index
-invariant-loop-index l = l.out.items ≡ l.initial.out.items ++ flat_map (λ n. trap_if l.traps (n + 1)) (range_with_len 0 l.index)
