@@ -29,7 +29,7 @@ use Rattle.mx_app_db.specs.Replayed.{Replayed}
 use Rattle.mx_app_db.specs.DebugLines.{DebuggedWorld, debug_lines_made}
 use Rattle.mx_app_db.specs.Told.{debug_lines_text}
 use Rattle.mx_app_draw.specs.Scenes.{IsDrawingPrinted}
-use Rattle.mx_app_look.specs.Sessions.{IsBegun, begun_text, session_text}
+use Rattle.mx_app_look.specs.Sessions.{IsBegun, IsWhole, begun_text, session_text}
 use Rattle.mx_app_run.specs.Run.{Runs}
 use Rattle.mx_app_sweep.specs.Sweeping.{Sweeps}
 use Rattle.mx_app_sweep.specs.declared.sweeping.Swept.{Swept}
@@ -51,9 +51,9 @@ Does asked asked_now written written_now Done =
     (qs : List Asked) × (ws : List Written) × (asked_now ≡ asked ++ qs) × (written_now ≡ written ++ ws) × Done qs ws
 
 -- the same, with the lines that were typed
-abbrev pub DoesTyped : List Asked → List Asked → List Written → List Written → List (List ℕ) → List (List ℕ) → (List Asked → List Written → List (List ℕ) → Type 0) → Type 0
+abbrev pub DoesTyped : List Asked → List Asked → List Written → List Written → List (Option (List ℕ)) → List (Option (List ℕ)) → (List Asked → List Written → List (Option (List ℕ)) → Type 0) → Type 0
 DoesTyped asked asked_now written written_now given given_now Done =
-    (qs : List Asked) × (ws : List Written) × (typed : List (List ℕ)) × (asked_now ≡ asked ++ qs) × (written_now ≡ written ++ ws) × (given_now ≡ given ++ typed) × Done qs ws typed
+    (qs : List Asked) × (ws : List Written) × (typed : List (Option (List ℕ))) × (asked_now ≡ asked ++ qs) × (written_now ≡ written ++ ws) × (given_now ≡ given ++ typed) × Done qs ws typed
 
 -- a request that takes no lines
 untyped : (request : CommandRequest) (asks : Bool) (qs : List Asked) (ws : List Written) (Prints : List ℕ → Type 0) (r : Result ℕ Kind)
@@ -62,7 +62,7 @@ untyped (Look config log) asks qs ws Prints r h = absurd h
 untyped request asks qs ws Prints r h = (refl, h)
 
 -- what is done of the request that was asked for
-pub as_asked : {given : List (List ℕ)} (asks : Bool) (asked now : List Asked) (files written : List Written) (Prints : List ℕ → Type 0) (r : Result ℕ Kind) (request known : CommandRequest) → request ≡ known
+pub as_asked : {given : List (Option (List ℕ))} (asks : Bool) (asked now : List Asked) (files written : List Written) (Prints : List ℕ → Type 0) (r : Result ℕ Kind) (request known : CommandRequest) → request ≡ known
     → Does asked now files written (λ qs ws. PerformsUntyped known qs ws Prints r)
     → DoesTyped asked now files written given given (λ qs ws typed. Performs request asks qs ws typed Prints r)
 as_asked {given} asks asked now files written Prints r request known same done =
@@ -70,22 +70,22 @@ as_asked {given} asks asked now files written Prints r request known same done =
     (d.0, d.1, [], d.2, d.3, sym (append-nil given), untyped request asks d.0 d.1 Prints r d.4)
 
 -- and of one that takes lines
-pub as_typed : (asked now : List Asked) (files written : List Written) (given typed : List (List ℕ)) (asks : Bool) (Prints : List ℕ → Type 0) (r : Result ℕ Kind) (request known : CommandRequest) → request ≡ known
+pub as_typed : (asked now : List Asked) (files written : List Written) (given typed : List (Option (List ℕ))) (asks : Bool) (Prints : List ℕ → Type 0) (r : Result ℕ Kind) (request known : CommandRequest) → request ≡ known
     → DoesTyped asked now files written given typed (λ qs ws ls. Performs known asks qs ws ls Prints r)
     → DoesTyped asked now files written given typed (λ qs ws ls. Performs request asks qs ws ls Prints r)
 as_typed asked now files written given typed asks Prints r request known same done =
     subst (λ (x : CommandRequest). DoesTyped asked now files written given typed (λ qs ws ls. Performs x asks qs ws ls Prints r)) (sym same) done
 
 -- a session was held, or its machine wasn't started
-pub looks : (asked now : List Asked) (files : List Written) (given given_now : List (List ℕ)) (config log : List ℕ) (asks : Bool) (x y : Option (List ℕ)) (d : Result (Unit {0}) Kind) (r : Result ℕ Kind)
-    → OnOk d ((qs : List Asked) × (c : Config) × (vs : List Service) × (records : List Record) × (k : Walk) × (typed : List (List ℕ))
-    × (now ≡ asked ++ qs) × (given_now ≡ given ++ typed) × IsStart IsSaved config log qs c vs records × IsBegun (world_at_boot c vs) records k
+pub looks : (asked now : List Asked) (files : List Written) (given given_now : List (Option (List ℕ))) (config log : List ℕ) (asks : Bool) (x y : Option (List ℕ)) (d : Result (Unit {0}) Kind) (r : Result ℕ Kind)
+    → OnOk d ((qs : List Asked) × (c : Config) × (vs : List Service) × (records : List Record) × (k : Walk) × (typed : List (Option (List ℕ)))
+    × (now ≡ asked ++ qs) × (given_now ≡ given ++ typed) × IsWhole typed × IsStart IsSaved config log qs c vs records × IsBegun (world_at_boot c vs) records k
     × Appends x y (begun_text asks k ++ session_text asks k typed))
-    → IfErr d (λ f. (qs : List Asked) × (typed : List (List ℕ)) × (now ≡ asked ++ qs) × (given_now ≡ given ++ typed) × IsTold IsSaved TellsSaved config log qs f)
+    → IfErr d (λ f. (qs : List Asked) × (typed : List (Option (List ℕ))) × (now ≡ asked ++ qs) × (given_now ≡ given ++ typed) × IsTold IsSaved TellsSaved config log qs f)
     → r ≡ status_after_work d
     → DoesTyped asked now files files given given_now (λ qs ws typed. (e : Result (Unit {0}) Kind) × (ws ≡ []) × Looks config log asks qs typed (λ text. Appends x y text) e × (r ≡ status_after_work e))
 looks asked now files given given_now config log asks x y (Ok u) r p f e =
-    (p.0, [], p.5, p.6, sym (append-nil files), p.7, (Ok u, refl, (p.1, p.2, p.3, p.4, p.8, p.9, p.10), e))
+    (p.0, [], p.5, p.6, sym (append-nil files), p.7, (Ok u, refl, (p.1, p.2, p.3, p.4, p.9, p.10, p.8, p.11), e))
 looks asked now files given given_now config log asks x y (Err why) r p f e =
     (f.0, [], f.1, f.2, sym (append-nil files), f.3, (Err why, refl, f.4, e))
 

@@ -27,7 +27,7 @@ use Rattle.mx_app_db.specs.Traces.{IsTracePrinted}
 use Rattle.mx_app_db.specs.Replayed.{Replayed}
 use Rattle.mx_app_db.specs.Replayed.TheVariants as replayed
 use Rattle.mx_app_draw.specs.Scenes.{IsDrawingPrinted}
-use Rattle.mx_app_look.specs.Sessions.{IsBegun, begun_text, session_text}
+use Rattle.mx_app_look.specs.Sessions.{IsBegun, IsWhole, begun_text, session_text}
 use Rattle.mx_app_run.specs.Run.{Runs}
 use Rattle.mx_app_sweep.specs.Sweeping.{Sweeps}
 use Rattle.mx_app_sweep.specs.declared.sweeping.Swept.{Swept}
@@ -111,11 +111,12 @@ Draws config log range qs Prints (Ok how) =
     × IsDrawingPrinted (world_at_boot c vs) c.cpus records range.from range.to how Prints
 Draws config log range qs Prints (Err f) = IsTold IsSaved TellsSaved config log qs f
 
--- a session over a history: what it prints is determined by the lines that are typed
-abbrev pub Looks : List ℕ → List ℕ → Bool → List Asked → List (List ℕ) → (List ℕ → Type 0) → Result (Unit {0}) Kind → Type 0
+-- a session over a history: what it prints is determined by the lines that are typed, which it takes up to `quit` or to
+-- the end of the input
+abbrev pub Looks : List ℕ → List ℕ → Bool → List Asked → List (Option (List ℕ)) → (List ℕ → Type 0) → Result (Unit {0}) Kind → Type 0
 Looks config log asks qs typed Prints (Ok u) =
     (c : Config) × (vs : List Service) × (records : List Record) × (k : Walk) × IsStart IsSaved config log qs c vs records
-    × IsBegun (world_at_boot c vs) records k × Prints (begun_text asks k ++ session_text asks k typed)
+    × IsBegun (world_at_boot c vs) records k × IsWhole typed × Prints (begun_text asks k ++ session_text asks k typed)
 Looks config log asks qs typed Prints (Err f) = IsTold IsSaved TellsSaved config log qs f
 
 -- ---- requests
@@ -160,7 +161,7 @@ PerformsUntyped (Db config script) qs ws Prints r =
 
 -- WHAT IS DONE OF A REQUEST, by the files that were asked for and written, the lines that were typed, what is printed, and
 -- how it ends. Only a session takes lines
-abbrev pub Performs : CommandRequest → Bool → List Asked → List Written → List (List ℕ) → (List ℕ → Type 0) → Result ℕ Kind → Type 0
+abbrev pub Performs : CommandRequest → Bool → List Asked → List Written → List (Option (List ℕ)) → (List ℕ → Type 0) → Result ℕ Kind → Type 0
 Performs (Look config log) asks qs ws typed Prints r =
     (d : Result (Unit {0}) Kind) × (ws ≡ []) × Looks config.now log.now asks qs typed Prints d × (r ≡ status_after_work d)
 Performs request asks qs ws typed Prints r = (typed ≡ []) × PerformsUntyped request qs ws Prints r

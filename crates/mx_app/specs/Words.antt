@@ -71,7 +71,7 @@ IsAnswered line (Ok status) noted r = r ≡ Ok status
 IsAnswered line (Err f) noted r = (c : Complaint) × (r ≡ Err c) × IsTold line f noted c
 
 -- WHAT IS DONE OF WORDS: what the request does that they ask for; or, where the grammar finds them at fault, no file is asked for or written, and the fault is explained
-abbrev pub IsPerformed : List (List ℕ) → Bool → List Asked → List Written → List (List ℕ) → Noted → (List ℕ → Type 0) → Result ℕ Complaint → Type 0
+abbrev pub IsPerformed : List (List ℕ) → Bool → List Asked → List Written → List (Option (List ℕ)) → Noted → (List ℕ → Type 0) → Result ℕ Complaint → Type 0
 IsPerformed texts asks qs ws typed noted Prints r =
     ((line : CommandLine) × (d : Result ℕ Kind) × Asks line.request (subcommand_of mx_grammar texts) × AsksToExplain line.explains (subcommand_of mx_grammar texts)
     × Performs line.request asks qs ws typed Prints d × IsAnswered line d noted r)

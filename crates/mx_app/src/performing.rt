@@ -1,6 +1,6 @@
 //! Does what the program's words ask for.
 
-ghost use Rattle.std.specs.Prelude.{◌≡◌, ◌++◌, List, ℕ};
+ghost use Rattle.std.specs.Prelude.{◌≡◌, ◌++◌, List, Option, ℕ};
 ghost use Rattle.std.specs.Io.KnownBytes.{Appends};
 ghost use Rattle.mx_app_db.specs.Asked.{Asked};
 ghost use Rattle.mx_app_db.specs.Written.{Written};
@@ -85,7 +85,7 @@ pub fn perform<
     asks: bool,
     request: CommandRequest<'_>,
 ) -> Result<u8, Failure>
-    ensures { (qs : List Asked) × (ws : List Written) × (typed : List (List ℕ))
+    ensures { (qs : List Asked) × (ws : List Written) × (typed : List (Option (List ℕ)))
         × (R.asked channels.new.reader ≡ R.asked channels.old.reader ++ qs)
         × (F.written channels.new.files ≡ F.written channels.old.files ++ ws)
         × (L.given lines.new ≡ L.given lines.old ++ typed)

@@ -1,6 +1,6 @@
 //! From the words of the command line to a status.
 
-ghost use Rattle.std.specs.Prelude.{◌≡◌, ◌++◌, IfErr, List, map, ℕ};
+ghost use Rattle.std.specs.Prelude.{◌≡◌, ◌++◌, IfErr, List, Option, map, ℕ};
 ghost use Rattle.std.specs.Io.KnownBytes.{Appends};
 ghost use Rattle.mx_app_failure.specs.Failure.{IsWanting};
 ghost use Rattle.mx_app_db.specs.Asked.{Asked};
@@ -91,7 +91,7 @@ pub fn perform_words<
     lines: &mut L,
     asks: bool,
 ) -> Result<u8, Complaint>
-    ensures { (qs : List Asked) × (ws : List Written) × (typed : List (List ℕ))
+    ensures { (qs : List Asked) × (ws : List Written) × (typed : List (Option (List ℕ)))
         × (R.asked channels.new.reader.reader ≡ R.asked channels.old.reader.reader ++ qs)
         × (F.written channels.new.files.files ≡ F.written channels.old.files.files ++ ws)
         × (L.given lines.new ≡ L.given lines.old ++ typed)

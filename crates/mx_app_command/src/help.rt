@@ -291,7 +291,9 @@ At a terminal each command is asked for with the position. Commands:
 
 forward [N], back [N]    by records         step [N], stepback [N]    by events
 goto K, K.J or end       to a position      where, why                the record above
-ps, messages             as mx step, mx db  help, quit
+ps, messages             as mx step, mx db  print SLOT NAME           a variable
+regs, list, stack [SLOT] its process        mem SLOT ADDRESS N        its bytes
+help, quit
 
 Status: 0 the session ended; 1 a text or a program's file is refused; 2 a mistake in
 the words; 3 a file can't be read; 4 no memory. Formats: docs/use/REFERENCE.md.";

@@ -3,3 +3,4 @@ mod Moving
 mod Traced
 mod Starting
 mod Kernels
+mod Images

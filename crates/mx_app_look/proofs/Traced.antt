@@ -1,4 +1,4 @@
--- One session of the same lines; and what is told of the record above.
+-- One session of the same lines; and what is shown of the record above.
 use Rattle.std.proofs.Common.{◌≡◌, ◌∙◌, ℕ, zero, suc, ◌+◌, List, [], ◌∷◌, ◌++◌, take, Option, Some, None, slice_get, refl, ap, sym, subst, arith}
 use Rattle.std.proofs.lemmas.List.{append-nil}
 use Rattle.mx_machine.specs.declared.events.Event.{Event}
@@ -20,7 +20,7 @@ same_walk j k boot records here last =
     let c : record k { here = j.here; last = j.last } ≡ record k { last = j.last } = ap (λ (p : Position). let r : Walk = record k { here = p; last = j.last } in r) here in
     a ∙ b ∙ c ∙ ap (λ (p : Position). record k { last = p }) last
 
--- the steps that a record stands for
+-- the steps that a record has
 pub steps_are : (a : ℕ) (x : Recorded) → steps_of a (steps_in x) ≡ steps_before a x
 steps_are a recorded.Take = refl
 steps_are a (recorded.Back n) = refl

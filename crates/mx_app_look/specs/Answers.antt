@@ -2,7 +2,7 @@
 use Rattle.std.specs.Prelude.{ℕ, zero, suc, ◌+◌, ◌-◌, ◌%◌, ◌^◌, ◌==◌, Bool, true, false, List, [], ◌∷◌, ◌++◌, codes, Option, Some, None, if◌then◌else◌, slice_get}
 use Rattle.mx_app_step.specs.Report.{report_text}
 use Rattle.mx_look_line.specs.declared.request.Request.{Request}
-use Rattle.mx_look_line.specs.declared.request.Request.TheVariants.{Nothing, Forward, Back, Step, StepBack, GoTo, Where, Why, Processes, Messages, Help, Quit}
+use Rattle.mx_look_line.specs.declared.request.Request.TheVariants.{Nothing, Forward, Back, Step, StepBack, GoTo, Where, Why, Processes, Messages, Show, Help, Quit}
 use Rattle.mx_look_trace.specs.Glances.{glance_of}
 use Rattle.mx_look_trace.specs.Step.{Step as Seen}
 use Rattle.mx_look_trace.specs.Trace.{record_text}
@@ -14,6 +14,7 @@ use Rattle.mx_walk.specs.Positions.{steps_in, world_at}
 use Rattle.mx_walk.specs.Walks.{Walk, world_here}
 use Rattle.mx_app_look.specs.Moves.{back_from, can_go, forward_from, position_asked, steps_back, steps_on}
 use Rattle.mx_app_look.specs.Places.{place_text}
+use Rattle.mx_app_look.specs.Showing.{shown_text}
 
 -- ---- what the record above did
 
@@ -52,7 +53,7 @@ processes_text w = report_text w.table w.services ++ line_end (report_text w.tab
 -- ---- help
 
 abbrev pub help_text : List ℕ
-help_text = codes "forward [N]  on by N records           back [N]      back by N records\nstep [N]     on by N events            stepback [N]  back by N events\ngoto K       below K records           goto K.J      and J steps of the next\ngoto end     the last position         where         the position again\nwhy          what the record above did\nps           the report                messages      what was delivered\nhelp         this                      quit          the end\nA record stands for one event; back N stands for N steps of a process before it.\nA command may be shortened, as f, b or stepb. Without N it is 1.\n"
+help_text = codes "forward [N], back [N]       by N records, or one\nstep [N], stepback [N]      by N events, or one: a step, or what a record does besides\ngoto K, goto K.J, goto end  below K records; and J steps of the next; the last position\nwhere, why                  the position again; what the record above did\nps, messages                the report; what was delivered\nregs [SLOT]                 registers of the slot's process\nmem SLOT ADDRESS N          N bytes of its memory\nlist [SLOT [ADDRESS]]       its code, from the address or from EIP on\nstack [SLOT [N]]            N dwords of its stack, or eight\nprint SLOT NAME             its variable of that name\nhelp, quit                  this; the end\nA record is one event; back N is N steps of a process, and then its return.\nA command may be shortened, as f or stepb. Without SLOT it is the process on the\nprocessor whose record is next. ADDRESS is a number, decimal or 0x.., or a symbol\nof the slot's program, as count or top+4.\n"
 
 -- ---- REQUESTS
 
@@ -80,5 +81,6 @@ request_text k Where = place_text k
 request_text k Why = why_text k
 request_text k Processes = processes_text (world_here k)
 request_text k Messages = delivery_lines (world_here k).table.deliveries
+request_text k (Show s) = shown_text k s
 request_text k Help = help_text
 request_text k Quit = []

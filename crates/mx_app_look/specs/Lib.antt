@@ -1,4 +1,6 @@
 pub mod Places
 pub mod Moves
+pub mod Slots
+pub mod Showing
 pub mod Answers
 pub mod Sessions

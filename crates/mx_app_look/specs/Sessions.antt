@@ -1,5 +1,5 @@
 -- Sessions (our own).
-use Rattle.std.specs.Prelude.{◌≡◌, ℕ, Bool, true, false, List, [], ◌∷◌, ◌++◌, codes, Option, Some, None, if◌then◌else◌}
+use Rattle.std.specs.Prelude.{◌≡◌, ◌⊎◌, ◌^◌, ◌-◌, ℕ, Bool, true, false, List, [], ◌∷◌, ◌++◌, codes, length, Option, Some, None, if◌then◌else◌}
 use Rattle.mx_look_line.specs.declared.request.Request.{Request}
 use Rattle.mx_look_line.specs.declared.request.Request.TheVariants.{Quit}
 use Rattle.mx_look_line.specs.Requests.{request_of}
@@ -39,11 +39,32 @@ prompt_text asks k = if asks then position_text k.here ++ codes "> " else []
 abbrev pub answer_text : Bool → Walk → List ℕ → List ℕ
 answer_text asks k line = answer_by k line (request_of line) ++ prompt_text asks (after_line k line)
 
--- ---- THE SESSION: up to a line that ends it, or to the end of the input
+-- ---- WHAT A SESSION TAKES of its input: lines, and at the end of the input None
 
-abbrev pub session_text : Bool → Walk → List (List ℕ) → List ℕ
-session_text asks k [] = if asks then codes "\n" else []
-session_text asks k (l ∷ ls) = if ends l then [] else answer_text asks k l ++ session_text asks (after_line k l) ls
+abbrev pub is_nothing : List (Option (List ℕ)) → Bool
+is_nothing [] = true
+is_nothing (x ∷ xs) = false
+
+-- it is over after a line that ends it, or at the end of the input; and takes nothing more
+abbrev pub is_over : List (Option (List ℕ)) → Bool
+is_over [] = false
+is_over (None ∷ xs) = is_nothing xs
+is_over (Some l ∷ xs) = if ends l then is_nothing xs else is_over xs
+
+-- it is over, or it took as many lines as a number of 64 bits counts
+abbrev pub IsWhole : List (Option (List ℕ)) → Type 0
+IsWhole xs = (is_over xs ≡ true) ⊎ (length xs ≡ 2 ^ 64 - 1)
+
+-- ---- THE SESSION: what it prints
+
+-- at the end of the input, so that what follows begins a line
+abbrev pub end_text : Bool → List ℕ
+end_text asks = if asks then codes "\n" else []
+
+abbrev pub session_text : Bool → Walk → List (Option (List ℕ)) → List ℕ
+session_text asks k [] = []
+session_text asks k (None ∷ xs) = end_text asks
+session_text asks k (Some l ∷ xs) = if ends l then [] else answer_text asks k l ++ session_text asks (after_line k l) xs
 
 -- it begins with the first position of a history
 abbrev pub begun_text : Bool → Walk → List ℕ

@@ -11,6 +11,7 @@ ghost use Rattle.mx_app_look.specs.Sessions.{after_by, after_line, answer_by, an
 
 use crate::moves::{back_from, can_go, forward_from, position_asked, steps_back, steps_on};
 use crate::places::{push_place, push_position};
+use crate::showing::push_shown;
 use crate::telling::{push_deliveries, push_processes, push_why};
 use mx_app_step::{Failure, print_text};
 use mx_look_line::{PositionWord, Request, push_unknown, request_of};
@@ -20,7 +21,7 @@ use std::io::Write;
 
 /// What `help` prints.
 const HELP: &str =
-    "forward [N]  on by N records           back [N]      back by N records\nstep [N]     on by N events            stepback [N]  back by N events\ngoto K       below K records           goto K.J      and J steps of the next\ngoto end     the last position         where         the position again\nwhy          what the record above did\nps           the report                messages      what was delivered\nhelp         this                      quit          the end\nA record stands for one event; back N stands for N steps of a process before it.\nA command may be shortened, as f, b or stepb. Without N it is 1.\n";
+    "forward [N], back [N]       by N records, or one\nstep [N], stepback [N]      by N events, or one: a step, or what a record does besides\ngoto K, goto K.J, goto end  below K records; and J steps of the next; the last position\nwhere, why                  the position again; what the record above did\nps, messages                the report; what was delivered\nregs [SLOT]                 registers of the slot's process\nmem SLOT ADDRESS N          N bytes of its memory\nlist [SLOT [ADDRESS]]       its code, from the address or from EIP on\nstack [SLOT [N]]            N dwords of its stack, or eight\nprint SLOT NAME             its variable of that name\nhelp, quit                  this; the end\nA record is one event; back N is N steps of a process, and then its return.\nA command may be shortened, as f or stepb. Without SLOT it is the process on the\nprocessor whose record is next. ADDRESS is a number, decimal or 0x.., or a symbol\nof the slot's program, as count or top+4.\n";
 
 /// What a position that isn't there is answered.
 const NO_POSITION: &str = "refused 63 NoPosition\n";
@@ -109,6 +110,10 @@ pub(crate) fn perform(
             push_deliveries(alloc, out, &walker)?;
             Ok(walker)
         }
+        Request::Show(shown) => {
+            push_shown(alloc, out, &walker, &shown)?;
+            Ok(walker)
+        }
         Request::Help => {
             out.extend_from_slice(HELP.as_bytes())?;
             Ok(walker)
@@ -150,8 +155,8 @@ pub(crate) fn push_prompt(out: &mut Vec<u8>, asks: bool, walker: &Walker) -> Res
 }
 
 /// Whether a request ends the session.
-fn is_quit(request: Option<Request>) -> bool
-    ensures { result ≡ is_quit request }
+fn is_quit(request: &Option<Request>) -> bool
+    ensures { result ≡ is_quit request.now }
 {
     match request {
         Some(Request::Quit) => true,
@@ -174,7 +179,7 @@ pub(crate) fn answer_line<W: Write>(
         × Appends (W.contents out.old) (W.contents out.new) (answer_text asks walker line.now))) }
 {
     let request = request_of(line);
-    if is_quit(request) {
+    if is_quit(&request) {
         return Ok(None);
     }
     let mut text = Vec::new(alloc);

@@ -1,6 +1,6 @@
 //! Laws of sessions.
 
-ghost use Rattle.std.specs.Prelude.{◌≡◌, ◌<◌, ◌+◌, ◌++◌, ◌^◌, Bool, List, Some, slice_get, take, ℕ};
+ghost use Rattle.std.specs.Prelude.{◌≡◌, ◌<◌, ◌+◌, ◌++◌, ◌^◌, Bool, List, Option, Some, slice_get, take, ℕ};
 ghost use Rattle.mx_app_step.specs.Traces.{step_of};
 ghost use Rattle.mx_machine.specs.History.{events_of_history, world_after_events};
 ghost use Rattle.mx_machine.specs.World.{World};
@@ -15,14 +15,14 @@ use mx_walk::{one_last, positions_replay};
 /// lines that are typed.
 pub fn one_session()
     ensures { (boot : World) (records : List Record) (j k : Walk) (asks : Bool)
-        (typed : List (List ℕ)) → IsBegun boot records j → IsBegun boot records k
+        (typed : List (Option (List ℕ))) → IsBegun boot records j → IsBegun boot records k
         → begun_text asks j ++ session_text asks j typed
         ≡ begun_text asks k ++ session_text asks k typed }
 {
     one_last();
 }
 
-/// Law: what `why` shows of a record is the step of which a trace tells.
+/// Law: what `why` shows of a record is the step that a trace shows.
 pub fn why_is_traced()
     ensures { (boot : World) (records : List Record) (n : ℕ) (x : Record) → n + 1 < 2 ^ 32
         → slice_get records n ≡ Some x → step_above boot records n x

@@ -6,6 +6,8 @@ mod laws;
 mod moves;
 mod places;
 mod session;
+mod showing;
+mod slots;
 mod telling;
 
 pub use laws::{one_session, why_is_traced};

@@ -55,7 +55,7 @@ fn push_record_line(out: &mut Vec<u8>, number: usize, entry: Record) -> Result<(
 }
 
 /// The symbols of a slot's program; none if the slot has no service.
-fn symbols_of(kernel: &Kernel, slot: Slot) -> &[Symbol]
+pub(crate) fn symbols_of(kernel: &Kernel, slot: Slot) -> &[Symbol]
     ensures { result.now ≡ symbols_by (slice_get (replay kernel.now).services slot) }
 {
     kernel.opened();

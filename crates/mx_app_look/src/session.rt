@@ -1,6 +1,6 @@
 //! Sessions: from the files' names, through the lines that are typed, to the end.
 
-ghost use Rattle.std.specs.Prelude.{◌≡◌, ◌<◌, ◌++◌, All, IfErr, List, OnOk, ℕ};
+ghost use Rattle.std.specs.Prelude.{◌≡◌, ◌<◌, ◌++◌, All, IfErr, List, OnOk, Option, ℕ};
 ghost use Rattle.std.specs.Io.KnownBytes.{Appends};
 ghost use Rattle.mx_app_step.specs.Asked.{Asked};
 ghost use Rattle.mx_app_step.specs.Config.{Config as Configured};
@@ -12,7 +12,7 @@ ghost use Rattle.mx_app_step.specs.Telling.{IsTold};
 ghost use Rattle.mx_machine.specs.Boot.{world_at_boot};
 ghost use Rattle.mx_machine.specs.declared.history.Record.{Record as Noted};
 ghost use Rattle.mx_walk.specs.Walks.{Walk};
-ghost use Rattle.mx_app_look.specs.Sessions.{IsBegun, begun_text, session_text};
+ghost use Rattle.mx_app_look.specs.Sessions.{IsBegun, IsWhole, begun_text, end_text, session_text};
 
 use crate::answering::{answer_line, push_prompt};
 use crate::places::push_place;
@@ -41,7 +41,16 @@ fn begin<W: Write>(
     print_text(text.as_slice(), out)
 }
 
-/// Answers lines up to one that ends the session, or to the end of the input.
+/// Ends the line of the prompt at the end of the input.
+fn print_end<W: Write>(asks: bool, out: &mut W) -> Result<(), Failure>
+    ensures err { IfErr result IsWanting }
+    ensures printed { OnOk result (Appends (W.contents out.old) (W.contents out.new) (end_text asks)) }
+{
+    let end = if asks { "\n" } else { "" };
+    print_text(end.as_bytes(), out)
+}
+
+/// Answers lines up to one that ends the session, or to the end of the input. No session reaches the count.
 fn converse<L: LineReader, W: Write>(
     alloc: Global,
     walker: Walker,
@@ -49,25 +58,24 @@ fn converse<L: LineReader, W: Write>(
     asks: bool,
     out: &mut W,
 ) -> Result<(), Failure>
-    ensures err { IfErr result (λ f. IsWanting f × ((typed : List (List ℕ))
+    ensures err { IfErr result (λ f. IsWanting f × ((typed : List (Option (List ℕ)))
         × (L.given lines.new ≡ L.given lines.old ++ typed))) }
-    ensures printed { OnOk result ((typed : List (List ℕ))
-        × (L.given lines.new ≡ L.given lines.old ++ typed)
+    ensures printed { OnOk result ((typed : List (Option (List ℕ)))
+        × (L.given lines.new ≡ L.given lines.old ++ typed) × IsWhole typed
         × Appends (W.contents out.old) (W.contents out.new) (session_text asks walker typed)) }
 {
     let mut walker = walker;
     let mut line = Vec::new(alloc);
     for _ in 0..u64::MAX {
         if !lines.next(&mut line)? {
-            break;
+            return print_end(asks, out);
         }
         match answer_line(alloc, walker, line.as_slice(), asks, out)? {
             Some(next) => walker = next,
             None => return Ok(()),
         }
     }
-    let end = if asks { "\n" } else { "" };
-    print_text(end.as_bytes(), out)
+    Ok(())
 }
 
 /// The names of the files of a configuration and of a saved history.
@@ -78,8 +86,9 @@ pub struct SessionNames<'a> {
 }
 
 /// Starts the machine of a saved history, and answers the lines that are typed: requests to go forward and
-/// back in the history, and to show what is there. With `asks` it prints the position before each line. A
-/// session's text is a function of the configuration, the programs, the history and the lines.
+/// back in the history, and to show what is there. It takes lines up to `quit` or to the end of the input, and
+/// none after that. With `asks` it prints the position before each line. A session's text is a function of the
+/// configuration, the programs, the history and the lines.
 pub fn look<R: Reader, L: LineReader, W: Write>(
     alloc: Global,
     reader: &mut R,
@@ -89,14 +98,14 @@ pub fn look<R: Reader, L: LineReader, W: Write>(
     out: &mut W,
 ) -> Result<(), Failure>
     ensures printed { OnOk result ((qs : List Asked) × (c : Configured) × (vs : List Service)
-        × (records : List Noted) × (k : Walk) × (typed : List (List ℕ))
+        × (records : List Noted) × (k : Walk) × (typed : List (Option (List ℕ)))
         × (R.asked reader.new ≡ R.asked reader.old ++ qs)
-        × (L.given lines.new ≡ L.given lines.old ++ typed)
+        × (L.given lines.new ≡ L.given lines.old ++ typed) × IsWhole typed
         × IsStart IsSaved names.entry.config.now names.entry.log.now qs c vs records
         × IsBegun (world_at_boot c vs) records k
         × Appends (W.contents out.old) (W.contents out.new)
         (begun_text asks k ++ session_text asks k typed)) }
-    ensures fault { IfErr result (λ f. (qs : List Asked) × (typed : List (List ℕ))
+    ensures fault { IfErr result (λ f. (qs : List Asked) × (typed : List (Option (List ℕ)))
         × (R.asked reader.new ≡ R.asked reader.old ++ qs)
         × (L.given lines.new ≡ L.given lines.old ++ typed)
         × IsTold IsSaved TellsSaved names.entry.config.now names.entry.log.now qs f) }

@@ -98,7 +98,7 @@ pub(crate) fn push_processes(
     Ok(())
 }
 
-/// Appends the deliveries that are kept.
+/// Appends the recorded deliveries.
 pub(crate) fn push_deliveries(
     alloc: Global,
     out: &mut Vec<u8>,

@@ -1,5 +1,5 @@
 -- What a reader was asked for (our own).
-use Rattle.std.specs.Prelude.{ℕ, List, map, Result, Ok, Err}
+use Rattle.std.specs.Prelude.{ℕ, Bool, if◌then◌else◌, List, map, Option, Some, None, Result, Ok, Err}
 use Rattle.std.specs.declared.io.ErrorKind.{ErrorKind}
 use Rattle.mx_app_start.specs.declared.noted.Noted.{Noted}
 
@@ -31,7 +31,15 @@ asked_of p = record { name = noted_bytes p.0; answer = answer_of p.1 }
 abbrev pub asked_in : List (Noted ℕ × Result (Noted ℕ) ErrorKind) → List Asked
 asked_in answers = map asked_of answers
 
--- ---- lines that were typed
+-- ---- lines that were typed, and ends of the input
 
-abbrev pub lines_in : List (Noted ℕ) → List (List ℕ)
-lines_in lines = map noted_bytes lines
+abbrev pub line_in : Option (Noted ℕ) → Option (List ℕ)
+line_in None = None
+line_in (Some line) = Some (noted_bytes line)
+
+abbrev pub lines_in : List (Option (Noted ℕ)) → List (Option (List ℕ))
+lines_in lines = map line_in lines
+
+-- what is remembered of an answer: the line, or that the input ends
+abbrev pub line_or_end : Bool → List ℕ → Option (List ℕ)
+line_or_end more line = if more then Some line else None

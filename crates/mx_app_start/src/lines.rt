@@ -1,27 +1,28 @@
 //! What gives the lines that are typed.
 
-ghost use Rattle.std.specs.Prelude.{◌≡◌, ◌++◌, ◌∷◌, [], ℕ, List, IfOk, OnErr, true, false};
-ghost use Rattle.mx_app_start.specs.Asked.{lines_in};
+ghost use Rattle.std.specs.Prelude.{◌≡◌, ◌++◌, ◌∷◌, [], ℕ, List, Option, Some, None, IfOk, OnErr, true, false};
+ghost use Rattle.mx_app_start.specs.Asked.{line_in, line_or_end, lines_in};
 
 use crate::noted::Noted;
 use crate::noting::{Bytes, bytes_noted};
 use std::io;
 use std::io::{BufRead, Read};
 
-/// How many bytes of a line are kept. A session refuses a line that is so long.
-const KEPT: usize = 4097;
+/// How many bytes of a line are given. A session refuses a line that is so long.
+const GIVEN: usize = 4097;
 
 /// Gives the lines that are typed.
 pub trait LineReader {
-    /// The lines that it gave, in order.
-    ghost given: { Self → List (List ℕ) };
+    /// Its answers, in order: a line, or `None` at the end of the input.
+    ghost given: { Self → List (Option (List ℕ)) };
 
     /// Puts the next line, without its line feed, in place of what `line` had. Answers false at the end of
-    /// the input. Out of memory is the error `OutOfMemory`.
+    /// the input; a terminal may give lines after it. Out of memory is the error `OutOfMemory`.
     fn next(&mut self, line: &mut Vec<u8>) -> io::Result<bool>
         ensures more { IfOk result (λ more. more ≡ true
-            → given self.new ≡ given self.old ++ line.new.items ∷ []) }
-        ensures end { IfOk result (λ more. more ≡ false → given self.new ≡ given self.old) }
+            → given self.new ≡ given self.old ++ Some line.new.items ∷ []) }
+        ensures end { IfOk result (λ more. more ≡ false
+            → given self.new ≡ given self.old ++ None ∷ []) }
         ensures failed { OnErr result (given self.new ≡ given self.old) };
 }
 
@@ -30,7 +31,7 @@ pub trait LineReader {
 #[derive(Drop)]
 pub struct InputLines<B: Drop> {
     input: B,
-    lines: Noted<Bytes>,
+    lines: Noted<Option<Bytes>>,
 }
 
 impl<B: Drop> InputLines<B> {
@@ -45,12 +46,19 @@ impl<B: Drop> InputLines<B> {
     }
 }
 
+/// Remembers an answer: a line, or the end of the input.
+fn line_noted(more: bool, line: &[u8]) -> Option<Bytes>
+    ensures { line_in result ≡ line_or_end more line.now }
+{
+    if more { Some(bytes_noted(line)) } else { None }
+}
+
 /// Reads a line, or its first bytes if it is too long. Answers false at the end of the input.
 fn read_line<B: BufRead>(input: &mut B, line: &mut Vec<u8>) -> io::Result<bool> {
-    let count = input.by_ref().take(KEPT as u64).read_until(b'\n', line)?;
+    let count = input.by_ref().take(GIVEN as u64).read_until(b'\n', line)?;
     if line.last() == Some(&b'\n') {
         line.pop();
-    } else if count >= KEPT {
+    } else if count >= GIVEN {
         input.skip_until(b'\n')?;
     }
     Ok(count > 0)
@@ -62,9 +70,7 @@ impl<B: BufRead + Drop> LineReader for InputLines<B> {
     fn next(&mut self, line: &mut Vec<u8>) -> io::Result<bool> {
         line.clear();
         let more = read_line(&mut self.input, line)?;
-        if more {
-            self.lines = self.lines.and(&bytes_noted(line.as_slice()));
-        }
+        self.lines = self.lines.and(&line_noted(more, line.as_slice()));
         Ok(more)
     }
 }

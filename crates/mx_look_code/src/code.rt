@@ -21,7 +21,7 @@ fn visible(byte: u8) -> u8
 }
 
 /// Appends a symbol's name up to its first zero byte.
-fn push_name(out: &mut String, name: &[u8]) -> Result<(), AllocError>
+pub(crate) fn push_name(out: &mut String, name: &[u8]) -> Result<(), AllocError>
     ensures { OnOk result (string_bytes out.new ≡ string_bytes out.old ++ name_text name.now) }
 {
     for byte in name {

@@ -1,10 +1,17 @@
-//! Lines of code, as it stands in a process's memory now, with the nearest symbol.
+//! What is shown of a process, by its program's symbols: lines of its code as it is in memory now, its stack and
+//! its variables.
 #![tactic(auto)]
 
 mod code;
+mod lines;
 mod nearest;
+mod stack;
+mod variables;
 
 pub use code::{code_part, push_code, push_code_line};
+pub use lines::push_code_lines;
 pub use mx_aout::Symbol;
 pub use mx_dis::Part;
 pub use nearest::nearest_symbol;
+pub use stack::push_stack;
+pub use variables::{push_variable, variable_named, variable_value};

@@ -1,2 +1,4 @@
 pub mod Verbs
+pub mod Addresses
+pub mod Shown
 pub mod Requests

@@ -9,6 +9,8 @@ use Rattle.mx_look_line.specs.declared.request.Request.{Request}
 use Rattle.mx_look_line.specs.declared.request.Request.TheVariants as request
 use Rattle.mx_look_line.specs.declared.verb.Verb.{Verb}
 use Rattle.mx_look_line.specs.declared.verb.Verb.TheVariants as verb
+use Rattle.mx_look_line.specs.declared.shown.Shown.{Shown}
+use Rattle.mx_look_line.specs.Shown.{code_of_fields, memory_of_fields, registers_of_fields, stack_of_fields, variable_of_fields}
 use Rattle.mx_look_line.specs.Verbs.{verb_of}
 
 -- ---- positions
@@ -39,6 +41,12 @@ abbrev pub without_fields : List (List ℕ) → Request → Option Request
 without_fields [] r = Some r
 without_fields (f ∷ fs) r = None
 
+-- what is asked for of a slot's process, if the fields say that
+abbrev pub show : Option Shown → Option Request
+show shown = do
+  s ← shown
+  Some (request.Show s)
+
 -- what a line asks for that begins with a verb and goes on with these fields
 abbrev pub request_by : Verb → List (List ℕ) → Option Request
 request_by verb.Forward fs = do
@@ -61,6 +69,11 @@ request_by verb.Where fs = without_fields fs request.Where
 request_by verb.Why fs = without_fields fs request.Why
 request_by verb.Processes fs = without_fields fs request.Processes
 request_by verb.Messages fs = without_fields fs request.Messages
+request_by verb.Registers fs = show (registers_of_fields fs)
+request_by verb.Memory fs = show (memory_of_fields fs)
+request_by verb.Listing fs = show (code_of_fields fs)
+request_by verb.Stack fs = show (stack_of_fields fs)
+request_by verb.Print fs = show (variable_of_fields fs)
 request_by verb.Help fs = without_fields fs request.Help
 request_by verb.Quit fs = without_fields fs request.Quit
 

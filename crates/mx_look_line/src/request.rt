@@ -5,6 +5,7 @@ ghost use Rattle.mx_text.specs.Fields.{fields};
 ghost use Rattle.mx_look_line.specs.Requests.{count_or_one, request_by, request_of, without_fields};
 
 use crate::position_word::{PositionWord, position_named};
+use crate::shown::{Shown, code, memory, registers, stack, variable};
 use crate::verb::{Verb, verb_named};
 use mx_boot::{count, only_count};
 use mx_text::{next_field, one_field};
@@ -13,7 +14,7 @@ use mx_text::{next_field, one_field};
 const LONGEST: usize = 4096;
 
 /// What a typed line asks for.
-#[derive(Clone, Copy, Debug, PartialEq, Eq)]
+#[derive(Drop)]
 pub enum Request {
     /// An empty line.
     Nothing,
@@ -33,8 +34,10 @@ pub enum Request {
     Why,
     /// The report.
     Processes,
-    /// The deliveries that are kept.
+    /// The recorded deliveries.
     Messages,
+    /// What is asked for of a slot's process.
+    Show(Shown),
     /// The commands.
     Help,
     /// The end of the session.
@@ -75,6 +78,11 @@ fn request_by(verb: Verb, rest: &[u8]) -> Option<Request>
         Verb::Why => without_fields(rest, Request::Why),
         Verb::Processes => without_fields(rest, Request::Processes),
         Verb::Messages => without_fields(rest, Request::Messages),
+        Verb::Registers => Some(Request::Show(registers(rest)?)),
+        Verb::Memory => Some(Request::Show(memory(rest)?)),
+        Verb::Listing => Some(Request::Show(code(rest)?)),
+        Verb::Stack => Some(Request::Show(stack(rest)?)),
+        Verb::Print => Some(Request::Show(variable(rest)?)),
         Verb::Help => without_fields(rest, Request::Help),
         Verb::Quit => without_fields(rest, Request::Quit),
     }

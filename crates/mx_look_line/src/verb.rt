@@ -15,9 +15,14 @@ pub enum Verb {
     Forward,
     GoTo,
     Help,
+    Listing,
+    Memory,
     Messages,
+    Print,
     Processes,
     Quit,
+    Registers,
+    Stack,
     Step,
     StepBack,
     Where,
@@ -25,14 +30,19 @@ pub enum Verb {
 }
 
 /// All verbs, in the order of their words.
-const VERBS: [Verb; 11] = [
+const VERBS: [Verb; 16] = [
     Verb::Back,
     Verb::Forward,
     Verb::GoTo,
     Verb::Help,
+    Verb::Listing,
+    Verb::Memory,
     Verb::Messages,
+    Verb::Print,
     Verb::Processes,
     Verb::Quit,
+    Verb::Registers,
+    Verb::Stack,
     Verb::Step,
     Verb::StepBack,
     Verb::Where,
@@ -49,9 +59,14 @@ impl Verb {
             Verb::Forward => b"forward",
             Verb::GoTo => b"goto",
             Verb::Help => b"help",
+            Verb::Listing => b"list",
+            Verb::Memory => b"mem",
             Verb::Messages => b"messages",
+            Verb::Print => b"print",
             Verb::Processes => b"ps",
             Verb::Quit => b"quit",
+            Verb::Registers => b"regs",
+            Verb::Stack => b"stack",
             Verb::Step => b"step",
             Verb::StepBack => b"stepback",
             Verb::Where => b"where",
@@ -88,7 +103,7 @@ fn count_begun(verbs: &[Verb], front: &[u8]) -> usize
     verbs.iter().filter(|verb| verb.begins_with(front)).count()
 }
 
-/// The verb that a word is, or whose word alone begins so.
+/// The verb that a word is; else the only verb whose word begins so.
 #[tactic(auto, unfolding(crate::specs::Verbs::verb_of))]
 pub(crate) fn verb_named(word: &[u8]) -> Option<Verb>
     ensures { result ≡ verb_of word.now }

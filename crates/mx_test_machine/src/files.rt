@@ -384,6 +384,22 @@ const GRANTS: &[u8] = &[
     0xCD, 0x21, // int 0x21
 ];
 
+/// A call, after a push of -2.
+const CALLS: &[u8] = &[
+    // The header: text 0x10, data 0x0, bss 0x80, entry 0x0, total 0x1000, symbols 0x20.
+    1, 3, 0x30, 0x10, 0x20, 0, 0, 0, 0x10, 0, 0, 0, 0, 0, 0, 0, 0x80, 0, 0, 0, 0, 0, 0, 0, 0, 0x10,
+    0, 0, 0x20, 0, 0, 0,
+    // The text.
+    0x6A, 0xFE, // push 0xfffffffe
+    0xE8, 2, 0, 0, 0, // call 0x9
+    0xCD, 0x21, // int 0x21
+    0xB8, 0xFF, 0xFF, 0xFF, 0xFF, // mov eax, 0xffffffff
+    0xCD, 0x21, // int 0x21
+    // The symbols.
+    0x74, 0x6F, 0x70, 0, 0, 0, 0, 0, 0, 0, 0, 0, 2, 0, 0, 0, // top: 0x0 of the text
+    0x65, 0x6E, 0x64, 0, 0, 0, 0, 0, 9, 0, 0, 0, 2, 0, 0, 0, // end: 0x9 of the text
+];
+
 static FILES: &[NamedFile<'static>] = &[
     NamedFile {
         name: "pair",
@@ -393,6 +409,19 @@ static FILES: &[NamedFile<'static>] = &[
         name: "one",
         bytes: b"cpus 1\nlog 8\n\
             service a a.out traps 1e send 0 calls 0 level 7 best 5 quantum 5 restarts 0\n",
+    },
+    NamedFile {
+        name: "calls",
+        bytes: b"cpus 1\nlog 8\n\
+            service a calls.out traps 1e send 0 calls 0 level 7 best 5 quantum 5 restarts 0\n",
+    },
+    NamedFile {
+        name: "called",
+        bytes: b"0 take\n0 back 3\n",
+    },
+    NamedFile {
+        name: "calls.out",
+        bytes: CALLS,
     },
     NamedFile {
         name: "full",

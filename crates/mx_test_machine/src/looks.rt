@@ -95,10 +95,10 @@ static SESSIONS: &[Session] = &[
                   at 1 of 4, record 2: 0 back 3\na 0 00000000 mov eax, 0x5\n\
                   at 3 of 4, record 4: 0 back 1\na 0 0000000a \n\
                   at 2 of 4, record 3: 0 take\n\
-                  refused 73 BadRecord: step, stepback\n\
+                  refused 73 BadRecord: stack, step, stepback\n\
                   refused 73 BadRecord: where, why\n\
                   at 1.3 of 4, record 2: 0 back 3\n\
-                  refused 73 BadRecord: step, stepback\n\
+                  refused 73 BadRecord: stack, step, stepback\n\
                   refused 73 BadRecord\nrefused 73 BadRecord\nrefused 73 BadRecord\n\
                   refused 73 BadRecord\nrefused 73 BadRecord\n",
     },
@@ -149,6 +149,93 @@ static SESSIONS: &[Session] = &[
     },
 ];
 
+/// Sessions over the history of a driver and its client. At 5.1 the driver, which has the client's message, is on
+/// the processor, and the client awaits its answer.
+static OF_A_PAIR: &[Session] = &[
+    Session {
+        name: "registers of the process on the processor, of one at home, and of none",
+        log: "pair_log",
+        asks: false,
+        typed: b"regs\ngoto 5.1\nregs\nregs 0\nregs 1\nregs 2\nregs 0 1\n",
+        printed: "at 0 of 10, record 1: 0 take\nrefused 61 NotHere\n\
+                  at 5.1 of 10, record 6: 0 back 3\ndrv 0 00000017 top+17 mov ecx, 0x1\n\
+                  EAX 00000001 ECX 00000002 EDX 00000000 EBX 00000000\n\
+                  ESP 00001000 EBP 00000000 ESI 00000000 EDI 00000000\n\
+                  EIP 00000017 CF 0 PF 0 AF 0 ZF 0 SF 0 DF 0 OF 0\n\
+                  EAX 00000001 ECX 00000002 EDX 00000000 EBX 00000000\n\
+                  ESP 00001000 EBP 00000000 ESI 00000000 EDI 00000000\n\
+                  EIP 00000017 CF 0 PF 0 AF 0 ZF 0 SF 0 DF 0 OF 0\n\
+                  EAX 00000000 ECX 00000003 EDX 00000000 EBX 00000000\n\
+                  ESP 00001000 EBP 00000000 ESI 00000000 EDI 00000000\n\
+                  EIP 00000011 CF 0 PF 0 AF 0 ZF 0 SF 0 DF 0 OF 0\n\
+                  refused 42 NoService\nrefused 73 BadRecord\n",
+    },
+    Session {
+        name: "bytes, by numbers and by symbols",
+        log: "pair_log",
+        asks: false,
+        typed: b"goto 5.1\nmem 0 0 4\nmem 0 buf 4\nmem 0 buf+1 2\nmem 0 buf+0x10 17\n\
+            mem 0 0xfFf 1\nmem 0 0x1000 1\nmem 0 4095 2\nmem 0 0xffffffff 1\n",
+        printed: "at 0 of 10, record 1: 0 take\n\
+                  at 5.1 of 10, record 6: 0 back 3\ndrv 0 00000017 top+17 mov ecx, 0x1\n\
+                  00000000 01 00 00 00\n00000000 01 00 00 00\n00000001 00 00\n\
+                  00000010 00 00 00 00 00 00 00 00 00 00 00 00 00 00 00 00\n00000020 00\n\
+                  00000fff 00\nrefused 61 NotHere\nrefused 61 NotHere\nrefused 61 NotHere\n",
+    },
+    Session {
+        name: "addresses and slots that aren't there, and what is no address",
+        log: "pair_log",
+        asks: false,
+        typed: b"mem 0 bof 4\nmem 0 buffer+999 4\nmem 0 too_long_a_name 4\nmem 2 bof 4\n\
+            mem 0 buf+ 4\nmem 0 0x 4\nmem 0 0x100000000 4\nmem 0 2147483648 4\nmem 0 12a 4\n\
+            mem 0 buf\nmem\nlist 0 top more\n",
+        printed: "at 0 of 10, record 1: 0 take\n\
+                  refused 60 NoSymbol\nrefused 60 NoSymbol\nrefused 60 NoSymbol\n\
+                  refused 42 NoService\nrefused 73 BadRecord\nrefused 73 BadRecord\n\
+                  refused 73 BadRecord\nrefused 73 BadRecord\nrefused 73 BadRecord\n\
+                  refused 73 BadRecord\nrefused 73 BadRecord\nrefused 73 BadRecord\n",
+    },
+    Session {
+        name: "code from EIP on, from an address on, without symbols, and past its end",
+        log: "pair_log",
+        asks: false,
+        typed: b"list\ngoto 5.1\nlist\nlist 0 top+0x1c\nlist 1\nlist 0 18\nlist 0 0x23\nlist 2\n",
+        printed: "at 0 of 10, record 1: 0 take\nrefused 61 NotHere\n\
+                  at 5.1 of 10, record 6: 0 back 3\ndrv 0 00000017 top+17 mov ecx, 0x1\n\
+                  00000017 top+17 mov ecx, 0x1\n0000001c top+1c int 0x21\n0000001e top+1e jmp 0x0\n\
+                  0000001c top+1c int 0x21\n0000001e top+1e jmp 0x0\n\
+                  00000011 mov dword [0x4], 0x600\n0000001b mov ecx, 0x3\n\
+                  00000020 mov eax, 0xfffffffe\n00000025 int 0x21\n\
+                  00000012 top+12 add eax, 0x0\n00000017 top+17 mov ecx, 0x1\n\
+                  0000001c top+1c int 0x21\n0000001e top+1e jmp 0x0\n\
+                  refused 42 NoService\n",
+    },
+    Session {
+        name: "variables, and what is none",
+        log: "pair_log",
+        asks: false,
+        typed: b"goto 5.1\nprint 0 buf\np 1 buf\nprint 0 top\nprint 0 0\nprint 2 buf\npr 0\n",
+        printed: "at 0 of 10, record 1: 0 take\n\
+                  at 5.1 of 10, record 6: 0 back 3\ndrv 0 00000017 top+17 mov ecx, 0x1\n\
+                  00000000 buf 00000001 1\nrefused 73 BadRecord: print, ps\n\
+                  refused 60 NoSymbol\nrefused 60 NoSymbol\nrefused 42 NoService\n\
+                  refused 73 BadRecord\n",
+    },
+];
+
+/// Sessions over the history of a process that calls.
+static OF_A_CALL: &[Session] = &[Session {
+    name: "a stack that is empty, with a return address, and cut off",
+    log: "called",
+    asks: false,
+    typed: b"stack\nstack 0\ngoto 1.2\nstack\nstack 0 1\nsta 0 0\nstack 1\nstack 0 1 1\n",
+    printed: "at 0 of 2, record 1: 0 take\nrefused 61 NotHere\n\
+              at 1.2 of 2, record 2: 0 back 3\na 0 00000009 end mov eax, 0xffffffff\n\
+              00000ff8 00000007 top+7 int 0x21\n00000ffc fffffffe\n\
+              00000ff8 00000007 top+7 int 0x21\n\
+              refused 42 NoService\nrefused 73 BadRecord\n",
+}];
+
 fn is_printed<R: Threads + Wait + Clock + Sync>(
     rt: &R,
     alloc: Global,
@@ -174,6 +261,14 @@ fn sessions(rt: HostRuntime) -> Result<(), Fail> {
     for row in SESSIONS {
         let name = row.name;
         assert!(rt; is_printed(&rt, rt.alloc(), "one", row), "{name}");
+    }
+    for row in OF_A_PAIR {
+        let name = row.name;
+        assert!(rt; is_printed(&rt, rt.alloc(), "pair", row), "{name}");
+    }
+    for row in OF_A_CALL {
+        let name = row.name;
+        assert!(rt; is_printed(&rt, rt.alloc(), "calls", row), "{name}");
     }
     Ok(())
 }

@@ -58,10 +58,11 @@ returns-clause-printed g c =
       b.0,
       s.3,
       b.1,
+      b.2,
       s.4,
       begun,
       Appends-trans (g.W.Write.contents c.args.out.now) (g.W.Write.contents c.begin.new.out) (g.W.Write.contents c.converse.new.out) (begun_text c.args.asks k) (session_text c.args.asks k b.0) c.in_ok-begin.ensures.printed
-          (subst (λ (j : Walk). Appends (g.W.Write.contents c.begin.new.out) (g.W.Write.contents c.converse.new.out) (session_text c.args.asks j b.0)) c.in_ok-begin.ensures.same b.2),
+          (subst (λ (j : Walk). Appends (g.W.Write.contents c.begin.new.out) (g.W.Write.contents c.converse.new.out) (session_text c.args.asks j b.0)) c.in_ok-begin.ensures.same b.3),
     )) c.converse.ensures.printed
 
 pub returns-clause-fault : goal.returns-clause-fault

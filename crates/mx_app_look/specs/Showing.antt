@@ -1,0 +1,105 @@
+-- What is shown of a slot's process (our own).
+use Rattle.std.specs.Prelude.{ℕ, List, ◌++◌, codes, Option, Some, None, Result, Ok, Err, slice_get}
+use Rattle.mx_aout.specs.declared.program.Symbol.{Symbol}
+use Rattle.mx_exec.specs.declared.image.Image.{Image}
+use Rattle.mx_look_code.specs.Lines.{code_lines}
+use Rattle.mx_look_code.specs.Stack.{stack_text}
+use Rattle.mx_look_code.specs.Variables.{variable_line, variable_named, variable_value}
+use Rattle.mx_look_line.specs.declared.address_word.AddressWord.{AddressWord}
+use Rattle.mx_look_line.specs.declared.shown.Shown.{Shown}
+use Rattle.mx_look_line.specs.declared.shown.Shown.TheVariants.{Code, Memory, Registers, Stack, Variable}
+use Rattle.mx_machine.specs.World.{World}
+use Rattle.mx_print_answers.specs.Answers.{refused_line}
+use Rattle.mx_print_answers.specs.DebugError.TheVariants.{NoSymbol}
+use Rattle.mx_print_answers.specs.Processes.{memory_text, not_here, registers_text}
+use Rattle.mx_print_answers.specs.declared.refused.Refused.{Refused as Kind}
+use Rattle.mx_print_answers.specs.declared.refused.Refused.TheVariants.{ByDebugger}
+use Rattle.mx_walk.specs.Walks.{Walk, world_here}
+use Rattle.mx_app_look.specs.Places.{symbols_by}
+use Rattle.mx_app_look.specs.Slots.{address_asked, image_in, slot_asked}
+
+-- why nothing is shown
+abbrev pub refused_text : Kind → List ℕ
+refused_text r = refused_line r ++ codes "\n"
+
+abbrev pub symbols_in : World → ℕ → List Symbol
+symbols_in w s = symbols_by (slice_get w.services s)
+
+-- ---- regs
+
+abbrev pub registers_by : World → Result ℕ Kind → List ℕ
+registers_by w (Ok s) = registers_text (image_in w s)
+registers_by w (Err r) = refused_text r
+
+-- ---- mem: bytes from an address on
+
+abbrev pub bytes_by : World → ℕ → ℕ → Result ℕ Kind → List ℕ
+bytes_by w s n (Ok from) = memory_text (image_in w s) from n
+bytes_by w s n (Err r) = refused_text r
+
+abbrev pub memory_by : World → AddressWord → ℕ → Result ℕ Kind → List ℕ
+memory_by w a n (Ok s) = bytes_by w s n (address_asked w s a)
+memory_by w a n (Err r) = refused_text r
+
+-- ---- list: eight instructions, from an address or from the next one on
+
+abbrev pub code_at : List Symbol → Option Image → ℕ → List ℕ
+code_at symbols None at = not_here
+code_at symbols (Some m) at = code_lines 8 symbols m at
+
+abbrev pub code_next : List Symbol → Option Image → List ℕ
+code_next symbols None = not_here
+code_next symbols (Some m) = code_lines 8 symbols m m.eip
+
+abbrev pub code_from : World → ℕ → Result ℕ Kind → List ℕ
+code_from w s (Ok at) = code_at (symbols_in w s) (image_in w s) at
+code_from w s (Err r) = refused_text r
+
+abbrev pub code_of : World → ℕ → Option AddressWord → List ℕ
+code_of w s None = code_next (symbols_in w s) (image_in w s)
+code_of w s (Some a) = code_from w s (address_asked w s a)
+
+abbrev pub code_by : World → Option AddressWord → Result ℕ Kind → List ℕ
+code_by w a (Ok s) = code_of w s a
+code_by w a (Err r) = refused_text r
+
+-- ---- stack
+
+abbrev pub stack_of : ℕ → List Symbol → Option Image → List ℕ
+stack_of n symbols None = not_here
+stack_of n symbols (Some m) = stack_text n symbols m
+
+abbrev pub stack_by : World → ℕ → Result ℕ Kind → List ℕ
+stack_by w n (Ok s) = stack_of n (symbols_in w s) (image_in w s)
+stack_by w n (Err r) = refused_text r
+
+-- ---- print: the dword of a variable
+
+abbrev pub dword_line : Symbol → Option ℕ → List ℕ
+dword_line s (Some v) = variable_line s v
+dword_line s None = not_here
+
+abbrev pub value_text : Symbol → Option Image → List ℕ
+value_text s None = not_here
+value_text s (Some m) = dword_line s (variable_value m s)
+
+abbrev pub symbol_of_name : List Symbol → Option (List ℕ) → Option Symbol
+symbol_of_name symbols None = None
+symbol_of_name symbols (Some name) = variable_named name symbols
+
+abbrev pub variable_text : Option Image → Option Symbol → List ℕ
+variable_text m None = refused_text (ByDebugger NoSymbol)
+variable_text m (Some s) = value_text s m
+
+abbrev pub variable_by : World → Option (List ℕ) → Result ℕ Kind → List ℕ
+variable_by w name (Ok s) = variable_text (image_in w s) (symbol_of_name (symbols_in w s) name)
+variable_by w name (Err r) = refused_text r
+
+-- ---- WHAT IS SHOWN of a slot's process
+
+abbrev pub shown_text : Walk → Shown → List ℕ
+shown_text k (Registers s) = registers_by (world_here k) (slot_asked k s)
+shown_text k (Memory s a n) = memory_by (world_here k) a n (slot_asked k (Some s))
+shown_text k (Code s a) = code_by (world_here k) a (slot_asked k s)
+shown_text k (Stack s n) = stack_by (world_here k) n (slot_asked k s)
+shown_text k (Variable s name) = variable_by (world_here k) name (slot_asked k (Some s))

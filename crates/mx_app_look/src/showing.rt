@@ -1,0 +1,296 @@
+//! What is shown of a slot's process.
+
+ghost use Rattle.std.specs.Prelude.{◌≡◌, ◌++◌, OnOk, Some, option_copied, option_map, string_bytes};
+ghost use Rattle.mx_walk.specs.Walks.{world_here};
+ghost use Rattle.mx_app_look.specs.Showing.{bytes_by, code_at, code_by, code_from, code_next, code_of, dword_line, memory_by, refused_text, registers_by, shown_text, stack_by, stack_of, symbol_of_name, symbols_in, value_text, variable_by, variable_text};
+ghost use Rattle.mx_app_look.specs.Slots.{address_asked, image_in, slot_asked};
+
+use crate::places::symbols_of;
+use crate::slots::{address_asked, image_in, slot_asked};
+use mx_aout::Symbol;
+use mx_exec::Image;
+use mx_look_code::{push_code_lines, push_stack, push_variable, variable_named, variable_value};
+use mx_look_line::{AddressWord, Shown, SymbolName};
+use mx_print_answers::{DebugError, Refused, push_memory, push_process};
+use mx_proc::Slot;
+use mx_walk::Walker;
+use std::alloc::{AllocError, Global};
+use std::fmt::Write;
+
+/// How many instructions are listed.
+const LISTED: u32 = 8;
+
+/// Appends why nothing is shown.
+fn push_refused(text: &mut String, refused: Refused) -> Result<(), AllocError>
+    ensures { OnOk result (string_bytes text.new ≡ string_bytes text.old ++ refused_text refused) }
+{
+    writeln!(text, "{refused}")
+}
+
+/// The symbols of the program of a slot's service.
+fn symbols_in(walker: &Walker, slot: Slot) -> &[Symbol]
+    ensures { result.now ≡ symbols_in (world_here walker.now) slot }
+{
+    symbols_of(walker.machine().kernel(), slot)
+}
+
+/// The process of a slot.
+fn image_here(walker: &Walker, slot: Slot) -> Option<&Image>
+    ensures { option_map (λ m. m.now) result ≡ image_in (world_here walker.now) slot }
+{
+    image_in(walker.machine(), slot)
+}
+
+/// Appends the registers of a slot's process, or why there are none.
+fn push_registers(text: &mut String, walker: &Walker, asked: Option<u32>) -> Result<(), AllocError>
+    ensures { OnOk result (string_bytes text.new ≡ string_bytes text.old
+        ++ registers_by (world_here walker.now) (slot_asked walker.now asked)) }
+{
+    match slot_asked(walker, asked) {
+        Ok(slot) => push_process(text, image_here(walker, slot)),
+        Err(refused) => push_refused(text, refused),
+    }
+}
+
+/// Appends bytes of a slot's process from an address on, or why there are none.
+fn push_bytes(
+    text: &mut String,
+    walker: &Walker,
+    slot: Slot,
+    from: &AddressWord,
+    count: u32,
+) -> Result<(), AllocError>
+    ensures { OnOk result (string_bytes text.new ≡ string_bytes text.old
+        ++ bytes_by (world_here walker.now) slot count
+        (address_asked (world_here walker.now) slot from.now)) }
+{
+    match address_asked(walker, slot, from) {
+        Ok(from) => push_memory(text, image_here(walker, slot), from, count),
+        Err(refused) => push_refused(text, refused),
+    }
+}
+
+/// Appends bytes of the process of a slot that is named, or why there are none.
+fn push_memory_asked(
+    text: &mut String,
+    walker: &Walker,
+    slot: u32,
+    from: &AddressWord,
+    count: u32,
+) -> Result<(), AllocError>
+    ensures { OnOk result (string_bytes text.new ≡ string_bytes text.old
+        ++ memory_by (world_here walker.now) from.now count (slot_asked walker.now (Some slot))) }
+{
+    match slot_asked(walker, Some(slot)) {
+        Ok(slot) => push_bytes(text, walker, slot, from, count),
+        Err(refused) => push_refused(text, refused),
+    }
+}
+
+/// Appends the code of a process from an address on, if there is a process.
+fn push_code_at(
+    text: &mut String,
+    symbols: &[Symbol],
+    image: Option<&Image>,
+    at: u32,
+) -> Result<(), AllocError>
+    ensures { OnOk result (string_bytes text.new ≡ string_bytes text.old
+        ++ code_at symbols.now (option_map (λ m. m.now) image.entry) at) }
+{
+    match image {
+        Some(image) => push_code_lines(text, symbols, image, at, LISTED),
+        None => push_process(text, None),
+    }
+}
+
+/// Appends the code of a process from its next instruction on, if there is a process.
+fn push_code_next(
+    text: &mut String,
+    symbols: &[Symbol],
+    image: Option<&Image>,
+) -> Result<(), AllocError>
+    ensures { OnOk result (string_bytes text.new ≡ string_bytes text.old
+        ++ code_next symbols.now (option_map (λ m. m.now) image.entry)) }
+{
+    match image {
+        Some(image) => push_code_lines(text, symbols, image, image.eip, LISTED),
+        None => push_process(text, None),
+    }
+}
+
+/// Appends the code of a slot's process from an address on that is named, or why there is none.
+fn push_code_from(
+    text: &mut String,
+    walker: &Walker,
+    slot: Slot,
+    from: &AddressWord,
+) -> Result<(), AllocError>
+    ensures { OnOk result (string_bytes text.new ≡ string_bytes text.old
+        ++ code_from (world_here walker.now) slot
+        (address_asked (world_here walker.now) slot from.now)) }
+{
+    match address_asked(walker, slot, from) {
+        Ok(at) => push_code_at(text, symbols_in(walker, slot), image_here(walker, slot), at),
+        Err(refused) => push_refused(text, refused),
+    }
+}
+
+/// Appends the code of a slot's process from an address, or from the next instruction on.
+fn push_code_of(
+    text: &mut String,
+    walker: &Walker,
+    slot: Slot,
+    from: &Option<AddressWord>,
+) -> Result<(), AllocError>
+    ensures { OnOk result (string_bytes text.new ≡ string_bytes text.old
+        ++ code_of (world_here walker.now) slot from.now) }
+{
+    match from {
+        Some(from) => push_code_from(text, walker, slot, from),
+        None => push_code_next(text, symbols_in(walker, slot), image_here(walker, slot)),
+    }
+}
+
+/// Appends the code of a slot's process, or why there is none.
+fn push_code(
+    text: &mut String,
+    walker: &Walker,
+    asked: Option<u32>,
+    from: &Option<AddressWord>,
+) -> Result<(), AllocError>
+    ensures { OnOk result (string_bytes text.new ≡ string_bytes text.old
+        ++ code_by (world_here walker.now) from.now (slot_asked walker.now asked)) }
+{
+    match slot_asked(walker, asked) {
+        Ok(slot) => push_code_of(text, walker, slot, from),
+        Err(refused) => push_refused(text, refused),
+    }
+}
+
+/// Appends the top of a process's stack, if there is a process.
+fn push_stack_of(
+    text: &mut String,
+    symbols: &[Symbol],
+    image: Option<&Image>,
+    count: u32,
+) -> Result<(), AllocError>
+    ensures { OnOk result (string_bytes text.new ≡ string_bytes text.old
+        ++ stack_of count symbols.now (option_map (λ m. m.now) image.entry)) }
+{
+    match image {
+        Some(image) => push_stack(text, symbols, image, count),
+        None => push_process(text, None),
+    }
+}
+
+/// Appends the top of the stack of a slot's process, or why there is none.
+fn push_stack_asked(
+    text: &mut String,
+    walker: &Walker,
+    asked: Option<u32>,
+    count: u32,
+) -> Result<(), AllocError>
+    ensures { OnOk result (string_bytes text.new ≡ string_bytes text.old
+        ++ stack_by (world_here walker.now) count (slot_asked walker.now asked)) }
+{
+    match slot_asked(walker, asked) {
+        Ok(slot) => {
+            let symbols = symbols_in(walker, slot);
+            push_stack_of(text, symbols, image_here(walker, slot), count)
+        }
+        Err(refused) => push_refused(text, refused),
+    }
+}
+
+/// Appends the line of a variable, if the process's memory has it.
+fn push_dword(text: &mut String, symbol: &Symbol, value: Option<u32>) -> Result<(), AllocError>
+    ensures { OnOk result (string_bytes text.new ≡ string_bytes text.old
+        ++ dword_line symbol.now value) }
+{
+    match value {
+        Some(value) => push_variable(text, symbol, value),
+        None => push_process(text, None),
+    }
+}
+
+/// Appends the line of a variable of a process, if there is a process.
+fn push_value(text: &mut String, symbol: &Symbol, image: Option<&Image>) -> Result<(), AllocError>
+    ensures { OnOk result (string_bytes text.new ≡ string_bytes text.old
+        ++ value_text symbol.now (option_map (λ m. m.now) image.entry)) }
+{
+    match image {
+        Some(image) => push_dword(text, symbol, variable_value(image, symbol)),
+        None => push_process(text, None),
+    }
+}
+
+/// The variable of a name.
+fn symbol_of_name<'a>(symbols: &'a [Symbol], name: &Option<SymbolName>) -> Option<&'a Symbol>
+    ensures { option_copied result ≡ symbol_of_name symbols.now name.now }
+{
+    match name {
+        Some(name) => variable_named(symbols, name.as_slice()),
+        None => None,
+    }
+}
+
+/// Appends the line of a variable of a slot's process, or why there is none.
+fn push_variable_of(
+    text: &mut String,
+    walker: &Walker,
+    slot: Slot,
+    name: &Option<SymbolName>,
+) -> Result<(), AllocError>
+    ensures { OnOk result (string_bytes text.new ≡ string_bytes text.old
+        ++ variable_text (image_in (world_here walker.now) slot)
+        (symbol_of_name (symbols_in (world_here walker.now) slot) name.now)) }
+{
+    match symbol_of_name(symbols_in(walker, slot), name) {
+        Some(symbol) => push_value(text, symbol, image_here(walker, slot)),
+        None => push_refused(text, Refused::ByDebugger(DebugError::NoSymbol)),
+    }
+}
+
+/// Appends the line of a variable of the process of a slot that is named, or why there is none.
+fn push_variable_asked(
+    text: &mut String,
+    walker: &Walker,
+    slot: u32,
+    name: &Option<SymbolName>,
+) -> Result<(), AllocError>
+    ensures { OnOk result (string_bytes text.new ≡ string_bytes text.old
+        ++ variable_by (world_here walker.now) name.now (slot_asked walker.now (Some slot))) }
+{
+    match slot_asked(walker, Some(slot)) {
+        Ok(slot) => push_variable_of(text, walker, slot, name),
+        Err(refused) => push_refused(text, refused),
+    }
+}
+
+/// Writes what is asked for of a slot's process.
+fn push_asked(text: &mut String, walker: &Walker, shown: &Shown) -> Result<(), AllocError>
+    ensures { OnOk result (string_bytes text.new ≡ string_bytes text.old
+        ++ shown_text walker.now shown.now) }
+{
+    match shown {
+        Shown::Registers(slot) => push_registers(text, walker, *slot),
+        Shown::Memory(slot, from, count) => push_memory_asked(text, walker, *slot, from, *count),
+        Shown::Code(slot, from) => push_code(text, walker, *slot, from),
+        Shown::Stack(slot, count) => push_stack_asked(text, walker, *slot, *count),
+        Shown::Variable(slot, name) => push_variable_asked(text, walker, *slot, name),
+    }
+}
+
+/// Appends what is asked for of a slot's process.
+pub(crate) fn push_shown(
+    alloc: Global,
+    out: &mut Vec<u8>,
+    walker: &Walker,
+    shown: &Shown,
+) -> Result<(), AllocError>
+    ensures { OnOk result (out.new.items ≡ out.old.items ++ shown_text walker.now shown.now) }
+{
+    let mut text = String::new(alloc);
+    push_asked(&mut text, walker, shown)?;
+    out.extend_from_slice(text.as_bytes())
+}
