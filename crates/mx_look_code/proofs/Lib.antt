@@ -1,2 +1,5 @@
 pub mod Naming
 pub mod Lines
+mod Explained
+mod Left
+mod Why

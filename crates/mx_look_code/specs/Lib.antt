@@ -3,4 +3,8 @@ pub mod Code
 pub mod Lines
 pub mod Stack
 pub mod Variables
+pub mod Operands
+pub mod Accesses
+pub mod Reasons
+pub mod Faulting
 pub use Rattle.mx_dis.specs.declared.part.Part

@@ -8,8 +8,7 @@ ghost use Rattle.mx_look_facts.specs.Faults.{fault_by_stop, fault_glance, fault_
 use mx_aout::Symbol;
 use mx_exec::Image;
 use mx_image::Stop;
-use mx_look_code::{Part, code_part, nearest_symbol};
-use mx_look_fault::{FaultReason, fault_reason};
+use mx_look_code::{FaultReason, Part, code_part, fault_reason, nearest_symbol};
 use mx_machine::Machine;
 use mx_proc::Slot;
 

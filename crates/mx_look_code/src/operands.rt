@@ -2,7 +2,7 @@
 
 ghost use Rattle.std.specs.Prelude.{◌≡◌};
 ghost use Rattle.mx_exec.specs.Accumulator.{narrow_size};
-ghost use Rattle.mx_look_fault.specs.Operands.{calculated_operand, one_operand, outer_operand};
+ghost use Rattle.mx_look_code.specs.Operands.{calculated_operand, one_operand, outer_operand};
 
 use mx_insn::{Extension, Insn, Operand, Operands};
 use mx_word::Size;

@@ -9,10 +9,10 @@ use Rattle.mx_exec.specs.declared.image.Image.{Image}
 use Rattle.mx_exec.specs.Image.{code_bytes, dword_sum}
 use Rattle.mx_exec.specs.Operands.{value_in}
 use Rattle.mx_exec.specs.Stack.{top_of}
-use Rattle.mx_look_fault.specs.declared.accesses.Access.{Access}
-use Rattle.mx_look_fault.specs.declared.reasons.FaultReason.{FaultReason}
-use Rattle.mx_look_fault.specs.declared.reasons.FaultReason.TheVariants.{Outside, CodeEnd, Target, Forbidden, Other}
-use Rattle.mx_look_fault.specs.Accesses.{first_outside}
+use Rattle.mx_look_code.specs.declared.accesses.Access.{Access}
+use Rattle.mx_look_code.specs.declared.reasons.FaultReason.{FaultReason}
+use Rattle.mx_look_code.specs.declared.reasons.FaultReason.TheVariants.{Outside, CodeEnd, Target, Forbidden, Other}
+use Rattle.mx_look_code.specs.Accesses.{first_outside}
 
 -- ---- where an instruction jumps to
 

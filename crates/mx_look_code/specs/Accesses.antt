@@ -17,8 +17,8 @@ use Rattle.mx_mem.specs.Operands.{address_of}
 use Rattle.mx_mem.specs.Segment.{inside}
 use Rattle.mx_exec.specs.declared.image.Image.{Image}
 use Rattle.mx_exec.specs.Image.{dword_difference, dword_sum, register_of}
-use Rattle.mx_look_fault.specs.declared.accesses.Access.{Access}
-use Rattle.mx_look_fault.specs.Operands.{one_operand}
+use Rattle.mx_look_code.specs.declared.accesses.Access.{Access}
+use Rattle.mx_look_code.specs.Operands.{one_operand}
 
 -- an access at an address, if it isn't inside
 abbrev pub outside : ℕ → Size → Image → Option Access

@@ -4,8 +4,8 @@ ghost use Rattle.std.specs.Prelude.{◌≡◌, drop};
 ghost use Rattle.mx_decode.specs.Decode.{front};
 ghost use Rattle.mx_exec.specs.Operands.{value_in};
 ghost use Rattle.mx_exec.specs.Stack.{top_of};
-ghost use Rattle.mx_look_fault.specs.Accesses.{first_outside};
-ghost use Rattle.mx_look_fault.specs.Reasons.{fault_reason, reason_by_access, reason_of_front, target_of, value_found};
+ghost use Rattle.mx_look_code.specs.Accesses.{first_outside};
+ghost use Rattle.mx_look_code.specs.Reasons.{fault_reason, reason_by_access, reason_of_front, target_of, value_found};
 
 use crate::accesses::{Access, first_outside};
 use mx_exec::Image;

@@ -3,7 +3,7 @@
 ghost use Rattle.std.specs.Prelude.{◌≡◌};
 ghost use Rattle.std.specs.Option.{option_or};
 ghost use Rattle.mx_exec.specs.Image.{dword_difference, dword_sum, register_of};
-ghost use Rattle.mx_look_fault.specs.Accesses.{first_outside, operand_outside, outside, popped_outside, pushed_outside, stack_outside, string_outside};
+ghost use Rattle.mx_look_code.specs.Accesses.{first_outside, operand_outside, outside, popped_outside, pushed_outside, stack_outside, string_outside};
 
 use crate::operands::one_operand;
 use mx_exec::Image;

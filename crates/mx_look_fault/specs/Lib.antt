@@ -1,3 +1,0 @@
-pub mod Operands
-pub mod Accesses
-pub mod Reasons
