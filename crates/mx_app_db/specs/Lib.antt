@@ -1,6 +1,7 @@
 pub mod Places
 pub mod Going
 pub mod DebugLines
+pub mod LastMessages
 pub mod Told
 pub use Rattle.mx_app_step.specs.Asked
 pub use Rattle.mx_app_step.specs.Setup

@@ -3,4 +3,3 @@ mod Moving
 mod Traced
 mod Starting
 mod Kernels
-mod Images

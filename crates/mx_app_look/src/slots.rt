@@ -1,55 +1,12 @@
-//! A slot's process, wherever it is, and addresses in its memory.
+//! The slot whose process is asked about.
 
-ghost use Rattle.std.specs.Prelude.{◌≡◌, option_map, slice_get};
-ghost use Rattle.mx_machine.specs.History.{replay};
-ghost use Rattle.mx_machine.specs.Machine.{world_of};
-ghost use Rattle.mx_machine.specs.World.{held_by};
+ghost use Rattle.std.specs.Prelude.{◌≡◌, slice_get};
 ghost use Rattle.mx_walk.specs.Walks.{world_here};
-ghost use Rattle.mx_app_look.specs.Places.{symbols_by};
-ghost use Rattle.mx_app_look.specs.Slots.{address_after, address_asked, address_in, image_at_home, image_in, image_of_held, slot_asked, slot_next, value_named};
+ghost use Rattle.mx_app_look.specs.Slots.{slot_asked, slot_next};
 
-use mx_exec::Image;
-use mx_look_line::{AddressWord, SymbolName};
-use mx_machine::{Kernel, Machine, Refusal};
-use mx_print_answers::{DebugError, Debugger, Refused};
+use mx_print_answers::{DebugError, Refused, slot_named};
 use mx_proc::Slot;
 use mx_walk::Walker;
-
-/// The process that a processor holds, if it is that of this slot.
-fn image_held(machine: &Machine, cpu: u8, slot: Slot) -> Option<&Image>
-    ensures { option_map (λ m. m.now) result
-        ≡ image_of_held (held_by (world_of machine.now) cpu) slot }
-{
-    match (machine.slot_on(cpu), machine.image(cpu)) {
-        (Some(on), Some(image)) => if on == slot { Some(image) } else { None },
-        _ => None,
-    }
-}
-
-/// The process of a slot in the kernel's table, if there is such a slot.
-#[tactic(auto, unfolding(mx_machine::specs::Machine::world_of))]
-fn image_at_home(machine: &Machine, slot: Slot) -> Option<&Image>
-    ensures { option_map (λ m. m.now) result ≡ image_at_home (world_of machine.now) slot }
-{
-    let table = machine.kernel().table();
-    if slot >= table.used() {
-        return None;
-    }
-    Some(&table.process(slot).image)
-}
-
-/// The process of a slot: on a processor, or in the kernel's table.
-pub(crate) fn image_in(machine: &Machine, slot: Slot) -> Option<&Image>
-    ensures { option_map (λ m. m.now) result ≡ image_in (world_of machine.now) slot }
-{
-    for cpu in 0..8u8 {
-        match image_held(machine, cpu, slot) {
-            Some(image) => return Some(image),
-            None => {}
-        }
-    }
-    image_at_home(machine, slot)
-}
 
 /// The slot of the process on the processor whose record is next, if there is one.
 fn slot_next(walker: &Walker) -> Option<Slot>
@@ -68,54 +25,5 @@ pub(crate) fn slot_asked(walker: &Walker, asked: Option<u32>) -> Result<Slot, Re
     let Some(slot) = asked else {
         return slot_next(walker).ok_or(Refused::ByDebugger(DebugError::NotHere));
     };
-    let kernel = walker.machine().kernel();
-    kernel.opened();
-    if (slot as usize) < kernel.services().len() {
-        Ok(slot as Slot)
-    } else {
-        Err(Refused::ByMachine(Refusal::NoService))
-    }
-}
-
-/// The value of the first symbol of a name in the program of a slot's service.
-fn value_named(kernel: &Kernel, slot: Slot, name: &Option<SymbolName>) -> Option<u32>
-    ensures { result ≡ value_named (symbols_by (slice_get (replay kernel.now).services slot)) name.now }
-{
-    let Some(name) = name else {
-        return None;
-    };
-    kernel.opened();
-    let service = kernel.services().get(slot as usize)?;
-    Debugger::address(&service.program, name.as_slice()).ok()
-}
-
-/// So many bytes after a symbol's value, if there is one.
-fn address_after(value: Option<u32>, after: u32) -> Result<u32, Refused>
-    ensures { result ≡ address_after value after }
-{
-    match value {
-        None => Err(Refused::ByDebugger(DebugError::NoSymbol)),
-        Some(value) => value.checked_add(after).ok_or(Refused::ByDebugger(DebugError::NotHere)),
-    }
-}
-
-/// The address that is named in the program of a slot's service, or why there is none.
-fn address_in(kernel: &Kernel, slot: Slot, asked: &AddressWord) -> Result<u32, Refused>
-    ensures { result ≡ address_in (symbols_by (slice_get (replay kernel.now).services slot)) asked.now }
-{
-    match asked {
-        AddressWord::Number(at) => Ok(*at),
-        AddressWord::Symbol(name, after) => address_after(value_named(kernel, slot, name), *after),
-    }
-}
-
-/// The address that is named in the program of a slot's service at this position, or why there is none.
-pub(crate) fn address_asked(
-    walker: &Walker,
-    slot: Slot,
-    asked: &AddressWord,
-) -> Result<u32, Refused>
-    ensures { result ≡ address_asked (world_here walker.now) slot asked.now }
-{
-    address_in(walker.machine().kernel(), slot, asked)
+    slot_named(walker.machine(), slot)
 }

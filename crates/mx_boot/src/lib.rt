@@ -2,6 +2,7 @@
 //! scripts, histories, reports.
 #![tactic(auto)]
 
+mod address_word;
 mod debug;
 mod draft;
 mod history_laws;
@@ -22,6 +23,7 @@ mod sink;
 mod terms;
 mod verb;
 
+pub use address_word::{AddressWord, address_named, symbol_name};
 pub use debug::{DebugLine, debug_script};
 pub use history_laws::{history_again, one_history, one_text};
 pub use kernels::{report, save, saved_again, saved_text};

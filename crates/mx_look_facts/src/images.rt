@@ -56,7 +56,7 @@ fn message_at(memory: &Segment, at: u32) -> Option<[u32; 9]>
 
 /// What is looked at of an image.
 #[tactic(auto, unfolding(crate::specs::Images::image_glance))]
-pub(crate) fn image_glance(image: &Image) -> ImageGlance
+pub fn image_glance(image: &Image) -> ImageGlance
     ensures { result ≡ image_glance image.now }
 {
     ImageGlance {

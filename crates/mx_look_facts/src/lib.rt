@@ -26,7 +26,7 @@ pub use doings::{is_ready, same_doing};
 pub use faults::FaultGlance;
 pub use glance::{CpuGlance, Glance};
 pub use going::{gone_on, got, is_acted};
-pub use images::ImageGlance;
+pub use images::{ImageGlance, image_glance};
 pub use mx_look_code::{Access, FaultReason, Part, Symbol, push_code};
 pub use mx_machine::Machine;
 pub use mx_proc::{DeathCause, Delivery, DeliveryKind};

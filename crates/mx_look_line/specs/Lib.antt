@@ -1,4 +1,4 @@
 pub mod Verbs
-pub mod Addresses
 pub mod Shown
 pub mod Requests
+pub use Rattle.mx_boot.specs.declared.address_word.AddressWord

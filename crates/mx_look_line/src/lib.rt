@@ -1,14 +1,12 @@
 //! The lines that are typed when a saved history is looked at: what each asks for.
 #![tactic(auto)]
 
-mod address_word;
 mod position_word;
 mod request;
 mod shown;
 mod verb;
 
-pub use address_word::AddressWord;
-pub use mx_boot::SymbolName;
+pub use mx_boot::{AddressWord, SymbolName};
 pub use position_word::PositionWord;
 pub use request::{Request, request_of};
 pub use shown::Shown;

@@ -16,7 +16,7 @@ pub use heads::{push_call, push_event, push_head};
 pub use kernel_calls::request_name;
 pub use lines::{push_change, push_console_line, push_delivery};
 pub use mx_look_facts::{Glance, Machine, Step};
-pub use numbers::{push_hex, push_signed};
+pub use numbers::{push_hex, push_signed, used_count};
 pub use pending::push_kept;
 pub use record::push_record;
 pub use words::{push_doing, push_who};

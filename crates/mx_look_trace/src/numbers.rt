@@ -53,7 +53,7 @@ pub(crate) fn push_spaced(out: &mut Vec<u8>, numbers: &[u32]) -> Result<(), Allo
 }
 
 /// How many numbers there are without the zeros at the end.
-pub(crate) fn used_count(numbers: &[u32]) -> usize
+pub fn used_count(numbers: &[u32]) -> usize
     ensures count { result ≡ used_count numbers.now }
     ensures within { result ≤ length numbers.now }
 {

@@ -1,8 +1,8 @@
 use Rattle.std.proofs.Common.{◌≡◌, ◌∙◌, Some, sym, ap, arith}
 use Rattle.std.specs.Prelude.{option_map}
 use Rattle.mx_machine.specs.Machine.{world_of}
-use Rattle.mx_app_look.proofs.Images.{at_home, none_yet, on_processor}
-use Rattle.mx_app_look.proofs.slots.image_in.Goals as goal
+use Rattle.mx_print_answers.proofs.Images.{at_home, none_yet, on_processor}
+use Rattle.mx_print_answers.proofs.slots.image_in.Goals as goal
 
 pub returns-in-Some : goal.returns-in-Some
 returns-in-Some c = on_processor (world_of c.args.machine.now) c.args.slot c.loop-cpu.cpu c.in-Some.image.now c.loop-cpu-test.true c.loop-cpu.invariant (sym c.image_held.ensures ∙ ap (λ o. option_map (λ m. m.now) o) c.in-Some.is)

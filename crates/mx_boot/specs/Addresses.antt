@@ -1,12 +1,12 @@
--- Addresses in the memory of a slot's process, as they are typed (our own).
+-- Addresses in the memory of a slot's process, as lines name them (our own).
 use Rattle.std.specs.Prelude.{ℕ, ◌+◌, ◌==◌, Bool, List, [], ◌∷◌, length, take, drop, position, Option, Some, None, codes, if◌then◌else◌, nat_le}
 use Rattle.std.specs.Str.{bytes_eq}
 use Rattle.mx_text.specs.Bytes.{is_digit}
 use Rattle.mx_text.specs.Fields.{◌>>=◌}
 use Rattle.mx_text.specs.NumberFields.{number_up_to}
 use Rattle.mx_boot.specs.Script.{count_field}
-use Rattle.mx_look_line.specs.declared.address_word.AddressWord.{AddressWord}
-use Rattle.mx_look_line.specs.declared.address_word.AddressWord.TheVariants.{Number, Symbol}
+use Rattle.mx_boot.specs.declared.address_word.AddressWord.{AddressWord}
+use Rattle.mx_boot.specs.declared.address_word.AddressWord.TheVariants.{Number, Symbol}
 
 -- a number of 32 bits: decimal as any other, or hexadecimal after 0x
 abbrev pub number_field : List ℕ → Option ℕ

@@ -1,8 +1,8 @@
 use Rattle.std.proofs.Common.{◌≡◌, None}
 use Rattle.std.specs.List.{range_with_len}
 use Rattle.mx_machine.specs.Machine.{world_of}
-use Rattle.mx_app_look.specs.Slots.{image_on}
-use Rattle.mx_app_look.proofs.slots.image_in.Given as goal
+use Rattle.mx_print_answers.specs.Slots.{image_on}
+use Rattle.mx_print_answers.proofs.slots.image_in.Given as goal
 
 -- none of the processors so far has it
 abbrev pub invariant-loop-cpu : goal.invariant-loop-cpu

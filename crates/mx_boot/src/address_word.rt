@@ -1,12 +1,13 @@
-//! Addresses in the memory of a slot's process, as they are typed.
+//! Addresses in the memory of a slot's process, as a line names them.
 
 ghost use Rattle.std.specs.Prelude.{◌≡◌, position};
-ghost use Rattle.mx_look_line.specs.Addresses.{address_of_word, is_plus, number_field, number_of_word, symbol_by_plus, symbol_name};
+ghost use Rattle.mx_boot.specs.Addresses.{address_of_word, is_plus, number_field, number_of_word, symbol_by_plus, symbol_name};
 
-use mx_boot::{SymbolName, count};
+use crate::numbers::count;
+use crate::place::SymbolName;
 use mx_text::{is_digit, number_up_to};
 
-/// An address in the memory of a slot's process, as it is typed.
+/// An address in the memory of a slot's process, as a line names it.
 #[derive(Drop)]
 pub enum AddressWord {
     /// A number.
@@ -17,7 +18,7 @@ pub enum AddressWord {
 }
 
 /// The symbol's name that a word is, if it isn't too long for one.
-pub(crate) fn symbol_name(word: &[u8]) -> Option<SymbolName>
+pub fn symbol_name(word: &[u8]) -> Option<SymbolName>
     ensures { result ≡ symbol_name word.now }
 {
     if word.len() <= 8 { Some(SymbolName::new(word)) } else { None }
@@ -61,7 +62,7 @@ fn symbol_named(word: &[u8]) -> Option<AddressWord>
 
 /// The address that a word is: a number, which begins with a digit, or a symbol's name, perhaps with a plus
 /// and how many bytes after it.
-pub(crate) fn address_named(word: &[u8]) -> Option<AddressWord>
+pub fn address_named(word: &[u8]) -> Option<AddressWord>
     ensures { result ≡ address_of_word word.now }
 {
     if is_digit(*word.first()?) {

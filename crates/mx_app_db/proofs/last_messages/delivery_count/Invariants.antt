@@ -1,0 +1,10 @@
+use Rattle.std.proofs.Common.{◌≤◌, ◌-◌, length}
+use Rattle.mx_machine.specs.History.{replay}
+use Rattle.mx_app_db.proofs.last_messages.delivery_count.Given as goal
+
+-- so many are there
+abbrev pub invariant-loop : goal.invariant-loop
+invariant-loop l = l.count ≤ length (replay l.kernel).table.deliveries
+
+abbrev pub decreases-loop : goal.decreases-loop
+decreases-loop l = length (replay l.kernel).table.deliveries - l.count
