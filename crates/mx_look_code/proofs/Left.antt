@@ -1,5 +1,5 @@
 -- What each instruction may fault with if each access that it tries is inside.
-use Rattle.std.proofs.Common.{◌+◌, ◌≡◌, ◌≢◌, ◌∙◌, ◌||◌, not, ℕ, Bool, true, false, cond, Option, Some, None, Result, Ok, Err, refl, absurd, arith}
+use Rattle.std.proofs.Common.{◌+◌, ◌≡◌, ◌≢◌, ◌∙◌, ◌||◌, not, ℕ, Bool, true, false, cond, Option, Some, None, Result, Ok, Err, refl, arith}
 use Rattle.std.specs.Prelude.{◌==◌, IfErr}
 use Rattle.std.specs.Option.{option_or}
 use Rattle.mx_word.specs.declared.size.Size.{Size}

@@ -89,7 +89,7 @@ pub fn push_code(
     at: u32,
 ) -> Result<(), AllocError>
     ensures { OnOk result (string_bytes out.new ≡ string_bytes out.old
-        ++ code_text (option_copied symbol) part at) }
+        ++ code_text (option_copied symbol.entry) part at) }
 {
     push_eight_digits(out, at)?;
     out.push_str(" ")?;

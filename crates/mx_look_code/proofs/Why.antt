@@ -1,5 +1,5 @@
 -- Why a step faults is what is told of it.
-use Rattle.std.proofs.Common.{◌≡◌, ◌≢◌, ◌≤◌, ◌∙◌, ◌||◌, ℕ, Bool, true, false, cond, drop, length, Option, Some, None, Result, Ok, Err, ⊥, ap, refl, subst, sym, absurd, arith}
+use Rattle.std.proofs.Common.{◌≡◌, ◌≢◌, ◌≤◌, ◌∙◌, ◌||◌, ℕ, Bool, true, false, cond, drop, length, Option, Some, None, Result, Ok, Err, ap, refl, subst, sym, arith}
 use Rattle.std.specs.Prelude.{◌==◌, IfErr}
 use Rattle.std.proofs.lemmas.Bool.{eqb-true, eqb-false, ne_eqb}
 use Rattle.mx_insn.specs.declared.insn.Insn.{Insn}
