@@ -1,5 +1,5 @@
 pub mod Naming
-pub mod Lines
+pub mod Rows
 mod Explained
 mod Left
 mod Why

@@ -81,14 +81,14 @@ module _ (m : Image) (v : ℕ) (protects : ((v == 12) || (v == 13)) ≡ true) wh
   by_target i (Some t) same (other, past) = let is = other_vector v protects other in (is, past is)
   by_target i None same (other, not_allowed) = let is = other_vector v protects other in (is, same ∙ not_allowed is)
 
-  left_of : {i : Insn} {t : Option ℕ} (r : Result Image ℕ) → r ≡ Err v → IfErr r (IsLeft m t (is_forbidden i)) → IsLeft m t (is_forbidden i) v
-  left_of (Ok n) e h = absurd cc
-  left_of (Err w) e h = let same : w ≡ v = cc in subst (λ x. IsLeft m _ (is_forbidden _) x) same h
+  left_of : (t : Option ℕ) (f : Bool) (r : Result Image ℕ) → r ≡ Err v → IfErr r (IsLeft m t f) → IsLeft m t f v
+  left_of t f (Ok n) e h = absurd cc
+  left_of t f (Err w) e h = let same : w ≡ v = cc in subst (IsLeft m t f) same h
 
   by_access : (i : Insn) (next : ℕ) (o : Option Access) → first_outside i m ≡ o → has_forbidden (front (drop m.eip (code_bytes m))) ≡ is_forbidden i
       → after i next m ≡ Err v → IsReason m v (reason_by_access (target_of i next m) o)
   by_access i next (Some a) found same e = tt
-  by_access i next None found same e = by_target i (target_of i next m) same (left_of (after i next m) e (all_inside i next m found))
+  by_access i next None found same e = by_target i (target_of i next m) same (left_of (target_of i next m) (is_forbidden i) (after i next m) e (all_inside i next m found))
 
   faulted : (i : Insn) (r : Result Image ℕ) → (end_of_step i m r).0 ≡ Fault v → r ≡ Err v
   faulted i (Ok n) e = absurd (ends_well i v e)

@@ -10,7 +10,7 @@ use Rattle.mx_insn.specs.declared.insn.Insn.TheVariants.{Call, CallTo}
 use Rattle.mx_insn_words.specs.Numbers.{eight_digits}
 use Rattle.mx_mem.specs.Segment.{read_at}
 use Rattle.mx_mem.specs.declared.segment.OutOfLimit.{OutOfLimit}
-use Rattle.mx_word.specs.declared.register.Register.TheVariants.{Esp}
+use Rattle.mx_word.specs.declared.names.Register.TheVariants.{Esp}
 use Rattle.mx_word.specs.declared.size.Size.TheVariants.{Dword}
 use Rattle.mx_look_code.specs.Code.{code_line, code_part}
 

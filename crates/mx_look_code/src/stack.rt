@@ -100,10 +100,10 @@ fn push_rows(
 {
     let mut at = from;
     for _ in 0..count {
-        match image.memory.read(at, Size::Dword) {
-            Ok(value) => push_row(out, symbols, image, at, value)?,
-            Err(_) => return Ok(()),
-        }
+        let Ok(value) = image.memory.read(at, Size::Dword) else {
+            return Ok(());
+        };
+        push_row(out, symbols, image, at, value)?;
         at = at.wrapping_add(4);
     }
     Ok(())
