@@ -4,7 +4,7 @@ use Rattle.std.specs.Prelude.{IfOk}
 use Rattle.std.specs.Io.KnownBytes.{Appends}
 use Rattle.std.proofs.lemmas.List.{append-nil}
 use Rattle.mx_app_command.specs.declared.words.CommandRequest.{CommandRequest}
-use Rattle.mx_app_command.specs.declared.words.CommandRequest.TheVariants.{Look}
+use Rattle.mx_app_command.specs.declared.words.CommandRequest.TheVariants.{Look, Sweep}
 use Rattle.mx_app_command.specs.declared.words.RecordRange.{RecordRange}
 use Rattle.mx_app_db.specs.ScriptLine.{ScriptLine}
 use Rattle.mx_app_db.specs.DebugLine.{DebugLine}
@@ -13,6 +13,7 @@ use Rattle.mx_machine.specs.Boot.{world_at_boot}
 use Rattle.mx_machine.specs.declared.history.Record.{Record}
 use Rattle.mx_app_db.specs.Asked.{Asked}
 use Rattle.mx_app_db.specs.Written.{Written, kept}
+use Rattle.mx_app_start.specs.declared.progress.Part.{Part}
 use Rattle.mx_app_db.specs.Text.{saved_text}
 use Rattle.mx_app_db.specs.Config.{Config}
 use Rattle.mx_app_db.specs.Service.{Service}
@@ -29,16 +30,17 @@ use Rattle.mx_app_db.specs.Replayed.{Replayed}
 use Rattle.mx_app_db.specs.DebugLines.{DebuggedWorld, debug_lines_made}
 use Rattle.mx_app_db.specs.Told.{debug_lines_text}
 use Rattle.mx_app_draw.specs.Scenes.{IsDrawingPrinted}
-use Rattle.mx_app_look.specs.Sessions.{IsBegun, IsWhole, begun_text, session_text}
+use Rattle.mx_app_look.specs.Sessions.{IsBegun, IsSession, IsWhole, begun_text, sight_at}
 use Rattle.mx_app_run.specs.Run.{Runs}
-use Rattle.mx_app_sweep.specs.Sweeping.{Sweeps}
-use Rattle.mx_app_sweep.specs.declared.sweeping.Swept.{Swept}
+use Rattle.mx_app_turns.specs.Sweeping.{Sweeps}
+use Rattle.mx_app_turns.specs.declared.sweeping.Swept.{Swept}
 use Rattle.mx_app_turns.specs.Turned.{MakesTurns}
 use Rattle.mx_turns.specs.declared.turns.Ending.{Ending}
 use Rattle.mx_walk.specs.Walks.{Walk}
 use Rattle.mx_app.specs.Explained.{ExplainsConfig}
 use Rattle.mx_app.specs.Named.{Assembles, ShowsFile}
-use Rattle.mx_app.specs.Requests.{Debugs, Draws, Explains, Looks, Performs, PerformsUntyped, Replays, SavesSteps, Shows, Steps, Traces, status_after_replay, status_after_sweep, status_after_turns, status_after_work}
+use Rattle.mx_app.specs.declared.performing.Done.{Done}
+use Rattle.mx_app.specs.Requests.{Debugs, Draws, Explains, Looks, Performs, PerformsUntyped, Replays, SavesSteps, Shows, Steps, Traces, done_after_replay, done_after_sweep, done_after_turns, done_after_work}
 
 -- nothing is printed where a writer wasn't touched
 pub appends_nothing : (known : Option (List ℕ)) → Appends known known []
@@ -50,71 +52,75 @@ abbrev pub Does : List Asked → List Asked → List Written → List Written �
 Does asked asked_now written written_now Done =
     (qs : List Asked) × (ws : List Written) × (asked_now ≡ asked ++ qs) × (written_now ≡ written ++ ws) × Done qs ws
 
--- the same, with the lines that were typed
-abbrev pub DoesTyped : List Asked → List Asked → List Written → List Written → List (Option (List ℕ)) → List (Option (List ℕ)) → (List Asked → List Written → List (Option (List ℕ)) → Type 0) → Type 0
-DoesTyped asked asked_now written written_now given given_now Done =
-    (qs : List Asked) × (ws : List Written) × (typed : List (Option (List ℕ))) × (asked_now ≡ asked ++ qs) × (written_now ≡ written ++ ws) × (given_now ≡ given ++ typed) × Done qs ws typed
+-- the same, with the lines that were typed, and the progress that was shown
+abbrev pub DoesTyped : List Asked → List Asked → List Written → List Written → List (Option (List ℕ)) → List (Option (List ℕ)) → List Part → List Part → (List Asked → List Written → List (Option (List ℕ)) → List Part → Type 0) → Type 0
+DoesTyped asked asked_now written written_now given given_now shown shown_now Done =
+    (qs : List Asked) × (ws : List Written) × (typed : List (Option (List ℕ))) × (ps : List Part)
+    × (asked_now ≡ asked ++ qs) × (written_now ≡ written ++ ws) × (given_now ≡ given ++ typed) × (shown_now ≡ shown ++ ps) × Done qs ws typed ps
 
--- a request that takes no lines
-untyped : (request : CommandRequest) (asks : Bool) (qs : List Asked) (ws : List Written) (Prints : List ℕ → Type 0) (r : Result ℕ Kind)
-    → PerformsUntyped request qs ws Prints r → Performs request asks qs ws [] Prints r
+-- a request that takes no lines and shows no progress
+untyped : (request : CommandRequest) (asks : Bool) (qs : List Asked) (ws : List Written) (Prints : List ℕ → Type 0) (r : Result Done Kind)
+    → PerformsUntyped request qs ws Prints r → Performs request asks qs ws [] [] Prints r
 untyped (Look config log) asks qs ws Prints r h = absurd h
-untyped request asks qs ws Prints r h = (refl, h)
+untyped (Sweep config log fault bound from to strict save) asks qs ws Prints r h = absurd h
+untyped request asks qs ws Prints r h = (refl, refl, h)
 
 -- what is done of the request that was asked for
-pub as_asked : {given : List (Option (List ℕ))} (asks : Bool) (asked now : List Asked) (files written : List Written) (Prints : List ℕ → Type 0) (r : Result ℕ Kind) (request known : CommandRequest) → request ≡ known
+pub as_asked : {given : List (Option (List ℕ))} {shown : List Part} (asks : Bool) (asked now : List Asked) (files written : List Written) (Prints : List ℕ → Type 0) (r : Result Done Kind) (request known : CommandRequest) → request ≡ known
     → Does asked now files written (λ qs ws. PerformsUntyped known qs ws Prints r)
-    → DoesTyped asked now files written given given (λ qs ws typed. Performs request asks qs ws typed Prints r)
-as_asked {given} asks asked now files written Prints r request known same done =
+    → DoesTyped asked now files written given given shown shown (λ qs ws typed ps. Performs request asks qs ws typed ps Prints r)
+as_asked {given} {shown} asks asked now files written Prints r request known same done =
     let d = subst (λ (x : CommandRequest). Does asked now files written (λ qs ws. PerformsUntyped x qs ws Prints r)) (sym same) done in
-    (d.0, d.1, [], d.2, d.3, sym (append-nil given), untyped request asks d.0 d.1 Prints r d.4)
+    (d.0, d.1, [], [], d.2, d.3, sym (append-nil given), sym (append-nil shown), untyped request asks d.0 d.1 Prints r d.4)
 
--- and of one that takes lines
-pub as_typed : (asked now : List Asked) (files written : List Written) (given typed : List (Option (List ℕ))) (asks : Bool) (Prints : List ℕ → Type 0) (r : Result ℕ Kind) (request known : CommandRequest) → request ≡ known
-    → DoesTyped asked now files written given typed (λ qs ws ls. Performs known asks qs ws ls Prints r)
-    → DoesTyped asked now files written given typed (λ qs ws ls. Performs request asks qs ws ls Prints r)
-as_typed asked now files written given typed asks Prints r request known same done =
-    subst (λ (x : CommandRequest). DoesTyped asked now files written given typed (λ qs ws ls. Performs x asks qs ws ls Prints r)) (sym same) done
+-- and of one that takes lines or shows progress
+pub as_typed : (asked now : List Asked) (files written : List Written) (given typed : List (Option (List ℕ))) (shown later : List Part) (asks : Bool) (Prints : List ℕ → Type 0) (r : Result Done Kind) (request known : CommandRequest) → request ≡ known
+    → DoesTyped asked now files written given typed shown later (λ qs ws ls ps. Performs known asks qs ws ls ps Prints r)
+    → DoesTyped asked now files written given typed shown later (λ qs ws ls ps. Performs request asks qs ws ls ps Prints r)
+as_typed asked now files written given typed shown later asks Prints r request known same done =
+    subst (λ (x : CommandRequest). DoesTyped asked now files written given typed shown later (λ qs ws ls ps. Performs x asks qs ws ls ps Prints r)) (sym same) done
 
 -- a session was held, or its machine wasn't started
-pub looks : (asked now : List Asked) (files : List Written) (given given_now : List (Option (List ℕ))) (config log : List ℕ) (asks : Bool) (x y : Option (List ℕ)) (d : Result (Unit {0}) Kind) (r : Result ℕ Kind)
-    → OnOk d ((qs : List Asked) × (c : Config) × (vs : List Service) × (records : List Record) × (k : Walk) × (typed : List (Option (List ℕ)))
+pub looks : {shown : List Part} (asked now : List Asked) (files : List Written) (given given_now : List (Option (List ℕ))) (config log : List ℕ) (asks : Bool) (x y : Option (List ℕ)) (d : Result (Unit {0}) Kind) (r : Result Done Kind)
+    → OnOk d ((qs : List Asked) × (c : Config) × (vs : List Service) × (records : List Record) × (k : Walk) × (typed : List (Option (List ℕ))) × (text : List ℕ)
     × (now ≡ asked ++ qs) × (given_now ≡ given ++ typed) × IsWhole typed × IsStart IsSaved config log qs c vs records × IsBegun (world_at_boot c vs) records k
-    × Appends x y (begun_text asks k ++ session_text asks k typed))
+    × IsSession asks (sight_at k) typed text × Appends x y (begun_text asks k ++ text))
     → IfErr d (λ f. (qs : List Asked) × (typed : List (Option (List ℕ))) × (now ≡ asked ++ qs) × (given_now ≡ given ++ typed) × IsTold IsSaved TellsSaved config log qs f)
-    → r ≡ status_after_work d
-    → DoesTyped asked now files files given given_now (λ qs ws typed. (e : Result (Unit {0}) Kind) × (ws ≡ []) × Looks config log asks qs typed (λ text. Appends x y text) e × (r ≡ status_after_work e))
-looks asked now files given given_now config log asks x y (Ok u) r p f e =
-    (p.0, [], p.5, p.6, sym (append-nil files), p.7, (Ok u, refl, (p.1, p.2, p.3, p.4, p.9, p.10, p.8, p.11), e))
-looks asked now files given given_now config log asks x y (Err why) r p f e =
-    (f.0, [], f.1, f.2, sym (append-nil files), f.3, (Err why, refl, f.4, e))
+    → r ≡ done_after_work d
+    → DoesTyped asked now files files given given_now shown shown (λ qs ws typed ps. (e : Result (Unit {0}) Kind) × (ws ≡ []) × (ps ≡ []) × Looks config log asks qs typed (λ text. Appends x y text) e × (r ≡ done_after_work e))
+looks {shown} asked now files given given_now config log asks x y (Ok u) r p f e =
+    (p.0, [], p.5, [], p.7, sym (append-nil files), p.8, sym (append-nil shown), (Ok u, refl, refl, (p.1, p.2, p.3, p.4, p.6, p.10, p.11, p.9, p.12, p.13), e))
+looks {shown} asked now files given given_now config log asks x y (Err why) r p f e =
+    (f.0, [], f.1, [], f.2, sym (append-nil files), f.3, sym (append-nil shown), (Err why, refl, refl, f.4, e))
 
 -- a text was assembled, and nothing printed
-pub assembled : (asked now : List Asked) (files written : List Written) (known : Option (List ℕ)) (text file : List ℕ) (d : Result (Unit {0}) Kind) (r : Result ℕ Kind)
-    → (qs : List Asked) × (ws : List Written) × (now ≡ asked ++ qs) × (written ≡ files ++ ws) × Assembles text file qs ws d → r ≡ status_after_work d
-    → Does asked now files written (λ qs ws. (x : Result (Unit {0}) Kind) × Assembles text file qs ws x × Appends known known [] × (r ≡ status_after_work x))
+pub assembled : (asked now : List Asked) (files written : List Written) (known : Option (List ℕ)) (text file : List ℕ) (d : Result (Unit {0}) Kind) (r : Result Done Kind)
+    → (qs : List Asked) × (ws : List Written) × (now ≡ asked ++ qs) × (written ≡ files ++ ws) × Assembles text file qs ws d → r ≡ done_after_work d
+    → Does asked now files written (λ qs ws. (x : Result (Unit {0}) Kind) × Assembles text file qs ws x × Appends known known [] × (r ≡ done_after_work x))
 assembled asked now files written known text file d r p e = (p.0, p.1, p.2, p.3, (d, p.4, appends_nothing known, e))
 
 -- a machine was run, or it wasn't
-pub runs : (asked now : List Asked) (files written : List Written) (config log : List ℕ) (ticks : ℕ) (x y : Option (List ℕ)) (d : Result (Unit {0}) Kind) (r : Result ℕ Kind)
-    → (qs : List Asked) × (ws : List Written) × (now ≡ asked ++ qs) × (written ≡ files ++ ws) × Runs config log ticks qs ws (λ text. Appends x y text) d → r ≡ status_after_work d
-    → Does asked now files written (λ qs ws. (e : Result (Unit {0}) Kind) × Runs config log ticks qs ws (λ text. Appends x y text) e × (r ≡ status_after_work e))
+pub runs : (asked now : List Asked) (files written : List Written) (config log : List ℕ) (ticks : ℕ) (x y : Option (List ℕ)) (d : Result (Unit {0}) Kind) (r : Result Done Kind)
+    → (qs : List Asked) × (ws : List Written) × (now ≡ asked ++ qs) × (written ≡ files ++ ws) × Runs config log ticks qs ws (λ text. Appends x y text) d → r ≡ done_after_work d
+    → Does asked now files written (λ qs ws. (e : Result (Unit {0}) Kind) × Runs config log ticks qs ws (λ text. Appends x y text) e × (r ≡ done_after_work e))
 runs asked now files written config log ticks x y d r p e = (p.0, p.1, p.2, p.3, (d, p.4, e))
 
 -- turns were made, or they weren't
-pub turned : (asked now : List Asked) (files written : List Written) (config log : List ℕ) (events : Option (List ℕ)) (ticks bound : ℕ) (x y : Option (List ℕ)) (d : Result Ending Kind) (r : Result ℕ Kind)
-    → (qs : List Asked) × (ws : List Written) × (now ≡ asked ++ qs) × (written ≡ files ++ ws) × MakesTurns config events log ticks bound qs ws (λ text. Appends x y text) d → r ≡ status_after_turns d
-    → Does asked now files written (λ qs ws. (e : Result Ending Kind) × MakesTurns config events log ticks bound qs ws (λ text. Appends x y text) e × (r ≡ status_after_turns e))
+pub turned : (asked now : List Asked) (files written : List Written) (config log : List ℕ) (events : Option (List ℕ)) (ticks bound : ℕ) (x y : Option (List ℕ)) (d : Result Ending Kind) (r : Result Done Kind)
+    → (qs : List Asked) × (ws : List Written) × (now ≡ asked ++ qs) × (written ≡ files ++ ws) × MakesTurns config events log ticks bound qs ws (λ text. Appends x y text) d → r ≡ done_after_turns d
+    → Does asked now files written (λ qs ws. (e : Result Ending Kind) × MakesTurns config events log ticks bound qs ws (λ text. Appends x y text) e × (r ≡ done_after_turns e))
 turned asked now files written config log events ticks bound x y d r p e = (p.0, p.1, p.2, p.3, (d, p.4, e))
 
 -- a history was swept, or it wasn't
-pub swept : (asked now : List Asked) (files written : List Written) (config log fault : List ℕ) (save : Option (List ℕ)) (from to bound : ℕ) (strict : Bool) (x y : Option (List ℕ)) (d : Result Swept Kind) (r : Result ℕ Kind)
-    → (qs : List Asked) × (ws : List Written) × (now ≡ asked ++ qs) × (written ≡ files ++ ws) × Sweeps config log fault save from to bound qs ws (λ text. Appends x y text) d → r ≡ status_after_sweep strict d
-    → Does asked now files written (λ qs ws. (e : Result Swept Kind) × Sweeps config log fault save from to bound qs ws (λ text. Appends x y text) e × (r ≡ status_after_sweep strict e))
-swept asked now files written config log fault save from to bound strict x y d r p e = (p.0, p.1, p.2, p.3, (d, p.4, e))
+pub swept : {given : List (Option (List ℕ))} (asked now : List Asked) (files written : List Written) (shown later : List Part) (config log fault : List ℕ) (save : Option (List ℕ)) (from to bound : ℕ) (strict : Bool) (x y : Option (List ℕ)) (d : Result Swept Kind) (r : Result Done Kind)
+    → (qs : List Asked) × (ws : List Written) × (ps : List Part) × (now ≡ asked ++ qs) × (written ≡ files ++ ws) × (later ≡ shown ++ ps) × Sweeps config log fault save from to bound qs ws ps (λ text. Appends x y text) d
+    → r ≡ done_after_sweep strict d
+    → DoesTyped asked now files written given given shown later (λ qs ws typed ps. (typed ≡ []) × (e : Result Swept Kind) × Sweeps config log fault save from to bound qs ws ps (λ text. Appends x y text) e × (r ≡ done_after_sweep strict e))
+swept {given} asked now files written shown later config log fault save from to bound strict x y d r p e =
+    (p.0, p.1, [], p.2, p.3, p.4, sym (append-nil given), p.5, (refl, d, p.6, e))
 
 -- a script was done, and its history saved or not
-pub saves : (asked now : List Asked) (files written : List Written) (config script log : List ℕ) (x y : Option (List ℕ)) (d : Result (Unit {0}) Kind) (r : Result ℕ Kind)
+pub saves : (asked now : List Asked) (files written : List Written) (config script log : List ℕ) (x y : Option (List ℕ)) (d : Result (Unit {0}) Kind) (r : Result Done Kind)
     → OnOk d ((qs : List Asked) × (c : Config) × (vs : List Service) × (said : List ScriptLine)
     × (now ≡ asked ++ qs) × IsStart IsScript config script qs c vs said
     × (written ≡ files ++ kept log (saved_text c.rules (history_made (world_at_boot c vs) c.cpus said)) ∷ [])
@@ -123,8 +129,8 @@ pub saves : (asked now : List Asked) (files written : List Written) (config scri
     × (((ws ≡ []) × IsNotStarted IsScript TellsScript config script qs f)
     ⊎ ((c : Config) × (vs : List Service) × (said : List ScriptLine) × IsStart IsScript config script qs c vs said
     × IsUnsaved log (saved_text c.rules (history_made (world_at_boot c vs) c.cpus said)) ws f)))
-    → r ≡ status_after_work d
-    → Does asked now files written (λ qs ws. (e : Result (Unit {0}) Kind) × SavesSteps config script log qs ws (λ text. Appends x y text) e × (r ≡ status_after_work e))
+    → r ≡ done_after_work d
+    → Does asked now files written (λ qs ws. (e : Result (Unit {0}) Kind) × SavesSteps config script log qs ws (λ text. Appends x y text) e × (r ≡ done_after_work e))
 saves asked now files written config script log x y (Ok u) r p f e =
     (p.0, kept log (saved_text p.1.rules (history_made (world_at_boot p.1 p.2) p.1.cpus p.3)) ∷ [], p.4, p.6, (Ok u, (p.1, p.2, p.3, p.5, refl, p.7), e))
 saves asked now files written config script log x y (Err why) r p f e = (f.0, f.1, f.2, f.3, (Err why, f.4, e))
@@ -134,63 +140,63 @@ module _ (asked now : List Asked) (files : List Written) where
   abbrev WritesNone : (List Asked → List Written → Type 0) → Type 0
   WritesNone Done = Does asked now files files Done
 
-  pub shows : (Has : List ℕ → List ℕ → Type 0) (name : List ℕ) (Prints : List ℕ → Type 0) (d : Result (Unit {0}) Kind) (r : Result ℕ Kind)
-      → (q : Asked) × (now ≡ asked ++ q ∷ []) × ShowsFile Has name q Prints d → r ≡ status_after_work d
+  pub shows : (Has : List ℕ → List ℕ → Type 0) (name : List ℕ) (Prints : List ℕ → Type 0) (d : Result (Unit {0}) Kind) (r : Result Done Kind)
+      → (q : Asked) × (now ≡ asked ++ q ∷ []) × ShowsFile Has name q Prints d → r ≡ done_after_work d
       → WritesNone (λ qs ws. Shows Has name qs ws Prints r)
   shows Has name Prints d r p e = (p.0 ∷ [], [], p.1, sym (append-nil files), (p.0, d, refl, refl, p.2, e))
 
-  pub explains : (name : List ℕ) (x y : Option (List ℕ)) (d : Result (Unit {0}) Kind) (r : Result ℕ Kind)
-      → (q : Asked) × (now ≡ asked ++ q ∷ []) × ExplainsConfig name q (λ text. Appends x y text) d → r ≡ status_after_work d
+  pub explains : (name : List ℕ) (x y : Option (List ℕ)) (d : Result (Unit {0}) Kind) (r : Result Done Kind)
+      → (q : Asked) × (now ≡ asked ++ q ∷ []) × ExplainsConfig name q (λ text. Appends x y text) d → r ≡ done_after_work d
       → WritesNone (λ qs ws. Explains name qs ws (λ text. Appends x y text) r)
   explains name x y d r p e = (p.0 ∷ [], [], p.1, sym (append-nil files), (p.0, d, refl, refl, p.2, e))
 
-  pub steps : (config script : List ℕ) (x y : Option (List ℕ)) (d : Result (Unit {0}) Kind) (r : Result ℕ Kind)
+  pub steps : (config script : List ℕ) (x y : Option (List ℕ)) (d : Result (Unit {0}) Kind) (r : Result Done Kind)
       → OnOk d ((qs : List Asked) × (c : Config) × (vs : List Service) × (said : List ScriptLine)
       × (now ≡ asked ++ qs) × IsStart IsScript config script qs c vs said
       × (let m = lines_made (world_at_boot c vs) c.cpus said in Appends x y (said_lines m.0 ++ report_text m.1.table m.1.services)))
       → IfErr d (λ f. (qs : List Asked) × (now ≡ asked ++ qs) × IsTold IsScript TellsScript config script qs f)
-      → r ≡ status_after_work d
-      → WritesNone (λ qs ws. (e : Result (Unit {0}) Kind) × (ws ≡ []) × Steps config script qs (λ text. Appends x y text) e × (r ≡ status_after_work e))
+      → r ≡ done_after_work d
+      → WritesNone (λ qs ws. (e : Result (Unit {0}) Kind) × (ws ≡ []) × Steps config script qs (λ text. Appends x y text) e × (r ≡ done_after_work e))
   steps config script x y (Ok u) r p f e = (p.0, [], p.4, sym (append-nil files), (Ok u, refl, (p.1, p.2, p.3, p.5, p.6), e))
   steps config script x y (Err why) r p f e = (f.0, [], f.1, sym (append-nil files), (Err why, refl, f.2, e))
 
-  pub debugs : (config script : List ℕ) (x y : Option (List ℕ)) (d : Result (Unit {0}) Kind) (r : Result ℕ Kind)
+  pub debugs : (config script : List ℕ) (x y : Option (List ℕ)) (d : Result (Unit {0}) Kind) (r : Result Done Kind)
       → OnOk d ((qs : List Asked) × (c : Config) × (vs : List Service) × (said : List DebugLine)
       × (now ≡ asked ++ qs) × IsStart IsDebugScript config script qs c vs said
       × (let d : DebuggedWorld = record { world = world_at_boot c vs; points = [] } in
       let e = debug_lines_made c.cpus d said in
       Appends x y (debug_lines_text c.cpus d said ++ report_text e.world.table e.world.services)))
       → IfErr d (λ f. (qs : List Asked) × (now ≡ asked ++ qs) × IsTold IsDebugScript TellsDebugScript config script qs f)
-      → r ≡ status_after_work d
-      → WritesNone (λ qs ws. (e : Result (Unit {0}) Kind) × (ws ≡ []) × Debugs config script qs (λ text. Appends x y text) e × (r ≡ status_after_work e))
+      → r ≡ done_after_work d
+      → WritesNone (λ qs ws. (e : Result (Unit {0}) Kind) × (ws ≡ []) × Debugs config script qs (λ text. Appends x y text) e × (r ≡ done_after_work e))
   debugs config script x y (Ok u) r p f e = (p.0, [], p.4, sym (append-nil files), (Ok u, refl, (p.1, p.2, p.3, p.5, p.6), e))
   debugs config script x y (Err why) r p f e = (f.0, [], f.1, sym (append-nil files), (Err why, refl, f.2, e))
 
-  pub replays : (config log : List ℕ) (x y : Option (List ℕ)) (d : Result Replayed Kind) (r : Result ℕ Kind)
+  pub replays : (config log : List ℕ) (x y : Option (List ℕ)) (d : Result Replayed Kind) (r : Result Done Kind)
       → IfOk d (λ how. (qs : List Asked) × (c : Config) × (vs : List Service) × (records : List Record)
       × (now ≡ asked ++ qs) × IsStart IsSaved config log qs c vs records × IsReplayPrinted (world_at_boot c vs) records how (λ text. Appends x y text))
       → IfErr d (λ f. (qs : List Asked) × (now ≡ asked ++ qs) × IsTold IsSaved TellsSaved config log qs f)
-      → r ≡ status_after_replay d
-      → WritesNone (λ qs ws. (e : Result Replayed Kind) × (ws ≡ []) × Replays config log qs (λ text. Appends x y text) e × (r ≡ status_after_replay e))
+      → r ≡ done_after_replay d
+      → WritesNone (λ qs ws. (e : Result Replayed Kind) × (ws ≡ []) × Replays config log qs (λ text. Appends x y text) e × (r ≡ done_after_replay e))
   replays config log x y (Ok how) r p f e = (p.0, [], p.4, sym (append-nil files), (Ok how, refl, (p.1, p.2, p.3, p.5, p.6), e))
   replays config log x y (Err why) r p f e = (f.0, [], f.1, sym (append-nil files), (Err why, refl, f.2, e))
 
-  pub traces : (config log : List ℕ) (range : RecordRange) (x y : Option (List ℕ)) (d : Result Replayed Kind) (r : Result ℕ Kind)
+  pub traces : (config log : List ℕ) (range : RecordRange) (x y : Option (List ℕ)) (d : Result Replayed Kind) (r : Result Done Kind)
       → IfOk d (λ how. (qs : List Asked) × (c : Config) × (vs : List Service) × (records : List Record)
       × (now ≡ asked ++ qs) × IsStart IsSaved config log qs c vs records
       × IsTracePrinted (world_at_boot c vs) (take range.to records) range.from how (λ text. Appends x y text))
       → IfErr d (λ f. (qs : List Asked) × (now ≡ asked ++ qs) × IsTold IsSaved TellsSaved config log qs f)
-      → r ≡ status_after_replay d
-      → WritesNone (λ qs ws. (e : Result Replayed Kind) × (ws ≡ []) × Traces config log range qs (λ text. Appends x y text) e × (r ≡ status_after_replay e))
+      → r ≡ done_after_replay d
+      → WritesNone (λ qs ws. (e : Result Replayed Kind) × (ws ≡ []) × Traces config log range qs (λ text. Appends x y text) e × (r ≡ done_after_replay e))
   traces config log range x y (Ok how) r p f e = (p.0, [], p.4, sym (append-nil files), (Ok how, refl, (p.1, p.2, p.3, p.5, p.6), e))
   traces config log range x y (Err why) r p f e = (f.0, [], f.1, sym (append-nil files), (Err why, refl, f.2, e))
 
-  pub draws : (config log : List ℕ) (range : RecordRange) (x y : Option (List ℕ)) (d : Result Replayed Kind) (r : Result ℕ Kind)
+  pub draws : (config log : List ℕ) (range : RecordRange) (x y : Option (List ℕ)) (d : Result Replayed Kind) (r : Result Done Kind)
       → IfOk d (λ how. (qs : List Asked) × (c : Config) × (vs : List Service) × (records : List Record)
       × (now ≡ asked ++ qs) × IsStart IsSaved config log qs c vs records
       × IsDrawingPrinted (world_at_boot c vs) c.cpus records range.from range.to how (λ text. Appends x y text))
       → IfErr d (λ f. (qs : List Asked) × (now ≡ asked ++ qs) × IsTold IsSaved TellsSaved config log qs f)
-      → r ≡ status_after_replay d
-      → WritesNone (λ qs ws. (e : Result Replayed Kind) × (ws ≡ []) × Draws config log range qs (λ text. Appends x y text) e × (r ≡ status_after_replay e))
+      → r ≡ done_after_replay d
+      → WritesNone (λ qs ws. (e : Result Replayed Kind) × (ws ≡ []) × Draws config log range qs (λ text. Appends x y text) e × (r ≡ done_after_replay e))
   draws config log range x y (Ok how) r p f e = (p.0, [], p.4, sym (append-nil files), (Ok how, refl, (p.1, p.2, p.3, p.5, p.6), e))
   draws config log range x y (Err why) r p f e = (f.0, [], f.1, sym (append-nil files), (Err why, refl, f.2, e))

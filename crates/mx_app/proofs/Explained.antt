@@ -1,11 +1,12 @@
 -- What is told of words that ask for nothing.
-use Rattle.std.proofs.Common.{◌≡◌, ◌≢◌, ℕ, Result, Err, refl}
+use Rattle.std.proofs.Common.{◌≡◌, ◌≢◌, Result, Err, refl}
 use Rattle.clap.specs.declared.error.Error.{Error}
 use Rattle.clap.specs.declared.error.kind.ErrorKind.{ErrorKind}
 use Rattle.clap.specs.declared.error.kind.ErrorKind.TheVariants as words
 use Rattle.mx_app_failure.specs.declared.failure.Failure.TheVariants.{NoMemory}
 use Rattle.mx_app.specs.Words.{ExplainsKind, IsHelp}
 use Rattle.mx_app.specs.declared.complaint.Complaint.{Complaint}
+use Rattle.mx_app.specs.declared.performing.Done.{Done}
 use Rattle.mx_app.specs.declared.complaint.Complaint.TheVariants.{Mistaken, Failed}
 
 pub wanting : (k : ErrorKind) (e : Error) → k ≡ words.OutOfMemory → ExplainsKind k e (Err (Failed NoMemory))
@@ -18,7 +19,7 @@ mistaken words.DisplayHelp e n h v = absurd (h refl)
 mistaken words.DisplayVersion e n h v = absurd (v refl)
 mistaken k e n h v = refl
 
-pub helped : (k : ErrorKind) (e : Error) (r : Result ℕ Complaint) → k ≢ words.OutOfMemory → ((k ≢ words.DisplayHelp) × (k ≢ words.DisplayVersion) → ⊥) → IsHelp r → ExplainsKind k e r
+pub helped : (k : ErrorKind) (e : Error) (r : Result Done Complaint) → k ≢ words.OutOfMemory → ((k ≢ words.DisplayHelp) × (k ≢ words.DisplayVersion) → ⊥) → IsHelp r → ExplainsKind k e r
 helped words.OutOfMemory e r n other is = absurd (n refl)
 helped words.DisplayHelp e r n other is = is
 helped words.DisplayVersion e r n other is = is

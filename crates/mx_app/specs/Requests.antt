@@ -12,6 +12,7 @@ use Rattle.mx_machine.specs.Boot.{world_at_boot}
 use Rattle.mx_machine.specs.declared.history.Record.{Record}
 use Rattle.mx_app_db.specs.Asked.{Asked}
 use Rattle.mx_app_db.specs.Written.{Written, kept}
+use Rattle.mx_app_start.specs.declared.progress.Part.{Part}
 use Rattle.mx_app_db.specs.Text.{saved_text}
 use Rattle.mx_app_db.specs.Config.{Config}
 use Rattle.mx_app_db.specs.Service.{Service}
@@ -27,11 +28,11 @@ use Rattle.mx_app_db.specs.Traces.{IsTracePrinted}
 use Rattle.mx_app_db.specs.Replayed.{Replayed}
 use Rattle.mx_app_db.specs.Replayed.TheVariants as replayed
 use Rattle.mx_app_draw.specs.Scenes.{IsDrawingPrinted}
-use Rattle.mx_app_look.specs.Sessions.{IsBegun, IsWhole, begun_text, session_text}
+use Rattle.mx_app_look.specs.Sessions.{IsBegun, IsSession, IsWhole, begun_text, sight_at}
 use Rattle.mx_app_run.specs.Run.{Runs}
-use Rattle.mx_app_sweep.specs.Sweeping.{Sweeps}
-use Rattle.mx_app_sweep.specs.declared.sweeping.Swept.{Swept}
-use Rattle.mx_app_sweep.specs.declared.sweeping.Swept.TheVariants as swept
+use Rattle.mx_app_turns.specs.Sweeping.{Sweeps}
+use Rattle.mx_app_turns.specs.declared.sweeping.Swept.{Swept}
+use Rattle.mx_app_turns.specs.declared.sweeping.Swept.TheVariants as swept
 use Rattle.mx_app_turns.specs.Turned.{MakesTurns}
 use Rattle.mx_turns.specs.declared.turns.Ending.{Ending}
 use Rattle.mx_walk.specs.Walks.{Walk}
@@ -39,30 +40,35 @@ use Rattle.mx_app_db.specs.DebugLines.{DebuggedWorld, debug_lines_made}
 use Rattle.mx_app_db.specs.Told.{debug_lines_text}
 use Rattle.mx_app.specs.Explained.{ExplainsConfig}
 use Rattle.mx_app.specs.Named.{Assembles, ShowsFile}
+use Rattle.mx_app.specs.declared.performing.Done.{Done}
 
--- ---- statuses
+-- ---- what is done
 
-abbrev pub status_after_work : Result (Unit {0}) Kind → Result ℕ Kind
-status_after_work (Ok u) = Ok 0
-status_after_work (Err f) = Err f
+-- done with this status, and without turns
+abbrev pub with_status : ℕ → Done
+with_status n = record { status = n; ending = None }
+
+abbrev pub done_after_work : Result (Unit {0}) Kind → Result Done Kind
+done_after_work (Ok u) = Ok (with_status 0)
+done_after_work (Err f) = Err f
 
 -- a history that is refused is no failure, and its status is 1
-abbrev pub status_after_replay : Result Replayed Kind → Result ℕ Kind
-status_after_replay (Ok replayed.Whole) = Ok 0
-status_after_replay (Ok replayed.Refused) = Ok 1
-status_after_replay (Err f) = Err f
+abbrev pub done_after_replay : Result Replayed Kind → Result Done Kind
+done_after_replay (Ok replayed.Whole) = Ok (with_status 0)
+done_after_replay (Ok replayed.Refused) = Ok (with_status 1)
+done_after_replay (Err f) = Err f
 
 -- turns are done, however they ended
-abbrev pub status_after_turns : Result Ending Kind → Result ℕ Kind
-status_after_turns (Ok ending) = Ok 0
-status_after_turns (Err f) = Err f
+abbrev pub done_after_turns : Result Ending Kind → Result Done Kind
+done_after_turns (Ok ending) = Ok (record { status = 0; ending = Some ending })
+done_after_turns (Err f) = Err f
 
 -- a sweep is done; its status is 1 if the history is refused, and, if it is strict, if an outcome differs
-abbrev pub status_after_sweep : Bool → Result Swept Kind → Result ℕ Kind
-status_after_sweep strict (Ok swept.Alike) = Ok 0
-status_after_sweep strict (Ok swept.Differs) = Ok (if strict then 1 else 0)
-status_after_sweep strict (Ok swept.Refused) = Ok 1
-status_after_sweep strict (Err f) = Err f
+abbrev pub done_after_sweep : Bool → Result Swept Kind → Result Done Kind
+done_after_sweep strict (Ok swept.Alike) = Ok (with_status 0)
+done_after_sweep strict (Ok swept.Differs) = Ok (with_status (if strict then 1 else 0))
+done_after_sweep strict (Ok swept.Refused) = Ok (with_status 1)
+done_after_sweep strict (Err f) = Err f
 
 -- ---- machines: the files are as the start wants them, and the text is printed; or the first fault is told
 
@@ -115,53 +121,55 @@ Draws config log range qs Prints (Err f) = IsTold IsSaved TellsSaved config log 
 -- the end of the input
 abbrev pub Looks : List ℕ → List ℕ → Bool → List Asked → List (Option (List ℕ)) → (List ℕ → Type 0) → Result (Unit {0}) Kind → Type 0
 Looks config log asks qs typed Prints (Ok u) =
-    (c : Config) × (vs : List Service) × (records : List Record) × (k : Walk) × IsStart IsSaved config log qs c vs records
-    × IsBegun (world_at_boot c vs) records k × IsWhole typed × Prints (begun_text asks k ++ session_text asks k typed)
+    (c : Config) × (vs : List Service) × (records : List Record) × (k : Walk) × (text : List ℕ) × IsStart IsSaved config log qs c vs records
+    × IsBegun (world_at_boot c vs) records k × IsWhole typed × IsSession asks (sight_at k) typed text × Prints (begun_text asks k ++ text)
 Looks config log asks qs typed Prints (Err f) = IsTold IsSaved TellsSaved config log qs f
 
 -- ---- requests
 
 -- a file is read, shown, and none is written
-abbrev pub Shows : (List ℕ → List ℕ → Type 0) → List ℕ → List Asked → List Written → (List ℕ → Type 0) → Result ℕ Kind → Type 0
+abbrev pub Shows : (List ℕ → List ℕ → Type 0) → List ℕ → List Asked → List Written → (List ℕ → Type 0) → Result Done Kind → Type 0
 Shows Has name qs ws Prints r =
-    (q : Asked) × (d : Result (Unit {0}) Kind) × (qs ≡ q ∷ []) × (ws ≡ []) × ShowsFile Has name q Prints d × (r ≡ status_after_work d)
+    (q : Asked) × (d : Result (Unit {0}) Kind) × (qs ≡ q ∷ []) × (ws ≡ []) × ShowsFile Has name q Prints d × (r ≡ done_after_work d)
 
 -- a configuration is read, its services are explained, and no file is written
-abbrev pub Explains : List ℕ → List Asked → List Written → (List ℕ → Type 0) → Result ℕ Kind → Type 0
+abbrev pub Explains : List ℕ → List Asked → List Written → (List ℕ → Type 0) → Result Done Kind → Type 0
 Explains name qs ws Prints r =
-    (q : Asked) × (d : Result (Unit {0}) Kind) × (qs ≡ q ∷ []) × (ws ≡ []) × ExplainsConfig name q Prints d × (r ≡ status_after_work d)
+    (q : Asked) × (d : Result (Unit {0}) Kind) × (qs ≡ q ∷ []) × (ws ≡ []) × ExplainsConfig name q Prints d × (r ≡ done_after_work d)
 
--- what is done of a request that takes no lines
-abbrev pub PerformsUntyped : CommandRequest → List Asked → List Written → (List ℕ → Type 0) → Result ℕ Kind → Type 0
+-- what is done of a request that takes no lines and shows no progress
+abbrev pub PerformsUntyped : CommandRequest → List Asked → List Written → (List ℕ → Type 0) → Result Done Kind → Type 0
 PerformsUntyped (One file steps) qs ws Prints r = Shows (λ bytes text. IsPrinted bytes steps text) file.now qs ws Prints r
 PerformsUntyped (As text file) qs ws Prints r =
-    (d : Result (Unit {0}) Kind) × Assembles text.now file.now qs ws d × Prints [] × (r ≡ status_after_work d)
+    (d : Result (Unit {0}) Kind) × Assembles text.now file.now qs ws d × Prints [] × (r ≡ done_after_work d)
 PerformsUntyped (Dis file) qs ws Prints r = Shows (λ bytes text. IsShown HasListing bytes text) file.now qs ws Prints r
 PerformsUntyped (Nm file) qs ws Prints r = Shows (λ bytes text. IsShown HasNames bytes text) file.now qs ws Prints r
 PerformsUntyped (Explain config) qs ws Prints r = Explains config.now qs ws Prints r
 PerformsUntyped (Step config script None) qs ws Prints r =
-    (d : Result (Unit {0}) Kind) × (ws ≡ []) × Steps config.now script.now qs Prints d × (r ≡ status_after_work d)
+    (d : Result (Unit {0}) Kind) × (ws ≡ []) × Steps config.now script.now qs Prints d × (r ≡ done_after_work d)
 PerformsUntyped (Step config script (Some log)) qs ws Prints r =
-    (d : Result (Unit {0}) Kind) × SavesSteps config.now script.now log.now qs ws Prints d × (r ≡ status_after_work d)
+    (d : Result (Unit {0}) Kind) × SavesSteps config.now script.now log.now qs ws Prints d × (r ≡ done_after_work d)
 PerformsUntyped (Run config log ticks) qs ws Prints r =
-    (d : Result (Unit {0}) Kind) × Runs config.now log.now ticks qs ws Prints d × (r ≡ status_after_work d)
+    (d : Result (Unit {0}) Kind) × Runs config.now log.now ticks qs ws Prints d × (r ≡ done_after_work d)
 PerformsUntyped (Turns config log ticks events bound) qs ws Prints r =
-    (d : Result Ending Kind) × MakesTurns config.now (option_map (λ s. s.now) events) log.now ticks bound qs ws Prints d × (r ≡ status_after_turns d)
-PerformsUntyped (Sweep config log fault bound from to strict save) qs ws Prints r =
-    (d : Result Swept Kind) × Sweeps config.now log.now fault.now (option_map (λ s. s.now) save) from to bound qs ws Prints d × (r ≡ status_after_sweep strict d)
+    (d : Result Ending Kind) × MakesTurns config.now (option_map (λ s. s.now) events) log.now ticks bound qs ws Prints d × (r ≡ done_after_turns d)
+PerformsUntyped (Sweep config log fault bound from to strict save) qs ws Prints r = ⊥
 PerformsUntyped (Replay config log) qs ws Prints r =
-    (d : Result Replayed Kind) × (ws ≡ []) × Replays config.now log.now qs Prints d × (r ≡ status_after_replay d)
+    (d : Result Replayed Kind) × (ws ≡ []) × Replays config.now log.now qs Prints d × (r ≡ done_after_replay d)
 PerformsUntyped (Trace config log range) qs ws Prints r =
-    (d : Result Replayed Kind) × (ws ≡ []) × Traces config.now log.now range qs Prints d × (r ≡ status_after_replay d)
+    (d : Result Replayed Kind) × (ws ≡ []) × Traces config.now log.now range qs Prints d × (r ≡ done_after_replay d)
 PerformsUntyped (Draw config log range) qs ws Prints r =
-    (d : Result Replayed Kind) × (ws ≡ []) × Draws config.now log.now range qs Prints d × (r ≡ status_after_replay d)
+    (d : Result Replayed Kind) × (ws ≡ []) × Draws config.now log.now range qs Prints d × (r ≡ done_after_replay d)
 PerformsUntyped (Look config log) qs ws Prints r = ⊥
 PerformsUntyped (Db config script) qs ws Prints r =
-    (d : Result (Unit {0}) Kind) × (ws ≡ []) × Debugs config.now script.now qs Prints d × (r ≡ status_after_work d)
+    (d : Result (Unit {0}) Kind) × (ws ≡ []) × Debugs config.now script.now qs Prints d × (r ≡ done_after_work d)
 
--- WHAT IS DONE OF A REQUEST, by the files that were asked for and written, the lines that were typed, what is printed, and
--- how it ends. Only a session takes lines
-abbrev pub Performs : CommandRequest → Bool → List Asked → List Written → List (Option (List ℕ)) → (List ℕ → Type 0) → Result ℕ Kind → Type 0
-Performs (Look config log) asks qs ws typed Prints r =
-    (d : Result (Unit {0}) Kind) × (ws ≡ []) × Looks config.now log.now asks qs typed Prints d × (r ≡ status_after_work d)
-Performs request asks qs ws typed Prints r = (typed ≡ []) × PerformsUntyped request qs ws Prints r
+-- WHAT IS DONE OF A REQUEST, by the files that were asked for and written, the lines that were typed, the progress that
+-- was shown, what is printed, and how it ends. Only a session takes lines, and only a sweep shows progress
+abbrev pub Performs : CommandRequest → Bool → List Asked → List Written → List (Option (List ℕ)) → List Part → (List ℕ → Type 0) → Result Done Kind → Type 0
+Performs (Look config log) asks qs ws typed ps Prints r =
+    (d : Result (Unit {0}) Kind) × (ws ≡ []) × (ps ≡ []) × Looks config.now log.now asks qs typed Prints d × (r ≡ done_after_work d)
+Performs (Sweep config log fault bound from to strict save) asks qs ws typed ps Prints r =
+    (typed ≡ []) × (d : Result Swept Kind) × Sweeps config.now log.now fault.now (option_map (λ s. s.now) save) from to bound qs ws ps Prints d
+    × (r ≡ done_after_sweep strict d)
+Performs request asks qs ws typed ps Prints r = (typed ≡ []) × (ps ≡ []) × PerformsUntyped request qs ws Prints r

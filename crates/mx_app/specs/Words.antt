@@ -3,22 +3,27 @@ use Rattle.std.specs.Prelude.{◌≡◌, ◌⊎◌, ◌++◌, ℕ, Bool, true, f
 use Rattle.std.specs.declared.alloc.Global.{Global}
 use Rattle.std.specs.declared.io.ErrorKind.{ErrorKind}
 use Rattle.std.specs.declared.io.ErrorKind.TheVariants as kinds
-use Rattle.clap.specs.Words.{HasKind, fault_of, kind_of, subcommand_of}
+use Rattle.clap.specs.Words.{kind_of, subcommand_of}
 use Rattle.clap.specs.declared.error.Error.{Error}
 use Rattle.clap.specs.declared.error.kind.ErrorKind.{ErrorKind as WordsErrorKind}
 use Rattle.clap.specs.declared.error.kind.ErrorKind.TheVariants as words
 use Rattle.mx_app_command.specs.declared.words.CommandLine.{CommandLine}
 use Rattle.mx_app_explain.specs.Explaining.{explained}
+use Rattle.mx_app_command.specs.Mistakes.{IsMistake, both_given}
+use Rattle.mx_app_command.specs.declared.words.Mistake.{Mistake}
+use Rattle.mx_app_command.specs.declared.words.Mistake.TheVariants as mistakes
 use Rattle.mx_app_command.specs.Words.{Asks, AsksToExplain, mx_grammar}
 use Rattle.mx_app_failure.specs.declared.failure.Failure.{Failure as Kind}
 use Rattle.mx_app_failure.specs.declared.failure.Failure.TheVariants.{NotText, NoMemory}
 use Rattle.mx_app_failure.specs.Failure.{IsWanting, failure_line, status_of}
 use Rattle.mx_app_db.specs.Asked.{Asked}
 use Rattle.mx_app_db.specs.Written.{Written}
+use Rattle.mx_app_start.specs.declared.progress.Part.{Part}
 use Rattle.mx_app.specs.Noting.{Noted}
-use Rattle.mx_app.specs.Requests.{Performs}
+use Rattle.mx_app.specs.Requests.{Performs, with_status}
+use Rattle.mx_app.specs.declared.performing.Done.{Done}
 use Rattle.mx_app.specs.declared.complaint.Complaint.{Complaint}
-use Rattle.mx_app.specs.declared.complaint.Complaint.TheVariants.{Mistaken, Failed, Explained, Unexplained}
+use Rattle.mx_app.specs.declared.complaint.Complaint.TheVariants.{Mistaken, TicksAndEvents, Failed, Explained, Unexplained}
 
 -- why they can't be had
 abbrev pub words_failure_of : ErrorKind → Kind
@@ -28,13 +33,21 @@ words_failure_of k = NotText
 -- a mistake in the words is 2
 abbrev pub complaint_status : Complaint → ℕ
 complaint_status (Mistaken e) = 2
+complaint_status TicksAndEvents = 2
 complaint_status (Failed f) = status_of f
 complaint_status (Explained f s) = status_of f
 complaint_status (Unexplained f) = status_of f
 
+-- what standard error gets of `turns` with both `--ticks` and `--events`, in the form that clap's own texts have
+abbrev pub both_text : List ℕ
+both_text =
+    codes "error: the argument '--ticks <T>' cannot be used with '--events <EVENTS>'\n\n"
+    ++ codes "Usage: mx turns [OPTIONS] <CONFIG> <LOG>\n\nFor more information, try '--help'.\n"
+
 -- what standard error gets: of a mistake what clap says, which isn't pinned here; of a failure its line, and the line that explains it, or that there is no memory for this line
 abbrev pub complaint_told : Complaint → Option (List ℕ)
 complaint_told (Mistaken e) = None
+complaint_told TicksAndEvents = Some both_text
 complaint_told (Failed f) = Some (failure_line f ++ codes "\n")
 complaint_told (Explained f s) = Some (failure_line f ++ codes "\n" ++ string_bytes s ++ codes "\n")
 complaint_told (Unexplained f) = Some (failure_line f ++ codes "\nmx: memory: wanted more of it\n")
@@ -42,18 +55,23 @@ complaint_told (Unexplained f) = Some (failure_line f ++ codes "\nmx: memory: wa
 -- ---- words that ask for nothing
 
 -- help was printed, or what is wanting is told
-abbrev pub IsHelp : Result ℕ Complaint → Type 0
-IsHelp r = MatchResult r (λ status. status ≡ 0) (λ complaint. (f : Kind) × IsWanting f × (complaint ≡ Failed f))
+abbrev pub IsHelp : Result Done Complaint → Type 0
+IsHelp r = MatchResult r (λ done. done ≡ with_status 0) (λ complaint. (f : Kind) × IsWanting f × (complaint ≡ Failed f))
 
 -- what comes of an error, by its kind: lack of memory, help that was asked for, or a mistake
-abbrev pub ExplainsKind : WordsErrorKind → Error → Result ℕ Complaint → Type 0
+abbrev pub ExplainsKind : WordsErrorKind → Error → Result Done Complaint → Type 0
 ExplainsKind words.OutOfMemory e r = r ≡ Err (Failed NoMemory)
 ExplainsKind words.DisplayHelp e r = IsHelp r
 ExplainsKind words.DisplayVersion e r = IsHelp r
 ExplainsKind k e r = r ≡ Err (Mistaken e)
 
-abbrev pub Explains : Error → Result ℕ Complaint → Type 0
+abbrev pub Explains : Error → Result Done Complaint → Type 0
 Explains e r = ExplainsKind (kind_of e) e r
+
+-- what comes of a mistake: what its error says; or the complaint that only one of ticks and outside events may be given
+abbrev pub AnswersMistake : Mistake → Result Done Complaint → Type 0
+AnswersMistake (mistakes.Grammar e) r = Explains e r
+AnswersMistake mistakes.TicksAndEvents r = r ≡ Err TicksAndEvents
 
 -- ---- all words
 
@@ -65,14 +83,16 @@ IsTold line f noted c =
     ⊎ ((s : String Global) × (line.explains ≡ true) × (c ≡ Explained f s)
     × (string_bytes s ≡ explained line.request f noted.last noted.is_missed noted.is_unwritten))
 
--- what comes of a request's status or failure
-abbrev pub IsAnswered : CommandLine → Result ℕ Kind → Noted → Result ℕ Complaint → Type 0
-IsAnswered line (Ok status) noted r = r ≡ Ok status
+-- what comes of a request that is done, or of its failure
+abbrev pub IsAnswered : CommandLine → Result Done Kind → Noted → Result Done Complaint → Type 0
+IsAnswered line (Ok done) noted r = r ≡ Ok done
 IsAnswered line (Err f) noted r = (c : Complaint) × (r ≡ Err c) × IsTold line f noted c
 
--- WHAT IS DONE OF WORDS: what the request does that they ask for; or, where the grammar finds them at fault, no file is asked for or written, and the fault is explained
-abbrev pub IsPerformed : List (List ℕ) → Bool → List Asked → List Written → List (Option (List ℕ)) → Noted → (List ℕ → Type 0) → Result ℕ Complaint → Type 0
-IsPerformed texts asks qs ws typed noted Prints r =
-    ((line : CommandLine) × (d : Result ℕ Kind) × Asks line.request (subcommand_of mx_grammar texts) × AsksToExplain line.explains (subcommand_of mx_grammar texts)
-    × Performs line.request asks qs ws typed Prints d × IsAnswered line d noted r)
-    ⊎ ((e : Error) × HasKind (fault_of mx_grammar texts) e × (qs ≡ []) × (ws ≡ []) × (typed ≡ []) × Explains e r)
+-- WHAT IS DONE OF WORDS: what the request does that they ask for; or, if something is wrong with them, no file is asked
+-- for or written, and the mistake is answered
+abbrev pub IsPerformed : List (List ℕ) → Bool → List Asked → List Written → List (Option (List ℕ)) → List Part → Noted → (List ℕ → Type 0) → Result Done Complaint → Type 0
+IsPerformed texts asks qs ws typed ps noted Prints r =
+    ((line : CommandLine) × (d : Result Done Kind) × Asks line.request (subcommand_of mx_grammar texts) × AsksToExplain line.explains (subcommand_of mx_grammar texts)
+    × (both_given (subcommand_of mx_grammar texts) ≡ false)
+    × Performs line.request asks qs ws typed ps Prints d × IsAnswered line d noted r)
+    ⊎ ((m : Mistake) × IsMistake texts m × (qs ≡ []) × (ws ≡ []) × (typed ≡ []) × (ps ≡ []) × AnswersMistake m r)

@@ -6,11 +6,21 @@ ghost use Rattle.mx_app.specs.Words.{complaint_status};
 use mx_app_failure::Failure;
 use std::fmt;
 
+/// What is printed of `turns` with both `--ticks` and `--events`, in the form that clap's own texts have.
+const BOTH: &str = "error: the argument '--ticks <T>' cannot be used with '--events <EVENTS>'
+
+Usage: mx turns [OPTIONS] <CONFIG> <LOG>
+
+For more information, try '--help'.
+";
+
 /// Why the program didn't do what its words ask for.
 #[derive(Drop)]
 pub enum Complaint {
     /// They ask for nothing: what is wrong with them, and how they are used.
     Mistaken(clap::Error),
+    /// They are those of `turns` with both `--ticks` and `--events`.
+    TicksAndEvents,
     /// What they ask for failed.
     Failed(Failure),
     /// The same, with the line that explains it, without its end.
@@ -26,6 +36,7 @@ impl Complaint {
     {
         match self {
             Complaint::Mistaken(_) => 2,
+            Complaint::TicksAndEvents => 2,
             Complaint::Failed(failure) => failure.status(),
             Complaint::Explained(failure, _) => failure.status(),
             Complaint::Unexplained(failure) => failure.status(),
@@ -42,6 +53,7 @@ impl fmt::Display for Complaint {
     fn fmt<W: fmt::Write>(&self, f: &mut fmt::Formatter<W>) -> fmt::Result {
         match self {
             Complaint::Mistaken(error) => write!(f, "{error}"),
+            Complaint::TicksAndEvents => f.write_str(BOTH),
             Complaint::Failed(failure) => write!(f, "{failure}\n"),
             Complaint::Explained(failure, line) => write!(f, "{failure}\n{line}\n"),
             Complaint::Unexplained(failure) => {

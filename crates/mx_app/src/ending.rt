@@ -3,8 +3,9 @@
 ghost use Rattle.std.specs.Prelude.{◌≡◌, IfErr, IfOk, None};
 ghost use Rattle.std.specs.Io.{WritesAtMost};
 ghost use Rattle.std.specs.Io.KnownBytes.{WriteAppends};
-ghost use Rattle.mx_app.specs.Ending.{last_taken, symbols_note, text_end};
+ghost use Rattle.mx_app.specs.Ending.{last_taken, note, text_end};
 
+use mx_app_turns::Ending;
 use std::io;
 use std::io::Write;
 
@@ -13,6 +14,8 @@ use std::io::Write;
 pub enum PrintedText {
     /// A program's symbols, one a line, or nothing if it has none.
     Symbols,
+    /// The report on a machine whose turns ended so.
+    Turns(Ending),
     /// Any other text.
     Other,
 }
@@ -38,13 +41,23 @@ impl Terminals {
     }
 
     /// What standard error gets after a command that is done: that a program has no symbols, if they
-    /// were asked for and nothing was printed.
-    pub fn symbols_note(self, printed: PrintedText, last: Option<u8>) -> &'static str
-        ensures { result.now ≡ symbols_note self printed last }
+    /// were asked for and nothing was printed; how turns ended, if they were made.
+    pub fn note(self, printed: PrintedText, last: Option<u8>) -> &'static str
+        ensures { result.now ≡ note self printed last }
     {
-        match (printed, last) {
-            (PrintedText::Symbols, None) => if self.err { "mx: no symbols\n" } else { "" },
-            _ => "",
+        if !self.err {
+            return "";
+        }
+        match printed {
+            PrintedText::Symbols => if last.is_none() {
+                "mx: no symbols\n"
+            } else {
+                ""
+            },
+            PrintedText::Turns(Ending::Rest) => "mx: rest\n",
+            PrintedText::Turns(Ending::Turns) => "mx: turns\n",
+            PrintedText::Turns(Ending::Full) => "mx: full\n",
+            PrintedText::Other => "",
         }
     }
 }

@@ -8,9 +8,11 @@ use crate::asking::{begin_with, texts_asked};
 use crate::complaint::Complaint;
 use crate::ending::{NotingOutput, PrintedText, Terminals};
 use crate::noting::{NotingFiles, NotingReader};
+use crate::performing::Done;
 use crate::words::perform_words;
 use mx_app_db::{Channels, InputLines, RuntimeFiles, RuntimeWriter};
 use mx_app_failure::Failure;
+use mx_app_start::{Progress, RuntimeProgress};
 use std::rt::{Env, Files};
 use std::sync::Wait;
 use std::thread::Threads;
@@ -42,6 +44,18 @@ fn arguments(rt: &(impl Env + AllocGlobal)) -> Result<Vec<String>, Failure>
     Ok(arguments)
 }
 
+/// What a command has printed that is done.
+fn printed_text(words: &[&str], done: Done) -> PrintedText {
+    match done.ending {
+        Some(ending) => PrintedText::Turns(ending),
+        None => if begin_with(words, "nm") {
+            PrintedText::Symbols
+        } else {
+            PrintedText::Other
+        },
+    }
+}
+
 /// Helps a reader at a terminal after a command that printed such a text up to this byte.
 fn help_reader(
     rt: &(impl Print + Eprint),
@@ -50,7 +64,7 @@ fn help_reader(
     last: Option<u8>,
 ) {
     let end = terminals.text_end(last);
-    let note = terminals.symbols_note(printed, last);
+    let note = terminals.note(printed, last);
     let _ = print!(rt; "{end}");
     let _ = eprint!(rt; "{note}");
 }
@@ -69,12 +83,21 @@ where
         out: NotingOutput::new(io::writer(rt)),
     };
     let mut lines = InputLines::new(rt.reader());
+    let mut progress = RuntimeProgress::new(rt, terminals.err);
     let asks = terminals.input && terminals.out;
-    let answer = perform_words(rt, rt.alloc(), words, &mut channels, &mut lines, asks);
-    let printed = if answer.is_ok() && begin_with(words, "nm") {
-        PrintedText::Symbols
-    } else {
-        PrintedText::Other
+    let answer = perform_words(
+        rt,
+        rt.alloc(),
+        words,
+        &mut channels,
+        &mut lines,
+        &mut progress,
+        asks,
+    );
+    progress.clear();
+    let printed = match &answer {
+        Ok(done) => printed_text(words, *done),
+        Err(_) => PrintedText::Other,
     };
     // a session's reader has ended the last line
     let last = if begin_with(words, "look") {
@@ -83,7 +106,7 @@ where
         channels.out.last()
     };
     help_reader(rt, terminals, printed, last);
-    answer
+    Ok(answer?.status)
 }
 
 /// Does what the program's words ask for with the files and the streams of the runtime; where it doesn't,

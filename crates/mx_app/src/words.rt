@@ -5,18 +5,20 @@ ghost use Rattle.std.specs.Io.KnownBytes.{Appends};
 ghost use Rattle.mx_app_failure.specs.Failure.{IsWanting};
 ghost use Rattle.mx_app_db.specs.Asked.{Asked};
 ghost use Rattle.mx_app_db.specs.Written.{Written};
+ghost use Rattle.mx_app_start.specs.declared.progress.Part.{Part as Parts};
 ghost use Rattle.mx_app.specs.Noting.{noted_by, noted_in};
-ghost use Rattle.mx_app.specs.Words.{Explains, IsAnswered, IsPerformed, IsTold};
+ghost use Rattle.mx_app.specs.Words.{AnswersMistake, Explains, IsAnswered, IsPerformed, IsTold};
 
 use crate::complaint::Complaint;
 use crate::noting::{NotingFiles, NotingReader, noted};
-use crate::performing::perform;
+use crate::performing::{Done, perform};
 use clap::Error;
 use clap::error::ErrorKind;
-use mx_app_command::{CommandLine, command};
+use mx_app_command::{CommandLine, Mistake, command};
 use mx_app_db::{Channels, FileWriter, LineReader, Reader};
 use mx_app_explain::{Notes, explain_failure};
 use mx_app_failure::{Failure, print_text};
+use mx_app_start::Progress;
 use std::alloc::Global;
 use std::io::Write;
 use std::sync::Wait;
@@ -32,7 +34,7 @@ fn print_help<W: Write>(alloc: Global, error: &Error, out: &mut W) -> Result<(),
 }
 
 /// Prints help where it was asked for; what is wrong with the words is a complaint.
-fn explain<W: Write>(alloc: Global, error: Error, out: &mut W) -> Result<u8, Complaint>
+fn explain<W: Write>(alloc: Global, error: Error, out: &mut W) -> Result<Done, Complaint>
     ensures { Explains error result }
 {
     if error.kind() == ErrorKind::OutOfMemory {
@@ -42,7 +44,18 @@ fn explain<W: Write>(alloc: Global, error: Error, out: &mut W) -> Result<u8, Com
         return Err(Complaint::Mistaken(error));
     }
     print_help(alloc, &error, out)?;
-    Ok(0)
+    Ok(Done::with_status(0))
+}
+
+/// What comes of words that ask for nothing: their error's, or that `--ticks` and `--events` exclude each
+/// other.
+fn complain<W: Write>(alloc: Global, mistake: Mistake, out: &mut W) -> Result<Done, Complaint>
+    ensures { AnswersMistake mistake result }
+{
+    match mistake {
+        Mistake::Grammar(error) => explain(alloc, error, out),
+        Mistake::TicksAndEvents => Err(Complaint::TicksAndEvents),
+    }
 }
 
 /// What is told of a failure, with what explains it if that is asked for.
@@ -63,19 +76,19 @@ fn told<'a>(alloc: Global, line: CommandLine<'a>, failure: Failure, notes: Notes
 fn answer<'a>(
     alloc: Global,
     line: CommandLine<'a>,
-    done: Result<u8, Failure>,
+    done: Result<Done, Failure>,
     notes: Notes<'a>,
-) -> Result<u8, Complaint>
+) -> Result<Done, Complaint>
     ensures { IsAnswered line.entry done (noted_in notes.entry) result }
 {
     match done {
-        Ok(status) => Ok(status),
+        Ok(done) => Ok(done),
         Err(failure) => Err(told(alloc, line, failure, notes)),
     }
 }
 
 /// Does what the words of a command line ask for, the program's own name first, and answers the status to
-/// end with, or what to tell on standard error.
+/// end with and how turns ended, or what standard error gets.
 pub fn perform_words<
     'a,
     T: Threads + Wait + Clock + Sync,
@@ -83,27 +96,30 @@ pub fn perform_words<
     F: FileWriter + Drop,
     W: Write + Drop,
     L: LineReader,
+    P: Progress,
 >(
     rt: &T,
     alloc: Global,
     words: &'a [&'a str],
     channels: &mut Channels<NotingReader<R>, NotingFiles<F>, W>,
     lines: &mut L,
+    progress: &mut P,
     asks: bool,
-) -> Result<u8, Complaint>
-    ensures { (qs : List Asked) × (ws : List Written) × (typed : List (Option (List ℕ)))
+) -> Result<Done, Complaint>
+    ensures { (qs : List Asked) × (ws : List Written) × (typed : List (Option (List ℕ))) × (ps : List Parts)
         × (R.asked channels.new.reader.reader ≡ R.asked channels.old.reader.reader ++ qs)
         × (F.written channels.new.files.files ≡ F.written channels.old.files.files ++ ws)
         × (L.given lines.new ≡ L.given lines.old ++ typed)
-        × IsPerformed (map (λ s. s.now) words.now) asks qs ws typed
+        × (P.shown progress.new ≡ P.shown progress.old ++ ps)
+        × IsPerformed (map (λ s. s.now) words.now) asks qs ws typed ps
         (noted_by channels.new.reader.last channels.new.reader.is_missed channels.new.files.is_unwritten)
         (λ text. Appends (W.contents channels.old.out) (W.contents channels.new.out) text) result }
 {
     match command(alloc, words) {
         Ok(line) => {
-            let done = perform(rt, alloc, channels, lines, asks, line.request);
+            let done = perform(rt, alloc, channels, lines, progress, asks, line.request);
             answer(alloc, line, done, noted(&channels.reader, &channels.files))
         }
-        Err(error) => explain(alloc, error, &mut channels.out),
+        Err(mistake) => complain(alloc, mistake, &mut channels.out),
     }
 }

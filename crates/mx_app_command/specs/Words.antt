@@ -62,7 +62,7 @@ step_shape = subcommand (codes "step") (wanted (codes "CONFIG") ∷ wanted (code
 abbrev pub run_shape : Shape
 run_shape = subcommand (codes "run") (wanted (codes "CONFIG") ∷ wanted (codes "LOG") ∷ number_after (codes "ticks") (codes "T") ∷ [])
 
--- `turns CONFIG LOG --ticks T --events EVENTS --turns N`
+-- `turns CONFIG LOG --ticks T --events EVENTS --turns N`; that only one of ticks and events is given, `Mistakes` has
 abbrev pub turns_shape : Shape
 turns_shape =
     subcommand (codes "turns")

@@ -114,7 +114,7 @@ const TICKS: CommandArgument<'static> = CommandArgument {
 /// What happens from outside while turns are made.
 const EVENTS: CommandArgument<'static> = CommandArgument {
     name: "EVENTS",
-    help: "A file of outside events, one for each turn: line L, tick or kill E",
+    help: "A file of outside events, one for each turn: line L, tick or kill E; not with --ticks",
     form: ArgumentForm::After("events"),
 };
 

@@ -221,9 +221,9 @@ One thread makes all, always in the same order. In a turn each processor takes t
 next ready process, if it holds none; then each runs what it holds up to a trap, a
 fault or the end of its budget, and gives it back; then the next outside event is
 made, and what is down is respawned while it has restarts. It ends where the machine
-is at rest and no outside event is to come, after N turns, or where the history is
-full. A terminal is told which on standard error. EVENTS has the outside events, one
-a line: line L, tick or kill E. The ticks come after them.
+is at rest and no outside event is to come, after N turns, or if the history is full;
+at a terminal standard error shows which: rest, turns or full. EVENTS has the outside
+events, one a line: line L, tick or kill E. It isn't given together with --ticks.
 
 Status: 0 done, also if the history was full; 1 a text or a program's file is refused;
 2 a mistake in the words; 3 a file can't be read or written, or LOG is CONFIG; 4 no

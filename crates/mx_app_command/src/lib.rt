@@ -5,4 +5,4 @@ mod grammar;
 mod help;
 mod words;
 
-pub use words::{CommandLine, CommandRequest, RecordRange, command};
+pub use words::{CommandLine, CommandRequest, Mistake, RecordRange, command};

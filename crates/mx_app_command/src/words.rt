@@ -1,8 +1,9 @@
 //! The command line.
 
-ghost use Rattle.std.specs.Prelude.{◌≡◌, ℕ, Bool, IfErr, IfOk, codes, false, is_some, map, option_map, true};
+ghost use Rattle.std.specs.Prelude.{◌≡◌, ◌&&◌, ℕ, Bool, IfErr, IfOk, MatchResult, [], codes, false, is_some, map, not, option_map, true};
 ghost use Rattle.clap.specs.Words.{FailsBy, HasMatchesOf, fault_of, first_of, found_of, kind_of, rows_of, subcommand_of, takes};
 ghost use Rattle.mx_app_command.specs.Words.{Asks, AsksBy, AsksToExplain, HasNumber, HasNumberOr, HasRange, HasText, IsFlag, MayHaveNumber, MayHaveRange, MayHaveSweep, MayHaveText, MayHaveTurns, IsAsked, IsHistoryAsked, IsMachineAsked, IsProgramAsked, IsScriptAsked, is_machine, mx_grammar};
+ghost use Rattle.mx_app_command.specs.Mistakes.{IsMistake, IsOutOfMemory, both_given, has_both};
 
 use crate::grammar::grammar;
 use clap::error::ErrorKind;
@@ -59,7 +60,7 @@ pub enum CommandRequest<'a> {
         log: &'a str,
         ticks: u32,
     },
-    /// `turns CONFIG LOG`, with `--ticks T`, `--events EVENTS` and `--turns N` or without.
+    /// `turns CONFIG LOG`, with `--ticks T` or `--events EVENTS`, and with `--turns N`, or without.
     Turns {
         config: &'a str,
         log: &'a str,
@@ -118,6 +119,26 @@ pub struct CommandLine<'a> {
     pub request: CommandRequest<'a>,
     /// Whether a failure is to be explained.
     pub explains: bool,
+}
+
+/// Why the words of a command line ask for nothing.
+#[derive(Drop)]
+pub enum Mistake {
+    /// Help was asked for, or this is wrong with them by the grammar.
+    Grammar(Error),
+    /// `turns` has both `--ticks` and `--events`, and only one of them may be given.
+    TicksAndEvents,
+}
+
+impl From<Error> for Mistake {
+    ghost use Rattle.std.specs.Prelude.{◌≡◌};
+    ghost use Rattle.mx_app_command.specs.declared.words.Mistake.TheVariants as mistakes;
+
+    ghost from_gives = { λ error mistake. mistake ≡ mistakes.Grammar error };
+
+    fn from(error: Error) -> Mistake {
+        Mistake::Grammar(error)
+    }
 }
 
 /// The value that an argument has, which is there.
@@ -335,22 +356,47 @@ fn matches_of<'a>(alloc: Global, words: &'a [&'a str]) -> Result<ArgMatches<'a>,
     grammar(alloc)?.try_get_matches_from(words)
 }
 
+/// Whether an argument is given.
+fn is_given(matches: &ArgMatches<'_>, id: &str) -> bool
+    ensures { result ≡ is_some (first_of id.now (rows_of (found_of matches.now))) }
+{
+    value_if_asked(matches, id).is_some()
+}
+
+/// Whether these are the words of `turns` with both `--ticks` and `--events`.
+fn has_both(name: &str, matches: &ArgMatches<'_>) -> bool
+    ensures { result ≡ has_both name.now (rows_of (found_of matches.now)) }
+{
+    name == "turns" && is_given(matches, "T") && is_given(matches, "EVENTS")
+}
+
 /// Reads the words of a command line, the program's own name first.
-pub fn command<'a>(alloc: Global, words: &'a [&'a str]) -> Result<CommandLine<'a>, Error>
+pub fn command<'a>(alloc: Global, words: &'a [&'a str]) -> Result<CommandLine<'a>, Mistake>
     ensures asks { IfOk result (λ l. Asks l.request
         (subcommand_of mx_grammar (map (λ s. s.now) words.now))) }
     ensures explains { IfOk result (λ l. AsksToExplain l.explains
         (subcommand_of mx_grammar (map (λ s. s.now) words.now))) }
-    ensures passes { IfErr result (λ e. takes mx_grammar (map (λ s. s.now) words.now) ≡ true
-        → kind_of e ≡ ErrorKind.OutOfMemory) }
-    ensures kinds { FailsBy (fault_of mx_grammar (map (λ s. s.now) words.now)) result }
+    ensures passes { IfErr result (λ m.
+        (takes mx_grammar (map (λ s. s.now) words.now)
+        && not (both_given (subcommand_of mx_grammar (map (λ s. s.now) words.now)))) ≡ true
+        → IsOutOfMemory m) }
+    ensures kinds { MatchResult result
+        (λ _. fault_of mx_grammar (map (λ s. s.now) words.now) ≡ [])
+        (IsMistake (map (λ s. s.now) words.now)) }
+    ensures apart { IfOk result (λ _.
+        both_given (subcommand_of mx_grammar (map (λ s. s.now) words.now)) ≡ false) }
 {
     let matches = matches_of(alloc, words)?;
     match matches.subcommand() {
-        Some((name, found)) => Ok(CommandLine {
-            request: request_of(name, found),
-            explains: flag_asked(found, "explain"),
-        }),
+        Some((name, found)) => {
+            if has_both(name, found) {
+                return Err(Mistake::TicksAndEvents);
+            }
+            Ok(CommandLine {
+                request: request_of(name, found),
+                explains: flag_asked(found, "explain"),
+            })
+        }
         None => unreachable!(),
     }
 }

@@ -2,4 +2,6 @@ mod SoFar
 mod Moving
 mod Traced
 mod Starting
+mod Alike
 mod Kernels
+mod Images

@@ -1,9 +1,13 @@
 -- A walk begins at the boot of its machine.
-use Rattle.std.proofs.Common.{◌≡◌, List, subst}
+use Rattle.std.proofs.Common.{◌≡◌, ◌∙◌, ℕ, Bool, List, [], Option, ap, subst}
 use Rattle.mx_machine.specs.declared.history.Record.{Record}
 use Rattle.mx_machine.specs.World.{World}
+use Rattle.mx_debug.specs.declared.points.Breakpoint.{Breakpoint}
+use Rattle.mx_look_points.specs.declared.points.Points.{Points}
+use Rattle.mx_look_points.specs.declared.watches.Watch.{Watch}
 use Rattle.mx_walk.specs.Walks.{IsLast, Walk, first}
-use Rattle.mx_app_look.specs.Sessions.{IsBegun}
+use Rattle.mx_app_look.specs.declared.sight.Sight.{Sight}
+use Rattle.mx_app_look.specs.Sessions.{IsBegun, IsSession, sight_at}
 
 pub is_begun : (w : World) (records : List Record) (k : Walk) → k.boot ≡ w → k.records ≡ records → k.here ≡ first → IsLast k.boot k.records k.last → IsBegun w records k
 is_begun w records k boot same here last = record {
@@ -12,3 +16,13 @@ is_begun w records k boot same here last = record {
   here = here;
   last = subst (λ (rs : List Record). IsLast w rs k.last) same (subst (λ (u : World). IsLast u k.records k.last) boot last);
 }
+
+-- a session by a walker, with nothing to halt at
+pub held_by_walk : (asks : Bool) (j k : Walk) (s : Points) (typed : List (Option (List ℕ))) (text : List ℕ) → j ≡ k → s.breakpoints ≡ [] → s.watches ≡ []
+    → (let u : Sight = record { walker = j; points = s } in IsSession asks u typed text) → IsSession asks (sight_at k) typed text
+held_by_walk asks j k s typed text same none no_watch h =
+    let made : Sight = record { walker = j; points = s } in
+    let a : made ≡ sight_at j =
+    ap (λ (bs : List Breakpoint). let u : Sight = record { walker = j; points = record { breakpoints = bs; watches = s.watches } } in u) none
+    ∙ ap (λ (xs : List Watch). let u : Sight = record { walker = j; points = record { breakpoints = []; watches = xs } } in u) no_watch in
+    subst (λ (u : Sight). IsSession asks u typed text) (a ∙ ap sight_at same) h

@@ -1,8 +1,8 @@
 -- What each request prints, and where one is after it (our own).
-use Rattle.std.specs.Prelude.{ℕ, zero, suc, ◌+◌, ◌-◌, ◌%◌, ◌^◌, ◌==◌, Bool, true, false, List, [], ◌∷◌, ◌++◌, codes, Option, Some, None, if◌then◌else◌, slice_get}
+use Rattle.std.specs.Prelude.{◌≡◌, ℕ, zero, suc, ◌+◌, ◌-◌, ◌%◌, ◌^◌, ◌==◌, Bool, true, false, List, [], ◌∷◌, ◌++◌, codes, Option, Some, None, if◌then◌else◌, slice_get}
 use Rattle.mx_app_step.specs.Report.{report_text}
 use Rattle.mx_look_line.specs.declared.request.Request.{Request}
-use Rattle.mx_look_line.specs.declared.request.Request.TheVariants.{Nothing, Forward, Back, Step, StepBack, GoTo, Where, Why, Processes, Messages, Show, Help, Quit}
+use Rattle.mx_look_line.specs.declared.request.Request.TheVariants.{Nothing, Forward, Back, Step, StepBack, GoTo, Point, Continue, Reverse, Where, Why, Processes, Messages, Show, Help, Quit}
 use Rattle.mx_look_trace.specs.Glances.{glance_of}
 use Rattle.mx_look_trace.specs.Step.{Step as Seen}
 use Rattle.mx_look_trace.specs.Trace.{record_text}
@@ -12,8 +12,10 @@ use Rattle.mx_print_answers.specs.Messages.{delivery_lines}
 use Rattle.mx_walk.specs.declared.positions.Position.{Position}
 use Rattle.mx_walk.specs.Positions.{steps_in, world_at}
 use Rattle.mx_walk.specs.Walks.{Walk, world_here}
+use Rattle.mx_app_look.specs.declared.sight.Sight.{Sight}
 use Rattle.mx_app_look.specs.Moves.{back_from, can_go, forward_from, position_asked, steps_back, steps_on}
 use Rattle.mx_app_look.specs.Places.{place_text}
+use Rattle.mx_app_look.specs.Seeking.{IsGoneBack, IsGoneOn, point_made, point_text}
 use Rattle.mx_app_look.specs.Showing.{shown_text}
 
 -- ---- what the record above did
@@ -53,7 +55,7 @@ processes_text w = report_text w.table w.services ++ line_end (report_text w.tab
 -- ---- help
 
 abbrev pub help_text : List ℕ
-help_text = codes "forward [N], back [N]       by N records, or one\nstep [N], stepback [N]      by N events, or one: a step, or what a record does besides\ngoto K, goto K.J, goto end  below K records; and J steps of the next; the last position\nwhere, why                  the position again; what the record above did\nps, messages                the report; what was delivered\nregs [SLOT]                 registers of the slot's process\nmem SLOT ADDRESS N          N bytes of its memory\nlist [SLOT [ADDRESS]]       its code, from the address or from EIP on\nstack [SLOT [N]]            N dwords of its stack, or eight\nprint SLOT NAME             its variable of that name\nhelp, quit                  this; the end\nA record is one event; back N is N steps of a process, and then its return.\nA command may be shortened, as f or stepb. Without SLOT it is the process on the\nprocessor whose record is next. ADDRESS is a number, decimal or 0x.., or a symbol\nof the slot's program, as count or top+4.\n"
+help_text = codes "forward [N], back [N]       by N records, or one\nstep [N], stepback [N]      by N events, or one: a step, or what a record does besides\ngoto K, goto K.J, goto end  below K records; and J steps of the next; the last position\nbreak SLOT ADDRESS          a breakpoint of the slot's process\nwatch SLOT ADDRESS N        watches N bytes of its memory, 1 to 16\npoints, clear               what is set; takes all of them away\ncontinue, reverse           on to the next breakpoint or change of watched bytes, or back\nwhere, why                  the position again; what the record above did\nps, messages                the report; what was delivered\nregs [SLOT]                 registers of the slot's process\nmem SLOT ADDRESS N          N bytes of its memory\nlist [SLOT [ADDRESS]]       its code, from the address or from EIP on\nstack [SLOT [N]]            N dwords of its stack, or eight\nprint SLOT NAME             its variable of that name\nhelp, quit                  this; the end\nA record is one event; back N is N steps of a process, and then its return.\nA command may be shortened, as f or stepb. Without SLOT it is the process on the\nprocessor whose record is next. ADDRESS is a number, decimal or 0x.., or a symbol\nof the slot's program, as count or top+4.\n"
 
 -- ---- REQUESTS
 
@@ -69,7 +71,7 @@ to_of k _ = k.here
 abbrev pub after : Walk → Request → Walk
 after k r = record k { here = to_of k r }
 
--- what it prints; where it moves, that is the new place
+-- what one that moves or shows prints; if it moves, the new place
 abbrev pub request_text : Walk → Request → List ℕ
 request_text k Nothing = []
 request_text k (Forward n) = place_text (after k (Forward n))
@@ -84,3 +86,11 @@ request_text k Messages = delivery_lines (world_here k).table.deliveries
 request_text k (Show s) = shown_text k s
 request_text k Help = help_text
 request_text k Quit = []
+request_text k _ = []
+
+-- what each leaves in hand, and what it prints
+abbrev pub IsMade : Sight → Request → Sight → List ℕ → Type 0
+IsMade s (Point p) u text = (u ≡ record s { points = (point_made s p).1 }) × (text ≡ point_text (point_made s p).1 (point_made s p).0)
+IsMade s Continue u text = IsGoneOn s u text
+IsMade s Reverse u text = IsGoneBack s u text
+IsMade s r u text = (u ≡ record s { walker = after s.walker r }) × (text ≡ request_text s.walker r)

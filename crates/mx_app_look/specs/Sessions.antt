@@ -7,7 +7,8 @@ use Rattle.mx_look_line.specs.Verbs.{unknown_text}
 use Rattle.mx_machine.specs.declared.history.Record.{Record}
 use Rattle.mx_machine.specs.World.{World}
 use Rattle.mx_walk.specs.Walks.{IsLast, Walk, first}
-use Rattle.mx_app_look.specs.Answers.{after, request_text}
+use Rattle.mx_app_look.specs.declared.sight.Sight.{Sight}
+use Rattle.mx_app_look.specs.Answers.{IsMade}
 use Rattle.mx_app_look.specs.Places.{place_text, position_text}
 
 -- ---- one line
@@ -20,24 +21,17 @@ is_quit _ = false
 abbrev pub ends : List ℕ → Bool
 ends line = is_quit (request_of line)
 
-abbrev pub answer_by : Walk → List ℕ → Option Request → List ℕ
-answer_by k line None = unknown_text line
-answer_by k line (Some r) = request_text k r
+-- what a line that asks for this leaves in hand, and the answer: one that asks for nothing known changes nothing
+abbrev pub IsAnsweredBy : Sight → List ℕ → Option Request → Sight → List ℕ → Type 0
+IsAnsweredBy s line None u text = (u ≡ s) × (text ≡ unknown_text line)
+IsAnsweredBy s line (Some r) u text = IsMade s r u text
 
-abbrev pub after_by : Walk → Option Request → Walk
-after_by k None = k
-after_by k (Some r) = after k r
-
-abbrev pub after_line : Walk → List ℕ → Walk
-after_line k line = after_by k (request_of line)
+abbrev pub IsAnswered : Sight → List ℕ → Sight → List ℕ → Type 0
+IsAnswered s line u text = IsAnsweredBy s line (request_of line) u text
 
 -- who asks prints the position before each line
 abbrev pub prompt_text : Bool → Walk → List ℕ
 prompt_text asks k = if asks then position_text k.here ++ codes "> " else []
-
--- the answer to a line, and what asks for the next
-abbrev pub answer_text : Bool → Walk → List ℕ → List ℕ
-answer_text asks k line = answer_by k line (request_of line) ++ prompt_text asks (after_line k line)
 
 -- ---- WHAT A SESSION TAKES of its input: lines, and at the end of the input None
 
@@ -61,10 +55,18 @@ IsWhole xs = (is_over xs ≡ true) ⊎ (length xs ≡ 2 ^ 64 - 1)
 abbrev pub end_text : Bool → List ℕ
 end_text asks = if asks then codes "\n" else []
 
-abbrev pub session_text : Bool → Walk → List (Option (List ℕ)) → List ℕ
-session_text asks k [] = []
-session_text asks k (None ∷ xs) = end_text asks
-session_text asks k (Some l ∷ xs) = if ends l then [] else answer_text asks k l ++ session_text asks (after_line k l) xs
+-- the answers, each followed by what asks for the next line
+abbrev pub IsSession : Bool → Sight → List (Option (List ℕ)) → List ℕ → Type 0
+IsSession asks s [] text = text ≡ []
+IsSession asks s (None ∷ xs) text = text ≡ end_text asks
+IsSession asks s (Some l ∷ xs) text =
+    ((ends l ≡ true) × (text ≡ []))
+    ⊎ ((ends l ≡ false) × ((u : Sight) × (answer : List ℕ) × (rest : List ℕ) × IsAnswered s l u answer × IsSession asks u xs rest
+    × (text ≡ (answer ++ prompt_text asks u.walker) ++ rest)))
+
+-- with nothing to halt at
+abbrev pub sight_at : Walk → Sight
+sight_at k = record { walker = k; points = record { breakpoints = []; watches = [] } }
 
 -- it begins with the first position of a history
 abbrev pub begun_text : Bool → Walk → List ℕ

@@ -5,140 +5,192 @@ ghost use Rattle.std.specs.Io.KnownBytes.{Appends};
 ghost use Rattle.mx_app_step.specs.Failure.{IsWanting};
 ghost use Rattle.mx_look_line.specs.declared.request.Request.TheVariants as requests;
 ghost use Rattle.mx_walk.specs.Positions.{IsPosition, IsUpTo};
-ghost use Rattle.mx_app_look.specs.Answers.{after, help_text, request_text};
+ghost use Rattle.mx_app_look.specs.declared.sight.Sight.{Sight as Seen};
+ghost use Rattle.mx_app_look.specs.Answers.{IsMade, after, help_text, processes_text, request_text, why_text};
+ghost use Rattle.mx_app_look.specs.Showing.{shown_text};
+ghost use Rattle.mx_print_answers.specs.Messages.{delivery_lines};
+ghost use Rattle.mx_walk.specs.Walks.{world_here};
 ghost use Rattle.mx_app_look.specs.Places.{place_text};
-ghost use Rattle.mx_app_look.specs.Sessions.{after_by, after_line, answer_by, answer_text, ends, is_quit, prompt_text};
+ghost use Rattle.mx_app_look.specs.Sessions.{IsAnswered, IsAnsweredBy, ends, is_quit, prompt_text};
 
 use crate::moves::{back_from, can_go, forward_from, position_asked, steps_back, steps_on};
 use crate::places::{push_place, push_position};
+use crate::seeking::{go_back, go_on, perform_point};
 use crate::showing::push_shown;
+use crate::sight::Sight;
 use crate::telling::{push_deliveries, push_processes, push_why};
 use mx_app_step::{Failure, print_text};
-use mx_look_line::{PositionWord, Request, push_unknown, request_of};
+use mx_look_line::{PositionWord, Request, Shown, push_unknown, request_of};
 use mx_walk::{Position, Walker};
 use std::alloc::{AllocError, Global};
 use std::io::Write;
 
 /// What `help` prints.
 const HELP: &str =
-    "forward [N], back [N]       by N records, or one\nstep [N], stepback [N]      by N events, or one: a step, or what a record does besides\ngoto K, goto K.J, goto end  below K records; and J steps of the next; the last position\nwhere, why                  the position again; what the record above did\nps, messages                the report; what was delivered\nregs [SLOT]                 registers of the slot's process\nmem SLOT ADDRESS N          N bytes of its memory\nlist [SLOT [ADDRESS]]       its code, from the address or from EIP on\nstack [SLOT [N]]            N dwords of its stack, or eight\nprint SLOT NAME             its variable of that name\nhelp, quit                  this; the end\nA record is one event; back N is N steps of a process, and then its return.\nA command may be shortened, as f or stepb. Without SLOT it is the process on the\nprocessor whose record is next. ADDRESS is a number, decimal or 0x.., or a symbol\nof the slot's program, as count or top+4.\n";
+    "forward [N], back [N]       by N records, or one\nstep [N], stepback [N]      by N events, or one: a step, or what a record does besides\ngoto K, goto K.J, goto end  below K records; and J steps of the next; the last position\nbreak SLOT ADDRESS          a breakpoint of the slot's process\nwatch SLOT ADDRESS N        watches N bytes of its memory, 1 to 16\npoints, clear               what is set; takes all of them away\ncontinue, reverse           on to the next breakpoint or change of watched bytes, or back\nwhere, why                  the position again; what the record above did\nps, messages                the report; what was delivered\nregs [SLOT]                 registers of the slot's process\nmem SLOT ADDRESS N          N bytes of its memory\nlist [SLOT [ADDRESS]]       its code, from the address or from EIP on\nstack [SLOT [N]]            N dwords of its stack, or eight\nprint SLOT NAME             its variable of that name\nhelp, quit                  this; the end\nA record is one event; back N is N steps of a process, and then its return.\nA command may be shortened, as f or stepb. Without SLOT it is the process on the\nprocessor whose record is next. ADDRESS is a number, decimal or 0x.., or a symbol\nof the slot's program, as count or top+4.\n";
 
 /// What a position that isn't there is answered.
 const NO_POSITION: &str = "refused 63 NoPosition\n";
 
-/// Goes to a position, and appends where that is.
-fn go_to(alloc: Global, out: &mut Vec<u8>, walker: Walker, to: Position) -> Result<Walker, Failure>
-    requires position { IsPosition walker.records to }
-    requires early { IsUpTo to walker.last }
+/// Goes to a position, and answers where that is.
+fn go_to(alloc: Global, sight: Sight, to: Position) -> Result<(Sight, Vec<u8>), Failure>
+    requires position { IsPosition sight.walker.records to }
+    requires early { IsUpTo to sight.walker.last }
     ensures err { IfErr result IsWanting }
-    ensures walker { IfOk result (λ w. w ≡ record walker { here = to }) }
-    ensures text { OnOk result (out.new.items ≡ out.old.items
-        ++ place_text (record walker { here = to })) }
+    ensures sight { IfOk result (λ r. r.0 ≡ record sight { walker = record sight.walker { here = to } }) }
+    ensures text { IfOk result (λ r. r.1.items ≡ place_text (record sight.walker { here = to })) }
 {
+    let Sight { walker, points } = sight;
+    let mut text = Vec::new(alloc);
     let mut walker = walker.go_to(alloc, to)?;
-    push_place(alloc, out, &mut walker)?;
-    Ok(walker)
+    push_place(alloc, &mut text, &mut walker)?;
+    Ok((Sight { walker, points }, text))
 }
 
 /// Goes to the position that is asked for, if the walker can come there.
 fn go_to_asked(
     alloc: Global,
-    out: &mut Vec<u8>,
-    walker: Walker,
+    sight: Sight,
     asked: PositionWord,
-) -> Result<Walker, Failure>
+) -> Result<(Sight, Vec<u8>), Failure>
     ensures err { IfErr result IsWanting }
-    ensures walker { IfOk result (λ w. w ≡ after walker (requests.GoTo asked)) }
-    ensures text { OnOk result (out.new.items ≡ out.old.items
-        ++ request_text walker (requests.GoTo asked)) }
+    ensures sight { IfOk result (λ r. r.0
+        ≡ record sight { walker = after sight.walker (requests.GoTo asked) }) }
+    ensures text { IfOk result (λ r. r.1.items ≡ request_text sight.walker (requests.GoTo asked)) }
 {
-    let to = position_asked(&walker, asked);
-    if can_go(&walker, to) {
-        return go_to(alloc, out, walker, to);
+    let to = position_asked(&sight.walker, asked);
+    if can_go(&sight.walker, to) {
+        return go_to(alloc, sight, to);
     }
-    out.extend_from_slice(NO_POSITION.as_bytes())?;
-    Ok(walker)
+    say(alloc, sight, NO_POSITION)
 }
 
-/// Appends where the walker is.
-fn show_place(alloc: Global, out: &mut Vec<u8>, walker: Walker) -> Result<Walker, Failure>
+/// Answers a text, and changes nothing.
+fn say(alloc: Global, sight: Sight, text: &str) -> Result<(Sight, Vec<u8>), Failure>
     ensures err { IfErr result IsWanting }
-    ensures walker { IfOk result (λ w. w ≡ walker) }
-    ensures text { OnOk result (out.new.items ≡ out.old.items ++ place_text walker) }
+    ensures same { IfOk result (λ r. r.0 ≡ sight) }
+    ensures text { IfOk result (λ r. r.1.items ≡ text.now) }
 {
-    let mut walker = walker;
-    push_place(alloc, out, &mut walker)?;
-    Ok(walker)
+    let mut answer = Vec::new(alloc);
+    answer.extend_from_slice(text.as_bytes())?;
+    Ok((sight, answer))
 }
 
-/// Does what a request asks for, and appends what it prints. What is refused changes nothing.
+/// Answers where the walker is.
+fn show_place(alloc: Global, sight: Sight) -> Result<(Sight, Vec<u8>), Failure>
+    ensures err { IfErr result IsWanting }
+    ensures same { IfOk result (λ r. r.0 ≡ sight) }
+    ensures text { IfOk result (λ r. r.1.items ≡ place_text sight.walker) }
+{
+    let Sight { walker, points } = sight;
+    let mut walker = walker;
+    let mut text = Vec::new(alloc);
+    push_place(alloc, &mut text, &mut walker)?;
+    Ok((Sight { walker, points }, text))
+}
+
+/// Answers what the record above did.
+fn show_why(alloc: Global, sight: Sight) -> Result<(Sight, Vec<u8>), Failure>
+    ensures err { IfErr result IsWanting }
+    ensures same { IfOk result (λ r. r.0 ≡ sight) }
+    ensures text { IfOk result (λ r. r.1.items ≡ why_text sight.walker) }
+{
+    let Sight { walker, points } = sight;
+    let mut text = Vec::new(alloc);
+    let walker = push_why(alloc, &mut text, walker)?;
+    Ok((Sight { walker, points }, text))
+}
+
+/// Answers the report.
+fn show_processes(alloc: Global, sight: Sight) -> Result<(Sight, Vec<u8>), Failure>
+    ensures err { IfErr result IsWanting }
+    ensures same { IfOk result (λ r. r.0 ≡ sight) }
+    ensures text { IfOk result (λ r. r.1.items ≡ processes_text (world_here sight.walker)) }
+{
+    let mut text = Vec::new(alloc);
+    push_processes(alloc, &mut text, &sight.walker)?;
+    Ok((sight, text))
+}
+
+/// Answers the deliveries that are kept.
+fn show_deliveries(alloc: Global, sight: Sight) -> Result<(Sight, Vec<u8>), Failure>
+    ensures err { IfErr result IsWanting }
+    ensures same { IfOk result (λ r. r.0 ≡ sight) }
+    ensures text { IfOk result (λ r. r.1.items
+        ≡ delivery_lines (world_here sight.walker).table.deliveries) }
+{
+    let mut text = Vec::new(alloc);
+    push_deliveries(alloc, &mut text, &sight.walker)?;
+    Ok((sight, text))
+}
+
+/// Answers what is asked for of a slot's process.
+fn show(alloc: Global, sight: Sight, shown: &Shown) -> Result<(Sight, Vec<u8>), Failure>
+    ensures err { IfErr result IsWanting }
+    ensures same { IfOk result (λ r. r.0 ≡ sight) }
+    ensures text { IfOk result (λ r. r.1.items ≡ shown_text sight.walker shown.now) }
+{
+    let mut text = Vec::new(alloc);
+    push_shown(alloc, &mut text, &sight.walker, shown)?;
+    Ok((sight, text))
+}
+
+/// Does what a request asks for, and answers what it prints. What is refused changes nothing.
 pub(crate) fn perform(
     alloc: Global,
-    out: &mut Vec<u8>,
-    walker: Walker,
+    sight: Sight,
     request: Request,
-) -> Result<Walker, Failure>
+) -> Result<(Sight, Vec<u8>), Failure>
     ensures err { IfErr result IsWanting }
-    ensures walker { IfOk result (λ w. w ≡ after walker request) }
-    ensures text { OnOk result (out.new.items ≡ out.old.items ++ request_text walker request) }
+    ensures made { IfOk result (λ r. IsMade sight request r.0 r.1.items) }
 {
     match request {
         Request::Forward(count) => {
-            let to = forward_from(&walker, count);
-            go_to(alloc, out, walker, to)
+            let to = forward_from(&sight.walker, count);
+            go_to(alloc, sight, to)
         }
         Request::Back(count) => {
-            let to = back_from(&walker, count);
-            go_to(alloc, out, walker, to)
+            let to = back_from(&sight.walker, count);
+            go_to(alloc, sight, to)
         }
         Request::Step(count) => {
-            let to = steps_on(&walker, count);
-            go_to(alloc, out, walker, to)
+            let to = steps_on(&sight.walker, count);
+            go_to(alloc, sight, to)
         }
         Request::StepBack(count) => {
-            let to = steps_back(&walker, count);
-            go_to(alloc, out, walker, to)
+            let to = steps_back(&sight.walker, count);
+            go_to(alloc, sight, to)
         }
-        Request::GoTo(asked) => go_to_asked(alloc, out, walker, asked),
-        Request::Where => show_place(alloc, out, walker),
-        Request::Why => push_why(alloc, out, walker),
-        Request::Processes => {
-            push_processes(alloc, out, &walker)?;
-            Ok(walker)
-        }
-        Request::Messages => {
-            push_deliveries(alloc, out, &walker)?;
-            Ok(walker)
-        }
-        Request::Show(shown) => {
-            push_shown(alloc, out, &walker, &shown)?;
-            Ok(walker)
-        }
-        Request::Help => {
-            out.extend_from_slice(HELP.as_bytes())?;
-            Ok(walker)
-        }
-        Request::Nothing | Request::Quit => Ok(walker),
+        Request::GoTo(asked) => go_to_asked(alloc, sight, asked),
+        Request::Point(request) => perform_point(alloc, sight, &request),
+        Request::Continue => go_on(alloc, sight),
+        Request::Reverse => go_back(alloc, sight),
+        Request::Where => show_place(alloc, sight),
+        Request::Why => show_why(alloc, sight),
+        Request::Processes => show_processes(alloc, sight),
+        Request::Messages => show_deliveries(alloc, sight),
+        Request::Show(shown) => show(alloc, sight, &shown),
+        Request::Help => say(alloc, sight, HELP),
+        Request::Nothing | Request::Quit => say(alloc, sight, ""),
     }
 }
 
-/// Appends the answer to a line that doesn't end the session.
+/// The answer to a line that doesn't end the session.
 fn answer(
     alloc: Global,
-    out: &mut Vec<u8>,
-    walker: Walker,
+    sight: Sight,
     line: &[u8],
     request: Option<Request>,
-) -> Result<Walker, Failure>
+) -> Result<(Sight, Vec<u8>), Failure>
     ensures err { IfErr result IsWanting }
-    ensures walker { IfOk result (λ w. w ≡ after_by walker request) }
-    ensures text { OnOk result (out.new.items ≡ out.old.items ++ answer_by walker line.now request) }
+    ensures answered { IfOk result (λ r. IsAnsweredBy sight line.now request r.0 r.1.items) }
 {
     match request {
-        Some(request) => perform(alloc, out, walker, request),
+        Some(request) => perform(alloc, sight, request),
         None => {
-            push_unknown(out, line)?;
-            Ok(walker)
+            let mut text = Vec::new(alloc);
+            push_unknown(&mut text, line)?;
+            Ok((sight, text))
         }
     }
 }
@@ -167,24 +219,23 @@ fn is_quit(request: &Option<Request>) -> bool
 /// Answers a line and asks for the next, unless it ends the session.
 pub(crate) fn answer_line<W: Write>(
     alloc: Global,
-    walker: Walker,
+    sight: Sight,
     line: &[u8],
     asks: bool,
     out: &mut W,
-) -> Result<Option<Walker>, Failure>
+) -> Result<Option<Sight>, Failure>
     ensures err { IfErr result IsWanting }
     ensures answered { IfOk result (λ next. MatchOption next
         ((ends line.now ≡ true) × (W.contents out.new ≡ W.contents out.old))
-        (λ w. (ends line.now ≡ false) × (w ≡ after_line walker line.now)
-        × Appends (W.contents out.old) (W.contents out.new) (answer_text asks walker line.now))) }
+        (λ (u : Seen). (ends line.now ≡ false) × ((text : List ℕ) × IsAnswered sight line.now u text
+        × Appends (W.contents out.old) (W.contents out.new) (text ++ prompt_text asks u.walker)))) }
 {
     let request = request_of(line);
     if is_quit(&request) {
         return Ok(None);
     }
-    let mut text = Vec::new(alloc);
-    let walker = answer(alloc, &mut text, walker, line, request)?;
-    push_prompt(&mut text, asks, &walker)?;
+    let (sight, mut text) = answer(alloc, sight, line, request)?;
+    push_prompt(&mut text, asks, &sight.walker)?;
     print_text(text.as_slice(), out)?;
-    Ok(Some(walker))
+    Ok(Some(sight))
 }

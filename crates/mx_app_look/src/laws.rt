@@ -7,7 +7,7 @@ ghost use Rattle.mx_machine.specs.World.{World};
 ghost use Rattle.mx_machine.specs.declared.history.Record.{Record};
 ghost use Rattle.mx_walk.specs.Walks.{Walk};
 ghost use Rattle.mx_app_look.specs.Answers.{step_above};
-ghost use Rattle.mx_app_look.specs.Sessions.{IsBegun, begun_text, session_text};
+ghost use Rattle.mx_app_look.specs.Sessions.{IsBegun, IsSession, begun_text, sight_at};
 
 use mx_walk::{one_last, positions_replay};
 
@@ -15,9 +15,9 @@ use mx_walk::{one_last, positions_replay};
 /// lines that are typed.
 pub fn one_session()
     ensures { (boot : World) (records : List Record) (j k : Walk) (asks : Bool)
-        (typed : List (Option (List ℕ))) → IsBegun boot records j → IsBegun boot records k
-        → begun_text asks j ++ session_text asks j typed
-        ≡ begun_text asks k ++ session_text asks k typed }
+        (typed : List (Option (List ℕ))) (s t : List ℕ) → IsBegun boot records j
+        → IsBegun boot records k → IsSession asks (sight_at j) typed s
+        → IsSession asks (sight_at k) typed t → begun_text asks j ++ s ≡ begun_text asks k ++ t }
 {
     one_last();
 }

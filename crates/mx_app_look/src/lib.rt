@@ -5,8 +5,10 @@ mod answering;
 mod laws;
 mod moves;
 mod places;
+mod seeking;
 mod session;
 mod showing;
+mod sight;
 mod slots;
 mod telling;
 

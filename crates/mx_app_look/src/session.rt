@@ -12,13 +12,15 @@ ghost use Rattle.mx_app_step.specs.Telling.{IsTold};
 ghost use Rattle.mx_machine.specs.Boot.{world_at_boot};
 ghost use Rattle.mx_machine.specs.declared.history.Record.{Record as Noted};
 ghost use Rattle.mx_walk.specs.Walks.{Walk};
-ghost use Rattle.mx_app_look.specs.Sessions.{IsBegun, IsWhole, begun_text, end_text, session_text};
+ghost use Rattle.mx_app_look.specs.Sessions.{IsBegun, IsSession, IsWhole, begun_text, end_text, sight_at};
 
 use crate::answering::{answer_line, push_prompt};
 use crate::places::push_place;
+use crate::sight::Sight;
 use mx_app_step::{
     Failure, History, LineReader, Reader, Started, print_text, records_are_of_actors, start,
 };
+use mx_look_points::Points;
 use mx_walk::Walker;
 use std::alloc::Global;
 use std::io::Write;
@@ -53,25 +55,26 @@ fn print_end<W: Write>(asks: bool, out: &mut W) -> Result<(), Failure>
 /// Answers lines up to one that ends the session, or to the end of the input. No session reaches the count.
 fn converse<L: LineReader, W: Write>(
     alloc: Global,
-    walker: Walker,
+    sight: Sight,
     lines: &mut L,
     asks: bool,
     out: &mut W,
 ) -> Result<(), Failure>
     ensures err { IfErr result (λ f. IsWanting f × ((typed : List (Option (List ℕ)))
         × (L.given lines.new ≡ L.given lines.old ++ typed))) }
-    ensures printed { OnOk result ((typed : List (Option (List ℕ)))
+    ensures printed { OnOk result ((typed : List (Option (List ℕ))) × (text : List ℕ)
         × (L.given lines.new ≡ L.given lines.old ++ typed) × IsWhole typed
-        × Appends (W.contents out.old) (W.contents out.new) (session_text asks walker typed)) }
+        × IsSession asks sight typed text
+        × Appends (W.contents out.old) (W.contents out.new) text) }
 {
-    let mut walker = walker;
+    let mut sight = sight;
     let mut line = Vec::new(alloc);
     for _ in 0..u64::MAX {
         if !lines.next(&mut line)? {
             return print_end(asks, out);
         }
-        match answer_line(alloc, walker, line.as_slice(), asks, out)? {
-            Some(next) => walker = next,
+        match answer_line(alloc, sight, line.as_slice(), asks, out)? {
+            Some(next) => sight = next,
             None => return Ok(()),
         }
     }
@@ -98,13 +101,13 @@ pub fn look<R: Reader, L: LineReader, W: Write>(
     out: &mut W,
 ) -> Result<(), Failure>
     ensures printed { OnOk result ((qs : List Asked) × (c : Configured) × (vs : List Service)
-        × (records : List Noted) × (k : Walk) × (typed : List (Option (List ℕ)))
+        × (records : List Noted) × (k : Walk) × (typed : List (Option (List ℕ))) × (text : List ℕ)
         × (R.asked reader.new ≡ R.asked reader.old ++ qs)
         × (L.given lines.new ≡ L.given lines.old ++ typed) × IsWhole typed
         × IsStart IsSaved names.entry.config.now names.entry.log.now qs c vs records
         × IsBegun (world_at_boot c vs) records k
-        × Appends (W.contents out.old) (W.contents out.new)
-        (begun_text asks k ++ session_text asks k typed)) }
+        × IsSession asks (sight_at k) typed text
+        × Appends (W.contents out.old) (W.contents out.new) (begun_text asks k ++ text)) }
     ensures fault { IfErr result (λ f. (qs : List Asked) × (typed : List (Option (List ℕ)))
         × (R.asked reader.new ≡ R.asked reader.old ++ qs)
         × (L.given lines.new ≡ L.given lines.old ++ typed)
@@ -119,5 +122,9 @@ pub fn look<R: Reader, L: LineReader, W: Write>(
     } = start::<History, R>(alloc, reader, names.config, names.log)?;
     let mut walker = Walker::new(alloc, machine, config, records)?;
     begin(alloc, &mut walker, asks, out)?;
-    converse(alloc, walker, lines, asks, out)
+    let sight = Sight {
+        walker,
+        points: Points::new(),
+    };
+    converse(alloc, sight, lines, asks, out)
 }

@@ -2,19 +2,16 @@
 
 ghost use Rattle.std.specs.Prelude.{◌≡◌, ◌++◌, OnOk, Some, option_copied, option_map, string_bytes};
 ghost use Rattle.mx_walk.specs.Walks.{world_here};
-ghost use Rattle.mx_app_look.specs.Showing.{code_at, code_by, code_from, code_next, code_of, dword_line, shown_text, stack_by, stack_of, symbol_of_name, symbols_in, value_text, variable_by, variable_text};
-ghost use Rattle.mx_print_answers.specs.Slots.{address_asked, image_in, memory_of, refused_text, registers_of};
-ghost use Rattle.mx_app_look.specs.Slots.{slot_asked};
+ghost use Rattle.mx_app_look.specs.Showing.{bytes_by, code_at, code_by, code_from, code_next, code_of, dword_line, memory_by, refused_text, registers_by, shown_text, stack_by, stack_of, symbol_of_name, symbols_in, value_text, variable_by, variable_text};
+ghost use Rattle.mx_app_look.specs.Slots.{address_asked, image_in, slot_asked};
 
-use crate::slots::slot_asked;
+use crate::places::symbols_of;
+use crate::slots::{address_asked, image_in, slot_asked};
 use mx_aout::Symbol;
 use mx_exec::Image;
 use mx_look_code::{push_code_lines, push_stack, push_variable, variable_named, variable_value};
 use mx_look_line::{AddressWord, Shown, SymbolName};
-use mx_print_answers::{
-    DebugError, Refused, address_asked, image_in, push_memory_of, push_process, push_registers_of,
-    symbols_of,
-};
+use mx_print_answers::{DebugError, Refused, push_memory, push_process};
 use mx_proc::Slot;
 use mx_walk::Walker;
 use std::alloc::{AllocError, Global};
@@ -47,9 +44,30 @@ fn image_here(walker: &Walker, slot: Slot) -> Option<&Image>
 /// Appends the registers of a slot's process, or why there are none.
 fn push_registers(text: &mut String, walker: &Walker, asked: Option<u32>) -> Result<(), AllocError>
     ensures { OnOk result (string_bytes text.new ≡ string_bytes text.old
-        ++ registers_of (world_here walker.now) (slot_asked walker.now asked)) }
+        ++ registers_by (world_here walker.now) (slot_asked walker.now asked)) }
 {
-    push_registers_of(text, walker.machine(), slot_asked(walker, asked))
+    match slot_asked(walker, asked) {
+        Ok(slot) => push_process(text, image_here(walker, slot)),
+        Err(refused) => push_refused(text, refused),
+    }
+}
+
+/// Appends bytes of a slot's process from an address on, or why there are none.
+fn push_bytes(
+    text: &mut String,
+    walker: &Walker,
+    slot: Slot,
+    from: &AddressWord,
+    count: u32,
+) -> Result<(), AllocError>
+    ensures { OnOk result (string_bytes text.new ≡ string_bytes text.old
+        ++ bytes_by (world_here walker.now) slot count
+        (address_asked (world_here walker.now) slot from.now)) }
+{
+    match address_asked(walker, slot, from) {
+        Ok(from) => push_memory(text, image_here(walker, slot), from, count),
+        Err(refused) => push_refused(text, refused),
+    }
 }
 
 /// Appends bytes of the process of a slot that is named, or why there are none.
@@ -61,9 +79,12 @@ fn push_memory_asked(
     count: u32,
 ) -> Result<(), AllocError>
     ensures { OnOk result (string_bytes text.new ≡ string_bytes text.old
-        ++ memory_of (world_here walker.now) from.now count (slot_asked walker.now (Some slot))) }
+        ++ memory_by (world_here walker.now) from.now count (slot_asked walker.now (Some slot))) }
 {
-    push_memory_of(text, walker.machine(), slot_asked(walker, Some(slot)), from, count)
+    match slot_asked(walker, Some(slot)) {
+        Ok(slot) => push_bytes(text, walker, slot, from, count),
+        Err(refused) => push_refused(text, refused),
+    }
 }
 
 /// Appends the code of a process from an address on, if there is a process.
@@ -108,7 +129,7 @@ fn push_code_from(
         ++ code_from (world_here walker.now) slot
         (address_asked (world_here walker.now) slot from.now)) }
 {
-    match address_asked(walker.machine(), slot, from) {
+    match address_asked(walker, slot, from) {
         Ok(at) => push_code_at(text, symbols_in(walker, slot), image_here(walker, slot), at),
         Err(refused) => push_refused(text, refused),
     }

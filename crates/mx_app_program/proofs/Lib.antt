@@ -1,3 +1,5 @@
 pub mod Answering
 pub mod Telling
 mod Showing
+mod Placing
+mod WayListing

@@ -17,7 +17,7 @@ pub fn one(alloc: Global, bytes: &[u8], steps: u32) -> Result<(u32, Stop, Image)
 {
     let program = read(alloc, bytes)?;
     let mut image = load(alloc, &program)?;
-    let mut cache = Cache::new(alloc)?;
+    let mut cache = Cache::new(alloc, program.text.as_slice().len())?;
     let (count, stop) = run_with(&mut image, &mut cache, steps);
     Ok((count, stop, image))
 }

@@ -1,11 +1,12 @@
 -- Machines that make turns.
-use Rattle.std.proofs.Common.{◌≡◌, ◌∙◌, ◌+◌, ℕ, ◌++◌, true, false, List, [], ◌∷◌, length, Option, Some, None, Result, Ok, Err, All, IfErr, OnOk, replicate, inl, inr, refl, ap, sym, subst, append_assoc}
+use Rattle.std.proofs.Common.{◌≡◌, ◌≢◌, ◌∙◌, ◌+◌, ◌^◌, ◌≤◌, ◌<◌, ℕ, zero, suc, ◌++◌, true, false, List, [], ◌∷◌, length, Option, Some, None, Result, Ok, Err, All, IfErr, OnOk, replicate, inl, inr, refl, ap, sym, subst, arith, append_assoc}
 use Rattle.std.specs.Io.KnownBytes.{Appends}
 use Rattle.std.specs.Prelude.{IsErrAnd}
 use Rattle.std.proofs.lemmas.List.{length-replicate}
 use Rattle.mx_machine.specs.declared.config.Config.{Config}
 use Rattle.mx_machine.specs.declared.events.Answer.{Answer}
 use Rattle.mx_machine.specs.declared.events.Event.{Event}
+use Rattle.mx_machine.specs.declared.events.Event.TheVariants.{Tick}
 use Rattle.mx_machine.specs.declared.events.Refusal.{Refusal}
 use Rattle.mx_machine.specs.declared.history.Record.{Record}
 use Rattle.mx_machine.specs.Boot.{first_table, world_at_boot}
@@ -13,12 +14,14 @@ use Rattle.mx_machine.specs.History.{AreAccepted, BootAndHistory, IsWritable, ev
 use Rattle.mx_machine.specs.Move.{moves, world_after_event}
 use Rattle.mx_machine.specs.Rules.{Rules}
 use Rattle.mx_machine.specs.Service.{Service}
+use Rattle.mx_machine.specs.Sound.{IsSound}
 use Rattle.mx_machine.specs.World.{World, actors}
 use Rattle.mx_machine.specs.Machine.{MachineState, kept_after, kept_along, record_of, with_records, world_of}
 use Rattle.mx_turns.specs.declared.turns.Ending.{Ending}
+use Rattle.mx_turns.specs.declared.turns.Ending.TheVariants.{Turns}
 use Rattle.mx_turns.specs.Made.{HasMade}
 use Rattle.mx_turns.proofs.MadeLemmas.{kept_boot}
-use Rattle.mx_turns.specs.Turns.{turns}
+use Rattle.mx_turns.specs.Turns.{refusable, turns}
 use Rattle.mx_app_failure.specs.declared.failure.Failure.{Failure as Kind}
 use Rattle.mx_app_step.proofs.AcceptedLemmas.{not_refused}
 use Rattle.mx_app_step.specs.Asked.{Asked}
@@ -35,9 +38,13 @@ use Rattle.mx_app_turns.specs.Turned.{IsBegun, IsNotBegun, IsTurned, MakesTurns,
 
 -- ---- a machine's turns
 
-shown_now : (m : MachineState) → ((world_of m).table ≡ (replay m.kernel).table) × ((world_of m).services ≡ (replay m.kernel).services)
+shown_now : (m : MachineState) → ((world_of m).table ≡ (replay m.kernel).table) × ((world_of m).services ≡ (replay m.kernel).services) × ((world_of m).records ≡ (replay m.kernel).records)
 unfolding world_of
-shown_now m = (refl, refl)
+shown_now m = (refl, refl, refl)
+
+-- a sound machine's history has room for at most so many records
+pub room_of : (w : World) → IsSound w → w.records ≤ 2 ^ 20
+room_of w s = omega (arith, s.holds.room, s.holds.size)
 
 abbrev at_boot : World → BootAndHistory
 at_boot w = record { boot = w; history = [] }
@@ -45,8 +52,8 @@ at_boot w = record { boot = w; history = [] }
 -- a machine that made the turns of a configuration
 pub turned : (c : Config) (vs : List Service) (bound : ℕ) (events : List Event) (m n : MachineState) (ending : Ending) → world_of m ≡ world_at_boot c vs → m.kernel ≡ at_boot (world_of m)
     → HasMade m (turns bound (world_of m) events).made n → ending ≡ (turns bound (world_of m) events).ending
-    → AreAccepted n.kernel.boot (events_of_history n.kernel.history) → All (IsWritable (actors (replay n.kernel))) n.kernel.history → IsTurned c vs bound events n.kernel ending
-turned c vs bound events m n ending booted begun made ends accepted written =
+    → AreAccepted n.kernel.boot (events_of_history n.kernel.history) → All (IsWritable (actors (replay n.kernel))) n.kernel.history → (replay n.kernel).records ≤ 2 ^ 20 → IsTurned c vs bound events n.kernel ending
+turned c vs bound events m n ending booted begun made ends accepted written room =
     let xs : World → List (ℕ × Event) = λ w. (turns bound w events).made in
     let shown = shown_now n in
     let world : world_of n ≡ world_after_events (world_at_boot c vs) (xs (world_at_boot c vs)) = made.world ∙ ap (λ (w : World). world_after_events w (xs w)) booted in
@@ -54,7 +61,8 @@ turned c vs bound events m n ending booted begun made ends accepted written =
       boot = ap (λ (k : BootAndHistory). k.boot) made.kernel ∙ kept_boot m.kernel (xs (world_of m)) (moves (world_of m) (xs (world_of m))).0 ∙ ap (λ (k : BootAndHistory). k.boot) begun ∙ booted;
       made = made.kernel ∙ ap (λ (k : BootAndHistory). kept_along k (xs (world_of m)) (moves (world_of m) (xs (world_of m))).0) begun ∙ ap (λ (w : World). kept_along (at_boot w) (xs w) (moves w (xs w)).0) booted;
       ending = ends ∙ ap (λ (w : World). (turns bound w events).ending) booted;
-      world = (sym shown.0 ∙ ap (λ (w : World). w.table) world, sym shown.1 ∙ ap (λ (w : World). w.services) world);
+      world = (sym shown.0 ∙ ap (λ (w : World). w.table) world, sym shown.1 ∙ ap (λ (w : World). w.services) world, sym shown.2 ∙ ap (λ (w : World). w.records) world);
+      room = room;
       accepted = accepted;
       written = written;
     }
@@ -62,14 +70,15 @@ turned c vs bound events m n ending booted begun made ends accepted written =
 -- the same, by what was read and asked for
 pub turned_at : (c : Config) (vs : List Service) (bound known : ℕ) (listed items : List Event) (ticks : ℕ) (m n : MachineState) (k : BootAndHistory) (ending : Ending) → bound ≡ known → listed ≡ items → k ≡ n.kernel
     → world_of m ≡ world_at_boot c vs → m.kernel ≡ at_boot (world_of m) → HasMade m (turns bound (world_of m) (coming listed ticks)).made n → ending ≡ (turns bound (world_of m) (coming listed ticks)).ending
-    → AreAccepted k.boot (events_of_history k.history) → All (IsWritable (actors (replay k))) k.history → IsTurned c vs known (coming items ticks) k ending
-turned_at c vs bound known listed items ticks m n k ending same_bound same_items same_kernel booted begun made ends accepted written =
+    → AreAccepted k.boot (events_of_history k.history) → All (IsWritable (actors (replay k))) k.history → (replay k).records ≤ 2 ^ 20 → IsTurned c vs known (coming items ticks) k ending
+turned_at c vs bound known listed items ticks m n k ending same_bound same_items same_kernel booted begun made ends accepted written room =
     subst (λ (x : BootAndHistory). IsTurned c vs known (coming items ticks) x ending) (sym same_kernel)
     (subst (λ (l : List Event). IsTurned c vs known (coming l ticks) n.kernel ending) same_items
     (subst (λ (b : ℕ). IsTurned c vs b (coming listed ticks) n.kernel ending) same_bound
     (turned c vs bound (coming listed ticks) m n ending booted begun made ends
     (subst (λ (x : BootAndHistory). AreAccepted x.boot (events_of_history x.history)) same_kernel accepted)
-    (subst (λ (x : BootAndHistory). All (IsWritable (actors (replay x))) x.history) same_kernel written))))
+    (subst (λ (x : BootAndHistory). All (IsWritable (actors (replay x))) x.history) same_kernel written)
+    (subst (λ (x : BootAndHistory). (replay x).records ≤ 2 ^ 20) same_kernel room))))
 
 -- ---- what `mx turns` tells, by how it ends
 
@@ -123,3 +132,24 @@ printed_whole c vs k records replayed.Whole before after boot accepted same h =
 printed_whole c vs k records replayed.Refused before after boot accepted same h =
     let all = subst (λ w. AreAccepted w (events_of_history records)) boot (subst (λ (l : List Record). AreAccepted k.boot (events_of_history l)) (sym same) accepted) in
     absurd (not_refused (world_at_boot c vs) records h.0 h.1 all h.2)
+
+-- ---- the bound
+
+-- of lines, kills and ticks, and then ticks, at most the first may be refused
+few_refusable : (events : List Event) (ticks : ℕ) → refusable (coming events ticks) ≤ length events
+few_refusable [] zero = omega arith
+few_refusable [] (suc n) = few_refusable [] n
+few_refusable (Tick ∷ xs) ticks = let rest = few_refusable xs ticks in omega (arith, rest)
+few_refusable (x ∷ xs) ticks = let rest = few_refusable xs ticks in omega (arith, rest)
+
+-- turns don't end by the bound, if it is above what the history has room for and what may be refused
+pub not_by_bound : (c : Config) (vs : List Service) (bound : ℕ) (events : List Event) (ticks : ℕ) (k : BootAndHistory) (ending : Ending)
+    → ((n : ℕ) (w : World) (xs : List Event) → 0 < length w.cpus → (turns n w xs).ending ≡ Turns → n + w.records ≤ (world_after_events w (turns n w xs).made).records + refusable xs)
+    → IsTurned c vs bound (coming events ticks) k ending → 2 ^ 20 + length events < bound → ending ≢ Turns
+not_by_bound c vs bound events ticks k ending few made above ends =
+    let w = world_at_boot c vs in
+    let cpus : length w.cpus ≡ c.cpus = length-replicate c.cpus None in
+    let some : 0 < length w.cpus = omega (arith, cpus, c.some_cpus) in
+    let all = few bound w (coming events ticks) some (sym made.ending ∙ ends) in
+    let refused = few_refusable events ticks in
+    omega (arith, all, refused, made.world.2, made.room, above)

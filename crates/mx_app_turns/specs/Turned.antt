@@ -1,5 +1,5 @@
 -- Machines that make turns, and what `mx turns` leaves (our own).
-use Rattle.std.specs.Prelude.{◌≡◌, ◌⊎◌, ◌||◌, ℕ, Bool, true, false, List, [], ◌∷◌, ◌++◌, All, Option, Some, None, Result, Ok, Err, replicate}
+use Rattle.std.specs.Prelude.{◌≡◌, ◌⊎◌, ◌||◌, ◌≤◌, ◌^◌, ℕ, Bool, true, false, List, [], ◌∷◌, ◌++◌, All, Option, Some, None, Result, Ok, Err, replicate}
 use Rattle.std.specs.Io.KnownBytes.{Appends}
 use Rattle.std.specs.Str.{bytes_eq}
 use Rattle.mx_machine.specs.declared.config.Config.{Config}
@@ -36,9 +36,10 @@ pub record IsTurned (c : Config) (vs : List Service) (n : ℕ) (coming : List Ev
   pub boot : k.boot ≡ world_at_boot c vs
   pub made : (let xs = (turns n (world_at_boot c vs) coming).made in k ≡ kept_along (record { boot = world_at_boot c vs; history = [] }) xs (moves (world_at_boot c vs) xs).0)
   pub ending : how ≡ (turns n (world_at_boot c vs) coming).ending
-  -- the report is of the world after them: a kernel's table and services are the machine's
+  -- the report is of the world after them: a kernel's table, services and number of records are the machine's
   pub world : (let w = world_after_events (world_at_boot c vs) (turns n (world_at_boot c vs) coming).made in
-      ((replay k).table ≡ w.table) × ((replay k).services ≡ w.services))
+      ((replay k).table ≡ w.table) × ((replay k).services ≡ w.services) × ((replay k).records ≡ w.records))
+  pub room : (replay k).records ≤ 2 ^ 20
   pub accepted : AreAccepted k.boot (events_of_history k.history)
   pub written : All (IsWritable (actors (replay k))) k.history
 
@@ -64,7 +65,7 @@ writes_over config None log = bytes_eq config log
 writes_over config (Some events) log = bytes_eq config log || bytes_eq events log
 
 -- WHAT `mx turns` DOES: it writes the text of the history of a machine's turns, whole, and prints the report on the
--- machine after them; or it tells why it didn't
+-- machine after them; or it fails, and this is why
 abbrev pub MakesTurns : List ℕ → Option (List ℕ) → List ℕ → ℕ → ℕ → List Asked → List Written → (List ℕ → Type 0) → Result Ending Kind → Type 0
 MakesTurns config events log ticks n qs ws Prints (Ok ending) =
     (c : Config) × (vs : List Service) × (xs : List Event) × (k : BootAndHistory) × (writes_over config events log ≡ false) × IsBegun config events qs c vs xs

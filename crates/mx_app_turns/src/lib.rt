@@ -1,12 +1,26 @@
-//! `mx turns`: a machine that one thread drives in turns, and its history, saved at the end.
+//! `mx turns` and `mx sweep`: a machine that one thread drives in turns, and a saved history with a fault at
+//! each of its positions.
+//!
+//! `specs/Sweep.antt` says what the outcome of a position is, and how outcomes are printed.
 #![tactic(auto)]
 
+mod blocks;
+mod booting;
 mod events;
+mod fault_files;
+mod faults;
 mod laws;
+mod outcomes;
+mod outside;
+mod running;
+mod sweeping;
 mod turning;
 
 pub use events::{OutsideEvents, outside_events};
-pub use laws::turns_again;
+pub use fault_files::fault_lines;
+pub use faults::FaultLine;
+pub use laws::{bound_is_not_met, turns_again};
 pub use mx_app_step::{Channels, Failure, FileWriter, Reader};
 pub use mx_turns::{Ending, Event};
+pub use sweeping::{SweepNames, SweepWanted, Swept, sweep};
 pub use turning::{TurnsNames, TurnsWanted, turns};

@@ -108,8 +108,8 @@ fn writes_over(names: TurnsNames<'_>) -> bool
 }
 
 /// Makes turns of the machine of a configuration, with the outside events of a file and then ticks to come,
-/// until it is at rest and none is to come, or that many turns are made, or its history is full. Then
-/// writes the history to a file, and prints the report. Answers how the turns ended. No file that is read
+/// until it is at rest and none is to come, or all turns are made, or its history is full. Then writes the
+/// history to a file, and prints the report. Answers how the turns ended. No file that is read
 /// is written over: if LOG has its name, nothing is read or written.
 pub fn turns<R: Reader + Drop, F: FileWriter + Drop, W: Write + Drop>(
     alloc: Global,

@@ -9,7 +9,7 @@ use Rattle.mx_machine.specs.World.{World, HeldProcess, held_by}
 use Rattle.mx_laws.proofs.Twins.{image_seen, is_slot, HasRoom, AllAlike}
 use Rattle.mx_laws.specs.Same.{world_with_image, world_with_image_held}
 use Rattle.mx_laws.proofs.TwinWorlds.{held_seen, TwinWorlds}
-use Rattle.mx_laws.specs.Laws.{IsElsewhereSame}
+use Rattle.mx_laws.specs.SecrecyLaws.{IsElsewhereSame}
 use Rattle.mx_laws.proofs.TwinLemmas.{other_slot, other_at, all_but_image_at, devices_of}
 use Rattle.mx_laws.proofs.MoveLemmas.{same_held, held_alike}
 

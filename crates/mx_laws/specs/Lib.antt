@@ -1,7 +1,7 @@
 pub mod Same
 pub mod Senders
 pub mod Apart
-pub mod Laws
+pub mod SecrecyLaws
 pub mod Diary
 pub mod Items
 pub mod Diaries

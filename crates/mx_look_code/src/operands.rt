@@ -57,9 +57,16 @@ pub(crate) fn one_operand(insn: &Insn) -> Option<(Operand, Size)>
     match insn {
         Insn::Move(operands) => Some(outer_operand(operands)),
         Insn::Exchange { size, operand, .. } => Some((*operand, *size)),
-        Insn::ZeroExtend { extension, from, .. } | Insn::SignExtend { extension, from, .. } => {
-            Some((*from, narrow_size(*extension)))
+        Insn::ZeroExtend {
+            extension,
+            from,
+            ..
         }
+        | Insn::SignExtend {
+            extension,
+            from,
+            ..
+        } => { Some((*from, narrow_size(*extension))) }
         Insn::SetCondition { operand, .. } => Some((*operand, Size::Byte)),
         Insn::Push(operand) | Insn::JumpTo(operand) | Insn::CallTo(operand) => {
             Some((*operand, Size::Dword))

@@ -3,12 +3,14 @@ use Rattle.std.specs.Prelude.{ℕ, ◌+◌, ◌==◌, Bool, List, [], ◌∷◌,
 use Rattle.std.specs.Str.{bytes_eq}
 use Rattle.mx_text.specs.Fields.{fields, only, ◌>>=◌}
 use Rattle.mx_boot.specs.Script.{count_field, only_count}
+use Rattle.mx_look_line.specs.declared.points.PointRequest.TheVariants as point
 use Rattle.mx_look_line.specs.declared.position_word.PositionWord.{PositionWord}
 use Rattle.mx_look_line.specs.declared.position_word.PositionWord.TheVariants.{Below, End}
 use Rattle.mx_look_line.specs.declared.request.Request.{Request}
 use Rattle.mx_look_line.specs.declared.request.Request.TheVariants as request
 use Rattle.mx_look_line.specs.declared.verb.Verb.{Verb}
 use Rattle.mx_look_line.specs.declared.verb.Verb.TheVariants as verb
+use Rattle.mx_look_line.specs.Points.{break_asked, watch_asked}
 use Rattle.mx_look_line.specs.declared.shown.Shown.{Shown}
 use Rattle.mx_look_line.specs.Shown.{code_of_fields, memory_of_fields, registers_of_fields, stack_of_fields, variable_of_fields}
 use Rattle.mx_look_line.specs.Verbs.{verb_of}
@@ -65,6 +67,16 @@ request_by verb.GoTo fs = do
   f ← only fs
   p ← position_of_word f
   Some (request.GoTo p)
+request_by verb.Break fs = do
+  p ← break_asked fs
+  Some (request.Point p)
+request_by verb.Watch fs = do
+  p ← watch_asked fs
+  Some (request.Point p)
+request_by verb.Points fs = without_fields fs (request.Point point.Show)
+request_by verb.Clear fs = without_fields fs (request.Point point.Clear)
+request_by verb.Continue fs = without_fields fs request.Continue
+request_by verb.Reverse fs = without_fields fs request.Reverse
 request_by verb.Where fs = without_fields fs request.Where
 request_by verb.Why fs = without_fields fs request.Why
 request_by verb.Processes fs = without_fields fs request.Processes

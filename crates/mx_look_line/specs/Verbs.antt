@@ -4,28 +4,34 @@ use Rattle.std.specs.List.{starts_with}
 use Rattle.std.specs.Str.{bytes_eq}
 use Rattle.mx_text.specs.Fields.{fields}
 use Rattle.mx_look_line.specs.declared.verb.Verb.{Verb}
-use Rattle.mx_look_line.specs.declared.verb.Verb.TheVariants.{Back, Forward, GoTo, Help, Listing, Memory, Messages, Print, Processes, Quit, Registers, Stack, Step, StepBack, Where, Why}
+use Rattle.mx_look_line.specs.declared.verb.Verb.TheVariants.{Back, Break, Clear, Continue, Forward, GoTo, Help, Listing, Memory, Messages, Points, Print, Processes, Quit, Registers, Reverse, Stack, Step, StepBack, Watch, Where, Why}
 
 abbrev pub verb_word : Verb → List ℕ
 verb_word Back = codes "back"
+verb_word Break = codes "break"
+verb_word Clear = codes "clear"
+verb_word Continue = codes "continue"
 verb_word Forward = codes "forward"
 verb_word GoTo = codes "goto"
 verb_word Help = codes "help"
 verb_word Listing = codes "list"
 verb_word Memory = codes "mem"
 verb_word Messages = codes "messages"
+verb_word Points = codes "points"
 verb_word Print = codes "print"
 verb_word Processes = codes "ps"
 verb_word Quit = codes "quit"
 verb_word Registers = codes "regs"
+verb_word Reverse = codes "reverse"
 verb_word Stack = codes "stack"
 verb_word Step = codes "step"
 verb_word StepBack = codes "stepback"
+verb_word Watch = codes "watch"
 verb_word Where = codes "where"
 verb_word Why = codes "why"
 
 abbrev pub verbs : List Verb
-verbs = Back ∷ Forward ∷ GoTo ∷ Help ∷ Listing ∷ Memory ∷ Messages ∷ Print ∷ Processes ∷ Quit ∷ Registers ∷ Stack ∷ Step ∷ StepBack ∷ Where ∷ Why ∷ []
+verbs = Back ∷ Break ∷ Clear ∷ Continue ∷ Forward ∷ GoTo ∷ Help ∷ Listing ∷ Memory ∷ Messages ∷ Points ∷ Print ∷ Processes ∷ Quit ∷ Registers ∷ Reverse ∷ Stack ∷ Step ∷ StepBack ∷ Watch ∷ Where ∷ Why ∷ []
 
 -- a word is a front of the verb's
 abbrev pub begins_verb : List ℕ → Verb → Bool

@@ -4,6 +4,7 @@ ghost use Rattle.std.specs.Prelude.{◌≡◌};
 ghost use Rattle.mx_text.specs.Fields.{fields};
 ghost use Rattle.mx_look_line.specs.Requests.{count_or_one, request_by, request_of, without_fields};
 
+use crate::points::{PointRequest, break_asked, watch_asked};
 use crate::position_word::{PositionWord, position_named};
 use crate::shown::{Shown, code, memory, registers, stack, variable};
 use crate::verb::{Verb, verb_named};
@@ -28,6 +29,12 @@ pub enum Request {
     StepBack(u32),
     /// To a position.
     GoTo(PositionWord),
+    /// About what a search halts at.
+    Point(PointRequest),
+    /// On to the next halt.
+    Continue,
+    /// Back to the last halt.
+    Reverse,
     /// Where one is.
     Where,
     /// What the record above did.
@@ -74,6 +81,12 @@ fn request_by(verb: Verb, rest: &[u8]) -> Option<Request>
         Verb::Step => Some(Request::Step(count_or_one(rest)?)),
         Verb::StepBack => Some(Request::StepBack(count_or_one(rest)?)),
         Verb::GoTo => Some(Request::GoTo(position_named(one_field(rest)?)?)),
+        Verb::Break => Some(Request::Point(break_asked(rest)?)),
+        Verb::Watch => Some(Request::Point(watch_asked(rest)?)),
+        Verb::Points => without_fields(rest, Request::Point(PointRequest::Show)),
+        Verb::Clear => without_fields(rest, Request::Point(PointRequest::Clear)),
+        Verb::Continue => without_fields(rest, Request::Continue),
+        Verb::Reverse => without_fields(rest, Request::Reverse),
         Verb::Where => without_fields(rest, Request::Where),
         Verb::Why => without_fields(rest, Request::Why),
         Verb::Processes => without_fields(rest, Request::Processes),

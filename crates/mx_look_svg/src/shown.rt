@@ -46,7 +46,8 @@ fn is_left_out(line: &[u8], index: usize) -> bool
     requires { index < length line.now }
     ensures { result ≡ is_left_out line.now index }
 {
-    line[index] == b'\n' && index + 1 == line.len() || index > 0 && line[index] == b' ' && line[index - 1] == b' '
+    line[index] == b'\n' && index + 1 == line.len()
+        || index > 0 && line[index] == b' ' && line[index - 1] == b' '
 }
 
 /// Appends a byte of a line, if it is shown.

@@ -19,7 +19,7 @@ pub struct Out {
     pub count: u32,
     /// How its last step ended: `Trap`, `Fault`, or else `Spent`. `Spent` too if it has made no step.
     pub stop: Stop,
-    /// The cache of its processor. The model leaves it out: there any two caches are equal.
+    /// The cache of its slot. The model leaves it out: there any two caches are equal.
     pub decoded: Decoded,
 }
 

@@ -102,7 +102,7 @@ impl Kernel {
         ensures same { OnErr result (services.new.items ≡ services.old.items) }
     {
         let records = Vec::with_capacity(alloc, config.log as usize)?;
-        let caches = Caches::new(alloc, config.cpus)?;
+        let caches = Caches::new(alloc, services.as_slice())?;
         let present = first_present(alloc, config, services)?;
         Ok(Kernel {
             present,
@@ -113,8 +113,8 @@ impl Kernel {
         })
     }
 
-    /// A processor takes the process that is first to run, and is lent its image, with the processor's cache
-    /// of decoded instructions. It needs two free records, one of them for its return: so `back` is never
+    /// A processor takes the process that is first to run, and is lent its image, with the cache of
+    /// instructions that it has decoded. It needs two free records, one of them for its return: so `back` is never
     /// refused for want of a record.
     pub fn take(&mut self, cpu: u8) -> Result<Out, Refusal>
         ensures ok { OnOk result (IsEventAccepted self.old self.new cpu events.Take recorded.Take) }
@@ -127,7 +127,7 @@ impl Kernel {
         let mut out = self.present.take(cpu)?;
         self.present.opened();
         note(&mut self.records, cpu, Recorded::Take);
-        out.decoded = self.caches.lend(cpu);
+        out.decoded = self.caches.lend(self.present.lease(cpu));
         Ok(out)
     }
 
@@ -147,10 +147,10 @@ impl Kernel {
         self.present.opened();
         let count = out.count;
         let decoded = mem::replace(&mut out.decoded, Decoded::nothing());
-        self.caches.take_home(cpu, decoded);
         let Some(lease) = self.present.lease(cpu) else {
             unreachable!()
         };
+        self.caches.take_home(lease.slot, decoded);
         self.present.come_back(cpu, lease, out);
         self.present.opened();
         note(&mut self.records, cpu, Recorded::Back(count));

@@ -1,7 +1,7 @@
 -- A slot's process, wherever it is, and addresses in its memory (our own).
 use Rattle.std.specs.Prelude.{ℕ, ◌+◌, ◌==◌, List, [], ◌∷◌, ◌++◌, codes, length, Option, Some, None, Result, Ok, Err, if◌then◌else◌, nat_lt, slice_get}
 use Rattle.std.specs.List.{range_with_len}
-use Rattle.std.specs.Option.{option_map, option_or}
+use Rattle.std.specs.Option.{option_or}
 use Rattle.mx_aout.specs.declared.program.Symbol.{Symbol}
 use Rattle.mx_boot.specs.declared.address_word.AddressWord.{AddressWord}
 use Rattle.mx_boot.specs.declared.address_word.AddressWord.TheVariants.{Number, Symbol as AtSymbol}
@@ -11,7 +11,7 @@ use Rattle.mx_exec.specs.declared.image.Image.{Image}
 use Rattle.mx_machine.specs.declared.events.Refusal.TheVariants.{NoService}
 use Rattle.mx_machine.specs.Service.{Service}
 use Rattle.mx_machine.specs.World.{HeldProcess, World, held_by}
-use Rattle.mx_proc.specs.declared.process.Process.{Process}
+use Rattle.mx_proc.specs.TableState.{process_at}
 use Rattle.mx_print_answers.specs.declared.refused.Refused.{Refused as Kind}
 use Rattle.mx_print_answers.specs.declared.refused.Refused.TheVariants.{ByDebugger, ByMachine}
 use Rattle.mx_print_answers.specs.Answers.{refused_line}
@@ -29,7 +29,7 @@ image_on w s [] = None
 image_on w s (a ∷ more) = option_or (image_of_held (held_by w a) s) (image_on w s more)
 
 abbrev pub image_at_home : World → ℕ → Option Image
-image_at_home w s = option_map (λ (p : Process). p.image) (slice_get w.table.slots s)
+image_at_home w s = if nat_lt s (length w.table.slots) then Some (process_at w.table s).image else None
 
 -- THE PROCESS OF A SLOT, as the processor that has it has left it; else as it is in the kernel's table
 unfoldable pub image_in : World → ℕ → Option Image

@@ -4,6 +4,7 @@ ghost use Rattle.std.specs.Prelude.{◌≡◌, ◌++◌, OnOk, option_map, slice
 ghost use Rattle.mx_machine.specs.History.{replay};
 ghost use Rattle.mx_machine.specs.Machine.{world_of};
 ghost use Rattle.mx_machine.specs.World.{held_by};
+ghost use Rattle.mx_debug.specs.Finding.{first_named};
 ghost use Rattle.mx_print_answers.specs.Slots.{address_after, address_asked, address_in, image_at_home, image_in, image_of_held, memory_at, memory_of, registers_of, slot_named, symbols_by, value_named};
 
 use crate::processes::{push_memory, push_process};
@@ -79,15 +80,24 @@ pub fn slot_named(machine: &Machine, slot: u32) -> Result<Slot, Refused>
 }
 
 /// The value of the first symbol of a name in the program of a slot's service.
+fn value_of(kernel: &Kernel, slot: Slot, name: &[u8]) -> Option<u32>
+    ensures { result ≡ first_named (symbols_by (slice_get (replay kernel.now).services slot)) name.now }
+{
+    kernel.opened();
+    match kernel.services().get(slot as usize) {
+        Some(service) => Debugger::address(&service.program, name).ok(),
+        None => None,
+    }
+}
+
+/// The same, if the name isn't too long for a symbol.
 fn value_named(kernel: &Kernel, slot: Slot, name: &Option<SymbolName>) -> Option<u32>
     ensures { result ≡ value_named (symbols_by (slice_get (replay kernel.now).services slot)) name.now }
 {
-    let Some(name) = name else {
-        return None;
-    };
-    kernel.opened();
-    let service = kernel.services().get(slot as usize)?;
-    Debugger::address(&service.program, name.as_slice()).ok()
+    match name {
+        Some(name) => value_of(kernel, slot, name.as_slice()),
+        None => None,
+    }
 }
 
 /// So many bytes after a symbol's value, if there is one.
@@ -96,7 +106,10 @@ fn address_after(value: Option<u32>, after: u32) -> Result<u32, Refused>
 {
     match value {
         None => Err(Refused::ByDebugger(DebugError::NoSymbol)),
-        Some(value) => value.checked_add(after).ok_or(Refused::ByDebugger(DebugError::NotHere)),
+        Some(value) => match value.checked_add(after) {
+            Some(at) => Ok(at),
+            None => Err(Refused::ByDebugger(DebugError::NotHere)),
+        },
     }
 }
 

@@ -191,3 +191,104 @@ fn hold_at_once(rt: HostRuntime) -> Result<(), Fail> {
     }
     Ok(())
 }
+
+/// What a processor does first after a yes.
+const TAKES: u32 = 1;
+
+const ASKS: u32 = 2;
+
+/// A gate of two processors with one process. The processor that takes it first holds it until the other one has
+/// asked. After its return it waits until the other one, which gets a yes then, has made its next call. So the
+/// other one finds the process ready.
+#[derive(Drop)]
+struct OneProcess {
+    /// The processor that held the process first, plus 1.
+    first: AtomicU32,
+    /// How many questions the other one has asked.
+    questions: AtomicU32,
+    /// Whether the first one has given it back.
+    given: AtomicU32,
+    /// What the other one did after its yes: 0 until then.
+    next: AtomicU32,
+}
+
+/// Waits until a number isn't 0, but not for ever.
+fn wait_for(number: &AtomicU32) {
+    for _ in 0..TURNS {
+        if number.load(Ordering::SeqCst) > 0 {
+            return;
+        }
+        thread::yield_now();
+    }
+}
+
+impl OneProcess {
+    fn new() -> OneProcess {
+        OneProcess {
+            first: AtomicU32::new(0),
+            questions: AtomicU32::new(0),
+            given: AtomicU32::new(0),
+            next: AtomicU32::new(0),
+        }
+    }
+
+    /// Whether a processor is the one that held the process first.
+    fn is_first(&self, cpu: u8) -> bool {
+        self.first.load(Ordering::SeqCst) == u32::from(cpu) + 1
+    }
+
+    /// Sets a number that is 0, and answers whether it was.
+    fn set(number: &AtomicU32, to: u32) -> bool {
+        number
+            .compare_exchange(0, to, Ordering::SeqCst, Ordering::SeqCst)
+            .is_ok()
+    }
+}
+
+impl Gate for OneProcess {
+    fn held(&self, cpu: u8, _turn: u64) {
+        if OneProcess::set(&self.first, u32::from(cpu) + 1) {
+            wait_for(&self.questions);
+        } else if !self.is_first(cpu) {
+            let _was_first = OneProcess::set(&self.next, TAKES);
+        }
+    }
+
+    fn given(&self, cpu: u8) {
+        if self.is_first(cpu) {
+            self.given.store(1, Ordering::SeqCst);
+            wait_for(&self.next);
+        }
+    }
+
+    fn again(&self, actor: u8, _at_rest: bool) -> bool {
+        thread::yield_now();
+        if actor > 1 || self.is_first(actor) || self.first.load(Ordering::SeqCst) == 0 {
+            return self.next.load(Ordering::SeqCst) == 0;
+        }
+        if self.questions.fetch_add(1, Ordering::SeqCst) == 0 {
+            wait_for(&self.given);
+            return true;
+        }
+        let _was_first = OneProcess::set(&self.next, ASKS);
+        false
+    }
+
+    fn ended(&self, _actor: u8) {}
+}
+
+/// After a yes a processor takes again before it asks again.
+#[test]
+fn takes_after_a_yes(rt: HostRuntime) -> Result<(), Fail> {
+    let mut services = services(rt.alloc(), 1, 0)?;
+    let config = config(rt.alloc(), 2, 1, 64, 0)?;
+    let Ok(booted) = boot(rt.alloc(), &config, &mut services) else {
+        return Err(Fail::new("no memory"));
+    };
+    let gate = OneProcess::new();
+    let ending = drive_to_end::<Brand, _, _>(&rt, rt.alloc(), booted, &gate, 0);
+    assert!(rt; ending.is_some());
+    let next = gate.next.load(Ordering::SeqCst);
+    assert!(rt; next == TAKES, "{next}");
+    Ok(())
+}

@@ -1,6 +1,6 @@
 //! Help that is asked for by its own word, and what a reader at a terminal gets.
 
-use mx_app::{NotingOutput, PrintedText, Terminals, texts_asked};
+use mx_app::{Ending, NotingOutput, PrintedText, Terminals, texts_asked};
 use std::alloc::Global;
 use std::io::Write;
 use std::test::Fail;
@@ -91,9 +91,19 @@ fn ends_of_texts(rt: HostRuntime) {
     }
 }
 
-/// Of a listing of symbols that is empty, a reader at a terminal gets a line that there are none.
+/// What was printed, up to which byte, and the line that a reader at a terminal gets beside it.
+const NOTES: &[(PrintedText, Option<u8>, &str)] = &[
+    (PrintedText::Symbols, None, "mx: no symbols\n"),
+    (PrintedText::Symbols, Some(b'\n'), ""),
+    (PrintedText::Turns(Ending::Rest), Some(b'\n'), "mx: rest\n"),
+    (PrintedText::Turns(Ending::Turns), Some(b'4'), "mx: turns\n"),
+    (PrintedText::Turns(Ending::Full), Some(b'\n'), "mx: full\n"),
+    (PrintedText::Other, None, ""),
+];
+
+/// A reader at a terminal is helped on standard error, and nobody else is.
 #[test]
-fn notes_of_symbols(rt: HostRuntime) {
+fn notes(rt: HostRuntime) {
     for out in [false, true] {
         let shown = Terminals {
             input: false,
@@ -105,14 +115,10 @@ fn notes_of_symbols(rt: HostRuntime) {
             out,
             err: false,
         };
-        assert!(rt; shown.symbols_note(PrintedText::Symbols, None) == "mx: no symbols\n");
-        assert!(rt;
-            shown
-                .symbols_note(PrintedText::Symbols, Some(b'\n'))
-                .is_empty()
-        );
-        assert!(rt; shown.symbols_note(PrintedText::Other, None).is_empty());
-        assert!(rt; hidden.symbols_note(PrintedText::Symbols, None).is_empty());
+        for (printed, last, note) in NOTES {
+            assert!(rt; shown.note(*printed, *last) == *note);
+            assert!(rt; hidden.note(*printed, *last).is_empty());
+        }
     }
 }
 

@@ -3,8 +3,8 @@
 
 use crate::files::{SUM, reader};
 use mx_app::{
-    Channels, Complaint, Failure, InputLines, KeptFile, MemoryWriter, NamedFiles, NotingFiles,
-    NotingReader, perform_words,
+    Channels, Complaint, Ending, Failure, InputLines, KeptFile, MemoryWriter, NamedFiles,
+    NoProgress, NotingFiles, NotingReader, perform_words,
 };
 use std::alloc::Global;
 use std::fmt::Write as _;
@@ -214,10 +214,8 @@ static DONE: &[Done] = &[
         file: Some(("new.log", b"rules 2\n")),
     },
     Done {
-        name: "turns: outside events, the first refused, and then ticks",
-        words: &[
-            "mx", "turns", "pair", "new.log", "--events", "outside", "--ticks", "2",
-        ],
+        name: "turns: outside events, the first refused",
+        words: &["mx", "turns", "pair", "new.log", "--events", "outside"],
         status: 0,
         printed: "0 drv 0 receiving any 4 8\n1 cli 1 down kill 7 16\nuptime 3\nconsole 0\n",
         file: Some((
@@ -504,6 +502,16 @@ static FAILED: &[Failed] = &[
         words: &["mx", "turns", "one", "new.log", "--events", "not_outside"],
         status: 1,
         told: "mx: 73 BadRecord line 2\n",
+    },
+    Failed {
+        name: "turns: ticks and outside events",
+        words: &[
+            "mx", "turns", "one", "new.log", "--ticks", "3", "--events", "outside",
+        ],
+        status: 2,
+        told: "error: the argument '--ticks <T>' cannot be used with '--events <EVENTS>'\n\n\
+               Usage: mx turns [OPTIONS] <CONFIG> <LOG>\n\n\
+               For more information, try '--help'.\n",
     },
     Failed {
         name: "turns: no number of turns",
@@ -910,8 +918,16 @@ fn perform<R: Threads + Wait + Clock + Sync>(
     told: &mut String,
 ) -> u8 {
     let mut lines = InputLines::new(b"".as_slice());
-    match perform_words(rt, alloc, words, channels, &mut lines, false) {
-        Ok(status) => status,
+    match perform_words(
+        rt,
+        alloc,
+        words,
+        channels,
+        &mut lines,
+        &mut NoProgress::new(),
+        false,
+    ) {
+        Ok(done) => done.status,
         Err(complaint) => {
             let _ = write!(told, "{complaint}");
             complaint.status()
@@ -944,7 +960,7 @@ fn is_done<R: Threads + Wait + Clock + Sync>(rt: &R, alloc: Global, row: &Done) 
 }
 
 /// Whether words fail so, with nothing printed or written, if what takes bytes is broken in this
-/// way; a mistake in the words has lines of clap's own.
+/// way; most mistakes in the words have lines of clap's own.
 fn is_told<R: Threads + Wait + Clock + Sync>(
     rt: &R,
     alloc: Global,
@@ -954,7 +970,7 @@ fn is_told<R: Threads + Wait + Clock + Sync>(
     let mut channels = channels(alloc, refusal);
     let mut told = String::new(alloc);
     let ended = perform(&mut channels, rt, alloc, row.words, &mut told);
-    let is_told = if row.status == 2 {
+    let is_told = if row.status == 2 && row.told.is_empty() {
         told.as_str().starts_with("error: ")
     } else {
         told.as_str() == row.told
@@ -1040,6 +1056,78 @@ static UNWRITABLE: &[Failed] = &[
         told: "mx: 80 File\nmx: standard output: wanted room for what is printed\n",
     },
 ];
+
+/// Words that make turns, and how the turns end.
+struct Turned {
+    name: &'static str,
+    words: &'static [&'static str],
+    ending: Ending,
+}
+
+static TURNED: &[Turned] = &[
+    Turned {
+        name: "up to rest",
+        words: &["mx", "turns", "pair", "new.log"],
+        ending: Ending::Rest,
+    },
+    Turned {
+        name: "none",
+        words: &["mx", "turns", "pair", "new.log", "--turns", "0"],
+        ending: Ending::Turns,
+    },
+    Turned {
+        name: "as many as up to rest",
+        words: &["mx", "turns", "pair", "new.log", "--turns", "5"],
+        ending: Ending::Rest,
+    },
+    Turned {
+        name: "so many",
+        words: &["mx", "turns", "restart", "new.log", "--turns", "20"],
+        ending: Ending::Turns,
+    },
+    Turned {
+        name: "as many as the history has room for",
+        words: &["mx", "turns", "restart", "new.log", "--turns", "32"],
+        ending: Ending::Turns,
+    },
+    Turned {
+        name: "up to a full history",
+        words: &["mx", "turns", "restart", "new.log", "--turns", "40"],
+        ending: Ending::Full,
+    },
+    Turned {
+        name: "a history too full for a take, and so for a tick",
+        words: &["mx", "turns", "two_full", "new.log", "--ticks", "1"],
+        ending: Ending::Full,
+    },
+];
+
+/// Whether the turns that words ask for end so.
+fn is_ended<R: Threads + Wait + Clock + Sync>(rt: &R, alloc: Global, row: &Turned) -> bool {
+    let mut channels = channels(alloc, None);
+    let mut lines = InputLines::new(b"".as_slice());
+    match perform_words(
+        rt,
+        alloc,
+        row.words,
+        &mut channels,
+        &mut lines,
+        &mut NoProgress::new(),
+        false,
+    ) {
+        Ok(done) => done.ending == Some(row.ending),
+        Err(_) => false,
+    }
+}
+
+#[test]
+fn turns_end(rt: HostRuntime) -> Result<(), Fail> {
+    for row in TURNED {
+        let name = row.name;
+        assert!(rt; is_ended(&rt, rt.alloc(), row), "{name}");
+    }
+    Ok(())
+}
 
 /// What takes bytes is broken, or has no memory for them.
 #[test]

@@ -443,7 +443,7 @@ static FILES: &[NamedFile<'static>] = &[
     },
     NamedFile {
         name: "outside",
-        bytes: b"line 3\nkill 1\ntick\n",
+        bytes: b"line 3\nkill 1\ntick\ntick\ntick\n",
     },
     NamedFile {
         name: "not_outside",

@@ -1,7 +1,7 @@
 //! Sessions over a saved history: the lines that are typed, and what is printed.
 
 use crate::files::reader;
-use mx_app::{Channels, CommandRequest, InputLines, MemoryWriter, perform};
+use mx_app::{Channels, CommandRequest, Done, InputLines, MemoryWriter, NoProgress, perform};
 use std::alloc::Global;
 use std::sync::Wait;
 use std::test::Fail;
@@ -90,13 +90,14 @@ static SESSIONS: &[Session] = &[
         name: "abbreviations, spaces, empty lines, and what asks for nothing",
         log: "whole",
         asks: false,
-        typed: b"f\n\n  fo   2  \nb 1\nst\nw\nstepb\ns 1\ngo 1 2\nfast\nwhere now\nhelp me\n\xFF\n",
+        typed: b"f\n\n  fo   2  \nba 1\nb\nst\nw\nstepb\ns 1\ngo 1 2\nfast\nwhere now\nhelp me\n\xFF\n",
         printed: "at 0 of 4, record 1: 0 take\n\
                   at 1 of 4, record 2: 0 back 3\na 0 00000000 mov eax, 0x5\n\
                   at 3 of 4, record 4: 0 back 1\na 0 0000000a \n\
                   at 2 of 4, record 3: 0 take\n\
+                  refused 73 BadRecord: back, break\n\
                   refused 73 BadRecord: stack, step, stepback\n\
-                  refused 73 BadRecord: where, why\n\
+                  refused 73 BadRecord: watch, where, why\n\
                   at 1.3 of 4, record 2: 0 back 3\n\
                   refused 73 BadRecord: stack, step, stepback\n\
                   refused 73 BadRecord\nrefused 73 BadRecord\nrefused 73 BadRecord\n\
@@ -217,9 +218,83 @@ static OF_A_PAIR: &[Session] = &[
         typed: b"goto 5.1\nprint 0 buf\np 1 buf\nprint 0 top\nprint 0 0\nprint 2 buf\npr 0\n",
         printed: "at 0 of 10, record 1: 0 take\n\
                   at 5.1 of 10, record 6: 0 back 3\ndrv 0 00000017 top+17 mov ecx, 0x1\n\
-                  00000000 buf 00000001 1\nrefused 73 BadRecord: print, ps\n\
+                  00000000 buf 00000001 1\nrefused 73 BadRecord: points, print, ps\n\
                   refused 60 NoSymbol\nrefused 60 NoSymbol\nrefused 42 NoService\n\
                   refused 73 BadRecord\n",
+    },
+];
+
+/// Searches over the same history. At 4 the driver gets the client's message, whose first word is the client's
+/// endpoint; the client's next instruction writes into its own message at 9.
+static SEARCHES: &[Session] = &[
+    Session {
+        name: "breakpoints and watches, and those that are refused",
+        log: "pair_log",
+        asks: false,
+        typed: b"points\nbreak 0 top+0x17\nbreak 0 23\nbreak 1 0\nwatch 1 buf 4\nwatch 0 0xfff 16\n\
+            break 2 0\nbreak 0 nope\nwatch 2 0 1\nwatch 0 nope 1\nwatch 0 0 0\nwatch 0 0 17\n\
+            watch 2 0 0\npoints\nclear\npoints\n",
+        printed: "at 0 of 10, record 1: 0 take\n\
+                  done\ndone\ndone\ndone\ndone\n\
+                  refused 42 NoService\nrefused 60 NoSymbol\nrefused 42 NoService\n\
+                  refused 60 NoSymbol\nrefused 61 NotHere\nrefused 61 NotHere\n\
+                  refused 42 NoService\n\
+                  break 0 00000017\nbreak 1 00000000\nwatch 1 00000000 4\nwatch 0 00000fff 16\n\
+                  done\n",
+    },
+    Session {
+        name: "eight watches",
+        log: "pair_log",
+        asks: false,
+        typed: b"watch 0 0 1\nwatch 0 0 1\nwatch 0 0 1\nwatch 0 0 1\nwatch 0 0 1\nwatch 0 0 1\n\
+            watch 0 0 1\nwatch 1 4 16\nwatch 0 0 1\ncontinue\n",
+        printed: "at 0 of 10, record 1: 0 take\ndone\ndone\ndone\ndone\ndone\ndone\ndone\ndone\n\
+                  refused 62 TooMany\n\
+                  watch 0 00000000: 00 -> 01\nwatch 0 00000000: 00 -> 01\n\
+                  watch 0 00000000: 00 -> 01\nwatch 0 00000000: 00 -> 01\n\
+                  watch 0 00000000: 00 -> 01\nwatch 0 00000000: 00 -> 01\n\
+                  watch 0 00000000: 00 -> 01\nat 4 of 10, record 5: 0 take\n",
+    },
+    Session {
+        name: "what is no request for a breakpoint, a watch or a search",
+        log: "pair_log",
+        asks: false,
+        typed: b"break\nbreak 0\nbreak 0 0 0\nwatch 0 0\nwatch 0 0 1 1\nwatch x 0 1\npoints 0\n\
+            clear 0\ncontinue 1\nreverse 1\npoints\n",
+        printed: "at 0 of 10, record 1: 0 take\n\
+                  refused 73 BadRecord\nrefused 73 BadRecord\nrefused 73 BadRecord\n\
+                  refused 73 BadRecord\nrefused 73 BadRecord\nrefused 73 BadRecord\n\
+                  refused 73 BadRecord\nrefused 73 BadRecord\nrefused 73 BadRecord\n\
+                  refused 73 BadRecord\n",
+    },
+    Session {
+        name: "on to a change and back to it, and where nothing is met",
+        log: "pair_log",
+        asks: false,
+        typed: b"continue\nreverse\nwatch 0 buf 4\nreverse\ncontinue\nreverse\nreverse\n",
+        printed: "at 0 of 10, record 1: 0 take\nnot met\nat 10 of 10, the end\n\
+                  not met\nat 0 of 10, record 1: 0 take\ndone\n\
+                  not met\nat 0 of 10, record 1: 0 take\n\
+                  watch 0 00000000: 00 00 00 00 -> 01 00 00 00\nat 4 of 10, record 5: 0 take\n\
+                  watch 0 00000000: 00 00 00 00 -> 01 00 00 00\nat 3.4 of 10, record 4: 0 back 4\n\
+                  not met\nat 0 of 10, record 1: 0 take\n",
+    },
+    Session {
+        name: "a breakpoint and watches; the step at a breakpoint changes bytes; bytes past the end",
+        log: "pair_log",
+        asks: false,
+        typed: b"goto 4\nbreak 0 top+0x17\nbreak 1 0x11\nwatch 1 4 2\nwatch 1 4095 9\ncontinue\n\
+            continue\ncontinue\ncontinue\nreverse\nreverse\n",
+        printed: "at 0 of 10, record 1: 0 take\n\
+                  at 4 of 10, record 5: 0 take\ndone\ndone\ndone\ndone\n\
+                  at 5.1 of 10, record 6: 0 back 3\ndrv 0 00000017 top+17 mov ecx, 0x1\n\
+                  at 9 of 10, record 10: 0 back 4\ncli 1 00000011 mov dword [0x4], 0x600\n\
+                  watch 1 00000004: 00 00 -> 00 06\n\
+                  at 9.1 of 10, record 10: 0 back 4\ncli 1 0000001b mov ecx, 0x3\n\
+                  not met\nat 10 of 10, the end\n\
+                  watch 1 00000004: 00 00 -> 00 06\n\
+                  at 9 of 10, record 10: 0 back 4\ncli 1 00000011 mov dword [0x4], 0x600\n\
+                  at 5.1 of 10, record 6: 0 back 3\ndrv 0 00000017 top+17 mov ecx, 0x1\n",
     },
 ];
 
@@ -252,8 +327,16 @@ fn is_printed<R: Threads + Wait + Clock + Sync>(
         config,
         log: row.log,
     };
-    let answer = perform(rt, alloc, &mut channels, &mut lines, row.asks, request);
-    answer == Ok(0) && channels.out.as_slice() == row.printed.as_bytes()
+    let answer = perform(
+        rt,
+        alloc,
+        &mut channels,
+        &mut lines,
+        &mut NoProgress::new(),
+        row.asks,
+        request,
+    );
+    answer == Ok(Done::with_status(0)) && channels.out.as_slice() == row.printed.as_bytes()
 }
 
 #[test]
@@ -263,6 +346,10 @@ fn sessions(rt: HostRuntime) -> Result<(), Fail> {
         assert!(rt; is_printed(&rt, rt.alloc(), "one", row), "{name}");
     }
     for row in OF_A_PAIR {
+        let name = row.name;
+        assert!(rt; is_printed(&rt, rt.alloc(), "pair", row), "{name}");
+    }
+    for row in SEARCHES {
         let name = row.name;
         assert!(rt; is_printed(&rt, rt.alloc(), "pair", row), "{name}");
     }

@@ -2,7 +2,10 @@
 
 use crate::files::reader;
 use crate::texts::Narrow;
-use mx_app::{Channels, CommandRequest, Failure, InputLines, MemoryWriter, RecordRange, perform};
+use mx_app::{
+    Channels, CommandRequest, Done, Failure, InputLines, MemoryWriter, NoProgress, RecordRange,
+    perform,
+};
 use mx_app_db::{Script, make_steps, start};
 use mx_boot::{Over, save};
 use mx_machine::{Event, Machine};
@@ -123,10 +126,18 @@ fn is_printed<R: Threads + Wait + Clock + Sync>(
     let wanted = if room < text.len() {
         Err(Failure::File)
     } else {
-        Ok(0)
+        Ok(Done::with_status(0))
     };
     let mut lines = InputLines::new(b"".as_slice());
-    let answer = perform(rt, alloc, &mut channels, &mut lines, false, row.request);
+    let answer = perform(
+        rt,
+        alloc,
+        &mut channels,
+        &mut lines,
+        &mut NoProgress::new(),
+        false,
+        row.request,
+    );
     answer == wanted && channels.out.bytes.as_slice() == &text[..room.min(text.len())]
 }
 

@@ -2,8 +2,8 @@
 
 use crate::files::{CLIENT, DRIVER, PAIR};
 use mx_app::{
-    Channels, CommandRequest, Failure, InputLines, MemoryWriter, NamedFile, NamedFiles,
-    RecordRange, perform,
+    Channels, CommandRequest, Done, Failure, InputLines, MemoryWriter, NamedFile, NamedFiles,
+    NoProgress, RecordRange, perform,
 };
 use std::alloc::Global;
 use std::process::Abort;
@@ -214,7 +214,7 @@ fn answer<R: Threads + Wait + Clock + Sync>(
     alloc: Global,
     row: &Row,
     end: &[u8],
-) -> Result<(Result<u8, Failure>, bool), Fail> {
+) -> Result<(Result<Done, Failure>, bool), Fail> {
     let mut text = Vec::from_slice(alloc, row.front)?;
     text.extend_from_slice(end)?;
     let files = [
@@ -230,14 +230,22 @@ fn answer<R: Threads + Wait + Clock + Sync>(
         out: Vec::new(alloc),
     };
     let mut lines = InputLines::new(b"".as_slice());
-    let answer = perform(rt, alloc, &mut channels, &mut lines, false, row.request);
+    let answer = perform(
+        rt,
+        alloc,
+        &mut channels,
+        &mut lines,
+        &mut NoProgress::new(),
+        false,
+        row.request,
+    );
     let is_silent = channels.out.is_empty() && channels.files.files().is_empty();
     Ok((answer, is_silent))
 }
 
-fn status(answer: Result<u8, Failure>) -> u8 {
+fn status(answer: Result<Done, Failure>) -> u8 {
     match answer {
-        Ok(status) => status,
+        Ok(done) => done.status,
         Err(failure) => failure.status(),
     }
 }

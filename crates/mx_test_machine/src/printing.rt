@@ -2,7 +2,7 @@
 
 use crate::files::separate_file;
 use clap::error::ErrorKind;
-use mx_app_command::{CommandRequest, command};
+use mx_app_command::{CommandRequest, Mistake, command};
 use mx_app_program::print_one;
 use std::alloc::Global;
 use std::test::Fail;
@@ -174,6 +174,26 @@ static LINES: &[Line] = &[
         asked: Err(ErrorKind::MissingSubcommand),
     },
     Line {
+        name: "turns with ticks and outside events",
+        words: &[
+            "mx", "turns", "config", "log", "--ticks", "0", "--events", "events",
+        ],
+        asked: Err(ErrorKind::ArgumentConflict),
+    },
+    Line {
+        name: "turns with outside events",
+        words: &[
+            "mx", "turns", "config", "log", "--turns", "7", "--events", "events",
+        ],
+        asked: Ok(CommandRequest::Turns {
+            config: "config",
+            log: "log",
+            ticks: 0,
+            events: Some("events"),
+            bound: 7,
+        }),
+    },
+    Line {
         name: "db --help",
         words: &["mx", "db", "--help"],
         asked: Err(ErrorKind::DisplayHelp),
@@ -183,7 +203,8 @@ static LINES: &[Line] = &[
 fn is_asked(alloc: Global, line: &Line) -> bool {
     match (command(alloc, line.words), line.asked) {
         (Ok(found), Ok(request)) => found.request == request && !found.explains,
-        (Err(error), Err(kind)) => error.kind() == kind,
+        (Err(Mistake::Grammar(error)), Err(kind)) => error.kind() == kind,
+        (Err(Mistake::TicksAndEvents), Err(kind)) => kind == ErrorKind::ArgumentConflict,
         _ => false,
     }
 }

@@ -2,7 +2,7 @@
 
 use crate::aout::SHORT;
 use crate::bytes::has_bytes;
-use mx_asm_roundtrip::{Journey, around};
+use mx_app_program::{Journey, around};
 use std::alloc::Global;
 
 /// A text, its listing, some bytes of its image, and its file, if the row has it.

@@ -1075,7 +1075,7 @@ fn work_all(rt: &impl Abort, alloc: Global, cache: &mut Cache, rows: &[Row]) -> 
 
 #[test]
 fn worked_rows(rt: HostRuntime) -> Result<(), Fail> {
-    let mut cache = Cache::new(rt.alloc())?;
+    let mut cache = Cache::new(rt.alloc(), 0)?;
     work_all(&rt, rt.alloc(), &mut cache, ARITHMETIC)?;
     work_all(&rt, rt.alloc(), &mut cache, BITS)?;
     work_all(&rt, rt.alloc(), &mut cache, PLACES)?;
@@ -1133,10 +1133,41 @@ fn words_around_a_write(image: &mut Image, cache: &mut Cache) -> (u32, u32) {
 fn writes_from_outside(rt: HostRuntime) -> Result<(), Fail> {
     for row in LOOPS {
         let name = row.name;
-        let mut cache = Cache::new(rt.alloc())?;
+        let mut cache = Cache::new(rt.alloc(), 0)?;
         let mut image = image_of(rt.alloc(), &row.begin)?;
         let words = words_around_a_write(&mut image, &mut cache);
         assert!(rt; words == (row.eax, row.edx), "{name}");
+    }
+    Ok(())
+}
+
+/// A text of 1,500 INC EAX and a jump back to the first.
+fn long_loop(alloc: Global) -> Result<Image, Fail> {
+    let mut text = Segment::new(alloc, 1_505)?;
+    for at in 0..1_500 {
+        text.write(at, Size::Byte, 0x40)?;
+    }
+    text.fill_from(1_500, b"\xE9\x1F\xFA\xFF\xFF")?;
+    Ok(Image {
+        regs: Regs::new(),
+        eip: 0,
+        flags: Flags::from_bits(0),
+        memory: Segment::new(alloc, LIMIT)?,
+        code: Code::Separate(TextSegment::new(text)),
+    })
+}
+
+/// A cache has 1,024 entries at least, so the loop's instructions take each other's entries in one cache, and
+/// not in the other.
+#[test]
+fn loops_longer_than_a_cache(rt: HostRuntime) -> Result<(), Fail> {
+    for code in [0, 1_505] {
+        let mut image = long_loop(rt.alloc())?;
+        let mut cache = Cache::new(rt.alloc(), code)?;
+        let made = run_with(&mut image, &mut cache, 3 * 1_501 + 7);
+        assert!(rt; made == (4_510, Stop::Spent), "{code}");
+        assert!(rt; image.reg(Register::Eax) == 4_507, "{code}");
+        assert!(rt; image.eip() == 7, "{code}");
     }
     Ok(())
 }

@@ -11,7 +11,8 @@ use Rattle.mx_turns.specs.declared.turns.Ending.TheVariants.{Rest, Turns, Full}
 use Rattle.mx_turns.specs.Turns.{Course, is_over, joined, turn, turns, world_after}
 use Rattle.mx_turns.proofs.OfferLemmas.{Offers}
 
--- what comes of a turn that made this and of those after it, by whether all was over before it, and whether the history was too full for it
+-- what comes of a turn that made this and of those after it, by whether all was over before it, and whether the
+-- history was too full for it
 abbrev by : Bool → Bool → Offers → Course → Course
 by over full made later = cond over (let z : Course = record { made = []; ending = Rest } in z) (cond full (let z : Course = record { made = made; ending = Full } in z) (joined made later))
 

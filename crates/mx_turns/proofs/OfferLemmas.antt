@@ -130,7 +130,7 @@ refusal_of_step : (w : World) (c : ℕ) (held : Option HeldProcess) → held_by 
 unfolding event_refusal
 refusal_of_step w c held h = ap step_refusal h
 
-world_of_step : (w : World) (c : ℕ) (held : Option HeldProcess) → held_by w c ≡ held → world_after_event w c Step ≡ world_after_step w c held
+pub world_of_step : (w : World) (c : ℕ) (held : Option HeldProcess) → held_by w c ≡ held → world_after_event w c Step ≡ world_after_step w c held
 unfolding world_after_event
 world_of_step w c held h = ap (world_after_step w c) h
 

@@ -12,13 +12,15 @@ use Rattle.mx_turns.specs.declared.outside.Outside.{Outside}
 use Rattle.mx_turns.specs.declared.turns.Ending.{Ending}
 use Rattle.mx_turns.specs.Turns.{Course, Offered}
 
--- From m the machine made these events, each of which was accepted, and became n; its history is longer by their records.
+-- From m the machine made these events, each of which was accepted, and became n; its history is longer by their
+-- records.
 pub record HasMade (m : MachineState) (xs : List (ℕ × Event)) (n : MachineState) : Type 0 where
   pub accepted : AreAccepted (world_of m) xs
   pub world : world_of n ≡ world_after_events (world_of m) xs
   pub kernel : n.kernel ≡ kept_along m.kernel xs (moves (world_of m) xs).0
 
--- From m the machine made what came of these offers, and became n; `is_full` says whether the history was too full for one.
+-- From m the machine made what came of these offers, and became n; `is_full` says whether the history was too full
+-- for one.
 pub record HasOffered (m : MachineState) (o : Offered) (is_full : Bool) (n : MachineState) : Type 0 where
   pub made : HasMade m o.made n
   pub full : o.full ≡ is_full

@@ -1,13 +1,18 @@
 -- Turns: one thread drives a whole machine, always in the same order (our own).
-use Rattle.std.specs.Prelude.{ℕ, zero, suc, ◌-◌, ◌^◌, ◌&&◌, Bool, true, false, List, [], ◌∷◌, ◌++◌, drop, length, map, Option, Some, None, is_none, slice_get, if◌then◌else◌}
+use Rattle.std.specs.Prelude.{ℕ, zero, suc, ◌≡◌, ◌-◌, ◌^◌, ◌&&◌, ◌||◌, not, Bool, true, false, List, [], ◌∷◌, ◌++◌, drop, length, map, Option, Some, None, is_none, slice_get, if◌then◌else◌}
 use Rattle.std.specs.List.{flat_map, range_with_len}
 use Rattle.mx_machine.specs.declared.events.Event.{Event}
-use Rattle.mx_machine.specs.declared.events.Event.TheVariants.{Take, Back, Respawn}
+use Rattle.mx_machine.specs.declared.events.Event.TheVariants.{Take, Back, Respawn, Tick}
 use Rattle.mx_machine.specs.declared.events.Refusal.{Refusal}
 use Rattle.mx_machine.specs.declared.events.Refusal.TheVariants.{LogFull}
 use Rattle.mx_machine.specs.History.{world_after_events}
-use Rattle.mx_machine.specs.Move.{event_refusal, world_after_event}
+use Rattle.mx_machine.specs.Held.{held_run}
+use Rattle.mx_machine.specs.Move.{event_refusal, held_at_take, world_after_event}
+use Rattle.mx_machine.specs.Proc.States.{is_down}
+use Rattle.mx_machine.specs.Proc.TableState.{process_at}
+use Rattle.mx_machine.specs.Respawn.{is_worn}
 use Rattle.mx_machine.specs.Rest.{at_rest}
+use Rattle.mx_machine.specs.Service.{Service}
 use Rattle.mx_machine.specs.Steps.{steps_of}
 use Rattle.mx_machine.specs.World.{World}
 use Rattle.mx_turns.specs.declared.turns.Ending.{Ending}
@@ -102,3 +107,19 @@ turns (suc n) w xs =
 -- what comes of turns, if more are made after them
 abbrev pub joined : List (ℕ × Event) → Course → Course
 joined made later = record { made = made ++ later.made; ending = later.ending }
+
+-- how many of these events may be refused, and so make no record: all but the ticks
+abbrev pub refusable : List Event → ℕ
+refusable [] = 0
+refusable (Tick ∷ xs) = refusable xs
+refusable (x ∷ xs) = suc (refusable xs)
+
+-- ---- a turn of one processor
+
+-- each slot that is down is worn, so none gets a new process
+abbrev pub NoneToRespawn : World → Type 0
+NoneToRespawn w = (s : ℕ) (v : Service) → slice_get w.services s ≡ Some v → (not (is_down (process_at w.table s).state) || is_worn (process_at w.table s) v) ≡ true
+
+-- processor 0 takes the process of slot s, makes its steps up to its stop, and brings it back
+abbrev pub round : World → ℕ → List (ℕ × Event)
+round w s = (0, Take) ∷ steps_of 0 (held_run most_steps (held_at_take w.table s).out).0.0 ++ (0, Back) ∷ []

@@ -16,7 +16,7 @@ use mx_machine::{Event, Machine, actors_stay};
 pub enum Ending {
     /// The machine is at rest, and no outside event is to come.
     Rest,
-    /// As many turns as were asked for are made.
+    /// All turns that were asked for are made.
     Turns,
     /// The history is too full for an event that was to be made.
     Full,
@@ -47,8 +47,8 @@ fn make_turn(machine: &mut Machine, next: Option<Event>) -> bool
     offer_others(machine, cpus, next, slots)
 }
 
-/// Makes turns of a machine, with outside events to come, until it is at rest and none is to come, or that
-/// many turns are made, or the history is full. Answers which. The machine must have an actor that is no
+/// Makes turns of a machine, with outside events to come: until it is at rest and none is to come, or `bound`
+/// turns are made, or the history is full. Answers which. The machine must have an actor that is no
 /// processor; the first such actor makes the outside events and the respawns. Takes no memory.
 ///
 /// In a turn each processor, in order, takes a process if it holds none and one is ready. Then each, in

@@ -14,6 +14,9 @@ use std::alloc::Global;
 use std::fmt;
 use std::io::{self, BufRead, Write};
 
+/// The cache has room for code of so many bytes. The lines' codes are shorter, and there are many.
+const CODE: usize = 16_384;
+
 /// How many cases there were, and how many of them went wrong.
 #[derive(Clone, Copy)]
 pub struct Tally {
@@ -139,7 +142,7 @@ pub fn check_all<R: BufRead + Drop, W: Write>(
 ) -> Result<Tally, CompareFailure>
     ensures { IfOk result (λ tally. tally.wrong ≤ tally.cases) }
 {
-    let mut cache = Cache::new(alloc)?;
+    let mut cache = Cache::new(alloc, CODE)?;
     let tally = check_lines(alloc, input, &mut cache, out)?;
     let Tally { cases, wrong } = tally;
     writeln!(out, "{cases} cases, {wrong} wrong")?;

@@ -1,5 +1,4 @@
-/* A process that tells the client things which it didn't ask for: three notifications, and three messages that look
- * like answers. */
+/* A process that sends the client what it didn't ask for: four notifications, and a message that looks like an answer. */
 #include "mx.h"
 
 #define CLIENT 1

@@ -1,5 +1,5 @@
-/* A producer that fills the queue. It writes a p for each PUT that is answered, a dot for any other answer that is as it
- * should be, and another letter for one that isn't. */
+/* A producer that notifies the queue, and then fills it. It writes a p for each PUT that is answered, a dot for any other
+ * answer that is as it should be, and another letter for one that isn't. */
 #include "mx.h"
 #include "services.h"
 
@@ -25,6 +25,7 @@ int main(void)
 
     sendrec(NAMES_SLOT, &m);
     queue = m.p[0];
+    notify(queue);
     expect(ask(TRY, 0) == NOTHING, '.', 'n');
     expect(ask(9, 0) == EBADREQUEST, '.', 'b');
     for (item = 1; item <= ROOM + 1; item++)

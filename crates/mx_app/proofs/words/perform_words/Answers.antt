@@ -6,7 +6,8 @@ use Rattle.mx_app.proofs.Told.{noted_same}
 use Rattle.mx_app.proofs.words.perform_words.Goals as goal
 
 pub returns-in-Err : goal.returns-in-Err
-returns-in-Err g c = ([], [], [], sym (append-nil _), sym (append-nil _), sym (append-nil _), inr (c.in-Err.error, c.in-Err.ensures.kinds, refl, refl, refl, c.explain.ensures))
+returns-in-Err g c =
+    ([], [], [], [], sym (append-nil _), sym (append-nil _), sym (append-nil _), sym (append-nil _), inr (c.in-Err.mistake, c.in-Err.ensures.kinds, refl, refl, refl, refl, c.complain.ensures))
 
 pub returns-in-Ok : goal.returns-in-Ok
 returns-in-Ok g c =
@@ -18,12 +19,15 @@ returns-in-Ok g c =
       done.3,
       done.4,
       done.5,
+      done.6,
+      done.7,
       inl (
         c.in-Ok.line,
         c.perform-done.result,
         c.in-Ok.ensures.asks,
         c.in-Ok.ensures.explains,
-        done.6,
+        c.in-Ok.ensures.apart,
+        done.8,
         subst (λ (n : Noted). IsAnswered c.in-Ok.line c.perform-done.result n c.answer.result) same c.answer.ensures,
       ),
     )

@@ -1,11 +1,30 @@
-use Rattle.std.proofs.Common.{◌≡◌, ◌∙◌, ap, codes, map, subst, sym, List, refl}
-use Rattle.std.specs.Prelude.{None, Option, Some, option_map, unwrap_or}
-use Rattle.clap.specs.Words.{Row, Text, found_of, rows_of, subcommand_name_of, subcommand_rows_of}
+use Rattle.std.proofs.Common.{◌≡◌, ◌∙◌, ◌&&◌, not, Bool, true, false, ap, codes, map, subst, sym, List, refl, Result, Ok, Err, IfErr}
+use Rattle.std.specs.Prelude.{IsErrAnd, None, Option, Some, option_map, unwrap_or}
+use Rattle.clap.specs.Words.{Row, Text, found_of, kind_of, rows_of, subcommand_name_of, subcommand_of, subcommand_rows_of, takes}
+use Rattle.clap.specs.declared.error.Error.{Error}
+use Rattle.clap.specs.declared.error.kind.ErrorKind.TheVariants.{OutOfMemory}
 use Rattle.clap.specs.declared.parser.matches.ArgMatches.{ArgMatches}
 use Rattle.clap.specs.declared.parser.matches.ArgMatches.TheViews.{out-ArgMatches}
-use Rattle.mx_app_command.specs.Words.{Asks, AsksBy, AsksToExplain, IsAsked, IsFlag}
+use Rattle.mx_app_command.specs.declared.words.Mistake.{Mistake}
+use Rattle.mx_app_command.specs.declared.words.Mistake.TheVariants.{Grammar}
+use Rattle.mx_app_command.specs.Mistakes.{IsOutOfMemory, both_given}
+use Rattle.mx_app_command.specs.Words.{Asks, AsksBy, AsksToExplain, IsAsked, IsFlag, mx_grammar}
 use Rattle.mx_app_command.proofs.AskedWords.{words_asked}
 use Rattle.mx_app_command.proofs.words.command.Goals as goal
+
+-- an error that the grammar gives is want of memory, if the grammar takes the words
+passes_on : {A : Type 0} (r : Result A Mistake) (e : Error) (taken both : Bool) → IsErrAnd r (λ m. m ≡ Grammar e) → (taken ≡ true → kind_of e ≡ OutOfMemory) → IfErr r (λ m. (taken && not both) ≡ true → IsOutOfMemory m)
+passes_on (Ok x) e taken both is out = absurd is
+passes_on (Err m) e taken both is out = λ h. subst IsOutOfMemory (sym is) (out (left taken (not both) h))
+  where
+    left : (a b : Bool) → (a && b) ≡ true → a ≡ true
+    left true b h = refl
+    left false b h = h
+
+pub returns-in_err-matches-clause-passes : goal.returns-in_err-matches-clause-passes
+returns-in_err-matches-clause-passes c =
+    let words : List Text = map (λ s. s.now) c.args.words.now in
+    passes_on c.from_residual.result c.in_err-matches.field-0.0 (takes mx_grammar words) (both_given (subcommand_of mx_grammar words)) c.from_residual.ensures.1 c.in_err-matches.ensures.passes
 
 firsts : {X A B : Type 0} (f : X → A) (g : X → B) (o : Option X) → option_map f o ≡ option_map (λ (q : A × B). q.0) (option_map (λ x. (f x, g x)) o)
 firsts f g None = refl

@@ -15,7 +15,7 @@ pub returns-in_err-next-2-clause-err : goal.returns-in_err-next-2-clause-err
 returns-in_err-next-2-clause-err g c =
     let more = c.in_ok-next.ensures.more c.if-not-branch.false in
     let wanting : IfErr c.from_residual-in_err-next-2.result IsWanting = search rules in
-    let given = given_more c.args.asks c.args.walker c.loop.walker c.loop.counter (g.L.LineReader.given c.args.lines.now) (g.L.LineReader.given c.loop.lines) (g.L.LineReader.given c.next.new.self)
+    let given = given_more c.args.asks c.args.sight c.loop.sight c.loop.counter (g.L.LineReader.given c.args.lines.now) (g.L.LineReader.given c.loop.lines) (g.L.LineReader.given c.next.new.self)
     (g.W.Write.contents c.args.out.now) (g.W.Write.contents c.loop.out) (Some c.next.new.line.items) c.loop.invariant more in
     IfErr-weaker c.from_residual-in_err-next-2.result IsWanting _ (λ f h. (h, given)) wanting
 
@@ -23,21 +23,21 @@ pub returns-in-None-clause-printed : goal.returns-in-None-clause-printed
 returns-in-None-clause-printed g c =
     let more = c.in_ok-next.ensures.more c.if-not-branch.false ∙ ap (λ (l : List ℕ). g.L.LineReader.given c.loop.lines ++ Some l ∷ []) (sym c.as_slice.ensures.value) in
     let h = none_case c.in_ok-next-2.field-0 _ _ c.in-None.is c.in_ok-next-2.ensures.answered in
-    ended c.args.asks c.args.walker c.loop.walker c.loop.counter (g.L.LineReader.given c.args.lines.now) (g.L.LineReader.given c.loop.lines) (g.L.LineReader.given c.next.new.self)
+    ended c.args.asks c.args.sight c.loop.sight c.loop.counter (g.L.LineReader.given c.args.lines.now) (g.L.LineReader.given c.loop.lines) (g.L.LineReader.given c.next.new.self)
     (g.W.Write.contents c.args.out.now) (g.W.Write.contents c.loop.out) (g.W.Write.contents c.answer_line.new.out) c.as_slice.result.now c.loop.invariant more h.0 h.1
 
 pub loop-preserved : goal.loop-preserved
 loop-preserved g c =
     let more = c.in_ok-next.ensures.more c.if-not-branch.false ∙ ap (λ (l : List ℕ). g.L.LineReader.given c.loop.lines ++ Some l ∷ []) (sym c.as_slice.ensures.value) in
     let h = some_case c.in_ok-next-2.field-0 c.in-Some.next _ _ c.in-Some.is c.in_ok-next-2.ensures.answered in
-    one_more c.args.asks c.args.walker c.loop.walker c.in-Some.next c.loop.counter (g.L.LineReader.given c.args.lines.now) (g.L.LineReader.given c.loop.lines) (g.L.LineReader.given c.next.new.self)
-    (g.W.Write.contents c.args.out.now) (g.W.Write.contents c.loop.out) (g.W.Write.contents c.answer_line.new.out) c.as_slice.result.now c.loop.invariant more h.0 h.1 h.2
+    one_more c.args.asks c.args.sight c.loop.sight c.in-Some.next c.loop.counter (g.L.LineReader.given c.args.lines.now) (g.L.LineReader.given c.loop.lines) (g.L.LineReader.given c.next.new.self)
+    (g.W.Write.contents c.args.out.now) (g.W.Write.contents c.loop.out) (g.W.Write.contents c.answer_line.new.out) c.as_slice.result.now c.loop.invariant more h.0 h.1
 
 pub returns-then-not-branch-clause-err : goal.returns-then-not-branch-clause-err
 returns-then-not-branch-clause-err g c =
     let inv = c.loop.invariant in
     let more = c.in_ok-next.ensures.end c.if-not-branch.true in
-    let given = given_more c.args.asks c.args.walker c.loop.walker c.loop.counter (g.L.LineReader.given c.args.lines.now) (g.L.LineReader.given c.loop.lines) (g.L.LineReader.given c.next.new.self)
+    let given = given_more c.args.asks c.args.sight c.loop.sight c.loop.counter (g.L.LineReader.given c.args.lines.now) (g.L.LineReader.given c.loop.lines) (g.L.LineReader.given c.next.new.self)
     (g.W.Write.contents c.args.out.now) (g.W.Write.contents c.loop.out) _ inv more in
     IfErr-weaker c.print_end.result IsWanting _ (λ f h. (h, given)) c.print_end.ensures.err
 
@@ -45,10 +45,10 @@ pub returns-then-not-branch-clause-printed : goal.returns-then-not-branch-clause
 returns-then-not-branch-clause-printed g c =
     let more = c.in_ok-next.ensures.end c.if-not-branch.true in
     IfOk-weaker c.print_end.result _ _
-    (λ r b. over c.args.asks c.args.walker c.loop.walker c.loop.counter (g.L.LineReader.given c.args.lines.now) (g.L.LineReader.given c.loop.lines) (g.L.LineReader.given c.next.new.self)
+    (λ r b. over c.args.asks c.args.sight c.loop.sight c.loop.counter (g.L.LineReader.given c.args.lines.now) (g.L.LineReader.given c.loop.lines) (g.L.LineReader.given c.next.new.self)
     (g.W.Write.contents c.args.out.now) (g.W.Write.contents c.loop.out) (g.W.Write.contents c.print_end.new.out) c.loop.invariant more b) c.print_end.ensures.printed
 
 pub returns-clause-printed : goal.returns-clause-printed
 returns-clause-printed g c =
-    broken_off c.args.asks c.args.walker c.loop.walker c.loop.counter (g.L.LineReader.given c.args.lines.now) (g.L.LineReader.given c.loop.lines)
+    broken_off c.args.asks c.args.sight c.loop.sight c.loop.counter (g.L.LineReader.given c.args.lines.now) (g.L.LineReader.given c.loop.lines)
     (g.W.Write.contents c.args.out.now) (g.W.Write.contents c.loop.out) c.loop.invariant (omega (arith, c.loop-test.false, c.loop.auto.counter-end))

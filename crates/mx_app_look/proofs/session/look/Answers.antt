@@ -10,8 +10,8 @@ use Rattle.mx_machine.specs.History.{BootAndHistory}
 use Rattle.mx_machine.specs.World.{World, actors}
 use Rattle.mx_machine.specs.declared.history.Record.{Record}
 use Rattle.mx_walk.specs.Walks.{Walk}
-use Rattle.mx_app_look.specs.Sessions.{begun_text, session_text}
-use Rattle.mx_app_look.proofs.Starting.{is_begun}
+use Rattle.mx_app_look.specs.Sessions.{begun_text}
+use Rattle.mx_app_look.proofs.Starting.{held_by_walk, is_begun}
 use Rattle.mx_app_look.proofs.session.look.Goals as goal
 
 pub returns-in_err-machine-clause-fault : goal.returns-in_err-machine-clause-fault
@@ -56,13 +56,14 @@ returns-clause-printed g c =
       records,
       k,
       b.0,
-      s.3,
       b.1,
+      s.3,
       b.2,
+      b.3,
       s.4,
       begun,
-      Appends-trans (g.W.Write.contents c.args.out.now) (g.W.Write.contents c.begin.new.out) (g.W.Write.contents c.converse.new.out) (begun_text c.args.asks k) (session_text c.args.asks k b.0) c.in_ok-begin.ensures.printed
-          (subst (λ (j : Walk). Appends (g.W.Write.contents c.begin.new.out) (g.W.Write.contents c.converse.new.out) (session_text c.args.asks j b.0)) c.in_ok-begin.ensures.same b.3),
+      held_by_walk c.args.asks c.begin.new.walker k c.points.result b.0 b.1 c.in_ok-begin.ensures.same c.new-points.ensures.breakpoints c.new-points.ensures.watches b.4,
+      Appends-trans (g.W.Write.contents c.args.out.now) (g.W.Write.contents c.begin.new.out) (g.W.Write.contents c.converse.new.out) (begun_text c.args.asks k) b.1 c.in_ok-begin.ensures.printed b.5,
     )) c.converse.ensures.printed
 
 pub returns-clause-fault : goal.returns-clause-fault

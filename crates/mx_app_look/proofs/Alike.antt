@@ -1,0 +1,91 @@
+-- A session has one text.
+use Rattle.std.proofs.Common.{◌≡◌, ◌∙◌, ◌⊎◌, ℕ, Bool, true, false, List, [], ◌∷◌, ◌++◌, Option, Some, None, inl, inr, refl, ap, ap₂, sym, subst}
+use Rattle.mx_look_line.specs.declared.request.Request.{Request}
+use Rattle.mx_look_line.specs.declared.request.Request.TheVariants.{Nothing, Forward, Back, Step, StepBack, GoTo, Point, Continue, Reverse, Where, Why, Processes, Messages, Show, Help, Quit}
+use Rattle.mx_look_line.specs.Requests.{request_of}
+use Rattle.mx_look_points.proofs.Halting.{one_last_halt, one_next_halt}
+use Rattle.mx_walk.specs.declared.positions.Position.{Position}
+use Rattle.mx_walk.specs.Positions.{IsPosition}
+use Rattle.mx_app_look.specs.declared.sight.Sight.{Sight}
+use Rattle.mx_app_look.specs.Answers.{IsMade}
+use Rattle.mx_app_look.specs.Places.{place_text}
+use Rattle.mx_app_look.specs.Seeking.{IsGoneBack, IsGoneOn, IsHalted}
+use Rattle.mx_app_look.specs.Sessions.{IsAnswered, IsAnsweredBy, IsSession, prompt_text}
+
+-- the last position of what is in hand is one of its history
+abbrev pub IsReady : Sight → Type 0
+IsReady s = IsPosition s.walker.records s.walker.last
+
+abbrev Alike : Sight → Sight → List ℕ → List ℕ → Type 0
+Alike u v t r = (u ≡ v) × (t ≡ r)
+
+by_functions : (x u v : Sight) (y t r : List ℕ) → (u ≡ x) × (t ≡ y) → (v ≡ x) × (r ≡ y) → Alike u v t r
+by_functions x u v y t r a b = (a.0 ∙ sym b.0, a.1 ∙ sym b.1)
+
+by_halt : (s u v : Sight) (g h : Position × List ℕ) (t r : List ℕ) → g ≡ h → IsHalted s g u t → IsHalted s h v r → Alike u v t r
+by_halt s u v g h t r e a b =
+    let same : u ≡ v = a.0 ∙ ap (λ (k : Position × List ℕ). let w : Sight = record s { walker = record s.walker { here = k.0 } } in w) e ∙ sym b.0 in
+    (same, a.1 ∙ ap₂ (λ (k : Position × List ℕ) (w : Sight). k.1 ++ place_text w.walker) e same ∙ sym b.1)
+
+alike : (s u v : Sight) (q : Request) (t r : List ℕ) → IsReady s → IsMade s q u t → IsMade s q v r → Alike u v t r
+alike s u v Nothing t r l a b = by_functions _ u v _ t r a b
+alike s u v (Forward n) t r l a b = by_functions _ u v _ t r a b
+alike s u v (Back n) t r l a b = by_functions _ u v _ t r a b
+alike s u v (Step n) t r l a b = by_functions _ u v _ t r a b
+alike s u v (StepBack n) t r l a b = by_functions _ u v _ t r a b
+alike s u v (GoTo p) t r l a b = by_functions _ u v _ t r a b
+alike s u v (Point p) t r l a b = by_functions _ u v _ t r a b
+alike s u v Continue t r l a b = by_halt s u v a.0 b.0 t r (one_next_halt s.walker s.points a.0 b.0 l a.1 b.1) a.2 b.2
+alike s u v Reverse t r l a b = by_halt s u v a.0 b.0 t r (one_last_halt s.walker s.points a.0 b.0 a.1 b.1) a.2 b.2
+alike s u v Where t r l a b = by_functions _ u v _ t r a b
+alike s u v Why t r l a b = by_functions _ u v _ t r a b
+alike s u v Processes t r l a b = by_functions _ u v _ t r a b
+alike s u v Messages t r l a b = by_functions _ u v _ t r a b
+alike s u v (Show p) t r l a b = by_functions _ u v _ t r a b
+alike s u v Help t r l a b = by_functions _ u v _ t r a b
+alike s u v Quit t r l a b = by_functions _ u v _ t r a b
+
+answered_alike : (s u v : Sight) (line : List ℕ) (q : Option Request) (t r : List ℕ) → IsReady s → IsAnsweredBy s line q u t → IsAnsweredBy s line q v r → Alike u v t r
+answered_alike s u v line None t r l a b = by_functions _ u v _ t r a b
+answered_alike s u v line (Some q) t r l a b = alike s u v q t r l a b
+
+-- ---- what is in hand after a request is ready too
+
+kept_ready : (s u x : Sight) → IsReady x → u ≡ x → IsReady u
+kept_ready s u x l e = subst IsReady (sym e) l
+
+ready : (s u : Sight) (q : Request) (t : List ℕ) → IsReady s → IsMade s q u t → IsReady u
+ready s u Nothing t l a = kept_ready s u _ l a.0
+ready s u (Forward n) t l a = kept_ready s u _ l a.0
+ready s u (Back n) t l a = kept_ready s u _ l a.0
+ready s u (Step n) t l a = kept_ready s u _ l a.0
+ready s u (StepBack n) t l a = kept_ready s u _ l a.0
+ready s u (GoTo p) t l a = kept_ready s u _ l a.0
+ready s u (Point p) t l a = kept_ready s u _ l a.0
+ready s u Continue t l a = let h = a.2 in kept_ready s u _ l h.0
+ready s u Reverse t l a = let h = a.2 in kept_ready s u _ l h.0
+ready s u Where t l a = kept_ready s u _ l a.0
+ready s u Why t l a = kept_ready s u _ l a.0
+ready s u Processes t l a = kept_ready s u _ l a.0
+ready s u Messages t l a = kept_ready s u _ l a.0
+ready s u (Show p) t l a = kept_ready s u _ l a.0
+ready s u Help t l a = kept_ready s u _ l a.0
+ready s u Quit t l a = kept_ready s u _ l a.0
+
+answered_ready : (s u : Sight) (line : List ℕ) (q : Option Request) (t : List ℕ) → IsReady s → IsAnsweredBy s line q u t → IsReady u
+answered_ready s u line None t l a = kept_ready s u s l a.0
+answered_ready s u line (Some q) t l a = ready s u q t l a
+
+pub same_session : (asks : Bool) (s : Sight) (xs : List (Option (List ℕ))) (t r : List ℕ) → IsReady s → IsSession asks s xs t → IsSession asks s xs r → t ≡ r
+same_session asks s [] t r l a b = a ∙ sym b
+same_session asks s (None ∷ xs) t r l a b = a ∙ sym b
+same_session asks s (Some x ∷ xs) t r l (inl a) (inl b) = a.1 ∙ sym b.1
+same_session asks s (Some x ∷ xs) t r l (inl a) (inr b) = let no : true ≡ false = sym a.0 ∙ b.0 in absurd cc
+same_session asks s (Some x ∷ xs) t r l (inr a) (inl b) = let no : true ≡ false = sym b.0 ∙ a.0 in absurd cc
+same_session asks s (Some x ∷ xs) t r l (inr a) (inr b) =
+    let p = a.1 in
+    let q = b.1 in
+    let same = answered_alike s p.0 q.0 x (request_of x) p.1 q.1 l p.3 q.3 in
+    let rest = same_session asks q.0 xs p.2 q.2 (answered_ready s q.0 x (request_of x) q.1 l q.3) (subst (λ (u : Sight). IsSession asks u xs p.2) same.0 p.4) q.4 in
+    p.5 ∙ ap (λ (u : Sight). (p.1 ++ prompt_text asks u.walker) ++ p.2) same.0 ∙ ap (λ y. (y ++ prompt_text asks q.0.walker) ++ p.2) same.1
+    ∙ ap (λ y. (q.1 ++ prompt_text asks q.0.walker) ++ y) rest ∙ sym q.5

@@ -1,0 +1,83 @@
+-- Requests about what a search halts at, and the searches (our own).
+use Rattle.std.specs.Prelude.{◌≡◌, ℕ, List, [], ◌++◌, Option, Some, None, Result, Ok, Err}
+use Rattle.mx_debug.specs.declared.error.DebugError.{DebugError}
+use Rattle.mx_debug.specs.declared.error.DebugError.TheVariants.{TooMany}
+use Rattle.mx_debug.specs.declared.points.Breakpoint.{Breakpoint}
+use Rattle.mx_debug.specs.Points.{with_point}
+use Rattle.mx_look_line.specs.AddressWord.{AddressWord}
+use Rattle.mx_look_line.specs.declared.points.PointRequest.{PointRequest}
+use Rattle.mx_look_line.specs.declared.points.PointRequest.TheVariants.{Break, Clear, Show, Watch}
+use Rattle.mx_look_points.specs.declared.points.Points.{Points}
+use Rattle.mx_look_points.specs.Points.{points_text}
+use Rattle.mx_look_points.specs.Searches.{IsLastHalt, IsNextHalt}
+use Rattle.mx_look_points.specs.declared.watches.Watch.{Watch as Watched}
+use Rattle.mx_look_points.specs.Watches.{watch_set}
+use Rattle.mx_print_answers.specs.Answers.{done_line}
+use Rattle.mx_print_answers.specs.declared.refused.Refused.{Refused}
+use Rattle.mx_print_answers.specs.declared.refused.Refused.TheVariants.{ByDebugger}
+use Rattle.mx_walk.specs.declared.positions.Position.{Position}
+use Rattle.mx_walk.specs.Walks.{Walk, world_here}
+use Rattle.mx_app_look.specs.declared.sight.Sight.{Sight}
+use Rattle.mx_app_look.specs.Places.{place_text}
+use Rattle.mx_app_look.specs.Slots.{address_asked, slot_asked}
+
+-- ---- breakpoints and watches
+
+-- the line `break`: the answer or refusal, and the breakpoints after, 64 at most. A refusal changes nothing
+abbrev pub break_added : List Breakpoint → Option (List Breakpoint) → Result (Unit {0}) Refused × List Breakpoint
+break_added bs None = (Err (ByDebugger TooMany), bs)
+break_added bs (Some more) = (Ok tt, more)
+
+abbrev pub break_at : List Breakpoint → ℕ → Result ℕ Refused → Result (Unit {0}) Refused × List Breakpoint
+break_at bs slot (Err r) = (Err r, bs)
+break_at bs slot (Ok at) = break_added bs (with_point bs slot at)
+
+abbrev pub break_in : Walk → List Breakpoint → AddressWord → Result ℕ Refused → Result (Unit {0}) Refused × List Breakpoint
+break_in k bs at (Err r) = (Err r, bs)
+break_in k bs at (Ok slot) = break_at bs slot (address_asked (world_here k) slot at)
+
+abbrev pub breaks_after : Walk → List Breakpoint → ℕ → AddressWord → Result (Unit {0}) Refused × List Breakpoint
+breaks_after k bs slot at = break_in k bs at (slot_asked k (Some slot))
+
+-- the line `watch`: the same of watches
+abbrev pub by_debugger : Result (Unit {0}) DebugError × List Watched → Result (Unit {0}) Refused × List Watched
+by_debugger (Ok done, xs) = (Ok tt, xs)
+by_debugger (Err e, xs) = (Err (ByDebugger e), xs)
+
+abbrev pub watch_at : List Watched → ℕ → ℕ → Result ℕ Refused → Result (Unit {0}) Refused × List Watched
+watch_at xs slot n (Err r) = (Err r, xs)
+watch_at xs slot n (Ok at) = by_debugger (watch_set xs slot at n)
+
+abbrev pub watch_in : Walk → List Watched → AddressWord → ℕ → Result ℕ Refused → Result (Unit {0}) Refused × List Watched
+watch_in k xs at n (Err r) = (Err r, xs)
+watch_in k xs at n (Ok slot) = watch_at xs slot n (address_asked (world_here k) slot at)
+
+abbrev pub watches_after : Walk → List Watched → ℕ → AddressWord → ℕ → Result (Unit {0}) Refused × List Watched
+watches_after k xs slot at n = watch_in k xs at n (slot_asked k (Some slot))
+
+-- whether a change is done, or why not; and what is set after it
+abbrev pub points_after : Walk → Points → PointRequest → Option (Result (Unit {0}) Refused) × Points
+points_after k s (Break slot at) = let r = breaks_after k s.breakpoints slot at in (Some r.0, record s { breakpoints = r.1 })
+points_after k s (Watch slot at n) = let r = watches_after k s.watches slot at n in (Some r.0, record s { watches = r.1 })
+points_after k s Show = (None, s)
+points_after k s Clear = (Some (Ok tt), record { breakpoints = []; watches = [] })
+
+-- whether it is done; or what is set
+abbrev pub point_text : Points → Option (Result (Unit {0}) Refused) → List ℕ
+point_text s (Some done) = done_line done
+point_text s None = points_text s
+
+abbrev pub point_made : Sight → PointRequest → Option (Result (Unit {0}) Refused) × Points
+point_made s r = points_after s.walker s.points r
+
+-- ---- searches
+
+-- at a halt, with what is printed: what the search told, and the place
+abbrev pub IsHalted : Sight → Position × List ℕ → Sight → List ℕ → Type 0
+IsHalted s h u text = (u ≡ record s { walker = record s.walker { here = h.0 } }) × (text ≡ h.1 ++ place_text u.walker)
+
+abbrev pub IsGoneOn : Sight → Sight → List ℕ → Type 0
+IsGoneOn s u text = (h : Position × List ℕ) × IsNextHalt s.walker s.points h × IsHalted s h u text
+
+abbrev pub IsGoneBack : Sight → Sight → List ℕ → Type 0
+IsGoneBack s u text = (h : Position × List ℕ) × IsLastHalt s.walker s.points h × IsHalted s h u text

@@ -1,0 +1,145 @@
+//! Requests about what a search halts at, and the searches.
+
+ghost use Rattle.std.specs.Prelude.{◌≡◌, ◌++◌, IfErr, IfOk, OnOk, string_bytes};
+ghost use Rattle.mx_app_step.specs.Failure.{IsWanting};
+ghost use Rattle.mx_app_look.specs.Places.{place_text};
+ghost use Rattle.mx_app_look.specs.Seeking.{IsGoneBack, IsGoneOn, breaks_after, point_made, point_text, points_after, watches_after};
+
+use crate::places::push_place;
+use crate::sight::Sight;
+use crate::slots::{address_asked, slot_asked};
+use mx_app_step::Failure;
+use mx_look_line::{AddressWord, PointRequest};
+use mx_look_points::{Points, go_back_to_point, go_on_to_point};
+use mx_print_answers::{Refused, push_done};
+use mx_walk::Walker;
+use std::alloc::{AllocError, Global};
+
+/// Sets a breakpoint. Refuses if there is no such slot or symbol, or if it would be the 65th breakpoint, and
+/// then changes nothing.
+fn set_break(
+    walker: &Walker,
+    points: &mut Points,
+    slot: u32,
+    address: &AddressWord,
+) -> Result<(), Refused>
+    ensures breakpoints { breaks_after walker.now points.old.breakpoints slot address.now
+        ≡ (result, points.new.breakpoints) }
+    ensures same { points.new.watches ≡ points.old.watches }
+{
+    let slot = slot_asked(walker, Some(slot))?;
+    let at = address_asked(walker, slot, address)?;
+    points.breakpoints.add(slot, at)?;
+    Ok(())
+}
+
+/// Sets a watch. Refuses if there is no such slot or symbol, if its bytes are none or too many, or if it would
+/// be the ninth watch, and then changes nothing.
+fn set_watch(
+    walker: &Walker,
+    points: &mut Points,
+    slot: u32,
+    address: &AddressWord,
+    count: u32,
+) -> Result<(), Refused>
+    ensures watches { watches_after walker.now points.old.watches slot address.now count
+        ≡ (result, points.new.watches) }
+    ensures same { points.new.breakpoints ≡ points.old.breakpoints }
+{
+    let slot = slot_asked(walker, Some(slot))?;
+    let at = address_asked(walker, slot, address)?;
+    points.watches.set(slot, at, count)?;
+    Ok(())
+}
+
+/// Sets a breakpoint or a watch, or takes all away, and answers whether it is done.
+fn set_point(
+    walker: &Walker,
+    points: &mut Points,
+    request: &PointRequest,
+) -> Option<Result<(), Refused>>
+    ensures { points_after walker.now points.old request.now ≡ (result, points.new) }
+{
+    match request {
+        PointRequest::Break(slot, address) => Some(set_break(walker, points, *slot, address)),
+        PointRequest::Watch(slot, address, count) => {
+            Some(set_watch(walker, points, *slot, address, *count))
+        }
+        PointRequest::Show => None,
+        PointRequest::Clear => {
+            *points = Points::new();
+            Some(Ok(()))
+        }
+    }
+}
+
+/// Appends that it is done, or why not; or what is set.
+fn push_point(
+    out: &mut String,
+    points: &Points,
+    done: Option<Result<(), Refused>>,
+) -> Result<(), AllocError>
+    ensures { OnOk result (string_bytes out.new ≡ string_bytes out.old ++ point_text points.now done) }
+{
+    match done {
+        Some(done) => push_done(out, done),
+        None => points.push_lines(out),
+    }
+}
+
+/// Does what a request about what a search halts at asks for, and appends the answer.
+pub(crate) fn perform_point(
+    alloc: Global,
+    sight: Sight,
+    request: &PointRequest,
+) -> Result<(Sight, Vec<u8>), Failure>
+    ensures err { IfErr result IsWanting }
+    ensures sight { IfOk result (λ r. r.0
+        ≡ record sight { points = (point_made sight request.now).1 }) }
+    ensures text { IfOk result (λ r. r.1.items
+        ≡ point_text (point_made sight request.now).1 (point_made sight request.now).0) }
+{
+    let Sight { walker, points } = sight;
+    let mut points = points;
+    let done = set_point(&walker, &mut points, request);
+    let mut line = String::new(alloc);
+    push_point(&mut line, &points, done)?;
+    Ok((Sight { walker, points }, line.into_bytes()))
+}
+
+/// Answers what a search told, and the place where it halted.
+fn show_halt(
+    alloc: Global,
+    walker: Walker,
+    points: Points,
+    told: String,
+) -> Result<(Sight, Vec<u8>), Failure>
+    ensures err { IfErr result IsWanting }
+    ensures sight { IfOk result (λ r. r.0 ≡ record { walker = walker; points = points }) }
+    ensures text { IfOk result (λ r. r.1.items ≡ string_bytes told ++ place_text walker) }
+{
+    let mut walker = walker;
+    let mut text = told.into_bytes();
+    push_place(alloc, &mut text, &mut walker)?;
+    Ok((Sight { walker, points }, text))
+}
+
+/// Goes on to the next halt.
+pub(crate) fn go_on(alloc: Global, sight: Sight) -> Result<(Sight, Vec<u8>), Failure>
+    ensures err { IfErr result IsWanting }
+    ensures halted { IfOk result (λ r. IsGoneOn sight r.0 r.1.items) }
+{
+    let Sight { walker, points } = sight;
+    let (walker, told) = go_on_to_point(alloc, walker, &points)?;
+    show_halt(alloc, walker, points, told)
+}
+
+/// Goes back to the last halt.
+pub(crate) fn go_back(alloc: Global, sight: Sight) -> Result<(Sight, Vec<u8>), Failure>
+    ensures err { IfErr result IsWanting }
+    ensures halted { IfOk result (λ r. IsGoneBack sight r.0 r.1.items) }
+{
+    let Sight { walker, points } = sight;
+    let (walker, told) = go_back_to_point(alloc, walker, &points)?;
+    show_halt(alloc, walker, points, told)
+}

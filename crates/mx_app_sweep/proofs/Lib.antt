@@ -1,3 +1,0 @@
-pub mod BlockLemmas
-pub mod ReadyLemmas
-pub mod SweptLemmas

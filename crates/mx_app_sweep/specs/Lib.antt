@@ -1,3 +1,0 @@
-pub mod FaultLines
-pub mod Sweeping
-pub mod Begun

@@ -1,0 +1,139 @@
+-- What is done of a history.
+use Rattle.std.proofs.Common.{◌≡◌, ◌∙◌, ◌<◌, ◌≤◌, ◌+◌, ◌-◌, ◌==◌, ℕ, zero, suc, Bool, true, false, cond, nat_eq, List, [], ◌∷◌, ◌++◌, length, min, Option, Some, None, Result, Ok, Err, inl, inr, refl, ap, ap₂, append_assoc, arith, subst, sym}
+use Rattle.std.proofs.KnownBytes.{Appends-trans}
+use Rattle.std.specs.Io.KnownBytes.{Appends}
+use Rattle.std.proofs.lemmas.List.FromFn.{map-range_with_len_more}
+use Rattle.std.specs.List.{flat_map}
+use Rattle.std.specs.Prelude.{IsErrAnd}
+use Rattle.mx_machine.specs.Boot.{world_at_boot}
+use Rattle.mx_machine.specs.declared.history.Record.{Record}
+use Rattle.mx_machine.specs.World.{World}
+use Rattle.mx_machine.specs.History.{AreAccepted, BootAndHistory, events_of_history}
+use Rattle.mx_app_start.specs.declared.progress.Part.{Part}
+use Rattle.mx_app_failure.specs.declared.failure.Failure.{Failure as Kind}
+use Rattle.mx_app_failure.specs.Failure.{IsWanting}
+use Rattle.mx_app_step.specs.Asked.{Asked}
+use Rattle.mx_app_step.specs.Config.{Config}
+use Rattle.mx_app_step.specs.Kept.{text_kept}
+use Rattle.mx_app_step.specs.Service.{Service}
+use Rattle.mx_app_step.specs.Written.{Written, kept}
+use Rattle.mx_app_turns.specs.declared.blocks.Total.{Total}
+use Rattle.mx_app_turns.specs.declared.faults.FaultLine.{FaultLine}
+use Rattle.mx_app_turns.specs.Sweep.{block_text, blocks, count_of, total_text}
+use Rattle.mx_app_turns.specs.declared.sweeping.Swept.{Swept}
+use Rattle.mx_app_turns.specs.declared.sweeping.Swept.TheVariants.{Alike, Differs, Refused}
+use Rattle.mx_app_turns.specs.Begun.{IsDone}
+use Rattle.mx_app_turns.specs.Sweeping.{IsBegun, IsNotBegun, IsShown, IsSweptThrough, IsUnsaved, SweepOf, Sweeps, alike_in, ended, is_alike_at, last_text, of, parts_shown, positions_in, run_at, saved_if, sweep_text, text_at, writes_over}
+
+-- ---- how it ended
+
+by_test : (b : Bool) → Refused ≡ cond b Alike Differs → ⊥
+by_test true h = absurd cc
+by_test false h = absurd cc
+
+-- what is printed and saved, however it ended
+module _ (s : SweepOf) (from to : ℕ) (save : Option (List ℕ)) (ws : List Written) (ps : List Part) (Prints : List ℕ → Type 0) where
+  abbrev positions : ℕ
+  positions = positions_in s from to
+
+  pub through : (how : Swept) → AreAccepted s.boot (events_of_history s.records) → how ≡ ended positions (alike_in s from to) → Prints (sweep_text s from to)
+      → ws ≡ saved_if (last_text s to) positions save → ps ≡ parts_shown positions positions → IsSweptThrough s from to save ws ps Prints how
+  through Alike accepted is printed written shown = (shown, accepted, is, printed, written)
+  through Differs accepted is printed written shown = (shown, accepted, is, printed, written)
+  through Refused accepted is printed written shown = absurd (by_test (alike_in s from to == positions) is)
+
+-- ---- the counts
+
+abbrev pub total_of : SweepOf → ℕ → ℕ → Total
+total_of s n from = record { positions = n; blocks = length (blocks (text_at s) n from); alike = count_of (is_alike_at s) n from }
+
+last_position : (from to end records n : ℕ) → end ≡ min to records + 1 → n ≡ end - from → 0 < n → (from < end) × (end - 1 ≡ min to records)
+last_position from to end records n is many some = (omega (arith, many, some), omega (arith, is))
+
+saved_last : (s : SweepOf) (text : List ℕ) (to n : ℕ) (save : Option (List ℕ)) → (0 < n → text ≡ last_text s to) → saved_if text n save ≡ saved_if (last_text s to) n save
+saved_last s text to n None same = refl
+saved_last s text to zero (Some name) same = refl
+saved_last s text to (suc n) (Some name) same = ap (λ t. saved_if t (suc n) (Some name)) (same (omega arith))
+
+-- the positions of a range, which ends after the last, are swept and counted
+module _ (t s : SweepOf) (same : t ≡ s) (from to first end records : ℕ) (at : first ≡ from) (many : records ≡ length s.records) (by : end ≡ min to records + 1) (total : Total) (counted : total ≡ total_of t (end - first) first) where
+  in_all : end - first ≡ positions_in s from to
+  in_all = ap (λ f. end - f) at ∙ ap (λ n. n - from) by ∙ ap (λ n. min to n + 1 - from) many
+
+  counted_here : total ≡ total_of s (positions_in s from to) from
+  counted_here = counted ∙ ap (λ (x : SweepOf). total_of x (end - first) first) same ∙ ap₂ (λ m f. total_of s m f) in_all at
+
+  pub all_printed : (old mid now : Option (List ℕ)) → Appends old mid (flat_map block_text (blocks (text_at t) (end - first) first)) → Appends mid now (total_text total.positions total.blocks total.alike) → Appends old now (sweep_text s from to)
+  all_printed old mid now above below =
+      let one = subst (λ (x : SweepOf). Appends old mid (flat_map block_text (blocks (text_at x) (end - first) first))) same above in
+      let two = subst (λ n. Appends old mid (flat_map block_text (blocks (text_at s) n first))) in_all one in
+      let three = subst (λ f. Appends old mid (flat_map block_text (blocks (text_at s) (positions_in s from to) f))) at two in
+      let n = positions_in s from to in
+      let bs = blocks (text_at s) n from in
+      Appends-trans old mid now (flat_map block_text bs) (total_text n (length bs) (count_of (is_alike_at s) n from)) three
+      (subst (λ (x : Total). Appends mid now (total_text x.positions x.blocks x.alike)) counted_here below)
+
+  pub how_is : (how : Swept) → how ≡ ended total.positions total.alike → how ≡ ended (positions_in s from to) (alike_in s from to)
+  how_is how h = h ∙ ap (λ (x : Total). ended x.positions x.alike) counted_here
+
+  -- what is kept after the last position, if there is one
+  pub last_kept : (k : BootAndHistory) → (first < end → k ≡ (run_at t (end - 1)).kernel) → 0 < total.positions → text_kept k ≡ last_text s to
+  last_kept k kernel some =
+      let p = last_position first to end records total.positions by (ap (λ (x : Total). x.positions) counted) some in
+      ap text_kept (kernel p.0) ∙ ap (λ (x : SweepOf). text_kept (run_at x (end - 1)).kernel) same ∙ ap (λ i. text_kept (run_at s i).kernel) (p.1 ∙ ap (λ r. min to r) many)
+
+  pub last_saved : (k : BootAndHistory) (save : Option (List ℕ)) → (first < end → k ≡ (run_at t (end - 1)).kernel) → saved_if (text_kept k) total.positions save ≡ saved_if (last_text s to) (positions_in s from to) save
+  last_saved k save kernel =
+      saved_last s (text_kept k) to total.positions save (last_kept k kernel) ∙ ap (λ n. saved_if (last_text s to) n save) (ap (λ (x : Total). x.positions) counted_here)
+
+-- how many positions a range has
+pub positions_are : (s : SweepOf) (from to first end records : ℕ) → first ≡ from → records ≡ length s.records → end ≡ min to records + 1 → end - first ≡ positions_in s from to
+positions_are s from to first end records at many by = ap (λ f. end - f) at ∙ ap (λ n. n - from) by ∙ ap (λ n. min to n + 1 - from) many
+
+-- one part more is shown
+pub part_more : (all n : ℕ) → parts_shown all (n + 1) ≡ parts_shown all n ++ record { done = n + 1; all = all } ∷ []
+part_more all n = let z : 0 + n ≡ n = omega arith in map-range_with_len_more (λ i. let x : Part = record { done = i + 1; all = all } in x) 0 n n z
+
+pub part_after : (all m n k : ℕ) (before now then : List Part) (x : Part) → n ≡ m + 1 → k ≡ n → x ≡ record { done = k; all = all } → now ≡ before ++ parts_shown all m → then ≡ now ++ x ∷ [] → then ≡ before ++ parts_shown all n
+part_after all m n k before now then x next same is shown more =
+    let part : x ≡ record { done = m + 1; all = all } = is ∙ ap (λ i. let y : Part = record { done = i; all = all } in y) (same ∙ next) in
+    more ∙ ap (λ (l : List Part). l ++ x ∷ []) shown ∙ append_assoc before (parts_shown all m) (x ∷ [])
+    ∙ ap (λ (y : Part). before ++ parts_shown all m ++ y ∷ []) part
+    ∙ ap (λ (l : List Part). before ++ l) (sym (part_more all m))
+    ∙ ap (λ i. before ++ parts_shown all i) (sym next)
+
+-- what was shown if a sweep failed
+pub shown_failed : {X : Type 0} (before after : List Part) (all n : ℕ) (f : Kind) (r : Result X Kind) → IsErrAnd r (λ y. y ≡ f) → n ≤ all → after ≡ before ++ parts_shown all n → IsShown before after all r
+shown_failed before after all n f (Ok x) h few shown = absurd h
+shown_failed before after all n f (Err y) h few shown = (n, few, shown)
+
+-- ---- what ends it
+
+module _ (s : SweepOf) (from to : ℕ) (save : Option (List ℕ)) (ps : List Part) (n : ℕ) (few : n ≤ positions_in s from to) (shown : ps ≡ parts_shown (positions_in s from to) n) (Prints : List ℕ → Type 0) where
+  pub wanting : (f : Kind) (r : Result Swept Kind) → IsWanting f → IsErrAnd r (λ y. y ≡ f) → IsDone s from to save [] ps Prints r
+  wanting f (Ok how) why h = absurd h
+  wanting f (Err y) why h = (n, few, shown, inl (refl, subst IsWanting (sym h) why))
+
+  pub unsaved : (text : List ℕ) (ws : List Written) (f : Kind) (r : Result Swept Kind) → text ≡ last_text s to → IsUnsaved text save ws f → IsErrAnd r (λ y. y ≡ f) → IsDone s from to save ws ps Prints r
+  unsaved text ws f (Ok how) same why h = absurd h
+  unsaved text ws f (Err y) same why h =
+      (n, few, shown, inr (subst (λ t. IsUnsaved t save ws y) same (subst (λ z. IsUnsaved text save ws z) (sym h) why)))
+
+-- ---- all of it
+
+module _ (config log fault : List ℕ) (save : Option (List ℕ)) (from to n : ℕ) (qs : List Asked) (Prints : List ℕ → Type 0) (apart : writes_over config log fault save ≡ false) where
+  pub not_begun : (f : Kind) (r : Result Swept Kind) → IsNotBegun config log fault qs f → IsErrAnd r (λ y. y ≡ f) → Sweeps config log fault save from to n qs [] [] Prints r
+  not_begun f (Ok how) why h = absurd h
+  not_begun f (Err y) why h = inr (inl (apart, refl, refl, subst (λ z. IsNotBegun config log fault qs z) (sym h) why))
+
+  module _ (c : Config) (vs : List Service) (records : List Record) (said : List FaultLine) (begun : IsBegun config log fault qs c vs records said) (ws : List Written) (ps : List Part) where
+    by_result : (r : Result Swept Kind) → IsDone (of c vs records said n) from to save ws ps Prints r → Sweeps config log fault save from to n qs ws ps Prints r
+    by_result (Ok how) h = (c, vs, records, said, apart, begun, h)
+    by_result (Err f) h = inr (inr (c, vs, records, said, apart, begun, h))
+
+    pub done : (boot : World) (other : ℕ) (r : Result Swept Kind) → boot ≡ world_at_boot c vs → other ≡ c.cpus
+        → IsDone (record { boot = boot; other = other; records = records; fault = said; bound = n }) from to save ws ps Prints r → Sweeps config log fault save from to n qs ws ps Prints r
+    done boot other r at first h =
+        let same : ◌≡◌ {A = SweepOf} (record { boot = boot; other = other; records = records; fault = said; bound = n }) (of c vs records said n) =
+        ap₂ (λ (w : World) (o : ℕ). record { boot = w; other = o; records = records; fault = said; bound = n }) at first in
+        by_result r (subst (λ (x : SweepOf). IsDone x from to save ws ps Prints r) same h)

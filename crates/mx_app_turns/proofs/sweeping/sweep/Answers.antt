@@ -1,0 +1,43 @@
+use Rattle.std.proofs.Common.{◌≡◌, ◌∙◌, ℕ, List, [], Option, false, inl, refl, sym}
+use Rattle.std.proofs.lemmas.List.{append-nil}
+use Rattle.std.specs.Io.KnownBytes.{Appends}
+use Rattle.std.specs.Prelude.{option_map}
+use Rattle.mx_app_step.specs.Machine.{world_of}
+use Rattle.mx_app_turns.specs.Sweeping.{writes_over}
+use Rattle.mx_app_turns.proofs.SweptLemmas.{done, not_begun}
+use Rattle.mx_app_turns.proofs.sweeping.sweep.Goals as goal
+
+pub returns-then-writes_over : goal.returns-then-writes_over
+returns-then-writes_over g c = ([], [], sym (append-nil _), sym (append-nil _), inl (sym c.writes_over.ensures ∙ c.if-writes_over.true, refl, refl, refl))
+
+pub returns-in_err-begun : goal.returns-in_err-begun
+returns-in_err-begun g c =
+    let names = c.args.names in
+    let save : Option (List ℕ) = option_map (λ s. s.now) names.save in
+    let wanted = c.args.wanted in
+    let apart : writes_over names.config.now names.log.now names.fault.now save ≡ false = sym c.writes_over.ensures ∙ c.if-writes_over.false in
+    let h = c.in_err-begun.ensures.fault in (
+      h.0,
+      [],
+      h.1,
+      sym (append-nil _),
+      not_begun names.config.now names.log.now names.fault.now save wanted.from wanted.to wanted.bound h.0 (λ (text : List ℕ). Appends (g.W.Write.contents c.args.channels.now.out) (g.W.Write.contents c.args.channels.now.out) text) apart
+          c.in_err-begun.field-0.0 c.from_residual.result h.2 c.from_residual.ensures.1,
+    )
+
+pub returns : goal.returns
+returns g c =
+    let names = c.args.names in
+    let save : Option (List ℕ) = option_map (λ s. s.now) names.save in
+    let wanted = c.args.wanted in
+    let apart : writes_over names.config.now names.log.now names.fault.now save ≡ false = sym c.writes_over.ensures ∙ c.if-writes_over.false in
+    let b = c.in_ok-begun.ensures.begun in
+    let begun = c.in_ok-begun.begun in
+    let d = c.sweep_begun.ensures in (
+      b.0,
+      d.0,
+      b.3,
+      d.1,
+      done names.config.now names.log.now names.fault.now save wanted.from wanted.to wanted.bound b.0 (λ (text : List ℕ). Appends (g.W.Write.contents c.args.channels.now.out) (g.W.Write.contents c.sweep_begun.new.out) text) apart
+          b.1 b.2 begun.started.lines.items begun.fault.items b.4 d.0 (world_of begun.started.machine) begun.started.other c.sweep_begun.result b.5 b.6 d.2,
+    )

@@ -1,0 +1,139 @@
+-- What `mx sweep` reads, prints and writes (our own).
+use Rattle.std.specs.Prelude.{◌≡◌, ◌≤◌, ◌⊎◌, ◌||◌, ◌+◌, ◌-◌, ◌==◌, if◌then◌else◌, ℕ, Bool, true, false, List, [], ◌∷◌, ◌++◌, length, map, min, Option, Some, None, Result, Ok, Err}
+use Rattle.std.specs.Str.{bytes_eq}
+use Rattle.mx_text.specs.Lines.{lines}
+use Rattle.mx_boot.specs.Reading.{AreLinesRead, TellsUnread}
+use Rattle.mx_machine.specs.Boot.{world_at_boot}
+use Rattle.mx_machine.specs.declared.history.Record.{Record}
+use Rattle.mx_machine.specs.History.{AreAccepted, events_of_history}
+use Rattle.mx_machine.specs.World.{World}
+use Rattle.std.specs.List.{range_with_len}
+use Rattle.mx_app_start.specs.declared.progress.Part.{Part}
+use Rattle.mx_app_failure.specs.declared.failure.Failure.{Failure as Kind}
+use Rattle.mx_app_failure.specs.declared.failure.Failure.TheVariants.{File}
+use Rattle.mx_app_failure.specs.Failure.{IsWanting}
+use Rattle.mx_app_step.specs.Asked.{Asked}
+use Rattle.mx_app_step.specs.Config.{Config}
+use Rattle.mx_app_step.specs.Service.{Service}
+use Rattle.mx_app_step.specs.Course.{IsSaved, TellsSaved}
+use Rattle.mx_app_step.specs.Kept.{IsUnwritten, text_kept}
+use Rattle.mx_app_step.specs.Records.{IsReplayPrinted}
+use Rattle.mx_app_step.specs.Setup.{IsNoTextGiven, IsNotStarted, IsStart, IsTextFaulty, IsTextGiven}
+use Rattle.mx_app_step.specs.Written.{Written, kept}
+use Rattle.mx_app_step.specs.declared.records.Replayed.TheVariants as replayed
+use Rattle.mx_app_turns.specs.declared.faults.FaultLine.{FaultLine}
+use Rattle.mx_app_turns.specs.Sweep.{Run, are_alike, count_of, outcome_text, run_of, swept_text}
+use Rattle.mx_app_turns.specs.declared.sweeping.Swept.{Swept}
+use Rattle.mx_app_turns.specs.declared.sweeping.Swept.TheVariants.{Alike, Differs, Refused}
+use Rattle.mx_app_turns.specs.FaultLines.{fault_line}
+
+-- ---- what is read
+
+-- the configuration, its services, the history and then the fault were read
+abbrev pub IsBegun : List ℕ → List ℕ → List ℕ → List Asked → Config → List Service → List Record → List FaultLine → Type 0
+IsBegun config log fault qs c vs records said =
+    (before : List Asked) × (q : Asked) × (text : List ℕ) × (qs ≡ before ++ q ∷ []) × IsStart IsSaved config log before c vs records
+    × IsTextGiven fault q text × AreLinesRead fault_line (lines text) said
+
+-- the first fault of these files: no machine was started; or the fault's file is missed or no text, or a line of it
+-- says nothing
+abbrev pub IsNotBegun : List ℕ → List ℕ → List ℕ → List Asked → Kind → Type 0
+IsNotBegun config log fault qs f =
+    IsNotStarted IsSaved TellsSaved config log qs f
+    ⊎ ((before : List Asked) × (q : Asked) × (c : Config) × (vs : List Service) × (records : List Record) × (qs ≡ before ++ q ∷ [])
+    × IsStart IsSaved config log before c vs records
+    × (IsNoTextGiven fault q f ⊎ IsTextFaulty (λ text e. TellsUnread fault_line (lines text) e) fault q f))
+
+-- a file that is read would be written over
+abbrev pub writes_over : List ℕ → List ℕ → List ℕ → Option (List ℕ) → Bool
+writes_over config log fault None = false
+writes_over config log fault (Some save) = bytes_eq config save || (bytes_eq log save || bytes_eq fault save)
+
+-- ---- what is swept
+
+-- What a sweep is of: a machine at boot, its first actor that is no processor, a history, a fault, and the most turns.
+pub record SweepOf : Type 0 where
+  pub boot : World
+  pub other : ℕ
+  pub records : List Record
+  pub fault : List FaultLine
+  pub bound : ℕ
+
+-- the run with the fault at a position, and the run without it
+abbrev pub run_at : SweepOf → ℕ → Run
+run_at s k = run_of s.boot s.other s.records s.bound s.fault k
+
+abbrev pub run_without : SweepOf → ℕ → Run
+run_without s k = run_of s.boot s.other s.records s.bound [] k
+
+abbrev pub text_at : SweepOf → ℕ → List ℕ
+text_at s k = outcome_text (run_at s k)
+
+abbrev pub is_alike_at : SweepOf → ℕ → Bool
+is_alike_at s k = are_alike (run_at s k) (run_without s k)
+
+-- how many positions there are from one to another: the last of a history is the number of its records
+abbrev pub positions_in : SweepOf → ℕ → ℕ → ℕ
+positions_in s from to = (min to (length s.records) + 1) - from
+
+-- how many of them have the outcome that they have without the fault
+abbrev pub alike_in : SweepOf → ℕ → ℕ → ℕ
+alike_in s from to = count_of (is_alike_at s) (positions_in s from to) from
+
+-- what is printed of them
+abbrev pub sweep_text : SweepOf → ℕ → ℕ → List ℕ
+sweep_text s from to = swept_text (text_at s) (is_alike_at s) (positions_in s from to) from
+
+-- the text that may be saved: the history of the last one's run
+abbrev pub last_text : SweepOf → ℕ → List ℕ
+last_text s to = text_kept (run_at s (min to (length s.records))).kernel
+
+-- it is saved if a file is named for it and a position was swept
+abbrev pub saved_if : List ℕ → ℕ → Option (List ℕ) → List Written
+saved_if text n None = []
+saved_if text n (Some name) = if n == 0 then [] else kept name text ∷ []
+
+-- why it isn't written
+abbrev pub IsUnsaved : List ℕ → Option (List ℕ) → List Written → Kind → Type 0
+IsUnsaved text None ws f = ⊥
+IsUnsaved text (Some name) ws f = IsUnwritten name text ws f
+
+-- each position of a number of them has the outcome that it has without the fault, or one hasn't
+abbrev pub ended : ℕ → ℕ → Swept
+ended positions alike = if alike == positions then Alike else Differs
+
+-- what is shown while positions are swept: after each of the first n, how many of all are done
+abbrev pub parts_shown : ℕ → ℕ → List Part
+parts_shown all n = map (λ i. let x : Part = record { done = i + 1; all = all } in x) (range_with_len 0 n)
+
+-- what was shown of all positions; or, if the sweep failed, of the first n
+abbrev pub IsShown : {X : Type 0} → List Part → List Part → ℕ → Result X Kind → Type 0
+IsShown before after all (Ok x) = after ≡ before ++ parts_shown all all
+IsShown before after all (Err f) = (n : ℕ) × (n ≤ all) × (after ≡ before ++ parts_shown all n)
+
+-- WHAT IS DONE OF A HISTORY: a refused event of it is printed; or its positions are swept, shown and printed, and a
+-- history is saved
+abbrev pub IsSweptThrough : SweepOf → ℕ → ℕ → Option (List ℕ) → List Written → List Part → (List ℕ → Type 0) → Swept → Type 0
+IsSweptThrough s from to save ws ps Prints Refused = (ws ≡ []) × (ps ≡ []) × IsReplayPrinted s.boot s.records replayed.Refused Prints
+IsSweptThrough s from to save ws ps Prints how =
+    (let n = positions_in s from to in ps ≡ parts_shown n n) × AreAccepted s.boot (events_of_history s.records) × (how ≡ ended (positions_in s from to) (alike_in s from to))
+    × Prints (sweep_text s from to) × (ws ≡ saved_if (last_text s to) (positions_in s from to) save)
+
+-- why it isn't finished, after it was read: memory or standard output; or the file that is saved
+abbrev pub IsUntold : SweepOf → ℕ → ℕ → Option (List ℕ) → List Written → List Part → Kind → Type 0
+IsUntold s from to save ws ps f =
+    (n : ℕ) × (n ≤ positions_in s from to) × (ps ≡ parts_shown (positions_in s from to) n) × (((ws ≡ []) × IsWanting f) ⊎ IsUnsaved (last_text s to) save ws f)
+
+abbrev pub of : Config → List Service → List Record → List FaultLine → ℕ → SweepOf
+of c vs records said n = record { boot = world_at_boot c vs; other = c.cpus; records = records; fault = said; bound = n }
+
+-- WHAT `mx sweep` DOES
+abbrev pub Sweeps : List ℕ → List ℕ → List ℕ → Option (List ℕ) → ℕ → ℕ → ℕ → List Asked → List Written → List Part → (List ℕ → Type 0) → Result Swept Kind → Type 0
+Sweeps config log fault save from to n qs ws ps Prints (Ok how) =
+    (c : Config) × (vs : List Service) × (records : List Record) × (said : List FaultLine) × (writes_over config log fault save ≡ false)
+    × IsBegun config log fault qs c vs records said × IsSweptThrough (of c vs records said n) from to save ws ps Prints how
+Sweeps config log fault save from to n qs ws ps Prints (Err f) =
+    ((writes_over config log fault save ≡ true) × (qs ≡ []) × (ws ≡ []) × (ps ≡ []) × (f ≡ File))
+    ⊎ (((writes_over config log fault save ≡ false) × (ws ≡ []) × (ps ≡ []) × IsNotBegun config log fault qs f)
+    ⊎ ((c : Config) × (vs : List Service) × (records : List Record) × (said : List FaultLine) × (writes_over config log fault save ≡ false)
+    × IsBegun config log fault qs c vs records said × IsUntold (of c vs records said n) from to save ws ps f))

@@ -1,0 +1,88 @@
+//! A run with a fault at a position of a history.
+
+ghost use Rattle.std.specs.Prelude.{◌≡◌, ◌<◌, ◌≤◌, ◌++◌, IfOk, OnOk, length};
+ghost use Rattle.mx_app_step.specs.Machine.{world_of};
+ghost use Rattle.mx_machine.specs.World.{actors};
+ghost use Rattle.mx_app_turns.specs.Faults.{faults_kept, faults_made};
+ghost use Rattle.mx_app_turns.specs.Sweep.{run_of, said_text};
+ghost use Rattle.mx_app_turns.specs.Swept.{HasRun, IsSwept};
+
+use crate::booting::boot_again;
+use crate::faults::{FaultLine, perform_fault_line};
+use crate::outside::coming_of;
+use mx_app_step::{Config, Machine, Record, perform_records};
+use mx_machine::actors_stay;
+use mx_turns::{Ending, Outside, make_turns};
+use mx_word::NoMemory;
+use std::alloc::{AllocError, Global};
+
+/// What is swept: the history of a machine of this configuration, with a fault at each of its positions, and
+/// then at most `bound` turns.
+#[derive(Clone, Copy)]
+pub(crate) struct Sweep<'a> {
+    pub config: &'a Config,
+    /// The first actor that is no processor.
+    pub other: u8,
+    pub records: &'a [Record],
+    pub fault: &'a [FaultLine],
+    pub bound: u32,
+}
+
+/// Does what the lines of a fault say, and appends a line for each to a text.
+fn perform_fault(
+    alloc: Global,
+    machine: &mut Machine,
+    other: u8,
+    fault: &[FaultLine],
+    text: &mut Vec<u8>,
+) -> Result<(), AllocError>
+    requires { other < actors (world_of machine.old) }
+    ensures text { OnOk result (text.new.items ≡ text.old.items
+        ++ said_text (faults_made (world_of machine.old) other fault.now).0) }
+    ensures world { OnOk result (world_of machine.new
+        ≡ (faults_made (world_of machine.old) other fault.now).1) }
+    ensures kept { OnOk result (machine.new.kernel
+        ≡ faults_kept machine.old.kernel (world_of machine.old) other fault.now) }
+    ensures actors { actors (world_of machine.new) ≡ actors (world_of machine.old) }
+    ensures cpus { length (world_of machine.new).cpus ≡ length (world_of machine.old).cpus }
+{
+    for line in fault {
+        let said = perform_fault_line(machine, other, *line);
+        let line = format!(in alloc; "  {said}\n")?;
+        text.extend_from_slice(line.as_bytes())?;
+    }
+    Ok(())
+}
+
+/// Boots a machine again, makes the first records of the history, does what the fault's lines say, and makes
+/// turns, with the lines and the ticks of the other records to come. Appends what is said of the fault's lines
+/// to a text. Answers the machine, and how the turns ended.
+pub(crate) fn run_at(
+    alloc: Global,
+    machine: Machine,
+    sweep: Sweep<'_>,
+    fault: &[FaultLine],
+    position: usize,
+    text: &mut Vec<u8>,
+) -> Result<(Machine, Ending), NoMemory>
+    requires swept { IsSwept sweep machine.kernel.boot }
+    requires position { position ≤ length sweep.records.now }
+    ensures run { IfOk result (λ done. let run = run_of machine.kernel.boot sweep.entry.other
+        sweep.entry.records.now sweep.entry.bound fault.now position in
+        HasRun run done.0 done.1 × (text.new.items ≡ text.old.items ++ said_text run.said)) }
+    ensures boot { IfOk result (λ done. done.0.kernel.boot ≡ machine.kernel.boot) }
+{
+    actors_stay();
+    let mut machine = boot_again(alloc, machine, sweep.config)?;
+    if let Err(_) = perform_records(&mut machine, &sweep.records[..position]) {
+        unreachable!();
+    }
+    perform_fault(alloc, &mut machine, sweep.other, fault, text)?;
+    let events = coming_of(alloc, &sweep.records[position..])?;
+    let outside = Outside {
+        events: events.as_slice(),
+        ticks: 0,
+    };
+    let ending = make_turns(&mut machine, outside, u64::from(sweep.bound));
+    Ok((machine, ending))
+}

@@ -1,0 +1,379 @@
+//! A history that is swept.
+
+ghost use Rattle.std.specs.Prelude.{◌≡◌, ◌<◌, ◌≤◌, ◌+◌, ◌-◌, ◌++◌, List, IfErr, IfOk, OnOk, length, min, option_map};
+ghost use Rattle.std.specs.Io.KnownBytes.{Appends};
+ghost use Rattle.std.specs.List.{flat_map};
+ghost use Rattle.mx_machine.specs.Boot.{world_at_boot};
+ghost use Rattle.mx_app_failure.specs.Failure.{IsWanting};
+ghost use Rattle.mx_app_step.specs.Asked.{Asked};
+ghost use Rattle.mx_app_step.specs.Config.{Config as Configured};
+ghost use Rattle.mx_app_step.specs.Machine.{world_of};
+ghost use Rattle.mx_app_step.specs.Service.{Service};
+ghost use Rattle.mx_app_step.specs.Written.{Written};
+ghost use Rattle.mx_app_start.specs.declared.progress.Part.{Part as Parts};
+ghost use Rattle.mx_app_turns.specs.Sweep.{block_text, blocks, count_of, positions_of, total_text};
+ghost use Rattle.mx_app_turns.specs.Swept.{IsSwept};
+ghost use Rattle.mx_app_turns.specs.Sweeping.{IsBegun, IsNotBegun, IsShown, IsUnsaved, Sweeps, ended, is_alike_at, run_at, saved_if, text_at, writes_over};
+ghost use Rattle.mx_app_step.specs.Kept.{text_kept};
+ghost use Rattle.mx_app_turns.specs.Begun.{IsDone, begun_of, is_ready, sweep_of};
+
+use crate::blocks::{Block, Total, push_block, push_total};
+use crate::fault_files::fault_lines;
+use crate::faults::FaultLine;
+use crate::outcomes::{Outcome, outcome_at};
+use crate::running::Sweep;
+use mx_app_start::{Part, Progress};
+use mx_app_step::{
+    Channels, Failure, FileWriter, History, Machine, Reader, Record, Started, lines_above,
+    perform_records, print_refusal, print_text, start, text_of, write_history,
+};
+use std::alloc::Global;
+use std::io::Write;
+
+/// The names of the files: those of the configuration, of the saved history and of the fault, which are read,
+/// and that of the history with the fault, which is written, if it is named.
+#[derive(Clone, Copy)]
+pub struct SweepNames<'a> {
+    pub config: &'a str,
+    pub log: &'a str,
+    pub fault: &'a str,
+    pub save: Option<&'a str>,
+}
+
+/// The first and the last position, and the most turns after each. Positions that the history hasn't are none.
+#[derive(Clone, Copy)]
+pub struct SweepWanted {
+    pub from: u32,
+    pub to: u32,
+    pub bound: u32,
+}
+
+/// How a sweep ended.
+#[derive(Clone, Copy, Debug, PartialEq, Eq)]
+pub enum Swept {
+    /// Each position has the outcome that it has without the fault.
+    Alike,
+    /// A position hasn't.
+    Differs,
+    /// The history itself is refused, and nothing was swept.
+    Refused,
+}
+
+/// A machine at boot, with a saved history and a fault.
+#[derive(Drop)]
+struct Begun {
+    started: Started<Record>,
+    fault: Vec<FaultLine>,
+}
+
+/// Boots the machine of a saved history, after the fault's file is read too.
+fn begin<R: Reader>(alloc: Global, reader: &mut R, names: SweepNames<'_>) -> Result<Begun, Failure>
+    ensures begun { IfOk result (λ b. (qs : List Asked) × (c : Configured) × (vs : List Service)
+        × (R.asked reader.new ≡ R.asked reader.old ++ qs)
+        × IsBegun names.entry.config.now names.entry.log.now names.entry.fault.now qs c vs
+        b.started.lines.items b.fault.items
+        × (world_of b.started.machine ≡ world_at_boot c vs) × (b.started.other ≡ c.cpus)) }
+    ensures ready { IfOk result is_ready }
+    ensures fault { IfErr result (λ f. (qs : List Asked)
+        × (R.asked reader.new ≡ R.asked reader.old ++ qs)
+        × IsNotBegun names.entry.config.now names.entry.log.now names.entry.fault.now qs f) }
+{
+    let started = start::<History, R>(alloc, reader, names.config, names.log)?;
+    let text = text_of(alloc, reader, names.fault)?;
+    let fault = fault_lines(alloc, text.as_str())?;
+    Ok(Begun { started, fault })
+}
+
+/// Whether a file that is read would be written over.
+fn writes_over(names: SweepNames<'_>) -> bool
+    ensures { result ≡ writes_over names.entry.config.now names.entry.log.now names.entry.fault.now
+        (option_map (λ s. s.now) names.entry.save) }
+{
+    match names.save {
+        None => false,
+        Some(save) => names.config == save || names.log == save || names.fault == save,
+    }
+}
+
+/// Prints a block.
+fn print_block<P: Progress, W: Write>(
+    alloc: Global,
+    block: &Block,
+    progress: &mut P,
+    out: &mut W,
+) -> Result<(), Failure>
+    ensures err { IfErr result IsWanting }
+    ensures bytes { OnOk result (Appends (W.contents out.old) (W.contents out.new)
+        (block_text (positions_of block.now))) }
+    ensures shown { P.shown progress.new ≡ P.shown progress.old }
+{
+    let mut text = Vec::new(alloc);
+    push_block(alloc, &mut text, block)?;
+    progress.clear();
+    print_text(text.as_slice(), out)
+}
+
+/// What was swept: the machine after the last position's run, and the counts.
+#[derive(Drop)]
+struct Done {
+    machine: Machine,
+    total: Total,
+}
+
+/// Sweeps positions, of which the first is swept already, and prints their blocks.
+fn print_more<P: Progress, W: Write>(
+    alloc: Global,
+    machine: Machine,
+    sweep: Sweep<'_>,
+    first: Outcome,
+    range: Range,
+    progress: &mut P,
+    out: &mut W,
+) -> Result<Done, Failure>
+    requires swept { IsSwept sweep machine.kernel.boot }
+    requires some { range.from < range.end }
+    requires within { range.end ≤ length sweep.records.now + 1 }
+    requires first { (first.text.items ≡ text_at (sweep_of sweep machine.kernel.boot) range.from)
+        × (first.is_alike ≡ is_alike_at (sweep_of sweep machine.kernel.boot) range.from)
+        × (machine.kernel ≡ (run_at (sweep_of sweep machine.kernel.boot) range.from).kernel) }
+    ensures err { IfErr result IsWanting }
+    ensures printed { OnOk result (Appends (W.contents out.old) (W.contents out.new)
+        (flat_map block_text (blocks (text_at (sweep_of sweep.entry machine.kernel.boot))
+        (range.end - range.from) range.from))) }
+    ensures total { IfOk result (λ done. let s = sweep_of sweep.entry machine.kernel.boot in
+        let n = range.end - range.from in
+        done.total ≡ record {
+          positions = n;
+          blocks = length (blocks (text_at s) n range.from);
+          alike = count_of (is_alike_at s) n range.from;
+        }) }
+    ensures kernel { IfOk result (λ done. done.machine.kernel
+        ≡ (run_at (sweep_of sweep.entry machine.kernel.boot) (range.end - 1)).kernel) }
+    ensures shown { IsShown (P.shown progress.old) (P.shown progress.new) (range.end - range.from)
+        result }
+{
+    let all = range.end - range.from;
+    let mut machine = machine;
+    let mut alike = usize::from(first.is_alike);
+    let mut blocks = 1;
+    let mut current = Block {
+        first: range.from,
+        last: range.from,
+        text: first.text,
+    };
+    progress.show(Part { done: 1, all });
+    for position in range.from + 1..range.end {
+        let (next, outcome) = outcome_at(alloc, machine, sweep, position)?;
+        machine = next;
+        progress.show(Part {
+            done: position - range.from + 1,
+            all,
+        });
+        alike += usize::from(outcome.is_alike);
+        if outcome.text.as_slice() == current.text.as_slice() {
+            current.last = position;
+        } else {
+            print_block(alloc, &current, progress, out)?;
+            blocks += 1;
+            current = Block {
+                first: position,
+                last: position,
+                text: outcome.text,
+            };
+        }
+    }
+    print_block(alloc, &current, progress, out)?;
+    let total = Total {
+        positions: all,
+        blocks,
+        alike,
+    };
+    Ok(Done { machine, total })
+}
+
+/// Sweeps positions, and prints their blocks.
+fn print_positions<P: Progress, W: Write>(
+    alloc: Global,
+    machine: Machine,
+    sweep: Sweep<'_>,
+    range: Range,
+    progress: &mut P,
+    out: &mut W,
+) -> Result<Done, Failure>
+    requires swept { IsSwept sweep machine.kernel.boot }
+    requires within { range.end ≤ length sweep.records.now + 1 }
+    ensures err { IfErr result IsWanting }
+    ensures printed { OnOk result (Appends (W.contents out.old) (W.contents out.new)
+        (flat_map block_text (blocks (text_at (sweep_of sweep.entry machine.kernel.boot))
+        (range.end - range.from) range.from))) }
+    ensures total { IfOk result (λ done. let s = sweep_of sweep.entry machine.kernel.boot in
+        let n = range.end - range.from in
+        done.total ≡ record {
+          positions = n;
+          blocks = length (blocks (text_at s) n range.from);
+          alike = count_of (is_alike_at s) n range.from;
+        }) }
+    ensures kernel { IfOk result (λ done. range.from < range.end → done.machine.kernel
+        ≡ (run_at (sweep_of sweep.entry machine.kernel.boot) (range.end - 1)).kernel) }
+    ensures shown { IsShown (P.shown progress.old) (P.shown progress.new) (range.end - range.from)
+        result }
+{
+    if range.from >= range.end {
+        let total = Total {
+            positions: 0,
+            blocks: 0,
+            alike: 0,
+        };
+        return Ok(Done { machine, total });
+    }
+    let (machine, first) = outcome_at(alloc, machine, sweep, range.from)?;
+    print_more(alloc, machine, sweep, first, range, progress, out)
+}
+
+/// Positions of a history: the first, and the one after the last.
+#[derive(Clone, Copy)]
+struct Range {
+    from: usize,
+    end: usize,
+}
+
+/// The positions that are swept of a history, by the number of its records.
+fn range_of(wanted: SweepWanted, records: usize) -> Range
+    ensures { (result.from ≡ wanted.from) × (result.end ≡ min wanted.to records + 1) }
+{
+    let last = (wanted.to as usize).min(records);
+    Range {
+        from: wanted.from as usize,
+        end: last + 1,
+    }
+}
+
+/// Prints the last line of a sweep.
+fn print_total<W: Write>(alloc: Global, total: Total, out: &mut W) -> Result<(), Failure>
+    ensures err { IfErr result IsWanting }
+    ensures bytes { OnOk result (Appends (W.contents out.old) (W.contents out.new)
+        (total_text total.positions total.blocks total.alike)) }
+{
+    let mut text = Vec::new(alloc);
+    push_total(alloc, &mut text, total)?;
+    print_text(text.as_slice(), out)
+}
+
+/// Writes the history of the last position's run, if a file is named for it and a position was swept.
+fn save_history<F: FileWriter>(
+    alloc: Global,
+    done: &Done,
+    files: &mut F,
+    save: Option<&str>,
+) -> Result<(), Failure>
+    ensures written { OnOk result (F.written files.new ≡ F.written files.old
+        ++ saved_if (text_kept done.now.machine.kernel) done.now.total.positions
+        (option_map (λ s. s.now) save.entry)) }
+    ensures some { IfErr result (λ _. 0 < done.now.total.positions) }
+    ensures unwritten { IfErr result (λ f. (ws : List Written)
+        × (F.written files.new ≡ F.written files.old ++ ws)
+        × IsUnsaved (text_kept done.now.machine.kernel) (option_map (λ s. s.now) save.entry) ws f) }
+{
+    match save {
+        Some(name) => if done.total.positions > 0 {
+            write_history(alloc, done.machine.kernel(), files, name)
+        } else {
+            Ok(())
+        },
+        None => Ok(()),
+    }
+}
+
+/// Sweeps a history that is read, prints its blocks and the counts, and then writes a history if that is
+/// wanted.
+fn sweep_begun<F: FileWriter, P: Progress, W: Write>(
+    alloc: Global,
+    begun: Begun,
+    files: &mut F,
+    progress: &mut P,
+    out: &mut W,
+    save: Option<&str>,
+    wanted: SweepWanted,
+) -> Result<Swept, Failure>
+    requires { is_ready begun }
+    ensures { (ws : List Written) × (ps : List Parts)
+        × (F.written files.new ≡ F.written files.old ++ ws)
+        × (P.shown progress.new ≡ P.shown progress.old ++ ps)
+        × IsDone (begun_of begun wanted.bound) wanted.from wanted.to
+        (option_map (λ s. s.now) save.entry) ws ps
+        (λ text. Appends (W.contents out.old) (W.contents out.new) text) result }
+{
+    let Begun { started, fault } = begun;
+    let Started {
+        machine,
+        config,
+        other,
+        lines: records,
+    } = started;
+    let mut machine = machine;
+    let above = lines_above(machine.rules());
+    if let Err((number, refusal)) = perform_records(&mut machine, records.as_slice()) {
+        print_refusal(alloc, above + number, refusal, out)?;
+        return Ok(Swept::Refused);
+    }
+    let sweep = Sweep {
+        config: &config,
+        other,
+        records: records.as_slice(),
+        fault: fault.as_slice(),
+        bound: wanted.bound,
+    };
+    let range = range_of(wanted, records.len());
+    let done = print_positions(alloc, machine, sweep, range, progress, out)?;
+    print_total(alloc, done.total, out)?;
+    save_history(alloc, &done, files, save)?;
+    Ok(how_ended(done.total))
+}
+
+/// How a sweep ended, by its counts.
+fn how_ended(total: Total) -> Swept
+    ensures { result ≡ ended total.positions total.alike }
+{
+    if total.alike == total.positions {
+        Swept::Alike
+    } else {
+        Swept::Differs
+    }
+}
+
+/// Replays a saved history; then, for each of its positions that is wanted, boots the machine again, makes the
+/// records above the position, does what the fault's lines say, and makes turns. Prints what comes of each,
+/// positions in a row with the same lines as one block, and how many have the outcome that they have without
+/// the fault. Then writes the history of the last position's run to the file `save`, if it is named. If an event
+/// of the saved history is refused, prints that as `replay` does, and nothing is swept. No file that is read is
+/// written over: if `save` has its name, nothing is read or written. After each position `progress` is shown how
+/// many are done.
+pub fn sweep<R: Reader + Drop, F: FileWriter + Drop, W: Write + Drop, P: Progress>(
+    alloc: Global,
+    channels: &mut Channels<R, F, W>,
+    progress: &mut P,
+    names: SweepNames<'_>,
+    wanted: SweepWanted,
+) -> Result<Swept, Failure>
+    ensures { (qs : List Asked) × (ws : List Written) × (ps : List Parts)
+        × (R.asked channels.new.reader ≡ R.asked channels.old.reader ++ qs)
+        × (F.written channels.new.files ≡ F.written channels.old.files ++ ws)
+        × (P.shown progress.new ≡ P.shown progress.old ++ ps)
+        × Sweeps names.entry.config.now names.entry.log.now names.entry.fault.now
+        (option_map (λ s. s.now) names.entry.save) wanted.from wanted.to wanted.bound qs ws ps
+        (λ text. Appends (W.contents channels.old.out) (W.contents channels.new.out) text) result }
+{
+    if writes_over(names) {
+        return Err(Failure::File);
+    }
+    let begun = begin(alloc, &mut channels.reader, names)?;
+    sweep_begun(
+        alloc,
+        begun,
+        &mut channels.files,
+        progress,
+        &mut channels.out,
+        names.save,
+        wanted,
+    )
+}

@@ -1,0 +1,4 @@
+mod Lists
+mod Marked
+mod Halting
+mod Coming

@@ -1,0 +1,43 @@
+-- The marks that are built are those that are defined.
+use Rattle.std.proofs.Common.{◌≡◌, ◌∙◌, ℕ, Bool, ◌||◌, List, map, refl, ap}
+use Rattle.std.specs.List.{flat_map}
+use Rattle.mx_machine.specs.declared.events.Event.{Event}
+use Rattle.mx_machine.specs.World.{World}
+use Rattle.mx_walk.specs.declared.stopping.CodePlace.{CodePlace}
+use Rattle.mx_walk.specs.declared.stopping.Leaving.{Leaving}
+use Rattle.mx_walk.specs.declared.watching.ByteChange.{ByteChange}
+use Rattle.mx_walk.specs.declared.watching.BytePlace.{BytePlace}
+use Rattle.mx_walk.specs.Several.{any_marks}
+use Rattle.mx_walk.specs.Stopping.{leaves}
+use Rattle.mx_walk.specs.Watching.{is_changed}
+use Rattle.mx_look_points.specs.declared.points.Points.{Points}
+use Rattle.mx_look_points.specs.Marks.{changes, changes_watched, code_place, is_looked_for, leaves_breakpoint, leaving}
+use Rattle.mx_look_points.specs.Watches.{places_of}
+use Rattle.mx_look_points.proofs.Lists.{map_both}
+
+-- what marks an event
+abbrev pub Marks : Type 0
+Marks = World → ℕ × Event → World → Bool
+
+abbrev pub by_change : ByteChange → Marks
+by_change m w x u = is_changed m.place w u
+
+abbrev pub by_leaving : Leaving → Marks
+by_leaving m w x u = leaves m.place w x
+
+
+pub bytes_are : (s : Points) (ms : List ByteChange) → map (λ (m : ByteChange). m.place) ms ≡ flat_map places_of s.watches
+    → (λ w x u. any_marks (map by_change ms) w x u) ≡ changes_watched s
+bytes_are s ms e =
+    ap (λ (fs : List Marks). λ w x u. any_marks fs w x u) (map_both (λ (m : ByteChange). m.place) changes by_change ms (λ m. refl) ∙ ap (map changes) e)
+
+pub breaks_are : (s : Points) (ms : List Leaving) → map (λ (m : Leaving). m.place) ms ≡ map code_place s.breakpoints
+    → (λ w x u. any_marks (map by_leaving ms) w x u) ≡ leaves_breakpoint s
+breaks_are s ms e =
+    ap (λ (fs : List Marks). λ w x u. any_marks fs w x u) (map_both (λ (m : Leaving). m.place) leaving by_leaving ms (λ m. refl) ∙ ap (map leaving) e)
+
+pub both_are : (s : Points) (ms : List ByteChange) (ns : List Leaving) → map (λ (m : ByteChange). m.place) ms ≡ flat_map places_of s.watches → map (λ (m : Leaving). m.place) ns ≡ map code_place s.breakpoints
+    → (λ w x u. any_marks (map by_change ms) w x u || any_marks (map by_leaving ns) w x u) ≡ is_looked_for s
+both_are s ms ns e f =
+    ap (λ (g : Marks). λ w x u. g w x u || any_marks (map by_leaving ns) w x u) (bytes_are s ms e)
+    ∙ ap (λ (g : Marks). λ w x u. changes_watched s w x u || g w x u) (breaks_are s ns f)

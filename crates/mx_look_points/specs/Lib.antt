@@ -1,0 +1,5 @@
+pub mod Watches
+pub mod Points
+pub mod Marks
+pub mod Changes
+pub mod Searches

@@ -1,0 +1,165 @@
+//! Searches: on to the next halt, and back to the last one.
+
+ghost use Rattle.std.specs.Prelude.{◌≡◌, IfOk, Some, string_bytes};
+ghost use Rattle.mx_machine.specs.World.{World};
+ghost use Rattle.mx_walk.specs.Positions.{IsAbove, IsPosition, IsUpTo, event_below, next_position, position_before};
+ghost use Rattle.mx_walk.specs.Seeking.{is_marked};
+ghost use Rattle.mx_walk.specs.Walks.{Walk, world_here};
+ghost use Rattle.mx_look_points.specs.Marks.{changes_watched};
+ghost use Rattle.mx_look_points.specs.Searches.{IsHalt, IsHaltAfter, IsLastHalt, IsNextHalt, changes_from, halt_by, is_break, not_met};
+
+use crate::changes::{all_bytes, push_changes};
+use crate::marks::{breaks_mark, bytes_mark, points_mark};
+use crate::points::Points;
+use mx_walk::{Mark, NextEvent, Position, Walker, is_up_to, next_event, position_before};
+use mx_word::NoMemory;
+use std::alloc::{AllocError, Global};
+
+/// That nothing is met.
+fn not_met(alloc: Global) -> Result<String, AllocError>
+    ensures { IfOk result (λ told. string_bytes told ≡ not_met) }
+{
+    let mut told = String::new(alloc);
+    told.push_str("not met\n")?;
+    Ok(told)
+}
+
+/// Whether the event below is the step at a breakpoint.
+fn is_at_break(alloc: Global, walker: &Walker, points: &Points) -> Result<bool, AllocError>
+    ensures { IfOk result (λ is. is ≡ is_break walker.now points.now walker.now.here
+        (event_below walker.now.records walker.now.here)) }
+{
+    let Some(next) = next_event(walker.records(), walker.here()) else {
+        return Ok(false);
+    };
+    let mut mark = breaks_mark(alloc, points)?;
+    mark.look(walker.machine(), next.actor, next.event);
+    Ok(mark.is_met(walker.machine()))
+}
+
+/// Goes to a position, and answers how the watched bytes changed on the way.
+fn go_and_compare(
+    alloc: Global,
+    walker: Walker,
+    points: &Points,
+    to: Position,
+) -> Result<(Walker, String), NoMemory>
+    requires position { IsPosition walker.records to }
+    requires early { IsUpTo to walker.last }
+    ensures walker { IfOk result (λ r. r.0 ≡ record walker { here = to }) }
+    ensures told { IfOk result (λ r. string_bytes r.1 ≡ changes_from walker points.now walker.here to) }
+{
+    let seen = all_bytes(alloc, walker.machine(), points.watches.as_slice())?;
+    let walker = walker.go_to(alloc, to)?;
+    let mut told = String::new(alloc);
+    push_changes(alloc, &mut told, walker.machine(), seen.as_slice())?;
+    Ok((walker, told))
+}
+
+/// Goes back from right below an event that is looked for to right above it, and halts there if it is the
+/// step at a breakpoint; else below it again.
+fn halt_by(
+    alloc: Global,
+    walker: Walker,
+    points: &Points,
+    above: Position,
+) -> Result<(Walker, String), NoMemory>
+    requires position { IsPosition walker.records above }
+    requires early { IsUpTo above walker.last }
+    ensures walker { IfOk result (λ r. r.0 ≡ record walker { here = r.0.here }) }
+    ensures halt { IfOk result (λ r. (r.0.here, string_bytes r.1)
+        ≡ halt_by walker points.now above walker.here) }
+{
+    let below = walker.here();
+    let walker = walker.go_to(alloc, above)?;
+    if is_at_break(alloc, &walker, points)? {
+        return Ok((walker, String::new(alloc)));
+    }
+    go_and_compare(alloc, walker, points, below)
+}
+
+/// Goes on to the first event that is looked for, and halts there; at the last position if there is none.
+fn go_on_from(alloc: Global, walker: Walker, points: &Points) -> Result<(Walker, String), NoMemory>
+    ensures walker { IfOk result (λ r. r.0 ≡ record walker { here = r.0.here }) }
+    ensures halt { IfOk result (λ r. IsHalt walker points.now walker.here (r.0.here, string_bytes r.1)) }
+{
+    let mut walker = walker;
+    let mut mark = points_mark(alloc, points)?;
+    if !walker.seek(&mut mark) {
+        return Ok((walker, not_met(alloc)?));
+    }
+    match position_before(walker.records(), walker.here()) {
+        Some(above) => halt_by(alloc, walker, points, above),
+        None => unreachable!(),
+    }
+}
+
+/// Makes the event below, of which the watched bytes count and no breakpoint; goes on if it changed none.
+fn go_on_past(
+    alloc: Global,
+    walker: Walker,
+    points: &Points,
+    next: NextEvent,
+) -> Result<(Walker, String), NoMemory>
+    requires below { event_below walker.records walker.here ≡ Some (next.actor, next.event) }
+    requires position { next.position ≡ next_position walker.records walker.here }
+    requires early { IsAbove walker.here walker.last }
+    requires here { IsPosition walker.records walker.here }
+    requires last { IsPosition walker.records walker.last }
+    ensures walker { IfOk result (λ r. r.0 ≡ record walker { here = r.0.here }) }
+    ensures halt { IfOk result (λ r. IsHaltAfter walker points.now next.position
+        (is_marked (changes_watched points.now) (world_here walker) (next.actor, next.event))
+        (r.0.here, string_bytes r.1)) }
+{
+    let mut bytes = bytes_mark(alloc, points)?;
+    bytes.look(walker.machine(), next.actor, next.event);
+    let (walker, told) = go_and_compare(alloc, walker, points, next.position)?;
+    if bytes.is_met(walker.machine()) {
+        return Ok((walker, told));
+    }
+    go_on_from(alloc, walker, points)
+}
+
+/// Goes on to right below the next event that changes watched bytes, or to the next position whose event
+/// below is the step at a breakpoint; else to the last position. Answers what is printed before the place.
+pub fn go_on_to_point(
+    alloc: Global,
+    walker: Walker,
+    points: &Points,
+) -> Result<(Walker, String), NoMemory>
+    ensures walker { IfOk result (λ r. r.0 ≡ record walker { here = r.0.here }) }
+    ensures halt { IfOk result (λ r. IsNextHalt walker points.now (r.0.here, string_bytes r.1)) }
+{
+    if is_up_to(walker.last(), walker.here()) {
+        return Ok((walker, not_met(alloc)?));
+    }
+    match next_event(walker.records(), walker.here()) {
+        Some(next) => go_on_past(alloc, walker, points, next),
+        None => Ok((walker, not_met(alloc)?)),
+    }
+}
+
+/// Goes back to right above the last event that changes watched bytes or is the step at a breakpoint; else
+/// to the first position. Answers what is printed before the place. Takes memory to boot the machine again.
+pub fn go_back_to_point(
+    alloc: Global,
+    walker: Walker,
+    points: &Points,
+) -> Result<(Walker, String), NoMemory>
+    ensures walker { IfOk result (λ r. r.0 ≡ record walker { here = r.0.here }) }
+    ensures halt { IfOk result (λ r. IsLastHalt walker points.now (r.0.here, string_bytes r.1)) }
+{
+    let mut mark = points_mark(alloc, points)?;
+    let (walker, found) = walker.seek_back(alloc, &mut mark)?;
+    if !found {
+        return Ok((walker, not_met(alloc)?));
+    }
+    let halt = walker.here();
+    match next_event(walker.records(), halt) {
+        Some(next) => {
+            let (walker, told) = go_and_compare(alloc, walker, points, next.position)?;
+            Ok((walker.go_to(alloc, halt)?, told))
+        }
+        None => unreachable!(),
+    }
+}
