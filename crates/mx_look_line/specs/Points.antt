@@ -2,7 +2,7 @@
 use Rattle.std.specs.Prelude.{ℕ, List, [], ◌∷◌, Option, Some, None}
 use Rattle.mx_boot.specs.Script.{count_field}
 use Rattle.mx_text.specs.Fields.{pair, ◌>>=◌}
-use Rattle.mx_look_line.specs.Addresses.{address_of_word}
+use Rattle.mx_boot.specs.Addresses.{address_of_word}
 use Rattle.mx_look_line.specs.declared.points.PointRequest.{PointRequest}
 use Rattle.mx_look_line.specs.declared.points.PointRequest.TheVariants.{Break, Watch}
 
