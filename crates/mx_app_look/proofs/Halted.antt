@@ -1,6 +1,5 @@
 -- A search's answer: what it told, and the place.
 use Rattle.std.proofs.Common.{◌≡◌, ◌∙◌, ◌++◌, ℕ, List, Result, Ok, Err, IfOk, Vec, Global, ap, sym}
-use Rattle.mx_app_look.specs.declared.points.Points.{Points}
 use Rattle.mx_walk.specs.declared.positions.Position.{Position}
 use Rattle.mx_walk.specs.Walks.{Walk}
 use Rattle.mx_app_look.specs.declared.sight.Sight.{Sight}

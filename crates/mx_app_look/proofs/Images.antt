@@ -1,5 +1,5 @@
 -- Which processor has a slot's process.
-use Rattle.std.proofs.Common.{◌≡◌, ◌∙◌, ◌<◌, ℕ, zero, suc, ◌+◌, List, [], ◌∷◌, Option, Some, None, refl, ap, sym, subst, arith}
+use Rattle.std.proofs.Common.{◌≡◌, ◌∙◌, ◌<◌, ℕ, zero, suc, ◌+◌, Option, Some, None, refl, ap, sym, subst, arith}
 use Rattle.std.specs.List.{range_with_len}
 use Rattle.mx_exec.specs.declared.image.Image.{Image}
 use Rattle.mx_machine.specs.World.{World, held_by}

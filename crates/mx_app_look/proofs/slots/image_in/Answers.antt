@@ -1,4 +1,4 @@
-use Rattle.std.proofs.Common.{◌≡◌, ◌∙◌, Bor, Option, Some, sym, ap, arith}
+use Rattle.std.proofs.Common.{◌∙◌, Bor, Option, sym, ap, arith}
 use Rattle.std.specs.Prelude.{option_map}
 use Rattle.mx_exec.specs.declared.image.Image.{Image}
 use Rattle.mx_machine.specs.Machine.{world_of}

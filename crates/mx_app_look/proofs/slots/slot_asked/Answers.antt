@@ -1,4 +1,4 @@
-use Rattle.std.proofs.Common.{◌≡◌, ◌∙◌, List, Option, Some, ℕ, ap, sym}
+use Rattle.std.proofs.Common.{◌∙◌, List, Option, ℕ, ap, sym}
 use Rattle.mx_app_step.specs.Service.{Service}
 use Rattle.mx_walk.specs.Walks.{world_here}
 use Rattle.mx_app_look.specs.Slots.{slot_asked, slot_numbered}

@@ -1,4 +1,4 @@
-use Rattle.std.proofs.Common.{◌≡◌, ◌∙◌, ◌-◌, ℕ, zero, suc, eqb, cond, true, false, List, [], ◌∷◌, length, Option, Some, slice_get, refl, ap, sym, arith}
+use Rattle.std.proofs.Common.{◌≡◌, ◌∙◌, ◌-◌, ℕ, zero, suc, eqb, cond, true, false, List, [], ◌∷◌, length, Some, slice_get, ap, sym, arith}
 use Rattle.std.proofs.lemmas.Bool.{ne_eqb}
 use Rattle.mx_app_look.specs.Answers.{line_end}
 use Rattle.mx_app_look.proofs.telling.line_end.Goals as goal
