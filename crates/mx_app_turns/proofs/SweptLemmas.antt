@@ -99,7 +99,7 @@ pub part_after : (all m n k : ℕ) (before now then : List Part) (x : Part) → 
 part_after all m n k before now then x next same is shown more =
     let part : x ≡ record { done = m + 1; all = all } = is ∙ ap (λ i. let y : Part = record { done = i; all = all } in y) (same ∙ next) in
     more ∙ ap (λ (l : List Part). l ++ x ∷ []) shown ∙ append_assoc before (parts_shown all m) (x ∷ [])
-    ∙ ap (λ (y : Part). before ++ parts_shown all m ++ y ∷ []) part
+    ∙ ap (λ (y : Part). before ++ (parts_shown all m ++ y ∷ [])) part
     ∙ ap (λ (l : List Part). before ++ l) (sym (part_more all m))
     ∙ ap (λ i. before ++ parts_shown all i) (sym next)
 

@@ -10,5 +10,5 @@ abbrev pub invariant-loop-position : goal.invariant-loop-position
 invariant-loop-position g l = record {
   swept : SweptSoFar (sweep_of l.sweep l.fn.machine.kernel.boot) l.range.from l.range.end l.position (g.W.Write.contents l.initial.out) (g.W.Write.contents l.out) (positions_of l.current) l.blocks l.alike l.machine.kernel;
   boot : l.machine.kernel.boot ≡ l.fn.machine.kernel.boot;
-  shown : g.P.Progress.shown l.progress ≡ g.P.Progress.shown l.fn.progress.now ++ parts_shown (l.range.end - l.range.from) (l.position - l.range.from);
+  shown : g.P.Progress.shown l.progress ≡ g.P.Progress.shown l.fn.progress ++ parts_shown (l.range.end - l.range.from) (l.position - l.range.from);
 }
