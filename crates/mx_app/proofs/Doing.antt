@@ -21,9 +21,9 @@ use Rattle.mx_app_db.specs.Report.{report_text}
 use Rattle.mx_app_db.specs.Course.{IsDebugScript, IsSaved, IsScript, TellsDebugScript, TellsSaved, TellsScript}
 use Rattle.mx_app_db.specs.Setup.{IsNotStarted, IsStart}
 use Rattle.mx_app_db.specs.Telling.{IsTold, IsUnsaved}
-use Rattle.mx_app_db.specs.Said.{said_lines}
 use Rattle.mx_app_db.specs.Kept.{history_made}
 use Rattle.mx_app_db.specs.Lines.{lines_made}
+use Rattle.mx_app_db.specs.Numbered.{answers_text}
 use Rattle.mx_app_db.specs.Records.{IsReplayPrinted as IsReplayPrinted}
 use Rattle.mx_app_db.specs.Traces.{IsTracePrinted}
 use Rattle.mx_app_db.specs.Replayed.{Replayed}
@@ -100,9 +100,9 @@ pub assembled : (asked now : List Asked) (files written : List Written) (known :
 assembled asked now files written known text file d r p e = (p.0, p.1, p.2, p.3, (d, p.4, appends_nothing known, e))
 
 -- a machine was run, or it wasn't
-pub runs : (asked now : List Asked) (files written : List Written) (config log : List ℕ) (ticks : ℕ) (x y : Option (List ℕ)) (d : Result (Unit {0}) Kind) (r : Result Done Kind)
-    → (qs : List Asked) × (ws : List Written) × (now ≡ asked ++ qs) × (written ≡ files ++ ws) × Runs config log ticks qs ws (λ text. Appends x y text) d → r ≡ done_after_work d
-    → Does asked now files written (λ qs ws. (e : Result (Unit {0}) Kind) × Runs config log ticks qs ws (λ text. Appends x y text) e × (r ≡ done_after_work e))
+pub runs : (asked now : List Asked) (files written : List Written) (config log : List ℕ) (ticks : ℕ) (x y : Option (List ℕ)) (d : Result Ending Kind) (r : Result Done Kind)
+    → (qs : List Asked) × (ws : List Written) × (now ≡ asked ++ qs) × (written ≡ files ++ ws) × Runs config log ticks qs ws (λ text. Appends x y text) d → r ≡ done_after_turns d
+    → Does asked now files written (λ qs ws. (e : Result Ending Kind) × Runs config log ticks qs ws (λ text. Appends x y text) e × (r ≡ done_after_turns e))
 runs asked now files written config log ticks x y d r p e = (p.0, p.1, p.2, p.3, (d, p.4, e))
 
 -- turns were made, or they weren't
@@ -120,25 +120,25 @@ swept {given} asked now files written shown later config log fault save from to 
     (p.0, p.1, [], p.2, p.3, p.4, sym (append-nil given), p.5, (refl, d, p.6, e))
 
 -- a script was done, and its history saved or not
-pub saves : (asked now : List Asked) (files written : List Written) (config script log : List ℕ) (x y : Option (List ℕ)) (d : Result (Unit {0}) Kind)
+pub saves : (asked now : List Asked) (files written : List Written) (config script log : List ℕ) (numbered : Bool) (x y : Option (List ℕ)) (d : Result (Unit {0}) Kind)
     → saves_over config script log ≡ false
     → OnOk d ((qs : List Asked) × (c : Config) × (vs : List Service) × (said : List ScriptLine)
     × (now ≡ asked ++ qs) × IsStart IsScript config script qs c vs said
     × (written ≡ files ++ kept log (saved_text c.rules (history_made (world_at_boot c vs) c.cpus said)) ∷ [])
-    × (let m = lines_made (world_at_boot c vs) c.cpus said in Appends x y (said_lines m.0 ++ report_text m.1.table m.1.services)))
+    × (let m = lines_made (world_at_boot c vs) c.cpus said in Appends x y (answers_text numbered m.0 ++ report_text m.1.table m.1.services)))
     → IfErr d (λ f. (qs : List Asked) × (ws : List Written) × (now ≡ asked ++ qs) × (written ≡ files ++ ws)
     × (((ws ≡ []) × IsNotStarted IsScript TellsScript config script qs f)
     ⊎ ((c : Config) × (vs : List Service) × (said : List ScriptLine) × IsStart IsScript config script qs c vs said
     × IsUnsaved log (saved_text c.rules (history_made (world_at_boot c vs) c.cpus said)) ws f)))
-    → Does asked now files written (λ qs ws. SavesApart config script log qs ws (λ text. Appends x y text) d)
-saves asked now files written config script log x y (Ok u) apart p f =
+    → Does asked now files written (λ qs ws. SavesApart config script log numbered qs ws (λ text. Appends x y text) d)
+saves asked now files written config script log numbered x y (Ok u) apart p f =
     (p.0, kept log (saved_text p.1.rules (history_made (world_at_boot p.1 p.2) p.1.cpus p.3)) ∷ [], p.4, p.6, inr (apart, (p.1, p.2, p.3, p.5, refl, p.7)))
-saves asked now files written config script log x y (Err why) apart p f = (f.0, f.1, f.2, f.3, inr (apart, f.4))
+saves asked now files written config script log numbered x y (Err why) apart p f = (f.0, f.1, f.2, f.3, inr (apart, f.4))
 
-pub saved : (asked now : List Asked) (files written : List Written) (config script log : List ℕ) (x y : Option (List ℕ)) (d : Result (Unit {0}) Kind) (r : Result Done Kind)
-    → (qs : List Asked) × (ws : List Written) × (now ≡ asked ++ qs) × (written ≡ files ++ ws) × SavesApart config script log qs ws (λ text. Appends x y text) d → r ≡ done_after_work d
-    → Does asked now files written (λ qs ws. (e : Result (Unit {0}) Kind) × SavesApart config script log qs ws (λ text. Appends x y text) e × (r ≡ done_after_work e))
-saved asked now files written config script log x y d r p e = (p.0, p.1, p.2, p.3, (d, p.4, e))
+pub saved : (asked now : List Asked) (files written : List Written) (config script log : List ℕ) (numbered : Bool) (x y : Option (List ℕ)) (d : Result (Unit {0}) Kind) (r : Result Done Kind)
+    → (qs : List Asked) × (ws : List Written) × (now ≡ asked ++ qs) × (written ≡ files ++ ws) × SavesApart config script log numbered qs ws (λ text. Appends x y text) d → r ≡ done_after_work d
+    → Does asked now files written (λ qs ws. (e : Result (Unit {0}) Kind) × SavesApart config script log numbered qs ws (λ text. Appends x y text) e × (r ≡ done_after_work e))
+saved asked now files written config script log numbered x y d r p e = (p.0, p.1, p.2, p.3, (d, p.4, e))
 
 -- `asked` and `files` before, `now` asked after; no file is written
 module _ (asked now : List Asked) (files : List Written) where
@@ -155,15 +155,15 @@ module _ (asked now : List Asked) (files : List Written) where
       → WritesNone (λ qs ws. Explains name qs ws (λ text. Appends x y text) r)
   explains name x y d r p e = (p.0 ∷ [], [], p.1, sym (append-nil files), (p.0, d, refl, refl, p.2, e))
 
-  pub steps : (config script : List ℕ) (x y : Option (List ℕ)) (d : Result (Unit {0}) Kind) (r : Result Done Kind)
+  pub steps : (config script : List ℕ) (numbered : Bool) (x y : Option (List ℕ)) (d : Result (Unit {0}) Kind) (r : Result Done Kind)
       → OnOk d ((qs : List Asked) × (c : Config) × (vs : List Service) × (said : List ScriptLine)
       × (now ≡ asked ++ qs) × IsStart IsScript config script qs c vs said
-      × (let m = lines_made (world_at_boot c vs) c.cpus said in Appends x y (said_lines m.0 ++ report_text m.1.table m.1.services)))
+      × (let m = lines_made (world_at_boot c vs) c.cpus said in Appends x y (answers_text numbered m.0 ++ report_text m.1.table m.1.services)))
       → IfErr d (λ f. (qs : List Asked) × (now ≡ asked ++ qs) × IsTold IsScript TellsScript config script qs f)
       → r ≡ done_after_work d
-      → WritesNone (λ qs ws. (e : Result (Unit {0}) Kind) × (ws ≡ []) × Steps config script qs (λ text. Appends x y text) e × (r ≡ done_after_work e))
-  steps config script x y (Ok u) r p f e = (p.0, [], p.4, sym (append-nil files), (Ok u, refl, (p.1, p.2, p.3, p.5, p.6), e))
-  steps config script x y (Err why) r p f e = (f.0, [], f.1, sym (append-nil files), (Err why, refl, f.2, e))
+      → WritesNone (λ qs ws. (e : Result (Unit {0}) Kind) × (ws ≡ []) × Steps config script numbered qs (λ text. Appends x y text) e × (r ≡ done_after_work e))
+  steps config script numbered x y (Ok u) r p f e = (p.0, [], p.4, sym (append-nil files), (Ok u, refl, (p.1, p.2, p.3, p.5, p.6), e))
+  steps config script numbered x y (Err why) r p f e = (f.0, [], f.1, sym (append-nil files), (Err why, refl, f.2, e))
 
   pub debugs : (config script : List ℕ) (x y : Option (List ℕ)) (d : Result (Unit {0}) Kind) (r : Result Done Kind)
       → OnOk d ((qs : List Asked) × (c : Config) × (vs : List Service) × (said : List DebugLine)

@@ -22,9 +22,9 @@ use Rattle.mx_app_db.specs.Report.{report_text}
 use Rattle.mx_app_db.specs.Course.{IsDebugScript, IsSaved, IsScript, TellsDebugScript, TellsSaved, TellsScript}
 use Rattle.mx_app_db.specs.Setup.{IsNotStarted, IsStart}
 use Rattle.mx_app_db.specs.Telling.{IsTold, IsUnsaved}
-use Rattle.mx_app_db.specs.Said.{said_lines}
 use Rattle.mx_app_db.specs.Kept.{history_made}
 use Rattle.mx_app_db.specs.Lines.{lines_made}
+use Rattle.mx_app_db.specs.Numbered.{answers_text}
 use Rattle.mx_app_db.specs.Records.{IsReplayPrinted as IsReplayPrinted}
 use Rattle.mx_app_db.specs.Traces.{IsTracePrinted}
 use Rattle.mx_app_db.specs.Replayed.{Replayed}
@@ -60,7 +60,7 @@ done_after_replay (Ok replayed.Whole) = Ok (with_status 0)
 done_after_replay (Ok replayed.Refused) = Ok (with_status 1)
 done_after_replay (Err f) = Err f
 
--- turns are done, however they ended
+-- turns are done, and so is a run, however they ended
 abbrev pub done_after_turns : Result Ending Kind → Result Done Kind
 done_after_turns (Ok ending) = Ok (record { status = 0; ending = Some ending })
 done_after_turns (Err f) = Err f
@@ -72,21 +72,22 @@ done_after_sweep strict (Ok swept.Differs) = Ok (with_status (if strict then 1 e
 done_after_sweep strict (Ok swept.Refused) = Ok (with_status 1)
 done_after_sweep strict (Err f) = Err f
 
--- ---- machines: the files are as the start wants them, and the text is printed; or the first fault is told
+-- ---- machines: the files are as the start wants them, and the text is printed, after the lines' numbers if that is
+-- asked; or the first fault is told
 
-abbrev pub Steps : List ℕ → List ℕ → List Asked → (List ℕ → Type 0) → Result (Unit {0}) Kind → Type 0
-Steps config script qs Prints (Ok u) =
+abbrev pub Steps : List ℕ → List ℕ → Bool → List Asked → (List ℕ → Type 0) → Result (Unit {0}) Kind → Type 0
+Steps config script numbered qs Prints (Ok u) =
     (c : Config) × (vs : List Service) × (said : List ScriptLine) × IsStart IsScript config script qs c vs said
-    × (let m = lines_made (world_at_boot c vs) c.cpus said in Prints (said_lines m.0 ++ report_text m.1.table m.1.services))
-Steps config script qs Prints (Err f) = IsTold IsScript TellsScript config script qs f
+    × (let m = lines_made (world_at_boot c vs) c.cpus said in Prints (answers_text numbered m.0 ++ report_text m.1.table m.1.services))
+Steps config script numbered qs Prints (Err f) = IsTold IsScript TellsScript config script qs f
 
 -- the same, with the file of the script's history, which is written before the report is printed
-abbrev pub SavesSteps : List ℕ → List ℕ → List ℕ → List Asked → List Written → (List ℕ → Type 0) → Result (Unit {0}) Kind → Type 0
-SavesSteps config script log qs ws Prints (Ok u) =
+abbrev pub SavesSteps : List ℕ → List ℕ → List ℕ → Bool → List Asked → List Written → (List ℕ → Type 0) → Result (Unit {0}) Kind → Type 0
+SavesSteps config script log numbered qs ws Prints (Ok u) =
     (c : Config) × (vs : List Service) × (said : List ScriptLine) × IsStart IsScript config script qs c vs said
     × (ws ≡ kept log (saved_text c.rules (history_made (world_at_boot c vs) c.cpus said)) ∷ [])
-    × (let m = lines_made (world_at_boot c vs) c.cpus said in Prints (said_lines m.0 ++ report_text m.1.table m.1.services))
-SavesSteps config script log qs ws Prints (Err f) =
+    × (let m = lines_made (world_at_boot c vs) c.cpus said in Prints (answers_text numbered m.0 ++ report_text m.1.table m.1.services))
+SavesSteps config script log numbered qs ws Prints (Err f) =
     ((ws ≡ []) × IsNotStarted IsScript TellsScript config script qs f)
     ⊎ ((c : Config) × (vs : List Service) × (said : List ScriptLine) × IsStart IsScript config script qs c vs said
     × IsUnsaved log (saved_text c.rules (history_made (world_at_boot c vs) c.cpus said)) ws f)
@@ -96,10 +97,10 @@ abbrev pub saves_over : List ℕ → List ℕ → List ℕ → Bool
 saves_over config script log = bytes_eq config log || bytes_eq script log
 
 -- then nothing is read or written
-abbrev pub SavesApart : List ℕ → List ℕ → List ℕ → List Asked → List Written → (List ℕ → Type 0) → Result (Unit {0}) Kind → Type 0
-SavesApart config script log qs ws Prints r =
+abbrev pub SavesApart : List ℕ → List ℕ → List ℕ → Bool → List Asked → List Written → (List ℕ → Type 0) → Result (Unit {0}) Kind → Type 0
+SavesApart config script log numbered qs ws Prints r =
     ((saves_over config script log ≡ true) × (qs ≡ []) × (ws ≡ []) × (r ≡ Err File))
-    ⊎ ((saves_over config script log ≡ false) × SavesSteps config script log qs ws Prints r)
+    ⊎ ((saves_over config script log ≡ false) × SavesSteps config script log numbered qs ws Prints r)
 
 abbrev pub Debugs : List ℕ → List ℕ → List Asked → (List ℕ → Type 0) → Result (Unit {0}) Kind → Type 0
 Debugs config script qs Prints (Ok u) =
@@ -157,12 +158,12 @@ PerformsUntyped (As text file) qs ws Prints r =
 PerformsUntyped (Dis file) qs ws Prints r = Shows (λ bytes text. IsShown HasListing bytes text) file.now qs ws Prints r
 PerformsUntyped (Nm file) qs ws Prints r = Shows (λ bytes text. IsShown HasNames bytes text) file.now qs ws Prints r
 PerformsUntyped (Explain config) qs ws Prints r = Explains config.now qs ws Prints r
-PerformsUntyped (Step config script None) qs ws Prints r =
-    (d : Result (Unit {0}) Kind) × (ws ≡ []) × Steps config.now script.now qs Prints d × (r ≡ done_after_work d)
-PerformsUntyped (Step config script (Some log)) qs ws Prints r =
-    (d : Result (Unit {0}) Kind) × SavesApart config.now script.now log.now qs ws Prints d × (r ≡ done_after_work d)
+PerformsUntyped (Step config script None numbered) qs ws Prints r =
+    (d : Result (Unit {0}) Kind) × (ws ≡ []) × Steps config.now script.now numbered qs Prints d × (r ≡ done_after_work d)
+PerformsUntyped (Step config script (Some log) numbered) qs ws Prints r =
+    (d : Result (Unit {0}) Kind) × SavesApart config.now script.now log.now numbered qs ws Prints d × (r ≡ done_after_work d)
 PerformsUntyped (Run config log ticks) qs ws Prints r =
-    (d : Result (Unit {0}) Kind) × Runs config.now log.now ticks qs ws Prints d × (r ≡ done_after_work d)
+    (d : Result Ending Kind) × Runs config.now log.now ticks qs ws Prints d × (r ≡ done_after_turns d)
 PerformsUntyped (Turns config log ticks events bound) qs ws Prints r =
     (d : Result Ending Kind) × MakesTurns config.now (option_map (λ s. s.now) events) log.now ticks bound qs ws Prints d × (r ≡ done_after_turns d)
 PerformsUntyped (Sweep config log fault bound from to strict save) qs ws Prints r = ⊥

@@ -14,7 +14,7 @@ use std::io::Write;
 pub enum PrintedText {
     /// A program's symbols, one a line, or nothing if it has none.
     Symbols,
-    /// The report on a machine whose turns ended so.
+    /// The report on a machine whose turns, or whose run, ended so.
     Turns(Ending),
     /// Any other text.
     Other,
@@ -41,7 +41,7 @@ impl Terminals {
     }
 
     /// What standard error gets after a command that is done: that a program has no symbols, if they
-    /// were asked for and nothing was printed; how turns ended, if they were made.
+    /// were asked for and nothing was printed; how turns or a run ended, if there were any.
     pub fn note(self, printed: PrintedText, last: Option<u8>) -> &'static str
         ensures { result.now ≡ note self printed last }
     {

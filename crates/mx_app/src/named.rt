@@ -100,15 +100,16 @@ pub fn step_apart<R: Reader + Drop, F: FileWriter + Drop, W: Write + Drop>(
     config: &str,
     script: &str,
     log: &str,
+    numbered: bool,
 ) -> Result<(), Failure>
     ensures { (qs : List Asked) × (ws : List Written)
         × (R.asked channels.new.reader ≡ R.asked channels.old.reader ++ qs)
         × (F.written channels.new.files ≡ F.written channels.old.files ++ ws)
-        × SavesApart config.now script.now log.now qs ws
+        × SavesApart config.now script.now log.now numbered qs ws
         (λ text. Appends (W.contents channels.old.out) (W.contents channels.new.out) text) result }
 {
     if saves_over(config, script, log) {
         return Err(Failure::File);
     }
-    step_saved(alloc, channels, config, script, log)
+    step_saved(alloc, channels, config, script, log, numbered)
 }

@@ -30,7 +30,7 @@ use std::time::Clock;
 pub struct Done {
     /// The status to end with.
     pub status: u8,
-    /// How turns ended, if the command made turns of a machine.
+    /// How turns ended, or a run, if the command made one of them.
     pub ending: Option<Ending>,
 }
 
@@ -67,7 +67,7 @@ fn done_after_replay(replayed: Result<Replayed, Failure>) -> Result<Done, Failur
     }
 }
 
-/// What is done after turns: the status is 0, however they ended.
+/// What is done after turns, or after a run: the status is 0, however they ended.
 fn done_after_turns(done: Result<Ending, Failure>) -> Result<Done, Failure>
     ensures { result ≡ done_after_turns done }
 {
@@ -93,7 +93,8 @@ fn done_after_sweep(done: Result<Swept, Failure>, strict: bool) -> Result<Done, 
     }
 }
 
-/// Does what a request asks for, and answers the status to end with, and how turns ended. The processors of `run` are threads;
+/// Does what a request asks for, and answers the status to end with, and how turns or a run ended. The
+/// processors of `run` are threads;
 /// `look` answers the lines, and with `asks` prints the position before each; `progress` is shown how far a sweep
 /// is.
 pub fn perform<
@@ -138,13 +139,16 @@ pub fn perform<
             config,
             script,
             save,
+            numbered,
         } => match save {
-            None => done_after_work(step(alloc, reader, config, script, out)),
-            Some(log) => done_after_work(step_apart(alloc, channels, config, script, log)),
+            None => done_after_work(step(alloc, reader, config, script, numbered, out)),
+            Some(log) => {
+                done_after_work(step_apart(alloc, channels, config, script, log, numbered))
+            }
         },
         CommandRequest::Run { config, log, ticks } => {
             let names = RunNames { config, log };
-            done_after_work(run(rt, alloc, channels, names, ticks))
+            done_after_turns(run(rt, alloc, channels, names, ticks))
         }
         CommandRequest::Turns {
             config,

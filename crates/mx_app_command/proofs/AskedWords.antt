@@ -153,10 +153,10 @@ abbrev script_rule : Rule
 script_rule = with_index 2 (filled (wanted (codes "SCRIPT")))
 
 only_config : IsOnly config_rule step_whole.rules
-only_config = ((λ e. refl), ((λ e. cc), ((λ e. cc), ((λ e. cc), ((λ e. cc), ((λ e. cc), tt))))))
+only_config = ((λ e. refl), ((λ e. cc), ((λ e. cc), ((λ e. cc), ((λ e. cc), ((λ e. cc), ((λ e. cc), tt)))))))
 
 only_script : IsOnly script_rule step_whole.rules
-only_script = ((λ e. cc), ((λ e. refl), ((λ e. cc), ((λ e. cc), ((λ e. cc), ((λ e. cc), tt))))))
+only_script = ((λ e. cc), ((λ e. refl), ((λ e. cc), ((λ e. cc), ((λ e. cc), ((λ e. cc), ((λ e. cc), tt)))))))
 
 step_fits : Fits step_whole
 step_fits words fine =

@@ -54,9 +54,9 @@ IsLocal c = (out-Command c).has_globals ≡ false
 abbrev pub one_shape : Shape
 one_shape = subcommand (codes "one") (wanted (codes "FILE") ∷ wanted_number (codes "N") ∷ [])
 
--- `step CONFIG SCRIPT --save LOG`
+-- `step CONFIG SCRIPT --save LOG --numbered`
 abbrev pub step_shape : Shape
-step_shape = subcommand (codes "step") (wanted (codes "CONFIG") ∷ wanted (codes "SCRIPT") ∷ after_name (codes "save") (codes "LOG") ∷ [])
+step_shape = subcommand (codes "step") (wanted (codes "CONFIG") ∷ wanted (codes "SCRIPT") ∷ after_name (codes "save") (codes "LOG") ∷ flag (codes "numbered") ∷ [])
 
 -- `run CONFIG LOG --ticks T`
 abbrev pub run_shape : Shape
@@ -165,9 +165,9 @@ AsksBy (As text file) name rows =
 AsksBy (Dis file) name rows = (name ≡ codes "dis") × HasText (codes "FILE") rows file.now
 AsksBy (Nm file) name rows = (name ≡ codes "nm") × HasText (codes "FILE") rows file.now
 AsksBy (Explain config) name rows = (name ≡ codes "explain") × HasText (codes "CONFIG") rows config.now
-AsksBy (Step config script save) name rows =
+AsksBy (Step config script save numbered) name rows =
     (name ≡ codes "step") × HasText (codes "CONFIG") rows config.now × HasText (codes "SCRIPT") rows script.now
-    × MayHaveText (codes "LOG") rows (option_map (λ s. s.now) save)
+    × MayHaveText (codes "LOG") rows (option_map (λ s. s.now) save) × IsFlag (codes "numbered") rows numbered
 AsksBy (Run config log ticks) name rows =
     (name ≡ codes "run") × HasText (codes "CONFIG") rows config.now × HasText (codes "LOG") rows log.now
     × HasNumberOr 0 (codes "T") rows ticks

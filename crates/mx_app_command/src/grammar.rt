@@ -97,6 +97,13 @@ const SAVED: CommandArgument<'static> = CommandArgument {
     form: ArgumentForm::After("save"),
 };
 
+/// Whether the answers have the numbers of their lines.
+const NUMBERED: CommandArgument<'static> = CommandArgument {
+    name: "numbered",
+    help: "Prints each answer after the number of its line in SCRIPT: 3: done",
+    form: ArgumentForm::Flag,
+};
+
 /// Where what happens is kept.
 const RECORDED: CommandArgument<'static> = CommandArgument {
     name: "LOG",
@@ -241,7 +248,7 @@ static MACHINE_COMMANDS: [Subcommand<'static>; 5] = [
     Subcommand {
         name: "step",
         help: "Runs a machine by a script and prints its answers and a report",
-        arguments: &[CONFIG, SCRIPT, SAVED, EXPLAIN, SILENT],
+        arguments: &[CONFIG, SCRIPT, SAVED, NUMBERED, EXPLAIN, SILENT],
         example: Example::Step,
     },
     Subcommand {

@@ -153,6 +153,12 @@ $ mx replay pair.config /tmp/pair.log
 uptime 0
 console 0
 
+With --numbered each answer is printed after the number of its line in the script:
+
+$ mx step pair.config pair.script --numbered | head -n 2
+1: taken 0 budget 20
+2: stepped 4 trap
+
 A configuration, of one processor and one service:
 
 cpus 1
@@ -321,6 +327,10 @@ messages
 clear 0 top
 go 0 99
 back 0
+
+regs of 1 and mem of 1 0 16 look at the process of slot 1, also while it waits.
+messages 3 prints the last three messages, with their words as far as the receivers
+still have them. In mem's lines an address may be a symbol, as buf or buf+4.
 
 All lines of mx step's scripts may stand here too. In place of a symbol an address
 may stand. Addresses are decimal here, and hexadecimal in listings.

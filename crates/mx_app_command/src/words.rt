@@ -48,11 +48,12 @@ pub enum CommandRequest<'a> {
     Explain {
         config: &'a str,
     },
-    /// `step CONFIG SCRIPT`, with `--save LOG` or without.
+    /// `step CONFIG SCRIPT`, with `--save LOG` and `--numbered` or without.
     Step {
         config: &'a str,
         script: &'a str,
         save: Option<&'a str>,
+        numbered: bool,
     },
     /// `run CONFIG LOG`, with `--ticks T` or, for no ticks, without.
     Run {
@@ -220,10 +221,12 @@ fn script_request<'a>(name: &str, config: &'a str, matches: &ArgMatches<'a>) -> 
     let script = value_asked(matches, "SCRIPT");
     if name == "step" {
         let save = value_if_asked(matches, "LOG");
+        let numbered = flag_asked(matches, "numbered");
         CommandRequest::Step {
             config,
             script,
             save,
+            numbered,
         }
     } else {
         CommandRequest::Db { config, script }

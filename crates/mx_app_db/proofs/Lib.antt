@@ -2,3 +2,4 @@ pub mod Worlds
 pub mod Made
 pub mod Printed
 pub mod Told
+pub mod LastOnes

@@ -1,8 +1,9 @@
 -- What a line does, from what its function answers.
 use Rattle.std.proofs.Common.{◌≡◌, ◌∙◌, ◌<◌, ◌+◌, ℕ, List, [], ◌∷◌, ◌++◌, length, get_or, take, Result, Ok, Err, OnOk, sym, ap, refl}
 use Rattle.std.proofs.lemmas.List.{take_more}
+use Rattle.mx_boot.specs.declared.address_word.AddressWord.{AddressWord}
 use Rattle.mx_boot.specs.declared.debug.DebugLine.{DebugLine}
-use Rattle.mx_boot.specs.declared.debug.DebugLine.TheVariants.{Plain, Break, Clear, Go, Registers, Memory, Messages}
+use Rattle.mx_boot.specs.declared.debug.DebugLine.TheVariants.{Plain, Break, Clear, Go, Registers, RegistersOf, Memory, MemoryOf, Messages, LastMessages}
 use Rattle.mx_boot.specs.declared.place.CodePlace.{CodePlace}
 use Rattle.mx_boot.specs.declared.scripts.ScriptLine.{ScriptLine}
 use Rattle.mx_machine.specs.History.{BootAndHistory, replay}
@@ -41,13 +42,25 @@ pub registers_made : (other : ℕ) (d : DebuggedWorld) (c : ℕ) → debug_line_
 unfolding debug_line_made
 registers_made other d c = refl
 
-pub memory_made : (other : ℕ) (d : DebuggedWorld) (c m n : ℕ) → debug_line_made other d (Memory c m n) ≡ d
+pub registers_of_made : (other : ℕ) (d : DebuggedWorld) (s : ℕ) → debug_line_made other d (RegistersOf s) ≡ d
 unfolding debug_line_made
-memory_made other d c m n = refl
+registers_of_made other d s = refl
+
+pub memory_made : (other : ℕ) (d : DebuggedWorld) (c : ℕ) (a : AddressWord) (n : ℕ) → debug_line_made other d (Memory c a n) ≡ d
+unfolding debug_line_made
+memory_made other d c a n = refl
+
+pub memory_of_made : (other : ℕ) (d : DebuggedWorld) (s : ℕ) (a : AddressWord) (n : ℕ) → debug_line_made other d (MemoryOf s a n) ≡ d
+unfolding debug_line_made
+memory_of_made other d s a n = refl
 
 pub messages_made : (other : ℕ) (d : DebuggedWorld) → debug_line_made other d Messages ≡ d
 unfolding debug_line_made
 messages_made other d = refl
+
+pub last_messages_made : (other : ℕ) (d : DebuggedWorld) (n : ℕ) → debug_line_made other d (LastMessages n) ≡ d
+unfolding debug_line_made
+last_messages_made other d n = refl
 
 -- ---- by what a match has found
 

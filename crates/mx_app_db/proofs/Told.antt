@@ -5,8 +5,9 @@ use Rattle.std.specs.Prelude.{codes, MatchOption}
 use Rattle.std.specs.Option.{option_map}
 use Rattle.std.proofs.lemmas.List.{append-nil, take_more}
 use Rattle.mx_exec.specs.declared.image.Image.{Image}
+use Rattle.mx_boot.specs.declared.address_word.AddressWord.{AddressWord}
 use Rattle.mx_boot.specs.declared.debug.DebugLine.{DebugLine}
-use Rattle.mx_boot.specs.declared.debug.DebugLine.TheVariants.{Plain, Break, Clear, Go, Registers, Memory, Messages}
+use Rattle.mx_boot.specs.declared.debug.DebugLine.TheVariants.{Plain, Break, Clear, Go, Registers, RegistersOf, Memory, MemoryOf, Messages, LastMessages}
 use Rattle.mx_boot.specs.declared.place.CodePlace.{CodePlace}
 use Rattle.mx_boot.specs.declared.scripts.ScriptLine.{ScriptLine}
 use Rattle.mx_machine.specs.declared.events.Refusal.{Refusal}
@@ -23,13 +24,15 @@ use Rattle.mx_print_answers.specs.declared.refused.Refused.{Refused as Kind}
 use Rattle.mx_print_answers.specs.declared.said.Said.{Said}
 use Rattle.mx_print_answers.specs.Answers.{done_line}
 use Rattle.mx_print_answers.specs.Messages.{delivery_lines}
-use Rattle.mx_print_answers.specs.Processes.{memory_text, registers_text}
+use Rattle.mx_print_answers.specs.Processes.{registers_text}
+use Rattle.mx_print_answers.specs.Slots.{memory_of, registers_of, slot_named}
 use Rattle.mx_print_answers.specs.Runs.{halt_line, run_line}
 use Rattle.mx_print_answers.specs.Said.{refusal_line, said_line}
 use Rattle.mx_app_db.specs.Going.{HasGone, IsStuck}
 use Rattle.mx_app_db.specs.DebugLines.{DebuggedWorld, debug_line_made, debug_lines_made}
+use Rattle.mx_app_db.specs.LastMessages.{last_lines}
 use Rattle.mx_app_db.specs.Places.{place_found, breakpoints_after_break, breakpoints_after_clear}
-use Rattle.mx_app_db.specs.Told.{eip_of, image_held, halt_text, go_text, debug_line_text, debug_lines_text}
+use Rattle.mx_app_db.specs.Told.{eip_of, image_held, memory_held, halt_text, go_text, debug_line_text, debug_lines_text}
 use Rattle.mx_app_db.proofs.Made.{both}
 
 -- ---- a run up to a breakpoint
@@ -102,9 +105,21 @@ pub registers_told : (other : ℕ) (d : DebuggedWorld) (c : ℕ) → debug_line_
 unfolding debug_line_text
 registers_told other d c = refl
 
-pub memory_told : (other : ℕ) (d : DebuggedWorld) (c m n : ℕ) → debug_line_text other d (Memory c m n) ≡ memory_text (image_held (held_by d.world c)) m n
+pub registers_of_told : (other : ℕ) (d : DebuggedWorld) (s : ℕ) → debug_line_text other d (RegistersOf s) ≡ registers_of d.world (slot_named d.world s)
 unfolding debug_line_text
-memory_told other d c m n = refl
+registers_of_told other d s = refl
+
+pub memory_told : (other : ℕ) (d : DebuggedWorld) (c : ℕ) (a : AddressWord) (n : ℕ) → debug_line_text other d (Memory c a n) ≡ memory_held d.world (held_by d.world c) a n
+unfolding debug_line_text
+memory_told other d c a n = refl
+
+pub memory_of_told : (other : ℕ) (d : DebuggedWorld) (s : ℕ) (a : AddressWord) (n : ℕ) → debug_line_text other d (MemoryOf s a n) ≡ memory_of d.world a n (slot_named d.world s)
+unfolding debug_line_text
+memory_of_told other d s a n = refl
+
+pub last_messages_told : (other : ℕ) (d : DebuggedWorld) (n : ℕ) → debug_line_text other d (LastMessages n) ≡ last_lines d.world n
+unfolding debug_line_text
+last_messages_told other d n = refl
 
 pub messages_told : (other : ℕ) (m : MachineState) (k : BootAndHistory) (points : List Breakpoint) → k ≡ m.kernel → debug_line_text other (both (world_of m) points) Messages ≡ delivery_lines (replay k).table.deliveries
 unfolding debug_line_text world_of

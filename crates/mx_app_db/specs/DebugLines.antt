@@ -1,7 +1,7 @@
 -- What each line of a debugger's script does to a machine and to the debugger's breakpoints (our own).
 use Rattle.std.specs.Prelude.{ℕ, List, [], ◌∷◌, Option, Some, None}
 use Rattle.mx_boot.specs.declared.debug.DebugLine.{DebugLine}
-use Rattle.mx_boot.specs.declared.debug.DebugLine.TheVariants.{Plain, Break, Clear, Go, Registers, Memory, Messages}
+use Rattle.mx_boot.specs.declared.debug.DebugLine.TheVariants.{Plain, Break, Clear, Go, Registers, RegistersOf, Memory, MemoryOf, Messages, LastMessages}
 use Rattle.mx_machine.specs.History.{world_after_events}
 use Rattle.mx_machine.specs.Steps.{steps_of}
 use Rattle.mx_machine.specs.World.{World, HeldProcess, held_by}
@@ -27,8 +27,11 @@ debug_line_made other d (Break s place) = record d { points = (breakpoints_after
 debug_line_made other d (Clear s place) = record d { points = (breakpoints_after_clear d.points (place_found d.world.services s place)).1 }
 debug_line_made other d (Go c k) = record d { world = world_after_go d.world d.points c k (held_by d.world c) }
 debug_line_made other d (Registers c) = d
-debug_line_made other d (Memory c m n) = d
+debug_line_made other d (RegistersOf s) = d
+debug_line_made other d (Memory c a n) = d
+debug_line_made other d (MemoryOf s a n) = d
 debug_line_made other d Messages = d
+debug_line_made other d (LastMessages n) = d
 
 -- what lines in a row do
 abbrev pub debug_lines_made : ℕ → DebuggedWorld → List DebugLine → DebuggedWorld

@@ -1,6 +1,7 @@
 pub mod Places
 pub mod Going
 pub mod DebugLines
+pub mod LastMessages
 pub mod Told
 pub use Rattle.mx_app_step.specs.Asked
 pub use Rattle.mx_app_step.specs.Setup
@@ -14,6 +15,7 @@ pub use Rattle.mx_app_step.specs.Text
 pub use Rattle.mx_app_step.specs.Written
 pub use Rattle.mx_app_step.specs.Kept
 pub use Rattle.mx_app_step.specs.Lines
+pub use Rattle.mx_app_step.specs.Numbered
 pub use Rattle.mx_app_step.specs.Records
 pub use Rattle.mx_app_step.specs.Traces
 pub use Rattle.mx_app_step.specs.declared.records.Replayed

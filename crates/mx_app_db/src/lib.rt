@@ -3,6 +3,7 @@
 
 mod driving;
 mod going;
+mod last_messages;
 mod lines;
 mod places;
 

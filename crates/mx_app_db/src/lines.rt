@@ -5,15 +5,20 @@ ghost use Rattle.mx_app_step.specs.Failure.{IsWanting};
 ghost use Rattle.mx_app_step.specs.Machine.{world_of};
 ghost use Rattle.mx_app_step.specs.Pieces.{IsPrintedBut};
 ghost use Rattle.mx_machine.specs.World.{actors, held_by};
-ghost use Rattle.mx_print_answers.specs.Processes.{registers_text, memory_text};
+ghost use Rattle.mx_print_answers.specs.Processes.{registers_text};
+ghost use Rattle.mx_print_answers.specs.Slots.{memory_of, registers_of, slot_named};
 ghost use Rattle.mx_app_db.specs.DebugLines.{world_after_go, debug_line_made, debug_lines_made};
-ghost use Rattle.mx_app_db.specs.Told.{eip_of, image_held, go_text, debug_line_text, debug_lines_text};
+ghost use Rattle.mx_app_db.specs.Told.{eip_of, image_held, memory_held, go_text, debug_line_text, debug_lines_text};
 
 use crate::going::go;
+use crate::last_messages::push_last_messages;
 use crate::places::{clear_breakpoint, set_breakpoint};
 use mx_app_step::{Failure, Machine, perform_line, pieces_join, print_piece};
-use mx_boot::DebugLine;
-use mx_print_answers::{Debugger, push_done, push_memory, push_messages, push_process, push_run};
+use mx_boot::{AddressWord, DebugLine};
+use mx_print_answers::{
+    Debugger, address_asked, push_done, push_memory_at, push_memory_of, push_messages,
+    push_process, push_registers_of, push_run, slot_named,
+};
 use std::alloc::AllocError;
 use std::fmt::Write;
 use std::io;
@@ -60,19 +65,49 @@ fn show_registers(machine: &Machine, cpu: u8, text: &mut String) -> Result<(), A
 fn show_memory(
     machine: &Machine,
     cpu: u8,
-    from: u32,
+    from: &AddressWord,
     count: u32,
     text: &mut String,
 ) -> Result<(), AllocError>
     ensures { OnOk result (string_bytes text.new ≡ string_bytes text.old
-        ++ memory_text (image_held (held_by (world_of machine.now) cpu)) from count) }
+        ++ memory_held (world_of machine.now) (held_by (world_of machine.now) cpu) from.now
+        count) }
 {
-    push_memory(text, machine.image(cpu), from, count)
+    match (machine.slot_on(cpu), machine.image(cpu)) {
+        (Some(slot), Some(image)) => {
+            let from = address_asked(machine, slot, from);
+            push_memory_at(text, Some(image), from, count)
+        }
+        _ => push_process(text, None),
+    }
+}
+
+/// Performs a line that shows registers of a slot: appends those of its process, wherever it is.
+fn show_registers_of(machine: &Machine, slot: u32, text: &mut String) -> Result<(), AllocError>
+    ensures { OnOk result (string_bytes text.new ≡ string_bytes text.old
+        ++ registers_of (world_of machine.now) (slot_named (world_of machine.now) slot)) }
+{
+    push_registers_of(text, machine, slot_named(machine, slot))
+}
+
+/// Performs a line that shows memory of a slot: appends `count` bytes of its process, wherever it is.
+fn show_memory_of(
+    machine: &Machine,
+    slot: u32,
+    from: &AddressWord,
+    count: u32,
+    text: &mut String,
+) -> Result<(), AllocError>
+    ensures { OnOk result (string_bytes text.new ≡ string_bytes text.old
+        ++ memory_of (world_of machine.now) from.now count
+        (slot_named (world_of machine.now) slot)) }
+{
+    push_memory_of(text, machine, slot_named(machine, slot), from, count)
 }
 
 /// Performs a line of a debugger's script, and appends the answer to `text`. If the line names no actor,
 /// `other` is the actor of its event.
-#[tactic(auto, using(crate::proofs::Made::plain_made, crate::proofs::Made::broken_made, crate::proofs::Made::cleared_made, crate::proofs::Made::gone_made, crate::proofs::Made::registers_made, crate::proofs::Made::memory_made, crate::proofs::Made::messages_made))]
+#[tactic(auto, using(crate::proofs::Made::plain_made, crate::proofs::Made::broken_made, crate::proofs::Made::cleared_made, crate::proofs::Made::gone_made, crate::proofs::Made::registers_made, crate::proofs::Made::registers_of_made, crate::proofs::Made::memory_made, crate::proofs::Made::memory_of_made, crate::proofs::Made::messages_made, crate::proofs::Made::last_messages_made))]
 fn perform_debug_line(
     machine: &mut Machine,
     debugger: &mut Debugger,
@@ -108,8 +143,13 @@ fn perform_debug_line(
         }
         DebugLine::Go(cpu, steps) => perform_go(machine, debugger, *cpu, *steps, text),
         DebugLine::Registers(cpu) => show_registers(machine, *cpu, text),
-        DebugLine::Memory(cpu, from, count) => show_memory(machine, *cpu, *from, *count, text),
+        DebugLine::RegistersOf(slot) => show_registers_of(machine, *slot, text),
+        DebugLine::Memory(cpu, from, count) => show_memory(machine, *cpu, from, *count, text),
+        DebugLine::MemoryOf(slot, from, count) => {
+            show_memory_of(machine, *slot, from, *count, text)
+        }
         DebugLine::Messages => push_messages(text, machine.kernel()),
+        DebugLine::LastMessages(most) => push_last_messages(text, machine, *most),
     }
 }
 

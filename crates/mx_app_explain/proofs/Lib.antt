@@ -2,4 +2,3 @@ mod WordLemmas
 mod Printed
 mod Spaced
 mod Reserved
-mod Comments

@@ -47,7 +47,7 @@ first_name (As text file) = text.now
 first_name (Dis file) = file.now
 first_name (Nm file) = file.now
 first_name (Explain config) = config.now
-first_name (Step config script save) = config.now
+first_name (Step config script save numbered) = config.now
 first_name (Run config log ticks) = config.now
 first_name (Turns config log ticks events bound) = config.now
 first_name (Sweep config log fault bound from to strict save) = config.now
@@ -71,7 +71,7 @@ second_name (As text file) = file.now
 second_name (Dis file) = file.now
 second_name (Nm file) = file.now
 second_name (Explain config) = config.now
-second_name (Step config script save) = script.now
+second_name (Step config script save numbered) = script.now
 second_name (Run config log ticks) = log.now
 second_name (Turns config log ticks None bound) = log.now
 second_name (Turns config log ticks (Some events) bound) = events.now
@@ -88,7 +88,7 @@ second_label (As text file) = codes "FILE"
 second_label (Dis file) = codes "FILE"
 second_label (Nm file) = codes "FILE"
 second_label (Explain config) = codes "CONFIG"
-second_label (Step config script save) = codes "SCRIPT"
+second_label (Step config script save numbered) = codes "SCRIPT"
 second_label (Db config script) = codes "SCRIPT"
 second_label (Turns config log ticks (Some events) bound) = codes "EVENTS"
 second_label r = codes "LOG"
@@ -101,7 +101,7 @@ second_word r = word_told (second_label r) (second_name r)
 
 -- the file that is written
 abbrev pub written_word : CommandRequest → List ℕ
-written_word (Step config script (Some log)) = word_told (codes "LOG") log.now
+written_word (Step config script (Some log) numbered) = word_told (codes "LOG") log.now
 written_word (Turns config log ticks events bound) = word_told (codes "LOG") log.now
 written_word (Sweep config log fault bound from to strict (Some file)) = word_told (codes "FILE") file.now
 written_word r = second_word r
@@ -116,7 +116,7 @@ reads_one_program r = false
 -- what is read would be written over
 abbrev pub writes_over : CommandRequest → Bool
 writes_over (As text file) = bytes_eq text.now file.now
-writes_over (Step config script (Some log)) = bytes_eq config.now log.now || bytes_eq script.now log.now
+writes_over (Step config script (Some log) numbered) = bytes_eq config.now log.now || bytes_eq script.now log.now
 writes_over (Run config log ticks) = bytes_eq config.now log.now
 writes_over (Turns config log ticks None bound) = bytes_eq config.now log.now
 writes_over (Turns config log ticks (Some events) bound) = bytes_eq config.now log.now || bytes_eq events.now log.now
@@ -174,10 +174,10 @@ subject_of r NoMemory last m u = memory_told
 
 -- the lines of a script, of a debugger's script, and of a history
 abbrev pub record_wanted : CommandRequest → List ℕ
-record_wanted (Step config script save) =
+record_wanted (Step config script save numbered) =
     codes "an event: take C, step C K, back C, line L, tick, kill E or respawn S"
 record_wanted (Db config script) =
-    codes "an event, or break S PLACE, clear S PLACE, go C K, regs C, mem C M N or messages"
+    codes "an event, or break S PLACE, clear S PLACE, go C K, regs C, regs of S, mem C M N, mem of S M N, messages or messages N"
 record_wanted (Turns config log ticks events bound) = codes "an outside event: line L, tick or kill E"
 record_wanted (Sweep config log fault bound from to strict save) = codes "in LOG a record and its line feed; in FAULT an event of a script, or kill slot S"
 record_wanted r =

@@ -6,6 +6,7 @@ use Rattle.std.specs.Str.{bytes_eq}
 use Rattle.std.specs.Prelude.{codes}
 use Rattle.mx_text.specs.Bytes.{begins_name, is_between, is_digit, is_word_byte}
 use Rattle.mx_text.specs.Fields.{fields}
+use Rattle.mx_boot.specs.Items.{is_byte}
 use Rattle.mx_text.specs.NumberFields.{number_up_to}
 use Rattle.mx_word.specs.declared.size.Size.TheVariants.{Byte, Word, Dword}
 use Rattle.mx_word.specs.declared.names.Register.TheVariants.{Eax, Ecx, Edx, Ebx, Esp, Ebp, Esi, Edi}
@@ -19,9 +20,6 @@ is_mark b = b == 91 || (b == 93 || (b == 43 || (b == 45 || (b == 42 || (b == 44 
 
 abbrev pub is_blank : ℕ → Bool
 is_blank b = b == 32 || (b == 9 || b == 13)
-
-abbrev pub is_byte : ℕ → ℕ → Bool
-is_byte byte b = b == byte
 
 -- a mark is a word of its own, and any blank is a space; a semicolon begins a comment
 abbrev pub spaced_byte : ℕ → List ℕ

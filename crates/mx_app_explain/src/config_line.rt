@@ -1,39 +1,15 @@
 //! The first place of a configuration's line where another word is wanted.
 
-ghost use Rattle.std.specs.Prelude.{◌≡◌, Err, Ok, Some, MatchResult, is_some};
-ghost use Rattle.std.specs.List.{list_any};
+ghost use Rattle.std.specs.Prelude.{◌≡◌, Err, Ok, Some, MatchResult};
 ghost use Rattle.mx_text.specs.Fields.{fields};
-ghost use Rattle.mx_boot.specs.Items.{is_stray};
-ghost use Rattle.mx_boot.specs.Terms.{mask, number_between};
 ghost use Rattle.mx_app_explain.specs.ConfigFaults.{after_file, after_key, after_levels, after_mask, after_masks, after_number, after_service, end_fault, fault_after, fault_in, number_at, word_at};
 ghost use Rattle.mx_app_explain.specs.declared.config_place.Place.TheVariants.{ItemEnd, ServiceEnd};
 
 use crate::config_place::{Key, Place};
 use crate::text_words::is_reserved;
-use mx_text::{name_of, next_field, number_up_to};
+use mx_boot::{has_stray, mask, number_between};
+use mx_text::{name_of, next_field};
 use std::str;
-
-/// The number that decimal digits spell, from the least to the most that is allowed.
-fn number_between(word: &[u8], least: u32, most: u32) -> Option<u32>
-    ensures { result ≡ number_between least most word.now }
-{
-    let number = number_up_to(word, 10, most)?;
-    if number < least { None } else { Some(number) }
-}
-
-/// Whether a word is a mask: 1 to 8 hexadecimal digits.
-fn is_mask(word: &[u8]) -> bool
-    ensures { result ≡ is_some (mask word.now) }
-{
-    word.len() <= 8 && number_up_to(word, 16, u32::MAX).is_some()
-}
-
-/// Whether a word is no file's name, since it has a tab or a carriage return.
-fn has_stray(word: &[u8]) -> bool
-    ensures { result ≡ list_any is_stray word.now }
-{
-    word.iter().any(|byte| *byte == b'\t' || *byte == b'\r')
-}
 
 /// The first word of a line, and what is after it; the line's end is a fault at this place.
 fn word_at(line: &[u8], place: Place) -> Result<(&[u8], &[u8]), Place>
@@ -67,7 +43,11 @@ fn after_mask(line: &[u8], key: Key) -> Result<&[u8], Place>
 {
     let place = Place::Value(key);
     let (word, rest) = word_at(after_key(line, key)?, place)?;
-    if is_mask(word) { Ok(rest) } else { Err(place) }
+    if mask(word).is_some() {
+        Ok(rest)
+    } else {
+        Err(place)
+    }
 }
 
 /// The number at a place, and what is after it.

@@ -7,10 +7,10 @@ ghost use Rattle.mx_app_explain.specs.ConfigFaults.{fault_in};
 ghost use Rattle.mx_app_explain.specs.ConfigPlaces.{value_name, words_before};
 ghost use Rattle.mx_app_explain.specs.Details.{after_words, config_detail, detail_told, label_told, place_detail, place_label, place_told};
 
-use crate::comment::before_comment;
 use crate::config_line::line_fault;
 use crate::config_place::Place;
 use crate::found_word::{FoundWord, found_at};
+use mx_boot::before_comment;
 use mx_text::{next_field, next_line};
 use std::{fmt, str};
 
@@ -163,6 +163,6 @@ pub(crate) fn config_detail(text: &[u8], number: usize) -> Option<Detail<'_>>
 {
     match line_below(text, number.saturating_sub(1)) {
         None => None,
-        Some(line) => line_detail(before_comment(line, b'#')),
+        Some(line) => line_detail(before_comment(line)),
     }
 }

@@ -6,7 +6,6 @@
 #![tactic(auto)]
 
 mod allowed;
-mod comment;
 mod config_line;
 mod config_place;
 mod detail;

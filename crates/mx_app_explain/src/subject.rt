@@ -173,6 +173,7 @@ pub(crate) fn writes_over(request: CommandRequest<'_>) -> bool
             config,
             script,
             save: Some(log),
+            ..
         } => config == log || script == log,
         CommandRequest::Run { config, log, .. } => config == log,
         CommandRequest::Turns {

@@ -4,8 +4,8 @@ ghost use Rattle.std.specs.Prelude.{◌≡◌, ◌++◌, IfOk, OnOk};
 ghost use Rattle.std.specs.List.{flat_map, list_any};
 ghost use Rattle.mx_app_explain.specs.TextWords.{begins_with_digit, is_bad_number, is_blank, is_capital, is_close, is_equals, is_free_word, is_long_name, is_mark, is_mark_word, is_number, is_odd_byte, is_open, is_quote, is_reserved, is_size, spaced, spaced_byte};
 
-use crate::comment::before_comment;
 use crate::found_word::byte_at;
+use mx_boot::before_byte;
 use mx_insn_words::{register_named, size_named};
 use mx_text::{begins_name, is_digit, is_word_byte, number_up_to};
 use std::alloc::{AllocError, Global};
@@ -51,7 +51,7 @@ pub(crate) fn spaced(alloc: Global, line: &[u8]) -> Result<Vec<u8>, AllocError>
     ensures { IfOk result (λ found. found.items ≡ spaced line.now) }
 {
     let mut out = Vec::new(alloc);
-    let said = before_comment(line, b';');
+    let said = before_byte(line, b';');
     for byte in said {
         push_spaced(&mut out, *byte)?;
     }

@@ -64,7 +64,8 @@ fn record_wanted(request: CommandRequest<'_>) -> &'static str
             "an event: take C, step C K, back C, line L, tick, kill E or respawn S"
         }
         CommandRequest::Db { .. } => {
-            "an event, or break S PLACE, clear S PLACE, go C K, regs C, mem C M N or messages"
+            "an event, or break S PLACE, clear S PLACE, go C K, regs C, regs of S, mem C M N, \
+             mem of S M N, messages or messages N"
         }
         CommandRequest::Turns { .. } => "an outside event: line L, tick or kill E",
         CommandRequest::Sweep { .. } => {

@@ -1,7 +1,7 @@
 -- A session has one text.
 use Rattle.std.proofs.Common.{◌≡◌, ◌∙◌, ◌⊎◌, ℕ, Bool, true, false, List, [], ◌∷◌, ◌++◌, Option, Some, None, inl, inr, refl, ap, ap₂, sym, subst}
 use Rattle.mx_app_look.specs.declared.request.Request.{Request}
-use Rattle.mx_app_look.specs.declared.request.Request.TheVariants.{Nothing, Forward, Back, Step, StepBack, GoTo, Point, Continue, Reverse, Where, Why, Processes, Messages, Show, Help, Quit}
+use Rattle.mx_app_look.specs.declared.request.Request.TheVariants.{Nothing, Forward, Back, Step, StepBack, GoTo, Point, Continue, Reverse, Until, Where, Why, Processes, Messages, Show, Help, Quit}
 use Rattle.mx_app_look.specs.Requests.{request_of}
 use Rattle.mx_app_look.proofs.Halting.{one_last_halt, one_next_halt}
 use Rattle.mx_walk.specs.declared.positions.Position.{Position}
@@ -37,6 +37,7 @@ alike s u v (GoTo p) t r l a b = by_functions _ u v _ t r a b
 alike s u v (Point p) t r l a b = by_functions _ u v _ t r a b
 alike s u v Continue t r l a b = by_halt s u v a.0 b.0 t r (one_next_halt s.walker s.points a.0 b.0 l a.1 b.1) a.2 b.2
 alike s u v Reverse t r l a b = by_halt s u v a.0 b.0 t r (one_last_halt s.walker s.points a.0 b.0 a.1 b.1) a.2 b.2
+alike s u v (Until h) t r l a b = by_functions _ u v _ t r a b
 alike s u v Where t r l a b = by_functions _ u v _ t r a b
 alike s u v Why t r l a b = by_functions _ u v _ t r a b
 alike s u v Processes t r l a b = by_functions _ u v _ t r a b
@@ -64,6 +65,7 @@ ready s u (GoTo p) t l a = kept_ready s u _ l a.0
 ready s u (Point p) t l a = kept_ready s u _ l a.0
 ready s u Continue t l a = let h = a.2 in kept_ready s u _ l h.0
 ready s u Reverse t l a = let h = a.2 in kept_ready s u _ l h.0
+ready s u (Until h) t l a = kept_ready s u _ l a.0
 ready s u Where t l a = kept_ready s u _ l a.0
 ready s u Why t l a = kept_ready s u _ l a.0
 ready s u Processes t l a = kept_ready s u _ l a.0

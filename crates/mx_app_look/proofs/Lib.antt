@@ -11,3 +11,6 @@ mod Alike
 mod Halted
 mod Kernels
 mod Images
+mod Told
+mod Meeting
+mod Texts

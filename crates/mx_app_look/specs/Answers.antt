@@ -1,46 +1,19 @@
 -- What each request prints, and where one is after it (our own).
-use Rattle.std.specs.Prelude.{◌≡◌, ℕ, zero, suc, ◌+◌, ◌-◌, ◌%◌, ◌^◌, ◌==◌, Bool, true, false, List, [], ◌∷◌, ◌++◌, codes, Option, Some, None, if◌then◌else◌, slice_get}
+use Rattle.std.specs.Prelude.{◌≡◌, ℕ, ◌==◌, List, [], ◌∷◌, ◌++◌, codes, if◌then◌else◌}
 use Rattle.mx_app_step.specs.Report.{report_text}
 use Rattle.mx_app_look.specs.declared.request.Request.{Request}
-use Rattle.mx_app_look.specs.declared.request.Request.TheVariants.{Nothing, Forward, Back, Step, StepBack, GoTo, Point, Continue, Reverse, Where, Why, Processes, Messages, Show, Help, Quit}
-use Rattle.mx_look_trace.specs.Glances.{glance_of}
-use Rattle.mx_look_trace.specs.Step.{Step as Seen}
-use Rattle.mx_look_trace.specs.Trace.{record_text}
-use Rattle.mx_machine.specs.declared.history.Record.{Record}
+use Rattle.mx_app_look.specs.declared.request.Request.TheVariants.{Nothing, Forward, Back, Step, StepBack, GoTo, Point, Continue, Reverse, Until, Where, Why, Processes, Messages, Show, Help, Quit}
 use Rattle.mx_machine.specs.World.{World}
 use Rattle.mx_print_answers.specs.Messages.{delivery_lines}
 use Rattle.mx_walk.specs.declared.positions.Position.{Position}
-use Rattle.mx_walk.specs.Positions.{steps_in, world_at}
 use Rattle.mx_walk.specs.Walks.{Walk, world_here}
 use Rattle.mx_app_look.specs.declared.sight.Sight.{Sight}
+use Rattle.mx_app_look.specs.Above.{why_text}
 use Rattle.mx_app_look.specs.Moves.{back_from, can_go, forward_from, position_asked, steps_back, steps_on}
 use Rattle.mx_app_look.specs.Places.{place_text}
 use Rattle.mx_app_look.specs.Seeking.{IsGoneBack, IsGoneOn, point_made, point_text}
 use Rattle.mx_app_look.specs.Showing.{shown_text}
-
--- ---- what the record above did
-
--- record n + 1: it is looked at after its steps, and after its own event. Its number is one of 32 bits
-abbrev pub step_above : World → List Record → ℕ → Record → Seen
-step_above boot records n x = record {
-  number = (n + 1) % 2 ^ 32;
-  before = glance_of (world_at boot records (record { records = n; steps = steps_in x.event }));
-  actor = x.actor;
-  event = x.event;
-  after = glance_of (world_at boot records (record { records = n + 1; steps = 0 }));
-}
-
-abbrev pub why_by : Walk → ℕ → Option Record → List ℕ
-why_by k n None = codes "boot\n"
-why_by k n (Some x) = record_text (step_above k.boot k.records n x)
-
-abbrev pub record_above : List Record → ℕ → Option Record
-record_above records zero = None
-record_above records (suc n) = slice_get records n
-
--- WHY the world is as it is: what the record above did, or that the machine booted
-abbrev pub why_text : Walk → List ℕ
-why_text k = why_by k (k.here.records - 1) (record_above k.records k.here.records)
+use Rattle.mx_app_look.specs.Until.{has_slots, until_halt}
 
 -- ---- the report, whose last line ends
 
@@ -55,7 +28,7 @@ processes_text w = report_text w.table w.services ++ line_end (report_text w.tab
 -- ---- help
 
 abbrev pub help_text : List ℕ
-help_text = codes "forward [N], back [N]       by N records, or one\nstep [N], stepback [N]      by N events, or one: a step, or what a record does besides\ngoto K, goto K.J, goto end  below K records; and J steps of the next; the last position\nbreak SLOT ADDRESS          a breakpoint of the slot's process\nwatch SLOT ADDRESS N        watches N bytes of its memory, 1 to 16\npoints, clear               what is set; takes all of them away\ncontinue, reverse           on to the next breakpoint or change of watched bytes, or back\nwhere, why                  the position again; what the record above did\nps, messages                the report; what was delivered\nregs [SLOT]                 registers of the slot's process\nmem SLOT ADDRESS N          N bytes of its memory\nlist [SLOT [ADDRESS]]       its code, from the address or from EIP on\nstack [SLOT [N]]            N dwords of its stack, or eight\nprint SLOT NAME             its variable of that name\nhelp, quit                  this; the end\nA record is one event; back N is N steps of a process, and then its return.\nA command may be shortened, as f or stepb. Without SLOT it is the process on the\nprocessor whose record is next. ADDRESS is a number, decimal or 0x.., or a symbol\nof the slot's program, as count or top+4.\n"
+help_text = codes "forward [N], back [N]       by N records, or one\nstep [N], stepback [N]      by N events, or one: a step, or what a record does besides\ngoto K, goto K.J, goto end  below K records; and J steps of the next; the last position\nbreak SLOT ADDRESS          a breakpoint of the slot's process\nwatch SLOT ADDRESS N        watches N bytes of its memory, 1 to 16\npoints, clear               what is set; takes all of them away\ncontinue, reverse           on to the next breakpoint or change of watched bytes, or back\nuntil SLOT TYPE             on to a kernel call of the slot's process, as TIMES or 0x601\nuntil death SLOT            on to its death\nuntil message FROM TO       on to what one slot's process gets of another\nwhere, why                  the position again; what the record above did\nps, messages                the report; what was delivered\nregs [SLOT]                 registers of the slot's process\nmem SLOT ADDRESS N          N bytes of its memory\nlist [SLOT [ADDRESS]]       its code, from the address or from EIP on\nstack [SLOT [N]]            N dwords of its stack, or eight\nprint SLOT NAME             its variable of that name\nhelp, quit                  this; the end\nA record is one event; back N is N steps of a process, and then its return.\nA command may be shortened, as f or stepb. Without SLOT it is the process on the\nprocessor whose record is next. ADDRESS is a number, decimal or 0x.., or a symbol\nof the slot's program, as count or top+4.\n"
 
 -- ---- REQUESTS
 
@@ -66,6 +39,7 @@ to_of k (Back n) = back_from k n
 to_of k (Step n) = steps_on n k k.here
 to_of k (StepBack n) = steps_back n k k.here
 to_of k (GoTo p) = if can_go k (position_asked k p) then position_asked k p else k.here
+to_of k (Until h) = if has_slots k h then (until_halt k h).0 else k.here
 to_of k _ = k.here
 
 abbrev pub after : Walk → Request → Walk
@@ -79,6 +53,7 @@ request_text k (Back n) = place_text (after k (Back n))
 request_text k (Step n) = place_text (after k (Step n))
 request_text k (StepBack n) = place_text (after k (StepBack n))
 request_text k (GoTo p) = if can_go k (position_asked k p) then place_text (after k (GoTo p)) else codes "refused 63 NoPosition\n"
+request_text k (Until h) = if has_slots k h then (until_halt k h).1 ++ place_text (after k (Until h)) else codes "refused 42 NoService\n"
 request_text k Where = place_text k
 request_text k Why = why_text k
 request_text k Processes = processes_text (world_here k)

@@ -1,7 +1,7 @@
 pub mod Verbs
 pub mod PointRequests
-pub mod Addresses
 pub mod Shown
+pub mod UntilRequests
 pub mod Requests
 pub mod Watches
 pub mod Points
@@ -13,5 +13,8 @@ pub mod Moves
 pub mod Slots
 pub mod Showing
 pub mod Seeking
+pub mod Above
+pub mod Happenings
+pub mod Until
 pub mod Answers
 pub mod Sessions

@@ -2,7 +2,7 @@
 use Rattle.std.specs.Prelude.{ℕ, List, [], ◌∷◌, Option, Some, None}
 use Rattle.mx_boot.specs.Script.{count_field}
 use Rattle.mx_text.specs.Fields.{pair, ◌>>=◌}
-use Rattle.mx_app_look.specs.Addresses.{address_of_word}
+use Rattle.mx_boot.specs.Addresses.{address_of_word}
 use Rattle.mx_app_look.specs.declared.point_request.PointRequest.{PointRequest}
 use Rattle.mx_app_look.specs.declared.point_request.PointRequest.TheVariants.{Break, Watch}
 

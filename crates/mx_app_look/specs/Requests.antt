@@ -1,6 +1,6 @@
 -- What typed lines ask for (our own).
-use Rattle.std.specs.Prelude.{ℕ, ◌+◌, ◌==◌, Bool, List, [], ◌∷◌, length, take, drop, position, Option, Some, None, codes, if◌then◌else◌, nat_lt}
-use Rattle.std.specs.Str.{bytes_eq}
+use Rattle.std.specs.Prelude.{ℕ, ◌+◌, ◌==◌, ◌||◌, not, Bool, List, [], ◌∷◌, length, take, drop, position, Option, Some, None, codes, if◌then◌else◌, nat_lt}
+use Rattle.std.specs.Str.{bytes_eq, is_utf8}
 use Rattle.mx_text.specs.Fields.{fields, only, ◌>>=◌}
 use Rattle.mx_boot.specs.Script.{count_field, only_count}
 use Rattle.mx_app_look.specs.declared.point_request.PointRequest.TheVariants as point
@@ -13,6 +13,7 @@ use Rattle.mx_app_look.specs.declared.verb.Verb.TheVariants as verb
 use Rattle.mx_app_look.specs.PointRequests.{break_asked, watch_asked}
 use Rattle.mx_app_look.specs.declared.shown.Shown.{Shown}
 use Rattle.mx_app_look.specs.Shown.{code_of_fields, memory_of_fields, registers_of_fields, stack_of_fields, variable_of_fields}
+use Rattle.mx_app_look.specs.UntilRequests.{until_asked}
 use Rattle.mx_app_look.specs.Verbs.{verb_of}
 
 -- ---- positions
@@ -77,6 +78,9 @@ request_by verb.Points fs = without_fields fs (request.Point point.Show)
 request_by verb.Clear fs = without_fields fs (request.Point point.Clear)
 request_by verb.Continue fs = without_fields fs request.Continue
 request_by verb.Reverse fs = without_fields fs request.Reverse
+request_by verb.Until fs = do
+  h ← until_asked fs
+  Some (request.Until h)
 request_by verb.Where fs = without_fields fs request.Where
 request_by verb.Why fs = without_fields fs request.Why
 request_by verb.Processes fs = without_fields fs request.Processes
@@ -95,6 +99,6 @@ request_of_fields (f ∷ fs) = do
   v ← verb_of f
   request_by v fs
 
--- WHAT A LINE ASKS FOR, of 4,096 bytes at most
+-- WHAT A LINE ASKS FOR, text of 4,096 bytes at most
 unfoldable pub request_of : List ℕ → Option Request
-request_of line = if nat_lt 4096 (length line) then None else request_of_fields (fields line)
+request_of line = if nat_lt 4096 (length line) || not (is_utf8 line) then None else request_of_fields (fields line)

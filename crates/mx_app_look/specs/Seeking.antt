@@ -4,7 +4,7 @@ use Rattle.mx_debug.specs.declared.error.DebugError.{DebugError}
 use Rattle.mx_debug.specs.declared.error.DebugError.TheVariants.{TooMany}
 use Rattle.mx_debug.specs.declared.points.Breakpoint.{Breakpoint}
 use Rattle.mx_debug.specs.Points.{with_point}
-use Rattle.mx_app_look.specs.declared.address_word.AddressWord.{AddressWord}
+use Rattle.mx_boot.specs.declared.address_word.AddressWord.{AddressWord}
 use Rattle.mx_app_look.specs.declared.point_request.PointRequest.{PointRequest}
 use Rattle.mx_app_look.specs.declared.point_request.PointRequest.TheVariants.{Break, Clear, Show, Watch}
 use Rattle.mx_app_look.specs.declared.points.Points.{Points}

@@ -5,7 +5,7 @@ use Rattle.mx_exec.specs.declared.image.Image.{Image}
 use Rattle.mx_look_code.specs.Lines.{code_lines}
 use Rattle.mx_look_code.specs.Stack.{stack_text}
 use Rattle.mx_look_code.specs.Variables.{variable_line, variable_named, variable_value}
-use Rattle.mx_app_look.specs.declared.address_word.AddressWord.{AddressWord}
+use Rattle.mx_boot.specs.declared.address_word.AddressWord.{AddressWord}
 use Rattle.mx_app_look.specs.declared.shown.Shown.{Shown}
 use Rattle.mx_app_look.specs.declared.shown.Shown.TheVariants.{Code, Memory, Registers, Stack, Variable}
 use Rattle.mx_machine.specs.World.{World}

@@ -4,7 +4,7 @@ use Rattle.mx_text.specs.Fields.{only, pair, ◌>>=◌}
 use Rattle.mx_boot.specs.Script.{count_field, only_count}
 use Rattle.mx_app_look.specs.declared.shown.Shown.{Shown}
 use Rattle.mx_app_look.specs.declared.shown.Shown.TheVariants.{Code, Memory, Registers, Stack, Variable}
-use Rattle.mx_app_look.specs.Addresses.{address_of_word, symbol_name}
+use Rattle.mx_boot.specs.Addresses.{address_of_word, symbol_name}
 
 -- regs [SLOT]
 abbrev pub registers_of_fields : List (List ℕ) → Option Shown

@@ -4,8 +4,8 @@ use Rattle.std.specs.List.{range_with_len}
 use Rattle.std.specs.Option.{option_map}
 use Rattle.mx_aout.specs.declared.program.Symbol.{Symbol}
 use Rattle.mx_exec.specs.declared.image.Image.{Image}
-use Rattle.mx_app_look.specs.declared.address_word.AddressWord.{AddressWord}
-use Rattle.mx_app_look.specs.declared.address_word.AddressWord.TheVariants.{Number, Symbol as AtSymbol}
+use Rattle.mx_boot.specs.declared.address_word.AddressWord.{AddressWord}
+use Rattle.mx_boot.specs.declared.address_word.AddressWord.TheVariants.{Number, Symbol as AtSymbol}
 use Rattle.mx_machine.specs.declared.events.Refusal.TheVariants.{NoService}
 use Rattle.mx_machine.specs.declared.history.Record.{Record}
 use Rattle.mx_app_step.specs.Service.{Service}

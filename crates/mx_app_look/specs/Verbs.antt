@@ -4,7 +4,7 @@ use Rattle.std.specs.List.{starts_with}
 use Rattle.std.specs.Str.{bytes_eq}
 use Rattle.mx_text.specs.Fields.{fields}
 use Rattle.mx_app_look.specs.declared.verb.Verb.{Verb}
-use Rattle.mx_app_look.specs.declared.verb.Verb.TheVariants.{Back, Break, Clear, Continue, Forward, GoTo, Help, Listing, Memory, Messages, Points, Print, Processes, Quit, Registers, Reverse, Stack, Step, StepBack, Watch, Where, Why}
+use Rattle.mx_app_look.specs.declared.verb.Verb.TheVariants.{Back, Break, Clear, Continue, Forward, GoTo, Help, Listing, Memory, Messages, Points, Print, Processes, Quit, Registers, Reverse, Stack, Step, StepBack, Until, Watch, Where, Why}
 
 abbrev pub verb_word : Verb → List ℕ
 verb_word Back = codes "back"
@@ -26,12 +26,13 @@ verb_word Reverse = codes "reverse"
 verb_word Stack = codes "stack"
 verb_word Step = codes "step"
 verb_word StepBack = codes "stepback"
+verb_word Until = codes "until"
 verb_word Watch = codes "watch"
 verb_word Where = codes "where"
 verb_word Why = codes "why"
 
 abbrev pub verbs : List Verb
-verbs = Back ∷ Break ∷ Clear ∷ Continue ∷ Forward ∷ GoTo ∷ Help ∷ Listing ∷ Memory ∷ Messages ∷ Points ∷ Print ∷ Processes ∷ Quit ∷ Registers ∷ Reverse ∷ Stack ∷ Step ∷ StepBack ∷ Watch ∷ Where ∷ Why ∷ []
+verbs = Back ∷ Break ∷ Clear ∷ Continue ∷ Forward ∷ GoTo ∷ Help ∷ Listing ∷ Memory ∷ Messages ∷ Points ∷ Print ∷ Processes ∷ Quit ∷ Registers ∷ Reverse ∷ Stack ∷ Step ∷ StepBack ∷ Until ∷ Watch ∷ Where ∷ Why ∷ []
 
 -- a word is a front of the verb's
 abbrev pub begins_verb : List ℕ → Verb → Bool

@@ -6,13 +6,15 @@ ghost use Rattle.mx_app_step.specs.Failure.{IsWanting};
 ghost use Rattle.mx_app_look.specs.declared.request.Request.TheVariants as requests;
 ghost use Rattle.mx_walk.specs.Positions.{IsPosition, IsUpTo};
 ghost use Rattle.mx_app_look.specs.declared.sight.Sight.{Sight as Seen};
-ghost use Rattle.mx_app_look.specs.Answers.{IsMade, after, help_text, processes_text, request_text, why_text};
+ghost use Rattle.mx_app_look.specs.Above.{why_text};
+ghost use Rattle.mx_app_look.specs.Answers.{IsMade, after, help_text, processes_text, request_text};
 ghost use Rattle.mx_app_look.specs.Showing.{shown_text};
 ghost use Rattle.mx_print_answers.specs.Messages.{delivery_lines};
 ghost use Rattle.mx_walk.specs.Walks.{world_here};
 ghost use Rattle.mx_app_look.specs.Places.{place_text};
 ghost use Rattle.mx_app_look.specs.Sessions.{IsAnswered, IsAnsweredBy, ends, is_quit, prompt_text};
 
+use crate::going_until::go_until;
 use crate::moves::{back_from, can_go, forward_from, position_asked, steps_back, steps_on};
 use crate::places::{push_place, push_position};
 use crate::position_word::PositionWord;
@@ -20,7 +22,7 @@ use crate::request::{Request, request_of};
 use crate::seeking::{go_back, go_on, perform_point};
 use crate::showing::push_shown;
 use crate::shown::Shown;
-use crate::sight::Sight;
+use crate::sight::{Sight, say};
 use crate::telling::{push_deliveries, push_processes, push_why};
 use crate::verb::push_unknown;
 use mx_app_step::{Failure, print_text};
@@ -30,7 +32,7 @@ use std::io::Write;
 
 /// What `help` prints.
 const HELP: &str =
-    "forward [N], back [N]       by N records, or one\nstep [N], stepback [N]      by N events, or one: a step, or what a record does besides\ngoto K, goto K.J, goto end  below K records; and J steps of the next; the last position\nbreak SLOT ADDRESS          a breakpoint of the slot's process\nwatch SLOT ADDRESS N        watches N bytes of its memory, 1 to 16\npoints, clear               what is set; takes all of them away\ncontinue, reverse           on to the next breakpoint or change of watched bytes, or back\nwhere, why                  the position again; what the record above did\nps, messages                the report; what was delivered\nregs [SLOT]                 registers of the slot's process\nmem SLOT ADDRESS N          N bytes of its memory\nlist [SLOT [ADDRESS]]       its code, from the address or from EIP on\nstack [SLOT [N]]            N dwords of its stack, or eight\nprint SLOT NAME             its variable of that name\nhelp, quit                  this; the end\nA record is one event; back N is N steps of a process, and then its return.\nA command may be shortened, as f or stepb. Without SLOT it is the process on the\nprocessor whose record is next. ADDRESS is a number, decimal or 0x.., or a symbol\nof the slot's program, as count or top+4.\n";
+    "forward [N], back [N]       by N records, or one\nstep [N], stepback [N]      by N events, or one: a step, or what a record does besides\ngoto K, goto K.J, goto end  below K records; and J steps of the next; the last position\nbreak SLOT ADDRESS          a breakpoint of the slot's process\nwatch SLOT ADDRESS N        watches N bytes of its memory, 1 to 16\npoints, clear               what is set; takes all of them away\ncontinue, reverse           on to the next breakpoint or change of watched bytes, or back\nuntil SLOT TYPE             on to a kernel call of the slot's process, as TIMES or 0x601\nuntil death SLOT            on to its death\nuntil message FROM TO       on to what one slot's process gets of another\nwhere, why                  the position again; what the record above did\nps, messages                the report; what was delivered\nregs [SLOT]                 registers of the slot's process\nmem SLOT ADDRESS N          N bytes of its memory\nlist [SLOT [ADDRESS]]       its code, from the address or from EIP on\nstack [SLOT [N]]            N dwords of its stack, or eight\nprint SLOT NAME             its variable of that name\nhelp, quit                  this; the end\nA record is one event; back N is N steps of a process, and then its return.\nA command may be shortened, as f or stepb. Without SLOT it is the process on the\nprocessor whose record is next. ADDRESS is a number, decimal or 0x.., or a symbol\nof the slot's program, as count or top+4.\n";
 
 /// What a position that isn't there is answered.
 const NO_POSITION: &str = "refused 63 NoPosition\n";
@@ -66,17 +68,6 @@ fn go_to_asked(
         return go_to(alloc, sight, to);
     }
     say(alloc, sight, NO_POSITION)
-}
-
-/// Answers a text, and changes nothing.
-fn say(alloc: Global, sight: Sight, text: &str) -> Result<(Sight, Vec<u8>), Failure>
-    ensures err { IfErr result IsWanting }
-    ensures same { IfOk result (λ r. r.0 ≡ sight) }
-    ensures text { IfOk result (λ r. r.1.items ≡ text.now) }
-{
-    let mut answer = Vec::new(alloc);
-    answer.extend_from_slice(text.as_bytes())?;
-    Ok((sight, answer))
 }
 
 /// Answers where the walker is.
@@ -168,6 +159,7 @@ pub(crate) fn perform(
         Request::Point(request) => perform_point(alloc, sight, &request),
         Request::Continue => go_on(alloc, sight),
         Request::Reverse => go_back(alloc, sight),
+        Request::Until(happening) => go_until(alloc, sight, happening),
         Request::Where => show_place(alloc, sight),
         Request::Why => show_why(alloc, sight),
         Request::Processes => show_processes(alloc, sight),

@@ -6,7 +6,7 @@ ghost use Rattle.mx_machine.specs.History.{events_of_history, world_after_events
 ghost use Rattle.mx_machine.specs.World.{World};
 ghost use Rattle.mx_machine.specs.declared.history.Record.{Record};
 ghost use Rattle.mx_walk.specs.Walks.{Walk};
-ghost use Rattle.mx_app_look.specs.Answers.{step_above};
+ghost use Rattle.mx_app_look.specs.Above.{step_above};
 ghost use Rattle.mx_app_look.specs.Sessions.{IsBegun, IsSession, begun_text, sight_at};
 
 use mx_walk::{one_last, positions_replay};

@@ -1,10 +1,11 @@
 //! `mx look`: a saved history, looked at forward and back.
 #![tactic(auto)]
 
-mod address_word;
 mod answering;
 mod changes;
+mod going_until;
 mod halt_laws;
+mod happening;
 mod laws;
 mod marks;
 mod moves;
@@ -21,6 +22,7 @@ mod shown;
 mod sight;
 mod slots;
 mod telling;
+mod until_request;
 mod verb;
 mod watches;
 

@@ -4,8 +4,7 @@ ghost use Rattle.std.specs.Prelude.{◌≡◌};
 ghost use Rattle.mx_text.specs.Fields.{fields};
 ghost use Rattle.mx_app_look.specs.PointRequests.{break_asked, watch_asked};
 
-use crate::address_word::{AddressWord, address_named};
-use mx_boot::count;
+use mx_boot::{AddressWord, address_named, count};
 use mx_text::{next_field, two_fields};
 
 /// What a line asks for about what a search halts at.

@@ -1,12 +1,15 @@
 //! What typed lines ask for.
 
 ghost use Rattle.std.specs.Prelude.{◌≡◌};
+ghost use Rattle.std.specs.Str.{is_utf8};
 ghost use Rattle.mx_text.specs.Fields.{fields};
 ghost use Rattle.mx_app_look.specs.Requests.{count_or_one, request_by, request_of, without_fields};
 
+use crate::happening::Happening;
 use crate::point_request::{PointRequest, break_asked, watch_asked};
 use crate::position_word::{PositionWord, position_named};
 use crate::shown::{Shown, code, memory, registers, stack, variable};
+use crate::until_request::until_asked;
 use crate::verb::{Verb, verb_named};
 use mx_boot::{count, only_count};
 use mx_text::{next_field, one_field};
@@ -35,6 +38,8 @@ pub enum Request {
     Continue,
     /// Back to the last halt.
     Reverse,
+    /// On to a record in which something happens.
+    Until(Happening),
     /// Where one is.
     Where,
     /// What the record above did.
@@ -87,6 +92,7 @@ fn request_by(verb: Verb, rest: &[u8]) -> Option<Request>
         Verb::Clear => without_fields(rest, Request::Point(PointRequest::Clear)),
         Verb::Continue => without_fields(rest, Request::Continue),
         Verb::Reverse => without_fields(rest, Request::Reverse),
+        Verb::Until => Some(Request::Until(until_asked(rest)?)),
         Verb::Where => without_fields(rest, Request::Where),
         Verb::Why => without_fields(rest, Request::Why),
         Verb::Processes => without_fields(rest, Request::Processes),
@@ -101,13 +107,24 @@ fn request_by(verb: Verb, rest: &[u8]) -> Option<Request>
     }
 }
 
-/// What a typed line asks for, if it is at most 4,096 bytes long and asks for anything known: a verb or
+/// Whether these bytes are text.
+#[tactic(auto, using(crate::proofs::Texts::text_is, crate::proofs::Texts::text_isnt))]
+fn is_text(line: &[u8]) -> bool
+    ensures { result ≡ is_utf8 line.now }
+{
+    match str::from_utf8(line) {
+        Ok(_) => true,
+        Err(_) => false,
+    }
+}
+
+/// What a typed line asks for, if it is text of at most 4,096 bytes and asks for anything known: a verb or
 /// an abbreviation of one, and its fields.
 #[tactic(auto, unfolding(crate::specs::Requests::request_of))]
 pub fn request_of(line: &[u8]) -> Option<Request>
     ensures { result ≡ request_of line.now }
 {
-    if line.len() > LONGEST {
+    if line.len() > LONGEST || !is_text(line) {
         return None;
     }
     match next_field(line) {

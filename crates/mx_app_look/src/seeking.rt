@@ -5,7 +5,6 @@ ghost use Rattle.mx_app_step.specs.Failure.{IsWanting};
 ghost use Rattle.mx_app_look.specs.Places.{place_text};
 ghost use Rattle.mx_app_look.specs.Seeking.{IsGoneBack, IsGoneOn, breaks_after, point_made, point_text, points_after, watches_after};
 
-use crate::address_word::AddressWord;
 use crate::places::push_place;
 use crate::point_request::PointRequest;
 use crate::points::Points;
@@ -13,6 +12,7 @@ use crate::searches::{go_back_to_point, go_on_to_point};
 use crate::sight::Sight;
 use crate::slots::{address_asked, slot_asked};
 use mx_app_step::Failure;
+use mx_boot::AddressWord;
 use mx_print_answers::{Refused, push_done};
 use mx_walk::Walker;
 use std::alloc::{AllocError, Global};

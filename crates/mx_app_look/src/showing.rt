@@ -5,12 +5,11 @@ ghost use Rattle.mx_walk.specs.Walks.{world_here};
 ghost use Rattle.mx_app_look.specs.Showing.{bytes_by, code_at, code_by, code_from, code_next, code_of, dword_line, memory_by, refused_text, registers_by, shown_text, stack_by, stack_of, symbol_of_name, symbols_in, value_text, variable_by, variable_text};
 ghost use Rattle.mx_app_look.specs.Slots.{address_asked, image_in, slot_asked};
 
-use crate::address_word::AddressWord;
 use crate::places::symbols_of;
 use crate::shown::Shown;
 use crate::slots::{address_asked, image_in, slot_asked};
 use mx_aout::Symbol;
-use mx_boot::SymbolName;
+use mx_boot::{AddressWord, SymbolName};
 use mx_exec::Image;
 use mx_look_code::{push_code_lines, push_stack, push_variable, variable_named, variable_value};
 use mx_print_answers::{DebugError, Refused, push_memory, push_process};

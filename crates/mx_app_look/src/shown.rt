@@ -4,8 +4,7 @@ ghost use Rattle.std.specs.Prelude.{◌≡◌};
 ghost use Rattle.mx_text.specs.Fields.{fields};
 ghost use Rattle.mx_app_look.specs.Shown.{code_of_fields, code_of_slot, memory_of_fields, registers_of_fields, stack_of_fields, stack_of_slot, variable_of_fields};
 
-use crate::address_word::{AddressWord, address_named, symbol_name};
-use mx_boot::{SymbolName, count, only_count};
+use mx_boot::{AddressWord, SymbolName, address_named, count, only_count, symbol_name};
 use mx_text::{next_field, one_field, two_fields};
 
 /// How many dwords of a stack are shown if no number is typed.

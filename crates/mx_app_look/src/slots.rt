@@ -9,8 +9,7 @@ ghost use Rattle.mx_walk.specs.Walks.{world_here};
 ghost use Rattle.mx_app_look.specs.Places.{symbols_by};
 ghost use Rattle.mx_app_look.specs.Slots.{address_after, address_asked, address_in, image_at_home, image_in, image_of_held, or_not_here, slot_asked, slot_next, slot_numbered, value_named};
 
-use crate::address_word::AddressWord;
-use mx_boot::SymbolName;
+use mx_boot::{AddressWord, SymbolName};
 use mx_exec::Image;
 use mx_machine::{Kernel, Machine, Refusal};
 use mx_print_answers::{DebugError, Debugger, Refused};

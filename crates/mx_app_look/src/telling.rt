@@ -5,17 +5,52 @@ ghost use Rattle.mx_app_step.specs.Failure.{IsWanting};
 ghost use Rattle.mx_look_trace.specs.Trace.{record_text};
 ghost use Rattle.mx_print_answers.specs.Messages.{delivery_lines};
 ghost use Rattle.mx_walk.specs.Walks.{world_here};
-ghost use Rattle.mx_app_look.specs.Answers.{line_end, processes_text, step_above, why_text};
+ghost use Rattle.mx_app_look.specs.Above.{step_above, why_text};
+ghost use Rattle.mx_app_look.specs.Answers.{line_end, processes_text};
+ghost use Rattle.mx_app_look.specs.Until.{below};
 
-use mx_app_step::{Failure, report};
-use mx_look_trace::{Glance, Step, push_record};
+use mx_app_step::{Failure, report, resting_step};
+use mx_look_trace::{Step, push_record};
 use mx_machine::Record;
 use mx_print_answers::push_messages;
 use mx_walk::{Position, Walker, steps_in};
+use mx_word::NoMemory;
 use std::alloc::{AllocError, Global};
 
 /// A record's number is one of 32 bits.
 const NUMBERS: usize = 1 << 32;
+
+/// Goes to right below record `above + 1`, and fills a step with it: the machine is looked at after the
+/// record's steps, and after its own event. Takes memory only to go back.
+pub(crate) fn see_record(
+    alloc: Global,
+    walker: Walker,
+    above: usize,
+    entry: Record,
+    step: &mut Step,
+) -> Result<Walker, NoMemory>
+    requires there { above + 1 ≤ walker.last.records }
+    requires entry { slice_get walker.records above ≡ Some entry }
+    ensures walker { IfOk result (λ w. w ≡ record walker { here = below above }) }
+    ensures step { OnOk result (step.new ≡ step_above walker.boot walker.records above entry) }
+{
+    let begun = Position {
+        records: above,
+        steps: steps_in(entry.event),
+    };
+    let walker = walker.go_to(alloc, begun)?;
+    step.before.look(walker.machine());
+    let made = Position {
+        records: above + 1,
+        steps: 0,
+    };
+    let walker = walker.go_to(alloc, made)?;
+    step.after.look(walker.machine());
+    step.number = ((above + 1) % NUMBERS) as u32;
+    step.actor = entry.actor;
+    step.event = entry.event;
+    Ok(walker)
+}
 
 /// Appends what record `above + 1` did, and goes back to where the walker was.
 fn push_record_above(
@@ -33,25 +68,8 @@ fn push_record_above(
         ++ record_text (step_above walker.boot walker.records above entry)) }
 {
     let here = walker.here();
-    let begun = Position {
-        records: above,
-        steps: steps_in(entry.event),
-    };
-    let walker = walker.go_to(alloc, begun)?;
-    let before = Glance::of(walker.machine());
-    let made = Position {
-        records: above + 1,
-        steps: 0,
-    };
-    let walker = walker.go_to(alloc, made)?;
-    let after = Glance::of(walker.machine());
-    let step = Step {
-        number: ((above + 1) % NUMBERS) as u32,
-        before,
-        actor: entry.actor,
-        event: entry.event,
-        after,
-    };
+    let mut step = resting_step(walker.machine());
+    let walker = see_record(alloc, walker, above, entry, &mut step)?;
     push_record(out, &step)?;
     Ok(walker.go_to(alloc, here)?)
 }

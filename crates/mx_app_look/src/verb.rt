@@ -30,13 +30,14 @@ pub enum Verb {
     Stack,
     Step,
     StepBack,
+    Until,
     Watch,
     Where,
     Why,
 }
 
 /// All verbs, in the order of their words.
-const VERBS: [Verb; 22] = [
+const VERBS: [Verb; 23] = [
     Verb::Back,
     Verb::Break,
     Verb::Clear,
@@ -56,6 +57,7 @@ const VERBS: [Verb; 22] = [
     Verb::Stack,
     Verb::Step,
     Verb::StepBack,
+    Verb::Until,
     Verb::Watch,
     Verb::Where,
     Verb::Why,
@@ -86,6 +88,7 @@ impl Verb {
             Verb::Stack => b"stack",
             Verb::Step => b"step",
             Verb::StepBack => b"stepback",
+            Verb::Until => b"until",
             Verb::Watch => b"watch",
             Verb::Where => b"where",
             Verb::Why => b"why",

@@ -1,5 +1,5 @@
 -- From loops to a run, and from its text to its replay.
-use Rattle.std.proofs.Common.{◌≡◌, ◌≢◌, ◌∙◌, ◌+◌, ℕ, suc, List, [], ◌∷◌, ◌++◌, length, Option, Some, None, Result, Ok, Err, IfErr, OnOk, All, refl, sym, ap, subst, inl, inr, append_assoc}
+use Rattle.std.proofs.Common.{◌≡◌, ◌≢◌, ◌∙◌, ◌+◌, ℕ, suc, List, [], ◌∷◌, ◌++◌, length, Option, Some, None, Result, Ok, Err, All, refl, sym, ap, subst, inl, inr, append_assoc}
 use Rattle.std.specs.Prelude.{IsErrAnd}
 use Rattle.std.specs.Io.KnownBytes.{Appends}
 use Rattle.std.proofs.lemmas.List.{length-replicate}
@@ -30,7 +30,8 @@ use Rattle.mx_boot.specs.Text.{saved_text}
 use Rattle.mx_app_step.specs.Records.{IsFirstRefusal, IsRefusedAt, IsReplayPrinted}
 use Rattle.mx_app_step.specs.declared.records.Replayed.{Replayed}
 use Rattle.mx_app_step.specs.declared.records.Replayed.TheVariants as replayed
-use Rattle.mx_app_run.specs.Run.{EndsDriven, IsRun, Runs}
+use Rattle.mx_turns.specs.declared.turns.Ending.{Ending}
+use Rattle.mx_app_run.specs.Run.{EndsDriven, IsRun, Runs, run_ending}
 
 -- a kernel whose loops have ended is what a run comes to
 pub run_of : (c : Config) (vs : List Service) (ticks : ℕ) (k : BootAndHistory) (boot : World) (z : TableId) (seats : List SeatView)
@@ -67,11 +68,11 @@ rules_at_boot c vs = refl
 -- ---- what `mx run` reports, by how it ends
 
 module _ (config log : List ℕ) (ticks : ℕ) (qs : List Asked) (Prints : List ℕ → Type 0) (apart : config ≢ log) where
-  pub not_set_up : (f : Kind) (r : Result (Unit {0}) Kind) → IsSetupFault config qs f → IsErrAnd r (λ y. y ≡ f) → Runs config log ticks qs [] Prints r
+  pub not_set_up : (f : Kind) (r : Result Ending Kind) → IsSetupFault config qs f → IsErrAnd r (λ y. y ≡ f) → Runs config log ticks qs [] Prints r
   not_set_up f (Ok u) why h = absurd h
   not_set_up f (Err y) why h = inl (refl, inr (apart, inl (subst (λ z. IsSetupFault config qs z) (sym h) why)))
 
-  pub no_memory : (c : Config) (vs : List Service) (r : Result (Unit {0}) Kind) → IsSetup config qs c vs → IsErrAnd r (λ y. y ≡ NoMemory) → Runs config log ticks qs [] Prints r
+  pub no_memory : (c : Config) (vs : List Service) (r : Result Ending Kind) → IsSetup config qs c vs → IsErrAnd r (λ y. y ≡ NoMemory) → Runs config log ticks qs [] Prints r
   no_memory c vs (Ok u) setup h = absurd h
   no_memory c vs (Err y) setup h = inl (refl, inr (apart, inr (c, vs, setup, h)))
 
@@ -79,17 +80,21 @@ module _ (config log : List ℕ) (ticks : ℕ) (qs : List Asked) (Prints : List 
     by_rules : text_kept k ≡ saved_text c.rules k.history
     by_rules = ap (λ (r : Rules). saved_text r k.history) (ap (λ (w : World). w.table.rules) run.boot ∙ rules_at_boot c vs)
 
-    pub unwritten : (ws : List Written) (f : Kind) (r : Result (Unit {0}) Kind) → IsUnwritten log (text_kept k) ws f → IsErrAnd r (λ y. y ≡ f) → Runs config log ticks qs ws Prints r
+    pub unwritten : (ws : List Written) (f : Kind) (r : Result Ending Kind) → IsUnwritten log (text_kept k) ws f → IsErrAnd r (λ y. y ≡ f) → Runs config log ticks qs ws Prints r
     unwritten ws f (Ok u) why h = absurd h
     unwritten ws f (Err y) why h = elim why [
       | inl none ↦ inl (none.0, inr (apart, inr (c, vs, setup, h ∙ none.1)))
       | inr file ↦ inr (c, vs, k, apart, setup, run, inl (file.0, file.1 ∙ ap (λ t. unkept log t file.0 ∷ []) by_rules, h ∙ file.2))
     ]
 
-    pub written : (r : Result (Unit {0}) Kind) → IfErr r IsWanting → OnOk r (Prints (report_text (replay k).table (replay k).services))
-        → Runs config log ticks qs (kept log (text_kept k) ∷ []) Prints r
-    written (Ok u) wanting printed = (c, vs, k, apart, setup, run, ap (λ t. kept log t ∷ []) by_rules, printed)
-    written (Err f) wanting printed = inr (c, vs, k, apart, setup, run, inr (ap (λ t. kept log t ∷ []) by_rules, wanting))
+    -- the report isn't printed
+    pub untold : (f : Kind) (r : Result Ending Kind) → IsWanting f → IsErrAnd r (λ y. y ≡ f) → Runs config log ticks qs (kept log (text_kept k) ∷ []) Prints r
+    untold f (Ok ending) wanting h = absurd h
+    untold f (Err y) wanting h = inr (c, vs, k, apart, setup, run, inr (ap (λ t. kept log t ∷ []) by_rules, subst IsWanting (sym h) wanting))
+
+    pub written : (ending : Ending) → Prints (report_text (replay k).table (replay k).services) → ending ≡ run_ending ticks (replay k)
+        → Runs config log ticks qs (kept log (text_kept k) ∷ []) Prints (Ok ending)
+    written ending printed is = (c, vs, k, apart, setup, run, ap (λ t. kept log t ∷ []) by_rules, printed, is)
 
 -- ---- its replay
 

@@ -1,5 +1,5 @@
 -- Machines whose processors are threads, and what their runs leave (our own).
-use Rattle.std.specs.Prelude.{◌≡◌, ◌⊎◌, ◌≢◌, ℕ, List, [], ◌∷◌, All, Option, Result, Ok, Err}
+use Rattle.std.specs.Prelude.{◌≡◌, ◌⊎◌, ◌≢◌, ◌==◌, ◌&&◌, if◌then◌else◌, ℕ, List, [], ◌∷◌, All, Option, Result, Ok, Err}
 use Rattle.std.specs.Io.KnownBytes.{Appends}
 use Rattle.std.specs.declared.io.ErrorKind.{ErrorKind}
 use Rattle.atomic_table.specs.Seated.{TableId}
@@ -7,7 +7,8 @@ use Rattle.mx_machine.specs.declared.config.Config.{Config}
 use Rattle.mx_machine.specs.declared.history.Record.{Record}
 use Rattle.mx_machine.specs.Boot.{world_at_boot}
 use Rattle.mx_machine.specs.History.{AreAccepted, BootAndHistory, IsWritable, events_of_history, replay}
-use Rattle.mx_machine.specs.World.{actors}
+use Rattle.mx_machine.specs.Rest.{at_rest}
+use Rattle.mx_machine.specs.World.{World, actors}
 use Rattle.mx_machine.specs.Service.{Service}
 use Rattle.mx_cpus.specs.Seats.{SeatView}
 use Rattle.mx_cpus.specs.Calls.{StandsIn}
@@ -15,6 +16,8 @@ use Rattle.mx_cpus.specs.Boots.{all_seats}
 use Rattle.mx_cpus.specs.Loops.{AreDriven}
 use Rattle.mx_app_step.specs.Report.{report_text}
 use Rattle.mx_boot.specs.Text.{saved_text}
+use Rattle.mx_turns.specs.declared.turns.Ending.{Ending}
+use Rattle.mx_turns.specs.declared.turns.Ending.TheVariants.{Full, Rest}
 use Rattle.mx_app_failure.specs.declared.failure.Failure.{Failure as Kind}
 use Rattle.mx_app_failure.specs.declared.failure.Failure.TheVariants.{File, NoMemory}
 use Rattle.mx_app_failure.specs.Failure.{IsWanting, failure_of_kind}
@@ -41,6 +44,10 @@ pub record IsRun (c : Config) (vs : List Service) (ticks : ℕ) (k : BootAndHist
   pub table : TableId
   pub loops : EndsDriven c.cpus ticks (all_seats c table) k.history
 
+-- HOW IT ENDS: at rest after all ticks, of which the uptime counts those that are made; else with a full history
+abbrev pub run_ending : ℕ → World → Ending
+run_ending ticks w = if at_rest w && (w.table.uptime == ticks) then Rest else Full
+
 -- ---- `mx run`
 
 -- no history is written: both files have one name; or the first fault of the configuration and its services' files;
@@ -56,11 +63,12 @@ IsRunUntold log text ws f =
     ⊎ ((ws ≡ kept log text ∷ []) × IsWanting f)
 
 -- WHAT `mx run` DOES: it writes the text of a run's history, whole, and prints the report on the replay of that
--- history; or it reports why it didn't
-abbrev pub Runs : List ℕ → List ℕ → ℕ → List Asked → List Written → (List ℕ → Type 0) → Result (Unit {0}) Kind → Type 0
-Runs config log ticks qs ws Prints (Ok u) =
+-- history, and answers how the run ended; or it reports why it didn't
+abbrev pub Runs : List ℕ → List ℕ → ℕ → List Asked → List Written → (List ℕ → Type 0) → Result Ending Kind → Type 0
+Runs config log ticks qs ws Prints (Ok ending) =
     (c : Config) × (vs : List Service) × (k : BootAndHistory) × (config ≢ log) × IsSetup config qs c vs × IsRun c vs ticks k
     × (ws ≡ kept log (saved_text c.rules k.history) ∷ []) × Prints (report_text (replay k).table (replay k).services)
+    × (ending ≡ run_ending ticks (replay k))
 Runs config log ticks qs ws Prints (Err f) =
     ((ws ≡ []) × IsNotRun config log qs f)
     ⊎ ((c : Config) × (vs : List Service) × (k : BootAndHistory) × (config ≢ log) × IsSetup config qs c vs × IsRun c vs ticks k

@@ -4,13 +4,15 @@ ghost use Rattle.std.specs.Prelude.{◌≡◌, ◌<◌, ◌≤◌, ◌++◌, Lis
 ghost use Rattle.std.specs.Io.KnownBytes.{Appends};
 ghost use Rattle.mx_app_step.specs.Asked.{Asked};
 ghost use Rattle.mx_app_step.specs.Written.{Written};
-ghost use Rattle.mx_app_run.specs.Run.{EndsDriven, IsRun, Runs};
+ghost use Rattle.mx_machine.specs.History.{replay};
+ghost use Rattle.mx_app_run.specs.Run.{EndsDriven, IsRun, Runs, run_ending};
 
 use crate::gate::RunGate;
 use mx_app_step::{
     Channels, Config, Failure, FileWriter, Reader, print_kernel_report, setup_of, write_history,
 };
 use mx_cpus::{ActorSeat, Blank, Kernel, Naming, Service, Shared, boot, drive};
+use mx_turns::Ending;
 use mx_word::NoMemory;
 use std::alloc::Global;
 use std::io::Write;
@@ -64,6 +66,17 @@ fn run_machine<R: Threads + Wait + Clock + Sync>(
     Ok(kernel)
 }
 
+/// How a run ended: at rest after all ticks, or with a full history.
+fn ending_of(kernel: &Kernel, ticks: u32) -> Ending
+    ensures { result ≡ run_ending ticks (replay kernel.now) }
+{
+    if kernel.at_rest() && kernel.table().uptime() == ticks {
+        Ending::Rest
+    } else {
+        Ending::Full
+    }
+}
+
 /// The names of a run's files: that of its configuration, which is read, and that of its history, which is
 /// written.
 #[derive(Clone, Copy)]
@@ -73,8 +86,8 @@ pub struct RunNames<'a> {
 }
 
 /// Runs the machine of a configuration, each processor in a thread of its own, until it is at rest
-/// after all ticks or its history is full. Then writes the history to a file, and prints the
-/// report. The configuration isn't written over: if both have one name, nothing is read or written.
+/// after all ticks or its history is full, and answers which. Then writes the history to a file, and prints
+/// the report. The configuration isn't written over: if both have one name, nothing is read or written.
 pub fn run<
     T: Threads + Wait + Clock + Sync,
     R: Reader + Drop,
@@ -86,7 +99,7 @@ pub fn run<
     channels: &mut Channels<R, F, W>,
     names: RunNames<'_>,
     ticks: u32,
-) -> Result<(), Failure>
+) -> Result<Ending, Failure>
     ensures { (qs : List Asked) × (ws : List Written)
         × (R.asked channels.new.reader ≡ R.asked channels.old.reader ++ qs)
         × (F.written channels.new.files ≡ F.written channels.old.files ++ ws)
@@ -98,7 +111,9 @@ pub fn run<
     }
     let (config, services) = setup_of(alloc, &mut channels.reader, names.config)?;
     let kernel = run_machine(rt, alloc, &config, services, ticks)?;
+    let ending = ending_of(&kernel, ticks);
     // If memory runs out for the report, the history is written already.
     write_history(alloc, &kernel, &mut channels.files, names.log)?;
-    print_kernel_report(alloc, &kernel, &mut channels.out)
+    print_kernel_report(alloc, &kernel, &mut channels.out)?;
+    Ok(ending)
 }

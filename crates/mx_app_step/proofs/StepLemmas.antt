@@ -1,5 +1,5 @@
 -- What is printed where a script drives a machine.
-use Rattle.std.proofs.Common.{◌≡◌, ◌∙◌, ℕ, List, [], ◌∷◌, ◌++◌, Option, Some, None, Result, Ok, Err, refl, ap, subst}
+use Rattle.std.proofs.Common.{◌≡◌, ◌∙◌, ℕ, Bool, List, [], ◌∷◌, ◌++◌, Option, Some, None, Result, Ok, Err, refl, ap, subst}
 use Rattle.std.proofs.KnownBytes.{Appends-trans}
 use Rattle.std.specs.Io.KnownBytes.{Appends}
 use Rattle.mx_app_start.specs.Config.{Config}
@@ -15,29 +15,29 @@ use Rattle.mx_machine.specs.Move.{move}
 use Rattle.mx_machine.specs.Rules.{Rules}
 use Rattle.mx_machine.specs.World.{World}
 use Rattle.mx_print_answers.specs.declared.said.Said.{Said}
-use Rattle.mx_print_answers.specs.Said.{said_lines}
 use Rattle.mx_app_start.specs.Machine.{kept_after, record_of, with_records}
 use Rattle.mx_app_start.specs.Text.{saved_text}
 use Rattle.mx_machine.specs.History.{BootAndHistory}
 use Rattle.mx_app_step.specs.Kept.{event_of_line, history_made, kept_by, lines_kept, text_kept}
 use Rattle.mx_app_step.specs.Lines.{line_made, lines_made}
+use Rattle.mx_app_step.specs.Numbered.{answers_text}
 
-pub lines_printed : (x y z : Option (List ℕ)) (w v : World) (other : ℕ) (lines : List ScriptLine)
-    → Appends x y (said_lines (lines_made w other lines).0) → v ≡ (lines_made w other lines).1
+pub lines_printed : (numbered : Bool) (x y z : Option (List ℕ)) (w v : World) (other : ℕ) (lines : List ScriptLine)
+    → Appends x y (answers_text numbered (lines_made w other lines).0) → v ≡ (lines_made w other lines).1
     → Appends y z (report_text v.table v.services)
-    → (let u = lines_made w other lines in Appends x z (said_lines u.0 ++ report_text u.1.table u.1.services))
-lines_printed x y z w v other lines a world b =
+    → (let u = lines_made w other lines in Appends x z (answers_text numbered u.0 ++ report_text u.1.table u.1.services))
+lines_printed numbered x y z w v other lines a world b =
     let u = lines_made w other lines in
-    Appends-trans x y z (said_lines u.0) (report_text u.1.table u.1.services) a
+    Appends-trans x y z (answers_text numbered u.0) (report_text u.1.table u.1.services) a
     (subst (λ (x : World). Appends y z (report_text x.table x.services)) world b)
 
-pub script_printed : (x z : Option (List ℕ)) (c : Config) (vs : List Service) (w : World) (other : ℕ) (said lines : List ScriptLine)
-    → w ≡ world_at_boot c vs → other ≡ c.cpus → lines ≡ said → (let u = lines_made w other lines in Appends x z (said_lines u.0 ++ report_text u.1.table u.1.services))
-    → (let u = lines_made (world_at_boot c vs) c.cpus said in Appends x z (said_lines u.0 ++ report_text u.1.table u.1.services))
-script_printed x z c vs w other said lines booting o ls h =
+pub script_printed : (numbered : Bool) (x z : Option (List ℕ)) (c : Config) (vs : List Service) (w : World) (other : ℕ) (said lines : List ScriptLine)
+    → w ≡ world_at_boot c vs → other ≡ c.cpus → lines ≡ said → (let u = lines_made w other lines in Appends x z (answers_text numbered u.0 ++ report_text u.1.table u.1.services))
+    → (let u = lines_made (world_at_boot c vs) c.cpus said in Appends x z (answers_text numbered u.0 ++ report_text u.1.table u.1.services))
+script_printed numbered x z c vs w other said lines booting o ls h =
     let same : lines_made w other lines ≡ lines_made (world_at_boot c vs) c.cpus said =
     ap (λ (v : World). lines_made v other lines) booting ∙ ap (λ n. lines_made (world_at_boot c vs) n lines) o ∙ ap (λ (v : List ScriptLine). lines_made (world_at_boot c vs) c.cpus v) ls in
-    subst (λ (u : List Said × World). Appends x z (said_lines u.0 ++ report_text u.1.table u.1.services)) same h
+    subst (λ (u : List Said × World). Appends x z (answers_text numbered u.0 ++ report_text u.1.table u.1.services)) same h
 
 -- ---- a history that is saved
 

@@ -1,6 +1,6 @@
 -- What lines and records do, from what a machine answers.
-use Rattle.std.proofs.Common.{◌≡◌, ◌∙◌, ◌<◌, ℕ, ◌+◌, append_assoc, List, [], ◌∷◌, ◌++◌, length, take, get_or, refl, ap, sym}
-use Rattle.std.proofs.lemmas.List.{append-nil, take_more}
+use Rattle.std.proofs.Common.{◌≡◌, ◌∙◌, ◌<◌, ℕ, suc, ◌+◌, append_assoc, Bool, true, false, List, [], ◌∷◌, ◌++◌, length, take, get_or, refl, ap, sym, arith}
+use Rattle.std.proofs.lemmas.List.{append-nil, length-take-le, take_more}
 use Rattle.std.proofs.lemmas.Grind.{flat_map-append}
 use Rattle.std.specs.Prelude.{codes}
 use Rattle.mx_boot.specs.declared.scripts.ScriptLine.{ScriptLine}
@@ -10,6 +10,7 @@ use Rattle.mx_print_answers.specs.Said.{said_line, said_lines}
 use Rattle.mx_machine.specs.History.{BootAndHistory}
 use Rattle.mx_app_step.specs.Kept.{event_of_line, kept_by, lines_kept}
 use Rattle.mx_app_step.specs.Lines.{line_made, lines_made}
+use Rattle.mx_app_step.specs.Numbered.{answer_text, answers_text, numbered_line, numbered_lines}
 
 -- ---- lines, one more
 
@@ -23,6 +24,33 @@ said_more w o (k ∷ ls) l = ap (λ (x : List Said). (line_made w o k).0 ∷ x) 
 
 lines_text_more : (said : List Said) (s : Said) → said_lines (said ++ s ∷ []) ≡ said_lines said ++ (said_line s ++ codes "\n")
 lines_text_more said s = flat_map-append (λ (x : Said). said_line x ++ codes "\n") said (s ∷ []) ∙ ap (λ x. said_lines said ++ x) (append-nil (said_line s ++ codes "\n"))
+
+-- ---- and its answer, after the line's number or without
+
+made_length : (w : World) (o : ℕ) (ls : List ScriptLine) → length (lines_made w o ls).0 ≡ length ls
+made_length w o [] = refl
+made_length w o (l ∷ ls) = ap suc (made_length (line_made w o l).1 o ls)
+
+numbered_more : (n : ℕ) (said : List Said) (s : Said) → numbered_lines n (said ++ s ∷ []) ≡ numbered_lines n said ++ numbered_line (n + length said) s
+numbered_more n [] s =
+    let same : n ≡ n + 0 = omega arith in
+    append-nil (numbered_line n s) ∙ ap (λ (m : ℕ). numbered_line m s) same
+numbered_more n (x ∷ said) s =
+    let same : n + 1 + length said ≡ n + suc (length said) = omega arith in
+    ap (λ (t : List ℕ). numbered_line n x ++ t) (numbered_more (n + 1) said s ∙ ap (λ (m : ℕ). numbered_lines (n + 1) said ++ numbered_line m s) same)
+    ∙ sym (append_assoc (numbered_line n x) (numbered_lines (n + 1) said) (numbered_line (n + suc (length said)) s))
+
+pub no_answers : (numbered : Bool) → answers_text numbered [] ≡ []
+unfolding answers_text
+no_answers true = refl
+no_answers false = refl
+
+answers_more : (numbered : Bool) (said : List Said) (s : Said) (n : ℕ) → n ≡ length said + 1 → answers_text numbered (said ++ s ∷ []) ≡ answers_text numbered said ++ answer_text numbered n s
+unfolding answers_text
+answers_more true said s n is =
+    let same : 1 + length said ≡ n = omega arith in
+    numbered_more 1 said s ∙ ap (λ (m : ℕ). numbered_lines 1 said ++ numbered_line m s) same
+answers_more false said s n is = lines_text_more said s
 
 kept_more : (k : BootAndHistory) (w : World) (o : ℕ) (ls : List ScriptLine) (l : ScriptLine)
     → lines_kept k w o (ls ++ l ∷ []) ≡ kept_by (lines_kept k w o ls) (lines_made w o ls).1 (event_of_line o l)
@@ -43,14 +71,19 @@ module _ (w : World) (o : ℕ) (lines : List ScriptLine) (i : ℕ) (d : ScriptLi
   next_world m u s e h =
       sym (ap (λ (p : Said × World). p.1) h) ∙ ap (λ (x : World). (line_made x o l).1) e ∙ sym (world_more w o so_far l) ∙ ap (λ (ls : List ScriptLine). (lines_made w o ls).1) (sym more)
 
-  pub next_text : (m u : World) (s : Said) (t x y : List ℕ) → m ≡ (lines_made w o so_far).1 → line_made m o l ≡ (s, u)
-      → x ≡ t ++ said_lines (lines_made w o so_far).0 → y ≡ x ++ (said_line s ++ codes "\n") → y ≡ t ++ said_lines (lines_made w o (take (i + 1) lines)).0
-  next_text m u s t x y e h f g =
-      let said : (lines_made w o (take (i + 1) lines)).0 ≡ (lines_made w o so_far).0 ++ s ∷ [] =
+  made_so_far : length (lines_made w o so_far).0 ≡ i
+  made_so_far = made_length w o so_far ∙ length-take-le i lines (omega arith)
+
+  pub next_text : (numbered : Bool) (n : ℕ) (m u : World) (s : Said) (t x y : List ℕ) → n ≡ i + 1 → m ≡ (lines_made w o so_far).1 → line_made m o l ≡ (s, u)
+      → x ≡ t ++ answers_text numbered (lines_made w o so_far).0 → y ≡ x ++ answer_text numbered n s → y ≡ t ++ answers_text numbered (lines_made w o (take (i + 1) lines)).0
+  next_text numbered n m u s t x y number e h f g =
+      let before : List Said = (lines_made w o so_far).0 in
+      let said : (lines_made w o (take (i + 1) lines)).0 ≡ before ++ s ∷ [] =
       ap (λ (ls : List ScriptLine). (lines_made w o ls).0) more ∙ said_more w o so_far l
-      ∙ ap (λ (z : World). (lines_made w o so_far).0 ++ (line_made z o l).0 ∷ []) (sym e) ∙ ap (λ (p : Said × World). (lines_made w o so_far).0 ++ p.0 ∷ []) h in
-      g ∙ ap (λ (z : List ℕ). z ++ (said_line s ++ codes "\n")) f ∙ append_assoc t (said_lines (lines_made w o so_far).0) (said_line s ++ codes "\n")
-      ∙ ap (λ (z : List ℕ). t ++ z) (sym (ap said_lines said ∙ lines_text_more (lines_made w o so_far).0 s))
+      ∙ ap (λ (z : World). before ++ (line_made z o l).0 ∷ []) (sym e) ∙ ap (λ (p : Said × World). before ++ p.0 ∷ []) h in
+      let numbers : n ≡ length before + 1 = number ∙ ap (λ k. k + 1) (sym made_so_far) in
+      g ∙ ap (λ (z : List ℕ). z ++ answer_text numbered n s) f ∙ append_assoc t (answers_text numbered before) (answer_text numbered n s)
+      ∙ ap (λ (z : List ℕ). t ++ z) (sym (ap (answers_text numbered) said ∙ answers_more numbered before s n numbers))
 
   pub next_kept : (k n m : BootAndHistory) (v : World) → v ≡ (lines_made w o so_far).1 → n ≡ lines_kept k w o so_far → m ≡ kept_by n v (event_of_line o l)
       → m ≡ lines_kept k w o (take (i + 1) lines)

@@ -1,5 +1,6 @@
 pub mod Kept
 pub mod Lines
+pub mod Numbered
 pub mod Pieces
 pub mod Records
 pub mod Traces

@@ -13,9 +13,9 @@ ghost use Rattle.mx_app_start.specs.Course.{IsScript, TellsScript};
 ghost use Rattle.mx_app_start.specs.Setup.{IsStart};
 ghost use Rattle.mx_machine.specs.Boot.{world_at_boot};
 ghost use Rattle.mx_machine.specs.World.{actors};
-ghost use Rattle.mx_print_answers.specs.Said.{said_lines};
 ghost use Rattle.mx_app_step.specs.Kept.{event_of_line, kept_by, lines_kept};
 ghost use Rattle.mx_app_step.specs.Lines.{line_made, lines_made};
+ghost use Rattle.mx_app_step.specs.Numbered.{answer_text, answers_text};
 ghost use Rattle.mx_app_step.specs.Pieces.{IsPrintedBut};
 ghost use Rattle.mx_app_start.specs.Telling.{IsTold};
 
@@ -23,7 +23,7 @@ use crate::printing::{print_piece, print_report};
 use crate::stepping::{make_event, make_own, make_steps};
 use mx_app_start::{Event, Failure, Machine, Reader, Script, ScriptLine, print_text, start};
 use mx_print_answers::Said;
-use std::alloc::Global;
+use std::alloc::{AllocError, Global};
 use std::io::Write;
 
 /// Does what a line of a script says, and answers what is said of it. The lines that name no actor are
@@ -47,12 +47,30 @@ pub fn perform_line(machine: &mut Machine, other: u8, line: ScriptLine) -> Said
     }
 }
 
-/// Does what lines say, adds a line for each to a text, and prints it in pieces. What the text has at the end
-/// is still to be printed.
+/// Appends the answer to the line of this number, after the number if answers are numbered: `3: done`.
+fn push_answer(
+    text: &mut String,
+    numbered: bool,
+    number: usize,
+    said: Said,
+) -> Result<(), AllocError>
+    ensures { OnOk result (string_bytes text.new ≡ string_bytes text.old
+        ++ answer_text numbered number said) }
+{
+    if numbered {
+        writeln!(text, "{number}: {said}")
+    } else {
+        writeln!(text, "{said}")
+    }
+}
+
+/// Does what lines say, adds the answer to each to a text, and prints it in pieces. What the text has at the
+/// end is still to be printed.
 fn perform_lines<W: Write>(
     machine: &mut Machine,
     other: u8,
     lines: &[ScriptLine],
+    numbered: bool,
     text: &mut String,
     out: &mut W,
 ) -> Result<(), Failure>
@@ -65,23 +83,26 @@ fn perform_lines<W: Write>(
     ensures printed { OnOk result (IsPrintedBut (W.contents out.old) (W.contents out.new)
         (string_bytes text.new)
         (string_bytes text.old
-        ++ said_lines (lines_made (world_of machine.old) other lines.now).0)) }
+        ++ answers_text numbered (lines_made (world_of machine.old) other lines.now).0)) }
 {
+    let mut number = 1;
     for line in lines {
         let said = perform_line(machine, other, *line);
-        write!(text, "{said}\n")?;
+        push_answer(text, numbered, number, said)?;
         print_piece(text, out)?;
+        number += 1;
     }
     Ok(())
 }
 
-/// Does what lines say, and prints a line for each. What was made before memory ran out is printed too; a
+/// Does what lines say, and prints the answer to each. What was made before memory ran out is printed too; a
 /// writer that has failed isn't tried again.
 pub(crate) fn print_said<W: Write>(
     alloc: Global,
     machine: &mut Machine,
     other: u8,
     lines: &[ScriptLine],
+    numbered: bool,
     out: &mut W,
 ) -> Result<(), Failure>
     requires { other < actors (world_of machine.old) }
@@ -91,10 +112,10 @@ pub(crate) fn print_said<W: Write>(
     ensures kept { OnOk result (machine.new.kernel
         ≡ lines_kept machine.old.kernel (world_of machine.old) other lines.now) }
     ensures printed { OnOk result (Appends (W.contents out.old) (W.contents out.new)
-        (said_lines (lines_made (world_of machine.old) other lines.now).0)) }
+        (answers_text numbered (lines_made (world_of machine.old) other lines.now).0)) }
 {
     let mut text = String::new(alloc);
-    let done = perform_lines(machine, other, lines, &mut text, out);
+    let done = perform_lines(machine, other, lines, numbered, &mut text, out);
     if let Err(Failure::File) = done {
         return done;
     }
@@ -103,31 +124,34 @@ pub(crate) fn print_said<W: Write>(
     Ok(())
 }
 
-/// Does what lines say, prints a line for each, and then the report.
+/// Does what lines say, prints the answer to each, and then the report.
 fn print_lines<W: Write>(
     alloc: Global,
     machine: &mut Machine,
     other: u8,
     lines: &[ScriptLine],
+    numbered: bool,
     out: &mut W,
 ) -> Result<(), Failure>
     requires { other < actors (world_of machine.old) }
     ensures err { IfErr result IsWanting }
     ensures printed { OnOk result (let m = lines_made (world_of machine.old) other lines.now in
-        Appends (W.contents out.old) (W.contents out.new) (said_lines m.0
+        Appends (W.contents out.old) (W.contents out.new) (answers_text numbered m.0
         ++ report_text m.1.table m.1.services)) }
 {
-    print_said(alloc, machine, other, lines, out)?;
+    print_said(alloc, machine, other, lines, numbered, out)?;
     print_report(alloc, machine, out)
 }
 
-/// Starts a machine by the names of its configuration and of a script, prints a line for each line of
-/// the script, and then the report. What stands printed after a failure isn't promised.
+/// Starts a machine by the names of its configuration and of a script, prints the answer to each line of
+/// the script, after the line's number if answers are numbered, and then the report. What stands printed after
+/// a failure isn't promised.
 pub fn step<R: Reader, W: Write>(
     alloc: Global,
     reader: &mut R,
     config: &str,
     script: &str,
+    numbered: bool,
     out: &mut W,
 ) -> Result<(), Failure>
     ensures printed { OnOk result ((qs : List Asked) × (c : Config) × (vs : List Service)
@@ -135,7 +159,7 @@ pub fn step<R: Reader, W: Write>(
         × (R.asked reader.new ≡ R.asked reader.old ++ qs)
         × IsStart IsScript config.now script.now qs c vs said
         × (let m = lines_made (world_at_boot c vs) c.cpus said in
-        Appends (W.contents out.old) (W.contents out.new) (said_lines m.0
+        Appends (W.contents out.old) (W.contents out.new) (answers_text numbered m.0
         ++ report_text m.1.table m.1.services))) }
     ensures fault { IfErr result (λ f. (qs : List Asked)
         × (R.asked reader.new ≡ R.asked reader.old ++ qs)
@@ -143,5 +167,12 @@ pub fn step<R: Reader, W: Write>(
 {
     let mut started = start::<Script, R>(alloc, reader, config, script)?;
     let lines = started.lines.as_slice();
-    print_lines(alloc, &mut started.machine, started.other, lines, out)
+    print_lines(
+        alloc,
+        &mut started.machine,
+        started.other,
+        lines,
+        numbered,
+        out,
+    )
 }

@@ -14,10 +14,10 @@ ghost use Rattle.mx_app_start.specs.Setup.{IsNotStarted, IsStart};
 ghost use Rattle.mx_app_start.specs.Written.{Written, kept};
 ghost use Rattle.mx_machine.specs.Boot.{world_at_boot};
 ghost use Rattle.mx_machine.specs.World.{actors};
-ghost use Rattle.mx_print_answers.specs.Said.{said_lines};
 ghost use Rattle.mx_app_start.specs.Telling.{IsUnsaved};
 ghost use Rattle.mx_app_step.specs.Kept.{history_made, lines_kept, text_kept, IsUnwritten};
 ghost use Rattle.mx_app_step.specs.Lines.{lines_made};
+ghost use Rattle.mx_app_step.specs.Numbered.{answers_text};
 
 use crate::lines::print_said;
 use crate::printing::print_report;
@@ -47,13 +47,14 @@ pub fn write_history<F: FileWriter>(
     Ok(())
 }
 
-/// On a machine that was started: does what each line of the script says, prints a line for each, writes
+/// On a machine that was started: does what each line of the script says, prints the answer to each, writes
 /// the history to a file, and prints the report.
 fn perform_and_save<F: FileWriter, W: Write>(
     alloc: Global,
     started: &mut Started<ScriptLine>,
     files: &mut F,
     log: &str,
+    numbered: bool,
     out: &mut W,
 ) -> Result<(), Failure>
     requires { started.old.other < actors (world_of started.old.machine) }
@@ -63,7 +64,7 @@ fn perform_and_save<F: FileWriter, W: Write>(
         started.old.lines.items)) ∷ [])
         × (let m = lines_made (world_of started.old.machine) started.old.other
         started.old.lines.items in
-        Appends (W.contents out.old) (W.contents out.new) (said_lines m.0
+        Appends (W.contents out.old) (W.contents out.new) (answers_text numbered m.0
         ++ report_text m.1.table m.1.services))) }
     ensures unsaved { IfErr result (λ f. (ws : List Written)
         × (F.written files.new ≡ F.written files.old ++ ws)
@@ -72,13 +73,20 @@ fn perform_and_save<F: FileWriter, W: Write>(
         started.old.lines.items)) ws f) }
 {
     let lines = started.lines.as_slice();
-    print_said(alloc, &mut started.machine, started.other, lines, out)?;
+    print_said(
+        alloc,
+        &mut started.machine,
+        started.other,
+        lines,
+        numbered,
+        out,
+    )?;
     write_history(alloc, started.machine.kernel(), files, log)?;
     print_report(alloc, &started.machine, out)
 }
 
-/// Starts a machine by the names of its configuration and of a script, prints a line for each line of
-/// the script, writes the history that the script made to the file `log`, also where lines were refused,
+/// Starts a machine by the names of its configuration and of a script, prints the answer to each line
+/// of the script, writes the history that the script made to the file `log`, also where lines were refused,
 /// and then prints the report. What stands printed after a failure isn't promised.
 pub fn step_saved<R: Reader + Drop, F: FileWriter + Drop, W: Write + Drop>(
     alloc: Global,
@@ -86,6 +94,7 @@ pub fn step_saved<R: Reader + Drop, F: FileWriter + Drop, W: Write + Drop>(
     config: &str,
     script: &str,
     log: &str,
+    numbered: bool,
 ) -> Result<(), Failure>
     ensures saved { OnOk result ((qs : List Asked) × (c : Config) × (vs : List Service)
         × (said : List Line)
@@ -94,7 +103,7 @@ pub fn step_saved<R: Reader + Drop, F: FileWriter + Drop, W: Write + Drop>(
         × (F.written channels.new.files ≡ F.written channels.old.files
         ++ kept log.now (saved_text c.rules (history_made (world_at_boot c vs) c.cpus said)) ∷ [])
         × (let m = lines_made (world_at_boot c vs) c.cpus said in
-        Appends (W.contents channels.old.out) (W.contents channels.new.out) (said_lines m.0
+        Appends (W.contents channels.old.out) (W.contents channels.new.out) (answers_text numbered m.0
         ++ report_text m.1.table m.1.services))) }
     ensures fault { IfErr result (λ f. (qs : List Asked) × (ws : List Written)
         × (R.asked channels.new.reader ≡ R.asked channels.old.reader ++ qs)
@@ -110,6 +119,7 @@ pub fn step_saved<R: Reader + Drop, F: FileWriter + Drop, W: Write + Drop>(
         &mut started,
         &mut channels.files,
         log,
+        numbered,
         &mut channels.out,
     )
 }

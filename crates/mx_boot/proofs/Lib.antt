@@ -1,4 +1,4 @@
-pub mod Comment
+mod Comments
 pub mod Services
 pub mod Taking
 mod VerbWords

@@ -12,8 +12,11 @@ use Rattle.mx_boot.specs.declared.item.ConfigItem.{ConfigItem}
 use Rattle.mx_boot.specs.declared.item.ConfigItem.TheVariants.{Cpus, Log, Others, ByRules, Service}
 use Rattle.mx_boot.specs.Terms.{number_between, term_words_of, AreWithin}
 
+abbrev pub is_byte : ℕ → ℕ → Bool
+is_byte byte b = b == byte
+
 abbrev pub is_hash : ℕ → Bool
-is_hash b = b == 35
+is_hash = is_byte 35
 
 -- the fields before a comment, which `#` begins
 abbrev pub said_in : List ℕ → List (List ℕ)

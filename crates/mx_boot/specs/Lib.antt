@@ -6,6 +6,7 @@ pub mod Lines
 pub mod Reading
 pub mod Verbs
 pub mod Script
+pub mod Addresses
 pub mod Debug
 pub mod Words
 pub mod Text

@@ -1,12 +1,13 @@
 //! From a line of a configuration to the item that it sets.
 
-ghost use Rattle.std.specs.Prelude.{◌≡◌, ◌≢◌, ◌≤◌, ◌∷◌, [], ℕ, List, Some, None, MatchOption, IfOk, IfSome, codes, length, take};
+ghost use Rattle.std.specs.Prelude.{◌≡◌, ◌≢◌, ◌≤◌, ◌∷◌, [], ℕ, List, Some, None, MatchOption, IfOk, IfSome, codes};
 ghost use Rattle.std.specs.List.{before_first, list_any};
 ghost use Rattle.mx_text.specs.Fields.{fields};
 ghost use Rattle.mx_boot.specs.declared.service.ServiceWords.{ServiceWords as Words};
 ghost use Rattle.mx_boot.specs.declared.item.ConfigItem.{ConfigItem};
 ghost use Rattle.mx_boot.specs.Items.{is_hash, is_stray, said_in, number_after_word, rules_after_word, SaysService, SaysItem, IsServiceWithin, IsItemWithin};
 
+use crate::comment::before_byte;
 use crate::item::ConfigItem;
 use crate::names::service_name;
 use crate::service::ServiceWords;
@@ -14,23 +15,11 @@ use crate::terms::{number_between, term_words_of};
 use mx_proc::Rules;
 use mx_text::{next_field, one_field};
 
-/// The length of a line up to its comment.
-fn length_of_item(line: &[u8]) -> usize
-    ensures within { result ≤ length line.now }
-    ensures before { take result line.now ≡ before_first is_hash line.now }
-{
-    let mut end = 0;
-    while end < line.len() && line[end] != b'#' {
-        end += 1;
-    }
-    end
-}
-
 /// A configuration's line up to its comment.
 pub fn before_comment(line: &[u8]) -> &[u8]
     ensures { result.now ≡ before_first is_hash line.now }
 {
-    &line[..length_of_item(line)]
+    before_byte(line, b'#')
 }
 
 /// The number that a line is.
@@ -60,8 +49,8 @@ fn is_stray(byte: u8) -> bool
     byte == b'\t' || byte == b'\r'
 }
 
-/// Whether a byte of a field is no part of a file's name.
-fn has_stray(file: &[u8]) -> bool
+/// Whether a byte of a field is no part of a file's name: a tab or a carriage return.
+pub fn has_stray(file: &[u8]) -> bool
     ensures { result ≡ list_any is_stray file.now }
 {
     file.iter().any(|byte| is_stray(*byte))

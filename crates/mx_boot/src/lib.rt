@@ -2,6 +2,8 @@
 //! scripts, histories, reports.
 #![tactic(auto)]
 
+mod address_word;
+mod comment;
 mod debug;
 mod draft;
 mod history_laws;
@@ -22,8 +24,11 @@ mod sink;
 mod terms;
 mod verb;
 
+pub use address_word::{AddressWord, address_named, symbol_name, word_number};
+pub use comment::before_byte;
 pub use debug::{DebugLine, debug_script};
 pub use history_laws::{history_again, one_history, one_text};
+pub use items::{before_comment, has_stray};
 pub use kernels::{report, save, saved_again, saved_text};
 pub use laws::{number_again, verb_again, words_again};
 pub use logs::{lines_above, log};
@@ -36,4 +41,5 @@ pub use saving::{SaveFault, save_history};
 pub use script_reading::{ReadsLine, read_lines};
 pub use scripts::{ScriptLine, script, script_line_of};
 pub use sink::{Over, Sink, SinkFault};
+pub use terms::{mask, number_between};
 pub use verb::{Verb, verb_named};

@@ -19,7 +19,7 @@ pub fn number_between(word: &[u8], least: u32, most: u32) -> Option<u32>
 }
 
 /// The mask that 1 to 8 hexadecimal digits spell.
-fn mask(word: &[u8]) -> Option<u32>
+pub fn mask(word: &[u8]) -> Option<u32>
     ensures { result ≡ mask word.now }
 {
     if word.len() > 8 {

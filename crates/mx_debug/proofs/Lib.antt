@@ -1,4 +1,3 @@
 pub mod Running
 pub mod Halting
 pub mod Marking
-pub mod Naming

@@ -1,7 +1,6 @@
 //! What a debugger finds: names of a program, bytes of a process, and messages that were delivered.
 
 ghost use Rattle.std.specs.Prelude.{◌≡◌, ℕ, ◌≤◌, Some, None, IfOk, IfErr, OnErr, length, take, slice_get};
-ghost use Rattle.mx_dis.specs.Names.{before_zero};
 ghost use Rattle.mx_debug.specs.Finding.{has_name, first_named};
 ghost use Rattle.mx_machine.specs.History.{replay};
 ghost use Rattle.mx_debug.specs.declared.error.DebugError.TheVariants as errors;
@@ -9,21 +8,11 @@ ghost use Rattle.mx_debug.specs.declared.error.DebugError.TheVariants as errors;
 use crate::error::DebugError;
 use crate::points::Debugger;
 use mx_aout::{Program, Symbol};
+use mx_dis::before_zero;
 use mx_exec::Image;
 use mx_image::Runs;
 use mx_machine::Kernel;
 use mx_proc::Delivery;
-
-/// A name's bytes up to the first zero byte.
-fn before_zero(name: &[u8]) -> &[u8]
-    ensures { result.now ≡ before_zero name.now }
-{
-    let mut end = 0;
-    while end < name.len() && name[end] != 0 {
-        end += 1;
-    }
-    &name[..end]
-}
 
 fn is_named(symbol: &Symbol, name: &[u8]) -> bool
     ensures { result ≡ has_name name.now symbol.now }

@@ -4,10 +4,12 @@
 
 mod laws;
 mod listing;
+mod name;
 mod part;
 mod symbols;
 
 pub use laws::{lines_join, one_parting, parted_there};
 pub use listing::list;
+pub use name::before_zero;
 pub use part::{Part, first_part};
 pub use symbols::names;

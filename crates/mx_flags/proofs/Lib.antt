@@ -1,2 +1,3 @@
 pub mod Bits
-pub mod WorkedOut
+pub mod Extended
+pub mod Wholes

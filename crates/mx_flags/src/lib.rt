@@ -2,21 +2,24 @@
 //!
 //! # Lazy flags
 //!
-//! An operation stores what its flags are computed from, and a flag is computed when it is read: one test of
-//! a word, and no branch on the kind of the last operation. INC, DEC, shifts and POPFD write the fields that
-//! an addition writes, so no flag needs an operation before the last one.
+//! `Flags` has the kind, the size, the operands and the result of the last operation, and computes a flag when it is
+//! read. A flag that the last operation left has a field of its own: a value, or which sum or difference it comes
+//! from, whose operands are still there. So a compare computes no more than its difference, AND stores its result,
+//! and INC doesn't compute the carry that it leaves. ADC with the carry set, and SBB with it, compute all seven.
 #![tactic(auto)]
 
-ghost use Rattle.std.specs.Prelude.{◌≡◌, ◌+◌, ◌-◌, ◌^◌, ◌<◌, ◌%◌, ◌/◌};
+ghost use Rattle.std.specs.Prelude.{ℕ, Bool, ◌≡◌, ◌+◌, ◌-◌, ◌^◌, ◌<◌, ◌%◌, ◌/◌};
 ghost use Rattle.std.specs.Int.{from_bool};
-ghost use Rattle.mx_word.specs.Word.{has_even_ones, is_negative, width, leaves_unsigned};
+ghost use Rattle.mx_word.specs.Word.{width, leaves_unsigned};
+ghost use Rattle.mx_word.specs.declared.size.Size.{Size};
+ghost use Rattle.mx_flags.specs.Last.{extended, carry_from, auxiliary_from, overflow_from, shown_from};
 ghost use Rattle.mx_flags.specs.Flags.{bits_of, values_of, low_byte_flags, result_flags, arithmetic_flags, add_flags, sub_flags, increment_flags, decrement_flags, logic_flags, is_less, holds};
 
-use mx_word::{Condition, Size, differ, difference, has_even_ones, signed, sum};
+use mx_word::{Condition, Size, add_w, differ, difference, has_even_ones, signed, sub_w, sum};
 use std::marker::Model;
 
-/// The highest bit of 64: set in a difference that borrowed.
-const TOP_BIT: u64 = 0x8000_0000_0000_0000;
+/// The highest bit of a dword.
+const TOP_BIT: u32 = 0x8000_0000;
 
 /// The values of the seven flags (80386 Programmer's Reference Manual, 2.3.4).
 #[derive(Clone, Copy, PartialEq, Eq)]
@@ -30,45 +33,110 @@ pub struct FlagValues {
     pub overflow: bool,
 }
 
-/// The seven flags, stored as what they are computed from when they are read. A contract sees their values.
-/// All fields are words or pairs of words, since a struct with gaps is copied through the stack.
+/// The last operation that changed zero, sign and parity.
+#[derive(Clone, Copy, PartialEq, Eq)]
+enum Kind {
+    /// ADD.
+    Sum,
+    /// SUB, CMP and NEG.
+    Difference,
+    /// AND, OR, XOR and TEST.
+    Logic,
+    Increment,
+    Decrement,
+    /// A shift, a rotate or a product: overflow is a value.
+    Shift,
+    /// No operation: sign, parity and overflow are values.
+    Values,
+}
+
+/// Where the carry flag comes from.
+#[derive(Clone, Copy, PartialEq, Eq)]
+enum Carry {
+    Clear,
+    Set,
+    /// The sum of the operands.
+    Sum,
+    /// Their difference.
+    Difference,
+}
+
+/// Where the auxiliary carry flag comes from.
+#[derive(Clone, Copy, PartialEq, Eq)]
+enum Auxiliary {
+    Clear,
+    Set,
+    /// The sum of the operands.
+    Sum,
+    /// Their difference.
+    Difference,
+    /// The operand of INC.
+    Increment,
+    /// The operand of DEC.
+    Decrement,
+}
+
+/// The seven flags, as the last operation and what it left. A contract sees their values. The fields leave no gaps,
+/// since a struct with gaps is copied through the stack.
 #[derive(Drop)]
 pub struct Flags {
-    /// Zero if the zero flag is set.
-    zero: u32,
-    /// A word with the sign and the parity.
-    word: u32,
-    /// What each bit of a sum or difference got from the bit below it: auxiliary is bit 4, and overflow is
-    /// set if bits 31 and 32 differ.
-    carries: u64,
-    /// One if the carry is set. A word, as the next, so that the struct has no gaps to copy.
-    carry: u32,
-    direction: u32,
+    /// The operands of the last sum or difference, as dwords of the same sign.
+    left: u32,
+    right: u32,
+    /// The operand of the last INC or DEC.
+    counter: u32,
+    /// The result of the last operation, as a dword of the same sign; zero exactly if the zero flag is set.
+    result: u32,
+    carry: Carry,
+    kind: Kind,
+    /// The size of the result.
+    size: Size,
+    auxiliary: Auxiliary,
+    /// The overflow flag after `Shift` and `Values`.
+    overflow: bool,
+    direction: bool,
+    /// The sign and parity flags after `Values`.
+    sign: bool,
+    parity: bool,
 }
 
 impl Model for Flags {
     ghost use Rattle.std.specs.Prelude.{◌==◌};
     ghost use Rattle.mx_flags.specs.declared.FlagValues.{FlagValues};
-    ghost use Rattle.mx_flags.specs.Flags.{worked_out};
+    ghost use Rattle.mx_flags.specs.Last.{carry_from, auxiliary_from, overflow_from, sign_from, parity_from};
 
     ghost Value = { FlagValues };
 
-    ghost view = { λ f. worked_out f.zero f.word f.carries (f.carry == 1) (f.direction == 1) };
+    ghost view = { λ f. record {
+      carry = carry_from f.carry f.left f.right;
+      parity = parity_from f.kind f.result f.parity;
+      auxiliary = auxiliary_from f.auxiliary f.left f.right f.counter;
+      zero = f.result == 0;
+      sign = sign_from f.kind f.result f.sign;
+      direction = f.direction;
+      overflow = overflow_from f.kind f.size f.left f.right f.counter f.result f.overflow;
+    } };
 }
 
 impl Flags {
     /// The flags with these values.
-    #[tactic(auto, using(crate::proofs::WorkedOut::worked_out_of))]
     #[inline(always)]
     pub fn from_values(values: FlagValues) -> Flags
         ensures { result ≡ values }
     {
         Flags {
-            zero: 1 - u32::from(values.zero),
-            word: 0x8000_0000 * u32::from(values.sign) + (1 - u32::from(values.parity)),
-            carries: 16 * u64::from(values.auxiliary) + 0x8000_0000 * u64::from(values.overflow),
-            carry: u32::from(values.carry),
-            direction: u32::from(values.direction),
+            left: 0,
+            right: 0,
+            counter: 0,
+            result: 1 - u32::from(values.zero),
+            carry: carry_of(values.carry),
+            kind: Kind::Values,
+            size: Size::Dword,
+            auxiliary: auxiliary_of(values.auxiliary),
+            overflow: values.overflow,
+            direction: values.direction,
+            sign: values.sign,
+            parity: values.parity,
         }
     }
 
@@ -129,68 +197,101 @@ impl Flags {
     }
 
     /// Another value with the same seven flags as this one, since `Flags` isn't `Copy`.
+    #[inline(always)]
     pub fn copy(&self) -> Flags
         ensures { result ≡ self.now }
     {
         Flags {
-            zero: self.zero,
-            word: self.word,
-            carries: self.carries,
+            left: self.left,
+            right: self.right,
+            counter: self.counter,
+            result: self.result,
             carry: self.carry,
+            kind: self.kind,
+            size: self.size,
+            auxiliary: self.auxiliary,
+            overflow: self.overflow,
             direction: self.direction,
+            sign: self.sign,
+            parity: self.parity,
         }
     }
 
     /// The carry flag, CF.
+    #[inline(always)]
     pub fn carry(&self) -> bool
         ensures { result ≡ self.now.carry }
     {
-        self.carry == 1
+        match self.carry {
+            Carry::Difference => self.left < self.right,
+            Carry::Sum => self.left.wrapping_add(self.right) < self.right,
+            Carry::Clear => false,
+            Carry::Set => true,
+        }
     }
 
     /// The parity flag, PF.
     pub fn parity(&self) -> bool
         ensures { result ≡ self.now.parity }
     {
-        has_even_ones(self.word)
+        match self.kind {
+            Kind::Values => self.parity,
+            _ => has_even_ones(self.result),
+        }
     }
 
     /// The auxiliary carry flag, AF.
     pub fn auxiliary(&self) -> bool
         ensures { result ≡ self.now.auxiliary }
     {
-        self.carries / 16 % 2 == 1
+        match self.auxiliary {
+            Auxiliary::Difference => self.left % 16 < self.right % 16,
+            Auxiliary::Sum => self.left % 16 + self.right % 16 >= 16,
+            Auxiliary::Increment => self.counter % 16 == 15,
+            Auxiliary::Decrement => self.counter % 16 == 0,
+            Auxiliary::Clear => false,
+            Auxiliary::Set => true,
+        }
     }
 
     /// The zero flag, ZF.
+    #[inline(always)]
     pub fn zero(&self) -> bool
         ensures { result ≡ self.now.zero }
     {
-        self.zero == 0
+        self.result == 0
     }
 
     /// The sign flag, SF.
+    #[inline(always)]
     pub fn sign(&self) -> bool
         ensures { result ≡ self.now.sign }
     {
-        self.word >= 0x8000_0000
+        match self.kind {
+            Kind::Values => self.sign,
+            _ => self.result >= TOP_BIT,
+        }
     }
 
     /// The direction flag, DF.
     pub fn direction(&self) -> bool
         ensures { result ≡ self.now.direction }
     {
-        self.direction == 1
+        self.direction
     }
 
     /// The overflow flag, OF.
+    #[inline(always)]
     pub fn overflow(&self) -> bool
         ensures { result ≡ self.now.overflow }
     {
-        differ(
-            self.carries / 0x1_0000_0000 % 2 == 1,
-            self.carries / 0x8000_0000 % 2 == 1,
-        )
+        match self.kind {
+            Kind::Values | Kind::Shift => self.overflow,
+            Kind::Logic => false,
+            Kind::Sum | Kind::Difference | Kind::Increment | Kind::Decrement => {
+                self.overflow_of_operands()
+            }
+        }
     }
 
     /// Whether the flags satisfy a condition, as Jcc asks.
@@ -217,18 +318,43 @@ impl Flags {
         }
     }
 
+    /// Overflow where it is computed: a sum or difference leaves the signed range if its sign isn't that of the
+    /// whole number.
+    #[inline(never)]
+    fn overflow_of_operands(&self) -> bool
+        ensures { result ≡ self.now.overflow }
+    {
+        let left = signed(Size::Dword, self.left);
+        let right = signed(Size::Dword, self.right);
+        let sign = self.result >= TOP_BIT;
+        match self.kind {
+            Kind::Sum => differ(sign, left + right < 0),
+            Kind::Difference => differ(sign, left < right),
+            Kind::Increment => i64::from(self.counter) + 1 == self.size.half(),
+            Kind::Decrement => i64::from(self.counter) == self.size.half(),
+            Kind::Logic => false,
+            Kind::Shift | Kind::Values => self.overflow,
+        }
+    }
+
+    #[inline(always)]
     fn is_below_or_equal(&self) -> bool
         ensures { result ≡ holds Condition.BelowOrEqual self.now }
     {
         self.carry() || self.zero()
     }
 
+    #[inline(always)]
     fn is_less(&self) -> bool
         ensures { result ≡ is_less self.now }
     {
-        differ(self.sign(), self.overflow())
+        match self.kind {
+            Kind::Difference => { signed(Size::Dword, self.left) < signed(Size::Dword, self.right) }
+            _ => differ(self.sign(), self.overflow()),
+        }
     }
 
+    #[inline(always)]
     fn is_less_or_equal(&self) -> bool
         ensures { result ≡ holds Condition.LessOrEqual self.now }
     {
@@ -240,7 +366,7 @@ impl Flags {
         ensures { result ≡ record self.now { carry = carry } }
     {
         Flags {
-            carry: u32::from(carry),
+            carry: carry_of(carry),
             ..self.copy()
         }
     }
@@ -249,10 +375,10 @@ impl Flags {
     pub fn with_zero(&self, zero: bool) -> Flags
         ensures { result ≡ record self.now { zero = zero } }
     {
-        Flags {
-            zero: 1 - u32::from(zero),
-            ..self.copy()
-        }
+        Flags::from_values(FlagValues {
+            zero,
+            ..self.values()
+        })
     }
 
     /// With this direction, as after CLD and STD.
@@ -260,7 +386,7 @@ impl Flags {
         ensures { result ≡ record self.now { direction = direction } }
     {
         Flags {
-            direction: u32::from(direction),
+            direction,
             ..self.copy()
         }
     }
@@ -271,147 +397,130 @@ impl Flags {
         ensures { result ≡ record self.now { carry = carry; overflow = overflow } }
     {
         Flags {
-            zero: self.zero,
-            word: self.word,
-            carries: self.carries / 16 % 2 * 16 + 0x8000_0000 * u64::from(overflow),
-            carry: u32::from(carry),
+            left: self.left,
+            right: self.right,
+            counter: self.counter,
+            result: self.result,
+            carry: carry_of(carry),
+            kind: with_overflow_value(self.kind),
+            size: self.size,
+            auxiliary: self.auxiliary,
+            overflow,
             direction: self.direction,
+            sign: self.sign,
+            parity: self.parity,
         }
     }
 
     /// With zero, sign and parity of a result.
+    #[tactic(auto, using(crate::proofs::Extended::extended_negative, crate::proofs::Extended::extended_zero, crate::proofs::Extended::extended_parity))]
     #[inline(always)]
     pub fn after_result(&self, size: Size, word: u32) -> Flags
         requires { word < 2 ^ width size }
         ensures { result ≡ result_flags (width size) word self.now }
     {
         Flags {
-            zero: word,
-            word: with_sign_extended(size, word),
+            result: with_sign_extended(size, word),
+            kind: Kind::Shift,
+            size,
+            overflow: self.overflow(),
             ..self.copy()
         }
     }
 
     /// After AND, OR, XOR or TEST with this result.
+    #[tactic(auto, using(crate::proofs::Extended::extended_negative, crate::proofs::Extended::extended_zero, crate::proofs::Extended::extended_parity))]
     #[inline(always)]
     pub fn after_logic(&self, size: Size, word: u32) -> Flags
         requires { word < 2 ^ width size }
         ensures { result ≡ logic_flags (width size) word self.now }
     {
         Flags {
-            zero: word,
-            word: with_sign_extended(size, word),
-            carries: self.carries / 16 % 2 * 16,
-            carry: 0,
-            direction: self.direction,
+            result: with_sign_extended(size, word),
+            carry: Carry::Clear,
+            kind: Kind::Logic,
+            size,
+            ..self.copy()
         }
     }
 
     /// After the sum of two words and a carry.
+    #[tactic(auto, using(crate::proofs::Extended::extended_negative, crate::proofs::Extended::extended_zero, crate::proofs::Extended::extended_parity, crate::proofs::Wholes::sum_carry, crate::proofs::Wholes::sum_digit, crate::proofs::Wholes::sum_leaves))]
     #[inline(always)]
     pub fn after_add(&self, size: Size, x: u32, y: u32, carry: bool) -> Flags
         requires left { x < 2 ^ width size }
         requires right { y < 2 ^ width size }
         ensures { result ≡ add_flags (width size) x y (from_bool carry) self.now }
     {
-        match size {
-            Size::Byte | Size::Word => Flags::from_values(self.sum_values(size, x, y, carry)),
-            Size::Dword => self.after_sum_of_dwords(x, y, carry),
+        if carry {
+            return Flags::from_values(self.sum_values(size, x, y, carry));
         }
-    }
-
-    #[inline(always)]
-    fn after_sum_of_dwords(&self, x: u32, y: u32, carry: bool) -> Flags
-        ensures { result ≡ add_flags 32 x y (from_bool carry) self.now }
-    {
-        let whole = u64::from(x) + u64::from(y) + u64::from(carry);
-        let word = (whole % 0x1_0000_0000) as u32;
         Flags {
-            zero: word,
-            word,
-            carries: u64::from(x) ^ u64::from(y) ^ whole,
-            carry: u32::from(whole >= 0x1_0000_0000),
-            direction: self.direction,
+            left: with_sign_extended(size, x),
+            right: with_sign_extended(size, y),
+            result: with_sign_extended(size, add_w(size, x, y, false)),
+            carry: Carry::Sum,
+            kind: Kind::Sum,
+            size,
+            auxiliary: Auxiliary::Sum,
+            ..self.copy()
         }
     }
 
     /// After the difference of two words and a borrow.
+    #[tactic(auto, using(crate::proofs::Extended::extended_negative, crate::proofs::Extended::extended_zero, crate::proofs::Extended::extended_parity, crate::proofs::Wholes::difference_carry, crate::proofs::Wholes::difference_digit, crate::proofs::Wholes::difference_leaves))]
     #[inline(always)]
     pub fn after_sub(&self, size: Size, x: u32, y: u32, borrow: bool) -> Flags
         requires left { x < 2 ^ width size }
         requires right { y < 2 ^ width size }
         ensures { result ≡ sub_flags (width size) x y (from_bool borrow) self.now }
     {
-        match size {
-            Size::Byte if !borrow => self.after_difference_of_bytes(x, y),
-            Size::Byte | Size::Word => {
-                Flags::from_values(self.difference_values(size, x, y, borrow))
-            }
-            Size::Dword => self.after_difference_of_dwords(x, y, borrow),
+        if borrow {
+            return Flags::from_values(self.difference_values(size, x, y, borrow));
         }
-    }
-
-    #[inline(always)]
-    fn after_difference_of_dwords(&self, x: u32, y: u32, borrow: bool) -> Flags
-        ensures { result ≡ sub_flags 32 x y (from_bool borrow) self.now }
-    {
-        let whole = u64::from(x)
-            .wrapping_sub(u64::from(y))
-            .wrapping_sub(u64::from(borrow));
-        let word = (whole % 0x1_0000_0000) as u32;
         Flags {
-            zero: word,
-            word,
-            carries: u64::from(x) ^ u64::from(y) ^ whole,
-            carry: (whole / TOP_BIT) as u32,
-            direction: self.direction,
-        }
-    }
-
-    /// After the difference of two bytes. Every bit of `carries` above bit 7 is the borrow, and there is
-    /// overflow if bit 7 differs from it. `carries` is shifted by 24 bits and combined with itself: so bits
-    /// 31 and 32 give the overflow, bit 8 with bit 32 gives zero, and bit 4 stays.
-    #[inline(always)]
-    fn after_difference_of_bytes(&self, x: u32, y: u32) -> Flags
-        requires left { x < 2 ^ 8 }
-        requires right { y < 2 ^ 8 }
-        ensures { result ≡ sub_flags 8 x y 0 self.now }
-    {
-        let left = u64::from(x);
-        let right = u64::from(y);
-        let whole = left.wrapping_sub(right);
-        let carries = left ^ right ^ whole;
-        let byte = (whole % 0x100) as u32;
-        Flags {
-            zero: byte,
-            word: with_sign_extended(Size::Byte, byte),
-            carries: carries ^ carries.wrapping_mul(0x100_0000),
-            carry: (whole / TOP_BIT) as u32,
-            direction: self.direction,
+            left: with_sign_extended(size, x),
+            right: with_sign_extended(size, y),
+            result: with_sign_extended(size, sub_w(size, x, y, false)),
+            carry: Carry::Difference,
+            kind: Kind::Difference,
+            size,
+            auxiliary: Auxiliary::Difference,
+            ..self.copy()
         }
     }
 
     /// After INC of a word. The carry stays.
+    #[tactic(auto, using(crate::proofs::Extended::extended_negative, crate::proofs::Extended::extended_zero, crate::proofs::Extended::extended_parity, crate::proofs::Wholes::increment_digit, crate::proofs::Wholes::increment_leaves))]
     #[inline(always)]
     pub fn after_increment(&self, size: Size, x: u32) -> Flags
         requires { x < 2 ^ width size }
         ensures { result ≡ increment_flags (width size) x self.now }
     {
         Flags {
-            carry: self.carry,
-            ..self.after_add(size, x, 1, false)
+            counter: x,
+            result: with_sign_extended(size, add_w(size, x, 1, false)),
+            kind: Kind::Increment,
+            size,
+            auxiliary: Auxiliary::Increment,
+            ..self.copy()
         }
     }
 
     /// After DEC of a word. The carry stays.
+    #[tactic(auto, using(crate::proofs::Extended::extended_negative, crate::proofs::Extended::extended_zero, crate::proofs::Extended::extended_parity, crate::proofs::Wholes::decrement_digit, crate::proofs::Wholes::decrement_leaves))]
     #[inline(always)]
     pub fn after_decrement(&self, size: Size, x: u32) -> Flags
         requires { x < 2 ^ width size }
         ensures { result ≡ decrement_flags (width size) x self.now }
     {
         Flags {
-            carry: self.carry,
-            ..self.after_sub(size, x, 1, false)
+            counter: x,
+            result: with_sign_extended(size, sub_w(size, x, 1, false)),
+            kind: Kind::Decrement,
+            size,
+            auxiliary: Auxiliary::Decrement,
+            ..self.copy()
         }
     }
 
@@ -464,13 +573,44 @@ impl Flags {
     }
 }
 
-/// A result as a dword of the same sign. Its lowest byte stays, so parity and sign are read at the bits of a
-/// dword's.
+/// A carry that is known.
+#[inline(always)]
+fn carry_of(carry: bool) -> Carry
+    ensures { (x y : ℕ) → carry_from result x y ≡ carry }
+{
+    if carry { Carry::Set } else { Carry::Clear }
+}
+
+/// An auxiliary carry that is known.
+#[inline(always)]
+fn auxiliary_of(auxiliary: bool) -> Auxiliary
+    ensures { (x y n : ℕ) → auxiliary_from result x y n ≡ auxiliary }
+{
+    if auxiliary {
+        Auxiliary::Set
+    } else {
+        Auxiliary::Clear
+    }
+}
+
+/// The kind after which overflow is a value, and sign and parity are as before.
+#[inline(always)]
+fn with_overflow_value(kind: Kind) -> Kind
+    ensures shown { (shown given : Bool) → shown_from result shown given ≡ shown_from kind shown given }
+    ensures overflow { (size : Size) (x y k n : ℕ) (given : Bool)
+        → overflow_from result size x y k n given ≡ given }
+{
+    match kind {
+        Kind::Values => Kind::Values,
+        _ => Kind::Shift,
+    }
+}
+
+/// A word as a dword of the same sign.
 #[inline(always)]
 fn with_sign_extended(size: Size, word: u32) -> u32
     requires { word < 2 ^ width size }
-    ensures sign { is_negative 32 result ≡ is_negative (width size) word }
-    ensures parity { has_even_ones result ≡ has_even_ones word }
+    ensures { result ≡ extended (width size) word }
 {
     match size {
         Size::Byte => i32::from((word as u8).cast_signed()).cast_unsigned(),

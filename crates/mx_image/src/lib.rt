@@ -9,4 +9,4 @@ pub use joining::runs_join;
 pub use lasting::runs_last;
 pub use mx_exec::{Image, Outcome};
 pub use mx_exec_cache::Cache;
-pub use runs::{Runs, Stop, run_with};
+pub use runs::{Runs, Stop, run_by_text, run_with};

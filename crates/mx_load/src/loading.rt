@@ -1,13 +1,15 @@
 //! Loads a program: makes the image that its process begins with, or makes an old image that one again.
 
-ghost use Rattle.std.specs.Prelude.{◌≡◌, ◌+◌, ◌≤◌, ◌++◌, IfOk, length, replicate, take, drop};
+ghost use Rattle.std.specs.Prelude.{◌≡◌, ℕ, List, ◌+◌, ◌≤◌, ◌++◌, IfOk, length, replicate, take, drop};
 ghost use Rattle.mx_flags.specs.Flags.{values_of};
 ghost use Rattle.mx_aout.specs.Limits.{rounded_to_pages};
 ghost use Rattle.mx_regs.specs.Regs.{no_words};
 ghost use Rattle.mx_load.specs.Load.{IsLoadedFrom, code_of_text, image_of_program};
-ghost use Rattle.mx_load.specs.Room.{room_for_text};
+ghost use Rattle.mx_entries.specs.Validated.{IsCacheOf};
+ghost use Rattle.mx_load.specs.Room.{IsRoomForText};
 
 use mx_aout::Program;
+use mx_entries::CodeCache;
 use mx_exec::{Code, Image, TextSegment};
 use mx_flags::Flags;
 use mx_mem::Segment;
@@ -37,23 +39,39 @@ fn first_registers(top: u32) -> Regs
     regs
 }
 
+/// Room for a text in a segment of its own: zeros, and an empty cache.
+struct TextRoom {
+    segment: Segment,
+    cache: Box<CodeCache>,
+}
+
 /// The segments of a program's image, all zeros.
 struct Room {
     memory: Segment,
-    /// For a text in a segment of its own.
-    text: Option<Segment>,
+    text: Option<TextRoom>,
 }
 
-/// Takes all pages that a program's image needs, and writes none of them.
+/// Takes all memory that a text of this many bytes needs in a segment of its own.
+fn text_room(alloc: Global, size: u32) -> Result<TextRoom, NoMemory>
+    ensures zeros { IfOk result (λ room. room.segment ≡ replicate size 0) }
+    ensures cached { (code : List ℕ) → IfOk result (λ room. IsCacheOf code room.cache.value) }
+{
+    let segment = Segment::new(alloc, size)?;
+    match Box::new(alloc, CodeCache::new(alloc, size as usize)?) {
+        Ok(cache) => Ok(TextRoom { segment, cache }),
+        Err(_) => Err(NoMemory),
+    }
+}
+
+/// Takes all memory that a program's image needs, and writes no page.
 fn room_for(alloc: Global, program: &Program) -> Result<Room, NoMemory>
     ensures memory { IfOk result (λ room. room.memory
         ≡ replicate (rounded_to_pages program.now.total) 0) }
-    ensures text { IfOk result (λ room. room.text
-        ≡ room_for_text program.now.sep program.now.text) }
+    ensures text { IfOk result (λ room. IsRoomForText program.now.sep program.now.text room.text) }
 {
     let memory = Segment::new(alloc, program.data_limit())?;
     let text = if program.sep {
-        Some(Segment::new(alloc, program.text.as_slice().len() as u32)?)
+        Some(text_room(alloc, program.text.as_slice().len() as u32)?)
     } else {
         None
     };
@@ -77,15 +95,15 @@ fn write_contents(memory: &mut Segment, program: &Program)
 }
 
 /// The code: a text over the zeros of its own segment, or what the data segment holds.
-fn code_of(text: Option<Segment>, program: &Program) -> Code
-    requires { text ≡ room_for_text program.now.sep program.now.text }
+fn code_of(text: Option<TextRoom>, program: &Program) -> Code
+    requires { IsRoomForText program.now.sep program.now.text text }
     ensures { result ≡ code_of_text program.now.sep program.now.text }
 {
-    let Some(mut text) = text else {
+    let Some(TextRoom { mut segment, cache }) = text else {
         return Code::Shared;
     };
-    fill(&mut text, 0, program.text.as_slice());
-    Code::Separate(TextSegment::new(text))
+    fill(&mut segment, 0, program.text.as_slice());
+    Code::Separate(TextSegment::with_cache(segment, cache))
 }
 
 /// The image with which a process of a program begins. Takes all pages for its segments before it

@@ -1,11 +1,11 @@
 //! A program's variables.
 
 ghost use Rattle.std.specs.Prelude.{◌≡◌, ◌++◌, OnOk, find, option_copied, string_bytes};
-ghost use Rattle.mx_dis.specs.Names.{before_zero};
 ghost use Rattle.mx_look_code.specs.Variables.{is_variable, is_variable_named, variable_line, variable_named, variable_value};
 
 use crate::code::push_name;
 use mx_aout::Symbol;
+use mx_dis::before_zero;
 use mx_exec::Image;
 use mx_insn_words::push_eight_digits;
 use mx_word::Size;
@@ -23,17 +23,6 @@ fn is_variable(symbol: &Symbol) -> bool
 {
     let class = symbol.class % 8;
     class == DATA || class == BSS
-}
-
-/// A name's bytes up to the first zero byte.
-fn before_zero(name: &[u8]) -> &[u8]
-    ensures { result.now ≡ before_zero name.now }
-{
-    let mut end = 0;
-    while end < name.len() && name[end] != 0 {
-        end += 1;
-    }
-    &name[..end]
 }
 
 fn is_variable_named(symbol: &Symbol, name: &[u8]) -> bool

@@ -3,11 +3,9 @@ use Rattle.std.proofs.Common.{◌≡◌, ◌∙◌, ◌<◌, ◌+◌, ℕ, zero,
 use Rattle.std.specs.Prelude.{slice_get, codes, if◌then◌else◌}
 use Rattle.std.specs.Result.{is_ok}
 use Rattle.std.specs.List.{flat_map, range_with_len}
-use Rattle.std.specs.Fmt.{decimal, signed_decimal}
-use Rattle.std.specs.Int.{w32, cast_signed}
 use Rattle.std.proofs.lemmas.List.{append-nil}
 use Rattle.mx_proc.specs.declared.deliveries.Delivery.{Delivery}
-use Rattle.mx_print_answers.specs.Messages.{kind_word, delivery_line}
+use Rattle.mx_print_answers.specs.Messages.{delivery_line, delivery_text}
 
 same : {X : Type 0} (x y : X) → Some x ≡ Some y → x ≡ y
 same x y h = cc
@@ -45,21 +43,12 @@ next_number f a (suc n) =
     ∙ ap (λ (m : ℕ). (f a ++ flat_map f (range_with_len (a + 1) n)) ++ f m) e
 
 -- a delivery's line has a byte or more
-module _ (d : Delivery) where
-  abbrev words : List ℕ
-  words = signed_decimal (cast_signed w32 d.from) ++ codes " " ++ signed_decimal (cast_signed w32 d.to) ++ codes " " ++ decimal d.message_type ++ codes " " ++ kind_word d.kind
-
-  parts : delivery_line d ≡ words ++ codes "\n"
-  unfolding delivery_line
-  parts = refl
-
-  pub longer : (y z : List ℕ) → z ≡ y ++ delivery_line d → length y < length z
-  longer y z h =
-      let line = length-append words (codes "\n") in
-      let same_line : length (delivery_line d) ≡ length (words ++ codes "\n") = ap length parts in
-      let whole = length-append y (delivery_line d) in
-      let n : length z ≡ length (y ++ delivery_line d) = ap length h in
-      omega (arith, line, same_line, whole, n)
+pub longer : (d : Delivery) (y z : List ℕ) → z ≡ y ++ delivery_line d → length y < length z
+longer d y z h =
+    let line = length-append (delivery_text d) (codes "\n") in
+    let whole = length-append y (delivery_line d) in
+    let n : length z ≡ length (y ++ delivery_line d) = ap length h in
+    omega (arith, line, whole, n)
 
 -- what is so once a text was put after another
 pub on_pushed : {E : Type 0} (P : Type 0) (r : Result (Unit {0}) E) (z y x : List ℕ) → (z ≡ y → P) → z ≡ (if is_ok r then y else x) → OnOk r P

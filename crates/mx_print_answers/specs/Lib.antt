@@ -5,6 +5,7 @@ pub mod Answers
 pub mod Runs
 pub mod Messages
 pub mod Processes
+pub mod Slots
 pub use Rattle.mx_debug.specs.declared.points.Breakpoint
 pub use Rattle.mx_debug.specs.declared.halt.HaltCause
 pub use Rattle.mx_debug.specs.declared.halt.Halt

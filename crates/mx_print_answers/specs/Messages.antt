@@ -12,10 +12,13 @@ kind_word Message = codes "message"
 kind_word Notification = codes "notify"
 
 -- a delivery: the endpoints of sender and receiver, the type, and its kind
-unfoldable pub delivery_line : Delivery → List ℕ
-delivery_line d =
+unfoldable pub delivery_text : Delivery → List ℕ
+delivery_text d =
     signed_decimal (cast_signed w32 d.from) ++ codes " " ++ signed_decimal (cast_signed w32 d.to)
-    ++ codes " " ++ decimal d.message_type ++ codes " " ++ kind_word d.kind ++ codes "\n"
+    ++ codes " " ++ decimal d.message_type ++ codes " " ++ kind_word d.kind
+
+abbrev pub delivery_line : Delivery → List ℕ
+delivery_line d = delivery_text d ++ codes "\n"
 
 -- a line for each
 abbrev pub delivery_lines : List Delivery → List ℕ

@@ -8,9 +8,10 @@ mod refused;
 mod registers;
 mod runs;
 mod said;
+mod slots;
 mod stops;
 
-pub use messages::push_messages;
+pub use messages::{push_delivery, push_messages};
 pub use mx_debug::{DebugError, Debugger, Halt, HaltCause, Kernel};
 pub use mx_image::{Runs, Stop};
 pub use processes::{push_memory, push_process};
@@ -18,4 +19,8 @@ pub use refused::{Refused, push_done};
 pub use registers::push_registers;
 pub use runs::push_run;
 pub use said::{Said, said_of};
+pub use slots::{
+    address_asked, image_in, push_memory_at, push_memory_of, push_registers_of, slot_named,
+    symbols_of,
+};
 pub use stops::push_stop;

@@ -2,7 +2,7 @@
 
 ghost use Rattle.std.specs.Prelude.{◌≡◌, ◌++◌, OnOk, string_bytes};
 ghost use Rattle.mx_machine.specs.History.{replay};
-ghost use Rattle.mx_print_answers.specs.Messages.{kind_word, delivery_line, delivery_lines};
+ghost use Rattle.mx_print_answers.specs.Messages.{kind_word, delivery_line, delivery_lines, delivery_text};
 
 use mx_debug::{Debugger, Kernel};
 use mx_proc::{Delivery, DeliveryKind};
@@ -18,16 +18,24 @@ fn kind_word(kind: DeliveryKind) -> &'static str
     }
 }
 
-/// Appends the line of a delivery: the endpoints of sender and receiver, the type, and its kind.
-#[tactic(auto, unfolding(crate::specs::Messages::delivery_line))]
-fn push_delivery(out: &mut String, delivery: Delivery) -> Result<(), AllocError>
-    ensures { OnOk result (string_bytes out.new ≡ string_bytes out.old ++ delivery_line delivery) }
+/// Appends a delivery: the endpoints of sender and receiver, the type, and its kind.
+#[tactic(auto, unfolding(crate::specs::Messages::delivery_text))]
+pub fn push_delivery(out: &mut String, delivery: Delivery) -> Result<(), AllocError>
+    ensures { OnOk result (string_bytes out.new ≡ string_bytes out.old ++ delivery_text delivery) }
 {
     let from = delivery.from.cast_signed();
     let to = delivery.to.cast_signed();
     let message_type = delivery.message_type;
     let kind = kind_word(delivery.kind);
-    writeln!(out, "{from} {to} {message_type} {kind}")
+    write!(out, "{from} {to} {message_type} {kind}")
+}
+
+/// Appends the line of a delivery.
+fn push_delivery_line(out: &mut String, delivery: Delivery) -> Result<(), AllocError>
+    ensures { OnOk result (string_bytes out.new ≡ string_bytes out.old ++ delivery_line delivery) }
+{
+    push_delivery(out, delivery)?;
+    out.push_str("\n")
 }
 
 /// Appends the lines of the recorded deliveries, the oldest first: `1 0 0 message`.
@@ -37,7 +45,7 @@ pub fn push_messages(out: &mut String, kernel: &Kernel) -> Result<(), AllocError
 {
     let mut index = 0;
     while let Some(delivery) = Debugger::message(kernel, index) {
-        push_delivery(out, delivery)?;
+        push_delivery_line(out, delivery)?;
         index += 1;
     }
     Ok(())

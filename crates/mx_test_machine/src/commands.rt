@@ -137,6 +137,30 @@ static DONE: &[Done] = &[
         file: None,
     },
     Done {
+        name: "step: the answers after their lines' numbers",
+        words: &["mx", "step", "one", "kills", "--numbered"],
+        status: 0,
+        printed: "1: done\n2: done\n3: refused 54 NoProcess\n4: refused 41 Worn\n5: refused 53 NoLine\n\
+                  6: refused 42 NoService\n0 a 0 down kill 7 5\nuptime 1\nconsole 0\n",
+        file: None,
+    },
+    Done {
+        name: "step: the answers after their lines' numbers, and what is saved is the same",
+        words: &[
+            "mx",
+            "step",
+            "--numbered",
+            "one",
+            "kills",
+            "--save",
+            "new.log",
+        ],
+        status: 0,
+        printed: "1: done\n2: done\n3: refused 54 NoProcess\n4: refused 41 Worn\n5: refused 53 NoLine\n\
+                  6: refused 42 NoService\n0 a 0 down kill 7 5\nuptime 1\nconsole 0\n",
+        file: Some(("new.log", b"rules 2\n1 tick\n1 kill 0\n")),
+    },
+    Done {
         name: "step: killed and refused, saved without the refused events",
         words: &["mx", "step", "one", "kills", "--save", "new.log"],
         status: 0,
@@ -1095,7 +1119,7 @@ static UNWRITABLE: &[Failed] = &[
     },
 ];
 
-/// Words that make turns, and how the turns end.
+/// Words that make turns, or run a machine, and how these end.
 struct Turned {
     name: &'static str,
     words: &'static [&'static str],
@@ -1138,9 +1162,24 @@ static TURNED: &[Turned] = &[
         words: &["mx", "turns", "two_full", "new.log", "--ticks", "1"],
         ending: Ending::Full,
     },
+    Turned {
+        name: "a run up to rest",
+        words: &["mx", "run", "one", "new.log"],
+        ending: Ending::Rest,
+    },
+    Turned {
+        name: "a run up to rest after ticks",
+        words: &["mx", "run", "one", "new.log", "--ticks", "2"],
+        ending: Ending::Rest,
+    },
+    Turned {
+        name: "a run up to a full history",
+        words: &["mx", "run", "full", "new.log"],
+        ending: Ending::Full,
+    },
 ];
 
-/// Whether the turns that words ask for end so.
+/// Whether the turns or the run that words ask for end so.
 fn is_ended<R: Threads + Wait + Clock + Sync>(rt: &R, alloc: Global, row: &Turned) -> bool {
     let mut channels = channels(alloc, None);
     let mut lines = InputLines::new(b"".as_slice());

@@ -139,6 +139,25 @@ static ROWS: &[Row] = &[
                   0 a 0 down kill 7 4\nuptime 0\nconsole 0\n",
     },
     Row {
+        name: "debugger: processes that wait, symbols, and the last message",
+        config: "pair",
+        text: "waiting_slots",
+        by: By::Debugger,
+        told: DONE,
+        printed: "taken 0 budget 20\nstepped 4 trap\nreturned 4\n\
+                  EAX 00007ace ECX 00000002 EDX 00000000 EBX 00000000\n\
+                  ESP 00001000 EBP 00000000 ESI 00000000 EDI 00000000\n\
+                  EIP 00000011 CF 0 PF 0 AF 0 ZF 0 SF 0 DF 0 OF 0\n\
+                  00000000 00 00 00 00\n\
+                  taken 1 budget 20\nstepped 4 trap\nreturned 4\n\
+                  00000000 01 00 00 00\n00000020 00 00 00 00\n\
+                  1 0 0 message words 0 0 0 0 0 0 0\n\
+                  refused 42 NoService\nrefused 60 NoSymbol\nrefused 42 NoService\n\
+                  refused 61 NotHere\n\
+                  taken 0 budget 16\n00000002 00 00\nrefused 61 NotHere\n\
+                  0 drv 0 out 4 16\n1 cli 1 awaiting 0 7 16\nuptime 0\nconsole 0\n",
+    },
+    Row {
         name: "debugger: who is killed at a breakpoint runs on from it",
         config: "one",
         text: "killed_at_break",
@@ -303,7 +322,7 @@ static ROWS: &[Row] = &[
 
 fn drive(alloc: Global, row: &Row, out: &mut Vec<u8>) -> Result<Replayed, Failure> {
     let made = match row.by {
-        By::Script => step(alloc, &mut reader(), row.config, row.text, out),
+        By::Script => step(alloc, &mut reader(), row.config, row.text, false, out),
         By::Debugger => db(alloc, &mut reader(), row.config, row.text, out),
         By::History => return replay(alloc, &mut reader(), row.config, row.text, out),
     };

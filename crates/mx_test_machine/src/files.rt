@@ -622,6 +622,12 @@ static FILES: &[NamedFile<'static>] = &[
             back 0\nmessages\n",
     },
     NamedFile {
+        name: "waiting_slots",
+        bytes: b"take 0\nstep 0 99\nback 0\nregs of 0\nmem of 0 buf 4\ntake 0\nstep 0 99\nback 0\n\
+            mem of 0 buf 4\nmem of 1 0x20 4\nmessages 1\nregs of 2\nmem of 0 nope 1\nmem of 2 0 1\n\
+            mem 0 buf 4\ntake 0\nmem 0 buf+2 2\nmem 0 buf+4093 4\n",
+    },
+    NamedFile {
         name: "refusals",
         bytes: b"break 2 top\nbreak 0 nope\nclear 0 abcdefghijk\nclear 0 5\ngo 0 0\nregs 0\n\
             mem 0 0 0\ntake 0\ngo 0 4\ngo 0 1\ngo 0 0\nmem 0 4096 0\nmem 0 4090 7\nmem 0 4079 17\n\

@@ -107,14 +107,16 @@ static SESSIONS: &[Session] = &[
         name: "a history that is refused after its first record",
         log: "long",
         asks: false,
-        typed: b"forward\ngoto end\nstep\nforward\ngoto 2\ngoto 1.4\nstepback\n",
+        typed: b"forward\ngoto end\nstep\nforward\ngoto 2\ngoto 1.4\nstepback\n\
+            until death 0\n",
         printed: "at 0 of 2, record 1: 0 take\n\
                   at 1 of 2, record 2: 0 back 4\na 0 00000000 mov eax, 0x5\n\
                   at 1.3 of 2, record 2: 0 back 4\nline 2: refused 55 AtStop\n\
                   at 1.3 of 2, record 2: 0 back 4\nline 2: refused 55 AtStop\n\
                   at 1.3 of 2, record 2: 0 back 4\nline 2: refused 55 AtStop\n\
                   refused 63 NoPosition\nrefused 63 NoPosition\n\
-                  at 1.2 of 2, record 2: 0 back 4\na 0 00000008 int 0x21\n",
+                  at 1.2 of 2, record 2: 0 back 4\na 0 00000008 int 0x21\n\
+                  not met\nat 1.3 of 2, record 2: 0 back 4\nline 2: refused 55 AtStop\n",
     },
     Session {
         name: "the first event is refused, below the line of the rules",
@@ -215,12 +217,13 @@ static OF_A_PAIR: &[Session] = &[
         name: "variables, and what is none",
         log: "pair_log",
         asks: false,
-        typed: b"goto 5.1\nprint 0 buf\np 1 buf\nprint 0 top\nprint 0 0\nprint 2 buf\npr 0\n",
+        typed: b"goto 5.1\nprint 0 buf\np 1 buf\nprint 0 top\nprint 0 0\nprint 2 buf\npr 0\n\
+            print 0 \xFF\nbreak 0 \xFF\n",
         printed: "at 0 of 10, record 1: 0 take\n\
                   at 5.1 of 10, record 6: 0 back 3\ndrv 0 00000017 top+17 mov ecx, 0x1\n\
                   00000000 buf 00000001 1\nrefused 73 BadRecord: points, print, ps\n\
                   refused 60 NoSymbol\nrefused 60 NoSymbol\nrefused 42 NoService\n\
-                  refused 73 BadRecord\n",
+                  refused 73 BadRecord\nrefused 73 BadRecord\nrefused 73 BadRecord\n",
     },
 ];
 
@@ -295,6 +298,49 @@ static SEARCHES: &[Session] = &[
                   watch 1 00000004: 00 00 -> 00 06\n\
                   at 9 of 10, record 10: 0 back 4\ncli 1 00000011 mov dword [0x4], 0x600\n\
                   at 5.1 of 10, record 6: 0 back 3\ndrv 0 00000017 top+17 mov ecx, 0x1\n",
+    },
+    Session {
+        name: "on to a message, to a kernel call by name and by number, and to a death",
+        log: "pair_log",
+        asks: false,
+        typed: b"until message 1 0\ngoto 3.1\nu message 1 0\nuntil message 1 0\ngoto 9.4\n\
+            until 1 EXIT\ngoto 9.4\nuntil 1 0x600\ngoto 9.4\nuntil 1 1536\ngoto 9.4\nuntil death 1\n\
+            until death 1\n",
+        printed: "at 0 of 10, record 1: 0 take\n\
+                  4 0 back 4: cli 1 trap SENDREC drv 0\n4   message cli 1 to drv 0 type 0\n\
+                  4   drv 0: receiving any -> ready, result 0 OK\n\
+                  4   cli 1: out -> awaiting 0\nat 4 of 10, record 5: 0 take\n\
+                  at 3.1 of 10, record 4: 0 back 4\ncli 1 00000005 mov eax, 0x0\n\
+                  4 0 back 4: cli 1 trap SENDREC drv 0\n4   message cli 1 to drv 0 type 0\n\
+                  4   drv 0: receiving any -> ready, result 0 OK\n\
+                  4   cli 1: out -> awaiting 0\nat 4 of 10, record 5: 0 take\n\
+                  not met\nat 10 of 10, the end\nat 9.4 of 10, record 10: 0 back 4\n\
+                  10 0 back 4: cli 1 trap SENDREC SYSTEM, EXIT\n10   cli 1: out -> down exit\n\
+                  at 10 of 10, the end\n\
+                  at 9.4 of 10, record 10: 0 back 4\n\
+                  10 0 back 4: cli 1 trap SENDREC SYSTEM, EXIT\n10   cli 1: out -> down exit\n\
+                  at 10 of 10, the end\n\
+                  at 9.4 of 10, record 10: 0 back 4\n\
+                  10 0 back 4: cli 1 trap SENDREC SYSTEM, EXIT\n10   cli 1: out -> down exit\n\
+                  at 10 of 10, the end\n\
+                  at 9.4 of 10, record 10: 0 back 4\n\
+                  10 0 back 4: cli 1 trap SENDREC SYSTEM, EXIT\n10   cli 1: out -> down exit\n\
+                  at 10 of 10, the end\n\
+                  not met\nat 10 of 10, the end\n",
+    },
+    Session {
+        name: "what `until` isn't asked for, and slots that aren't there",
+        log: "pair_log",
+        asks: false,
+        typed: b"until\nuntil 0\nuntil 0 exit\nuntil 0 0x\nuntil x EXIT\nuntil 0 EXIT 1\n\
+            until death\nuntil death 0 1\nuntil message 0\nuntil 2 EXIT\nuntil death 2\n\
+            until message 2 0\nuntil message 0 2\nwhere\n",
+        printed: "at 0 of 10, record 1: 0 take\n\
+                  refused 73 BadRecord\nrefused 73 BadRecord\nrefused 73 BadRecord\n\
+                  refused 73 BadRecord\nrefused 73 BadRecord\nrefused 73 BadRecord\n\
+                  refused 73 BadRecord\nrefused 73 BadRecord\nrefused 73 BadRecord\n\
+                  refused 42 NoService\nrefused 42 NoService\nrefused 42 NoService\n\
+                  refused 42 NoService\nat 0 of 10, record 1: 0 take\n",
     },
 ];
 

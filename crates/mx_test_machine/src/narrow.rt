@@ -3,8 +3,7 @@
 use crate::files::reader;
 use crate::texts::Narrow;
 use mx_app::{
-    Channels, CommandRequest, Done, Failure, InputLines, MemoryWriter, NoProgress, RecordRange,
-    perform,
+    Channels, CommandRequest, Failure, InputLines, MemoryWriter, NoProgress, RecordRange, perform,
 };
 use mx_app_db::{Script, make_steps, start};
 use mx_boot::{Over, save};
@@ -56,6 +55,7 @@ static ROWS: &[Row] = &[
             config: "one",
             script: "kills",
             save: None,
+            numbered: false,
         },
         printed: KILLED,
     },
@@ -65,6 +65,7 @@ static ROWS: &[Row] = &[
             config: "one",
             script: "kills",
             save: Some("new"),
+            numbered: false,
         },
         printed: KILLED,
     },
@@ -126,10 +127,10 @@ fn is_printed<R: Threads + Wait + Clock + Sync>(
     let wanted = if room < text.len() {
         Err(Failure::File)
     } else {
-        Ok(Done::with_status(0))
+        Ok(0)
     };
     let mut lines = InputLines::new(b"".as_slice());
-    let answer = perform(
+    let done = perform(
         rt,
         alloc,
         &mut channels,
@@ -138,6 +139,10 @@ fn is_printed<R: Threads + Wait + Clock + Sync>(
         false,
         row.request,
     );
+    let answer = match done {
+        Ok(done) => Ok(done.status),
+        Err(failure) => Err(failure),
+    };
     answer == wanted && channels.out.bytes.as_slice() == &text[..room.min(text.len())]
 }
 

@@ -352,6 +352,21 @@ static DEBUG_SCRIPTS: &[Text] = &[
         told: Ok(9),
     },
     Text {
+        name: "of slots, by symbols, and the last messages",
+        text: "regs of 3\nmem 0 buf 4\nmem of 3 buf+8 0\nmem of 3 0x1f 4\nmessages 7\n",
+        told: Ok(5),
+    },
+    Text {
+        name: "of no slot",
+        text: "regs of",
+        told: Err(BadRecord(1)),
+    },
+    Text {
+        name: "bytes after a symbol, and no number",
+        text: "mem of 3 buf+ 4",
+        told: Err(BadRecord(1)),
+    },
+    Text {
         name: "a number too few",
         text: "mem 0 0",
         told: Err(BadRecord(1)),
@@ -373,7 +388,7 @@ static DEBUG_SCRIPTS: &[Text] = &[
     },
     Text {
         name: "a number too many",
-        text: "messages 1",
+        text: "messages 1 2",
         told: Err(BadRecord(1)),
     },
 ];

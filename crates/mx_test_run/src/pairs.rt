@@ -101,7 +101,7 @@ fn left_by<R: Threads + Wait + Clock + Sync>(
     };
     let done = run(rt, alloc, &mut channels, names, row.ticks);
     match done {
-        Ok(()) => {
+        Ok(_) => {
             let Channels { files, out, .. } = channels;
             Ok(RunLeft {
                 files,

@@ -1,18 +1,17 @@
 -- A walker comes to each position that isn't below its last.
-use Rattle.std.proofs.Common.{◌≡◌, ◌≢◌, ◌∙◌, ◌<◌, ◌≤◌, ◌⊎◌, ℕ, zero, suc, ◌+◌, ◌-◌, List, [], ◌∷◌, ◌++◌, length, take, drop, append_assoc, Option, Some, None, All, refl, ap, sym, subst, inl, inr, arith}
+use Rattle.std.proofs.Common.{◌≡◌, ◌≢◌, ◌∙◌, ◌≤◌, ◌⊎◌, ℕ, zero, suc, List, [], ◌∷◌, ◌++◌, length, append_assoc, Some, None, refl, ap, sym, subst, inl, inr, arith}
 use Rattle.std.proofs.lemmas.Bool.{cases_lt}
 use Rattle.std.proofs.lemmas.List.{append-nil}
 use Rattle.mx_machine.specs.declared.events.Event.{Event}
-use Rattle.mx_machine.specs.declared.events.Refusal.{Refusal}
 use Rattle.mx_machine.specs.declared.history.Record.{Record}
-use Rattle.mx_machine.specs.History.{AreAccepted, events_of_history, world_after_events}
+use Rattle.mx_machine.specs.History.{AreAccepted, world_after_events}
 use Rattle.mx_machine.specs.Move.{event_refusal, world_after_event}
-use Rattle.mx_machine.specs.World.{World, actors}
+use Rattle.mx_machine.specs.World.{World}
 use Rattle.mx_machine.specs.Machine.{MachineState, world_of}
 use Rattle.mx_walk.specs.declared.positions.Position.{Position}
-use Rattle.mx_walk.specs.Positions.{HasHalted, HasMade, IsAbove, IsAt, IsBlocked, IsPosition, IsStuck, IsUpTo, begun, event_below, event_in, events_above, events_left, next_position, world_at}
+use Rattle.mx_walk.specs.Positions.{HasHalted, IsAbove, IsAt, IsBlocked, IsPosition, IsStuck, IsUpTo, event_below, event_in, events_above, events_left, next_position, world_at}
 use Rattle.mx_walk.specs.Walks.{IsLast, first, refusal_of}
-use Rattle.mx_walk.proofs.Along.{any_record, at, below_here, entry, none_begun}
+use Rattle.mx_walk.proofs.Along.{any_record, at, below_here, entry}
 use Rattle.mx_walk.proofs.Made.{none_made, made_as}
 use Rattle.mx_walk.proofs.Next.{above_inside_too, above_it, above_to, above_trans, at_end, fewer_left, is_position_too, next_up_to, up_to_of}
 

@@ -23,23 +23,23 @@ returns-in-Explain g c = as_asked c.args.asks _ _ _ _ _ _ _ _ c.in-Explain.is (e
 
 pub returns-in-None : goal.returns-in-None
 returns-in-None g c =
-    as_asked c.args.asks _ _ _ _ _ _ _ _ (c.in-Step.is ∙ ap (λ (o : Option _). Step c.in-Step.config c.in-Step.script o) c.in-None.is)
-    (steps _ _ _ c.in-Step.config.now c.in-Step.script.now _ _ c.step.result c.done_after_work-in-None.result c.step.ensures.printed c.step.ensures.fault c.done_after_work-in-None.ensures)
+    as_asked c.args.asks _ _ _ _ _ _ _ _ (c.in-Step.is ∙ ap (λ (o : Option _). Step c.in-Step.config c.in-Step.script o c.in-Step.numbered) c.in-None.is)
+    (steps _ _ _ c.in-Step.config.now c.in-Step.script.now c.in-Step.numbered _ _ c.step.result c.done_after_work-in-None.result c.step.ensures.printed c.step.ensures.fault c.done_after_work-in-None.ensures)
 
 pub returns-in-Some : goal.returns-in-Some
 returns-in-Some g c =
-    as_asked c.args.asks _ _ _ _ _ _ _ _ (c.in-Step.is ∙ ap (λ (o : Option _). Step c.in-Step.config c.in-Step.script o) c.in-Some.is)
-    (saved _ _ _ _ c.in-Step.config.now c.in-Step.script.now c.in-Some.log.now _ _ c.step_apart.result c.done_after_work-in-Some.result c.step_apart.ensures c.done_after_work-in-Some.ensures)
+    as_asked c.args.asks _ _ _ _ _ _ _ _ (c.in-Step.is ∙ ap (λ (o : Option _). Step c.in-Step.config c.in-Step.script o c.in-Step.numbered) c.in-Some.is)
+    (saved _ _ _ _ c.in-Step.config.now c.in-Step.script.now c.in-Some.log.now c.in-Step.numbered _ _ c.step_apart.result c.done_after_work-in-Some.result c.step_apart.ensures c.done_after_work-in-Some.ensures)
 
 pub returns-in-Run : goal.returns-in-Run
 returns-in-Run g c =
     as_asked c.args.asks _ _ _ _ _ _ _ _ c.in-Run.is
-    (runs _ _ _ _ c.in-Run.config.now c.in-Run.log.now c.in-Run.ticks _ _ c.run.result c.done_after_work-in-Run.result c.run.ensures c.done_after_work-in-Run.ensures)
+    (runs _ _ _ _ c.in-Run.config.now c.in-Run.log.now c.in-Run.ticks _ _ c.run.result c.done_after_turns.result c.run.ensures c.done_after_turns.ensures)
 
 pub returns-in-Turns : goal.returns-in-Turns
 returns-in-Turns g c =
     as_asked c.args.asks _ _ _ _ _ _ _ _ c.in-Turns.is
-    (turned _ _ _ _ c.in-Turns.config.now c.in-Turns.log.now (option_map (λ s. s.now) c.in-Turns.events) c.in-Turns.ticks c.in-Turns.bound _ _ c.turns.result c.done_after_turns.result c.turns.ensures c.done_after_turns.ensures)
+    (turned _ _ _ _ c.in-Turns.config.now c.in-Turns.log.now (option_map (λ s. s.now) c.in-Turns.events) c.in-Turns.ticks c.in-Turns.bound _ _ c.turns.result c.done_after_turns-in-Turns.result c.turns.ensures c.done_after_turns-in-Turns.ensures)
 
 pub returns-in-Sweep : goal.returns-in-Sweep
 returns-in-Sweep g c =

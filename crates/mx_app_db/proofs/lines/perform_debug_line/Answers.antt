@@ -1,7 +1,7 @@
 use Rattle.std.specs.Prelude.{string_bytes}
 use Rattle.mx_app_step.specs.Machine.{world_of}
 use Rattle.mx_app_db.proofs.Made.{always, both, plain_of, broken_of, cleared_of}
-use Rattle.mx_app_db.proofs.Told.{told_by, plain_told, broken_told, cleared_told, go_told, registers_told, memory_told, messages_told}
+use Rattle.mx_app_db.proofs.Told.{told_by, plain_told, broken_told, cleared_told, go_told, registers_told, registers_of_told, memory_told, memory_of_told, messages_told, last_messages_told}
 use Rattle.mx_app_db.proofs.lines.perform_debug_line.Goals as goal
 
 pub returns-in-Plain-clause-made : goal.returns-in-Plain-clause-made
@@ -46,7 +46,22 @@ returns-in-Memory-clause-told c =
     told_by c.show_memory.result c.args.other (both (world_of c.args.machine.now) c.args.debugger.now) c.args.line.now _ (string_bytes c.args.text.now) (string_bytes c.show_memory.new.text) _ c.in-Memory.is
     (memory_told c.args.other (both (world_of c.args.machine.now) c.args.debugger.now) _ _ _) c.show_memory.ensures
 
+pub returns-in-RegistersOf-clause-told : goal.returns-in-RegistersOf-clause-told
+returns-in-RegistersOf-clause-told c =
+    told_by c.show_registers_of.result c.args.other (both (world_of c.args.machine.now) c.args.debugger.now) c.args.line.now _ (string_bytes c.args.text.now) (string_bytes c.show_registers_of.new.text) _ c.in-RegistersOf.is
+    (registers_of_told c.args.other (both (world_of c.args.machine.now) c.args.debugger.now) _) c.show_registers_of.ensures
+
+pub returns-in-MemoryOf-clause-told : goal.returns-in-MemoryOf-clause-told
+returns-in-MemoryOf-clause-told c =
+    told_by c.show_memory_of.result c.args.other (both (world_of c.args.machine.now) c.args.debugger.now) c.args.line.now _ (string_bytes c.args.text.now) (string_bytes c.show_memory_of.new.text) _ c.in-MemoryOf.is
+    (memory_of_told c.args.other (both (world_of c.args.machine.now) c.args.debugger.now) _ _ _) c.show_memory_of.ensures
+
 pub returns-in-Messages-clause-told : goal.returns-in-Messages-clause-told
 returns-in-Messages-clause-told c =
     told_by c.push_messages.result c.args.other (both (world_of c.args.machine.now) c.args.debugger.now) c.args.line.now _ (string_bytes c.args.text.now) (string_bytes c.push_messages.new.out) _ c.in-Messages.is
     (messages_told c.args.other c.args.machine.now c.kernel-in-Messages.result.now c.args.debugger.now c.kernel-in-Messages.ensures) c.push_messages.ensures
+
+pub returns-in-LastMessages-clause-told : goal.returns-in-LastMessages-clause-told
+returns-in-LastMessages-clause-told c =
+    told_by c.push_last_messages.result c.args.other (both (world_of c.args.machine.now) c.args.debugger.now) c.args.line.now _ (string_bytes c.args.text.now) (string_bytes c.push_last_messages.new.out) _ c.in-LastMessages.is
+    (last_messages_told c.args.other (both (world_of c.args.machine.now) c.args.debugger.now) _) c.push_last_messages.ensures

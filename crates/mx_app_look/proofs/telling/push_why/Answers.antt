@@ -1,19 +1,11 @@
-use Rattle.std.proofs.Common.{◌≡◌, ◌∙◌, ◌-◌, ◌++◌, ◌≤◌, ◌<◌, ℕ, suc, List, length, get_or, Option, Some, OnOk, slice_get, ap, subst, sym, arith}
+use Rattle.std.proofs.Common.{◌≡◌, ◌∙◌, ◌-◌, ◌++◌, ◌≤◌, ◌<◌, ℕ, suc, List, length, get_or, Some, OnOk, slice_get, ap, subst, sym, arith}
 use Rattle.mx_machine.specs.declared.history.Record.{Record}
 use Rattle.mx_look_trace.specs.Trace.{record_text}
-use Rattle.mx_app_look.specs.Answers.{record_above, step_above, why_by, why_text}
+use Rattle.mx_app_look.specs.Above.{step_above, why_text}
 use Rattle.mx_walk.specs.Walks.{Walk}
 use Rattle.mx_app_look.proofs.Moving.{read_is}
+use Rattle.mx_app_look.proofs.Told.{why_is}
 use Rattle.mx_app_look.proofs.telling.push_why.Goals as goal
-
-above_is : (records : List Record) (n m : ℕ) (x : Record) → n ≡ suc m → slice_get records m ≡ Some x → record_above records n ≡ Some x
-above_is records n m x e h = ap (record_above records) e ∙ h
-
-why_is : (k : Walk) (m : ℕ) (x : Record) → k.here.records ≡ suc m → slice_get k.records m ≡ Some x → why_text k ≡ record_text (step_above k.boot k.records m x)
-why_is k m x e h =
-    let less : k.here.records - 1 ≡ m = omega (arith, e) in
-    ap (λ (o : Option Record). why_by k (k.here.records - 1) o) (above_is k.records k.here.records m x e h)
-    ∙ ap (λ i. record_text (step_above k.boot k.records i x)) less
 
 -- what was read at this index of these records
 told_is : (k : Walk) (records : List Record) (n : ℕ) (x : Record) → records ≡ k.records → (n ≡ 0 → ⊥) → n ≡ k.here.records → k.here.records ≤ length k.records

@@ -15,10 +15,10 @@ returns-in_err-image c =
     let p = err_from_is_err_and c.from_residual-in_err-image.result c.from_residual-in_err-image.ensures.1 in
     rw (p.1, p.2) (answers_no_memory (refusal_of c.args.bytes.now) c.args.bytes.now c.args.steps c.in_ok-program.program c.in_ok-program.ensures)
 
-pub returns-in_err-cache : goal.returns-in_err-cache
-returns-in_err-cache c =
-    let p = err_from_is_err_and c.from_residual-in_err-cache.result c.from_residual-in_err-cache.ensures.1 in
+pub returns-in_err-made : goal.returns-in_err-made
+returns-in_err-made c =
+    let p = err_from_is_err_and c.from_residual-in_err-made.result c.from_residual-in_err-made.ensures.1 in
     rw (p.1, p.2) (answers_no_memory (refusal_of c.args.bytes.now) c.args.bytes.now c.args.steps c.in_ok-program.program c.in_ok-program.ensures)
 
 pub returns : goal.returns
-returns c = answers_run (refusal_of c.args.bytes.now) c.args.bytes.now c.args.steps c.in_ok-program.program _ _ _ c.in_ok-program.ensures (ap (run_of c.args.steps) (sym c.in_ok-image.ensures.image) ∙ c.run_with-count.ensures.ran)
+returns c = answers_run (refusal_of c.args.bytes.now) c.args.bytes.now c.args.steps c.in_ok-program.program _ _ _ c.in_ok-program.ensures (ap (run_of c.args.steps) (sym c.in_ok-image.ensures.image) ∙ c.in_ok-made.ensures)

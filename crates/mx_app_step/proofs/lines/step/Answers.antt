@@ -21,7 +21,7 @@ returns-clause-printed g c =
       c.in_ok-started.started.lines.items,
       s.3,
       s.4,
-      script_printed (g.W.Write.contents c.args.out.now) (g.W.Write.contents c.print_lines.new.out) s.1 s.2 (world_of c.in_ok-started.started.machine) c.in_ok-started.started.other c.in_ok-started.started.lines.items c.as_slice-lines.result.now s.5 s.6 c.as_slice-lines.ensures.value b,
+      script_printed c.args.numbered (g.W.Write.contents c.args.out.now) (g.W.Write.contents c.print_lines.new.out) s.1 s.2 (world_of c.in_ok-started.started.machine) c.in_ok-started.started.other c.in_ok-started.started.lines.items c.as_slice-lines.result.now s.5 s.6 c.as_slice-lines.ensures.value b,
     )) c.print_lines.ensures.printed
 
 pub returns-clause-fault : goal.returns-clause-fault

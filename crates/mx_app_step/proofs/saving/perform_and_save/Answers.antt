@@ -8,9 +8,9 @@ use Rattle.mx_app_start.specs.Telling.{IsUnsaved}
 use Rattle.mx_app_start.specs.Written.{Written, kept}
 use Rattle.mx_machine.specs.History.{BootAndHistory}
 use Rattle.mx_boot.specs.declared.scripts.ScriptLine.{ScriptLine}
-use Rattle.mx_print_answers.specs.Said.{said_lines}
 use Rattle.mx_app_step.specs.Kept.{lines_kept, text_kept, IsUnwritten}
 use Rattle.mx_app_step.specs.Lines.{lines_made}
+use Rattle.mx_app_step.specs.Numbered.{answers_text}
 use Rattle.mx_app_step.proofs.StepLemmas.{lines_printed}
 use Rattle.mx_app_step.proofs.saving.perform_and_save.Goals as goal
 
@@ -25,8 +25,8 @@ returns-clause-saved g c =
     on_ok_weaker c.print_report.result (λ b. (
       c.in_ok-write_history.ensures.written ∙ ap (λ (k : BootAndHistory). g.F.FileWriter.written c.args.files.now ++ kept c.args.log.now (text_kept k) ∷ [])
           (c.kernel.ensures ∙ c.in_ok-print_said.ensures.kept ∙ ap (lines_kept c.args.started.now.machine.kernel w other) items),
-      subst (λ (ls : List ScriptLine). (let m = lines_made w other ls in Appends x z (said_lines m.0 ++ report_text m.1.table m.1.services))) items
-          (lines_printed x (g.W.Write.contents c.print_said.new.out) z w (world_of c.print_said.new.machine) other lines c.in_ok-print_said.ensures.printed c.in_ok-print_said.ensures.world b),
+      subst (λ (ls : List ScriptLine). (let m = lines_made w other ls in Appends x z (answers_text c.args.numbered m.0 ++ report_text m.1.table m.1.services))) items
+          (lines_printed c.args.numbered x (g.W.Write.contents c.print_said.new.out) z w (world_of c.print_said.new.machine) other lines c.in_ok-print_said.ensures.printed c.in_ok-print_said.ensures.world b),
     )) c.print_report.ensures.bytes
 
 -- what isn't written isn't saved

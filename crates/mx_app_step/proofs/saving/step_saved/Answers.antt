@@ -25,7 +25,7 @@ returns-clause-saved g c =
       s.3,
       s.4,
       b.0 ∙ ap (λ (t : List ℕ). g.F.FileWriter.written c.args.channels.now.files ++ kept c.args.log.now t ∷ []) text,
-      script_printed (g.W.Write.contents c.args.channels.now.out) (g.W.Write.contents c.perform_and_save.new.out) s.1 s.2 (world_of c.in_ok-started.started.machine) c.in_ok-started.started.other c.in_ok-started.started.lines.items c.in_ok-started.started.lines.items s.5 s.6 refl b.1,
+      script_printed c.args.numbered (g.W.Write.contents c.args.channels.now.out) (g.W.Write.contents c.perform_and_save.new.out) s.1 s.2 (world_of c.in_ok-started.started.machine) c.in_ok-started.started.other c.in_ok-started.started.lines.items c.in_ok-started.started.lines.items s.5 s.6 refl b.1,
     )) c.perform_and_save.ensures.saved
 
 pub returns-clause-fault : goal.returns-clause-fault

@@ -8,9 +8,9 @@ use Rattle.mx_print_answers.proofs.messages.push_messages.Goals as goal
 pub loop-delivery-preserved : goal.loop-delivery-preserved
 loop-delivery-preserved c =
     let inv = c.loop-delivery.invariant in
-    let n = longer c.in-Some.delivery (string_bytes c.loop-delivery.out) (string_bytes c.push_delivery.new.out) c.in_ok-push_delivery.ensures in
+    let n = longer c.in-Some.delivery (string_bytes c.loop-delivery.out) (string_bytes c.push_delivery_line.new.out) c.in_ok-push_delivery_line.ensures in
     record {
-      lines = next_line delivery_line (replay c.args.kernel.now).table.deliveries c.loop-delivery.index c.in-Some.delivery (string_bytes c.args.out.now) (string_bytes c.loop-delivery.out) (string_bytes c.push_delivery.new.out) (sym c.message.ensures ∙ c.in-Some.is) inv.lines c.in_ok-push_delivery.ensures;
+      lines = next_line delivery_line (replay c.args.kernel.now).table.deliveries c.loop-delivery.index c.in-Some.delivery (string_bytes c.args.out.now) (string_bytes c.loop-delivery.out) (string_bytes c.push_delivery_line.new.out) (sym c.message.ensures ∙ c.in-Some.is) inv.lines c.in_ok-push_delivery_line.ensures;
       few = omega (arith, n, inv.few);
     }
 

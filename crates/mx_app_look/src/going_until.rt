@@ -1,0 +1,103 @@
+//! On to a record in which something happens.
+
+ghost use Rattle.std.specs.Prelude.{◌≡◌, ◌++◌, IfErr, IfOk, OnOk, true};
+ghost use Rattle.mx_app_step.specs.Failure.{IsWanting};
+ghost use Rattle.mx_app_look.specs.declared.request.Request.TheVariants as requests;
+ghost use Rattle.mx_app_look.specs.Answers.{after, request_text};
+ghost use Rattle.mx_app_look.specs.Until.{has_service, has_slots, until_halt};
+
+use crate::happening::{Happening, happens};
+use crate::places::push_place;
+use crate::sight::{Sight, say};
+use crate::slots::slot_asked;
+use crate::telling::see_record;
+use mx_app_step::{Failure, resting_step};
+use mx_look_trace::push_record;
+use mx_walk::Walker;
+use mx_word::NoMemory;
+use std::alloc::Global;
+
+/// What a slot that isn't there is answered.
+const NO_SERVICE: &str = "refused 42 NoService\n";
+
+/// Whether a slot has a service.
+fn has_service(walker: &Walker, slot: u32) -> bool
+    ensures { result ≡ has_service walker.now slot }
+{
+    match slot_asked(walker, Some(slot)) {
+        Ok(_) => true,
+        Err(_) => false,
+    }
+}
+
+/// Whether each slot has a service that it is about.
+fn has_slots(walker: &Walker, happening: Happening) -> bool
+    ensures { result ≡ has_slots walker.now happening }
+{
+    match happening {
+        Happening::Call(slot, _) | Happening::Death(slot) => has_service(walker, slot),
+        Happening::Delivery(from, to) => has_service(walker, from) && has_service(walker, to),
+    }
+}
+
+/// Goes on to right below the first record in which it happens, and appends what that record did; to the
+/// last position if there is none. Takes no memory but for the text.
+fn go_on_until(
+    alloc: Global,
+    walker: Walker,
+    happening: Happening,
+    out: &mut Vec<u8>,
+) -> Result<Walker, NoMemory>
+    ensures walker { IfOk result (λ w. w
+        ≡ record walker { here = (until_halt walker happening).0 }) }
+    ensures text { OnOk result (out.new.items
+        ≡ out.old.items ++ (until_halt walker happening).1) }
+{
+    let last = walker.last();
+    let from = walker.here().records;
+    let mut step = resting_step(walker.machine());
+    let mut walker = walker;
+    for above in from..last.records {
+        let entry = walker.records()[above];
+        walker = see_record(alloc, walker, above, entry, &mut step)?;
+        if happens(happening, &step) {
+            push_record(out, &step)?;
+            return Ok(walker);
+        }
+    }
+    out.extend_from_slice(b"not met\n")?;
+    walker.go_to(alloc, last)
+}
+
+/// Goes on to right below the first record in which it happens, and answers what that record did, and the
+/// place.
+fn go_on_to(alloc: Global, sight: Sight, happening: Happening) -> Result<(Sight, Vec<u8>), Failure>
+    requires { has_slots sight.walker happening ≡ true }
+    ensures err { IfErr result IsWanting }
+    ensures sight { IfOk result (λ r. r.0
+        ≡ record sight { walker = after sight.walker (requests.Until happening) }) }
+    ensures text { IfOk result (λ r. r.1.items ≡ request_text sight.walker (requests.Until happening)) }
+{
+    let Sight { walker, points } = sight;
+    let mut text = Vec::new(alloc);
+    let mut walker = go_on_until(alloc, walker, happening, &mut text)?;
+    push_place(alloc, &mut text, &mut walker)?;
+    Ok((Sight { walker, points }, text))
+}
+
+/// The same, if each slot has a service that it is about.
+pub(crate) fn go_until(
+    alloc: Global,
+    sight: Sight,
+    happening: Happening,
+) -> Result<(Sight, Vec<u8>), Failure>
+    ensures err { IfErr result IsWanting }
+    ensures sight { IfOk result (λ r. r.0
+        ≡ record sight { walker = after sight.walker (requests.Until happening) }) }
+    ensures text { IfOk result (λ r. r.1.items ≡ request_text sight.walker (requests.Until happening)) }
+{
+    if has_slots(&sight.walker, happening) {
+        return go_on_to(alloc, sight, happening);
+    }
+    say(alloc, sight, NO_SERVICE)
+}

@@ -1,0 +1,93 @@
+//! What `until` looks for in the records of a history, as a trace has it.
+
+ghost use Rattle.std.specs.Prelude.{◌≡◌};
+ghost use Rattle.std.specs.Option.{option_map};
+ghost use Rattle.mx_look_facts.specs.Doings.{is_down, seen_is};
+ghost use Rattle.mx_look_facts.specs.Step.{slot_in};
+ghost use Rattle.mx_app_look.specs.Happenings.{calls, comes_from, dies, has_type, happens, is_delivered, called_by};
+
+use mx_look_facts::{CpuGlance, Delivery, Doing, Glance, Step, delivery_to, kernel_call, slot_in};
+use mx_proc::slot_of;
+
+/// What `until` looks for in the records of a history.
+#[derive(Clone, Copy, Debug, PartialEq, Eq)]
+pub enum Happening {
+    /// A kernel call of a slot's process, of a type.
+    Call(u32, u32),
+    /// The death of a slot's process.
+    Death(u32),
+    /// A message or a notification of one slot's process comes to another's.
+    Delivery(u32, u32),
+}
+
+/// Whether a message is of this type.
+fn has_type(message: &Option<[u32; 9]>, kind: u32) -> bool
+    ensures { result ≡ has_type message.now kind }
+{
+    match message {
+        Some(words) => words[1] == kind,
+        None => false,
+    }
+}
+
+/// Whether a kernel call is that of a slot's process, and of this type.
+fn is_called_by(call: Option<&CpuGlance>, slot: u32, kind: u32) -> bool
+    ensures { result ≡ called_by (option_map (λ h. h.now) call.entry) slot kind }
+{
+    match call {
+        Some(held) => u32::from(held.slot) == slot && has_type(&held.image.words, kind),
+        None => false,
+    }
+}
+
+/// Whether a slot's process makes a kernel call of this type.
+fn calls(step: &Step, slot: u32, kind: u32) -> bool
+    ensures { result ≡ calls step.now slot kind }
+{
+    is_called_by(kernel_call(step), slot, kind)
+}
+
+/// Whether a slot's process is dead.
+fn is_dead(glance: &Glance, slot: u32) -> bool
+    ensures { result ≡ seen_is is_down (slot_in glance.now slot) }
+{
+    match slot_in(glance, slot) {
+        Some(seen) => matches!(seen.doing, Doing::Down(_)),
+        None => false,
+    }
+}
+
+/// Whether a slot's process dies.
+fn dies(step: &Step, slot: u32) -> bool
+    ensures { result ≡ dies step.now slot }
+{
+    !is_dead(&step.before, slot) && is_dead(&step.after, slot)
+}
+
+/// Whether a delivery is one of a slot's process.
+fn comes_from(delivery: Option<Delivery>, slot: u32) -> bool
+    ensures { result ≡ comes_from delivery slot }
+{
+    match delivery {
+        Some(delivery) => slot_of(delivery.from) == slot,
+        None => false,
+    }
+}
+
+/// Whether a message or a notification comes from one slot's process to another's.
+fn is_delivered(step: &Step, from: u32, to: u32) -> bool
+    ensures { result ≡ is_delivered step.now from to }
+{
+    to < 32 && comes_from(delivery_to(step, to), from)
+}
+
+/// Whether it happens in a record.
+pub(crate) fn happens(happening: Happening, step: &Step) -> bool
+    ensures { result ≡ happens happening step.now }
+{
+    match happening {
+        Happening::Call(slot, kind) => calls(step, slot, kind),
+        Happening::Death(slot) => dies(step, slot),
+        Happening::Delivery(from, to) => is_delivered(step, from, to),
+    }
+}
