@@ -155,7 +155,7 @@ console 0
 
 With --numbered each answer is printed after the number of its line in the script:
 
-$ mx step pair.config pair.script --numbered | head -n 2
+$ mx step pair.config pair.script --numbered | sed -n 1,2p
 1: taken 0 budget 20
 2: stepped 4 trap
 
