@@ -15,7 +15,7 @@ use crate::gate::Gate;
 use crate::loops::{make_rounds, make_turns};
 use crate::side::{Door, FreeSide};
 use crate::{ActorSeat, Naming, Shared};
-use mx_loan_rule::Shown;
+use mx_loan::Shown;
 use mx_word::NoMemory;
 use std::marker::PhantomData;
 use std::sync::Wait;
