@@ -32,7 +32,6 @@ pub use endpoints::{
     ANY, CLOCK, Endpoint, HARDWARE, SYSTEM, endpoint_from, generation_of, slot_of,
 };
 pub use errors::Errno;
-pub use mx_load::{CopyFor, copy_image};
 pub use mx_mem::MESSAGE_SIZE;
 pub use process::{
     DeathCause, Masks, Partner, Process, ProcessAddress, Slot, Source, State, Terms,
