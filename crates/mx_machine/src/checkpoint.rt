@@ -3,7 +3,7 @@
 ghost use Rattle.std.specs.Prelude.{◌≡◌, IfOk};
 
 use crate::stored::StoredKernel;
-use crate::{Decoded, Machine, Out, Record, Service};
+use crate::{Decoded, Kernel, Machine, Out, Record, Service};
 use mx_load::{CopyFor, copy_image};
 use mx_word::NoMemory;
 use std::alloc::Global;
@@ -59,6 +59,26 @@ fn copy_outs(
     Ok(copies)
 }
 
+/// Gives a process the cache of its slot, if a processor holds one.
+fn give_cache(kernel: &mut Kernel, cpu: u8, held: &mut Option<Out>)
+    ensures kernel { kernel.new ≡ kernel.old }
+    ensures held { held.new ≡ held.old }
+{
+    if let Some(out) = held {
+        out.decoded = kernel.lend_cache(cpu);
+    }
+}
+
+/// Gives each process that a processor holds the cache of its slot.
+fn give_caches(kernel: &mut Kernel, outs: &mut [Option<Out>; 8])
+    ensures kernel { kernel.new ≡ kernel.old }
+    ensures outs { outs.new ≡ outs.old }
+{
+    for cpu in 0..8u8 {
+        give_cache(kernel, cpu, &mut outs[cpu as usize]);
+    }
+}
+
 impl Checkpoint {
     /// A checkpoint of a machine. Takes memory for its images and its table.
     pub fn new(alloc: Global, machine: &Machine) -> Result<Checkpoint, NoMemory>
@@ -83,11 +103,7 @@ impl Checkpoint {
     {
         let mut kernel = self.kernel.restored(alloc, services, records)?;
         let mut outs = copy_outs(alloc, &self.outs, CopyFor::Running)?;
-        for cpu in 0..outs.len() {
-            if let Some(out) = &mut outs[cpu] {
-                out.decoded = kernel.lend_cache(cpu as u8);
-            }
-        }
+        give_caches(&mut kernel, &mut outs);
         Ok(Machine { kernel, outs })
     }
 }

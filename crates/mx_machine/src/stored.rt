@@ -44,6 +44,14 @@ impl Model for StoredState {
 }
 
 impl StoredState {
+    /// How many records there may be.
+    fn capacity(&self) -> u32
+        ensures value { result ≡ self.now.capacity }
+        ensures room { self.now.records ≤ result }
+    {
+        self.capacity
+    }
+
     /// The state again, with these services.
     pub(crate) fn restored(
         &self,
@@ -120,7 +128,7 @@ impl StoredKernel {
         requires records { records.now ≡ self.now.history }
         ensures { IfOk result (λ kernel. kernel ≡ self.now) }
     {
-        let records = copy_records(alloc, records, self.present.capacity)?;
+        let records = copy_records(alloc, records, self.present.capacity())?;
         let caches = Caches::new(alloc, services.as_slice())?;
         let present = self.present.restored(alloc, services)?;
         Ok(Kernel {
