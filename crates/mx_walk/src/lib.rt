@@ -2,6 +2,7 @@
 #![tactic(auto)]
 
 mod booting;
+mod checkpoints;
 mod either;
 mod going;
 mod laws;
@@ -15,6 +16,7 @@ mod stopping;
 mod walker;
 mod watching;
 
+pub use checkpoints::{MOST_BYTES, MOST_CHECKPOINTS};
 pub use either::Either;
 pub use going::go_on;
 pub use laws::{
