@@ -1,12 +1,15 @@
 -- What is told of records, one more.
-use Rattle.std.proofs.Common.{◌≡◌, ◌∙◌, ◌<◌, ◌≤◌, ℕ, ◌+◌, ◌-◌, List, [], ◌∷◌, ◌++◌, length, take, get_or, append_assoc, Option, All, ap, sym, subst, arith}
+use Rattle.std.proofs.Common.{◌≡◌, ◌∙◌, ◌<◌, ◌≤◌, ℕ, ◌+◌, ◌-◌, List, [], ◌∷◌, ◌++◌, length, take, get_or, append_assoc, Option, None, All, ap, sym, subst, arith}
 use Rattle.std.proofs.KnownBytes.{Appends-trans}
 use Rattle.std.proofs.lemmas.List.{append-nil, take_more, take_all, length-take-le}
 use Rattle.std.proofs.lemmas.List.Elements.{All-take}
 use Rattle.std.specs.Io.KnownBytes.{Appends}
+use Rattle.mx_machine.specs.declared.events.Event.{Event}
+use Rattle.mx_machine.specs.declared.events.Event.TheVariants as event
 use Rattle.mx_machine.specs.declared.events.Refusal.{Refusal}
 use Rattle.mx_machine.specs.declared.history.Record.{Record}
 use Rattle.mx_machine.specs.History.{AreAccepted, world_after_events, events_of, events_of_history}
+use Rattle.mx_machine.specs.Move.{event_refusal, world_after_event}
 use Rattle.mx_machine.specs.World.{World}
 use Rattle.mx_look_trace.specs.Glance.{Glance}
 use Rattle.mx_look_trace.specs.Glances.{glance_of}
@@ -18,6 +21,9 @@ use Rattle.mx_app_step.specs.declared.records.Replayed.{Replayed}
 use Rattle.mx_app_step.specs.Records.{IsRefusedAt}
 use Rattle.mx_app_step.specs.Traces.{steps_before, step_of, told_of, trace_text, IsTracePrinted}
 use Rattle.mx_app_step.proofs.RecordLemmas.{after_both}
+use Rattle.mx_walk.specs.Positions.{HasMade, own_event, steps_in, steps_of}
+use Rattle.mx_walk.proofs.EventsIn.{parts_of}
+use Rattle.mx_walk.proofs.Made.{made_as, then_one}
 
 -- ---- the trace, one record more
 
@@ -45,6 +51,12 @@ next_printed from w v records i n d x a b c within e world is so_far more =
     subst (λ (t : List ℕ). Appends a c t) same (Appends-trans a b c (trace_text from w 1 (take i records)) (told_of from x) so_far more)
 
 -- ---- what is looked at
+
+-- a record's steps, and then its own event
+pub look_made : (w v u : World) (x : Record) (n : ℕ) (e : Event) → n ≡ steps_in x.event → e ≡ own_event x.event → HasMade w v (steps_of x.actor n) → event_refusal v x.actor e ≡ None → u ≡ world_after_event v x.actor e
+    → HasMade w u (events_of x.actor x.event)
+look_made w v u x n e many own begun accepted after =
+    made_as w u _ (events_of x.actor x.event) (parts_of x.actor x.event) (then_one w v u n (steps_in x.event) x.actor event.Step e (own_event x.event) begun many accepted after own)
 
 abbrev step_as : ℕ → Record → Glance → Glance → Step
 step_as n x g h = record { number = n; before = g; actor = x.actor; event = x.event; after = h }
