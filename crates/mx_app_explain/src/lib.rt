@@ -22,4 +22,4 @@ pub use detail::{Detail, Label};
 pub use explaining::explain_failure;
 pub use found_word::FoundWord;
 pub use services::services_text;
-pub use subject::{Notes, Subject};
+pub use subject::{Notes, Subject, first_name, second_name};
