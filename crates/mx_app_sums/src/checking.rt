@@ -1,7 +1,8 @@
 //! A machine's sums beside a text of sums.
 
-ghost use Rattle.std.specs.Prelude.{◌≡◌, IfOk, None, option_map};
+ghost use Rattle.std.specs.Prelude.{◌≡◌, IfOk, List, None, option_map, ℕ};
 ghost use Rattle.mx_app_sums.specs.Sums.{after_line, first_other, sum_line, sums_text};
+ghost use Rattle.mx_app_sums.specs.declared.sums.PartSum.{PartSum};
 
 use crate::sums::{MachinePart, PartSum, push_sum_line};
 use std::alloc::{AllocError, Global};
@@ -20,15 +21,13 @@ fn after_line<'a>(
 }
 
 /// The first part of a machine whose line a text of sums hasn't at its place; the configuration, if the text
-/// has more lines than the machine has parts. None if and only if the text is that of these sums.
+/// has more lines than the machine has parts. None if the text is that of these sums.
 pub fn first_other(
     alloc: Global,
     sums: &[PartSum],
     text: &[u8],
 ) -> Result<Option<MachinePart>, AllocError>
-    ensures other { IfOk result (λ other. other ≡ first_other sums.now text.now) }
-    ensures own { IfOk result (λ other. text.now ≡ sums_text sums.now → other ≡ None) }
-    ensures alike { IfOk result (λ other. other ≡ None → text.now ≡ sums_text sums.now) }
+    ensures { IfOk result (λ other. other ≡ first_other sums.now text.now) }
 {
     let mut rest = text;
     for sum in sums {
@@ -43,3 +42,13 @@ pub fn first_other(
         Ok(Some(MachinePart::Configuration))
     }
 }
+
+/// Law: a machine passes by its own sums, which is the text that is written of them.
+pub fn own_sums_pass()
+    ensures { (sums : List PartSum) → first_other sums (sums_text sums) ≡ None }
+{}
+
+/// Law: a machine that passes by a text has the sums of this text.
+pub fn passed_sums_are_own()
+    ensures { (sums : List PartSum) (text : List ℕ) → first_other sums text ≡ None → text ≡ sums_text sums }
+{}

@@ -102,10 +102,31 @@ fn fault_wanted(fault: SumsFault) -> &'static str
     }
 }
 
+/// What explains a fault with the file of sums of this name.
+#[derive(Clone, Copy)]
+struct SumsExplanation<'a> {
+    name: &'a str,
+    fault: SumsFault,
+}
+
+/// The line without its end: `mx: SUMS pair.sums: wanted a file that can be read`.
+impl fmt::Display for SumsExplanation<'_> {
+    ghost use Rattle.std.specs.Prelude.{Some};
+    ghost use Rattle.mx_app_sums.specs.Faults.{fault_explained};
+
+    ghost output = { λ explanation. Some (fault_explained explanation.name.now explanation.fault) };
+
+    fn fmt<W: fmt::Write>(&self, f: &mut fmt::Formatter<W>) -> fmt::Result {
+        let name = self.name;
+        let wanted = fault_wanted(self.fault);
+        write!(f, "mx: SUMS {name}: wanted {wanted}")
+    }
+}
+
 /// The line that explains a fault with the file of sums of this name, without its end.
 pub fn explain_sums(alloc: Global, name: &str, fault: SumsFault) -> Result<String, AllocError>
     ensures { IfOk result (λ line. string_bytes line ≡ fault_explained name.now fault) }
 {
-    let wanted = fault_wanted(fault);
-    format!(in alloc; "mx: SUMS {name}: wanted {wanted}")
+    let explanation = SumsExplanation { name, fault };
+    explanation.to_string(alloc)
 }

@@ -9,7 +9,7 @@ mod fault;
 mod items;
 mod sums;
 
-pub use checking::first_other;
+pub use checking::{first_other, own_sums_pass, passed_sums_are_own};
 pub use fault::{SumsFault, explain_sums, unread, unwritten};
 pub use items::items_text;
 pub use sums::{MachinePart, PartSum, machine_sums, sums_text};

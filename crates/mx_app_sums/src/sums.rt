@@ -88,7 +88,11 @@ pub(crate) fn part_word(part: &MachinePart) -> &[u8]
 
 /// Appends a part's line: its sum in hexadecimal, two spaces and its name.
 #[tactic(auto, unfolding(crate::specs::Sums::sum_line))]
-pub(crate) fn push_sum_line(alloc: Global, out: &mut Vec<u8>, sum: &PartSum) -> Result<(), AllocError>
+pub(crate) fn push_sum_line(
+    alloc: Global,
+    out: &mut Vec<u8>,
+    sum: &PartSum,
+) -> Result<(), AllocError>
     ensures { OnOk result (out.new.items ≡ out.old.items ++ sum_line sum.now) }
 {
     let digits = hex::encode(alloc, &sum.digest)?;
