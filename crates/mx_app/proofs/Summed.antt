@@ -13,10 +13,10 @@ use Rattle.mx_app_db.specs.Config.{Config}
 use Rattle.mx_app_db.specs.Service.{Service}
 use Rattle.mx_app_db.specs.Setup.{IsSetup}
 use Rattle.mx_app_db.specs.Written.{Written}
-use Rattle.mx_app_sums.specs.Sums.{machine_sums, sums_text}
-use Rattle.mx_app_sums.specs.declared.fault.SumsFault.{SumsFault}
-use Rattle.mx_app_sums.specs.declared.fault.SumsFault.TheVariants.{NameTaken}
-use Rattle.mx_app_sums.specs.declared.sums.PartSum.{PartSum}
+use Rattle.mx_app_explain.specs.Sums.{machine_sums, sums_text}
+use Rattle.mx_app_explain.specs.declared.sums_fault.SumsFault.{SumsFault}
+use Rattle.mx_app_explain.specs.declared.sums_fault.SumsFault.TheVariants.{NameTaken}
+use Rattle.mx_app_explain.specs.declared.sums.PartSum.{PartSum}
 use Rattle.mx_app.specs.Requests.{Performs}
 use Rattle.mx_app.specs.Summing.{ComparesSums, IsCompared, IsUnsummed, PerformsBy, PerformsCompared, PerformsSummed, WritesSums, by_request, names_file, writes_sums}
 use Rattle.mx_app.specs.declared.performing.Done.{Done}
@@ -34,15 +34,19 @@ module _ (asked between now : List Asked) (config name : List ℕ) (slice sums :
   pub compared_so : (q : Asked) × (now ≡ between ++ q ∷ []) × ComparesSums name slice q (Ok tt)
       → (qs : List Asked) × (now ≡ asked ++ qs) × IsCompared config name qs (Ok tt)
   compared_so h =
-      let last : h.0 ≡ file_given name (sums_text (machine_sums summed.1 summed.2)) = h.2 ∙ ap (λ (x : List PartSum). file_given name (sums_text x)) (same ∙ summed.5) in
-      (summed.0 ++ h.0 ∷ [], asked_on asked between now summed.0 (h.0 ∷ []) summed.3 h.1,
-      (summed.0, summed.1, summed.2, summed.4, ap (λ (x : Asked). summed.0 ++ x ∷ []) last))
+      let last : h.0 ≡ file_given name (sums_text (machine_sums summed.1 summed.2)) = h.2 ∙ ap (λ (x : List PartSum). file_given name (sums_text x)) (same ∙ summed.5) in (
+        summed.0 ++ h.0 ∷ [],
+        asked_on asked between now summed.0 (h.0 ∷ []) summed.3 h.1,
+        (summed.0, summed.1, summed.2, summed.4, ap (λ (x : Asked). summed.0 ++ x ∷ []) last),
+      )
 
   pub compared_other : (f : SumsFault) → (q : Asked) × (now ≡ between ++ q ∷ []) × ComparesSums name slice q (Err f)
       → (qs : List Asked) × (now ≡ asked ++ qs) × IsCompared config name qs (Err (Sums f))
-  compared_other f h =
-      (summed.0 ++ h.0 ∷ [], asked_on asked between now summed.0 (h.0 ∷ []) summed.3 h.1,
-      (summed.0, h.0, summed.1, summed.2, summed.4, refl, subst (λ (x : List PartSum). ComparesSums name x h.0 (Err f)) (same ∙ summed.5) h.2))
+  compared_other f h = (
+    summed.0 ++ h.0 ∷ [],
+    asked_on asked between now summed.0 (h.0 ∷ []) summed.3 h.1,
+    (summed.0, h.0, summed.1, summed.2, summed.4, refl, subst (λ (x : List PartSum). ComparesSums name x h.0 (Err f)) (same ∙ summed.5) h.2),
+  )
 
 module _ (asks : Bool) (request : CommandRequest) (name config : List ℕ) (named : config ≡ first_name request) (asked : List Asked) (files : List Written) (given : List (Option (List ℕ))) (shown : List Part) where
   -- nothing but files that were asked for
@@ -73,22 +77,40 @@ module _ (asks : Bool) (request : CommandRequest) (name config : List ℕ) (name
 
     pub failed_summed : (text : List ℕ) (f : Kind) → IsSummed text → d ≡ Err f → r ≡ Err (Request f)
         → DoesTyped asked now files middle given given_now shown later (λ qs ws typed ps. PerformsSummed request name asks qs ws typed ps Prints r)
-    failed_summed text f p failed e =
-        (p.0 ++ done.0, done.1, done.2, done.3, asked_on asked between now p.0 done.0 p.3 done.4, done.5, done.6, done.7,
-        inr (p.0, done.0, p.1, p.2, done.1, [], d, refl, sym (append-nil done.1), subst (λ (x : List ℕ). IsSetup x p.0 p.1 p.2) named p.4, done.8, rw failed (refl, e)))
+    failed_summed text f p failed e = (
+      p.0 ++ done.0,
+      done.1,
+      done.2,
+      done.3,
+      asked_on asked between now p.0 done.0 p.3 done.4,
+      done.5,
+      done.6,
+      done.7,
+      inr (p.0, done.0, p.1, p.2, done.1, [], d, refl, sym (append-nil done.1), subst (λ (x : List ℕ). IsSetup x p.0 p.1 p.2) named p.4, done.8, rw failed (refl, e)),
+    )
 
     pub summed : (text slice : List ℕ) → slice ≡ text → (written : List Written) (so : Done) (end : Result (Unit {0}) SumsFault) → IsSummed text → d ≡ Ok so
         → (w : Written) × (written ≡ middle ++ w ∷ []) × WritesSums name slice w end
         → (end ≡ Ok tt) × (r ≡ Ok so) ⊎ ((f : SumsFault) × (end ≡ Err f) × (r ≡ Err (Sums f)))
         → DoesTyped asked now files written given given_now shown later (λ qs ws typed ps. PerformsSummed request name asks qs ws typed ps Prints r)
-    summed text slice same written so end p was w how =
-        (p.0 ++ done.0, done.1 ++ w.0 ∷ [], done.2, done.3, asked_on asked between now p.0 done.0 p.3 done.4, written_on files middle written done.1 (w.0 ∷ []) done.5 w.1, done.6, done.7,
-        inr (p.0, done.0, p.1, p.2, done.1, w.0 ∷ [], d, refl, refl, subst (λ (x : List ℕ). IsSetup x p.0 p.1 p.2) named p.4, done.8, rw was (w.0, refl, ending how)))
+    summed text slice same written so end p was w how = (
+      p.0 ++ done.0,
+      done.1 ++ w.0 ∷ [],
+      done.2,
+      done.3,
+      asked_on asked between now p.0 done.0 p.3 done.4,
+      written_on files middle written done.1 (w.0 ∷ []) done.5 w.1,
+      done.6,
+      done.7,
+      inr (p.0, done.0, p.1, p.2, done.1, w.0 ∷ [], d, refl, refl, subst (λ (x : List ℕ). IsSetup x p.0 p.1 p.2) named p.4, done.8, rw was (w.0, refl, ending how)),
+    )
       where
         own : List ℕ
         own = sums_text (machine_sums p.1 p.2)
+
         writes : (x : Result (Unit {0}) SumsFault) → end ≡ x → WritesSums name own w.0 x
         writes x e = subst (λ (t : List ℕ). WritesSums name t w.0 x) (same ∙ p.5) (subst (λ (y : Result (Unit {0}) SumsFault). WritesSums name slice w.0 y) e w.2)
+
         ending : (end ≡ Ok tt) × (r ≡ Ok so) ⊎ ((f : SumsFault) × (end ≡ Err f) × (r ≡ Err (Sums f)))
             → (WritesSums name own w.0 (Ok tt) × (r ≡ Ok so)) ⊎ ((f : SumsFault) × WritesSums name own w.0 (Err f) × (r ≡ Err (Sums f)))
         ending (inl h) = inl (writes (Ok tt) h.0, h.1)

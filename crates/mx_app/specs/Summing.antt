@@ -15,12 +15,12 @@ use Rattle.mx_app_db.specs.Config.{Config}
 use Rattle.mx_app_db.specs.Service.{Service}
 use Rattle.mx_app_db.specs.Setup.{IsSetup, IsSetupFault}
 use Rattle.mx_app_start.specs.declared.progress.Part.{Part}
-use Rattle.mx_app_sums.specs.Faults.{fault_line, fault_status, unread_of, unwritten_of}
-use Rattle.mx_app_sums.specs.Sums.{first_other, machine_sums, sums_text}
-use Rattle.mx_app_sums.specs.declared.fault.SumsFault.{SumsFault}
-use Rattle.mx_app_sums.specs.declared.fault.SumsFault.TheVariants.{NameTaken, NoMemory, OtherMachine}
-use Rattle.mx_app_sums.specs.declared.sums.MachinePart.{MachinePart}
-use Rattle.mx_app_sums.specs.declared.sums.PartSum.{PartSum}
+use Rattle.mx_app_explain.specs.SumsFaults.{fault_line, fault_status, unread_of, unwritten_of}
+use Rattle.mx_app_explain.specs.Sums.{first_other, machine_sums, sums_text}
+use Rattle.mx_app_explain.specs.declared.sums_fault.SumsFault.{SumsFault}
+use Rattle.mx_app_explain.specs.declared.sums_fault.SumsFault.TheVariants.{NameTaken, NoMemory, OtherMachine}
+use Rattle.mx_app_explain.specs.declared.sums.MachinePart.{MachinePart}
+use Rattle.mx_app_explain.specs.declared.sums.PartSum.{PartSum}
 use Rattle.mx_app.specs.Requests.{Performs}
 use Rattle.mx_app.specs.declared.performing.Done.{Done}
 use Rattle.mx_app.specs.declared.summing.LineFailure.{LineFailure}

@@ -24,7 +24,7 @@ use Rattle.mx_app.specs.Requests.{with_status}
 use Rattle.mx_app.specs.Summing.{PerformsLine, line_failure_line, line_failure_status}
 use Rattle.mx_app.specs.declared.summing.LineFailure.{LineFailure}
 use Rattle.mx_app.specs.declared.summing.LineFailure.TheVariants.{Request, Sums}
-use Rattle.mx_app_sums.specs.Faults.{fault_explained}
+use Rattle.mx_app_explain.specs.SumsFaults.{fault_explained}
 use Rattle.mx_app.specs.declared.performing.Done.{Done}
 use Rattle.mx_app.specs.declared.complaint.Complaint.{Complaint}
 use Rattle.mx_app.specs.declared.complaint.Complaint.TheVariants.{Mistaken, TicksAndEvents, Failed, Explained, Unexplained}

@@ -8,17 +8,19 @@ ghost use Rattle.mx_app_db.specs.Service.{Service};
 ghost use Rattle.mx_app_db.specs.Setup.{IsSetup};
 ghost use Rattle.mx_app_db.specs.Written.{Written, kept, unkept};
 ghost use Rattle.mx_app_start.specs.declared.progress.Part.{Part as Parts};
-ghost use Rattle.mx_app_sums.specs.Sums.{machine_sums, sums_text};
+ghost use Rattle.mx_app_explain.specs.Sums.{machine_sums, sums_text};
 ghost use Rattle.mx_app.specs.Requests.{Performs};
 ghost use Rattle.mx_app.specs.Summing.{ComparesSums, IsCompared, IsUnsummed, PerformsCompared, PerformsLine, PerformsSummed, WritesSums, line_failure_status, names_file, writes_sums};
 
 use crate::performing::{Done, perform};
 use mx_app_command::{CommandLine, CommandRequest};
 use mx_app_db::{Channels, FileWriter, LineReader, Reader};
-use mx_app_explain::{first_name, second_name};
+use mx_app_explain::{
+    PartSum, SumsFault, first_name, first_other, machine_sums, second_name, sums_text, unread,
+    unwritten,
+};
 use mx_app_failure::Failure;
 use mx_app_start::{Progress, setup_of};
-use mx_app_sums::{PartSum, SumsFault, first_other, machine_sums, sums_text, unread, unwritten};
 use std::alloc::Global;
 use std::fmt;
 use std::io::Write;
@@ -296,13 +298,9 @@ pub fn perform_line<
             if names_file(request, name) {
                 Err(LineFailure::Sums(SumsFault::NameTaken))
             } else if writes_sums(request) {
-                perform_summed(
-                    rt, alloc, channels, lines, progress, asks, request, name,
-                )
+                perform_summed(rt, alloc, channels, lines, progress, asks, request, name)
             } else {
-                perform_compared(
-                    rt, alloc, channels, lines, progress, asks, request, name,
-                )
+                perform_compared(rt, alloc, channels, lines, progress, asks, request, name)
             }
         }
     }

@@ -1,6 +1,6 @@
 use Rattle.std.proofs.Common.{◌∙◌, ap, inr, refl}
 use Rattle.std.proofs.lemmas.Result.{err_from_is_err_and}
-use Rattle.mx_app_sums.specs.Sums.{sums_text}
+use Rattle.mx_app_explain.specs.Sums.{sums_text}
 use Rattle.mx_app.proofs.summing.sums_text_named.Goals as goal
 
 pub returns-in_err-sums-clause-fault : goal.returns-in_err-sums-clause-fault

@@ -3,7 +3,7 @@
 ghost use Rattle.std.specs.Prelude.{◌≡◌, ◌++◌, IfOk, OnOk, codes};
 ghost use Rattle.std.specs.Fmt.{decimal};
 ghost use Rattle.std.specs.List.{flat_map};
-ghost use Rattle.mx_app_sums.specs.Items.{items_text, machine_items, mask_items, name_word, rules_number, service_items, term_items};
+ghost use Rattle.mx_app_explain.specs.Items.{items_text, machine_items, mask_items, name_word, rules_number, service_items, term_items};
 
 use mx_boot::before_byte;
 use mx_machine::{Config, Name, Rules, ServiceLine, Terms};

@@ -1,8 +1,8 @@
 //! A machine's sums beside a text of sums.
 
 ghost use Rattle.std.specs.Prelude.{◌≡◌, IfOk, List, None, option_map, ℕ};
-ghost use Rattle.mx_app_sums.specs.Sums.{after_line, first_other, sum_line, sums_text};
-ghost use Rattle.mx_app_sums.specs.declared.sums.PartSum.{PartSum};
+ghost use Rattle.mx_app_explain.specs.Sums.{after_line, first_other, sum_line, sums_text};
+ghost use Rattle.mx_app_explain.specs.declared.sums.PartSum.{PartSum};
 
 use crate::sums::{MachinePart, PartSum, push_sum_line};
 use std::alloc::{AllocError, Global};

@@ -3,8 +3,8 @@
 ghost use Rattle.std.specs.Prelude.{◌≡◌, ◌++◌, ◌∷◌, [], IfOk, OnOk};
 ghost use Rattle.std.specs.List.{flat_map};
 ghost use Rattle.sha2.specs.Sha256.{sha256};
-ghost use Rattle.mx_app_sums.specs.Items.{items_text};
-ghost use Rattle.mx_app_sums.specs.Sums.{machine_sums, part_word, program_sum, sum_line, sums_text};
+ghost use Rattle.mx_app_explain.specs.Items.{items_text};
+ghost use Rattle.mx_app_explain.specs.Sums.{machine_sums, part_word, program_sum, sum_line, sums_text};
 
 use crate::items::{items_text, name_word};
 use mx_aout::write;

@@ -2,7 +2,7 @@
 
 ghost use Rattle.std.specs.Prelude.{◌≡◌, IfOk, string_bytes};
 ghost use Rattle.std.specs.IoError.{error_kind};
-ghost use Rattle.mx_app_sums.specs.Faults.{fault_explained, fault_status, fault_wanted, part_told, unread_of, unwritten_of};
+ghost use Rattle.mx_app_explain.specs.SumsFaults.{fault_explained, fault_status, fault_wanted, part_told, unread_of, unwritten_of};
 
 use crate::sums::{MachinePart, part_word};
 use std::alloc::{AllocError, Global};
@@ -71,7 +71,7 @@ fn part_text(part: &MachinePart) -> &str
 /// The line that `mx` prints, without its line feed: `mx: 64 OtherMachine counter`.
 impl fmt::Display for SumsFault {
     ghost use Rattle.std.specs.Prelude.{Some};
-    ghost use Rattle.mx_app_sums.specs.Faults.{fault_line};
+    ghost use Rattle.mx_app_explain.specs.SumsFaults.{fault_line};
 
     ghost output = { λ fault. Some (fault_line fault) };
 
@@ -112,7 +112,7 @@ struct SumsExplanation<'a> {
 /// The line without its end: `mx: SUMS pair.sums: wanted a file that can be read`.
 impl fmt::Display for SumsExplanation<'_> {
     ghost use Rattle.std.specs.Prelude.{Some};
-    ghost use Rattle.mx_app_sums.specs.Faults.{fault_explained};
+    ghost use Rattle.mx_app_explain.specs.SumsFaults.{fault_explained};
 
     ghost output = { λ explanation. Some (fault_explained explanation.name.now explanation.fault) };
 

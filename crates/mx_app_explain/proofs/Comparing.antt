@@ -6,9 +6,9 @@ use Rattle.std.specs.Str.{bytes_eq}
 use Rattle.std.proofs.Math.Seq.{drop-append_seam, take-append_seam}
 use Rattle.std.proofs.lemmas.List.{take-append-drop}
 use Rattle.std.proofs.lemmas.Slice.Eq.{bytes_eq-Decides}
-use Rattle.mx_app_sums.specs.Sums.{after_line, first_other, sum_line, sums_text}
-use Rattle.mx_app_sums.specs.declared.sums.MachinePart.{MachinePart}
-use Rattle.mx_app_sums.specs.declared.sums.PartSum.{PartSum}
+use Rattle.mx_app_explain.specs.Sums.{after_line, first_other, sum_line, sums_text}
+use Rattle.mx_app_explain.specs.declared.sums.MachinePart.{MachinePart}
+use Rattle.mx_app_explain.specs.declared.sums.PartSum.{PartSum}
 
 -- a text that begins with a line has the rest after it
 after_own : (line rest : List ℕ) → after_line line (line ++ rest) ≡ Some rest

@@ -3,10 +3,10 @@ use Rattle.std.specs.Prelude.{ℕ, if◌then◌else◌, List, ◌++◌, codes}
 use Rattle.std.specs.Str.{is_utf8}
 use Rattle.std.specs.declared.io.ErrorKind.{ErrorKind}
 use Rattle.std.specs.declared.io.ErrorKind.TheVariants as kinds
-use Rattle.mx_app_sums.specs.Sums.{part_word}
-use Rattle.mx_app_sums.specs.declared.fault.SumsFault.{SumsFault}
-use Rattle.mx_app_sums.specs.declared.fault.SumsFault.TheVariants.{NameTaken, Unread, Unwritten, NoMemory, OtherMachine}
-use Rattle.mx_app_sums.specs.declared.sums.MachinePart.{MachinePart}
+use Rattle.mx_app_explain.specs.Sums.{part_word}
+use Rattle.mx_app_explain.specs.declared.sums_fault.SumsFault.{SumsFault}
+use Rattle.mx_app_explain.specs.declared.sums_fault.SumsFault.TheVariants.{NameTaken, Unread, Unwritten, NoMemory, OtherMachine}
+use Rattle.mx_app_explain.specs.declared.sums.MachinePart.{MachinePart}
 
 -- of an error of input and output: when the file was read, and when it was written
 abbrev pub unread_of : ErrorKind → SumsFault

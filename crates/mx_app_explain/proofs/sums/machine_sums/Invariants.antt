@@ -1,10 +1,10 @@
 use Rattle.std.proofs.Common.{◌≡◌, ◌∷◌, take}
 use Rattle.std.specs.Prelude.{map}
 use Rattle.sha2.specs.Sha256.{sha256}
-use Rattle.mx_app_sums.specs.Items.{items_text}
-use Rattle.mx_app_sums.specs.Sums.{program_sum}
-use Rattle.mx_app_sums.specs.declared.sums.MachinePart.TheVariants.{Configuration}
-use Rattle.mx_app_sums.proofs.sums.machine_sums.Given as goal
+use Rattle.mx_app_explain.specs.Items.{items_text}
+use Rattle.mx_app_explain.specs.Sums.{program_sum}
+use Rattle.mx_app_explain.specs.declared.sums.MachinePart.TheVariants.{Configuration}
+use Rattle.mx_app_explain.proofs.sums.machine_sums.Given as goal
 
 abbrev pub invariant-loop-service : goal.invariant-loop-service
 invariant-loop-service l =

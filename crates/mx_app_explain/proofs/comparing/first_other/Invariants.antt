@@ -1,6 +1,6 @@
 use Rattle.std.proofs.Common.{◌≡◌, drop}
-use Rattle.mx_app_sums.specs.Sums.{first_other}
-use Rattle.mx_app_sums.proofs.checking.first_other.Given as goal
+use Rattle.mx_app_explain.specs.Sums.{first_other}
+use Rattle.mx_app_explain.proofs.comparing.first_other.Given as goal
 
 -- the lines so far are at the text's front
 abbrev pub invariant-loop-sum : goal.invariant-loop-sum

@@ -8,10 +8,10 @@ use Rattle.sha2.specs.Sha256.{sha256}
 use Rattle.mx_aout.specs.Written.{short_file}
 use Rattle.mx_machine.specs.Service.{Service as Served}
 use Rattle.mx_boot.specs.Config.{Config}
-use Rattle.mx_app_sums.specs.Items.{items_text, name_word}
-use Rattle.mx_app_sums.specs.declared.sums.MachinePart.{MachinePart}
-use Rattle.mx_app_sums.specs.declared.sums.MachinePart.TheVariants.{Configuration, Service}
-use Rattle.mx_app_sums.specs.declared.sums.PartSum.{PartSum}
+use Rattle.mx_app_explain.specs.Items.{items_text, name_word}
+use Rattle.mx_app_explain.specs.declared.sums.MachinePart.{MachinePart}
+use Rattle.mx_app_explain.specs.declared.sums.MachinePart.TheVariants.{Configuration, Service}
+use Rattle.mx_app_explain.specs.declared.sums.PartSum.{PartSum}
 
 -- the sum of a service's program is that of the file that is written of it, in the short form
 abbrev pub program_sum : Served → PartSum
