@@ -262,7 +262,15 @@ static MACHINE_COMMANDS: [Subcommand<'static>; 5] = [
     Subcommand {
         name: "step",
         help: "Runs a machine by a script and prints its answers and a report",
-        arguments: &[CONFIG, SCRIPT, SAVED, NUMBERED, WRITTEN_SUMS, EXPLAIN, SILENT],
+        arguments: &[
+            CONFIG,
+            SCRIPT,
+            SAVED,
+            NUMBERED,
+            WRITTEN_SUMS,
+            EXPLAIN,
+            SILENT,
+        ],
         example: Example::Step,
     },
     Subcommand {
@@ -274,7 +282,16 @@ static MACHINE_COMMANDS: [Subcommand<'static>; 5] = [
     Subcommand {
         name: "turns",
         help: "Runs a machine on one thread, always the same, writes its history and prints a report",
-        arguments: &[CONFIG, RECORDED, TICKS, EVENTS, TURNS, WRITTEN_SUMS, EXPLAIN, SILENT],
+        arguments: &[
+            CONFIG,
+            RECORDED,
+            TICKS,
+            EVENTS,
+            TURNS,
+            WRITTEN_SUMS,
+            EXPLAIN,
+            SILENT,
+        ],
         example: Example::Turns,
     },
     Subcommand {
