@@ -2,4 +2,4 @@ mod WordLemmas
 mod Printed
 mod Spaced
 mod Reserved
-mod Comparing
+mod Passing

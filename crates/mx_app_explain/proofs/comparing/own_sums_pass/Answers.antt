@@ -1,4 +1,4 @@
-use Rattle.mx_app_explain.proofs.Comparing.{own_pass}
+use Rattle.mx_app_explain.proofs.Passing.{own_pass}
 use Rattle.mx_app_explain.proofs.comparing.own_sums_pass.Goals as goal
 
 pub returns : goal.returns
