@@ -1,5 +1,5 @@
 -- What is done and told of the words of the command line (our own).
-use Rattle.std.specs.Prelude.{◌≡◌, ◌⊎◌, ◌++◌, ◌||◌, ◌&&◌, not, ℕ, Bool, true, false, List, [], codes, Option, Some, None, Result, Ok, Err, MatchResult, String, option_map, string_bytes, unwrap_or}
+use Rattle.std.specs.Prelude.{◌≡◌, ◌⊎◌, ◌++◌, ◌||◌, ◌&&◌, not, ℕ, Bool, true, false, List, [], codes, Option, Some, None, Result, Ok, Err, MatchResult, String, option_map, string_bytes}
 use Rattle.std.specs.declared.alloc.Global.{Global}
 use Rattle.std.specs.declared.io.ErrorKind.{ErrorKind}
 use Rattle.std.specs.declared.io.ErrorKind.TheVariants as kinds
@@ -83,10 +83,15 @@ AnswersMistake mistakes.TicksAndEvents r = r ≡ Err TicksAndEvents
 abbrev pub explains : CommandLine → Bool → Bool
 explains line shows = (line.explains || shows) && not line.silent
 
+-- there is a name if the file of sums is at fault
+abbrev pub word_or_nothing : Option (List ℕ) → List ℕ
+word_or_nothing None = []
+word_or_nothing (Some name) = name
+
 -- what explains it: a request's failure by the request, and a fault of the file of sums by its name
 abbrev pub explained_line : CommandLine → LineFailure → Noted → List ℕ
 explained_line line (Request f) noted = explained line.request f noted.last noted.is_missed noted.is_unwritten noted.text
-explained_line line (Sums f) noted = fault_explained (unwrap_or (option_map (λ s. s.now) line.sums) []) f
+explained_line line (Sums f) noted = fault_explained (word_or_nothing (option_map (λ s. s.now) line.sums)) f
 
 -- a failure is told alone; or, if it is to be explained, with the line that explains it, unless there was no memory for this line
 abbrev pub IsTold : CommandLine → Bool → LineFailure → Noted → Complaint → Type 0

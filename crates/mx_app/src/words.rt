@@ -78,7 +78,10 @@ fn explained_line(
 {
     match failure {
         LineFailure::Request(failure) => explain_failure(alloc, line.request, failure, notes),
-        LineFailure::Sums(fault) => explain_sums(alloc, line.sums.unwrap_or(""), fault),
+        LineFailure::Sums(fault) => match line.sums {
+            Some(name) => explain_sums(alloc, name, fault),
+            None => explain_sums(alloc, "", fault),
+        },
     }
 }
 
