@@ -39,22 +39,34 @@ files_read() {
     [ ! -f "$1" ] || awk '{ sub(/#.*/, "") } $1 == "service" { print $3 }' "$1"
 }
 
-# Ends with status 3 if these words are those of a `step`, `run` or `turns` that would write its history over a file
-# that it reads, also by another name of the same file.
+# Ends with status 3 if the second file, which is to be written, is the first: refuse_same FILE WRITTEN LABEL EXPLAINS.
+# LABEL is the word that names the second.
+refuse_same() {
+    { [ -n "$1" ] && [ -n "$2" ] && [ "$1" -ef "$2" ]; } || return 0
+    echo "mx: 80 File" >&2
+    [ -z "$4" ] || echo "mx: $3 $2: wanted another file than the one that is read" >&2
+    exit 3
+}
+
+# Ends with status 3 if these words are those of a `step`, `run` or `turns` that would write its history or its sums
+# over a file that it reads, or its sums over its history, also by another name of the same file.
 refuse_own_files() {
     case ${1-} in step | run | turns) ;; *) return 0 ;; esac
-    command=$1 config='' second='' save='' events='' explains='' option=''
+    command=$1 config='' second='' save='' events='' sums='' explains='' option=''
     shift
     for word in "$@"; do
         case $option in
             --save) save=$word option='' ; continue ;;
             --events) events=$word option='' ; continue ;;
+            --sums) sums=$word option='' ; continue ;;
             ?*) option='' ; continue ;;
         esac
         case $word in
             --explain) explains=yes ;;
+            --no-explain | --numbered) ;;
             --save=*) save=${word#*=} ;;
             --events=*) events=${word#*=} ;;
+            --sums=*) sums=${word#*=} ;;
             --*=*) ;;
             --*) option=$word ;;
             *)
@@ -65,13 +77,12 @@ refuse_own_files() {
     done
     written=$save read=$second
     [ "$command" = step ] || { written=$second read=$events; }
-    { [ -n "$written" ] && [ -e "$written" ] && [ -n "$config" ]; } || return 0
+    [ -n "$config" ] || return 0
     while read -r file; do
-        [ "$file" -ef "$written" ] || continue
-        echo "mx: 80 File" >&2
-        [ -z "$explains" ] || echo "mx: LOG $written: wanted another file than the one that is read" >&2
-        exit 3
+        refuse_same "$file" "$written" LOG "$explains"
+        refuse_same "$file" "$sums" SUMS "$explains"
     done <<END
 $(files_read "$config" "$read")
 END
+    refuse_same "$written" "$sums" SUMS "$explains"
 }

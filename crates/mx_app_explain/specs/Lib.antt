@@ -7,3 +7,6 @@ pub mod ServiceWords
 pub mod TextAdvice
 pub mod TextWords
 pub mod Wanted
+pub mod Items
+pub mod Sums
+pub mod SumsFaults

@@ -54,7 +54,7 @@ impl fmt::Display for Subject<'_> {
 }
 
 /// The name of the file that is read first, or assembled.
-fn first_name(request: CommandRequest<'_>) -> &str
+pub fn first_name(request: CommandRequest<'_>) -> &str
     ensures { result.now ≡ first_name request.entry }
 {
     match request {
@@ -76,7 +76,7 @@ fn first_name(request: CommandRequest<'_>) -> &str
 }
 
 /// The name of the file that drives the machine, or is written.
-fn second_name(request: CommandRequest<'_>) -> &str
+pub fn second_name(request: CommandRequest<'_>) -> &str
     ensures { result.now ≡ second_name request.entry }
 {
     match request {

@@ -3,8 +3,8 @@
 
 use crate::files::{SUM, reader};
 use mx_app::{
-    Channels, Complaint, Ending, Failure, InputLines, KeptFile, MemoryWriter, NamedFiles,
-    NoProgress, NotingFiles, NotingReader, perform_words,
+    Channels, Complaint, Ending, Failure, InputLines, KeptFile, LineFailure, MemoryWriter,
+    NamedFiles, NoProgress, NotingFiles, NotingReader, perform_words,
 };
 use std::alloc::Global;
 use std::fmt::Write as _;
@@ -405,6 +405,25 @@ static DONE: &[Done] = &[
         file: None,
     },
     Done {
+        name: "step: the sums of the machine, which is what is written",
+        words: &["mx", "step", "one", "kills", "--sums", "new.sums"],
+        status: 0,
+        printed: "done\ndone\nrefused 54 NoProcess\nrefused 41 Worn\nrefused 53 NoLine\n\
+                  refused 42 NoService\n0 a 0 down kill 7 5\nuptime 1\nconsole 0\n",
+        file: Some((
+            "new.sums",
+            b"3b5a26d3364ad53fd6848f37200b677c89c9cc77ad11c907da526511a2eaa372  configuration\n\
+              b790507903336d3b86dd9d0d3c958c9b7a781de1b927490283fc9c3cf64dd013  a\n",
+        )),
+    },
+    Done {
+        name: "replay: of the machine that the sums are of",
+        words: &["mx", "replay", "one", "whole", "--sums", "one_sums"],
+        status: 0,
+        printed: "0 a 0 down fault 13 7 1\nuptime 0\nconsole 0\n",
+        file: None,
+    },
+    Done {
         name: "db: a breakpoint and no messages",
         words: &["mx", "db", "pair", "look"],
         status: 0,
@@ -784,6 +803,62 @@ static FAILED: &[Failed] = &[
         told: "mx: 80 File\n",
     },
     Failed {
+        name: "sums: another program",
+        words: &["mx", "replay", "one", "whole", "--sums", "calls_sums"],
+        status: 1,
+        told: "mx: 64 OtherMachine a\n",
+    },
+    Failed {
+        name: "sums: another configuration",
+        words: &["mx", "trace", "again", "whole", "--sums", "one_sums"],
+        status: 1,
+        told: "mx: 64 OtherMachine configuration\n",
+    },
+    Failed {
+        name: "sums: a line is missing",
+        words: &["mx", "draw", "one", "whole", "--sums", "short_sums"],
+        status: 1,
+        told: "mx: 64 OtherMachine a\n",
+    },
+    Failed {
+        name: "sums: a line more",
+        words: &["mx", "look", "one", "whole", "--sums", "long_sums"],
+        status: 1,
+        told: "mx: 64 OtherMachine configuration\n",
+    },
+    Failed {
+        name: "sums: the fault isn't read",
+        words: &[
+            "mx",
+            "sweep",
+            "one",
+            "whole",
+            "nothing",
+            "--sums",
+            "calls_sums",
+        ],
+        status: 1,
+        told: "mx: 64 OtherMachine a\n",
+    },
+    Failed {
+        name: "sums: no such file",
+        words: &["mx", "replay", "one", "whole", "--sums", "nothing"],
+        status: 3,
+        told: "mx: 80 File\n",
+    },
+    Failed {
+        name: "sums: a file that is read",
+        words: &["mx", "step", "one", "kills", "--sums", "kills"],
+        status: 3,
+        told: "mx: 80 File\n",
+    },
+    Failed {
+        name: "sums: of a program",
+        words: &["mx", "one", "a.out", "9", "--sums", "one_sums"],
+        status: 2,
+        told: "",
+    },
+    Failed {
         name: "db: no such script",
         words: &["mx", "db", "pair", "nothing"],
         status: 3,
@@ -930,6 +1005,48 @@ static EXPLAINED: &[Failed] = &[
         words: &["mx", "step", "one", "kills", "--explain", "--save", "one"],
         status: 3,
         told: "mx: 80 File\nmx: LOG one: wanted another file than the one that is read\n",
+    },
+    Failed {
+        name: "sums: another program, explained",
+        words: &[
+            "mx",
+            "replay",
+            "one",
+            "whole",
+            "--sums",
+            "calls_sums",
+            "--explain",
+        ],
+        status: 1,
+        told: "mx: 64 OtherMachine a\nmx: SUMS calls_sums: wanted the configuration and programs whose sums it has\n",
+    },
+    Failed {
+        name: "sums: no such file, explained",
+        words: &[
+            "mx",
+            "replay",
+            "one",
+            "whole",
+            "--sums",
+            "nothing",
+            "--explain",
+        ],
+        status: 3,
+        told: "mx: 80 File\nmx: SUMS nothing: wanted a file that can be read\n",
+    },
+    Failed {
+        name: "sums: the history's file",
+        words: &[
+            "mx",
+            "turns",
+            "one",
+            "new.log",
+            "--sums",
+            "new.log",
+            "--explain",
+        ],
+        status: 3,
+        told: "mx: 80 File\nmx: SUMS new.log: wanted a file that no other word names\n",
     },
     Failed {
         name: "db: a configuration with a bad line",
@@ -1083,7 +1200,7 @@ fn writing_explained(rt: HostRuntime) {
 /// A failure for whose line there is no memory reports this, and has the status that it had.
 #[test]
 fn nothing_explained(rt: HostRuntime) -> Result<(), Fail> {
-    let complaint = Complaint::Unexplained(Failure::File);
+    let complaint = Complaint::Unexplained(LineFailure::Request(Failure::File));
     let told = complaint.to_string(rt.alloc())?;
     assert!(rt; told.as_str() == "mx: 80 File\nmx: memory: wanted more of it\n");
     assert!(rt; complaint.status() == 3);
@@ -1430,8 +1547,8 @@ Formats: docs/use/REFERENCE.md.
         name: "replay",
         words: &["mx", "replay", "--help"],
         ending: "Status: 0 done; 1 a text or a program's file is refused, or an event, which is told
-by its line; 2 a mistake in the words; 3 a file can't be read; 4 no memory. Formats:
-docs/use/REFERENCE.md.
+by its line, or the machine; 2 a mistake in the words; 3 a file can't be read; 4 no
+memory. Formats: docs/use/REFERENCE.md.
 ",
     },
     Help {
