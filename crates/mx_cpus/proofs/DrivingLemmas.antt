@@ -1,5 +1,5 @@
 -- What the loops of all seats leave.
-use Rattle.std.proofs.Common.{◌≡◌, ◌∙◌, ℕ, zero, suc, nat_lt, Bool, true, false, if◌then◌else◌, ◌==◌, ◌&&◌, not, length, get_or, inl, inr, All, ◌+◌, ◌-◌, ◌<◌, ◌≤◌, List, [], ◌∷◌, ◌++◌, Option, Some, None, refl, sym, ap, subst, arith}
+use Rattle.std.proofs.Common.{◌≡◌, ◌∙◌, ℕ, zero, suc, nat_lt, Bool, true, false, if◌then◌else◌, ◌==◌, ◌&&◌, not, length, get_or, inl, inr, All, ◌+◌, ◌-◌, ◌<◌, ◌≤◌, List, [], ◌∷◌, ◌++◌, Option, Some, None, refl, sym, ap, subst, arith, rules, Result, Ok, Err, IfOk}
 use Rattle.std.proofs.lemmas.Bool.{cases_lt, ltb-true}
 use Rattle.std.proofs.lemmas.List.Elements.{All-push}
 use Rattle.atomic_table.specs.Seated.{TableId}
@@ -80,6 +80,10 @@ module _ (ticks : ℕ) (xs : List OutsideCall) where
   pub driven_tables : (z : TableId) (cpus : ℕ) (ss ts : List SeatView) → All (λ (s : SeatView). s.table ≡ z) ss → AreDrivenWith cpus ticks xs ss ts → All (λ (s : SeatView). s.table ≡ z) ts
   driven_tables z cpus ss ts h p = tables_from z cpus ss ts h p
 
+-- the role of a seat, by the names that the loops' threads have for it
+pub role_here : (a k b m : ℕ) (xs : List OutsideCall) (o p : Option Role) → o ≡ role_of a k xs → a ≡ b → k ≡ m → o ≡ p → role_of b m xs ≡ p
+role_here a k b m xs o p made who many is = sym (ap (λ i. role_of i m xs) who) ∙ sym (ap (λ j. role_of a j xs) many) ∙ sym made ∙ is
+
 pub told_as : (WasCalled : GateCall → Type 0) (o : Option Role) (s : SeatView) → WasCalled (ended_call s.actor) → IsEndTold o WasCalled s
 told_as WasCalled None s h = tt
 told_as WasCalled (Some r) s h = h
@@ -152,3 +156,7 @@ module _ (cpus ticks : ℕ) where
 
     pub all_told : (ss : List SeatView) → All (λ (s : SeatView). IsEndTold (role_of s.actor cpus []) WasCalled s) ss → All (λ (s : SeatView). s.actor ≤ cpus → WasCalled (ended_call s.actor)) ss
     all_told ss h = λ k d below. told_alone (get_or ss k d) (h k d below)
+
+pub if_ok_map : {A B : Type 0} (P Q : A → Type 0) → ((x : A) → P x → Q x) → (r : Result A B) → IfOk r P → IfOk r Q
+if_ok_map P Q f (Ok x) h = f x h
+if_ok_map P Q f (Err e) h = tt

@@ -205,7 +205,7 @@ ticks_both (recorded.Back n ∷ xs) ys p = absurd p
 ticks_both (recorded.Line l ∷ xs) ys p = absurd p
 ticks_both (recorded.Kill e ∷ xs) ys p = absurd p
 
-map_both : {A B : Type 0} (f : A → B) (xs ys : List A) → map f (xs ++ ys) ≡ map f xs ++ map f ys
+pub map_both : {A B : Type 0} (f : A → B) (xs ys : List A) → map f (xs ++ ys) ≡ map f xs ++ map f ys
 map_both f [] ys = refl
 map_both f (x ∷ xs) ys = ap (λ l. f x ∷ l) (map_both f xs ys)
 

@@ -1,5 +1,5 @@
 -- What the outsider's calls leave, call by call.
-use Rattle.std.proofs.Common.{◌≡◌, ◌∙◌, ℕ, zero, suc, Bool, true, false, length, get_or, take, drop, inl, inr, ◌+◌, ◌-◌, ◌<◌, ◌≤◌, ◌≢◌, List, [], ◌∷◌, ◌++◌, map, Option, Some, None, Result, Ok, Err, IfOk, IfErr, refl, sym, ap, subst, arith, append_assoc}
+use Rattle.std.proofs.Common.{◌≡◌, ◌∙◌, ℕ, zero, suc, Bool, true, false, ◌⊎◌, length, get_or, take, drop, inl, inr, ◌+◌, ◌-◌, ◌<◌, ◌≤◌, ◌≢◌, List, [], ◌∷◌, ◌++◌, map, Option, Some, None, Result, Ok, Err, IfOk, IfErr, refl, sym, ap, subst, arith, append_assoc}
 use Rattle.std.proofs.lemmas.List.{append-nil, take_more, take-append-drop}
 use Rattle.mx_machine.specs.declared.events.Answer.{Answer}
 use Rattle.mx_machine.specs.declared.events.Event.{Event}
@@ -15,10 +15,11 @@ use Rattle.mx_cpus.specs.declared.outside.OutsideCall.{OutsideCall}
 use Rattle.mx_cpus.specs.declared.outside.OutsideCall.TheVariants as calls
 use Rattle.mx_cpus.specs.declared.calling.CallEnd.{CallEnd}
 use Rattle.mx_cpus.specs.declared.calling.CallEnd.TheVariants.{Made, Full, Stopped}
+use Rattle.mx_cpus.specs.declared.locked.HowFar.{HowFar}
 use Rattle.mx_cpus.specs.declared.side.FreeSide.{FreeSide}
 use Rattle.mx_cpus.specs.Seats.{SeatView, record_of}
 use Rattle.mx_cpus.specs.Calls.{Follows, IsAnsweredCall, IsRefusedCall, IsRestCall}
-use Rattle.mx_cpus.specs.CallEnds.{IsCallTo, IsEventTo, IsWaitTo}
+use Rattle.mx_cpus.specs.CallEnds.{IsCallTo, goes_on_after}
 use Rattle.mx_cpus.specs.Courses.{IsAsked, IsTriedEvent}
 use Rattle.mx_cpus.specs.Gates.{GateCall, again_call}
 use Rattle.mx_cpus.specs.Outsiders.{AreLooks, AreMade, AreSomeOf, HasMadeCalls, IsEarly, IsEnough, IsLast, IsLook, IsMade, IsOutsiderRun, IsStopped, IsWaited, IsWaiting, event_of_call, is_resting}
@@ -105,6 +106,77 @@ module _ (boot : World) (WasCalled : GateCall → Type 0) where
   saw_waiting n s t HasEnded h =
       saw_trans s h.first t (saw_rest boot s h.first (is_resting boot h.first) h.begins) (saw_looks n h.first h.begins.follows.own h.so_many t h.looks)
 
+  -- what a wait knows between two looks, from the first one on, which found the seat s
+  pub record WaitSoFar (n : ℕ) (s t : SeatView) (side : FreeSide) (seen : HowFar) : Type 0 where
+    pub so_many : ℕ
+    pub looks : AreLooks boot WasCalled n s so_many t
+    pub follows : Follows s t
+    pub records : seen.records ≡ length t.seen
+    pub rests : seen.at_rest ≡ is_resting boot t
+    pub actor : side.actor ≡ s.actor
+    pub goes_on : side.goes_on ≡ true
+
+  -- a look, by what it answered
+  pub look_of : (s t : SeatView) (rest : Bool) → IsRestCall boot s t rest → IsLook boot s t
+  look_of s t rest h = subst (IsRestCall boot s t) h.answered h
+
+  pub first_look : (n : ℕ) (s t : SeatView) (side : FreeSide) (seen : HowFar) → IsRestCall boot s t seen.at_rest → seen.records ≡ length t.seen → side.actor ≡ s.actor → side.goes_on ≡ true → WaitSoFar n t t side seen
+  first_look n s t side seen rests many who on = record {
+    so_many = 0;
+    looks = refl;
+    follows = follows_self t rests.follows.own;
+    records = many;
+    rests = rests.answered;
+    actor = who ∙ sym rests.follows.actor;
+    goes_on = on;
+  }
+
+  -- too little was seen
+  early : (n : ℕ) (s t : SeatView) (side next : FreeSide) (first seen : HowFar) → WaitSoFar n s t side seen → first.records ≡ length s.seen → seen.at_rest ≡ false → seen.records - first.records < n
+      → WasCalled (again_call side.actor false next.goes_on) → IsEarly boot WasCalled n s t next.goes_on
+  early n s t side next first seen so_far many busy few asked = record {
+    few = omega (arith, so_far.records, many, few);
+    busy = sym so_far.rests ∙ busy;
+    asked = subst (λ i. WasCalled (again_call i false next.goes_on)) (so_far.actor ∙ sym so_far.follows.actor) asked;
+  }
+
+  -- the loop goes on, and the seat looks again
+  pub looks_go_on : (n : ℕ) (s t u : SeatView) (side next : FreeSide) (first seen now : HowFar) → WaitSoFar n s t side seen → first.records ≡ length s.seen → seen.at_rest ≡ false → seen.records - first.records < n
+      → WasCalled (again_call side.actor false next.goes_on) → next.actor ≡ side.actor → next.goes_on ≡ true → IsRestCall boot t u now.at_rest → now.records ≡ length u.seen → WaitSoFar n s u next now
+  looks_go_on n s t u side next first seen now so_far many busy few asked who on rests many_now = record {
+    so_many = suc so_far.so_many;
+    looks = (t, so_far.looks, subst (IsEarly boot WasCalled n s t) on (early n s t side next first seen so_far many busy few asked), look_of t u now.at_rest rests);
+    follows = follows_trans s t u so_far.follows rests.follows;
+    records = many_now;
+    rests = rests.answered;
+    actor = who ∙ so_far.actor;
+    goes_on = on;
+  }
+
+  -- the gate ends the loop
+  pub looks_stop : (n : ℕ) (s f t : SeatView) (side next : FreeSide) (first seen : HowFar) → WaitSoFar n f t side seen → IsRestCall boot s f first.at_rest → first.records ≡ length f.seen → seen.at_rest ≡ false → seen.records - first.records < n
+      → WasCalled (again_call side.actor false next.goes_on) → next.goes_on ≡ false → IsStopped boot WasCalled n s t
+  looks_stop n s f t side next first seen so_far begins many busy few asked off = record {
+    first = f;
+    begins = look_of s f first.at_rest begins;
+    so_many = so_far.so_many;
+    looks = so_far.looks;
+    ends = subst (IsEarly boot WasCalled n f t) off (early n f t side next first seen so_far many busy few asked);
+  }
+
+  -- enough was seen
+  pub looks_end : (n : ℕ) (s f t : SeatView) (side : FreeSide) (first seen : HowFar) → WaitSoFar n f t side seen → IsRestCall boot s f first.at_rest → first.records ≡ length f.seen → (seen.at_rest ≡ true) ⊎ (n ≤ seen.records - first.records) → IsWaited boot WasCalled n s t
+  looks_end n s f t side first seen so_far begins many enough = record {
+    first = f;
+    begins = look_of s f first.at_rest begins;
+    so_many = so_far.so_many;
+    looks = so_far.looks;
+    ends = elim enough [
+      | inl rest ↦ inr (sym so_far.rests ∙ rest)
+      | inr more ↦ inl (omega (arith, so_far.records, many, more))
+    ];
+  }
+
   call_made : (x : OutsideCall) (s t : SeatView) → IsMade boot WasCalled x s t → HasMadeCalls (x ∷ []) s t
   call_made (calls.Line l) s t h = call_tried boot (calls.Line l) (events.Line l) s t refl h
   call_made (calls.Kill e) s t h = call_tried boot (calls.Kill e) (events.Kill e) s t refl h
@@ -152,29 +224,41 @@ module _ (boot : World) (WasCalled : GateCall → Type 0) where
   follows_made x s t u so_far made = follows_trans s t u so_far (call_made x t u made).follows
 
   -- it goes on after a call
-  pub calls_go_on : (xs : List OutsideCall) (k : ℕ) (x : OutsideCall) (s t u : SeatView) (side next : FreeSide) → CallsSoFar xs k s t side → k < length xs → get_or xs k x ≡ x → IsMade boot WasCalled x t u
-      → next.actor ≡ t.actor → next.goes_on ≡ true → CallsSoFar xs (k + 1) s u next
-  calls_go_on xs k x s t u side next so_far below is made who on = record {
-    made = subst (λ (ys : List OutsideCall). AreMade boot WasCalled s ys u) (sym (take_more xs k x below ∙ ap (λ y. take k xs ++ y ∷ []) is)) (made_last (take k xs) x s t u so_far.made made);
-    follows = follows_made x s t u so_far.follows made;
-    actor = who ∙ so_far.follows.actor;
-    goes_on = on;
-  }
+  pub calls_go_on : (xs : List OutsideCall) (k : ℕ) (d : OutsideCall) (s t u : SeatView) (side next : FreeSide) (end : CallEnd) → CallsSoFar xs k s t side → k < length xs → IsCallTo boot WasCalled (get_or xs k d) t u end → end ≡ Made
+      → next.actor ≡ t.actor → next.goes_on ≡ goes_on_after end → CallsSoFar xs (k + 1) s u next
+  calls_go_on xs k d s t u side next end so_far below called is who on =
+      let made : IsMade boot WasCalled (get_or xs k d) t u = subst (IsCallTo boot WasCalled (get_or xs k d) t u) is called in
+      record {
+        made = subst (λ (ys : List OutsideCall). AreMade boot WasCalled s ys u) (sym (take_more xs k d below)) (made_last (take k xs) (get_or xs k d) s t u so_far.made made);
+        follows = follows_made (get_or xs k d) s t u so_far.follows made;
+        actor = who ∙ so_far.follows.actor;
+        goes_on = on ∙ ap goes_on_after is;
+      }
 
   -- a call ends it
-  pub calls_end : (xs : List OutsideCall) (k : ℕ) (x : OutsideCall) (s t u : SeatView) (side : FreeSide) → CallsSoFar xs k s t side → k < length xs → get_or xs k x ≡ x → IsLast boot WasCalled x t u → IsOutsiderRun boot WasCalled xs s u
-  calls_end xs k x s t u side so_far below is last = record {
+  calls_end : (xs : List OutsideCall) (k : ℕ) (d : OutsideCall) (s t u : SeatView) (side : FreeSide) → CallsSoFar xs k s t side → k < length xs → IsLast boot WasCalled (get_or xs k d) t u → IsOutsiderRun boot WasCalled xs s u
+  calls_end xs k d s t u side so_far below last = record {
     above = take k xs;
     last = t;
     made = so_far.made;
     ends = inr (
-      x,
+      get_or xs k d,
       drop (k + 1) xs,
-      sym (take-append-drop (k + 1) xs) ∙ ap (λ ys. ys ++ drop (k + 1) xs) (take_more xs k x below ∙ ap (λ y. take k xs ++ y ∷ []) is)
-          ∙ append_assoc (take k xs) (x ∷ []) (drop (k + 1) xs),
+      sym (take-append-drop (k + 1) xs) ∙ ap (λ (ys : List OutsideCall). ys ++ drop (k + 1) xs) (take_more xs k d below)
+          ∙ append_assoc (take k xs) (get_or xs k d ∷ []) (drop (k + 1) xs),
       last,
     );
   }
+
+  pub calls_full : (xs : List OutsideCall) (k : ℕ) (d : OutsideCall) (s t u : SeatView) (side : FreeSide) (end : CallEnd) → CallsSoFar xs k s t side → k < length xs → IsCallTo boot WasCalled (get_or xs k d) t u end → end ≡ Full
+      → IsOutsiderRun boot WasCalled xs s u
+  calls_full xs k d s t u side end so_far below called is =
+      calls_end xs k d s t u side so_far below (subst (IsCallTo boot WasCalled (get_or xs k d) t u) is called)
+
+  pub calls_stopped : (xs : List OutsideCall) (k : ℕ) (d : OutsideCall) (s t u : SeatView) (side : FreeSide) (end : CallEnd) → CallsSoFar xs k s t side → k < length xs → IsCallTo boot WasCalled (get_or xs k d) t u end → end ≡ Stopped
+      → IsOutsiderRun boot WasCalled xs s u
+  calls_stopped xs k d s t u side end so_far below called is =
+      calls_end xs k d s t u side so_far below (subst (IsCallTo boot WasCalled (get_or xs k d) t u) is called)
 
   -- all are made
   pub calls_all : (xs : List OutsideCall) (k : ℕ) (s t u : SeatView) (side : FreeSide) (b goes_on : Bool) → CallsSoFar xs k s t side → take k xs ≡ xs → IsRestCall boot t u b → WasCalled (again_call side.actor b goes_on)

@@ -127,7 +127,8 @@ pub(crate) fn make_calls<M: Naming, G: Gate, R: Wait>(
         side = after;
         match end {
             CallEnd::Made => {}
-            CallEnd::Full | CallEnd::Stopped => return (seat, side),
+            CallEnd::Full => return (seat, side),
+            CallEnd::Stopped => return (seat, side),
         }
     }
     let (seat, at_rest) = shared.at_rest(rt, seat);
