@@ -18,10 +18,10 @@ use Rattle.mx_cpus.specs.Seats.{SeatView}
 use Rattle.mx_cpus.specs.Boots.{all_seats}
 use Rattle.mx_app_step.specs.Asked.{Asked}
 use Rattle.mx_app_step.specs.ServiceLine.{ServiceLine}
-use Rattle.mx_app_step.specs.Setup.{AreServicesRead, IsSetup}
+use Rattle.mx_app_step.specs.Setup.{AreServicesRead, IsNoTextGiven, IsSetup, IsTextGiven}
 use Rattle.mx_app_failure.specs.declared.failure.Failure.{Failure as Kind}
 use Rattle.mx_app_failure.specs.declared.failure.Failure.TheVariants.{NoMemory}
-use Rattle.mx_app_failure.specs.Failure.{IsWanting}
+use Rattle.mx_app_failure.specs.Failure.{IsWanting, failure_of_lines}
 use Rattle.mx_app_step.specs.Setup.{IsSetupFault}
 use Rattle.mx_app_step.specs.Kept.{text_kept, IsUnwritten}
 use Rattle.mx_app_step.specs.Written.{Written, kept, unkept}
@@ -34,7 +34,10 @@ use Rattle.mx_turns.specs.declared.turns.Ending.{Ending}
 use Rattle.mx_app_turns.specs.Turned.{writes_over}
 use Rattle.mx_cpus.specs.declared.outside.OutsideCall.{OutsideCall}
 use Rattle.mx_cpus.specs.declared.outside.OutsideCall.TheVariants as calls
-use Rattle.mx_app_run.specs.Calls.{AreCallsGiven, IsCallsFault, ticks_of}
+use Rattle.mx_app_run.specs.Calls.{AreCallsGiven, IsCallsFault, call_line, ticks_of}
+use Rattle.mx_text.specs.Lines.{lines}
+use Rattle.mx_text.specs.declared.error.BootError.{BootError}
+use Rattle.mx_boot.specs.Reading.{AreLinesRead, TellsUnread}
 use Rattle.mx_app_run.specs.Run.{EndsDriven, IsCalled, IsNotCalled, IsRun, Runs, run_ending}
 
 -- a kernel whose loops have ended is what a run comes to
@@ -74,6 +77,13 @@ rules_at_boot c vs = refl
 -- the calls of no file
 pub called_alone : (config : List ℕ) (o : Option (List ℕ)) (qs : List Asked) (c : Config) (vs : List Service) (xs : List OutsideCall) → o ≡ None → IsSetup config qs c vs → xs ≡ [] → IsCalled config o qs c vs xs
 called_alone config o qs c vs xs is setup none = subst (λ (p : Option (List ℕ)). IsCalled config p qs c vs xs) (sym is) (setup, none)
+
+-- a file's calls, by the text that was read
+pub calls_given : (name text slice : List ℕ) (q : Asked) (others : ℕ) (xs : List OutsideCall) → slice ≡ text → IsTextGiven name q text → AreLinesRead (call_line others) (lines slice) xs → AreCallsGiven name q others xs
+calls_given name text slice q others xs of t h = (text, t, subst (λ (x : List ℕ). AreLinesRead (call_line others) (lines x) xs) of h)
+
+pub calls_unread : (name text slice : List ℕ) (q : Asked) (others : ℕ) (e : BootError) → slice ≡ text → IsTextGiven name q text → TellsUnread (call_line others) (lines slice) e → IsCallsFault name q others (failure_of_lines e)
+calls_unread name text slice q others e of t h = inr (text, e, t, subst (λ (x : List ℕ). TellsUnread (call_line others) (lines x) e) of h, refl)
 
 -- those of a file
 pub called_by : (config name : List ℕ) (o : Option (List ℕ)) (qs : List Asked) (q : Asked) (c : Config) (vs : List Service) (xs : List OutsideCall) → o ≡ Some name → IsSetup config qs c vs → AreCallsGiven name q c.others xs

@@ -86,8 +86,8 @@ fn ending_of(kernel: &Kernel, log: u32, outside: Outside<'_>) -> Ending
 {
     let Outside { ticks, calls } = outside;
     let has_room = calls.is_empty() || kernel.history().len() < log as usize;
-    let wanted = u64::from(ticks) + ticks_of(calls) as u64;
-    let rests = kernel.at_rest() && u64::from(kernel.table().uptime()) == wanted;
+    let wanted = u128::from(ticks) + ticks_of(calls) as u128;
+    let rests = kernel.at_rest() && u128::from(kernel.table().uptime()) == wanted;
     if rests && has_room {
         Ending::Rest
     } else {

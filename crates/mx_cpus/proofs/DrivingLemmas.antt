@@ -1,6 +1,6 @@
 -- What the loops of all seats leave.
-use Rattle.std.proofs.Common.{◌≡◌, ◌∙◌, ℕ, zero, suc, nat_lt, Bool, true, false, if◌then◌else◌, ◌==◌, ◌&&◌, not, length, get_or, inl, inr, All, ◌+◌, ◌-◌, ◌<◌, ◌≤◌, List, [], ◌∷◌, ◌++◌, Option, Some, None, refl, sym, ap, subst, arith, rules, Result, Ok, Err, IfOk}
-use Rattle.std.proofs.lemmas.Bool.{cases_lt, ltb-true}
+use Rattle.std.proofs.Common.{◌≡◌, ◌∙◌, ℕ, zero, suc, true, false, ◌==◌, length, get_or, inl, inr, All, ◌<◌, ◌≤◌, List, [], ◌∷◌, ◌++◌, Option, Some, None, refl, sym, ap, subst, arith, rules, Result, Ok, Err, IfOk}
+use Rattle.std.proofs.lemmas.Bool.{cases_lt}
 use Rattle.std.proofs.lemmas.List.Elements.{All-push}
 use Rattle.atomic_table.specs.Seated.{TableId}
 use Rattle.mx_machine.specs.World.{World}
@@ -11,7 +11,7 @@ use Rattle.mx_cpus.specs.Seats.{SeatView}
 use Rattle.mx_cpus.specs.Courses.{AreServed, IsServed}
 use Rattle.mx_cpus.specs.Gates.{GateCall, ended_call}
 use Rattle.mx_cpus.specs.Loops.{AreDriven, IsDriven}
-use Rattle.mx_cpus.specs.Outsiders.{AreDrivenWith, AreEach, AreServedWith, IsDrivenAs, IsDrivenIf, IsEndTold, IsRunAs, IsServedAs, IsServedIf, role_of}
+use Rattle.mx_cpus.specs.Outsiders.{AreDrivenWith, AreEach, AreServedWith, IsDrivenAs, IsDrivenIf, IsEndTold, IsServedAs, IsServedIf, role_of}
 
 -- ---- lists of seats
 

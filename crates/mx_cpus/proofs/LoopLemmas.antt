@@ -1,8 +1,6 @@
 -- Loops of calls, call by call.
-use Rattle.std.proofs.Common.{◌≡◌, ◌∙◌, ℕ, zero, suc, nat_lt, Bool, true, false, if◌then◌else◌, length, get_or, inl, inr, All, ◌+◌, ◌-◌, ◌^◌, ◌<◌, ◌≤◌, ◌≢◌, min, List, [], ◌∷◌, ◌++◌, map, Some, None, Result, Ok, Err, IsOk, IsErr, IfOk, IfErr, refl, sym, ap, subst, arith, append_assoc}
-use Rattle.std.proofs.lemmas.Bool.{cases_lt, ltb-true}
+use Rattle.std.proofs.Common.{◌≡◌, ◌∙◌, ℕ, zero, suc, nat_lt, Bool, true, false, if◌then◌else◌, inl, inr, ◌+◌, ◌-◌, ◌^◌, ◌<◌, ◌≤◌, ◌≢◌, min, List, [], ◌∷◌, ◌++◌, map, Some, None, Result, Ok, Err, IsOk, IsErr, IfOk, IfErr, refl, sym, ap, subst, arith, append_assoc}
 use Rattle.std.proofs.lemmas.List.{append-nil}
-use Rattle.std.proofs.lemmas.List.Elements.{All-push}
 use Rattle.atomic_table.specs.Seated.{TableId}
 use Rattle.mx_machine.specs.declared.events.Answer.{Answer}
 use Rattle.mx_machine.specs.declared.events.Event.{Event}
@@ -19,13 +17,13 @@ use Rattle.mx_machine.specs.World.{World, free_records}
 use Rattle.mx_loan_rule.proofs.Fronts.{prefix_self, prefix_trans}
 use Rattle.mx_cpus.specs.Seats.{SeatView, LoanView, back_record, record_of, take_record}
 use Rattle.mx_cpus.specs.Calls.{Follows, IsAnsweredCall, IsGiveCall, IsRefusedCall, IsRestCall, IsTakeCall}
-use Rattle.mx_cpus.specs.Gates.{GateCall, held_call, given_call, again_call, ended_call}
+use Rattle.mx_cpus.specs.Gates.{GateCall, held_call, given_call, again_call}
 use Rattle.mx_cpus.specs.declared.side.FreeSide.{FreeSide}
 use Rattle.mx_cpus.specs.declared.progress.Progress.{Progress}
 use Rattle.mx_cpus.specs.declared.progress.Progress.TheVariants.{GoesOn, Full}
 use Rattle.mx_cpus.specs.Progresses.{IsRoundTo, IsSweepTo}
-use Rattle.mx_cpus.specs.Courses.{AreRounds, AreServed, AreTried, AreTurns, IsAsked, IsProcessorRun, IsRespawnerRun, IsRound, IsRoundToFull, IsServed, IsSweepToFull, IsTicked, IsTickToFull, IsTried, IsWait, longest_run, slots, turn_number}
-use Rattle.mx_cpus.specs.Loops.{AreDriven, AreTicksAndRespawns, HasMadeTurns, HasTickedAndRespawned, IsDriven, ticks_among, turns_of}
+use Rattle.mx_cpus.specs.Courses.{AreRounds, AreTried, AreTurns, IsAsked, IsProcessorRun, IsRespawnerRun, IsRound, IsRoundToFull, IsSweepToFull, IsTicked, IsTickToFull, IsTried, IsWait, longest_run, slots, turn_number}
+use Rattle.mx_cpus.specs.Loops.{AreTicksAndRespawns, HasMadeTurns, HasTickedAndRespawned, ticks_among, turns_of}
 
 pub follows_self : (s : SeatView) → s.mine ≡ part_of s.seen s.actor → Follows s s
 follows_self s own = record { table = refl; actor = refl; seen = prefix_self s.seen; own = own }

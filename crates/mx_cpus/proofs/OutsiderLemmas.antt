@@ -1,5 +1,5 @@
 -- What the outsider's calls leave, call by call.
-use Rattle.std.proofs.Common.{◌≡◌, ◌∙◌, ℕ, zero, suc, Bool, true, false, ◌⊎◌, length, get_or, take, drop, inl, inr, ◌+◌, ◌-◌, ◌<◌, ◌≤◌, ◌≢◌, List, [], ◌∷◌, ◌++◌, map, Option, Some, None, Result, Ok, Err, IfOk, IfErr, refl, sym, ap, subst, arith, append_assoc}
+use Rattle.std.proofs.Common.{◌≡◌, ◌∙◌, ℕ, zero, suc, Bool, true, false, ◌⊎◌, length, get_or, take, drop, inl, inr, ◌+◌, ◌-◌, ◌<◌, ◌≤◌, List, [], ◌∷◌, ◌++◌, map, Some, refl, sym, ap, subst, arith, append_assoc}
 use Rattle.std.proofs.lemmas.List.{append-nil, take_more, take-append-drop}
 use Rattle.mx_machine.specs.declared.events.Answer.{Answer}
 use Rattle.mx_machine.specs.declared.events.Event.{Event}
@@ -20,7 +20,7 @@ use Rattle.mx_cpus.specs.declared.side.FreeSide.{FreeSide}
 use Rattle.mx_cpus.specs.Seats.{SeatView, record_of}
 use Rattle.mx_cpus.specs.Calls.{Follows, IsAnsweredCall, IsRefusedCall, IsRestCall}
 use Rattle.mx_cpus.specs.CallEnds.{IsCallTo, goes_on_after}
-use Rattle.mx_cpus.specs.Courses.{IsAsked, IsTriedEvent}
+use Rattle.mx_cpus.specs.Courses.{IsTriedEvent}
 use Rattle.mx_cpus.specs.Gates.{GateCall, again_call}
 use Rattle.mx_cpus.specs.Outsiders.{AreLooks, AreMade, AreSomeOf, HasMadeCalls, IsEarly, IsEnough, IsLast, IsLook, IsMade, IsOutsiderRun, IsStopped, IsWaited, IsWaiting, event_of_call, is_resting}
 use Rattle.mx_cpus.proofs.LoopLemmas.{follows_self, follows_trans, map_both}

@@ -1,5 +1,5 @@
 -- What the second other actor does: the calls of a list, in order. And which loop each actor has.
-use Rattle.std.specs.Prelude.{◌≡◌, ◌≢◌, ◌<◌, ◌≤◌, ◌+◌, ◌-◌, ◌⊎◌, ◌==◌, ◌&&◌, if◌then◌else◌, ℕ, zero, suc, Bool, true, false, List, [], ◌∷◌, ◌++◌, length, map, nat_lt, not, Option, Some, None}
+use Rattle.std.specs.Prelude.{◌≡◌, ◌<◌, ◌≤◌, ◌-◌, ◌⊎◌, ◌==◌, ◌&&◌, if◌then◌else◌, ℕ, zero, suc, Bool, true, false, List, [], ◌∷◌, ◌++◌, length, map, nat_lt, not, Option, Some, None}
 use Rattle.mx_machine.specs.declared.events.Event.{Event}
 use Rattle.mx_machine.specs.declared.events.Event.TheVariants as events
 use Rattle.mx_machine.specs.declared.events.Refusal.TheVariants.{LogFull}

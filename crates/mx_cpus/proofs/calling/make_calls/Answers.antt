@@ -1,4 +1,4 @@
-use Rattle.std.proofs.Common.{◌≡◌, ◌∙◌, ◌≤◌, length, arith}
+use Rattle.std.proofs.Common.{◌∙◌, ◌≤◌, length, arith}
 use Rattle.std.proofs.lemmas.List.{take_all}
 use Rattle.mx_cpus.proofs.OutsiderLemmas.{calls_all, calls_full, calls_go_on, calls_stopped, outsider_made}
 use Rattle.mx_cpus.proofs.calling.make_calls.Goals as goal

@@ -1,5 +1,4 @@
-use Rattle.std.proofs.Common.{◌≡◌, None, Some, Option, length, rules}
-use Rattle.mx_cpus.specs.declared.outside.Role.{Role}
+use Rattle.std.proofs.Common.{◌≡◌, None, Some, length, rules}
 use Rattle.mx_cpus.specs.Seats.{SeatView}
 use Rattle.mx_cpus.specs.Outsiders.{IsDrivenIf, IsEndTold, IsServedIf, role_of}
 use Rattle.mx_cpus.proofs.DrivingLemmas.{driven_as, driven_by, driven_idle, driven_tables, each_push, role_here, served_as, served_by, served_idle, told_as, told_push}
