@@ -100,10 +100,10 @@ pub assembled : (asked now : List Asked) (files written : List Written) (known :
 assembled asked now files written known text file d r p e = (p.0, p.1, p.2, p.3, (d, p.4, appends_nothing known, e))
 
 -- a machine was run, or it wasn't
-pub runs : (asked now : List Asked) (files written : List Written) (config log : List ℕ) (ticks : ℕ) (x y : Option (List ℕ)) (d : Result Ending Kind) (r : Result Done Kind)
-    → (qs : List Asked) × (ws : List Written) × (now ≡ asked ++ qs) × (written ≡ files ++ ws) × Runs config log ticks qs ws (λ text. Appends x y text) d → r ≡ done_after_turns d
-    → Does asked now files written (λ qs ws. (e : Result Ending Kind) × Runs config log ticks qs ws (λ text. Appends x y text) e × (r ≡ done_after_turns e))
-runs asked now files written config log ticks x y d r p e = (p.0, p.1, p.2, p.3, (d, p.4, e))
+pub runs : (asked now : List Asked) (files written : List Written) (config log : List ℕ) (events : Option (List ℕ)) (ticks : ℕ) (x y : Option (List ℕ)) (d : Result Ending Kind) (r : Result Done Kind)
+    → (qs : List Asked) × (ws : List Written) × (now ≡ asked ++ qs) × (written ≡ files ++ ws) × Runs config events log ticks qs ws (λ text. Appends x y text) d → r ≡ done_after_turns d
+    → Does asked now files written (λ qs ws. (e : Result Ending Kind) × Runs config events log ticks qs ws (λ text. Appends x y text) e × (r ≡ done_after_turns e))
+runs asked now files written config log events ticks x y d r p e = (p.0, p.1, p.2, p.3, (d, p.4, e))
 
 -- turns were made, or they weren't
 pub turned : (asked now : List Asked) (files written : List Written) (config log : List ℕ) (events : Option (List ℕ)) (ticks bound : ℕ) (x y : Option (List ℕ)) (d : Result Ending Kind) (r : Result Done Kind)

@@ -162,8 +162,8 @@ PerformsUntyped (Step config script None numbered) qs ws Prints r =
     (d : Result (Unit {0}) Kind) × (ws ≡ []) × Steps config.now script.now numbered qs Prints d × (r ≡ done_after_work d)
 PerformsUntyped (Step config script (Some log) numbered) qs ws Prints r =
     (d : Result (Unit {0}) Kind) × SavesApart config.now script.now log.now numbered qs ws Prints d × (r ≡ done_after_work d)
-PerformsUntyped (Run config log ticks) qs ws Prints r =
-    (d : Result Ending Kind) × Runs config.now log.now ticks qs ws Prints d × (r ≡ done_after_turns d)
+PerformsUntyped (Run config log ticks events) qs ws Prints r =
+    (d : Result Ending Kind) × Runs config.now (option_map (λ s. s.now) events) log.now ticks qs ws Prints d × (r ≡ done_after_turns d)
 PerformsUntyped (Turns config log ticks events bound) qs ws Prints r =
     (d : Result Ending Kind) × MakesTurns config.now (option_map (λ s. s.now) events) log.now ticks bound qs ws Prints d × (r ≡ done_after_turns d)
 PerformsUntyped (Sweep config log fault bound from to strict save) qs ws Prints r = ⊥

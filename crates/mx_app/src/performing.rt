@@ -146,8 +146,17 @@ pub fn perform<
                 done_after_work(step_apart(alloc, channels, config, script, log, numbered))
             }
         },
-        CommandRequest::Run { config, log, ticks } => {
-            let names = RunNames { config, log };
+        CommandRequest::Run {
+            config,
+            log,
+            ticks,
+            events,
+        } => {
+            let names = RunNames {
+                config,
+                log,
+                events,
+            };
             done_after_turns(run(rt, alloc, channels, names, ticks))
         }
         CommandRequest::Turns {

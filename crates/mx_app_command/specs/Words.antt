@@ -66,9 +66,11 @@ one_shape = subcommand (codes "one") (wanted (codes "FILE") ∷ wanted_number (c
 abbrev pub step_shape : Shape
 step_shape = subcommand (codes "step") (wanted (codes "CONFIG") ∷ wanted (codes "SCRIPT") ∷ after_name (codes "save") (codes "LOG") ∷ flag (codes "numbered") ∷ sums_rule ∷ [])
 
--- `run CONFIG LOG --ticks T --sums SUMS`
+-- `run CONFIG LOG --ticks T --events EVENTS --sums SUMS`
 abbrev pub run_shape : Shape
-run_shape = subcommand (codes "run") (wanted (codes "CONFIG") ∷ wanted (codes "LOG") ∷ number_after (codes "ticks") (codes "T") ∷ sums_rule ∷ [])
+run_shape =
+    subcommand (codes "run")
+    (wanted (codes "CONFIG") ∷ wanted (codes "LOG") ∷ number_after (codes "ticks") (codes "T") ∷ after_name (codes "events") (codes "EVENTS") ∷ sums_rule ∷ [])
 
 -- `turns CONFIG LOG --ticks T --events EVENTS --turns N --sums SUMS`; that only one of ticks and events is given, `Mistakes` has
 abbrev pub turns_shape : Shape
@@ -176,9 +178,9 @@ AsksBy (Explain config) name rows = (name ≡ codes "explain") × HasText (codes
 AsksBy (Step config script save numbered) name rows =
     (name ≡ codes "step") × HasText (codes "CONFIG") rows config.now × HasText (codes "SCRIPT") rows script.now
     × MayHaveText (codes "LOG") rows (option_map (λ s. s.now) save) × IsFlag (codes "numbered") rows numbered
-AsksBy (Run config log ticks) name rows =
+AsksBy (Run config log ticks events) name rows =
     (name ≡ codes "run") × HasText (codes "CONFIG") rows config.now × HasText (codes "LOG") rows log.now
-    × HasNumberOr 0 (codes "T") rows ticks
+    × HasNumberOr 0 (codes "T") rows ticks × MayHaveText (codes "EVENTS") rows (option_map (λ s. s.now) events)
 AsksBy (Turns config log ticks events bound) name rows =
     (name ≡ codes "turns") × HasText (codes "CONFIG") rows config.now × HasText (codes "LOG") rows log.now
     × HasNumberOr 0 (codes "T") rows ticks × MayHaveText (codes "EVENTS") rows (option_map (λ s. s.now) events)

@@ -125,6 +125,13 @@ const EVENTS: CommandArgument<'static> = CommandArgument {
     form: ArgumentForm::After("events"),
 };
 
+/// What the second other actor does in a run.
+const CALLS: CommandArgument<'static> = CommandArgument {
+    name: "EVENTS",
+    help: "A file of what the second other actor does: line L, tick, kill E, or wait N for N records",
+    form: ArgumentForm::After("events"),
+};
+
 /// How many turns are made.
 const TURNS: CommandArgument<'static> = CommandArgument {
     name: "N",
@@ -276,7 +283,7 @@ static MACHINE_COMMANDS: [Subcommand<'static>; 5] = [
     Subcommand {
         name: "run",
         help: "Runs a machine, each processor in a thread, writes its history and prints a report",
-        arguments: &[CONFIG, RECORDED, TICKS, WRITTEN_SUMS, EXPLAIN, SILENT],
+        arguments: &[CONFIG, RECORDED, TICKS, CALLS, WRITTEN_SUMS, EXPLAIN, SILENT],
         example: Example::Run,
     },
     Subcommand {

@@ -206,6 +206,10 @@ where the history is full. So a machine that is never at rest needs a log that e
 it. Two runs may differ; the replay of a run's history never does. With --sums SUMS
 the file SUMS gets sums of the machine, by which replay knows it (mx replay --help).
 
+With --events EVENTS the second other actor has a thread, so CONFIG needs others 2 or
+more. It makes the lines of EVENTS in order: line L, kill E, tick, and wait N, which
+ends after N records more, or if the machine is at rest. The run ends after the last.
+
 Status: 0 done, also if the history was full; 1 a text or a program's file is refused;
 2 a mistake in the words; 3 a file can't be read or written, or LOG is CONFIG; 4 no
 memory. Formats: docs/use/REFERENCE.md.";

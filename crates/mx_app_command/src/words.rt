@@ -55,11 +55,12 @@ pub enum CommandRequest<'a> {
         save: Option<&'a str>,
         numbered: bool,
     },
-    /// `run CONFIG LOG`, with `--ticks T` or, for no ticks, without.
+    /// `run CONFIG LOG`, with `--ticks T` or, for no ticks, without, and with `--events EVENTS` or without.
     Run {
         config: &'a str,
         log: &'a str,
         ticks: u32,
+        events: Option<&'a str>,
     },
     /// `turns CONFIG LOG`, with `--ticks T` or `--events EVENTS`, and with `--turns N`, or without.
     Turns {
@@ -288,7 +289,13 @@ fn history_request<'a>(name: &str, config: &'a str, matches: &ArgMatches<'a>) ->
     let log = value_asked(matches, "LOG");
     if name == "run" {
         let ticks = number_or(matches, "T", 0);
-        return CommandRequest::Run { config, log, ticks };
+        let events = value_if_asked(matches, "EVENTS");
+        return CommandRequest::Run {
+            config,
+            log,
+            ticks,
+            events,
+        };
     }
     if name == "turns" {
         return turns_request(config, log, matches);

@@ -48,7 +48,7 @@ first_name (Dis file) = file.now
 first_name (Nm file) = file.now
 first_name (Explain config) = config.now
 first_name (Step config script save numbered) = config.now
-first_name (Run config log ticks) = config.now
+first_name (Run config log ticks events) = config.now
 first_name (Turns config log ticks events bound) = config.now
 first_name (Sweep config log fault bound from to strict save) = config.now
 first_name (Replay config log) = config.now
@@ -72,7 +72,8 @@ second_name (Dis file) = file.now
 second_name (Nm file) = file.now
 second_name (Explain config) = config.now
 second_name (Step config script save numbered) = script.now
-second_name (Run config log ticks) = log.now
+second_name (Run config log ticks None) = log.now
+second_name (Run config log ticks (Some events)) = events.now
 second_name (Turns config log ticks None bound) = log.now
 second_name (Turns config log ticks (Some events) bound) = events.now
 second_name (Sweep config log fault bound from to strict save) = log.now
@@ -90,6 +91,7 @@ second_label (Nm file) = codes "FILE"
 second_label (Explain config) = codes "CONFIG"
 second_label (Step config script save numbered) = codes "SCRIPT"
 second_label (Db config script) = codes "SCRIPT"
+second_label (Run config log ticks (Some events)) = codes "EVENTS"
 second_label (Turns config log ticks (Some events) bound) = codes "EVENTS"
 second_label r = codes "LOG"
 
@@ -102,6 +104,7 @@ second_word r = word_told (second_label r) (second_name r)
 -- the file that is written
 abbrev pub written_word : CommandRequest → List ℕ
 written_word (Step config script (Some log) numbered) = word_told (codes "LOG") log.now
+written_word (Run config log ticks events) = word_told (codes "LOG") log.now
 written_word (Turns config log ticks events bound) = word_told (codes "LOG") log.now
 written_word (Sweep config log fault bound from to strict (Some file)) = word_told (codes "FILE") file.now
 written_word r = second_word r
@@ -117,7 +120,8 @@ reads_one_program r = false
 abbrev pub writes_over : CommandRequest → Bool
 writes_over (As text file) = bytes_eq text.now file.now
 writes_over (Step config script (Some log) numbered) = bytes_eq config.now log.now || bytes_eq script.now log.now
-writes_over (Run config log ticks) = bytes_eq config.now log.now
+writes_over (Run config log ticks None) = bytes_eq config.now log.now
+writes_over (Run config log ticks (Some events)) = bytes_eq config.now log.now || bytes_eq events.now log.now
 writes_over (Turns config log ticks None bound) = bytes_eq config.now log.now
 writes_over (Turns config log ticks (Some events) bound) = bytes_eq config.now log.now || bytes_eq events.now log.now
 writes_over (Sweep config log fault bound from to strict (Some file)) = bytes_eq config.now file.now || (bytes_eq log.now file.now || bytes_eq fault.now file.now)
@@ -125,7 +129,7 @@ writes_over r = false
 
 -- a machine runs by itself
 abbrev pub is_run : CommandRequest → Bool
-is_run (Run config log ticks) = true
+is_run (Run config log ticks events) = true
 is_run (Turns config log ticks events bound) = true
 is_run r = false
 
@@ -178,6 +182,7 @@ record_wanted (Step config script save numbered) =
     codes "an event: take C, step C K, back C, line L, tick, kill E or respawn S"
 record_wanted (Db config script) =
     codes "an event, or break S PLACE, clear S PLACE, go C K, regs C, regs of S, mem C M N, mem of S M N, messages or messages N"
+record_wanted (Run config log ticks events) = codes "line L, tick, kill E or wait N; --events wants others 2 or more in CONFIG"
 record_wanted (Turns config log ticks events bound) = codes "an outside event: line L, tick or kill E"
 record_wanted (Sweep config log fault bound from to strict save) = codes "in LOG a record and its line feed; in FAULT an event of a script, or kill slot S"
 record_wanted r =

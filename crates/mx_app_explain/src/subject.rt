@@ -86,6 +86,10 @@ pub fn second_name(request: CommandRequest<'_>) -> &str
         CommandRequest::Nm { file } => file,
         CommandRequest::Explain { config } => config,
         CommandRequest::Step { script, .. } => script,
+        CommandRequest::Run {
+            events: Some(events),
+            ..
+        } => events,
         CommandRequest::Run { log, .. } => log,
         CommandRequest::Turns {
             events: Some(events),
@@ -127,7 +131,11 @@ pub(crate) fn second_word(request: CommandRequest<'_>) -> Subject<'_>
         | CommandRequest::Nm { .. } => Subject::Word("FILE", name),
         CommandRequest::Explain { .. } => Subject::Word("CONFIG", name),
         CommandRequest::Step { .. } | CommandRequest::Db { .. } => Subject::Word("SCRIPT", name),
-        CommandRequest::Turns {
+        CommandRequest::Run {
+            events: Some(_),
+            ..
+        }
+        | CommandRequest::Turns {
             events: Some(_),
             ..
         } => Subject::Word("EVENTS", name),
@@ -144,7 +152,9 @@ fn written_word(request: CommandRequest<'_>) -> Subject<'_>
             save: Some(log),
             ..
         } => Subject::Word("LOG", log),
-        CommandRequest::Turns { log, .. } => Subject::Word("LOG", log),
+        CommandRequest::Run { log, .. } | CommandRequest::Turns { log, .. } => {
+            Subject::Word("LOG", log)
+        }
         CommandRequest::Sweep {
             save: Some(file),
             ..
@@ -175,7 +185,12 @@ pub(crate) fn writes_over(request: CommandRequest<'_>) -> bool
             save: Some(log),
             ..
         } => config == log || script == log,
-        CommandRequest::Run { config, log, .. } => config == log,
+        CommandRequest::Run {
+            config,
+            log,
+            events,
+            ..
+        } => config == log || events == Some(log),
         CommandRequest::Turns {
             config,
             log,

@@ -67,6 +67,9 @@ fn record_wanted(request: CommandRequest<'_>) -> &'static str
             "an event, or break S PLACE, clear S PLACE, go C K, regs C, regs of S, mem C M N, \
              mem of S M N, messages or messages N"
         }
+        CommandRequest::Run { .. } => {
+            "line L, tick, kill E or wait N; --events wants others 2 or more in CONFIG"
+        }
         CommandRequest::Turns { .. } => "an outside event: line L, tick or kill E",
         CommandRequest::Sweep { .. } => {
             "in LOG a record and its line feed; in FAULT an event of a script, or kill slot S"

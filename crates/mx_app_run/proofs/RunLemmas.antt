@@ -1,8 +1,8 @@
 -- From loops to a run, and from its text to its replay.
-use Rattle.std.proofs.Common.{◌≡◌, ◌≢◌, ◌∙◌, ◌+◌, ℕ, suc, List, [], ◌∷◌, ◌++◌, length, Option, Some, None, Result, Ok, Err, All, refl, sym, ap, subst, inl, inr, append_assoc}
+use Rattle.std.proofs.Common.{◌≡◌, ◌∙◌, ◌+◌, ◌<◌, ◌≤◌, ℕ, zero, suc, Bool, true, false, List, [], ◌∷◌, ◌++◌, length, take, get_or, Option, Some, None, Result, Ok, Err, All, refl, sym, ap, subst, arith, inl, inr, append_assoc}
 use Rattle.std.specs.Prelude.{IsErrAnd}
 use Rattle.std.specs.Io.KnownBytes.{Appends}
-use Rattle.std.proofs.lemmas.List.{length-replicate}
+use Rattle.std.proofs.lemmas.List.{length-replicate, take_more}
 use Rattle.atomic_table.specs.Seated.{TableId}
 use Rattle.mx_machine.specs.declared.config.Config.{Config}
 use Rattle.mx_machine.specs.declared.events.Event.{Event}
@@ -18,10 +18,10 @@ use Rattle.mx_cpus.specs.Seats.{SeatView}
 use Rattle.mx_cpus.specs.Boots.{all_seats}
 use Rattle.mx_app_step.specs.Asked.{Asked}
 use Rattle.mx_app_step.specs.ServiceLine.{ServiceLine}
-use Rattle.mx_app_step.specs.Setup.{AreServicesRead, IsSetup}
+use Rattle.mx_app_step.specs.Setup.{AreServicesRead, IsNoTextGiven, IsSetup, IsTextGiven}
 use Rattle.mx_app_failure.specs.declared.failure.Failure.{Failure as Kind}
 use Rattle.mx_app_failure.specs.declared.failure.Failure.TheVariants.{NoMemory}
-use Rattle.mx_app_failure.specs.Failure.{IsWanting}
+use Rattle.mx_app_failure.specs.Failure.{IsWanting, failure_of_lines}
 use Rattle.mx_app_step.specs.Setup.{IsSetupFault}
 use Rattle.mx_app_step.specs.Kept.{text_kept, IsUnwritten}
 use Rattle.mx_app_step.specs.Written.{Written, kept, unkept}
@@ -31,20 +31,27 @@ use Rattle.mx_app_step.specs.Records.{IsFirstRefusal, IsRefusedAt, IsReplayPrint
 use Rattle.mx_app_step.specs.declared.records.Replayed.{Replayed}
 use Rattle.mx_app_step.specs.declared.records.Replayed.TheVariants as replayed
 use Rattle.mx_turns.specs.declared.turns.Ending.{Ending}
-use Rattle.mx_app_run.specs.Run.{EndsDriven, IsRun, Runs, run_ending}
+use Rattle.mx_app_turns.specs.Turned.{writes_over}
+use Rattle.mx_cpus.specs.declared.outside.OutsideCall.{OutsideCall}
+use Rattle.mx_cpus.specs.declared.outside.OutsideCall.TheVariants as calls
+use Rattle.mx_app_run.specs.Calls.{AreCallsGiven, IsCallsFault, call_line, ticks_of}
+use Rattle.mx_text.specs.Lines.{lines}
+use Rattle.mx_text.specs.declared.error.BootError.{BootError}
+use Rattle.mx_boot.specs.Reading.{AreLinesRead, TellsUnread}
+use Rattle.mx_app_run.specs.Run.{EndsDriven, IsCalled, IsNotCalled, IsRun, Runs, run_ending}
 
 -- a kernel whose loops have ended is what a run comes to
-pub run_of : (c : Config) (vs : List Service) (ticks : ℕ) (k : BootAndHistory) (boot : World) (z : TableId) (seats : List SeatView)
-    → boot ≡ world_at_boot c vs → seats ≡ all_seats c z → k.boot ≡ boot → EndsDriven (length boot.cpus) ticks seats k.history
-    → AreAccepted k.boot (events_of_history k.history) → All (IsWritable (actors (replay k))) k.history → IsRun c vs ticks k
-run_of c vs ticks k boot z seats booted all is ends accepted written =
+pub run_of : (c : Config) (vs : List Service) (ticks : ℕ) (xs : List OutsideCall) (k : BootAndHistory) (boot : World) (z : TableId) (seats : List SeatView)
+    → boot ≡ world_at_boot c vs → seats ≡ all_seats c z → k.boot ≡ boot → EndsDriven (length boot.cpus) ticks xs seats k.history
+    → AreAccepted k.boot (events_of_history k.history) → All (IsWritable (actors (replay k))) k.history → IsRun c vs ticks xs k
+run_of c vs ticks xs k boot z seats booted all is ends accepted written =
     let many : length boot.cpus ≡ c.cpus = ap (λ (w : World). length w.cpus) booted ∙ length-replicate c.cpus None in
     record {
       boot = is ∙ booted;
       accepted = accepted;
       written = written;
       table = z;
-      loops = subst (λ n. EndsDriven n ticks (all_seats c z) k.history) many (subst (λ (l : List SeatView). EndsDriven (length boot.cpus) ticks l k.history) all ends);
+      loops = subst (λ n. EndsDriven n ticks xs (all_seats c z) k.history) many (subst (λ (l : List SeatView). EndsDriven (length boot.cpus) ticks xs l k.history) all ends);
     }
 
 -- one service for each line
@@ -65,43 +72,80 @@ rules_at_boot : (c : Config) (vs : List Service) → (world_at_boot c vs).table.
 unfolding first_table
 rules_at_boot c vs = refl
 
+-- ---- what was read
+
+-- the calls of no file
+pub called_alone : (config : List ℕ) (o : Option (List ℕ)) (qs : List Asked) (c : Config) (vs : List Service) (xs : List OutsideCall) → o ≡ None → IsSetup config qs c vs → xs ≡ [] → IsCalled config o qs c vs xs
+called_alone config o qs c vs xs is setup none = subst (λ (p : Option (List ℕ)). IsCalled config p qs c vs xs) (sym is) (setup, none)
+
+-- a file's calls, by the text that was read
+pub calls_given : (name text slice : List ℕ) (q : Asked) (others : ℕ) (xs : List OutsideCall) → slice ≡ text → IsTextGiven name q text → AreLinesRead (call_line others) (lines slice) xs → AreCallsGiven name q others xs
+calls_given name text slice q others xs of t h = (text, t, subst (λ (x : List ℕ). AreLinesRead (call_line others) (lines x) xs) of h)
+
+pub calls_unread : (name text slice : List ℕ) (q : Asked) (others : ℕ) (e : BootError) → slice ≡ text → IsTextGiven name q text → TellsUnread (call_line others) (lines slice) e → IsCallsFault name q others (failure_of_lines e)
+calls_unread name text slice q others e of t h = inr (text, e, t, subst (λ (x : List ℕ). TellsUnread (call_line others) (lines x) e) of h, refl)
+
+-- those of a file
+pub called_by : (config name : List ℕ) (o : Option (List ℕ)) (qs : List Asked) (q : Asked) (c : Config) (vs : List Service) (xs : List OutsideCall) → o ≡ Some name → IsSetup config qs c vs → AreCallsGiven name q c.others xs
+    → IsCalled config o (qs ++ q ∷ []) c vs xs
+called_by config name o qs q c vs xs is setup given = subst (λ (p : Option (List ℕ)). IsCalled config p (qs ++ q ∷ []) c vs xs) (sym is) (qs, q, refl, setup, given)
+
+pub not_set_up : (config : List ℕ) (o : Option (List ℕ)) (qs : List Asked) (f : Kind) → IsSetupFault config qs f → IsNotCalled config o qs f
+not_set_up config None qs f h = h
+not_set_up config (Some name) qs f h = inl h
+
+pub calls_faulty : (config name : List ℕ) (o : Option (List ℕ)) (qs : List Asked) (q : Asked) (c : Config) (vs : List Service) (f : Kind) → o ≡ Some name → IsSetup config qs c vs → IsCallsFault name q c.others f
+    → IsNotCalled config o (qs ++ q ∷ []) f
+calls_faulty config name o qs q c vs f is setup h = subst (λ (p : Option (List ℕ)). IsNotCalled config p (qs ++ q ∷ []) f) (sym is) (inr (qs, q, c, vs, refl, setup, h))
+
+-- the configuration, whichever files were read
+setup_of_called : (config : List ℕ) (o : Option (List ℕ)) (qs : List Asked) (c : Config) (vs : List Service) (xs : List OutsideCall) → IsCalled config o qs c vs xs → length vs ≡ length c.lines
+setup_of_called config None qs c vs xs h = as_many_services config qs c vs h.0
+setup_of_called config (Some name) qs c vs xs h = as_many_services config h.0 c vs h.3
+
+pub some_called : (config : List ℕ) (o : Option (List ℕ)) (qs : List Asked) (c : Config) (vs : List Service) (xs : List OutsideCall) → IsCalled config o qs c vs xs → (0 < length vs) × (length vs ≤ 32)
+some_called config o qs c vs xs h =
+    let many = setup_of_called config o qs c vs xs h in
+    (omega (arith, many, c.some_lines), omega (arith, many, c.lines_fit))
+
 -- ---- what `mx run` reports, by how it ends
 
-module _ (config log : List ℕ) (ticks : ℕ) (qs : List Asked) (Prints : List ℕ → Type 0) (apart : config ≢ log) where
-  pub not_set_up : (f : Kind) (r : Result Ending Kind) → IsSetupFault config qs f → IsErrAnd r (λ y. y ≡ f) → Runs config log ticks qs [] Prints r
-  not_set_up f (Ok u) why h = absurd h
-  not_set_up f (Err y) why h = inl (refl, inr (apart, inl (subst (λ z. IsSetupFault config qs z) (sym h) why)))
+module _ (config : List ℕ) (events : Option (List ℕ)) (log : List ℕ) (ticks : ℕ) (qs : List Asked) (Prints : List ℕ → Type 0) (apart : writes_over config events log ≡ false) where
+  pub not_called : (f : Kind) (r : Result Ending Kind) → IsNotCalled config events qs f → IsErrAnd r (λ y. y ≡ f) → Runs config events log ticks qs [] Prints r
+  not_called f (Ok u) why h = absurd h
+  not_called f (Err y) why h = inl (refl, inr (apart, inl (subst (λ z. IsNotCalled config events qs z) (sym h) why)))
 
-  pub no_memory : (c : Config) (vs : List Service) (r : Result Ending Kind) → IsSetup config qs c vs → IsErrAnd r (λ y. y ≡ NoMemory) → Runs config log ticks qs [] Prints r
-  no_memory c vs (Ok u) setup h = absurd h
-  no_memory c vs (Err y) setup h = inl (refl, inr (apart, inr (c, vs, setup, h)))
+  module _ (c : Config) (vs : List Service) (xs : List OutsideCall) (called : IsCalled config events qs c vs xs) where
+    pub no_memory : (r : Result Ending Kind) → IsErrAnd r (λ y. y ≡ NoMemory) → Runs config events log ticks qs [] Prints r
+    no_memory (Ok u) h = absurd h
+    no_memory (Err y) h = inl (refl, inr (apart, inr (c, vs, xs, called, h)))
 
-  module _ (c : Config) (vs : List Service) (k : BootAndHistory) (setup : IsSetup config qs c vs) (run : IsRun c vs ticks k) where
-    by_rules : text_kept k ≡ saved_text c.rules k.history
-    by_rules = ap (λ (r : Rules). saved_text r k.history) (ap (λ (w : World). w.table.rules) run.boot ∙ rules_at_boot c vs)
+    module _ (k : BootAndHistory) (run : IsRun c vs ticks xs k) where
+      by_rules : text_kept k ≡ saved_text c.rules k.history
+      by_rules = ap (λ (r : Rules). saved_text r k.history) (ap (λ (w : World). w.table.rules) run.boot ∙ rules_at_boot c vs)
 
-    pub unwritten : (ws : List Written) (f : Kind) (r : Result Ending Kind) → IsUnwritten log (text_kept k) ws f → IsErrAnd r (λ y. y ≡ f) → Runs config log ticks qs ws Prints r
-    unwritten ws f (Ok u) why h = absurd h
-    unwritten ws f (Err y) why h = elim why [
-      | inl none ↦ inl (none.0, inr (apart, inr (c, vs, setup, h ∙ none.1)))
-      | inr file ↦ inr (c, vs, k, apart, setup, run, inl (file.0, file.1 ∙ ap (λ t. unkept log t file.0 ∷ []) by_rules, h ∙ file.2))
-    ]
+      pub unwritten : (ws : List Written) (f : Kind) (r : Result Ending Kind) → IsUnwritten log (text_kept k) ws f → IsErrAnd r (λ y. y ≡ f) → Runs config events log ticks qs ws Prints r
+      unwritten ws f (Ok u) why h = absurd h
+      unwritten ws f (Err y) why h = elim why [
+        | inl none ↦ inl (none.0, inr (apart, inr (c, vs, xs, called, h ∙ none.1)))
+        | inr file ↦ inr (c, vs, xs, k, apart, called, run, inl (file.0, file.1 ∙ ap (λ t. unkept log t file.0 ∷ []) by_rules, h ∙ file.2))
+      ]
 
-    -- the report isn't printed
-    pub untold : (f : Kind) (r : Result Ending Kind) → IsWanting f → IsErrAnd r (λ y. y ≡ f) → Runs config log ticks qs (kept log (text_kept k) ∷ []) Prints r
-    untold f (Ok ending) wanting h = absurd h
-    untold f (Err y) wanting h = inr (c, vs, k, apart, setup, run, inr (ap (λ t. kept log t ∷ []) by_rules, subst IsWanting (sym h) wanting))
+      -- the report isn't printed
+      pub untold : (f : Kind) (r : Result Ending Kind) → IsWanting f → IsErrAnd r (λ y. y ≡ f) → Runs config events log ticks qs (kept log (text_kept k) ∷ []) Prints r
+      untold f (Ok ending) wanting h = absurd h
+      untold f (Err y) wanting h = inr (c, vs, xs, k, apart, called, run, inr (ap (λ t. kept log t ∷ []) by_rules, subst IsWanting (sym h) wanting))
 
-    pub written : (ending : Ending) → Prints (report_text (replay k).table (replay k).services) → ending ≡ run_ending ticks (replay k)
-        → Runs config log ticks qs (kept log (text_kept k) ∷ []) Prints (Ok ending)
-    written ending printed is = (c, vs, k, apart, setup, run, ap (λ t. kept log t ∷ []) by_rules, printed, is)
+      pub written : (ending : Ending) → Prints (report_text (replay k).table (replay k).services) → ending ≡ run_ending c.log ticks xs k
+          → Runs config events log ticks qs (kept log (text_kept k) ∷ []) Prints (Ok ending)
+      written ending printed is = (c, vs, xs, k, apart, called, run, ap (λ t. kept log t ∷ []) by_rules, printed, is)
 
 -- ---- its replay
 
-pub actors_of_run : (c : Config) (vs : List Service) (ticks : ℕ) (k : BootAndHistory) → ((w : World) (xs : List (ℕ × Event)) → actors (world_after_events w xs) ≡ actors w)
-    → IsRun c vs ticks k → actors (replay k) ≡ c.cpus + c.others
+pub actors_of_run : (c : Config) (vs : List Service) (ticks : ℕ) (xs : List OutsideCall) (k : BootAndHistory) → ((w : World) (xs : List (ℕ × Event)) → actors (world_after_events w xs) ≡ actors w)
+    → IsRun c vs ticks xs k → actors (replay k) ≡ c.cpus + c.others
 unfolding replay
-actors_of_run c vs ticks k stay r = stay k.boot (events_of_history k.history) ∙ ap actors r.boot ∙ ap (λ n. n + c.others) (length-replicate c.cpus None)
+actors_of_run c vs ticks xs k stay r = stay k.boot (events_of_history k.history) ∙ ap actors r.boot ∙ ap (λ n. n + c.others) (length-replicate c.cpus None)
 
 events_both : (xs ys : List Record) → events_of_history (xs ++ ys) ≡ events_of_history xs ++ events_of_history ys
 events_both [] ys = refl
@@ -128,14 +172,35 @@ not_refused w records n r h q =
     never_refused (world_after_events w (events_of_history above)) (events_of x.actor x.event) (events_of_history below) r
     (accepted_after w (events_of_history above) (events_of_history (x ∷ below)) (subst (AreAccepted w) parts h)) q.5
 
-pub printed_whole : (c : Config) (vs : List Service) (ticks : ℕ) (k : BootAndHistory) (records : List Record) (how : Replayed) (before after : Option (List ℕ))
-    → IsRun c vs ticks k → records ≡ k.history → IsReplayPrinted (world_at_boot c vs) records how (λ text. Appends before after text)
+pub printed_whole : (c : Config) (vs : List Service) (ticks : ℕ) (xs : List OutsideCall) (k : BootAndHistory) (records : List Record) (how : Replayed) (before after : Option (List ℕ))
+    → IsRun c vs ticks xs k → records ≡ k.history → IsReplayPrinted (world_at_boot c vs) records how (λ text. Appends before after text)
     → (how ≡ replayed.Whole) × Appends before after (report_text (replay k).table (replay k).services)
 unfolding replay
-printed_whole c vs ticks k records replayed.Whole before after run same h =
+printed_whole c vs ticks xs k records replayed.Whole before after run same h =
     let there : world_after_events (world_at_boot c vs) (events_of_history records) ≡ world_after_events k.boot (events_of_history k.history) =
     ap (λ (l : List Record). world_after_events (world_at_boot c vs) (events_of_history l)) same ∙ ap (λ w. world_after_events w (events_of_history k.history)) (sym run.boot) in
     (refl, subst (λ (u : World). Appends before after (report_text u.table u.services)) there h.1)
-printed_whole c vs ticks k records replayed.Refused before after run same h =
+printed_whole c vs ticks xs k records replayed.Refused before after run same h =
     let accepted = subst (λ w. AreAccepted w (events_of_history records)) run.boot (subst (λ (l : List Record). AreAccepted k.boot (events_of_history l)) (sym same) run.accepted) in
     absurd (not_refused (world_at_boot c vs) records h.0 h.1 accepted h.2)
+
+-- ---- ticks among calls
+
+-- 1 for a tick
+abbrev pub one_tick : OutsideCall → ℕ
+one_tick calls.Tick = 1
+one_tick _ = 0
+
+ticks_push : (xs : List OutsideCall) (x : OutsideCall) → ticks_of (xs ++ x ∷ []) ≡ ticks_of xs + one_tick x
+ticks_push [] calls.Tick = refl
+ticks_push [] (calls.Line l) = refl
+ticks_push [] (calls.Kill e) = refl
+ticks_push [] (calls.Wait n) = refl
+ticks_push (calls.Tick ∷ xs) x = let rest = ticks_push xs x in omega (arith, rest)
+ticks_push (calls.Line l ∷ xs) x = ticks_push xs x
+ticks_push (calls.Kill e ∷ xs) x = ticks_push xs x
+ticks_push (calls.Wait n ∷ xs) x = ticks_push xs x
+
+-- one call more
+pub ticks_more : (xs : List OutsideCall) (k : ℕ) (x : OutsideCall) → k < length xs → ticks_of (take (k + 1) xs) ≡ ticks_of (take k xs) + one_tick (get_or xs k x)
+ticks_more xs k x below = ap ticks_of (take_more xs k x below) ∙ ticks_push (take k xs) (get_or xs k x)

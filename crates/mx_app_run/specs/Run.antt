@@ -1,5 +1,5 @@
 -- Machines whose processors are threads, and what their runs leave (our own).
-use Rattle.std.specs.Prelude.{◌≡◌, ◌⊎◌, ◌≢◌, ◌==◌, ◌&&◌, if◌then◌else◌, ℕ, List, [], ◌∷◌, All, Option, Result, Ok, Err}
+use Rattle.std.specs.Prelude.{◌≡◌, ◌⊎◌, ◌==◌, ◌&&◌, ◌||◌, ◌+◌, ◌++◌, if◌then◌else◌, ℕ, Bool, true, false, nat_lt, List, [], ◌∷◌, length, All, Option, Some, None, Result, Ok, Err}
 use Rattle.std.specs.Io.KnownBytes.{Appends}
 use Rattle.std.specs.declared.io.ErrorKind.{ErrorKind}
 use Rattle.atomic_table.specs.Seated.{TableId}
@@ -8,12 +8,13 @@ use Rattle.mx_machine.specs.declared.history.Record.{Record}
 use Rattle.mx_machine.specs.Boot.{world_at_boot}
 use Rattle.mx_machine.specs.History.{AreAccepted, BootAndHistory, IsWritable, events_of_history, replay}
 use Rattle.mx_machine.specs.Rest.{at_rest}
-use Rattle.mx_machine.specs.World.{World, actors}
+use Rattle.mx_machine.specs.World.{actors}
 use Rattle.mx_machine.specs.Service.{Service}
 use Rattle.mx_cpus.specs.Seats.{SeatView}
 use Rattle.mx_cpus.specs.Calls.{StandsIn}
 use Rattle.mx_cpus.specs.Boots.{all_seats}
-use Rattle.mx_cpus.specs.Loops.{AreDriven}
+use Rattle.mx_cpus.specs.Outsiders.{AreDrivenWith}
+use Rattle.mx_cpus.specs.declared.outside.OutsideCall.{OutsideCall}
 use Rattle.mx_app_step.specs.Report.{report_text}
 use Rattle.mx_boot.specs.Text.{saved_text}
 use Rattle.mx_turns.specs.declared.turns.Ending.{Ending}
@@ -22,6 +23,8 @@ use Rattle.mx_app_failure.specs.declared.failure.Failure.{Failure as Kind}
 use Rattle.mx_app_failure.specs.declared.failure.Failure.TheVariants.{File, NoMemory}
 use Rattle.mx_app_failure.specs.Failure.{IsWanting, failure_of_kind}
 use Rattle.mx_app_step.specs.Asked.{Asked}
+use Rattle.mx_app_turns.specs.Turned.{writes_over}
+use Rattle.mx_app_run.specs.Calls.{AreCallsGiven, IsCallsFault, ticks_of}
 use Rattle.mx_app_step.specs.Course.{IsSaved}
 use Rattle.mx_app_step.specs.Setup.{IsSetup, IsSetupFault}
 use Rattle.mx_app_step.specs.Written.{Written, kept, unkept}
@@ -32,29 +35,52 @@ use Rattle.mx_app_step.specs.declared.records.Replayed.TheVariants.{Whole}
 -- ---- a run
 
 -- the loops of these seats have ended, and what each seat shows then is in the history
-abbrev pub EndsDriven : ℕ → ℕ → List SeatView → List Record → Type 0
-EndsDriven cpus ticks seats history = (ended : List SeatView) × AreDriven cpus ticks seats ended × All (StandsIn history) ended
+abbrev pub EndsDriven : ℕ → ℕ → List OutsideCall → List SeatView → List Record → Type 0
+EndsDriven cpus ticks xs seats history = (ended : List SeatView) × AreDrivenWith cpus ticks xs seats ended × All (StandsIn history) ended
 
--- A RUN of a configuration and its services with at most some ticks ends at a kernel. It was booted so, each event
--- of its history is accepted, and the records of each actor there are those of its loop.
-pub record IsRun (c : Config) (vs : List Service) (ticks : ℕ) (k : BootAndHistory) : Type 0 where
+-- A RUN of a configuration and its services with at most some ticks, and with some calls of the outsider, ends at a
+-- kernel. It was booted so, each event of its history is accepted, and the records of each actor there are those of its
+-- loop.
+pub record IsRun (c : Config) (vs : List Service) (ticks : ℕ) (xs : List OutsideCall) (k : BootAndHistory) : Type 0 where
   pub boot : k.boot ≡ world_at_boot c vs
   pub accepted : AreAccepted k.boot (events_of_history k.history)
   pub written : All (IsWritable (actors (replay k))) k.history
   pub table : TableId
-  pub loops : EndsDriven c.cpus ticks (all_seats c table) k.history
+  pub loops : EndsDriven c.cpus ticks xs (all_seats c table) k.history
 
--- HOW IT ENDS: at rest after all ticks, of which the uptime counts those that are made; else with a full history
-abbrev pub run_ending : ℕ → World → Ending
-run_ending ticks w = if at_rest w && (w.table.uptime == ticks) then Rest else Full
+-- there is room for a record more, or there are no calls
+abbrev pub has_room : ℕ → List OutsideCall → BootAndHistory → Bool
+has_room log xs k = (length xs == 0) || nat_lt (length k.history) log
+
+-- HOW IT ENDS: at rest after all ticks and calls; else with a full history. The uptime counts the ticks that are made. If
+-- there are calls, the history has room left at rest: without any, the last call may have been refused
+abbrev pub run_ending : ℕ → ℕ → List OutsideCall → BootAndHistory → Ending
+run_ending log ticks xs k =
+    if (at_rest (replay k) && ((replay k).table.uptime == ticks + ticks_of xs)) && has_room log xs k then Rest else Full
 
 -- ---- `mx run`
 
--- no history is written: both files have one name; or the first fault of the configuration and its services' files;
--- or, if there is none, out of memory
-abbrev pub IsNotRun : List ℕ → List ℕ → List Asked → Kind → Type 0
-IsNotRun config log qs f = ((config ≡ log) × (qs ≡ []) × (f ≡ File)) ⊎ ((config ≢ log)
-    × (IsSetupFault config qs f ⊎ ((c : Config) × (vs : List Service) × IsSetup config qs c vs × (f ≡ NoMemory))))
+-- the configuration, its services, and the file of outside events, if one is named, were read
+abbrev pub IsCalled : List ℕ → Option (List ℕ) → List Asked → Config → List Service → List OutsideCall → Type 0
+IsCalled config None qs c vs xs = IsSetup config qs c vs × (xs ≡ [])
+IsCalled config (Some name) qs c vs xs =
+    (before : List Asked) × (q : Asked) × (qs ≡ before ++ q ∷ []) × IsSetup config before c vs × AreCallsGiven name q c.others xs
+
+-- the first fault of these files
+abbrev pub IsNotCalled : List ℕ → Option (List ℕ) → List Asked → Kind → Type 0
+IsNotCalled config None qs f = IsSetupFault config qs f
+IsNotCalled config (Some name) qs f =
+    IsSetupFault config qs f
+    ⊎ ((before : List Asked) × (q : Asked) × (c : Config) × (vs : List Service) × (qs ≡ before ++ q ∷ []) × IsSetup config before c vs
+    × IsCallsFault name q c.others f)
+
+-- no history is written: a file that is read would be written over; or the first fault of these files; or, if there is
+-- none, out of memory
+abbrev pub IsNotRun : List ℕ → Option (List ℕ) → List ℕ → List Asked → Kind → Type 0
+IsNotRun config events log qs f =
+    ((writes_over config events log ≡ true) × (qs ≡ []) × (f ≡ File))
+    ⊎ ((writes_over config events log ≡ false)
+    × (IsNotCalled config events qs f ⊎ ((c : Config) × (vs : List Service) × (xs : List OutsideCall) × IsCalled config events qs c vs xs × (f ≡ NoMemory))))
 
 -- what a run came to: its history's text couldn't be written, or it was, and the report couldn't be printed
 abbrev pub IsRunUntold : List ℕ → List ℕ → List Written → Kind → Type 0
@@ -64,25 +90,27 @@ IsRunUntold log text ws f =
 
 -- WHAT `mx run` DOES: it writes the text of a run's history, whole, and prints the report on the replay of that
 -- history, and answers how the run ended; or it reports why it didn't
-abbrev pub Runs : List ℕ → List ℕ → ℕ → List Asked → List Written → (List ℕ → Type 0) → Result Ending Kind → Type 0
-Runs config log ticks qs ws Prints (Ok ending) =
-    (c : Config) × (vs : List Service) × (k : BootAndHistory) × (config ≢ log) × IsSetup config qs c vs × IsRun c vs ticks k
+abbrev pub Runs : List ℕ → Option (List ℕ) → List ℕ → ℕ → List Asked → List Written → (List ℕ → Type 0) → Result Ending Kind → Type 0
+Runs config events log ticks qs ws Prints (Ok ending) =
+    (c : Config) × (vs : List Service) × (xs : List OutsideCall) × (k : BootAndHistory) × (writes_over config events log ≡ false) × IsCalled config events qs c vs xs
+    × IsRun c vs ticks xs k
     × (ws ≡ kept log (saved_text c.rules k.history) ∷ []) × Prints (report_text (replay k).table (replay k).services)
-    × (ending ≡ run_ending ticks (replay k))
-Runs config log ticks qs ws Prints (Err f) =
-    ((ws ≡ []) × IsNotRun config log qs f)
-    ⊎ ((c : Config) × (vs : List Service) × (k : BootAndHistory) × (config ≢ log) × IsSetup config qs c vs × IsRun c vs ticks k
+    × (ending ≡ run_ending c.log ticks xs k)
+Runs config events log ticks qs ws Prints (Err f) =
+    ((ws ≡ []) × IsNotRun config events log qs f)
+    ⊎ ((c : Config) × (vs : List Service) × (xs : List OutsideCall) × (k : BootAndHistory) × (writes_over config events log ≡ false) × IsCalled config events qs c vs xs
+    × IsRun c vs ticks xs k
     × IsRunUntold log (saved_text c.rules k.history) ws f)
 
 -- ---- its replay
 
 -- by the run's configuration, and by the rules of the run
 abbrev pub RunsAreHistories : Type 0
-RunsAreHistories = (c : Config) (vs : List Service) (ticks : ℕ) (k : BootAndHistory) → IsRun c vs ticks k → IsSaved (saved_text c.rules k.history) c c k.history
+RunsAreHistories = (c : Config) (vs : List Service) (ticks : ℕ) (xs : List OutsideCall) (k : BootAndHistory) → IsRun c vs ticks xs k → IsSaved (saved_text c.rules k.history) c c k.history
 
 -- `mx replay` of this configuration, these services and the text that was written prints the report that the run
 -- printed
 abbrev pub RunsReplay : Type 0
-RunsReplay = (c d : Config) (vs : List Service) (ticks : ℕ) (k : BootAndHistory) (records : List Record) (how : Replayed) (before after : Option (List ℕ))
-    → IsRun c vs ticks k → IsSaved (saved_text c.rules k.history) c d records → IsReplayPrinted (world_at_boot d vs) records how (λ text. Appends before after text)
+RunsReplay = (c d : Config) (vs : List Service) (ticks : ℕ) (xs : List OutsideCall) (k : BootAndHistory) (records : List Record) (how : Replayed) (before after : Option (List ℕ))
+    → IsRun c vs ticks xs k → IsSaved (saved_text c.rules k.history) c d records → IsReplayPrinted (world_at_boot d vs) records how (λ text. Appends before after text)
     → (how ≡ Whole) × Appends before after (report_text (replay k).table (replay k).services)

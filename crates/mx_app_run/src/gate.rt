@@ -5,14 +5,19 @@
 //! A processor that finds nothing ready yields, and from the seventeenth time in a row on it sleeps
 //! a millisecond too. The respawner sleeps a millisecond after each round. So an idle loop costs
 //! little.
+//!
+//! # When a run with outside events ends
+//!
+//! The outsider asks once after its last call, and then its loop ends. So the end of a loop that has asked is the end of
+//! the calls, and the end of one that hasn't is the end of the run: no thread could be made, or the history is full.
 
 use mx_cpus::Gate;
 use std::sync::atomic::{AtomicBool, AtomicU32, Ordering};
 use std::time::{Clock, Duration};
 use std::{array, thread};
 
-/// How many loops a run may have: eight processors, and the respawner.
-const LOOPS: usize = 9;
+/// How many loops a run may have: eight processors, the respawner, and the outsider.
+const LOOPS: usize = 10;
 
 /// How often a processor that finds nothing ready only yields, before it sleeps too.
 const YIELDS: u32 = 16;
@@ -24,14 +29,14 @@ const NAP: u64 = 1;
 /// What the gate knows of one loop.
 #[derive(Drop)]
 struct LoopState {
-    /// Whether an earlier question of it came after the last tick.
-    is_past_ticks: AtomicBool,
+    /// Whether an earlier question of it came after the last tick and after the outsider's last call.
+    is_past_all: AtomicBool,
     /// How many questions it has asked since it last held a process.
     questions: AtomicU32,
 }
 
-/// The gate of a run: it ends all loops if the machine is at rest after the last tick, and if one
-/// loop has ended.
+/// The gate of a run: it ends all loops if the machine is at rest after the last tick and the outsider's
+/// last call, and if another loop than the outsider's has ended.
 #[derive(Drop)]
 pub struct RunGate<'a, R> {
     clock: &'a R,
@@ -39,21 +44,25 @@ pub struct RunGate<'a, R> {
     ticks: u32,
     /// The respawner's rounds. After `n` of them `n` ticks are made, or all.
     rounds: AtomicU32,
+    /// Whether the outsider has calls to make.
+    has_calls: AtomicBool,
     has_ended: AtomicBool,
     loops: [LoopState; LOOPS],
 }
 
 impl<'a, R> RunGate<'a, R> {
-    /// The gate of a run. The respawner is the first actor that is no processor.
-    pub fn new(clock: &'a R, respawner: u8, ticks: u32) -> RunGate<'a, R> {
+    /// The gate of a run. The respawner is the first actor that is no processor. The next one is the outsider, if there
+    /// are calls for it to make.
+    pub fn new(clock: &'a R, respawner: u8, ticks: u32, has_calls: bool) -> RunGate<'a, R> {
         RunGate {
             clock,
             respawner,
             ticks,
             rounds: AtomicU32::new(0),
+            has_calls: AtomicBool::new(has_calls),
             has_ended: AtomicBool::new(false),
             loops: array::from_fn(|_| LoopState {
-                is_past_ticks: AtomicBool::new(false),
+                is_past_all: AtomicBool::new(false),
                 questions: AtomicU32::new(0),
             }),
         }
@@ -64,6 +73,22 @@ impl<'a, R> RunGate<'a, R> {
         let rounds = self.rounds.load(Ordering::SeqCst);
         self.rounds
             .store(rounds.saturating_add(1), Ordering::SeqCst);
+    }
+
+    /// Whether nothing is to come from outside: all ticks and all calls are made.
+    fn is_past_all(&self) -> bool {
+        self.rounds.load(Ordering::SeqCst) >= self.ticks && !self.has_calls.load(Ordering::SeqCst)
+    }
+
+    /// Whether an actor is the outsider, and has asked.
+    fn has_made_calls(&self, actor: u8) -> bool {
+        if actor != self.respawner.saturating_add(1) {
+            return false;
+        }
+        match self.loops.get(usize::from(actor)) {
+            Some(state) => state.questions.load(Ordering::SeqCst) > 0,
+            None => false,
+        }
     }
 
     /// How many questions a loop has asked in a row, this one too.
@@ -83,8 +108,8 @@ impl<'a, R: Clock> Gate for RunGate<'a, R> {
 
     fn given(&self, _cpu: u8) {}
 
-    /// Ends the loop if any loop has ended, or if an earlier question of this actor came after the
-    /// last tick and the machine is at rest now.
+    /// Ends the loop if another loop than the outsider's has ended, or if an earlier question of this actor came after
+    /// the last tick and the outsider's last call, and the machine is at rest now.
     fn again(&self, actor: u8, at_rest: bool) -> bool {
         if self.has_ended.load(Ordering::SeqCst) {
             return false;
@@ -95,12 +120,12 @@ impl<'a, R: Clock> Gate for RunGate<'a, R> {
         if actor == self.respawner {
             self.note_round();
         }
-        // No tick comes any more, so nothing can become ready.
-        if at_rest && state.is_past_ticks.load(Ordering::SeqCst) {
+        // No tick and no call comes any more, so nothing can become ready.
+        if at_rest && state.is_past_all.load(Ordering::SeqCst) {
             return false;
         }
-        if self.rounds.load(Ordering::SeqCst) >= self.ticks {
-            state.is_past_ticks.store(true, Ordering::SeqCst);
+        if self.is_past_all() {
+            state.is_past_all.store(true, Ordering::SeqCst);
         }
         let questions = self.note_question(state);
         thread::yield_now();
@@ -110,7 +135,11 @@ impl<'a, R: Clock> Gate for RunGate<'a, R> {
         true
     }
 
-    fn ended(&self, _actor: u8) {
-        self.has_ended.store(true, Ordering::SeqCst);
+    fn ended(&self, actor: u8) {
+        if self.has_made_calls(actor) {
+            self.has_calls.store(false, Ordering::SeqCst);
+        } else {
+            self.has_ended.store(true, Ordering::SeqCst);
+        }
     }
 }

@@ -1,14 +1,17 @@
 //! `mx run`: a machine whose processors are threads, and its history, saved at the end.
 #![tactic(auto)]
 
+mod calls;
 mod gate;
 mod laws;
 mod running;
 
+pub use calls::outside_calls;
 pub use gate::RunGate;
 pub use laws::{replay_again, run_again};
 pub use mx_app_step::{
     Channels, Failure, FileWriter, KeptFile, MemoryWriter, NamedFile, NamedFiles, Reader, Replayed,
     replay, report, saved_text, setup_of,
 };
+pub use mx_turns::Ending;
 pub use running::{RunNames, run};

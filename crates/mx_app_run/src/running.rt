@@ -1,17 +1,20 @@
 //! `mx run`: boots a machine, drives it by threads, saves its history and prints its report.
 
-ghost use Rattle.std.specs.Prelude.{◌≡◌, ◌<◌, ◌≤◌, ◌++◌, List, All, IfOk, None, length};
+ghost use Rattle.std.specs.Prelude.{◌≡◌, ◌<◌, ◌≤◌, ◌++◌, ◌∷◌, [], List, All, IfErr, IfOk, None, length, option_map};
 ghost use Rattle.std.specs.Io.KnownBytes.{Appends};
 ghost use Rattle.mx_app_step.specs.Asked.{Asked};
 ghost use Rattle.mx_app_step.specs.Written.{Written};
-ghost use Rattle.mx_machine.specs.History.{replay};
-ghost use Rattle.mx_app_run.specs.Run.{EndsDriven, IsRun, Runs, run_ending};
+ghost use Rattle.mx_app_run.specs.Calls.{AreCallsGiven, IsCallsFault};
+ghost use Rattle.mx_app_run.specs.Run.{EndsDriven, IsCalled, IsNotCalled, IsRun, Runs, run_ending};
 
+use crate::calls::{outside_calls, ticks_of};
 use crate::gate::RunGate;
 use mx_app_step::{
-    Channels, Config, Failure, FileWriter, Reader, print_kernel_report, setup_of, write_history,
+    Channels, Config, Failure, FileWriter, Reader, print_kernel_report, setup_of, text_of,
+    write_history,
 };
-use mx_cpus::{ActorSeat, Blank, Kernel, Naming, Service, Shared, boot, drive};
+use mx_app_turns::writes_over;
+use mx_cpus::{ActorSeat, Blank, Kernel, Naming, OutsideCall, Service, Shared, boot, drive_with};
 use mx_turns::Ending;
 use mx_word::NoMemory;
 use std::alloc::Global;
@@ -21,13 +24,20 @@ use std::sync::Wait;
 use std::thread::Threads;
 use std::time::Clock;
 
-/// Drives a machine that was just booted, until it is at rest after its ticks or its history is full.
+/// What a run is of: how many ticks are made, and the calls of the outsider.
+#[derive(Clone, Copy)]
+struct Outside<'a> {
+    ticks: u32,
+    calls: &'a [OutsideCall],
+}
+
+/// Drives a machine that was just booted, until it is at rest after its ticks and calls, or its history is full.
 fn drive_blank<M: Naming + Send + Sync, R: Threads + Wait + Clock + Sync>(
     rt: &R,
     alloc: Global,
     blank: Blank,
     seats: Vec<ActorSeat>,
-    ticks: u32,
+    outside: Outside<'_>,
 ) -> Result<Kernel, NoMemory>
     requires table { blank.table ≡ M.table }
     requires boot { blank.boot ≡ M.boot }
@@ -35,11 +45,13 @@ fn drive_blank<M: Naming + Send + Sync, R: Threads + Wait + Clock + Sync>(
     requires empties { All (λ s. s.held ≡ None) seats.items }
     ensures boot { IfOk result (λ kernel. kernel.boot ≡ blank.boot) }
     ensures driven { IfOk result (λ kernel.
-        EndsDriven (length blank.boot.cpus) ticks seats.items kernel.history) }
+        EndsDriven (length blank.boot.cpus) outside.entry.ticks outside.entry.calls.now
+        seats.items kernel.history) }
 {
     let shared: Shared<M> = blank.open();
-    let gate = RunGate::new(rt, shared.cpus(), ticks);
-    match drive(rt, &shared, seats, &gate, ticks) {
+    let Outside { ticks, calls } = outside;
+    let gate = RunGate::new(rt, shared.cpus(), ticks, !calls.is_empty());
+    match drive_with(rt, &shared, seats, &gate, ticks, calls) {
         Ok(seats) => Ok(shared.into_kernel(seats)),
         Err(NoMemory) => {
             let _kernel = shared.into_kernel(Vec::new(alloc));
@@ -54,40 +66,107 @@ fn run_machine<R: Threads + Wait + Clock + Sync>(
     alloc: Global,
     config: &Config,
     mut services: Vec<Service>,
-    ticks: u32,
+    outside: Outside<'_>,
 ) -> Result<Kernel, NoMemory>
     requires some { 0 < length services.items }
     requires few { length services.items ≤ 32 }
-    ensures { IfOk result (λ kernel. IsRun config.now services.items ticks kernel) }
+    ensures { IfOk result (λ kernel. IsRun config.entry.now services.items outside.entry.ticks
+        outside.entry.calls.now kernel) }
 {
     let (blank, seats) = boot(alloc, config, &mut services)?;
-    let kernel = drive_blank::<Brand, R>(rt, alloc, blank, seats, ticks)?;
+    let kernel = drive_blank::<Brand, R>(rt, alloc, blank, seats, outside)?;
     kernel.opened();
     Ok(kernel)
 }
 
-/// How a run ended: at rest after all ticks, or with a full history.
-fn ending_of(kernel: &Kernel, ticks: u32) -> Ending
-    ensures { result ≡ run_ending ticks (replay kernel.now) }
+/// How a run ended: at rest after all ticks and calls, or with a full history. With calls the history must have room
+/// left for rest to be told: without any, the last call may have been refused.
+fn ending_of(kernel: &Kernel, log: u32, outside: Outside<'_>) -> Ending
+    ensures { result ≡ run_ending log outside.entry.ticks outside.entry.calls.now kernel.now }
 {
-    if kernel.at_rest() && kernel.table().uptime() == ticks {
+    let Outside { ticks, calls } = outside;
+    let has_room = calls.is_empty() || kernel.history().len() < log as usize;
+    let wanted = u128::from(ticks) + ticks_of(calls) as u128;
+    let rests = kernel.at_rest() && u128::from(kernel.table().uptime()) == wanted;
+    if rests && has_room {
         Ending::Rest
     } else {
         Ending::Full
     }
 }
 
-/// The names of a run's files: that of its configuration, which is read, and that of its history, which is
-/// written.
+/// The names of a run's files: that of its configuration, which is read, that of its history, which is
+/// written, and that of outside events, which is read too, if it is named.
 #[derive(Clone, Copy)]
 pub struct RunNames<'a> {
     pub config: &'a str,
     pub log: &'a str,
+    pub events: Option<&'a str>,
+}
+
+/// What a run's files say: the configuration, its services, and the outsider's calls.
+#[derive(Drop)]
+struct Begun {
+    config: Config,
+    services: Vec<Service>,
+    calls: Vec<OutsideCall>,
+}
+
+/// The calls of a file of outside events, for a machine of this configuration.
+fn calls_of<R: Reader>(
+    alloc: Global,
+    reader: &mut R,
+    name: &str,
+    others: u8,
+) -> Result<Vec<OutsideCall>, Failure>
+    ensures calls { IfOk result (λ calls. (q : Asked)
+        × (R.asked reader.new ≡ R.asked reader.old ++ q ∷ [])
+        × AreCallsGiven name.now q others calls.items) }
+    ensures fault { IfErr result (λ f. (q : Asked)
+        × (R.asked reader.new ≡ R.asked reader.old ++ q ∷ []) × IsCallsFault name.now q others f) }
+{
+    let text = text_of(alloc, reader, name)?;
+    let calls = outside_calls(alloc, text.as_str(), others)?;
+    Ok(calls)
+}
+
+/// Reads a configuration, the programs of its services, and the file of outside events, if one is named.
+fn begin<R: Reader>(
+    alloc: Global,
+    reader: &mut R,
+    config: &str,
+    events: Option<&str>,
+) -> Result<Begun, Failure>
+    ensures begun { IfOk result (λ b. (qs : List Asked)
+        × (R.asked reader.new ≡ R.asked reader.old ++ qs)
+        × IsCalled config.entry.now (option_map (λ s. s.now) events.entry) qs
+        b.config b.services.items b.calls.items) }
+    ensures fault { IfErr result (λ f. (qs : List Asked)
+        × (R.asked reader.new ≡ R.asked reader.old ++ qs)
+        × IsNotCalled config.entry.now (option_map (λ s. s.now) events.entry) qs f) }
+{
+    let (config, services) = setup_of(alloc, reader, config)?;
+    match events {
+        None => Ok(Begun {
+            config,
+            services,
+            calls: Vec::new(alloc),
+        }),
+        Some(name) => {
+            let calls = calls_of(alloc, reader, name, config.others)?;
+            Ok(Begun {
+                config,
+                services,
+                calls,
+            })
+        }
+    }
 }
 
 /// Runs the machine of a configuration, each processor in a thread of its own, until it is at rest
-/// after all ticks or its history is full, and answers which. Then writes the history to a file, and prints
-/// the report. The configuration isn't written over: if both have one name, nothing is read or written.
+/// after all ticks and the outside events of a file, or its history is full, and answers which. Then writes the history
+/// to a file, and prints the report. No file that is read is written over: if LOG has its name, nothing is read or
+/// written.
 pub fn run<
     T: Threads + Wait + Clock + Sync,
     R: Reader + Drop,
@@ -103,15 +182,24 @@ pub fn run<
     ensures { (qs : List Asked) × (ws : List Written)
         × (R.asked channels.new.reader ≡ R.asked channels.old.reader ++ qs)
         × (F.written channels.new.files ≡ F.written channels.old.files ++ ws)
-        × Runs names.entry.config.now names.entry.log.now ticks qs ws
+        × Runs names.entry.config.now (option_map (λ s. s.now) names.entry.events)
+        names.entry.log.now ticks qs ws
         (λ text. Appends (W.contents channels.old.out) (W.contents channels.new.out) text) result }
 {
-    if names.config == names.log {
+    if writes_over(names.config, names.events, names.log) {
         return Err(Failure::File);
     }
-    let (config, services) = setup_of(alloc, &mut channels.reader, names.config)?;
-    let kernel = run_machine(rt, alloc, &config, services, ticks)?;
-    let ending = ending_of(&kernel, ticks);
+    let Begun {
+        config,
+        services,
+        calls,
+    } = begin(alloc, &mut channels.reader, names.config, names.events)?;
+    let outside = Outside {
+        ticks,
+        calls: calls.as_slice(),
+    };
+    let kernel = run_machine(rt, alloc, &config, services, outside)?;
+    let ending = ending_of(&kernel, config.log, outside);
     // If memory runs out for the report, the history is written already.
     write_history(alloc, &kernel, &mut channels.files, names.log)?;
     print_kernel_report(alloc, &kernel, &mut channels.out)?;

@@ -12,8 +12,8 @@ use mx_text::next_field;
 use mx_turns::Event;
 use std::alloc::Global;
 
-/// What a line says that begins with a verb and goes on like this.
-fn outside_event_of(verb: Verb, rest: &[u8]) -> Option<Event>
+/// The outside event that a line names, if it begins with a verb and goes on like this: `line L`, `tick` or `kill E`.
+pub fn outside_event_of(verb: Verb, rest: &[u8]) -> Option<Event>
     ensures { result ≡ outside_event_of verb (fields rest.now) }
 {
     match verb {

@@ -16,11 +16,11 @@ mod running;
 mod sweeping;
 mod turning;
 
-pub use events::{OutsideEvents, outside_events};
+pub use events::{OutsideEvents, outside_event_of, outside_events};
 pub use fault_files::fault_lines;
 pub use faults::FaultLine;
 pub use laws::{bound_is_not_met, turns_again};
 pub use mx_app_step::{Channels, Failure, FileWriter, Reader};
 pub use mx_turns::{Ending, Event};
 pub use sweeping::{SweepNames, SweepWanted, Swept, sweep};
-pub use turning::{TurnsNames, TurnsWanted, turns};
+pub use turning::{TurnsNames, TurnsWanted, turns, writes_over};

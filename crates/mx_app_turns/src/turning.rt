@@ -96,14 +96,14 @@ fn begin<R: Reader>(
     }
 }
 
-/// Whether a file that is read would be written over.
-fn writes_over(names: TurnsNames<'_>) -> bool
-    ensures { result ≡ writes_over names.entry.config.now
-        (option_map (λ s. s.now) names.entry.events) names.entry.log.now }
+/// Whether a file that is read would be written over: a configuration, or a file of events if one is named.
+pub fn writes_over(config: &str, events: Option<&str>, log: &str) -> bool
+    ensures { result ≡ writes_over config.entry.now (option_map (λ s. s.now) events.entry)
+        log.entry.now }
 {
-    match names.events {
-        None => names.config == names.log,
-        Some(events) => names.config == names.log || events == names.log,
+    match events {
+        None => config == log,
+        Some(events) => config == log || events == log,
     }
 }
 
@@ -124,7 +124,7 @@ pub fn turns<R: Reader + Drop, F: FileWriter + Drop, W: Write + Drop>(
         names.entry.log.now wanted.ticks wanted.bound qs ws
         (λ text. Appends (W.contents channels.old.out) (W.contents channels.new.out) text) result }
 {
-    if writes_over(names) {
+    if writes_over(names.config, names.events, names.log) {
         return Err(Failure::File);
     }
     let mut begun = begin(alloc, &mut channels.reader, names.config, names.events)?;

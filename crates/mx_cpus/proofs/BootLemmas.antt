@@ -1,14 +1,13 @@
 -- Kernel and desk agree at boot.
-use Rattle.std.proofs.Common.{◌≡◌, ◌∙◌, ℕ, zero, suc, ◌+◌, List, [], ◌∷◌, map, replicate, Option, None, refl, sym, ap, arith}
+use Rattle.std.proofs.Common.{◌≡◌, ◌∙◌, ℕ, zero, suc, ◌+◌, List, [], ◌∷◌, map, replicate, None, refl, sym, ap, arith}
 use Rattle.std.specs.Prelude.{All}
 use Rattle.std.proofs.lemmas.List.{length-replicate}
 use Rattle.std.proofs.lemmas.List.Elements.{All-push}
 use Rattle.mx_machine.specs.Service.{Service}
 use Rattle.mx_machine.specs.Rules.{Rules}
-use Rattle.mx_machine.specs.declared.holding.Out.{Out}
 use Rattle.mx_machine.specs.Boot.{world_at_boot_with}
 use Rattle.mx_machine.specs.History.{BootAndHistory, replay}
-use Rattle.mx_machine.specs.World.{World, actors}
+use Rattle.mx_machine.specs.World.{actors}
 use Rattle.atomic_table.specs.Seated.{TableId}
 use Rattle.mx_cpus.specs.Seats.{DeskView, SeatView, empty_desk, new_seat, new_seats}
 use Rattle.mx_cpus.specs.Calls.{desk_beside, out_of_lent, outs_of, world_after}

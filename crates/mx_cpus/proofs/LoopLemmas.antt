@@ -1,8 +1,6 @@
 -- Loops of calls, call by call.
-use Rattle.std.proofs.Common.{◌≡◌, ◌∙◌, ℕ, zero, suc, nat_lt, Bool, true, false, if◌then◌else◌, length, get_or, inl, inr, All, ◌+◌, ◌-◌, ◌^◌, ◌<◌, ◌≤◌, ◌≢◌, min, List, [], ◌∷◌, ◌++◌, map, Some, None, Result, Ok, Err, IsOk, IsErr, IfOk, IfErr, refl, sym, ap, subst, arith, append_assoc}
-use Rattle.std.proofs.lemmas.Bool.{cases_lt, ltb-true}
+use Rattle.std.proofs.Common.{◌≡◌, ◌∙◌, ℕ, zero, suc, nat_lt, Bool, true, false, if◌then◌else◌, inl, inr, ◌+◌, ◌-◌, ◌^◌, ◌<◌, ◌≤◌, ◌≢◌, min, List, [], ◌∷◌, ◌++◌, map, Some, None, Result, Ok, Err, IsOk, IsErr, IfOk, IfErr, refl, sym, ap, subst, arith, append_assoc}
 use Rattle.std.proofs.lemmas.List.{append-nil}
-use Rattle.std.proofs.lemmas.List.Elements.{All-push}
 use Rattle.atomic_table.specs.Seated.{TableId}
 use Rattle.mx_machine.specs.declared.events.Answer.{Answer}
 use Rattle.mx_machine.specs.declared.events.Event.{Event}
@@ -19,13 +17,13 @@ use Rattle.mx_machine.specs.World.{World, free_records}
 use Rattle.mx_loan.proofs.Fronts.{prefix_self, prefix_trans}
 use Rattle.mx_cpus.specs.Seats.{SeatView, LoanView, back_record, record_of, take_record}
 use Rattle.mx_cpus.specs.Calls.{Follows, IsAnsweredCall, IsGiveCall, IsRefusedCall, IsRestCall, IsTakeCall}
-use Rattle.mx_cpus.specs.Gates.{GateCall, held_call, given_call, again_call, ended_call}
+use Rattle.mx_cpus.specs.Gates.{GateCall, held_call, given_call, again_call}
 use Rattle.mx_cpus.specs.declared.side.FreeSide.{FreeSide}
 use Rattle.mx_cpus.specs.declared.progress.Progress.{Progress}
 use Rattle.mx_cpus.specs.declared.progress.Progress.TheVariants.{GoesOn, Full}
 use Rattle.mx_cpus.specs.Progresses.{IsRoundTo, IsSweepTo}
-use Rattle.mx_cpus.specs.Courses.{AreRounds, AreServed, AreTried, AreTurns, IsAsked, IsProcessorRun, IsRespawnerRun, IsRound, IsRoundToFull, IsServed, IsSweepToFull, IsTicked, IsTickToFull, IsTried, IsWait, longest_run, slots, turn_number}
-use Rattle.mx_cpus.specs.Loops.{AreDriven, AreTicksAndRespawns, HasMadeTurns, HasTickedAndRespawned, IsDriven, ticks_among, turns_of}
+use Rattle.mx_cpus.specs.Courses.{AreRounds, AreTried, AreTurns, IsAsked, IsProcessorRun, IsRespawnerRun, IsRound, IsRoundToFull, IsSweepToFull, IsTicked, IsTickToFull, IsTried, IsWait, longest_run, slots, turn_number}
+use Rattle.mx_cpus.specs.Loops.{AreTicksAndRespawns, HasMadeTurns, HasTickedAndRespawned, ticks_among, turns_of}
 
 pub follows_self : (s : SeatView) → s.mine ≡ part_of s.seen s.actor → Follows s s
 follows_self s own = record { table = refl; actor = refl; seen = prefix_self s.seen; own = own }
@@ -205,7 +203,7 @@ ticks_both (recorded.Back n ∷ xs) ys p = absurd p
 ticks_both (recorded.Line l ∷ xs) ys p = absurd p
 ticks_both (recorded.Kill e ∷ xs) ys p = absurd p
 
-map_both : {A B : Type 0} (f : A → B) (xs ys : List A) → map f (xs ++ ys) ≡ map f xs ++ map f ys
+pub map_both : {A B : Type 0} (f : A → B) (xs ys : List A) → map f (xs ++ ys) ≡ map f xs ++ map f ys
 map_both f [] ys = refl
 map_both f (x ∷ xs) ys = ap (λ l. f x ∷ l) (map_both f xs ys)
 
@@ -388,84 +386,3 @@ pub ticked_full : (boot : World) (left : ℕ) (s t : SeatView) (r : Result Answe
 ticked_full boot zero s t r some is err = absurd (omega arith)
 ticked_full boot (suc n) s t (Err e) some is err = inl (subst (λ x. IsRefusedCall boot s t events.Tick x) (tick_refused _ s.actor e err.refused) err)
 ticked_full boot (suc n) s t (Ok x) some is err = cc
-
--- ---- lists of seats
-
-pub driven_last : (cpus ticks : ℕ) (xs ys : List SeatView) (x y : SeatView) → AreDriven cpus ticks xs ys → IsDriven cpus ticks x y → AreDriven cpus ticks (xs ++ x ∷ []) (ys ++ y ∷ [])
-driven_last cpus ticks [] [] x y p q = (q, tt)
-driven_last cpus ticks (a ∷ xs) (b ∷ ys) x y p q = (p.0, driven_last cpus ticks xs ys x y p.1 q)
-driven_last cpus ticks [] (b ∷ ys) x y p q = absurd p
-driven_last cpus ticks (a ∷ xs) [] x y p q = absurd p
-
-pub driven_push : (cpus ticks : ℕ) (xs ys before after : List SeatView) (x y : SeatView) → before ≡ xs ++ x ∷ [] → after ≡ ys ++ y ∷ []
-    → AreDriven cpus ticks xs ys → IsDriven cpus ticks x y → AreDriven cpus ticks before after
-driven_push cpus ticks xs ys before after x y was is p q =
-    subst (λ (l : List SeatView). AreDriven cpus ticks l after) (sym was)
-    (subst (λ (l : List SeatView). AreDriven cpus ticks (xs ++ x ∷ []) l) (sym is) (driven_last cpus ticks xs ys x y p q))
-
--- what a thread promised, by other names
-pub driven_by : (cpus n ticks m : ℕ) (s u t : SeatView) → s ≡ u → cpus ≡ n → ticks ≡ m → IsDriven cpus ticks s t → IsDriven n m u t
-driven_by cpus n ticks m s u t is many most p =
-    subst (λ (x : SeatView). IsDriven n m x t) is (subst (λ k. IsDriven k m s t) many (subst (λ k. IsDriven cpus k s t) most p))
-
--- the seats are the table's as before
-driven_table : (cpus ticks : ℕ) (s t : SeatView) → IsDriven cpus ticks s t → t.table ≡ s.table
-driven_table cpus ticks s t p = elim (cases_lt s.actor cpus) [
-  | inl lt ↦ (p.processor lt).follows.table
-  | inr ge ↦ elim (cases_lt cpus s.actor) [
-    | inl lt ↦ ap (λ (x : SeatView). x.table) (p.other lt)
-    | inr le ↦ (p.respawner (omega (arith, ge, le))).follows.table
-  ]
-]
-
-tables_from : (z : TableId) (cpus ticks : ℕ) (xs ys : List SeatView) → All (λ (s : SeatView). s.table ≡ z) xs → AreDriven cpus ticks xs ys
-    → (k : ℕ) (d : SeatView) → k < length ys → (get_or ys k d).table ≡ z
-tables_from z cpus ticks [] [] h p k d below = absurd (omega arith)
-tables_from z cpus ticks (x ∷ xs) (y ∷ ys) h p zero d below = driven_table cpus ticks x y p.0 ∙ h 0 d (omega arith)
-tables_from z cpus ticks (x ∷ xs) (y ∷ ys) h p (suc k) d below = tables_from z cpus ticks xs ys (λ j e b. h (suc j) e (omega (arith, b))) p.1 k d (omega (arith, below))
-tables_from z cpus ticks [] (y ∷ ys) h p k d below = absurd p
-tables_from z cpus ticks (x ∷ xs) [] h p k d below = absurd p
-
-pub driven_tables : (z : TableId) (cpus ticks : ℕ) (xs ys : List SeatView) → All (λ (s : SeatView). s.table ≡ z) xs → AreDriven cpus ticks xs ys → All (λ (s : SeatView). s.table ≡ z) ys
-driven_tables z cpus ticks xs ys h p = tables_from z cpus ticks xs ys h p
-
-pub driven_processor : (cpus ticks : ℕ) (s t : SeatView) → s.actor < cpus → HasMadeTurns s t → IsDriven cpus ticks s t
-driven_processor cpus ticks s t lt made = record { processor = λ h. made; respawner = λ h. absurd (omega (arith, lt, h)); other = λ h. absurd (omega (arith, lt, h)) }
-
-pub driven_respawner : (cpus ticks : ℕ) (s t : SeatView) → s.actor ≡ cpus → HasTickedAndRespawned ticks s t → IsDriven cpus ticks s t
-driven_respawner cpus ticks s t is made = record { processor = λ h. absurd (omega (arith, is, h)); respawner = λ h. made; other = λ h. absurd (omega (arith, is, h)) }
-
-pub driven_other : (cpus ticks : ℕ) (s : SeatView) → cpus < s.actor → IsDriven cpus ticks s s
-driven_other cpus ticks s lt = record { processor = λ h. absurd (omega (arith, lt, h)); respawner = λ h. absurd (omega (arith, lt, h)); other = λ h. refl }
-
--- as `driven_last`, for what each loop did
-served_last : (boot : World) (WasCalled : GateCall → Type 0) (cpus ticks : ℕ) (xs ys : List SeatView) (x y : SeatView) → AreServed boot WasCalled cpus ticks xs ys
-    → (x.actor ≤ cpus → IsServed boot WasCalled cpus ticks x y) → AreServed boot WasCalled cpus ticks (xs ++ x ∷ []) (ys ++ y ∷ [])
-served_last boot WasCalled cpus ticks [] [] x y p q = (q, tt)
-served_last boot WasCalled cpus ticks (a ∷ xs) (b ∷ ys) x y p q = (p.0, served_last boot WasCalled cpus ticks xs ys x y p.1 q)
-served_last boot WasCalled cpus ticks [] (b ∷ ys) x y p q = absurd p
-served_last boot WasCalled cpus ticks (a ∷ xs) [] x y p q = absurd p
-
-pub served_push : (boot : World) (WasCalled : GateCall → Type 0) (cpus ticks : ℕ) (xs ys before after : List SeatView) (x y : SeatView) → before ≡ xs ++ x ∷ [] → after ≡ ys ++ y ∷ []
-    → AreServed boot WasCalled cpus ticks xs ys → (x.actor ≤ cpus → IsServed boot WasCalled cpus ticks x y) → AreServed boot WasCalled cpus ticks before after
-served_push boot WasCalled cpus ticks xs ys before after x y was is p q =
-    subst (λ (l : List SeatView). AreServed boot WasCalled cpus ticks l after) (sym was)
-    (subst (λ (l : List SeatView). AreServed boot WasCalled cpus ticks (xs ++ x ∷ []) l) (sym is) (served_last boot WasCalled cpus ticks xs ys x y p q))
-
--- what a thread promised, by other names
-pub served_by : {G : Type 0} (boot : World) (W : G → GateCall → Type 0) (g h : G) (cpus n ticks m : ℕ) (s u t : SeatView) → g ≡ h → s ≡ u → cpus ≡ n → ticks ≡ m
-    → IsServed boot (W g) cpus ticks s t → IsServed boot (W h) n m u t
-served_by boot W g h cpus n ticks m s u t gate is many most p =
-    subst (λ i. IsServed boot (W i) n m u t) gate (subst (λ (x : SeatView). IsServed boot (W g) n m x t) is
-    (subst (λ k. IsServed boot (W g) k m s t) many (subst (λ k. IsServed boot (W g) cpus k s t) most p)))
-
-pub told_push : (P : SeatView → Type 0) (xs before : List SeatView) (x : SeatView) → before ≡ xs ++ x ∷ [] → All P xs → P x → All P before
-told_push P xs before x was all last = subst (All P) (sym was) (All-push P xs x all last)
-
-pub served_processor : (boot : World) (WasCalled : GateCall → Type 0) (cpus ticks : ℕ) (s t : SeatView) → s.actor < cpus → IsProcessorRun boot WasCalled s t → WasCalled (ended_call s.actor)
-    → IsServed boot WasCalled cpus ticks s t
-served_processor boot WasCalled cpus ticks s t lt run told = record { processor = λ _. run; respawner = λ h. absurd (omega (arith, lt, h)); told = told }
-
-pub served_respawner : (boot : World) (WasCalled : GateCall → Type 0) (cpus ticks : ℕ) (s t : SeatView) → s.actor ≡ cpus → IsRespawnerRun boot WasCalled ticks s t → WasCalled (ended_call s.actor)
-    → IsServed boot WasCalled cpus ticks s t
-served_respawner boot WasCalled cpus ticks s t is run told = record { processor = λ h. absurd (omega (arith, is, h)); respawner = λ _. run; told = told }

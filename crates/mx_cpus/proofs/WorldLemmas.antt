@@ -1,34 +1,29 @@
 -- What an event does to what each processor was lent.
-use Rattle.std.proofs.Common.{◌≡◌, ◌∙◌, ℕ, zero, suc, ◌<◌, ◌+◌, nat_lt, if◌then◌else◌, Bool, true, false, true≢false, List, [], ◌∷◌, ◌++◌, map, replicate, length, Option, Some, None, get_or, slice_set, slice_get, Result, Ok, refl, sym, ap, subst, inl, inr, arith, get_or-set_same, append_assoc}
+use Rattle.std.proofs.Common.{◌≡◌, ◌∙◌, ℕ, zero, suc, ◌<◌, ◌+◌, nat_lt, if◌then◌else◌, Bool, true, false, true≢false, List, [], ◌∷◌, ◌++◌, map, replicate, length, Option, Some, None, get_or, slice_set, Result, Ok, refl, sym, ap, subst, inl, inr, arith, get_or-set_same}
 use Rattle.std.proofs.lemmas.Bool.{cases_lt, le-ltb}
-use Rattle.std.proofs.lemmas.List.{length-map, length-replicate}
+use Rattle.std.proofs.lemmas.List.{length-map}
 use Rattle.mx_machine.specs.Stop.TheVariants.{Spent}
 use Rattle.mx_proc.specs.Queues.{first_ready}
-use Rattle.mx_machine.specs.Service.{Service}
-use Rattle.mx_machine.specs.CallRefusals.{owner_of}
 use Rattle.mx_machine.specs.declared.events.Answer.{Answer}
 use Rattle.mx_machine.specs.declared.events.Answer.TheVariants.{Returned}
 use Rattle.mx_machine.specs.declared.events.Event.{Event}
 use Rattle.mx_machine.specs.declared.events.Event.TheVariants as events
 use Rattle.mx_machine.specs.declared.events.Refusal.{Refusal}
 use Rattle.mx_machine.specs.declared.events.Refusal.TheVariants.{CpuBusy}
-use Rattle.mx_machine.specs.declared.history.Record.{Record}
 use Rattle.mx_machine.specs.declared.history.Recorded.{Recorded}
 use Rattle.mx_machine.specs.declared.history.Recorded.TheVariants as recorded
 use Rattle.mx_machine.specs.declared.holding.Out.{Out}
-use Rattle.mx_machine.specs.Boot.{world_at_boot_with}
 use Rattle.mx_machine.specs.Held.{IsBack, IsRunOf, out_after_step}
 use Rattle.mx_machine.proofs.ProcessorLemmas.{cpus_after}
 use Rattle.mx_machine.proofs.WorldStepLemmas.{holds_in, set_twice}
 use Rattle.mx_machine.specs.History.{AreAccepted, BootAndHistory, world_after_events, events_of, replay, events_of_history, with_record}
-use Rattle.mx_machine.specs.Move.{world_after_back, world_after_event, world_after_line, world_after_respawn, world_after_step, world_after_take, back_answer, event_answer, event_refusal, move, move_by, held_at_take, world_with_record, table_after_sending_out, take_refusal, with_held}
+use Rattle.mx_machine.specs.Move.{world_after_back, world_after_event, world_after_step, world_after_take, back_answer, event_answer, event_refusal, move, move_by, held_at_take, world_with_record, table_after_sending_out, take_refusal, with_held}
 use Rattle.mx_machine.specs.World.{World, HeldProcess, actors, free_records, held_by}
 use Rattle.mx_machine.specs.Agrees.{IsFresh}
 use Rattle.mx_machine.specs.KernelState.{is_for_all, recorded_as}
 use Rattle.mx_machine.proofs.ReplayLemmas.{map_put, replay-recorded}
 use Rattle.mx_loan.specs.Rule.{lent_to}
-use Rattle.mx_loan.specs.Seats.{record_of}
-use Rattle.mx_cpus.specs.Calls.{event_of, out_of_lent, outs_of, steps_of, world_after}
+use Rattle.mx_cpus.specs.Calls.{event_of, out_of_lent, outs_of, steps_of}
 
 -- ---- lists
 

@@ -1,6 +1,7 @@
 -- What the loops of actors do, call by call. WasCalled holds of the calls of the gate that were made.
 use Rattle.std.specs.Prelude.{◌≡◌, ◌≢◌, ◌<◌, ◌≤◌, ◌+◌, ◌-◌, ◌⊎◌, ◌^◌, ℕ, zero, suc, min, Bool, true, false, List, [], ◌∷◌}
 use Rattle.mx_machine.specs.declared.events.Answer.{Answer}
+use Rattle.mx_machine.specs.declared.events.Event.{Event}
 use Rattle.mx_machine.specs.declared.events.Event.TheVariants as events
 use Rattle.mx_machine.specs.declared.events.Refusal.{Refusal}
 use Rattle.mx_machine.specs.declared.events.Refusal.TheVariants.{LogFull}
@@ -68,11 +69,15 @@ pub record IsProcessorRun (boot : World) (WasCalled : GateCall → Type 0) (s t 
 
 -- ---- the respawner
 
+-- an event was accepted, or refused, and not for a full history
+abbrev pub IsTriedEvent : World → Event → SeatView → SeatView → Type 0
+IsTriedEvent boot e s t =
+    ((x : Answer) × IsAnsweredCall boot s t e x)
+    ⊎ ((r : Refusal) × (r ≢ LogFull) × IsRefusedCall boot s t e r)
+
 -- a slot was respawned, or this was refused, and not for a full history
 abbrev pub IsTried : World → ℕ → SeatView → SeatView → Type 0
-IsTried boot slot s t =
-    ((x : Answer) × IsAnsweredCall boot s t (events.Respawn slot) x)
-    ⊎ ((r : Refusal) × (r ≢ LogFull) × IsRefusedCall boot s t (events.Respawn slot) r)
+IsTried boot slot s t = IsTriedEvent boot (events.Respawn slot) s t
 
 -- a sweep so far, from the seat s on: the first n slots were tried, in turn
 abbrev pub AreTried : World → SeatView → ℕ → SeatView → Type 0

@@ -4,4 +4,6 @@ pub mod Gates
 pub mod Courses
 pub mod Loops
 pub mod Progresses
+pub mod Outsiders
+pub mod CallEnds
 pub use Rattle.mx_loan.specs.Seats

@@ -1,4 +1,4 @@
-//! A thread for each processor, and one for the respawner.
+//! A thread for each processor, one for the respawner, and one for the outsider if it has calls to make.
 //!
 //! # Threads without a list
 //!
@@ -6,13 +6,16 @@
 //! joins the thread on its way back. So no list of threads is needed, each thread is joined on each
 //! way out, and the room of the list of seats takes the seats back.
 
-ghost use Rattle.std.specs.Prelude.{◌≡◌, ◌≤◌, None, IfOk, OnErr, OnOk, All, length, vec_capacity, vec_len};
+ghost use Rattle.std.specs.Prelude.{◌≡◌, ◌≤◌, None, Some, IfOk, OnErr, OnOk, All, length, vec_capacity, vec_len};
 ghost use Rattle.mx_cpus.specs.Gates.{ended_call};
-ghost use Rattle.mx_cpus.specs.Courses.{AreServed, IsServed};
-ghost use Rattle.mx_cpus.specs.Loops.{AreDriven, IsDriven};
+ghost use Rattle.mx_cpus.specs.Courses.{AreServed};
+ghost use Rattle.mx_cpus.specs.Loops.{AreDriven};
+ghost use Rattle.mx_cpus.specs.Outsiders.{AreDrivenWith, AreServedWith, IsDrivenAs, IsEndTold, IsServedAs, role_of};
 
+use crate::calling::make_calls;
 use crate::gate::Gate;
 use crate::loops::{make_rounds, make_turns};
+use crate::outside::{OutsideCall, Role, role_of};
 use crate::side::{Door, FreeSide};
 use crate::{ActorSeat, Naming, Shared};
 use mx_loan::Shown;
@@ -24,20 +27,20 @@ use std::thread::{Promise, PromisedHandle, Scope, Threads};
 
 /// What a thread promises of its seat, by the one that it was started with, and of its gate.
 #[derive(Drop)]
-struct Follower<M: Naming, G: Gate> {
+struct Follower<'s, M: Naming, G: Gate> {
     from: Shown<ActorSeat>,
     gate: Shown<G>,
-    cpus: u8,
+    role: Role,
     ticks: u32,
+    calls: &'s [OutsideCall],
     of: PhantomData<M>,
 }
 
-impl<M: Naming, G: Gate> Promise<ActorSeat> for Follower<M, G> {
-    ghost use Rattle.mx_cpus.specs.Courses.{IsServed};
-    ghost use Rattle.mx_cpus.specs.Loops.{IsDriven};
+impl<'s, M: Naming, G: Gate> Promise<ActorSeat> for Follower<'s, M, G> {
+    ghost use Rattle.mx_cpus.specs.Outsiders.{IsDrivenAs, IsServedAs};
 
-    ghost kept_by = { λ p s. IsDriven p.cpus p.ticks p.from.value s
-        × IsServed M.boot (G.was_called p.gate.value) p.cpus p.ticks p.from.value s };
+    ghost kept_by = { λ p s. IsDrivenAs p.role p.ticks p.calls.now p.from.value s
+        × IsServedAs p.role M.boot (G.was_called p.gate.value) p.ticks p.calls.now p.from.value s };
 }
 
 /// What the threads of a machine share.
@@ -47,30 +50,30 @@ struct ThreadContext<'s, M: Naming, G: Gate, R: Wait> {
     shared: &'s Shared<M>,
     gate: &'s G,
     ticks: u32,
+    calls: &'s [OutsideCall],
 }
 
-/// The loop of an actor: a processor's, or the respawner's. Its end is reported to the gate.
+/// The loop of an actor. Its end is reported to the gate.
 fn serve<M: Naming, G: Gate, R: Wait>(
     rt: &R,
     shared: &Shared<M>,
     seat: ActorSeat,
     gate: &G,
+    role: Role,
     ticks: u32,
+    calls: &[OutsideCall],
 ) -> ActorSeat
     requires table { seat.table ≡ M.table }
     requires empty { seat.held ≡ None }
-    requires actor { seat.actor ≤ length M.boot.cpus }
-    ensures driven { IsDriven (length M.boot.cpus) ticks seat result }
-    ensures served { IsServed M.boot (G.was_called gate.now) (length M.boot.cpus) ticks seat result }
+    ensures driven { IsDrivenAs role ticks calls.now seat result }
+    ensures served { IsServedAs role M.boot (G.was_called gate.now) ticks calls.now seat result }
 {
     let door = Door::new(gate);
-    let actor = seat.actor();
-    let side = FreeSide::new(actor);
-    // The seat's actor decides which loop it gets, so the order of the seats doesn't matter.
-    let (seat, side) = if actor < shared.cpus() {
-        make_turns(rt, shared, seat, &door, side)
-    } else {
-        make_rounds(rt, shared, seat, &door, side, ticks)
+    let side = FreeSide::new(seat.actor());
+    let (seat, side) = match role {
+        Role::Processor => make_turns(rt, shared, seat, &door, side),
+        Role::Respawner => make_rounds(rt, shared, seat, &door, side, ticks),
+        Role::Outsider => make_calls(rt, shared, seat, &door, side, calls),
     };
     side.report_end(&door);
     seat
@@ -82,13 +85,14 @@ fn start<'s, E, M: Naming + Send + Sync, G: Gate + Sync, R: Wait + Sync>(
     scope: &Scope<'s, E>,
     context: &ThreadContext<'s, M, G, R>,
     seat: ActorSeat,
-) -> Result<PromisedHandle<ActorSeat, Follower<M, G>>, NoMemory>
+    role: Role,
+) -> Result<PromisedHandle<ActorSeat, Follower<'s, M, G>>, NoMemory>
     requires table { seat.table ≡ M.table }
     requires empty { seat.held ≡ None }
-    requires actor { seat.actor ≤ length M.boot.cpus }
     ensures ok { IfOk result (λ h. (h.promise.from.value ≡ seat)
-        × (h.promise.gate.value ≡ context.now.gate.now)
-        × (h.promise.cpus ≡ length M.boot.cpus) × (h.promise.ticks ≡ context.now.ticks)) }
+        × (h.promise.gate.value ≡ context.now.gate.now) × (h.promise.role ≡ role)
+        × (h.promise.ticks ≡ context.now.ticks)
+        × (h.promise.calls.now ≡ context.now.calls.now)) }
     ensures told { OnErr result (G.was_called context.now.gate.now (ended_call seat.actor)) }
 {
     let ThreadContext {
@@ -96,20 +100,23 @@ fn start<'s, E, M: Naming + Send + Sync, G: Gate + Sync, R: Wait + Sync>(
         shared,
         gate,
         ticks,
+        calls,
     } = *context;
     let actor = seat.actor();
     let promise = Follower {
         from: Shown::of(&seat),
         gate: Shown::of(gate),
-        cpus: shared.cpus(),
+        role,
         ticks,
+        calls,
         of: PhantomData,
     };
     let job = move || -> ActorSeat
-        requires { (seat.table ≡ M.table) × (seat.held ≡ None) × (seat.actor ≤ length M.boot.cpus) }
-        ensures driven { IsDriven (length M.boot.cpus) ticks seat result }
-        ensures served { IsServed M.boot (G.was_called gate.entry.now) (length M.boot.cpus) ticks seat result }
-    { serve(rt, shared, seat, gate, ticks) };
+        requires { (seat.table ≡ M.table) × (seat.held ≡ None) }
+        ensures driven { IsDrivenAs role ticks calls.entry.now seat result }
+        ensures served { IsServedAs role M.boot (G.was_called gate.entry.now)
+            ticks calls.entry.now seat result }
+    { serve(rt, shared, seat, gate, role, ticks, calls) };
     match scope.spawn_with(promise, job) {
         Ok(handle) => Ok(handle),
         Err(refused) => {
@@ -121,7 +128,7 @@ fn start<'s, E, M: Naming + Send + Sync, G: Gate + Sync, R: Wait + Sync>(
 }
 
 /// Runs the loop of each seat in a thread of its own, from the last seat on, and joins all threads. The
-/// seats of further actors stay as they are. After an error some seats are spent.
+/// seats of actors without a loop stay as they are. After an error some seats are spent.
 #[cycle(drive_all)]
 fn drive_all<'s, E, M: Naming + Send + Sync, G: Gate + Sync, R: Threads + Wait + Sync>(
     scope: &Scope<'s, E>,
@@ -130,12 +137,13 @@ fn drive_all<'s, E, M: Naming + Send + Sync, G: Gate + Sync, R: Threads + Wait +
 ) -> Result<(), NoMemory>
     requires tables { All (λ s. s.table ≡ M.table) seats.old.items }
     requires empties { All (λ s. s.held ≡ None) seats.old.items }
-    ensures driven { OnOk result
-        (AreDriven (length M.boot.cpus) context.now.ticks seats.old.items seats.new.items) }
-    ensures served { OnOk result (AreServed M.boot (G.was_called context.now.gate.now)
-        (length M.boot.cpus) context.now.ticks seats.old.items seats.new.items) }
-    ensures told { All (λ s. s.actor ≤ length M.boot.cpus
-        → G.was_called context.now.gate.now (ended_call s.actor)) seats.old.items }
+    ensures driven { OnOk result (AreDrivenWith (length M.boot.cpus)
+        context.now.ticks context.now.calls.now seats.old.items seats.new.items) }
+    ensures served { OnOk result (AreServedWith M.boot (G.was_called context.now.gate.now)
+        (length M.boot.cpus) context.now.ticks context.now.calls.now
+        seats.old.items seats.new.items) }
+    ensures told { All (λ s. IsEndTold (role_of s.actor (length M.boot.cpus) context.now.calls.now)
+        (G.was_called context.now.gate.now) s) seats.old.items }
     ensures tables { OnOk result (All (λ s. s.table ≡ M.table) seats.new.items) }
     ensures len { OnOk result (vec_len seats.new ≡ vec_len seats.old) }
     ensures room { vec_capacity seats.new ≡ vec_capacity seats.old }
@@ -143,19 +151,71 @@ fn drive_all<'s, E, M: Naming + Send + Sync, G: Gate + Sync, R: Threads + Wait +
     let Some(seat) = seats.pop() else {
         return Ok(());
     };
-    // A further actor has no loop.
-    if seat.actor() > context.shared.cpus() {
+    let Some(role) = role_of(seat.actor(), context.shared.cpus(), context.calls) else {
         drive_all(scope, context, seats)?;
         seats.push_reserved(seat);
         return Ok(());
-    }
-    let started = start(scope, context, seat);
+    };
+    let started = start(scope, context, seat, role);
     // Also if this thread couldn't be made: the gate knows it, and ends the other loops.
     let others = drive_all(scope, context, seats);
     let seat = started?.join(context.rt);
     others?;
     seats.push_reserved(seat);
     Ok(())
+}
+
+/// Runs the loops of all processors, that of the first other actor as respawner, and that of the second one as
+/// outsider if it has calls to make, each in a thread of its own, and gives the seats back in order once all have
+/// ended. The seats of further actors stay as they are. The end of each loop is reported to the gate, and so is each
+/// loop for which no thread could be made: then the answer is `NoMemory`, the seats are spent, and what was
+/// recorded stays. Takes no memory but that of the threads.
+pub fn drive_with<M: Naming + Send + Sync, G: Gate + Sync, R: Threads + Wait + Sync>(
+    rt: &R,
+    shared: &Shared<M>,
+    seats: Vec<ActorSeat>,
+    gate: &G,
+    ticks: u32,
+    calls: &[OutsideCall],
+) -> Result<Vec<ActorSeat>, NoMemory>
+    requires tables { All (λ s. s.table ≡ M.table) seats.items }
+    requires empties { All (λ s. s.held ≡ None) seats.items }
+    ensures driven { IfOk result (λ v.
+        AreDrivenWith (length M.boot.cpus) ticks calls.now seats.items v.items) }
+    ensures served { IfOk result (λ v. AreServedWith M.boot (G.was_called gate.now)
+        (length M.boot.cpus) ticks calls.now seats.items v.items) }
+    ensures told { All (λ s. IsEndTold (role_of s.actor (length M.boot.cpus) calls.now)
+        (G.was_called gate.now) s) seats.items }
+    ensures tables { IfOk result (λ v. All (λ s. s.table ≡ M.table) v.items) }
+{
+    thread::scope(
+        thread::scope_env(),
+        rt,
+        move |scope| -> Result<Vec<ActorSeat>, NoMemory>
+            requires tables { All (λ s. s.table ≡ M.table) seats.items }
+            requires empties { All (λ s. s.held ≡ None) seats.items }
+            ensures driven { IfOk result (λ v. AreDrivenWith (length M.boot.cpus)
+                ticks calls.entry.now seats.items v.items) }
+            ensures served { IfOk result (λ v.
+                AreServedWith M.boot (G.was_called gate.entry.now) (length M.boot.cpus)
+                ticks calls.entry.now seats.items v.items) }
+            ensures told { All (λ s.
+                IsEndTold (role_of s.actor (length M.boot.cpus) calls.entry.now)
+                (G.was_called gate.entry.now) s) seats.items }
+            ensures tables { IfOk result (λ v. All (λ s. s.table ≡ M.table) v.items) }
+        {
+            let mut seats = seats;
+            let context = ThreadContext {
+                rt,
+                shared,
+                gate,
+                ticks,
+                calls,
+            };
+            drive_all(scope, &context, &mut seats)?;
+            Ok(seats)
+        },
+    )
 }
 
 /// Runs the loops of all processors, and that of the first other actor as respawner, each in a
@@ -179,29 +239,5 @@ pub fn drive<M: Naming + Send + Sync, G: Gate + Sync, R: Threads + Wait + Sync>(
         → G.was_called gate.now (ended_call s.actor)) seats.items }
     ensures tables { IfOk result (λ v. All (λ s. s.table ≡ M.table) v.items) }
 {
-    thread::scope(
-        thread::scope_env(),
-        rt,
-        move |scope| -> Result<Vec<ActorSeat>, NoMemory>
-            requires tables { All (λ s. s.table ≡ M.table) seats.items }
-            requires empties { All (λ s. s.held ≡ None) seats.items }
-            ensures driven { IfOk result (λ v.
-                AreDriven (length M.boot.cpus) ticks seats.items v.items) }
-            ensures served { IfOk result (λ v. AreServed M.boot (G.was_called gate.entry.now)
-                (length M.boot.cpus) ticks seats.items v.items) }
-            ensures told { All (λ s. s.actor ≤ length M.boot.cpus
-                → G.was_called gate.entry.now (ended_call s.actor)) seats.items }
-            ensures tables { IfOk result (λ v. All (λ s. s.table ≡ M.table) v.items) }
-        {
-            let mut seats = seats;
-            let context = ThreadContext {
-                rt,
-                shared,
-                gate,
-                ticks,
-            };
-            drive_all(scope, &context, &mut seats)?;
-            Ok(seats)
-        },
-    )
+    drive_with(rt, shared, seats, gate, ticks, &[])
 }

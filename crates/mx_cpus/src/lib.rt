@@ -13,25 +13,29 @@
 //!
 //! # Threads
 //!
-//! A loop for each processor, and one that makes ticks and respawns.
+//! A loop for each processor, one that makes ticks and respawns, and one that makes outside events.
 #![tactic(auto)]
 
 mod blank;
+mod calling;
 mod driving;
 mod gate;
 mod locked;
 mod loops;
 mod naming;
+mod outside;
 mod progress;
 mod shared;
 mod side;
 
 pub use blank::{Blank, boot};
-pub use driving::drive;
+pub use calling::outsider;
+pub use driving::{drive, drive_with};
 pub use gate::Gate;
-pub use locked::Locked;
+pub use locked::{HowFar, Locked};
 pub use loops::{processor, respawner};
 pub use mx_loan::{ActorSeat, Desk, Loan};
 pub use mx_machine::{Kernel, Service};
 pub use naming::Naming;
+pub use outside::OutsideCall;
 pub use shared::Shared;

@@ -1,6 +1,6 @@
 //! The kernel and its desk, as they lie under the lock.
 
-ghost use Rattle.std.specs.Prelude.{◌≡◌, true, IfOk, IfErr};
+ghost use Rattle.std.specs.Prelude.{◌≡◌, true, IfOk, IfErr, length};
 ghost use Rattle.mx_machine.specs.declared.events.Event.TheVariants as events;
 ghost use Rattle.mx_machine.specs.KernelState.{is_for_all};
 ghost use Rattle.mx_cpus.specs.Calls.{Follows, IsAnsweredCall, IsGiveCall, IsLoanOf, IsLocked};
@@ -17,6 +17,15 @@ pub struct Locked<M: Naming> {
     kernel: Kernel,
     desk: Desk,
     of: PhantomData<M>,
+}
+
+/// How far a machine is.
+#[derive(Clone, Copy, Debug, PartialEq, Eq)]
+pub struct HowFar {
+    /// How many records its history has.
+    pub records: usize,
+    /// Whether nothing is ready, nothing is out, and no slot that is down can be respawned.
+    pub at_rest: bool,
 }
 
 impl<M: Naming> Model for Locked<M> {
@@ -77,6 +86,20 @@ impl<M: Naming> Locked<M> {
     {
         self.kernel.opened();
         (self.desk.note(seat), self.kernel.at_rest())
+    }
+
+    /// How many records the history has, all of which the seat sees, and whether the machine is at rest.
+    pub fn how_far(&mut self, seat: ActorSeat) -> (ActorSeat, HowFar)
+        requires table { seat.table ≡ M.table }
+        ensures rest { IsRestCall M.boot seat result.0 result.1.at_rest }
+        ensures records { result.1.records ≡ length result.0.seen }
+    {
+        self.kernel.opened();
+        let far = HowFar {
+            records: self.kernel.history().len(),
+            at_rest: self.kernel.at_rest(),
+        };
+        (self.desk.note(seat), far)
     }
 
     /// A processor takes the process that is first to run.

@@ -1,11 +1,12 @@
 //! The machine that threads share, and its calls under the lock.
 
-ghost use Rattle.std.specs.Prelude.{◌≡◌, IfOk, IfErr, All, length};
+ghost use Rattle.std.specs.Prelude.{◌≡◌, true, IfOk, IfErr, All, length};
 ghost use Rattle.mx_machine.specs.declared.events.Event.TheVariants as events;
+ghost use Rattle.mx_machine.specs.KernelState.{is_for_all};
 ghost use Rattle.mx_cpus.specs.Calls.{IsAnsweredCall, IsGiveCall, IsLoanOf, IsRefusedCall};
 ghost use Rattle.mx_cpus.specs.Calls.{IsRestCall, IsTakeCall, IsAcceptedHistory, StandsIn};
 
-use crate::{ActorSeat, Kernel, Loan, Locked, Naming};
+use crate::{ActorSeat, HowFar, Kernel, Loan, Locked, Naming};
 use mx_machine::{Answer, Event, Refusal};
 use std::sync::{Mutex, Wait};
 
@@ -132,6 +133,21 @@ impl<M: Naming> Shared<M> {
         self.lock.lock(rt).event(seat, Event::Respawn(slot))
     }
 
+    /// An actor makes an event that any actor may make.
+    pub(crate) fn event(
+        &self,
+        rt: &impl Wait,
+        seat: ActorSeat,
+        event: Event,
+    ) -> (ActorSeat, Result<Answer, Refusal>)
+        requires table { seat.table ≡ M.table }
+        requires event { is_for_all event ≡ true }
+        ensures ok { IfOk result.1 (λ x. IsAnsweredCall M.boot seat result.0 event x) }
+        ensures err { IfErr result.1 (λ r. IsRefusedCall M.boot seat result.0 event r) }
+    {
+        self.lock.lock(rt).event(seat, event)
+    }
+
     /// Whether nothing is ready, nothing is out, and no slot that is down can be respawned. What the seat
     /// holds is what the machine shows as out.
     pub fn at_rest(&self, rt: &impl Wait, seat: ActorSeat) -> (ActorSeat, bool)
@@ -139,5 +155,14 @@ impl<M: Naming> Shared<M> {
         ensures { IsRestCall M.boot seat result.0 result.1 }
     {
         self.lock.lock(rt).at_rest(seat)
+    }
+
+    /// How far the machine is: how many records its history has, all of which the seat sees, and whether it is at rest.
+    pub fn how_far(&self, rt: &impl Wait, seat: ActorSeat) -> (ActorSeat, HowFar)
+        requires table { seat.table ≡ M.table }
+        ensures rest { IsRestCall M.boot seat result.0 result.1.at_rest }
+        ensures records { result.1.records ≡ length result.0.seen }
+    {
+        self.lock.lock(rt).how_far(seat)
     }
 }

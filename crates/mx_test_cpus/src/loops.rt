@@ -4,7 +4,10 @@ ghost use Rattle.std.specs.Prelude.{◌≡◌, ◌≤◌, All, None};
 
 use crate::gates::{GateCall, NotingGate};
 use crate::machine::{config, is_history, last_idle_seat, services};
-use mx_cpus::{ActorSeat, Blank, Naming, Shared, boot, drive, processor, respawner};
+use mx_cpus::{
+    ActorSeat, Blank, Kernel, Naming, OutsideCall, Shared, boot, drive_with, outsider, processor,
+    respawner,
+};
 use mx_machine::{Record, Recorded};
 use std::marker::Brand;
 use std::sync::Wait;
@@ -16,6 +19,7 @@ use std::thread::Threads;
 enum Loop {
     Processor,
     Respawner { ticks: u32 },
+    Outsider { calls: &'static [OutsideCall] },
 }
 
 /// A machine of equal services on one processor, of which another actor kills some before the loop; the loop;
@@ -54,6 +58,12 @@ const WAITS: GateCall = GateCall::Again {
 const ROUND: GateCall = GateCall::Again {
     actor: 1,
     at_rest: false,
+};
+
+/// The outsider asks at rest.
+const ALL_MADE: GateCall = GateCall::Again {
+    actor: 1,
+    at_rest: true,
 };
 
 static ROWS: &[Row] = &[
@@ -151,6 +161,89 @@ static ROWS: &[Row] = &[
         ],
     },
     Row {
+        name: "calls in order, of which one is refused, and a question after the last",
+        services: 1,
+        log: 64,
+        restarts: 0,
+        killed: &[],
+        by: Loop::Outsider {
+            calls: &[
+                OutsideCall::Tick,
+                OutsideCall::Line(5),
+                OutsideCall::Kill(0),
+                OutsideCall::Tick,
+            ],
+        },
+        yes: 9,
+        calls: &[ALL_MADE],
+        history: &[
+            (1, Recorded::Tick),
+            (1, Recorded::Kill(0)),
+            (1, Recorded::Tick),
+        ],
+    },
+    Row {
+        name: "a wait ends at rest, and for no records at its first look",
+        services: 1,
+        log: 64,
+        restarts: 0,
+        killed: &[],
+        by: Loop::Outsider {
+            calls: &[
+                OutsideCall::Wait(0),
+                OutsideCall::Kill(0),
+                OutsideCall::Wait(5),
+                OutsideCall::Tick,
+            ],
+        },
+        yes: 9,
+        calls: &[ALL_MADE],
+        history: &[(1, Recorded::Kill(0)), (1, Recorded::Tick)],
+    },
+    Row {
+        name: "a wait asks until the gate ends the loop, and no later call is made",
+        services: 1,
+        log: 64,
+        restarts: 0,
+        killed: &[],
+        by: Loop::Outsider {
+            calls: &[OutsideCall::Tick, OutsideCall::Wait(1), OutsideCall::Tick],
+        },
+        yes: 2,
+        calls: &[ROUND, ROUND, ROUND],
+        history: &[(1, Recorded::Tick)],
+    },
+    Row {
+        name: "a history without room for a tick ends the outsider, and nobody asks",
+        services: 1,
+        log: 1,
+        restarts: 0,
+        killed: &[],
+        by: Loop::Outsider {
+            calls: &[
+                OutsideCall::Kill(0),
+                OutsideCall::Tick,
+                OutsideCall::Wait(0),
+            ],
+        },
+        yes: 9,
+        calls: &[],
+        history: &[(1, Recorded::Kill(0))],
+    },
+    Row {
+        name: "a history without room for a kill ends the outsider, and nobody asks",
+        services: 1,
+        log: 1,
+        restarts: 0,
+        killed: &[],
+        by: Loop::Outsider {
+            calls: &[OutsideCall::Tick, OutsideCall::Kill(0), OutsideCall::Tick],
+        },
+        yes: 9,
+        calls: &[],
+        history: &[(1, Recorded::Tick)],
+    },
+    Row {
         name: "what is down is respawned in a sweep, and what is up or worn isn't",
         services: 4,
         log: 64,
@@ -214,6 +307,9 @@ fn goes_as_wanted<M: Naming>(
         }
         Loop::Respawner { ticks } => {
             let _other = respawner(rt, &shared, other, &gate, ticks);
+        }
+        Loop::Outsider { calls } => {
+            let _other = outsider(rt, &shared, other, &gate, calls);
         }
     }
     let kernel = shared.into_kernel(seats);
@@ -313,13 +409,14 @@ fn each_slot_is_respawned_in_turn(rt: HostRuntime) -> Result<(), Fail> {
     Ok(())
 }
 
-/// Drives a machine, and answers how many records it made.
-fn drive_and_count<M: Naming + Send + Sync, R: Threads + Wait + Sync>(
+/// A machine once its loops have ended.
+fn drive_to_end<M: Naming + Send + Sync, R: Threads + Wait + Sync>(
     rt: &R,
     blank: Blank,
     seats: Vec<ActorSeat>,
     gate: &NotingGate,
-) -> Option<usize>
+    calls: &[OutsideCall],
+) -> Option<Kernel>
     requires table { blank.table ≡ M.table }
     requires boot { blank.boot ≡ M.boot }
     requires tables { All (λ s. s.table ≡ M.table) seats.items }
@@ -327,8 +424,8 @@ fn drive_and_count<M: Naming + Send + Sync, R: Threads + Wait + Sync>(
 {
     let alloc = *seats.allocator();
     let shared: Shared<M> = blank.open();
-    match drive(rt, &shared, seats, gate, 0) {
-        Ok(seats) => Some(shared.into_kernel(seats).history().len()),
+    match drive_with(rt, &shared, seats, gate, 0, calls) {
+        Ok(seats) => Some(shared.into_kernel(seats)),
         Err(_) => {
             let _kernel = shared.into_kernel(Vec::new(alloc));
             None
@@ -336,21 +433,54 @@ fn drive_and_count<M: Naming + Send + Sync, R: Threads + Wait + Sync>(
     }
 }
 
-/// The end of each loop is reported once, and that of no actor that has no loop.
+/// The calls of the outsider on a machine of two processors, which is actor 3 then.
+static CALLS: &[OutsideCall] = &[
+    OutsideCall::Tick,
+    OutsideCall::Line(9),
+    OutsideCall::Wait(0),
+    OutsideCall::Tick,
+];
+
+/// Whether the outside events of a history are those of the calls in order, all by actor 3, or none.
+fn has_calls(history: &[Record], is_called: bool) -> bool {
+    let mut wanted: &[Recorded] = if is_called {
+        &[Recorded::Tick, Recorded::Tick]
+    } else {
+        &[]
+    };
+    for record in history {
+        if record.actor == 3 {
+            let Some((first, rest)) = wanted.split_first() else {
+                return false;
+            };
+            if record.event != *first {
+                return false;
+            }
+            wanted = rest;
+        }
+    }
+    wanted.is_empty()
+}
+
+/// The end of each loop is reported once, and that of no actor that has no loop. The second other actor has one if there
+/// are calls for it to make, and then it makes them.
 #[test]
 fn ends_are_told(rt: HostRuntime) -> Result<(), Fail> {
-    for others in [1, 2, 4] {
+    for (others, calls) in [(1, CALLS), (2, &[]), (2, CALLS), (4, &[]), (4, CALLS)] {
         let mut services = services(rt.alloc(), 2, 0)?;
         let config = config(rt.alloc(), 2, others, 64, 0)?;
         let (blank, seats) = boot(rt.alloc(), &config, &mut services).map_err(|_| "memory")?;
         let gate = NotingGate::new(20);
-        let records = drive_and_count::<Brand, _>(&rt, blank, seats, &gate);
-        assert!(rt; records.is_some(), "{others}");
+        let Some(kernel) = drive_to_end::<Brand, _>(&rt, blank, seats, &gate, calls) else {
+            return Err(Fail::new("no threads"));
+        };
+        let is_called = others >= 2 && !calls.is_empty();
+        assert!(rt; has_calls(kernel.history(), is_called), "{others} others");
         for actor in 0..6 {
             let told = gate.count(GateCall::Ended(actor));
-            let wanted = if actor <= 2 { 1 } else { 0 };
+            let has_loop = actor <= 2 || (actor == 3 && is_called);
             assert!(rt;
-                told == wanted,
+                told == u32::from(has_loop),
                 "{others} others: actor {actor} is told as ended {told} times"
             );
         }

@@ -102,6 +102,7 @@ static ROWS: &[Row] = &[
             config: "one",
             log: "new",
             ticks: 0,
+            events: None,
         },
         printed: FAULTED,
     },

@@ -202,6 +202,7 @@ static ROWS: &[Row] = &[
             config: "text",
             log: "new",
             ticks: 0,
+            events: None,
         },
         front: SETUP,
         status: 0,

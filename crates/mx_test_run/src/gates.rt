@@ -14,10 +14,13 @@ enum Call {
     Ended(u8),
 }
 
-/// A run with some ticks on two processors, whose respawner is actor 2, and calls of its gate.
+/// A run with some ticks on two processors, whose respawner is actor 2 and whose outsider is actor 3, and calls of its
+/// gate.
 struct Row {
     name: &'static str,
     ticks: u32,
+    /// Whether the outsider has calls to make.
+    has_calls: bool,
     calls: &'static [Call],
 }
 
@@ -25,11 +28,13 @@ static ROWS: &[Row] = &[
     Row {
         name: "the first question finds the last tick made, and the second ends the loop",
         ticks: 0,
+        has_calls: false,
         calls: &[Call::Again(0, true, true), Call::Again(0, true, false)],
     },
     Row {
         name: "no question ends a loop while the machine isn't at rest",
         ticks: 0,
+        has_calls: false,
         calls: &[
             Call::Again(0, false, true),
             Call::Again(0, false, true),
@@ -41,6 +46,7 @@ static ROWS: &[Row] = &[
     Row {
         name: "each actor has to have asked before",
         ticks: 0,
+        has_calls: false,
         calls: &[
             Call::Again(0, true, true),
             Call::Again(1, true, true),
@@ -53,6 +59,7 @@ static ROWS: &[Row] = &[
     Row {
         name: "a question before the last tick counts for nothing",
         ticks: 2,
+        has_calls: false,
         calls: &[
             Call::Again(0, true, true),
             Call::Again(0, true, true),
@@ -70,6 +77,7 @@ static ROWS: &[Row] = &[
     Row {
         name: "turns between two questions change nothing",
         ticks: 0,
+        has_calls: false,
         calls: &[
             Call::Again(0, false, true),
             Call::Held(0),
@@ -78,8 +86,50 @@ static ROWS: &[Row] = &[
         ],
     },
     Row {
+        name: "while the outsider has calls to make a question counts for nothing",
+        ticks: 0,
+        has_calls: true,
+        calls: &[
+            Call::Again(0, true, true),
+            Call::Again(0, true, true),
+            Call::Again(3, false, true),
+            Call::Again(0, true, true),
+            Call::Again(3, true, true),
+            Call::Again(0, true, true),
+            Call::Ended(3),
+            Call::Again(0, true, true),
+            Call::Again(2, true, true),
+            Call::Again(1, true, true),
+            Call::Again(0, true, false),
+            Call::Again(1, true, false),
+            Call::Again(2, true, false),
+        ],
+    },
+    Row {
+        name: "an outsider that ends before it asks ends all loops",
+        ticks: 0,
+        has_calls: true,
+        calls: &[
+            Call::Again(0, true, true),
+            Call::Ended(3),
+            Call::Again(0, false, false),
+            Call::Again(2, false, false),
+        ],
+    },
+    Row {
+        name: "a loop that has ended ends the outsider's",
+        ticks: 0,
+        has_calls: true,
+        calls: &[
+            Call::Again(3, false, true),
+            Call::Ended(0),
+            Call::Again(3, false, false),
+        ],
+    },
+    Row {
         name: "where one loop has ended each question ends its loop",
         ticks: 9,
+        has_calls: false,
         calls: &[
             Call::Again(0, false, true),
             Call::Ended(1),
@@ -119,7 +169,7 @@ fn first_other<G: Gate>(gate: &G, calls: &[Call]) -> Option<usize> {
 fn questions_of_a_run(rt: HostRuntime) -> Result<(), Fail> {
     for row in ROWS {
         let name = row.name;
-        let gate = RunGate::new(&rt, 2, row.ticks);
+        let gate = RunGate::new(&rt, 2, row.ticks, row.has_calls);
         let fault = first_other(&gate, row.calls);
         let call = fault.unwrap_or(0);
         assert!(rt; fault.is_none(), "{name}: call {call}");

@@ -195,6 +195,7 @@ service cli cli.out traps 1e send 1 calls 1 level 7 best 7 quantum 20 restarts 0
 static KILLED: Row = Row {
     config: ONE_PROCESSOR,
     ticks: 0,
+    events: None,
     log: Log::Text(
         "rules 2
 0 take
@@ -219,6 +220,7 @@ console 0
 static KILLED_AT_BREAKPOINT: Row = Row {
     config: ONE_PROCESSOR,
     ticks: 0,
+    events: None,
     log: Log::Text(
         "rules 2
 0 take

@@ -36,15 +36,18 @@ pub(crate) enum Log {
 }
 
 /// A machine of both, and what every run of it leaves.
+#[derive(Clone, Copy)]
 pub(crate) struct Row {
     pub config: &'static str,
     pub ticks: u32,
+    /// The text of a file of outside events, if there is one.
+    pub events: Option<&'static str>,
     pub log: Log,
     pub report: &'static str,
 }
 
 /// The files of a row's machine.
-pub(crate) fn files_of(row: &Row) -> [NamedFile<'static>; 3] {
+pub(crate) fn files_of(row: &Row) -> [NamedFile<'static>; 4] {
     [
         NamedFile {
             name: "config",
@@ -57,6 +60,10 @@ pub(crate) fn files_of(row: &Row) -> [NamedFile<'static>; 3] {
         NamedFile {
             name: "cli.out",
             bytes: &CLIENT,
+        },
+        NamedFile {
+            name: "events",
+            bytes: row.events.unwrap_or("").as_bytes(),
         },
     ]
 }
@@ -74,7 +81,7 @@ fn is_log(text: &[u8], wanted: Log) -> bool {
 
 /// What a replay of a history prints.
 fn replay_report(alloc: Global, row: &Row, log: &[u8]) -> Result<Vec<u8>, Fail> {
-    let [config, driver, client] = files_of(row);
+    let [config, driver, client, _] = files_of(row);
     let history = NamedFile {
         name: "log",
         bytes: log,

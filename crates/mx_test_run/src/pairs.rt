@@ -1,7 +1,7 @@
 //! A driver and a client, whose processors are threads: what their runs leave, whatever the schedule.
 
 use crate::machine::{Log, RUNS, Row, files_of, is_left};
-use mx_app_run::{Channels, MemoryWriter, NamedFiles, RunNames, run};
+use mx_app_run::{Channels, Ending, MemoryWriter, NamedFiles, RunNames, run};
 use std::alloc::Global;
 use std::process::Abort;
 use std::sync::Wait;
@@ -19,6 +19,7 @@ service cli cli.out traps 1e send 1 calls 1 level 7 best 7 quantum 20 restarts 0
 pub(crate) static TALK: Row = Row {
     config: TWO_PROCESSORS,
     ticks: 0,
+    events: None,
     log: Log::Records(10),
     report: "0 drv 0 receiving any 4 8
 1 cli 1 down exit 7 12
@@ -31,6 +32,7 @@ console 0
 pub(crate) static TALK_AND_TICK: Row = Row {
     config: TWO_PROCESSORS,
     ticks: 3,
+    events: None,
     log: Log::Records(13),
     report: "0 drv 0 receiving any 4 8
 1 cli 1 down exit 7 12
@@ -47,6 +49,7 @@ service drv drv.out traps 1e send 2 calls 0 level 4 best 4 quantum 20 restarts 0
 service cli cli.out traps 1e send 1 calls 1 level 7 best 7 quantum 20 restarts 2
 ",
     ticks: 0,
+    events: None,
     log: Log::Records(28),
     report: "0 drv 0 receiving any 4 12
 1 cli 2049 down exit 7 12
@@ -63,6 +66,7 @@ service drv drv.out traps 1e send 2 calls 0 level 4 best 4 quantum 20 restarts 0
 service cli cli.out traps 1e send 1 calls 1 level 7 best 7 quantum 20 restarts 0
 ",
     ticks: 0,
+    events: None,
     log: Log::Text(
         "rules 2
 0 take
@@ -76,11 +80,48 @@ console 0
 ",
 };
 
+/// Two other actors. The second one lets the clock tick at rest, and kills the driver then.
+static TALK_AND_KILL: Row = Row {
+    config: "cpus 2
+others 2
+log 64
+service drv drv.out traps 1e send 2 calls 0 level 4 best 4 quantum 20 restarts 0
+service cli cli.out traps 1e send 1 calls 1 level 7 best 7 quantum 20 restarts 0
+",
+    ticks: 0,
+    events: Some("wait 1000\ntick\nline 5\nkill 0\nwait 1\n"),
+    log: Log::Records(12),
+    report: "0 drv 0 down kill 4 8
+1 cli 1 down exit 7 12
+uptime 1
+console 0
+",
+};
+
+/// The same with four other actors, and with ticks of the first one.
+static TALK_KILL_AND_TICK: Row = Row {
+    config: "cpus 2
+others 4
+log 64
+service drv drv.out traps 1e send 2 calls 0 level 4 best 4 quantum 20 restarts 0
+service cli cli.out traps 1e send 1 calls 1 level 7 best 7 quantum 20 restarts 0
+",
+    ticks: 2,
+    events: Some("wait 1000\ntick\nkill 0\n"),
+    log: Log::Records(14),
+    report: "0 drv 0 down kill 4 8
+1 cli 1 down exit 7 12
+uptime 3
+console 0
+",
+};
+
 /// What a run leaves: the file that it wrote, and what it printed.
 #[derive(Drop)]
 struct RunLeft {
     files: MemoryWriter,
     printed: Vec<u8>,
+    ending: Ending,
 }
 
 /// Runs a machine.
@@ -98,14 +139,16 @@ fn left_by<R: Threads + Wait + Clock + Sync>(
     let names = RunNames {
         config: "config",
         log: "log",
+        events: row.events.map(|_| "events"),
     };
     let done = run(rt, alloc, &mut channels, names, row.ticks);
     match done {
-        Ok(_) => {
+        Ok(ending) => {
             let Channels { files, out, .. } = channels;
             Ok(RunLeft {
                 files,
                 printed: out,
+                ending,
             })
         }
         Err(_) => Err(Fail::new("the machine isn't run")),
@@ -168,5 +211,56 @@ fn pair_talks_again(rt: HostRuntime) -> Result<(), Fail> {
 fn history_is_full(rt: HostRuntime) -> Result<(), Fail> {
     let wrong = wrong_runs(&rt, rt.alloc(), &FULL)?;
     assert!(rt; wrong == 0, "{wrong} wrong runs");
+    Ok(())
+}
+
+#[test]
+fn driver_is_killed_at_rest(rt: HostRuntime) -> Result<(), Fail> {
+    let wrong = wrong_runs(&rt, rt.alloc(), &TALK_AND_KILL)?;
+    assert!(rt; wrong == 0, "{wrong} wrong runs");
+    Ok(())
+}
+
+#[test]
+fn driver_is_killed_between_ticks(rt: HostRuntime) -> Result<(), Fail> {
+    let wrong = wrong_runs(&rt, rt.alloc(), &TALK_KILL_AND_TICK)?;
+    assert!(rt; wrong == 0, "{wrong} wrong runs");
+    Ok(())
+}
+
+/// How a run ends that makes an event more than its history has room for, or that has as much room.
+static ENDINGS: &[(&str, Ending)] = &[
+    ("wait 1000\ntick\nkill 0\n", Ending::Rest),
+    ("wait 1000\ntick\nkill 0\ntick\n", Ending::Full),
+    ("wait 1000\ntick\ntick\ntick\ntick\n", Ending::Full),
+];
+
+/// How a run of TALK_AND_KILL with 13 records and these outside events ends.
+fn ending_of<R: Threads + Wait + Clock + Sync>(
+    rt: &R,
+    alloc: Global,
+    events: &'static str,
+) -> Result<Ending, Fail> {
+    let row = Row {
+        config: "cpus 2
+others 2
+log 13
+service drv drv.out traps 1e send 2 calls 0 level 4 best 4 quantum 20 restarts 0
+service cli cli.out traps 1e send 1 calls 1 level 7 best 7 quantum 20 restarts 0
+",
+        ticks: 0,
+        events: Some(events),
+        log: Log::Records(13),
+        report: "",
+    };
+    left_by(rt, alloc, &row).map(|left| left.ending)
+}
+
+#[test]
+fn full_history_is_no_rest(rt: HostRuntime) -> Result<(), Fail> {
+    for (events, wanted) in ENDINGS {
+        let ending = ending_of(&rt, rt.alloc(), events)?;
+        assert!(rt; ending == *wanted, "{events}: {ending:?}");
+    }
     Ok(())
 }

@@ -34,7 +34,7 @@ returns-in-Some g c =
 pub returns-in-Run : goal.returns-in-Run
 returns-in-Run g c =
     as_asked c.args.asks _ _ _ _ _ _ _ _ c.in-Run.is
-    (runs _ _ _ _ c.in-Run.config.now c.in-Run.log.now c.in-Run.ticks _ _ c.run.result c.done_after_turns.result c.run.ensures c.done_after_turns.ensures)
+    (runs _ _ _ _ c.in-Run.config.now c.in-Run.log.now (option_map (λ s. s.now) c.in-Run.events) c.in-Run.ticks _ _ c.run.result c.done_after_turns.result c.run.ensures c.done_after_turns.ensures)
 
 pub returns-in-Turns : goal.returns-in-Turns
 returns-in-Turns g c =

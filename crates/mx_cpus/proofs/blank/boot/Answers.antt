@@ -1,6 +1,4 @@
-use Rattle.std.proofs.Common.{sym, subst}
-use Rattle.std.specs.Prelude.{All}
-use Rattle.mx_cpus.proofs.BootLemmas.{blank_at_boot, new_seats_at}
+use Rattle.mx_cpus.proofs.BootLemmas.{blank_at_boot}
 use Rattle.mx_cpus.proofs.blank.boot.Goals as goal
 
 pub invariant_of-result : goal.invariant_of-result

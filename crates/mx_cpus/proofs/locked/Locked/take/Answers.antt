@@ -1,7 +1,6 @@
-use Rattle.std.proofs.Common.{◌≡◌, ◌∙◌, ◌++◌, ◌∷◌, [], Some, sym, ap, subst}
+use Rattle.std.proofs.Common.{◌∙◌, ◌++◌, ◌∷◌, [], Some, sym, ap, subst}
 use Rattle.mx_machine.specs.declared.history.Recorded.TheVariants as recorded
 use Rattle.mx_machine.specs.declared.events.Event.TheVariants as events
-use Rattle.mx_machine.specs.World.{World}
 use Rattle.mx_loan.specs.Seats.{LoanView, SeatView, new_loan, take_record}
 use Rattle.mx_cpus.specs.Calls.{IsAcceptedCall}
 use Rattle.mx_cpus.proofs.SeatLemmas.{accepted_by, known_by, lent_by, refused_by, seat_of_take}

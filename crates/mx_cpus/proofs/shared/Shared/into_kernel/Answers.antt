@@ -1,4 +1,4 @@
-use Rattle.std.proofs.Common.{◌≡◌, ◌∙◌, ap, sym, subst, List, rules, refl, length, vec_len}
+use Rattle.std.proofs.Common.{◌≡◌, ◌∙◌, sym, subst, List, rules, refl, length, vec_len}
 use Rattle.std.specs.Prelude.{All}
 use Rattle.std.proofs.lemmas.List.Elements.{All-push}
 use Rattle.std.proofs.lemmas.List.Folds.{map_fixed}

@@ -1,0 +1,51 @@
+-- The lines of a run's file of outside events (our own).
+use Rattle.std.specs.Prelude.{◌⊎◌, ℕ, suc, nat_lt, if◌then◌else◌, List, [], ◌∷◌, Option, Some, None, codes}
+use Rattle.std.specs.Str.{bytes_eq}
+use Rattle.mx_text.specs.Fields.{fields, ◌>>=◌}
+use Rattle.mx_text.specs.Lines.{lines}
+use Rattle.mx_boot.specs.Reading.{AreLinesRead, TellsUnread}
+use Rattle.mx_boot.specs.Script.{after_verb, only_count}
+use Rattle.mx_machine.specs.declared.events.Event.{Event}
+use Rattle.mx_machine.specs.declared.events.Event.TheVariants as events
+use Rattle.mx_cpus.specs.declared.outside.OutsideCall.{OutsideCall}
+use Rattle.mx_cpus.specs.declared.outside.OutsideCall.TheVariants.{Line, Kill, Tick, Wait}
+use Rattle.mx_app_failure.specs.declared.failure.Failure.{Failure as Kind}
+use Rattle.mx_app_step.specs.Asked.{Asked}
+use Rattle.mx_app_step.specs.Setup.{IsNoTextGiven, IsTextFaulty, IsTextGiven}
+use Rattle.mx_app_turns.specs.Events.{outside_event_of}
+
+-- an outside event, as a call
+abbrev pub call_of_event : Event → Option OutsideCall
+call_of_event (events.Line l) = Some (Line l)
+call_of_event (events.Kill e) = Some (Kill e)
+call_of_event events.Tick = Some Tick
+call_of_event _ = None
+
+-- what these fields say: `wait N`, or an outside event, as in a file for `mx turns`
+abbrev pub call_of_fields : List (List ℕ) → Option OutsideCall
+call_of_fields [] = None
+call_of_fields (f ∷ fs) =
+    if bytes_eq f (codes "wait") then (do
+      n ← only_count fs
+      Some (Wait n))
+    else (do
+      e ← after_verb outside_event_of (f ∷ fs)
+      call_of_event e)
+
+-- what a line says, if there is an actor to make the call: the second one that is no processor
+abbrev pub call_line : ℕ → List ℕ → Option OutsideCall
+call_line others line = if nat_lt others 2 then None else call_of_fields (fields line)
+
+-- the calls of a file were read
+abbrev pub AreCallsGiven : List ℕ → Asked → ℕ → List OutsideCall → Type 0
+AreCallsGiven name q others xs = (text : List ℕ) × IsTextGiven name q text × AreLinesRead (call_line others) (lines text) xs
+
+-- why they weren't: the file is missed or no text, or its first line at fault
+abbrev pub IsCallsFault : List ℕ → Asked → ℕ → Kind → Type 0
+IsCallsFault name q others f = IsNoTextGiven name q f ⊎ IsTextFaulty (λ text e. TellsUnread (call_line others) (lines text) e) name q f
+
+-- how many of some calls are ticks
+abbrev pub ticks_of : List OutsideCall → ℕ
+ticks_of [] = 0
+ticks_of (Tick ∷ xs) = suc (ticks_of xs)
+ticks_of (_ ∷ xs) = ticks_of xs

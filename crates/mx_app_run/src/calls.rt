@@ -1,0 +1,87 @@
+//! Files of a run's outside events.
+
+ghost use Rattle.std.specs.Prelude.{◌≡◌, ◌∷◌, ◌++◌, [], IfErr, IfOk};
+ghost use Rattle.mx_text.specs.Fields.{fields};
+ghost use Rattle.mx_text.specs.Lines.{lines};
+ghost use Rattle.mx_boot.specs.Reading.{AreLinesRead, TellsUnread};
+ghost use Rattle.mx_app_run.specs.Calls.{call_line, call_of_event, call_of_fields, ticks_of};
+
+use mx_app_step::BootError;
+use mx_app_turns::outside_event_of;
+use mx_boot::{ReadsLine, only_count, read_lines, verb_named};
+use mx_cpus::OutsideCall;
+use mx_machine::Event;
+use mx_text::next_field;
+use std::alloc::Global;
+
+/// How many actors that are no processors a file of outside events wants: the first one makes ticks and respawns, and
+/// the second one makes the file's calls.
+const WANTED_OTHERS: u8 = 2;
+
+/// An outside event, as a call.
+fn call_of_event(event: Event) -> Option<OutsideCall>
+    ensures { result ≡ call_of_event event }
+{
+    match event {
+        Event::Line(line) => Some(OutsideCall::Line(line)),
+        Event::Kill(endpoint) => Some(OutsideCall::Kill(endpoint)),
+        Event::Tick => Some(OutsideCall::Tick),
+        _ => None,
+    }
+}
+
+/// What a line says: `wait N`, or an outside event.
+fn call_of(line: &[u8]) -> Option<OutsideCall>
+    ensures { result ≡ call_of_fields (fields line.now) }
+{
+    let (word, rest) = next_field(line)?;
+    if word == b"wait".as_slice() {
+        return Some(OutsideCall::Wait(only_count(rest)?));
+    }
+    let verb = verb_named(word)?;
+    call_of_event(outside_event_of(verb, rest)?)
+}
+
+/// Reads the lines of a file for a machine with so many actors that are no processors.
+#[derive(Clone, Copy)]
+struct CallReader {
+    others: u8,
+}
+
+impl ReadsLine for CallReader {
+    ghost use Rattle.mx_app_run.specs.Calls.{call_line};
+
+    type Said = OutsideCall;
+
+    ghost says = { λ r line. call_line r.others line };
+
+    fn read(&self, line: &[u8]) -> Option<OutsideCall> {
+        if self.others < WANTED_OTHERS {
+            return None;
+        }
+        call_of(line)
+    }
+}
+
+/// The lines of a run's file of outside events, one a line: `line L`, `tick`, `kill E` and `wait N`. The numbers are
+/// decimal, at most 2,147,483,647. Each line wants a machine with two actors that are no processors, or more.
+pub fn outside_calls(alloc: Global, text: &str, others: u8) -> Result<Vec<OutsideCall>, BootError>
+    ensures read { IfOk result (λ found.
+        AreLinesRead (call_line others) (lines text.now) found.items) }
+    ensures unread { IfErr result (λ e. TellsUnread (call_line others) (lines text.now) e) }
+{
+    read_lines(alloc, &CallReader { others }, text.as_bytes())
+}
+
+/// How many of some calls are ticks.
+pub(crate) fn ticks_of(calls: &[OutsideCall]) -> usize
+    ensures { result ≡ ticks_of calls.now }
+{
+    let mut ticks = 0;
+    for call in calls {
+        if let OutsideCall::Tick = *call {
+            ticks += 1;
+        }
+    }
+    ticks
+}

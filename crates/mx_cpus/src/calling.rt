@@ -1,0 +1,158 @@
+//! What the second other actor does: outside events, and waits between them.
+
+ghost use Rattle.std.specs.Prelude.{◌≡◌, true};
+ghost use Rattle.mx_machine.specs.KernelState.{is_for_all};
+ghost use Rattle.mx_cpus.specs.CallEnds.{IsCallTo, IsEventTo, IsWaitTo, goes_on_after};
+ghost use Rattle.mx_cpus.specs.Outsiders.{HasMadeCalls, IsOutsiderRun};
+
+use crate::gate::Gate;
+use crate::outside::OutsideCall;
+use crate::side::{Door, FreeSide};
+use crate::{ActorSeat, Naming, Shared};
+use mx_machine::{Event, Refusal};
+use std::sync::Wait;
+
+/// How a call of the outsider ended, by which its loop goes on or ends.
+#[derive(Clone, Copy)]
+pub(crate) enum CallEnd {
+    Made,
+    /// The history is full.
+    Full,
+    /// The gate ended the loop while it waited.
+    Stopped,
+}
+
+/// An outside event. If it is refused, and not for a full history, the loop goes on.
+fn make_event<M: Naming, R: Wait>(
+    rt: &R,
+    shared: &Shared<M>,
+    seat: ActorSeat,
+    side: FreeSide,
+    event: Event,
+) -> (ActorSeat, FreeSide, CallEnd)
+    requires table { seat.table ≡ M.table }
+    requires event { is_for_all event ≡ true }
+    ensures made { IsEventTo M.boot event seat result.0 result.2 }
+    ensures side { result.1 ≡ side }
+{
+    let (seat, answer) = shared.event(rt, seat, event);
+    match answer {
+        Err(Refusal::LogFull) => (seat, side, CallEnd::Full),
+        _ => (seat, side, CallEnd::Made),
+    }
+}
+
+/// Looks at the machine again and again, until its history has `more` records more than at the first look, or
+/// it is at rest. Between two looks the gate decides whether the loop goes on.
+fn wait_for<M: Naming, G: Gate, R: Wait>(
+    rt: &R,
+    shared: &Shared<M>,
+    seat: ActorSeat,
+    door: &Door<'_, G>,
+    side: FreeSide,
+    more: u32,
+) -> (ActorSeat, FreeSide, CallEnd)
+    requires table { seat.table ≡ M.table }
+    requires actor { side.actor ≡ seat.actor }
+    requires goes_on { side.goes_on ≡ true }
+    ensures waits { IsWaitTo M.boot (G.was_called door.now.gate.now) more seat result.0 result.2 }
+    ensures actor { result.1.actor ≡ seat.actor }
+    ensures goes_on { result.1.goes_on ≡ goes_on_after result.2 }
+{
+    let (seat, first) = shared.how_far(rt, seat);
+    let mut seat = seat;
+    let mut side = side;
+    let mut seen = first;
+    for _ in rt.forever() {
+        if seen.at_rest || seen.records.saturating_sub(first.records) >= more as usize {
+            return (seat, side, CallEnd::Made);
+        }
+        side = side.ask(door, false);
+        if !side.goes_on() {
+            return (seat, side, CallEnd::Stopped);
+        }
+        let (next, now) = shared.how_far(rt, seat);
+        seat = next;
+        seen = now;
+    }
+    unreachable!()
+}
+
+/// An outside event, or a wait.
+fn make_call<M: Naming, G: Gate, R: Wait>(
+    rt: &R,
+    shared: &Shared<M>,
+    seat: ActorSeat,
+    door: &Door<'_, G>,
+    side: FreeSide,
+    call: OutsideCall,
+) -> (ActorSeat, FreeSide, CallEnd)
+    requires table { seat.table ≡ M.table }
+    requires actor { side.actor ≡ seat.actor }
+    requires goes_on { side.goes_on ≡ true }
+    ensures made { IsCallTo M.boot (G.was_called door.now.gate.now) call seat result.0 result.2 }
+    ensures actor { result.1.actor ≡ seat.actor }
+    ensures goes_on { result.1.goes_on ≡ goes_on_after result.2 }
+{
+    match call {
+        OutsideCall::Line(line) => make_event(rt, shared, seat, side, Event::Line(line)),
+        OutsideCall::Kill(endpoint) => make_event(rt, shared, seat, side, Event::Kill(endpoint)),
+        OutsideCall::Tick => make_event(rt, shared, seat, side, Event::Tick),
+        OutsideCall::Wait(records) => wait_for(rt, shared, seat, door, side, records),
+    }
+}
+
+/// The outsider's calls, and its question of the gate after the last.
+pub(crate) fn make_calls<M: Naming, G: Gate, R: Wait>(
+    rt: &R,
+    shared: &Shared<M>,
+    seat: ActorSeat,
+    door: &Door<'_, G>,
+    side: FreeSide,
+    calls: &[OutsideCall],
+) -> (ActorSeat, FreeSide)
+    requires table { seat.table ≡ M.table }
+    requires actor { side.actor ≡ seat.actor }
+    requires goes_on { side.goes_on ≡ true }
+    ensures made { HasMadeCalls calls.now seat result.0 }
+    ensures course { IsOutsiderRun M.boot (G.was_called door.now.gate.now) calls.now seat result.0 }
+    ensures side { result.1.actor ≡ seat.actor }
+{
+    seat.opened();
+    let mut seat = seat;
+    let mut side = side;
+    for call in calls {
+        let (next, after, end) = make_call(rt, shared, seat, door, side, *call);
+        seat = next;
+        side = after;
+        match end {
+            CallEnd::Made => {}
+            CallEnd::Full => return (seat, side),
+            CallEnd::Stopped => return (seat, side),
+        }
+    }
+    let (seat, at_rest) = shared.at_rest(rt, seat);
+    (seat, side.ask(door, at_rest))
+}
+
+/// Makes calls in order: outside events, and waits. A wait ends once the history has as many records
+/// more as it names, counted from its first look at the machine, or the machine is at rest; the gate is
+/// asked between its looks. After the last call the gate is asked once more, and the loop ends. It ends at a
+/// full history too, and if the gate says so while it waits. Another refusal doesn't end it. Takes no memory.
+pub fn outsider<M: Naming, G: Gate, R: Wait>(
+    rt: &R,
+    shared: &Shared<M>,
+    seat: ActorSeat,
+    gate: &G,
+    calls: &[OutsideCall],
+) -> ActorSeat
+    requires table { seat.table ≡ M.table }
+    ensures made { HasMadeCalls calls.now seat result }
+    ensures course { IsOutsiderRun M.boot (G.was_called gate.now) calls.now seat result }
+{
+    let door = Door::new(gate);
+    let side = FreeSide::new(seat.actor());
+    let (seat, side) = make_calls(rt, shared, seat, &door, side, calls);
+    side.leave();
+    seat
+}
