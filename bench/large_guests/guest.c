@@ -46,7 +46,7 @@ void guest_prints(const char *text, size_t count)
     }
 }
 
-void guest_says(const char *text)
+void guest_prints_text(const char *text)
 {
     size_t count = 0;
 

@@ -1,7 +1,7 @@
 /* guest.h: what the large guests have in common: the text that they run, and what they print.
  *
  * A guest is compiled three times: as a program of the machine, as a process of Linux of the same objects, and as a
- * usual program with the system's own library (ON_HOST).
+ * ordinary program with the system's own library (ON_HOST).
  */
 #ifndef GUEST_H
 #define GUEST_H
@@ -23,7 +23,7 @@ extern struct text_room {
 void guest_prints(const char *text, size_t count);
 
 /* Prints a text. */
-void guest_says(const char *text);
+void guest_prints_text(const char *text);
 
 /* Writes out what is held. */
 void guest_flushes(void);

@@ -31,8 +31,8 @@ static int run(lua_State *lua, const char *text, size_t count)
     int is_wrong = luaL_loadbuffer(lua, text, count, "=text") != LUA_OK || lua_pcall(lua, 0, 0, 0) != LUA_OK;
 
     if (is_wrong) {
-        guest_says(lua_tostring(lua, -1));
-        guest_says("\n");
+        guest_prints_text(lua_tostring(lua, -1));
+        guest_prints_text("\n");
         lua_pop(lua, 1);
     }
     return is_wrong;

@@ -12,11 +12,11 @@ static int prints_row(void *data, int count, char **values, char **names)
     (void)names;
     for (at = 0; at < count; at++) {
         if (at > 0)
-            guest_says("|");
+            guest_prints_text("|");
         if (values[at] != NULL)
-            guest_says(values[at]);
+            guest_prints_text(values[at]);
     }
-    guest_says("\n");
+    guest_prints_text("\n");
     return 0;
 }
 
@@ -92,9 +92,9 @@ int guest_main(void)
     char *error = NULL;
 
     if (sqlite3_open(":memory:", &database) != SQLITE_OK)
-        guest_says("no database\n");
+        guest_prints_text("no database\n");
     else if (sqlite3_exec(database, text_room.text, prints_row, NULL, &error) != SQLITE_OK)
-        guest_says(error);
+        guest_prints_text(error);
     sqlite3_close(database);
     return guest_ends();
 }
