@@ -11,6 +11,7 @@ mod config_place;
 mod detail;
 mod explaining;
 mod found_word;
+mod own_programs;
 mod services;
 mod subject;
 mod text_advice;

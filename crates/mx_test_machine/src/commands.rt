@@ -736,6 +736,36 @@ static FAILED: &[Failed] = &[
         told: "mx: 80 File\n",
     },
     Failed {
+        name: "run: a service's program isn't written over",
+        words: &["mx", "run", "pair", "cli.out"],
+        status: 3,
+        told: "mx: 80 File\n",
+    },
+    Failed {
+        name: "turns: a service's program isn't written over",
+        words: &["mx", "turns", "pair", "cli.out"],
+        status: 3,
+        told: "mx: 80 File\n",
+    },
+    Failed {
+        name: "turns: the first service's program isn't written over, with outside events",
+        words: &["mx", "turns", "pair", "drv.out", "--events", "outside"],
+        status: 3,
+        told: "mx: 80 File\n",
+    },
+    Failed {
+        name: "turns: a fault of the outside events before a program as LOG",
+        words: &["mx", "turns", "pair", "drv.out", "--events", "not_outside"],
+        status: 1,
+        told: "mx: 73 BadRecord line 2\n",
+    },
+    Failed {
+        name: "step: a service's program isn't written over",
+        words: &["mx", "step", "pair", "kills", "--save", "cli.out"],
+        status: 3,
+        told: "mx: 80 File\n",
+    },
+    Failed {
         name: "replay: the history isn't UTF-8",
         words: &["mx", "replay", "one", "no_text"],
         status: 3,
@@ -930,6 +960,26 @@ static EXPLAINED: &[Failed] = &[
         words: &["mx", "step", "one", "kills", "--explain", "--save", "one"],
         status: 3,
         told: "mx: 80 File\nmx: LOG one: wanted another file than the one that is read\n",
+    },
+    Failed {
+        name: "step: a service's program isn't written over",
+        words: &[
+            "mx", "step", "pair", "kills", "--save", "drv.out", "--explain",
+        ],
+        status: 3,
+        told: "mx: 80 File\nmx: LOG drv.out: wanted another file than a service's program\n",
+    },
+    Failed {
+        name: "run: a service's program isn't written over",
+        words: &["mx", "run", "pair", "cli.out", "--explain"],
+        status: 3,
+        told: "mx: 80 File\nmx: LOG cli.out: wanted another file than a service's program\n",
+    },
+    Failed {
+        name: "turns: a service's program isn't written over",
+        words: &["mx", "turns", "--explain", "pair", "cli.out"],
+        status: 3,
+        told: "mx: 80 File\nmx: LOG cli.out: wanted another file than a service's program\n",
     },
     Failed {
         name: "db: a configuration with a bad line",
