@@ -1,4 +1,4 @@
-use Rattle.std.proofs.Common.{[], ◌∷◌, ◌++◌, inl, inr, subst, ap, sym, ◌∙◌, ◌≡◌, List, ℕ, Bool, true, false, refl}
+use Rattle.std.proofs.Common.{[], ◌∷◌, ◌++◌, inl, inr, subst, ap, sym, ◌∙◌, ◌≡◌, List, ℕ, true, false, refl}
 use Rattle.std.proofs.lemmas.List.{append-nil}
 use Rattle.std.proofs.lemmas.Result.{IfErr-weaker, err_from_is_err_and, on_ok_weaker}
 use Rattle.mx_app_start.specs.Config.{Config}
