@@ -5,7 +5,7 @@ use Rattle.std.specs.Str.{bytes_eq}
 use Rattle.mx_text.specs.Lines.{lines}
 use Rattle.mx_boot.specs.Items.{said_in}
 use Rattle.mx_app_command.specs.declared.words.CommandRequest.{CommandRequest}
-use Rattle.mx_app_command.specs.declared.words.CommandRequest.TheVariants.{Step, Run, Turns}
+use Rattle.mx_app_command.specs.declared.words.CommandRequest.TheVariants.{Step, Run, Turns, Sweep}
 
 -- the words of a line are a service's, whose program is in the file of this name: `service NAME FILE ..`
 abbrev pub is_program_line : List ℕ → List (List ℕ) → Bool
@@ -21,4 +21,5 @@ abbrev pub writes_program : CommandRequest → Option (List ℕ) → Bool
 writes_program (Step config script (Some log) numbered) (Some text) = text_names_program text log.now
 writes_program (Run config log ticks) (Some text) = text_names_program text log.now
 writes_program (Turns config log ticks events bound) (Some text) = text_names_program text log.now
+writes_program (Sweep config log fault bound from to strict (Some file)) (Some text) = text_names_program text file.now
 writes_program r text = false

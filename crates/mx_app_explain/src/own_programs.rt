@@ -38,8 +38,8 @@ fn text_names_program(text: &[u8], name: &str) -> bool
     false
 }
 
-/// Whether the history of a request would be written over a service's program, by the text of its configuration if
-/// that is known.
+/// Whether the history of a request would be written over a service's program, by the text of its
+/// configuration if that is known.
 pub(crate) fn writes_program(request: CommandRequest<'_>, text: Option<&[u8]>) -> bool
     ensures { result ≡ writes_program request.entry (option_map (λ t. t.now) text.entry) }
 {
@@ -54,6 +54,10 @@ pub(crate) fn writes_program(request: CommandRequest<'_>, text: Option<&[u8]>) -
         CommandRequest::Run { log, .. } | CommandRequest::Turns { log, .. } => {
             text_names_program(text, log)
         }
+        CommandRequest::Sweep {
+            save: Some(file),
+            ..
+        } => text_names_program(text, file),
         _ => false,
     }
 }

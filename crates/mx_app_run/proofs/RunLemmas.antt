@@ -1,5 +1,5 @@
 -- From loops to a run, and from its text to its replay.
-use Rattle.std.proofs.Common.{◌≡◌, ◌≢◌, ◌∙◌, ◌+◌, ℕ, suc, List, [], ◌∷◌, ◌++◌, length, Option, Some, None, Result, Ok, Err, All, refl, sym, ap, subst, inl, inr, append_assoc}
+use Rattle.std.proofs.Common.{◌≡◌, ◌≢◌, ◌∙◌, ◌+◌, ℕ, suc, false, List, [], ◌∷◌, ◌++◌, length, Option, Some, None, Result, Ok, Err, All, refl, sym, ap, subst, inl, inr, append_assoc}
 use Rattle.std.specs.Prelude.{IsErrAnd}
 use Rattle.std.specs.Io.KnownBytes.{Appends}
 use Rattle.std.proofs.lemmas.List.{length-replicate}
@@ -18,6 +18,7 @@ use Rattle.mx_cpus.specs.Seats.{SeatView}
 use Rattle.mx_cpus.specs.Boots.{all_seats}
 use Rattle.mx_app_step.specs.Asked.{Asked}
 use Rattle.mx_app_step.specs.ServiceLine.{ServiceLine}
+use Rattle.mx_app_step.specs.Programs.{SparesProgram, names_program}
 use Rattle.mx_app_step.specs.Setup.{AreServicesRead, IsSetup}
 use Rattle.mx_app_failure.specs.declared.failure.Failure.{Failure as Kind}
 use Rattle.mx_app_failure.specs.declared.failure.Failure.TheVariants.{NoMemory}
@@ -72,29 +73,33 @@ module _ (config log : List ℕ) (ticks : ℕ) (qs : List Asked) (Prints : List 
   not_set_up f (Ok u) why h = absurd h
   not_set_up f (Err y) why h = inl (refl, inr (apart, inl (subst (λ z. IsSetupFault config qs z) (sym h) why)))
 
-  pub no_memory : (c : Config) (vs : List Service) (r : Result Ending Kind) → IsSetup config qs c vs → IsErrAnd r (λ y. y ≡ NoMemory) → Runs config log ticks qs [] Prints r
-  no_memory c vs (Ok u) setup h = absurd h
-  no_memory c vs (Err y) setup h = inl (refl, inr (apart, inr (c, vs, setup, h)))
+  -- a program isn't written over
+  pub spared : (c : Config) (vs : List Service) (f : Kind) → IsSetup config qs c vs → SparesProgram c log [] Prints f → Runs config log ticks qs [] Prints (Err f)
+  spared c vs f setup named = inr (inl (c, vs, apart, setup, named))
 
-  module _ (c : Config) (vs : List Service) (k : BootAndHistory) (setup : IsSetup config qs c vs) (run : IsRun c vs ticks k) where
+  pub no_memory : (c : Config) (vs : List Service) (r : Result Ending Kind) → IsSetup config qs c vs → names_program c log ≡ false → IsErrAnd r (λ y. y ≡ NoMemory) → Runs config log ticks qs [] Prints r
+  no_memory c vs (Ok u) setup unnamed h = absurd h
+  no_memory c vs (Err y) setup unnamed h = inl (refl, inr (apart, inr (c, vs, setup, unnamed, h)))
+
+  module _ (c : Config) (vs : List Service) (k : BootAndHistory) (setup : IsSetup config qs c vs) (unnamed : names_program c log ≡ false) (run : IsRun c vs ticks k) where
     by_rules : text_kept k ≡ saved_text c.rules k.history
     by_rules = ap (λ (r : Rules). saved_text r k.history) (ap (λ (w : World). w.table.rules) run.boot ∙ rules_at_boot c vs)
 
     pub unwritten : (ws : List Written) (f : Kind) (r : Result Ending Kind) → IsUnwritten log (text_kept k) ws f → IsErrAnd r (λ y. y ≡ f) → Runs config log ticks qs ws Prints r
     unwritten ws f (Ok u) why h = absurd h
     unwritten ws f (Err y) why h = elim why [
-      | inl none ↦ inl (none.0, inr (apart, inr (c, vs, setup, h ∙ none.1)))
-      | inr file ↦ inr (c, vs, k, apart, setup, run, inl (file.0, file.1 ∙ ap (λ t. unkept log t file.0 ∷ []) by_rules, h ∙ file.2))
+      | inl none ↦ inl (none.0, inr (apart, inr (c, vs, setup, unnamed, h ∙ none.1)))
+      | inr file ↦ inr (inr (c, vs, k, apart, setup, unnamed, run, inl (file.0, file.1 ∙ ap (λ t. unkept log t file.0 ∷ []) by_rules, h ∙ file.2)))
     ]
 
     -- the report isn't printed
     pub untold : (f : Kind) (r : Result Ending Kind) → IsWanting f → IsErrAnd r (λ y. y ≡ f) → Runs config log ticks qs (kept log (text_kept k) ∷ []) Prints r
     untold f (Ok ending) wanting h = absurd h
-    untold f (Err y) wanting h = inr (c, vs, k, apart, setup, run, inr (ap (λ t. kept log t ∷ []) by_rules, subst IsWanting (sym h) wanting))
+    untold f (Err y) wanting h = inr (inr (c, vs, k, apart, setup, unnamed, run, inr (ap (λ t. kept log t ∷ []) by_rules, subst IsWanting (sym h) wanting)))
 
     pub written : (ending : Ending) → Prints (report_text (replay k).table (replay k).services) → ending ≡ run_ending ticks (replay k)
         → Runs config log ticks qs (kept log (text_kept k) ∷ []) Prints (Ok ending)
-    written ending printed is = (c, vs, k, apart, setup, run, ap (λ t. kept log t ∷ []) by_rules, printed, is)
+    written ending printed is = (c, vs, k, apart, setup, unnamed, run, ap (λ t. kept log t ∷ []) by_rules, printed, is)
 
 -- ---- its replay
 

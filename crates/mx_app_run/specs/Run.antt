@@ -1,5 +1,5 @@
 -- Machines whose processors are threads, and what their runs leave (our own).
-use Rattle.std.specs.Prelude.{◌≡◌, ◌⊎◌, ◌≢◌, ◌==◌, ◌&&◌, if◌then◌else◌, ℕ, List, [], ◌∷◌, All, Option, Result, Ok, Err}
+use Rattle.std.specs.Prelude.{◌≡◌, ◌⊎◌, ◌≢◌, ◌==◌, ◌&&◌, if◌then◌else◌, ℕ, false, List, [], ◌∷◌, All, Option, Result, Ok, Err}
 use Rattle.std.specs.Io.KnownBytes.{Appends}
 use Rattle.std.specs.declared.io.ErrorKind.{ErrorKind}
 use Rattle.atomic_table.specs.Seated.{TableId}
@@ -23,6 +23,7 @@ use Rattle.mx_app_failure.specs.declared.failure.Failure.TheVariants.{File, NoMe
 use Rattle.mx_app_failure.specs.Failure.{IsWanting, failure_of_kind}
 use Rattle.mx_app_step.specs.Asked.{Asked}
 use Rattle.mx_app_step.specs.Course.{IsSaved}
+use Rattle.mx_app_step.specs.Programs.{SparesProgram, names_program}
 use Rattle.mx_app_step.specs.Setup.{IsSetup, IsSetupFault}
 use Rattle.mx_app_step.specs.Written.{Written, kept, unkept}
 use Rattle.mx_app_step.specs.Records.{IsReplayPrinted}
@@ -54,7 +55,8 @@ run_ending ticks w = if at_rest w && (w.table.uptime == ticks) then Rest else Fu
 -- or, if there is none, out of memory
 abbrev pub IsNotRun : List ℕ → List ℕ → List Asked → Kind → Type 0
 IsNotRun config log qs f = ((config ≡ log) × (qs ≡ []) × (f ≡ File)) ⊎ ((config ≢ log)
-    × (IsSetupFault config qs f ⊎ ((c : Config) × (vs : List Service) × IsSetup config qs c vs × (f ≡ NoMemory))))
+    × (IsSetupFault config qs f
+    ⊎ ((c : Config) × (vs : List Service) × IsSetup config qs c vs × (names_program c log ≡ false) × (f ≡ NoMemory))))
 
 -- what a run came to: its history's text couldn't be written, or it was, and the report couldn't be printed
 abbrev pub IsRunUntold : List ℕ → List ℕ → List Written → Kind → Type 0
@@ -66,13 +68,16 @@ IsRunUntold log text ws f =
 -- history, and answers how the run ended; or it reports why it didn't
 abbrev pub Runs : List ℕ → List ℕ → ℕ → List Asked → List Written → (List ℕ → Type 0) → Result Ending Kind → Type 0
 Runs config log ticks qs ws Prints (Ok ending) =
-    (c : Config) × (vs : List Service) × (k : BootAndHistory) × (config ≢ log) × IsSetup config qs c vs × IsRun c vs ticks k
+    (c : Config) × (vs : List Service) × (k : BootAndHistory) × (config ≢ log) × IsSetup config qs c vs
+    × (names_program c log ≡ false) × IsRun c vs ticks k
     × (ws ≡ kept log (saved_text c.rules k.history) ∷ []) × Prints (report_text (replay k).table (replay k).services)
     × (ending ≡ run_ending ticks (replay k))
 Runs config log ticks qs ws Prints (Err f) =
     ((ws ≡ []) × IsNotRun config log qs f)
-    ⊎ ((c : Config) × (vs : List Service) × (k : BootAndHistory) × (config ≢ log) × IsSetup config qs c vs × IsRun c vs ticks k
-    × IsRunUntold log (saved_text c.rules k.history) ws f)
+    ⊎ (((c : Config) × (vs : List Service) × (config ≢ log) × IsSetup config qs c vs × SparesProgram c log ws Prints f)
+    ⊎ ((c : Config) × (vs : List Service) × (k : BootAndHistory) × (config ≢ log) × IsSetup config qs c vs
+    × (names_program c log ≡ false) × IsRun c vs ticks k
+    × IsRunUntold log (saved_text c.rules k.history) ws f))
 
 -- ---- its replay
 

@@ -9,7 +9,8 @@ ghost use Rattle.mx_app_run.specs.Run.{EndsDriven, IsRun, Runs, run_ending};
 
 use crate::gate::RunGate;
 use mx_app_step::{
-    Channels, Config, Failure, FileWriter, Reader, print_kernel_report, setup_of, write_history,
+    Channels, Config, Failure, FileWriter, Reader, names_program, print_kernel_report, setup_of,
+    write_history,
 };
 use mx_cpus::{ActorSeat, Blank, Kernel, Naming, Service, Shared, boot, drive};
 use mx_turns::Ending;
@@ -87,7 +88,8 @@ pub struct RunNames<'a> {
 
 /// Runs the machine of a configuration, each processor in a thread of its own, until it is at rest
 /// after all ticks or its history is full, and answers which. Then writes the history to a file, and prints
-/// the report. The configuration isn't written over: if both have one name, nothing is read or written.
+/// the report. The configuration isn't written over: if LOG has its name, nothing is read or written.
+/// Nor is a service's program: if LOG has its name, nothing is run or written.
 pub fn run<
     T: Threads + Wait + Clock + Sync,
     R: Reader + Drop,
@@ -110,6 +112,9 @@ pub fn run<
         return Err(Failure::File);
     }
     let (config, services) = setup_of(alloc, &mut channels.reader, names.config)?;
+    if names_program(&config, names.log) {
+        return Err(Failure::File);
+    }
     let kernel = run_machine(rt, alloc, &config, services, ticks)?;
     let ending = ending_of(&kernel, ticks);
     // If memory runs out for the report, the history is written already.

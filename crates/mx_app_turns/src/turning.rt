@@ -38,8 +38,8 @@ pub struct TurnsWanted {
     pub bound: u32,
 }
 
-/// A machine at boot, the configuration that it booted by, and the outside events of a file. The machine has an actor
-/// that is no processor.
+/// A machine at boot, the configuration that it booted by, and the outside events of a file. The
+/// machine has an actor that is no processor.
 #[derive(Drop)]
 struct Begun {
     config: Config,
@@ -115,8 +115,8 @@ fn writes_over(names: TurnsNames<'_>) -> bool
 /// Makes turns of the machine of a configuration, with the outside events of a file and then ticks to come,
 /// until it is at rest and none is to come, or all turns are made, or its history is full. Then writes the
 /// history to a file, and prints the report. Answers how the turns ended. No file that is read
-/// is written over: if LOG has the name of CONFIG or EVENTS, nothing is read or written, and if it has that of a
-/// service's program, nothing is written.
+/// is written over: if LOG has the name of CONFIG or EVENTS, nothing is read or written. If it has that
+/// of a service's program, no turn is made and nothing is written.
 pub fn turns<R: Reader + Drop, F: FileWriter + Drop, W: Write + Drop>(
     alloc: Global,
     channels: &mut Channels<R, F, W>,

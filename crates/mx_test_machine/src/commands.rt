@@ -504,6 +504,20 @@ static FAILED: &[Failed] = &[
         told: "mx: 80 File\n",
     },
     Failed {
+        name: "sweep: a service's program isn't written over",
+        words: &[
+            "mx",
+            "sweep",
+            "pair",
+            "pair_log",
+            "kill_driver",
+            "--save",
+            "cli.out",
+        ],
+        status: 3,
+        told: "mx: 80 File\n",
+    },
+    Failed {
         name: "sweep: a line that is no line of a fault",
         words: &["mx", "sweep", "pair", "pair_log", "no_fault"],
         status: 1,
@@ -964,7 +978,13 @@ static EXPLAINED: &[Failed] = &[
     Failed {
         name: "step: a service's program isn't written over",
         words: &[
-            "mx", "step", "pair", "kills", "--save", "drv.out", "--explain",
+            "mx",
+            "step",
+            "pair",
+            "kills",
+            "--save",
+            "drv.out",
+            "--explain",
         ],
         status: 3,
         told: "mx: 80 File\nmx: LOG drv.out: wanted another file than a service's program\n",
@@ -980,6 +1000,20 @@ static EXPLAINED: &[Failed] = &[
         words: &["mx", "turns", "--explain", "pair", "cli.out"],
         status: 3,
         told: "mx: 80 File\nmx: LOG cli.out: wanted another file than a service's program\n",
+    },
+    Failed {
+        name: "sweep: a service's program isn't written over",
+        words: &[
+            "mx",
+            "sweep",
+            "pair",
+            "pair_log",
+            "kill_driver",
+            "--save=drv.out",
+            "--explain",
+        ],
+        status: 3,
+        told: "mx: 80 File\nmx: FILE drv.out: wanted another file than a service's program\n",
     },
     Failed {
         name: "db: a configuration with a bad line",

@@ -4,8 +4,10 @@ use Rattle.std.specs.Str.{bytes_eq}
 use Rattle.std.proofs.lemmas.List.{append-nil}
 use Rattle.std.proofs.lemmas.Slice.Eq.{bytes_eq-Decides}
 use Rattle.mx_app_step.specs.Kept.{text_kept}
+use Rattle.mx_app_start.proofs.Appended.{appends_nothing}
+use Rattle.mx_app_step.specs.Programs.{names_program}
 use Rattle.mx_app_step.specs.Written.{kept}
-use Rattle.mx_app_run.proofs.RunLemmas.{as_many_services, no_memory, not_set_up, untold, unwritten, written}
+use Rattle.mx_app_run.proofs.RunLemmas.{as_many_services, no_memory, not_set_up, spared, untold, unwritten, written}
 use Rattle.mx_app_run.proofs.running.run.Goals as goal
 
 pub returns-then-eq : goal.returns-then-eq
@@ -30,31 +32,42 @@ run_machine-requires-clause-few g c κs within =
     let s = c.in_ok-config.ensures.read in
     omega (arith, as_many_services c.args.names.config.now s.0 c.in_ok-config.config c.in_ok-config.services.items s.2, c.in_ok-config.config.lines_fit)
 
+pub returns-then-names_program : goal.returns-then-names_program
+returns-then-names_program g c =
+    let apart : bytes_eq c.args.names.config.now c.args.names.log.now ≡ false = search rules in
+    let other : c.args.names.config.now ≢ c.args.names.log.now = λ e. true≢false (sym ((bytes_eq-Decides c.args.names.config.now c.args.names.log.now).1 e) ∙ apart) in
+    let named : names_program c.in_ok-config.config c.args.names.log.now ≡ true = sym c.names_program.ensures ∙ c.if-names_program.true in
+    let s = c.in_ok-config.ensures.read in
+    (s.0, [], s.1, sym (append-nil _), spared c.args.names.config.now c.args.names.log.now c.args.ticks s.0 (λ (text : List ℕ). Appends (g.W.Write.contents c.args.channels.now.out) (g.W.Write.contents c.args.channels.now.out) text) other c.in_ok-config.config c.in_ok-config.services.items _ s.2 (named, refl, appends_nothing _, refl))
+
 pub returns-in_err-kernel : goal.returns-in_err-kernel
 returns-in_err-kernel g c =
     let apart : bytes_eq c.args.names.config.now c.args.names.log.now ≡ false = search rules in
     let other : c.args.names.config.now ≢ c.args.names.log.now = λ e. true≢false (sym ((bytes_eq-Decides c.args.names.config.now c.args.names.log.now).1 e) ∙ apart) in
+    let unnamed : names_program c.in_ok-config.config c.args.names.log.now ≡ false = sym c.names_program.ensures ∙ c.if-names_program.false in
     let s = c.in_ok-config.ensures.read in
-    (s.0, [], s.1, sym (append-nil _), no_memory c.args.names.config.now c.args.names.log.now c.args.ticks s.0 (λ (text : List ℕ). Appends (g.W.Write.contents c.args.channels.now.out) (g.W.Write.contents c.args.channels.now.out) text) other c.in_ok-config.config c.in_ok-config.services.items c.from_residual-in_err-kernel.result s.2 c.from_residual-in_err-kernel.ensures.1)
+    (s.0, [], s.1, sym (append-nil _), no_memory c.args.names.config.now c.args.names.log.now c.args.ticks s.0 (λ (text : List ℕ). Appends (g.W.Write.contents c.args.channels.now.out) (g.W.Write.contents c.args.channels.now.out) text) other c.in_ok-config.config c.in_ok-config.services.items c.from_residual-in_err-kernel.result s.2 unnamed c.from_residual-in_err-kernel.ensures.1)
 
 pub returns-in_err-write_history : goal.returns-in_err-write_history
 returns-in_err-write_history g c =
     let apart : bytes_eq c.args.names.config.now c.args.names.log.now ≡ false = search rules in
     let other : c.args.names.config.now ≢ c.args.names.log.now = λ e. true≢false (sym ((bytes_eq-Decides c.args.names.config.now c.args.names.log.now).1 e) ∙ apart) in
+    let unnamed : names_program c.in_ok-config.config c.args.names.log.now ≡ false = sym c.names_program.ensures ∙ c.if-names_program.false in
     let s = c.in_ok-config.ensures.read in
     let h = c.in_err-write_history.ensures.unwritten in
-    (s.0, h.0, s.1, h.1, unwritten c.args.names.config.now c.args.names.log.now c.args.ticks s.0 (λ (text : List ℕ). Appends (g.W.Write.contents c.args.channels.now.out) (g.W.Write.contents c.args.channels.now.out) text) other c.in_ok-config.config c.in_ok-config.services.items c.in_ok-kernel.kernel s.2 c.in_ok-kernel.ensures h.0 c.in_err-write_history.field-0.0 c.from_residual-in_err-write_history.result h.2 c.from_residual-in_err-write_history.ensures.1)
+    (s.0, h.0, s.1, h.1, unwritten c.args.names.config.now c.args.names.log.now c.args.ticks s.0 (λ (text : List ℕ). Appends (g.W.Write.contents c.args.channels.now.out) (g.W.Write.contents c.args.channels.now.out) text) other c.in_ok-config.config c.in_ok-config.services.items c.in_ok-kernel.kernel s.2 unnamed c.in_ok-kernel.ensures h.0 c.in_err-write_history.field-0.0 c.from_residual-in_err-write_history.result h.2 c.from_residual-in_err-write_history.ensures.1)
 
 pub returns-in_err-print_kernel_report : goal.returns-in_err-print_kernel_report
 returns-in_err-print_kernel_report g c =
     let apart : bytes_eq c.args.names.config.now c.args.names.log.now ≡ false = search rules in
     let other : c.args.names.config.now ≢ c.args.names.log.now = λ e. true≢false (sym ((bytes_eq-Decides c.args.names.config.now c.args.names.log.now).1 e) ∙ apart) in
+    let unnamed : names_program c.in_ok-config.config c.args.names.log.now ≡ false = sym c.names_program.ensures ∙ c.if-names_program.false in
     let s = c.in_ok-config.ensures.read in (
       s.0,
       kept c.args.names.log.now (text_kept c.in_ok-kernel.kernel) ∷ [],
       s.1,
       c.in_ok-write_history.ensures.written,
-      untold c.args.names.config.now c.args.names.log.now c.args.ticks s.0 (λ (text : List ℕ). Appends (g.W.Write.contents c.args.channels.now.out) (g.W.Write.contents c.print_kernel_report.new.out) text) other c.in_ok-config.config c.in_ok-config.services.items c.in_ok-kernel.kernel s.2 c.in_ok-kernel.ensures
+      untold c.args.names.config.now c.args.names.log.now c.args.ticks s.0 (λ (text : List ℕ). Appends (g.W.Write.contents c.args.channels.now.out) (g.W.Write.contents c.print_kernel_report.new.out) text) other c.in_ok-config.config c.in_ok-config.services.items c.in_ok-kernel.kernel s.2 unnamed c.in_ok-kernel.ensures
           c.in_err-print_kernel_report.field-0.0 c.from_residual-in_err-print_kernel_report.result c.in_err-print_kernel_report.ensures.err c.from_residual-in_err-print_kernel_report.ensures.1,
     )
 
@@ -62,11 +75,12 @@ pub returns : goal.returns
 returns g c =
     let apart : bytes_eq c.args.names.config.now c.args.names.log.now ≡ false = search rules in
     let other : c.args.names.config.now ≢ c.args.names.log.now = λ e. true≢false (sym ((bytes_eq-Decides c.args.names.config.now c.args.names.log.now).1 e) ∙ apart) in
+    let unnamed : names_program c.in_ok-config.config c.args.names.log.now ≡ false = sym c.names_program.ensures ∙ c.if-names_program.false in
     let s = c.in_ok-config.ensures.read in (
       s.0,
       kept c.args.names.log.now (text_kept c.in_ok-kernel.kernel) ∷ [],
       s.1,
       c.in_ok-write_history.ensures.written,
-      written c.args.names.config.now c.args.names.log.now c.args.ticks s.0 (λ (text : List ℕ). Appends (g.W.Write.contents c.args.channels.now.out) (g.W.Write.contents c.print_kernel_report.new.out) text) other c.in_ok-config.config c.in_ok-config.services.items c.in_ok-kernel.kernel s.2 c.in_ok-kernel.ensures
+      written c.args.names.config.now c.args.names.log.now c.args.ticks s.0 (λ (text : List ℕ). Appends (g.W.Write.contents c.args.channels.now.out) (g.W.Write.contents c.print_kernel_report.new.out) text) other c.in_ok-config.config c.in_ok-config.services.items c.in_ok-kernel.kernel s.2 unnamed c.in_ok-kernel.ensures
           c.ending_of-ending.result c.in_ok-print_kernel_report.ensures.bytes c.ending_of-ending.ensures,
     )
