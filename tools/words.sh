@@ -33,17 +33,17 @@ refuse_own_text() {
     exit 3
 }
 
-# Prints the files that a `step`, `run` or `turns` of this configuration reads, one a line: CONFIG [FILE ..].
+# Prints the files that a command on this configuration's machine reads, one a line: CONFIG [FILE ..].
 files_read() {
     printf '%s\n' "$@"
     [ ! -f "$1" ] || awk '{ sub(/#.*/, "") } $1 == "service" { print $3 }' "$1"
 }
 
-# Ends with status 3 if these words are those of a `step`, `run` or `turns` that would write its history over a file
-# that it reads, also by another name of the same file.
+# Ends with status 3 if these words are those of a `step`, `run`, `turns` or `sweep` that would write a history over a
+# file that it reads, also by another name of the same file.
 refuse_own_files() {
-    case ${1-} in step | run | turns) ;; *) return 0 ;; esac
-    command=$1 config='' second='' save='' events='' explains='' option=''
+    case ${1-} in step | run | turns | sweep) ;; *) return 0 ;; esac
+    command=$1 config='' second='' third='' label=LOG save='' events='' explains='' option=''
     shift
     for word in "$@"; do
         case $option in
@@ -53,6 +53,7 @@ refuse_own_files() {
         esac
         case $word in
             --explain) explains=yes ;;
+            --numbered | --no-explain | --strict) ;;
             --save=*) save=${word#*=} ;;
             --events=*) events=${word#*=} ;;
             --*=*) ;;
@@ -60,18 +61,22 @@ refuse_own_files() {
             *)
                 if [ -z "$config" ]; then config=$word
                 elif [ -z "$second" ]; then second=$word
+                elif [ "$command" = sweep ] && [ -z "$third" ]; then third=$word
                 else return 0; fi ;;
         esac
     done
     written=$save read=$second
-    [ "$command" = step ] || { written=$second read=$events; }
+    case $command in
+        run | turns) written=$second read=$events ;;
+        sweep) label=FILE ;;
+    esac
     { [ -n "$written" ] && [ -e "$written" ] && [ -n "$config" ]; } || return 0
     while read -r file; do
         [ "$file" -ef "$written" ] || continue
         echo "mx: 80 File" >&2
-        [ -z "$explains" ] || echo "mx: LOG $written: wanted another file than the one that is read" >&2
+        [ -z "$explains" ] || echo "mx: $label $written: wanted another file than the one that is read" >&2
         exit 3
     done <<END
-$(files_read "$config" "$read")
+$(files_read "$config" "$read" "$third")
 END
 }
