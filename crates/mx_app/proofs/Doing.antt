@@ -14,6 +14,8 @@ use Rattle.mx_machine.specs.declared.history.Record.{Record}
 use Rattle.mx_app_db.specs.Asked.{Asked}
 use Rattle.mx_app_db.specs.Written.{Written, kept}
 use Rattle.mx_app_start.specs.declared.progress.Part.{Part}
+use Rattle.mx_app_start.specs.Programs.{SparesProgram, names_program}
+use Rattle.mx_app_start.proofs.Appended.{appends_nothing}
 use Rattle.mx_app_db.specs.Text.{saved_text}
 use Rattle.mx_app_db.specs.Config.{Config}
 use Rattle.mx_app_db.specs.Service.{Service}
@@ -41,11 +43,6 @@ use Rattle.mx_app.specs.Explained.{ExplainsConfig}
 use Rattle.mx_app.specs.Named.{Assembles, ShowsFile}
 use Rattle.mx_app.specs.declared.performing.Done.{Done}
 use Rattle.mx_app.specs.Requests.{Debugs, Draws, Explains, Looks, Performs, PerformsUntyped, Replays, SavesApart, Shows, Steps, Traces, saves_over, done_after_replay, done_after_sweep, done_after_turns, done_after_work}
-
--- nothing is printed where a writer wasn't touched
-pub appends_nothing : (known : Option (List ℕ)) → Appends known known []
-appends_nothing None = tt
-appends_nothing (Some bytes) = sym (append-nil bytes)
 
 -- what a request asked for and wrote, and what is done of it
 abbrev pub Does : List Asked → List Asked → List Written → List Written → (List Asked → List Written → Type 0) → Type 0
@@ -123,16 +120,17 @@ swept {given} asked now files written shown later config log fault save from to 
 pub saves : (asked now : List Asked) (files written : List Written) (config script log : List ℕ) (numbered : Bool) (x y : Option (List ℕ)) (d : Result (Unit {0}) Kind)
     → saves_over config script log ≡ false
     → OnOk d ((qs : List Asked) × (c : Config) × (vs : List Service) × (said : List ScriptLine)
-    × (now ≡ asked ++ qs) × IsStart IsScript config script qs c vs said
+    × (now ≡ asked ++ qs) × IsStart IsScript config script qs c vs said × (names_program c log ≡ false)
     × (written ≡ files ++ kept log (saved_text c.rules (history_made (world_at_boot c vs) c.cpus said)) ∷ [])
     × (let m = lines_made (world_at_boot c vs) c.cpus said in Appends x y (answers_text numbered m.0 ++ report_text m.1.table m.1.services)))
     → IfErr d (λ f. (qs : List Asked) × (ws : List Written) × (now ≡ asked ++ qs) × (written ≡ files ++ ws)
     × (((ws ≡ []) × IsNotStarted IsScript TellsScript config script qs f)
     ⊎ ((c : Config) × (vs : List Service) × (said : List ScriptLine) × IsStart IsScript config script qs c vs said
-    × IsUnsaved log (saved_text c.rules (history_made (world_at_boot c vs) c.cpus said)) ws f)))
+    × (SparesProgram c log ws (λ text. Appends x y text) f
+    ⊎ ((names_program c log ≡ false) × IsUnsaved log (saved_text c.rules (history_made (world_at_boot c vs) c.cpus said)) ws f)))))
     → Does asked now files written (λ qs ws. SavesApart config script log numbered qs ws (λ text. Appends x y text) d)
 saves asked now files written config script log numbered x y (Ok u) apart p f =
-    (p.0, kept log (saved_text p.1.rules (history_made (world_at_boot p.1 p.2) p.1.cpus p.3)) ∷ [], p.4, p.6, inr (apart, (p.1, p.2, p.3, p.5, refl, p.7)))
+    (p.0, kept log (saved_text p.1.rules (history_made (world_at_boot p.1 p.2) p.1.cpus p.3)) ∷ [], p.4, p.7, inr (apart, (p.1, p.2, p.3, p.5, p.6, refl, p.8)))
 saves asked now files written config script log numbered x y (Err why) apart p f = (f.0, f.1, f.2, f.3, inr (apart, f.4))
 
 pub saved : (asked now : List Asked) (files written : List Written) (config script log : List ℕ) (numbered : Bool) (x y : Option (List ℕ)) (d : Result (Unit {0}) Kind) (r : Result Done Kind)

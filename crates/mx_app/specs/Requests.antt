@@ -19,6 +19,7 @@ use Rattle.mx_app_db.specs.Text.{saved_text}
 use Rattle.mx_app_db.specs.Config.{Config}
 use Rattle.mx_app_db.specs.Service.{Service}
 use Rattle.mx_app_db.specs.Report.{report_text}
+use Rattle.mx_app_start.specs.Programs.{SparesProgram, names_program}
 use Rattle.mx_app_db.specs.Course.{IsDebugScript, IsSaved, IsScript, TellsDebugScript, TellsSaved, TellsScript}
 use Rattle.mx_app_db.specs.Setup.{IsNotStarted, IsStart}
 use Rattle.mx_app_db.specs.Telling.{IsTold, IsUnsaved}
@@ -81,16 +82,18 @@ Steps config script numbered qs Prints (Ok u) =
     × (let m = lines_made (world_at_boot c vs) c.cpus said in Prints (answers_text numbered m.0 ++ report_text m.1.table m.1.services))
 Steps config script numbered qs Prints (Err f) = IsTold IsScript TellsScript config script qs f
 
--- the same, with the file of the script's history, which is written before the report is printed
+-- the same, with the file of the script's history, which is written before the report is printed; a service's program
+-- isn't written over
 abbrev pub SavesSteps : List ℕ → List ℕ → List ℕ → Bool → List Asked → List Written → (List ℕ → Type 0) → Result (Unit {0}) Kind → Type 0
 SavesSteps config script log numbered qs ws Prints (Ok u) =
     (c : Config) × (vs : List Service) × (said : List ScriptLine) × IsStart IsScript config script qs c vs said
-    × (ws ≡ kept log (saved_text c.rules (history_made (world_at_boot c vs) c.cpus said)) ∷ [])
+    × (names_program c log ≡ false) × (ws ≡ kept log (saved_text c.rules (history_made (world_at_boot c vs) c.cpus said)) ∷ [])
     × (let m = lines_made (world_at_boot c vs) c.cpus said in Prints (answers_text numbered m.0 ++ report_text m.1.table m.1.services))
 SavesSteps config script log numbered qs ws Prints (Err f) =
     ((ws ≡ []) × IsNotStarted IsScript TellsScript config script qs f)
     ⊎ ((c : Config) × (vs : List Service) × (said : List ScriptLine) × IsStart IsScript config script qs c vs said
-    × IsUnsaved log (saved_text c.rules (history_made (world_at_boot c vs) c.cpus said)) ws f)
+    × (SparesProgram c log ws Prints f
+    ⊎ ((names_program c log ≡ false) × IsUnsaved log (saved_text c.rules (history_made (world_at_boot c vs) c.cpus said)) ws f)))
 
 -- a text that is read would be written over
 abbrev pub saves_over : List ℕ → List ℕ → List ℕ → Bool

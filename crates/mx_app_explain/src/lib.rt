@@ -17,6 +17,7 @@ mod detail;
 mod explaining;
 mod found_word;
 mod items;
+mod own_programs;
 mod services;
 mod subject;
 mod sums;

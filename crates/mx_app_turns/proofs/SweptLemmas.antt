@@ -12,6 +12,7 @@ use Rattle.mx_machine.specs.World.{World}
 use Rattle.mx_machine.specs.History.{AreAccepted, BootAndHistory, events_of_history}
 use Rattle.mx_app_start.specs.declared.progress.Part.{Part}
 use Rattle.mx_app_failure.specs.declared.failure.Failure.{Failure as Kind}
+use Rattle.mx_app_failure.specs.declared.failure.Failure.TheVariants.{File}
 use Rattle.mx_app_failure.specs.Failure.{IsWanting}
 use Rattle.mx_app_step.specs.Asked.{Asked}
 use Rattle.mx_app_step.specs.Config.{Config}
@@ -24,7 +25,7 @@ use Rattle.mx_app_turns.specs.Sweep.{block_text, blocks, count_of, total_text}
 use Rattle.mx_app_turns.specs.declared.sweeping.Swept.{Swept}
 use Rattle.mx_app_turns.specs.declared.sweeping.Swept.TheVariants.{Alike, Differs, Refused}
 use Rattle.mx_app_turns.specs.Begun.{IsDone}
-use Rattle.mx_app_turns.specs.Sweeping.{IsBegun, IsNotBegun, IsShown, IsSweptThrough, IsUnsaved, SweepOf, Sweeps, alike_in, ended, is_alike_at, last_text, of, parts_shown, positions_in, run_at, saved_if, sweep_text, text_at, writes_over}
+use Rattle.mx_app_turns.specs.Sweeping.{IsBegun, IsNotBegun, IsShown, IsSweptThrough, IsUnsaved, SweepOf, Sweeps, alike_in, ended, is_alike_at, last_text, of, parts_shown, positions_in, run_at, saved_if, saves_program, sweep_text, text_at, writes_over}
 
 -- ---- how it ended
 
@@ -137,10 +138,14 @@ module _ (config log fault : List ℕ) (save : Option (List ℕ)) (from to n : �
   not_begun f (Ok how) why h = absurd h
   not_begun f (Err y) why h = inr (inl (apart, refl, refl, subst (λ z. IsNotBegun config log fault qs z) (sym h) why))
 
-  module _ (c : Config) (vs : List Service) (records : List Record) (said : List FaultLine) (begun : IsBegun config log fault qs c vs records said) (ws : List Written) (ps : List Part) where
+  -- a program isn't written over
+  pub spared : (c : Config) (vs : List Service) (records : List Record) (said : List FaultLine) → IsBegun config log fault qs c vs records said → saves_program c save ≡ true → Prints [] → Sweeps config log fault save from to n qs [] [] Prints (Err File)
+  spared c vs records said begun named printed = inr (inr (inl (c, vs, records, said, apart, begun, named, refl, refl, printed, refl)))
+
+  module _ (c : Config) (vs : List Service) (records : List Record) (said : List FaultLine) (begun : IsBegun config log fault qs c vs records said) (unnamed : saves_program c save ≡ false) (ws : List Written) (ps : List Part) where
     by_result : (r : Result Swept Kind) → IsDone (of c vs records said n) from to save ws ps Prints r → Sweeps config log fault save from to n qs ws ps Prints r
-    by_result (Ok how) h = (c, vs, records, said, apart, begun, h)
-    by_result (Err f) h = inr (inr (c, vs, records, said, apart, begun, h))
+    by_result (Ok how) h = (c, vs, records, said, apart, begun, unnamed, h)
+    by_result (Err f) h = inr (inr (inr (c, vs, records, said, apart, begun, unnamed, h)))
 
     pub done : (boot : World) (other : ℕ) (r : Result Swept Kind) → boot ≡ world_at_boot c vs → other ≡ c.cpus
         → IsDone (record { boot = boot; other = other; records = records; fault = said; bound = n }) from to save ws ps Prints r → Sweeps config log fault save from to n qs ws ps Prints r

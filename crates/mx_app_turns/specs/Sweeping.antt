@@ -17,6 +17,7 @@ use Rattle.mx_app_step.specs.Config.{Config}
 use Rattle.mx_app_step.specs.Service.{Service}
 use Rattle.mx_app_step.specs.Course.{IsSaved, TellsSaved}
 use Rattle.mx_app_step.specs.Kept.{IsUnwritten, text_kept}
+use Rattle.mx_app_step.specs.Programs.{names_program}
 use Rattle.mx_app_step.specs.Records.{IsReplayPrinted}
 use Rattle.mx_app_step.specs.Setup.{IsNoTextGiven, IsNotStarted, IsStart, IsTextFaulty, IsTextGiven}
 use Rattle.mx_app_step.specs.Written.{Written, kept}
@@ -48,6 +49,11 @@ IsNotBegun config log fault qs f =
 abbrev pub writes_over : List ℕ → List ℕ → List ℕ → Option (List ℕ) → Bool
 writes_over config log fault None = false
 writes_over config log fault (Some save) = bytes_eq config save || (bytes_eq log save || bytes_eq fault save)
+
+-- the program of a service would be written over
+abbrev pub saves_program : Config → Option (List ℕ) → Bool
+saves_program c None = false
+saves_program c (Some save) = names_program c save
 
 -- ---- what is swept
 
@@ -131,9 +137,12 @@ of c vs records said n = record { boot = world_at_boot c vs; other = c.cpus; rec
 abbrev pub Sweeps : List ℕ → List ℕ → List ℕ → Option (List ℕ) → ℕ → ℕ → ℕ → List Asked → List Written → List Part → (List ℕ → Type 0) → Result Swept Kind → Type 0
 Sweeps config log fault save from to n qs ws ps Prints (Ok how) =
     (c : Config) × (vs : List Service) × (records : List Record) × (said : List FaultLine) × (writes_over config log fault save ≡ false)
-    × IsBegun config log fault qs c vs records said × IsSweptThrough (of c vs records said n) from to save ws ps Prints how
+    × IsBegun config log fault qs c vs records said × (saves_program c save ≡ false)
+    × IsSweptThrough (of c vs records said n) from to save ws ps Prints how
 Sweeps config log fault save from to n qs ws ps Prints (Err f) =
     ((writes_over config log fault save ≡ true) × (qs ≡ []) × (ws ≡ []) × (ps ≡ []) × (f ≡ File))
     ⊎ (((writes_over config log fault save ≡ false) × (ws ≡ []) × (ps ≡ []) × IsNotBegun config log fault qs f)
+    ⊎ (((c : Config) × (vs : List Service) × (records : List Record) × (said : List FaultLine) × (writes_over config log fault save ≡ false)
+    × IsBegun config log fault qs c vs records said × (saves_program c save ≡ true) × (ws ≡ []) × (ps ≡ []) × Prints [] × (f ≡ File))
     ⊎ ((c : Config) × (vs : List Service) × (records : List Record) × (said : List FaultLine) × (writes_over config log fault save ≡ false)
-    × IsBegun config log fault qs c vs records said × IsUntold (of c vs records said n) from to save ws ps f))
+    × IsBegun config log fault qs c vs records said × (saves_program c save ≡ false) × IsUntold (of c vs records said n) from to save ws ps f)))
