@@ -36,7 +36,6 @@ pub struct Walker {
 }
 
 impl Model for Walker {
-    ghost use Rattle.std.specs.Prelude.{◌×◌};
     ghost use Rattle.mx_walk.specs.Checkpoints.{AreStored};
     ghost use Rattle.mx_walk.specs.Walks.{IsWalk, Walk};
 
