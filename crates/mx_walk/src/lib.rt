@@ -24,8 +24,10 @@ pub use laws::{
     searches_name_one,
 };
 pub use positions::{
-    FIRST, NextEvent, Position, is_position, is_up_to, next_event, position_before, steps_in,
+    FIRST, NextEvent, Position, is_position, is_up_to, next_event, own_event, position_before,
+    steps_in,
 };
+pub use records::{Halted, finish_record, make_event, make_steps};
 pub use seeking::{Mark, Sought, seek, seek_last};
 pub use several::Several;
 pub use stopping::{CodePlace, Coming, Leaving};
