@@ -205,7 +205,7 @@ pub(crate) fn first_walk(
     } else {
         most_of(checkpoint_bytes(machine))
     };
-    let distance = total / (most as u64 + 1) + 1;
+    let distance = (total / (most as u64 + 1)).saturating_add(1);
     let (at, checkpoints) = walk_storing(alloc, machine, records, most, distance);
     let end = Position {
         records: records.len(),

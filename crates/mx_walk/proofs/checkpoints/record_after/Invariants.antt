@@ -7,5 +7,5 @@ invariant-loop-at l = record {
   inside : l.at ≤ length l.records;
 }
 
-abbrev pub measure-loop-at : goal.measure-loop-at
-measure-loop-at l = length l.records - l.at
+abbrev pub decreases-loop-at : goal.decreases-loop-at
+decreases-loop-at l = length l.records - l.at
