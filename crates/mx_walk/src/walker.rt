@@ -6,6 +6,7 @@ ghost use Rattle.mx_machine.specs.declared.history.Record.{Record as Noted};
 ghost use Rattle.mx_machine.specs.Move.{event_refusal};
 ghost use Rattle.mx_machine.specs.World.{actors};
 ghost use Rattle.mx_machine.specs.Machine.{world_of};
+ghost use Rattle.mx_walk.specs.Checkpoints.{AreStored};
 ghost use Rattle.mx_walk.specs.Positions.{IsAbove, IsAt, IsPosition, IsUpTo, event_below, position_before};
 ghost use Rattle.mx_walk.specs.Seeking.{IsFirstMarked, IsLastMarked, IsPassed};
 ghost use Rattle.mx_walk.specs.Watching.{is_changed};
