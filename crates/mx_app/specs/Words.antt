@@ -18,7 +18,7 @@ use Rattle.mx_app_failure.specs.declared.failure.Failure.TheVariants.{NotText, N
 use Rattle.mx_app_failure.specs.Failure.{IsWanting}
 use Rattle.mx_app_db.specs.Asked.{Asked}
 use Rattle.mx_app_db.specs.Written.{Written}
-use Rattle.mx_app_start.specs.declared.progress.Part.{Part}
+use Rattle.mx_walk.specs.declared.progress.Part.{Part}
 use Rattle.mx_app.specs.Noting.{Noted}
 use Rattle.mx_app.specs.Requests.{with_status}
 use Rattle.mx_app.specs.Summing.{PerformsLine, line_failure_line, line_failure_status}

@@ -1,16 +1,16 @@
 -- What is done of a history.
-use Rattle.std.proofs.Common.{◌≡◌, ◌∙◌, ◌<◌, ◌≤◌, ◌+◌, ◌-◌, ◌==◌, ℕ, zero, suc, Bool, true, false, cond, nat_eq, List, [], ◌∷◌, ◌++◌, length, min, Option, Some, None, Result, Ok, Err, inl, inr, refl, ap, ap₂, append_assoc, arith, subst, sym}
+use Rattle.std.proofs.Common.{◌≡◌, ◌∙◌, ◌<◌, ◌≤◌, ◌+◌, ◌-◌, ◌==◌, ℕ, zero, suc, Bool, true, false, cond, nat_eq, List, [], ◌∷◌, ◌++◌, length, min, Option, Some, None, Result, Ok, Err, inl, inr, refl, ap, ap₂, arith, subst, sym}
 use Rattle.std.proofs.KnownBytes.{Appends-trans}
 use Rattle.std.specs.Io.KnownBytes.{Appends}
 use Rattle.std.proofs.lemmas.List.{append-nil}
-use Rattle.std.proofs.lemmas.List.FromFn.{map-range_with_len_more}
 use Rattle.std.specs.List.{flat_map}
 use Rattle.std.specs.Prelude.{IsErrAnd}
 use Rattle.mx_machine.specs.Boot.{world_at_boot}
 use Rattle.mx_machine.specs.declared.history.Record.{Record}
 use Rattle.mx_machine.specs.World.{World}
 use Rattle.mx_machine.specs.History.{AreAccepted, BootAndHistory, events_of_history}
-use Rattle.mx_app_start.specs.declared.progress.Part.{Part}
+use Rattle.mx_walk.specs.declared.progress.Part.{Part}
+use Rattle.mx_walk.specs.Parts.{parts_shown}
 use Rattle.mx_app_failure.specs.declared.failure.Failure.{Failure as Kind}
 use Rattle.mx_app_failure.specs.declared.failure.Failure.TheVariants.{File}
 use Rattle.mx_app_failure.specs.Failure.{IsWanting}
@@ -25,7 +25,7 @@ use Rattle.mx_app_turns.specs.Sweep.{block_text, blocks, count_of, total_text}
 use Rattle.mx_app_turns.specs.declared.sweeping.Swept.{Swept}
 use Rattle.mx_app_turns.specs.declared.sweeping.Swept.TheVariants.{Alike, Differs, Refused}
 use Rattle.mx_app_turns.specs.Begun.{IsDone}
-use Rattle.mx_app_turns.specs.Sweeping.{IsBegun, IsNotBegun, IsShown, IsSweptThrough, IsUnsaved, SweepOf, Sweeps, alike_in, ended, is_alike_at, last_text, of, parts_shown, positions_in, run_at, saved_if, saves_program, sweep_text, text_at, writes_over}
+use Rattle.mx_app_turns.specs.Sweeping.{IsBegun, IsNotBegun, IsShown, IsSweptThrough, IsUnsaved, SweepOf, Sweeps, alike_in, ended, is_alike_at, last_text, of, positions_in, run_at, saved_if, saves_program, sweep_text, text_at, writes_over}
 
 -- ---- how it ended
 
@@ -91,18 +91,6 @@ module _ (t s : SweepOf) (same : t ≡ s) (from to first end records : ℕ) (at 
 -- how many positions a range has
 pub positions_are : (s : SweepOf) (from to first end records : ℕ) → first ≡ from → records ≡ length s.records → end ≡ min to records + 1 → end - first ≡ positions_in s from to
 positions_are s from to first end records at many by = ap (λ f. end - f) at ∙ ap (λ n. n - from) by ∙ ap (λ n. min to n + 1 - from) many
-
--- one part more is shown
-pub part_more : (all n : ℕ) → parts_shown all (n + 1) ≡ parts_shown all n ++ record { done = n + 1; all = all } ∷ []
-part_more all n = let z : 0 + n ≡ n = omega arith in map-range_with_len_more (λ i. let x : Part = record { done = i + 1; all = all } in x) 0 n n z
-
-pub part_after : (all m n k : ℕ) (before now then : List Part) (x : Part) → n ≡ m + 1 → k ≡ n → x ≡ record { done = k; all = all } → now ≡ before ++ parts_shown all m → then ≡ now ++ x ∷ [] → then ≡ before ++ parts_shown all n
-part_after all m n k before now then x next same is shown more =
-    let part : x ≡ record { done = m + 1; all = all } = is ∙ ap (λ i. let y : Part = record { done = i; all = all } in y) (same ∙ next) in
-    more ∙ ap (λ (l : List Part). l ++ x ∷ []) shown ∙ append_assoc before (parts_shown all m) (x ∷ [])
-    ∙ ap (λ (y : Part). before ++ (parts_shown all m ++ y ∷ [])) part
-    ∙ ap (λ (l : List Part). before ++ l) (sym (part_more all m))
-    ∙ ap (λ i. before ++ parts_shown all i) (sym next)
 
 -- what was shown if a sweep failed
 pub shown_failed : {X : Type 0} (before after : List Part) (all n : ℕ) (f : Kind) (r : Result X Kind) → IsErrAnd r (λ y. y ≡ f) → n ≤ all → after ≡ before ++ parts_shown all n → IsShown before after all r

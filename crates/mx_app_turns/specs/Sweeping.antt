@@ -1,5 +1,5 @@
 -- What `mx sweep` reads, prints and writes (our own).
-use Rattle.std.specs.Prelude.{◌≡◌, ◌≤◌, ◌⊎◌, ◌||◌, ◌+◌, ◌-◌, ◌==◌, if◌then◌else◌, ℕ, Bool, true, false, List, [], ◌∷◌, ◌++◌, length, map, min, Option, Some, None, Result, Ok, Err}
+use Rattle.std.specs.Prelude.{◌≡◌, ◌≤◌, ◌⊎◌, ◌||◌, ◌+◌, ◌-◌, ◌==◌, if◌then◌else◌, ℕ, Bool, true, false, List, [], ◌∷◌, ◌++◌, length, min, Option, Some, None, Result, Ok, Err}
 use Rattle.std.specs.Str.{bytes_eq}
 use Rattle.mx_text.specs.Lines.{lines}
 use Rattle.mx_boot.specs.Reading.{AreLinesRead, TellsUnread}
@@ -7,8 +7,8 @@ use Rattle.mx_machine.specs.Boot.{world_at_boot}
 use Rattle.mx_machine.specs.declared.history.Record.{Record}
 use Rattle.mx_machine.specs.History.{AreAccepted, events_of_history}
 use Rattle.mx_machine.specs.World.{World}
-use Rattle.std.specs.List.{range_with_len}
-use Rattle.mx_app_start.specs.declared.progress.Part.{Part}
+use Rattle.mx_walk.specs.declared.progress.Part.{Part}
+use Rattle.mx_walk.specs.Parts.{parts_shown}
 use Rattle.mx_app_failure.specs.declared.failure.Failure.{Failure as Kind}
 use Rattle.mx_app_failure.specs.declared.failure.Failure.TheVariants.{File}
 use Rattle.mx_app_failure.specs.Failure.{IsWanting}
@@ -107,10 +107,6 @@ IsUnsaved text (Some name) ws f = IsUnwritten name text ws f
 -- each position of a number of them has the outcome that it has without the fault, or one hasn't
 abbrev pub ended : ℕ → ℕ → Swept
 ended positions alike = if alike == positions then Alike else Differs
-
--- what is shown while positions are swept: after each of the first n, how many of all are done
-abbrev pub parts_shown : ℕ → ℕ → List Part
-parts_shown all n = map (λ i. let x : Part = record { done = i + 1; all = all } in x) (range_with_len 0 n)
 
 -- what was shown of all positions; or, if the sweep failed, of the first n
 abbrev pub IsShown : {X : Type 0} → List Part → List Part → ℕ → Result X Kind → Type 0

@@ -1,15 +1,13 @@
 //! Checkpoints along a history: where they are taken, and how a machine is made from one.
 
-ghost use Rattle.std.specs.Prelude.{◌≡◌, ◌+◌, ◌/◌, ◌<◌, ◌≤◌, All, IfOk, IfSome, length, min, slice_index_or};
-ghost use Rattle.mx_machine.specs.declared.history.Record.{Record as Noted};
+ghost use Rattle.std.specs.Prelude.{◌≡◌, ◌+◌, ◌/◌, ◌<◌, ◌≤◌, [], IfOk, IfSome, length, min, slice_index_or};
 ghost use Rattle.mx_machine.specs.Machine.{world_of};
 ghost use Rattle.mx_machine.specs.World.{actors};
 ghost use Rattle.mx_walk.specs.Checkpoints.{AreStored, IsStored};
 ghost use Rattle.mx_walk.specs.declared.checkpoints.Stored.{Stored};
-ghost use Rattle.mx_walk.specs.Positions.{HasHalted, IsAt, IsPosition, IsUpTo};
+ghost use Rattle.mx_walk.specs.Positions.{IsAt, IsUpTo};
 
-use crate::going::go_on;
-use crate::positions::{FIRST, Position, is_up_to, steps_in};
+use crate::positions::{Position, is_up_to, steps_in};
 use mx_exec::{Code, Image};
 use mx_machine::{Checkpoint, Machine, Record};
 use mx_word::NoMemory;
@@ -86,38 +84,6 @@ fn cost_of_all(records: &[Record]) -> u64 {
     total
 }
 
-/// The record before which a checkpoint comes that is this far from a record: the next one at least, but not past
-/// the end.
-fn record_after(records: &[Record], from: usize, distance: u64) -> usize
-    requires { from ≤ length records.now }
-    ensures after { from ≤ result }
-    ensures inside { result ≤ length records.now }
-{
-    let mut at = from;
-    let mut passed: u64 = 0;
-    while at < records.len() && passed < distance {
-        passed = passed.saturating_add(cost(records[at]));
-        at += 1;
-    }
-    at
-}
-
-/// The position of the next checkpoint, this far from a position.
-fn next_place(records: &[Record], at: Position, distance: u64) -> Position
-    requires { IsPosition records.now at }
-    ensures position { IsPosition records.now result }
-    ensures later { IsUpTo at result }
-{
-    let place = record_after(records, at.records, distance);
-    if place == at.records {
-        return at;
-    }
-    Position {
-        records: place,
-        steps: 0,
-    }
-}
-
 /// A checkpoint of a machine at a position. None if there is no memory for it.
 fn store(alloc: Global, machine: &Machine, records: &[Record], at: Position) -> Option<Stored>
     requires there { IsAt machine.now.kernel.boot records.now at machine.now }
@@ -156,62 +122,69 @@ fn add(
     }
 }
 
-/// Walks on from the first position, and takes at most so many checkpoints, this far from each other. Answers the
-/// position that it comes to, and the checkpoints.
-fn walk_storing(
-    alloc: Global,
-    machine: &mut Machine,
-    records: &[Record],
-    most: usize,
-    distance: u64,
-) -> (Position, Vec<Stored>)
-    requires actors { All (λ (x : Noted). x.actor < actors (world_of machine.old)) records.now }
-    requires fresh { world_of machine.old ≡ machine.old.kernel.boot }
-    ensures there { IsAt machine.old.kernel.boot records.now result.0 machine.new }
-    ensures stored { AreStored machine.old.kernel.boot records.now result.1.items }
-    ensures few { length result.1.items ≤ most }
-    ensures actors { actors (world_of machine.new) ≡ actors (world_of machine.old) }
-{
-    let mut at = FIRST;
-    let mut checkpoints = Vec::new(alloc);
-    for _ in 0..most {
-        let to = next_place(records, at, distance);
-        at = go_on(machine, records, at, to);
-        if at == to {
-            add(alloc, machine, records, at, &mut checkpoints);
-        }
-    }
-    (at, checkpoints)
+/// The checkpoints that a walk takes.
+#[derive(Drop)]
+pub(crate) struct Checkpoints {
+    /// How many it takes at most.
+    pub most: usize,
+    /// How far they are from each other, in steps.
+    pub distance: u64,
+    /// How far the walk is from the last one, or from the first position.
+    pub passed: u64,
+    pub alloc: Global,
+    pub taken: Vec<Stored>,
 }
 
-/// Walks a history once, from its first position up to the first event that is refused, and takes checkpoints on
-/// the way, if the walk is a long one. Answers the position that it comes to, and the checkpoints.
-pub(crate) fn first_walk(
-    alloc: Global,
-    machine: &mut Machine,
-    records: &[Record],
-) -> (Position, Vec<Stored>)
-    requires actors { All (λ (x : Noted). x.actor < actors (world_of machine.old)) records.now }
-    requires fresh { world_of machine.old ≡ machine.old.kernel.boot }
-    ensures there { IsAt machine.old.kernel.boot records.now result.0 machine.new }
-    ensures halted { HasHalted machine.old.kernel.boot records.now
-        (record { records = length records.now; steps = 0 }) result.0 }
-    ensures stored { AreStored machine.old.kernel.boot records.now result.1.items }
-    ensures few { length result.1.items ≤ 63 }
-{
-    let total = cost_of_all(records);
-    let most = if total < LEAST_COST {
-        0
-    } else {
-        most_of(checkpoint_bytes(machine))
-    };
-    let distance = total / (most as u64 + 1) + 1;
-    let (at, checkpoints) = walk_storing(alloc, machine, records, most, distance);
-    let end = Position {
-        records: records.len(),
-        steps: 0,
-    };
-    (go_on(machine, records, at, end), checkpoints)
+impl Checkpoints {
+    /// None yet. They are planned at equal distances along these records, if the walk is a long one.
+    pub(crate) fn planned(alloc: Global, machine: &Machine, records: &[Record]) -> Checkpoints
+        ensures none { result.taken.items ≡ [] }
+        ensures most { result.most ≤ 63 }
+    {
+        let total = cost_of_all(records);
+        let most = if total < LEAST_COST {
+            0
+        } else {
+            most_of(checkpoint_bytes(machine))
+        };
+        Checkpoints {
+            most,
+            distance: (total / (most as u64 + 1)).saturating_add(1),
+            passed: 0,
+            alloc,
+            taken: Vec::new(alloc),
+        }
+    }
+
+    /// The walk has passed a record: takes a checkpoint, if it is far enough from the last one.
+    pub(crate) fn pass(
+        &mut self,
+        machine: &Machine,
+        records: &[Record],
+        at: Position,
+        entry: Record,
+    )
+        requires there { IsAt machine.now.kernel.boot records.now at machine.now }
+        requires actors { actors (world_of machine.now) ≡ actors machine.now.kernel.boot }
+        requires stored { AreStored machine.now.kernel.boot records.now self.old.taken.items }
+        requires few { length self.old.taken.items ≤ self.old.most }
+        ensures stored { AreStored machine.now.kernel.boot records.now self.new.taken.items }
+        ensures few { length self.new.taken.items ≤ self.new.most }
+        ensures most { self.new.most ≡ self.old.most }
+    {
+        self.passed = self.passed.saturating_add(cost(entry));
+        if self.passed >= self.distance && self.taken.len() < self.most {
+            add(self.alloc, machine, records, at, &mut self.taken);
+            self.passed = 0;
+        }
+    }
+
+    /// The checkpoints that were taken.
+    pub(crate) fn into_taken(self) -> Vec<Stored>
+        ensures { result.items ≡ self.taken.items }
+    {
+        self.taken
+    }
 }
 
 /// The last checkpoint that isn't below a position.

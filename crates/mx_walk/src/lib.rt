@@ -7,11 +7,13 @@ mod either;
 mod going;
 mod laws;
 mod positions;
+mod progress;
 mod quiet;
 mod records;
 mod running;
 mod seeking;
 mod several;
+mod showing;
 mod stopping;
 mod walker;
 mod watching;
@@ -27,6 +29,7 @@ pub use positions::{
     FIRST, NextEvent, Position, is_position, is_up_to, next_event, own_event, position_before,
     steps_in,
 };
+pub use progress::{Part, Progress};
 pub use records::{Halted, finish_record, make_event, make_steps};
 pub use seeking::{Mark, Sought, seek, seek_last};
 pub use several::Several;

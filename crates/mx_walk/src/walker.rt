@@ -1,22 +1,27 @@
 //! A walker: a machine at a position of a history.
 
-ghost use Rattle.std.specs.Prelude.{◌≡◌, ◌<◌, ℕ, true, false, All, IfOk, IfSome, List, MatchOption, Some};
+ghost use Rattle.std.specs.Prelude.{◌≡◌, ◌<◌, ◌++◌, ℕ, true, false, All, IfErr, IfOk, IfSome, List, MatchOption, Some};
 ghost use Rattle.mx_machine.specs.declared.events.Event.{Event as Made};
 ghost use Rattle.mx_machine.specs.declared.history.Record.{Record as Noted};
 ghost use Rattle.mx_machine.specs.Move.{event_refusal};
 ghost use Rattle.mx_machine.specs.World.{actors};
 ghost use Rattle.mx_machine.specs.Machine.{world_of};
+ghost use Rattle.mx_walk.specs.declared.positions.Position.{Position as At};
+ghost use Rattle.mx_walk.specs.Checkpoints.{AreStored};
 ghost use Rattle.mx_walk.specs.Positions.{IsAbove, IsAt, IsPosition, IsUpTo, event_below, position_before};
 ghost use Rattle.mx_walk.specs.Seeking.{IsFirstMarked, IsLastMarked, IsPassed};
 ghost use Rattle.mx_walk.specs.Watching.{is_changed};
+ghost use Rattle.mx_walk.specs.Parts.{walk_shown};
 ghost use Rattle.mx_walk.specs.Walks.{IsBootOf, IsLast, first, refusal_here, world_here};
 
 use crate::booting::boot_again;
-use crate::checkpoints::{Stored, first_walk, last_above, machine_of};
+use crate::checkpoints::{Checkpoints, Stored, last_above, machine_of};
 use crate::going::go_on;
 use crate::positions::{FIRST, Position, is_up_to, next_event, position_before};
+use crate::progress::Progress;
 use crate::records::make_event;
 use crate::seeking::{Mark, Sought, seek, seek_last};
+use crate::showing::walk_on;
 use crate::watching::{ByteChange, BytePlace};
 use mx_machine::{Config, Machine, Record, Refusal};
 use mx_word::NoMemory;
@@ -36,7 +41,6 @@ pub struct Walker {
 }
 
 impl Model for Walker {
-    ghost use Rattle.std.specs.Prelude.{◌×◌};
     ghost use Rattle.mx_walk.specs.Checkpoints.{AreStored};
     ghost use Rattle.mx_walk.specs.Walks.{IsWalk, Walk};
 
@@ -114,13 +118,15 @@ fn machine_above(
 }
 
 impl Walker {
-    /// Walks a history once to its last position, and stands at its first. Takes memory to boot the machine
-    /// again, and for checkpoints if the walk is long; if there is none for a checkpoint, the walker has fewer.
-    pub fn new(
+    /// Walks a history once to its last position, shows each record that it passes, and stands at its first.
+    /// Takes memory to boot the machine again, and for checkpoints if the walk is long. If there is none for a
+    /// checkpoint, the walker has fewer.
+    pub fn new<P: Progress>(
         alloc: Global,
         machine: Machine,
         config: Config,
         records: Vec<Record>,
+        progress: &mut P,
     ) -> Result<Walker, NoMemory>
         requires fresh { world_of machine ≡ machine.kernel.boot }
         requires booted { IsBootOf config machine.kernel.boot }
@@ -128,9 +134,19 @@ impl Walker {
         ensures made { IfOk result (λ w. (w.boot ≡ machine.kernel.boot)
             × (w.records ≡ records.items) × (w.here ≡ first)) }
         ensures last { IfOk result (λ w. IsLast w.boot w.records w.last) }
+        ensures shown { IfOk result (λ w. P.shown progress.new
+            ≡ P.shown progress.old ++ walk_shown w.records w.last) }
+        ensures walked { IfErr result (λ _. (last : At) × IsLast machine.kernel.boot records.items last
+            × (P.shown progress.new ≡ P.shown progress.old ++ walk_shown records.items last)) }
     {
         let mut machine = machine;
-        let (last, checkpoints) = first_walk(alloc, &mut machine, records.as_slice());
+        let mut checkpoints = Checkpoints::planned(alloc, &machine, records.as_slice());
+        let end = Position {
+            records: records.len(),
+            steps: 0,
+        };
+        let walked = records.as_slice();
+        let last = walk_on(&mut machine, walked, FIRST, end, &mut checkpoints, progress);
         let machine = boot_again(alloc, machine, &config)?;
         Ok(Walker {
             machine,
@@ -138,7 +154,7 @@ impl Walker {
             records,
             here: FIRST,
             last,
-            checkpoints,
+            checkpoints: checkpoints.into_taken(),
         })
     }
 

@@ -1,4 +1,4 @@
-use Rattle.std.proofs.Common.{◌×◌, ◌<◌, IfSome, length, get_or}
+use Rattle.std.proofs.Common.{◌<◌, IfSome, length, get_or}
 use Rattle.mx_walk.specs.declared.checkpoints.Stored.{Stored}
 use Rattle.mx_walk.specs.Positions.{IsUpTo}
 use Rattle.mx_walk.proofs.checkpoints.last_above.Given as goal
