@@ -1,10 +1,8 @@
-use Rattle.std.proofs.Common.{◌≡◌, ◌∙◌, List, take, subst, sym, ap}
+use Rattle.std.proofs.Common.{◌≡◌, ◌∙◌, take, subst, sym, ap}
 use Rattle.mx_walk.proofs.SameRecords.{equal_records}
-use Rattle.mx_machine.specs.declared.history.Record.{Record}
 use Rattle.mx_machine.specs.History.{BootAndHistory}
 use Rattle.mx_machine.specs.Machine.{MachineState, world_of}
 use Rattle.mx_machine.specs.World.{actors}
-use Rattle.mx_walk.specs.Checkpoints.{IsStored}
 use Rattle.mx_walk.specs.Positions.{IsAt}
 use Rattle.mx_walk.proofs.checkpoints.store.Goals as goal
 
