@@ -43,6 +43,7 @@ is_named (Some word) name = bytes_eq word name
 -- a word beside the first two names this file
 abbrev pub names_beside : CommandRequest → List ℕ → Bool
 names_beside (Step config script save numbered) name = is_named (option_map (λ s. s.now) save) name
+names_beside (Run config log ticks events) name = bytes_eq log.now name
 names_beside (Turns config log ticks events bound) name = bytes_eq log.now name
 names_beside (Sweep config log fault bound from to strict save) name = bytes_eq fault.now name || is_named (option_map (λ s. s.now) save) name
 names_beside r name = false
@@ -54,7 +55,7 @@ names_file r name = (bytes_eq (first_name r) name || bytes_eq (second_name r) na
 -- a request that makes a history has sums written; all others have them compared
 abbrev pub writes_sums : CommandRequest → Bool
 writes_sums (Step config script save numbered) = true
-writes_sums (Run config log ticks) = true
+writes_sums (Run config log ticks events) = true
 writes_sums (Turns config log ticks events bound) = true
 writes_sums r = false
 

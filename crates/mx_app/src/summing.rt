@@ -95,6 +95,7 @@ fn names_file(request: CommandRequest<'_>, name: &str) -> bool
     }
     match request {
         CommandRequest::Step { save, .. } => save == Some(name),
+        CommandRequest::Run { log, .. } => log == name,
         CommandRequest::Turns { log, .. } => log == name,
         CommandRequest::Sweep { fault, save, .. } => fault == name || save == Some(name),
         _ => false,

@@ -283,7 +283,15 @@ static MACHINE_COMMANDS: [Subcommand<'static>; 5] = [
     Subcommand {
         name: "run",
         help: "Runs a machine, each processor in a thread, writes its history and prints a report",
-        arguments: &[CONFIG, RECORDED, TICKS, CALLS, WRITTEN_SUMS, EXPLAIN, SILENT],
+        arguments: &[
+            CONFIG,
+            RECORDED,
+            TICKS,
+            CALLS,
+            WRITTEN_SUMS,
+            EXPLAIN,
+            SILENT,
+        ],
         example: Example::Run,
     },
     Subcommand {

@@ -238,6 +238,17 @@ static DONE: &[Done] = &[
         file: Some(("new.log", b"rules 2\n")),
     },
     Done {
+        name: "run: outside events, each at rest",
+        words: &["mx", "run", "pressed_apart", "new.log", "--events", "apart"],
+        status: 0,
+        printed: "0 button 0 down kill 4 75\nuptime 1\nconsole 1\n1",
+        file: Some((
+            "new.log",
+            b"rules 2\n0 take\n0 back 7\n0 take\n0 back 3\n2 line 5\n0 take\n0 back 10\n0 take\n\
+              0 back 4\n2 tick\n2 kill 0\n",
+        )),
+    },
+    Done {
         name: "turns: outside events, the first refused",
         words: &["mx", "turns", "pair", "new.log", "--events", "outside"],
         status: 0,
@@ -547,6 +558,18 @@ static FAILED: &[Failed] = &[
         words: &["mx", "turns", "one", "one"],
         status: 3,
         told: "mx: 80 File\n",
+    },
+    Failed {
+        name: "run: the outside events would be written over",
+        words: &["mx", "run", "pressed_apart", "apart", "--events", "apart"],
+        status: 3,
+        told: "mx: 80 File\n",
+    },
+    Failed {
+        name: "run: outside events without a second other actor",
+        words: &["mx", "run", "pressed", "new.log", "--events", "apart"],
+        status: 1,
+        told: "mx: 73 BadRecord line 1\n",
     },
     Failed {
         name: "turns: the outside events would be written over",
@@ -988,6 +1011,35 @@ static EXPLAINED: &[Failed] = &[
         told: "mx: 20 Truncated\n\
                mx: a service's program cut: \
                wanted a whole header, and a file as long as it says\n",
+    },
+    Failed {
+        name: "run: a line that is no outside event",
+        words: &[
+            "mx",
+            "run",
+            "pressed_apart",
+            "new.log",
+            "--events",
+            "not_outside",
+            "--explain",
+        ],
+        status: 1,
+        told: "mx: 73 BadRecord line 2\nmx: EVENTS not_outside: \
+               wanted line L, tick, kill E or wait N; --events wants others 2 or more in CONFIG\n",
+    },
+    Failed {
+        name: "run: a history over its outside events, explained",
+        words: &[
+            "mx",
+            "run",
+            "pressed_apart",
+            "apart",
+            "--events",
+            "apart",
+            "--explain",
+        ],
+        status: 3,
+        told: "mx: 80 File\nmx: LOG apart: wanted another file than the one that is read\n",
     },
     Failed {
         name: "turns: a line that is no outside event",

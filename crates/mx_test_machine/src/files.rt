@@ -490,6 +490,15 @@ static FILES: &[NamedFile<'static>] = &[
         bytes: b"tick\nline 5\ntick\nline 5\nline 5\nline 5\n",
     },
     NamedFile {
+        name: "pressed_apart",
+        bytes: b"cpus 1\nothers 2\nlog 64\n\
+            service button button.out traps c send 0 calls 18 level 4 best 4 quantum 99 restarts 0\n",
+    },
+    NamedFile {
+        name: "apart",
+        bytes: b"wait 64\nline 5\nwait 64\ntick\nkill 0\n",
+    },
+    NamedFile {
         name: "button.out",
         bytes: BUTTON,
     },
