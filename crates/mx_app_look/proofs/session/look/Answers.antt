@@ -1,15 +1,12 @@
-use Rattle.std.proofs.Common.{rules, ◌≡◌, ◌∙◌, ◌<◌, All, IfErr, List, ℕ, [], inl, inr, ap, subst, sym}
+use Rattle.std.proofs.Common.{rules, ◌≡◌, ◌∙◌, ◌<◌, All, IfErr, [], inl, inr, ap, subst, sym}
 use Rattle.std.proofs.KnownBytes.{Appends-trans}
 use Rattle.std.proofs.lemmas.List.{append-nil}
 use Rattle.std.proofs.lemmas.Result.{IfErr-weaker, IfOk-weaker, err_from_is_err_and}
-use Rattle.std.specs.Io.KnownBytes.{Appends}
 use Rattle.mx_app_step.specs.Failure.{IsWanting}
-use Rattle.mx_machine.specs.Machine.{world_of}
 use Rattle.mx_machine.specs.Boot.{world_at_boot}
 use Rattle.mx_machine.specs.History.{BootAndHistory}
 use Rattle.mx_machine.specs.World.{World, actors}
 use Rattle.mx_machine.specs.declared.history.Record.{Record}
-use Rattle.mx_walk.specs.Walks.{Walk}
 use Rattle.mx_app_look.specs.Sessions.{begun_text}
 use Rattle.mx_app_look.proofs.Starting.{held_by_walk, is_begun}
 use Rattle.mx_app_look.proofs.session.look.Goals as goal
