@@ -347,11 +347,11 @@ fn ends_are_told(rt: HostRuntime) -> Result<(), Fail> {
         let records = drive_and_count::<Brand, _>(&rt, blank, seats, &gate);
         assert!(rt; records.is_some(), "{others}");
         for actor in 0..6 {
-            let told = gate.count(GateCall::Ended(actor));
+            let times = gate.count(GateCall::Ended(actor));
             let wanted = if actor <= 2 { 1 } else { 0 };
             assert!(rt;
-                told == wanted,
-                "{others} others: actor {actor} is told as ended {told} times"
+                times == wanted,
+                "{others} others: actor {actor} is reported as ended {times} times"
             );
         }
     }
