@@ -47,7 +47,8 @@ fn begin<W: Write>(
 /// Ends the line of the prompt at the end of the input.
 fn print_end<W: Write>(asks: bool, out: &mut W) -> Result<(), Failure>
     ensures err { IfErr result IsWanting }
-    ensures printed { OnOk result (Appends (W.contents out.old) (W.contents out.new) (end_text asks)) }
+    ensures printed { OnOk result (Appends (W.contents out.old) (W.contents out.new)
+        (end_text asks)) }
 {
     let end = if asks { "\n" } else { "" };
     print_text(end.as_bytes(), out)

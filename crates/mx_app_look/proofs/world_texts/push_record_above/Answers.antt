@@ -1,6 +1,6 @@
 use Rattle.std.proofs.Common.{◌≡◌, ap, arith}
 use Rattle.mx_app_look.proofs.Moving.{records_up_to}
-use Rattle.mx_app_look.proofs.telling.push_record_above.Goals as goal
+use Rattle.mx_app_look.proofs.world_texts.push_record_above.Goals as goal
 
 pub see_record-requires-clause-there : goal.see_record-requires-clause-there
 see_record-requires-clause-there c =

@@ -1,7 +1,7 @@
-use Rattle.std.proofs.Common.{◌≡◌, ◌∙◌, ◌-◌, ℕ, zero, suc, eqb, cond, true, false, List, [], ◌∷◌, length, Option, Some, slice_get, refl, ap, sym, arith}
+use Rattle.std.proofs.Common.{◌≡◌, ◌∙◌, ◌-◌, ℕ, zero, suc, eqb, cond, true, false, List, [], ◌∷◌, length, Some, slice_get, ap, sym, arith}
 use Rattle.std.proofs.lemmas.Bool.{ne_eqb}
 use Rattle.mx_app_look.specs.Answers.{line_end}
-use Rattle.mx_app_look.proofs.telling.line_end.Goals as goal
+use Rattle.mx_app_look.proofs.world_texts.line_end.Goals as goal
 
 last_is : (xs : List ℕ) (m b : ℕ) → length xs ≡ suc m → slice_get xs m ≡ Some b → line_end xs ≡ cond (eqb b 10) [] (10 ∷ [])
 last_is [] m b e h = absurd cc

@@ -2,7 +2,7 @@ use Rattle.std.proofs.Common.{subst, sym}
 use Rattle.mx_walk.specs.declared.positions.Position.{Position}
 use Rattle.mx_walk.specs.Positions.{IsPosition}
 use Rattle.mx_app_look.proofs.Moving.{begun_position}
-use Rattle.mx_app_look.proofs.telling.see_record.Goals as goal
+use Rattle.mx_app_look.proofs.world_texts.see_record.Goals as goal
 
 pub go_to-requires-clause-position : goal.go_to-requires-clause-position
 go_to-requires-clause-position c =
