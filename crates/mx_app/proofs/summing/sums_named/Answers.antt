@@ -1,6 +1,5 @@
-use Rattle.std.proofs.Common.{◌∙◌, List, ap, inl, inr, refl}
+use Rattle.std.proofs.Common.{◌∙◌, ap, inl, inr, refl}
 use Rattle.std.proofs.lemmas.Result.{err_from_is_err_and}
-use Rattle.mx_app_db.specs.Service.{Service}
 use Rattle.mx_app_explain.specs.Sums.{machine_sums}
 use Rattle.mx_app.proofs.summing.sums_named.Goals as goal
 
