@@ -33,45 +33,61 @@ refuse_own_text() {
     exit 3
 }
 
-# Prints the files that a `step`, `run` or `turns` of this configuration reads, one a line: CONFIG [FILE ..].
+# Prints the files that a command on this configuration's machine reads, one a line: CONFIG [FILE ..].
 files_read() {
     printf '%s\n' "$@"
     [ ! -f "$1" ] || awk '{ sub(/#.*/, "") } $1 == "service" { print $3 }' "$1"
 }
 
-# Ends with status 3 if these words are those of a `step`, `run` or `turns` that would write its history over a file
-# that it reads, also by another name of the same file.
+# Ends with status 3 if the second file, which is to be written, is the first: refuse_same FILE WRITTEN LABEL EXPLAINS.
+# LABEL is the word that names the second.
+refuse_same() {
+    { [ -n "$1" ] && [ -n "$2" ] && [ "$1" -ef "$2" ]; } || return 0
+    echo "mx: 80 File" >&2
+    [ -z "$4" ] || echo "mx: $3 $2: wanted another file than the one that is read" >&2
+    exit 3
+}
+
+# Ends with status 3 if these words are those of a `step`, `run`, `turns` or `sweep` that would write its history or its
+# sums over a file that it reads, or its sums over its history, also by another name of the same file.
 refuse_own_files() {
-    case ${1-} in step | run | turns) ;; *) return 0 ;; esac
-    command=$1 config='' second='' save='' events='' explains='' option=''
+    case ${1-} in step | run | turns | sweep) ;; *) return 0 ;; esac
+    command=$1 config='' second='' third='' label=LOG save='' events='' sums='' compared='' explains='' option=''
     shift
     for word in "$@"; do
         case $option in
             --save) save=$word option='' ; continue ;;
             --events) events=$word option='' ; continue ;;
+            --sums) sums=$word option='' ; continue ;;
             ?*) option='' ; continue ;;
         esac
         case $word in
             --explain) explains=yes ;;
+            --numbered | --no-explain | --strict) ;;
             --save=*) save=${word#*=} ;;
             --events=*) events=${word#*=} ;;
+            --sums=*) sums=${word#*=} ;;
             --*=*) ;;
             --*) option=$word ;;
             *)
                 if [ -z "$config" ]; then config=$word
                 elif [ -z "$second" ]; then second=$word
+                elif [ "$command" = sweep ] && [ -z "$third" ]; then third=$word
                 else return 0; fi ;;
         esac
     done
     written=$save read=$second
-    [ "$command" = step ] || { written=$second read=$events; }
-    { [ -n "$written" ] && [ -e "$written" ] && [ -n "$config" ]; } || return 0
+    case $command in
+        run | turns) written=$second read=$events ;;
+        # It compares SUMS, and doesn't write it.
+        sweep) label=FILE compared=$sums sums='' ;;
+    esac
+    [ -n "$config" ] || return 0
     while read -r file; do
-        [ "$file" -ef "$written" ] || continue
-        echo "mx: 80 File" >&2
-        [ -z "$explains" ] || echo "mx: LOG $written: wanted another file than the one that is read" >&2
-        exit 3
+        refuse_same "$file" "$written" "$label" "$explains"
+        refuse_same "$file" "$sums" SUMS "$explains"
     done <<END
-$(files_read "$config" "$read")
+$(files_read "$config" "$read" "$third" "$compared")
 END
+    refuse_same "$written" "$sums" SUMS "$explains"
 }

@@ -123,9 +123,9 @@ fn are_lent<M: Naming>(rt: &(impl Wait + Eprint), blank: Blank, mut seats: Vec<A
         seat = next;
         is_done = is_done && is_turn;
     }
+    let kernel = shared.into_kernel(seats);
     mark(rt);
-    let records = shared.into_kernel(seats).history().len();
-    is_done && records == 10
+    is_done && kernel.history().len() == 10
 }
 
 /// The five turns by calls of the shared machine.
@@ -186,8 +186,9 @@ fn rounds_made<M: Naming>(
             break;
         }
     }
+    let kernel = shared.into_kernel(seats);
     mark(rt);
-    (made, shared.into_kernel(seats).history().len())
+    (made, kernel.history().len())
 }
 
 /// Kills the driver and respawns it, ten thousand times.

@@ -13,7 +13,9 @@ use Rattle.mx_machine.specs.Boot.{world_at_boot}
 use Rattle.mx_machine.specs.declared.history.Record.{Record}
 use Rattle.mx_app_db.specs.Asked.{Asked}
 use Rattle.mx_app_db.specs.Written.{Written, kept}
-use Rattle.mx_app_start.specs.declared.progress.Part.{Part}
+use Rattle.mx_app_start.specs.Programs.{SparesProgram, names_program}
+use Rattle.mx_app_start.proofs.Appended.{appends_nothing}
+use Rattle.mx_walk.specs.declared.progress.Part.{Part}
 use Rattle.mx_app_db.specs.Text.{saved_text}
 use Rattle.mx_app_db.specs.Config.{Config}
 use Rattle.mx_app_db.specs.Service.{Service}
@@ -30,22 +32,18 @@ use Rattle.mx_app_db.specs.Replayed.{Replayed}
 use Rattle.mx_app_db.specs.DebugLines.{DebuggedWorld, debug_lines_made}
 use Rattle.mx_app_db.specs.Told.{debug_lines_text}
 use Rattle.mx_app_draw.specs.Scenes.{IsDrawingPrinted}
-use Rattle.mx_app_look.specs.Sessions.{IsBegun, IsSession, IsWhole, begun_text, sight_at}
+use Rattle.mx_app_look.specs.Sessions.{HasFailed, IsBegun, IsSession, IsWhole, begun_text, sight_at}
 use Rattle.mx_app_run.specs.Run.{Runs}
 use Rattle.mx_app_turns.specs.Sweeping.{Sweeps}
 use Rattle.mx_app_turns.specs.declared.sweeping.Swept.{Swept}
 use Rattle.mx_app_turns.specs.Turned.{MakesTurns}
 use Rattle.mx_turns.specs.declared.turns.Ending.{Ending}
+use Rattle.mx_walk.specs.Parts.{walk_shown}
 use Rattle.mx_walk.specs.Walks.{Walk}
 use Rattle.mx_app.specs.Explained.{ExplainsConfig}
 use Rattle.mx_app.specs.Named.{Assembles, ShowsFile}
 use Rattle.mx_app.specs.declared.performing.Done.{Done}
 use Rattle.mx_app.specs.Requests.{Debugs, Draws, Explains, Looks, Performs, PerformsUntyped, Replays, SavesApart, Shows, Steps, Traces, saves_over, done_after_replay, done_after_sweep, done_after_turns, done_after_work}
-
--- nothing is printed where a writer wasn't touched
-pub appends_nothing : (known : Option (List ℕ)) → Appends known known []
-appends_nothing None = tt
-appends_nothing (Some bytes) = sym (append-nil bytes)
 
 -- what a request asked for and wrote, and what is done of it
 abbrev pub Does : List Asked → List Asked → List Written → List Written → (List Asked → List Written → Type 0) → Type 0
@@ -81,17 +79,17 @@ as_typed asked now files written given typed shown later asks Prints r request k
     subst (λ (x : CommandRequest). DoesTyped asked now files written given typed shown later (λ qs ws ls ps. Performs x asks qs ws ls ps Prints r)) (sym same) done
 
 -- a session was held, or its machine wasn't started
-pub looks : {shown : List Part} (asked now : List Asked) (files : List Written) (given given_now : List (Option (List ℕ))) (config log : List ℕ) (asks : Bool) (x y : Option (List ℕ)) (d : Result (Unit {0}) Kind) (r : Result Done Kind)
+pub looks : (asked now : List Asked) (files : List Written) (given given_now : List (Option (List ℕ))) (shown later : List Part) (config log : List ℕ) (asks : Bool) (x y : Option (List ℕ)) (d : Result (Unit {0}) Kind) (r : Result Done Kind)
     → OnOk d ((qs : List Asked) × (c : Config) × (vs : List Service) × (records : List Record) × (k : Walk) × (typed : List (Option (List ℕ))) × (text : List ℕ)
-    × (now ≡ asked ++ qs) × (given_now ≡ given ++ typed) × IsWhole typed × IsStart IsSaved config log qs c vs records × IsBegun (world_at_boot c vs) records k
+    × (now ≡ asked ++ qs) × (given_now ≡ given ++ typed) × IsWhole typed × (later ≡ shown ++ walk_shown k.records k.last) × IsStart IsSaved config log qs c vs records × IsBegun (world_at_boot c vs) records k
     × IsSession asks (sight_at k) typed text × Appends x y (begun_text asks k ++ text))
-    → IfErr d (λ f. (qs : List Asked) × (typed : List (Option (List ℕ))) × (now ≡ asked ++ qs) × (given_now ≡ given ++ typed) × IsTold IsSaved TellsSaved config log qs f)
+    → IfErr d (λ f. (qs : List Asked) × (typed : List (Option (List ℕ))) × (ps : List Part) × (now ≡ asked ++ qs) × (given_now ≡ given ++ typed) × (later ≡ shown ++ ps) × HasFailed config log qs ps f)
     → r ≡ done_after_work d
-    → DoesTyped asked now files files given given_now shown shown (λ qs ws typed ps. (e : Result (Unit {0}) Kind) × (ws ≡ []) × (ps ≡ []) × Looks config log asks qs typed (λ text. Appends x y text) e × (r ≡ done_after_work e))
-looks {shown} asked now files given given_now config log asks x y (Ok u) r p f e =
-    (p.0, [], p.5, [], p.7, sym (append-nil files), p.8, sym (append-nil shown), (Ok u, refl, refl, (p.1, p.2, p.3, p.4, p.6, p.10, p.11, p.9, p.12, p.13), e))
-looks {shown} asked now files given given_now config log asks x y (Err why) r p f e =
-    (f.0, [], f.1, [], f.2, sym (append-nil files), f.3, sym (append-nil shown), (Err why, refl, refl, f.4, e))
+    → DoesTyped asked now files files given given_now shown later (λ qs ws typed ps. (e : Result (Unit {0}) Kind) × (ws ≡ []) × Looks config log asks qs typed ps (λ text. Appends x y text) e × (r ≡ done_after_work e))
+looks asked now files given given_now shown later config log asks x y (Ok u) r p f e =
+    (p.0, [], p.5, walk_shown p.4.records p.4.last, p.7, sym (append-nil files), p.8, p.10, (Ok u, refl, (p.1, p.2, p.3, p.4, p.6, p.11, p.12, refl, p.9, p.13, p.14), e))
+looks asked now files given given_now shown later config log asks x y (Err why) r p f e =
+    (f.0, [], f.1, f.2, f.3, sym (append-nil files), f.4, f.5, (Err why, refl, f.6, e))
 
 -- a text was assembled, and nothing printed
 pub assembled : (asked now : List Asked) (files written : List Written) (known : Option (List ℕ)) (text file : List ℕ) (d : Result (Unit {0}) Kind) (r : Result Done Kind)
@@ -123,16 +121,17 @@ swept {given} asked now files written shown later config log fault save from to 
 pub saves : (asked now : List Asked) (files written : List Written) (config script log : List ℕ) (numbered : Bool) (x y : Option (List ℕ)) (d : Result (Unit {0}) Kind)
     → saves_over config script log ≡ false
     → OnOk d ((qs : List Asked) × (c : Config) × (vs : List Service) × (said : List ScriptLine)
-    × (now ≡ asked ++ qs) × IsStart IsScript config script qs c vs said
+    × (now ≡ asked ++ qs) × IsStart IsScript config script qs c vs said × (names_program c log ≡ false)
     × (written ≡ files ++ kept log (saved_text c.rules (history_made (world_at_boot c vs) c.cpus said)) ∷ [])
     × (let m = lines_made (world_at_boot c vs) c.cpus said in Appends x y (answers_text numbered m.0 ++ report_text m.1.table m.1.services)))
     → IfErr d (λ f. (qs : List Asked) × (ws : List Written) × (now ≡ asked ++ qs) × (written ≡ files ++ ws)
     × (((ws ≡ []) × IsNotStarted IsScript TellsScript config script qs f)
     ⊎ ((c : Config) × (vs : List Service) × (said : List ScriptLine) × IsStart IsScript config script qs c vs said
-    × IsUnsaved log (saved_text c.rules (history_made (world_at_boot c vs) c.cpus said)) ws f)))
+    × (SparesProgram c log ws (λ text. Appends x y text) f
+    ⊎ ((names_program c log ≡ false) × IsUnsaved log (saved_text c.rules (history_made (world_at_boot c vs) c.cpus said)) ws f)))))
     → Does asked now files written (λ qs ws. SavesApart config script log numbered qs ws (λ text. Appends x y text) d)
 saves asked now files written config script log numbered x y (Ok u) apart p f =
-    (p.0, kept log (saved_text p.1.rules (history_made (world_at_boot p.1 p.2) p.1.cpus p.3)) ∷ [], p.4, p.6, inr (apart, (p.1, p.2, p.3, p.5, refl, p.7)))
+    (p.0, kept log (saved_text p.1.rules (history_made (world_at_boot p.1 p.2) p.1.cpus p.3)) ∷ [], p.4, p.7, inr (apart, (p.1, p.2, p.3, p.5, p.6, refl, p.8)))
 saves asked now files written config script log numbered x y (Err why) apart p f = (f.0, f.1, f.2, f.3, inr (apart, f.4))
 
 pub saved : (asked now : List Asked) (files written : List Written) (config script log : List ℕ) (numbered : Bool) (x y : Option (List ℕ)) (d : Result (Unit {0}) Kind) (r : Result Done Kind)

@@ -5,3 +5,4 @@ mod Explained
 mod Told
 mod Grown
 mod Moved
+mod Summed

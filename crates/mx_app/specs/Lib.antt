@@ -4,4 +4,5 @@ pub mod Explained
 pub mod Named
 pub mod Noting
 pub mod Requests
+pub mod Summing
 pub mod Words

@@ -14,11 +14,12 @@ use Rattle.mx_machine.specs.Boot.{world_at_boot}
 use Rattle.mx_machine.specs.declared.history.Record.{Record}
 use Rattle.mx_app_db.specs.Asked.{Asked}
 use Rattle.mx_app_db.specs.Written.{Written, kept}
-use Rattle.mx_app_start.specs.declared.progress.Part.{Part}
+use Rattle.mx_walk.specs.declared.progress.Part.{Part}
 use Rattle.mx_app_db.specs.Text.{saved_text}
 use Rattle.mx_app_db.specs.Config.{Config}
 use Rattle.mx_app_db.specs.Service.{Service}
 use Rattle.mx_app_db.specs.Report.{report_text}
+use Rattle.mx_app_start.specs.Programs.{SparesProgram, names_program}
 use Rattle.mx_app_db.specs.Course.{IsDebugScript, IsSaved, IsScript, TellsDebugScript, TellsSaved, TellsScript}
 use Rattle.mx_app_db.specs.Setup.{IsNotStarted, IsStart}
 use Rattle.mx_app_db.specs.Telling.{IsTold, IsUnsaved}
@@ -30,13 +31,14 @@ use Rattle.mx_app_db.specs.Traces.{IsTracePrinted}
 use Rattle.mx_app_db.specs.Replayed.{Replayed}
 use Rattle.mx_app_db.specs.Replayed.TheVariants as replayed
 use Rattle.mx_app_draw.specs.Scenes.{IsDrawingPrinted}
-use Rattle.mx_app_look.specs.Sessions.{IsBegun, IsSession, IsWhole, begun_text, sight_at}
+use Rattle.mx_app_look.specs.Sessions.{HasFailed, IsBegun, IsSession, IsWhole, begun_text, sight_at}
 use Rattle.mx_app_run.specs.Run.{Runs}
 use Rattle.mx_app_turns.specs.Sweeping.{Sweeps}
 use Rattle.mx_app_turns.specs.declared.sweeping.Swept.{Swept}
 use Rattle.mx_app_turns.specs.declared.sweeping.Swept.TheVariants as swept
 use Rattle.mx_app_turns.specs.Turned.{MakesTurns}
 use Rattle.mx_turns.specs.declared.turns.Ending.{Ending}
+use Rattle.mx_walk.specs.Parts.{walk_shown}
 use Rattle.mx_walk.specs.Walks.{Walk}
 use Rattle.mx_app_db.specs.DebugLines.{DebuggedWorld, debug_lines_made}
 use Rattle.mx_app_db.specs.Told.{debug_lines_text}
@@ -81,16 +83,18 @@ Steps config script numbered qs Prints (Ok u) =
     × (let m = lines_made (world_at_boot c vs) c.cpus said in Prints (answers_text numbered m.0 ++ report_text m.1.table m.1.services))
 Steps config script numbered qs Prints (Err f) = IsTold IsScript TellsScript config script qs f
 
--- the same, with the file of the script's history, which is written before the report is printed
+-- the same, with the file of the script's history, which is written before the report is printed; a service's program
+-- isn't written over
 abbrev pub SavesSteps : List ℕ → List ℕ → List ℕ → Bool → List Asked → List Written → (List ℕ → Type 0) → Result (Unit {0}) Kind → Type 0
 SavesSteps config script log numbered qs ws Prints (Ok u) =
     (c : Config) × (vs : List Service) × (said : List ScriptLine) × IsStart IsScript config script qs c vs said
-    × (ws ≡ kept log (saved_text c.rules (history_made (world_at_boot c vs) c.cpus said)) ∷ [])
+    × (names_program c log ≡ false) × (ws ≡ kept log (saved_text c.rules (history_made (world_at_boot c vs) c.cpus said)) ∷ [])
     × (let m = lines_made (world_at_boot c vs) c.cpus said in Prints (answers_text numbered m.0 ++ report_text m.1.table m.1.services))
 SavesSteps config script log numbered qs ws Prints (Err f) =
     ((ws ≡ []) × IsNotStarted IsScript TellsScript config script qs f)
     ⊎ ((c : Config) × (vs : List Service) × (said : List ScriptLine) × IsStart IsScript config script qs c vs said
-    × IsUnsaved log (saved_text c.rules (history_made (world_at_boot c vs) c.cpus said)) ws f)
+    × (SparesProgram c log ws Prints f
+    ⊎ ((names_program c log ≡ false) × IsUnsaved log (saved_text c.rules (history_made (world_at_boot c vs) c.cpus said)) ws f)))
 
 -- a text that is read would be written over
 abbrev pub saves_over : List ℕ → List ℕ → List ℕ → Bool
@@ -131,12 +135,13 @@ Draws config log range qs Prints (Ok how) =
 Draws config log range qs Prints (Err f) = IsTold IsSaved TellsSaved config log qs f
 
 -- a session over a history: what it prints is determined by the lines that are typed, which it takes up to `quit` or to
--- the end of the input
-abbrev pub Looks : List ℕ → List ℕ → Bool → List Asked → List (Option (List ℕ)) → (List ℕ → Type 0) → Result (Unit {0}) Kind → Type 0
-Looks config log asks qs typed Prints (Ok u) =
+-- the end of the input; at its beginning it shows each record of the walk to the last position
+abbrev pub Looks : List ℕ → List ℕ → Bool → List Asked → List (Option (List ℕ)) → List Part → (List ℕ → Type 0) → Result (Unit {0}) Kind → Type 0
+Looks config log asks qs typed ps Prints (Ok u) =
     (c : Config) × (vs : List Service) × (records : List Record) × (k : Walk) × (text : List ℕ) × IsStart IsSaved config log qs c vs records
-    × IsBegun (world_at_boot c vs) records k × IsWhole typed × IsSession asks (sight_at k) typed text × Prints (begun_text asks k ++ text)
-Looks config log asks qs typed Prints (Err f) = IsTold IsSaved TellsSaved config log qs f
+    × IsBegun (world_at_boot c vs) records k × (ps ≡ walk_shown k.records k.last) × IsWhole typed × IsSession asks (sight_at k) typed text
+    × Prints (begun_text asks k ++ text)
+Looks config log asks qs typed ps Prints (Err f) = HasFailed config log qs ps f
 
 -- ---- requests
 
@@ -178,10 +183,10 @@ PerformsUntyped (Db config script) qs ws Prints r =
     (d : Result (Unit {0}) Kind) × (ws ≡ []) × Debugs config.now script.now qs Prints d × (r ≡ done_after_work d)
 
 -- WHAT IS DONE OF A REQUEST, by the files that were asked for and written, the lines that were typed, the progress that
--- was shown, what is printed, and how it ends. Only a session takes lines, and only a sweep shows progress
+-- was shown, what is printed, and how it ends. Only a session takes lines; it and a sweep show progress
 abbrev pub Performs : CommandRequest → Bool → List Asked → List Written → List (Option (List ℕ)) → List Part → (List ℕ → Type 0) → Result Done Kind → Type 0
 Performs (Look config log) asks qs ws typed ps Prints r =
-    (d : Result (Unit {0}) Kind) × (ws ≡ []) × (ps ≡ []) × Looks config.now log.now asks qs typed Prints d × (r ≡ done_after_work d)
+    (d : Result (Unit {0}) Kind) × (ws ≡ []) × Looks config.now log.now asks qs typed ps Prints d × (r ≡ done_after_work d)
 Performs (Sweep config log fault bound from to strict save) asks qs ws typed ps Prints r =
     (typed ≡ []) × (d : Result Swept Kind) × Sweeps config.now log.now fault.now (option_map (λ s. s.now) save) from to bound qs ws ps Prints d
     × (r ≡ done_after_sweep strict d)

@@ -1,5 +1,5 @@
 -- What is done and told of the words of the command line (our own).
-use Rattle.std.specs.Prelude.{◌≡◌, ◌⊎◌, ◌++◌, ◌||◌, ◌&&◌, not, ℕ, Bool, true, false, List, [], codes, Option, Some, None, Result, Ok, Err, MatchResult, String, string_bytes}
+use Rattle.std.specs.Prelude.{◌≡◌, ◌⊎◌, ◌++◌, ◌||◌, ◌&&◌, not, ℕ, Bool, true, false, List, [], codes, Option, Some, None, Result, Ok, Err, MatchResult, String, option_map, string_bytes}
 use Rattle.std.specs.declared.alloc.Global.{Global}
 use Rattle.std.specs.declared.io.ErrorKind.{ErrorKind}
 use Rattle.std.specs.declared.io.ErrorKind.TheVariants as kinds
@@ -12,15 +12,19 @@ use Rattle.mx_app_explain.specs.Explaining.{explained}
 use Rattle.mx_app_command.specs.Mistakes.{IsMistake, both_given}
 use Rattle.mx_app_command.specs.declared.words.Mistake.{Mistake}
 use Rattle.mx_app_command.specs.declared.words.Mistake.TheVariants as mistakes
-use Rattle.mx_app_command.specs.Words.{Asks, AsksForSilence, AsksToExplain, mx_grammar}
+use Rattle.mx_app_command.specs.Words.{Asks, AsksForSilence, AsksForSums, AsksToExplain, mx_grammar}
 use Rattle.mx_app_failure.specs.declared.failure.Failure.{Failure as Kind}
 use Rattle.mx_app_failure.specs.declared.failure.Failure.TheVariants.{NotText, NoMemory}
-use Rattle.mx_app_failure.specs.Failure.{IsWanting, failure_line, status_of}
+use Rattle.mx_app_failure.specs.Failure.{IsWanting}
 use Rattle.mx_app_db.specs.Asked.{Asked}
 use Rattle.mx_app_db.specs.Written.{Written}
-use Rattle.mx_app_start.specs.declared.progress.Part.{Part}
+use Rattle.mx_walk.specs.declared.progress.Part.{Part}
 use Rattle.mx_app.specs.Noting.{Noted}
-use Rattle.mx_app.specs.Requests.{Performs, with_status}
+use Rattle.mx_app.specs.Requests.{with_status}
+use Rattle.mx_app.specs.Summing.{PerformsLine, line_failure_line, line_failure_status}
+use Rattle.mx_app.specs.declared.summing.LineFailure.{LineFailure}
+use Rattle.mx_app.specs.declared.summing.LineFailure.TheVariants.{Request, Sums}
+use Rattle.mx_app_explain.specs.SumsFaults.{fault_explained}
 use Rattle.mx_app.specs.declared.performing.Done.{Done}
 use Rattle.mx_app.specs.declared.complaint.Complaint.{Complaint}
 use Rattle.mx_app.specs.declared.complaint.Complaint.TheVariants.{Mistaken, TicksAndEvents, Failed, Explained, Unexplained}
@@ -34,9 +38,9 @@ words_failure_of k = NotText
 abbrev pub complaint_status : Complaint → ℕ
 complaint_status (Mistaken e) = 2
 complaint_status TicksAndEvents = 2
-complaint_status (Failed f) = status_of f
-complaint_status (Explained f s) = status_of f
-complaint_status (Unexplained f) = status_of f
+complaint_status (Failed f) = line_failure_status f
+complaint_status (Explained f s) = line_failure_status f
+complaint_status (Unexplained f) = line_failure_status f
 
 -- what standard error gets of `turns` with both `--ticks` and `--events`, in the form that clap's own texts have
 abbrev pub both_text : List ℕ
@@ -48,19 +52,19 @@ both_text =
 abbrev pub complaint_told : Complaint → Option (List ℕ)
 complaint_told (Mistaken e) = None
 complaint_told TicksAndEvents = Some both_text
-complaint_told (Failed f) = Some (failure_line f ++ codes "\n")
-complaint_told (Explained f s) = Some (failure_line f ++ codes "\n" ++ string_bytes s ++ codes "\n")
-complaint_told (Unexplained f) = Some (failure_line f ++ codes "\nmx: memory: wanted more of it\n")
+complaint_told (Failed f) = Some (line_failure_line f ++ codes "\n")
+complaint_told (Explained f s) = Some (line_failure_line f ++ codes "\n" ++ string_bytes s ++ codes "\n")
+complaint_told (Unexplained f) = Some (line_failure_line f ++ codes "\nmx: memory: wanted more of it\n")
 
 -- ---- words that ask for nothing
 
 -- help was printed, or what is wanting is told
 abbrev pub IsHelp : Result Done Complaint → Type 0
-IsHelp r = MatchResult r (λ done. done ≡ with_status 0) (λ complaint. (f : Kind) × IsWanting f × (complaint ≡ Failed f))
+IsHelp r = MatchResult r (λ done. done ≡ with_status 0) (λ complaint. (f : Kind) × IsWanting f × (complaint ≡ Failed (Request f)))
 
 -- what comes of an error, by its kind: lack of memory, help that was asked for, or a mistake
 abbrev pub ExplainsKind : WordsErrorKind → Error → Result Done Complaint → Type 0
-ExplainsKind words.OutOfMemory e r = r ≡ Err (Failed NoMemory)
+ExplainsKind words.OutOfMemory e r = r ≡ Err (Failed (Request NoMemory))
 ExplainsKind words.DisplayHelp e r = IsHelp r
 ExplainsKind words.DisplayVersion e r = IsHelp r
 ExplainsKind k e r = r ≡ Err (Mistaken e)
@@ -79,16 +83,26 @@ AnswersMistake mistakes.TicksAndEvents r = r ≡ Err TicksAndEvents
 abbrev pub explains : CommandLine → Bool → Bool
 explains line shows = (line.explains || shows) && not line.silent
 
+-- there is a name if the file of sums is at fault
+abbrev pub word_or_nothing : Option (List ℕ) → List ℕ
+word_or_nothing None = []
+word_or_nothing (Some name) = name
+
+-- what explains it: a request's failure by the request, and a fault of the file of sums by its name
+abbrev pub explained_line : CommandLine → LineFailure → Noted → List ℕ
+explained_line line (Request f) noted = explained line.request f noted.last noted.is_missed noted.is_unwritten noted.text
+explained_line line (Sums f) noted = fault_explained (word_or_nothing (option_map (λ s. s.now) line.sums)) f
+
 -- a failure is told alone; or, if it is to be explained, with the line that explains it, unless there was no memory for this line
-abbrev pub IsTold : CommandLine → Bool → Kind → Noted → Complaint → Type 0
+abbrev pub IsTold : CommandLine → Bool → LineFailure → Noted → Complaint → Type 0
 IsTold line shows f noted c =
     ((explains line shows ≡ false) × (c ≡ Failed f))
     ⊎ ((explains line shows ≡ true) × (c ≡ Unexplained f))
     ⊎ ((s : String Global) × (explains line shows ≡ true) × (c ≡ Explained f s)
-    × (string_bytes s ≡ explained line.request f noted.last noted.is_missed noted.is_unwritten noted.text))
+    × (string_bytes s ≡ explained_line line f noted))
 
 -- what comes of a request that is done, or of its failure
-abbrev pub IsAnswered : CommandLine → Bool → Result Done Kind → Noted → Result Done Complaint → Type 0
+abbrev pub IsAnswered : CommandLine → Bool → Result Done LineFailure → Noted → Result Done Complaint → Type 0
 IsAnswered line shows (Ok done) noted r = r ≡ Ok done
 IsAnswered line shows (Err f) noted r = (c : Complaint) × (r ≡ Err c) × IsTold line shows f noted c
 
@@ -96,7 +110,7 @@ IsAnswered line shows (Err f) noted r = (c : Complaint) × (r ≡ Err c) × IsTo
 -- for or written, and the mistake is answered
 abbrev pub IsPerformed : List (List ℕ) → Bool → Bool → List Asked → List Written → List (Option (List ℕ)) → List Part → Noted → (List ℕ → Type 0) → Result Done Complaint → Type 0
 IsPerformed texts asks shows qs ws typed ps noted Prints r =
-    ((line : CommandLine) × (d : Result Done Kind) × Asks line.request (subcommand_of mx_grammar texts) × AsksToExplain line.explains (subcommand_of mx_grammar texts)
-    × AsksForSilence line.silent (subcommand_of mx_grammar texts) × (both_given (subcommand_of mx_grammar texts) ≡ false)
-    × Performs line.request asks qs ws typed ps Prints d × IsAnswered line shows d noted r)
+    ((line : CommandLine) × (d : Result Done LineFailure) × Asks line.request (subcommand_of mx_grammar texts) × AsksToExplain line.explains (subcommand_of mx_grammar texts)
+    × AsksForSilence line.silent (subcommand_of mx_grammar texts) × AsksForSums (option_map (λ s. s.now) line.sums) (subcommand_of mx_grammar texts) × (both_given (subcommand_of mx_grammar texts) ≡ false)
+    × PerformsLine line asks qs ws typed ps Prints d × IsAnswered line shows d noted r)
     ⊎ ((m : Mistake) × IsMistake texts m × (qs ≡ []) × (ws ≡ []) × (typed ≡ []) × (ps ≡ []) × AnswersMistake m r)

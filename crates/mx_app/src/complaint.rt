@@ -3,6 +3,7 @@
 ghost use Rattle.std.specs.Prelude.{◌≡◌};
 ghost use Rattle.mx_app.specs.Words.{complaint_status};
 
+use crate::summing::LineFailure;
 use mx_app_failure::Failure;
 use std::fmt;
 
@@ -22,11 +23,11 @@ pub enum Complaint {
     /// They are those of `turns` with both `--ticks` and `--events`.
     TicksAndEvents,
     /// What they ask for failed.
-    Failed(Failure),
+    Failed(LineFailure),
     /// The same, with the line that explains it, without its end.
-    Explained(Failure, String),
+    Explained(LineFailure, String),
     /// The same, if there is no memory for the line that explains it.
-    Unexplained(Failure),
+    Unexplained(LineFailure),
 }
 
 impl Complaint {
@@ -66,10 +67,11 @@ impl fmt::Display for Complaint {
 impl From<Failure> for Complaint {
     ghost use Rattle.std.specs.Prelude.{◌≡◌};
     ghost use Rattle.mx_app.specs.declared.complaint.Complaint.TheVariants as complaints;
+    ghost use Rattle.mx_app.specs.declared.summing.LineFailure.TheVariants as failures;
 
-    ghost from_gives = { λ failure complaint. complaint ≡ complaints.Failed failure };
+    ghost from_gives = { λ failure complaint. complaint ≡ complaints.Failed (failures.Request failure) };
 
     fn from(failure: Failure) -> Complaint {
-        Complaint::Failed(failure)
+        Complaint::Failed(LineFailure::Request(failure))
     }
 }

@@ -9,6 +9,7 @@ mod named;
 mod noting;
 mod performing;
 mod program;
+mod summing;
 mod words;
 
 pub use asking::texts_asked;
@@ -31,4 +32,5 @@ pub use named::{as_named, dis_named, nm_named, one_named, step_apart};
 pub use noting::{NotingFiles, NotingReader};
 pub use performing::{Done, perform};
 pub use program::run_program;
+pub use summing::{LineFailure, perform_line};
 pub use words::perform_words;

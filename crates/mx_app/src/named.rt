@@ -92,8 +92,9 @@ fn saves_over(config: &str, script: &str, log: &str) -> bool
     config == log || script == log
 }
 
-/// Does what a script says, and saves the history that it made. No text that is read is written over: if LOG has
-/// its name, nothing is read or written.
+/// Does what a script says, and saves the history that it made. No file that is read is written over:
+/// if LOG has the name of CONFIG or SCRIPT, nothing is read or written. If it has that of a service's
+/// program, nothing is written or printed.
 pub fn step_apart<R: Reader + Drop, F: FileWriter + Drop, W: Write + Drop>(
     alloc: Global,
     channels: &mut Channels<R, F, W>,

@@ -4,7 +4,7 @@ ghost use Rattle.std.specs.Prelude.{◌≡◌, ◌++◌, List, Option, ℕ};
 ghost use Rattle.std.specs.Io.KnownBytes.{Appends};
 ghost use Rattle.mx_app_db.specs.Asked.{Asked};
 ghost use Rattle.mx_app_db.specs.Written.{Written};
-ghost use Rattle.mx_app_start.specs.declared.progress.Part.{Part as Parts};
+ghost use Rattle.mx_walk.specs.declared.progress.Part.{Part as Parts};
 ghost use Rattle.mx_app.specs.Requests.{Performs, done_after_replay, done_after_sweep, done_after_turns, done_after_work, with_status};
 
 use crate::explain::explain_named;
@@ -96,7 +96,7 @@ fn done_after_sweep(done: Result<Swept, Failure>, strict: bool) -> Result<Done, 
 /// Does what a request asks for, and answers the status to end with, and how turns or a run ended. The
 /// processors of `run` are threads;
 /// `look` answers the lines, and with `asks` prints the position before each; `progress` is shown how far a sweep
-/// is.
+/// is, or the walk at a session's beginning.
 pub fn perform<
     T: Threads + Wait + Clock + Sync,
     R: Reader + Drop,
@@ -218,7 +218,7 @@ pub fn perform<
         }
         CommandRequest::Look { config, log } => {
             let names = SessionNames { config, log };
-            done_after_work(look(alloc, reader, lines, names, asks, out))
+            done_after_work(look(alloc, reader, lines, progress, names, asks, out))
         }
         CommandRequest::Db { config, script } => done_after_work(db(
             alloc, reader, config, script, out,

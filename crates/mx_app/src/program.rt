@@ -83,7 +83,9 @@ where
         out: NotingOutput::new(io::writer(rt)),
     };
     let mut lines = InputLines::new(rt.reader());
-    let mut progress = RuntimeProgress::new(rt, terminals.err);
+    let is_session = begin_with(words, "look");
+    let unit = if is_session { "records" } else { "positions" };
+    let mut progress = RuntimeProgress::new(rt, terminals.err, unit);
     let asks = terminals.input && terminals.out;
     let shows = terminals.err;
     let answer = perform_words(
@@ -102,7 +104,7 @@ where
         Err(_) => PrintedText::Other,
     };
     // a session's reader has ended the last line
-    let last = if begin_with(words, "look") {
+    let last = if is_session {
         None
     } else {
         channels.out.last()

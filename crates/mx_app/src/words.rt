@@ -1,25 +1,26 @@
 //! From the words of the command line to a status.
 
-ghost use Rattle.std.specs.Prelude.{◌≡◌, ◌++◌, IfErr, List, Option, map, ℕ};
+ghost use Rattle.std.specs.Prelude.{◌≡◌, ◌++◌, IfErr, IfOk, List, Option, map, string_bytes, ℕ};
 ghost use Rattle.std.specs.Io.KnownBytes.{Appends};
 ghost use Rattle.mx_app_failure.specs.Failure.{IsWanting};
 ghost use Rattle.mx_app_db.specs.Asked.{Asked};
 ghost use Rattle.mx_app_db.specs.Written.{Written};
-ghost use Rattle.mx_app_start.specs.declared.progress.Part.{Part as Parts};
+ghost use Rattle.mx_walk.specs.declared.progress.Part.{Part as Parts};
 ghost use Rattle.mx_app.specs.Noting.{noted_by, noted_in};
-ghost use Rattle.mx_app.specs.Words.{AnswersMistake, Explains, explains, IsAnswered, IsPerformed, IsTold};
+ghost use Rattle.mx_app.specs.Words.{AnswersMistake, Explains, explained_line, explains, IsAnswered, IsPerformed, IsTold};
 
 use crate::complaint::Complaint;
 use crate::noting::{NotingFiles, NotingReader, noted};
-use crate::performing::{Done, perform};
+use crate::performing::Done;
+use crate::summing::{LineFailure, perform_line};
 use clap::Error;
 use clap::error::ErrorKind;
 use mx_app_command::{CommandLine, Mistake, command};
 use mx_app_db::{Channels, FileWriter, LineReader, Reader};
-use mx_app_explain::{Notes, explain_failure};
+use mx_app_explain::{Notes, explain_failure, explain_sums};
 use mx_app_failure::{Failure, print_text};
 use mx_app_start::Progress;
-use std::alloc::Global;
+use std::alloc::{AllocError, Global};
 use std::io::Write;
 use std::sync::Wait;
 use std::thread::Threads;
@@ -38,7 +39,7 @@ fn explain<W: Write>(alloc: Global, error: Error, out: &mut W) -> Result<Done, C
     ensures { Explains error result }
 {
     if error.kind() == ErrorKind::OutOfMemory {
-        return Err(Complaint::Failed(Failure::NoMemory));
+        return Err(Complaint::from(Failure::NoMemory));
     }
     if error.use_stderr() {
         return Err(Complaint::Mistaken(error));
@@ -66,13 +67,31 @@ fn explains(line: CommandLine<'_>, shows: bool) -> bool
     (line.explains || shows) && !line.silent
 }
 
+/// What explains a failure, by the request or by the file of sums: a line without its end.
+fn explained_line(
+    alloc: Global,
+    line: CommandLine<'_>,
+    failure: LineFailure,
+    notes: Notes<'_>,
+) -> Result<String, AllocError>
+    ensures { IfOk result (λ text. string_bytes text ≡ explained_line line.entry failure (noted_in notes.entry)) }
+{
+    match failure {
+        LineFailure::Request(failure) => explain_failure(alloc, line.request, failure, notes),
+        LineFailure::Sums(fault) => match line.sums {
+            Some(name) => explain_sums(alloc, name, fault),
+            None => explain_sums(alloc, "", fault),
+        },
+    }
+}
+
 /// What is told of a failure, with what explains it if it is to be explained.
 #[tactic(auto, using(crate::proofs::Told::told_alone, crate::proofs::Told::told_short))]
 fn told<'a>(
     alloc: Global,
     line: CommandLine<'a>,
     shows: bool,
-    failure: Failure,
+    failure: LineFailure,
     notes: Notes<'a>,
 ) -> Complaint
     ensures { IsTold line.entry shows failure (noted_in notes.entry) result }
@@ -80,7 +99,7 @@ fn told<'a>(
     if !explains(line, shows) {
         return Complaint::Failed(failure);
     }
-    match explain_failure(alloc, line.request, failure, notes) {
+    match explained_line(alloc, line, failure, notes) {
         Ok(text) => Complaint::Explained(failure, text),
         Err(_) => Complaint::Unexplained(failure),
     }
@@ -91,7 +110,7 @@ fn answer<'a>(
     alloc: Global,
     line: CommandLine<'a>,
     shows: bool,
-    done: Result<Done, Failure>,
+    done: Result<Done, LineFailure>,
     notes: Notes<'a>,
 ) -> Result<Done, Complaint>
     ensures { IsAnswered line.entry shows done (noted_in notes.entry) result }
@@ -134,7 +153,7 @@ pub fn perform_words<
 {
     match command(alloc, words) {
         Ok(line) => {
-            let done = perform(rt, alloc, channels, lines, progress, asks, line.request);
+            let done = perform_line(rt, alloc, channels, lines, progress, asks, line);
             answer(
                 alloc,
                 line,

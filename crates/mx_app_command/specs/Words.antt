@@ -46,6 +46,14 @@ of_one name first = subcommand name (wanted first ∷ [])
 abbrev pub of_two : Text → Text → Text → Shape
 of_two name first second = subcommand name (wanted first ∷ wanted second ∷ [])
 
+-- `--sums SUMS`: the file of a machine's sums
+abbrev pub sums_rule : Rule
+sums_rule = after_name (codes "sums") (codes "SUMS")
+
+-- `NAME CONFIG LOG --sums SUMS`, what follows a history
+abbrev pub following_shape : Text → Shape
+following_shape name = subcommand name (wanted (codes "CONFIG") ∷ wanted (codes "LOG") ∷ sums_rule ∷ [])
+
 -- none of its arguments is its subcommands' too
 abbrev pub IsLocal : Command → Type 0
 IsLocal c = (out-Command c).has_globals ≡ false
@@ -54,34 +62,34 @@ IsLocal c = (out-Command c).has_globals ≡ false
 abbrev pub one_shape : Shape
 one_shape = subcommand (codes "one") (wanted (codes "FILE") ∷ wanted_number (codes "N") ∷ [])
 
--- `step CONFIG SCRIPT --save LOG --numbered`
+-- `step CONFIG SCRIPT --save LOG --numbered --sums SUMS`
 abbrev pub step_shape : Shape
-step_shape = subcommand (codes "step") (wanted (codes "CONFIG") ∷ wanted (codes "SCRIPT") ∷ after_name (codes "save") (codes "LOG") ∷ flag (codes "numbered") ∷ [])
+step_shape = subcommand (codes "step") (wanted (codes "CONFIG") ∷ wanted (codes "SCRIPT") ∷ after_name (codes "save") (codes "LOG") ∷ flag (codes "numbered") ∷ sums_rule ∷ [])
 
--- `run CONFIG LOG --ticks T --events EVENTS`
+-- `run CONFIG LOG --ticks T --events EVENTS --sums SUMS`
 abbrev pub run_shape : Shape
 run_shape =
     subcommand (codes "run")
-    (wanted (codes "CONFIG") ∷ wanted (codes "LOG") ∷ number_after (codes "ticks") (codes "T") ∷ after_name (codes "events") (codes "EVENTS") ∷ [])
+    (wanted (codes "CONFIG") ∷ wanted (codes "LOG") ∷ number_after (codes "ticks") (codes "T") ∷ after_name (codes "events") (codes "EVENTS") ∷ sums_rule ∷ [])
 
--- `turns CONFIG LOG --ticks T --events EVENTS --turns N`; that only one of ticks and events is given, `Mistakes` has
+-- `turns CONFIG LOG --ticks T --events EVENTS --turns N --sums SUMS`; that only one of ticks and events is given, `Mistakes` has
 abbrev pub turns_shape : Shape
 turns_shape =
     subcommand (codes "turns")
-    (wanted (codes "CONFIG") ∷ wanted (codes "LOG") ∷ number_after (codes "ticks") (codes "T") ∷ after_name (codes "events") (codes "EVENTS") ∷ number_after (codes "turns") (codes "N") ∷ [])
+    (wanted (codes "CONFIG") ∷ wanted (codes "LOG") ∷ number_after (codes "ticks") (codes "T") ∷ after_name (codes "events") (codes "EVENTS") ∷ number_after (codes "turns") (codes "N") ∷ sums_rule ∷ [])
 
--- `sweep CONFIG LOG FAULT --turns N --from A --to B --strict --save FILE`
+-- `sweep CONFIG LOG FAULT --turns N --from A --to B --strict --save FILE --sums SUMS`
 abbrev pub sweep_shape : Shape
 sweep_shape =
     subcommand (codes "sweep")
     (wanted (codes "CONFIG") ∷ wanted (codes "LOG") ∷ wanted (codes "FAULT") ∷ number_after (codes "turns") (codes "N") ∷ number_after (codes "from") (codes "A")
-    ∷ number_after (codes "to") (codes "B") ∷ flag (codes "strict") ∷ after_name (codes "save") (codes "FILE") ∷ [])
+    ∷ number_after (codes "to") (codes "B") ∷ flag (codes "strict") ∷ after_name (codes "save") (codes "FILE") ∷ sums_rule ∷ [])
 
--- `NAME CONFIG LOG --from A --to B`, what is told of a history's records
+-- `NAME CONFIG LOG --from A --to B --sums SUMS`, what is told of a history's records
 abbrev pub looking_shape : Text → Shape
 looking_shape name =
     subcommand name
-    (wanted (codes "CONFIG") ∷ wanted (codes "LOG") ∷ number_after (codes "from") (codes "A") ∷ number_after (codes "to") (codes "B") ∷ [])
+    (wanted (codes "CONFIG") ∷ wanted (codes "LOG") ∷ number_after (codes "from") (codes "A") ∷ number_after (codes "to") (codes "B") ∷ sums_rule ∷ [])
 
 -- one of the subcommands is wanted
 abbrev pub top_app : App
@@ -119,10 +127,10 @@ mx_grammar = record {
   top = program_app.top;
   subs = program_shapes
       ++ machine_shapes
-      ++ of_two (codes "replay") (codes "CONFIG") (codes "LOG")
+      ++ following_shape (codes "replay")
       ∷ looking_shape (codes "trace")
       ∷ looking_shape (codes "draw")
-      ∷ of_two (codes "look") (codes "CONFIG") (codes "LOG")
+      ∷ following_shape (codes "look")
       ∷ of_two (codes "db") (codes "CONFIG") (codes "SCRIPT")
       ∷ [];
 }
@@ -201,6 +209,11 @@ AsksToExplain explains None = ⊥
 abbrev pub AsksForSilence : Bool → Option (Text × List Row) → Type 0
 AsksForSilence silent (Some found) = IsFlag (codes "no-explain") found.1 silent
 AsksForSilence silent None = ⊥
+
+-- the file of sums that the words name, if they name one
+abbrev pub AsksForSums : Option Text → Option (Text × List Row) → Type 0
+AsksForSums sums (Some found) = MayHaveText (codes "SUMS") found.1 sums
+AsksForSums sums None = ⊥
 
 abbrev pub Asks : CommandRequest → Option (Text × List Row) → Type 0
 Asks request (Some found) = AsksBy request found.0 found.1

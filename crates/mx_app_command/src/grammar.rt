@@ -202,6 +202,20 @@ const COMMANDS: CommandArgument<'static> = CommandArgument {
     form: ArgumentForm::Text,
 };
 
+/// Where the sums of the machine are kept.
+const WRITTEN_SUMS: CommandArgument<'static> = CommandArgument {
+    name: "SUMS",
+    help: "Writes SHA-256 sums of the configuration and of each program to SUMS",
+    form: ArgumentForm::After("sums"),
+};
+
+/// The sums that the machine has to have.
+const SUMS: CommandArgument<'static> = CommandArgument {
+    name: "SUMS",
+    help: "Refuses a configuration or a program that has another sum than SUMS says",
+    form: ArgumentForm::After("sums"),
+};
+
 /// Whether a failure is explained.
 const EXPLAIN: CommandArgument<'static> = CommandArgument {
     name: "explain",
@@ -255,19 +269,44 @@ static MACHINE_COMMANDS: [Subcommand<'static>; 5] = [
     Subcommand {
         name: "step",
         help: "Runs a machine by a script and prints its answers and a report",
-        arguments: &[CONFIG, SCRIPT, SAVED, NUMBERED, EXPLAIN, SILENT],
+        arguments: &[
+            CONFIG,
+            SCRIPT,
+            SAVED,
+            NUMBERED,
+            WRITTEN_SUMS,
+            EXPLAIN,
+            SILENT,
+        ],
         example: Example::Step,
     },
     Subcommand {
         name: "run",
         help: "Runs a machine, each processor in a thread, writes its history and prints a report",
-        arguments: &[CONFIG, RECORDED, TICKS, CALLS, EXPLAIN, SILENT],
+        arguments: &[
+            CONFIG,
+            RECORDED,
+            TICKS,
+            CALLS,
+            WRITTEN_SUMS,
+            EXPLAIN,
+            SILENT,
+        ],
         example: Example::Run,
     },
     Subcommand {
         name: "turns",
         help: "Runs a machine on one thread, always the same, writes its history and prints a report",
-        arguments: &[CONFIG, RECORDED, TICKS, EVENTS, TURNS, EXPLAIN, SILENT],
+        arguments: &[
+            CONFIG,
+            RECORDED,
+            TICKS,
+            EVENTS,
+            TURNS,
+            WRITTEN_SUMS,
+            EXPLAIN,
+            SILENT,
+        ],
         example: Example::Turns,
     },
     Subcommand {
@@ -282,6 +321,7 @@ static MACHINE_COMMANDS: [Subcommand<'static>; 5] = [
             LAST_POSITION,
             STRICT,
             SAVED_FAULT,
+            SUMS,
             EXPLAIN,
             SILENT,
         ],
@@ -294,25 +334,25 @@ static HISTORY_COMMANDS: [Subcommand<'static>; 5] = [
     Subcommand {
         name: "replay",
         help: "Runs a saved history again and prints the report",
-        arguments: &[CONFIG, LOG, EXPLAIN, SILENT],
+        arguments: &[CONFIG, LOG, SUMS, EXPLAIN, SILENT],
         example: Example::Replay,
     },
     Subcommand {
         name: "trace",
         help: "Runs a saved history again and prints what each record did",
-        arguments: &[CONFIG, LOG, FROM, TO, EXPLAIN, SILENT],
+        arguments: &[CONFIG, LOG, FROM, TO, SUMS, EXPLAIN, SILENT],
         example: Example::Trace,
     },
     Subcommand {
         name: "draw",
         help: "Runs a saved history again and prints a picture of it as SVG",
-        arguments: &[CONFIG, LOG, FROM, TO, EXPLAIN, SILENT],
+        arguments: &[CONFIG, LOG, FROM, TO, SUMS, EXPLAIN, SILENT],
         example: Example::Draw,
     },
     Subcommand {
         name: "look",
         help: "Looks at a saved history forward and back, by commands on standard input",
-        arguments: &[CONFIG, LOG, EXPLAIN, SILENT],
+        arguments: &[CONFIG, LOG, SUMS, EXPLAIN, SILENT],
         example: Example::Look,
     },
     Subcommand {

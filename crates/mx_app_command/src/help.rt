@@ -203,7 +203,8 @@ fault or the end of its budget, and gives it back. One thread more makes the tic
 most a thousand a second, and respawns what is down while it has restarts. The run
 ends where nothing is ready, nothing is left to respawn and all ticks are made, or
 where the history is full. So a machine that is never at rest needs a log that ends
-it. Two runs may differ; the replay of a run's history never does.
+it. Two runs may differ; the replay of a run's history never does. With --sums SUMS
+the file SUMS gets sums of the machine, by which replay knows it (mx replay --help).
 
 With --events EVENTS the second other actor has a thread, so CONFIG needs others 2 or
 more. It makes the lines of EVENTS in order: line L, kill E, tick, and wait N, which
@@ -281,9 +282,12 @@ steps, with a tick by the actor after the processors, here number 1:
 0 take
 0 back 3
 
+With --sums SUMS a machine is refused that has another configuration or another program
+than the one whose sums step, run or turns wrote: mx: 64 OtherMachine NAME.
+
 Status: 0 done; 1 a text or a program's file is refused, or an event, which is told
-by its line; 2 a mistake in the words; 3 a file can't be read; 4 no memory. Formats:
-docs/use/REFERENCE.md.";
+by its line, or the machine; 2 a mistake in the words; 3 a file can't be read; 4 no
+memory. Formats: docs/use/REFERENCE.md.";
 
 /// A session over a history.
 const LOOK_EXAMPLE: &str = "In the folder examples/machines/restart:

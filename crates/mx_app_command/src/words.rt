@@ -2,7 +2,7 @@
 
 ghost use Rattle.std.specs.Prelude.{◌≡◌, ◌&&◌, ℕ, Bool, IfErr, IfOk, MatchResult, [], codes, false, is_some, map, not, option_map, true};
 ghost use Rattle.clap.specs.Words.{FailsBy, HasMatchesOf, fault_of, first_of, found_of, kind_of, rows_of, subcommand_of, takes};
-ghost use Rattle.mx_app_command.specs.Words.{Asks, AsksBy, AsksForSilence, AsksToExplain, HasNumber, HasNumberOr, HasRange, HasText, IsFlag, MayHaveNumber, MayHaveRange, MayHaveSweep, MayHaveText, MayHaveTurns, IsAsked, IsHistoryAsked, IsMachineAsked, IsProgramAsked, IsScriptAsked, is_machine, mx_grammar};
+ghost use Rattle.mx_app_command.specs.Words.{Asks, AsksBy, AsksForSilence, AsksForSums, AsksToExplain, HasNumber, HasNumberOr, HasRange, HasText, IsFlag, MayHaveNumber, MayHaveRange, MayHaveSweep, MayHaveText, MayHaveTurns, IsAsked, IsHistoryAsked, IsMachineAsked, IsProgramAsked, IsScriptAsked, is_machine, mx_grammar};
 ghost use Rattle.mx_app_command.specs.Mistakes.{IsMistake, IsOutOfMemory, both_given, has_both};
 
 use crate::grammar::grammar;
@@ -123,6 +123,8 @@ pub struct CommandLine<'a> {
     pub explains: bool,
     /// Whether a failure is not to be explained, also if standard error is a terminal.
     pub silent: bool,
+    /// The file of sums that is written, or that the machine has to have.
+    pub sums: Option<&'a str>,
 }
 
 /// Why the words of a command line ask for nothing.
@@ -390,6 +392,8 @@ pub fn command<'a>(alloc: Global, words: &'a [&'a str]) -> Result<CommandLine<'a
         (subcommand_of mx_grammar (map (λ s. s.now) words.now))) }
     ensures silent { IfOk result (λ l. AsksForSilence l.silent
         (subcommand_of mx_grammar (map (λ s. s.now) words.now))) }
+    ensures sums { IfOk result (λ l. AsksForSums (option_map (λ s. s.now) l.sums)
+        (subcommand_of mx_grammar (map (λ s. s.now) words.now))) }
     ensures passes { IfErr result (λ m.
         (takes mx_grammar (map (λ s. s.now) words.now)
         && not (both_given (subcommand_of mx_grammar (map (λ s. s.now) words.now)))) ≡ true
@@ -410,6 +414,7 @@ pub fn command<'a>(alloc: Global, words: &'a [&'a str]) -> Result<CommandLine<'a
                 request: request_of(name, found),
                 explains: flag_asked(found, "explain"),
                 silent: flag_asked(found, "no-explain"),
+                sums: value_if_asked(found, "SUMS"),
             })
         }
         None => unreachable!(),

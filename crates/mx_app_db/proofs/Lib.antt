@@ -1,5 +1,5 @@
 pub mod Worlds
 pub mod Made
 pub mod Printed
-pub mod Told
+pub mod AnswerTexts
 pub mod LastOnes

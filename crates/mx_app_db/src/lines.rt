@@ -6,7 +6,6 @@ ghost use Rattle.mx_app_step.specs.Machine.{world_of};
 ghost use Rattle.mx_app_step.specs.Pieces.{IsPrintedBut};
 ghost use Rattle.mx_machine.specs.World.{actors, held_by};
 ghost use Rattle.mx_print_answers.specs.Processes.{registers_text};
-ghost use Rattle.mx_print_answers.specs.Slots.{memory_of, registers_of, slot_named};
 ghost use Rattle.mx_app_db.specs.DebugLines.{world_after_go, debug_line_made, debug_lines_made};
 ghost use Rattle.mx_app_db.specs.Told.{eip_of, image_held, memory_held, go_text, debug_line_text, debug_lines_text};
 
@@ -45,7 +44,7 @@ fn perform_go(
     ensures world { world_after_go (world_of machine.old) debugger.now cpu steps
         (held_by (world_of machine.old) cpu) ≡ world_of machine.new }
     ensures actors { actors (world_of machine.new) ≡ actors (world_of machine.old) }
-    ensures told { OnOk result (string_bytes text.new ≡ string_bytes text.old
+    ensures text { OnOk result (string_bytes text.new ≡ string_bytes text.old
         ++ go_text debugger.now steps (held_by (world_of machine.old) cpu)) }
 {
     let run = go(machine, debugger, cpu, steps);
@@ -82,29 +81,6 @@ fn show_memory(
     }
 }
 
-/// Performs a line that shows registers of a slot: appends those of its process, wherever it is.
-fn show_registers_of(machine: &Machine, slot: u32, text: &mut String) -> Result<(), AllocError>
-    ensures { OnOk result (string_bytes text.new ≡ string_bytes text.old
-        ++ registers_of (world_of machine.now) (slot_named (world_of machine.now) slot)) }
-{
-    push_registers_of(text, machine, slot_named(machine, slot))
-}
-
-/// Performs a line that shows memory of a slot: appends `count` bytes of its process, wherever it is.
-fn show_memory_of(
-    machine: &Machine,
-    slot: u32,
-    from: &AddressWord,
-    count: u32,
-    text: &mut String,
-) -> Result<(), AllocError>
-    ensures { OnOk result (string_bytes text.new ≡ string_bytes text.old
-        ++ memory_of (world_of machine.now) from.now count
-        (slot_named (world_of machine.now) slot)) }
-{
-    push_memory_of(text, machine, slot_named(machine, slot), from, count)
-}
-
 /// Performs a line of a debugger's script, and appends the answer to `text`. If the line names no actor,
 /// `other` is the actor of its event.
 #[tactic(auto, using(crate::proofs::Made::plain_made, crate::proofs::Made::broken_made, crate::proofs::Made::cleared_made, crate::proofs::Made::gone_made, crate::proofs::Made::registers_made, crate::proofs::Made::registers_of_made, crate::proofs::Made::memory_made, crate::proofs::Made::memory_of_made, crate::proofs::Made::messages_made, crate::proofs::Made::last_messages_made))]
@@ -119,7 +95,7 @@ fn perform_debug_line(
     ensures made { OnOk result
         (debug_line_made other (record { world = world_of machine.old; points = debugger.old })
         line.now ≡ record { world = world_of machine.new; points = debugger.new }) }
-    ensures told { OnOk result (string_bytes text.new ≡ string_bytes text.old
+    ensures text { OnOk result (string_bytes text.new ≡ string_bytes text.old
         ++ debug_line_text other (record { world = world_of machine.old; points = debugger.old })
         line.now) }
     ensures actors { actors (world_of machine.new) ≡ actors (world_of machine.old) }
@@ -143,10 +119,12 @@ fn perform_debug_line(
         }
         DebugLine::Go(cpu, steps) => perform_go(machine, debugger, *cpu, *steps, text),
         DebugLine::Registers(cpu) => show_registers(machine, *cpu, text),
-        DebugLine::RegistersOf(slot) => show_registers_of(machine, *slot, text),
+        DebugLine::RegistersOf(slot) => {
+            push_registers_of(text, machine, slot_named(machine, *slot))
+        }
         DebugLine::Memory(cpu, from, count) => show_memory(machine, *cpu, from, *count, text),
         DebugLine::MemoryOf(slot, from, count) => {
-            show_memory_of(machine, *slot, from, *count, text)
+            push_memory_of(text, machine, slot_named(machine, *slot), from, *count)
         }
         DebugLine::Messages => push_messages(text, machine.kernel()),
         DebugLine::LastMessages(most) => push_last_messages(text, machine, *most),
@@ -167,7 +145,7 @@ pub fn perform_debug_lines<W: io::Write>(
     ensures world { OnOk result (world_of machine.new
         ≡ (debug_lines_made other (record { world = world_of machine.old; points = [] })
         lines.now).world) }
-    ensures told { OnOk result (IsPrintedBut (W.contents out.old) (W.contents out.new)
+    ensures text { OnOk result (IsPrintedBut (W.contents out.old) (W.contents out.new)
         (string_bytes text.new)
         (string_bytes text.old
         ++ debug_lines_text other (record { world = world_of machine.old; points = [] })

@@ -1,2 +1,3 @@
+mod Joins
 mod SeenLemmas
 mod DrawnLemmas

@@ -16,14 +16,14 @@ ghost use Rattle.mx_machine.specs.World.{actors};
 ghost use Rattle.mx_look_picture.specs.Picture.{IsDrawable};
 ghost use Rattle.mx_app_draw.specs.Scenes.{IsDrawing, IsDrawingPrinted, IsPictureText};
 
+use crate::document::push_drawing;
 use crate::scene::{DrawnPart, scene_of};
 use crate::seeing::last_drawn;
 use mx_app_step::{
     Failure, History, HistoryPart, Machine, Reader, Record, Replayed, first_records, print_text,
     start,
 };
-use mx_look_picture::picture;
-use mx_look_svg::{Scene, push_drawing};
+use mx_look_picture::{Scene, picture};
 use std::alloc::Global;
 use std::io::Write;
 

@@ -9,7 +9,7 @@ ghost use Rattle.mx_app_draw.specs.Scenes.{IsHistoryScene, refused_line, told_nu
 
 use crate::seeing::see_records;
 use mx_app_step::{Machine, Record, lines_above};
-use mx_look_svg::Scene;
+use mx_look_picture::Scene;
 use mx_machine::Refusal;
 use std::alloc::{AllocError, Global};
 

@@ -12,7 +12,7 @@ ghost use Rattle.mx_machine.specs.World.{actors};
 ghost use Rattle.mx_app_draw.specs.Scenes.{IsSeen, drawn_of, last_drawn};
 
 use mx_app_step::{Machine, Record, look_record, resting_step};
-use mx_look_svg::{Glance, Step};
+use mx_look_picture::{Glance, Step};
 use mx_machine::{Refusal, actors_stay};
 use std::alloc::{AllocError, Global};
 

@@ -2,3 +2,4 @@ mod WordLemmas
 mod Printed
 mod Spaced
 mod Reserved
+mod Passing

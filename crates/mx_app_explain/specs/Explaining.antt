@@ -9,6 +9,7 @@ use Rattle.mx_app_command.specs.declared.words.CommandRequest.TheVariants.{One, 
 use Rattle.mx_app_failure.specs.declared.failure.Failure.{Failure as Kind}
 use Rattle.mx_app_failure.specs.declared.failure.Failure.TheVariants.{Refused, Faulty, Misstated, NotText, File, NoMemory}
 use Rattle.mx_app_explain.specs.Details.{config_detail, detail_told, wanted_told}
+use Rattle.mx_app_explain.specs.OwnPrograms.{writes_program}
 use Rattle.mx_app_explain.specs.TextAdvice.{advice_told, advised, words_at}
 use Rattle.mx_app_explain.specs.Wanted.{problem_wanted, refusal_wanted}
 use Rattle.mx_app_explain.specs.declared.explaining.Explanation.{Explanation}
@@ -153,26 +154,27 @@ refused_subject r last = if reads_one_program r then first_word r else asked_sub
 abbrev pub given_subject : CommandRequest → Option (List ℕ) → List ℕ
 given_subject r last = if reads_one_program r || is_run r then output_told else asked_subject r last
 
-abbrev pub file_subject : CommandRequest → Option (List ℕ) → Bool → Bool → List ℕ
-file_subject r last is_missed is_unwritten =
+abbrev pub file_subject : CommandRequest → Option (List ℕ) → Bool → Bool → Option (List ℕ) → List ℕ
+file_subject r last is_missed is_unwritten text =
     if writes_over r || is_unwritten then written_word r
-    else (if is_missed then asked_subject r last else given_subject r last)
+    else (if is_missed then asked_subject r last
+    else (if writes_program r text then written_word r else given_subject r last))
 
 -- the text with a line that says nothing: of two, the one that was asked for last
 abbrev pub misstated_subject : CommandRequest → Option (List ℕ) → List ℕ
 misstated_subject (Sweep config log fault bound from to strict save) last = asked_subject (Sweep config log fault bound from to strict save) last
 misstated_subject r last = second_word r
 
-abbrev pub subject_of : CommandRequest → Kind → Option (List ℕ) → Bool → Bool → List ℕ
-subject_of r (Refused errors.NoMemory) last m u = memory_told
-subject_of r (Refused e) last m u = refused_subject r last
-subject_of r (Faulty f) last m u = first_word r
-subject_of r (Misstated lines.NoMemory) last m u = memory_told
-subject_of r (Misstated (lines.BadRecord n)) last m u = misstated_subject r last
-subject_of r (Misstated e) last m u = first_word r
-subject_of r NotText last m u = first_word r
-subject_of r File last m u = file_subject r last m u
-subject_of r NoMemory last m u = memory_told
+abbrev pub subject_of : CommandRequest → Kind → Option (List ℕ) → Bool → Bool → Option (List ℕ) → List ℕ
+subject_of r (Refused errors.NoMemory) last m u text = memory_told
+subject_of r (Refused e) last m u text = refused_subject r last
+subject_of r (Faulty f) last m u text = first_word r
+subject_of r (Misstated lines.NoMemory) last m u text = memory_told
+subject_of r (Misstated (lines.BadRecord n)) last m u text = misstated_subject r last
+subject_of r (Misstated e) last m u text = first_word r
+subject_of r NotText last m u text = first_word r
+subject_of r File last m u text = file_subject r last m u text
+subject_of r NoMemory last m u text = memory_told
 
 -- ---- what was wanted
 
@@ -197,26 +199,27 @@ lines_wanted r (lines.TooMany n) = codes "at most 32 services"
 lines_wanted r (lines.BadRecord n) = record_wanted r
 lines_wanted r lines.NoMemory = codes "more of it"
 
-abbrev pub file_wanted : CommandRequest → Bool → Bool → List ℕ
-file_wanted r is_missed is_unwritten =
+abbrev pub file_wanted : CommandRequest → Bool → Bool → Option (List ℕ) → List ℕ
+file_wanted r is_missed is_unwritten text =
     if writes_over r then codes "another file than the one that is read"
     else (if is_unwritten then codes "a file that can be written"
     else (if is_missed then codes "a file that can be read"
+    else (if writes_program r text then codes "another file than a service's program"
     else (if reads_one_program r || is_run r then codes "room for what is printed"
-    else codes "UTF-8 in what is read, and room for what is printed")))
+    else codes "UTF-8 in what is read, and room for what is printed"))))
 
-abbrev pub wanted_of : CommandRequest → Kind → Bool → Bool → List ℕ
-wanted_of r (Refused e) m u = refusal_wanted e
-wanted_of r (Faulty f) m u = problem_wanted f.problem
-wanted_of r (Misstated e) m u = lines_wanted r e
-wanted_of r NotText m u = codes "UTF-8"
-wanted_of r File m u = file_wanted r m u
-wanted_of r NoMemory m u = codes "more of it"
+abbrev pub wanted_of : CommandRequest → Kind → Bool → Bool → Option (List ℕ) → List ℕ
+wanted_of r (Refused e) m u text = refusal_wanted e
+wanted_of r (Faulty f) m u text = problem_wanted f.problem
+wanted_of r (Misstated e) m u text = lines_wanted r e
+wanted_of r NotText m u text = codes "UTF-8"
+wanted_of r File m u text = file_wanted r m u text
+wanted_of r NoMemory m u text = codes "more of it"
 
 -- ---- the word at fault
 
-abbrev pub plain_detail : CommandRequest → Kind → Bool → Bool → List ℕ
-plain_detail r f m u = wanted_told [] (wanted_of r f m u) []
+abbrev pub plain_detail : CommandRequest → Kind → Bool → Bool → Option (List ℕ) → List ℕ
+plain_detail r f m u text = wanted_told [] (wanted_of r f m u text) []
 
 -- the words of the line at fault of a text for the assembler
 abbrev pub faulty_words : Kind → Option (List ℕ) → List (List ℕ)
@@ -231,7 +234,7 @@ config_detail_or wanted (Some detail) = detail
 abbrev pub detail_of : CommandRequest → Kind → Bool → Bool → Option (List ℕ) → List ℕ
 detail_of r (Misstated (lines.BadLine n)) m u (Some text) = config_detail_or (lines_wanted r (lines.BadLine n)) (config_detail text n)
 detail_of r (Faulty f) m u (Some text) = advice_told (advised f.problem (words_at text f.line))
-detail_of r f m u text = wanted_told [] (wanted_of r f m u) []
+detail_of r f m u text = wanted_told [] (wanted_of r f m u text) []
 
 -- ---- the line, without its end
 
@@ -241,4 +244,4 @@ explanation_told e = codes "mx: " ++ subject_told e.subject ++ codes ": " ++ det
 -- WHAT EXPLAINS A FAILURE, by the request, the name of the file that was asked for last, whether it was missed, whether a file wasn't written, and the text that was read first
 abbrev pub explained : CommandRequest → Kind → Option (List ℕ) → Bool → Bool → Option (List ℕ) → List ℕ
 explained r f last is_missed is_unwritten text =
-    codes "mx: " ++ subject_of r f last is_missed is_unwritten ++ codes ": " ++ detail_of r f is_missed is_unwritten text
+    codes "mx: " ++ subject_of r f last is_missed is_unwritten text ++ codes ": " ++ detail_of r f is_missed is_unwritten text

@@ -3,7 +3,11 @@ pub mod ConfigPlaces
 pub mod Details
 pub mod Explaining
 pub mod FoundWords
+pub mod OwnPrograms
 pub mod ServiceWords
 pub mod TextAdvice
 pub mod TextWords
 pub mod Wanted
+pub mod Items
+pub mod Sums
+pub mod SumsFaults

@@ -54,7 +54,8 @@ fn faulty_words(alloc: Global, failure: Failure, text: Option<&[u8]>) -> Result<
 
 /// What was wanted of no line that is known.
 fn plain_detail<'a>(request: CommandRequest<'_>, failure: Failure, notes: Notes<'_>) -> Detail<'a>
-    ensures { detail_told result ≡ plain_detail request.entry failure notes.entry.is_missed notes.entry.is_unwritten }
+    ensures { detail_told result ≡ plain_detail request.entry failure notes.entry.is_missed
+        notes.entry.is_unwritten (option_map (λ t. t.now) notes.entry.text) }
 {
     Detail {
         label: Label::Nowhere,

@@ -1,25 +1,38 @@
-//! Explains: what a configuration's services may do, and the second line of a failure.
+//! Explains: what a configuration's services may do, which machine a history is of, and the second line of a
+//! failure.
 //!
 //! `mx explain` prints what the masks of a configuration allow: `services_text` names each bit, by the names
 //! that a trace has. The second line of a failure says which file it is about, by the word that has its name,
 //! and what was wanted. Of a line of a configuration or of a text for the assembler it says the word at fault.
+//!
+//! The sums of a machine are SHA-256 of what its configuration says, and of each service's program. They are
+//! written beside a history, a line each, as `sha256sum` prints it.
 #![tactic(auto)]
 
 mod allowed;
+mod comparing;
 mod config_line;
 mod config_place;
 mod detail;
 mod explaining;
 mod found_word;
+mod items;
+mod own_programs;
 mod services;
 mod subject;
+mod sums;
+mod sums_fault;
 mod text_advice;
 mod text_words;
 mod wanted;
 
+pub use comparing::{first_other, own_sums_pass, passed_sums_are_own};
 pub use config_place::{Key, Place};
 pub use detail::{Detail, Label};
 pub use explaining::explain_failure;
 pub use found_word::FoundWord;
+pub use items::items_text;
 pub use services::services_text;
-pub use subject::{Notes, Subject};
+pub use subject::{Notes, Subject, first_name, second_name};
+pub use sums::{MachinePart, PartSum, machine_sums, sums_text};
+pub use sums_fault::{SumsFault, explain_sums, unread, unwritten};

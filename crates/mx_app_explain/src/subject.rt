@@ -3,6 +3,7 @@
 ghost use Rattle.std.specs.Prelude.{◌≡◌, option_map};
 ghost use Rattle.mx_app_explain.specs.Explaining.{asked_subject, file_subject, first_label, first_name, first_word, given_subject, is_run, last_word, misstated_subject, reads_one_program, refused_subject, second_label, second_name, second_word, subject_of, subject_told, writes_over, written_word};
 
+use crate::own_programs::writes_program;
 use mx_app_command::CommandRequest;
 use mx_app_failure::{BootError, Failure, FileError};
 use std::fmt;
@@ -54,7 +55,7 @@ impl fmt::Display for Subject<'_> {
 }
 
 /// The name of the file that is read first, or assembled.
-fn first_name(request: CommandRequest<'_>) -> &str
+pub fn first_name(request: CommandRequest<'_>) -> &str
     ensures { result.now ≡ first_name request.entry }
 {
     match request {
@@ -76,7 +77,7 @@ fn first_name(request: CommandRequest<'_>) -> &str
 }
 
 /// The name of the file that drives the machine, or is written.
-fn second_name(request: CommandRequest<'_>) -> &str
+pub fn second_name(request: CommandRequest<'_>) -> &str
     ensures { result.now ≡ second_name request.entry }
 {
     match request {
@@ -267,12 +268,15 @@ fn asked_subject<'a>(request: CommandRequest<'a>, last: Option<&'a str>) -> Subj
 /// What is about a file that can't be read or written.
 fn file_subject<'a>(request: CommandRequest<'a>, notes: Notes<'a>) -> Subject<'a>
     ensures { subject_told result ≡ file_subject request.entry
-        (option_map (λ s. s.now) notes.entry.last) notes.entry.is_missed notes.entry.is_unwritten }
+        (option_map (λ s. s.now) notes.entry.last) notes.entry.is_missed notes.entry.is_unwritten
+        (option_map (λ t. t.now) notes.entry.text) }
 {
     if writes_over(request) || notes.is_unwritten {
         written_word(request)
     } else if notes.is_missed {
         asked_subject(request, notes.last)
+    } else if writes_program(request, notes.text) {
+        written_word(request)
     } else if reads_one_program(request) || is_run(request) {
         Subject::Output
     } else {
@@ -287,7 +291,8 @@ pub(crate) fn subject_of<'a>(
     notes: Notes<'a>,
 ) -> Subject<'a>
     ensures { subject_told result ≡ subject_of request.entry failure
-        (option_map (λ s. s.now) notes.entry.last) notes.entry.is_missed notes.entry.is_unwritten }
+        (option_map (λ s. s.now) notes.entry.last) notes.entry.is_missed notes.entry.is_unwritten
+        (option_map (λ t. t.now) notes.entry.text) }
 {
     match failure {
         Failure::Refused(FileError::NoMemory)

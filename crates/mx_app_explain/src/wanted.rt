@@ -1,9 +1,10 @@
 //! What was wanted in place of what a command met.
 
-ghost use Rattle.std.specs.Prelude.{◌≡◌};
+ghost use Rattle.std.specs.Prelude.{◌≡◌, option_map};
 ghost use Rattle.mx_app_explain.specs.Wanted.{problem_wanted, refusal_wanted};
 ghost use Rattle.mx_app_explain.specs.Explaining.{file_wanted, lines_wanted, record_wanted, wanted_of};
 
+use crate::own_programs::writes_program;
 use crate::subject::{Notes, is_run, reads_one_program, writes_over};
 use mx_app_command::CommandRequest;
 use mx_app_failure::{BootError, Failure, FileError};
@@ -103,7 +104,8 @@ fn lines_wanted(request: CommandRequest<'_>, error: BootError) -> &'static str
 /// What is wanted of a file that can't be read or written.
 fn file_wanted(request: CommandRequest<'_>, notes: Notes<'_>) -> &'static str
     ensures { result.now
-        ≡ file_wanted request.entry notes.entry.is_missed notes.entry.is_unwritten }
+        ≡ file_wanted request.entry notes.entry.is_missed notes.entry.is_unwritten
+        (option_map (λ t. t.now) notes.entry.text) }
 {
     if writes_over(request) {
         "another file than the one that is read"
@@ -111,6 +113,8 @@ fn file_wanted(request: CommandRequest<'_>, notes: Notes<'_>) -> &'static str
         "a file that can be written"
     } else if notes.is_missed {
         "a file that can be read"
+    } else if writes_program(request, notes.text) {
+        "another file than a service's program"
     } else if reads_one_program(request) || is_run(request) {
         "room for what is printed"
     } else {
@@ -125,7 +129,8 @@ pub(crate) fn wanted_of(
     notes: Notes<'_>,
 ) -> &'static str
     ensures { result.now
-        ≡ wanted_of request.entry failure notes.entry.is_missed notes.entry.is_unwritten }
+        ≡ wanted_of request.entry failure notes.entry.is_missed notes.entry.is_unwritten
+        (option_map (λ t. t.now) notes.entry.text) }
 {
     match failure {
         Failure::Refused(error) => refusal_wanted(error),

@@ -1,5 +1,5 @@
 -- A session has one text.
-use Rattle.std.proofs.Common.{◌≡◌, ◌∙◌, ◌⊎◌, ℕ, Bool, true, false, List, [], ◌∷◌, ◌++◌, Option, Some, None, inl, inr, refl, ap, ap₂, sym, subst}
+use Rattle.std.proofs.Common.{◌≡◌, ◌∙◌, ℕ, Bool, true, false, List, [], ◌∷◌, ◌++◌, Option, Some, None, inl, inr, ap, ap₂, sym, subst}
 use Rattle.mx_app_look.specs.declared.request.Request.{Request}
 use Rattle.mx_app_look.specs.declared.request.Request.TheVariants.{Nothing, Forward, Back, Step, StepBack, GoTo, Point, Continue, Reverse, Until, Where, Why, Processes, Messages, Show, Help, Quit}
 use Rattle.mx_app_look.specs.Requests.{request_of}
@@ -9,8 +9,8 @@ use Rattle.mx_walk.specs.Positions.{IsPosition}
 use Rattle.mx_app_look.specs.declared.sight.Sight.{Sight}
 use Rattle.mx_app_look.specs.Answers.{IsMade}
 use Rattle.mx_app_look.specs.Places.{place_text}
-use Rattle.mx_app_look.specs.Seeking.{IsGoneBack, IsGoneOn, IsHalted}
-use Rattle.mx_app_look.specs.Sessions.{IsAnswered, IsAnsweredBy, IsSession, prompt_text}
+use Rattle.mx_app_look.specs.Seeking.{IsHalted}
+use Rattle.mx_app_look.specs.Sessions.{IsAnsweredBy, IsSession, prompt_text}
 
 -- the last position of what is in hand is one of its history
 abbrev pub IsReady : Sight → Type 0

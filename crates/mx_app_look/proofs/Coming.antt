@@ -22,14 +22,14 @@ gone k p = record k { here = p }
 
 module _ (k : Walk) (s : Points) where
   -- above the step at a breakpoint
-  pub halts_above : (j : Walk) (p q : Position) (told : List ℕ) → j ≡ gone k p → is_break j s j.here (event_below j.records j.here) ≡ true → told ≡ [] → (j.here, told) ≡ halt_by k s p q
-  halts_above j p q told moved is none =
+  pub halts_above : (j : Walk) (p q : Position) (printed : List ℕ) → j ≡ gone k p → is_break j s j.here (event_below j.records j.here) ≡ true → printed ≡ [] → (j.here, printed) ≡ halt_by k s p q
+  halts_above j p q printed moved is none =
       let same : is_break k s p (event_below k.records p) ≡ true = subst (λ (w : Walk). is_break w s w.here (event_below w.records w.here) ≡ true) moved is in
       ap (λ t. (j.here, t)) none ∙ ap (λ (w : Walk). (w.here, [])) moved ∙ sym (ap (λ b. let h : Position × List ℕ = cond b (p, []) (q, changes_from k s p q) in h) same)
 
   -- below it
-  pub halts_below : (j l : Walk) (p q : Position) (told : List ℕ) → j ≡ gone k p → is_break j s j.here (event_below j.records j.here) ≡ false → l ≡ gone j q → told ≡ changes_from j s j.here q → (l.here, told) ≡ halt_by k s p q
-  halts_below j l p q told moved isnt back e =
+  pub halts_below : (j l : Walk) (p q : Position) (printed : List ℕ) → j ≡ gone k p → is_break j s j.here (event_below j.records j.here) ≡ false → l ≡ gone j q → printed ≡ changes_from j s j.here q → (l.here, printed) ≡ halt_by k s p q
+  halts_below j l p q printed moved isnt back e =
       let same : is_break k s p (event_below k.records p) ≡ false = subst (λ (w : Walk). is_break w s w.here (event_below w.records w.here) ≡ false) moved isnt in
       ap (λ t. (l.here, t)) e ∙ ap (λ (w : Walk). (w.here, changes_from j s j.here q)) back ∙ ap (λ (w : Walk). (q, changes_from w s w.here q)) moved
       ∙ sym (ap (λ b. let h : Position × List ℕ = cond b (p, []) (q, changes_from k s p q) in h) same)
@@ -40,24 +40,24 @@ module _ (k : Walk) (s : Points) where
   halts_there j above h moved position early found up e =
       let q = j.here in
       let records : j.records ≡ k.records = ap (λ (w : Walk). w.records) moved in
-      let told : h ≡ halt_by k s (position_before k.records q) q =
+      let printed : h ≡ halt_by k s (position_before k.records q) q =
       e ∙ ap (λ (p : Position). halt_by j s p q) (up ∙ ap (λ (xs : List Record). position_before xs q) records) ∙ ap (λ (w : Walk). halt_by w s (position_before k.records q) q) moved in
-      inl (q, subst (λ (xs : List Record). IsPosition xs q) records position, subst (λ (l : Position). IsUpTo q l) (ap (λ (w : Walk). w.last) moved) early, found, told)
+      inl (q, subst (λ (xs : List Record). IsPosition xs q) records position, subst (λ (l : Position). IsUpTo q l) (ap (λ (w : Walk). w.last) moved) early, found, printed)
 
   -- none is looked for
-  pub halts_nowhere : (p : Position) (told : List ℕ) → p ≡ k.last → IsPassed (is_looked_for s) k.boot k.records k.here k.last → told ≡ not_met → IsHalt k s k.here (p, told)
-  halts_nowhere p told at passed e = inr (passed, ap (λ t. (p, t)) e ∙ ap (λ (r : Position). (r, not_met)) at)
+  pub halts_nowhere : (p : Position) (printed : List ℕ) → p ≡ k.last → IsPassed (is_looked_for s) k.boot k.records k.here k.last → printed ≡ not_met → IsHalt k s k.here (p, printed)
+  halts_nowhere p printed at passed e = inr (passed, ap (λ t. (p, t)) e ∙ ap (λ (r : Position). (r, not_met)) at)
 
   -- the first event changes watched bytes, or doesn't
-  pub halts_after_one : (j : Walk) (x : ℕ × Event) (next : Position) (told : List ℕ) → IsPosition k.records k.here → event_below k.records k.here ≡ Some x → next ≡ next_position k.records k.here
-      → j ≡ gone k next → changes_watched s (world_here k) x (world_here j) ≡ true → told ≡ changes_from k s k.here next
-      → IsHaltAfter k s next (is_marked (changes_watched s) (world_here k) x) (j.here, told)
-  halts_after_one j x next told h e there moved met text =
+  pub halts_after_one : (j : Walk) (x : ℕ × Event) (next : Position) (printed : List ℕ) → IsPosition k.records k.here → event_below k.records k.here ≡ Some x → next ≡ next_position k.records k.here
+      → j ≡ gone k next → changes_watched s (world_here k) x (world_here j) ≡ true → printed ≡ changes_from k s k.here next
+      → IsHaltAfter k s next (is_marked (changes_watched s) (world_here k) x) (j.here, printed)
+  halts_after_one j x next printed h e there moved met text =
       let world : world_here j ≡ world_after_event (world_here k) x.0 x.1 =
       ap (λ (w : Walk). world_here w) moved ∙ ap (λ (p : Position). world_at k.boot k.records p) there ∙ world_next k.records k.here x h e k.boot in
       let marked : is_marked (changes_watched s) (world_here k) x ≡ true = ap (λ (u : World). changes_watched s (world_here k) x u) (sym world) ∙ met in
-      let at : (j.here, told) ≡ (next, changes_from k s k.here next) = ap (λ t. (j.here, t)) text ∙ ap (λ (w : Walk). (w.here, changes_from k s k.here next)) moved in
-      subst (λ b. IsHaltAfter k s next b (j.here, told)) (sym marked) at
+      let at : (j.here, printed) ≡ (next, changes_from k s k.here next) = ap (λ t. (j.here, t)) text ∙ ap (λ (w : Walk). (w.here, changes_from k s k.here next)) moved in
+      subst (λ b. IsHaltAfter k s next b (j.here, printed)) (sym marked) at
 
   pub halts_after_more : (j : Walk) (x : ℕ × Event) (next : Position) (h : Position × List ℕ) → IsPosition k.records k.here → event_below k.records k.here ≡ Some x → next ≡ next_position k.records k.here
       → j ≡ gone k next → changes_watched s (world_here k) x (world_here j) ≡ false → IsHalt j s j.here h
@@ -78,28 +78,28 @@ module _ (k : Walk) (s : Points) where
       subst (λ (p : Position). IsHaltAfter k s p (is_marked (changes_watched s) (world_here k) x) h) there halts in
       subst (λ (o : Option (ℕ × Event)). IsHaltBy k s o h) (sym made) after
 
-  no_next : (told : List ℕ) → next_made k ≡ None → told ≡ not_met → IsNextHalt k s (k.here, told)
-  no_next told none e = let at : (k.here, told) ≡ (k.here, not_met) = ap (λ t. (k.here, t)) e in subst (λ (o : Option (ℕ × Event)). IsHaltBy k s o (k.here, told)) (sym none) at
+  no_next : (printed : List ℕ) → next_made k ≡ None → printed ≡ not_met → IsNextHalt k s (k.here, printed)
+  no_next printed none e = let at : (k.here, printed) ≡ (k.here, not_met) = ap (λ t. (k.here, t)) e in subst (λ (o : Option (ℕ × Event)). IsHaltBy k s o (k.here, printed)) (sym none) at
 
-  pub none_is_next : (told : List ℕ) → is_up_to k.last k.here ≡ true → told ≡ not_met → IsNextHalt k s (k.here, told)
-  none_is_next told is e = no_next told (ap (λ b. let o : Option (ℕ × Event) = cond b None (event_below k.records k.here) in o) is) e
+  pub none_is_next : (printed : List ℕ) → is_up_to k.last k.here ≡ true → printed ≡ not_met → IsNextHalt k s (k.here, printed)
+  none_is_next printed is e = no_next printed (ap (λ b. let o : Option (ℕ × Event) = cond b None (event_below k.records k.here) in o) is) e
 
-  pub none_is_below : (told : List ℕ) → is_up_to k.last k.here ≡ false → event_below k.records k.here ≡ None → told ≡ not_met → IsNextHalt k s (k.here, told)
-  none_is_below told isnt none e = no_next told (ap (λ b. let o : Option (ℕ × Event) = cond b None (event_below k.records k.here) in o) isnt ∙ none) e
+  pub none_is_below : (printed : List ℕ) → is_up_to k.last k.here ≡ false → event_below k.records k.here ≡ None → printed ≡ not_met → IsNextHalt k s (k.here, printed)
+  none_is_below printed isnt none e = no_next printed (ap (λ b. let o : Option (ℕ × Event) = cond b None (event_below k.records k.here) in o) isnt ∙ none) e
 
   -- the last event that is looked for
-  pub last_halt : (j l : Walk) (next : Position) (told : List ℕ) → j ≡ gone k j.here → IsPosition j.records j.here → IsLastMarked (is_looked_for s) k.boot k.records j.here k.here → next ≡ next_position j.records j.here
-      → told ≡ changes_from j s j.here next → l.here ≡ j.here → IsLastHalt k s (l.here, told)
-  last_halt j l next told moved position found there text back =
+  pub last_halt : (j l : Walk) (next : Position) (printed : List ℕ) → j ≡ gone k j.here → IsPosition j.records j.here → IsLastMarked (is_looked_for s) k.boot k.records j.here k.here → next ≡ next_position j.records j.here
+      → printed ≡ changes_from j s j.here next → l.here ≡ j.here → IsLastHalt k s (l.here, printed)
+  last_halt j l next printed moved position found there text back =
       let p = j.here in
       let records : j.records ≡ k.records = ap (λ (w : Walk). w.records) moved in
-      let e : (l.here, told) ≡ (p, changes_from k s p (next_position k.records p)) =
-      ap (λ (r : Position). (r, told)) back ∙ ap (λ t. (p, t)) text ∙ ap (λ (w : Walk). (p, changes_from w s p next)) moved
+      let e : (l.here, printed) ≡ (p, changes_from k s p (next_position k.records p)) =
+      ap (λ (r : Position). (r, printed)) back ∙ ap (λ t. (p, t)) text ∙ ap (λ (w : Walk). (p, changes_from w s p next)) moved
       ∙ ap (λ (r : Position). (p, changes_from k s p r)) (there ∙ ap (λ (xs : List Record). next_position xs p) records) in
       inl (p, subst (λ (xs : List Record). IsPosition xs p) records position, found, e)
 
-  pub no_last_halt : (j : Walk) (told : List ℕ) → j.here ≡ first → IsPassed (is_looked_for s) k.boot k.records first k.here → told ≡ not_met → IsLastHalt k s (j.here, told)
-  no_last_halt j told at passed e = inr (passed, ap (λ t. (j.here, t)) e ∙ ap (λ (p : Position). (p, not_met)) at)
+  pub no_last_halt : (j : Walk) (printed : List ℕ) → j.here ≡ first → IsPassed (is_looked_for s) k.boot k.records first k.here → printed ≡ not_met → IsLastHalt k s (j.here, printed)
+  no_last_halt j printed at passed e = inr (passed, ap (λ t. (j.here, t)) e ∙ ap (λ (p : Position). (p, not_met)) at)
 
 -- ---- the last event that is looked for is above where one was
 

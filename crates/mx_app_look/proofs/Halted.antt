@@ -1,25 +1,24 @@
--- A search's answer: what it told, and the place.
+-- A search's answer: what it found, and the place.
 use Rattle.std.proofs.Common.{◌≡◌, ◌∙◌, ◌++◌, ℕ, List, Result, Ok, Err, IfOk, Vec, Global, ap, sym}
-use Rattle.mx_app_look.specs.declared.points.Points.{Points}
 use Rattle.mx_walk.specs.declared.positions.Position.{Position}
 use Rattle.mx_walk.specs.Walks.{Walk}
 use Rattle.mx_app_look.specs.declared.sight.Sight.{Sight}
 use Rattle.mx_app_look.specs.Places.{place_text}
 use Rattle.mx_app_look.specs.Seeking.{IsHalted}
 
-pub halted_by : {E : Type 0} (s : Sight) (w : Walk) (told : List ℕ) (Halts : Position × List ℕ → Type 0) (r : Result (Sight × Vec ℕ Global) E)
-    → w ≡ record s.walker { here = w.here } → Halts (w.here, told)
-    → IfOk r (λ (a : Sight × Vec ℕ Global). a.0 ≡ (let v : Sight = record { walker = w; points = s.points } in v)) → IfOk r (λ (a : Sight × Vec ℕ Global). a.1.items ≡ told ++ place_text w)
+pub halted_by : {E : Type 0} (s : Sight) (w : Walk) (printed : List ℕ) (Halts : Position × List ℕ → Type 0) (r : Result (Sight × Vec ℕ Global) E)
+    → w ≡ record s.walker { here = w.here } → Halts (w.here, printed)
+    → IfOk r (λ (a : Sight × Vec ℕ Global). a.0 ≡ (let v : Sight = record { walker = w; points = s.points } in v)) → IfOk r (λ (a : Sight × Vec ℕ Global). a.1.items ≡ printed ++ place_text w)
     → IfOk r (λ (a : Sight × Vec ℕ Global). (h : Position × List ℕ) × Halts h × IsHalted s h a.0 a.1.items)
-halted_by s w told Halts (Ok a) moved there sight text = (
-  (w.here, told),
+halted_by s w printed Halts (Ok a) moved there sight text = (
+  (w.here, printed),
   there,
   (
     sight ∙ ap (λ (k : Walk). let v : Sight = record s { walker = k } in v) moved,
-    text ∙ ap (λ (v : Sight). told ++ place_text v.walker) (sym sight),
+    text ∙ ap (λ (v : Sight). printed ++ place_text v.walker) (sym sight),
   ),
 )
-halted_by s w told Halts (Err e) moved there sight text = tt
+halted_by s w printed Halts (Err e) moved there sight text = tt
 
 -- what two clauses say of an answer
 pub both_hold : {A E : Type 0} (r : Result A E) (P Q R : A → Type 0) → ((a : A) → P a → Q a → R a) → IfOk r P → IfOk r Q → IfOk r R

@@ -99,5 +99,5 @@ module _ (k : Walk) (s : Points) where
   later_returns from q h found =
       let b = above_first (is_looked_for s) k.boot k.records from q h found in
       let p = position_before k.records q in
-      let told : (p, changes_from k s p q) ≡ (p, changes_from k s p (next_position k.records p)) = ap (λ (r : Position). (p, changes_from k s p r)) (sym b.next) in
-      inl (p, b.position, meets (is_looked_for s) k.boot k.records from q h found, told)
+      let text : (p, changes_from k s p q) ≡ (p, changes_from k s p (next_position k.records p)) = ap (λ (r : Position). (p, changes_from k s p r)) (sym b.next) in
+      inl (p, b.position, meets (is_looked_for s) k.boot k.records from q h found, text)

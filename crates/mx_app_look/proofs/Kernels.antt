@@ -1,9 +1,7 @@
 -- A machine's world has its kernel's table and services.
-use Rattle.std.proofs.Common.{◌≡◌, ◌∙◌, List, ap}
-use Rattle.mx_app_step.specs.Service.{Service}
+use Rattle.std.proofs.Common.{◌≡◌, ◌∙◌, ap}
 use Rattle.mx_machine.specs.Machine.{MachineState, world_of}
 use Rattle.mx_machine.specs.History.{BootAndHistory, replay}
-use Rattle.mx_machine.specs.Proc.TableState.{TableState}
 use Rattle.mx_machine.specs.World.{World}
 
 pub same_table : (k : BootAndHistory) (m : MachineState) (w : World) → k ≡ m.kernel → world_of m ≡ w → (replay k).table ≡ w.table

@@ -10,7 +10,6 @@ mod Starting
 mod Alike
 mod Halted
 mod Kernels
-mod Images
-mod Told
+mod WhyTexts
 mod Meeting
 mod Texts

@@ -5,14 +5,14 @@ use Rattle.std.proofs.lemmas.Grind.{flat_map-append}
 use Rattle.std.proofs.lemmas.List.{map-append, take_more}
 use Rattle.std.specs.List.{flat_map}
 
--- a list whose elements stand for those of another, after some before
+-- a list whose elements represent those of another, after some before
 pub placed_more : {A X : Type 0} (f : A → X) (before ws : List X) (i : ℕ) (d : X) (ts more : List A) (t : A)
     → i < length ws → more ≡ ts ++ t ∷ [] → f t ≡ get_or ws i d → map f ts ≡ before ++ take i ws → map f more ≡ before ++ take (i + 1) ws
 placed_more f before ws i d ts more t lt e here front =
     ap (map f) e ∙ map-append f ts (t ∷ []) ∙ ap (λ xs. xs ++ f t ∷ []) front ∙ append_assoc before (take i ws) (f t ∷ [])
     ∙ ap (λ x. before ++ (take i ws ++ x ∷ [])) here ∙ ap (λ xs. before ++ xs) (sym (take_more ws i d lt))
 
--- a list whose elements stand for what a function has of those of another
+-- a list whose elements represent what a function has of those of another
 pub mapped_more : {A B X : Type 0} (f : A → X) (g : B → X) (ws : List B) (i : ℕ) (d : B) (ts more : List A) (t : A)
     → i < length ws → more ≡ ts ++ t ∷ [] → f t ≡ g (get_or ws i d) → map f ts ≡ map g (take i ws) → map f more ≡ map g (take (i + 1) ws)
 mapped_more f g ws i d ts more t lt e here front =

@@ -1,14 +1,13 @@
 -- The first record in which something happens.
-use Rattle.std.proofs.Common.{◌≡◌, ◌∙◌, ◌≤◌, ◌<◌, ◌++◌, ℕ, suc, ◌+◌, ◌-◌, cond, Bool, true, false, List, length, get_or, Option, Some, None, slice_get, find, ap, sym, subst, arith}
+use Rattle.std.proofs.Common.{◌≡◌, ◌∙◌, ◌≤◌, ◌<◌, ◌++◌, ℕ, suc, ◌+◌, ◌-◌, cond, true, false, List, length, get_or, Option, Some, slice_get, find, ap, sym, arith}
 use Rattle.std.specs.List.{range_with_len}
 use Rattle.mx_machine.specs.declared.history.Record.{Record}
-use Rattle.mx_machine.specs.World.{World}
 use Rattle.mx_look_facts.specs.declared.step.Step.{Step}
 use Rattle.mx_look_trace.specs.Trace.{record_text}
 use Rattle.mx_walk.specs.declared.positions.Position.{Position}
 use Rattle.mx_walk.specs.Walks.{Walk}
 use Rattle.mx_app_look.proofs.Moving.{read_is}
-use Rattle.mx_app_look.proofs.Told.{why_is}
+use Rattle.mx_app_look.proofs.WhyTexts.{why_is}
 use Rattle.mx_app_look.specs.declared.happening.Happening.{Happening}
 use Rattle.mx_app_look.specs.Happenings.{happens}
 use Rattle.mx_app_look.specs.Above.{step_above, why_text}
@@ -62,11 +61,11 @@ module _ (k w : Walk) (h : Happening) (records : List Record) (n : ℕ) (x : Rec
         moved ∙ ap (λ (j : Walk). let i : Walk = record j { here = below n } in i) there
         ∙ ap (λ (p : Position × List ℕ). let i : Walk = record k { here = p.0 } in i) (sym halt_is)
 
-    pub tells_it : (out old new : List ℕ) → out ≡ old → new ≡ out ++ record_text s → new ≡ old ++ (until_halt k h).1
-    tells_it out old new nothing told =
+    pub appends_it : (out old new : List ℕ) → out ≡ old → new ≡ out ++ record_text s → new ≡ old ++ (until_halt k h).1
+    appends_it out old new nothing added =
         let one : n + 1 ≡ suc n = omega arith in
         let why : record_text s ≡ why_text (record k { here = below n }) = ap (λ (t : Step). record_text t) it_is ∙ sym (why_is (record k { here = below n }) n y one read) in
-        told ∙ ap (λ t. t ++ record_text s) nothing ∙ ap (λ t. old ++ t) why ∙ ap (λ (p : Position × List ℕ). old ++ p.1) (sym halt_is)
+        added ∙ ap (λ t. t ++ record_text s) nothing ∙ ap (λ t. old ++ t) why ∙ ap (λ (p : Position × List ℕ). old ++ p.1) (sym halt_is)
 
   -- it doesn't
   pub goes_by : met_from k h n ≡ met k h → happens h s ≡ false → met_from k h (n + 1) ≡ met k h

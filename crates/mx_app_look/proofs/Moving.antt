@@ -1,5 +1,5 @@
 -- Positions that requests lead to.
-use Rattle.std.proofs.Common.{◌≡◌, ◌∙◌, ◌≤◌, ◌<◌, ◌⊎◌, ℕ, zero, suc, ◌+◌, ◌-◌, eqb, leb, ltb, ◌&&◌, cond, Bool, true, false, List, [], ◌∷◌, length, drop, get_or, Option, Some, None, slice_get, refl, ap, sym, subst, inl, inr, arith}
+use Rattle.std.proofs.Common.{◌≡◌, ◌∙◌, ◌≤◌, ◌<◌, ℕ, zero, suc, ◌+◌, ◌-◌, eqb, leb, ltb, ◌&&◌, cond, Bool, true, false, List, [], ◌∷◌, length, drop, get_or, Some, None, slice_get, refl, ap, sym, subst, inl, inr, arith}
 use Rattle.std.proofs.lemmas.Bool.{cases_lt, le-ltb, ne_eqb}
 use Rattle.mx_machine.specs.declared.events.Event.{Event}
 use Rattle.mx_machine.specs.declared.history.Record.{Record}
@@ -8,7 +8,7 @@ use Rattle.mx_walk.specs.Positions.{IsAbove, IsPosition, IsUpTo, event_below, fi
 use Rattle.mx_walk.specs.Walks.{Walk, first}
 use Rattle.mx_walk.proofs.Arriving.{has_event, not_itself}
 use Rattle.mx_walk.proofs.Along.{any_record, at, is_few, is_inside, is_position}
-use Rattle.mx_walk.proofs.Next.{above_trans, back_inside, back_over, is_position_too, next_up_to, up_to_of}
+use Rattle.mx_walk.proofs.Next.{above_trans, back_inside, back_over, next_up_to, up_to_of}
 use Rattle.mx_app_look.specs.Moves.{steps_back, steps_on, up_to_last}
 
 pub records_up_to : (p q : Position) → IsUpTo p q → p.records ≤ q.records

@@ -1,10 +1,8 @@
 -- Where one is in a history, as it is printed (our own).
 use Rattle.std.specs.Prelude.{ℕ, zero, suc, ◌+◌, List, [], ◌∷◌, ◌++◌, codes, length, Option, Some, None, slice_get}
 use Rattle.std.specs.Fmt.{decimal}
-use Rattle.mx_aout.specs.declared.program.Symbol.{Symbol}
 use Rattle.mx_app_step.specs.Log.{lines_above}
 use Rattle.mx_app_step.specs.Records.{refused_record_line}
-use Rattle.mx_app_step.specs.Service.{Service}
 use Rattle.mx_look_code.specs.Code.{code_line}
 use Rattle.mx_look_trace.specs.Glances.{glance_of}
 use Rattle.mx_look_trace.specs.Trace.{event_text}
@@ -14,6 +12,7 @@ use Rattle.mx_machine.specs.declared.events.Event.TheVariants as event
 use Rattle.mx_machine.specs.declared.events.Refusal.{Refusal}
 use Rattle.mx_machine.specs.declared.history.Record.{Record}
 use Rattle.mx_machine.specs.World.{World, HeldProcess, held_by}
+use Rattle.mx_print_answers.specs.Slots.{symbols_by}
 use Rattle.mx_walk.specs.declared.positions.Position.{Position}
 use Rattle.mx_walk.specs.Positions.{event_below}
 use Rattle.mx_walk.specs.Walks.{Walk, refusal_here, world_here}
@@ -33,10 +32,6 @@ abbrev pub record_line : ℕ → Record → List ℕ
 record_line n x = codes ", record " ++ decimal n ++ codes ": " ++ decimal x.actor ++ codes " " ++ event_text x.event ++ codes "\n"
 
 -- ---- the next step: whose it is, and its instruction
-
-abbrev pub symbols_by : Option Service → List Symbol
-symbols_by None = []
-symbols_by (Some v) = v.program.symbols
 
 abbrev pub process_line : World → Option HeldProcess → List ℕ
 process_line w None = []

@@ -13,13 +13,14 @@ use Rattle.mx_app_look.specs.Searches.{IsLastHalt, IsNextHalt}
 use Rattle.mx_app_look.specs.declared.watches.Watch.{Watch as Watched}
 use Rattle.mx_app_look.specs.Watches.{watch_set}
 use Rattle.mx_print_answers.specs.Answers.{done_line}
+use Rattle.mx_print_answers.specs.Slots.{address_asked}
 use Rattle.mx_print_answers.specs.declared.refused.Refused.{Refused}
 use Rattle.mx_print_answers.specs.declared.refused.Refused.TheVariants.{ByDebugger}
 use Rattle.mx_walk.specs.declared.positions.Position.{Position}
 use Rattle.mx_walk.specs.Walks.{Walk, world_here}
 use Rattle.mx_app_look.specs.declared.sight.Sight.{Sight}
 use Rattle.mx_app_look.specs.Places.{place_text}
-use Rattle.mx_app_look.specs.Slots.{address_asked, slot_asked}
+use Rattle.mx_app_look.specs.Slots.{slot_asked}
 
 -- ---- breakpoints and watches
 
@@ -72,7 +73,7 @@ point_made s r = points_after s.walker s.points r
 
 -- ---- searches
 
--- at a halt, with what is printed: what the search told, and the place
+-- at a halt, with what is printed: what the search found, and the place
 abbrev pub IsHalted : Sight → Position × List ℕ → Sight → List ℕ → Type 0
 IsHalted s h u text = (u ≡ record s { walker = record s.walker { here = h.0 } }) × (text ≡ h.1 ++ place_text u.walker)
 

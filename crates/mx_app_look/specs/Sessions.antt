@@ -4,8 +4,19 @@ use Rattle.mx_app_look.specs.declared.request.Request.{Request}
 use Rattle.mx_app_look.specs.declared.request.Request.TheVariants.{Quit}
 use Rattle.mx_app_look.specs.Requests.{request_of}
 use Rattle.mx_app_look.specs.Verbs.{unknown_text}
+use Rattle.mx_app_failure.specs.declared.failure.Failure.{Failure}
+use Rattle.mx_app_step.specs.Asked.{Asked}
+use Rattle.mx_app_step.specs.Config.{Config}
+use Rattle.mx_app_step.specs.Course.{IsSaved, TellsSaved}
+use Rattle.mx_app_step.specs.Failure.{IsWanting}
+use Rattle.mx_app_step.specs.Service.{Service}
+use Rattle.mx_app_step.specs.Setup.{IsNotStarted, IsStart}
+use Rattle.mx_machine.specs.Boot.{world_at_boot}
 use Rattle.mx_machine.specs.declared.history.Record.{Record}
 use Rattle.mx_machine.specs.World.{World}
+use Rattle.mx_walk.specs.declared.positions.Position.{Position}
+use Rattle.mx_walk.specs.declared.progress.Part.{Part}
+use Rattle.mx_walk.specs.Parts.{walk_shown}
 use Rattle.mx_walk.specs.Walks.{IsLast, Walk, first}
 use Rattle.mx_app_look.specs.declared.sight.Sight.{Sight}
 use Rattle.mx_app_look.specs.Answers.{IsMade}
@@ -78,3 +89,11 @@ pub record IsBegun (w : World) (xs : List Record) (k : Walk) : Type 0 where
   pub records : k.records ≡ xs
   pub here : k.here ≡ first
   pub last : IsLast w xs k.last
+
+-- a session has failed for this, after this was shown: no machine was started, and nothing was; or one was, its walk was
+-- shown up to the last position, and it can't be printed, or memory is out
+abbrev pub HasFailed : List ℕ → List ℕ → List Asked → List Part → Failure → Type 0
+HasFailed config log qs ps f =
+    ((ps ≡ []) × IsNotStarted IsSaved TellsSaved config log qs f)
+    ⊎ ((c : Config) × (vs : List Service) × (records : List Record) × (last : Position) × IsStart IsSaved config log qs c vs records
+    × IsLast (world_at_boot c vs) records last × (ps ≡ walk_shown records last) × IsWanting f)

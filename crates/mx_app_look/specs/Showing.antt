@@ -1,5 +1,5 @@
 -- What is shown of a slot's process (our own).
-use Rattle.std.specs.Prelude.{ℕ, List, ◌++◌, codes, Option, Some, None, Result, Ok, Err, slice_get}
+use Rattle.std.specs.Prelude.{ℕ, List, Option, Some, None, Result, Ok, Err, slice_get}
 use Rattle.mx_aout.specs.declared.program.Symbol.{Symbol}
 use Rattle.mx_exec.specs.declared.image.Image.{Image}
 use Rattle.mx_look_code.specs.Lines.{code_lines}
@@ -9,37 +9,16 @@ use Rattle.mx_boot.specs.declared.address_word.AddressWord.{AddressWord}
 use Rattle.mx_app_look.specs.declared.shown.Shown.{Shown}
 use Rattle.mx_app_look.specs.declared.shown.Shown.TheVariants.{Code, Memory, Registers, Stack, Variable}
 use Rattle.mx_machine.specs.World.{World}
-use Rattle.mx_print_answers.specs.Answers.{refused_line}
 use Rattle.mx_print_answers.specs.DebugError.TheVariants.{NoSymbol}
-use Rattle.mx_print_answers.specs.Processes.{memory_text, not_here, registers_text}
+use Rattle.mx_print_answers.specs.Processes.{not_here}
+use Rattle.mx_print_answers.specs.Slots.{address_asked, image_in, memory_of, refused_text, registers_of, symbols_by}
 use Rattle.mx_print_answers.specs.declared.refused.Refused.{Refused as Kind}
 use Rattle.mx_print_answers.specs.declared.refused.Refused.TheVariants.{ByDebugger}
 use Rattle.mx_walk.specs.Walks.{Walk, world_here}
-use Rattle.mx_app_look.specs.Places.{symbols_by}
-use Rattle.mx_app_look.specs.Slots.{address_asked, image_in, slot_asked}
-
--- why nothing is shown
-abbrev pub refused_text : Kind → List ℕ
-refused_text r = refused_line r ++ codes "\n"
+use Rattle.mx_app_look.specs.Slots.{slot_asked}
 
 abbrev pub symbols_in : World → ℕ → List Symbol
 symbols_in w s = symbols_by (slice_get w.services s)
-
--- ---- regs
-
-abbrev pub registers_by : World → Result ℕ Kind → List ℕ
-registers_by w (Ok s) = registers_text (image_in w s)
-registers_by w (Err r) = refused_text r
-
--- ---- mem: bytes from an address on
-
-abbrev pub bytes_by : World → ℕ → ℕ → Result ℕ Kind → List ℕ
-bytes_by w s n (Ok from) = memory_text (image_in w s) from n
-bytes_by w s n (Err r) = refused_text r
-
-abbrev pub memory_by : World → AddressWord → ℕ → Result ℕ Kind → List ℕ
-memory_by w a n (Ok s) = bytes_by w s n (address_asked w s a)
-memory_by w a n (Err r) = refused_text r
 
 -- ---- list: eight instructions, from an address or from the next one on
 
@@ -98,8 +77,8 @@ variable_by w name (Err r) = refused_text r
 -- ---- WHAT IS SHOWN of a slot's process
 
 abbrev pub shown_text : Walk → Shown → List ℕ
-shown_text k (Registers s) = registers_by (world_here k) (slot_asked k s)
-shown_text k (Memory s a n) = memory_by (world_here k) a n (slot_asked k (Some s))
+shown_text k (Registers s) = registers_of (world_here k) (slot_asked k s)
+shown_text k (Memory s a n) = memory_of (world_here k) a n (slot_asked k (Some s))
 shown_text k (Code s a) = code_by (world_here k) a (slot_asked k s)
 shown_text k (Stack s n) = stack_by (world_here k) n (slot_asked k s)
 shown_text k (Variable s name) = variable_by (world_here k) name (slot_asked k (Some s))

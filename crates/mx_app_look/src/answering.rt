@@ -23,8 +23,8 @@ use crate::seeking::{go_back, go_on, perform_point};
 use crate::showing::push_shown;
 use crate::shown::Shown;
 use crate::sight::{Sight, say};
-use crate::telling::{push_deliveries, push_processes, push_why};
 use crate::verb::push_unknown;
+use crate::world_texts::{push_deliveries, push_processes, push_why};
 use mx_app_step::{Failure, print_text};
 use mx_walk::{Position, Walker};
 use std::alloc::{AllocError, Global};
@@ -42,7 +42,8 @@ fn go_to(alloc: Global, sight: Sight, to: Position) -> Result<(Sight, Vec<u8>), 
     requires position { IsPosition sight.walker.records to }
     requires early { IsUpTo to sight.walker.last }
     ensures err { IfErr result IsWanting }
-    ensures sight { IfOk result (λ r. r.0 ≡ record sight { walker = record sight.walker { here = to } }) }
+    ensures sight { IfOk result (λ r. r.0
+        ≡ record sight { walker = record sight.walker { here = to } }) }
     ensures text { IfOk result (λ r. r.1.items ≡ place_text (record sight.walker { here = to })) }
 {
     let Sight { walker, points } = sight;

@@ -70,7 +70,8 @@ fn push_byte(out: &mut String, byte: u8) -> Result<(), AllocError>
 
 /// Appends each of these bytes.
 fn push_bytes(out: &mut String, bytes: &[u8]) -> Result<(), AllocError>
-    ensures { OnOk result (string_bytes out.new ≡ string_bytes out.old ++ flat_map byte_field bytes.now) }
+    ensures { OnOk result (string_bytes out.new ≡ string_bytes out.old
+        ++ flat_map byte_field bytes.now) }
 {
     for byte in bytes {
         push_byte(out, *byte)?;

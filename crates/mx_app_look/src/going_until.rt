@@ -10,7 +10,7 @@ use crate::happening::{Happening, happens};
 use crate::places::push_place;
 use crate::sight::{Sight, say};
 use crate::slots::slot_asked;
-use crate::telling::see_record;
+use crate::world_texts::see_record;
 use mx_app_step::{Failure, resting_step};
 use mx_look_trace::push_record;
 use mx_walk::Walker;
@@ -76,7 +76,8 @@ fn go_on_to(alloc: Global, sight: Sight, happening: Happening) -> Result<(Sight,
     ensures err { IfErr result IsWanting }
     ensures sight { IfOk result (λ r. r.0
         ≡ record sight { walker = after sight.walker (requests.Until happening) }) }
-    ensures text { IfOk result (λ r. r.1.items ≡ request_text sight.walker (requests.Until happening)) }
+    ensures text { IfOk result (λ r. r.1.items
+        ≡ request_text sight.walker (requests.Until happening)) }
 {
     let Sight { walker, points } = sight;
     let mut text = Vec::new(alloc);
@@ -94,7 +95,8 @@ pub(crate) fn go_until(
     ensures err { IfErr result IsWanting }
     ensures sight { IfOk result (λ r. r.0
         ≡ record sight { walker = after sight.walker (requests.Until happening) }) }
-    ensures text { IfOk result (λ r. r.1.items ≡ request_text sight.walker (requests.Until happening)) }
+    ensures text { IfOk result (λ r. r.1.items
+        ≡ request_text sight.walker (requests.Until happening)) }
 {
     if has_slots(&sight.walker, happening) {
         return go_on_to(alloc, sight, happening);

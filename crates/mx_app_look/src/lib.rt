@@ -21,10 +21,10 @@ mod showing;
 mod shown;
 mod sight;
 mod slots;
-mod telling;
 mod until_request;
 mod verb;
 mod watches;
+mod world_texts;
 
 pub use halt_laws::{one_halt, searches_return};
 pub use laws::{one_session, why_is_traced};

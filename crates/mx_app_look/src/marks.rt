@@ -24,7 +24,8 @@ fn push_changes(marks: &mut Vec<ByteChange>, places: &[BytePlace]) -> Result<(),
 
 /// What marks the changes of each byte that is watched.
 fn each_change(alloc: Global, watches: &[Watch]) -> Result<Vec<ByteChange>, AllocError>
-    ensures { IfOk result (λ marks. map (λ m. m.place) marks.items ≡ flat_map places_of watches.now) }
+    ensures { IfOk result (λ marks. map (λ m. m.place) marks.items
+        ≡ flat_map places_of watches.now) }
 {
     let mut marks = Vec::new(alloc);
     for watch in watches {

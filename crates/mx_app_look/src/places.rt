@@ -4,12 +4,11 @@ ghost use Rattle.std.specs.Prelude.{◌≡◌, ◌++◌, ◌+◌, OnOk, slice_ge
 ghost use Rattle.std.specs.Fmt.{decimal};
 ghost use Rattle.mx_app_step.specs.Log.{lines_above};
 ghost use Rattle.mx_look_code.specs.Code.{code_line};
-ghost use Rattle.mx_machine.specs.History.{replay};
 ghost use Rattle.mx_machine.specs.World.{held_by};
 ghost use Rattle.mx_machine.specs.Machine.{world_of};
 ghost use Rattle.mx_walk.specs.Positions.{event_below};
 ghost use Rattle.mx_walk.specs.Walks.{refusal_here, world_here};
-ghost use Rattle.mx_app_look.specs.Places.{below_line, place_text, position_text, process_line, record_line, rest_of_place, step_line, symbols_by};
+ghost use Rattle.mx_app_look.specs.Places.{below_line, place_text, position_text, process_line, record_line, rest_of_place, step_line};
 
 use itoa::Buffer;
 use mx_aout::Symbol;
@@ -17,8 +16,8 @@ use mx_app_step::{lines_above, refusal_line};
 use mx_exec::Image;
 use mx_look_code::push_code_line;
 use mx_look_trace::{Glance, push_event, push_who};
-use mx_machine::{Event, Kernel, Machine, Record, Refusal};
-use mx_proc::Slot;
+use mx_machine::{Event, Machine, Record, Refusal};
+use mx_print_answers::symbols_of;
 use mx_walk::{Position, Walker, next_event};
 use std::alloc::{AllocError, Global};
 
@@ -52,17 +51,6 @@ fn push_record_line(out: &mut Vec<u8>, number: usize, entry: Record) -> Result<(
     out.extend_from_slice(b" ")?;
     push_event(out, entry.event)?;
     out.extend_from_slice(b"\n")
-}
-
-/// The symbols of a slot's program; none if the slot has no service.
-pub(crate) fn symbols_of(kernel: &Kernel, slot: Slot) -> &[Symbol]
-    ensures { result.now ≡ symbols_by (slice_get (replay kernel.now).services slot) }
-{
-    kernel.opened();
-    match kernel.services().get(slot as usize) {
-        Some(service) => service.program.symbols.as_slice(),
-        None => &[],
-    }
 }
 
 /// Appends the line of the next instruction of a process.
@@ -124,7 +112,8 @@ fn push_below(
     line: usize,
     refusal: Option<Refusal>,
 ) -> Result<(), AllocError>
-    requires { line ≡ lines_above (world_here walker.now).table.rules + (walker.now.here.records + 1) }
+    requires { line
+        ≡ lines_above (world_here walker.now).table.rules + (walker.now.here.records + 1) }
     ensures { OnOk result (out.new.items ≡ out.old.items ++ below_line walker.now refusal) }
 {
     match refusal {

@@ -31,7 +31,8 @@ impl Points {
 
     /// Appends a line for each breakpoint and for each watch.
     pub fn push_lines(&self, out: &mut String) -> Result<(), AllocError>
-        ensures { OnOk result (string_bytes out.new ≡ string_bytes out.old ++ points_text self.now) }
+        ensures { OnOk result (string_bytes out.new ≡ string_bytes out.old
+            ++ points_text self.now) }
     {
         push_breaks(out, self.breakpoints.as_slice())?;
         push_watches(out, self.watches.as_slice())
@@ -50,7 +51,8 @@ fn push_break(out: &mut String, point: Breakpoint) -> Result<(), AllocError>
 
 /// Appends a line for each breakpoint.
 fn push_breaks(out: &mut String, points: &[Breakpoint]) -> Result<(), AllocError>
-    ensures { OnOk result (string_bytes out.new ≡ string_bytes out.old ++ flat_map break_line points.now) }
+    ensures { OnOk result (string_bytes out.new ≡ string_bytes out.old
+        ++ flat_map break_line points.now) }
 {
     for point in points {
         push_break(out, *point)?;
@@ -74,7 +76,8 @@ fn push_watch(out: &mut String, watch: Watch) -> Result<(), AllocError>
 
 /// Appends a line for each watch.
 fn push_watches(out: &mut String, watches: &[Watch]) -> Result<(), AllocError>
-    ensures { OnOk result (string_bytes out.new ≡ string_bytes out.old ++ flat_map watch_line watches.now) }
+    ensures { OnOk result (string_bytes out.new ≡ string_bytes out.old
+        ++ flat_map watch_line watches.now) }
 {
     for watch in watches {
         push_watch(out, *watch)?;

@@ -17,11 +17,11 @@ use std::alloc::{AllocError, Global};
 
 /// That nothing is met.
 fn not_met(alloc: Global) -> Result<String, AllocError>
-    ensures { IfOk result (λ told. string_bytes told ≡ not_met) }
+    ensures { IfOk result (λ line. string_bytes line ≡ not_met) }
 {
-    let mut told = String::new(alloc);
-    told.push_str("not met\n")?;
-    Ok(told)
+    let mut line = String::new(alloc);
+    line.push_str("not met\n")?;
+    Ok(line)
 }
 
 /// Whether the event below is the step at a breakpoint.
@@ -47,13 +47,14 @@ fn go_and_compare(
     requires position { IsPosition walker.records to }
     requires early { IsUpTo to walker.last }
     ensures walker { IfOk result (λ r. r.0 ≡ record walker { here = to }) }
-    ensures told { IfOk result (λ r. string_bytes r.1 ≡ changes_from walker points.now walker.here to) }
+    ensures changes { IfOk result (λ r. string_bytes r.1
+        ≡ changes_from walker points.now walker.here to) }
 {
     let seen = all_bytes(alloc, walker.machine(), points.watches.as_slice())?;
     let walker = walker.go_to(alloc, to)?;
-    let mut told = String::new(alloc);
-    push_changes(alloc, &mut told, walker.machine(), seen.as_slice())?;
-    Ok((walker, told))
+    let mut changes = String::new(alloc);
+    push_changes(alloc, &mut changes, walker.machine(), seen.as_slice())?;
+    Ok((walker, changes))
 }
 
 /// Goes back from right below an event that is looked for to right above it, and halts there if it is the
@@ -81,7 +82,8 @@ fn halt_by(
 /// Goes on to the first event that is looked for, and halts there; at the last position if there is none.
 fn go_on_from(alloc: Global, walker: Walker, points: &Points) -> Result<(Walker, String), NoMemory>
     ensures walker { IfOk result (λ r. r.0 ≡ record walker { here = r.0.here }) }
-    ensures halt { IfOk result (λ r. IsHalt walker points.now walker.here (r.0.here, string_bytes r.1)) }
+    ensures halt { IfOk result (λ r. IsHalt walker points.now walker.here
+        (r.0.here, string_bytes r.1)) }
 {
     let mut walker = walker;
     let mut mark = points_mark(alloc, points)?;
@@ -113,9 +115,9 @@ fn go_on_past(
 {
     let mut bytes = bytes_mark(alloc, points)?;
     bytes.look(walker.machine(), next.actor, next.event);
-    let (walker, told) = go_and_compare(alloc, walker, points, next.position)?;
+    let (walker, changes) = go_and_compare(alloc, walker, points, next.position)?;
     if bytes.is_met(walker.machine()) {
-        return Ok((walker, told));
+        return Ok((walker, changes));
     }
     go_on_from(alloc, walker, points)
 }
@@ -157,8 +159,8 @@ pub fn go_back_to_point(
     let halt = walker.here();
     match next_event(walker.records(), halt) {
         Some(next) => {
-            let (walker, told) = go_and_compare(alloc, walker, points, next.position)?;
-            Ok((walker.go_to(alloc, halt)?, told))
+            let (walker, changes) = go_and_compare(alloc, walker, points, next.position)?;
+            Ok((walker.go_to(alloc, halt)?, changes))
         }
         None => unreachable!(),
     }

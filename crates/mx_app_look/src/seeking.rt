@@ -10,7 +10,7 @@ use crate::point_request::PointRequest;
 use crate::points::Points;
 use crate::searches::{go_back_to_point, go_on_to_point};
 use crate::sight::Sight;
-use crate::slots::{address_asked, slot_asked};
+use crate::slots::{address_here, slot_asked};
 use mx_app_step::Failure;
 use mx_boot::AddressWord;
 use mx_print_answers::{Refused, push_done};
@@ -30,7 +30,7 @@ fn set_break(
     ensures same { points.new.watches ≡ points.old.watches }
 {
     let slot = slot_asked(walker, Some(slot))?;
-    let at = address_asked(walker, slot, address)?;
+    let at = address_here(walker, slot, address)?;
     points.breakpoints.add(slot, at)?;
     Ok(())
 }
@@ -49,7 +49,7 @@ fn set_watch(
     ensures same { points.new.breakpoints ≡ points.old.breakpoints }
 {
     let slot = slot_asked(walker, Some(slot))?;
-    let at = address_asked(walker, slot, address)?;
+    let at = address_here(walker, slot, address)?;
     points.watches.set(slot, at, count)?;
     Ok(())
 }
@@ -81,7 +81,8 @@ fn push_point(
     points: &Points,
     done: Option<Result<(), Refused>>,
 ) -> Result<(), AllocError>
-    ensures { OnOk result (string_bytes out.new ≡ string_bytes out.old ++ point_text points.now done) }
+    ensures { OnOk result (string_bytes out.new ≡ string_bytes out.old
+        ++ point_text points.now done) }
 {
     match done {
         Some(done) => push_done(out, done),
@@ -109,19 +110,19 @@ pub(crate) fn perform_point(
     Ok((Sight { walker, points }, line.into_bytes()))
 }
 
-/// Answers what a search told, and the place where it halted.
+/// Answers what a search found, and the place where it halted.
 fn show_halt(
     alloc: Global,
     walker: Walker,
     points: Points,
-    told: String,
+    found: String,
 ) -> Result<(Sight, Vec<u8>), Failure>
     ensures err { IfErr result IsWanting }
     ensures sight { IfOk result (λ r. r.0 ≡ record { walker = walker; points = points }) }
-    ensures text { IfOk result (λ r. r.1.items ≡ string_bytes told ++ place_text walker) }
+    ensures text { IfOk result (λ r. r.1.items ≡ string_bytes found ++ place_text walker) }
 {
     let mut walker = walker;
-    let mut text = told.into_bytes();
+    let mut text = found.into_bytes();
     push_place(alloc, &mut text, &mut walker)?;
     Ok((Sight { walker, points }, text))
 }
@@ -132,8 +133,8 @@ pub(crate) fn go_on(alloc: Global, sight: Sight) -> Result<(Sight, Vec<u8>), Fai
     ensures halted { IfOk result (λ r. IsGoneOn sight r.0 r.1.items) }
 {
     let Sight { walker, points } = sight;
-    let (walker, told) = go_on_to_point(alloc, walker, &points)?;
-    show_halt(alloc, walker, points, told)
+    let (walker, found) = go_on_to_point(alloc, walker, &points)?;
+    show_halt(alloc, walker, points, found)
 }
 
 /// Goes back to the last halt.
@@ -142,6 +143,6 @@ pub(crate) fn go_back(alloc: Global, sight: Sight) -> Result<(Sight, Vec<u8>), F
     ensures halted { IfOk result (λ r. IsGoneBack sight r.0 r.1.items) }
 {
     let Sight { walker, points } = sight;
-    let (walker, told) = go_back_to_point(alloc, walker, &points)?;
-    show_halt(alloc, walker, points, told)
+    let (walker, found) = go_back_to_point(alloc, walker, &points)?;
+    show_halt(alloc, walker, points, found)
 }

@@ -4,15 +4,16 @@ ghost use Rattle.std.specs.Prelude.{◌≡◌, ◌<◌, ◌++◌, All, IfErr, Li
 ghost use Rattle.std.specs.Io.KnownBytes.{Appends};
 ghost use Rattle.mx_app_step.specs.Asked.{Asked};
 ghost use Rattle.mx_app_step.specs.Config.{Config as Configured};
-ghost use Rattle.mx_app_step.specs.Course.{IsSaved, TellsSaved};
+ghost use Rattle.mx_app_step.specs.Course.{IsSaved};
 ghost use Rattle.mx_app_step.specs.Failure.{IsWanting};
 ghost use Rattle.mx_app_step.specs.Service.{Service};
 ghost use Rattle.mx_app_step.specs.Setup.{IsStart};
-ghost use Rattle.mx_app_step.specs.Telling.{IsTold};
 ghost use Rattle.mx_machine.specs.Boot.{world_at_boot};
 ghost use Rattle.mx_machine.specs.declared.history.Record.{Record as Noted};
+ghost use Rattle.mx_walk.specs.declared.progress.Part.{Part as Parts};
+ghost use Rattle.mx_walk.specs.Parts.{walk_shown};
 ghost use Rattle.mx_walk.specs.Walks.{Walk};
-ghost use Rattle.mx_app_look.specs.Sessions.{IsBegun, IsSession, IsWhole, begun_text, end_text, sight_at};
+ghost use Rattle.mx_app_look.specs.Sessions.{HasFailed, IsBegun, IsSession, IsWhole, begun_text, end_text, sight_at};
 
 use crate::answering::{answer_line, push_prompt};
 use crate::places::push_place;
@@ -21,7 +22,7 @@ use crate::sight::Sight;
 use mx_app_step::{
     Failure, History, LineReader, Reader, Started, print_text, records_are_of_actors, start,
 };
-use mx_walk::Walker;
+use mx_walk::{Progress, Walker};
 use std::alloc::Global;
 use std::io::Write;
 
@@ -46,7 +47,8 @@ fn begin<W: Write>(
 /// Ends the line of the prompt at the end of the input.
 fn print_end<W: Write>(asks: bool, out: &mut W) -> Result<(), Failure>
     ensures err { IfErr result IsWanting }
-    ensures printed { OnOk result (Appends (W.contents out.old) (W.contents out.new) (end_text asks)) }
+    ensures printed { OnOk result (Appends (W.contents out.old) (W.contents out.new)
+        (end_text asks)) }
 {
     let end = if asks { "\n" } else { "" };
     print_text(end.as_bytes(), out)
@@ -91,11 +93,13 @@ pub struct SessionNames<'a> {
 /// Starts the machine of a saved history, and answers the lines that are typed: requests to go forward and
 /// back in the history, and to show what is there. It takes lines up to `quit` or to the end of the input, and
 /// none after that. With `asks` it prints the position before each line. A session's text is a function of the
-/// configuration, the programs, the history and the lines.
-pub fn look<R: Reader, L: LineReader, W: Write>(
+/// configuration, the programs, the history and the lines. At the beginning it walks the history once;
+/// `progress` is shown each record of that walk.
+pub fn look<R: Reader, L: LineReader, P: Progress, W: Write>(
     alloc: Global,
     reader: &mut R,
     lines: &mut L,
+    progress: &mut P,
     names: SessionNames<'_>,
     asks: bool,
     out: &mut W,
@@ -104,14 +108,16 @@ pub fn look<R: Reader, L: LineReader, W: Write>(
         × (records : List Noted) × (k : Walk) × (typed : List (Option (List ℕ))) × (text : List ℕ)
         × (R.asked reader.new ≡ R.asked reader.old ++ qs)
         × (L.given lines.new ≡ L.given lines.old ++ typed) × IsWhole typed
+        × (P.shown progress.new ≡ P.shown progress.old ++ walk_shown k.records k.last)
         × IsStart IsSaved names.entry.config.now names.entry.log.now qs c vs records
         × IsBegun (world_at_boot c vs) records k
         × IsSession asks (sight_at k) typed text
         × Appends (W.contents out.old) (W.contents out.new) (begun_text asks k ++ text)) }
     ensures fault { IfErr result (λ f. (qs : List Asked) × (typed : List (Option (List ℕ)))
-        × (R.asked reader.new ≡ R.asked reader.old ++ qs)
+        × (ps : List Parts) × (R.asked reader.new ≡ R.asked reader.old ++ qs)
         × (L.given lines.new ≡ L.given lines.old ++ typed)
-        × IsTold IsSaved TellsSaved names.entry.config.now names.entry.log.now qs f) }
+        × (P.shown progress.new ≡ P.shown progress.old ++ ps)
+        × HasFailed names.entry.config.now names.entry.log.now qs ps f) }
 {
     records_are_of_actors();
     let Started {
@@ -120,7 +126,8 @@ pub fn look<R: Reader, L: LineReader, W: Write>(
         other: _,
         lines: records,
     } = start::<History, R>(alloc, reader, names.config, names.log)?;
-    let mut walker = Walker::new(alloc, machine, config, records)?;
+    let mut walker = Walker::new(alloc, machine, config, records, progress)?;
+    progress.clear();
     begin(alloc, &mut walker, asks, out)?;
     let sight = Sight {
         walker,

@@ -1,18 +1,20 @@
 //! What is shown of a slot's process.
 
 ghost use Rattle.std.specs.Prelude.{◌≡◌, ◌++◌, OnOk, Some, option_copied, option_map, string_bytes};
+ghost use Rattle.mx_print_answers.specs.Slots.{address_asked, image_in, memory_of, refused_text, registers_of};
 ghost use Rattle.mx_walk.specs.Walks.{world_here};
-ghost use Rattle.mx_app_look.specs.Showing.{bytes_by, code_at, code_by, code_from, code_next, code_of, dword_line, memory_by, refused_text, registers_by, shown_text, stack_by, stack_of, symbol_of_name, symbols_in, value_text, variable_by, variable_text};
-ghost use Rattle.mx_app_look.specs.Slots.{address_asked, image_in, slot_asked};
+ghost use Rattle.mx_app_look.specs.Showing.{code_at, code_by, code_from, code_next, code_of, dword_line, shown_text, stack_by, stack_of, symbol_of_name, symbols_in, value_text, variable_by, variable_text};
+ghost use Rattle.mx_app_look.specs.Slots.{slot_asked};
 
-use crate::places::symbols_of;
 use crate::shown::Shown;
-use crate::slots::{address_asked, image_in, slot_asked};
+use crate::slots::{address_here, slot_asked};
 use mx_aout::Symbol;
 use mx_boot::{AddressWord, SymbolName};
 use mx_exec::Image;
 use mx_look_code::{push_code_lines, push_stack, push_variable, variable_named, variable_value};
-use mx_print_answers::{DebugError, Refused, push_memory, push_process};
+use mx_print_answers::{
+    DebugError, Refused, image_in, push_memory_of, push_process, push_registers_of, symbols_of,
+};
 use mx_proc::Slot;
 use mx_walk::Walker;
 use std::alloc::{AllocError, Global};
@@ -45,34 +47,13 @@ fn image_here(walker: &Walker, slot: Slot) -> Option<&Image>
 /// Appends the registers of a slot's process, or why there are none.
 fn push_registers(text: &mut String, walker: &Walker, asked: Option<u32>) -> Result<(), AllocError>
     ensures { OnOk result (string_bytes text.new ≡ string_bytes text.old
-        ++ registers_by (world_here walker.now) (slot_asked walker.now asked)) }
+        ++ registers_of (world_here walker.now) (slot_asked walker.now asked)) }
 {
-    match slot_asked(walker, asked) {
-        Ok(slot) => push_process(text, image_here(walker, slot)),
-        Err(refused) => push_refused(text, refused),
-    }
-}
-
-/// Appends bytes of a slot's process from an address on, or why there are none.
-fn push_bytes(
-    text: &mut String,
-    walker: &Walker,
-    slot: Slot,
-    from: &AddressWord,
-    count: u32,
-) -> Result<(), AllocError>
-    ensures { OnOk result (string_bytes text.new ≡ string_bytes text.old
-        ++ bytes_by (world_here walker.now) slot count
-        (address_asked (world_here walker.now) slot from.now)) }
-{
-    match address_asked(walker, slot, from) {
-        Ok(from) => push_memory(text, image_here(walker, slot), from, count),
-        Err(refused) => push_refused(text, refused),
-    }
+    push_registers_of(text, walker.machine(), slot_asked(walker, asked))
 }
 
 /// Appends bytes of the process of a slot that is named, or why there are none.
-fn push_memory_asked(
+fn push_memory(
     text: &mut String,
     walker: &Walker,
     slot: u32,
@@ -80,12 +61,10 @@ fn push_memory_asked(
     count: u32,
 ) -> Result<(), AllocError>
     ensures { OnOk result (string_bytes text.new ≡ string_bytes text.old
-        ++ memory_by (world_here walker.now) from.now count (slot_asked walker.now (Some slot))) }
+        ++ memory_of (world_here walker.now) from.now count (slot_asked walker.now (Some slot))) }
 {
-    match slot_asked(walker, Some(slot)) {
-        Ok(slot) => push_bytes(text, walker, slot, from, count),
-        Err(refused) => push_refused(text, refused),
-    }
+    let slot = slot_asked(walker, Some(slot));
+    push_memory_of(text, walker.machine(), slot, from, count)
 }
 
 /// Appends the code of a process from an address on, if there is a process.
@@ -130,7 +109,7 @@ fn push_code_from(
         ++ code_from (world_here walker.now) slot
         (address_asked (world_here walker.now) slot from.now)) }
 {
-    match address_asked(walker, slot, from) {
+    match address_here(walker, slot, from) {
         Ok(at) => push_code_at(text, symbols_in(walker, slot), image_here(walker, slot), at),
         Err(refused) => push_refused(text, refused),
     }
@@ -275,7 +254,7 @@ fn push_asked(text: &mut String, walker: &Walker, shown: &Shown) -> Result<(), A
 {
     match shown {
         Shown::Registers(slot) => push_registers(text, walker, *slot),
-        Shown::Memory(slot, from, count) => push_memory_asked(text, walker, *slot, from, *count),
+        Shown::Memory(slot, from, count) => push_memory(text, walker, *slot, from, *count),
         Shown::Code(slot, from) => push_code(text, walker, *slot, from),
         Shown::Stack(slot, count) => push_stack_asked(text, walker, *slot, *count),
         Shown::Variable(slot, name) => push_variable_asked(text, walker, *slot, name),

@@ -18,6 +18,7 @@ use Rattle.mx_cpus.specs.Seats.{SeatView}
 use Rattle.mx_cpus.specs.Boots.{all_seats}
 use Rattle.mx_app_step.specs.Asked.{Asked}
 use Rattle.mx_app_step.specs.ServiceLine.{ServiceLine}
+use Rattle.mx_app_step.specs.Programs.{SparesProgram, names_program}
 use Rattle.mx_app_step.specs.Setup.{AreServicesRead, IsSetup, IsTextGiven}
 use Rattle.mx_app_failure.specs.declared.failure.Failure.{Failure as Kind}
 use Rattle.mx_app_failure.specs.declared.failure.Failure.TheVariants.{NoMemory}
@@ -114,10 +115,14 @@ module _ (config : List ℕ) (events : Option (List ℕ)) (log : List ℕ) (tick
   not_called f (Ok u) why h = absurd h
   not_called f (Err y) why h = inl (refl, inr (apart, inl (subst (λ z. IsNotCalled config events qs z) (sym h) why)))
 
-  module _ (c : Config) (vs : List Service) (xs : List OutsideCall) (called : IsCalled config events qs c vs xs) where
+  -- a program isn't written over
+  pub spared : (c : Config) (vs : List Service) (xs : List OutsideCall) (f : Kind) → IsCalled config events qs c vs xs → SparesProgram c log [] Prints f → Runs config events log ticks qs [] Prints (Err f)
+  spared c vs xs f called named = inr (inl (c, vs, xs, apart, called, named))
+
+  module _ (c : Config) (vs : List Service) (xs : List OutsideCall) (called : IsCalled config events qs c vs xs) (unnamed : names_program c log ≡ false) where
     pub no_memory : (r : Result Ending Kind) → IsErrAnd r (λ y. y ≡ NoMemory) → Runs config events log ticks qs [] Prints r
     no_memory (Ok u) h = absurd h
-    no_memory (Err y) h = inl (refl, inr (apart, inr (c, vs, xs, called, h)))
+    no_memory (Err y) h = inl (refl, inr (apart, inr (c, vs, xs, called, unnamed, h)))
 
     module _ (k : BootAndHistory) (run : IsRun c vs ticks xs k) where
       by_rules : text_kept k ≡ saved_text c.rules k.history
@@ -126,18 +131,18 @@ module _ (config : List ℕ) (events : Option (List ℕ)) (log : List ℕ) (tick
       pub unwritten : (ws : List Written) (f : Kind) (r : Result Ending Kind) → IsUnwritten log (text_kept k) ws f → IsErrAnd r (λ y. y ≡ f) → Runs config events log ticks qs ws Prints r
       unwritten ws f (Ok u) why h = absurd h
       unwritten ws f (Err y) why h = elim why [
-        | inl none ↦ inl (none.0, inr (apart, inr (c, vs, xs, called, h ∙ none.1)))
-        | inr file ↦ inr (c, vs, xs, k, apart, called, run, inl (file.0, file.1 ∙ ap (λ t. unkept log t file.0 ∷ []) by_rules, h ∙ file.2))
+        | inl none ↦ inl (none.0, inr (apart, inr (c, vs, xs, called, unnamed, h ∙ none.1)))
+        | inr file ↦ inr (inr (c, vs, xs, k, apart, called, unnamed, run, inl (file.0, file.1 ∙ ap (λ t. unkept log t file.0 ∷ []) by_rules, h ∙ file.2)))
       ]
 
       -- the report isn't printed
       pub untold : (f : Kind) (r : Result Ending Kind) → IsWanting f → IsErrAnd r (λ y. y ≡ f) → Runs config events log ticks qs (kept log (text_kept k) ∷ []) Prints r
       untold f (Ok ending) wanting h = absurd h
-      untold f (Err y) wanting h = inr (c, vs, xs, k, apart, called, run, inr (ap (λ t. kept log t ∷ []) by_rules, subst IsWanting (sym h) wanting))
+      untold f (Err y) wanting h = inr (inr (c, vs, xs, k, apart, called, unnamed, run, inr (ap (λ t. kept log t ∷ []) by_rules, subst IsWanting (sym h) wanting)))
 
       pub written : (ending : Ending) → Prints (report_text (replay k).table (replay k).services) → ending ≡ run_ending c.log ticks xs k
           → Runs config events log ticks qs (kept log (text_kept k) ∷ []) Prints (Ok ending)
-      written ending printed is = (c, vs, xs, k, apart, called, run, ap (λ t. kept log t ∷ []) by_rules, printed, is)
+      written ending printed is = (c, vs, xs, k, apart, called, unnamed, run, ap (λ t. kept log t ∷ []) by_rules, printed, is)
 
 -- ---- its replay
 

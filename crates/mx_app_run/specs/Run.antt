@@ -26,6 +26,7 @@ use Rattle.mx_app_step.specs.Asked.{Asked}
 use Rattle.mx_app_turns.specs.Turned.{writes_over}
 use Rattle.mx_app_run.specs.Calls.{AreCallsGiven, IsCallsFault, ticks_of}
 use Rattle.mx_app_step.specs.Course.{IsSaved}
+use Rattle.mx_app_step.specs.Programs.{SparesProgram, names_program}
 use Rattle.mx_app_step.specs.Setup.{IsSetup, IsSetupFault}
 use Rattle.mx_app_step.specs.Written.{Written, kept, unkept}
 use Rattle.mx_app_step.specs.Records.{IsReplayPrinted}
@@ -80,7 +81,7 @@ abbrev pub IsNotRun : List ℕ → Option (List ℕ) → List ℕ → List Asked
 IsNotRun config events log qs f =
     ((writes_over config events log ≡ true) × (qs ≡ []) × (f ≡ File))
     ⊎ ((writes_over config events log ≡ false)
-    × (IsNotCalled config events qs f ⊎ ((c : Config) × (vs : List Service) × (xs : List OutsideCall) × IsCalled config events qs c vs xs × (f ≡ NoMemory))))
+    × (IsNotCalled config events qs f ⊎ ((c : Config) × (vs : List Service) × (xs : List OutsideCall) × IsCalled config events qs c vs xs × (names_program c log ≡ false) × (f ≡ NoMemory))))
 
 -- what a run came to: its history's text couldn't be written, or it was, and the report couldn't be printed
 abbrev pub IsRunUntold : List ℕ → List ℕ → List Written → Kind → Type 0
@@ -93,14 +94,16 @@ IsRunUntold log text ws f =
 abbrev pub Runs : List ℕ → Option (List ℕ) → List ℕ → ℕ → List Asked → List Written → (List ℕ → Type 0) → Result Ending Kind → Type 0
 Runs config events log ticks qs ws Prints (Ok ending) =
     (c : Config) × (vs : List Service) × (xs : List OutsideCall) × (k : BootAndHistory) × (writes_over config events log ≡ false) × IsCalled config events qs c vs xs
-    × IsRun c vs ticks xs k
+    × (names_program c log ≡ false) × IsRun c vs ticks xs k
     × (ws ≡ kept log (saved_text c.rules k.history) ∷ []) × Prints (report_text (replay k).table (replay k).services)
     × (ending ≡ run_ending c.log ticks xs k)
 Runs config events log ticks qs ws Prints (Err f) =
     ((ws ≡ []) × IsNotRun config events log qs f)
+    ⊎ (((c : Config) × (vs : List Service) × (xs : List OutsideCall) × (writes_over config events log ≡ false) × IsCalled config events qs c vs xs
+    × SparesProgram c log ws Prints f)
     ⊎ ((c : Config) × (vs : List Service) × (xs : List OutsideCall) × (k : BootAndHistory) × (writes_over config events log ≡ false) × IsCalled config events qs c vs xs
-    × IsRun c vs ticks xs k
-    × IsRunUntold log (saved_text c.rules k.history) ws f)
+    × (names_program c log ≡ false) × IsRun c vs ticks xs k
+    × IsRunUntold log (saved_text c.rules k.history) ws f))
 
 -- ---- its replay
 

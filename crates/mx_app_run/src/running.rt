@@ -10,8 +10,8 @@ ghost use Rattle.mx_app_run.specs.Run.{EndsDriven, IsCalled, IsNotCalled, IsRun,
 use crate::calls::{outside_calls, ticks_of};
 use crate::gate::RunGate;
 use mx_app_step::{
-    Channels, Config, Failure, FileWriter, Reader, print_kernel_report, setup_of, text_of,
-    write_history,
+    Channels, Config, Failure, FileWriter, Reader, names_program, print_kernel_report, setup_of,
+    text_of, write_history,
 };
 use mx_app_turns::writes_over;
 use mx_cpus::{ActorSeat, Blank, Kernel, Naming, OutsideCall, Service, Shared, boot, drive_with};
@@ -165,8 +165,8 @@ fn begin<R: Reader>(
 
 /// Runs the machine of a configuration, each processor in a thread of its own, until it is at rest
 /// after all ticks and the outside events of a file, or its history is full, and answers which. Then writes the history
-/// to a file, and prints the report. No file that is read is written over: if LOG has its name, nothing is read or
-/// written.
+/// to a file, and prints the report. No file that is read is written over: if LOG has the name of CONFIG or
+/// EVENTS, nothing is read or written. If it has that of a service's program, nothing is run or written.
 pub fn run<
     T: Threads + Wait + Clock + Sync,
     R: Reader + Drop,
@@ -195,6 +195,9 @@ pub fn run<
         services,
         calls,
     } = begun;
+    if names_program(&config, names.log) {
+        return Err(Failure::File);
+    }
     let outside = Outside {
         ticks,
         calls: calls.as_slice(),

@@ -1,2 +1,3 @@
 pub mod SetupLemmas
 pub mod BootLemmas
+pub mod Appended

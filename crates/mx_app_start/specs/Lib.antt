@@ -1,6 +1,7 @@
 pub mod Asked
 pub mod Course
 pub mod Named
+pub mod Programs
 pub mod Setup
 pub mod Telling
 pub mod Written

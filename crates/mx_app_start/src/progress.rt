@@ -1,31 +1,10 @@
 //! How far a command is, for a reader at a terminal.
 
-ghost use Rattle.std.specs.Prelude.{◌≡◌, ◌++◌, ◌∷◌, [], List};
-ghost use Rattle.mx_app_start.specs.declared.progress.Part.{Part as Parts};
+ghost use Rattle.std.specs.Prelude.{◌≡◌, []};
 
 use crate::noted::Noted;
+use mx_walk::{Part, Progress};
 use std::time::{Clock, Duration, Instant};
-
-/// How many parts of a command's work are done, and of how many.
-#[derive(Clone, Copy, Debug, PartialEq, Eq)]
-pub struct Part {
-    pub done: usize,
-    pub all: usize,
-}
-
-/// Is shown how far a command is.
-pub trait Progress {
-    /// What it was shown, in order.
-    ghost shown: { Self → List Parts };
-
-    /// One part more is done.
-    fn show(&mut self, part: Part)
-        ensures { shown self.new ≡ shown self.old ++ part ∷ [] };
-
-    /// A text is printed next, or the command ends: what is at a terminal goes from there.
-    fn clear(&mut self)
-        ensures { shown self.new ≡ shown self.old };
-}
 
 /// How many milliseconds a command works before its progress is printed.
 const PATIENCE: u64 = 1000;
@@ -42,6 +21,8 @@ const EMPTY_LINE: &str = "\r\x1b[K";
 pub struct RuntimeProgress<'a, R> {
     rt: &'a R,
     is_terminal: bool,
+    /// What the parts are, in a line: `positions` of a sweep, `records` of a walk.
+    unit: &'a str,
     /// When the next line is due; none before the first part.
     next: Option<Instant>,
     has_line: bool,
@@ -50,12 +31,13 @@ pub struct RuntimeProgress<'a, R> {
 
 impl<'a, R> RuntimeProgress<'a, R> {
     /// What prints progress on a runtime's standard error, if that is a terminal, and was shown none yet.
-    pub fn new(rt: &'a R, is_terminal: bool) -> RuntimeProgress<'a, R>
+    pub fn new(rt: &'a R, is_terminal: bool, unit: &'a str) -> RuntimeProgress<'a, R>
         ensures { result.parts.items ≡ [] }
     {
         RuntimeProgress {
             rt,
             is_terminal,
+            unit,
             next: None,
             has_line: false,
             parts: Noted::new(),
@@ -94,7 +76,8 @@ impl<'a, R: Clock + Eprint> Progress for RuntimeProgress<'a, R> {
         self.parts = self.parts.and(&part);
         if self.is_terminal && self.is_due() {
             let Part { done, all } = part;
-            let _ = eprint!(self.rt; "{EMPTY_LINE}mx: {done} of {all} positions");
+            let unit = self.unit;
+            let _ = eprint!(self.rt; "{EMPTY_LINE}mx: {done} of {all} {unit}");
             self.has_line = true;
         }
     }

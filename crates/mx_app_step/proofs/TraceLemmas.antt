@@ -1,16 +1,15 @@
 -- What is told of records, one more.
-use Rattle.std.proofs.Common.{◌≡◌, ◌∙◌, ◌<◌, ◌≤◌, ℕ, ◌+◌, ◌-◌, List, [], ◌∷◌, ◌++◌, length, take, get_or, append_assoc, Option, Some, None, inl, All, refl, ap, sym, subst, arith}
+use Rattle.std.proofs.Common.{◌≡◌, ◌∙◌, ◌<◌, ◌≤◌, ℕ, ◌+◌, ◌-◌, List, [], ◌∷◌, ◌++◌, length, take, get_or, append_assoc, Option, None, All, ap, sym, subst, arith}
 use Rattle.std.proofs.KnownBytes.{Appends-trans}
 use Rattle.std.proofs.lemmas.List.{append-nil, take_more, take_all, length-take-le}
 use Rattle.std.proofs.lemmas.List.Elements.{All-take}
 use Rattle.std.specs.Io.KnownBytes.{Appends}
 use Rattle.mx_machine.specs.declared.events.Event.{Event}
+use Rattle.mx_machine.specs.declared.events.Event.TheVariants as event
 use Rattle.mx_machine.specs.declared.events.Refusal.{Refusal}
 use Rattle.mx_machine.specs.declared.history.Record.{Record}
-use Rattle.mx_machine.specs.declared.history.Recorded.{Recorded}
-use Rattle.mx_machine.specs.declared.history.Recorded.TheVariants as recorded
 use Rattle.mx_machine.specs.History.{AreAccepted, world_after_events, events_of, events_of_history}
-use Rattle.mx_machine.specs.Move.{world_after_event, event_refusal}
+use Rattle.mx_machine.specs.Move.{event_refusal, world_after_event}
 use Rattle.mx_machine.specs.World.{World}
 use Rattle.mx_look_trace.specs.Glance.{Glance}
 use Rattle.mx_look_trace.specs.Glances.{glance_of}
@@ -19,42 +18,12 @@ use Rattle.mx_app_start.specs.Config.{Config}
 use Rattle.mx_app_start.specs.Service.{Service}
 use Rattle.mx_machine.specs.Boot.{world_at_boot}
 use Rattle.mx_app_step.specs.declared.records.Replayed.{Replayed}
-use Rattle.mx_app_step.specs.Records.{IsFirstRefusal, IsRefusedAt}
-use Rattle.mx_app_step.specs.Traces.{steps_before, own_event, step_of, told_of, trace_text, IsTracePrinted}
-use Rattle.mx_app_step.proofs.RecordLemmas.{accepted_both, after_both, refused_front, refused_after}
-
--- ---- a record is its steps, and its own event after them
-
-parts_of : (a : ℕ) (e : Recorded) → steps_before a e ++ (a, own_event e) ∷ [] ≡ events_of a e
-parts_of a recorded.Take = refl
-parts_of a (recorded.Back n) = refl
-parts_of a (recorded.Line l) = refl
-parts_of a recorded.Tick = refl
-parts_of a (recorded.Kill e) = refl
-parts_of a (recorded.Respawn s) = refl
-
-module _ (w v u : World) (a : ℕ) (e : Recorded) (begun : AreAccepted w (steps_before a e)) (behind : v ≡ world_after_events w (steps_before a e)) where
-  abbrev own : List (ℕ × Event)
-  own = (a, own_event e) ∷ []
-
-  pub look_accepted : event_refusal v a (own_event e) ≡ None → AreAccepted w (events_of a e)
-  look_accepted h =
-      subst (λ (xs : List (ℕ × Event)). AreAccepted w xs) (parts_of a e)
-      (accepted_both w (steps_before a e) own begun (subst (λ (x : World). event_refusal x a (own_event e) ≡ None) behind h, tt))
-
-  pub look_world : u ≡ world_after_event v a (own_event e) → u ≡ world_after_events w (events_of a e)
-  look_world h =
-      h ∙ ap (λ (x : World). world_after_event x a (own_event e)) behind ∙ sym (after_both w (steps_before a e) own)
-      ∙ ap (λ (xs : List (ℕ × Event)). world_after_events w xs) (parts_of a e)
-
-  pub look_refused : (r : Refusal) → event_refusal v a (own_event e) ≡ Some r → IsFirstRefusal w (events_of a e) r
-  look_refused r h =
-      subst (λ (xs : List (ℕ × Event)). IsFirstRefusal w xs r) (parts_of a e)
-      (refused_after w (steps_before a e) own r begun (inl (subst (λ (x : World). event_refusal x a (own_event e) ≡ Some r) behind h)))
-
-pub steps_refused : (w : World) (a : ℕ) (e : Recorded) (r : Refusal) → IsFirstRefusal w (steps_before a e) r → IsFirstRefusal w (events_of a e) r
-steps_refused w a e r h =
-    subst (λ (xs : List (ℕ × Event)). IsFirstRefusal w xs r) (parts_of a e) (refused_front w (steps_before a e) ((a, own_event e) ∷ []) r h)
+use Rattle.mx_app_step.specs.Records.{IsRefusedAt}
+use Rattle.mx_app_step.specs.Traces.{steps_before, step_of, told_of, trace_text, IsTracePrinted}
+use Rattle.mx_app_step.proofs.RecordLemmas.{after_both}
+use Rattle.mx_walk.specs.Positions.{HasMade, own_event, steps_in, steps_of}
+use Rattle.mx_walk.proofs.EventsIn.{parts_of}
+use Rattle.mx_walk.proofs.Made.{made_as, then_one}
 
 -- ---- the trace, one record more
 
@@ -82,6 +51,12 @@ next_printed from w v records i n d x a b c within e world is so_far more =
     subst (λ (t : List ℕ). Appends a c t) same (Appends-trans a b c (trace_text from w 1 (take i records)) (told_of from x) so_far more)
 
 -- ---- what is looked at
+
+-- a record's steps, and then its own event
+pub look_made : (w v u : World) (x : Record) (n : ℕ) (e : Event) → n ≡ steps_in x.event → e ≡ own_event x.event → HasMade w v (steps_of x.actor n) → event_refusal v x.actor e ≡ None → u ≡ world_after_event v x.actor e
+    → HasMade w u (events_of x.actor x.event)
+look_made w v u x n e many own begun accepted after =
+    made_as w u _ (events_of x.actor x.event) (parts_of x.actor x.event) (then_one w v u n (steps_in x.event) x.actor event.Step e (own_event x.event) begun many accepted after own)
 
 abbrev step_as : ℕ → Record → Glance → Glance → Step
 step_as n x g h = record { number = n; before = g; actor = x.actor; event = x.event; after = h }

@@ -4,7 +4,7 @@ use Rattle.std.specs.declared.io.ErrorKind.{ErrorKind}
 use Rattle.mx_app_failure.specs.declared.failure.Failure.{Failure}
 use Rattle.mx_app_failure.specs.declared.failure.Failure.TheVariants.{NoMemory}
 use Rattle.mx_app_failure.specs.Failure.{failure_of_kind}
-use Rattle.mx_app_start.specs.Machine.{kept_after, kept_along}
+use Rattle.mx_app_start.specs.Machine.{kept_after}
 use Rattle.mx_app_start.specs.Text.{saved_text}
 use Rattle.mx_app_start.specs.Written.{Written, unkept}
 use Rattle.mx_boot.specs.declared.scripts.ScriptLine.{ScriptLine}
@@ -13,9 +13,10 @@ use Rattle.mx_machine.specs.declared.events.Event.{Event}
 use Rattle.mx_machine.specs.declared.events.Event.TheVariants as events
 use Rattle.mx_machine.specs.declared.history.Record.{Record}
 use Rattle.mx_machine.specs.History.{BootAndHistory}
-use Rattle.mx_machine.specs.Move.{move, moves}
+use Rattle.mx_machine.specs.Move.{move}
 use Rattle.mx_machine.specs.World.{World}
 use Rattle.mx_app_step.specs.Lines.{line_made}
+pub use Rattle.mx_walk.specs.Kept.{kept_of}
 
 -- the event that a line is, with its actor, where `other` is the actor of the lines that name none; steps are none
 abbrev pub event_of_line : ℕ → ScriptLine → Option (ℕ × Event)
@@ -31,10 +32,6 @@ event_of_line other (Respawn s) = Some (other, events.Respawn s)
 abbrev pub kept_by : BootAndHistory → World → Option (ℕ × Event) → BootAndHistory
 kept_by k w None = k
 kept_by k w (Some x) = kept_after k x.0 x.1 (move w x.0 x.1).0
-
--- and after events of the world in a row
-abbrev pub kept_of : BootAndHistory → World → List (ℕ × Event) → BootAndHistory
-kept_of k w xs = kept_along k xs (moves w xs).0
 
 -- and after lines in a row
 abbrev pub lines_kept : BootAndHistory → World → ℕ → List ScriptLine → BootAndHistory

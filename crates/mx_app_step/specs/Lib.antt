@@ -11,6 +11,7 @@ pub use Rattle.mx_app_start.specs.Service
 pub use Rattle.mx_app_start.specs.Failure
 pub use Rattle.mx_app_start.specs.Asked
 pub use Rattle.mx_app_start.specs.Course
+pub use Rattle.mx_app_start.specs.Programs
 pub use Rattle.mx_app_start.specs.Setup
 pub use Rattle.mx_app_start.specs.Telling
 pub use Rattle.mx_app_start.specs.ServiceLine

@@ -2,13 +2,11 @@
 use Rattle.std.specs.Prelude.{◌≡◌, ℕ, ◌+◌, ◌-◌, nat_lt, if◌then◌else◌, List, [], ◌∷◌, ◌++◌, take, Option, Some, None}
 use Rattle.mx_app_start.specs.Log.{lines_above}
 use Rattle.mx_machine.specs.declared.events.Event.{Event}
-use Rattle.mx_machine.specs.declared.events.Event.TheVariants as event
 use Rattle.mx_machine.specs.declared.events.Refusal.{Refusal}
 use Rattle.mx_machine.specs.declared.history.Record.{Record}
 use Rattle.mx_machine.specs.declared.history.Recorded.{Recorded}
 use Rattle.mx_machine.specs.declared.history.Recorded.TheVariants as recorded
 use Rattle.mx_machine.specs.History.{AreAccepted, world_after_events, events_of, events_of_history}
-use Rattle.mx_machine.specs.Steps.{steps_of}
 use Rattle.mx_machine.specs.World.{World}
 use Rattle.mx_look_trace.specs.Glances.{glance_of}
 use Rattle.mx_look_trace.specs.Step.{Step}
@@ -16,19 +14,12 @@ use Rattle.mx_look_trace.specs.Trace.{record_text}
 use Rattle.mx_app_step.specs.declared.records.Replayed.{Replayed}
 use Rattle.mx_app_step.specs.declared.records.Replayed.TheVariants as replayed
 use Rattle.mx_app_step.specs.Records.{IsRefusedAt, refused_record_line}
+use Rattle.mx_walk.specs.Positions.{steps_in, steps_of}
+pub use Rattle.mx_walk.specs.Positions.{own_event}
 
--- the steps that a record stands for, and its own event after them
+-- the steps that a record stands for; its own event comes after them
 abbrev pub steps_before : ℕ → Recorded → List (ℕ × Event)
-steps_before a (recorded.Back n) = steps_of a n
-steps_before a _ = []
-
-abbrev pub own_event : Recorded → Event
-own_event recorded.Take = event.Take
-own_event (recorded.Back n) = event.Back
-own_event (recorded.Line l) = event.Line l
-own_event recorded.Tick = event.Tick
-own_event (recorded.Kill e) = event.Kill e
-own_event (recorded.Respawn s) = event.Respawn s
+steps_before a e = steps_of a (steps_in e)
 
 -- A RECORD AS A STEP, from a world: it is looked at after the steps, and after its own event
 abbrev pub step_of : World → ℕ → Record → Step

@@ -14,8 +14,8 @@ pub use lines::{perform_line, step};
 pub use mx_app_start::{
     BootError, Channels, Config, DebugScript, Failure, FileWriter, History, InputLines, KeptFile,
     LineReader, Machine, MemoryWriter, NamedFile, NamedFiles, Out, Reader, Record, RuntimeFiles,
-    RuntimeWriter, Script, ScriptLine, Started, Tool, config_of, lines_above, print_text, report,
-    saved_text, setup_of, start, text_of,
+    RuntimeWriter, Script, ScriptLine, Started, Tool, config_of, lines_above, names_program,
+    print_text, report, saved_text, setup_of, start, text_of,
 };
 pub use mx_print_answers::Said;
 pub use printing::{pieces_join, print_kernel_report, print_piece, print_report};

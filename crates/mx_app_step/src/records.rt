@@ -1,9 +1,9 @@
 //! A machine that is driven by a saved history.
 
-ghost use Rattle.std.specs.Prelude.{◌≡◌, ◌<◌, ◌≤◌, ◌++◌, ◌∷◌, [], List, All, length, IfOk, IfErr, OnOk, None, Some, string_bytes};
+ghost use Rattle.std.specs.Prelude.{◌≡◌, ◌<◌, ◌≤◌, ◌++◌, List, All, length, IfOk, IfErr, OnOk, string_bytes};
 ghost use Rattle.std.specs.Io.KnownBytes.{Appends};
 ghost use Rattle.mx_app_start.specs.Failure.{IsWanting};
-ghost use Rattle.mx_app_start.specs.Machine.{IsActor, world_of};
+ghost use Rattle.mx_app_start.specs.Machine.{world_of};
 ghost use Rattle.mx_app_start.specs.Report.{report_text};
 ghost use Rattle.mx_app_start.specs.Service.{Service};
 ghost use Rattle.mx_app_start.specs.Config.{Config};
@@ -11,23 +11,18 @@ ghost use Rattle.mx_app_start.specs.Asked.{Asked};
 ghost use Rattle.mx_app_start.specs.Course.{IsSaved, TellsSaved};
 ghost use Rattle.mx_app_start.specs.Setup.{IsStart};
 ghost use Rattle.mx_machine.specs.declared.history.Record.{Record as Noted};
-ghost use Rattle.mx_machine.specs.declared.history.Recorded.TheVariants as recorded;
 ghost use Rattle.mx_machine.specs.Boot.{world_at_boot};
-ghost use Rattle.mx_machine.specs.Move.{world_after_event, event_refusal};
-ghost use Rattle.mx_machine.specs.History.{AreAccepted, world_after_events, events_of, events_of_history};
-ghost use Rattle.mx_machine.specs.Steps.{steps_of};
+ghost use Rattle.mx_machine.specs.History.{AreAccepted, world_after_events, events_of_history};
 ghost use Rattle.mx_machine.specs.World.{actors};
 ghost use Rattle.mx_app_step.specs.Kept.{kept_of};
-ghost use Rattle.mx_app_step.specs.Records.{IsReplayPrinted, IsFirstRefusal, IsRefusedAt, refused_record_line};
+ghost use Rattle.mx_app_step.specs.Records.{IsReplayPrinted, IsRefusedAt, refused_record_line};
 ghost use Rattle.mx_app_start.specs.Telling.{IsTold};
 
 use crate::printing::print_report;
-use crate::stepping::work_steps;
-use mx_app_start::{
-    Event, Failure, History, Machine, Reader, Record, Recorded, lines_above, print_text, start,
-};
+use mx_app_start::{Failure, History, Machine, Reader, Record, lines_above, print_text, start};
 use mx_machine::{Refusal, actors_stay};
 use mx_print_answers::Said;
+use mx_walk::finish_record;
 use std::alloc::{AllocError, Global};
 use std::io::Write;
 
@@ -38,77 +33,6 @@ pub enum Replayed {
     Whole,
     /// An event was refused.
     Refused,
-}
-
-/// The steps that a process made.
-pub(crate) fn steps_again(machine: &mut Machine, cpu: u8, steps: u32) -> Result<(), Refusal>
-    ensures ok { OnOk result (AreAccepted (world_of machine.old) (steps_of cpu steps)
-        × (world_of machine.new ≡ world_after_events (world_of machine.old) (steps_of cpu steps))) }
-    ensures err { IfErr result (IsFirstRefusal (world_of machine.old) (steps_of cpu steps)) }
-    ensures kernel { machine.new.kernel ≡ machine.old.kernel }
-{
-    if steps == 0 {
-        return Ok(());
-    }
-    match work_steps(machine, cpu, steps) {
-        Said::Stepped(count, _) => {
-            if count == steps {
-                Ok(())
-            } else {
-                Err(Refusal::AtStop)
-            }
-        }
-        Said::Refused(refusal) => Err(refusal),
-        Said::Answered(_) => unreachable!(),
-    }
-}
-
-/// One event again.
-pub(crate) fn event_again(machine: &mut Machine, actor: u8, event: Event) -> Result<(), Refusal>
-    requires { IsActor (world_of machine.old) actor event }
-    ensures ok { OnOk result ((event_refusal (world_of machine.old) actor event ≡ None)
-        × (world_of machine.new ≡ world_after_event (world_of machine.old) actor event)) }
-    ensures err { IfErr result (λ r. event_refusal (world_of machine.old) actor event ≡ Some r) }
-    ensures kept { OnOk result (machine.new.kernel
-        ≡ kept_of machine.old.kernel (world_of machine.old) ((actor, event) ∷ [])) }
-{
-    machine.apply(actor, event)?;
-    Ok(())
-}
-
-/// The steps that a process made, and its return.
-fn return_again(machine: &mut Machine, cpu: u8, steps: u32) -> Result<(), Refusal>
-    ensures ok { OnOk result
-        (AreAccepted (world_of machine.old) (events_of cpu (recorded.Back steps))
-        × (world_of machine.new
-        ≡ world_after_events (world_of machine.old) (events_of cpu (recorded.Back steps)))) }
-    ensures err { IfErr result
-        (IsFirstRefusal (world_of machine.old) (events_of cpu (recorded.Back steps))) }
-    ensures kept { OnOk result (machine.new.kernel
-        ≡ kept_of machine.old.kernel (world_of machine.old) (events_of cpu (recorded.Back steps))) }
-{
-    steps_again(machine, cpu, steps)?;
-    event_again(machine, cpu, Event::Back)
-}
-
-/// The events that a record stands for, up to the first that is refused.
-fn perform_record(machine: &mut Machine, actor: u8, event: Recorded) -> Result<(), Refusal>
-    requires { actor < actors (world_of machine.old) }
-    ensures ok { OnOk result (AreAccepted (world_of machine.old) (events_of actor event)
-        × (world_of machine.new
-        ≡ world_after_events (world_of machine.old) (events_of actor event))) }
-    ensures err { IfErr result (IsFirstRefusal (world_of machine.old) (events_of actor event)) }
-    ensures kept { OnOk result (machine.new.kernel
-        ≡ kept_of machine.old.kernel (world_of machine.old) (events_of actor event)) }
-{
-    match event {
-        Recorded::Take => event_again(machine, actor, Event::Take),
-        Recorded::Back(steps) => return_again(machine, actor, steps),
-        Recorded::Line(line) => event_again(machine, actor, Event::Line(line)),
-        Recorded::Tick => event_again(machine, actor, Event::Tick),
-        Recorded::Kill(endpoint) => event_again(machine, actor, Event::Kill(endpoint)),
-        Recorded::Respawn(slot) => event_again(machine, actor, Event::Respawn(slot)),
-    }
 }
 
 /// The events that records stand for, up to the first that is refused. Answers the number of its
@@ -126,8 +50,8 @@ pub fn perform_records(machine: &mut Machine, records: &[Record]) -> Result<(), 
     actors_stay();
     let mut number = 1;
     for entry in records {
-        if let Err(refusal) = perform_record(machine, entry.actor, entry.event) {
-            return Err((number, refusal));
+        if let Err(halted) = finish_record(machine, *entry, 0) {
+            return Err((number, halted.refusal));
         }
         number += 1;
     }

@@ -1,6 +1,6 @@
 //! A script that drives a machine, whose history is saved.
 
-ghost use Rattle.std.specs.Prelude.{◌≡◌, ◌⊎◌, ◌<◌, ◌++◌, ◌∷◌, [], List, IfErr, OnOk};
+ghost use Rattle.std.specs.Prelude.{◌≡◌, ◌⊎◌, ◌<◌, ◌++◌, ◌∷◌, [], List, IfErr, OnOk, false};
 ghost use Rattle.std.specs.Io.KnownBytes.{Appends};
 ghost use Rattle.mx_app_start.specs.Machine.{world_of};
 ghost use Rattle.mx_app_start.specs.Report.{report_text};
@@ -10,6 +10,7 @@ ghost use Rattle.mx_app_start.specs.Config.{Config};
 ghost use Rattle.mx_boot.specs.declared.scripts.ScriptLine.{ScriptLine as Line};
 ghost use Rattle.mx_app_start.specs.Asked.{Asked};
 ghost use Rattle.mx_app_start.specs.Course.{IsScript, TellsScript};
+ghost use Rattle.mx_app_start.specs.Programs.{SparesProgram, names_program};
 ghost use Rattle.mx_app_start.specs.Setup.{IsNotStarted, IsStart};
 ghost use Rattle.mx_app_start.specs.Written.{Written, kept};
 ghost use Rattle.mx_machine.specs.Boot.{world_at_boot};
@@ -22,7 +23,8 @@ ghost use Rattle.mx_app_step.specs.Numbered.{answers_text};
 use crate::lines::print_said;
 use crate::printing::print_report;
 use mx_app_start::{
-    Channels, Failure, FileWriter, Reader, Script, ScriptLine, Started, saved_text, start,
+    Channels, Failure, FileWriter, Reader, Script, ScriptLine, Started, names_program, saved_text,
+    start,
 };
 use mx_machine::Kernel;
 use std::alloc::Global;
@@ -87,7 +89,8 @@ fn perform_and_save<F: FileWriter, W: Write>(
 
 /// Starts a machine by the names of its configuration and of a script, prints the answer to each line
 /// of the script, writes the history that the script made to the file `log`, also where lines were refused,
-/// and then prints the report. What stands printed after a failure isn't promised.
+/// and then prints the report. What stands printed after a failure isn't promised. The program of a service isn't
+/// written over: if its file has the name of LOG, nothing is written or printed.
 pub fn step_saved<R: Reader + Drop, F: FileWriter + Drop, W: Write + Drop>(
     alloc: Global,
     channels: &mut Channels<R, F, W>,
@@ -99,7 +102,7 @@ pub fn step_saved<R: Reader + Drop, F: FileWriter + Drop, W: Write + Drop>(
     ensures saved { OnOk result ((qs : List Asked) × (c : Config) × (vs : List Service)
         × (said : List Line)
         × (R.asked channels.new.reader ≡ R.asked channels.old.reader ++ qs)
-        × IsStart IsScript config.now script.now qs c vs said
+        × IsStart IsScript config.now script.now qs c vs said × (names_program c log.now ≡ false)
         × (F.written channels.new.files ≡ F.written channels.old.files
         ++ kept log.now (saved_text c.rules (history_made (world_at_boot c vs) c.cpus said)) ∷ [])
         × (let m = lines_made (world_at_boot c vs) c.cpus said in
@@ -109,11 +112,18 @@ pub fn step_saved<R: Reader + Drop, F: FileWriter + Drop, W: Write + Drop>(
         × (R.asked channels.new.reader ≡ R.asked channels.old.reader ++ qs)
         × (F.written channels.new.files ≡ F.written channels.old.files ++ ws)
         × (((ws ≡ []) × IsNotStarted IsScript TellsScript config.now script.now qs f)
-        ⊎ ((c : Config) × (vs : List Service) × (said : List Line) × IsStart IsScript config.now script.now qs c vs said
+        ⊎ ((c : Config) × (vs : List Service) × (said : List Line)
+        × IsStart IsScript config.now script.now qs c vs said
+        × (SparesProgram c log.now ws
+        (λ text. Appends (W.contents channels.old.out) (W.contents channels.new.out) text) f
+        ⊎ ((names_program c log.now ≡ false)
         × IsUnsaved log.now (saved_text c.rules (history_made (world_at_boot c vs) c.cpus said)) ws
-        f))) }
+        f))))) }
 {
     let mut started = start::<Script, R>(alloc, &mut channels.reader, config, script)?;
+    if names_program(&started.config, log) {
+        return Err(Failure::File);
+    }
     perform_and_save(
         alloc,
         &mut started,

@@ -2,9 +2,9 @@
 
 ghost use Rattle.std.specs.Prelude.{◌≡◌, ◌<◌, Some, false};
 ghost use Rattle.mx_machine.specs.Move.{move};
-ghost use Rattle.mx_machine.specs.World.{HeldProcess, actors, held_by};
+ghost use Rattle.mx_machine.specs.World.{actors, held_by};
 ghost use Rattle.mx_app_start.specs.KernelState.{is_for_all};
-ghost use Rattle.mx_app_start.specs.Machine.{HasWorked, world_of};
+ghost use Rattle.mx_app_start.specs.Machine.{world_of};
 ghost use Rattle.mx_app_step.specs.Kept.{kept_by};
 ghost use Rattle.mx_app_step.specs.Lines.{event_made, run_made, steps_made};
 
@@ -40,14 +40,12 @@ impl Tool for Stepper {
 }
 
 /// One or more steps of a processor, in one run.
-pub(crate) fn work_steps(machine: &mut Machine, cpu: u8, steps: u32) -> Said
+fn work_steps(machine: &mut Machine, cpu: u8, steps: u32) -> Said
     requires { 0 < steps }
     ensures made { run_made (world_of machine.old) cpu steps (held_by (world_of machine.old) cpu)
         ≡ (result, world_of machine.new) }
     ensures actors { actors (world_of machine.new) ≡ actors (world_of machine.old) }
     ensures kernel { machine.new.kernel ≡ machine.old.kernel }
-    ensures worked { (l : HeldProcess) → held_by (world_of machine.old) cpu ≡ Some l
-        → HasWorked (world_of machine.old) (world_of machine.new) cpu steps l }
 {
     let mut stepper = Stepper {
         steps,

@@ -15,47 +15,17 @@ ghost use Rattle.mx_machine.specs.Boot.{world_at_boot};
 ghost use Rattle.mx_machine.specs.History.{AreAccepted, world_after_events, events_of};
 ghost use Rattle.mx_machine.specs.World.{actors};
 ghost use Rattle.mx_app_step.specs.Records.{IsFirstRefusal};
-ghost use Rattle.mx_app_step.specs.Traces.{IsTracePrinted, IsTraced, own_event, resting_step, step_of, steps_before, told_of};
+ghost use Rattle.mx_app_step.specs.Traces.{IsTracePrinted, IsTraced, resting_step, step_of, told_of};
 
-use crate::records::{Replayed, event_again, print_refusal, steps_again};
+use crate::records::{Replayed, print_refusal};
 use mx_app_start::{
-    Event, Failure, History, Machine, Reader, Record, Recorded, lines_above, print_text, start,
+    Failure, History, Machine, Reader, Record, Recorded, lines_above, print_text, start,
 };
 use mx_look_trace::{Glance, Step, push_record};
 use mx_machine::{Refusal, actors_stay};
+use mx_walk::{make_event, make_steps, own_event, steps_in};
 use std::alloc::Global;
 use std::io::Write;
-
-/// The event of a record, after the steps that it stands for.
-fn own_event(event: Recorded) -> Event
-    ensures { result ≡ own_event event }
-{
-    match event {
-        Recorded::Take => Event::Take,
-        Recorded::Back(_) => Event::Back,
-        Recorded::Line(line) => Event::Line(line),
-        Recorded::Tick => Event::Tick,
-        Recorded::Kill(endpoint) => Event::Kill(endpoint),
-        Recorded::Respawn(slot) => Event::Respawn(slot),
-    }
-}
-
-/// The steps that a record stands for.
-fn begin_record(machine: &mut Machine, actor: u8, event: Recorded) -> Result<(), Refusal>
-    ensures ok { OnOk result (AreAccepted (world_of machine.old) (steps_before actor event)
-        × (world_of machine.new
-        ≡ world_after_events (world_of machine.old) (steps_before actor event))) }
-    ensures err { IfErr result (IsFirstRefusal (world_of machine.old) (steps_before actor event)) }
-{
-    match event {
-        Recorded::Back(steps) => steps_again(machine, actor, steps),
-        Recorded::Take
-        | Recorded::Line(_)
-        | Recorded::Tick
-        | Recorded::Kill(_)
-        | Recorded::Respawn(_) => Ok(()),
-    }
-}
 
 /// A step to be filled: nothing happens, and the machine is seen as it stands.
 pub fn resting_step(machine: &Machine) -> Step
@@ -88,9 +58,11 @@ pub fn look_record(
         (IsFirstRefusal (world_of machine.old) (events_of entry.actor entry.event)) }
 {
     actors_stay();
-    begin_record(machine, entry.actor, entry.event)?;
+    if let Err(halted) = make_steps(machine, entry.actor, steps_in(entry.event)) {
+        return Err(halted.refusal);
+    }
     step.before.look(machine);
-    event_again(machine, entry.actor, own_event(entry.event))?;
+    make_event(machine, entry.actor, own_event(entry.event))?;
     step.after.look(machine);
     step.number = number;
     step.actor = entry.actor;

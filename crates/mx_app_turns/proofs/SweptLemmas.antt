@@ -1,17 +1,18 @@
 -- What is done of a history.
-use Rattle.std.proofs.Common.{◌≡◌, ◌∙◌, ◌<◌, ◌≤◌, ◌+◌, ◌-◌, ◌==◌, ℕ, zero, suc, Bool, true, false, cond, nat_eq, List, [], ◌∷◌, ◌++◌, length, min, Option, Some, None, Result, Ok, Err, inl, inr, refl, ap, ap₂, append_assoc, arith, subst, sym}
+use Rattle.std.proofs.Common.{◌≡◌, ◌∙◌, ◌<◌, ◌≤◌, ◌+◌, ◌-◌, ◌==◌, ℕ, zero, suc, Bool, true, false, cond, nat_eq, List, [], ◌∷◌, ◌++◌, length, min, Option, Some, None, Result, Ok, Err, inl, inr, refl, ap, ap₂, arith, subst, sym}
 use Rattle.std.proofs.KnownBytes.{Appends-trans}
 use Rattle.std.specs.Io.KnownBytes.{Appends}
 use Rattle.std.proofs.lemmas.List.{append-nil}
-use Rattle.std.proofs.lemmas.List.FromFn.{map-range_with_len_more}
 use Rattle.std.specs.List.{flat_map}
 use Rattle.std.specs.Prelude.{IsErrAnd}
 use Rattle.mx_machine.specs.Boot.{world_at_boot}
 use Rattle.mx_machine.specs.declared.history.Record.{Record}
 use Rattle.mx_machine.specs.World.{World}
 use Rattle.mx_machine.specs.History.{AreAccepted, BootAndHistory, events_of_history}
-use Rattle.mx_app_start.specs.declared.progress.Part.{Part}
+use Rattle.mx_walk.specs.declared.progress.Part.{Part}
+use Rattle.mx_walk.specs.Parts.{parts_shown}
 use Rattle.mx_app_failure.specs.declared.failure.Failure.{Failure as Kind}
+use Rattle.mx_app_failure.specs.declared.failure.Failure.TheVariants.{File}
 use Rattle.mx_app_failure.specs.Failure.{IsWanting}
 use Rattle.mx_app_step.specs.Asked.{Asked}
 use Rattle.mx_app_step.specs.Config.{Config}
@@ -24,7 +25,7 @@ use Rattle.mx_app_turns.specs.Sweep.{block_text, blocks, count_of, total_text}
 use Rattle.mx_app_turns.specs.declared.sweeping.Swept.{Swept}
 use Rattle.mx_app_turns.specs.declared.sweeping.Swept.TheVariants.{Alike, Differs, Refused}
 use Rattle.mx_app_turns.specs.Begun.{IsDone}
-use Rattle.mx_app_turns.specs.Sweeping.{IsBegun, IsNotBegun, IsShown, IsSweptThrough, IsUnsaved, SweepOf, Sweeps, alike_in, ended, is_alike_at, last_text, of, parts_shown, positions_in, run_at, saved_if, sweep_text, text_at, writes_over}
+use Rattle.mx_app_turns.specs.Sweeping.{IsBegun, IsNotBegun, IsShown, IsSweptThrough, IsUnsaved, SweepOf, Sweeps, alike_in, ended, is_alike_at, last_text, of, positions_in, run_at, saved_if, saves_program, sweep_text, text_at, writes_over}
 
 -- ---- how it ended
 
@@ -91,18 +92,6 @@ module _ (t s : SweepOf) (same : t ≡ s) (from to first end records : ℕ) (at 
 pub positions_are : (s : SweepOf) (from to first end records : ℕ) → first ≡ from → records ≡ length s.records → end ≡ min to records + 1 → end - first ≡ positions_in s from to
 positions_are s from to first end records at many by = ap (λ f. end - f) at ∙ ap (λ n. n - from) by ∙ ap (λ n. min to n + 1 - from) many
 
--- one part more is shown
-pub part_more : (all n : ℕ) → parts_shown all (n + 1) ≡ parts_shown all n ++ record { done = n + 1; all = all } ∷ []
-part_more all n = let z : 0 + n ≡ n = omega arith in map-range_with_len_more (λ i. let x : Part = record { done = i + 1; all = all } in x) 0 n n z
-
-pub part_after : (all m n k : ℕ) (before now then : List Part) (x : Part) → n ≡ m + 1 → k ≡ n → x ≡ record { done = k; all = all } → now ≡ before ++ parts_shown all m → then ≡ now ++ x ∷ [] → then ≡ before ++ parts_shown all n
-part_after all m n k before now then x next same is shown more =
-    let part : x ≡ record { done = m + 1; all = all } = is ∙ ap (λ i. let y : Part = record { done = i; all = all } in y) (same ∙ next) in
-    more ∙ ap (λ (l : List Part). l ++ x ∷ []) shown ∙ append_assoc before (parts_shown all m) (x ∷ [])
-    ∙ ap (λ (y : Part). before ++ (parts_shown all m ++ y ∷ [])) part
-    ∙ ap (λ (l : List Part). before ++ l) (sym (part_more all m))
-    ∙ ap (λ i. before ++ parts_shown all i) (sym next)
-
 -- what was shown if a sweep failed
 pub shown_failed : {X : Type 0} (before after : List Part) (all n : ℕ) (f : Kind) (r : Result X Kind) → IsErrAnd r (λ y. y ≡ f) → n ≤ all → after ≡ before ++ parts_shown all n → IsShown before after all r
 shown_failed before after all n f (Ok x) h few shown = absurd h
@@ -137,10 +126,14 @@ module _ (config log fault : List ℕ) (save : Option (List ℕ)) (from to n : �
   not_begun f (Ok how) why h = absurd h
   not_begun f (Err y) why h = inr (inl (apart, refl, refl, subst (λ z. IsNotBegun config log fault qs z) (sym h) why))
 
-  module _ (c : Config) (vs : List Service) (records : List Record) (said : List FaultLine) (begun : IsBegun config log fault qs c vs records said) (ws : List Written) (ps : List Part) where
+  -- a program isn't written over
+  pub spared : (c : Config) (vs : List Service) (records : List Record) (said : List FaultLine) → IsBegun config log fault qs c vs records said → saves_program c save ≡ true → Prints [] → Sweeps config log fault save from to n qs [] [] Prints (Err File)
+  spared c vs records said begun named printed = inr (inr (inl (c, vs, records, said, apart, begun, named, refl, refl, printed, refl)))
+
+  module _ (c : Config) (vs : List Service) (records : List Record) (said : List FaultLine) (begun : IsBegun config log fault qs c vs records said) (unnamed : saves_program c save ≡ false) (ws : List Written) (ps : List Part) where
     by_result : (r : Result Swept Kind) → IsDone (of c vs records said n) from to save ws ps Prints r → Sweeps config log fault save from to n qs ws ps Prints r
-    by_result (Ok how) h = (c, vs, records, said, apart, begun, h)
-    by_result (Err f) h = inr (inr (c, vs, records, said, apart, begun, h))
+    by_result (Ok how) h = (c, vs, records, said, apart, begun, unnamed, h)
+    by_result (Err f) h = inr (inr (inr (c, vs, records, said, apart, begun, unnamed, h)))
 
     pub done : (boot : World) (other : ℕ) (r : Result Swept Kind) → boot ≡ world_at_boot c vs → other ≡ c.cpus
         → IsDone (record { boot = boot; other = other; records = records; fault = said; bound = n }) from to save ws ps Prints r → Sweeps config log fault save from to n qs ws ps Prints r

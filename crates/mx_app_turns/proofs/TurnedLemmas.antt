@@ -27,6 +27,7 @@ use Rattle.mx_app_step.proofs.AcceptedLemmas.{not_refused}
 use Rattle.mx_app_step.specs.Asked.{Asked}
 use Rattle.mx_app_step.specs.Failure.{IsWanting}
 use Rattle.mx_app_step.specs.Kept.{IsUnwritten, text_kept}
+use Rattle.mx_app_step.specs.Programs.{SparesProgram, names_program}
 use Rattle.mx_app_step.specs.Records.{IsFirstRefusal, IsRefusedAt, IsReplayPrinted}
 use Rattle.mx_app_step.specs.Report.{report_text}
 use Rattle.mx_app_step.specs.Telling.{IsUnsaved}
@@ -98,22 +99,26 @@ module _ (config : List ℕ) (file : Option (List ℕ)) (log : List ℕ) (ticks 
   not_begun f (Ok u) why h = absurd h
   not_begun f (Err y) why h = inr (inl (apart, refl, subst (λ z. IsNotBegun config file qs z) (sym h) why))
 
-  module _ (c : Config) (vs : List Service) (events : List Event) (k : BootAndHistory) (ending : Ending) (begun : IsBegun config file qs c vs events) (made : IsTurned c vs bound (coming events ticks) k ending) where
+  -- a program isn't written over
+  pub spared : (c : Config) (vs : List Service) (events : List Event) (f : Kind) → IsBegun config file qs c vs events → SparesProgram c log [] Prints f → MakesTurns config file log ticks bound qs [] Prints (Err f)
+  spared c vs events f begun named = inr (inr (inl (c, vs, events, apart, begun, named)))
+
+  module _ (c : Config) (vs : List Service) (events : List Event) (k : BootAndHistory) (ending : Ending) (begun : IsBegun config file qs c vs events) (other : names_program c log ≡ false) (made : IsTurned c vs bound (coming events ticks) k ending) where
     by_rules : text_kept k ≡ saved_text c.rules k.history
     by_rules = ap (λ (r : Rules). saved_text r k.history) (ap (λ (w : World). w.table.rules) made.boot ∙ rules_at_boot c vs)
 
     pub unwritten : (ws : List Written) (f : Kind) (r : Result Ending Kind) → IsUnwritten log (text_kept k) ws f → IsErrAnd r (λ y. y ≡ f) → MakesTurns config file log ticks bound qs ws Prints r
     unwritten ws f (Ok u) why h = absurd h
     unwritten ws f (Err y) why h =
-        inr (inr (c, vs, events, k, ending, apart, begun, made, subst (λ t. IsUnsaved log t ws y) by_rules (subst (λ z. IsUnsaved log (text_kept k) ws z) (sym h) (unsaved log (text_kept k) ws f why))))
+        inr (inr (inr (c, vs, events, k, ending, apart, begun, other, made, subst (λ t. IsUnsaved log t ws y) by_rules (subst (λ z. IsUnsaved log (text_kept k) ws z) (sym h) (unsaved log (text_kept k) ws f why)))))
 
     pub untold : (f : Kind) (r : Result Ending Kind) → IsWanting f → IsErrAnd r (λ y. y ≡ f) → MakesTurns config file log ticks bound qs (kept log (text_kept k) ∷ []) Prints r
     untold f (Ok u) why h = absurd h
     untold f (Err y) why h =
-        inr (inr (c, vs, events, k, ending, apart, begun, made, inr (inr (ap (λ t. kept log t ∷ []) by_rules, subst IsWanting (sym h) why))))
+        inr (inr (inr (c, vs, events, k, ending, apart, begun, other, made, inr (inr (ap (λ t. kept log t ∷ []) by_rules, subst IsWanting (sym h) why)))))
 
     pub written : Prints (report_text (replay k).table (replay k).services) → MakesTurns config file log ticks bound qs (kept log (text_kept k) ∷ []) Prints (Ok ending)
-    written printed = (c, vs, events, k, apart, begun, made, ap (λ t. kept log t ∷ []) by_rules, printed)
+    written printed = (c, vs, events, k, apart, begun, other, made, ap (λ t. kept log t ∷ []) by_rules, printed)
 
 -- ---- its replay
 

@@ -1,5 +1,5 @@
 -- What `mx sweep` reads, prints and writes (our own).
-use Rattle.std.specs.Prelude.{◌≡◌, ◌≤◌, ◌⊎◌, ◌||◌, ◌+◌, ◌-◌, ◌==◌, if◌then◌else◌, ℕ, Bool, true, false, List, [], ◌∷◌, ◌++◌, length, map, min, Option, Some, None, Result, Ok, Err}
+use Rattle.std.specs.Prelude.{◌≡◌, ◌≤◌, ◌⊎◌, ◌||◌, ◌+◌, ◌-◌, ◌==◌, if◌then◌else◌, ℕ, Bool, true, false, List, [], ◌∷◌, ◌++◌, length, min, Option, Some, None, Result, Ok, Err}
 use Rattle.std.specs.Str.{bytes_eq}
 use Rattle.mx_text.specs.Lines.{lines}
 use Rattle.mx_boot.specs.Reading.{AreLinesRead, TellsUnread}
@@ -7,8 +7,8 @@ use Rattle.mx_machine.specs.Boot.{world_at_boot}
 use Rattle.mx_machine.specs.declared.history.Record.{Record}
 use Rattle.mx_machine.specs.History.{AreAccepted, events_of_history}
 use Rattle.mx_machine.specs.World.{World}
-use Rattle.std.specs.List.{range_with_len}
-use Rattle.mx_app_start.specs.declared.progress.Part.{Part}
+use Rattle.mx_walk.specs.declared.progress.Part.{Part}
+use Rattle.mx_walk.specs.Parts.{parts_shown}
 use Rattle.mx_app_failure.specs.declared.failure.Failure.{Failure as Kind}
 use Rattle.mx_app_failure.specs.declared.failure.Failure.TheVariants.{File}
 use Rattle.mx_app_failure.specs.Failure.{IsWanting}
@@ -17,6 +17,7 @@ use Rattle.mx_app_step.specs.Config.{Config}
 use Rattle.mx_app_step.specs.Service.{Service}
 use Rattle.mx_app_step.specs.Course.{IsSaved, TellsSaved}
 use Rattle.mx_app_step.specs.Kept.{IsUnwritten, text_kept}
+use Rattle.mx_app_step.specs.Programs.{names_program}
 use Rattle.mx_app_step.specs.Records.{IsReplayPrinted}
 use Rattle.mx_app_step.specs.Setup.{IsNoTextGiven, IsNotStarted, IsStart, IsTextFaulty, IsTextGiven}
 use Rattle.mx_app_step.specs.Written.{Written, kept}
@@ -48,6 +49,11 @@ IsNotBegun config log fault qs f =
 abbrev pub writes_over : List ℕ → List ℕ → List ℕ → Option (List ℕ) → Bool
 writes_over config log fault None = false
 writes_over config log fault (Some save) = bytes_eq config save || (bytes_eq log save || bytes_eq fault save)
+
+-- the program of a service would be written over
+abbrev pub saves_program : Config → Option (List ℕ) → Bool
+saves_program c None = false
+saves_program c (Some save) = names_program c save
 
 -- ---- what is swept
 
@@ -102,10 +108,6 @@ IsUnsaved text (Some name) ws f = IsUnwritten name text ws f
 abbrev pub ended : ℕ → ℕ → Swept
 ended positions alike = if alike == positions then Alike else Differs
 
--- what is shown while positions are swept: after each of the first n, how many of all are done
-abbrev pub parts_shown : ℕ → ℕ → List Part
-parts_shown all n = map (λ i. let x : Part = record { done = i + 1; all = all } in x) (range_with_len 0 n)
-
 -- what was shown of all positions; or, if the sweep failed, of the first n
 abbrev pub IsShown : {X : Type 0} → List Part → List Part → ℕ → Result X Kind → Type 0
 IsShown before after all (Ok x) = after ≡ before ++ parts_shown all all
@@ -131,9 +133,12 @@ of c vs records said n = record { boot = world_at_boot c vs; other = c.cpus; rec
 abbrev pub Sweeps : List ℕ → List ℕ → List ℕ → Option (List ℕ) → ℕ → ℕ → ℕ → List Asked → List Written → List Part → (List ℕ → Type 0) → Result Swept Kind → Type 0
 Sweeps config log fault save from to n qs ws ps Prints (Ok how) =
     (c : Config) × (vs : List Service) × (records : List Record) × (said : List FaultLine) × (writes_over config log fault save ≡ false)
-    × IsBegun config log fault qs c vs records said × IsSweptThrough (of c vs records said n) from to save ws ps Prints how
+    × IsBegun config log fault qs c vs records said × (saves_program c save ≡ false)
+    × IsSweptThrough (of c vs records said n) from to save ws ps Prints how
 Sweeps config log fault save from to n qs ws ps Prints (Err f) =
     ((writes_over config log fault save ≡ true) × (qs ≡ []) × (ws ≡ []) × (ps ≡ []) × (f ≡ File))
     ⊎ (((writes_over config log fault save ≡ false) × (ws ≡ []) × (ps ≡ []) × IsNotBegun config log fault qs f)
+    ⊎ (((c : Config) × (vs : List Service) × (records : List Record) × (said : List FaultLine) × (writes_over config log fault save ≡ false)
+    × IsBegun config log fault qs c vs records said × (saves_program c save ≡ true) × (ws ≡ []) × (ps ≡ []) × Prints [] × (f ≡ File))
     ⊎ ((c : Config) × (vs : List Service) × (records : List Record) × (said : List FaultLine) × (writes_over config log fault save ≡ false)
-    × IsBegun config log fault qs c vs records said × IsUntold (of c vs records said n) from to save ws ps f))
+    × IsBegun config log fault qs c vs records said × (saves_program c save ≡ false) × IsUntold (of c vs records said n) from to save ws ps f)))

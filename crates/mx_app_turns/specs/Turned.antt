@@ -18,6 +18,7 @@ use Rattle.mx_app_failure.specs.declared.failure.Failure.{Failure as Kind}
 use Rattle.mx_app_failure.specs.declared.failure.Failure.TheVariants.{File, NoMemory}
 use Rattle.mx_app_step.specs.Asked.{Asked}
 use Rattle.mx_app_step.specs.Course.{IsSaved}
+use Rattle.mx_app_step.specs.Programs.{SparesProgram, names_program}
 use Rattle.mx_app_step.specs.Records.{IsReplayPrinted}
 use Rattle.mx_app_step.specs.Report.{report_text}
 use Rattle.mx_app_step.specs.Setup.{IsNotStarted, IsSetup, IsSetupFault, IsStart}
@@ -69,13 +70,15 @@ writes_over config (Some events) log = bytes_eq config log || bytes_eq events lo
 abbrev pub MakesTurns : List ℕ → Option (List ℕ) → List ℕ → ℕ → ℕ → List Asked → List Written → (List ℕ → Type 0) → Result Ending Kind → Type 0
 MakesTurns config events log ticks n qs ws Prints (Ok ending) =
     (c : Config) × (vs : List Service) × (xs : List Event) × (k : BootAndHistory) × (writes_over config events log ≡ false) × IsBegun config events qs c vs xs
-    × IsTurned c vs n (coming xs ticks) k ending
+    × (names_program c log ≡ false) × IsTurned c vs n (coming xs ticks) k ending
     × (ws ≡ kept log (saved_text c.rules k.history) ∷ []) × Prints (report_text (replay k).table (replay k).services)
 MakesTurns config events log ticks n qs ws Prints (Err f) =
     ((writes_over config events log ≡ true) × (qs ≡ []) × (ws ≡ []) × (f ≡ File))
     ⊎ (((writes_over config events log ≡ false) × (ws ≡ []) × IsNotBegun config events qs f)
+    ⊎ (((c : Config) × (vs : List Service) × (xs : List Event) × (writes_over config events log ≡ false) × IsBegun config events qs c vs xs
+    × SparesProgram c log ws Prints f)
     ⊎ ((c : Config) × (vs : List Service) × (xs : List Event) × (k : BootAndHistory) × (ending : Ending) × (writes_over config events log ≡ false) × IsBegun config events qs c vs xs
-    × IsTurned c vs n (coming xs ticks) k ending × IsUnsaved log (saved_text c.rules k.history) ws f))
+    × (names_program c log ≡ false) × IsTurned c vs n (coming xs ticks) k ending × IsUnsaved log (saved_text c.rules k.history) ws f)))
 
 -- ---- its replay
 

@@ -10,10 +10,10 @@ ghost use Rattle.mx_app_step.specs.Config.{Config as Configured};
 ghost use Rattle.mx_app_step.specs.Machine.{world_of};
 ghost use Rattle.mx_app_step.specs.Service.{Service};
 ghost use Rattle.mx_app_step.specs.Written.{Written};
-ghost use Rattle.mx_app_start.specs.declared.progress.Part.{Part as Parts};
+ghost use Rattle.mx_walk.specs.declared.progress.Part.{Part as Parts};
 ghost use Rattle.mx_app_turns.specs.Sweep.{block_text, blocks, count_of, positions_of, total_text};
 ghost use Rattle.mx_app_turns.specs.Swept.{IsSwept};
-ghost use Rattle.mx_app_turns.specs.Sweeping.{IsBegun, IsNotBegun, IsShown, IsUnsaved, Sweeps, ended, is_alike_at, run_at, saved_if, text_at, writes_over};
+ghost use Rattle.mx_app_turns.specs.Sweeping.{IsBegun, IsNotBegun, IsShown, IsUnsaved, Sweeps, ended, is_alike_at, run_at, saved_if, saves_program, text_at, writes_over};
 ghost use Rattle.mx_app_step.specs.Kept.{text_kept};
 ghost use Rattle.mx_app_turns.specs.Begun.{IsDone, begun_of, is_ready, sweep_of};
 
@@ -24,8 +24,8 @@ use crate::outcomes::{Outcome, outcome_at};
 use crate::running::Sweep;
 use mx_app_start::{Part, Progress};
 use mx_app_step::{
-    Channels, Failure, FileWriter, History, Machine, Reader, Record, Started, lines_above,
-    perform_records, print_refusal, print_text, start, text_of, write_history,
+    Channels, Config, Failure, FileWriter, History, Machine, Reader, Record, Started, lines_above,
+    names_program, perform_records, print_refusal, print_text, start, text_of, write_history,
 };
 use std::alloc::Global;
 use std::io::Write;
@@ -72,7 +72,8 @@ fn begin<R: Reader>(alloc: Global, reader: &mut R, names: SweepNames<'_>) -> Res
         × (R.asked reader.new ≡ R.asked reader.old ++ qs)
         × IsBegun names.entry.config.now names.entry.log.now names.entry.fault.now qs c vs
         b.started.lines.items b.fault.items
-        × (world_of b.started.machine ≡ world_at_boot c vs) × (b.started.other ≡ c.cpus)) }
+        × (world_of b.started.machine ≡ world_at_boot c vs) × (b.started.other ≡ c.cpus)
+        × (b.started.config ≡ c)) }
     ensures ready { IfOk result is_ready }
     ensures fault { IfErr result (λ f. (qs : List Asked)
         × (R.asked reader.new ≡ R.asked reader.old ++ qs)
@@ -92,6 +93,16 @@ fn writes_over(names: SweepNames<'_>) -> bool
     match names.save {
         None => false,
         Some(save) => names.config == save || names.log == save || names.fault == save,
+    }
+}
+
+/// Whether the program of a service would be written over.
+fn saves_program(config: &Config, save: Option<&str>) -> bool
+    ensures { result ≡ saves_program config.now (option_map (λ s. s.now) save.entry) }
+{
+    match save {
+        None => false,
+        Some(save) => names_program(config, save),
     }
 }
 
@@ -347,8 +358,9 @@ fn how_ended(total: Total) -> Swept
 /// positions in a row with the same lines as one block, and how many have the outcome that they have without
 /// the fault. Then writes the history of the last position's run to the file `save`, if it is named. If an event
 /// of the saved history is refused, prints that as `replay` does, and nothing is swept. No file that is read is
-/// written over: if `save` has its name, nothing is read or written. After each position `progress` is shown how
-/// many are done.
+/// written over: if `save` has the name of CONFIG, LOG or FAULT, nothing is read or written. If it has
+/// that of a service's program, nothing is swept, printed or written. After each position `progress` is
+/// shown how many are done.
 pub fn sweep<R: Reader + Drop, F: FileWriter + Drop, W: Write + Drop, P: Progress>(
     alloc: Global,
     channels: &mut Channels<R, F, W>,
@@ -368,6 +380,9 @@ pub fn sweep<R: Reader + Drop, F: FileWriter + Drop, W: Write + Drop, P: Progres
         return Err(Failure::File);
     }
     let begun = begin(alloc, &mut channels.reader, names)?;
+    if saves_program(&begun.started.config, names.save) {
+        return Err(Failure::File);
+    }
     sweep_begun(
         alloc,
         begun,

@@ -14,7 +14,8 @@ ghost use Rattle.mx_app_turns.specs.Turned.{IsBegun, IsNotBegun, MakesTurns, wri
 use crate::events::OutsideEvents;
 use mx_app_start::start;
 use mx_app_step::{
-    Channels, Failure, FileWriter, Machine, Reader, print_kernel_report, setup_of, write_history,
+    Channels, Config, Failure, FileWriter, Machine, Reader, names_program, print_kernel_report,
+    setup_of, write_history,
 };
 use mx_machine::Kernel;
 use mx_turns::{Ending, Event, Outside, make_turns};
@@ -37,9 +38,11 @@ pub struct TurnsWanted {
     pub bound: u32,
 }
 
-/// A machine at boot, and the outside events of a file. The machine has an actor that is no processor.
+/// A machine at boot, the configuration that it booted by, and the outside events of a file. The
+/// machine has an actor that is no processor.
 #[derive(Drop)]
 struct Begun {
+    config: Config,
     machine: Machine,
     events: Vec<Event>,
 }
@@ -49,7 +52,7 @@ fn begin_alone<R: Reader>(alloc: Global, reader: &mut R, name: &str) -> Result<B
     ensures begun { IfOk result (λ b. (qs : List Asked) × (c : Configured) × (vs : List Service)
         × (R.asked reader.new ≡ R.asked reader.old ++ qs)
         × IsBegun name.now None qs c vs b.events.items
-        × (world_of b.machine ≡ world_at_boot c vs)) }
+        × (world_of b.machine ≡ world_at_boot c vs) × (b.config ≡ c)) }
     ensures kernel { IfOk result (λ b. b.machine.kernel
         ≡ record { boot = world_of b.machine; history = [] }) }
     ensures other { IfOk result (λ b. length (world_of b.machine).cpus
@@ -60,6 +63,7 @@ fn begin_alone<R: Reader>(alloc: Global, reader: &mut R, name: &str) -> Result<B
     let (config, mut services) = setup_of(alloc, reader, name)?;
     let kernel = Kernel::new(alloc, &config, &mut services)?;
     Ok(Begun {
+        config,
         machine: Machine::new(kernel),
         events: Vec::new(alloc),
     })
@@ -75,7 +79,7 @@ fn begin<R: Reader>(
     ensures begun { IfOk result (λ b. (qs : List Asked) × (c : Configured) × (vs : List Service)
         × (R.asked reader.new ≡ R.asked reader.old ++ qs)
         × IsBegun name.entry.now (option_map (λ s. s.now) events.entry) qs c vs b.events.items
-        × (world_of b.machine ≡ world_at_boot c vs)) }
+        × (world_of b.machine ≡ world_at_boot c vs) × (b.config ≡ c)) }
     ensures kernel { IfOk result (λ b. b.machine.kernel
         ≡ record { boot = world_of b.machine; history = [] }) }
     ensures other { IfOk result (λ b. length (world_of b.machine).cpus
@@ -89,6 +93,7 @@ fn begin<R: Reader>(
         Some(file) => {
             let started = start::<OutsideEvents, R>(alloc, reader, name, file)?;
             Ok(Begun {
+                config: started.config,
                 machine: started.machine,
                 events: started.lines,
             })
@@ -110,7 +115,8 @@ pub fn writes_over(config: &str, events: Option<&str>, log: &str) -> bool
 /// Makes turns of the machine of a configuration, with the outside events of a file and then ticks to come,
 /// until it is at rest and none is to come, or all turns are made, or its history is full. Then writes the
 /// history to a file, and prints the report. Answers how the turns ended. No file that is read
-/// is written over: if LOG has its name, nothing is read or written.
+/// is written over: if LOG has the name of CONFIG or EVENTS, nothing is read or written. If it has that
+/// of a service's program, no turn is made and nothing is written.
 pub fn turns<R: Reader + Drop, F: FileWriter + Drop, W: Write + Drop>(
     alloc: Global,
     channels: &mut Channels<R, F, W>,
@@ -128,6 +134,9 @@ pub fn turns<R: Reader + Drop, F: FileWriter + Drop, W: Write + Drop>(
         return Err(Failure::File);
     }
     let mut begun = begin(alloc, &mut channels.reader, names.config, names.events)?;
+    if names_program(&begun.config, names.log) {
+        return Err(Failure::File);
+    }
     let outside = Outside {
         events: begun.events.as_slice(),
         ticks: wanted.ticks,

@@ -14,7 +14,7 @@ use Rattle.mx_machine.specs.History.{part_of}
 use Rattle.mx_machine.specs.Held.{held_run}
 use Rattle.mx_machine.specs.Move.{event_refusal}
 use Rattle.mx_machine.specs.World.{World, free_records}
-use Rattle.mx_loan_rule.proofs.Fronts.{prefix_self, prefix_trans}
+use Rattle.mx_loan.proofs.Fronts.{prefix_self, prefix_trans}
 use Rattle.mx_cpus.specs.Seats.{SeatView, LoanView, back_record, record_of, take_record}
 use Rattle.mx_cpus.specs.Calls.{Follows, IsAnsweredCall, IsGiveCall, IsRefusedCall, IsRestCall, IsTakeCall}
 use Rattle.mx_cpus.specs.Gates.{GateCall, held_call, given_call, again_call}

@@ -16,7 +16,7 @@ use Rattle.mx_machine.specs.Rest.{at_rest}
 use Rattle.mx_machine.specs.World.{World, HeldProcess, held_by}
 use Rattle.mx_machine.proofs.PartLemmas.{part_own}
 use Rattle.mx_machine.proofs.ReplayLemmas.{last_accepted}
-use Rattle.mx_loan_rule.proofs.Fronts.{prefix_trans}
+use Rattle.mx_loan.proofs.Fronts.{prefix_trans}
 use Rattle.mx_loan.specs.Seats.{DeskView, SeatView, LoanView, IsSeatOf, back_record, desk_after_back, desk_after_event, desk_after_take, new_loan, record_of, seat_after_back, seat_after_event, seat_after_take, seat_seeing}
 use Rattle.mx_cpus.specs.Calls.{Follows, IsAcceptedCall, IsLentAt, IsRefusedCall, IsRestCall, IsAcceptedHistory, desk_beside, event_of, outs_of, steps_of, world_after}
 use Rattle.mx_cpus.proofs.WorldLemmas.{back_outs, moved_by}

@@ -22,7 +22,7 @@ use Rattle.mx_machine.specs.World.{World, HeldProcess, actors, free_records, hel
 use Rattle.mx_machine.specs.Agrees.{IsFresh}
 use Rattle.mx_machine.specs.KernelState.{is_for_all, recorded_as}
 use Rattle.mx_machine.proofs.ReplayLemmas.{map_put, replay-recorded}
-use Rattle.mx_loan_rule.specs.Rule.{lent_to}
+use Rattle.mx_loan.specs.Rule.{lent_to}
 use Rattle.mx_cpus.specs.Calls.{event_of, out_of_lent, outs_of, steps_of}
 
 -- ---- lists

@@ -18,7 +18,7 @@ use Rattle.mx_machine.specs.Move.{event_refusal, move}
 use Rattle.mx_machine.specs.Rest.{at_rest}
 use Rattle.mx_machine.specs.World.{World, HeldProcess, actors, held_by}
 use Rattle.mx_machine.specs.KernelState.{recorded_as}
-use Rattle.mx_loan_rule.specs.Rule.{lent_to}
+use Rattle.mx_loan.specs.Rule.{lent_to}
 use Rattle.mx_loan.specs.Seats.{DeskView, SeatView, LoanView, record_of}
 
 -- ---- names

@@ -18,7 +18,7 @@ use crate::loops::{make_rounds, make_turns};
 use crate::outside::{OutsideCall, Role, role_of};
 use crate::side::{Door, FreeSide};
 use crate::{ActorSeat, Naming, Shared};
-use mx_loan_rule::Shown;
+use mx_loan::Shown;
 use mx_word::NoMemory;
 use std::marker::PhantomData;
 use std::sync::Wait;

@@ -79,6 +79,7 @@ impl<M: Naming> Locked<M> {
 
     /// Whether nothing is ready, nothing is out, and no slot that is down can be respawned. What the seat
     /// holds is what the machine shows as out.
+    #[tactic(auto, using(crate::proofs::SeatLemmas::rest_by))]
     pub fn at_rest(&mut self, seat: ActorSeat) -> (ActorSeat, bool)
         requires table { seat.table ≡ M.table }
         ensures { IsRestCall M.boot seat result.0 result.1 }

@@ -51,16 +51,24 @@ struct Room {
     text: Option<TextRoom>,
 }
 
+/// An empty cache of decoded instructions, for code of this many bytes. Takes memory.
+pub(crate) fn empty_cache(alloc: Global, size: usize) -> Result<Box<CodeCache>, NoMemory>
+    ensures { (code : List ℕ) → IfOk result (λ cache. IsCacheOf code cache.value) }
+{
+    match Box::new(alloc, CodeCache::new(alloc, size)?) {
+        Ok(cache) => Ok(cache),
+        Err(_) => Err(NoMemory),
+    }
+}
+
 /// Takes all memory that a text of this many bytes needs in a segment of its own.
 fn text_room(alloc: Global, size: u32) -> Result<TextRoom, NoMemory>
     ensures zeros { IfOk result (λ room. room.segment ≡ replicate size 0) }
     ensures cached { (code : List ℕ) → IfOk result (λ room. IsCacheOf code room.cache.value) }
 {
     let segment = Segment::new(alloc, size)?;
-    match Box::new(alloc, CodeCache::new(alloc, size as usize)?) {
-        Ok(cache) => Ok(TextRoom { segment, cache }),
-        Err(_) => Err(NoMemory),
-    }
+    let cache = empty_cache(alloc, size as usize)?;
+    Ok(TextRoom { segment, cache })
 }
 
 /// Takes all memory that a program's image needs, and writes no page.

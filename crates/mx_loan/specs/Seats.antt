@@ -11,10 +11,10 @@ use Rattle.mx_machine.specs.declared.holding.Out.{Out}
 use Rattle.mx_machine.specs.Held.{IsRunOf}
 use Rattle.mx_machine.specs.Stop.TheVariants.{Spent}
 use Rattle.mx_image.specs.Run.{run_of}
-use Rattle.mx_loan_rule.specs.declared.shown.Shown.{Shown}
-use Rattle.mx_loan_rule.specs.declared.knowledge.Announcement.{Announcement}
-use Rattle.mx_loan_rule.specs.declared.knowledge.Knowledge.{Knowledge}
-use Rattle.mx_loan_rule.specs.Rule.{actor_half, kernel_half, lent_to, word_at_rest}
+use Rattle.mx_loan.specs.declared.shown.Shown.{Shown}
+use Rattle.mx_loan.specs.declared.knowledge.Announcement.{Announcement}
+use Rattle.mx_loan.specs.declared.knowledge.Knowledge.{Knowledge}
+use Rattle.mx_loan.specs.Rule.{actor_half, kernel_half, lent_to, word_at_rest}
 
 -- A DESK: the history so far, and what each processor is lent, as it was lent
 pub record DeskView : Type 0 where

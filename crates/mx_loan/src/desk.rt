@@ -7,15 +7,16 @@
 
 ghost use Rattle.std.specs.Prelude.{◌≡◌, ◌<◌, None, Some, IfOk, length};
 ghost use Rattle.mx_machine.specs.Held.{IsRunOf};
-ghost use Rattle.mx_loan_rule.specs.Rule.{lent_to};
+ghost use Rattle.mx_loan.specs.Rule.{lent_to};
 ghost use Rattle.mx_loan.specs.Seats.{HasMadeNoStep, IsSeatOf, empty_desk, new_seats, new_loan};
 ghost use Rattle.mx_loan.specs.Seats.{desk_after_take, desk_after_back, desk_after_event};
 ghost use Rattle.mx_loan.specs.Seats.{seat_after_take, seat_after_back, seat_after_event, seat_seeing};
 
+use crate::knowledge::Announcement;
 use crate::loan::Loan;
 use crate::seat::ActorSeat;
-use mx_loan_rule as steps;
-use mx_loan_rule::{ActorTable, Announcement, Shown, TableSeat};
+use crate::shown::Shown;
+use crate::steps::{self, ActorTable, TableSeat};
 use mx_machine::{Out, Record, Recorded};
 use std::alloc::{AllocError, Global};
 use std::marker::Model;

@@ -4,8 +4,8 @@ ghost use Rattle.std.specs.Prelude.{◌≡◌};
 ghost use Rattle.mx_machine.specs.Held.{IsRunOf};
 ghost use Rattle.mx_loan.specs.Seats.{HasMadeNoStep, IsAdvanced};
 
+use crate::shown::Shown;
 use mx_exec::Image;
-use mx_loan_rule::Shown;
 use mx_machine::{Held, Out, Stop, held_runs_join};
 use std::marker::Model;
 

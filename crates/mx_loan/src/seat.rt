@@ -3,7 +3,7 @@
 ghost use Rattle.std.specs.Prelude.{◌≡◌, ◌<◌};
 ghost use Rattle.mx_machine.specs.History.{part_of};
 
-use mx_loan_rule::TableSeat;
+use crate::steps::TableSeat;
 use std::marker::Model;
 
 /// What one actor, a processor or another, knows of the history. There is one seat for each actor.

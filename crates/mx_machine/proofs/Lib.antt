@@ -19,3 +19,4 @@ pub mod DoneLemmas
 pub mod RunningLemmas
 pub mod SoundLemmas
 pub mod AgainLemmas
+pub mod StoredLemmas

@@ -16,21 +16,26 @@ ghost use Rattle.mx_machine.specs.World.{out_count};
 ghost use Rattle.mx_machine.specs.KernelState.{is_for_all, records_left, refusal_to, MayRespawn, state_after_take, state_after_back, AnswersTake, AnswersEvent};
 
 use crate::serving::{come_home, kill, send_out};
+use crate::stored::StoredState;
 use crate::{
     Answer, Decoded, Event, Lease, Out, Refusal, Service, Stop, is_worn, raise, respawn, tick,
 };
 use mx_ipc::{Endpoint, Slot, Table, endpoint_from, pick};
+use mx_load::CopyFor;
+use mx_word::NoMemory;
+use std::alloc::Global;
 use std::marker::Model;
+use std::snapshot::Snapshot;
 
 /// A kernel's table, and what it remembers of its processors.
 #[derive(Drop)]
 pub(crate) struct CurrentState {
-    table: Table,
-    leases: Vec<Option<Lease>>,
-    others: u8,
-    services: Vec<Service>,
-    records: u32,
-    capacity: u32,
+    pub(crate) table: Table,
+    pub(crate) leases: Vec<Option<Lease>>,
+    pub(crate) others: u8,
+    pub(crate) services: Vec<Service>,
+    pub(crate) records: u32,
+    pub(crate) capacity: u32,
 }
 
 impl Model for CurrentState {
@@ -92,6 +97,22 @@ impl CurrentState {
             records: 0,
             capacity,
         }
+    }
+
+    /// A copy without the services, to be stored.
+    pub(crate) fn stored(&self, alloc: Global) -> Result<StoredState, NoMemory>
+        ensures { IfOk result (λ stored. stored ≡ self.now) }
+    {
+        let table = self.table.copied(alloc, CopyFor::Storing)?;
+        let leases = Vec::from_slice(alloc, self.leases.as_slice())?;
+        Ok(StoredState {
+            table,
+            leases,
+            others: self.others,
+            services: Snapshot::of(&self.services),
+            records: self.records,
+            capacity: self.capacity,
+        })
     }
 
     /// The table.

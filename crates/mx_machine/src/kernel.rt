@@ -17,6 +17,7 @@ ghost use Rattle.mx_machine.specs.KernelState.{is_for_all, recorded_as};
 use crate::booting::first_present;
 use crate::caches::Caches;
 use crate::current::CurrentState;
+use crate::stored::StoredKernel;
 use crate::{
     Answer, Config, Decoded, Event, Out, Record, Recorded, Refusal, Service, runs_are_steps,
 };
@@ -25,17 +26,18 @@ use mx_word::NoMemory;
 use std::alloc::Global;
 use std::marker::Model;
 use std::mem;
+use std::snapshot::Snapshot;
 
 /// A kernel: its current state, and the history that led there. It took all its memory when it was made. A
 /// contract sees it as the machine at boot and the history. It has no ghost snapshot, so that a lock may send
 /// it to another thread.
 #[derive(Drop)]
 pub struct Kernel {
-    present: CurrentState,
-    records: Vec<Record>,
-    processors: u8,
-    rules: Rules,
-    caches: Caches,
+    pub(crate) present: CurrentState,
+    pub(crate) records: Vec<Record>,
+    pub(crate) processors: u8,
+    pub(crate) rules: Rules,
+    pub(crate) caches: Caches,
 }
 
 impl Model for Kernel {
@@ -221,6 +223,25 @@ impl Kernel {
         ensures { result.now ≡ (replay self.now).services }
     {
         self.present.services()
+    }
+
+    /// A copy without the services and the records, to be stored.
+    pub(crate) fn stored(&self, alloc: Global) -> Result<StoredKernel, NoMemory>
+        ensures { IfOk result (λ stored. stored ≡ self.now) }
+    {
+        Ok(StoredKernel {
+            present: self.present.stored(alloc)?,
+            records: Snapshot::of(&self.records),
+            processors: self.processors,
+            rules: self.rules,
+        })
+    }
+
+    /// Lends the cache of the process that a processor holds.
+    pub(crate) fn lend_cache(&mut self, cpu: u8) -> Decoded
+        ensures { self.new ≡ self.old }
+    {
+        self.caches.lend(self.present.lease(cpu))
     }
 
     /// Ends the kernel, and hands back what its slots were made from. Takes no memory.

@@ -18,6 +18,7 @@
 
 mod booting;
 mod caches;
+mod checkpoint;
 mod config;
 mod current;
 mod decoded;
@@ -29,8 +30,10 @@ mod laws;
 mod machine;
 mod serving;
 mod steps;
+mod stored;
 mod world_laws;
 
+pub use checkpoint::Checkpoint;
 pub use config::{Config, FileName, ServiceLine, ServiceLines};
 pub use decoded::Decoded;
 pub use events::{Answer, Event, Refusal};

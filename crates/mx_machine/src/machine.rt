@@ -25,8 +25,8 @@ use std::mem;
 /// The machine of one thread: a kernel, and what each of its processors holds.
 #[derive(Drop)]
 pub struct Machine {
-    kernel: Kernel,
-    outs: [Option<Out>; 8],
+    pub(crate) kernel: Kernel,
+    pub(crate) outs: [Option<Out>; 8],
 }
 
 impl Model for Machine {

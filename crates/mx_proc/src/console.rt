@@ -4,6 +4,7 @@ ghost use Rattle.std.specs.Prelude.{◌≡◌, ◌+◌, ◌^◌, ◌<◌, ◌++�
 ghost use Rattle.circular_buffer.specs.Buffer.{keep_last};
 ghost use Rattle.mx_proc.specs.Console.{empty_console};
 
+use crate::rings::copy_ring;
 use circular_buffer::HeapCircularBuffer;
 use mx_word::NoMemory;
 use std::alloc::Global;
@@ -37,6 +38,17 @@ impl Console {
     {
         let kept = HeapCircularBuffer::with_capacity(alloc, KEPT_BYTES)?;
         Ok(Console { kept, count: 0 })
+    }
+
+    /// A console with the same bytes and count. Takes memory: answers `NoMemory` if there isn't enough.
+    pub fn copied(&self, alloc: Global) -> Result<Console, NoMemory>
+        ensures { IfOk result (λ copy. copy ≡ self.now) }
+    {
+        let kept = copy_ring(alloc, &self.kept)?;
+        Ok(Console {
+            kept,
+            count: self.count,
+        })
     }
 
     /// Writes a byte. If it has 4,096 bytes already, the oldest of them goes.

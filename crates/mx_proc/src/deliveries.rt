@@ -3,6 +3,7 @@
 ghost use Rattle.std.specs.Prelude.{◌≡◌, [], ◌∷◌, ◌++◌, IfOk, slice_get};
 ghost use Rattle.circular_buffer.specs.Buffer.{keep_last};
 
+use crate::rings::copy_ring;
 use circular_buffer::HeapCircularBuffer;
 use mx_word::NoMemory;
 use std::alloc::Global;
@@ -52,6 +53,14 @@ impl Deliveries {
         ensures { IfOk result (λ deliveries. deliveries ≡ []) }
     {
         let kept = HeapCircularBuffer::with_capacity(alloc, KEPT_DELIVERIES)?;
+        Ok(Deliveries { kept })
+    }
+
+    /// The same deliveries. Takes memory for 1,024: answers `NoMemory` if there isn't enough.
+    pub fn copied(&self, alloc: Global) -> Result<Deliveries, NoMemory>
+        ensures { IfOk result (λ copy. copy ≡ self.now) }
+    {
+        let kept = copy_ring(alloc, &self.kept)?;
         Ok(Deliveries { kept })
     }
 

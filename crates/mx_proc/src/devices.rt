@@ -28,4 +28,16 @@ impl Devices {
             console,
         })
     }
+
+    /// The same owners, registers and console. Takes memory: answers `NoMemory` if there isn't enough.
+    pub fn copied(&self, alloc: Global) -> Result<Devices, NoMemory>
+        ensures { IfOk result (λ copy. copy ≡ self.now) }
+    {
+        let console = self.console.copied(alloc)?;
+        Ok(Devices {
+            owners: self.owners,
+            registers: self.registers,
+            console,
+        })
+    }
 }

@@ -20,6 +20,7 @@ mod errors;
 mod links;
 mod process;
 mod ready;
+mod rings;
 mod table;
 mod waits;
 mod windows;

@@ -40,6 +40,13 @@ impl<const LISTS: usize> Way<LISTS> {
         Way { cells: [NONE; 64] }
     }
 
+    /// The same lists.
+    fn copied(&self) -> Way<LISTS>
+        ensures { result ≡ self.now }
+    {
+        Way { cells: self.cells }
+    }
+
     /// The slot that a list begins with, or `NONE`.
     fn first(&self, list: usize) -> u8
         requires list { list < LISTS }
@@ -142,6 +149,16 @@ impl<const LISTS: usize> Links<LISTS> {
         Links {
             forward: Way::new(),
             backward: Way::new(),
+        }
+    }
+
+    /// The same lists.
+    pub fn copied(&self) -> Links<LISTS>
+        ensures { result ≡ self.now }
+    {
+        Links {
+            forward: self.forward.copied(),
+            backward: self.backward.copied(),
         }
     }
 

@@ -36,6 +36,16 @@ impl Ready {
         }
     }
 
+    /// The same ready lists.
+    pub fn copied(&self) -> Ready
+        ensures { result ≡ self.now }
+    {
+        Ready {
+            lists: self.lists.copied(),
+            filled: self.filled,
+        }
+    }
+
     /// Puts a slot at the front of a list. It must be in no list before.
     pub fn push_front(&mut self, level: u8, slot: u8)
         requires level { level < 16 }

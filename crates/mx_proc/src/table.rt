@@ -20,6 +20,7 @@ use std::alloc::Global;
 use std::marker::Model;
 use std::mem;
 
+mod copying;
 mod lending;
 mod messages;
 mod queues;

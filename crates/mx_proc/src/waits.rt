@@ -48,6 +48,18 @@ impl Waits {
         }
     }
 
+    /// The same blocked sends.
+    pub fn copied(&self) -> Waits
+        ensures { result ≡ self.now }
+    {
+        Waits {
+            order: self.order.copied(),
+            callers: self.callers.copied(),
+            to: self.to,
+            count: self.count,
+        }
+    }
+
     /// Blocks the send of `from` to `to`, after all others. `from` must have no blocked send before.
     pub fn push(&mut self, from: u8, to: u8)
         requires from { from < 32 }

@@ -477,11 +477,11 @@ fn ends_are_told(rt: HostRuntime) -> Result<(), Fail> {
         let is_called = others >= 2 && !calls.is_empty();
         assert!(rt; has_calls(kernel.history(), is_called), "{others} others");
         for actor in 0..6 {
-            let told = gate.count(GateCall::Ended(actor));
+            let times = gate.count(GateCall::Ended(actor));
             let has_loop = actor <= 2 || (actor == 3 && is_called);
             assert!(rt;
-                told == u32::from(has_loop),
-                "{others} others: actor {actor} is told as ended {told} times"
+                times == u32::from(has_loop),
+                "{others} others: actor {actor} is reported as ended {times} times"
             );
         }
     }

@@ -24,7 +24,7 @@ enum Call {
 
 /// What a call answers: of a loan its budget and the steps that it counts.
 #[derive(Clone, Copy, PartialEq, Eq)]
-enum Told {
+enum Reply {
     Done(Answer),
     Refused(Refusal),
     Lent { budget: u32, count: u32 },
@@ -42,7 +42,7 @@ enum Caller {
 struct Turn {
     by: Caller,
     call: Call,
-    told: Told,
+    wanted: Reply,
 }
 
 /// A machine of one service on one processor, with one other actor, and the history at the end.
@@ -69,27 +69,27 @@ static ROWS: &[Row] = &[
             Turn {
                 by: Caller::Other,
                 call: Call::Kill(0),
-                told: Told::Done(Answer::Done),
+                wanted: Reply::Done(Answer::Done),
             },
             Turn {
                 by: Caller::Processor,
                 call: Call::Take { steps: 0 },
-                told: Told::Refused(Refusal::NoProcess),
+                wanted: Reply::Refused(Refusal::NoProcess),
             },
             Turn {
                 by: Caller::Processor,
                 call: Call::AtRest,
-                told: Told::Rest(false),
+                wanted: Reply::Rest(false),
             },
             Turn {
                 by: Caller::Other,
                 call: Call::Respawn(0),
-                told: Told::Done(Answer::Respawned(1024)),
+                wanted: Reply::Done(Answer::Respawned(1024)),
             },
             Turn {
                 by: Caller::Processor,
                 call: Call::Take { steps: 0 },
-                told: Told::Lent {
+                wanted: Reply::Lent {
                     budget: 5,
                     count: 0,
                 },
@@ -97,12 +97,12 @@ static ROWS: &[Row] = &[
             Turn {
                 by: Caller::Other,
                 call: Call::Kill(1024),
-                told: Told::Done(Answer::Done),
+                wanted: Reply::Done(Answer::Done),
             },
             Turn {
                 by: Caller::Processor,
                 call: Call::AtRest,
-                told: Told::Rest(true),
+                wanted: Reply::Rest(true),
             },
         ],
         history: &[
@@ -121,7 +121,7 @@ static ROWS: &[Row] = &[
             Turn {
                 by: Caller::Processor,
                 call: Call::Take { steps: 9 },
-                told: Told::Lent {
+                wanted: Reply::Lent {
                     budget: 5,
                     count: 3,
                 },
@@ -129,7 +129,7 @@ static ROWS: &[Row] = &[
             Turn {
                 by: Caller::Processor,
                 call: Call::Take { steps: 9 },
-                told: Told::Lent {
+                wanted: Reply::Lent {
                     budget: 2,
                     count: 1,
                 },
@@ -137,12 +137,12 @@ static ROWS: &[Row] = &[
             Turn {
                 by: Caller::Processor,
                 call: Call::Take { steps: 9 },
-                told: Told::Refused(Refusal::NoProcess),
+                wanted: Reply::Refused(Refusal::NoProcess),
             },
             Turn {
                 by: Caller::Processor,
                 call: Call::AtRest,
-                told: Told::Rest(true),
+                wanted: Reply::Rest(true),
             },
         ],
         history: &[
@@ -160,42 +160,42 @@ static ROWS: &[Row] = &[
             Turn {
                 by: Caller::Other,
                 call: Call::Respawn(0),
-                told: Told::Refused(Refusal::NotDown),
+                wanted: Reply::Refused(Refusal::NotDown),
             },
             Turn {
                 by: Caller::Other,
                 call: Call::Respawn(5),
-                told: Told::Refused(Refusal::NoService),
+                wanted: Reply::Refused(Refusal::NoService),
             },
             Turn {
                 by: Caller::Other,
                 call: Call::Line(3),
-                told: Told::Refused(Refusal::NoLine),
+                wanted: Reply::Refused(Refusal::NoLine),
             },
             Turn {
                 by: Caller::Other,
                 call: Call::Take { steps: 0 },
-                told: Told::Refused(Refusal::CpuBusy),
+                wanted: Reply::Refused(Refusal::CpuBusy),
             },
             Turn {
                 by: Caller::Other,
                 call: Call::Tick,
-                told: Told::Done(Answer::Done),
+                wanted: Reply::Done(Answer::Done),
             },
             Turn {
                 by: Caller::Other,
                 call: Call::Kill(0),
-                told: Told::Done(Answer::Done),
+                wanted: Reply::Done(Answer::Done),
             },
             Turn {
                 by: Caller::Other,
                 call: Call::Kill(0),
-                told: Told::Refused(Refusal::NoProcess),
+                wanted: Reply::Refused(Refusal::NoProcess),
             },
             Turn {
                 by: Caller::Other,
                 call: Call::Respawn(0),
-                told: Told::Refused(Refusal::Worn),
+                wanted: Reply::Refused(Refusal::Worn),
             },
         ],
         history: &[(OTHER, Recorded::Tick), (OTHER, Recorded::Kill(0))],
@@ -208,7 +208,7 @@ static ROWS: &[Row] = &[
             Turn {
                 by: Caller::Processor,
                 call: Call::Take { steps: 0 },
-                told: Told::Lent {
+                wanted: Reply::Lent {
                     budget: 5,
                     count: 0,
                 },
@@ -216,22 +216,22 @@ static ROWS: &[Row] = &[
             Turn {
                 by: Caller::Other,
                 call: Call::Tick,
-                told: Told::Refused(Refusal::LogFull),
+                wanted: Reply::Refused(Refusal::LogFull),
             },
             Turn {
                 by: Caller::Processor,
                 call: Call::AtRest,
-                told: Told::Rest(false),
+                wanted: Reply::Rest(false),
             },
         ],
         history: &[(PROCESSOR, Recorded::Take), (PROCESSOR, Recorded::Back(0))],
     },
 ];
 
-fn told_of(answer: Result<Answer, Refusal>) -> Told {
+fn reply_of(answer: Result<Answer, Refusal>) -> Reply {
     match answer {
-        Ok(answer) => Told::Done(answer),
-        Err(refusal) => Told::Refused(refusal),
+        Ok(answer) => Reply::Done(answer),
+        Err(refusal) => Reply::Refused(refusal),
     }
 }
 
@@ -241,18 +241,18 @@ fn out_and_back<M: Naming>(
     shared: &Shared<M>,
     seat: ActorSeat,
     steps: u32,
-) -> (ActorSeat, Told)
+) -> (ActorSeat, Reply)
     requires { seat.table ≡ M.table }
     ensures { result.0.table ≡ seat.table }
 {
     let (seat, taken) = shared.take(rt, seat);
     let mut loan = match taken {
         Ok(loan) => loan,
-        Err(refusal) => return (seat, Told::Refused(refusal)),
+        Err(refusal) => return (seat, Reply::Refused(refusal)),
     };
     let _stop = loan.run(steps);
     let (budget, count) = (loan.budget(), loan.count());
-    (shared.give(rt, seat, loan), Told::Lent { budget, count })
+    (shared.give(rt, seat, loan), Reply::Lent { budget, count })
 }
 
 fn make_call<M: Naming>(
@@ -260,7 +260,7 @@ fn make_call<M: Naming>(
     shared: &Shared<M>,
     seat: ActorSeat,
     call: Call,
-) -> (ActorSeat, Told)
+) -> (ActorSeat, Reply)
     requires { seat.table ≡ M.table }
     ensures { result.0.table ≡ seat.table }
 {
@@ -268,14 +268,14 @@ fn make_call<M: Naming>(
         Call::Take { steps } => return out_and_back(rt, shared, seat, steps),
         Call::AtRest => {
             let (seat, rest) = shared.at_rest(rt, seat);
-            return (seat, Told::Rest(rest));
+            return (seat, Reply::Rest(rest));
         }
         Call::Line(line) => shared.line(rt, seat, line),
         Call::Tick => shared.tick(rt, seat),
         Call::Kill(endpoint) => shared.kill(rt, seat, endpoint),
         Call::Respawn(slot) => shared.respawn(rt, seat, slot),
     };
-    (seat, told_of(answer))
+    (seat, reply_of(answer))
 }
 
 /// Which turn is answered otherwise than the row wants, or whether the history is another.
@@ -298,16 +298,16 @@ fn first_other<M: Naming>(
     };
     let mut found = None;
     for (number, turn) in row.turns.iter().enumerate() {
-        let told = if turn.by == Caller::Other {
-            let (seat, told) = make_call(rt, &shared, other, turn.call);
+        let reply = if turn.by == Caller::Other {
+            let (seat, reply) = make_call(rt, &shared, other, turn.call);
             other = seat;
-            told
+            reply
         } else {
-            let (seat, told) = make_call(rt, &shared, processor, turn.call);
+            let (seat, reply) = make_call(rt, &shared, processor, turn.call);
             processor = seat;
-            told
+            reply
         };
-        if told != turn.told && found.is_none() {
+        if reply != turn.wanted && found.is_none() {
             found = Some(number);
         }
     }

@@ -64,7 +64,7 @@ struct Request {
     words: [u32; 6],
     result: u32,
     /// p0 of the reply.
-    told: u32,
+    answer: u32,
 }
 
 const REQUEST: Request = Request {
@@ -72,7 +72,7 @@ const REQUEST: Request = Request {
     mask: ALL_BUT_GRANT,
     words: [0; 6],
     result: OK,
-    told: 0,
+    answer: 0,
 };
 
 /// The type is tried before the mask, and the mask before the call's own reasons. A row that is wrong in
@@ -294,13 +294,13 @@ static REQUESTS: &[Request] = &[
     Request {
         name: "WHOIS of a ready slot",
         words: [WHOIS, 1, 0, 0, 0, 0],
-        told: 1,
+        answer: 1,
         ..REQUEST
     },
     Request {
         name: "WHOIS of a slot on a processor",
         words: [WHOIS, 2, 0, 0, 0, 0],
-        told: 2,
+        answer: 2,
         ..REQUEST
     },
     Request {
@@ -546,7 +546,7 @@ fn is_left(rt: &impl Abort, table: &Table, row: &Request) -> bool {
     table.process(0).image.register(Register::Eax) == OK
         && word_at(rt, table, 0, 512) == SYSTEM
         && word_at(rt, table, 0, 516) == row.result
-        && word_at(rt, table, 0, 520) == row.told
+        && word_at(rt, table, 0, 520) == row.answer
         && (table.devices().console.get(1) == Some(0x41)) == is_written
 }
 

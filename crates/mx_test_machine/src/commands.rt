@@ -3,8 +3,8 @@
 
 use crate::files::{SUM, reader};
 use mx_app::{
-    Channels, Complaint, Ending, Failure, InputLines, KeptFile, MemoryWriter, NamedFiles,
-    NoProgress, NotingFiles, NotingReader, perform_words,
+    Channels, Complaint, Ending, Failure, InputLines, KeptFile, LineFailure, MemoryWriter,
+    NamedFiles, NoProgress, NotingFiles, NotingReader, perform_words,
 };
 use std::alloc::Global;
 use std::fmt::Write as _;
@@ -238,6 +238,17 @@ static DONE: &[Done] = &[
         file: Some(("new.log", b"rules 2\n")),
     },
     Done {
+        name: "run: outside events, each at rest",
+        words: &["mx", "run", "pressed_apart", "new.log", "--events", "apart"],
+        status: 0,
+        printed: "0 button 0 down kill 4 75\nuptime 1\nconsole 1\n1",
+        file: Some((
+            "new.log",
+            b"rules 2\n0 take\n0 back 7\n0 take\n0 back 3\n2 line 5\n0 take\n0 back 10\n0 take\n\
+              0 back 4\n2 tick\n2 kill 0\n",
+        )),
+    },
+    Done {
         name: "turns: outside events, the first refused",
         words: &["mx", "turns", "pair", "new.log", "--events", "outside"],
         status: 0,
@@ -405,6 +416,25 @@ static DONE: &[Done] = &[
         file: None,
     },
     Done {
+        name: "step: the sums of the machine, which is what is written",
+        words: &["mx", "step", "one", "kills", "--sums", "new.sums"],
+        status: 0,
+        printed: "done\ndone\nrefused 54 NoProcess\nrefused 41 Worn\nrefused 53 NoLine\n\
+                  refused 42 NoService\n0 a 0 down kill 7 5\nuptime 1\nconsole 0\n",
+        file: Some((
+            "new.sums",
+            b"3b5a26d3364ad53fd6848f37200b677c89c9cc77ad11c907da526511a2eaa372  configuration\n\
+              b790507903336d3b86dd9d0d3c958c9b7a781de1b927490283fc9c3cf64dd013  a\n",
+        )),
+    },
+    Done {
+        name: "replay: of the machine that the sums are of",
+        words: &["mx", "replay", "one", "whole", "--sums", "one_sums"],
+        status: 0,
+        printed: "0 a 0 down fault 13 7 1\nuptime 0\nconsole 0\n",
+        file: None,
+    },
+    Done {
         name: "db: a breakpoint and no messages",
         words: &["mx", "db", "pair", "look"],
         status: 0,
@@ -504,6 +534,20 @@ static FAILED: &[Failed] = &[
         told: "mx: 80 File\n",
     },
     Failed {
+        name: "sweep: a service's program isn't written over",
+        words: &[
+            "mx",
+            "sweep",
+            "pair",
+            "pair_log",
+            "kill_driver",
+            "--save",
+            "cli.out",
+        ],
+        status: 3,
+        told: "mx: 80 File\n",
+    },
+    Failed {
         name: "sweep: a line that is no line of a fault",
         words: &["mx", "sweep", "pair", "pair_log", "no_fault"],
         status: 1,
@@ -514,6 +558,18 @@ static FAILED: &[Failed] = &[
         words: &["mx", "turns", "one", "one"],
         status: 3,
         told: "mx: 80 File\n",
+    },
+    Failed {
+        name: "run: the outside events would be written over",
+        words: &["mx", "run", "pressed_apart", "apart", "--events", "apart"],
+        status: 3,
+        told: "mx: 80 File\n",
+    },
+    Failed {
+        name: "run: outside events without a second other actor",
+        words: &["mx", "run", "pressed", "new.log", "--events", "apart"],
+        status: 1,
+        told: "mx: 73 BadRecord line 1\n",
     },
     Failed {
         name: "turns: the outside events would be written over",
@@ -736,6 +792,36 @@ static FAILED: &[Failed] = &[
         told: "mx: 80 File\n",
     },
     Failed {
+        name: "run: a service's program isn't written over",
+        words: &["mx", "run", "pair", "cli.out"],
+        status: 3,
+        told: "mx: 80 File\n",
+    },
+    Failed {
+        name: "turns: a service's program isn't written over",
+        words: &["mx", "turns", "pair", "cli.out"],
+        status: 3,
+        told: "mx: 80 File\n",
+    },
+    Failed {
+        name: "turns: the first service's program isn't written over, with outside events",
+        words: &["mx", "turns", "pair", "drv.out", "--events", "outside"],
+        status: 3,
+        told: "mx: 80 File\n",
+    },
+    Failed {
+        name: "turns: a fault of the outside events before a program as LOG",
+        words: &["mx", "turns", "pair", "drv.out", "--events", "not_outside"],
+        status: 1,
+        told: "mx: 73 BadRecord line 2\n",
+    },
+    Failed {
+        name: "step: a service's program isn't written over",
+        words: &["mx", "step", "pair", "kills", "--save", "cli.out"],
+        status: 3,
+        told: "mx: 80 File\n",
+    },
+    Failed {
         name: "replay: the history isn't UTF-8",
         words: &["mx", "replay", "one", "no_text"],
         status: 3,
@@ -782,6 +868,62 @@ static FAILED: &[Failed] = &[
         words: &["mx", "replay", "one", "nothing"],
         status: 3,
         told: "mx: 80 File\n",
+    },
+    Failed {
+        name: "sums: another program",
+        words: &["mx", "replay", "one", "whole", "--sums", "calls_sums"],
+        status: 1,
+        told: "mx: 64 OtherMachine a\n",
+    },
+    Failed {
+        name: "sums: another configuration",
+        words: &["mx", "trace", "again", "whole", "--sums", "one_sums"],
+        status: 1,
+        told: "mx: 64 OtherMachine configuration\n",
+    },
+    Failed {
+        name: "sums: a line is missing",
+        words: &["mx", "draw", "one", "whole", "--sums", "short_sums"],
+        status: 1,
+        told: "mx: 64 OtherMachine a\n",
+    },
+    Failed {
+        name: "sums: a line more",
+        words: &["mx", "look", "one", "whole", "--sums", "long_sums"],
+        status: 1,
+        told: "mx: 64 OtherMachine configuration\n",
+    },
+    Failed {
+        name: "sums: the fault isn't read",
+        words: &[
+            "mx",
+            "sweep",
+            "one",
+            "whole",
+            "nothing",
+            "--sums",
+            "calls_sums",
+        ],
+        status: 1,
+        told: "mx: 64 OtherMachine a\n",
+    },
+    Failed {
+        name: "sums: no such file",
+        words: &["mx", "replay", "one", "whole", "--sums", "nothing"],
+        status: 3,
+        told: "mx: 80 File\n",
+    },
+    Failed {
+        name: "sums: a file that is read",
+        words: &["mx", "step", "one", "kills", "--sums", "kills"],
+        status: 3,
+        told: "mx: 80 File\n",
+    },
+    Failed {
+        name: "sums: of a program",
+        words: &["mx", "one", "a.out", "9", "--sums", "one_sums"],
+        status: 2,
+        told: "",
     },
     Failed {
         name: "db: no such script",
@@ -871,6 +1013,35 @@ static EXPLAINED: &[Failed] = &[
                wanted a whole header, and a file as long as it says\n",
     },
     Failed {
+        name: "run: a line that is no outside event",
+        words: &[
+            "mx",
+            "run",
+            "pressed_apart",
+            "new.log",
+            "--events",
+            "not_outside",
+            "--explain",
+        ],
+        status: 1,
+        told: "mx: 73 BadRecord line 2\nmx: EVENTS not_outside: \
+               wanted line L, tick, kill E or wait N; --events wants others 2 or more in CONFIG\n",
+    },
+    Failed {
+        name: "run: a history over its outside events, explained",
+        words: &[
+            "mx",
+            "run",
+            "pressed_apart",
+            "apart",
+            "--events",
+            "apart",
+            "--explain",
+        ],
+        status: 3,
+        told: "mx: 80 File\nmx: LOG apart: wanted another file than the one that is read\n",
+    },
+    Failed {
         name: "turns: a line that is no outside event",
         words: &[
             "mx",
@@ -930,6 +1101,88 @@ static EXPLAINED: &[Failed] = &[
         words: &["mx", "step", "one", "kills", "--explain", "--save", "one"],
         status: 3,
         told: "mx: 80 File\nmx: LOG one: wanted another file than the one that is read\n",
+    },
+    Failed {
+        name: "sums: another program, explained",
+        words: &[
+            "mx",
+            "replay",
+            "one",
+            "whole",
+            "--sums",
+            "calls_sums",
+            "--explain",
+        ],
+        status: 1,
+        told: "mx: 64 OtherMachine a\nmx: SUMS calls_sums: wanted the configuration and programs whose sums it has\n",
+    },
+    Failed {
+        name: "sums: no such file, explained",
+        words: &[
+            "mx",
+            "replay",
+            "one",
+            "whole",
+            "--sums",
+            "nothing",
+            "--explain",
+        ],
+        status: 3,
+        told: "mx: 80 File\nmx: SUMS nothing: wanted a file that can be read\n",
+    },
+    Failed {
+        name: "sums: the history's file",
+        words: &[
+            "mx",
+            "turns",
+            "one",
+            "new.log",
+            "--sums",
+            "new.log",
+            "--explain",
+        ],
+        status: 3,
+        told: "mx: 80 File\nmx: SUMS new.log: wanted a file that no other word names\n",
+    },
+    Failed {
+        name: "step: a service's program isn't written over",
+        words: &[
+            "mx",
+            "step",
+            "pair",
+            "kills",
+            "--save",
+            "drv.out",
+            "--explain",
+        ],
+        status: 3,
+        told: "mx: 80 File\nmx: LOG drv.out: wanted another file than a service's program\n",
+    },
+    Failed {
+        name: "run: a service's program isn't written over",
+        words: &["mx", "run", "pair", "cli.out", "--explain"],
+        status: 3,
+        told: "mx: 80 File\nmx: LOG cli.out: wanted another file than a service's program\n",
+    },
+    Failed {
+        name: "turns: a service's program isn't written over",
+        words: &["mx", "turns", "--explain", "pair", "cli.out"],
+        status: 3,
+        told: "mx: 80 File\nmx: LOG cli.out: wanted another file than a service's program\n",
+    },
+    Failed {
+        name: "sweep: a service's program isn't written over",
+        words: &[
+            "mx",
+            "sweep",
+            "pair",
+            "pair_log",
+            "kill_driver",
+            "--save=drv.out",
+            "--explain",
+        ],
+        status: 3,
+        told: "mx: 80 File\nmx: FILE drv.out: wanted another file than a service's program\n",
     },
     Failed {
         name: "db: a configuration with a bad line",
@@ -1083,7 +1336,7 @@ fn writing_explained(rt: HostRuntime) {
 /// A failure for whose line there is no memory reports this, and has the status that it had.
 #[test]
 fn nothing_explained(rt: HostRuntime) -> Result<(), Fail> {
-    let complaint = Complaint::Unexplained(Failure::File);
+    let complaint = Complaint::Unexplained(LineFailure::Request(Failure::File));
     let told = complaint.to_string(rt.alloc())?;
     assert!(rt; told.as_str() == "mx: 80 File\nmx: memory: wanted more of it\n");
     assert!(rt; complaint.status() == 3);
@@ -1430,8 +1683,8 @@ Formats: docs/use/REFERENCE.md.
         name: "replay",
         words: &["mx", "replay", "--help"],
         ending: "Status: 0 done; 1 a text or a program's file is refused, or an event, which is told
-by its line; 2 a mistake in the words; 3 a file can't be read; 4 no memory. Formats:
-docs/use/REFERENCE.md.
+by its line, or the machine; 2 a mistake in the words; 3 a file can't be read; 4 no
+memory. Formats: docs/use/REFERENCE.md.
 ",
     },
     Help {

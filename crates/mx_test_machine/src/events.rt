@@ -244,7 +244,7 @@ static ROWS: &[Row] = &[
         },
     },
     Row {
-        name: "the driver is respawned: its data are the file's, and WHOIS tells its new endpoint",
+        name: "the driver is respawned: its data are the file's, and WHOIS answers its new endpoint",
         config: "looks",
         task: Task::Turns {
             turns: &[

@@ -490,6 +490,15 @@ static FILES: &[NamedFile<'static>] = &[
         bytes: b"tick\nline 5\ntick\nline 5\nline 5\nline 5\n",
     },
     NamedFile {
+        name: "pressed_apart",
+        bytes: b"cpus 1\nothers 2\nlog 64\n\
+            service button button.out traps c send 0 calls 18 level 4 best 4 quantum 99 restarts 0\n",
+    },
+    NamedFile {
+        name: "apart",
+        bytes: b"wait 64\nline 5\nwait 64\ntick\nkill 0\n",
+    },
+    NamedFile {
         name: "button.out",
         bytes: BUTTON,
     },
@@ -569,6 +578,27 @@ static FILES: &[NamedFile<'static>] = &[
     NamedFile {
         name: "edges",
         bytes: b"take 9\nstep 9 0\nstep 9 1\ntake 0\nstep 0 1\nstep 0 9\nstep 0 1\nback 9",
+    },
+    // By sha256sum: of the text cpus 1, others 1, log 8, rules 2, service a traps 30 send 0 calls 0 level 7 best 5
+    // quantum 5 restarts 0, an item a line, and of SUM; in `calls_sums` of CALLS.
+    NamedFile {
+        name: "one_sums",
+        bytes: b"3b5a26d3364ad53fd6848f37200b677c89c9cc77ad11c907da526511a2eaa372  configuration\n\
+            b790507903336d3b86dd9d0d3c958c9b7a781de1b927490283fc9c3cf64dd013  a\n",
+    },
+    NamedFile {
+        name: "calls_sums",
+        bytes: b"3b5a26d3364ad53fd6848f37200b677c89c9cc77ad11c907da526511a2eaa372  configuration\n\
+            08053e8f496da70e6a88edf08289b40f4693ce17afb430f13f9566bfa2bcf40a  a\n",
+    },
+    NamedFile {
+        name: "short_sums",
+        bytes: b"3b5a26d3364ad53fd6848f37200b677c89c9cc77ad11c907da526511a2eaa372  configuration\n",
+    },
+    NamedFile {
+        name: "long_sums",
+        bytes: b"3b5a26d3364ad53fd6848f37200b677c89c9cc77ad11c907da526511a2eaa372  configuration\n\
+            b790507903336d3b86dd9d0d3c958c9b7a781de1b927490283fc9c3cf64dd013  a\n\n",
     },
     NamedFile {
         name: "tock",

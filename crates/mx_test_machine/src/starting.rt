@@ -17,7 +17,7 @@ struct Row {
     name: &'static str,
     config: &'static str,
     script: &'static str,
-    told: Option<Failure>,
+    wanted: Option<Failure>,
 }
 
 static ROWS: &[Row] = &[
@@ -25,61 +25,61 @@ static ROWS: &[Row] = &[
         name: "no configuration before a bad script",
         config: "nothing",
         script: "bad_script",
-        told: Some(Failure::File),
+        wanted: Some(Failure::File),
     },
     Row {
         name: "a configuration that isn't UTF-8 before a bad script",
         config: "no_text",
         script: "bad_script",
-        told: Some(Failure::File),
+        wanted: Some(Failure::File),
     },
     Row {
         name: "a bad configuration before no script",
         config: "bad",
         script: "nothing",
-        told: Some(BAD_LINE),
+        wanted: Some(BAD_LINE),
     },
     Row {
         name: "a cut program before no program and no script",
         config: "cut_first",
         script: "nothing",
-        told: Some(TRUNCATED),
+        wanted: Some(TRUNCATED),
     },
     Row {
         name: "no program before a cut program and a bad script",
         config: "none_first",
         script: "bad_script",
-        told: Some(Failure::File),
+        wanted: Some(Failure::File),
     },
     Row {
         name: "a cut program before no program and a bad script",
         config: "cut_first",
         script: "bad_script",
-        told: Some(TRUNCATED),
+        wanted: Some(TRUNCATED),
     },
     Row {
         name: "no script",
         config: "good_first",
         script: "nothing",
-        told: Some(Failure::File),
+        wanted: Some(Failure::File),
     },
     Row {
         name: "a script that isn't UTF-8",
         config: "good_first",
         script: "no_text",
-        told: Some(Failure::File),
+        wanted: Some(Failure::File),
     },
     Row {
         name: "a bad script",
         config: "good_first",
         script: "bad_script",
-        told: Some(BAD_RECORD),
+        wanted: Some(BAD_RECORD),
     },
     Row {
         name: "no fault",
         config: "good_first",
         script: "script",
-        told: None,
+        wanted: None,
     },
 ];
 
@@ -91,7 +91,7 @@ fn fault_of_start(alloc: Global, row: &Row) -> Option<Failure> {
 fn first_faults(rt: HostRuntime) -> Result<(), Fail> {
     for row in ROWS {
         let name = row.name;
-        assert!(rt; fault_of_start(rt.alloc(), row) == row.told, "{name}");
+        assert!(rt; fault_of_start(rt.alloc(), row) == row.wanted, "{name}");
     }
     Ok(())
 }

@@ -161,7 +161,7 @@ static SETUPS: &[Setup] = &[
         fault: Some(TwiceNamed(2)),
     },
     Setup {
-        name: "others twice: that the second is over the limit is told",
+        name: "others twice: that the second is over the limit is reported",
         text: "others 2\nothers 5",
         fault: Some(BadLine(2)),
     },
@@ -283,64 +283,64 @@ fn configurations(rt: HostRuntime) -> Result<(), Fail> {
 struct Text {
     name: &'static str,
     text: &'static str,
-    told: Result<usize, BootError>,
+    wanted: Result<usize, BootError>,
 }
 
 static SCRIPTS: &[Text] = &[
     Text {
         name: "an empty line",
         text: "tick\n\ntick\n",
-        told: Err(BadRecord(2)),
+        wanted: Err(BadRecord(2)),
     },
     Text {
         name: "no such event",
         text: "tick\nfoo",
-        told: Err(BadRecord(2)),
+        wanted: Err(BadRecord(2)),
     },
     Text {
         name: "a number too few",
         text: "step 0",
-        told: Err(BadRecord(1)),
+        wanted: Err(BadRecord(1)),
     },
     Text {
         name: "a number too many",
         text: "step 0 0 0",
-        told: Err(BadRecord(1)),
+        wanted: Err(BadRecord(1)),
     },
     Text {
         name: "a processor over the limit",
         text: "take 256",
-        told: Err(BadRecord(1)),
+        wanted: Err(BadRecord(1)),
     },
     Text {
         name: "a hexadecimal number",
         text: "take 0x0",
-        told: Err(BadRecord(1)),
+        wanted: Err(BadRecord(1)),
     },
     Text {
         name: "an endpoint over the limit",
         text: "kill 2147483648",
-        told: Err(BadRecord(1)),
+        wanted: Err(BadRecord(1)),
     },
     Text {
         name: "a comment",
         text: "tick # c",
-        told: Err(BadRecord(1)),
+        wanted: Err(BadRecord(1)),
     },
     Text {
         name: "a carriage return",
         text: "tick\r\n",
-        told: Err(BadRecord(1)),
+        wanted: Err(BadRecord(1)),
     },
     Text {
         name: "a debugger's command",
         text: "messages",
-        told: Err(BadRecord(1)),
+        wanted: Err(BadRecord(1)),
     },
     Text {
         name: "blanks, zeros and the largest numbers",
         text: "step 255 2147483647\n  take   0  \ntake 9\nback 00\nline 16\nkill 31438\nrespawn 32",
-        told: Ok(7),
+        wanted: Ok(7),
     },
 ];
 
@@ -349,47 +349,47 @@ static DEBUG_SCRIPTS: &[Text] = &[
         name: "each command, and an event",
         text: "break 0 top\nbreak 0 +5\nbreak 0 01\nclear 0 abcdefghijk\ngo 0 9\nregs 1\n\
          mem 0 4096 0\nmessages\ntick\n",
-        told: Ok(9),
+        wanted: Ok(9),
     },
     Text {
         name: "of slots, by symbols, and the last messages",
         text: "regs of 3\nmem 0 buf 4\nmem of 3 buf+8 0\nmem of 3 0x1f 4\nmessages 7\n",
-        told: Ok(5),
+        wanted: Ok(5),
     },
     Text {
         name: "of no slot",
         text: "regs of",
-        told: Err(BadRecord(1)),
+        wanted: Err(BadRecord(1)),
     },
     Text {
         name: "bytes after a symbol, and no number",
         text: "mem of 3 buf+ 4",
-        told: Err(BadRecord(1)),
+        wanted: Err(BadRecord(1)),
     },
     Text {
         name: "a number too few",
         text: "mem 0 0",
-        told: Err(BadRecord(1)),
+        wanted: Err(BadRecord(1)),
     },
     Text {
         name: "a hexadecimal address",
         text: "break 0 0x5",
-        told: Err(BadRecord(1)),
+        wanted: Err(BadRecord(1)),
     },
     Text {
         name: "a slot over the limit",
         text: "break 2147483648 top",
-        told: Err(BadRecord(1)),
+        wanted: Err(BadRecord(1)),
     },
     Text {
         name: "a processor over the limit",
         text: "go 256 1",
-        told: Err(BadRecord(1)),
+        wanted: Err(BadRecord(1)),
     },
     Text {
         name: "a number too many",
         text: "messages 1 2",
-        told: Err(BadRecord(1)),
+        wanted: Err(BadRecord(1)),
     },
 ];
 
@@ -398,112 +398,112 @@ static HISTORIES: &[Text] = &[
     Text {
         name: "an empty text",
         text: "",
-        told: Ok(0),
+        wanted: Ok(0),
     },
     Text {
         name: "two records",
         text: "0 take\n0 back 3\n",
-        told: Ok(2),
+        wanted: Ok(2),
     },
     Text {
         name: "blanks and a zero",
         text: "  0   tick  \n01 kill 5\n",
-        told: Ok(2),
+        wanted: Ok(2),
     },
     Text {
         name: "the last line has no end",
         text: "0 take\n0 back 3",
-        told: Err(BadRecord(2)),
+        wanted: Err(BadRecord(2)),
     },
     Text {
         name: "an actor out of range",
         text: "2 tick\n",
-        told: Err(BadRecord(1)),
+        wanted: Err(BadRecord(1)),
     },
     Text {
         name: "no actor",
         text: "tick\n",
-        told: Err(BadRecord(1)),
+        wanted: Err(BadRecord(1)),
     },
     Text {
         name: "a number too many",
         text: "0 take 1\n",
-        told: Err(BadRecord(1)),
+        wanted: Err(BadRecord(1)),
     },
     Text {
         name: "a step",
         text: "0 step 1\n",
-        told: Err(BadRecord(1)),
+        wanted: Err(BadRecord(1)),
     },
     Text {
         name: "an empty line",
         text: "0 tick\n\n",
-        told: Err(BadRecord(2)),
+        wanted: Err(BadRecord(2)),
     },
     Text {
         name: "a carriage return",
         text: "0 tick\r\n",
-        told: Err(BadRecord(1)),
+        wanted: Err(BadRecord(1)),
     },
     Text {
         name: "the line of the rules alone",
         text: "rules 2\n",
-        told: Ok(0),
+        wanted: Ok(0),
     },
     Text {
         name: "the line of the rules and two records",
         text: "rules 2\n0 take\n0 back 3\n",
-        told: Ok(2),
+        wanted: Ok(2),
     },
     Text {
         name: "blanks in the line of the rules",
         text: "  rules   2 \n0 tick\n",
-        told: Ok(1),
+        wanted: Ok(1),
     },
     Text {
         name: "the line of the rules has no end",
         text: "rules 2",
-        told: Err(BadRecord(1)),
+        wanted: Err(BadRecord(1)),
     },
     Text {
         name: "an actor out of range, after the line of the rules",
         text: "rules 2\n2 tick\n",
-        told: Err(BadRecord(2)),
+        wanted: Err(BadRecord(2)),
     },
     Text {
         name: "the last line has no end, after the line of the rules",
         text: "rules 2\n0 tick\n0 tick",
-        told: Err(BadRecord(3)),
+        wanted: Err(BadRecord(3)),
     },
     Text {
         name: "rules after a record",
         text: "0 tick\nrules 2\n",
-        told: Err(BadRecord(2)),
+        wanted: Err(BadRecord(2)),
     },
     Text {
         name: "rules twice",
         text: "rules 2\nrules 2\n",
-        told: Err(BadRecord(2)),
+        wanted: Err(BadRecord(2)),
     },
     Text {
         name: "rules 1",
         text: "rules 1\n",
-        told: Err(BadRecord(1)),
+        wanted: Err(BadRecord(1)),
     },
     Text {
         name: "rules 3",
         text: "rules 3\n",
-        told: Err(BadRecord(1)),
+        wanted: Err(BadRecord(1)),
     },
     Text {
         name: "rules with a number too many",
         text: "rules 2 2\n",
-        told: Err(BadRecord(1)),
+        wanted: Err(BadRecord(1)),
     },
     Text {
         name: "rules without a number",
         text: "rules\n",
-        told: Err(BadRecord(1)),
+        wanted: Err(BadRecord(1)),
     },
 ];
 
@@ -524,7 +524,7 @@ fn read_scripts(rt: &impl Abort, alloc: Global) {
     for row in SCRIPTS {
         let name = row.name;
         assert!(rt;
-            count_or_fault(script(alloc, row.text)) == row.told,
+            count_or_fault(script(alloc, row.text)) == row.wanted,
             "{name}"
         );
     }
@@ -534,7 +534,7 @@ fn read_debug_scripts(rt: &impl Abort, alloc: Global) {
     for row in DEBUG_SCRIPTS {
         let name = row.name;
         assert!(rt;
-            count_or_fault(debug_script(alloc, row.text)) == row.told,
+            count_or_fault(debug_script(alloc, row.text)) == row.wanted,
             "{name}"
         );
     }
@@ -544,7 +544,7 @@ fn read_histories(rt: &impl Abort, alloc: Global, machine: &Config) {
     for row in HISTORIES {
         let name = row.name;
         assert!(rt;
-            count_or_fault(records_of(alloc, row.text, machine)) == row.told,
+            count_or_fault(records_of(alloc, row.text, machine)) == row.wanted,
             "{name}"
         );
     }

@@ -422,7 +422,7 @@ static RUNS: &[Run] = &[
         }],
     },
     Run {
-        name: "traps that fail in two ways, the first check is told",
+        name: "traps that fail in two ways, the first check is reported",
         steps: &[
             Step {
                 name: "no trap allowed, and SEND to ANY",

@@ -118,93 +118,93 @@ struct Change {
     file: &'static [u8],
     /// Places of the file, and the bytes that are put there.
     bytes: &'static [(usize, u8)],
-    told: Option<FileError>,
+    wanted: Option<FileError>,
 }
 
 const CHANGE: Change = Change {
     name: "",
     file: &TRAP,
     bytes: &[],
-    told: None,
+    wanted: None,
 };
 
 static CHANGES: &[Change] = &[
     Change {
         name: "first byte of the magic is wrong",
         bytes: &[(0, 0x02)],
-        told: Some(FileError::BadMagic),
+        wanted: Some(FileError::BadMagic),
         ..CHANGE
     },
     Change {
         name: "second byte of the magic is wrong",
         bytes: &[(1, 0x02)],
-        told: Some(FileError::BadMagic),
+        wanted: Some(FileError::BadMagic),
         ..CHANGE
     },
     Change {
         name: "another processor",
         bytes: &[(3, 0x04)],
-        told: Some(FileError::BadCpu),
+        wanted: Some(FileError::BadCpu),
         ..CHANGE
     },
     Change {
         name: "flag 2, which is not allowed",
         bytes: &[(2, 0x12)],
-        told: Some(FileError::BadFlags),
+        wanted: Some(FileError::BadFlags),
         ..CHANGE
     },
     Change {
         name: "header of 33 bytes",
         bytes: &[(4, 0x21)],
-        told: Some(FileError::BadHeader),
+        wanted: Some(FileError::BadHeader),
         ..CHANGE
     },
     Change {
         name: "long header in a file of 34 bytes",
         bytes: &[(4, 0x30)],
-        told: Some(FileError::Truncated),
+        wanted: Some(FileError::Truncated),
         ..CHANGE
     },
     Change {
         name: "total of zero",
         bytes: &[(25, 0x00)],
-        told: Some(FileError::NoTotal),
+        wanted: Some(FileError::NoTotal),
         ..CHANGE
     },
     Change {
         name: "text too large",
         bytes: &[(10, 0x11)],
-        told: Some(FileError::TooLarge),
+        wanted: Some(FileError::TooLarge),
         ..CHANGE
     },
     Change {
         name: "bss of 4096 bytes after two bytes of text",
         bytes: &[(17, 0x10)],
-        told: Some(FileError::TooLarge),
+        wanted: Some(FileError::TooLarge),
         ..CHANGE
     },
     Change {
         name: "total one page too large",
         bytes: &[(26, 0x40)],
-        told: Some(FileError::TooLarge),
+        wanted: Some(FileError::TooLarge),
         ..CHANGE
     },
     Change {
         name: "symbols too large",
         bytes: &[(31, 0x01)],
-        told: Some(FileError::TooLarge),
+        wanted: Some(FileError::TooLarge),
         ..CHANGE
     },
     Change {
         name: "symbols of one byte",
         bytes: &[(28, 0x01)],
-        told: Some(FileError::BadSymbols),
+        wanted: Some(FileError::BadSymbols),
         ..CHANGE
     },
     Change {
         name: "text one byte longer than the file has",
         bytes: &[(8, 0x03)],
-        told: Some(FileError::Truncated),
+        wanted: Some(FileError::Truncated),
         ..CHANGE
     },
     Change {
@@ -247,13 +247,13 @@ static CHANGES: &[Change] = &[
         name: "bss of 4091 bytes after six bytes of text and data",
         file: &FILE,
         bytes: &[(16, 0xFB), (17, 0x0F)],
-        told: Some(FileError::TooLarge),
+        wanted: Some(FileError::TooLarge),
     },
     Change {
         name: "long header and symbols of 15 bytes",
         file: &LONG,
         bytes: &[(28, 0x0F)],
-        told: Some(FileError::BadSymbols),
+        wanted: Some(FileError::BadSymbols),
     },
 ];
 
@@ -264,7 +264,7 @@ fn is_told(alloc: Global, row: &Change) -> Result<bool, Fail> {
             *byte = *value;
         }
     }
-    Ok(read(alloc, file.as_slice()).err() == row.told)
+    Ok(read(alloc, file.as_slice()).err() == row.wanted)
 }
 
 #[test]
@@ -283,14 +283,14 @@ struct Sizes {
     file: &'static [u8],
     /// Places of the header, and the dwords that are put there.
     dwords: &'static [(usize, u32)],
-    told: Option<FileError>,
+    wanted: Option<FileError>,
 }
 
 const SIZES: Sizes = Sizes {
     name: "",
     file: &SHORT,
     dwords: &[],
-    told: None,
+    wanted: None,
 };
 
 /// Places of the header's dwords. The first holds the header's length, an unused byte and the version.
@@ -316,61 +316,61 @@ static LIMITS: &[Sizes] = &[
     Sizes {
         name: "symbols of 17 bytes",
         dwords: &[(SYMBOLS, 17)],
-        told: Some(FileError::BadSymbols),
+        wanted: Some(FileError::BadSymbols),
         ..SIZES
     },
     Sizes {
         name: "largest symbols, and the file has fewer",
         dwords: &[(SYMBOLS, 262_144)],
-        told: Some(FileError::Truncated),
+        wanted: Some(FileError::Truncated),
         ..SIZES
     },
     Sizes {
         name: "symbols one byte too large",
         dwords: &[(SYMBOLS, 262_145)],
-        told: Some(FileError::TooLarge),
+        wanted: Some(FileError::TooLarge),
         ..SIZES
     },
     Sizes {
         name: "one symbol too many",
         dwords: &[(SYMBOLS, 262_160)],
-        told: Some(FileError::TooLarge),
+        wanted: Some(FileError::TooLarge),
         ..SIZES
     },
     Sizes {
         name: "largest text, and the file has less",
         dwords: &[(TEXT, 1_048_576)],
-        told: Some(FileError::Truncated),
+        wanted: Some(FileError::Truncated),
         ..SIZES
     },
     Sizes {
         name: "text one byte too large",
         dwords: &[(TEXT, 1_048_577)],
-        told: Some(FileError::TooLarge),
+        wanted: Some(FileError::TooLarge),
         ..SIZES
     },
     Sizes {
         name: "largest dword as the text's size",
         dwords: &[(TEXT, 0xFFFF_FFFF)],
-        told: Some(FileError::TooLarge),
+        wanted: Some(FileError::TooLarge),
         ..SIZES
     },
     Sizes {
         name: "data as large as the total, and the file has less",
         dwords: &[(INIT, 4096)],
-        told: Some(FileError::Truncated),
+        wanted: Some(FileError::Truncated),
         ..SIZES
     },
     Sizes {
         name: "data one byte larger than the total",
         dwords: &[(INIT, 4097)],
-        told: Some(FileError::TooLarge),
+        wanted: Some(FileError::TooLarge),
         ..SIZES
     },
     Sizes {
         name: "largest dword as the data's size",
         dwords: &[(INIT, 0xFFFF_FFFF)],
-        told: Some(FileError::TooLarge),
+        wanted: Some(FileError::TooLarge),
         ..SIZES
     },
     Sizes {
@@ -381,13 +381,13 @@ static LIMITS: &[Sizes] = &[
     Sizes {
         name: "total one byte too large",
         dwords: &[(TOTAL, 4_194_305)],
-        told: Some(FileError::TooLarge),
+        wanted: Some(FileError::TooLarge),
         ..SIZES
     },
     Sizes {
         name: "largest dword as the total",
         dwords: &[(TOTAL, 0xFFFF_FFFF)],
-        told: Some(FileError::TooLarge),
+        wanted: Some(FileError::TooLarge),
         ..SIZES
     },
     Sizes {
@@ -413,7 +413,7 @@ static LIMITS: &[Sizes] = &[
     Sizes {
         name: "long header in a file of the short form",
         dwords: &[(LENGTHS, 0x0000_0030)],
-        told: Some(FileError::Truncated),
+        wanted: Some(FileError::Truncated),
         ..SIZES
     },
     Sizes {
@@ -423,19 +423,19 @@ static LIMITS: &[Sizes] = &[
             (TEXT_RELOCATIONS, 0xFFFF_FFFF),
             (INIT_RELOCATIONS, 0xFFFF_FFFF),
         ],
-        told: Some(FileError::Truncated),
+        wanted: Some(FileError::Truncated),
     },
     Sizes {
         name: "relocations of the data alone",
         file: &LONG,
         dwords: &[(TEXT_RELOCATIONS, 0), (INIT_RELOCATIONS, 8)],
-        told: None,
+        wanted: None,
     },
     Sizes {
         name: "relocations one byte longer than the file has",
         file: &LONG,
         dwords: &[(TEXT_RELOCATIONS, 0), (INIT_RELOCATIONS, 9)],
-        told: Some(FileError::Truncated),
+        wanted: Some(FileError::Truncated),
     },
 ];
 
@@ -453,7 +453,7 @@ fn has_limit(alloc: Global, row: &Sizes) -> Result<bool, Fail> {
     for (place, value) in row.dwords {
         put_dword(file.as_mut_slice(), *place, *value);
     }
-    Ok(read(alloc, file.as_slice()).err() == row.told)
+    Ok(read(alloc, file.as_slice()).err() == row.wanted)
 }
 
 #[test]
@@ -497,7 +497,7 @@ static CUTS: &[Cut] = &[
 ];
 
 /// The fault of the first bytes of a file.
-fn told_of_front(alloc: Global, file: &[u8], length: usize) -> Option<FileError> {
+fn error_of_front(alloc: Global, file: &[u8], length: usize) -> Option<FileError> {
     read(alloc, file.get(..length)?).err()
 }
 
@@ -505,15 +505,15 @@ fn told_of_front(alloc: Global, file: &[u8], length: usize) -> Option<FileError>
 fn cut_files(rt: HostRuntime) {
     for row in CUTS {
         let name = row.name;
-        let told = told_of_front(rt.alloc(), row.file, row.length);
-        assert!(rt; told == Some(FileError::Truncated), "{name}");
+        let error = error_of_front(rt.alloc(), row.file, row.length);
+        assert!(rt; error == Some(FileError::Truncated), "{name}");
     }
 }
 
 #[test]
 fn cuts_at_every_place(rt: HostRuntime) {
     for length in 0..60 {
-        let told = told_of_front(rt.alloc(), &SHORT, length);
-        assert!(rt; told == Some(FileError::Truncated), "{length}");
+        let error = error_of_front(rt.alloc(), &SHORT, length);
+        assert!(rt; error == Some(FileError::Truncated), "{length}");
     }
 }

@@ -246,8 +246,8 @@ fn at(problem: Problem, line: usize) -> Option<AsmError> {
 fn faults(rt: HostRuntime) {
     for row in REFUSED {
         let text = row.text;
-        let told = assemble(rt.alloc(), text).err();
-        assert!(rt; told == at(row.problem, row.line), "text: {text}");
+        let fault = assemble(rt.alloc(), text).err();
+        assert!(rt; fault == at(row.problem, row.line), "text: {text}");
     }
 }
 
@@ -371,7 +371,7 @@ fn whole_texts(rt: HostRuntime) -> Result<(), Fail> {
     assert!(rt; is_assembled(rt.alloc()));
     assert!(rt; is_far_loop(rt.alloc()));
     let text = long_text(rt.alloc())?;
-    let told = assemble(rt.alloc(), text.as_str()).err();
-    assert!(rt; text.len() > 65_535 && told == at(Problem::TooFar, 130));
+    let fault = assemble(rt.alloc(), text.as_str()).err();
+    assert!(rt; text.len() > 65_535 && fault == at(Problem::TooFar, 130));
     Ok(())
 }

@@ -75,8 +75,8 @@ fn file_of(alloc: Global, text: &[u8], symbols: &[u8]) -> Result<Vec<u8>, Fail> 
     Ok(file)
 }
 
-fn is_text(told: Result<String, NoMemory>, wanted: &str) -> bool {
-    match told {
+fn is_text(listed: Result<String, NoMemory>, wanted: &str) -> bool {
+    match listed {
         Ok(text) => text.as_str() == wanted,
         Err(_) => false,
     }

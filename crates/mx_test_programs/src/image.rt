@@ -580,7 +580,7 @@ static FAULTS: &[Row] = &[
         ..ROW
     },
     Row {
-        name: "rep inc eax: no instruction, as rep may not stand before inc",
+        name: "rep inc eax: no instruction, as rep may not come before inc",
         text: b"\xF3\x40",
         stop: Stop::Fault(INVALID_OPCODE),
         ..ROW
@@ -654,7 +654,7 @@ static FAULTS: &[Row] = &[
         ..ROW
     },
     Row {
-        name: "repne movsb: no instruction, as only rep may stand before movsb",
+        name: "repne movsb: no instruction, as only rep may come before movsb",
         text: b"\xF2\xA4",
         stop: Stop::Fault(INVALID_OPCODE),
         ..ROW
@@ -923,7 +923,7 @@ static BOUNDARIES: &[Row] = &[
         ..ROW
     },
     Row {
-        name: "push eax; pop ecx: the stack's dword stands over a page's end",
+        name: "push eax; pop ecx: the stack's dword lies over a page's end",
         text: b"\x50\x59",
         words: [0x4030201, 0, 0, 0, 0x1003, 0, 0, 0],
         budget: 2,
@@ -948,7 +948,7 @@ static BOUNDARIES: &[Row] = &[
         ..DWORDS
     },
     Row {
-        name: "mov eax, 0x5; inc eax; jmp 0xffe: the mov stands over a page's end, and all runs twice",
+        name: "mov eax, 0x5; inc eax; jmp 0xffe: the mov lies over a page's end, and all runs twice",
         eip: 0xFFE,
         text: b"\xB8\x05\x00\x00\x00\x40\xEB\xF8",
         budget: 6,

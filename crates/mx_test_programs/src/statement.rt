@@ -13,13 +13,13 @@ struct Row {
 
 static REASONS: &[Row] = &[
     Row {
-        name: "its label stands above already",
+        name: "its label is above already",
         section: Section::Text,
         saying: Saying::Second,
         reason: Reason::Twice,
     },
     Row {
-        name: "it stands in the data",
+        name: "it is in the data",
         section: Section::Data,
         saying: Saying::First,
         reason: Reason::WrongSection,
@@ -48,8 +48,8 @@ fn reasons(rt: HostRuntime) {
     };
     for row in REASONS {
         let name = row.name;
-        let told = refusal(&line, row.section, row.saying);
-        assert!(rt; told == Some(row.reason), "{name}");
+        let reason = refusal(&line, row.section, row.saying);
+        assert!(rt; reason == Some(row.reason), "{name}");
     }
     assert!(rt; Reason::NoForm.code() == 11 && LESS_TWO.whole() == -2);
 }

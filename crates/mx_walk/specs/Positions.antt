@@ -98,9 +98,13 @@ pub record HasMade (w u : World) (xs : List (ℕ × Event)) : Type 0 where
   pub accepted : AreAccepted w xs
   pub world : u ≡ world_after_events w xs
 
--- an event is refused
+-- an event is refused, and why
+abbrev pub IsRefusedFor : World → ℕ × Event → Refusal → Type 0
+IsRefusedFor w x r = event_refusal w x.0 x.1 ≡ Some r
+
+-- for some reason
 abbrev pub IsRefused : World → ℕ × Event → Type 0
-IsRefused w x = (r : Refusal) × (event_refusal w x.0 x.1 ≡ Some r)
+IsRefused w x = (r : Refusal) × IsRefusedFor w x r
 
 -- A MACHINE STANDS AT A POSITION: its world is the one there, and each event above it was accepted
 pub record IsAt (boot : World) (records : List Record) (p : Position) (m : MachineState) : Type 0 where

@@ -2,19 +2,23 @@
 #![tactic(auto)]
 
 mod booting;
+mod checkpoints;
 mod either;
 mod going;
 mod laws;
 mod positions;
+mod progress;
 mod quiet;
 mod records;
 mod running;
 mod seeking;
 mod several;
+mod showing;
 mod stopping;
 mod walker;
 mod watching;
 
+pub use checkpoints::{MOST_BYTES, MOST_CHECKPOINTS};
 pub use either::Either;
 pub use going::go_on;
 pub use laws::{
@@ -22,8 +26,11 @@ pub use laws::{
     searches_name_one,
 };
 pub use positions::{
-    FIRST, NextEvent, Position, is_position, is_up_to, next_event, position_before, steps_in,
+    FIRST, NextEvent, Position, is_position, is_up_to, next_event, own_event, position_before,
+    steps_in,
 };
+pub use progress::{Part, Progress};
+pub use records::{Halted, finish_record, make_event, make_steps};
 pub use seeking::{Mark, Sought, seek, seek_last};
 pub use several::Several;
 pub use stopping::{CodePlace, Coming, Leaving};

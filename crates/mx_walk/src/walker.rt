@@ -1,21 +1,27 @@
 //! A walker: a machine at a position of a history.
 
-ghost use Rattle.std.specs.Prelude.{◌≡◌, ◌<◌, ℕ, true, false, All, IfOk, IfSome, List, MatchOption, Some};
+ghost use Rattle.std.specs.Prelude.{◌≡◌, ◌<◌, ◌++◌, ℕ, true, false, All, IfErr, IfOk, IfSome, List, MatchOption, Some};
 ghost use Rattle.mx_machine.specs.declared.events.Event.{Event as Made};
 ghost use Rattle.mx_machine.specs.declared.history.Record.{Record as Noted};
 ghost use Rattle.mx_machine.specs.Move.{event_refusal};
 ghost use Rattle.mx_machine.specs.World.{actors};
 ghost use Rattle.mx_machine.specs.Machine.{world_of};
+ghost use Rattle.mx_walk.specs.declared.positions.Position.{Position as At};
+ghost use Rattle.mx_walk.specs.Checkpoints.{AreStored};
 ghost use Rattle.mx_walk.specs.Positions.{IsAbove, IsAt, IsPosition, IsUpTo, event_below, position_before};
 ghost use Rattle.mx_walk.specs.Seeking.{IsFirstMarked, IsLastMarked, IsPassed};
 ghost use Rattle.mx_walk.specs.Watching.{is_changed};
+ghost use Rattle.mx_walk.specs.Parts.{walk_shown};
 ghost use Rattle.mx_walk.specs.Walks.{IsBootOf, IsLast, first, refusal_here, world_here};
 
 use crate::booting::boot_again;
+use crate::checkpoints::{Checkpoints, Stored, last_above, machine_of};
 use crate::going::go_on;
 use crate::positions::{FIRST, Position, is_up_to, next_event, position_before};
+use crate::progress::Progress;
 use crate::records::make_event;
 use crate::seeking::{Mark, Sought, seek, seek_last};
+use crate::showing::walk_on;
 use crate::watching::{ByteChange, BytePlace};
 use mx_machine::{Config, Machine, Record, Refusal};
 use mx_word::NoMemory;
@@ -30,9 +36,12 @@ pub struct Walker {
     records: Vec<Record>,
     here: Position,
     last: Position,
+    /// In the order of their positions; none of them is below `last`.
+    checkpoints: Vec<Stored>,
 }
 
 impl Model for Walker {
+    ghost use Rattle.mx_walk.specs.Checkpoints.{AreStored};
     ghost use Rattle.mx_walk.specs.Walks.{IsWalk, Walk};
 
     ghost Value = { Walk };
@@ -49,41 +58,75 @@ impl Model for Walker {
       records = w.records.items;
       here = w.here;
       last = w.last;
-    }) };
+    }) × AreStored w.machine.kernel.boot w.records.items w.checkpoints.items };
 }
 
-/// A machine that stands nowhere below a position, and where it stands: the machine as it is, or booted
-/// again.
+/// A machine at the last checkpoint that isn't below a position, and where that is; booted again if there is
+/// none.
+fn machine_again(
+    alloc: Global,
+    machine: Machine,
+    config: &Config,
+    records: &[Record],
+    checkpoints: &[Stored],
+    to: Position,
+) -> Result<(Machine, Position), NoMemory>
+    requires booted { IsBootOf config.now machine.kernel.boot }
+    requires stored { AreStored machine.kernel.boot records.now checkpoints.now }
+    ensures there { IfOk result (λ above. IsAt machine.kernel.boot records.now above.1 above.0) }
+    ensures early { IfOk result (λ above. IsUpTo above.1 to) }
+    ensures actors { IfOk result (λ above.
+        actors (world_of above.0) ≡ actors machine.kernel.boot) }
+{
+    match last_above(checkpoints, to) {
+        Some(index) => {
+            let stored = &checkpoints[index];
+            let again = machine_of(alloc, machine, records, stored)?;
+            Ok((again, stored.position))
+        }
+        None => {
+            let again = boot_again(alloc, machine, config)?;
+            Ok((again, FIRST))
+        }
+    }
+}
+
+/// A machine that stands nowhere below a position, and where it stands: the machine as it is, or that of a
+/// checkpoint, or booted again.
 fn machine_above(
     alloc: Global,
     machine: Machine,
     config: &Config,
+    records: &[Record],
+    checkpoints: &[Stored],
     here: Position,
     to: Position,
 ) -> Result<(Machine, Position), NoMemory>
-    requires { IsBootOf config.now machine.kernel.boot }
-    ensures there { IfOk result (λ above. (records : List Noted)
-        → IsAt machine.kernel.boot records here machine
-        → IsAt machine.kernel.boot records above.1 above.0) }
+    requires booted { IsBootOf config.now machine.kernel.boot }
+    requires stored { AreStored machine.kernel.boot records.now checkpoints.now }
+    requires there { IsAt machine.kernel.boot records.now here machine }
+    requires actors { actors (world_of machine) ≡ actors machine.kernel.boot }
+    ensures there { IfOk result (λ above. IsAt machine.kernel.boot records.now above.1 above.0) }
     ensures early { IfOk result (λ above. IsUpTo above.1 to) }
-    ensures actors { IfOk result (λ above. actors (world_of machine) ≡ actors machine.kernel.boot
-        → actors (world_of above.0) ≡ actors machine.kernel.boot) }
+    ensures actors { IfOk result (λ above.
+        actors (world_of above.0) ≡ actors machine.kernel.boot) }
 {
     if is_up_to(here, to) {
         return Ok((machine, here));
     }
-    let again = boot_again(alloc, machine, config)?;
-    Ok((again, FIRST))
+    machine_again(alloc, machine, config, records, checkpoints, to)
 }
 
 impl Walker {
-    /// Walks a history once to its last position, and stands at its first. Takes memory to boot the machine
-    /// again.
-    pub fn new(
+    /// Walks a history once to its last position, shows each record that it passes, and stands at its first.
+    /// Takes memory to boot the machine again, and for checkpoints if the walk is long. If there is none for a
+    /// checkpoint, the walker has fewer.
+    pub fn new<P: Progress>(
         alloc: Global,
         machine: Machine,
         config: Config,
         records: Vec<Record>,
+        progress: &mut P,
     ) -> Result<Walker, NoMemory>
         requires fresh { world_of machine ≡ machine.kernel.boot }
         requires booted { IsBootOf config machine.kernel.boot }
@@ -91,13 +134,19 @@ impl Walker {
         ensures made { IfOk result (λ w. (w.boot ≡ machine.kernel.boot)
             × (w.records ≡ records.items) × (w.here ≡ first)) }
         ensures last { IfOk result (λ w. IsLast w.boot w.records w.last) }
+        ensures shown { IfOk result (λ w. P.shown progress.new
+            ≡ P.shown progress.old ++ walk_shown w.records w.last) }
+        ensures walked { IfErr result (λ _. (last : At) × IsLast machine.kernel.boot records.items last
+            × (P.shown progress.new ≡ P.shown progress.old ++ walk_shown records.items last)) }
     {
         let mut machine = machine;
+        let mut checkpoints = Checkpoints::planned(alloc, &machine, records.as_slice());
         let end = Position {
             records: records.len(),
             steps: 0,
         };
-        let last = go_on(&mut machine, records.as_slice(), FIRST, end);
+        let walked = records.as_slice();
+        let last = walk_on(&mut machine, walked, FIRST, end, &mut checkpoints, progress);
         let machine = boot_again(alloc, machine, &config)?;
         Ok(Walker {
             machine,
@@ -105,6 +154,7 @@ impl Walker {
             records,
             here: FIRST,
             last,
+            checkpoints: checkpoints.into_taken(),
         })
     }
 
@@ -168,8 +218,11 @@ impl Walker {
             records,
             here,
             last,
+            checkpoints,
         } = self;
-        let (mut machine, from) = machine_above(alloc, machine, &config, here, to)?;
+        let above = records.as_slice();
+        let stored = checkpoints.as_slice();
+        let (mut machine, from) = machine_above(alloc, machine, &config, above, stored, here, to)?;
         go_on(&mut machine, records.as_slice(), from, to);
         Ok(Walker {
             machine,
@@ -177,6 +230,7 @@ impl Walker {
             records,
             here: to,
             last,
+            checkpoints,
         })
     }
 
@@ -222,6 +276,7 @@ impl Walker {
             records,
             here,
             last,
+            checkpoints,
         } = self;
         let mut machine = boot_again(alloc, machine, &config)?;
         let (_, found) = seek_last(&mut machine, records.as_slice(), FIRST, here, mark);
@@ -231,6 +286,7 @@ impl Walker {
             records,
             here,
             last,
+            checkpoints,
         };
         Ok((walker, found))
     }

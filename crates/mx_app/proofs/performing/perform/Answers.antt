@@ -59,4 +59,4 @@ pub returns-in-Draw : goal.returns-in-Draw
 returns-in-Draw g c = as_asked c.args.asks _ _ _ _ _ _ _ _ c.in-Draw.is (draws _ _ _ c.in-Draw.config.now c.in-Draw.log.now c.in-Draw.range _ _ c.draw.result c.done_after_replay-in-Draw.result c.draw.ensures.printed c.draw.ensures.fault c.done_after_replay-in-Draw.ensures)
 
 pub returns-in-Look : goal.returns-in-Look
-returns-in-Look g c = as_typed _ _ _ _ _ _ _ _ _ _ _ _ _ c.in-Look.is (looks _ _ _ _ _ c.in-Look.config.now c.in-Look.log.now _ _ _ c.look.result c.done_after_work-in-Look.result c.look.ensures.printed c.look.ensures.fault c.done_after_work-in-Look.ensures)
+returns-in-Look g c = as_typed _ _ _ _ _ _ _ _ _ _ _ _ _ c.in-Look.is (looks _ _ _ _ _ _ _ c.in-Look.config.now c.in-Look.log.now _ _ _ c.look.result c.done_after_work-in-Look.result c.look.ensures.printed c.look.ensures.fault c.done_after_work-in-Look.ensures)

@@ -11,7 +11,7 @@ returns-in-Err g c =
 
 pub returns-in-Ok : goal.returns-in-Ok
 returns-in-Ok g c =
-    let done = c.perform-done.ensures in
+    let done = c.perform_line-done.ensures in
     let same = noted_same c.noted.result _ _ _ _ c.noted.ensures.last c.noted.ensures.missed c.noted.ensures.unwritten c.noted.ensures.text in (
       done.0,
       done.1,
@@ -23,12 +23,13 @@ returns-in-Ok g c =
       done.7,
       inl (
         c.in-Ok.line,
-        c.perform-done.result,
+        c.perform_line-done.result,
         c.in-Ok.ensures.asks,
         c.in-Ok.ensures.explains,
         c.in-Ok.ensures.silent,
+        c.in-Ok.ensures.sums,
         c.in-Ok.ensures.apart,
         done.8,
-        subst (λ (n : Noted). IsAnswered c.in-Ok.line c.args.shows c.perform-done.result n c.answer.result) same c.answer.ensures,
+        subst (λ (n : Noted). IsAnswered c.in-Ok.line c.args.shows c.perform_line-done.result n c.answer.result) same c.answer.ensures,
       ),
     )

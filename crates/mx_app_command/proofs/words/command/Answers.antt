@@ -8,7 +8,7 @@ use Rattle.clap.specs.declared.parser.matches.ArgMatches.TheViews.{out-ArgMatche
 use Rattle.mx_app_command.specs.declared.words.Mistake.{Mistake}
 use Rattle.mx_app_command.specs.declared.words.Mistake.TheVariants.{Grammar}
 use Rattle.mx_app_command.specs.Mistakes.{IsOutOfMemory, both_given}
-use Rattle.mx_app_command.specs.Words.{Asks, AsksBy, AsksForSilence, AsksToExplain, IsAsked, IsFlag, mx_grammar}
+use Rattle.mx_app_command.specs.Words.{Asks, AsksBy, AsksForSilence, AsksForSums, AsksToExplain, IsAsked, IsFlag, MayHaveText, mx_grammar}
 use Rattle.mx_app_command.proofs.AskedWords.{words_asked}
 use Rattle.mx_app_command.proofs.words.command.Goals as goal
 
@@ -92,3 +92,14 @@ returns-clause-silent c =
     let rows_same = rows_is c.in_ok-matches.matches (asked.0, asked.1) entered c.in-Some.name.now rows c.in-Some.ensures.name c.in-Some.ensures.rows in
     let by : IsFlag (codes "no-explain") asked.1 c.flag_asked-in-Some.result = subst (λ (r : List Row). IsFlag (codes "no-explain") r c.flag_asked-in-Some.result) rows_same c.flag_asked-in-Some.ensures in
     subst (AsksForSilence c.flag_asked-in-Some.result) (sym asked.2) by
+
+pub returns-clause-sums : goal.returns-clause-sums
+returns-clause-sums c =
+    let words : List Text = map (λ s. s.now) c.args.words.now in
+    let asked = words_asked words c.in_ok-matches.ensures.kinds in
+    let entered : subcommand_rows_of c.in_ok-matches.matches ≡ Some (asked.0, asked.1) = (c.in_ok-matches.ensures.matches refl).1 ∙ asked.2 in
+    let rows = rows_of (found_of c.in-Some.found.now) in
+    let rows_same = rows_is c.in_ok-matches.matches (asked.0, asked.1) entered c.in-Some.name.now rows c.in-Some.ensures.name c.in-Some.ensures.rows in
+    let sums : Option Text = option_map (λ s. s.now) c.value_if_asked.result in
+    let by : MayHaveText (codes "SUMS") asked.1 sums = subst (λ (r : List Row). MayHaveText (codes "SUMS") r sums) rows_same c.value_if_asked.ensures in
+    subst (AsksForSums sums) (sym asked.2) by

@@ -13,7 +13,7 @@ returns-clause-printed g c =
     let y = g.W.Write.contents c.perform_debug_lines-done.new.out in
     let z = g.W.Write.contents c.print_text.new.out in
     let end = string_bytes c.perform_debug_lines-done.new.text in
-    let told = debug_lines_text c.args.other (both (world_of c.args.machine.now) []) c.args.lines.now in
-    c.pieces_join.ensures.rest x y z end told
-    (subst (λ (t : List ℕ). IsPrintedBut x y end (t ++ told)) c.new-text.ensures.bytes c.in_ok-done.ensures.told)
+    let answers = debug_lines_text c.args.other (both (world_of c.args.machine.now) []) c.args.lines.now in
+    c.pieces_join.ensures.rest x y z end answers
+    (subst (λ (t : List ℕ). IsPrintedBut x y end (t ++ answers)) c.new-text.ensures.bytes c.in_ok-done.ensures.text)
     (subst (λ (t : List ℕ). Appends y z t) c.as_bytes.ensures.value c.in_ok-print_text.ensures.bytes)

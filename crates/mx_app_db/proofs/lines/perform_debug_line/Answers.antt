@@ -1,7 +1,7 @@
 use Rattle.std.specs.Prelude.{string_bytes}
 use Rattle.mx_app_step.specs.Machine.{world_of}
 use Rattle.mx_app_db.proofs.Made.{always, both, plain_of, broken_of, cleared_of}
-use Rattle.mx_app_db.proofs.Told.{told_by, plain_told, broken_told, cleared_told, go_told, registers_told, registers_of_told, memory_told, memory_of_told, messages_told, last_messages_told}
+use Rattle.mx_app_db.proofs.AnswerTexts.{answer_by, plain_answer, broken_answer, cleared_answer, go_answer, registers_answer, registers_of_answer, memory_answer, memory_of_answer, messages_answer, last_messages_answer}
 use Rattle.mx_app_db.proofs.lines.perform_debug_line.Goals as goal
 
 pub returns-in-Plain-clause-made : goal.returns-in-Plain-clause-made
@@ -16,52 +16,52 @@ pub returns-in-Clear-clause-made : goal.returns-in-Clear-clause-made
 returns-in-Clear-clause-made c =
     always _ c.push_done-in-Clear.result (cleared_of c.args.other c.args.machine.now c.kernel-in-Clear.result.now c.args.debugger.now c.clear_breakpoint.new.debugger _ _ c.clear_breakpoint.result c.args.line.now c.in-Clear.is c.kernel-in-Clear.ensures c.clear_breakpoint.ensures)
 
-pub returns-in-Plain-clause-told : goal.returns-in-Plain-clause-told
-returns-in-Plain-clause-told c =
-    told_by c.writeln.result c.args.other (both (world_of c.args.machine.now) c.args.debugger.now) c.args.line.now _ (string_bytes c.args.text.now) (string_bytes c.writeln.new.self) _ c.in-Plain.is
-    (plain_told c.args.other (world_of c.args.machine.now) (world_of c.perform_line-said.new.machine) c.args.debugger.now _ c.perform_line-said.result c.perform_line-said.ensures.made) c.writeln.ensures.bytes
+pub returns-in-Plain-clause-text : goal.returns-in-Plain-clause-text
+returns-in-Plain-clause-text c =
+    answer_by c.writeln.result c.args.other (both (world_of c.args.machine.now) c.args.debugger.now) c.args.line.now _ (string_bytes c.args.text.now) (string_bytes c.writeln.new.self) _ c.in-Plain.is
+    (plain_answer c.args.other (world_of c.args.machine.now) (world_of c.perform_line-said.new.machine) c.args.debugger.now _ c.perform_line-said.result c.perform_line-said.ensures.made) c.writeln.ensures.bytes
 
-pub returns-in-Break-clause-told : goal.returns-in-Break-clause-told
-returns-in-Break-clause-told c =
-    told_by c.push_done.result c.args.other (both (world_of c.args.machine.now) c.args.debugger.now) c.args.line.now _ (string_bytes c.args.text.now) (string_bytes c.push_done.new.text) _ c.in-Break.is
-    (broken_told c.args.other c.args.machine.now c.kernel.result.now c.args.debugger.now c.set_breakpoint.new.debugger _ _ c.set_breakpoint.result c.kernel.ensures c.set_breakpoint.ensures) c.push_done.ensures
+pub returns-in-Break-clause-text : goal.returns-in-Break-clause-text
+returns-in-Break-clause-text c =
+    answer_by c.push_done.result c.args.other (both (world_of c.args.machine.now) c.args.debugger.now) c.args.line.now _ (string_bytes c.args.text.now) (string_bytes c.push_done.new.text) _ c.in-Break.is
+    (broken_answer c.args.other c.args.machine.now c.kernel.result.now c.args.debugger.now c.set_breakpoint.new.debugger _ _ c.set_breakpoint.result c.kernel.ensures c.set_breakpoint.ensures) c.push_done.ensures
 
-pub returns-in-Clear-clause-told : goal.returns-in-Clear-clause-told
-returns-in-Clear-clause-told c =
-    told_by c.push_done-in-Clear.result c.args.other (both (world_of c.args.machine.now) c.args.debugger.now) c.args.line.now _ (string_bytes c.args.text.now) (string_bytes c.push_done-in-Clear.new.text) _ c.in-Clear.is
-    (cleared_told c.args.other c.args.machine.now c.kernel-in-Clear.result.now c.args.debugger.now c.clear_breakpoint.new.debugger _ _ c.clear_breakpoint.result c.kernel-in-Clear.ensures c.clear_breakpoint.ensures) c.push_done-in-Clear.ensures
+pub returns-in-Clear-clause-text : goal.returns-in-Clear-clause-text
+returns-in-Clear-clause-text c =
+    answer_by c.push_done-in-Clear.result c.args.other (both (world_of c.args.machine.now) c.args.debugger.now) c.args.line.now _ (string_bytes c.args.text.now) (string_bytes c.push_done-in-Clear.new.text) _ c.in-Clear.is
+    (cleared_answer c.args.other c.args.machine.now c.kernel-in-Clear.result.now c.args.debugger.now c.clear_breakpoint.new.debugger _ _ c.clear_breakpoint.result c.kernel-in-Clear.ensures c.clear_breakpoint.ensures) c.push_done-in-Clear.ensures
 
-pub returns-in-Go-clause-told : goal.returns-in-Go-clause-told
-returns-in-Go-clause-told c =
-    told_by c.perform_go.result c.args.other (both (world_of c.args.machine.now) c.args.debugger.now) c.args.line.now _ (string_bytes c.args.text.now) (string_bytes c.perform_go.new.text) _ c.in-Go.is
-    (go_told c.args.other (both (world_of c.args.machine.now) c.args.debugger.now) _ _) c.perform_go.ensures.told
+pub returns-in-Go-clause-text : goal.returns-in-Go-clause-text
+returns-in-Go-clause-text c =
+    answer_by c.perform_go.result c.args.other (both (world_of c.args.machine.now) c.args.debugger.now) c.args.line.now _ (string_bytes c.args.text.now) (string_bytes c.perform_go.new.text) _ c.in-Go.is
+    (go_answer c.args.other (both (world_of c.args.machine.now) c.args.debugger.now) _ _) c.perform_go.ensures.text
 
-pub returns-in-Registers-clause-told : goal.returns-in-Registers-clause-told
-returns-in-Registers-clause-told c =
-    told_by c.show_registers.result c.args.other (both (world_of c.args.machine.now) c.args.debugger.now) c.args.line.now _ (string_bytes c.args.text.now) (string_bytes c.show_registers.new.text) _ c.in-Registers.is
-    (registers_told c.args.other (both (world_of c.args.machine.now) c.args.debugger.now) _) c.show_registers.ensures
+pub returns-in-Registers-clause-text : goal.returns-in-Registers-clause-text
+returns-in-Registers-clause-text c =
+    answer_by c.show_registers.result c.args.other (both (world_of c.args.machine.now) c.args.debugger.now) c.args.line.now _ (string_bytes c.args.text.now) (string_bytes c.show_registers.new.text) _ c.in-Registers.is
+    (registers_answer c.args.other (both (world_of c.args.machine.now) c.args.debugger.now) _) c.show_registers.ensures
 
-pub returns-in-Memory-clause-told : goal.returns-in-Memory-clause-told
-returns-in-Memory-clause-told c =
-    told_by c.show_memory.result c.args.other (both (world_of c.args.machine.now) c.args.debugger.now) c.args.line.now _ (string_bytes c.args.text.now) (string_bytes c.show_memory.new.text) _ c.in-Memory.is
-    (memory_told c.args.other (both (world_of c.args.machine.now) c.args.debugger.now) _ _ _) c.show_memory.ensures
+pub returns-in-Memory-clause-text : goal.returns-in-Memory-clause-text
+returns-in-Memory-clause-text c =
+    answer_by c.show_memory.result c.args.other (both (world_of c.args.machine.now) c.args.debugger.now) c.args.line.now _ (string_bytes c.args.text.now) (string_bytes c.show_memory.new.text) _ c.in-Memory.is
+    (memory_answer c.args.other (both (world_of c.args.machine.now) c.args.debugger.now) _ _ _) c.show_memory.ensures
 
-pub returns-in-RegistersOf-clause-told : goal.returns-in-RegistersOf-clause-told
-returns-in-RegistersOf-clause-told c =
-    told_by c.show_registers_of.result c.args.other (both (world_of c.args.machine.now) c.args.debugger.now) c.args.line.now _ (string_bytes c.args.text.now) (string_bytes c.show_registers_of.new.text) _ c.in-RegistersOf.is
-    (registers_of_told c.args.other (both (world_of c.args.machine.now) c.args.debugger.now) _) c.show_registers_of.ensures
+pub returns-in-RegistersOf-clause-text : goal.returns-in-RegistersOf-clause-text
+returns-in-RegistersOf-clause-text c =
+    answer_by c.push_registers_of.result c.args.other (both (world_of c.args.machine.now) c.args.debugger.now) c.args.line.now _ (string_bytes c.args.text.now) (string_bytes c.push_registers_of.new.out) _ c.in-RegistersOf.is
+    (registers_of_answer c.args.other (both (world_of c.args.machine.now) c.args.debugger.now) _ _ c.slot_named.ensures) c.push_registers_of.ensures
 
-pub returns-in-MemoryOf-clause-told : goal.returns-in-MemoryOf-clause-told
-returns-in-MemoryOf-clause-told c =
-    told_by c.show_memory_of.result c.args.other (both (world_of c.args.machine.now) c.args.debugger.now) c.args.line.now _ (string_bytes c.args.text.now) (string_bytes c.show_memory_of.new.text) _ c.in-MemoryOf.is
-    (memory_of_told c.args.other (both (world_of c.args.machine.now) c.args.debugger.now) _ _ _) c.show_memory_of.ensures
+pub returns-in-MemoryOf-clause-text : goal.returns-in-MemoryOf-clause-text
+returns-in-MemoryOf-clause-text c =
+    answer_by c.push_memory_of.result c.args.other (both (world_of c.args.machine.now) c.args.debugger.now) c.args.line.now _ (string_bytes c.args.text.now) (string_bytes c.push_memory_of.new.out) _ c.in-MemoryOf.is
+    (memory_of_answer c.args.other (both (world_of c.args.machine.now) c.args.debugger.now) _ _ _ _ c.slot_named-in-MemoryOf.ensures) c.push_memory_of.ensures
 
-pub returns-in-Messages-clause-told : goal.returns-in-Messages-clause-told
-returns-in-Messages-clause-told c =
-    told_by c.push_messages.result c.args.other (both (world_of c.args.machine.now) c.args.debugger.now) c.args.line.now _ (string_bytes c.args.text.now) (string_bytes c.push_messages.new.out) _ c.in-Messages.is
-    (messages_told c.args.other c.args.machine.now c.kernel-in-Messages.result.now c.args.debugger.now c.kernel-in-Messages.ensures) c.push_messages.ensures
+pub returns-in-Messages-clause-text : goal.returns-in-Messages-clause-text
+returns-in-Messages-clause-text c =
+    answer_by c.push_messages.result c.args.other (both (world_of c.args.machine.now) c.args.debugger.now) c.args.line.now _ (string_bytes c.args.text.now) (string_bytes c.push_messages.new.out) _ c.in-Messages.is
+    (messages_answer c.args.other c.args.machine.now c.kernel-in-Messages.result.now c.args.debugger.now c.kernel-in-Messages.ensures) c.push_messages.ensures
 
-pub returns-in-LastMessages-clause-told : goal.returns-in-LastMessages-clause-told
-returns-in-LastMessages-clause-told c =
-    told_by c.push_last_messages.result c.args.other (both (world_of c.args.machine.now) c.args.debugger.now) c.args.line.now _ (string_bytes c.args.text.now) (string_bytes c.push_last_messages.new.out) _ c.in-LastMessages.is
-    (last_messages_told c.args.other (both (world_of c.args.machine.now) c.args.debugger.now) _) c.push_last_messages.ensures
+pub returns-in-LastMessages-clause-text : goal.returns-in-LastMessages-clause-text
+returns-in-LastMessages-clause-text c =
+    answer_by c.push_last_messages.result c.args.other (both (world_of c.args.machine.now) c.args.debugger.now) c.args.line.now _ (string_bytes c.args.text.now) (string_bytes c.push_last_messages.new.out) _ c.in-LastMessages.is
+    (last_messages_answer c.args.other (both (world_of c.args.machine.now) c.args.debugger.now) _) c.push_last_messages.ensures

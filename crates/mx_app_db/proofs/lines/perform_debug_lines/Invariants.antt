@@ -12,7 +12,7 @@ use Rattle.mx_app_db.proofs.lines.perform_debug_lines.Given as goal
 abbrev pub invariant-loop-line : goal.invariant-loop-line
 invariant-loop-line g l = record {
   made : debug_lines_made l.other (both (world_of l.initial.machine) []) (take l.line-index l.lines) ≡ both (world_of l.machine) l.debugger;
-  told : IsPrintedBut (g.W.Write.contents l.initial.out) (g.W.Write.contents l.out) (string_bytes l.text)
+  text : IsPrintedBut (g.W.Write.contents l.initial.out) (g.W.Write.contents l.out) (string_bytes l.text)
       (string_bytes l.initial.text ++ debug_lines_text l.other (both (world_of l.initial.machine) []) (take l.line-index l.lines));
   actors : actors (world_of l.machine) ≡ actors (world_of l.initial.machine);
 }

@@ -1,6 +1,6 @@
 use Rattle.std.proofs.Common.{◌≡◌, ◌∙◌, ◌++◌, ℕ, List, [], ap, rules}
 use Rattle.std.proofs.lemmas.Result.{on_ok_weaker}
-use Rattle.mx_look_svg.specs.Document.{drawing_text}
+use Rattle.mx_app_draw.specs.Document.{drawing_text}
 use Rattle.mx_app_draw.proofs.drawing.print_picture.Goals as goal
 
 pub returns-clause-printed : goal.returns-clause-printed

@@ -1,4 +1,4 @@
-use Rattle.std.proofs.Common.{◌≡◌, IfOk, ℕ, Vec, Global, subst, sym}
+use Rattle.std.proofs.Common.{IfOk, ℕ, Vec, Global, subst, sym}
 use Rattle.mx_app_look.specs.declared.request.Request.{Request}
 use Rattle.mx_app_look.specs.declared.request.Request.TheVariants.{Help}
 use Rattle.mx_app_look.specs.declared.sight.Sight.{Sight}

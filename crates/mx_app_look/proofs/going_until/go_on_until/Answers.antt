@@ -1,8 +1,7 @@
-use Rattle.std.proofs.Common.{◌≡◌, ◌∙◌, ◌<◌, ◌≤◌, List, length, ap, subst, sym, arith}
-use Rattle.mx_machine.specs.declared.history.Record.{Record}
+use Rattle.std.proofs.Common.{◌≡◌, ◌∙◌, ◌<◌, ◌≤◌, length, ap, subst, sym, arith}
 use Rattle.mx_walk.specs.declared.positions.Position.{Position}
 use Rattle.mx_walk.specs.Walks.{Walk}
-use Rattle.mx_app_look.proofs.Meeting.{goes_by, goes_on, halts_here, tells_it}
+use Rattle.mx_app_look.proofs.Meeting.{goes_by, goes_on, halts_here, appends_it}
 use Rattle.mx_app_look.proofs.going_until.go_on_until.Goals as goal
 
 pub bounds-records-above : goal.bounds-records-above
@@ -28,7 +27,7 @@ returns-then-happens-clause-text c =
     let inv = c.loop-above.invariant in
     let lt : c.loop-above.above < k.last.records = subst (λ (p : Position). c.loop-above.above < p.records) c.last-last.ensures.last c.loop-above-test.true in
     let few : k.last.records ≤ length k.records = subst (λ (p : Position). p.records ≤ length k.records) c.last-last.ensures.last c.last-last.ensures.is.position.above in
-    tells_it k c.loop-above.walker c.args.happening c.records.result.now c.loop-above.above _ c.see_record.new.step inv.walker c.records.ensures lt few
+    appends_it k c.loop-above.walker c.args.happening c.records.result.now c.loop-above.above _ c.see_record.new.step inv.walker c.records.ensures lt few
     c.in_ok-walker.ensures.step inv.none (sym c.happens.ensures ∙ c.if-happens.true) c.loop-above.out.items c.args.out.now.items c.push_record.new.out.items inv.nothing c.in_ok-push_record.ensures
 
 pub loop-above-preserved : goal.loop-above-preserved

@@ -1,7 +1,7 @@
-use Rattle.std.proofs.Common.{◌≡◌, ◌∙◌, ◌++◌, ℕ, List, Option, ap, subst, sym}
+use Rattle.std.proofs.Common.{◌∙◌, ◌++◌, List, ap, subst, sym}
 use Rattle.mx_machine.specs.declared.history.Record.{Record}
 use Rattle.mx_walk.specs.Positions.{IsPosition}
-use Rattle.mx_walk.specs.Walks.{IsLast, Walk}
+use Rattle.mx_walk.specs.Walks.{Walk}
 use Rattle.mx_app_look.specs.Sessions.{IsSession, begun_text, sight_at}
 use Rattle.mx_app_look.proofs.Alike.{same_session}
 use Rattle.mx_app_look.proofs.Traced.{same_walk}

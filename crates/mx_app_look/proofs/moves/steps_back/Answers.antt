@@ -1,7 +1,7 @@
-use Rattle.std.proofs.Common.{◌≡◌, ◌∙◌, ◌-◌, ◌+◌, ℕ, List, ap, subst, sym}
+use Rattle.std.proofs.Common.{◌≡◌, ◌∙◌, ◌-◌, ◌+◌, List, ap, subst, sym}
 use Rattle.mx_machine.specs.declared.history.Record.{Record}
 use Rattle.mx_walk.specs.declared.positions.Position.{Position}
-use Rattle.mx_walk.specs.Positions.{IsPosition, IsUpTo, position_before}
+use Rattle.mx_walk.specs.Positions.{IsPosition, position_before}
 use Rattle.mx_app_look.specs.Moves.{steps_back}
 use Rattle.mx_app_look.proofs.Moving.{back_by_one, back_stays, before_is_early, before_is_position, none_left, one_less}
 use Rattle.mx_app_look.proofs.moves.steps_back.Goals as goal

@@ -8,9 +8,9 @@ use Rattle.mx_look_trace.specs.Glance.{Glance}
 use Rattle.mx_look_trace.specs.Glances.{glance_of}
 use Rattle.mx_look_trace.specs.Words.{who}
 use Rattle.mx_machine.specs.Machine.{world_of}
-use Rattle.mx_machine.specs.History.{replay}
-use Rattle.mx_machine.specs.World.{HeldProcess, World, held_by}
-use Rattle.mx_app_look.specs.Places.{process_line, symbols_by}
+use Rattle.mx_machine.specs.World.{HeldProcess, held_by}
+use Rattle.mx_print_answers.specs.Slots.{symbols_by}
+use Rattle.mx_app_look.specs.Places.{process_line}
 use Rattle.mx_app_look.proofs.Kernels.{same_services}
 use Rattle.mx_app_look.proofs.places.push_process.Goals as goal
 

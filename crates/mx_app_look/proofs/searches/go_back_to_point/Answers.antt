@@ -70,5 +70,5 @@ returns-clause-halt c =
     let here = c.here-halt.ensures.here in
     let position = subst (λ (q : Position). IsPosition j.records q) here c.here-halt.ensures.position in
     let there = c.in-Some.ensures.1 ∙ ap (λ (rs : List Record). next_position rs p) c.records.ensures ∙ ap (λ (q : Position). next_position j.records q) here in
-    last_halt k s j c.in_ok-go_to-in-Some.field-0 c.in-Some.next.position _ c.in_ok-walker.ensures.same position found there c.in_ok-walker-in-Some.ensures.told
+    last_halt k s j c.in_ok-go_to-in-Some.field-0 c.in-Some.next.position _ c.in_ok-walker.ensures.same position found there c.in_ok-walker-in-Some.ensures.changes
     (ap (λ (w : Walk). w.here) c.in_ok-go_to-in-Some.ensures ∙ here)

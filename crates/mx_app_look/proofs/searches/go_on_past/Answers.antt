@@ -37,7 +37,7 @@ returns-then-is_met-clause-halt c =
     ∙ ap (λ (f : Marks). f w x u) (c.look.ensures.same ∙ bytes_are s c.in_ok-bytes.bytes.marks.items c.in_ok-bytes.ensures)
     ∙ ap (λ (v : World). changes_watched s v x u) c.machine.ensures.world
     ∙ ap (λ (v : World). changes_watched s (world_here k) x v) c.machine-2.ensures.world in
-    halts_after_one k s j x c.args.next.position _ c.requires.here c.requires.below c.requires.position c.in_ok-walker.ensures.walker (sym met ∙ c.if-is_met.true) c.in_ok-walker.ensures.told
+    halts_after_one k s j x c.args.next.position _ c.requires.here c.requires.below c.requires.position c.in_ok-walker.ensures.walker (sym met ∙ c.if-is_met.true) c.in_ok-walker.ensures.changes
 
 pub returns-clause-halt : goal.returns-clause-halt
 returns-clause-halt c =

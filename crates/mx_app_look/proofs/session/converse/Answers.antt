@@ -1,6 +1,5 @@
-use Rattle.std.proofs.Common.{rules, ◌≡◌, ◌∙◌, ◌++◌, IfErr, List, Option, Some, OnOk, ℕ, true, false, [], ◌∷◌, ap, sym, subst, arith}
+use Rattle.std.proofs.Common.{rules, ◌∙◌, ◌++◌, IfErr, List, Some, ℕ, [], ◌∷◌, ap, sym, arith}
 use Rattle.std.proofs.lemmas.Result.{IfErr-weaker, IfOk-weaker}
-use Rattle.std.specs.Io.KnownBytes.{Appends}
 use Rattle.mx_app_step.specs.Failure.{IsWanting}
 use Rattle.mx_app_look.proofs.SoFar.{broken_off, ended, given_more, none_case, one_more, over, some_case}
 use Rattle.mx_app_look.proofs.session.converse.Goals as goal

@@ -1,15 +1,14 @@
-use Rattle.std.proofs.Common.{rules, ◌≡◌, ◌∙◌, ◌<◌, All, IfErr, List, ℕ, [], inl, inr, ap, subst, sym}
+use Rattle.std.proofs.Common.{rules, ◌≡◌, ◌∙◌, ◌<◌, All, IfErr, List, ℕ, [], inl, inr, refl, ap, subst, sym}
 use Rattle.std.proofs.KnownBytes.{Appends-trans}
 use Rattle.std.proofs.lemmas.List.{append-nil}
 use Rattle.std.proofs.lemmas.Result.{IfErr-weaker, IfOk-weaker, err_from_is_err_and}
-use Rattle.std.specs.Io.KnownBytes.{Appends}
 use Rattle.mx_app_step.specs.Failure.{IsWanting}
-use Rattle.mx_machine.specs.Machine.{world_of}
 use Rattle.mx_machine.specs.Boot.{world_at_boot}
 use Rattle.mx_machine.specs.History.{BootAndHistory}
 use Rattle.mx_machine.specs.World.{World, actors}
 use Rattle.mx_machine.specs.declared.history.Record.{Record}
-use Rattle.mx_walk.specs.Walks.{Walk}
+use Rattle.mx_walk.specs.Parts.{walk_shown}
+use Rattle.mx_walk.specs.Walks.{IsLast, Walk}
 use Rattle.mx_app_look.specs.Sessions.{begun_text}
 use Rattle.mx_app_look.proofs.Starting.{held_by_walk, is_begun}
 use Rattle.mx_app_look.proofs.session.look.Goals as goal
@@ -18,7 +17,7 @@ pub returns-in_err-machine-clause-fault : goal.returns-in_err-machine-clause-fau
 returns-in_err-machine-clause-fault g c =
     let p = err_from_is_err_and c.from_residual.result c.from_residual.ensures.1 in
     let h = c.in_err-machine.ensures.fault in
-    rw (p.1, p.2) (h.0, [], h.1, sym (append-nil (g.L.LineReader.given c.args.lines.now)), inl h.2)
+    rw (p.1, p.2) (h.0, [], [], h.1, sym (append-nil (g.L.LineReader.given c.args.lines.now)), sym (append-nil (g.P.Progress.shown c.args.progress.now)), inl (refl, h.2))
 
 pub new-requires-clause-actors : goal.new-requires-clause-actors
 new-requires-clause-actors g c =
@@ -30,16 +29,26 @@ new-requires-clause-actors g c =
 pub returns-in_err-walker-clause-fault : goal.returns-in_err-walker-clause-fault
 returns-in_err-walker-clause-fault g c =
     let s = c.in_ok-machine.ensures.started in
+    let records = c.in_ok-machine.field-0.lines.items in
+    let h = c.in_err-walker.ensures.walked in
+    let boot = ap (λ (x : BootAndHistory). x.boot) c.in_ok-machine.ensures.kernel ∙ s.5 in
+    let last : IsLast (world_at_boot s.1 s.2) records h.0 = subst (λ (w : World). IsLast w records h.0) boot h.1 in
     let wanting : IfErr c.from_residual-in_err-walker.result IsWanting = search rules in
     IfErr-weaker c.from_residual-in_err-walker.result IsWanting _
-    (λ f h. (s.0, [], s.3, sym (append-nil (g.L.LineReader.given c.args.lines.now)), inr (s.1, s.2, c.in_ok-machine.field-0.lines.items, s.4, h))) wanting
+    (λ f e. (s.0, [], walk_shown records h.0, s.3, sym (append-nil (g.L.LineReader.given c.args.lines.now)), h.2, inr (s.1, s.2, records, h.0, s.4, last, refl, e))) wanting
 
 pub returns-in_err-begin-clause-fault : goal.returns-in_err-begin-clause-fault
 returns-in_err-begin-clause-fault g c =
     let s = c.in_ok-machine.ensures.started in
+    let records = c.in_ok-machine.field-0.lines.items in
+    let k = c.in_ok-walker.walker in
+    let made = c.in_ok-walker.ensures.made in
+    let boot : k.boot ≡ world_at_boot s.1 s.2 = made.0 ∙ ap (λ (x : BootAndHistory). x.boot) c.in_ok-machine.ensures.kernel ∙ s.5 in
+    let begun = is_begun (world_at_boot s.1 s.2) records k boot made.1 made.2 c.in_ok-walker.ensures.last in
+    let shown = c.clear.ensures ∙ c.in_ok-walker.ensures.shown in
     let wanting : IfErr c.from_residual-in_err-begin.result IsWanting = search rules in
     IfErr-weaker c.from_residual-in_err-begin.result IsWanting _
-    (λ f h. (s.0, [], s.3, sym (append-nil (g.L.LineReader.given c.args.lines.now)), inr (s.1, s.2, c.in_ok-machine.field-0.lines.items, s.4, h))) wanting
+    (λ f e. (s.0, [], walk_shown k.records k.last, s.3, sym (append-nil (g.L.LineReader.given c.args.lines.now)), shown, inr (s.1, s.2, records, k.last, s.4, begun.last, ap (λ (rs : List Record). walk_shown rs k.last) made.1, e))) wanting
 
 pub returns-clause-printed : goal.returns-clause-printed
 returns-clause-printed g c =
@@ -60,6 +69,7 @@ returns-clause-printed g c =
       s.3,
       b.2,
       b.3,
+      c.clear.ensures ∙ c.in_ok-walker.ensures.shown,
       s.4,
       begun,
       held_by_walk c.args.asks c.begin.new.walker k c.new-2.result b.0 b.1 c.in_ok-begin.ensures.same c.new-2.ensures.breakpoints c.new-2.ensures.watches b.4,
@@ -69,4 +79,11 @@ returns-clause-printed g c =
 pub returns-clause-fault : goal.returns-clause-fault
 returns-clause-fault g c =
     let s = c.in_ok-machine.ensures.started in
-    IfErr-weaker c.converse.result _ _ (λ f h. (s.0, h.1.0, s.3, h.1.1, inr (s.1, s.2, c.in_ok-machine.field-0.lines.items, s.4, h.0))) c.converse.ensures.err
+    let records = c.in_ok-machine.field-0.lines.items in
+    let k = c.in_ok-walker.walker in
+    let made = c.in_ok-walker.ensures.made in
+    let boot : k.boot ≡ world_at_boot s.1 s.2 = made.0 ∙ ap (λ (x : BootAndHistory). x.boot) c.in_ok-machine.ensures.kernel ∙ s.5 in
+    let begun = is_begun (world_at_boot s.1 s.2) records k boot made.1 made.2 c.in_ok-walker.ensures.last in
+    let shown = c.clear.ensures ∙ c.in_ok-walker.ensures.shown in
+    IfErr-weaker c.converse.result _ _
+    (λ f h. (s.0, h.1.0, walk_shown k.records k.last, s.3, h.1.1, shown, inr (s.1, s.2, records, k.last, s.4, begun.last, ap (λ (rs : List Record). walk_shown rs k.last) made.1, h.0))) c.converse.ensures.err

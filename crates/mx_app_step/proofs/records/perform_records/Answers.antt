@@ -1,22 +1,31 @@
-use Rattle.std.proofs.Common.{ap, ◌+◌}
+use Rattle.std.proofs.Common.{ap, get_or, ◌+◌}
 use Rattle.mx_app_start.specs.Machine.{world_of}
-use Rattle.mx_app_step.proofs.RecordLemmas.{next_accepted, next_kept, next_world, refused_at}
+use Rattle.mx_walk.proofs.Along.{any_record}
+use Rattle.mx_app_step.proofs.RecordLemmas.{all_kept, all_made, next_accepted, next_kept, next_world, record_refused, refused_at}
 use Rattle.mx_app_step.proofs.records.perform_records.Goals as goal
 
 pub returns-in-Err-clause-err : goal.returns-in-Err-clause-err
 returns-in-Err-clause-err c =
     let inv = c.loop-entry.invariant in
-    refused_at (world_of c.args.machine.now) (world_of c.loop-entry.machine) c.args.records.now c.loop-entry.entry-index _ c.loop-entry-test.true inv.accepted inv.world c.loop-entry.number c.in-Err.refusal inv.number c.in-Err.ensures.err
+    let v = world_of c.loop-entry.machine in
+    let x = get_or c.args.records.now c.loop-entry.entry-index any_record in
+    let h = c.in-Err.halted in
+    let e = c.in-Err.ensures.err in
+    refused_at (world_of c.args.machine.now) v c.args.records.now c.loop-entry.entry-index _ c.loop-entry-test.true inv.accepted inv.world c.loop-entry.number h.refusal inv.number
+    (record_refused v (world_of c.finish_record.new.machine) x h.refusal h.made e.1 e.2 e.3)
 
 pub loop-entry-preserved : goal.loop-entry-preserved
 loop-entry-preserved c =
     let inv = c.loop-entry.invariant in
     let w = world_of c.args.machine.now in
     let v = world_of c.loop-entry.machine in
-    let done = c.in_default.ensures.ok in
+    let u = world_of c.finish_record.new.machine in
+    let x = get_or c.args.records.now c.loop-entry.entry-index any_record in
+    let done = all_made v u x c.in_default.ensures.ok in
     record {
-      accepted = next_accepted w v c.args.records.now c.loop-entry.entry-index _ c.loop-entry-test.true inv.accepted inv.world done.0;
-      world = next_world w v c.args.records.now c.loop-entry.entry-index _ c.loop-entry-test.true inv.accepted inv.world (world_of c.perform_record.new.machine) done.1;
+      accepted = next_accepted w v c.args.records.now c.loop-entry.entry-index _ c.loop-entry-test.true inv.accepted inv.world done.accepted;
+      world = next_world w v c.args.records.now c.loop-entry.entry-index _ c.loop-entry-test.true inv.accepted inv.world u done.world;
       number = ap (λ n. n + 1) inv.number;
-      kept = next_kept w v c.args.records.now c.loop-entry.entry-index _ c.loop-entry-test.true inv.accepted inv.world c.args.machine.now.kernel c.loop-entry.machine.kernel c.perform_record.new.machine.kernel inv.kept c.in_default.ensures.kept;
+      kept = next_kept w v c.args.records.now c.loop-entry.entry-index _ c.loop-entry-test.true inv.accepted inv.world c.args.machine.now.kernel c.loop-entry.machine.kernel c.finish_record.new.machine.kernel inv.kept
+          (all_kept c.loop-entry.machine.kernel c.finish_record.new.machine.kernel v x c.in_default.ensures.kept);
     }

@@ -58,6 +58,7 @@ returns-clause-begun g c =
       (s.0, t.0, string_bytes c.in_ok-text.text, refl, s.4, t.2, subst (λ x. AreLinesRead fault_line (lines x) c.in_ok-fault.fault.items) c.as_str.ensures.value c.in_ok-fault.ensures.read),
       s.5,
       s.6,
+      s.7,
     )
 
 pub returns-clause-ready : goal.returns-clause-ready

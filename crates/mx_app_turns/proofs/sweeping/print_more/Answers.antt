@@ -5,8 +5,10 @@ use Rattle.mx_machine.specs.World.{World}
 use Rattle.mx_app_turns.specs.declared.blocks.Total.{Total}
 use Rattle.mx_app_turns.specs.Sweep.{Positions, positions_of}
 use Rattle.mx_app_turns.specs.Begun.{sweep_of}
-use Rattle.mx_app_turns.specs.Sweeping.{is_alike_at, parts_shown, run_at, text_at}
-use Rattle.mx_app_turns.proofs.SweptLemmas.{part_after, shown_failed}
+use Rattle.mx_app_turns.specs.Sweeping.{is_alike_at, run_at, text_at}
+use Rattle.mx_walk.specs.Parts.{parts_shown}
+use Rattle.mx_walk.proofs.PartsShown.{next_shown}
+use Rattle.mx_app_turns.proofs.SweptLemmas.{shown_failed}
 use Rattle.std.proofs.lemmas.List.{append-nil}
 use Rattle.mx_app_turns.proofs.BlockLemmas.{begins, first_swept, goes_on, last_alike, last_blocks, last_printed}
 use Rattle.mx_app_turns.proofs.sweeping.print_more.Goals as goal
@@ -31,7 +33,7 @@ loop-position-init g c =
       swept = first_swept s c.args.range.from c.args.range.end (g.W.Write.contents c.args.out.now) _ c.from-alike.result c.args.first.is_alike c.args.machine.kernel c.requires.some
           (one c.args.range.from c.args.first.text.items (text_at s c.args.range.from) first.0) first.1 (c.from-alike.ensures ∙ as_number c.args.first.is_alike) first.2;
       boot = refl;
-      shown = part_after (c.args.range.end - c.args.range.from) 0 (c.args.range.from + 1 - c.args.range.from) 1 (g.P.Progress.shown c.args.progress.now) (g.P.Progress.shown c.args.progress.now) (g.P.Progress.shown c.show.new.self) _ (omega arith) (omega arith) refl
+      shown = next_shown (c.args.range.end - c.args.range.from) 0 (c.args.range.from + 1 - c.args.range.from) 1 (g.P.Progress.shown c.args.progress.now) (g.P.Progress.shown c.args.progress.now) (g.P.Progress.shown c.show.new.self) _ (omega arith) (omega arith) refl
           (sym (append-nil (g.P.Progress.shown c.args.progress.now))) c.show.ensures;
     }
 
@@ -56,7 +58,7 @@ loop-position-preserved g c =
     let boot = made.boot ∙ inv.boot in
     let before = g.P.Progress.shown c.args.progress.now in
     let next_part : p + 1 - from ≡ p - from + 1 = omega (arith, inv.swept.above, c.loop-position-test.true) in
-    let shown = part_after (end - from) (p - from) (p + 1 - from) (p - from + 1) before (g.P.Progress.shown c.loop-position.progress) (g.P.Progress.shown c.show-in-loop-position.new.self) _ next_part (sym next_part) refl inv.shown c.show-in-loop-position.ensures in
+    let shown = next_shown (end - from) (p - from) (p + 1 - from) (p - from + 1) before (g.P.Progress.shown c.loop-position.progress) (g.P.Progress.shown c.show-in-loop-position.new.self) _ next_part (sym next_part) refl inv.shown c.show-in-loop-position.ensures in
     elim c.if-eq.branch [
       | then-eq w ↦ rw (w.out-is, w.blocks-is, w.current-is, w.progress-is) (record {
         swept = goes_on s from end p old now current c.loop-position.blocks c.loop-position.alike more c.loop-position.machine.kernel inv.swept c.loop-position-test.true c.in_ok-next.outcome.is_alike which next _ c.in_ok-next.next.kernel
@@ -112,7 +114,7 @@ returns-in_err-print_block-clause-shown g c =
     let all = c.args.range.end - from in
     let before = g.P.Progress.shown c.args.progress.now in
     let inv = c.loop-position.invariant in
-    let shown = part_after all (p - from) (p - from + 1) (p - from + 1) before (g.P.Progress.shown c.loop-position.progress) (g.P.Progress.shown c.show-in-loop-position.new.self) _ refl refl refl inv.shown c.show-in-loop-position.ensures in
+    let shown = next_shown all (p - from) (p - from + 1) (p - from + 1) before (g.P.Progress.shown c.loop-position.progress) (g.P.Progress.shown c.show-in-loop-position.new.self) _ refl refl refl inv.shown c.show-in-loop-position.ensures in
     shown_failed before (g.P.Progress.shown c.print_block.new.progress) all (p - from + 1) _ c.from_residual-in_err-print_block.result c.from_residual-in_err-print_block.ensures.1
     (omega (arith, c.loop-position-test.true, inv.swept.above)) (c.in_err-print_block.ensures.shown ∙ shown)
 

@@ -1,10 +1,12 @@
-use Rattle.std.proofs.Common.{◌≡◌, ◌∙◌, ℕ, List, [], Option, false, inl, refl, sym}
+use Rattle.std.proofs.Common.{◌≡◌, ◌∙◌, ℕ, List, [], Option, true, false, ap, inl, refl, sym}
 use Rattle.std.proofs.lemmas.List.{append-nil}
 use Rattle.std.specs.Io.KnownBytes.{Appends}
 use Rattle.std.specs.Prelude.{option_map}
+use Rattle.mx_app_start.proofs.Appended.{appends_nothing}
+use Rattle.mx_app_step.specs.Config.{Config}
 use Rattle.mx_app_step.specs.Machine.{world_of}
-use Rattle.mx_app_turns.specs.Sweeping.{writes_over}
-use Rattle.mx_app_turns.proofs.SweptLemmas.{done, not_begun}
+use Rattle.mx_app_turns.specs.Sweeping.{saves_program, writes_over}
+use Rattle.mx_app_turns.proofs.SweptLemmas.{done, not_begun, spared}
 use Rattle.mx_app_turns.proofs.sweeping.sweep.Goals as goal
 
 pub returns-then-writes_over : goal.returns-then-writes_over
@@ -28,6 +30,25 @@ returns-in_err-begun g c =
           c.in_err-begun.field-0.0 c.from_residual.result h.2 c.from_residual.ensures.1,
     )
 
+pub returns-then-saves_program : goal.returns-then-saves_program
+returns-then-saves_program g c =
+    let names = c.args.names in
+    let save : Option (List ℕ) = option_map (λ s. s.now) names.save in
+    let wanted = c.args.wanted in
+    let apart : writes_over names.config.now names.log.now names.fault.now save ≡ false = sym c.writes_over.ensures ∙ c.if-writes_over.false in
+    let b = c.in_ok-begun.ensures.begun in
+    let begun = c.in_ok-begun.begun in
+    let named : saves_program b.1 save ≡ true = ap (λ (k : Config). saves_program k save) (sym b.7) ∙ sym c.saves_program.ensures ∙ c.if-saves_program.true in (
+      b.0,
+      [],
+      [],
+      b.3,
+      sym (append-nil _),
+      sym (append-nil _),
+      spared names.config.now names.log.now names.fault.now save wanted.from wanted.to wanted.bound b.0 (λ (text : List ℕ). Appends (g.W.Write.contents c.args.channels.now.out) (g.W.Write.contents c.args.channels.now.out) text) apart
+          b.1 b.2 begun.started.lines.items begun.fault.items b.4 named (appends_nothing _),
+    )
+
 pub returns : goal.returns
 returns g c =
     let names = c.args.names in
@@ -36,6 +57,7 @@ returns g c =
     let apart : writes_over names.config.now names.log.now names.fault.now save ≡ false = sym c.writes_over.ensures ∙ c.if-writes_over.false in
     let b = c.in_ok-begun.ensures.begun in
     let begun = c.in_ok-begun.begun in
+    let unnamed : saves_program b.1 save ≡ false = ap (λ (k : Config). saves_program k save) (sym b.7) ∙ sym c.saves_program.ensures ∙ c.if-saves_program.false in
     let d = c.sweep_begun.ensures in (
       b.0,
       d.0,
@@ -44,5 +66,5 @@ returns g c =
       d.2,
       d.3,
       done names.config.now names.log.now names.fault.now save wanted.from wanted.to wanted.bound b.0 (λ (text : List ℕ). Appends (g.W.Write.contents c.args.channels.now.out) (g.W.Write.contents c.sweep_begun.new.out) text) apart
-          b.1 b.2 begun.started.lines.items begun.fault.items b.4 d.0 d.1 (world_of begun.started.machine) begun.started.other c.sweep_begun.result b.5 b.6 d.4,
+          b.1 b.2 begun.started.lines.items begun.fault.items b.4 unnamed d.0 d.1 (world_of begun.started.machine) begun.started.other c.sweep_begun.result b.5 b.6 d.4,
     )

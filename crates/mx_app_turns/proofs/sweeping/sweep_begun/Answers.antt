@@ -7,7 +7,8 @@ use Rattle.mx_app_step.specs.Machine.{world_of}
 use Rattle.mx_machine.specs.declared.history.Record.{Record}
 use Rattle.mx_machine.specs.History.{AreAccepted, events_of_history}
 use Rattle.mx_app_turns.specs.Begun.{begun_of}
-use Rattle.mx_app_turns.specs.Sweeping.{SweepOf, parts_shown, run_at, saved_if}
+use Rattle.mx_app_turns.specs.Sweeping.{SweepOf, run_at, saved_if}
+use Rattle.mx_walk.specs.Parts.{parts_shown}
 use Rattle.mx_app_turns.proofs.ReadyLemmas.{boot_stays, same_sweep, swept}
 use Rattle.mx_app_turns.proofs.SweptLemmas.{all_printed, how_is, last_kept, last_saved, positions_are, through, unsaved, wanting}
 use Rattle.mx_app_turns.proofs.sweeping.sweep_begun.Goals as goal

@@ -16,4 +16,4 @@ returns-in_err-started-in-Some-clause-fault g c =
 pub returns-in_ok-started-in-Some-clause-begun : goal.returns-in_ok-started-in-Some-clause-begun
 returns-in_ok-started-in-Some-clause-begun g c =
     let s = c.in_ok-started-in-Some.ensures.started in
-    rw c.in-Some.is (s.0, s.1, s.2, s.3, s.4, s.5)
+    rw c.in-Some.is (s.0, s.1, s.2, s.3, s.4, s.5, s.7)

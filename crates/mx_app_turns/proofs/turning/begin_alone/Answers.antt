@@ -1,4 +1,4 @@
-use Rattle.std.proofs.Common.{◌∙◌, [], ap, arith, inl, inr, sym}
+use Rattle.std.proofs.Common.{◌∙◌, [], ap, arith, inl, inr, refl, sym}
 use Rattle.std.proofs.lemmas.Result.{err_from_is_err_and}
 use Rattle.mx_machine.specs.World.{World}
 use Rattle.mx_app_start.proofs.BootLemmas.{nothing_out, replay_booted}
@@ -39,6 +39,7 @@ returns-clause-begun g c =
       s.1,
       (s.2, c.new-3.ensures.items),
       c.new-2.ensures.world ∙ replay_booted c.in_ok-kernel.kernel c.in_ok-config.config c.in_ok-config.services.items c.in_ok-kernel.ensures.booted,
+      refl,
     )
 
 pub returns-clause-kernel : goal.returns-clause-kernel

@@ -1,12 +1,15 @@
-use Rattle.std.proofs.Common.{◌≡◌, ◌∙◌, ℕ, List, [], ◌∷◌, Option, inl, refl, sym, true, false}
+use Rattle.std.proofs.Common.{◌≡◌, ◌∙◌, ℕ, List, [], ◌∷◌, Option, ap, inl, refl, sym, true, false}
 use Rattle.std.specs.Prelude.{option_map}
 use Rattle.std.specs.Io.KnownBytes.{Appends}
 use Rattle.std.proofs.lemmas.List.{append-nil}
 use Rattle.mx_app_step.specs.Kept.{text_kept}
+use Rattle.mx_app_start.proofs.Appended.{appends_nothing}
+use Rattle.mx_app_step.specs.Programs.{names_program}
 use Rattle.mx_app_step.specs.Written.{kept}
+use Rattle.mx_machine.specs.declared.config.Config.{Config}
 use Rattle.mx_app_turns.specs.Turned.{writes_over}
 use Rattle.mx_machine.specs.History.{replay}
-use Rattle.mx_app_turns.proofs.TurnedLemmas.{not_begun, room_of, turned_at, untold, unwritten, written}
+use Rattle.mx_app_turns.proofs.TurnedLemmas.{not_begun, room_of, spared, turned_at, untold, unwritten, written}
 use Rattle.mx_app_turns.proofs.turning.turns.Goals as goal
 
 pub returns-then-writes_over : goal.returns-then-writes_over
@@ -23,6 +26,16 @@ returns-in_err-begun g c =
     let h = c.in_err-begun.ensures.fault in
     (h.0, [], h.1, sym (append-nil _), not_begun config file log ticks bound h.0 (λ (text : List ℕ). Appends (g.W.Write.contents c.args.channels.now.out) (g.W.Write.contents c.args.channels.now.out) text) apart c.in_err-begun.field-0.0 c.from_residual.result h.2 c.from_residual.ensures.1)
 
+pub returns-then-names_program : goal.returns-then-names_program
+returns-then-names_program g c =
+    let config = c.args.names.config.now in
+    let file : Option (List ℕ) = option_map (λ s. s.now) c.args.names.events in
+    let log = c.args.names.log.now in
+    let apart : writes_over config file log ≡ false = sym c.writes_over.ensures ∙ c.if-writes_over.false in
+    let s = c.in_ok-begun.ensures.begun in
+    let named : names_program s.1 log ≡ true = ap (λ (k : Config). names_program k log) (sym s.6) ∙ sym c.names_program.ensures ∙ c.if-names_program.true in
+    (s.0, [], s.3, sym (append-nil _), spared config file log c.args.wanted.ticks c.args.wanted.bound s.0 (λ (text : List ℕ). Appends (g.W.Write.contents c.args.channels.now.out) (g.W.Write.contents c.args.channels.now.out) text) apart s.1 s.2 c.in_ok-begun.begun.events.items _ s.4 (named, refl, appends_nothing _, refl))
+
 pub returns-in_err-write_history : goal.returns-in_err-write_history
 returns-in_err-write_history g c =
     let config = c.args.names.config.now in
@@ -32,6 +45,7 @@ returns-in_err-write_history g c =
     let bound = c.args.wanted.bound in
     let apart : writes_over config file log ≡ false = sym c.writes_over.ensures ∙ c.if-writes_over.false in
     let s = c.in_ok-begun.ensures.begun in
+    let other : names_program s.1 log ≡ false = ap (λ (k : Config). names_program k log) (sym s.6) ∙ sym c.names_program.ensures ∙ c.if-names_program.false in
     let m = c.in_ok-begun.begun.machine in
     let n = c.make_turns-ending.new.machine in
     let k = c.kernel-kernel.result.now in
@@ -40,7 +54,7 @@ returns-in_err-write_history g c =
     let made = turned_at s.1 s.2 c.from.result bound c.as_slice.result.now items ticks m n k ending c.from.ensures c.as_slice.ensures.value c.kernel-kernel.ensures s.5 c.in_ok-begun.ensures.kernel
     c.make_turns-ending.ensures.made c.make_turns-ending.ensures.ending c.opened.ensures.accepted c.opened.ensures.written (room_of (replay k) c.opened.ensures.sound) in
     let h = c.in_err-write_history.ensures.unwritten in
-    (s.0, h.0, s.3, h.1, unwritten config file log ticks bound s.0 (λ (text : List ℕ). Appends (g.W.Write.contents c.args.channels.now.out) (g.W.Write.contents c.args.channels.now.out) text) apart s.1 s.2 items k ending s.4 made h.0 c.in_err-write_history.field-0.0 c.from_residual-in_err-write_history.result h.2 c.from_residual-in_err-write_history.ensures.1)
+    (s.0, h.0, s.3, h.1, unwritten config file log ticks bound s.0 (λ (text : List ℕ). Appends (g.W.Write.contents c.args.channels.now.out) (g.W.Write.contents c.args.channels.now.out) text) apart s.1 s.2 items k ending s.4 other made h.0 c.in_err-write_history.field-0.0 c.from_residual-in_err-write_history.result h.2 c.from_residual-in_err-write_history.ensures.1)
 
 pub returns-in_err-print_kernel_report : goal.returns-in_err-print_kernel_report
 returns-in_err-print_kernel_report g c =
@@ -51,6 +65,7 @@ returns-in_err-print_kernel_report g c =
     let bound = c.args.wanted.bound in
     let apart : writes_over config file log ≡ false = sym c.writes_over.ensures ∙ c.if-writes_over.false in
     let s = c.in_ok-begun.ensures.begun in
+    let other : names_program s.1 log ≡ false = ap (λ (k : Config). names_program k log) (sym s.6) ∙ sym c.names_program.ensures ∙ c.if-names_program.false in
     let m = c.in_ok-begun.begun.machine in
     let n = c.make_turns-ending.new.machine in
     let k = c.kernel-kernel.result.now in
@@ -58,7 +73,7 @@ returns-in_err-print_kernel_report g c =
     let ending = c.make_turns-ending.result in
     let made = turned_at s.1 s.2 c.from.result bound c.as_slice.result.now items ticks m n k ending c.from.ensures c.as_slice.ensures.value c.kernel-kernel.ensures s.5 c.in_ok-begun.ensures.kernel
     c.make_turns-ending.ensures.made c.make_turns-ending.ensures.ending c.opened.ensures.accepted c.opened.ensures.written (room_of (replay k) c.opened.ensures.sound) in
-    (s.0, kept log (text_kept k) ∷ [], s.3, c.in_ok-write_history.ensures.written, untold config file log ticks bound s.0 (λ (text : List ℕ). Appends (g.W.Write.contents c.args.channels.now.out) (g.W.Write.contents c.print_kernel_report.new.out) text) apart s.1 s.2 items k ending s.4 made c.in_err-print_kernel_report.field-0.0 c.from_residual-in_err-print_kernel_report.result c.in_err-print_kernel_report.ensures.err c.from_residual-in_err-print_kernel_report.ensures.1)
+    (s.0, kept log (text_kept k) ∷ [], s.3, c.in_ok-write_history.ensures.written, untold config file log ticks bound s.0 (λ (text : List ℕ). Appends (g.W.Write.contents c.args.channels.now.out) (g.W.Write.contents c.print_kernel_report.new.out) text) apart s.1 s.2 items k ending s.4 other made c.in_err-print_kernel_report.field-0.0 c.from_residual-in_err-print_kernel_report.result c.in_err-print_kernel_report.ensures.err c.from_residual-in_err-print_kernel_report.ensures.1)
 
 pub returns : goal.returns
 returns g c =
@@ -69,6 +84,7 @@ returns g c =
     let bound = c.args.wanted.bound in
     let apart : writes_over config file log ≡ false = sym c.writes_over.ensures ∙ c.if-writes_over.false in
     let s = c.in_ok-begun.ensures.begun in
+    let other : names_program s.1 log ≡ false = ap (λ (k : Config). names_program k log) (sym s.6) ∙ sym c.names_program.ensures ∙ c.if-names_program.false in
     let m = c.in_ok-begun.begun.machine in
     let n = c.make_turns-ending.new.machine in
     let k = c.kernel-kernel.result.now in
@@ -76,4 +92,4 @@ returns g c =
     let ending = c.make_turns-ending.result in
     let made = turned_at s.1 s.2 c.from.result bound c.as_slice.result.now items ticks m n k ending c.from.ensures c.as_slice.ensures.value c.kernel-kernel.ensures s.5 c.in_ok-begun.ensures.kernel
     c.make_turns-ending.ensures.made c.make_turns-ending.ensures.ending c.opened.ensures.accepted c.opened.ensures.written (room_of (replay k) c.opened.ensures.sound) in
-    (s.0, kept log (text_kept k) ∷ [], s.3, c.in_ok-write_history.ensures.written, written config file log ticks bound s.0 (λ (text : List ℕ). Appends (g.W.Write.contents c.args.channels.now.out) (g.W.Write.contents c.print_kernel_report.new.out) text) apart s.1 s.2 items k ending s.4 made c.in_ok-print_kernel_report.ensures.bytes)
+    (s.0, kept log (text_kept k) ∷ [], s.3, c.in_ok-write_history.ensures.written, written config file log ticks bound s.0 (λ (text : List ℕ). Appends (g.W.Write.contents c.args.channels.now.out) (g.W.Write.contents c.print_kernel_report.new.out) text) apart s.1 s.2 items k ending s.4 other made c.in_ok-print_kernel_report.ensures.bytes)

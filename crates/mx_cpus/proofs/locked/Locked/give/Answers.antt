@@ -5,7 +5,7 @@ use Rattle.mx_machine.specs.World.{HeldProcess, held_by}
 use Rattle.mx_machine.specs.declared.events.Answer.TheVariants.{Returned}
 use Rattle.mx_machine.specs.declared.holding.Out.{Out}
 use Rattle.mx_machine.specs.declared.history.Recorded.TheVariants as recorded
-use Rattle.mx_loan_rule.specs.Rule.{lent_to}
+use Rattle.mx_loan.specs.Rule.{lent_to}
 use Rattle.mx_loan.specs.Seats.{DeskView}
 use Rattle.mx_cpus.specs.Calls.{outs_of}
 use Rattle.mx_cpus.proofs.WorldLemmas.{back_answered, back_there, lent_there}

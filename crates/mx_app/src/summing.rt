@@ -1,0 +1,308 @@
+//! Does what a command line asks for, with the sums of its machine.
+
+ghost use Rattle.std.specs.Prelude.{◌≡◌, ◌++◌, ◌∷◌, [], IfErr, IfOk, List, Option, ℕ};
+ghost use Rattle.std.specs.Io.KnownBytes.{Appends};
+ghost use Rattle.mx_app_db.specs.Asked.{Asked};
+ghost use Rattle.mx_app_db.specs.Config.{Config};
+ghost use Rattle.mx_app_db.specs.Service.{Service};
+ghost use Rattle.mx_app_db.specs.Setup.{IsSetup};
+ghost use Rattle.mx_app_db.specs.Written.{Written, kept, unkept};
+ghost use Rattle.mx_app_start.specs.declared.progress.Part.{Part as Parts};
+ghost use Rattle.mx_app_explain.specs.Sums.{machine_sums, sums_text};
+ghost use Rattle.mx_app.specs.Requests.{Performs};
+ghost use Rattle.mx_app.specs.Summing.{ComparesSums, IsCompared, IsUnsummed, PerformsCompared, PerformsLine, PerformsSummed, WritesSums, line_failure_status, names_file, writes_sums};
+
+use crate::performing::{Done, perform};
+use mx_app_command::{CommandLine, CommandRequest};
+use mx_app_db::{Channels, FileWriter, LineReader, Reader};
+use mx_app_explain::{
+    PartSum, SumsFault, first_name, first_other, machine_sums, second_name, sums_text, unread,
+    unwritten,
+};
+use mx_app_failure::Failure;
+use mx_app_start::{Progress, setup_of};
+use std::alloc::Global;
+use std::fmt;
+use std::io::Write;
+use std::sync::Wait;
+use std::thread::Threads;
+use std::time::Clock;
+
+/// Why what a command line asks for isn't done.
+#[derive(Clone, Copy, Debug, PartialEq, Eq)]
+pub enum LineFailure {
+    /// The request fails.
+    Request(Failure),
+    /// The file of sums can't be read or written, or the machine isn't the one that it is of.
+    Sums(SumsFault),
+}
+
+impl LineFailure {
+    /// The program's exit status.
+    pub fn status(self) -> u8
+        ensures { result ≡ line_failure_status self }
+    {
+        match self {
+            LineFailure::Request(failure) => failure.status(),
+            LineFailure::Sums(fault) => fault.status(),
+        }
+    }
+}
+
+/// The line that `mx` prints, without its line feed.
+impl fmt::Display for LineFailure {
+    ghost use Rattle.std.specs.Prelude.{Some};
+    ghost use Rattle.mx_app.specs.Summing.{line_failure_line};
+
+    ghost output = { λ failure. Some (line_failure_line failure) };
+
+    fn fmt<W: fmt::Write>(&self, f: &mut fmt::Formatter<W>) -> fmt::Result {
+        match self {
+            LineFailure::Request(failure) => write!(f, "{failure}"),
+            LineFailure::Sums(fault) => write!(f, "{fault}"),
+        }
+    }
+}
+
+impl From<Failure> for LineFailure {
+    ghost use Rattle.std.specs.Prelude.{◌≡◌};
+    ghost use Rattle.mx_app.specs.declared.summing.LineFailure.TheVariants as failures;
+
+    ghost from_gives = { λ failure line. line ≡ failures.Request failure };
+
+    fn from(failure: Failure) -> LineFailure {
+        LineFailure::Request(failure)
+    }
+}
+
+impl From<SumsFault> for LineFailure {
+    ghost use Rattle.std.specs.Prelude.{◌≡◌};
+    ghost use Rattle.mx_app.specs.declared.summing.LineFailure.TheVariants as failures;
+
+    ghost from_gives = { λ fault line. line ≡ failures.Sums fault };
+
+    fn from(fault: SumsFault) -> LineFailure {
+        LineFailure::Sums(fault)
+    }
+}
+
+/// Whether a word of a request on a machine names this file.
+fn names_file(request: CommandRequest<'_>, name: &str) -> bool
+    ensures { result ≡ names_file request.entry name.now }
+{
+    if first_name(request) == name || second_name(request) == name {
+        return true;
+    }
+    match request {
+        CommandRequest::Step { save, .. } => save == Some(name),
+        CommandRequest::Run { log, .. } => log == name,
+        CommandRequest::Turns { log, .. } => log == name,
+        CommandRequest::Sweep { fault, save, .. } => fault == name || save == Some(name),
+        _ => false,
+    }
+}
+
+/// Whether sums are written after a request, and not compared before it: it makes a history.
+fn writes_sums(request: CommandRequest<'_>) -> bool
+    ensures { result ≡ writes_sums request.entry }
+{
+    match request {
+        CommandRequest::Step { .. } | CommandRequest::Run { .. } | CommandRequest::Turns { .. } => {
+            true
+        }
+        _ => false,
+    }
+}
+
+/// The sums of the machine of a configuration's file.
+fn sums_named<R: Reader>(
+    alloc: Global,
+    reader: &mut R,
+    config: &str,
+) -> Result<Vec<PartSum>, Failure>
+    ensures summed { IfOk result (λ sums. (qs : List Asked) × (c : Config) × (vs : List Service)
+        × (R.asked reader.new ≡ R.asked reader.old ++ qs)
+        × IsSetup config.now qs c vs × (sums.items ≡ machine_sums c vs)) }
+    ensures fault { IfErr result (λ f. (qs : List Asked)
+        × (R.asked reader.new ≡ R.asked reader.old ++ qs) × IsUnsummed config.now qs f) }
+{
+    let (config, services) = setup_of(alloc, reader, config)?;
+    let sums = machine_sums(alloc, &config, services.as_slice())?;
+    Ok(sums)
+}
+
+/// The text of the sums of the machine of a configuration's file.
+fn sums_text_named<R: Reader>(
+    alloc: Global,
+    reader: &mut R,
+    config: &str,
+) -> Result<Vec<u8>, Failure>
+    ensures summed { IfOk result (λ text. (qs : List Asked) × (c : Config) × (vs : List Service)
+        × (R.asked reader.new ≡ R.asked reader.old ++ qs)
+        × IsSetup config.now qs c vs × (text.items ≡ sums_text (machine_sums c vs))) }
+    ensures fault { IfErr result (λ f. (qs : List Asked)
+        × (R.asked reader.new ≡ R.asked reader.old ++ qs) × IsUnsummed config.now qs f) }
+{
+    let sums = sums_named(alloc, reader, config)?;
+    let text = sums_text(alloc, sums.as_slice())?;
+    Ok(text)
+}
+
+/// Compares a machine's sums with those of a file.
+fn compare_sums<R: Reader>(
+    alloc: Global,
+    reader: &mut R,
+    name: &str,
+    sums: &[PartSum],
+) -> Result<(), SumsFault>
+    ensures { (q : Asked) × (R.asked reader.new ≡ R.asked reader.old ++ q ∷ [])
+        × ComparesSums name.now sums.now q result }
+{
+    let text = match reader.read(alloc, name) {
+        Ok(text) => text,
+        Err(error) => return Err(unread(&error)),
+    };
+    match first_other(alloc, sums, text.as_slice()) {
+        Ok(None) => Ok(()),
+        Ok(Some(part)) => Err(SumsFault::OtherMachine(part)),
+        Err(_) => Err(SumsFault::NoMemory),
+    }
+}
+
+/// Compares the sums of the machine of a configuration's file with those of another file.
+fn compare_named<R: Reader>(
+    alloc: Global,
+    reader: &mut R,
+    config: &str,
+    name: &str,
+) -> Result<(), LineFailure>
+    ensures { (qs : List Asked) × (R.asked reader.new ≡ R.asked reader.old ++ qs)
+        × IsCompared config.now name.now qs result }
+{
+    let sums = sums_named(alloc, reader, config)?;
+    compare_sums(alloc, reader, name, sums.as_slice())?;
+    Ok(())
+}
+
+/// Writes the text of a machine's sums, after a request that is done.
+fn write_sums<F: FileWriter>(
+    alloc: Global,
+    files: &mut F,
+    name: &str,
+    text: &[u8],
+) -> Result<(), SumsFault>
+    ensures { (w : Written) × (F.written files.new ≡ F.written files.old ++ w ∷ [])
+        × WritesSums name.now text.now w result }
+{
+    match files.write(alloc, name, text) {
+        Ok(()) => Ok(()),
+        Err(error) => Err(unwritten(&error)),
+    }
+}
+
+/// Does what a request asks for if its machine has the sums of a file.
+fn perform_compared<
+    T: Threads + Wait + Clock + Sync,
+    R: Reader + Drop,
+    F: FileWriter + Drop,
+    W: Write + Drop,
+    L: LineReader,
+    P: Progress,
+>(
+    rt: &T,
+    alloc: Global,
+    channels: &mut Channels<R, F, W>,
+    lines: &mut L,
+    progress: &mut P,
+    asks: bool,
+    request: CommandRequest<'_>,
+    name: &str,
+) -> Result<Done, LineFailure>
+    ensures { (qs : List Asked) × (ws : List Written) × (typed : List (Option (List ℕ))) × (ps : List Parts)
+        × (R.asked channels.new.reader ≡ R.asked channels.old.reader ++ qs)
+        × (F.written channels.new.files ≡ F.written channels.old.files ++ ws)
+        × (L.given lines.new ≡ L.given lines.old ++ typed)
+        × (P.shown progress.new ≡ P.shown progress.old ++ ps)
+        × PerformsCompared request.entry name.now asks qs ws typed ps
+        (λ text. Appends (W.contents channels.old.out) (W.contents channels.new.out) text) result }
+{
+    compare_named(alloc, &mut channels.reader, first_name(request), name)?;
+    let done = perform(rt, alloc, channels, lines, progress, asks, request)?;
+    Ok(done)
+}
+
+/// Does what a request asks for, and writes the sums of its machine to a file if it is done.
+fn perform_summed<
+    T: Threads + Wait + Clock + Sync,
+    R: Reader + Drop,
+    F: FileWriter + Drop,
+    W: Write + Drop,
+    L: LineReader,
+    P: Progress,
+>(
+    rt: &T,
+    alloc: Global,
+    channels: &mut Channels<R, F, W>,
+    lines: &mut L,
+    progress: &mut P,
+    asks: bool,
+    request: CommandRequest<'_>,
+    name: &str,
+) -> Result<Done, LineFailure>
+    ensures { (qs : List Asked) × (ws : List Written) × (typed : List (Option (List ℕ))) × (ps : List Parts)
+        × (R.asked channels.new.reader ≡ R.asked channels.old.reader ++ qs)
+        × (F.written channels.new.files ≡ F.written channels.old.files ++ ws)
+        × (L.given lines.new ≡ L.given lines.old ++ typed)
+        × (P.shown progress.new ≡ P.shown progress.old ++ ps)
+        × PerformsSummed request.entry name.now asks qs ws typed ps
+        (λ text. Appends (W.contents channels.old.out) (W.contents channels.new.out) text) result }
+{
+    let text = sums_text_named(alloc, &mut channels.reader, first_name(request))?;
+    let done = perform(rt, alloc, channels, lines, progress, asks, request)?;
+    write_sums(alloc, &mut channels.files, name, text.as_slice())?;
+    Ok(done)
+}
+
+/// Does what a command line asks for. With a file of sums, a request that makes a history has the machine's sums
+/// written to it in the end, and one that reads a history isn't begun for a machine with others.
+pub fn perform_line<
+    T: Threads + Wait + Clock + Sync,
+    R: Reader + Drop,
+    F: FileWriter + Drop,
+    W: Write + Drop,
+    L: LineReader,
+    P: Progress,
+>(
+    rt: &T,
+    alloc: Global,
+    channels: &mut Channels<R, F, W>,
+    lines: &mut L,
+    progress: &mut P,
+    asks: bool,
+    line: CommandLine<'_>,
+) -> Result<Done, LineFailure>
+    ensures { (qs : List Asked) × (ws : List Written) × (typed : List (Option (List ℕ))) × (ps : List Parts)
+        × (R.asked channels.new.reader ≡ R.asked channels.old.reader ++ qs)
+        × (F.written channels.new.files ≡ F.written channels.old.files ++ ws)
+        × (L.given lines.new ≡ L.given lines.old ++ typed)
+        × (P.shown progress.new ≡ P.shown progress.old ++ ps)
+        × PerformsLine line.entry asks qs ws typed ps
+        (λ text. Appends (W.contents channels.old.out) (W.contents channels.new.out) text) result }
+{
+    let request = line.request;
+    match line.sums {
+        None => {
+            let done = perform(rt, alloc, channels, lines, progress, asks, request)?;
+            Ok(done)
+        }
+        Some(name) => {
+            if names_file(request, name) {
+                Err(LineFailure::Sums(SumsFault::NameTaken))
+            } else if writes_sums(request) {
+                perform_summed(rt, alloc, channels, lines, progress, asks, request, name)
+            } else {
+                perform_compared(rt, alloc, channels, lines, progress, asks, request, name)
+            }
+        }
+    }
+}

@@ -1,7 +1,0 @@
-use Rattle.std.proofs.Common.{sym, subst}
-use Rattle.mx_entries.specs.declared.code_cache.CodeCache.{CodeCache}
-use Rattle.mx_entries.specs.Validated.{IsCacheOf}
-use Rattle.mx_load.proofs.loading.text_room.Goals as goal
-
-pub returns-in-Ok-clause-cached : goal.returns-in-Ok-clause-cached
-returns-in-Ok-clause-cached c = λ code. subst (λ (cache : CodeCache). IsCacheOf code cache) (sym c.in-Ok.ensures.ok) (c.in_ok-new.ensures code)
