@@ -1,5 +1,5 @@
 -- From loops to a run, and from its text to its replay.
-use Rattle.std.proofs.Common.{◌≡◌, ◌∙◌, ◌+◌, ◌<◌, ◌≤◌, ℕ, zero, suc, Bool, true, false, List, [], ◌∷◌, ◌++◌, length, take, get_or, Option, Some, None, Result, Ok, Err, All, refl, sym, ap, subst, arith, inl, inr, append_assoc}
+use Rattle.std.proofs.Common.{◌≡◌, ◌∙◌, ◌+◌, ◌<◌, ◌≤◌, ℕ, suc, false, List, [], ◌∷◌, ◌++◌, length, take, get_or, Option, Some, None, Result, Ok, Err, All, refl, sym, ap, subst, arith, inl, inr, append_assoc}
 use Rattle.std.specs.Prelude.{IsErrAnd}
 use Rattle.std.specs.Io.KnownBytes.{Appends}
 use Rattle.std.proofs.lemmas.List.{length-replicate, take_more}
@@ -19,7 +19,7 @@ use Rattle.mx_cpus.specs.Boots.{all_seats}
 use Rattle.mx_app_step.specs.Asked.{Asked}
 use Rattle.mx_app_step.specs.ServiceLine.{ServiceLine}
 use Rattle.mx_app_step.specs.Programs.{SparesProgram, names_program}
-use Rattle.mx_app_step.specs.Setup.{AreServicesRead, IsNoTextGiven, IsSetup, IsTextGiven}
+use Rattle.mx_app_step.specs.Setup.{AreServicesRead, IsSetup, IsTextGiven}
 use Rattle.mx_app_failure.specs.declared.failure.Failure.{Failure as Kind}
 use Rattle.mx_app_failure.specs.declared.failure.Failure.TheVariants.{NoMemory}
 use Rattle.mx_app_failure.specs.Failure.{IsWanting, failure_of_lines}
@@ -34,8 +34,7 @@ use Rattle.mx_app_step.specs.declared.records.Replayed.TheVariants as replayed
 use Rattle.mx_turns.specs.declared.turns.Ending.{Ending}
 use Rattle.mx_app_turns.specs.Turned.{writes_over}
 use Rattle.mx_cpus.specs.declared.outside.OutsideCall.{OutsideCall}
-use Rattle.mx_cpus.specs.declared.outside.OutsideCall.TheVariants as calls
-use Rattle.mx_app_run.specs.Calls.{AreCallsGiven, IsCallsFault, call_line, ticks_of}
+use Rattle.mx_app_run.specs.Calls.{AreCallsGiven, IsCallsFault, call_line, tick_of, ticks_of}
 use Rattle.mx_text.specs.Lines.{lines}
 use Rattle.mx_text.specs.declared.error.BootError.{BootError}
 use Rattle.mx_boot.specs.Reading.{AreLinesRead, TellsUnread}
@@ -191,21 +190,12 @@ printed_whole c vs ticks xs k records replayed.Refused before after run same h =
 
 -- ---- ticks among calls
 
--- 1 for a tick
-abbrev pub one_tick : OutsideCall → ℕ
-one_tick calls.Tick = 1
-one_tick _ = 0
-
-ticks_push : (xs : List OutsideCall) (x : OutsideCall) → ticks_of (xs ++ x ∷ []) ≡ ticks_of xs + one_tick x
-ticks_push [] calls.Tick = refl
-ticks_push [] (calls.Line l) = refl
-ticks_push [] (calls.Kill e) = refl
-ticks_push [] (calls.Wait n) = refl
-ticks_push (calls.Tick ∷ xs) x = let rest = ticks_push xs x in omega (arith, rest)
-ticks_push (calls.Line l ∷ xs) x = ticks_push xs x
-ticks_push (calls.Kill e ∷ xs) x = ticks_push xs x
-ticks_push (calls.Wait n ∷ xs) x = ticks_push xs x
+ticks_push : (xs : List OutsideCall) (x : OutsideCall) → ticks_of (xs ++ x ∷ []) ≡ ticks_of xs + tick_of x
+ticks_push [] x = omega arith
+ticks_push (y ∷ xs) x = let rest = ticks_push xs x in omega (arith, rest)
 
 -- one call more
-pub ticks_more : (xs : List OutsideCall) (k : ℕ) (x : OutsideCall) → k < length xs → ticks_of (take (k + 1) xs) ≡ ticks_of (take k xs) + one_tick (get_or xs k x)
-ticks_more xs k x below = ap ticks_of (take_more xs k x below) ∙ ticks_push (take k xs) (get_or xs k x)
+pub ticks_more : (xs : List OutsideCall) (k : ℕ) (d : OutsideCall) (n m : ℕ) → k < length xs → n ≡ ticks_of (take k xs) → m ≡ tick_of (get_or xs k d) → n + m ≡ ticks_of (take (k + 1) xs)
+ticks_more xs k d n m below before now =
+    let both = ap ticks_of (take_more xs k d below) ∙ ticks_push (take k xs) (get_or xs k d) in
+    omega (arith, both, before, now)

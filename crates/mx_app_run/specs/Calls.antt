@@ -1,5 +1,5 @@
 -- The lines of a run's file of outside events (our own).
-use Rattle.std.specs.Prelude.{◌⊎◌, ℕ, suc, nat_lt, if◌then◌else◌, List, [], ◌∷◌, Option, Some, None, codes}
+use Rattle.std.specs.Prelude.{◌⊎◌, ◌+◌, ℕ, nat_lt, if◌then◌else◌, List, [], ◌∷◌, Option, Some, None, codes}
 use Rattle.std.specs.Str.{bytes_eq}
 use Rattle.mx_text.specs.Fields.{fields, ◌>>=◌}
 use Rattle.mx_text.specs.Lines.{lines}
@@ -44,8 +44,12 @@ AreCallsGiven name q others xs = (text : List ℕ) × IsTextGiven name q text ×
 abbrev pub IsCallsFault : List ℕ → Asked → ℕ → Kind → Type 0
 IsCallsFault name q others f = IsNoTextGiven name q f ⊎ IsTextFaulty (λ text e. TellsUnread (call_line others) (lines text) e) name q f
 
+-- 1 for a tick, and 0 for another call
+abbrev pub tick_of : OutsideCall → ℕ
+tick_of Tick = 1
+tick_of _ = 0
+
 -- how many of some calls are ticks
 abbrev pub ticks_of : List OutsideCall → ℕ
 ticks_of [] = 0
-ticks_of (Tick ∷ xs) = suc (ticks_of xs)
-ticks_of (_ ∷ xs) = ticks_of xs
+ticks_of (x ∷ xs) = tick_of x + ticks_of xs

@@ -1,10 +1,10 @@
 //! Files of a run's outside events.
 
-ghost use Rattle.std.specs.Prelude.{◌≡◌, ◌∷◌, ◌++◌, [], IfErr, IfOk};
+ghost use Rattle.std.specs.Prelude.{◌≡◌, ◌≤◌, IfErr, IfOk};
 ghost use Rattle.mx_text.specs.Fields.{fields};
 ghost use Rattle.mx_text.specs.Lines.{lines};
 ghost use Rattle.mx_boot.specs.Reading.{AreLinesRead, TellsUnread};
-ghost use Rattle.mx_app_run.specs.Calls.{call_line, call_of_event, call_of_fields, ticks_of};
+ghost use Rattle.mx_app_run.specs.Calls.{call_line, call_of_event, call_of_fields, tick_of, ticks_of};
 
 use mx_app_step::BootError;
 use mx_app_turns::outside_event_of;
@@ -73,15 +73,24 @@ pub fn outside_calls(alloc: Global, text: &str, others: u8) -> Result<Vec<Outsid
     read_lines(alloc, &CallReader { others }, text.as_bytes())
 }
 
+/// 1 for a tick, and 0 for another call.
+fn tick_of(call: OutsideCall) -> usize
+    ensures value { result ≡ tick_of call }
+    ensures few { result ≤ 1 }
+{
+    match call {
+        OutsideCall::Tick => 1,
+        _ => 0,
+    }
+}
+
 /// How many of some calls are ticks.
 pub(crate) fn ticks_of(calls: &[OutsideCall]) -> usize
     ensures { result ≡ ticks_of calls.now }
 {
     let mut ticks = 0;
     for call in calls {
-        if let OutsideCall::Tick = *call {
-            ticks += 1;
-        }
+        ticks += tick_of(*call);
     }
     ticks
 }

@@ -189,11 +189,12 @@ pub fn run<
     if writes_over(names.config, names.events, names.log) {
         return Err(Failure::File);
     }
+    let begun = begin(alloc, &mut channels.reader, names.config, names.events)?;
     let Begun {
         config,
         services,
         calls,
-    } = begin(alloc, &mut channels.reader, names.config, names.events)?;
+    } = begun;
     if names_program(&config, names.log) {
         return Err(Failure::File);
     }
