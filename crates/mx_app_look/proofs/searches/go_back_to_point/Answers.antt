@@ -38,8 +38,8 @@ go_and_compare-requires-clause-early c =
     let found : IsLastMarked (is_looked_for s) k.boot k.records j.here k.here = subst (λ (f : Marks). IsLastMarked f k.boot k.records j.here k.here) same (c.in_ok-walker.ensures.found c.if-not-found.false) in
     let below : event_below j.records p ≡ Some (c.in-Some.next.actor, c.in-Some.next.event) = ap (λ (rs : List Record). event_below rs p) (sym c.records.ensures) ∙ c.in-Some.ensures.0 in
     let position = subst (λ (q : Position). IsPosition j.records q) c.here-halt.ensures.here c.here-halt.ensures.position in
-    let l = subst (λ (w : Walk). IsPosition w.records w.here) c.walker.view_is c.walker.invariant.there.position in
-    let early = subst (λ (w : Walk). IsUpTo w.here w.last) c.walker.view_is c.walker.invariant.early in
+    let l = subst (λ (w : Walk). IsPosition w.records w.here) c.walker.view_is c.walker.invariant.0.there.position in
+    let early = subst (λ (w : Walk). IsUpTo w.here w.last) c.walker.view_is c.walker.invariant.0.early in
     next_is_early k s j c.in_ok-walker.ensures.same position l found (c.in-Some.next.actor, c.in-Some.next.event) c.in-Some.next.position early
     (subst (λ (q : Position). event_below j.records q ≡ Some (c.in-Some.next.actor, c.in-Some.next.event)) c.here-halt.ensures.here below)
     (c.in-Some.ensures.1 ∙ ap (λ (rs : List Record). next_position rs p) c.records.ensures ∙ ap (λ (q : Position). next_position j.records q) c.here-halt.ensures.here)
@@ -54,7 +54,7 @@ unreachable-requires c =
     let same = both_are s m.one.marks.items m.other.marks.items c.in_ok-mark.ensures.bytes c.in_ok-mark.ensures.breaks in
     let found : IsLastMarked (is_looked_for s) k.boot k.records j.here k.here = subst (λ (f : Marks). IsLastMarked f k.boot k.records j.here k.here) same (c.in_ok-walker.ensures.found c.if-not-found.false) in
     let none : event_below j.records p ≡ None = ap (λ (rs : List Record). event_below rs p) (sym c.records.ensures) ∙ c.in-None.ensures in
-    let l = subst (λ (w : Walk). IsPosition w.records w.here) c.walker.view_is c.walker.invariant.there.position in
+    let l = subst (λ (w : Walk). IsPosition w.records w.here) c.walker.view_is c.walker.invariant.0.there.position in
     let position = subst (λ (q : Position). IsPosition j.records q) c.here-halt.ensures.here c.here-halt.ensures.position in
     some_below k s j c.in_ok-walker.ensures.same position l found (subst (λ (q : Position). event_below j.records q ≡ None) c.here-halt.ensures.here none)
 

@@ -46,7 +46,8 @@ returns-in_err-begin-clause-fault g c =
     let boot : k.boot ≡ world_at_boot s.1 s.2 = made.0 ∙ ap (λ (x : BootAndHistory). x.boot) c.in_ok-machine.ensures.kernel ∙ s.5 in
     let begun = is_begun (world_at_boot s.1 s.2) records k boot made.1 made.2 c.in_ok-walker.ensures.last in
     let shown = c.clear.ensures ∙ c.in_ok-walker.ensures.shown in
-    let wanting : IfErr c.from_residual-in_err-begin.result IsWanting = search rules in
+    let p = err_from_is_err_and c.from_residual-in_err-begin.result c.from_residual-in_err-begin.ensures.1 in
+    let wanting : IfErr c.from_residual-in_err-begin.result IsWanting = subst (λ r. IfErr r IsWanting) (sym p.1) (subst IsWanting (sym p.2) c.in_err-begin.ensures.err) in
     IfErr-weaker c.from_residual-in_err-begin.result IsWanting _
     (λ f e. (s.0, [], walk_shown k.records k.last, s.3, sym (append-nil (g.L.LineReader.given c.args.lines.now)), shown, inr (s.1, s.2, records, k.last, s.4, begun.last, ap (λ (rs : List Record). walk_shown rs k.last) made.1, e))) wanting
 
