@@ -6,10 +6,11 @@ use Rattle.clap.specs.declared.error.kind.ErrorKind.TheVariants as words
 use Rattle.mx_app_failure.specs.declared.failure.Failure.TheVariants.{NoMemory}
 use Rattle.mx_app.specs.Words.{ExplainsKind, IsHelp}
 use Rattle.mx_app.specs.declared.complaint.Complaint.{Complaint}
+use Rattle.mx_app.specs.declared.summing.LineFailure.TheVariants.{Request}
 use Rattle.mx_app.specs.declared.performing.Done.{Done}
 use Rattle.mx_app.specs.declared.complaint.Complaint.TheVariants.{Mistaken, Failed}
 
-pub wanting : (k : ErrorKind) (e : Error) → k ≡ words.OutOfMemory → ExplainsKind k e (Err (Failed NoMemory))
+pub wanting : (k : ErrorKind) (e : Error) → k ≡ words.OutOfMemory → ExplainsKind k e (Err (Failed (Request NoMemory)))
 wanting words.OutOfMemory e h = refl
 wanting k e h = cc
 

@@ -4,7 +4,7 @@ use Rattle.std.specs.Prelude.{ℕ}
 use Rattle.std.specs.Io.KnownBytes.{Appends}
 use Rattle.std.proofs.lemmas.List.{append-nil}
 use Rattle.mx_app_start.proofs.SetupLemmas.{asked_on}
-use Rattle.mx_app_start.specs.declared.progress.Part.{Part}
+use Rattle.mx_walk.specs.declared.progress.Part.{Part}
 use Rattle.mx_app_command.specs.declared.words.CommandRequest.{CommandRequest}
 use Rattle.mx_app_explain.specs.Explaining.{first_name}
 use Rattle.mx_app_failure.specs.declared.failure.Failure.{Failure as Kind}
@@ -22,7 +22,8 @@ use Rattle.mx_app.specs.Summing.{ComparesSums, IsCompared, IsUnsummed, PerformsB
 use Rattle.mx_app.specs.declared.performing.Done.{Done}
 use Rattle.mx_app.specs.declared.summing.LineFailure.{LineFailure}
 use Rattle.mx_app.specs.declared.summing.LineFailure.TheVariants.{Request, Sums}
-use Rattle.mx_app.proofs.Doing.{DoesTyped, appends_nothing}
+use Rattle.mx_app_start.proofs.Appended.{appends_nothing}
+use Rattle.mx_app.proofs.Doing.{DoesTyped}
 
 -- files that were written in two steps
 written_on : (a b c ws xs : List Written) → b ≡ a ++ ws → c ≡ b ++ xs → c ≡ a ++ (ws ++ xs)

@@ -14,7 +14,7 @@ use Rattle.mx_app_db.specs.Written.{Written, kept, unkept}
 use Rattle.mx_app_db.specs.Config.{Config}
 use Rattle.mx_app_db.specs.Service.{Service}
 use Rattle.mx_app_db.specs.Setup.{IsSetup, IsSetupFault}
-use Rattle.mx_app_start.specs.declared.progress.Part.{Part}
+use Rattle.mx_walk.specs.declared.progress.Part.{Part}
 use Rattle.mx_app_explain.specs.SumsFaults.{fault_line, fault_status, unread_of, unwritten_of}
 use Rattle.mx_app_explain.specs.Sums.{first_other, machine_sums, sums_text}
 use Rattle.mx_app_explain.specs.declared.sums_fault.SumsFault.{SumsFault}

@@ -7,7 +7,7 @@ ghost use Rattle.mx_app_db.specs.Config.{Config};
 ghost use Rattle.mx_app_db.specs.Service.{Service};
 ghost use Rattle.mx_app_db.specs.Setup.{IsSetup};
 ghost use Rattle.mx_app_db.specs.Written.{Written, kept, unkept};
-ghost use Rattle.mx_app_start.specs.declared.progress.Part.{Part as Parts};
+ghost use Rattle.mx_walk.specs.declared.progress.Part.{Part as Parts};
 ghost use Rattle.mx_app_explain.specs.Sums.{machine_sums, sums_text};
 ghost use Rattle.mx_app.specs.Requests.{Performs};
 ghost use Rattle.mx_app.specs.Summing.{ComparesSums, IsCompared, IsUnsummed, PerformsCompared, PerformsLine, PerformsSummed, WritesSums, line_failure_status, names_file, writes_sums};
@@ -16,8 +16,8 @@ use crate::performing::{Done, perform};
 use mx_app_command::{CommandLine, CommandRequest};
 use mx_app_db::{Channels, FileWriter, LineReader, Reader};
 use mx_app_explain::{
-    PartSum, SumsFault, first_name, first_other, machine_sums, second_name, sums_text, unread,
-    unwritten,
+    PartSum, SumsFault, first_name, first_other, machine_sums, passed_sums_are_own, second_name,
+    sums_text, unread, unwritten,
 };
 use mx_app_failure::Failure;
 use mx_app_start::{Progress, setup_of};
@@ -158,6 +158,7 @@ fn compare_sums<R: Reader>(
     ensures { (q : Asked) × (R.asked reader.new ≡ R.asked reader.old ++ q ∷ [])
         × ComparesSums name.now sums.now q result }
 {
+    passed_sums_are_own();
     let text = match reader.read(alloc, name) {
         Ok(text) => text,
         Err(error) => return Err(unread(&error)),
