@@ -743,6 +743,10 @@ static FAILED: &[Failed] = &[
         status: 2,
         told: "",
     },
+];
+
+/// Files that are missed, that are no text, that would be written over, or whose sums are others.
+static UNFIT: &[Failed] = &[
     Failed {
         name: "one: no such file",
         words: &["mx", "one", "nothing", "9"],
@@ -1278,6 +1282,15 @@ fn commands_done(rt: HostRuntime) -> Result<(), Fail> {
 #[test]
 fn commands_failed(rt: HostRuntime) -> Result<(), Fail> {
     for row in FAILED {
+        let name = row.name;
+        assert!(rt; is_told(&rt, rt.alloc(), None, row), "{name}");
+    }
+    Ok(())
+}
+
+#[test]
+fn unfit_files_refused(rt: HostRuntime) -> Result<(), Fail> {
+    for row in UNFIT {
         let name = row.name;
         assert!(rt; is_told(&rt, rt.alloc(), None, row), "{name}");
     }
