@@ -42,6 +42,7 @@ use Rattle.mx_walk.specs.Parts.{walk_shown}
 use Rattle.mx_walk.specs.Walks.{Walk}
 use Rattle.mx_app_db.specs.DebugLines.{DebuggedWorld, debug_lines_made}
 use Rattle.mx_app_db.specs.Told.{debug_lines_text}
+use Rattle.mx_app.specs.Deeds.{Deeds}
 use Rattle.mx_app.specs.Explained.{ExplainsConfig}
 use Rattle.mx_app.specs.Named.{Assembles, ShowsFile}
 use Rattle.mx_app.specs.declared.performing.Done.{Done}
@@ -182,12 +183,13 @@ PerformsUntyped (Look config log) qs ws Prints r = ⊥
 PerformsUntyped (Db config script) qs ws Prints r =
     (d : Result (Unit {0}) Kind) × (ws ≡ []) × Debugs config.now script.now qs Prints d × (r ≡ done_after_work d)
 
--- WHAT IS DONE OF A REQUEST, by the files that were asked for and written, the lines that were typed, the progress that
--- was shown, what is printed, and how it ends. Only a session takes lines; it and a sweep show progress
-abbrev pub Performs : CommandRequest → Bool → List Asked → List Written → List (Option (List ℕ)) → List Part → (List ℕ → Type 0) → Result Done Kind → Type 0
-Performs (Look config log) asks qs ws typed ps Prints r =
-    (d : Result (Unit {0}) Kind) × (ws ≡ []) × Looks config.now log.now asks qs typed ps Prints d × (r ≡ done_after_work d)
-Performs (Sweep config log fault bound from to strict save) asks qs ws typed ps Prints r =
-    (typed ≡ []) × (d : Result Swept Kind) × Sweeps config.now log.now fault.now (option_map (λ s. s.now) save) from to bound qs ws ps Prints d
+-- WHAT IS DONE OF A REQUEST, by what a command did, by what is printed, and by how it ends. Only a session takes lines;
+-- it and a sweep show progress
+abbrev pub Performs : CommandRequest → Bool → Deeds → (List ℕ → Type 0) → Result Done Kind → Type 0
+Performs (Look config log) asks did Prints r =
+    (d : Result (Unit {0}) Kind) × (did.written ≡ []) × Looks config.now log.now asks did.asked did.typed did.shown Prints d × (r ≡ done_after_work d)
+Performs (Sweep config log fault bound from to strict save) asks did Prints r =
+    (did.typed ≡ []) × (d : Result Swept Kind)
+    × Sweeps config.now log.now fault.now (option_map (λ s. s.now) save) from to bound did.asked did.written did.shown Prints d
     × (r ≡ done_after_sweep strict d)
-Performs request asks qs ws typed ps Prints r = (typed ≡ []) × (ps ≡ []) × PerformsUntyped request qs ws Prints r
+Performs request asks did Prints r = (did.typed ≡ []) × (did.shown ≡ []) × PerformsUntyped request did.asked did.written Prints r

@@ -2,6 +2,7 @@
 #![tactic(auto)]
 
 mod asking;
+mod command_io;
 mod complaint;
 mod ending;
 mod explain;
@@ -13,6 +14,7 @@ mod summing;
 mod words;
 
 pub use asking::texts_asked;
+pub use command_io::CommandIo;
 pub use complaint::Complaint;
 pub use ending::{NotingOutput, PrintedText, Terminals};
 pub use explain::explain_named;
@@ -28,7 +30,7 @@ pub use mx_app_program::{assemble_file, one, print_listing, print_names, print_o
 pub use mx_app_run::run;
 pub use mx_app_start::{NoProgress, Progress};
 pub use mx_app_turns::{Ending, sweep, turns};
-pub use named::{as_named, dis_named, nm_named, one_named, step_apart};
+pub use named::{SavedScript, as_named, dis_named, nm_named, one_named, step_apart};
 pub use noting::{NotingFiles, NotingReader};
 pub use performing::{Done, perform};
 pub use program::run_program;
