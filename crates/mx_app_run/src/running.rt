@@ -223,9 +223,8 @@ pub fn run<
         alloc,
         progress: &*progress,
     };
-    let done = run_machine(&place, &config, services, outside);
+    let kernel = run_machine(&place, &config, services, outside)?;
     progress.clear();
-    let kernel = done?;
     let ending = ending_of(&kernel, config.log, outside);
     // If memory runs out for the report, the history is written already.
     write_history(alloc, &kernel, &mut channels.files, wanted.log)?;

@@ -1,5 +1,5 @@
 -- What is shown of turns in a row.
-use Rattle.std.proofs.Common.{◌≡◌, ◌∙◌, ℕ, zero, suc, ◌+◌, ◌-◌, ◌<◌, ◌≤◌, ◌++◌, ◌&&◌, Bool, true, false, List, [], ◌∷◌, cond, drop, length, map, Option, None, is_none, slice_get, refl, ap, sym, subst, arith, append_assoc}
+use Rattle.std.proofs.Common.{◌≡◌, ◌∙◌, ℕ, zero, suc, ◌+◌, ◌-◌, ◌<◌, ◌≤◌, ◌++◌, ◌&&◌, Bool, true, false, List, [], ◌∷◌, cond, drop, length, map, Option, Some, None, is_none, slice_get, refl, ap, sym, subst, arith, append_assoc}
 use Rattle.std.specs.Prelude.{filter}
 use Rattle.std.specs.List.{range_with_len}
 use Rattle.std.proofs.lemmas.List.{append-nil, map-append}
@@ -118,7 +118,7 @@ module _ (log : ℕ) (m : MachineState) (coming : List Event) (made : ℕ) (n : 
   pub turn_shown : (p : MachineState) (full : Bool) (before now then : List Part) (x : Part) → (is_none (slice_get coming made) && at_rest (world_of n)) ≡ false → HasOffered n (turn (world_of n) (slice_get coming made)) full p
       → now ≡ before ++ turns_shown log made (world_of m) coming → x ≡ part_of log (world_of p) → then ≡ now ++ x ∷ [] → then ≡ before ++ turns_shown log (made + 1) (world_of m) coming
   turn_shown p full before now then x over h shown is more =
-      let next = going_on m coming made n p full s over h in
+      let next = going_on m coming made n s p full over h in
       let part : x ≡ part_after log (world_of m) coming made = is ∙ ap (part_of log) next.1 in
       more ∙ ap (λ (l : List Part). l ++ x ∷ []) shown ∙ append_assoc before (turns_shown log made (world_of m) coming) (x ∷ [])
       ∙ ap (λ (y : Part). before ++ (turns_shown log made (world_of m) coming ++ y ∷ [])) part
@@ -134,4 +134,4 @@ module _ (log : ℕ) (m : MachineState) (coming : List Event) (made : ℕ) (n : 
       → now ≡ before ++ turns_shown log (made + 1) (world_of m) coming → now ≡ before ++ turns_shown log bound (world_of m) coming
   full_shown bound p before now lt over h shown =
       let le : made + 1 ≤ bound = omega (arith, lt) in
-      shown ∙ ap (λ (l : List Part). before ++ l) (sym (shown_all log (world_of m) coming (made + 1) bound le (λ k above. ap goes_on (ended_full m coming made n p s over h k above))))
+      shown ∙ ap (λ (l : List Part). before ++ l) (sym (shown_all log (world_of m) coming (made + 1) bound le (λ k above. ap goes_on (ended_full m coming made n s p over h k above))))

@@ -93,9 +93,9 @@ pub fn make_turns<P: Progress>(
         if is_over(machine, next) {
             return Ending::Rest;
         }
-        let is_full = make_turn(machine, next);
+        let is_filled = make_turn(machine, next);
         progress.show(part_of(machine, log));
-        if is_full {
+        if is_filled {
             return Ending::Full;
         }
     }

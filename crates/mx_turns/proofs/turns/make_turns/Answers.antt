@@ -53,37 +53,37 @@ returns-then-is_over-clause-shown g c =
     let le : made ≤ c.args.bound = omega (arith, c.loop-made-test.true) in
     over_shown c.args.log c.args.machine.now coming made n inv.stands c.args.bound (g.P.Progress.shown c.args.progress.now) (g.P.Progress.shown c.loop-made.progress) le over inv.shown
 
-pub returns-then-is_full-clause-made : goal.returns-then-is_full-clause-made
-returns-then-is_full-clause-made g c =
+pub returns-then-is_filled-clause-made : goal.returns-then-is_filled-clause-made
+returns-then-is_filled-clause-made g c =
     let coming = outside_events c.args.outside in
     let made = c.loop-made.made in
     let n = c.loop-made.machine in
-    let p = c.make_turn-is_full.new.machine in
+    let p = c.make_turn-is_filled.new.machine in
     let inv = c.loop-made.invariant in
     let over = over_by c.get-next.result (slice_get coming made) n c.is_over.result false c.get-next.ensures c.is_over.ensures c.if-is_over.false in
-    let turned = turned_by n p c.get-next.result (slice_get coming made) c.make_turn-is_full.result true c.get-next.ensures c.make_turn-is_full.ensures c.if-is_full.true in
+    let turned = turned_by n p c.get-next.result (slice_get coming made) c.make_turn-is_filled.result true c.get-next.ensures c.make_turn-is_filled.ensures c.if-is_filled.true in
     (stands_full c.args.machine.now coming made n inv.stands c.args.bound p c.loop-made-test.true over turned).made
 
-pub returns-then-is_full-clause-ending : goal.returns-then-is_full-clause-ending
-returns-then-is_full-clause-ending g c =
+pub returns-then-is_filled-clause-ending : goal.returns-then-is_filled-clause-ending
+returns-then-is_filled-clause-ending g c =
     let coming = outside_events c.args.outside in
     let made = c.loop-made.made in
     let n = c.loop-made.machine in
-    let p = c.make_turn-is_full.new.machine in
+    let p = c.make_turn-is_filled.new.machine in
     let inv = c.loop-made.invariant in
     let over = over_by c.get-next.result (slice_get coming made) n c.is_over.result false c.get-next.ensures c.is_over.ensures c.if-is_over.false in
-    let turned = turned_by n p c.get-next.result (slice_get coming made) c.make_turn-is_full.result true c.get-next.ensures c.make_turn-is_full.ensures c.if-is_full.true in
+    let turned = turned_by n p c.get-next.result (slice_get coming made) c.make_turn-is_filled.result true c.get-next.ensures c.make_turn-is_filled.ensures c.if-is_filled.true in
     (stands_full c.args.machine.now coming made n inv.stands c.args.bound p c.loop-made-test.true over turned).ending
 
-pub returns-then-is_full-clause-shown : goal.returns-then-is_full-clause-shown
-returns-then-is_full-clause-shown g c =
+pub returns-then-is_filled-clause-shown : goal.returns-then-is_filled-clause-shown
+returns-then-is_filled-clause-shown g c =
     let coming = outside_events c.args.outside in
     let made = c.loop-made.made in
     let n = c.loop-made.machine in
-    let p = c.make_turn-is_full.new.machine in
+    let p = c.make_turn-is_filled.new.machine in
     let inv = c.loop-made.invariant in
     let over = over_by c.get-next.result (slice_get coming made) n c.is_over.result false c.get-next.ensures c.is_over.ensures c.if-is_over.false in
-    let turned = turned_by n p c.get-next.result (slice_get coming made) c.make_turn-is_full.result true c.get-next.ensures c.make_turn-is_full.ensures c.if-is_full.true in
+    let turned = turned_by n p c.get-next.result (slice_get coming made) c.make_turn-is_filled.result true c.get-next.ensures c.make_turn-is_filled.ensures c.if-is_filled.true in
     let before = g.P.Progress.shown c.args.progress.now in
     let now = g.P.Progress.shown c.loop-made.progress in
     let then = g.P.Progress.shown c.show.new.self in
@@ -95,10 +95,10 @@ loop-made-preserved g c =
     let coming = outside_events c.args.outside in
     let made = c.loop-made.made in
     let n = c.loop-made.machine in
-    let p = c.make_turn-is_full.new.machine in
+    let p = c.make_turn-is_filled.new.machine in
     let inv = c.loop-made.invariant in
     let over = over_by c.get-next.result (slice_get coming made) n c.is_over.result false c.get-next.ensures c.is_over.ensures c.if-is_over.false in
-    let turned = turned_by n p c.get-next.result (slice_get coming made) c.make_turn-is_full.result false c.get-next.ensures c.make_turn-is_full.ensures c.if-is_full.false in
+    let turned = turned_by n p c.get-next.result (slice_get coming made) c.make_turn-is_filled.result false c.get-next.ensures c.make_turn-is_filled.ensures c.if-is_filled.false in
     let before = g.P.Progress.shown c.args.progress.now in
     let now = g.P.Progress.shown c.loop-made.progress in
     let then = g.P.Progress.shown c.show.new.self in
