@@ -84,7 +84,11 @@ where
     };
     let mut lines = InputLines::new(rt.reader());
     let is_session = begin_with(words, "look");
-    let unit = if is_session { "records" } else { "positions" };
+    let unit = if begin_with(words, "sweep") {
+        "positions"
+    } else {
+        "records"
+    };
     let mut progress = RuntimeProgress::new(rt, terminals.err, unit);
     let asks = terminals.input && terminals.out;
     let shows = terminals.err;

@@ -20,7 +20,7 @@ use mx_app_explain::{
     sums_text, unread, unwritten,
 };
 use mx_app_failure::Failure;
-use mx_app_start::{Progress, setup_of};
+use mx_app_start::{Progress, SharedProgress, setup_of};
 use std::alloc::Global;
 use std::fmt;
 use std::io::Write;
@@ -208,7 +208,7 @@ fn perform_compared<
     F: FileWriter + Drop,
     W: Write + Drop,
     L: LineReader,
-    P: Progress,
+    P: Progress + SharedProgress + Sync,
 >(
     rt: &T,
     alloc: Global,
@@ -239,7 +239,7 @@ fn perform_summed<
     F: FileWriter + Drop,
     W: Write + Drop,
     L: LineReader,
-    P: Progress,
+    P: Progress + SharedProgress + Sync,
 >(
     rt: &T,
     alloc: Global,
@@ -272,7 +272,7 @@ pub fn perform_line<
     F: FileWriter + Drop,
     W: Write + Drop,
     L: LineReader,
-    P: Progress,
+    P: Progress + SharedProgress + Sync,
 >(
     rt: &T,
     alloc: Global,

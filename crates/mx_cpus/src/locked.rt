@@ -121,18 +121,20 @@ impl<M: Naming> Locked<M> {
         }
     }
 
-    /// A processor brings back its loan to the locked kernel.
-    pub fn give(&mut self, seat: ActorSeat, loan: Loan) -> ActorSeat
+    /// A processor brings back its loan to the locked kernel. Answers how many records the history has then, all of
+    /// which the seat sees.
+    pub fn give(&mut self, seat: ActorSeat, loan: Loan) -> (ActorSeat, usize)
         requires table { seat.table ≡ M.table }
         requires loan { IsLoanOf seat loan }
-        ensures { IsGiveCall M.boot seat result loan }
+        ensures given { IsGiveCall M.boot seat result.0 loan }
+        ensures records { result.1 ≡ length result.0.seen }
     {
         let actor = seat.actor();
         // By the desk's contract this is what was lent, after the steps that it counts.
         let (seat, out) = self.desk.redeem(seat, loan);
         self.kernel.back(actor, out);
         self.kernel.opened();
-        seat
+        (seat, self.kernel.history().len())
     }
 
     /// An actor raises a line, lets the clock tick, kills a process or respawns a slot.

@@ -33,8 +33,8 @@ invariant_of-self g c =
           who (ap (λ (o : Out). o.count) c.redeem-seat.ensures.out) c.back.ensures.recorded (ap (held_by w) who ∙ h.1) c.back.ensures.world,
     )
 
-pub returns : goal.returns
-returns g c =
+pub returns-clause-given : goal.returns-clause-given
+returns-clause-given g c =
     let z = g.M.Naming.table in
     let k = c.self.inside.kernel in
     let w = replay k in
