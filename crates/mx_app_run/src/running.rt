@@ -75,7 +75,7 @@ fn run_machine<R: Threads + Wait + Clock + Sync>(
 {
     let (blank, seats) = boot(alloc, config, &mut services)?;
     let kernel = drive_blank::<Brand, R>(rt, alloc, blank, seats, outside)?;
-    kernel.opened();
+    kernel.facts();
     Ok(kernel)
 }
 

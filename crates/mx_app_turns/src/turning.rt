@@ -143,7 +143,7 @@ pub fn turns<R: Reader + Drop, F: FileWriter + Drop, W: Write + Drop>(
     };
     let ending = make_turns(&mut begun.machine, outside, u64::from(wanted.bound));
     let kernel = begun.machine.kernel();
-    kernel.opened();
+    kernel.facts();
     write_history(alloc, kernel, &mut channels.files, names.log)?;
     print_kernel_report(alloc, kernel, &mut channels.out)?;
     Ok(ending)

@@ -118,7 +118,7 @@ pub(crate) fn make_calls<M: Naming, G: Gate, R: Wait>(
     ensures course { IsOutsiderRun M.boot (G.was_called door.now.gate.now) calls.now seat result.0 }
     ensures side { result.1.actor ≡ seat.actor }
 {
-    seat.opened();
+    seat.facts();
     let mut seat = seat;
     let mut side = side;
     for call in calls {

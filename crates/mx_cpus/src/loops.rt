@@ -30,7 +30,7 @@ pub(crate) fn make_turns<M: Naming, G: Gate, R: Wait>(
     ensures course { IsProcessorRun M.boot (G.was_called door.now.gate.now) seat result.0 }
     ensures side { result.1.actor ≡ seat.actor }
 {
-    seat.opened();
+    seat.facts();
     let mut seat = seat;
     let mut side = side;
     for _ in rt.forever() {
@@ -138,7 +138,7 @@ pub(crate) fn make_rounds<M: Naming, G: Gate, R: Wait>(
     ensures course { IsRespawnerRun M.boot (G.was_called door.now.gate.now) ticks seat result.0 }
     ensures side { result.1.actor ≡ seat.actor }
 {
-    seat.opened();
+    seat.facts();
     let mut seat = seat;
     let mut side = side;
     let mut left = ticks;

@@ -52,7 +52,7 @@ returns-in_err-write_history g c =
     let items = c.in_ok-begun.begun.events.items in
     let ending = c.make_turns-ending.result in
     let made = turned_at s.1 s.2 c.from.result bound c.as_slice.result.now items ticks m n k ending c.from.ensures c.as_slice.ensures.value c.kernel-kernel.ensures s.5 c.in_ok-begun.ensures.kernel
-    c.make_turns-ending.ensures.made c.make_turns-ending.ensures.ending c.opened.ensures.accepted c.opened.ensures.written (room_of (replay k) c.opened.ensures.sound) in
+    c.make_turns-ending.ensures.made c.make_turns-ending.ensures.ending c.facts.ensures.accepted c.facts.ensures.written (room_of (replay k) c.facts.ensures.sound) in
     let h = c.in_err-write_history.ensures.unwritten in
     (s.0, h.0, s.3, h.1, unwritten config file log ticks bound s.0 (λ (text : List ℕ). Appends (g.W.Write.contents c.args.channels.now.out) (g.W.Write.contents c.args.channels.now.out) text) apart s.1 s.2 items k ending s.4 other made h.0 c.in_err-write_history.field-0.0 c.from_residual-in_err-write_history.result h.2 c.from_residual-in_err-write_history.ensures.1)
 
@@ -72,7 +72,7 @@ returns-in_err-print_kernel_report g c =
     let items = c.in_ok-begun.begun.events.items in
     let ending = c.make_turns-ending.result in
     let made = turned_at s.1 s.2 c.from.result bound c.as_slice.result.now items ticks m n k ending c.from.ensures c.as_slice.ensures.value c.kernel-kernel.ensures s.5 c.in_ok-begun.ensures.kernel
-    c.make_turns-ending.ensures.made c.make_turns-ending.ensures.ending c.opened.ensures.accepted c.opened.ensures.written (room_of (replay k) c.opened.ensures.sound) in
+    c.make_turns-ending.ensures.made c.make_turns-ending.ensures.ending c.facts.ensures.accepted c.facts.ensures.written (room_of (replay k) c.facts.ensures.sound) in
     (s.0, kept log (text_kept k) ∷ [], s.3, c.in_ok-write_history.ensures.written, untold config file log ticks bound s.0 (λ (text : List ℕ). Appends (g.W.Write.contents c.args.channels.now.out) (g.W.Write.contents c.print_kernel_report.new.out) text) apart s.1 s.2 items k ending s.4 other made c.in_err-print_kernel_report.field-0.0 c.from_residual-in_err-print_kernel_report.result c.in_err-print_kernel_report.ensures.err c.from_residual-in_err-print_kernel_report.ensures.1)
 
 pub returns : goal.returns
@@ -91,5 +91,5 @@ returns g c =
     let items = c.in_ok-begun.begun.events.items in
     let ending = c.make_turns-ending.result in
     let made = turned_at s.1 s.2 c.from.result bound c.as_slice.result.now items ticks m n k ending c.from.ensures c.as_slice.ensures.value c.kernel-kernel.ensures s.5 c.in_ok-begun.ensures.kernel
-    c.make_turns-ending.ensures.made c.make_turns-ending.ensures.ending c.opened.ensures.accepted c.opened.ensures.written (room_of (replay k) c.opened.ensures.sound) in
+    c.make_turns-ending.ensures.made c.make_turns-ending.ensures.ending c.facts.ensures.accepted c.facts.ensures.written (room_of (replay k) c.facts.ensures.sound) in
     (s.0, kept log (text_kept k) ∷ [], s.3, c.in_ok-write_history.ensures.written, written config file log ticks bound s.0 (λ (text : List ℕ). Appends (g.W.Write.contents c.args.channels.now.out) (g.W.Write.contents c.print_kernel_report.new.out) text) apart s.1 s.2 items k ending s.4 other made c.in_ok-print_kernel_report.ensures.bytes)
