@@ -87,7 +87,7 @@ fn run_machine<T: Threads + Wait + Clock + Sync, P: SharedProgress + Sync>(
 {
     let (blank, seats) = boot(place.alloc, config, &mut services)?;
     let kernel = drive_blank::<Brand, T, P>(place, blank, seats, config.log, outside)?;
-    kernel.opened();
+    kernel.facts();
     Ok(kernel)
 }
 

@@ -150,7 +150,7 @@ pub fn turns<R: Reader + Drop, F: FileWriter + Drop, W: Write + Drop, P: Progres
     let ending = make_turns(&mut begun.machine, outside, bound, log, progress);
     progress.clear();
     let kernel = begun.machine.kernel();
-    kernel.opened();
+    kernel.facts();
     write_history(alloc, kernel, &mut channels.files, names.log)?;
     print_kernel_report(alloc, kernel, &mut channels.out)?;
     Ok(ending)
