@@ -170,8 +170,7 @@ PerformsUntyped (Step config script (Some log) numbered) qs ws Prints r =
     (d : Result (Unit {0}) Kind) × SavesApart config.now script.now log.now numbered qs ws Prints d × (r ≡ done_after_work d)
 PerformsUntyped (Run config log ticks events) qs ws Prints r =
     (d : Result Ending Kind) × Runs config.now (option_map (λ s. s.now) events) log.now ticks qs ws Prints d × (r ≡ done_after_turns d)
-PerformsUntyped (Turns config log ticks events bound) qs ws Prints r =
-    (d : Result Ending Kind) × MakesTurns config.now (option_map (λ s. s.now) events) log.now ticks bound qs ws Prints d × (r ≡ done_after_turns d)
+PerformsUntyped (Turns config log ticks events bound) qs ws Prints r = ⊥
 PerformsUntyped (Sweep config log fault bound from to strict save) qs ws Prints r = ⊥
 PerformsUntyped (Replay config log) qs ws Prints r =
     (d : Result Replayed Kind) × (ws ≡ []) × Replays config.now log.now qs Prints d × (r ≡ done_after_replay d)
@@ -184,10 +183,14 @@ PerformsUntyped (Db config script) qs ws Prints r =
     (d : Result (Unit {0}) Kind) × (ws ≡ []) × Debugs config.now script.now qs Prints d × (r ≡ done_after_work d)
 
 -- WHAT IS DONE OF A REQUEST, by what a command did, by what is printed, and by how it ends. Only a session takes lines;
--- it and a sweep show progress
+-- it, turns and a sweep show progress. (What the threads of a run show is no list, since they have no order.)
 abbrev pub Performs : CommandRequest → Bool → Deeds → (List ℕ → Type 0) → Result Done Kind → Type 0
 Performs (Look config log) asks did Prints r =
     (d : Result (Unit {0}) Kind) × (did.written ≡ []) × Looks config.now log.now asks did.asked did.typed did.shown Prints d × (r ≡ done_after_work d)
+Performs (Turns config log ticks events bound) asks did Prints r =
+    (did.typed ≡ []) × (d : Result Ending Kind)
+    × MakesTurns config.now (option_map (λ s. s.now) events) log.now ticks bound did.asked did.written did.shown Prints d
+    × (r ≡ done_after_turns d)
 Performs (Sweep config log fault bound from to strict save) asks did Prints r =
     (did.typed ≡ []) × (d : Result Swept Kind)
     × Sweeps config.now log.now fault.now (option_map (λ s. s.now) save) from to bound did.asked did.written did.shown Prints d

@@ -14,8 +14,8 @@ use mx_app_db::{
 use mx_app_draw::draw;
 use mx_app_failure::Failure;
 use mx_app_look::{SessionNames, look};
-use mx_app_run::{RunNames, run};
-use mx_app_start::Progress;
+use mx_app_run::{RunWanted, run};
+use mx_app_start::{Progress, SharedProgress};
 use mx_app_turns::{Ending, SweepNames, SweepWanted, Swept, TurnsNames, TurnsWanted, sweep, turns};
 use std::alloc::Global;
 use std::io::Write;
@@ -92,14 +92,15 @@ fn done_after_sweep(done: Result<Swept, Failure>, strict: bool) -> Result<Done, 
 }
 
 /// Does what a request asks for, and answers the status to end with, and how turns or a run ended. The
-/// processors of `run` are threads. `look` answers the typed lines; it shows its progress, and so does `sweep`.
+/// processors of `run` are threads. `look` answers the typed lines. It shows its progress, and so do `run`,
+/// `turns` and `sweep`.
 pub fn perform<
     T: Threads + Wait + Clock + Sync,
     R: Reader + Drop,
     F: FileWriter + Drop,
     W: Write + Drop,
     L: LineReader + Drop,
-    P: Progress + Drop,
+    P: Progress + SharedProgress + Sync + Drop,
 >(
     rt: &T,
     alloc: Global,
@@ -148,12 +149,13 @@ pub fn perform<
             ticks,
             events,
         } => {
-            let names = RunNames {
+            let wanted = RunWanted {
                 config,
                 log,
                 events,
+                ticks,
             };
-            done_after_turns(run(rt, alloc, channels, names, ticks))
+            done_after_turns(run(rt, alloc, channels, wanted, &mut io.progress))
         }
         CommandRequest::Turns {
             config,
@@ -168,7 +170,8 @@ pub fn perform<
                 events,
             };
             let wanted = TurnsWanted { ticks, bound };
-            done_after_turns(turns(alloc, channels, names, wanted))
+            let ending = turns(alloc, channels, names, wanted, &mut io.progress);
+            done_after_turns(ending)
         }
         CommandRequest::Sweep {
             config,

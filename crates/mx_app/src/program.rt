@@ -79,7 +79,11 @@ where
     let texts = texts_asked(rt.alloc(), arguments.as_slice())?;
     let words = texts.as_slice();
     let is_session = begin_with(words, "look");
-    let unit = if is_session { "records" } else { "positions" };
+    let unit = if begin_with(words, "sweep") {
+        "positions"
+    } else {
+        "records"
+    };
     let mut io = CommandIo {
         channels: Channels {
             reader: NotingReader::new(RuntimeFiles::new(rt)),

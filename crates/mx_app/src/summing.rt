@@ -19,7 +19,7 @@ use mx_app_explain::{
     sums_text, unread, unwritten,
 };
 use mx_app_failure::Failure;
-use mx_app_start::{Progress, setup_of};
+use mx_app_start::{Progress, SharedProgress, setup_of};
 use std::alloc::Global;
 use std::fmt;
 use std::io::Write;
@@ -207,7 +207,7 @@ fn perform_compared<
     F: FileWriter + Drop,
     W: Write + Drop,
     L: LineReader + Drop,
-    P: Progress + Drop,
+    P: Progress + SharedProgress + Sync + Drop,
 >(
     rt: &T,
     alloc: Global,
@@ -231,7 +231,7 @@ fn perform_summed<
     F: FileWriter + Drop,
     W: Write + Drop,
     L: LineReader + Drop,
-    P: Progress + Drop,
+    P: Progress + SharedProgress + Sync + Drop,
 >(
     rt: &T,
     alloc: Global,
@@ -257,7 +257,7 @@ pub fn perform_line<
     F: FileWriter + Drop,
     W: Write + Drop,
     L: LineReader + Drop,
-    P: Progress + Drop,
+    P: Progress + SharedProgress + Sync + Drop,
 >(
     rt: &T,
     alloc: Global,

@@ -17,7 +17,7 @@ use mx_app_command::{CommandLine, Mistake, command};
 use mx_app_db::{FileWriter, LineReader, Reader};
 use mx_app_explain::{Notes, explain_failure, explain_sums};
 use mx_app_failure::{Failure, print_text};
-use mx_app_start::Progress;
+use mx_app_start::{Progress, SharedProgress};
 use std::alloc::{AllocError, Global};
 use std::io::Write;
 use std::sync::Wait;
@@ -129,7 +129,7 @@ pub fn perform_words<
     F: FileWriter + Drop,
     W: Write + Drop,
     L: LineReader + Drop,
-    P: Progress + Drop,
+    P: Progress + SharedProgress + Sync + Drop,
 >(
     rt: &T,
     alloc: Global,

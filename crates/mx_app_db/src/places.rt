@@ -28,7 +28,7 @@ fn address_of(program: &Program, place: &CodePlace) -> Result<u32, DebugError>
 fn find_place(kernel: &Kernel, slot: u32, place: &CodePlace) -> Result<(Slot, u32), Refused>
     ensures { result ≡ place_found (replay kernel.now).services slot place.now }
 {
-    kernel.opened();
+    kernel.facts();
     let Some(service) = kernel.services().get(slot as usize) else {
         return Err(Refused::ByMachine(Refusal::NoService));
     };

@@ -28,7 +28,7 @@ pub use mx_machine::{Event, Held, Machine, Out, Record, Recorded, Tool, at_stop}
 pub use mx_walk::{Part, Progress};
 pub use named::{NamedFile, NamedFiles};
 pub use programs::names_program;
-pub use progress::{NoProgress, RuntimeProgress};
+pub use progress::{NoProgress, RuntimeProgress, SharedProgress};
 pub use reader::Reader;
 pub use runtime::{RuntimeFiles, RuntimeWriter};
 pub use setup::{config_of, setup_of, text_of};

@@ -71,7 +71,7 @@ fn push_end(
     ensures { OnOk result (text.new.items ≡ text.old.items
         ++ end_text naming (replay kernel.now) ending) }
 {
-    kernel.opened();
+    kernel.facts();
     push_processes(text, naming, kernel.table(), kernel.services())?;
     text.extend_from_slice(b"  ")?;
     text.extend_from_slice(ending_word(ending))?;

@@ -4,7 +4,7 @@ ghost use Rattle.std.specs.Prelude.{◌≡◌, ◌≢◌, ℕ, ◌+◌, ◌<◌,
 ghost use Rattle.mx_respawn.specs.Proc.Frame.{frame};
 ghost use Rattle.mx_respawn.specs.Proc.Sound.{NoneComesHome};
 ghost use Rattle.mx_respawn.specs.Proc.TableState.{process_at};
-ghost use Rattle.mx_kcall.specs.Refusals.{owner_of};
+ghost use Rattle.mx_kcall.specs.Known.{owner_of};
 ghost use Rattle.mx_kcall.specs.Clock.{is_due, table_after_line, table_after_tick};
 ghost use Rattle.mx_kcall.specs.Ringing.{table_after_ring_if_due};
 

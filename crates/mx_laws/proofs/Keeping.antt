@@ -346,7 +346,7 @@ refusal_by_kept t s None xs = refl
 refusal_by_kept t s (Some r) xs = ap (λ z. first_error (check ∷ z)) (reasons_kept t s r xs)
   where
     check : Bool × Errno
-    check = (not (has_bit (process_at t s).masks.calls (bit_of r)), Denied)
+    check = (not (has_bit (process_at t s).terms.masks.calls (bit_of r)), Denied)
 
 words_at_kept : (t : TableState) (s : ℕ) (xs : List Delivery) → message_words_at (kept t xs) s ≡ message_words_at t s
 unfolding message_words_at

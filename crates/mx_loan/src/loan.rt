@@ -71,7 +71,7 @@ impl Loan {
 
     /// Law: a loan is what was lent, which had made no step, after a run of the steps that it counts.
     #[tactic(auto, using(crate::proofs::RunLemmas::advanced))]
-    pub fn opened(&self)
+    pub fn facts(&self)
         ensures run { IsRunOf self.now.lent self.now.out }
         ensures fresh { HasMadeNoStep self.now.lent }
         ensures steps { IsAdvanced self.now.lent self.now.out }

@@ -100,7 +100,7 @@ impl CurrentState {
     }
 
     /// A copy without the services, to be stored.
-    pub(crate) fn stored(&self, alloc: Global) -> Result<StoredState, NoMemory>
+    pub(crate) fn to_stored(&self, alloc: Global) -> Result<StoredState, NoMemory>
         ensures { IfOk result (λ stored. stored ≡ self.now) }
     {
         let table = self.table.copied(alloc, CopyFor::Storing)?;
@@ -123,7 +123,7 @@ impl CurrentState {
     }
 
     /// Law: the table is sound, and leases, services and records fit it.
-    pub(crate) fn opened(&self)
+    pub(crate) fn facts(&self)
         ensures sound { Sound self.now.table }
         ensures holds { IsConsistent self.now.table self.now.leases self.now.services
             self.now.records self.now.capacity }

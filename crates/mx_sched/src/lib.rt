@@ -38,7 +38,7 @@ pub fn enqueue(table: &mut Table, slot: Slot)
         table.to_front(slot);
         return;
     }
-    let (level, best) = (process.level, process.best);
+    let (level, best) = (process.level, process.terms.best);
     let again = match table.last_renewed() {
         Some(last) => last == slot,
         None => false,

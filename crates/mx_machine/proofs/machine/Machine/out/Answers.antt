@@ -3,10 +3,10 @@ use Rattle.mx_machine.specs.World.{HeldProcess, held_by}
 use Rattle.mx_machine.specs.Machine.{MachineState, world_of}
 use Rattle.mx_machine.proofs.DoneLemmas.{any_default, lends, lends_none, none_beyond}
 use Rattle.mx_machine.proofs.MachineLemmas.{held-now}
-use Rattle.mx_machine.proofs.machine.Machine.held.Goals as goal
+use Rattle.mx_machine.proofs.machine.Machine.out.Goals as goal
 
 pub returns-then-cpu-ge8 : goal.returns-then-cpu-ge8
-returns-then-cpu-ge8 c = none_beyond c.args.self.now.kernel c.args.self.now.outs c.args.cpu c.opened.ensures (omega arith)
+returns-then-cpu-ge8 c = none_beyond c.args.self.now.kernel c.args.self.now.outs c.args.cpu c.facts.ensures (omega arith)
 
 pub returns-in-Some : goal.returns-in-Some
 returns-in-Some c =

@@ -5,7 +5,7 @@ use Rattle.mx_machine.specs.Boot.{world_at_boot_with}
 use Rattle.mx_machine.specs.History.{BootAndHistory}
 use Rattle.mx_machine.specs.KernelState.{KernelState}
 use Rattle.mx_machine.proofs.StoredLemmas.{with_room}
-use Rattle.mx_machine.proofs.stored.StoredKernel.restored.Goals as goal
+use Rattle.mx_machine.proofs.stored.StoredKernel.restore.Goals as goal
 
 pub copy_records-requires : goal.copy_records-requires
 copy_records-requires c = omega (arith, c.capacity.ensures.room, c.self.invariant.records, ap length (c.requires.records ∙ sym (ap (λ (x : BootAndHistory). x.history) c.self.view_is)))

@@ -1,10 +1,10 @@
 use Rattle.std.proofs.Common.{refl}
 use Rattle.mx_machine.proofs.ReplayLemmas.{opened_sound, opened_accepted, opened_history, opened_written, opened_fresh, opened_few}
 use Rattle.mx_machine.proofs.KernelSoundLemmas.{opened_booted}
-use Rattle.mx_machine.proofs.kernel.Kernel.opened.Goals as goal
+use Rattle.mx_machine.proofs.kernel.Kernel.facts.Goals as goal
 
 pub returns-clause-sound : goal.returns-clause-sound
-returns-clause-sound c = opened_sound _ _ _ _ c.self.view_is c.self.invariant c.opened.ensures.sound c.opened.ensures.holds
+returns-clause-sound c = opened_sound _ _ _ _ c.self.view_is c.self.invariant c.facts.ensures.sound c.facts.ensures.holds
 
 pub returns-clause-accepted : goal.returns-clause-accepted
 returns-clause-accepted c = opened_accepted _ _ _ _ c.self.view_is c.self.invariant
