@@ -18,10 +18,10 @@ ghost use Rattle.mx_app_db.specs.DebugLines.{DebuggedWorld, debug_lines_made};
 ghost use Rattle.mx_app_db.specs.Told.{debug_lines_text};
 
 use crate::lines::perform_debug_lines;
-use mx_app_step::{
-    DebugScript, Failure, Machine, Reader, pieces_join, print_report, print_text, start,
-};
+use mx_app_start::{DebugScript, Failure, Reader, print_text, start};
+use mx_app_step::{pieces_join, print_report};
 use mx_boot::DebugLine;
+use mx_machine::Machine;
 use std::alloc::Global;
 use std::io::Write;
 

@@ -12,8 +12,10 @@ ghost use Rattle.mx_app_db.specs.Told.{eip_of, image_held, memory_held, go_text,
 use crate::going::go;
 use crate::last_messages::push_last_messages;
 use crate::places::{clear_breakpoint, set_breakpoint};
-use mx_app_step::{Failure, Machine, perform_line, pieces_join, print_piece};
+use mx_app_start::Failure;
+use mx_app_step::{perform_line, pieces_join, print_piece};
 use mx_boot::{AddressWord, DebugLine};
+use mx_machine::Machine;
 use mx_print_answers::{
     Debugger, address_asked, push_done, push_memory_at, push_memory_of, push_messages,
     push_process, push_registers_of, push_run, slot_named,

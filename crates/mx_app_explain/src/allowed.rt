@@ -4,8 +4,10 @@ ghost use Rattle.std.specs.Prelude.{◌≡◌, ◌<◌, ◌≤◌, ◌++◌, OnO
 ghost use Rattle.mx_app_explain.specs.ServiceWords.{call_count, call_if, call_words, none_since, or_none, receiver_if, receiver_words, trap_if, trap_words};
 
 use mx_look_trace::{push_call, request_name};
-use mx_machine::{Name, Rules, ServiceLine};
+use mx_machine::ServiceLine;
 use mx_print_report::push_name;
+use mx_proc::Rules;
+use mx_text::Name;
 use mx_word::has_bit;
 use std::alloc::AllocError;
 

@@ -4,8 +4,9 @@ ghost use Rattle.std.specs.Prelude.{List, ℕ, IfOk, IfErr};
 ghost use Rattle.mx_text.specs.declared.error.BootError.{BootError};
 ghost use Rattle.mx_boot.specs.Config.{Config};
 
-use mx_boot::{BootError, Config, DebugLine, ScriptLine, debug_script, log, script};
-use mx_machine::Record;
+use mx_boot::{DebugLine, ScriptLine, debug_script, log, script};
+use mx_machine::{Config, Record};
+use mx_text::BootError;
 use std::alloc::Global;
 
 /// A grammar of texts that drive a machine.

@@ -21,7 +21,10 @@ ghost use Rattle.mx_app_start.specs.Telling.{IsTold};
 
 use crate::printing::{print_piece, print_report};
 use crate::stepping::{make_event, make_own, make_steps};
-use mx_app_start::{Event, Failure, Machine, Reader, Script, ScriptLine, print_text, start};
+use mx_app_failure::{Failure, print_text};
+use mx_app_start::{Reader, Script, start};
+use mx_boot::ScriptLine;
+use mx_machine::{Event, Machine};
 use mx_print_answers::Said;
 use std::alloc::{AllocError, Global};
 use std::io::Write;

@@ -8,8 +8,9 @@ ghost use Rattle.mx_app_start.specs.Report.{report_text};
 ghost use Rattle.mx_machine.specs.History.{replay};
 ghost use Rattle.mx_app_step.specs.Pieces.{IsPrintedBut};
 
-use mx_app_start::{Failure, Machine, print_text, report};
-use mx_machine::Kernel;
+use mx_app_failure::{Failure, print_text};
+use mx_boot::report;
+use mx_machine::{Kernel, Machine};
 use std::alloc::Global;
 use std::io::Write;
 

@@ -22,10 +22,9 @@ ghost use Rattle.mx_app_step.specs.Numbered.{answers_text};
 
 use crate::lines::print_said;
 use crate::printing::print_report;
-use mx_app_start::{
-    Channels, Failure, FileWriter, Reader, Script, ScriptLine, Started, names_program, saved_text,
-    start,
-};
+use mx_app_failure::Failure;
+use mx_app_start::{Channels, FileWriter, Reader, Script, Started, names_program, start};
+use mx_boot::{ScriptLine, saved_text};
 use mx_machine::Kernel;
 use std::alloc::Global;
 use std::io::Write;

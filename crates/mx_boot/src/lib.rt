@@ -32,7 +32,7 @@ pub use items::{before_comment, has_stray};
 pub use kernels::{report, save, saved_again, saved_text};
 pub use laws::{number_again, verb_again, words_again};
 pub use logs::{lines_above, log};
-pub use mx_machine::{Config, FileName, ServiceLine, ServiceLines};
+pub(crate) use mx_machine::Config;
 pub use mx_text::BootError;
 pub use numbers::{actor, count, only_actor, only_count};
 pub use place::{CodePlace, SymbolName, place_named};

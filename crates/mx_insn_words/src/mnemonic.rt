@@ -1,9 +1,7 @@
 //! Mnemonics of instructions, as the assembler and the listing have them.
 
-use mx_insn::{
-    Arithmetic, BitScan, BitTest, Comparison, Condition, DoubleShift, Loop, Plain, Product, Shift,
-    Size, Transfer, Unary,
-};
+use mx_insn::{Comparison, Loop, Plain, Product, Transfer};
+use mx_word::{Arithmetic, BitScan, BitTest, Condition, DoubleShift, Shift, Size, Unary};
 
 /// Mnemonics that are the only ones of their kind.
 #[derive(Clone, Copy, PartialEq, Eq)]

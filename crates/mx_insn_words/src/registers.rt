@@ -7,7 +7,7 @@ ghost use Rattle.mx_insn_words.specs.Registers.{register_word, size_word};
 
 use crate::named::find_word;
 use crate::table::{REGISTERS, SIZES};
-use mx_insn::{Register, Size};
+use mx_word::{Register, Size};
 
 /// The register that a word is, with its size.
 pub fn register_named(word: &[u8]) -> Option<(Size, Register)>

@@ -3,10 +3,8 @@
 use crate::mnemonic::{Mnemonic, Single};
 use crate::named::Named;
 use crate::start::{Directive, Prefix, WordStart};
-use mx_insn::{
-    Arithmetic, BitScan, BitTest, Comparison, Condition, DoubleShift, Loop, Plain, Product,
-    Register, Shift, Size, Transfer, Unary,
-};
+use mx_insn::{Comparison, Loop, Plain, Product, Transfer};
+use mx_word::{Arithmetic, BitScan, BitTest, Condition, DoubleShift, Register, Shift, Size, Unary};
 
 macro_rules! row {
     ($word:literal => $value:expr) => {

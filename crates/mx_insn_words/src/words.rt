@@ -5,10 +5,8 @@ ghost use Rattle.mx_insn_words.specs.Registers.{register_word, size_word};
 ghost use Rattle.mx_insn_words.specs.Words.{size_letter, condition_word, arithmetic_word, unary_word, shift_word, double_shift_word, bit_test_word, bit_scan_word, product_word, loop_word, transfer_word, comparison_word, plain_word, single_word, word_of, prefix_word};
 
 use crate::{Mnemonic, Prefix, Single};
-use mx_insn::{
-    Arithmetic, BitScan, BitTest, Comparison, Condition, DoubleShift, Loop, Plain, Product,
-    Register, Shift, Size, Transfer, Unary,
-};
+use mx_insn::{Comparison, Loop, Plain, Product, Transfer};
+use mx_word::{Arithmetic, BitScan, BitTest, Condition, DoubleShift, Register, Shift, Size, Unary};
 
 fn byte_register(register: Register) -> &'static str
     ensures { result.now ≡ register_word Size.Byte register }

@@ -8,8 +8,9 @@ ghost use Rattle.mx_insn_words.specs.Listed.{written_list};
 use WrittenOperands::{Nothing, One, Three, Two};
 use mx_insn::{
     Count, Extension, Immediate, Insn, Memory, Operand, OperandSize, Operands, Port, PortSize,
-    Register, Size, WideImmediate,
+    WideImmediate,
 };
+use mx_word::{Register, Size};
 
 /// An operand as it is written.
 #[derive(Clone, Copy)]

@@ -2,10 +2,11 @@
 
 use BootError::{BadLine, BadRecord, TooMany, TwiceNamed};
 use mx_boot::{
-    BootError, Config, Over, ScriptLine, config, debug_script, history_again, log, number_again,
+    BootError, Over, ScriptLine, config, debug_script, history_again, log, number_again,
     one_history, one_text, save_history, script, verb_again, words_again,
 };
-use mx_machine::{Record, Recorded, Rules};
+use mx_machine::{Config, Record, Recorded};
+use mx_proc::Rules;
 use std::alloc::Global;
 use std::io;
 use std::io::Write;
