@@ -8,7 +8,8 @@ ghost use Rattle.mx_app_explain.specs.Sums.{machine_sums, part_word, program_sum
 
 use crate::items::{items_text, name_word};
 use mx_aout::write;
-use mx_machine::{Config, Service};
+use mx_kcall::Service;
+use mx_machine::Config;
 use mx_text::Name;
 use mx_word::NoMemory;
 use sha2::{Digest, Sha256};
