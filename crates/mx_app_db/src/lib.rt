@@ -5,7 +5,9 @@ mod driving;
 mod going;
 mod last_messages;
 mod lines;
+mod looks;
 mod places;
+mod script;
 
 pub use driving::db;
 pub use going::go;
@@ -14,3 +16,4 @@ pub use mx_app_start::{
 };
 pub use mx_app_step::{HistoryPart, Replayed, make_steps, replay, step, step_saved, trace};
 pub use places::{clear_breakpoint, set_breakpoint};
+pub use script::{debug_script, own_words_are_apart};

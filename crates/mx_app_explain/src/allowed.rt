@@ -5,7 +5,7 @@ ghost use Rattle.mx_app_explain.specs.ServiceWords.{call_if, call_words, none_si
 
 use mx_kcall::{CALLS, is_there};
 use mx_look_trace::push_call;
-use mx_machine::{Name, Rules, ServiceLine};
+use mx_machine::ServiceLine;
 use mx_print_report::push_name;
 use mx_proc::Rules;
 use mx_text::Name;
