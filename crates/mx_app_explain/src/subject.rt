@@ -38,7 +38,7 @@ pub enum Subject<'a> {
     Memory,
 }
 
-/// As it stands in a line.
+/// As it is in a line.
 impl fmt::Display for Subject<'_> {
     ghost use Rattle.std.specs.Prelude.{Some};
     ghost use Rattle.mx_app_explain.specs.Explaining.{subject_told};

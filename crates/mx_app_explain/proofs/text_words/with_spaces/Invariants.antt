@@ -1,7 +1,7 @@
 use Rattle.std.proofs.Common.{◌≡◌, ◌++◌, drop}
 use Rattle.std.specs.List.{flat_map}
 use Rattle.mx_app_explain.specs.TextWords.{spaced_byte}
-use Rattle.mx_app_explain.proofs.text_words.spaced.Given as goal
+use Rattle.mx_app_explain.proofs.text_words.with_spaces.Given as goal
 
 -- with those of the bytes that are left, all are there
 abbrev pub invariant-loop-byte : goal.invariant-loop-byte

@@ -7,7 +7,7 @@ use Rattle.mx_app_command.specs.Tables.{rule_of_argument}
 use Rattle.mx_app_command.specs.Words.{IsLocal}
 use Rattle.mx_app_command.specs.declared.grammar.CommandArgument.{CommandArgument}
 use Rattle.mx_app_command.proofs.Tables.{argument_added}
-use Rattle.mx_app_command.proofs.grammar.made.Goals as goal
+use Rattle.mx_app_command.proofs.grammar.command_of.Goals as goal
 
 pub loop-argument-init : goal.loop-argument-init
 loop-argument-init c =
