@@ -30,7 +30,7 @@ GUESTS = {
     "xxh32": Guest(
         ("x/xxhash/xxhash_0.8.1.orig.tar.gz", "3bb6b7d6f30c591dd65aaaff1c8b7a5b94d81687998ca9400082c739a690436c"),
         "xxhash",
-        ["-DXXH_NO_LONG_LONG"],
+        ["-DXXH_NO_LONG_LONG", "-DXXH_FORCE_MEMORY_ACCESS=1"],
     ),
 }
 

@@ -1,6 +1,6 @@
 //! What a command works with.
 
-use mx_app_db::Channels;
+use mx_app_start::Channels;
 
 /// What a command works with: its files and its text, the lines that are typed for it, and what is shown its
 /// progress.

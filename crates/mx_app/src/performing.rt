@@ -8,15 +8,15 @@ use crate::command_io::CommandIo;
 use crate::explain::explain_named;
 use crate::named::{SavedScript, as_named, dis_named, nm_named, one_named, step_apart};
 use mx_app_command::{CommandRequest, RecordRange};
-use mx_app_db::{
-    FileWriter, HistoryPart, LineReader, Reader, Replayed, db, replay, step, trace,
-};
+use mx_app_db::{HistoryPart, Replayed, db, replay, step, trace};
 use mx_app_draw::draw;
 use mx_app_failure::Failure;
 use mx_app_look::{SessionNames, look};
 use mx_app_run::{RunWanted, run};
-use mx_app_start::{Progress, SharedProgress};
-use mx_app_turns::{Ending, SweepNames, SweepWanted, Swept, TurnsNames, TurnsWanted, sweep, turns};
+use mx_app_start::{FileWriter, LineReader, Reader, SharedProgress};
+use mx_app_turns::{SweepNames, SweepWanted, Swept, TurnsNames, TurnsWanted, sweep, turns};
+use mx_turns::Ending;
+use mx_walk::Progress;
 use std::alloc::Global;
 use std::io::Write;
 use std::sync::Wait;

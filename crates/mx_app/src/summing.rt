@@ -13,13 +13,13 @@ ghost use Rattle.mx_app.specs.Summing.{ComparesSums, IsCompared, IsUnsummed, Per
 use crate::command_io::CommandIo;
 use crate::performing::{Done, perform};
 use mx_app_command::{CommandLine, CommandRequest};
-use mx_app_db::{FileWriter, LineReader, Reader};
 use mx_app_explain::{
     PartSum, SumsFault, first_name, first_other, machine_sums, passed_sums_are_own, second_name,
     sums_text, unread, unwritten,
 };
 use mx_app_failure::Failure;
-use mx_app_start::{Progress, SharedProgress, setup_of};
+use mx_app_start::{FileWriter, LineReader, Reader, SharedProgress, setup_of};
+use mx_walk::Progress;
 use std::alloc::Global;
 use std::fmt;
 use std::io::Write;

@@ -12,7 +12,8 @@ use crate::text_advice::advice_on;
 use crate::text_words::with_spaces;
 use crate::wanted::wanted_of;
 use mx_app_command::CommandRequest;
-use mx_app_failure::{BootError, Failure};
+use mx_app_failure::Failure;
+use mx_text::BootError;
 use std::alloc::{AllocError, Global};
 use std::fmt;
 

@@ -6,7 +6,9 @@ ghost use Rattle.mx_app_explain.specs.Sums.{configuration_sum, machine_sums, par
 
 use crate::items::{items_text, name_word};
 use mx_aout::write;
-use mx_machine::{Config, Name, Service};
+use mx_kcall::Service;
+use mx_machine::Config;
+use mx_text::Name;
 use mx_word::NoMemory;
 use sha2::{Digest, Sha256};
 use std::alloc::{AllocError, Global};

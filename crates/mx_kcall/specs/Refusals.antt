@@ -10,6 +10,7 @@ use Rattle.mx_word.specs.Bits.{has_bit}
 use Rattle.mx_kcall.specs.declared.request.KernelCall.{KernelCall}
 use Rattle.mx_kcall.specs.declared.request.KernelCall.TheVariants.{Irqctl, Devio, Vircopy, Kill, Whois, Grant}
 use Rattle.mx_kcall.specs.Known.{Known, is_barred, known}
+pub use Rattle.mx_kcall.specs.Known.{is_away, owner_of}
 use Rattle.mx_kcall.specs.Requests.{kernel_call_under, message_words_at}
 use Rattle.mx_kcall.specs.Rows.{first_call}
 use Rattle.mx_kcall.specs.Windows.{allows_reading, allows_writing}

@@ -11,7 +11,7 @@ mod serving;
 mod windows;
 
 pub use clock::{raise, tick};
-pub use mx_respawn::{Endpoint, Name, Rules, Service, Slot, Terms, die, is_worn, load, respawn};
+pub use mx_respawn::{Name, Service, die, is_worn, respawn};
 pub use request::{After, CopyRange, KernelCall, ReplyWords, VirtualAddress, WindowGrant};
 pub use rows::{CALLS, CallName, CallRow, FIRST_CALL, ReplyCount, call_row, is_there};
 pub use serving::call;

@@ -19,7 +19,7 @@ ghost use Rattle.mx_kcall.specs.declared.request.KernelCall.TheVariants as reque
 use crate::request::{CopyRange, KernelCall, VirtualAddress, WindowGrant, request_under, words_at};
 use crate::rows::FIRST_CALL;
 use crate::windows::{is_strict, window_allows};
-use mx_respawn::{Access, Endpoint, Errno, Slot, Stale, State, Table};
+use mx_proc::{Access, Endpoint, Errno, Slot, Stale, State, Table};
 use mx_word::has_bit;
 
 /// The most bytes that one VIRCOPY copies.

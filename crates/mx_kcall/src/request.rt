@@ -6,7 +6,7 @@ ghost use Rattle.mx_respawn.specs.Proc.TableState.{process_at};
 ghost use Rattle.mx_kcall.specs.Requests.{word_at, message_words_of, message_words_at, kernel_call_of, kernel_call_under, no_reply_words, reply_bytes};
 
 use crate::rows::{CallName, FIRST_CALL, call_row, is_there};
-use mx_respawn::{Endpoint, MESSAGE_SIZE, Rules, SYSTEM, Slot, Table};
+use mx_proc::{Endpoint, MESSAGE_SIZE, Rules, SYSTEM, Slot, Table};
 use mx_word::{Register, read_dword, write_dword};
 
 /// The type of a message to SYSTEM, and the first of its words.

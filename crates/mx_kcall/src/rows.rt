@@ -5,7 +5,7 @@ ghost use Rattle.std.specs.Prelude.{◌≡◌, ◌<◌, ◌≤◌, ◌+◌, ◌=
 ghost use Rattle.mx_kcall.specs.Rows.{is_space, is_there, name_of, reply_count, row_of};
 
 use crate::windows::is_strict;
-use mx_respawn::Rules;
+use mx_proc::Rules;
 
 /// What a kernel call is about.
 #[derive(Clone, Copy)]

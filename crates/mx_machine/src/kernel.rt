@@ -21,7 +21,7 @@ use crate::stored::StoredKernel;
 use crate::{
     Answer, Config, Decoded, Event, Out, Record, Recorded, Refusal, Service, runs_are_steps,
 };
-use mx_ipc::{Delivery, Rules, Slot, Table};
+use mx_proc::{Delivery, Rules, Slot, Table};
 use mx_word::NoMemory;
 use std::alloc::Global;
 use std::marker::Model;

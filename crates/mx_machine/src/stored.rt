@@ -6,8 +6,8 @@ ghost use Rattle.std.specs.Prelude.{◌≡◌, ◌≤◌, IfOk, length, vec_capa
 use crate::caches::Caches;
 use crate::current::CurrentState;
 use crate::{Kernel, Lease, Record, Service};
-use mx_ipc::{Rules, Table};
 use mx_load::CopyFor;
+use mx_proc::{Rules, Table};
 use mx_word::NoMemory;
 use std::alloc::Global;
 use std::marker::Model;

@@ -216,16 +216,18 @@ impl Process {
         }
     }
 
-    /// The process after a dead one in its slot: a new one, but that one more was replaced.
+    /// The process after a dead one in its slot: a new one, of the next generation, with one restart more
+    /// used up.
     pub fn after(dead: &Process, terms: Terms, image: Image) -> Process
         requires generation { dead.now.generation + 1 < 2 ^ 32 }
         requires restarts { dead.now.restarts_used + 1 < 2 ^ 32 }
         ensures { result ≡ process_after dead.now image terms }
     {
-        let mut next = Process::new(terms, image);
-        next.generation = dead.generation + 1;
-        next.restarts_used = dead.restarts_used + 1;
-        next
+        Process {
+            generation: dead.generation + 1,
+            restarts_used: dead.restarts_used + 1,
+            ..Process::new(terms, image)
+        }
     }
 }
 

@@ -1,9 +1,9 @@
 //! Sessions over a saved history: the lines that are typed, and what is printed.
 
 use crate::files::reader;
-use mx_app::{
-    Channels, CommandIo, CommandRequest, Done, InputLines, MemoryWriter, NoProgress, perform,
-};
+use mx_app::{CommandIo, Done, NoProgress, perform};
+use mx_app_command::CommandRequest;
+use mx_app_db::{Channels, InputLines, MemoryWriter};
 use std::alloc::Global;
 use std::sync::Wait;
 use std::test::Fail;

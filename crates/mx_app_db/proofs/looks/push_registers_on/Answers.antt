@@ -5,7 +5,7 @@ use Rattle.mx_app_step.specs.Machine.{world_of}
 use Rattle.mx_machine.specs.World.{held_by}
 use Rattle.mx_print_answers.specs.Processes.{registers_text}
 use Rattle.mx_app_db.proofs.AnswerTexts.{image_answer}
-use Rattle.mx_app_db.proofs.lines.show_registers.Goals as goal
+use Rattle.mx_app_db.proofs.looks.push_registers_on.Goals as goal
 
 pub returns : goal.returns
 returns c =
