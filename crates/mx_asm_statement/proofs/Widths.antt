@@ -53,7 +53,7 @@ use Rattle.mx_asm_statement.specs.SizedOperands.{statement_of_insn, memory_named
 use Rattle.mx_asm_statement.specs.Pairs.{pair_into_memory, operands_of}
 use Rattle.mx_asm_statement.specs.Operations.{unary, test, sized_factor, factor_of, product, shift_count_of, shift, double_shift, bit_test, bit_scan, set_condition_statement}
 use Rattle.mx_asm_statement.specs.Moves.{exchange, load_address_statement, extension_between, extension_parts, zero_extend, sign_extend}
-use Rattle.mx_asm_statement.specs.Stack.{statement_without_arguments, push, pop, return_of, interrupt, port_of, port_size_of, port_in, port_out}
+use Rattle.mx_asm_statement.specs.Stack.{statement_without_arguments, push, only_register, pop, return_of, interrupt, port_of, port_size_of, port_in, port_out}
 use Rattle.mx_asm_statement.specs.Transfers.{jump, jump_if_statement, call, loop_statement}
 use Rattle.mx_asm_statement.specs.Statements.{IsCode, arithmetic_statement, move_statement, statement_for_single, statement_for, statement_after_prefix}
 
@@ -397,13 +397,7 @@ push_fits (arguments.Register s r ∷ y ∷ ys) = tt
 push_fits (arguments.Memory n a ∷ y ∷ ys) = tt
 
 pop_fits : (xs : List Argument) → If StatementFits (pop xs)
-pop_fits [] = tt
-pop_fits (arguments.Register Dword r ∷ []) = says_fits (insns.Pop r) None None tt
-pop_fits (arguments.Register Dword r ∷ y ∷ ys) = tt
-pop_fits (arguments.Register Byte r ∷ ys) = tt
-pop_fits (arguments.Register Word r ∷ ys) = tt
-pop_fits (arguments.Memory n a ∷ ys) = tt
-pop_fits (arguments.Value v ∷ ys) = tt
+pop_fits xs = each StatementFits (only_register xs) _ (λ r. says_fits (insns.Pop r) None None tt)
 
 return_fits : (xs : List Argument) → If StatementFits (return_of xs)
 return_fits [] = says_fits (insns.Return 0) None None (lit< tt)
