@@ -4,7 +4,8 @@ ghost use Rattle.std.specs.Prelude.{◌≡◌, ◌∷◌, []};
 ghost use Rattle.mx_asm_statement.specs.Stack.{statement_without_arguments, push, only_register, pop, return_of, interrupt, port_of, port_size_of, port_in, port_out};
 
 use crate::{Argument, Statement, number_in, says, spot_of_size, waiting};
-use mx_insn::{Insn, Port, PortSize, Register, Size};
+use mx_insn::{Insn, Port, PortSize};
+use mx_word::{Register, Size};
 
 /// The statement of an instruction that takes no arguments.
 pub fn alone(insn: Insn, arguments: &[Argument]) -> Option<Statement>

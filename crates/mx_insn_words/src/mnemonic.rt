@@ -6,10 +6,8 @@ ghost use Rattle.mx_insn_words.specs.Words.{word_of};
 
 use crate::named::Named;
 use crate::start::{WordStart, other_word};
-use mx_insn::{
-    Arithmetic, BitScan, BitTest, Comparison, Condition, DoubleShift, Loop, Plain, Product, Shift,
-    Size, Transfer, Unary,
-};
+use mx_insn::{Comparison, Loop, Plain, Product, Transfer};
+use mx_word::{Arithmetic, BitScan, BitTest, Condition, DoubleShift, Shift, Size, Unary};
 
 /// Mnemonics that are the only ones of their kind.
 #[derive(Clone, Copy, PartialEq, Eq)]

@@ -9,7 +9,8 @@ ghost use Rattle.mx_insn_words.specs.Statement.{operands_text};
 use crate::number::push_number;
 use crate::registers::{register_word, size_word};
 use crate::written::{Written, WrittenOperands};
-use mx_insn::{Index, Memory, Scale, Size};
+use mx_insn::{Index, Memory, Scale};
+use mx_word::Size;
 use std::alloc::AllocError;
 
 /// How a scale is written after its register.

@@ -7,7 +7,8 @@ ghost use Rattle.mx_insn_words.specs.Words.{is_operation, start_word, word_of};
 
 use crate::mnemonic::{Mnemonic, OPERATIONS};
 use crate::named::{Named, find_word};
-use mx_insn::{Comparison, Condition, Size, Transfer};
+use mx_insn::{Comparison, Transfer};
+use mx_word::{Condition, Size};
 
 /// What may come before a string instruction.
 #[derive(Clone, Copy, PartialEq, Eq)]

@@ -9,8 +9,9 @@ use WrittenOperands::{Nothing, One, Three, Two};
 use crate::mnemonic::{Mnemonic, Single};
 use mx_insn::{
     Count, Extension, Immediate, Insn, Memory, Operand, OperandSize, Operands, Port, PortSize,
-    Product, Register, Size, WideImmediate,
+    Product, WideImmediate,
 };
+use mx_word::{Register, Size};
 
 /// An operand as it is written.
 #[derive(Clone, Copy)]
