@@ -86,12 +86,12 @@ fn perform_lines<P: Performs, W: Write>(
         ++ lines_told (P.does lines.now.other) (P.tells lines.now.other) lines.now.numbered 1
         (driven machine.old performer.old) lines.now.lines.now)) }
 {
-    let mut number = 1;
+    let mut number = 0;
     for line in lines.lines {
+        number += 1;
         push_number(text, lines.numbered, number)?;
         performer.perform(machine, lines.other, line, text)?;
         print_piece(text, out)?;
-        number += 1;
     }
     Ok(())
 }

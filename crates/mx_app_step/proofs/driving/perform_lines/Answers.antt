@@ -32,14 +32,15 @@ loop-line-preserved g c =
     let d = driven c.loop-line.machine c.loop-line.performer in
     let so_far = string_bytes c.args.text.now ++ lines_told does tells numbered 1 first (take c.loop-line.line-index lines) in
     let end = string_bytes c.loop-line.text in
-    let number = number_text numbered c.loop-line.number in
+    let n = c.loop-line.number + 1 in
+    let number = number_text numbered n in
     let answer = tells d c.line-item.result in
     let text = c.in_ok-perform.ensures.text ∙ ap (λ (t : List ℕ). t ++ answer) c.in_ok-push_number.ensures ∙ append_assoc end number answer in
     record {
-      done = next_done does first d (driven c.perform.new.machine c.perform.new.performer) lines c.loop-line.line-index c.line-item.result c.loop-line-test.true c.line-item.is inv.done c.in_ok-perform.ensures.done;
+      done = next_done does first d (driven c.perform.new.machine c.perform.new.self) lines c.loop-line.line-index c.line-item.result c.loop-line-test.true c.line-item.is inv.done c.in_ok-perform.ensures.done;
       printed = next_printed x y z end (string_bytes c.print_piece.new.text) so_far (number ++ answer) _ inv.printed
           (subst (λ (t : List ℕ). IsPrintedBut y z (string_bytes c.print_piece.new.text) t) text c.in_ok-print_piece.ensures.printed)
-          (sym (next_told does tells numbered first d lines c.loop-line.line-index c.loop-line.number c.line-item.result (string_bytes c.args.text.now) so_far (so_far ++ (number ++ answer)) inv.number c.loop-line-test.true c.line-item.is inv.done refl refl));
-      number = ap (λ n. n + 1) inv.number;
+          (sym (next_told does tells numbered first d lines c.loop-line.line-index n c.line-item.result (string_bytes c.args.text.now) so_far (so_far ++ (number ++ answer)) (ap (λ k. k + 1) inv.number) c.loop-line-test.true c.line-item.is inv.done refl refl));
+      number = ap (λ k. k + 1) inv.number;
       actors = c.perform.ensures.actors ∙ inv.actors;
     }

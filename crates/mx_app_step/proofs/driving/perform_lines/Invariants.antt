@@ -1,4 +1,4 @@
-use Rattle.std.proofs.Common.{◌≡◌, ◌++◌, ◌+◌, take}
+use Rattle.std.proofs.Common.{◌≡◌, ◌++◌, take}
 use Rattle.std.specs.Prelude.{string_bytes}
 use Rattle.mx_app_start.specs.Machine.{world_of}
 use Rattle.mx_machine.specs.World.{actors}
@@ -16,6 +16,6 @@ invariant-loop-line g l =
       done : lines_done does first (take l.line-index l.lines.lines.now) ≡ driven l.machine l.performer;
       printed : IsPrintedBut (g.W.Write.contents l.initial.out) (g.W.Write.contents l.out) (string_bytes l.text)
           (string_bytes l.initial.text ++ lines_told does tells l.lines.numbered 1 first (take l.line-index l.lines.lines.now));
-      number : l.number ≡ l.line-index + 1;
+      number : l.number ≡ l.line-index;
       actors : actors (world_of l.machine) ≡ actors (world_of l.initial.machine);
     }
