@@ -101,14 +101,14 @@ as_typed asked now files written given typed shown later asks Prints r request k
 
 -- a session was held, or its machine wasn't started
 pub looks : (asked now : List Asked) (files : List Written) (given given_now : List (Option (List ℕ))) (shown later : List Part) (config log : List ℕ) (asks : Bool) (x y : Option (List ℕ)) (d : Result (Unit {0}) Kind) (r : Result Done Kind)
-    → OnOk d ((qs : List Asked) × (c : Config) × (vs : List Service) × (records : List Record) × (k : Walk) × (typed : List (Option (List ℕ))) × (text : List ℕ)
-    × (now ≡ asked ++ qs) × (given_now ≡ given ++ typed) × IsWhole typed × (later ≡ shown ++ walk_shown k.records k.last) × IsStart IsSaved config log qs c vs records × IsBegun (world_at_boot c vs) records k
-    × IsSession asks (sight_at k) typed text × Appends x y (begun_text asks k ++ text))
+    → OnOk d ((qs : List Asked) × (c : Config) × (vs : List Service) × (records : List Record) × (k : Walk) × (typed : List (Option (List ℕ))) × (text : List ℕ) × (ps : List Part)
+    × (now ≡ asked ++ qs) × (given_now ≡ given ++ typed) × IsWhole typed × (later ≡ shown ++ (walk_shown k.records k.last ++ ps)) × IsStart IsSaved config log qs c vs records × IsBegun (world_at_boot c vs) records k
+    × IsSession asks (sight_at k) typed text ps × Appends x y (begun_text asks k ++ text))
     → IfErr d (λ f. (qs : List Asked) × (typed : List (Option (List ℕ))) × (ps : List Part) × (now ≡ asked ++ qs) × (given_now ≡ given ++ typed) × (later ≡ shown ++ ps) × HasFailed config log qs ps f)
     → r ≡ done_after_work d
     → Grows asked now files files given given_now shown later (λ did. (e : Result (Unit {0}) Kind) × (did.written ≡ []) × Looks config log asks did.asked did.typed did.shown (λ text. Appends x y text) e × (r ≡ done_after_work e))
 looks asked now files given given_now shown later config log asks x y (Ok u) r p f e =
-    (record { asked = p.0; written = []; typed = p.5; shown = walk_shown p.4.records p.4.last }, p.7, sym (append-nil files), p.8, p.10, (Ok u, refl, (p.1, p.2, p.3, p.4, p.6, p.11, p.12, refl, p.9, p.13, p.14), e))
+    (record { asked = p.0; written = []; typed = p.5; shown = walk_shown p.4.records p.4.last ++ p.7 }, p.8, sym (append-nil files), p.9, p.11, (Ok u, refl, (p.1, p.2, p.3, p.4, p.6, p.7, p.12, p.13, refl, p.10, p.14, p.15), e))
 looks asked now files given given_now shown later config log asks x y (Err why) r p f e =
     (record { asked = f.0; written = []; typed = f.1; shown = f.2 }, f.3, sym (append-nil files), f.4, f.5, (Err why, refl, f.6, e))
 

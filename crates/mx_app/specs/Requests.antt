@@ -137,11 +137,13 @@ Draws config log range qs Prints (Ok how) =
 Draws config log range qs Prints (Err f) = IsTold IsSaved TellsSaved config log qs f
 
 -- a session over a history: what it prints is determined by the lines that are typed, which it takes up to `quit` or to
--- the end of the input; at its beginning it shows each record of the walk to the last position
+-- the end of the input; it shows each record of the walk to the last position, with which it begins, and then those of
+-- the lines' walks
 abbrev pub Looks : List ℕ → List ℕ → Bool → List Asked → List (Option (List ℕ)) → List Part → (List ℕ → Type 0) → Result (Unit {0}) Kind → Type 0
 Looks config log asks qs typed ps Prints (Ok u) =
-    (c : Config) × (vs : List Service) × (records : List Record) × (k : Walk) × (text : List ℕ) × IsStart IsSaved config log qs c vs records
-    × IsBegun (world_at_boot c vs) records k × (ps ≡ walk_shown k.records k.last) × IsWhole typed × IsSession asks (sight_at k) typed text
+    (c : Config) × (vs : List Service) × (records : List Record) × (k : Walk) × (text : List ℕ) × (after : List Part)
+    × IsStart IsSaved config log qs c vs records × IsBegun (world_at_boot c vs) records k
+    × (ps ≡ walk_shown k.records k.last ++ after) × IsWhole typed × IsSession asks (sight_at k) typed text after
     × Prints (begun_text asks k ++ text)
 Looks config log asks qs typed ps Prints (Err f) = HasFailed config log qs ps f
 
