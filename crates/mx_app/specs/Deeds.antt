@@ -16,9 +16,9 @@ pub record Deeds : Type 0 where
 
 -- THESE LOGS HAVE GROWN by what a command did: of files asked for and written, of typed lines, and of progress. Of what
 -- it did and of the texts that it may have printed this holds
-abbrev pub Does : {R F W L P : Type 0} → (R → List Asked) → (F → List Written) → (W → Option (List ℕ)) → (L → List (Option (List ℕ))) → (P → List Part)
-    → CommandIo R F W L P → CommandIo R F W L P → (Deeds → (List ℕ → Type 0) → Type 0) → Type 0
-Does asked written contents typed shown old new Holds =
+abbrev pub Does : {R F W L P : Type 0} → CommandIo R F W L P → CommandIo R F W L P → (R → List Asked) → (F → List Written) → (W → Option (List ℕ))
+    → (L → List (Option (List ℕ))) → (P → List Part) → (Deeds → (List ℕ → Type 0) → Type 0) → Type 0
+Does old new asked written contents typed shown Holds =
     (d : Deeds)
     × (asked new.channels.reader ≡ asked old.channels.reader ++ d.asked)
     × (written new.channels.files ≡ written old.channels.files ++ d.written)

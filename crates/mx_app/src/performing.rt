@@ -108,7 +108,7 @@ pub fn perform<
     request: CommandRequest<'_>,
 ) -> Result<Done, Failure>
     ensures asks { io.new.asks ≡ io.old.asks }
-    ensures done { Does R.asked F.written W.contents L.given P.shown io.old io.new
+    ensures done { Does io.old io.new R.asked F.written W.contents L.given P.shown
         (λ did Prints. Performs request.entry io.old.asks did Prints result) }
 {
     let channels = &mut io.channels;
@@ -218,7 +218,8 @@ pub fn perform<
         }
         CommandRequest::Look { config, log } => {
             let names = SessionNames { config, log };
-            let (lines, progress) = (&mut io.lines, &mut io.progress);
+            let lines = &mut io.lines;
+            let progress = &mut io.progress;
             done_after_work(look(alloc, reader, lines, progress, names, io.asks, out))
         }
         CommandRequest::Db { config, script } => done_after_work(db(

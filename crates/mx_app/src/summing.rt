@@ -216,7 +216,7 @@ fn perform_compared<
     name: &str,
 ) -> Result<Done, LineFailure>
     ensures asks { io.new.asks ≡ io.old.asks }
-    ensures done { Does R.asked F.written W.contents L.given P.shown io.old io.new
+    ensures done { Does io.old io.new R.asked F.written W.contents L.given P.shown
         (λ did Prints. PerformsCompared request.entry name.now io.old.asks did Prints result) }
 {
     compare_named(alloc, &mut io.channels.reader, first_name(request), name)?;
@@ -240,7 +240,7 @@ fn perform_summed<
     name: &str,
 ) -> Result<Done, LineFailure>
     ensures asks { io.new.asks ≡ io.old.asks }
-    ensures done { Does R.asked F.written W.contents L.given P.shown io.old io.new
+    ensures done { Does io.old io.new R.asked F.written W.contents L.given P.shown
         (λ did Prints. PerformsSummed request.entry name.now io.old.asks did Prints result) }
 {
     let text = sums_text_named(alloc, &mut io.channels.reader, first_name(request))?;
@@ -265,7 +265,7 @@ pub fn perform_line<
     line: CommandLine<'_>,
 ) -> Result<Done, LineFailure>
     ensures asks { io.new.asks ≡ io.old.asks }
-    ensures done { Does R.asked F.written W.contents L.given P.shown io.old io.new
+    ensures done { Does io.old io.new R.asked F.written W.contents L.given P.shown
         (λ did Prints. PerformsLine line.entry io.old.asks did Prints result) }
 {
     let request = line.request;
