@@ -84,7 +84,7 @@ where
     } else {
         "records"
     };
-    let mut io = CommandIo {
+    let mut work = CommandIo {
         channels: Channels {
             reader: NotingReader::new(RuntimeFiles::new(rt)),
             files: NotingFiles::new(RuntimeWriter::new(rt)),
@@ -94,8 +94,8 @@ where
         progress: RuntimeProgress::new(rt, terminals.err, unit),
         asks: terminals.input && terminals.out,
     };
-    let answer = perform_words(rt, rt.alloc(), words, &mut io, terminals.err);
-    io.progress.clear();
+    let answer = perform_words(rt, rt.alloc(), words, &mut work, terminals.err);
+    work.progress.clear();
     let printed = match &answer {
         Ok(done) => printed_text(words, *done),
         Err(_) => PrintedText::Other,
@@ -104,7 +104,7 @@ where
     let last = if is_session {
         None
     } else {
-        io.channels.out.last()
+        work.channels.out.last()
     };
     help_reader(rt, terminals, printed, last);
     Ok(answer?.status)

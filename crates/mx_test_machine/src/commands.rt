@@ -38,7 +38,7 @@ impl Write for Sink {
     }
 }
 
-type Io = CommandIo<
+type MemoryIo = CommandIo<
     NotingReader<NamedFiles<'static>>,
     NotingFiles<MemoryWriter>,
     Sink,
@@ -47,7 +47,7 @@ type Io = CommandIo<
 >;
 
 /// Channels over lists of bytes, of which those that take bytes may be broken; no line is typed.
-fn command_io(alloc: Global, refusal: Option<io::ErrorKind>) -> Io {
+fn memory_io(alloc: Global, refusal: Option<io::ErrorKind>) -> MemoryIo {
     let files = match refusal {
         Some(kind) => MemoryWriter::refusing(alloc, kind),
         None => MemoryWriter::new(alloc),
@@ -1212,12 +1212,12 @@ static EXPLAINED: &[Failed] = &[
 fn perform<R: Threads + Wait + Clock + Sync>(
     rt: &R,
     alloc: Global,
-    io: &mut Io,
+    work: &mut MemoryIo,
     words: &'static [&'static str],
     shows: bool,
 ) -> (u8, String) {
     let mut told = String::new(alloc);
-    match perform_words(rt, alloc, words, io, shows) {
+    match perform_words(rt, alloc, words, work, shows) {
         Ok(done) => (done.status, told),
         Err(complaint) => {
             let _ = write!(told, "{complaint}");
@@ -1242,12 +1242,12 @@ fn is_kept(files: &[KeptFile], wanted: Option<(&str, &[u8])>) -> bool {
 }
 
 fn is_done<R: Threads + Wait + Clock + Sync>(rt: &R, alloc: Global, row: &Done) -> bool {
-    let mut io = command_io(alloc, None);
-    let (status, told) = perform(rt, alloc, &mut io, row.words, false);
+    let mut work = memory_io(alloc, None);
+    let (status, told) = perform(rt, alloc, &mut work, row.words, false);
     status == row.status
         && told.is_empty()
-        && is_printed(&io.channels.out, row.printed)
-        && is_kept(io.channels.files.writer().files(), row.file)
+        && is_printed(&work.channels.out, row.printed)
+        && is_kept(work.channels.files.writer().files(), row.file)
 }
 
 /// Whether words fail so, with nothing printed or written, if what takes bytes is broken in this
@@ -1258,8 +1258,8 @@ fn is_told<R: Threads + Wait + Clock + Sync>(
     refusal: Option<io::ErrorKind>,
     row: &Failed,
 ) -> bool {
-    let mut io = command_io(alloc, refusal);
-    let (ended, told) = perform(rt, alloc, &mut io, row.words, false);
+    let mut work = memory_io(alloc, refusal);
+    let (ended, told) = perform(rt, alloc, &mut work, row.words, false);
     let is_told = if row.status == 2 && row.told.is_empty() {
         told.as_str().starts_with("error: ")
     } else {
@@ -1267,8 +1267,8 @@ fn is_told<R: Threads + Wait + Clock + Sync>(
     };
     ended == row.status
         && is_told
-        && is_printed(&io.channels.out, "")
-        && is_kept(io.channels.files.writer().files(), None)
+        && is_printed(&work.channels.out, "")
+        && is_kept(work.channels.files.writer().files(), None)
 }
 
 #[test]
@@ -1325,8 +1325,8 @@ static TERMINALS: &[(&[&str], bool, bool)] = &[
 #[test]
 fn terminals_explained(rt: HostRuntime) {
     for (words, shows, is_explained) in TERMINALS {
-        let mut io = command_io(rt.alloc(), None);
-        let (status, told) = perform(&rt, rt.alloc(), &mut io, words, *shows);
+        let mut work = memory_io(rt.alloc(), None);
+        let (status, told) = perform(&rt, rt.alloc(), &mut work, words, *shows);
         let wanted = if *is_explained {
             "mx: 80 File\nmx: FILE nothing: wanted a file that can be read\n"
         } else {
@@ -1447,8 +1447,8 @@ static TURNED: &[Turned] = &[
 
 /// Whether the turns or the run that words ask for end so.
 fn is_ended<R: Threads + Wait + Clock + Sync>(rt: &R, alloc: Global, row: &Turned) -> bool {
-    let mut io = command_io(alloc, None);
-    match perform_words(rt, alloc, row.words, &mut io, false) {
+    let mut work = memory_io(alloc, None);
+    match perform_words(rt, alloc, row.words, &mut work, false) {
         Ok(done) => done.ending == Some(row.ending),
         Err(_) => false,
     }
@@ -1529,16 +1529,16 @@ static UNWRITTEN: &[Unwritten] = &[
 
 /// Whether words fail, and print just this, if no file may be written.
 fn is_unwritten<R: Threads + Wait + Clock + Sync>(rt: &R, alloc: Global, row: &Unwritten) -> bool {
-    let mut io = command_io(alloc, None);
-    io.channels.files = NotingFiles::new(MemoryWriter::refusing(
+    let mut work = memory_io(alloc, None);
+    work.channels.files = NotingFiles::new(MemoryWriter::refusing(
         alloc,
         io::ErrorKind::PermissionDenied,
     ));
-    let (status, told) = perform(rt, alloc, &mut io, row.words, false);
+    let (status, told) = perform(rt, alloc, &mut work, row.words, false);
     status == 3
         && told.as_str() == "mx: 80 File\n"
-        && is_printed(&io.channels.out, row.printed)
-        && is_kept(io.channels.files.writer().files(), None)
+        && is_printed(&work.channels.out, row.printed)
+        && is_kept(work.channels.files.writer().files(), None)
 }
 
 /// The three ticks come at any time, and the report is always the wanted one; the history has the
@@ -1547,16 +1547,16 @@ fn is_unwritten<R: Threads + Wait + Clock + Sync>(rt: &R, alloc: Global, row: &U
 fn run_with_ticks(rt: HostRuntime) {
     let alloc = rt.alloc();
     let words: &[&str] = &["mx", "run", "one", "new.log", "--ticks", "3"];
-    let mut io = command_io(alloc, None);
-    let (status, told) = perform(&rt, alloc, &mut io, words, false);
+    let mut work = memory_io(alloc, None);
+    let (status, told) = perform(&rt, alloc, &mut work, words, false);
     assert!(rt; status == 0 && told.is_empty());
     assert!(rt;
         is_printed(
-            &io.channels.out,
+            &work.channels.out,
             "0 a 0 down fault 13 7 1\nuptime 3\nconsole 0\n"
         )
     );
-    let files = io.channels.files.writer().files();
+    let files = work.channels.files.writer().files();
     assert!(rt; files.len() == 1 && lines_in(files[0].bytes.as_slice()) == 8);
 }
 
@@ -1701,9 +1701,9 @@ docs/use/REFERENCE.md.
 ];
 
 fn ends_so<R: Threads + Wait + Clock + Sync>(rt: &R, alloc: Global, row: &Help) -> bool {
-    let mut io = command_io(alloc, None);
-    let (status, told) = perform(rt, alloc, &mut io, row.words, false);
-    let out = &io.channels.out;
+    let mut work = memory_io(alloc, None);
+    let (status, told) = perform(rt, alloc, &mut work, row.words, false);
+    let out = &work.channels.out;
     status == 0
         && told.is_empty()
         && out.bytes.ends_with(row.ending.as_bytes())
@@ -1783,9 +1783,9 @@ static PICTURES: &[Picture] = &[
 ];
 
 fn is_drawn<R: Threads + Wait + Clock + Sync>(rt: &R, alloc: Global, row: &Picture) -> bool {
-    let mut io = command_io(alloc, None);
-    let (ended, told) = perform(rt, alloc, &mut io, row.words, false);
-    let out = &io.channels.out;
+    let mut work = memory_io(alloc, None);
+    let (ended, told) = perform(rt, alloc, &mut work, row.words, false);
+    let out = &work.channels.out;
     let Some(rest) = out.bytes.as_slice().strip_prefix(SMALL_PICTURE.as_bytes()) else {
         return false;
     };
