@@ -4,10 +4,10 @@ use Rattle.std.specs.Prelude.{IfOk}
 use Rattle.std.specs.Io.KnownBytes.{Appends}
 use Rattle.std.proofs.lemmas.List.{append-nil}
 use Rattle.mx_app_command.specs.declared.words.CommandRequest.{CommandRequest}
-use Rattle.mx_app_command.specs.declared.words.CommandRequest.TheVariants.{Look, Sweep}
+use Rattle.mx_app_command.specs.declared.words.CommandRequest.TheVariants.{Look, Sweep, Turns}
 use Rattle.mx_app_command.specs.declared.words.RecordRange.{RecordRange}
 use Rattle.mx_app_db.specs.ScriptLine.{ScriptLine}
-use Rattle.mx_app_db.specs.DebugLine.{DebugLine}
+use Rattle.mx_app_db.specs.declared.script.DebugLine.{DebugLine}
 use Rattle.mx_app_failure.specs.declared.failure.Failure.{Failure as Kind}
 use Rattle.mx_machine.specs.Boot.{world_at_boot}
 use Rattle.mx_machine.specs.declared.history.Record.{Record}
@@ -20,7 +20,8 @@ use Rattle.mx_app_db.specs.Text.{saved_text}
 use Rattle.mx_app_db.specs.Config.{Config}
 use Rattle.mx_app_db.specs.Service.{Service}
 use Rattle.mx_app_db.specs.Report.{report_text}
-use Rattle.mx_app_db.specs.Course.{IsDebugScript, IsSaved, IsScript, TellsDebugScript, TellsSaved, TellsScript}
+use Rattle.mx_app_db.specs.Course.{IsSaved, IsScript, TellsSaved, TellsScript}
+use Rattle.mx_app_db.specs.DebugScript.{IsDebugScript, TellsDebugScript}
 use Rattle.mx_app_db.specs.Setup.{IsNotStarted, IsStart}
 use Rattle.mx_app_db.specs.Telling.{IsTold, IsUnsaved}
 use Rattle.mx_app_db.specs.Kept.{history_made}
@@ -60,6 +61,7 @@ DoesTyped asked asked_now written written_now given given_now shown shown_now Do
 untyped : (request : CommandRequest) (asks : Bool) (qs : List Asked) (ws : List Written) (Prints : List ℕ → Type 0) (r : Result Done Kind)
     → PerformsUntyped request qs ws Prints r → Performs request asks qs ws [] [] Prints r
 untyped (Look config log) asks qs ws Prints r h = absurd h
+untyped (Turns config log ticks events bound) asks qs ws Prints r h = absurd h
 untyped (Sweep config log fault bound from to strict save) asks qs ws Prints r h = absurd h
 untyped request asks qs ws Prints r h = (refl, refl, h)
 
@@ -70,6 +72,14 @@ pub as_asked : {given : List (Option (List ℕ))} {shown : List Part} (asks : Bo
 as_asked {given} {shown} asks asked now files written Prints r request known same done =
     let d = subst (λ (x : CommandRequest). Does asked now files written (λ qs ws. PerformsUntyped x qs ws Prints r)) (sym same) done in
     (d.0, d.1, [], [], d.2, d.3, sym (append-nil given), sym (append-nil shown), untyped request asks d.0 d.1 Prints r d.4)
+
+-- the same, if the list of what was shown stays
+pub as_run : (asked now : List Asked) (files written : List Written) (given : List (Option (List ℕ))) (shown later : List Part) (asks : Bool) (Prints : List ℕ → Type 0) (r : Result Done Kind) (request known : CommandRequest) → later ≡ shown → request ≡ known
+    → Does asked now files written (λ qs ws. PerformsUntyped known qs ws Prints r)
+    → DoesTyped asked now files written given given shown later (λ qs ws typed ps. Performs request asks qs ws typed ps Prints r)
+as_run asked now files written given shown later asks Prints r request known same is done =
+    subst (λ (l : List Part). DoesTyped asked now files written given given shown l (λ qs ws typed ps. Performs request asks qs ws typed ps Prints r)) (sym same)
+    (as_asked {given = given} {shown = shown} asks asked now files written Prints r request known is done)
 
 -- and of one that takes lines or shows progress
 pub as_typed : (asked now : List Asked) (files written : List Written) (given typed : List (Option (List ℕ))) (shown later : List Part) (asks : Bool) (Prints : List ℕ → Type 0) (r : Result Done Kind) (request known : CommandRequest) → request ≡ known
@@ -104,10 +114,12 @@ pub runs : (asked now : List Asked) (files written : List Written) (config log :
 runs asked now files written config log events ticks x y d r p e = (p.0, p.1, p.2, p.3, (d, p.4, e))
 
 -- turns were made, or they weren't
-pub turned : (asked now : List Asked) (files written : List Written) (config log : List ℕ) (events : Option (List ℕ)) (ticks bound : ℕ) (x y : Option (List ℕ)) (d : Result Ending Kind) (r : Result Done Kind)
-    → (qs : List Asked) × (ws : List Written) × (now ≡ asked ++ qs) × (written ≡ files ++ ws) × MakesTurns config events log ticks bound qs ws (λ text. Appends x y text) d → r ≡ done_after_turns d
-    → Does asked now files written (λ qs ws. (e : Result Ending Kind) × MakesTurns config events log ticks bound qs ws (λ text. Appends x y text) e × (r ≡ done_after_turns e))
-turned asked now files written config log events ticks bound x y d r p e = (p.0, p.1, p.2, p.3, (d, p.4, e))
+pub turned : {given : List (Option (List ℕ))} (asked now : List Asked) (files written : List Written) (shown later : List Part) (config log : List ℕ) (events : Option (List ℕ)) (ticks bound : ℕ) (x y : Option (List ℕ)) (d : Result Ending Kind) (r : Result Done Kind)
+    → (qs : List Asked) × (ws : List Written) × (ps : List Part) × (now ≡ asked ++ qs) × (written ≡ files ++ ws) × (later ≡ shown ++ ps) × MakesTurns config events log ticks bound qs ws ps (λ text. Appends x y text) d
+    → r ≡ done_after_turns d
+    → DoesTyped asked now files written given given shown later (λ qs ws typed ps. (typed ≡ []) × (e : Result Ending Kind) × MakesTurns config events log ticks bound qs ws ps (λ text. Appends x y text) e × (r ≡ done_after_turns e))
+turned {given} asked now files written shown later config log events ticks bound x y d r p e =
+    (p.0, p.1, [], p.2, p.3, p.4, sym (append-nil given), p.5, (refl, d, p.6, e))
 
 -- a history was swept, or it wasn't
 pub swept : {given : List (Option (List ℕ))} (asked now : List Asked) (files written : List Written) (shown later : List Part) (config log fault : List ℕ) (save : Option (List ℕ)) (from to bound : ℕ) (strict : Bool) (x y : Option (List ℕ)) (d : Result Swept Kind) (r : Result Done Kind)

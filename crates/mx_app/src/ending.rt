@@ -5,7 +5,7 @@ ghost use Rattle.std.specs.Io.{WritesAtMost};
 ghost use Rattle.std.specs.Io.KnownBytes.{WriteAppends};
 ghost use Rattle.mx_app.specs.Ending.{last_taken, note, text_end};
 
-use mx_app_turns::Ending;
+use mx_turns::Ending;
 use std::io;
 use std::io::Write;
 

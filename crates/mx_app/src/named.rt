@@ -9,9 +9,10 @@ ghost use Rattle.mx_app_program.specs.Shown.{HasListing, HasNames, IsShown};
 ghost use Rattle.mx_app.specs.Named.{Assembles, ShowsFile};
 ghost use Rattle.mx_app.specs.Requests.{SavesApart, saves_over};
 
-use mx_app_db::{Channels, FileWriter, Reader, step_saved};
+use mx_app_db::step_saved;
 use mx_app_failure::Failure;
 use mx_app_program::{assemble_file, print_listing, print_names, print_one};
+use mx_app_start::{Channels, FileWriter, Reader};
 use std::alloc::Global;
 use std::io::Write;
 

@@ -5,8 +5,8 @@ ghost use Rattle.std.specs.IoError.{error_kind};
 ghost use Rattle.mx_app_db.specs.Written.{kept, unkept};
 ghost use Rattle.mx_app.specs.Noting.{IsNoted, IsTextNoted, is_failed};
 
-use mx_app_db::{FileWriter, Reader};
 use mx_app_explain::Notes;
+use mx_app_start::{FileWriter, Reader};
 use std::alloc::Global;
 use std::io;
 

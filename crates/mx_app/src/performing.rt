@@ -10,15 +10,15 @@ ghost use Rattle.mx_app.specs.Requests.{Performs, done_after_replay, done_after_
 use crate::explain::explain_named;
 use crate::named::{as_named, dis_named, nm_named, one_named, step_apart};
 use mx_app_command::{CommandRequest, RecordRange};
-use mx_app_db::{
-    Channels, FileWriter, HistoryPart, LineReader, Reader, Replayed, db, replay, step, trace,
-};
+use mx_app_db::{HistoryPart, Replayed, db, replay, step, trace};
 use mx_app_draw::draw;
 use mx_app_failure::Failure;
 use mx_app_look::{SessionNames, look};
-use mx_app_run::{RunNames, run};
-use mx_app_start::Progress;
-use mx_app_turns::{Ending, SweepNames, SweepWanted, Swept, TurnsNames, TurnsWanted, sweep, turns};
+use mx_app_run::{RunWanted, run};
+use mx_app_start::{Channels, FileWriter, LineReader, Reader, SharedProgress};
+use mx_app_turns::{SweepNames, SweepWanted, Swept, TurnsNames, TurnsWanted, sweep, turns};
+use mx_turns::Ending;
+use mx_walk::Progress;
 use std::alloc::Global;
 use std::io::Write;
 use std::sync::Wait;
@@ -95,15 +95,15 @@ fn done_after_sweep(done: Result<Swept, Failure>, strict: bool) -> Result<Done, 
 
 /// Does what a request asks for, and answers the status to end with, and how turns or a run ended. The
 /// processors of `run` are threads;
-/// `look` answers the lines, and with `asks` prints the position before each; `progress` is shown how far a sweep
-/// is, or the walk at a session's beginning.
+/// `look` answers the lines, and with `asks` prints the position before each; `progress` is shown how far turns,
+/// a run and a sweep are, or the walk at a session's beginning.
 pub fn perform<
     T: Threads + Wait + Clock + Sync,
     R: Reader + Drop,
     F: FileWriter + Drop,
     W: Write + Drop,
     L: LineReader,
-    P: Progress,
+    P: Progress + SharedProgress + Sync,
 >(
     rt: &T,
     alloc: Global,
@@ -152,12 +152,13 @@ pub fn perform<
             ticks,
             events,
         } => {
-            let names = RunNames {
+            let wanted = RunWanted {
                 config,
                 log,
                 events,
+                ticks,
             };
-            done_after_turns(run(rt, alloc, channels, names, ticks))
+            done_after_turns(run(rt, alloc, channels, wanted, progress))
         }
         CommandRequest::Turns {
             config,
@@ -172,7 +173,7 @@ pub fn perform<
                 events,
             };
             let wanted = TurnsWanted { ticks, bound };
-            done_after_turns(turns(alloc, channels, names, wanted))
+            done_after_turns(turns(alloc, channels, names, wanted, progress))
         }
         CommandRequest::Sweep {
             config,

@@ -10,9 +10,9 @@ use crate::ending::{NotingOutput, PrintedText, Terminals};
 use crate::noting::{NotingFiles, NotingReader};
 use crate::performing::Done;
 use crate::words::perform_words;
-use mx_app_db::{Channels, InputLines, RuntimeFiles, RuntimeWriter};
 use mx_app_failure::Failure;
-use mx_app_start::{Progress, RuntimeProgress};
+use mx_app_start::{Channels, InputLines, RuntimeFiles, RuntimeProgress, RuntimeWriter};
+use mx_walk::Progress;
 use std::rt::{Env, Files};
 use std::sync::Wait;
 use std::thread::Threads;
@@ -84,7 +84,11 @@ where
     };
     let mut lines = InputLines::new(rt.reader());
     let is_session = begin_with(words, "look");
-    let unit = if is_session { "records" } else { "positions" };
+    let unit = if begin_with(words, "sweep") {
+        "positions"
+    } else {
+        "records"
+    };
     let mut progress = RuntimeProgress::new(rt, terminals.err, unit);
     let asks = terminals.input && terminals.out;
     let shows = terminals.err;

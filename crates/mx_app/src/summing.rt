@@ -14,13 +14,13 @@ ghost use Rattle.mx_app.specs.Summing.{ComparesSums, IsCompared, IsUnsummed, Per
 
 use crate::performing::{Done, perform};
 use mx_app_command::{CommandLine, CommandRequest};
-use mx_app_db::{Channels, FileWriter, LineReader, Reader};
 use mx_app_explain::{
     PartSum, SumsFault, first_name, first_other, machine_sums, passed_sums_are_own, second_name,
     sums_text, unread, unwritten,
 };
 use mx_app_failure::Failure;
-use mx_app_start::{Progress, setup_of};
+use mx_app_start::{Channels, FileWriter, LineReader, Reader, SharedProgress, setup_of};
+use mx_walk::Progress;
 use std::alloc::Global;
 use std::fmt;
 use std::io::Write;
@@ -208,7 +208,7 @@ fn perform_compared<
     F: FileWriter + Drop,
     W: Write + Drop,
     L: LineReader,
-    P: Progress,
+    P: Progress + SharedProgress + Sync,
 >(
     rt: &T,
     alloc: Global,
@@ -239,7 +239,7 @@ fn perform_summed<
     F: FileWriter + Drop,
     W: Write + Drop,
     L: LineReader,
-    P: Progress,
+    P: Progress + SharedProgress + Sync,
 >(
     rt: &T,
     alloc: Global,
@@ -272,7 +272,7 @@ pub fn perform_line<
     F: FileWriter + Drop,
     W: Write + Drop,
     L: LineReader,
-    P: Progress,
+    P: Progress + SharedProgress + Sync,
 >(
     rt: &T,
     alloc: Global,

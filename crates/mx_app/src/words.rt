@@ -16,10 +16,10 @@ use crate::summing::{LineFailure, perform_line};
 use clap::Error;
 use clap::error::ErrorKind;
 use mx_app_command::{CommandLine, Mistake, command};
-use mx_app_db::{Channels, FileWriter, LineReader, Reader};
 use mx_app_explain::{Notes, explain_failure, explain_sums};
 use mx_app_failure::{Failure, print_text};
-use mx_app_start::Progress;
+use mx_app_start::{Channels, FileWriter, LineReader, Reader, SharedProgress};
+use mx_walk::Progress;
 use std::alloc::{AllocError, Global};
 use std::io::Write;
 use std::sync::Wait;
@@ -130,7 +130,7 @@ pub fn perform_words<
     F: FileWriter + Drop,
     W: Write + Drop,
     L: LineReader,
-    P: Progress,
+    P: Progress + SharedProgress + Sync,
 >(
     rt: &T,
     alloc: Global,

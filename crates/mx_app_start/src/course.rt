@@ -4,8 +4,9 @@ ghost use Rattle.std.specs.Prelude.{List, ℕ, IfOk, IfErr};
 ghost use Rattle.mx_text.specs.declared.error.BootError.{BootError};
 ghost use Rattle.mx_boot.specs.Config.{Config};
 
-use mx_boot::{BootError, Config, DebugLine, ScriptLine, debug_script, log, script};
-use mx_machine::Record;
+use mx_boot::{ScriptLine, log, script};
+use mx_machine::{Config, Record};
+use mx_text::BootError;
 use std::alloc::Global;
 
 /// A grammar of texts that drive a machine.
@@ -40,23 +41,6 @@ impl Course for Script {
 
     fn read(alloc: Global, text: &str, _config: &mut Config) -> Result<Vec<ScriptLine>, BootError> {
         script(alloc, text)
-    }
-}
-
-/// The lines of a debugger's script.
-pub struct DebugScript;
-
-impl Course for DebugScript {
-    ghost use Rattle.mx_app_start.specs.Course.{IsDebugScript, TellsDebugScript};
-
-    type Line = DebugLine;
-
-    ghost IsSaid = { IsDebugScript };
-
-    ghost Tells = { TellsDebugScript };
-
-    fn read(alloc: Global, text: &str, _config: &mut Config) -> Result<Vec<DebugLine>, BootError> {
-        debug_script(alloc, text)
     }
 }
 

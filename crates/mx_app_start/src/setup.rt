@@ -7,8 +7,8 @@ ghost use Rattle.mx_app_start.specs.Setup.{AreServicesRead, IsConfigFault, IsCon
 use crate::reader::Reader;
 use mx_aout::read;
 use mx_app_failure::Failure;
-use mx_boot::{Config, ServiceLine, config};
-use mx_machine::Service;
+use mx_boot::config;
+use mx_machine::{Config, Service, ServiceLine};
 use std::alloc::Global;
 
 /// The text of a file.

@@ -13,8 +13,7 @@ use crate::course::Course;
 use crate::reader::Reader;
 use crate::setup::{setup_of, text_of};
 use mx_app_failure::Failure;
-use mx_boot::Config;
-use mx_machine::{Kernel, Machine, Service};
+use mx_machine::{Config, Kernel, Machine, Service};
 use mx_word::NoMemory;
 use std::alloc::Global;
 

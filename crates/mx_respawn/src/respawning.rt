@@ -9,8 +9,8 @@ ghost use Rattle.mx_ipc.specs.Proc.TableState.{process_at};
 ghost use Rattle.mx_respawn.specs.Respawn.{is_worn, next_process, table_after_respawn};
 
 use crate::service::Service;
-use mx_ipc::{Process, Slot, Table};
 use mx_load::refill;
+use mx_proc::{Process, Slot, Table};
 
 /// Whether a process can have none after it: the restarts of its service are used up, or its
 /// generation is the last one.

@@ -3,9 +3,9 @@
 
 use crate::files::{SUM, reader};
 use mx_app::{
-    Channels, Complaint, Ending, Failure, InputLines, KeptFile, LineFailure, MemoryWriter,
-    NamedFiles, NoProgress, NotingFiles, NotingReader, perform_words,
+    Complaint, Ending, Failure, LineFailure, NoProgress, NotingFiles, NotingReader, perform_words,
 };
+use mx_app_db::{Channels, InputLines, KeptFile, MemoryWriter, NamedFiles};
 use std::alloc::Global;
 use std::fmt::Write as _;
 use std::io;

@@ -1,7 +1,9 @@
 //! Sessions over a saved history: the lines that are typed, and what is printed.
 
 use crate::files::reader;
-use mx_app::{Channels, CommandRequest, Done, InputLines, MemoryWriter, NoProgress, perform};
+use mx_app::{Done, NoProgress, perform};
+use mx_app_command::CommandRequest;
+use mx_app_db::{Channels, InputLines, MemoryWriter};
 use std::alloc::Global;
 use std::sync::Wait;
 use std::test::Fail;

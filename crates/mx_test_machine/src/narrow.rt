@@ -2,10 +2,9 @@
 
 use crate::files::reader;
 use crate::texts::Narrow;
-use mx_app::{
-    Channels, CommandRequest, Failure, InputLines, MemoryWriter, NoProgress, RecordRange, perform,
-};
-use mx_app_db::{Script, make_steps, start};
+use mx_app::{Failure, NoProgress, perform};
+use mx_app_command::{CommandRequest, RecordRange};
+use mx_app_db::{Channels, InputLines, MemoryWriter, Script, make_steps, start};
 use mx_boot::{Over, save};
 use mx_machine::{Event, Machine};
 use std::alloc::Global;

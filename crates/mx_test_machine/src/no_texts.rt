@@ -1,10 +1,9 @@
 //! Texts that aren't UTF-8, in each place where a text is read.
 
 use crate::files::{CLIENT, DRIVER, PAIR};
-use mx_app::{
-    Channels, CommandRequest, Done, Failure, InputLines, MemoryWriter, NamedFile, NamedFiles,
-    NoProgress, RecordRange, perform,
-};
+use mx_app::{Done, Failure, NoProgress, perform};
+use mx_app_command::{CommandRequest, RecordRange};
+use mx_app_db::{Channels, InputLines, MemoryWriter, NamedFile, NamedFiles};
 use std::alloc::Global;
 use std::process::Abort;
 use std::sync::Wait;

@@ -3,7 +3,7 @@ use Rattle.mx_app_program.specs.Shown.{HasListing, HasNames, IsShown}
 use Rattle.std.proofs.Common.{◌∙◌, ap, Option}
 use Rattle.std.specs.Prelude.{option_map}
 use Rattle.mx_app_command.specs.declared.words.CommandRequest.TheVariants.{Step}
-use Rattle.mx_app.proofs.Doing.{as_asked, as_typed, assembled, debugs, draws, explains, looks, replays, runs, saved, shows, steps, swept, traces, turned}
+use Rattle.mx_app.proofs.Doing.{as_asked, as_run, as_typed, assembled, debugs, draws, explains, looks, replays, runs, saved, shows, steps, swept, traces, turned}
 use Rattle.mx_app.proofs.performing.perform.Goals as goal
 
 pub returns-in-One : goal.returns-in-One
@@ -33,13 +33,13 @@ returns-in-Some g c =
 
 pub returns-in-Run : goal.returns-in-Run
 returns-in-Run g c =
-    as_asked c.args.asks _ _ _ _ _ _ _ _ c.in-Run.is
-    (runs _ _ _ _ c.in-Run.config.now c.in-Run.log.now (option_map (λ s. s.now) c.in-Run.events) c.in-Run.ticks _ _ c.run.result c.done_after_turns.result c.run.ensures c.done_after_turns.ensures)
+    as_run _ _ _ _ _ _ _ _ _ _ _ _ c.run.ensures.shown c.in-Run.is
+    (runs _ _ _ _ c.in-Run.config.now c.in-Run.log.now (option_map (λ s. s.now) c.in-Run.events) c.in-Run.ticks _ _ c.run.result c.done_after_turns.result c.run.ensures.done c.done_after_turns.ensures)
 
 pub returns-in-Turns : goal.returns-in-Turns
 returns-in-Turns g c =
-    as_asked c.args.asks _ _ _ _ _ _ _ _ c.in-Turns.is
-    (turned _ _ _ _ c.in-Turns.config.now c.in-Turns.log.now (option_map (λ s. s.now) c.in-Turns.events) c.in-Turns.ticks c.in-Turns.bound _ _ c.turns.result c.done_after_turns-in-Turns.result c.turns.ensures c.done_after_turns-in-Turns.ensures)
+    as_typed _ _ _ _ _ _ _ _ _ _ _ _ _ c.in-Turns.is
+    (turned _ _ _ _ _ _ c.in-Turns.config.now c.in-Turns.log.now (option_map (λ s. s.now) c.in-Turns.events) c.in-Turns.ticks c.in-Turns.bound _ _ c.turns.result c.done_after_turns-in-Turns.result c.turns.ensures c.done_after_turns-in-Turns.ensures)
 
 pub returns-in-Sweep : goal.returns-in-Sweep
 returns-in-Sweep g c =
