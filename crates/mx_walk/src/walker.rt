@@ -239,10 +239,12 @@ impl Walker {
             last,
             checkpoints,
         } = self;
+        let above = records.as_slice();
+        let stored = checkpoints.as_slice();
         let origin = Origin {
             config: &config,
-            records: records.as_slice(),
-            checkpoints: checkpoints.as_slice(),
+            records: above,
+            checkpoints: stored,
         };
         let (mut machine, from) = machine_above(alloc, machine, origin, here, to)?;
         go_on(&mut machine, records.as_slice(), from, to, progress);
