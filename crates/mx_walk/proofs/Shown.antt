@@ -1,5 +1,6 @@
 -- What is shown of a walk, some positions on; and where a walk begins.
-use Rattle.std.proofs.Common.{◌≡◌, ◌∙◌, ◌<◌, ◌≤◌, ℕ, ◌+◌, Bool, true, false, cond, List, [], ◌∷◌, ◌++◌, append_assoc, filter, get_or, length, map, take, refl, ap, sym, subst, inl, inr, arith}
+use Rattle.std.proofs.Common.{◌≡◌, ◌∙◌, ◌<◌, ◌≤◌, ℕ, zero, suc, ◌+◌, Option, Some, None, Bool, true, false, cond, List, [], ◌∷◌, ◌++◌, append_assoc, filter, get_or, length, map, take, refl, ap, sym, subst, inl, inr, arith}
+use Rattle.std.specs.Option.{MatchOption}
 use Rattle.std.proofs.lemmas.List.{append-nil, map-append, take_more}
 use Rattle.std.proofs.lemmas.List.Elements.{filter-append}
 use Rattle.mx_machine.specs.declared.history.Record.{Record}
@@ -65,3 +66,35 @@ then_above k w l p q before now after moved at gone shown more =
     ∙ append_assoc before (walk_between k.records k.here w.here) (shown_to (record k { here = w.here }) p)
     ∙ ap (λ (r : Position). before ++ (walk_between k.records k.here r ++ shown_to (record k { here = r }) p)) at
     ∙ ap (λ (v : Walk). before ++ (walk_between k.records k.here q ++ shown_to (record k { here = q }) v.here)) (sym gone)
+
+-- ---- the last checkpoint above a position, of the first n
+
+any_stored : (stored : List Stored) (i : ℕ) (d e : Stored) → i < length stored → get_or stored i d ≡ get_or stored i e
+any_stored [] i d e lt = absurd (omega (arith, lt))
+any_stored (x ∷ xs) zero d e lt = refl
+any_stored (x ∷ xs) (suc i) d e lt = any_stored xs i d e (omega (arith, lt))
+
+abbrev Found : List Stored → Position → ℕ → Option ℕ → Type 0
+Found stored to n o = MatchOption o (mark_above (positions_of (take n stored)) to ≡ first)
+    (λ index. (index < length stored) × ((d : Stored) → IsUpTo (get_or stored index d).position to) × ((d : Stored) → (get_or stored index d).position ≡ mark_above (positions_of (take n stored)) to))
+
+found_kept : (stored : List Stored) (to : Position) (n m : ℕ) (o : Option ℕ) → mark_above (positions_of (take m stored)) to ≡ mark_above (positions_of (take n stored)) to → Found stored to n o → Found stored to m o
+found_kept stored to n m None same h = same ∙ h
+found_kept stored to n m (Some index) same h = (h.0, h.1, λ d. h.2 d ∙ sym same)
+
+module _ (stored : List Stored) (to : Position) (i : ℕ) (lt : i < length stored) (d : Stored) (there : d ≡ get_or stored i d) where
+  pub found_here : (o : Option ℕ) → o ≡ Some i → is_up_to d.position to ≡ true → IsUpTo d.position to → Found stored to (i + 1) o
+  found_here o is yes up =
+      let same : (e : Stored) → get_or stored i e ≡ d = λ e. any_stored stored i e d lt ∙ sym there in
+      let at : mark_above (positions_of (take (i + 1) stored)) to ≡ d.position =
+      stored_more stored i d to lt ∙ ap (λ (e : Stored). cond (is_up_to e.position to) e.position (mark_above (positions_of (take i stored)) to)) (sym there)
+      ∙ ap (λ b. cond b d.position (mark_above (positions_of (take i stored)) to)) yes in
+      subst (λ (p : Option ℕ). Found stored to (i + 1) p) (sym is)
+      (lt, λ e. subst (λ (x : Stored). IsUpTo x.position to) (sym (same e)) up, λ e. ap (λ (x : Stored). x.position) (same e) ∙ sym at)
+
+  pub found_before : (o p : Option ℕ) → p ≡ o → is_up_to d.position to ≡ false → Found stored to i o → Found stored to (i + 1) p
+  found_before o p is no h =
+      let at : mark_above (positions_of (take (i + 1) stored)) to ≡ mark_above (positions_of (take i stored)) to =
+      stored_more stored i d to lt ∙ ap (λ (e : Stored). cond (is_up_to e.position to) e.position (mark_above (positions_of (take i stored)) to)) (sym there)
+      ∙ ap (λ b. cond b d.position (mark_above (positions_of (take i stored)) to)) no in
+      subst (λ (q : Option ℕ). Found stored to (i + 1) q) (sym is) (found_kept stored to i (i + 1) o at h)
