@@ -27,7 +27,7 @@ use crate::shown::Shown;
 use crate::sight::{Sight, say};
 use crate::verb::push_unknown;
 use crate::world_texts::{push_deliveries, push_processes, push_why};
-use mx_app_step::Failure;
+use mx_app_failure::Failure;
 use mx_walk::{Position, Progress, Walker};
 use std::alloc::{AllocError, Global};
 

@@ -14,7 +14,7 @@ use crate::points::Points;
 use crate::searches::{go_back_to_point, go_on_to_point};
 use crate::sight::Sight;
 use crate::slots::{address_here, slot_asked};
-use mx_app_step::Failure;
+use mx_app_failure::Failure;
 use mx_boot::AddressWord;
 use mx_print_answers::{Refused, push_done};
 use mx_walk::{Progress, Walker};

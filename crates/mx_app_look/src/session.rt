@@ -19,9 +19,8 @@ use crate::answering::{answer_line, push_prompt};
 use crate::places::push_place;
 use crate::points::Points;
 use crate::sight::Sight;
-use mx_app_step::{
-    Failure, History, LineReader, Reader, Started, print_text, records_are_of_actors, start,
-};
+use mx_app_failure::{Failure, print_text};
+use mx_app_step::{History, LineReader, Reader, Started, records_are_of_actors, start};
 use mx_walk::{Progress, Walker};
 use std::alloc::Global;
 use std::io::Write;

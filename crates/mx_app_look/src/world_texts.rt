@@ -11,8 +11,11 @@ ghost use Rattle.mx_app_look.specs.Answers.{line_end, processes_text};
 ghost use Rattle.mx_app_look.specs.Shows.{record_shown, why_shown};
 ghost use Rattle.mx_app_look.specs.Until.{below};
 
-use mx_app_step::{Failure, report, resting_step};
-use mx_look_trace::{Step, push_record};
+use mx_app_failure::Failure;
+use mx_app_step::resting_step;
+use mx_boot::report;
+use mx_look_facts::Step;
+use mx_look_trace::push_record;
 use mx_machine::Record;
 use mx_print_answers::push_messages;
 use mx_walk::{Position, Progress, Walker, steps_in};

@@ -11,7 +11,8 @@
 //! The outsider asks once after its last call, and then its loop ends. So the end of a loop that has asked is the end of
 //! the calls, and the end of one that hasn't is the end of the run: no thread could be made, or the history is full.
 
-use mx_cpus::Gate;
+use mx_app_start::{Part, SharedProgress};
+use mx_cpus::{Gate, WatchingGate};
 use std::sync::atomic::{AtomicBool, AtomicU32, Ordering};
 use std::time::{Clock, Duration};
 use std::{array, thread};
@@ -35,13 +36,24 @@ struct LoopState {
     questions: AtomicU32,
 }
 
+/// What the gate of a run has to know of it.
+#[derive(Clone, Copy)]
+pub struct RunPlan {
+    /// The first actor that is no processor. The next one is the outsider, if there are calls for it to make.
+    pub respawner: u8,
+    pub ticks: u32,
+    pub has_calls: bool,
+    /// How many records the history may have.
+    pub log: usize,
+}
+
 /// The gate of a run: it ends all loops if the machine is at rest after the last tick and the outsider's
-/// last call, and if another loop than the outsider's has ended.
+/// last call, and if another loop than the outsider's has ended. It shows how long the history is.
 #[derive(Drop)]
-pub struct RunGate<'a, R> {
+pub struct RunGate<'a, R, P: SharedProgress> {
     clock: &'a R,
-    respawner: u8,
-    ticks: u32,
+    progress: &'a P,
+    plan: RunPlan,
     /// The respawner's rounds. After `n` of them `n` ticks are made, or all.
     rounds: AtomicU32,
     /// Whether the outsider has calls to make.
@@ -50,16 +62,15 @@ pub struct RunGate<'a, R> {
     loops: [LoopState; LOOPS],
 }
 
-impl<'a, R> RunGate<'a, R> {
-    /// The gate of a run. The respawner is the first actor that is no processor. The next one is the outsider, if there
-    /// are calls for it to make.
-    pub fn new(clock: &'a R, respawner: u8, ticks: u32, has_calls: bool) -> RunGate<'a, R> {
+impl<'a, R, P: SharedProgress> RunGate<'a, R, P> {
+    /// The gate of a run, by its clock, by what shows its progress, and by its plan.
+    pub fn new(clock: &'a R, progress: &'a P, plan: RunPlan) -> RunGate<'a, R, P> {
         RunGate {
             clock,
-            respawner,
-            ticks,
+            progress,
+            plan,
             rounds: AtomicU32::new(0),
-            has_calls: AtomicBool::new(has_calls),
+            has_calls: AtomicBool::new(plan.has_calls),
             has_ended: AtomicBool::new(false),
             loops: array::from_fn(|_| LoopState {
                 is_past_all: AtomicBool::new(false),
@@ -77,12 +88,12 @@ impl<'a, R> RunGate<'a, R> {
 
     /// Whether nothing is to come from outside: all ticks and all calls are made.
     fn is_past_all(&self) -> bool {
-        self.rounds.load(Ordering::SeqCst) >= self.ticks && !self.has_calls.load(Ordering::SeqCst)
+        self.rounds.load(Ordering::SeqCst) >= self.plan.ticks && !self.has_calls.load(Ordering::SeqCst)
     }
 
     /// Whether an actor is the outsider, and has asked.
     fn has_made_calls(&self, actor: u8) -> bool {
-        if actor != self.respawner.saturating_add(1) {
+        if actor != self.plan.respawner.saturating_add(1) {
             return false;
         }
         match self.loops.get(usize::from(actor)) {
@@ -99,7 +110,11 @@ impl<'a, R> RunGate<'a, R> {
     }
 }
 
-impl<'a, R: Clock> Gate for RunGate<'a, R> {
+impl<'a, R: Clock, P: SharedProgress> Gate for RunGate<'a, R, P> {
+    ghost use Rattle.mx_app_run.specs.Shows.{shows};
+
+    ghost was_called = { λ gate call. shows (P.was_shown gate.progress.now) gate.plan.log call };
+
     fn held(&self, cpu: u8, _turn: u64) {
         if let Some(state) = self.loops.get(usize::from(cpu)) {
             state.questions.store(0, Ordering::SeqCst);
@@ -117,7 +132,7 @@ impl<'a, R: Clock> Gate for RunGate<'a, R> {
         let Some(state) = self.loops.get(usize::from(actor)) else {
             return false;
         };
-        if actor == self.respawner {
+        if actor == self.plan.respawner {
             self.note_round();
         }
         // No tick and no call comes any more, so nothing can become ready.
@@ -129,7 +144,7 @@ impl<'a, R: Clock> Gate for RunGate<'a, R> {
         }
         let questions = self.note_question(state);
         thread::yield_now();
-        if actor == self.respawner || questions > YIELDS {
+        if actor == self.plan.respawner || questions > YIELDS {
             thread::sleep(self.clock, Duration::from_millis(NAP));
         }
         true
@@ -141,5 +156,14 @@ impl<'a, R: Clock> Gate for RunGate<'a, R> {
         } else {
             self.has_ended.store(true, Ordering::SeqCst);
         }
+    }
+}
+
+impl<'a, R: Clock, P: SharedProgress> WatchingGate for RunGate<'a, R, P> {
+    fn seen(&self, _actor: u8, records: usize) {
+        self.progress.show_shared(Part {
+            done: records,
+            all: self.plan.log,
+        });
     }
 }

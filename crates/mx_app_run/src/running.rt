@@ -8,13 +8,15 @@ ghost use Rattle.mx_app_run.specs.Calls.{AreCallsGiven, IsCallsFault};
 ghost use Rattle.mx_app_run.specs.Run.{EndsDriven, IsCalled, IsNotCalled, IsRun, Runs, run_ending};
 
 use crate::calls::{outside_calls, ticks_of};
-use crate::gate::RunGate;
-use mx_app_step::{
-    Channels, Config, Failure, FileWriter, Reader, names_program, print_kernel_report, setup_of,
-    text_of, write_history,
+use crate::gate::{RunGate, RunPlan};
+use mx_app_failure::Failure;
+use mx_app_start::{
+    Channels, FileWriter, Progress, Reader, SharedProgress, names_program, setup_of, text_of,
 };
+use mx_app_step::{print_kernel_report, write_history};
 use mx_app_turns::writes_over;
-use mx_cpus::{ActorSeat, Blank, Kernel, Naming, OutsideCall, Service, Shared, boot, drive_with};
+use mx_cpus::{ActorSeat, Blank, Naming, Outside, OutsideCall, Shared, boot, drive_with};
+use mx_machine::{Config, Kernel, Service};
 use mx_turns::Ending;
 use mx_word::NoMemory;
 use std::alloc::Global;
@@ -24,19 +26,24 @@ use std::sync::Wait;
 use std::thread::Threads;
 use std::time::Clock;
 
-/// What a run is of: how many ticks are made, and the calls of the outsider.
+/// Where a machine runs: the threads and the clock, the memory, and what shows how far it is.
 #[derive(Clone, Copy)]
-struct Outside<'a> {
-    ticks: u32,
-    calls: &'a [OutsideCall],
+struct RunPlace<'a, T, P> {
+    rt: &'a T,
+    alloc: Global,
+    progress: &'a P,
 }
 
 /// Drives a machine that was just booted, until it is at rest after its ticks and calls, or its history is full.
-fn drive_blank<M: Naming + Send + Sync, R: Threads + Wait + Clock + Sync>(
-    rt: &R,
-    alloc: Global,
+fn drive_blank<
+    M: Naming + Send + Sync,
+    T: Threads + Wait + Clock + Sync,
+    P: SharedProgress + Sync,
+>(
+    place: &RunPlace<'_, T, P>,
     blank: Blank,
     seats: Vec<ActorSeat>,
+    log: u32,
     outside: Outside<'_>,
 ) -> Result<Kernel, NoMemory>
     requires table { blank.table ≡ M.table }
@@ -49,21 +56,25 @@ fn drive_blank<M: Naming + Send + Sync, R: Threads + Wait + Clock + Sync>(
         seats.items kernel.history) }
 {
     let shared: Shared<M> = blank.open();
-    let Outside { ticks, calls } = outside;
-    let gate = RunGate::new(rt, shared.cpus(), ticks, !calls.is_empty());
-    match drive_with(rt, &shared, seats, &gate, ticks, calls) {
+    let plan = RunPlan {
+        respawner: shared.cpus(),
+        ticks: outside.ticks,
+        has_calls: !outside.calls.is_empty(),
+        log: log as usize,
+    };
+    let gate = RunGate::new(place.rt, place.progress, plan);
+    match drive_with(place.rt, &shared, seats, &gate, outside) {
         Ok(seats) => Ok(shared.into_kernel(seats)),
         Err(NoMemory) => {
-            let _kernel = shared.into_kernel(Vec::new(alloc));
+            let _kernel = shared.into_kernel(Vec::new(place.alloc));
             Err(NoMemory)
         }
     }
 }
 
 /// Boots the machine of a configuration and its services, and drives it.
-fn run_machine<R: Threads + Wait + Clock + Sync>(
-    rt: &R,
-    alloc: Global,
+fn run_machine<T: Threads + Wait + Clock + Sync, P: SharedProgress + Sync>(
+    place: &RunPlace<'_, T, P>,
     config: &Config,
     mut services: Vec<Service>,
     outside: Outside<'_>,
@@ -73,9 +84,9 @@ fn run_machine<R: Threads + Wait + Clock + Sync>(
     ensures { IfOk result (λ kernel. IsRun config.entry.now services.items outside.entry.ticks
         outside.entry.calls.now kernel) }
 {
-    let (blank, seats) = boot(alloc, config, &mut services)?;
-    let kernel = drive_blank::<Brand, R>(rt, alloc, blank, seats, outside)?;
-    kernel.opened();
+    let (blank, seats) = boot(place.alloc, config, &mut services)?;
+    let kernel = drive_blank::<Brand, T, P>(place, blank, seats, config.log, outside)?;
+    kernel.facts();
     Ok(kernel)
 }
 
@@ -96,12 +107,13 @@ fn ending_of(kernel: &Kernel, log: u32, outside: Outside<'_>) -> Ending
 }
 
 /// The names of a run's files: that of its configuration, which is read, that of its history, which is
-/// written, and that of outside events, which is read too, if it is named.
+/// written, and that of outside events, which is read too, if it is named. And how many ticks it makes.
 #[derive(Clone, Copy)]
-pub struct RunNames<'a> {
+pub struct RunWanted<'a> {
     pub config: &'a str,
     pub log: &'a str,
     pub events: Option<&'a str>,
+    pub ticks: u32,
 }
 
 /// What a run's files say: the configuration, its services, and the outsider's calls.
@@ -166,46 +178,55 @@ fn begin<R: Reader>(
 /// Runs the machine of a configuration, each processor in a thread of its own, until it is at rest
 /// after all ticks and the outside events of a file, or its history is full, and answers which. Then writes the history
 /// to a file, and prints the report. No file that is read is written over: if LOG has the name of CONFIG or
-/// EVENTS, nothing is read or written. If it has that of a service's program, nothing is run or written.
+/// EVENTS, nothing is read or written. If it has that of a service's program, nothing is run or written. While it runs,
+/// its threads show `progress` how many records the history has.
 pub fn run<
     T: Threads + Wait + Clock + Sync,
     R: Reader + Drop,
     F: FileWriter + Drop,
     W: Write + Drop,
+    P: Progress + SharedProgress + Sync,
 >(
     rt: &T,
     alloc: Global,
     channels: &mut Channels<R, F, W>,
-    names: RunNames<'_>,
-    ticks: u32,
+    wanted: RunWanted<'_>,
+    progress: &mut P,
 ) -> Result<Ending, Failure>
-    ensures { (qs : List Asked) × (ws : List Written)
+    ensures done { (qs : List Asked) × (ws : List Written)
         × (R.asked channels.new.reader ≡ R.asked channels.old.reader ++ qs)
         × (F.written channels.new.files ≡ F.written channels.old.files ++ ws)
-        × Runs names.entry.config.now (option_map (λ s. s.now) names.entry.events)
-        names.entry.log.now ticks qs ws
+        × Runs wanted.entry.config.now (option_map (λ s. s.now) wanted.entry.events)
+        wanted.entry.log.now wanted.entry.ticks qs ws
         (λ text. Appends (W.contents channels.old.out) (W.contents channels.new.out) text) result }
+    ensures shown { P.shown progress.new ≡ P.shown progress.old }
 {
-    if writes_over(names.config, names.events, names.log) {
+    if writes_over(wanted.config, wanted.events, wanted.log) {
         return Err(Failure::File);
     }
-    let begun = begin(alloc, &mut channels.reader, names.config, names.events)?;
+    let begun = begin(alloc, &mut channels.reader, wanted.config, wanted.events)?;
     let Begun {
         config,
         services,
         calls,
     } = begun;
-    if names_program(&config, names.log) {
+    if names_program(&config, wanted.log) {
         return Err(Failure::File);
     }
     let outside = Outside {
-        ticks,
+        ticks: wanted.ticks,
         calls: calls.as_slice(),
     };
-    let kernel = run_machine(rt, alloc, &config, services, outside)?;
+    let place = RunPlace {
+        rt,
+        alloc,
+        progress: &*progress,
+    };
+    let kernel = run_machine(&place, &config, services, outside)?;
+    progress.clear();
     let ending = ending_of(&kernel, config.log, outside);
     // If memory runs out for the report, the history is written already.
-    write_history(alloc, &kernel, &mut channels.files, names.log)?;
+    write_history(alloc, &kernel, &mut channels.files, wanted.log)?;
     print_kernel_report(alloc, &kernel, &mut channels.out)?;
     Ok(ending)
 }

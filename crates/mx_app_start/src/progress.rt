@@ -1,10 +1,12 @@
 //! How far a command is, for a reader at a terminal.
 
 ghost use Rattle.std.specs.Prelude.{◌≡◌, []};
+ghost use Rattle.mx_walk.specs.declared.progress.Part.{Part as Parts};
 
 use crate::noted::Noted;
 use mx_walk::{Part, Progress};
-use std::time::{Clock, Duration, Instant};
+use std::sync::atomic::{AtomicBool, AtomicU64, Ordering};
+use std::time::{Clock, Instant};
 
 /// How many milliseconds a command works before its progress is printed.
 const PATIENCE: u64 = 1000;
@@ -15,56 +17,101 @@ const PAUSE: u64 = 100;
 /// Goes back to the beginning of the line, and empties it.
 const EMPTY_LINE: &str = "\r\x1b[K";
 
+/// Is shown how far a work is that several threads do.
+pub trait SharedProgress {
+    /// What it was shown. A call promises this of itself when it returns.
+    ghost was_shown: { Self → Parts → Type 0 } = { λ _ _. Unit {0} };
+
+    /// So many parts are done, as one of the threads has seen.
+    fn show_shared(&self, part: Part)
+        ensures { was_shown self.now part };
+}
+
+/// One line of the runtime's standard error, which any thread may print anew: from a second after it was made on, and
+/// not twice in a tenth of a second.
+#[derive(Drop)]
+struct ProgressLine<'a, R> {
+    rt: &'a R,
+    /// What the parts are: `positions` of a sweep, `records` of a history.
+    unit: &'a str,
+    /// When it was made; none if it is never printed: standard error is no terminal, or there is no clock.
+    began: Option<Instant>,
+    /// After how many milliseconds it may be printed next.
+    due: AtomicU64,
+    is_printed: AtomicBool,
+}
+
+impl<'a, R: Clock> ProgressLine<'a, R> {
+    fn new(rt: &'a R, is_terminal: bool, unit: &'a str) -> ProgressLine<'a, R> {
+        let began = if is_terminal {
+            Instant::now(rt).ok()
+        } else {
+            None
+        };
+        ProgressLine {
+            rt,
+            unit,
+            began,
+            due: AtomicU64::new(PATIENCE),
+            is_printed: AtomicBool::new(false),
+        }
+    }
+
+    /// Whether the line is due. Of threads that ask at once one alone is answered with yes.
+    fn is_due(&self) -> bool {
+        let Some(began) = self.began else {
+            return false;
+        };
+        let Ok(passed) = began.elapsed(self.rt) else {
+            return false;
+        };
+        let now = u64::try_from(passed.as_millis()).unwrap_or(u64::MAX);
+        let due = self.due.load(Ordering::SeqCst);
+        if now < due {
+            return false;
+        }
+        let next = now.saturating_add(PAUSE);
+        self.due
+            .compare_exchange(due, next, Ordering::SeqCst, Ordering::SeqCst)
+            .is_ok()
+    }
+}
+
+impl<'a, R: Clock + Eprint> ProgressLine<'a, R> {
+    /// Prints the line, if it is due.
+    fn show(&self, part: Part) {
+        if self.is_due() {
+            let Part { done, all } = part;
+            let unit = self.unit;
+            let _ = eprint!(self.rt; "{EMPTY_LINE}mx: {done} of {all} {unit}");
+            self.is_printed.store(true, Ordering::SeqCst);
+        }
+    }
+
+    /// Takes the line away.
+    fn clear(&self) {
+        if self.is_printed.swap(false, Ordering::SeqCst) {
+            let _ = eprint!(self.rt; "{EMPTY_LINE}");
+        }
+    }
+}
+
 /// Prints how far a command is, in one line of the runtime's standard error: if that is a terminal, and from
-/// a second after the first part on.
+/// a second after it was made on.
 #[derive(Drop)]
 pub struct RuntimeProgress<'a, R> {
-    rt: &'a R,
-    is_terminal: bool,
-    /// What the parts are, in a line: `positions` of a sweep, `records` of a walk.
-    unit: &'a str,
-    /// When the next line is due; none before the first part.
-    next: Option<Instant>,
-    has_line: bool,
+    line: ProgressLine<'a, R>,
     parts: Noted<Part>,
 }
 
-impl<'a, R> RuntimeProgress<'a, R> {
+impl<'a, R: Clock> RuntimeProgress<'a, R> {
     /// What prints progress on a runtime's standard error, if that is a terminal, and was shown none yet.
     pub fn new(rt: &'a R, is_terminal: bool, unit: &'a str) -> RuntimeProgress<'a, R>
         ensures { result.parts.items ≡ [] }
     {
         RuntimeProgress {
-            rt,
-            is_terminal,
-            unit,
-            next: None,
-            has_line: false,
+            line: ProgressLine::new(rt, is_terminal, unit),
             parts: Noted::new(),
-        }
-    }
-}
-
-impl<'a, R: Clock> RuntimeProgress<'a, R> {
-    /// Whether a line is due, by the clock; without a clock none is.
-    fn is_due(&mut self) -> bool
-        ensures { self.new.parts ≡ self.old.parts }
-    {
-        let Ok(now) = Instant::now(self.rt) else {
-            return false;
-        };
-        match self.next {
-            None => {
-                self.next = now.checked_add(Duration::from_millis(PATIENCE));
-                false
-            }
-            Some(next) => {
-                let is_due = now >= next;
-                if is_due {
-                    self.next = now.checked_add(Duration::from_millis(PAUSE));
-                }
-                is_due
-            }
         }
     }
 }
@@ -74,19 +121,17 @@ impl<'a, R: Clock + Eprint> Progress for RuntimeProgress<'a, R> {
 
     fn show(&mut self, part: Part) {
         self.parts = self.parts.and(&part);
-        if self.is_terminal && self.is_due() {
-            let Part { done, all } = part;
-            let unit = self.unit;
-            let _ = eprint!(self.rt; "{EMPTY_LINE}mx: {done} of {all} {unit}");
-            self.has_line = true;
-        }
+        self.line.show(part);
     }
 
     fn clear(&mut self) {
-        if self.has_line {
-            let _ = eprint!(self.rt; "{EMPTY_LINE}");
-            self.has_line = false;
-        }
+        self.line.clear();
+    }
+}
+
+impl<'a, R: Clock + Eprint> SharedProgress for RuntimeProgress<'a, R> {
+    fn show_shared(&self, part: Part) {
+        self.line.show(part);
     }
 }
 
@@ -115,4 +160,8 @@ impl Progress for NoProgress {
     }
 
     fn clear(&mut self) {}
+}
+
+impl SharedProgress for NoProgress {
+    fn show_shared(&self, _part: Part) {}
 }

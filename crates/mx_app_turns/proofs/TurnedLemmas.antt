@@ -21,6 +21,7 @@ use Rattle.mx_turns.specs.declared.turns.Ending.{Ending}
 use Rattle.mx_turns.specs.declared.turns.Ending.TheVariants.{Turns}
 use Rattle.mx_turns.specs.Made.{HasMade}
 use Rattle.mx_turns.proofs.MadeLemmas.{kept_boot}
+use Rattle.mx_turns.specs.Shown.{turns_shown}
 use Rattle.mx_turns.specs.Turns.{refusable, turns}
 use Rattle.mx_app_failure.specs.declared.failure.Failure.{Failure as Kind}
 use Rattle.mx_app_step.proofs.AcceptedLemmas.{not_refused}
@@ -35,7 +36,8 @@ use Rattle.mx_app_step.specs.Text.{saved_text}
 use Rattle.mx_app_step.specs.Written.{Written, kept}
 use Rattle.mx_app_step.specs.declared.records.Replayed.{Replayed}
 use Rattle.mx_app_step.specs.declared.records.Replayed.TheVariants as replayed
-use Rattle.mx_app_turns.specs.Turned.{IsBegun, IsNotBegun, IsTurned, MakesTurns, coming, writes_over}
+use Rattle.mx_walk.specs.declared.progress.Part.{Part}
+use Rattle.mx_app_turns.specs.Turned.{IsBegun, IsNotBegun, IsTurned, MakesTurns, ShowsTurns, coming, writes_over}
 
 -- ---- a machine's turns
 
@@ -81,6 +83,19 @@ turned_at c vs bound known listed items ticks m n k ending same_bound same_items
     (subst (λ (x : BootAndHistory). All (IsWritable (actors (replay x))) x.history) same_kernel written)
     (subst (λ (x : BootAndHistory). (replay x).records ≤ 2 ^ 20) same_kernel room))))
 
+-- what was shown of its turns, by what was read and asked for
+pub shows_at : (c : Config) (vs : List Service) (bound known log : ℕ) (listed items : List Event) (ticks : ℕ) (w : World) (before shown now : List Part) → bound ≡ known → log ≡ c.log → listed ≡ items → w ≡ world_at_boot c vs
+    → shown ≡ before ++ turns_shown log bound w (coming listed ticks) → now ≡ shown → (ps : List Part) × (now ≡ before ++ ps) × ShowsTurns c vs known (coming items ticks) ps
+shows_at c vs bound known log listed items ticks w before shown now same_bound same_log same_items booted is cleared = (
+  turns_shown c.log known (world_at_boot c vs) (coming items ticks),
+  cleared ∙ is
+      ∙ ap (λ n. before ++ turns_shown log n w (coming listed ticks)) same_bound
+      ∙ ap (λ n. before ++ turns_shown n known w (coming listed ticks)) same_log
+      ∙ ap (λ (l : List Event). before ++ turns_shown c.log known w (coming l ticks)) same_items
+      ∙ ap (λ (u : World). before ++ turns_shown c.log known u (coming items ticks)) booted,
+  refl,
+)
+
 -- ---- what `mx turns` tells, by how it ends
 
 rules_at_boot : (c : Config) (vs : List Service) → (world_at_boot c vs).table.rules ≡ c.rules
@@ -95,30 +110,31 @@ unsaved name text ws f h = elim h [
 ]
 
 module _ (config : List ℕ) (file : Option (List ℕ)) (log : List ℕ) (ticks bound : ℕ) (qs : List Asked) (Prints : List ℕ → Type 0) (apart : writes_over config file log ≡ false) where
-  pub not_begun : (f : Kind) (r : Result Ending Kind) → IsNotBegun config file qs f → IsErrAnd r (λ y. y ≡ f) → MakesTurns config file log ticks bound qs [] Prints r
+  pub not_begun : (f : Kind) (r : Result Ending Kind) → IsNotBegun config file qs f → IsErrAnd r (λ y. y ≡ f) → MakesTurns config file log ticks bound qs [] [] Prints r
   not_begun f (Ok u) why h = absurd h
-  not_begun f (Err y) why h = inr (inl (apart, refl, subst (λ z. IsNotBegun config file qs z) (sym h) why))
+  not_begun f (Err y) why h = inr (inl (apart, refl, refl, subst (λ z. IsNotBegun config file qs z) (sym h) why))
 
   -- a program isn't written over
-  pub spared : (c : Config) (vs : List Service) (events : List Event) (f : Kind) → IsBegun config file qs c vs events → SparesProgram c log [] Prints f → MakesTurns config file log ticks bound qs [] Prints (Err f)
-  spared c vs events f begun named = inr (inr (inl (c, vs, events, apart, begun, named)))
+  pub spared : (c : Config) (vs : List Service) (events : List Event) (f : Kind) → IsBegun config file qs c vs events → SparesProgram c log [] Prints f → MakesTurns config file log ticks bound qs [] [] Prints (Err f)
+  spared c vs events f begun named = inr (inr (inl (c, vs, events, apart, begun, refl, named)))
 
-  module _ (c : Config) (vs : List Service) (events : List Event) (k : BootAndHistory) (ending : Ending) (begun : IsBegun config file qs c vs events) (other : names_program c log ≡ false) (made : IsTurned c vs bound (coming events ticks) k ending) where
+  module _ (c : Config) (vs : List Service) (events : List Event) (k : BootAndHistory) (ending : Ending) (ps : List Part) (begun : IsBegun config file qs c vs events) (other : names_program c log ≡ false) (made : IsTurned c vs bound (coming events ticks) k ending)
+      (shown : ShowsTurns c vs bound (coming events ticks) ps) where
     by_rules : text_kept k ≡ saved_text c.rules k.history
     by_rules = ap (λ (r : Rules). saved_text r k.history) (ap (λ (w : World). w.table.rules) made.boot ∙ rules_at_boot c vs)
 
-    pub unwritten : (ws : List Written) (f : Kind) (r : Result Ending Kind) → IsUnwritten log (text_kept k) ws f → IsErrAnd r (λ y. y ≡ f) → MakesTurns config file log ticks bound qs ws Prints r
+    pub unwritten : (ws : List Written) (f : Kind) (r : Result Ending Kind) → IsUnwritten log (text_kept k) ws f → IsErrAnd r (λ y. y ≡ f) → MakesTurns config file log ticks bound qs ws ps Prints r
     unwritten ws f (Ok u) why h = absurd h
     unwritten ws f (Err y) why h =
-        inr (inr (inr (c, vs, events, k, ending, apart, begun, other, made, subst (λ t. IsUnsaved log t ws y) by_rules (subst (λ z. IsUnsaved log (text_kept k) ws z) (sym h) (unsaved log (text_kept k) ws f why)))))
+        inr (inr (inr (c, vs, events, k, ending, apart, begun, other, made, shown, subst (λ t. IsUnsaved log t ws y) by_rules (subst (λ z. IsUnsaved log (text_kept k) ws z) (sym h) (unsaved log (text_kept k) ws f why)))))
 
-    pub untold : (f : Kind) (r : Result Ending Kind) → IsWanting f → IsErrAnd r (λ y. y ≡ f) → MakesTurns config file log ticks bound qs (kept log (text_kept k) ∷ []) Prints r
+    pub untold : (f : Kind) (r : Result Ending Kind) → IsWanting f → IsErrAnd r (λ y. y ≡ f) → MakesTurns config file log ticks bound qs (kept log (text_kept k) ∷ []) ps Prints r
     untold f (Ok u) why h = absurd h
     untold f (Err y) why h =
-        inr (inr (inr (c, vs, events, k, ending, apart, begun, other, made, inr (inr (ap (λ t. kept log t ∷ []) by_rules, subst IsWanting (sym h) why)))))
+        inr (inr (inr (c, vs, events, k, ending, apart, begun, other, made, shown, inr (inr (ap (λ t. kept log t ∷ []) by_rules, subst IsWanting (sym h) why)))))
 
-    pub written : Prints (report_text (replay k).table (replay k).services) → MakesTurns config file log ticks bound qs (kept log (text_kept k) ∷ []) Prints (Ok ending)
-    written printed = (c, vs, events, k, apart, begun, other, made, ap (λ t. kept log t ∷ []) by_rules, printed)
+    pub written : Prints (report_text (replay k).table (replay k).services) → MakesTurns config file log ticks bound qs (kept log (text_kept k) ∷ []) ps Prints (Ok ending)
+    written printed = (c, vs, events, k, apart, begun, other, made, shown, ap (λ t. kept log t ∷ []) by_rules, printed)
 
 -- ---- its replay
 

@@ -13,7 +13,9 @@ use Rattle.mx_machine.specs.World.{actors}
 use Rattle.mx_machine.specs.Service.{Service}
 use Rattle.mx_machine.specs.Machine.{kept_along}
 use Rattle.mx_turns.specs.declared.turns.Ending.{Ending}
+use Rattle.mx_turns.specs.Shown.{turns_shown}
 use Rattle.mx_turns.specs.Turns.{turns}
+use Rattle.mx_walk.specs.declared.progress.Part.{Part}
 use Rattle.mx_app_failure.specs.declared.failure.Failure.{Failure as Kind}
 use Rattle.mx_app_failure.specs.declared.failure.Failure.TheVariants.{File, NoMemory}
 use Rattle.mx_app_step.specs.Asked.{Asked}
@@ -44,6 +46,10 @@ pub record IsTurned (c : Config) (vs : List Service) (n : ℕ) (coming : List Ev
   pub accepted : AreAccepted k.boot (events_of_history k.history)
   pub written : All (IsWritable (actors (replay k))) k.history
 
+-- what is shown of them: after each, how many records the history has, of those that the configuration allows
+abbrev pub ShowsTurns : Config → List Service → ℕ → List Event → List Part → Type 0
+ShowsTurns c vs n coming ps = ps ≡ turns_shown c.log n (world_at_boot c vs) coming
+
 -- ---- `mx turns`
 
 -- what is to come: the file's events, if a file is named, and then the ticks
@@ -65,20 +71,21 @@ abbrev pub writes_over : List ℕ → Option (List ℕ) → List ℕ → Bool
 writes_over config None log = bytes_eq config log
 writes_over config (Some events) log = bytes_eq config log || bytes_eq events log
 
--- WHAT `mx turns` DOES: it writes the text of the history of a machine's turns, whole, and prints the report on the
--- machine after them; or it fails, and this is why
-abbrev pub MakesTurns : List ℕ → Option (List ℕ) → List ℕ → ℕ → ℕ → List Asked → List Written → (List ℕ → Type 0) → Result Ending Kind → Type 0
-MakesTurns config events log ticks n qs ws Prints (Ok ending) =
+-- WHAT `mx turns` DOES: it shows after each turn how many records the history has, of those that it may have; it writes
+-- the text of the history of a machine's turns, whole, and prints the report on the machine after them; or it fails, and
+-- this is why
+abbrev pub MakesTurns : List ℕ → Option (List ℕ) → List ℕ → ℕ → ℕ → List Asked → List Written → List Part → (List ℕ → Type 0) → Result Ending Kind → Type 0
+MakesTurns config events log ticks n qs ws ps Prints (Ok ending) =
     (c : Config) × (vs : List Service) × (xs : List Event) × (k : BootAndHistory) × (writes_over config events log ≡ false) × IsBegun config events qs c vs xs
-    × (names_program c log ≡ false) × IsTurned c vs n (coming xs ticks) k ending
+    × (names_program c log ≡ false) × IsTurned c vs n (coming xs ticks) k ending × ShowsTurns c vs n (coming xs ticks) ps
     × (ws ≡ kept log (saved_text c.rules k.history) ∷ []) × Prints (report_text (replay k).table (replay k).services)
-MakesTurns config events log ticks n qs ws Prints (Err f) =
-    ((writes_over config events log ≡ true) × (qs ≡ []) × (ws ≡ []) × (f ≡ File))
-    ⊎ (((writes_over config events log ≡ false) × (ws ≡ []) × IsNotBegun config events qs f)
+MakesTurns config events log ticks n qs ws ps Prints (Err f) =
+    ((writes_over config events log ≡ true) × (qs ≡ []) × (ws ≡ []) × (ps ≡ []) × (f ≡ File))
+    ⊎ (((writes_over config events log ≡ false) × (ws ≡ []) × (ps ≡ []) × IsNotBegun config events qs f)
     ⊎ (((c : Config) × (vs : List Service) × (xs : List Event) × (writes_over config events log ≡ false) × IsBegun config events qs c vs xs
-    × SparesProgram c log ws Prints f)
+    × (ps ≡ []) × SparesProgram c log ws Prints f)
     ⊎ ((c : Config) × (vs : List Service) × (xs : List Event) × (k : BootAndHistory) × (ending : Ending) × (writes_over config events log ≡ false) × IsBegun config events qs c vs xs
-    × (names_program c log ≡ false) × IsTurned c vs n (coming xs ticks) k ending × IsUnsaved log (saved_text c.rules k.history) ws f)))
+    × (names_program c log ≡ false) × IsTurned c vs n (coming xs ticks) k ending × ShowsTurns c vs n (coming xs ticks) ps × IsUnsaved log (saved_text c.rules k.history) ws f)))
 
 -- ---- its replay
 

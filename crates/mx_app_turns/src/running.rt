@@ -10,8 +10,9 @@ ghost use Rattle.mx_app_turns.specs.Swept.{HasRun, IsSwept};
 use crate::booting::boot_again;
 use crate::faults::{FaultLine, perform_fault_line};
 use crate::outside::coming_of;
-use mx_app_step::{Config, Machine, Record, perform_records};
-use mx_machine::actors_stay;
+use mx_app_start::NoProgress;
+use mx_app_step::perform_records;
+use mx_machine::{Config, Machine, Record, actors_stay};
 use mx_turns::{Ending, Outside, make_turns};
 use mx_word::NoMemory;
 use std::alloc::{AllocError, Global};
@@ -83,6 +84,9 @@ pub(crate) fn run_at(
         events: events.as_slice(),
         ticks: 0,
     };
-    let ending = make_turns(&mut machine, outside, u64::from(sweep.bound));
+    let bound = u64::from(sweep.bound);
+    let log = sweep.config.log as usize;
+    // A sweep shows its positions, and not their turns.
+    let ending = make_turns(&mut machine, outside, bound, log, &mut NoProgress::new());
     Ok((machine, ending))
 }

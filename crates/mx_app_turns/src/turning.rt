@@ -6,19 +6,19 @@ ghost use Rattle.mx_machine.specs.Machine.{world_of};
 ghost use Rattle.mx_machine.specs.Boot.{world_at_boot};
 ghost use Rattle.mx_machine.specs.Service.{Service};
 ghost use Rattle.mx_machine.specs.World.{actors};
+ghost use Rattle.mx_walk.specs.declared.progress.Part.{Part as Parts};
 ghost use Rattle.mx_machine.specs.declared.config.Config.{Config as Configured};
 ghost use Rattle.mx_app_step.specs.Asked.{Asked};
 ghost use Rattle.mx_app_step.specs.Written.{Written};
 ghost use Rattle.mx_app_turns.specs.Turned.{IsBegun, IsNotBegun, MakesTurns, writes_over};
 
 use crate::events::OutsideEvents;
-use mx_app_start::start;
-use mx_app_step::{
-    Channels, Config, Failure, FileWriter, Machine, Reader, names_program, print_kernel_report,
-    setup_of, write_history,
-};
-use mx_machine::Kernel;
-use mx_turns::{Ending, Event, Outside, make_turns};
+use mx_app_failure::Failure;
+use mx_app_start::{Channels, FileWriter, Reader, names_program, setup_of, start};
+use mx_app_step::{print_kernel_report, write_history};
+use mx_machine::{Config, Event, Kernel, Machine};
+use mx_turns::{Ending, Outside, make_turns};
+use mx_walk::Progress;
 use std::alloc::Global;
 use std::io::Write;
 
@@ -116,18 +116,21 @@ pub fn writes_over(config: &str, events: Option<&str>, log: &str) -> bool
 /// until it is at rest and none is to come, or all turns are made, or its history is full. Then writes the
 /// history to a file, and prints the report. Answers how the turns ended. No file that is read
 /// is written over: if LOG has the name of CONFIG or EVENTS, nothing is read or written. If it has that
-/// of a service's program, no turn is made and nothing is written.
-pub fn turns<R: Reader + Drop, F: FileWriter + Drop, W: Write + Drop>(
+/// of a service's program, no turn is made and nothing is written. After each turn `progress` is shown how many
+/// records the history has.
+pub fn turns<R: Reader + Drop, F: FileWriter + Drop, W: Write + Drop, P: Progress>(
     alloc: Global,
     channels: &mut Channels<R, F, W>,
     names: TurnsNames<'_>,
     wanted: TurnsWanted,
+    progress: &mut P,
 ) -> Result<Ending, Failure>
-    ensures { (qs : List Asked) × (ws : List Written)
+    ensures { (qs : List Asked) × (ws : List Written) × (ps : List Parts)
         × (R.asked channels.new.reader ≡ R.asked channels.old.reader ++ qs)
         × (F.written channels.new.files ≡ F.written channels.old.files ++ ws)
+        × (P.shown progress.new ≡ P.shown progress.old ++ ps)
         × MakesTurns names.entry.config.now (option_map (λ s. s.now) names.entry.events)
-        names.entry.log.now wanted.ticks wanted.bound qs ws
+        names.entry.log.now wanted.ticks wanted.bound qs ws ps
         (λ text. Appends (W.contents channels.old.out) (W.contents channels.new.out) text) result }
 {
     if writes_over(names.config, names.events, names.log) {
@@ -141,9 +144,12 @@ pub fn turns<R: Reader + Drop, F: FileWriter + Drop, W: Write + Drop>(
         events: begun.events.as_slice(),
         ticks: wanted.ticks,
     };
-    let ending = make_turns(&mut begun.machine, outside, u64::from(wanted.bound));
+    let log = begun.config.log as usize;
+    let bound = u64::from(wanted.bound);
+    let ending = make_turns(&mut begun.machine, outside, bound, log, progress);
+    progress.clear();
     let kernel = begun.machine.kernel();
-    kernel.opened();
+    kernel.facts();
     write_history(alloc, kernel, &mut channels.files, names.log)?;
     print_kernel_report(alloc, kernel, &mut channels.out)?;
     Ok(ending)

@@ -1,5 +1,5 @@
 -- Loops of calls, call by call.
-use Rattle.std.proofs.Common.{◌≡◌, ◌∙◌, ℕ, zero, suc, nat_lt, Bool, true, false, if◌then◌else◌, inl, inr, ◌+◌, ◌-◌, ◌^◌, ◌<◌, ◌≤◌, ◌≢◌, min, List, [], ◌∷◌, ◌++◌, map, Some, None, Result, Ok, Err, IsOk, IsErr, IfOk, IfErr, refl, sym, ap, subst, arith, append_assoc}
+use Rattle.std.proofs.Common.{◌≡◌, ◌∙◌, ℕ, zero, suc, nat_lt, Bool, true, false, if◌then◌else◌, inl, inr, ◌+◌, ◌-◌, ◌^◌, ◌<◌, ◌≤◌, ◌≢◌, min, List, [], ◌∷◌, ◌++◌, length, map, Some, None, Result, Ok, Err, IsOk, IsErr, IfOk, IfErr, refl, sym, ap, subst, arith, append_assoc}
 use Rattle.std.proofs.lemmas.List.{append-nil}
 use Rattle.atomic_table.specs.Seated.{TableId}
 use Rattle.mx_machine.specs.declared.events.Answer.{Answer}
@@ -17,7 +17,8 @@ use Rattle.mx_machine.specs.World.{World, free_records}
 use Rattle.mx_loan.proofs.Fronts.{prefix_self, prefix_trans}
 use Rattle.mx_cpus.specs.Seats.{SeatView, LoanView, back_record, record_of, take_record}
 use Rattle.mx_cpus.specs.Calls.{Follows, IsAnsweredCall, IsGiveCall, IsRefusedCall, IsRestCall, IsTakeCall}
-use Rattle.mx_cpus.specs.Gates.{GateCall, held_call, given_call, again_call}
+use Rattle.mx_cpus.specs.Gates.{GateCall, held_call, given_call, again_call, seen_call}
+use Rattle.mx_cpus.specs.declared.locked.HowFar.{HowFar}
 use Rattle.mx_cpus.specs.declared.side.FreeSide.{FreeSide}
 use Rattle.mx_cpus.specs.declared.progress.Progress.{Progress}
 use Rattle.mx_cpus.specs.declared.progress.Progress.TheVariants.{GoesOn, Full}
@@ -30,6 +31,27 @@ follows_self s own = record { table = refl; actor = refl; seen = prefix_self s.s
 
 pub follows_trans : (s t u : SeatView) → Follows s t → Follows t u → Follows s u
 follows_trans s t u p q = record { table = q.table ∙ p.table; actor = q.actor ∙ p.actor; seen = prefix_trans s.seen t.seen u.seen p.seen q.seen; own = q.own }
+
+-- ---- a question
+
+-- actor a looked from the seat u on, and the seat v saw so far; this was shown to the gate, and the gate was asked
+pub record HasAsked (boot : World) (WasCalled : GateCall → Type 0) (u v : SeatView) (a : ℕ) (far : HowFar) (goes_on : Bool) : Type 0 where
+  pub rests : IsRestCall boot u v far.at_rest
+  pub many : far.records ≡ length v.seen
+  pub seen : WasCalled (seen_call a far.records)
+  pub asked : WasCalled (again_call a far.at_rest goes_on)
+
+-- the gate was shown what a seat has seen, by the seat's own number and the number that was counted
+pub seen_by : (WasCalled : GateCall → Type 0) (v : SeatView) (a b n : ℕ) → a ≡ b → n ≡ length v.seen → WasCalled (seen_call a n) → WasCalled (seen_call b (length v.seen))
+seen_by WasCalled v a b n who many seen = subst (λ i. WasCalled (seen_call i (length v.seen))) who (subst (λ k. WasCalled (seen_call a k)) many seen)
+
+pub asked_by : (boot : World) (WasCalled : GateCall → Type 0) (u v : SeatView) (a : ℕ) (far : HowFar) (answer goes_on : Bool) → a ≡ u.actor → answer ≡ goes_on → HasAsked boot WasCalled u v a far answer → IsAsked boot WasCalled u v goes_on
+asked_by boot WasCalled u v a far answer goes_on who is h = record {
+  rest = far.at_rest;
+  rests = h.rests;
+  seen = seen_by WasCalled v a u.actor far.records who h.many h.seen;
+  asked = subst (λ i. WasCalled (again_call i far.at_rest goes_on)) who (subst (λ g. WasCalled (again_call a far.at_rest g)) is h.asked);
+}
 
 -- ---- a processor
 
@@ -102,9 +124,10 @@ module _ (boot : World) (WasCalled : GateCall → Type 0) where
       ]
 
   -- a turn more
-  pub turn_after : (s t u v : SeatView) (l m : LoanView) (so_many n a k : ℕ) → AreTurns boot WasCalled s so_many n t → a ≡ t.actor → k ≡ turn_number n → IsTakeCall boot t u l → WasCalled (held_call a k)
-      → m.out ≡ (held_run longest_run l.out).1 → IsGiveCall boot u v m → WasCalled (given_call a) → AreTurns boot WasCalled s (suc so_many) (n + 1) v
-  turn_after s t u v l m so_many n a k before who number took held ran gave given = (
+  pub turn_after : (s t u v : SeatView) (l m : LoanView) (so_many n a k records : ℕ) → AreTurns boot WasCalled s so_many n t → a ≡ t.actor → k ≡ turn_number n → IsTakeCall boot t u l → WasCalled (held_call a k)
+      → m.out ≡ (held_run longest_run l.out).1 → IsGiveCall boot u v m → WasCalled (given_call a)
+      → records ≡ length v.seen → WasCalled (seen_call a records) → AreTurns boot WasCalled s (suc so_many) (n + 1) v
+  turn_after s t u v l m so_many n a k records before who number took held ran gave given many seen = (
     n,
     t,
     before,
@@ -119,6 +142,7 @@ module _ (boot : World) (WasCalled : GateCall → Type 0) where
         runs = ran;
         gives = gave;
         given = subst (λ i. WasCalled (given_call i)) who given;
+        seen = seen_by WasCalled v a t.actor records who many seen;
       },
     ),
   )
@@ -128,13 +152,13 @@ module _ (boot : World) (WasCalled : GateCall → Type 0) where
   next_turn n k m number is = omega (arith, number, is)
 
   -- a question after a refusal
-  pub waited : (t u v : SeatView) (r : Refusal) (b goes_on : Bool) (a : ℕ) → a ≡ t.actor → IsRefusedCall boot t u events.Take r → r ≢ LogFull → IsRestCall boot u v b → WasCalled (again_call a b goes_on) → IsWait boot WasCalled t v goes_on
-  waited t u v r b goes_on a who took other rests asked = record {
+  pub waited : (t u v : SeatView) (r : Refusal) (a : ℕ) (far : HowFar) (answer goes_on : Bool) → a ≡ t.actor → answer ≡ goes_on → IsRefusedCall boot t u events.Take r → r ≢ LogFull → HasAsked boot WasCalled u v a far answer → IsWait boot WasCalled t v goes_on
+  waited t u v r a far answer goes_on who is took other asked = record {
     seat = u;
     refusal = r;
     takes = took;
     other = other;
-    asks = record { rest = b; rests = rests; asked = subst (λ i. WasCalled (again_call i b goes_on)) (who ∙ sym took.follows.actor) asked };
+    asks = asked_by boot WasCalled u v a far answer goes_on (who ∙ sym took.follows.actor) is asked;
   }
 
   pub wait_after : (s t v : SeatView) (so_many n : ℕ) → AreTurns boot WasCalled s so_many n t → IsWait boot WasCalled t v true → AreTurns boot WasCalled s (suc so_many) n v
@@ -151,16 +175,17 @@ pub record TurnsSoFar (boot : World) (WasCalled : GateCall → Type 0) (s t : Se
   pub goes_on : side.goes_on ≡ true
 
 -- it goes on after a turn
-pub turns_go_on : (boot : World) (WasCalled : GateCall → Type 0) (s t u v : SeatView) (l m : LoanView) (x y : FreeSide) (a k : ℕ) → TurnsSoFar boot WasCalled s t x → s.held ≡ None → IsTakeCall boot t u l
+pub turns_go_on : (boot : World) (WasCalled : GateCall → Type 0) (s t u v : SeatView) (l m : LoanView) (x y : FreeSide) (a k records : ℕ) → TurnsSoFar boot WasCalled s t x → s.held ≡ None → IsTakeCall boot t u l
     → WasCalled (held_call x.actor x.turn) → a ≡ x.actor → k ≡ x.turn → m.out ≡ (held_run longest_run l.out).1 → IsGiveCall boot u v m → WasCalled (given_call a)
-    → y.actor ≡ a → y.turn ≡ min (k + 1) (2 ^ 64 - 1) → y.goes_on ≡ true → TurnsSoFar boot WasCalled s v y
-turns_go_on boot WasCalled s t u v l m x y a k so_far empty took held who number ran gave given same next on =
+    → records ≡ length v.seen → WasCalled (seen_call a records) → y.actor ≡ a → y.turn ≡ min (k + 1) (2 ^ 64 - 1) → y.goes_on ≡ true → TurnsSoFar boot WasCalled s v y
+turns_go_on boot WasCalled s t u v l m x y a k records so_far empty took held who number ran gave given many seen same next on =
     let n = so_far.turns in
     let here : x.actor ≡ t.actor = so_far.actor ∙ sym so_far.made.follows.actor in
     record {
       so_many = suc so_far.so_many;
       turns = n + 1;
-      course = turn_after boot WasCalled s t u v l m so_far.so_many n x.actor x.turn so_far.course here so_far.turn took held ran gave (subst (λ i. WasCalled (given_call i)) who given);
+      course = turn_after boot WasCalled s t u v l m so_far.so_many n x.actor x.turn records so_far.course here so_far.turn took held ran gave (subst (λ i. WasCalled (given_call i)) who given) many
+          (subst (λ i. WasCalled (seen_call i records)) who seen);
       made = turn_more boot s t u v l m so_far.made took gave;
       actor = same ∙ who ∙ so_far.actor;
       turn = next_turn boot WasCalled n k y.turn (number ∙ so_far.turn) next;
@@ -168,11 +193,11 @@ turns_go_on boot WasCalled s t u v l m x y a k so_far empty took held who number
     }
 
 -- and after a question that was answered with yes
-pub turns_wait : (boot : World) (WasCalled : GateCall → Type 0) (s t u v : SeatView) (r : Refusal) (b : Bool) (x y : FreeSide) → TurnsSoFar boot WasCalled s t x → IsRefusedCall boot t u events.Take r → r ≢ LogFull → IsRestCall boot u v b
-    → WasCalled (again_call x.actor b y.goes_on) → y.actor ≡ x.actor → y.turn ≡ x.turn → y.goes_on ≡ true → TurnsSoFar boot WasCalled s v y
-turns_wait boot WasCalled s t u v r b x y so_far took other rests asked same next on =
+pub turns_wait : (boot : World) (WasCalled : GateCall → Type 0) (s t u v : SeatView) (r : Refusal) (far : HowFar) (x y : FreeSide) → TurnsSoFar boot WasCalled s t x → IsRefusedCall boot t u events.Take r → r ≢ LogFull
+    → HasAsked boot WasCalled u v x.actor far y.goes_on → y.actor ≡ x.actor → y.turn ≡ x.turn → y.goes_on ≡ true → TurnsSoFar boot WasCalled s v y
+turns_wait boot WasCalled s t u v r far x y so_far took other asked same next on =
     let here : x.actor ≡ t.actor = so_far.actor ∙ sym so_far.made.follows.actor in
-    let wait = waited boot WasCalled t u v r b true x.actor here took other rests (subst (λ g. WasCalled (again_call x.actor b g)) on asked) in
+    let wait = waited boot WasCalled t u v r x.actor far y.goes_on true here on took other asked in
     record {
       so_many = suc so_far.so_many;
       turns = so_far.turns;
@@ -278,10 +303,6 @@ round_full_made boot left s t own full = elim full [
       rounds_both (left - (left - 1)) 0 left s later.0 t first (sweep_made boot later.0 t first.follows.own later.2) (omega arith)
 ]
 
--- a question after a round
-asked_by : (boot : World) (WasCalled : GateCall → Type 0) (u v : SeatView) (b goes_on : Bool) (a : ℕ) → a ≡ u.actor → IsRestCall boot u v b → WasCalled (again_call a b goes_on) → IsAsked boot WasCalled u v goes_on
-asked_by boot WasCalled u v b goes_on a who rests asked = record { rest = b; rests = rests; asked = subst (λ i. WasCalled (again_call i b goes_on)) who asked }
-
 -- the seat stays one of the table's
 pub round_table : (boot : World) (left : ℕ) (s t : SeatView) (z : TableId) → s.mine ≡ part_of s.seen s.actor → IsRound boot left s t → s.table ≡ z → t.table ≡ z
 round_table boot left s t z own made at = (round_made boot left s t own made).follows.table ∙ at
@@ -331,31 +352,31 @@ pub record RoundsSoFar (boot : World) (WasCalled : GateCall → Type 0) (ticks :
   pub goes_on : side.goes_on ≡ true
 
 -- it goes on after a round
-pub rounds_go_on : (boot : World) (WasCalled : GateCall → Type 0) (ticks : ℕ) (s t u v : SeatView) (x y : FreeSide) (left next : ℕ) (b : Bool) → RoundsSoFar boot WasCalled ticks s t x left → IsRound boot left t u → IsRestCall boot u v b
-    → WasCalled (again_call x.actor b y.goes_on) → y.actor ≡ x.actor → y.goes_on ≡ true → next ≡ left - 1 → RoundsSoFar boot WasCalled ticks s v y next
-rounds_go_on boot WasCalled ticks s t u v x y left next b so_far round rests asked who on down =
+pub rounds_go_on : (boot : World) (WasCalled : GateCall → Type 0) (ticks : ℕ) (s t u v : SeatView) (x y : FreeSide) (left next : ℕ) (far : HowFar) → RoundsSoFar boot WasCalled ticks s t x left → IsRound boot left t u
+    → HasAsked boot WasCalled u v x.actor far y.goes_on → y.actor ≡ x.actor → y.goes_on ≡ true → next ≡ left - 1 → RoundsSoFar boot WasCalled ticks s v y next
+rounds_go_on boot WasCalled ticks s t u v x y left next far so_far round asked who on down =
     let made = round_made boot left t u so_far.follows.own round in
     let a : x.actor ≡ u.actor = so_far.actor ∙ sym so_far.follows.actor ∙ sym made.follows.actor in
     record {
       rounds = suc so_far.rounds;
-      course = (t, u, so_far.course, subst (λ k. IsRound boot k t u) so_far.left round, asked_by boot WasCalled u v b true x.actor a rests (subst (λ g. WasCalled (again_call x.actor b g)) on asked));
-      follows = follows_trans s t v so_far.follows (follows_trans t u v made.follows rests.follows);
+      course = (t, u, so_far.course, subst (λ k. IsRound boot k t u) so_far.left round, asked_by boot WasCalled u v x.actor far y.goes_on true a on asked);
+      follows = follows_trans s t v so_far.follows (follows_trans t u v made.follows asked.rests.follows);
       left = omega (arith, so_far.left, down);
       actor = who ∙ so_far.actor;
       goes_on = on;
     }
 
 -- the gate ends it
-pub rounds_end : (boot : World) (WasCalled : GateCall → Type 0) (ticks : ℕ) (s t u v : SeatView) (x y : FreeSide) (left : ℕ) (b : Bool) → RoundsSoFar boot WasCalled ticks s t x left → IsRound boot left t u → IsRestCall boot u v b
-    → WasCalled (again_call x.actor b y.goes_on) → y.goes_on ≡ false → IsRespawnerRun boot WasCalled ticks s v
-rounds_end boot WasCalled ticks s t u v x y left b so_far round rests asked off =
+pub rounds_end : (boot : World) (WasCalled : GateCall → Type 0) (ticks : ℕ) (s t u v : SeatView) (x y : FreeSide) (left : ℕ) (far : HowFar) → RoundsSoFar boot WasCalled ticks s t x left → IsRound boot left t u
+    → HasAsked boot WasCalled u v x.actor far y.goes_on → y.goes_on ≡ false → IsRespawnerRun boot WasCalled ticks s v
+rounds_end boot WasCalled ticks s t u v x y left far so_far round asked off =
     let made = round_made boot left t u so_far.follows.own round in
     let a : x.actor ≡ u.actor = so_far.actor ∙ sym so_far.follows.actor ∙ sym made.follows.actor in
     record {
       rounds = so_far.rounds;
       last = t;
       course = so_far.course;
-      ends = inr (u, subst (λ k. IsRound boot k t u) so_far.left round, asked_by boot WasCalled u v b false x.actor a rests (subst (λ g. WasCalled (again_call x.actor b g)) off asked));
+      ends = inr (u, subst (λ k. IsRound boot k t u) so_far.left round, asked_by boot WasCalled u v x.actor far y.goes_on false a off asked);
     }
 
 -- a full history ends it

@@ -21,9 +21,9 @@ use Rattle.mx_cpus.specs.Seats.{SeatView, record_of}
 use Rattle.mx_cpus.specs.Calls.{Follows, IsAnsweredCall, IsRefusedCall, IsRestCall}
 use Rattle.mx_cpus.specs.CallEnds.{IsCallTo, goes_on_after}
 use Rattle.mx_cpus.specs.Courses.{IsTriedEvent}
-use Rattle.mx_cpus.specs.Gates.{GateCall, again_call}
+use Rattle.mx_cpus.specs.Gates.{GateCall, again_call, seen_call}
 use Rattle.mx_cpus.specs.Outsiders.{AreLooks, AreMade, AreSomeOf, HasMadeCalls, IsEarly, IsEnough, IsLast, IsLook, IsMade, IsOutsiderRun, IsStopped, IsWaited, IsWaiting, event_of_call, is_resting}
-use Rattle.mx_cpus.proofs.LoopLemmas.{follows_self, follows_trans, map_both}
+use Rattle.mx_cpus.proofs.LoopLemmas.{HasAsked, asked_by, follows_self, follows_trans, map_both, seen_by}
 
 -- ---- records
 
@@ -133,19 +133,22 @@ module _ (boot : World) (WasCalled : GateCall → Type 0) where
 
   -- too little was seen
   early : (n : ℕ) (s t : SeatView) (side next : FreeSide) (first seen : HowFar) → WaitSoFar n s t side seen → first.records ≡ length s.seen → seen.at_rest ≡ false → seen.records - first.records < n
-      → WasCalled (again_call side.actor false next.goes_on) → IsEarly boot WasCalled n s t next.goes_on
-  early n s t side next first seen so_far many busy few asked = record {
-    few = omega (arith, so_far.records, many, few);
-    busy = sym so_far.rests ∙ busy;
-    asked = subst (λ i. WasCalled (again_call i false next.goes_on)) (so_far.actor ∙ sym so_far.follows.actor) asked;
-  }
+      → WasCalled (seen_call side.actor seen.records) → WasCalled (again_call side.actor seen.at_rest next.goes_on) → IsEarly boot WasCalled n s t next.goes_on
+  early n s t side next first seen so_far many busy few shown asked =
+      let who : side.actor ≡ t.actor = so_far.actor ∙ sym so_far.follows.actor in
+      record {
+        few = omega (arith, so_far.records, many, few);
+        busy = sym so_far.rests ∙ busy;
+        seen = seen_by WasCalled t side.actor t.actor seen.records who so_far.records shown;
+        asked = subst (λ i. WasCalled (again_call i false next.goes_on)) who (subst (λ b. WasCalled (again_call side.actor b next.goes_on)) busy asked);
+      }
 
   -- the loop goes on, and the seat looks again
   pub looks_go_on : (n : ℕ) (s t u : SeatView) (side next : FreeSide) (first seen now : HowFar) → WaitSoFar n s t side seen → first.records ≡ length s.seen → seen.at_rest ≡ false → seen.records - first.records < n
-      → WasCalled (again_call side.actor false next.goes_on) → next.actor ≡ side.actor → next.goes_on ≡ true → IsRestCall boot t u now.at_rest → now.records ≡ length u.seen → WaitSoFar n s u next now
-  looks_go_on n s t u side next first seen now so_far many busy few asked who on rests many_now = record {
+      → WasCalled (seen_call side.actor seen.records) → WasCalled (again_call side.actor seen.at_rest next.goes_on) → next.actor ≡ side.actor → next.goes_on ≡ true → IsRestCall boot t u now.at_rest → now.records ≡ length u.seen → WaitSoFar n s u next now
+  looks_go_on n s t u side next first seen now so_far many busy few shown asked who on rests many_now = record {
     so_many = suc so_far.so_many;
-    looks = (t, so_far.looks, subst (IsEarly boot WasCalled n s t) on (early n s t side next first seen so_far many busy few asked), look_of t u now.at_rest rests);
+    looks = (t, so_far.looks, subst (IsEarly boot WasCalled n s t) on (early n s t side next first seen so_far many busy few shown asked), look_of t u now.at_rest rests);
     follows = follows_trans s t u so_far.follows rests.follows;
     records = many_now;
     rests = rests.answered;
@@ -155,13 +158,13 @@ module _ (boot : World) (WasCalled : GateCall → Type 0) where
 
   -- the gate ends the loop
   pub looks_stop : (n : ℕ) (s f t : SeatView) (side next : FreeSide) (first seen : HowFar) → WaitSoFar n f t side seen → IsRestCall boot s f first.at_rest → first.records ≡ length f.seen → seen.at_rest ≡ false → seen.records - first.records < n
-      → WasCalled (again_call side.actor false next.goes_on) → next.goes_on ≡ false → IsStopped boot WasCalled n s t
-  looks_stop n s f t side next first seen so_far begins many busy few asked off = record {
+      → WasCalled (seen_call side.actor seen.records) → WasCalled (again_call side.actor seen.at_rest next.goes_on) → next.goes_on ≡ false → IsStopped boot WasCalled n s t
+  looks_stop n s f t side next first seen so_far begins many busy few shown asked off = record {
     first = f;
     begins = look_of s f first.at_rest begins;
     so_many = so_far.so_many;
     looks = so_far.looks;
-    ends = subst (IsEarly boot WasCalled n f t) off (early n f t side next first seen so_far many busy few asked);
+    ends = subst (IsEarly boot WasCalled n f t) off (early n f t side next first seen so_far many busy few shown asked);
   }
 
   -- enough was seen
@@ -261,11 +264,11 @@ module _ (boot : World) (WasCalled : GateCall → Type 0) where
       calls_end xs k d s t u side so_far below (subst (IsCallTo boot WasCalled (get_or xs k d) t u) is called)
 
   -- all are made
-  pub calls_all : (xs : List OutsideCall) (k : ℕ) (s t u : SeatView) (side : FreeSide) (b goes_on : Bool) → CallsSoFar xs k s t side → take k xs ≡ xs → IsRestCall boot t u b → WasCalled (again_call side.actor b goes_on)
+  pub calls_all : (xs : List OutsideCall) (k : ℕ) (s t u : SeatView) (side : FreeSide) (far : HowFar) (goes_on : Bool) → CallsSoFar xs k s t side → take k xs ≡ xs → HasAsked boot WasCalled t u side.actor far goes_on
       → IsOutsiderRun boot WasCalled xs s u
-  calls_all xs k s t u side b goes_on so_far all rests asked = record {
+  calls_all xs k s t u side far goes_on so_far all asked = record {
     above = take k xs;
     last = t;
     made = so_far.made;
-    ends = inl (all, goes_on, record { rest = b; rests = rests; asked = subst (λ i. WasCalled (again_call i b goes_on)) (so_far.actor ∙ sym so_far.follows.actor) asked });
+    ends = inl (all, goes_on, asked_by boot WasCalled t u side.actor far goes_on goes_on (so_far.actor ∙ sym so_far.follows.actor) refl asked);
   }

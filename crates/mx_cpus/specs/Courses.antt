@@ -1,5 +1,5 @@
 -- What the loops of actors do, call by call. WasCalled holds of the calls of the gate that were made.
-use Rattle.std.specs.Prelude.{◌≡◌, ◌≢◌, ◌<◌, ◌≤◌, ◌+◌, ◌-◌, ◌⊎◌, ◌^◌, ℕ, zero, suc, min, Bool, true, false, List, [], ◌∷◌}
+use Rattle.std.specs.Prelude.{◌≡◌, ◌≢◌, ◌<◌, ◌≤◌, ◌+◌, ◌-◌, ◌⊎◌, ◌^◌, ℕ, zero, suc, min, Bool, true, false, List, [], ◌∷◌, length}
 use Rattle.mx_machine.specs.declared.events.Answer.{Answer}
 use Rattle.mx_machine.specs.declared.events.Event.{Event}
 use Rattle.mx_machine.specs.declared.events.Event.TheVariants as events
@@ -9,14 +9,16 @@ use Rattle.mx_machine.specs.Held.{held_run}
 use Rattle.mx_machine.specs.World.{World}
 use Rattle.mx_cpus.specs.Seats.{SeatView, LoanView}
 use Rattle.mx_cpus.specs.Calls.{IsAnsweredCall, IsGiveCall, IsRefusedCall, IsRestCall, IsTakeCall}
-use Rattle.mx_cpus.specs.Gates.{GateCall, held_call, given_call, again_call, ended_call}
+use Rattle.mx_cpus.specs.Gates.{GateCall, held_call, given_call, again_call, ended_call, seen_call}
 
 -- ---- a question
 
--- The machine was asked whether it is at rest, and then the gate, with that answer, whether the actor's loop goes on.
+-- The machine was asked whether it is at rest. Then the gate was shown how many records the seat has seen, and asked, with
+-- that answer, whether the actor's loop goes on.
 pub record IsAsked (boot : World) (WasCalled : GateCall → Type 0) (s t : SeatView) (goes_on : Bool) : Type 0 where
   pub rest : Bool
   pub rests : IsRestCall boot s t rest
+  pub seen : WasCalled (seen_call s.actor (length t.seen))
   pub asked : WasCalled (again_call s.actor rest goes_on)
 
 -- ---- a processor
@@ -30,7 +32,7 @@ abbrev pub longest_run : ℕ
 longest_run = 2 ^ 32 - 1
 
 -- A TURN, which n accepted takes came before: a take, the gate's `held`, a run until the budget is spent or the process
--- stops, the return of what was run, and the gate's `given`.
+-- stops, the return of what was run, and the gate's `given`; and it was shown how many records the seat has seen then.
 pub record IsTurn (boot : World) (WasCalled : GateCall → Type 0) (n : ℕ) (s t : SeatView) : Type 0 where
   pub taken : SeatView
   pub lent : LoanView
@@ -40,6 +42,7 @@ pub record IsTurn (boot : World) (WasCalled : GateCall → Type 0) (n : ℕ) (s 
   pub runs : back.out ≡ (held_run longest_run lent.out).1
   pub gives : IsGiveCall boot taken t back
   pub given : WasCalled (given_call s.actor)
+  pub seen : WasCalled (seen_call s.actor (length t.seen))
 
 -- A take was refused, and not for a full history; so the gate was asked.
 pub record IsWait (boot : World) (WasCalled : GateCall → Type 0) (s t : SeatView) (goes_on : Bool) : Type 0 where

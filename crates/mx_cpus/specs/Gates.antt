@@ -7,3 +7,9 @@ pub data GateCall : Type 0 where
   given_call : (cpu : ℕ) → GateCall
   again_call : (actor : ℕ) (at_rest goes_on : Bool) → GateCall
   ended_call : (actor : ℕ) → GateCall
+  seen_call : (actor records : ℕ) → GateCall
+
+-- the calls of a gate that no actor shows what it has seen
+abbrev pub unwatched : (GateCall → Type 0) → GateCall → Type 0
+unwatched WasCalled (seen_call actor records) = Unit {0}
+unwatched WasCalled call = WasCalled call

@@ -14,7 +14,7 @@ use Rattle.mx_cpus.specs.declared.outside.Role.TheVariants as roles
 use Rattle.mx_cpus.specs.Seats.{SeatView, record_of}
 use Rattle.mx_cpus.specs.Calls.{Follows, IsRefusedCall, IsRestCall, world_after}
 use Rattle.mx_cpus.specs.Courses.{IsAsked, IsProcessorRun, IsRespawnerRun, IsTriedEvent}
-use Rattle.mx_cpus.specs.Gates.{GateCall, again_call, ended_call}
+use Rattle.mx_cpus.specs.Gates.{GateCall, again_call, ended_call, seen_call}
 use Rattle.mx_cpus.specs.Loops.{HasMadeTurns, HasTickedAndRespawned}
 
 -- ---- a wait
@@ -28,10 +28,11 @@ abbrev pub IsLook : World → SeatView → SeatView → Type 0
 IsLook boot s t = IsRestCall boot s t (is_resting boot t)
 
 -- The seat t has seen too little to go on: fewer than n records more than the seat s had, and no rest. So the gate was
--- asked whether the loop goes on.
+-- shown how many it has seen, and asked whether the loop goes on.
 pub record IsEarly (boot : World) (WasCalled : GateCall → Type 0) (n : ℕ) (s t : SeatView) (goes_on : Bool) : Type 0 where
   pub few : length t.seen - length s.seen < n
   pub busy : is_resting boot t ≡ false
+  pub seen : WasCalled (seen_call t.actor (length t.seen))
   pub asked : WasCalled (again_call t.actor false goes_on)
 
 -- looks in a row, from the seat s on, which has looked: so many times it was early, the loop went on, and the seat

@@ -3,11 +3,12 @@
 ghost use Rattle.std.specs.Prelude.{◌≡◌, true};
 ghost use Rattle.mx_machine.specs.KernelState.{is_for_all};
 ghost use Rattle.mx_cpus.specs.CallEnds.{IsCallTo, IsEventTo, IsWaitTo, goes_on_after};
+ghost use Rattle.mx_cpus.specs.Gates.{unwatched};
 ghost use Rattle.mx_cpus.specs.Outsiders.{HasMadeCalls, IsOutsiderRun};
 
-use crate::gate::Gate;
+use crate::gate::{Gate, Unwatched, WatchingGate};
 use crate::outside::OutsideCall;
-use crate::side::{Door, FreeSide};
+use crate::side::{Door, FreeSide, LoopContext};
 use crate::{ActorSeat, Naming, Shared};
 use mx_machine::{Event, Refusal};
 use std::sync::Wait;
@@ -23,9 +24,8 @@ pub(crate) enum CallEnd {
 }
 
 /// An outside event. If it is refused, and not for a full history, the loop goes on.
-fn make_event<M: Naming, R: Wait>(
-    rt: &R,
-    shared: &Shared<M>,
+fn make_event<M: Naming, G: WatchingGate, R: Wait>(
+    context: &LoopContext<'_, M, G, R>,
     seat: ActorSeat,
     side: FreeSide,
     event: Event,
@@ -35,7 +35,7 @@ fn make_event<M: Naming, R: Wait>(
     ensures made { IsEventTo M.boot event seat result.0 result.2 }
     ensures side { result.1 ≡ side }
 {
-    let (seat, answer) = shared.event(rt, seat, event);
+    let (seat, answer) = context.shared.event(context.rt, seat, event);
     match answer {
         Err(Refusal::LogFull) => (seat, side, CallEnd::Full),
         _ => (seat, side, CallEnd::Made),
@@ -44,34 +44,33 @@ fn make_event<M: Naming, R: Wait>(
 
 /// Looks at the machine again and again, until its history has `more` records more than at the first look, or
 /// it is at rest. Between two looks the gate decides whether the loop goes on.
-fn wait_for<M: Naming, G: Gate, R: Wait>(
-    rt: &R,
-    shared: &Shared<M>,
+fn wait_for<M: Naming, G: WatchingGate, R: Wait>(
+    context: &LoopContext<'_, M, G, R>,
     seat: ActorSeat,
-    door: &Door<'_, G>,
     side: FreeSide,
     more: u32,
 ) -> (ActorSeat, FreeSide, CallEnd)
     requires table { seat.table ≡ M.table }
     requires actor { side.actor ≡ seat.actor }
     requires goes_on { side.goes_on ≡ true }
-    ensures waits { IsWaitTo M.boot (G.was_called door.now.gate.now) more seat result.0 result.2 }
+    ensures waits { IsWaitTo M.boot (G.was_called context.now.door.gate.now) more
+        seat result.0 result.2 }
     ensures actor { result.1.actor ≡ seat.actor }
     ensures goes_on { result.1.goes_on ≡ goes_on_after result.2 }
 {
-    let (seat, first) = shared.how_far(rt, seat);
+    let (seat, first) = context.shared.how_far(context.rt, seat);
     let mut seat = seat;
     let mut side = side;
     let mut seen = first;
-    for _ in rt.forever() {
+    for _ in context.rt.forever() {
         if seen.at_rest || seen.records.saturating_sub(first.records) >= more as usize {
             return (seat, side, CallEnd::Made);
         }
-        side = side.ask(door, false);
+        side = side.ask(&context.door, seen);
         if !side.goes_on() {
             return (seat, side, CallEnd::Stopped);
         }
-        let (next, now) = shared.how_far(rt, seat);
+        let (next, now) = context.shared.how_far(context.rt, seat);
         seat = next;
         seen = now;
     }
@@ -79,35 +78,32 @@ fn wait_for<M: Naming, G: Gate, R: Wait>(
 }
 
 /// An outside event, or a wait.
-fn make_call<M: Naming, G: Gate, R: Wait>(
-    rt: &R,
-    shared: &Shared<M>,
+fn make_call<M: Naming, G: WatchingGate, R: Wait>(
+    context: &LoopContext<'_, M, G, R>,
     seat: ActorSeat,
-    door: &Door<'_, G>,
     side: FreeSide,
     call: OutsideCall,
 ) -> (ActorSeat, FreeSide, CallEnd)
     requires table { seat.table ≡ M.table }
     requires actor { side.actor ≡ seat.actor }
     requires goes_on { side.goes_on ≡ true }
-    ensures made { IsCallTo M.boot (G.was_called door.now.gate.now) call seat result.0 result.2 }
+    ensures made { IsCallTo M.boot (G.was_called context.now.door.gate.now) call
+        seat result.0 result.2 }
     ensures actor { result.1.actor ≡ seat.actor }
     ensures goes_on { result.1.goes_on ≡ goes_on_after result.2 }
 {
     match call {
-        OutsideCall::Line(line) => make_event(rt, shared, seat, side, Event::Line(line)),
-        OutsideCall::Kill(endpoint) => make_event(rt, shared, seat, side, Event::Kill(endpoint)),
-        OutsideCall::Tick => make_event(rt, shared, seat, side, Event::Tick),
-        OutsideCall::Wait(records) => wait_for(rt, shared, seat, door, side, records),
+        OutsideCall::Line(line) => make_event(context, seat, side, Event::Line(line)),
+        OutsideCall::Kill(endpoint) => make_event(context, seat, side, Event::Kill(endpoint)),
+        OutsideCall::Tick => make_event(context, seat, side, Event::Tick),
+        OutsideCall::Wait(records) => wait_for(context, seat, side, records),
     }
 }
 
 /// The outsider's calls, and its question of the gate after the last.
-pub(crate) fn make_calls<M: Naming, G: Gate, R: Wait>(
-    rt: &R,
-    shared: &Shared<M>,
+pub(crate) fn make_calls<M: Naming, G: WatchingGate, R: Wait>(
+    context: &LoopContext<'_, M, G, R>,
     seat: ActorSeat,
-    door: &Door<'_, G>,
     side: FreeSide,
     calls: &[OutsideCall],
 ) -> (ActorSeat, FreeSide)
@@ -115,14 +111,15 @@ pub(crate) fn make_calls<M: Naming, G: Gate, R: Wait>(
     requires actor { side.actor ≡ seat.actor }
     requires goes_on { side.goes_on ≡ true }
     ensures made { HasMadeCalls calls.now seat result.0 }
-    ensures course { IsOutsiderRun M.boot (G.was_called door.now.gate.now) calls.now seat result.0 }
+    ensures course { IsOutsiderRun M.boot (G.was_called context.now.door.gate.now) calls.now
+        seat result.0 }
     ensures side { result.1.actor ≡ seat.actor }
 {
-    seat.opened();
+    seat.facts();
     let mut seat = seat;
     let mut side = side;
     for call in calls {
-        let (next, after, end) = make_call(rt, shared, seat, door, side, *call);
+        let (next, after, end) = make_call(context, seat, side, *call);
         seat = next;
         side = after;
         match end {
@@ -131,8 +128,8 @@ pub(crate) fn make_calls<M: Naming, G: Gate, R: Wait>(
             CallEnd::Stopped => return (seat, side),
         }
     }
-    let (seat, at_rest) = shared.at_rest(rt, seat);
-    (seat, side.ask(door, at_rest))
+    let (seat, far) = context.shared.how_far(context.rt, seat);
+    (seat, side.ask(&context.door, far))
 }
 
 /// Makes calls in order: outside events, and waits. A wait ends once the history has as many records
@@ -148,11 +145,14 @@ pub fn outsider<M: Naming, G: Gate, R: Wait>(
 ) -> ActorSeat
     requires table { seat.table ≡ M.table }
     ensures made { HasMadeCalls calls.now seat result }
-    ensures course { IsOutsiderRun M.boot (G.was_called gate.now) calls.now seat result }
+    ensures course { IsOutsiderRun M.boot (unwatched (G.was_called gate.now)) calls.now
+        seat result }
 {
-    let door = Door::new(gate);
+    let gate = Unwatched { gate };
+    let door = Door::new(&gate);
     let side = FreeSide::new(seat.actor());
-    let (seat, side) = make_calls(rt, shared, seat, &door, side, calls);
+    let context = LoopContext { rt, shared, door };
+    let (seat, side) = make_calls(&context, seat, side, calls);
     side.leave();
     seat
 }

@@ -7,16 +7,16 @@
 //! way out, and the room of the list of seats takes the seats back.
 
 ghost use Rattle.std.specs.Prelude.{◌≡◌, ◌≤◌, None, Some, IfOk, OnErr, OnOk, All, length, vec_capacity, vec_len};
-ghost use Rattle.mx_cpus.specs.Gates.{ended_call};
+ghost use Rattle.mx_cpus.specs.Gates.{ended_call, unwatched};
 ghost use Rattle.mx_cpus.specs.Courses.{AreServed};
 ghost use Rattle.mx_cpus.specs.Loops.{AreDriven};
 ghost use Rattle.mx_cpus.specs.Outsiders.{AreDrivenWith, AreServedWith, IsDrivenAs, IsEndTold, IsServedAs, role_of};
 
 use crate::calling::make_calls;
-use crate::gate::Gate;
+use crate::gate::{Gate, Unwatched, WatchingGate};
 use crate::loops::{make_rounds, make_turns};
-use crate::outside::{OutsideCall, Role, role_of};
-use crate::side::{Door, FreeSide};
+use crate::outside::{Outside, OutsideCall, Role, role_of};
+use crate::side::{Door, FreeSide, LoopContext};
 use crate::{ActorSeat, Naming, Shared};
 use mx_loan::Shown;
 use mx_word::NoMemory;
@@ -27,7 +27,7 @@ use std::thread::{Promise, PromisedHandle, Scope, Threads};
 
 /// What a thread promises of its seat, by the one that it was started with, and of its gate.
 #[derive(Drop)]
-struct Follower<'s, M: Naming, G: Gate> {
+struct Follower<'s, M: Naming, G: WatchingGate> {
     from: Shown<ActorSeat>,
     gate: Shown<G>,
     role: Role,
@@ -36,7 +36,7 @@ struct Follower<'s, M: Naming, G: Gate> {
     of: PhantomData<M>,
 }
 
-impl<'s, M: Naming, G: Gate> Promise<ActorSeat> for Follower<'s, M, G> {
+impl<'s, M: Naming, G: WatchingGate> Promise<ActorSeat> for Follower<'s, M, G> {
     ghost use Rattle.mx_cpus.specs.Outsiders.{IsDrivenAs, IsServedAs};
 
     ghost kept_by = { λ p s. IsDrivenAs p.role p.ticks p.calls.now p.from.value s
@@ -45,7 +45,7 @@ impl<'s, M: Naming, G: Gate> Promise<ActorSeat> for Follower<'s, M, G> {
 
 /// What the threads of a machine share.
 #[derive(Drop)]
-struct ThreadContext<'s, M: Naming, G: Gate, R: Wait> {
+struct ThreadContext<'s, M: Naming, G: WatchingGate, R: Wait> {
     rt: &'s R,
     shared: &'s Shared<M>,
     gate: &'s G,
@@ -54,34 +54,39 @@ struct ThreadContext<'s, M: Naming, G: Gate, R: Wait> {
 }
 
 /// The loop of an actor. Its end is reported to the gate.
-fn serve<M: Naming, G: Gate, R: Wait>(
-    rt: &R,
-    shared: &Shared<M>,
+fn serve<M: Naming, G: WatchingGate, R: Wait>(
+    context: &ThreadContext<'_, M, G, R>,
     seat: ActorSeat,
-    gate: &G,
     role: Role,
-    ticks: u32,
-    calls: &[OutsideCall],
 ) -> ActorSeat
     requires table { seat.table ≡ M.table }
     requires empty { seat.held ≡ None }
-    ensures driven { IsDrivenAs role ticks calls.now seat result }
-    ensures served { IsServedAs role M.boot (G.was_called gate.now) ticks calls.now seat result }
+    ensures driven { IsDrivenAs role context.now.ticks context.now.calls.now seat result }
+    ensures served { IsServedAs role M.boot (G.was_called context.now.gate.now)
+        context.now.ticks context.now.calls.now seat result }
 {
+    let ThreadContext {
+        rt,
+        shared,
+        gate,
+        ticks,
+        calls,
+    } = *context;
     let door = Door::new(gate);
     let side = FreeSide::new(seat.actor());
+    let context = LoopContext { rt, shared, door };
     let (seat, side) = match role {
-        Role::Processor => make_turns(rt, shared, seat, &door, side),
-        Role::Respawner => make_rounds(rt, shared, seat, &door, side, ticks),
-        Role::Outsider => make_calls(rt, shared, seat, &door, side, calls),
+        Role::Processor => make_turns(&context, seat, side),
+        Role::Respawner => make_rounds(&context, seat, side, ticks),
+        Role::Outsider => make_calls(&context, seat, side, calls),
     };
-    side.report_end(&door);
+    side.report_end(&context.door);
     seat
 }
 
 /// Starts a thread with the loop of an actor. If no thread can be made, it reports to the gate that
 /// the loop has ended.
-fn start<'s, E, M: Naming + Send + Sync, G: Gate + Sync, R: Wait + Sync>(
+fn start<'s, E, M: Naming + Send + Sync, G: WatchingGate + Sync, R: Wait + Sync>(
     scope: &Scope<'s, E>,
     context: &ThreadContext<'s, M, G, R>,
     seat: ActorSeat,
@@ -116,7 +121,16 @@ fn start<'s, E, M: Naming + Send + Sync, G: Gate + Sync, R: Wait + Sync>(
         ensures driven { IsDrivenAs role ticks calls.entry.now seat result }
         ensures served { IsServedAs role M.boot (G.was_called gate.entry.now)
             ticks calls.entry.now seat result }
-    { serve(rt, shared, seat, gate, role, ticks, calls) };
+    {
+        let context = ThreadContext {
+            rt,
+            shared,
+            gate,
+            ticks,
+            calls,
+        };
+        serve(&context, seat, role)
+    };
     match scope.spawn_with(promise, job) {
         Ok(handle) => Ok(handle),
         Err(refused) => {
@@ -130,7 +144,7 @@ fn start<'s, E, M: Naming + Send + Sync, G: Gate + Sync, R: Wait + Sync>(
 /// Runs the loop of each seat in a thread of its own, from the last seat on, and joins all threads. The
 /// seats of actors without a loop stay as they are. After an error some seats are spent.
 #[cycle(drive_all)]
-fn drive_all<'s, E, M: Naming + Send + Sync, G: Gate + Sync, R: Threads + Wait + Sync>(
+fn drive_all<'s, E, M: Naming + Send + Sync, G: WatchingGate + Sync, R: Threads + Wait + Sync>(
     scope: &Scope<'s, E>,
     context: &ThreadContext<'s, M, G, R>,
     seats: &mut Vec<ActorSeat>,
@@ -170,24 +184,25 @@ fn drive_all<'s, E, M: Naming + Send + Sync, G: Gate + Sync, R: Threads + Wait +
 /// ended. The seats of further actors stay as they are. The end of each loop is reported to the gate, and so is each
 /// loop for which no thread could be made: then the answer is `NoMemory`, the seats are spent, and what was
 /// recorded stays. Takes no memory but that of the threads.
-pub fn drive_with<M: Naming + Send + Sync, G: Gate + Sync, R: Threads + Wait + Sync>(
+pub fn drive_with<M: Naming + Send + Sync, G: WatchingGate + Sync, R: Threads + Wait + Sync>(
     rt: &R,
     shared: &Shared<M>,
     seats: Vec<ActorSeat>,
     gate: &G,
-    ticks: u32,
-    calls: &[OutsideCall],
+    outside: Outside<'_>,
 ) -> Result<Vec<ActorSeat>, NoMemory>
     requires tables { All (λ s. s.table ≡ M.table) seats.items }
     requires empties { All (λ s. s.held ≡ None) seats.items }
     ensures driven { IfOk result (λ v.
-        AreDrivenWith (length M.boot.cpus) ticks calls.now seats.items v.items) }
+        AreDrivenWith (length M.boot.cpus) outside.ticks outside.calls.now
+        seats.items v.items) }
     ensures served { IfOk result (λ v. AreServedWith M.boot (G.was_called gate.now)
-        (length M.boot.cpus) ticks calls.now seats.items v.items) }
-    ensures told { All (λ s. IsEndTold (role_of s.actor (length M.boot.cpus) calls.now)
+        (length M.boot.cpus) outside.ticks outside.calls.now seats.items v.items) }
+    ensures told { All (λ s. IsEndTold (role_of s.actor (length M.boot.cpus) outside.calls.now)
         (G.was_called gate.now) s) seats.items }
     ensures tables { IfOk result (λ v. All (λ s. s.table ≡ M.table) v.items) }
 {
+    let Outside { ticks, calls } = outside;
     thread::scope(
         thread::scope_env(),
         rt,
@@ -233,11 +248,12 @@ pub fn drive<M: Naming + Send + Sync, G: Gate + Sync, R: Threads + Wait + Sync>(
     requires tables { All (λ s. s.table ≡ M.table) seats.items }
     requires empties { All (λ s. s.held ≡ None) seats.items }
     ensures driven { IfOk result (λ v. AreDriven (length M.boot.cpus) ticks seats.items v.items) }
-    ensures served { IfOk result (λ v. AreServed M.boot (G.was_called gate.now)
+    ensures served { IfOk result (λ v. AreServed M.boot (unwatched (G.was_called gate.now))
         (length M.boot.cpus) ticks seats.items v.items) }
     ensures told { All (λ s. s.actor ≤ length M.boot.cpus
         → G.was_called gate.now (ended_call s.actor)) seats.items }
     ensures tables { IfOk result (λ v. All (λ s. s.table ≡ M.table) v.items) }
 {
-    drive_with(rt, shared, seats, gate, ticks, &[])
+    let gate = Unwatched { gate };
+    drive_with(rt, shared, seats, &gate, Outside { ticks, calls: &[] })
 }

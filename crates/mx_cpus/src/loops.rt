@@ -2,23 +2,22 @@
 
 ghost use Rattle.std.specs.Prelude.{◌≡◌, ◌<◌, true, None, if◌then◌else◌, length, nat_lt};
 ghost use Rattle.mx_cpus.specs.Courses.{IsProcessorRun, IsRespawnerRun};
+ghost use Rattle.mx_cpus.specs.Gates.{unwatched};
 ghost use Rattle.mx_cpus.specs.Loops.{HasMadeTurns, HasTickedAndRespawned};
 ghost use Rattle.mx_cpus.specs.Progresses.{IsRoundTo, IsSweepTo};
 
-use crate::gate::Gate;
+use crate::gate::{Gate, Unwatched, WatchingGate};
 use crate::progress::Progress;
-use crate::side::{Door, FreeSide};
+use crate::side::{Door, FreeSide, LoopContext};
 use crate::{ActorSeat, Naming, Shared};
 use mx_machine::{Held, Refusal};
 use std::sync::Wait;
 
 /// A processor's turns, and its questions to the gate if nothing is ready.
 #[tactic(auto, using(crate::proofs::LoopLemmas::processor_made))]
-pub(crate) fn make_turns<M: Naming, G: Gate, R: Wait>(
-    rt: &R,
-    shared: &Shared<M>,
+pub(crate) fn make_turns<M: Naming, G: WatchingGate, R: Wait>(
+    context: &LoopContext<'_, M, G, R>,
     seat: ActorSeat,
-    door: &Door<'_, G>,
     side: FreeSide,
 ) -> (ActorSeat, FreeSide)
     requires table { seat.table ≡ M.table }
@@ -27,29 +26,31 @@ pub(crate) fn make_turns<M: Naming, G: Gate, R: Wait>(
     requires turn { side.turn ≡ 0 }
     requires goes_on { side.goes_on ≡ true }
     ensures made { HasMadeTurns seat result.0 }
-    ensures course { IsProcessorRun M.boot (G.was_called door.now.gate.now) seat result.0 }
+    ensures course { IsProcessorRun M.boot (G.was_called context.now.door.gate.now)
+        seat result.0 }
     ensures side { result.1.actor ≡ seat.actor }
 {
-    seat.opened();
+    seat.facts();
     let mut seat = seat;
     let mut side = side;
-    for _ in rt.forever() {
-        let (next, taken) = shared.take(rt, seat);
+    for _ in context.rt.forever() {
+        let (next, taken) = context.shared.take(context.rt, seat);
         match taken {
             Ok(mut loan) => {
-                let holding = side.report_loan(door, &loan);
+                let holding = side.report_loan(&context.door, &loan);
                 // No budget is larger, so it runs until its budget is spent or it stops.
                 let _stop = loan.run(u32::MAX);
-                seat = shared.give(rt, next, loan);
-                side = holding.report_return(door, &seat);
+                let (back, records) = context.shared.give_counted(context.rt, next, loan);
+                seat = back;
+                side = holding.report_return(&context.door, &seat, records);
             }
             Err(refusal) => {
                 if let Refusal::LogFull = refusal {
                     return (next, side);
                 }
-                let (next, at_rest) = shared.at_rest(rt, next);
+                let (next, far) = context.shared.how_far(context.rt, next);
                 seat = next;
-                side = side.ask(door, at_rest);
+                side = side.ask(&context.door, far);
                 if !side.goes_on() {
                     return (seat, side);
                 }
@@ -72,11 +73,13 @@ pub fn processor<M: Naming, G: Gate, R: Wait>(
     requires processor { seat.actor < length M.boot.cpus }
     requires empty { seat.held ≡ None }
     ensures made { HasMadeTurns seat result }
-    ensures course { IsProcessorRun M.boot (G.was_called gate.now) seat result }
+    ensures course { IsProcessorRun M.boot (unwatched (G.was_called gate.now)) seat result }
 {
-    let door = Door::new(gate);
+    let gate = Unwatched { gate };
+    let door = Door::new(&gate);
     let side = FreeSide::new(seat.actor());
-    let (seat, side) = make_turns(rt, shared, seat, &door, side);
+    let context = LoopContext { rt, shared, door };
+    let (seat, side) = make_turns(&context, seat, side);
     side.leave();
     seat
 }
@@ -123,11 +126,9 @@ fn make_round<M: Naming, R: Wait>(
 }
 
 /// The respawner's rounds, and its questions of the gate.
-pub(crate) fn make_rounds<M: Naming, G: Gate, R: Wait>(
-    rt: &R,
-    shared: &Shared<M>,
+pub(crate) fn make_rounds<M: Naming, G: WatchingGate, R: Wait>(
+    context: &LoopContext<'_, M, G, R>,
     seat: ActorSeat,
-    door: &Door<'_, G>,
     side: FreeSide,
     ticks: u32,
 ) -> (ActorSeat, FreeSide)
@@ -135,23 +136,24 @@ pub(crate) fn make_rounds<M: Naming, G: Gate, R: Wait>(
     requires actor { side.actor ≡ seat.actor }
     requires goes_on { side.goes_on ≡ true }
     ensures made { HasTickedAndRespawned ticks seat result.0 }
-    ensures course { IsRespawnerRun M.boot (G.was_called door.now.gate.now) ticks seat result.0 }
+    ensures course { IsRespawnerRun M.boot (G.was_called context.now.door.gate.now)
+        ticks seat result.0 }
     ensures side { result.1.actor ≡ seat.actor }
 {
-    seat.opened();
+    seat.facts();
     let mut seat = seat;
     let mut side = side;
     let mut left = ticks;
-    for _ in rt.forever() {
-        let (next, progress) = make_round(rt, shared, seat, left);
+    for _ in context.rt.forever() {
+        let (next, progress) = make_round(context.rt, context.shared, seat, left);
         left = left.saturating_sub(1);
         match progress {
             Progress::Full => return (next, side),
             Progress::GoesOn => {}
         }
-        let (next, at_rest) = shared.at_rest(rt, next);
+        let (next, far) = context.shared.how_far(context.rt, next);
         seat = next;
-        side = side.ask(door, at_rest);
+        side = side.ask(&context.door, far);
         if !side.goes_on() {
             return (seat, side);
         }
@@ -171,11 +173,13 @@ pub fn respawner<M: Naming, G: Gate, R: Wait>(
 ) -> ActorSeat
     requires table { seat.table ≡ M.table }
     ensures made { HasTickedAndRespawned ticks seat result }
-    ensures course { IsRespawnerRun M.boot (G.was_called gate.now) ticks seat result }
+    ensures course { IsRespawnerRun M.boot (unwatched (G.was_called gate.now)) ticks seat result }
 {
-    let door = Door::new(gate);
+    let gate = Unwatched { gate };
+    let door = Door::new(&gate);
     let side = FreeSide::new(seat.actor());
-    let (seat, side) = make_rounds(rt, shared, seat, &door, side, ticks);
+    let context = LoopContext { rt, shared, door };
+    let (seat, side) = make_rounds(&context, seat, side, ticks);
     side.leave();
     seat
 }

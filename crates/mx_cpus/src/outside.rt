@@ -16,6 +16,13 @@ pub enum OutsideCall {
     Wait(u32),
 }
 
+/// What comes from outside while loops drive a machine: how many ticks the respawner makes, and the outsider's calls.
+#[derive(Clone, Copy)]
+pub struct Outside<'a> {
+    pub ticks: u32,
+    pub calls: &'a [OutsideCall],
+}
+
 /// Which loop an actor has.
 #[derive(Clone, Copy)]
 pub(crate) enum Role {

@@ -55,7 +55,7 @@ impl<M: Naming> Shared<M> {
             let _seat = locked.show(seat);
         }
         let kernel = locked.into_kernel();
-        kernel.opened();
+        kernel.facts();
         kernel
     }
 
@@ -73,6 +73,23 @@ impl<M: Naming> Shared<M> {
         requires table { seat.table ≡ M.table }
         requires loan { IsLoanOf seat loan }
         ensures { IsGiveCall M.boot seat result loan }
+    {
+        let (seat, _records) = self.lock.lock(rt).give(seat, loan);
+        seat
+    }
+
+    /// A processor gives back the loan, under the lock. Answers how many records the history has then, all of which the
+    /// seat sees.
+    pub(crate) fn give_counted(
+        &self,
+        rt: &impl Wait,
+        seat: ActorSeat,
+        loan: Loan,
+    ) -> (ActorSeat, usize)
+        requires table { seat.table ≡ M.table }
+        requires loan { IsLoanOf seat loan }
+        ensures given { IsGiveCall M.boot seat result.0 loan }
+        ensures records { result.1 ≡ length result.0.seen }
     {
         self.lock.lock(rt).give(seat, loan)
     }
@@ -157,7 +174,8 @@ impl<M: Naming> Shared<M> {
         self.lock.lock(rt).at_rest(seat)
     }
 
-    /// How far the machine is: how many records its history has, all of which the seat sees, and whether it is at rest.
+    /// How far the machine is: how many records its history has, all of which the seat sees, and whether it is at
+    /// rest.
     pub fn how_far(&self, rt: &impl Wait, seat: ActorSeat) -> (ActorSeat, HowFar)
         requires table { seat.table ≡ M.table }
         ensures rest { IsRestCall M.boot seat result.0 result.1.at_rest }

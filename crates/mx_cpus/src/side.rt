@@ -1,23 +1,31 @@
 //! An actor's side of the gate: which call a loop may make when. A loop has no other way to the gate.
 
-ghost use Rattle.std.specs.Prelude.{◌≡◌, ◌+◌, ◌-◌, ◌^◌, true, None, min};
-ghost use Rattle.mx_cpus.specs.Gates.{held_call, given_call, again_call, ended_call};
+ghost use Rattle.std.specs.Prelude.{◌≡◌, ◌+◌, ◌-◌, ◌^◌, true, None, length, min};
+ghost use Rattle.mx_cpus.specs.Gates.{held_call, given_call, again_call, ended_call, seen_call};
 
-use crate::gate::Gate;
-use crate::{ActorSeat, Loan};
+use crate::gate::WatchingGate;
+use crate::{ActorSeat, HowFar, Loan, Naming, Shared};
 
 /// The gate as a loop has it: only an actor's side calls it.
 #[derive(Drop)]
-pub(crate) struct Door<'g, G: Gate> {
+pub(crate) struct Door<'g, G: WatchingGate> {
     gate: &'g G,
 }
 
-impl<'g, G: Gate> Door<'g, G> {
+impl<'g, G: WatchingGate> Door<'g, G> {
     pub(crate) fn new(gate: &'g G) -> Door<'g, G>
         ensures { result.gate.now ≡ gate.now }
     {
         Door { gate }
     }
+}
+
+/// What the loops of a machine share.
+#[derive(Drop)]
+pub(crate) struct LoopContext<'s, M: Naming, G: WatchingGate, R> {
+    pub rt: &'s R,
+    pub shared: &'s Shared<M>,
+    pub door: Door<'s, G>,
 }
 
 /// The side of an actor that holds nothing.
@@ -48,7 +56,7 @@ impl FreeSide {
     }
 
     /// Reports to the gate a loan that hasn't run yet.
-    pub(crate) fn report_loan<G: Gate>(self, door: &Door<'_, G>, loan: &Loan) -> HoldingSide
+    pub(crate) fn report_loan<G: WatchingGate>(self, door: &Door<'_, G>, loan: &Loan) -> HoldingSide
         requires goes_on { self.goes_on ≡ true }
         requires actor { loan.now.actor ≡ self.actor }
         requires fresh { loan.now.out ≡ loan.now.lent }
@@ -65,10 +73,12 @@ impl FreeSide {
         HoldingSide { actor, turn }
     }
 
-    /// Asks the gate whether the loop goes on.
-    pub(crate) fn ask<G: Gate>(self, door: &Door<'_, G>, at_rest: bool) -> FreeSide
+    /// Shows the gate how far the machine is, and asks it whether the loop goes on.
+    pub(crate) fn ask<G: WatchingGate>(self, door: &Door<'_, G>, far: HowFar) -> FreeSide
         requires goes_on { self.goes_on ≡ true }
-        ensures called { G.was_called door.now.gate.now (again_call self.actor at_rest result.goes_on) }
+        ensures seen { G.was_called door.now.gate.now (seen_call self.actor far.records) }
+        ensures called { G.was_called door.now.gate.now
+            (again_call self.actor far.at_rest result.goes_on) }
         ensures side { (result.actor ≡ self.actor) × (result.turn ≡ self.turn) }
     {
         let FreeSide {
@@ -76,7 +86,8 @@ impl FreeSide {
             turn,
             goes_on: _,
         } = self;
-        let goes_on = door.gate.again(actor, at_rest);
+        door.gate.seen(actor, far.records);
+        let goes_on = door.gate.again(actor, far.at_rest);
         FreeSide {
             actor,
             turn,
@@ -92,7 +103,7 @@ impl FreeSide {
     }
 
     /// Reports to the gate that the loop has ended.
-    pub(crate) fn report_end<G: Gate>(self, door: &Door<'_, G>)
+    pub(crate) fn report_end<G: WatchingGate>(self, door: &Door<'_, G>)
         ensures { G.was_called door.now.gate.now (ended_call self.actor) }
     {
         let FreeSide {
@@ -114,11 +125,19 @@ impl FreeSide {
 }
 
 impl HoldingSide {
-    /// Reports to the gate that the loan was given back, by the seat that came back for it.
-    pub(crate) fn report_return<G: Gate>(self, door: &Door<'_, G>, seat: &ActorSeat) -> FreeSide
+    /// Reports to the gate that the loan was given back, and shows it how many records the seat has seen that came
+    /// back for it.
+    pub(crate) fn report_return<G: WatchingGate>(
+        self,
+        door: &Door<'_, G>,
+        seat: &ActorSeat,
+        records: usize,
+    ) -> FreeSide
         requires actor { seat.now.actor ≡ self.actor }
         requires back { seat.now.held ≡ None }
+        requires records { records ≡ length seat.now.seen }
         ensures called { G.was_called door.now.gate.now (given_call self.actor) }
+        ensures seen { G.was_called door.now.gate.now (seen_call self.actor records) }
         ensures actor { result.actor ≡ self.actor }
         ensures turn { result.turn ≡ min (self.turn + 1) (2 ^ 64 - 1) }
         ensures goes_on { result.goes_on ≡ true }
@@ -126,6 +145,7 @@ impl HoldingSide {
         let _seat = seat;
         let HoldingSide { actor, turn } = self;
         door.gate.given(actor);
+        door.gate.seen(actor, records);
         FreeSide {
             actor,
             turn: turn.saturating_add(1),

@@ -1,19 +1,20 @@
 //! A gate for tests, which notes each call that a loop makes of it.
 
-use mx_cpus::Gate;
+use mx_cpus::{Gate, WatchingGate};
 use std::array;
 use std::sync::atomic::{AtomicU32, AtomicU64, Ordering};
 
 /// How many calls a gate notes.
 const NOTED: usize = 64;
 
-/// A call of a gate. A turn above 99 is noted as 99.
+/// A call of a gate. A number above 99 is noted as 99.
 #[derive(Clone, Copy)]
 pub enum GateCall {
     Held { cpu: u8, turn: u64 },
     Given(u8),
     Again { actor: u8, at_rest: bool },
     Ended(u8),
+    Seen { actor: u8, records: usize },
 }
 
 /// A call as a number: which kind of call, then a number below 100, then the actor.
@@ -23,6 +24,7 @@ fn number_of(call: GateCall) -> u64 {
         GateCall::Given(cpu) => (2, cpu, 0),
         GateCall::Again { actor, at_rest } => (3, actor, u64::from(at_rest)),
         GateCall::Ended(actor) => (4, actor, 0),
+        GateCall::Seen { actor, records } => (5, actor, records.min(99) as u64),
     };
     kind.min(9) * 100_000 + number.min(99) * 1000 + u64::from(actor)
 }
@@ -94,5 +96,11 @@ impl Gate for NotingGate {
 
     fn ended(&self, actor: u8) {
         self.note(GateCall::Ended(actor));
+    }
+}
+
+impl WatchingGate for NotingGate {
+    fn seen(&self, actor: u8, records: usize) {
+        self.note(GateCall::Seen { actor, records });
     }
 }

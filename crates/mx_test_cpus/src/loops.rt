@@ -5,10 +5,10 @@ ghost use Rattle.std.specs.Prelude.{◌≡◌, ◌≤◌, All, None};
 use crate::gates::{GateCall, NotingGate};
 use crate::machine::{config, is_history, last_idle_seat, services};
 use mx_cpus::{
-    ActorSeat, Blank, Kernel, Naming, OutsideCall, Shared, boot, drive_with, outsider, processor,
+    ActorSeat, Blank, Naming, Outside, OutsideCall, Shared, boot, drive_with, outsider, processor,
     respawner,
 };
-use mx_machine::{Record, Recorded};
+use mx_machine::{Kernel, Record, Recorded};
 use std::marker::Brand;
 use std::sync::Wait;
 use std::test::Fail;
@@ -424,7 +424,7 @@ fn drive_to_end<M: Naming + Send + Sync, R: Threads + Wait + Sync>(
 {
     let alloc = *seats.allocator();
     let shared: Shared<M> = blank.open();
-    match drive_with(rt, &shared, seats, gate, 0, calls) {
+    match drive_with(rt, &shared, seats, gate, Outside { ticks: 0, calls }) {
         Ok(seats) => Some(shared.into_kernel(seats)),
         Err(_) => {
             let _kernel = shared.into_kernel(Vec::new(alloc));

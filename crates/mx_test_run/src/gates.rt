@@ -1,6 +1,6 @@
 //! The gate of a run, called from one thread: when it ends a loop.
 
-use mx_app_run::RunGate;
+use mx_app_run::{NoProgress, RunGate, RunPlan};
 use mx_cpus::Gate;
 use std::test::Fail;
 
@@ -169,7 +169,14 @@ fn first_other<G: Gate>(gate: &G, calls: &[Call]) -> Option<usize> {
 fn questions_of_a_run(rt: HostRuntime) -> Result<(), Fail> {
     for row in ROWS {
         let name = row.name;
-        let gate = RunGate::new(&rt, 2, row.ticks, row.has_calls);
+        let plan = RunPlan {
+            respawner: 2,
+            ticks: row.ticks,
+            has_calls: row.has_calls,
+            log: 64,
+        };
+        let progress = NoProgress::new();
+        let gate = RunGate::new(&rt, &progress, plan);
         let fault = first_other(&gate, row.calls);
         let call = fault.unwrap_or(0);
         assert!(rt; fault.is_none(), "{name}: call {call}");

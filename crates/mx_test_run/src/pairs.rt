@@ -1,7 +1,7 @@
 //! A driver and a client, whose processors are threads: what their runs leave, whatever the schedule.
 
 use crate::machine::{Log, RUNS, Row, files_of, is_left};
-use mx_app_run::{Channels, Ending, MemoryWriter, NamedFiles, RunNames, run};
+use mx_app_run::{Channels, Ending, MemoryWriter, NamedFiles, NoProgress, RunWanted, run};
 use std::alloc::Global;
 use std::process::Abort;
 use std::sync::Wait;
@@ -136,12 +136,13 @@ fn left_by<R: Threads + Wait + Clock + Sync>(
         files: MemoryWriter::new(alloc),
         out: Vec::new(alloc),
     };
-    let names = RunNames {
+    let wanted = RunWanted {
         config: "config",
         log: "log",
         events: row.events.map(|_| "events"),
+        ticks: row.ticks,
     };
-    let done = run(rt, alloc, &mut channels, names, row.ticks);
+    let done = run(rt, alloc, &mut channels, wanted, &mut NoProgress::new());
     match done {
         Ok(ending) => {
             let Channels { files, out, .. } = channels;

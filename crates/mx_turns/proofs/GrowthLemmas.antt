@@ -68,42 +68,42 @@ no_less_after w (x ∷ xs) =
     let rest = no_less_after (world_after_event w x.0 x.1) xs in
     omega (arith, one, rest)
 
--- ---- an event that is accepted has a record, but for a step
+-- ---- an event that is accepted has one record, but for a step
 
 -- an event that has a record
-abbrev IsRecorded : Event → Type 0
+abbrev pub IsRecorded : Event → Type 0
 IsRecorded Step = ⊥
 IsRecorded _ = Unit {0}
 
-more_by_take : (w : World) (a left : ℕ) (held : Option HeldProcess) (s : Option ℕ) → take_refusal left held s ≡ None → w.records < (world_after_take w a s).records
+more_by_take : (w : World) (a left : ℕ) (held : Option HeldProcess) (s : Option ℕ) → take_refusal left held s ≡ None → (world_after_take w a s).records ≡ w.records + 1
 more_by_take w a left (Some l) s h = cc
 more_by_take w a left None None h = cc
-more_by_take w a left None (Some s) h = omega arith
+more_by_take w a left None (Some s) h = refl
 
-take_left : (w : World) (a : ℕ) (is : Bool) (left : ℕ) (held : Option HeldProcess) (s : Option ℕ) → cond is (take_refusal left held s) (Some CpuBusy) ≡ None → w.records < (world_after_take w a s).records
+take_left : (w : World) (a : ℕ) (is : Bool) (left : ℕ) (held : Option HeldProcess) (s : Option ℕ) → cond is (take_refusal left held s) (Some CpuBusy) ≡ None → (world_after_take w a s).records ≡ w.records + 1
 take_left w a true left held s h = more_by_take w a left held s h
 take_left w a false left held s h = cc
 
-more_by_back : (w : World) (a : ℕ) (x : Option HeldProcess) → back_refusal x ≡ None → w.records < (world_after_back w a x).records
+more_by_back : (w : World) (a : ℕ) (x : Option HeldProcess) → back_refusal x ≡ None → (world_after_back w a x).records ≡ w.records + 1
 more_by_back w a None h = cc
-more_by_back w a (Some l) h = omega arith
+more_by_back w a (Some l) h = refl
 
-more_by_line : (w : World) (l left : ℕ) (owner : Option ℕ) → line_refusal left owner ≡ None → w.records < (world_after_line w l owner).records
+more_by_line : (w : World) (l left : ℕ) (owner : Option ℕ) → line_refusal left owner ≡ None → (world_after_line w l owner).records ≡ w.records + 1
 more_by_line w l left None h = cc
-more_by_line w l left (Some s) h = omega arith
+more_by_line w l left (Some s) h = refl
 
-more_by_respawn : (w : World) (s left : ℕ) (p : Process) (v : Option Service) → respawn_refusal left p v ≡ None → w.records < (world_after_respawn w s v).records
+more_by_respawn : (w : World) (s left : ℕ) (p : Process) (v : Option Service) → respawn_refusal left p v ≡ None → (world_after_respawn w s v).records ≡ w.records + 1
 more_by_respawn w s left p None h = cc
-more_by_respawn w s left p (Some v) h = omega arith
+more_by_respawn w s left p (Some v) h = refl
 
-one_more : (w : World) (a : ℕ) (x : Event) → IsRecorded x → event_refusal w a x ≡ None → w.records < (world_after_event w a x).records
+pub one_more : (w : World) (a : ℕ) (x : Event) → IsRecorded x → event_refusal w a x ≡ None → (world_after_event w a x).records ≡ w.records + 1
 unfolding event_refusal world_after_event
 one_more w a Step is h = absurd is
 one_more w a Take is h = take_left w a (nat_lt a (length w.cpus)) (free_records w) (held_by w a) (first_ready w.table.ready) h
 one_more w a Back is h = more_by_back w a (held_by w a) h
 one_more w a (Line l) is h = more_by_line w l (free_records w) (owner_of w.table l) h
-one_more w a Tick is h = omega arith
-one_more w a (Kill e) is h = omega arith
+one_more w a Tick is h = refl
+one_more w a (Kill e) is h = refl
 one_more w a (Respawn s) is h = more_by_respawn w s (free_records w) (process_at w.table s) (slice_get w.services s) h
 
 -- ---- offers of which none is made

@@ -4,3 +4,4 @@ pub mod TurnLemmas
 pub mod LawLemmas
 pub mod RoundLemmas
 pub mod GrowthLemmas
+pub mod ShownLemmas

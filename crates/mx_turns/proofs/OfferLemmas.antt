@@ -166,7 +166,7 @@ steps_offered join (suc k) w c l h = elim (cases_Bool (at_stop l.out)) [
 
 -- ---- the lists of offers
 
-range_more : (a n : ℕ) → range_with_len a (n + 1) ≡ range_with_len a n ++ (a + n) ∷ []
+pub range_more : (a n : ℕ) → range_with_len a (n + 1) ≡ range_with_len a n ++ (a + n) ∷ []
 range_more a n = let e = map-range_with_len_more (λ x. x) a n (a + n) refl in same a (n + 1) ∙ e ∙ ap (λ l. l ++ (a + n) ∷ []) (sym (same a n))
   where
     same : (a n : ℕ) → range_with_len a n ≡ map (λ x. x) (range_with_len a n)

@@ -1,5 +1,6 @@
 -- Turns in a row.
-use Rattle.std.proofs.Common.{◌≡◌, ◌∙◌, ℕ, zero, suc, ◌+◌, ◌-◌, ◌<◌, ◌≤◌, ◌++◌, ◌&&◌, ◌==◌, Bool, true, false, List, [], ◌∷◌, cond, drop, length, Option, Some, None, is_none, slice_get, refl, ap, sym, subst, arith, append_assoc}
+use Rattle.std.proofs.Common.{◌≡◌, ◌∙◌, ℕ, zero, suc, ◌+◌, ◌-◌, ◌<◌, ◌≤◌, ◌++◌, ◌&&◌, ◌==◌, Bool, true, false, List, [], ◌∷◌, cond, drop, length, Option, Some, None, is_none, slice_get, inl, inr, refl, ap, sym, subst, arith, append_assoc}
+use Rattle.std.proofs.lemmas.Bool.{cases_lt}
 use Rattle.std.proofs.lemmas.List.{drop-drop, length-set}
 use Rattle.mx_machine.specs.Proc.Queues.{first_ready}
 use Rattle.mx_machine.specs.Service.{Service}
@@ -104,14 +105,12 @@ turn_done m n p q next full t r o =
 
 -- ---- turns
 
--- a machine that was m is n after `made` of its turns, and goes on with those that are left
-abbrev pub StandsAfter : ℕ → MachineState → List Event → ℕ → MachineState → Type 0
-StandsAfter bound m coming made n = (xs : Offers) × HasMade m xs n × (turns bound (world_of m) coming ≡ joined xs (turns (bound - made) (world_of n) (drop made coming)))
+-- a machine that was m is n after `made` of its turns, and goes on with those that are left, however many are wanted
+abbrev pub StandsAfter : MachineState → List Event → ℕ → MachineState → Type 0
+StandsAfter m coming made n = (xs : Offers) × HasMade m xs n × ((bound : ℕ) → made ≤ bound → turns bound (world_of m) coming ≡ joined xs (turns (bound - made) (world_of n) (drop made coming)))
 
-pub stands_first : (bound : ℕ) (m : MachineState) (coming : List Event) → StandsAfter bound m coming 0 m
-stands_first bound m coming =
-    let all : bound ≡ bound - 0 = omega arith in
-    ([], none_made m, ap (λ n. turns n (world_of m) coming) all)
+pub stands_first : (m : MachineState) (coming : List Event) → StandsAfter m coming 0 m
+stands_first m coming = ([], none_made m, (λ bound le. let all : bound ≡ bound - 0 = omega arith in ap (λ n. turns n (world_of m) coming) all))
 
 get_drop : (coming : List Event) (n : ℕ) → slice_get (drop n coming) 0 ≡ slice_get coming n
 get_drop [] zero = refl
@@ -136,22 +135,6 @@ next_course bound made u coming b =
     ∙ ap (λ (x : Option Event). cond (is_none x && at_rest u) (let z : Course = record { made = []; ending = Rest } in z) (then_turns (turn u x) (turns (bound - (made + 1)) (world_after u (turn u x)) (drop 1 (drop made coming))))) (get_drop coming made)
     ∙ ap (λ l. let t = turn u (slice_get coming made) in cond (is_none (slice_get coming made) && at_rest u) (let z : Course = record { made = []; ending = Rest } in z) (then_turns t (turns (bound - (made + 1)) (world_after u t) l))) (drop-drop 1 made coming)
 
--- one turn more
-pub stands_next : (bound : ℕ) (m : MachineState) (coming : List Event) (made : ℕ) (n p : MachineState) → StandsAfter bound m coming made n → made < bound → (is_none (slice_get coming made) && at_rest (world_of n)) ≡ false
-    → HasOffered n (turn (world_of n) (slice_get coming made)) false p → StandsAfter bound m coming (made + 1) p
-stands_next bound m coming made n p s b o h =
-    let t = turn (world_of n) (slice_get coming made) in
-    let rest = turns (bound - (made + 1)) (world_of p) (drop (made + 1) coming) in (
-      s.0 ++ t.made,
-      then_made m n p s.0 t.made s.1 h.made,
-      s.2
-          ∙ ap (joined s.0) (next_course bound made (world_of n) coming b)
-          ∙ ap (λ over. joined s.0 (by_over over bound made (world_of n) coming)) o
-          ∙ ap (λ full. joined s.0 (cond full (let z : Course = record { made = t.made; ending = Full } in z) (let c = turns (bound - (made + 1)) (world_after (world_of n) t) (drop (made + 1) coming) in joined t.made c))) h.full
-          ∙ ap (λ (u : World). joined s.0 (joined t.made (turns (bound - (made + 1)) u (drop (made + 1) coming)))) (sym h.made.world)
-          ∙ ap (λ (l : Offers). let z : Course = record { made = l; ending = rest.ending } in z) (sym (append_assoc s.0 t.made rest.made)),
-    )
-
 -- What is to be shown of the machine after its turns.
 pub record IsAfterTurns (bound : ℕ) (m : MachineState) (coming : List Event) (n : MachineState) (how : Ending) : Type 0 where
   pub made : HasMade m (turns bound (world_of m) coming).made n
@@ -161,30 +144,90 @@ pub record IsAfterTurns (bound : ℕ) (m : MachineState) (coming : List Event) (
 ended : (bound : ℕ) (m : MachineState) (coming : List Event) (n : MachineState) (xs : Offers) (ending : Ending) → HasMade m xs n → turns bound (world_of m) coming ≡ record { made = xs; ending = ending } → IsAfterTurns bound m coming n ending
 ended bound m coming n xs ending h e = record { made = subst (λ (c : Course). HasMade m c.made n) (sym e) h; ending = ap (λ (c : Course). c.ending) (sym e) }
 
--- all is over
-pub stands_over : (bound : ℕ) (m : MachineState) (coming : List Event) (made : ℕ) (n : MachineState) → StandsAfter bound m coming made n → made < bound → (is_none (slice_get coming made) && at_rest (world_of n)) ≡ true → IsAfterTurns bound m coming n Rest
-stands_over bound m coming made n s b o =
-    ended bound m coming n s.0 Rest s.1
-    (s.2 ∙ ap (joined s.0) (next_course bound made (world_of n) coming b) ∙ ap (λ over. joined s.0 (by_over over bound made (world_of n) coming)) o
-    ∙ ap (λ (l : Offers). let z : Course = record { made = l; ending = Rest } in z) (nil_after s.0))
+module _ (m : MachineState) (coming : List Event) (made : ℕ) (n : MachineState) (s : StandsAfter m coming made n) where
+  -- the turns made, if no more are wanted
+  made_so_far : (over : Bool) → (is_none (slice_get coming made) && at_rest (world_of n)) ≡ over → turns made (world_of m) coming ≡ record { made = s.0; ending = cond over Rest Turns }
+  made_so_far over o =
+      let le : made ≤ made = omega arith in
+      let none : made - made ≡ 0 = omega arith in
+      s.2 made le
+      ∙ ap (λ k. joined s.0 (turns k (world_of n) (drop made coming))) none
+      ∙ ap (λ (x : Option Event). joined s.0 (let z : Course = record { made = []; ending = cond (is_none x && at_rest (world_of n)) Rest Turns } in z)) (get_drop coming made)
+      ∙ ap (λ b. joined s.0 (let z : Course = record { made = []; ending = cond b Rest Turns } in z)) o
+      ∙ ap (λ (l : Offers). let z : Course = record { made = l; ending = cond over Rest Turns } in z) (nil_after s.0)
 
--- the history is full
-pub stands_full : (bound : ℕ) (m : MachineState) (coming : List Event) (made : ℕ) (n p : MachineState) → StandsAfter bound m coming made n → made < bound → (is_none (slice_get coming made) && at_rest (world_of n)) ≡ false
-    → HasOffered n (turn (world_of n) (slice_get coming made)) true p → IsAfterTurns bound m coming p Full
-stands_full bound m coming made n p s b o h =
-    let t = turn (world_of n) (slice_get coming made) in
-    ended bound m coming p (s.0 ++ t.made) Full (then_made m n p s.0 t.made s.1 h.made)
-    (s.2 ∙ ap (joined s.0) (next_course bound made (world_of n) coming b) ∙ ap (λ over. joined s.0 (by_over over bound made (world_of n) coming)) o
-    ∙ ap (λ full. joined s.0 (cond full (let z : Course = record { made = t.made; ending = Full } in z) (let c = turns (bound - (made + 1)) (world_after (world_of n) t) (drop (made + 1) coming) in joined t.made c))) h.full)
+  -- all is over, so no more turns are made
+  over_course : (bound : ℕ) → made ≤ bound → (is_none (slice_get coming made) && at_rest (world_of n)) ≡ true → turns bound (world_of m) coming ≡ record { made = s.0; ending = Rest }
+  over_course bound le o = elim (cases_lt made bound) [
+    | inl lt ↦
+        s.2 bound le ∙ ap (joined s.0) (next_course bound made (world_of n) coming lt) ∙ ap (λ over. joined s.0 (by_over over bound made (world_of n) coming)) o
+        ∙ ap (λ (l : Offers). let z : Course = record { made = l; ending = Rest } in z) (nil_after s.0)
+    | inr ge ↦ let e : made ≡ bound = omega (arith, le, ge) in ap (λ k. turns k (world_of m) coming) (sym e) ∙ made_so_far true o
+  ]
 
--- all turns are made
-pub stands_last : (bound : ℕ) (m : MachineState) (coming : List Event) (made : ℕ) (n : MachineState) (over : Bool) → StandsAfter bound m coming made n → made ≡ bound → (is_none (slice_get coming bound) && at_rest (world_of n)) ≡ over
-    → IsAfterTurns bound m coming n (cond over Rest Turns)
-stands_last bound m coming made n over s e o =
-    let none : bound - made ≡ 0 = omega (arith, e) in
-    ended bound m coming n s.0 (cond over Rest Turns) s.1
-    (s.2 ∙ ap (λ k. joined s.0 (turns k (world_of n) (drop made coming))) none
-    ∙ ap (λ k. joined s.0 (turns 0 (world_of n) (drop k coming))) e
-    ∙ ap (λ (x : Option Event). joined s.0 (let z : Course = record { made = []; ending = cond (is_none x && at_rest (world_of n)) Rest Turns } in z)) (get_drop coming bound)
-    ∙ ap (λ b. joined s.0 (let z : Course = record { made = []; ending = cond b Rest Turns } in z)) o
-    ∙ ap (λ (l : Offers). let z : Course = record { made = l; ending = cond over Rest Turns } in z) (nil_after s.0))
+  -- a turn is made, and then others, unless the history is full
+  turn_course : (bound : ℕ) (p : MachineState) (full : Bool) → made < bound → (is_none (slice_get coming made) && at_rest (world_of n)) ≡ false → HasOffered n (turn (world_of n) (slice_get coming made)) full p
+      → turns bound (world_of m) coming ≡ cond full (record { made = s.0 ++ (turn (world_of n) (slice_get coming made)).made; ending = Full }) (joined (s.0 ++ (turn (world_of n) (slice_get coming made)).made) (turns (bound - (made + 1)) (world_of p) (drop (made + 1) coming)))
+  turn_course bound p full b o h =
+      let t = turn (world_of n) (slice_get coming made) in
+      let le : made ≤ bound = omega (arith, b) in
+      s.2 bound le
+      ∙ ap (joined s.0) (next_course bound made (world_of n) coming b)
+      ∙ ap (λ over. joined s.0 (by_over over bound made (world_of n) coming)) o
+      ∙ ap (λ full. joined s.0 (cond full (let z : Course = record { made = t.made; ending = Full } in z) (let c = turns (bound - (made + 1)) (world_after (world_of n) t) (drop (made + 1) coming) in joined t.made c))) h.full
+      ∙ ap (λ (u : World). joined s.0 (cond full (let z : Course = record { made = t.made; ending = Full } in z) (joined t.made (turns (bound - (made + 1)) u (drop (made + 1) coming))))) (sym h.made.world)
+      ∙ by full (turns (bound - (made + 1)) (world_of p) (drop (made + 1) coming))
+    where
+      by : (full : Bool) (c : Course)
+          → joined s.0 (cond full (let z : Course = record { made = (turn (world_of n) (slice_get coming made)).made; ending = Full } in z) (joined (turn (world_of n) (slice_get coming made)).made c))
+          ≡ cond full (record { made = s.0 ++ (turn (world_of n) (slice_get coming made)).made; ending = Full }) (joined (s.0 ++ (turn (world_of n) (slice_get coming made)).made) c)
+      by true c = refl
+      by false c = ap (λ (l : Offers). let z : Course = record { made = l; ending = c.ending } in z) (sym (append_assoc s.0 (turn (world_of n) (slice_get coming made)).made c.made))
+
+  -- one turn more
+  pub stands_next : (p : MachineState) → (is_none (slice_get coming made) && at_rest (world_of n)) ≡ false → HasOffered n (turn (world_of n) (slice_get coming made)) false p → StandsAfter m coming (made + 1) p
+  stands_next p o h = (
+    s.0 ++ (turn (world_of n) (slice_get coming made)).made,
+    then_made m n p s.0 (turn (world_of n) (slice_get coming made)).made s.1 h.made,
+    (λ bound le. let b : made < bound = omega (arith, le) in turn_course bound p false b o h),
+  )
+
+  -- all is over
+  pub stands_over : (bound : ℕ) → made ≤ bound → (is_none (slice_get coming made) && at_rest (world_of n)) ≡ true → IsAfterTurns bound m coming n Rest
+  stands_over bound le o = ended bound m coming n s.0 Rest s.1 (over_course bound le o)
+
+  -- the history is full
+  pub stands_full : (bound : ℕ) (p : MachineState) → made < bound → (is_none (slice_get coming made) && at_rest (world_of n)) ≡ false → HasOffered n (turn (world_of n) (slice_get coming made)) true p → IsAfterTurns bound m coming p Full
+  stands_full bound p b o h =
+      let t = turn (world_of n) (slice_get coming made) in
+      ended bound m coming p (s.0 ++ t.made) Full (then_made m n p s.0 t.made s.1 h.made) (turn_course bound p true b o h)
+
+  -- all turns are made
+  pub stands_last : (bound : ℕ) (over : Bool) → made ≡ bound → (is_none (slice_get coming bound) && at_rest (world_of n)) ≡ over → IsAfterTurns bound m coming n (cond over Rest Turns)
+  stands_last bound over e o =
+      let here : (is_none (slice_get coming made) && at_rest (world_of n)) ≡ over = subst (λ k. (is_none (slice_get coming k) && at_rest (world_of n)) ≡ over) (sym e) o in
+      ended bound m coming n s.0 (cond over Rest Turns) s.1 (ap (λ k. turns k (world_of m) coming) (sym e) ∙ made_so_far over here)
+
+  -- how fewer and more turns end
+  pub going_on : (p : MachineState) (full : Bool) → (is_none (slice_get coming made) && at_rest (world_of n)) ≡ false → HasOffered n (turn (world_of n) (slice_get coming made)) full p
+      → ((turns made (world_of m) coming).ending ≡ Turns) × (world_of p ≡ world_after_events (world_of m) (turns (made + 1) (world_of m) coming).made)
+  going_on p full o h =
+      let t = turn (world_of n) (slice_get coming made) in
+      let b : made < made + 1 = omega arith in
+      let none : (made + 1) - (made + 1) ≡ 0 = omega arith in
+      let all = turn_course (made + 1) p full b o h ∙ ap (λ k. cond full (let z : Course = record { made = s.0 ++ t.made; ending = Full } in z) (joined (s.0 ++ t.made) (turns k (world_of p) (drop (made + 1) coming)))) none in
+      let made_all : (turns (made + 1) (world_of m) coming).made ≡ s.0 ++ t.made = ap (λ (c : Course). c.made) all ∙ by full in (
+        ap (λ (c : Course). c.ending) (made_so_far false o),
+        (then_made m n p s.0 t.made s.1 h.made).world ∙ ap (world_after_events (world_of m)) (sym made_all),
+      )
+    where
+      by : (full : Bool) → (cond full (let z : Course = record { made = s.0 ++ (turn (world_of n) (slice_get coming made)).made; ending = Full } in z) (joined (s.0 ++ (turn (world_of n) (slice_get coming made)).made) (turns 0 (world_of p) (drop (made + 1) coming)))).made
+          ≡ s.0 ++ (turn (world_of n) (slice_get coming made)).made
+      by true = refl
+      by false = nil_after (s.0 ++ (turn (world_of n) (slice_get coming made)).made)
+
+  pub ended_over : (is_none (slice_get coming made) && at_rest (world_of n)) ≡ true → (k : ℕ) → made ≤ k → (turns k (world_of m) coming).ending ≡ Rest
+  ended_over o k le = ap (λ (c : Course). c.ending) (over_course k le o)
+
+  pub ended_full : (p : MachineState) → (is_none (slice_get coming made) && at_rest (world_of n)) ≡ false → HasOffered n (turn (world_of n) (slice_get coming made)) true p → (k : ℕ) → made + 1 ≤ k → (turns k (world_of m) coming).ending ≡ Full
+  ended_full p o h k le = let b : made < k = omega (arith, le) in ap (λ (c : Course). c.ending) (turn_course k p true b o h)

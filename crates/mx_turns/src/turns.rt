@@ -1,15 +1,17 @@
 //! Turns of a machine.
 
-ghost use Rattle.std.specs.Prelude.{◌≡◌, ◌&&◌, ◌<◌, is_none, length};
+ghost use Rattle.std.specs.Prelude.{◌≡◌, ◌&&◌, ◌<◌, ◌++◌, is_none, length};
 ghost use Rattle.mx_machine.specs.Machine.{world_of};
 ghost use Rattle.mx_machine.specs.Rest.{at_rest};
 ghost use Rattle.mx_machine.specs.World.{actors};
 ghost use Rattle.mx_turns.specs.Made.{HasMade, HasOffered, outside_events};
+ghost use Rattle.mx_turns.specs.Shown.{part_of, turns_shown};
 ghost use Rattle.mx_turns.specs.Turns.{turn, turns};
 
 use crate::offers::{offer_others, offer_runs, offer_takes};
 use crate::outside::Outside;
 use mx_machine::{Event, Machine, actors_stay};
+use mx_walk::{Part, Progress};
 
 /// How turns end.
 #[derive(Clone, Copy, Debug, PartialEq, Eq)]
@@ -47,6 +49,18 @@ fn make_turn(machine: &mut Machine, next: Option<Event>) -> bool
     offer_others(machine, cpus, next, slots)
 }
 
+/// How many records a machine's history has, of so many that it may have.
+fn part_of(machine: &Machine, log: usize) -> Part
+    ensures { result ≡ part_of log (world_of machine.now) }
+{
+    let kernel = machine.kernel();
+    kernel.facts();
+    Part {
+        done: kernel.history().len(),
+        all: log,
+    }
+}
+
 /// Makes turns of a machine, with outside events to come: until it is at rest and none is to come, or `bound`
 /// turns are made, or the history is full. Answers which. The machine must have an actor that is no
 /// processor; the first such actor makes the outside events and the respawns. Takes no memory.
@@ -56,12 +70,22 @@ fn make_turn(machine: &mut Machine, next: Option<Event>) -> bool
 /// made; and each slot that is down and not worn gets a new process. A refused event has no record, and an
 /// outside event that is refused is gone. If a take is refused because the history is full, no later take is
 /// tried and nothing is made after the returns; if a later event is refused so, nothing is made after it.
-pub fn make_turns(machine: &mut Machine, outside: Outside<'_>, bound: u64) -> Ending
+///
+/// After each turn `progress` is shown how many records the history has, of the `log` that it may have.
+pub fn make_turns<P: Progress>(
+    machine: &mut Machine,
+    outside: Outside<'_>,
+    bound: u64,
+    log: usize,
+    progress: &mut P,
+) -> Ending
     requires { length (world_of machine.old).cpus < actors (world_of machine.old) }
     ensures made { HasMade machine.old
         (turns bound (world_of machine.old) (outside_events outside.entry)).made machine.new }
     ensures ending { result
         ≡ (turns bound (world_of machine.old) (outside_events outside.entry)).ending }
+    ensures shown { P.shown progress.new ≡ P.shown progress.old
+        ++ turns_shown log bound (world_of machine.old) (outside_events outside.entry) }
 {
     actors_stay();
     for made in 0..bound {
@@ -69,7 +93,9 @@ pub fn make_turns(machine: &mut Machine, outside: Outside<'_>, bound: u64) -> En
         if is_over(machine, next) {
             return Ending::Rest;
         }
-        if make_turn(machine, next) {
+        let is_filled = make_turn(machine, next);
+        progress.show(part_of(machine, log));
+        if is_filled {
             return Ending::Full;
         }
     }

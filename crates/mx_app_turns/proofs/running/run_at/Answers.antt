@@ -38,11 +38,11 @@ returns-clause-run c =
     let k = c.args.position in
     let above = world_above boot (world_of c.in_ok-machine.machine) (world_of c.perform_records.new.machine) records (take k records) k refl c.in_ok-machine.ensures.world c.in_default.ensures.ok.1 in
     let below : take (length records - k) (drop k records) ≡ drop k records = take_all (length records - k) (drop k records) (omega (arith, length-drop k records)) in
-    let run = run_done boot other records c.from.result fault k c.in_ok-machine.machine c.perform_records.new.machine c.perform_fault.new.machine c.make_turns-ending.new.machine
+    let run = run_done boot other records c.from-bound.result fault k c.in_ok-machine.machine c.perform_records.new.machine c.perform_fault.new.machine c.make_turns-ending.new.machine
     (take k records) (take (length records - k) (drop k records)) _ c.make_turns-ending.result refl below c.in_ok-machine.ensures.kernel c.in_ok-machine.ensures.world c.in_default.ensures.ok.1 c.in_default.ensures.kept
     c.in_ok-perform_fault.ensures.world c.in_ok-perform_fault.ensures.kept (append-nil c.as_slice.result.now ∙ c.as_slice.ensures.value ∙ c.in_ok-events.ensures)
     c.make_turns-ending.ensures.made c.make_turns-ending.ensures.ending in (
-      subst (λ n. HasRun (run_of boot other records n fault k) c.make_turns-ending.new.machine c.make_turns-ending.result) c.from.ensures run,
+      subst (λ n. HasRun (run_of boot other records n fault k) c.make_turns-ending.new.machine c.make_turns-ending.result) c.from-bound.ensures run,
       c.in_ok-perform_fault.ensures.text ∙ ap (λ (w : World). c.args.text.now.items ++ said_text (faults_made w other fault).0) above,
     )
 

@@ -6,12 +6,12 @@ use Rattle.mx_cpus.proofs.calling.make_calls.Goals as goal
 pub returns-in-Full : goal.returns-in-Full
 returns-in-Full g c =
     let boot = g.M.Naming.boot in
-    let called = g.G.Gate.was_called c.args.door.now.gate.now in
+    let called = g.G.Gate.was_called c.args.context.now.door.gate.now in
     let xs = c.args.calls.now in
     let next = c.make_call-next in
     let course = calls_full boot called xs c.loop-call.call-index _ c.args.seat c.loop-call.seat next.result.0 c.loop-call.side next.result.2 c.loop-call.invariant c.loop-call-test.true next.ensures.made c.in-Full.is in
     record {
-      made = outsider_made boot called xs c.args.seat next.result.0 c.opened.ensures.mine course;
+      made = outsider_made boot called xs c.args.seat next.result.0 c.facts.ensures.mine course;
       course = course;
       side = next.ensures.actor ∙ c.loop-call.invariant.follows.actor;
     }
@@ -19,12 +19,12 @@ returns-in-Full g c =
 pub returns-in-Stopped : goal.returns-in-Stopped
 returns-in-Stopped g c =
     let boot = g.M.Naming.boot in
-    let called = g.G.Gate.was_called c.args.door.now.gate.now in
+    let called = g.G.Gate.was_called c.args.context.now.door.gate.now in
     let xs = c.args.calls.now in
     let next = c.make_call-next in
     let course = calls_stopped boot called xs c.loop-call.call-index _ c.args.seat c.loop-call.seat next.result.0 c.loop-call.side next.result.2 c.loop-call.invariant c.loop-call-test.true next.ensures.made c.in-Stopped.is in
     record {
-      made = outsider_made boot called xs c.args.seat next.result.0 c.opened.ensures.mine course;
+      made = outsider_made boot called xs c.args.seat next.result.0 c.facts.ensures.mine course;
       course = course;
       side = next.ensures.actor ∙ c.loop-call.invariant.follows.actor;
     }
@@ -32,15 +32,16 @@ returns-in-Stopped g c =
 pub loop-call-preserved : goal.loop-call-preserved
 loop-call-preserved g c =
     let next = c.make_call-next in
-    calls_go_on g.M.Naming.boot (g.G.Gate.was_called c.args.door.now.gate.now) c.args.calls.now c.loop-call.call-index _ c.args.seat c.loop-call.seat next.result.0 c.loop-call.side next.result.1 next.result.2
+    calls_go_on g.M.Naming.boot (g.G.Gate.was_called c.args.context.now.door.gate.now) c.args.calls.now c.loop-call.call-index _ c.args.seat c.loop-call.seat next.result.0 c.loop-call.side next.result.1 next.result.2
     c.loop-call.invariant c.loop-call-test.true next.ensures.made c.in-Made.is next.ensures.actor next.ensures.goes_on
 
 pub returns-clause-made : goal.returns-clause-made
 returns-clause-made g c =
     let boot = g.M.Naming.boot in
-    let called = g.G.Gate.was_called c.args.door.now.gate.now in
+    let called = g.G.Gate.was_called c.args.context.now.door.gate.now in
     let xs = c.args.calls.now in
     let k = c.loop-call.call-index in
     let over : length xs ≤ k = omega arith in
-    outsider_made boot called xs c.args.seat c.at_rest-seat.result.0 c.opened.ensures.mine
-    (calls_all boot called xs k c.args.seat c.loop-call.seat c.at_rest-seat.result.0 c.loop-call.side c.at_rest-seat.result.1 c.ask.result.goes_on c.loop-call.invariant (take_all k xs over) c.at_rest-seat.ensures c.ask.ensures.called)
+    outsider_made boot called xs c.args.seat c.how_far-seat.result.0 c.facts.ensures.mine
+    (calls_all boot called xs k c.args.seat c.loop-call.seat c.how_far-seat.result.0 c.loop-call.side c.how_far-seat.result.1 c.ask.result.goes_on c.loop-call.invariant (take_all k xs over)
+    (record { rests = c.how_far-seat.ensures.rest; many = c.how_far-seat.ensures.records; seen = c.ask.ensures.seen; asked = c.ask.ensures.called }))

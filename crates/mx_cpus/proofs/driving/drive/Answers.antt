@@ -1,4 +1,5 @@
 use Rattle.std.proofs.Common.{length}
+use Rattle.mx_cpus.specs.Gates.{unwatched}
 use Rattle.mx_cpus.proofs.DrivingLemmas.{all_driven, all_served, if_ok_map}
 use Rattle.mx_cpus.proofs.driving.drive.Goals as goal
 
@@ -7,4 +8,4 @@ returns-clause-driven g c = if_ok_map _ _ (λ v. all_driven (length g.M.Naming.b
 
 pub returns-clause-served : goal.returns-clause-served
 returns-clause-served g c =
-    if_ok_map _ _ (λ v. all_served (length g.M.Naming.boot.cpus) c.args.ticks g.M.Naming.boot (g.G.Gate.was_called c.args.gate.now) c.args.seats.items v.items) c.drive_with.result c.drive_with.ensures.served
+    if_ok_map _ _ (λ v. all_served (length g.M.Naming.boot.cpus) c.args.ticks g.M.Naming.boot (unwatched (g.G.Gate.was_called c.args.gate.now)) c.args.seats.items v.items) c.drive_with.result c.drive_with.ensures.served

@@ -6,15 +6,15 @@ use Rattle.mx_cpus.proofs.loops.make_rounds.Goals as goal
 pub returns-in-Full-clause-course : goal.returns-in-Full-clause-course
 returns-in-Full-clause-course g c =
     let next = c.make_round-next.result.0 in
-    rounds_full g.M.Naming.boot (g.G.Gate.was_called c.args.door.now.gate.now) c.args.ticks c.args.seat c.loop.seat next c.loop.side c.loop.left c.loop.invariant
+    rounds_full g.M.Naming.boot (g.G.Gate.was_called c.args.context.now.door.gate.now) c.args.ticks c.args.seat c.loop.seat next c.loop.side c.loop.left c.loop.invariant
     (subst (IsRoundTo g.M.Naming.boot c.loop.left c.loop.seat next) c.in-Full.is c.make_round-next.ensures)
 
 pub returns-in-Full-clause-made : goal.returns-in-Full-clause-made
 returns-in-Full-clause-made g c =
-    respawner_made g.M.Naming.boot (g.G.Gate.was_called c.args.door.now.gate.now) c.args.ticks c.args.seat c.opened.ensures.mine c.make_round-next.result.0 (returns-in-Full-clause-course g c)
+    respawner_made g.M.Naming.boot (g.G.Gate.was_called c.args.context.now.door.gate.now) c.args.ticks c.args.seat c.facts.ensures.mine c.make_round-next.result.0 (returns-in-Full-clause-course g c)
 
-pub at_rest-next-requires : goal.at_rest-next-requires
-at_rest-next-requires g c =
+pub how_far-next-requires : goal.how_far-next-requires
+how_far-next-requires g c =
     let next = c.make_round-next.result.0 in
     record {
       table = round_table g.M.Naming.boot c.loop.left c.loop.seat next g.M.Naming.table c.loop.invariant.follows.own
@@ -25,16 +25,18 @@ pub returns-then-not-goes_on-clause-course : goal.returns-then-not-goes_on-claus
 returns-then-not-goes_on-clause-course g c =
     let next = c.make_round-next.result.0 in
     let off : c.ask-side.result.goes_on ≡ false = search rules in
-    rounds_end g.M.Naming.boot (g.G.Gate.was_called c.args.door.now.gate.now) c.args.ticks c.args.seat c.loop.seat next c.at_rest-next.result.0 c.loop.side c.ask-side.result c.loop.left c.at_rest-next.result.1 c.loop.invariant
-    (subst (IsRoundTo g.M.Naming.boot c.loop.left c.loop.seat next) c.in-GoesOn.is c.make_round-next.ensures) c.at_rest-next.ensures c.ask-side.ensures.called off
+    rounds_end g.M.Naming.boot (g.G.Gate.was_called c.args.context.now.door.gate.now) c.args.ticks c.args.seat c.loop.seat next c.how_far-next.result.0 c.loop.side c.ask-side.result c.loop.left c.how_far-next.result.1 c.loop.invariant
+    (subst (IsRoundTo g.M.Naming.boot c.loop.left c.loop.seat next) c.in-GoesOn.is c.make_round-next.ensures)
+    (record { rests = c.how_far-next.ensures.rest; many = c.how_far-next.ensures.records; seen = c.ask-side.ensures.seen; asked = c.ask-side.ensures.called }) off
 
 pub returns-then-not-goes_on-clause-made : goal.returns-then-not-goes_on-clause-made
 returns-then-not-goes_on-clause-made g c =
-    respawner_made g.M.Naming.boot (g.G.Gate.was_called c.args.door.now.gate.now) c.args.ticks c.args.seat c.opened.ensures.mine c.at_rest-next.result.0 (returns-then-not-goes_on-clause-course g c)
+    respawner_made g.M.Naming.boot (g.G.Gate.was_called c.args.context.now.door.gate.now) c.args.ticks c.args.seat c.facts.ensures.mine c.how_far-next.result.0 (returns-then-not-goes_on-clause-course g c)
 
 pub loop-preserved : goal.loop-preserved
 loop-preserved g c =
     let next = c.make_round-next.result.0 in
     let on : c.ask-side.result.goes_on ≡ true = search rules in
-    rounds_go_on g.M.Naming.boot (g.G.Gate.was_called c.args.door.now.gate.now) c.args.ticks c.args.seat c.loop.seat next c.at_rest-next.result.0 c.loop.side c.ask-side.result c.loop.left c.saturating_sub-left.result c.at_rest-next.result.1 c.loop.invariant
-    (subst (IsRoundTo g.M.Naming.boot c.loop.left c.loop.seat next) c.in-GoesOn.is c.make_round-next.ensures) c.at_rest-next.ensures c.ask-side.ensures.called c.ask-side.ensures.side.0 on c.saturating_sub-left.ensures
+    rounds_go_on g.M.Naming.boot (g.G.Gate.was_called c.args.context.now.door.gate.now) c.args.ticks c.args.seat c.loop.seat next c.how_far-next.result.0 c.loop.side c.ask-side.result c.loop.left c.saturating_sub-left.result c.how_far-next.result.1 c.loop.invariant
+    (subst (IsRoundTo g.M.Naming.boot c.loop.left c.loop.seat next) c.in-GoesOn.is c.make_round-next.ensures)
+    (record { rests = c.how_far-next.ensures.rest; many = c.how_far-next.ensures.records; seen = c.ask-side.ensures.seen; asked = c.ask-side.ensures.called }) c.ask-side.ensures.side.0 on c.saturating_sub-left.ensures

@@ -33,8 +33,8 @@ invariant_of-self g c =
           who (ap (λ (o : Out). o.count) c.redeem-seat.ensures.out) c.back.ensures.recorded (ap (held_by w) who ∙ h.1) c.back.ensures.world,
     )
 
-pub returns : goal.returns
-returns g c =
+pub returns-clause-given : goal.returns-clause-given
+returns-clause-given g c =
     let z = g.M.Naming.table in
     let k = c.self.inside.kernel in
     let w = replay k in
@@ -52,4 +52,4 @@ returns g c =
     known.0 known.1 who
     (c.back.ensures.recorded ∙ ap (λ i. with_record k c.actor-actor.result (recorded.Back i)) count)
     (seat_of_back z k d c.redeem-seat.new.self s c.redeem-seat.result.0 n c.self.invariant.2 c.redeem-seat.ensures.desk c.redeem-seat.ensures.seat)
-    c.opened.ensures.accepted (back_answered w c.actor-actor.result n h.0 (ap (held_by w) who ∙ h.1) none, lent)
+    c.facts.ensures.accepted (back_answered w c.actor-actor.result n h.0 (ap (held_by w) who ∙ h.1) none, lent)
