@@ -137,10 +137,17 @@ module _ (k : Walk) (s : Points) where
       let records : j.records ≡ k.records = ap (λ (w : Walk). w.records) moved in
       let walked = walk_between k.records k.here q in
       let halt : halt_shown j s above q ≡ halt_shown k s (position_before k.records q) q =
-      ap (λ (p : Position). halt_shown j s p q) (up ∙ ap (λ (xs : List Record). position_before xs q) records) ∙ ap (λ (w : Walk). halt_shown w s (position_before k.records q) q) moved in
-      (walked ++ halt_shown j s above q, both_shown before now after walked (halt_shown j s above q) a b,
-      inl (q, subst (λ (xs : List Record). IsPosition xs q) records position, subst (λ (l : Position). IsUpTo q l) (ap (λ (w : Walk). w.last) moved) early, found,
-      ap (λ (ps : List Part). walked ++ ps) halt))
+      ap (λ (p : Position). halt_shown j s p q) (up ∙ ap (λ (xs : List Record). position_before xs q) records) ∙ ap (λ (w : Walk). halt_shown w s (position_before k.records q) q) moved in (
+        walked ++ halt_shown j s above q,
+        both_shown before now after walked (halt_shown j s above q) a b,
+        inl (
+          q,
+          subst (λ (xs : List Record). IsPosition xs q) records position,
+          subst (λ (l : Position). IsUpTo q l) (ap (λ (w : Walk). w.last) moved) early,
+          found,
+          ap (λ (ps : List Part). walked ++ ps) halt,
+        ),
+      )
 
   pub search_passed : (p : Position) (before after : List Part) → p ≡ k.last → IsPassed (is_looked_for s) k.boot k.records k.here k.last
       → after ≡ before ++ walk_between k.records k.here p → Shows before after (λ ps. IsSearchShown k s k.here ps)
