@@ -1,14 +1,14 @@
 -- What requests show.
-use Rattle.std.proofs.Common.{◌≡◌, ◌∙◌, ◌≤◌, ◌<◌, ℕ, suc, ◌+◌, ◌-◌, eqb, leb, ltb, cond, Bool, true, false, List, [], ◌∷◌, ◌++◌, append_assoc, Option, Some, None, Result, Ok, Err, IfErr, IfOk, OnOk, length, map, slice_get, refl, ap, sym, subst, inl, inr, arith}
+use Rattle.std.proofs.Common.{◌≡◌, ◌∙◌, ◌≤◌, ◌<◌, ℕ, suc, ◌+◌, ◌-◌, eqb, leb, ltb, cond, Bool, true, false, List, [], ◌∷◌, ◌++◌, append_assoc, Option, Some, None, Result, Ok, Err, IfErr, IfOk, OnOk, drop, get_or, length, map, slice_get, refl, ap, sym, subst, inl, inr, arith}
 use Rattle.std.specs.List.{range_with_len}
-use Rattle.std.proofs.lemmas.Bool.{eq-eqb, le-leb, lt-ltb, ne_eqb}
+use Rattle.std.proofs.lemmas.Bool.{cases_lt, eq-eqb, le-leb, lt-ltb, ne_eqb}
 use Rattle.std.proofs.lemmas.List.{append-nil}
 use Rattle.mx_machine.specs.declared.events.Event.{Event}
 use Rattle.mx_machine.specs.declared.history.Record.{Record}
 use Rattle.mx_walk.specs.declared.positions.Position.{Position}
 use Rattle.mx_walk.specs.declared.progress.Part.{Part}
 use Rattle.mx_walk.specs.Parts.{HasGrown, part_after, parts_between, shown_to, shown_way, walk_between, walk_shown}
-use Rattle.mx_walk.specs.Positions.{IsPosition, IsUpTo, event_below, is_up_to, next_position, position_before}
+use Rattle.mx_walk.specs.Positions.{IsPosition, IsUpTo, event_below, first_steps, is_up_to, next_position, position_before, steps_in}
 use Rattle.mx_walk.specs.Seeking.{IsFirstMarked, IsLastMarked, IsPassed, is_marked}
 use Rattle.mx_walk.specs.Walks.{Walk, first, mark_above, start_to, world_here}
 use Rattle.mx_walk.proofs.PartsShown.{joined}
@@ -18,7 +18,9 @@ use Rattle.mx_app_look.specs.Marks.{changes_watched, is_looked_for}
 use Rattle.mx_app_look.specs.Searches.{is_break, next_made}
 use Rattle.mx_app_look.specs.Shows.{IsLastShown, IsNextShown, IsSearchShown, IsShownAfter, IsShownFrom, halt_shown, record_shown, return_shown, steps_made, why_shown, why_shown_by}
 use Rattle.mx_app_look.specs.Until.{below}
+use Rattle.mx_walk.proofs.Along.{up_trans}
 use Rattle.mx_app_look.proofs.Coming.{gone}
+use Rattle.mx_app_look.proofs.Moving.{made_position, read_is, records_up_to, steps_by}
 
 -- ---- what was shown before, and after
 
@@ -104,27 +106,97 @@ boot_shown k before e =
     let none : why_shown k ≡ [] = ap (λ (o : Option Record). why_shown_by k (k.here.records - 1) o) (ap (record_above k.records) e) in
     sym (append-nil before) ∙ ap (λ (ps : List Part). before ++ ps) (sym none)
 
--- ---- until: records from here on
+-- at an index of what was read
+pub shown_is_read : (k : Walk) (records : List Record) (n : ℕ) (x : Record) → records ≡ k.records → (n ≡ 0 → ⊥) → n ≡ k.here.records → k.here.records ≤ length k.records
+    → why_shown k ≡ record_shown k (n - 1) (get_or records (n - 1) x)
+shown_is_read k records n x same some here few =
+    let one : k.here.records ≡ suc (n - 1) = omega (arith, some, here) in
+    let lt : n - 1 < length k.records = omega (arith, few, one) in
+    let read : slice_get k.records (n - 1) ≡ Some (get_or records (n - 1) x) = read_is k.records (n - 1) x lt ∙ ap (λ (rs : List Record). Some (get_or rs (n - 1) x)) (sym same) in
+    why_is_shown k (n - 1) (get_or records (n - 1) x) one read
 
--- one more is passed
-pub passed_one : (k w : Walk) (n : ℕ) (x : Record) (before now after : List Part) → w ≡ gone k w.here → w.here.records ≡ n → IsUpTo w.here (steps_made n x) → k.here.records ≤ n
-    → now ≡ before ++ parts_between (length k.records) k.here.records n → after ≡ now ++ record_shown w n x → after ≡ before ++ parts_between (length k.records) k.here.records (n + 1)
-passed_one k w n x before now after moved at up le a b =
-    let all = length k.records in
-    let v : Walk = gone k w.here in
-    let none : shown_to v (steps_made n x) ≡ [] = none_shown v (steps_made n x) up at in
-    let lt : n < n + 1 = omega arith in
-    let on : shown_way v (steps_made n x) (below n) ≡ parts_between all n (n + 1) = on_shown (gone v (steps_made n x)) (below n) (inl lt) in
-    let one : record_shown w n x ≡ parts_between all n (n + 1) =
-    ap (λ (u : Walk). record_shown u n x) moved ∙ ap (λ (ps : List Part). ps ++ shown_way v (steps_made n x) (below n)) none ∙ on in
-    both_shown before now after (parts_between all k.here.records n) (record_shown w n x) a b
-    ∙ ap (λ (ps : List Part). before ++ (parts_between all k.here.records n ++ ps)) one
-    ∙ ap (λ (ps : List Part). before ++ ps) (joined all k.here.records n (n + 1) le (omega arith))
+-- ---- until: records from here on, as far as they are passed
 
--- and that is all that is shown on the way there
-pub until_shown : (k : Walk) (p : Position) (n : ℕ) (before after : List Part) → IsUpTo k.here p → p.records ≡ n → after ≡ before ++ parts_between (length k.records) k.here.records n → after ≡ before ++ shown_to k p
+pub record On (k w : Walk) (n : ℕ) : Type 0 where
+  pub place : w.here.records ≡ n
+  pub position : IsPosition k.records w.here
+  pub late : IsUpTo w.here k.last
+  pub later : IsUpTo k.here w.here
+
+pub on_here : (k : Walk) (n : ℕ) → n ≡ k.here.records → IsPosition k.records k.here → IsUpTo k.here k.last → On k k n
+on_here k n same position early = record { place = sym same; position = position; late = early; later = let le : k.here.steps ≤ k.here.steps = omega arith in inr (refl, le) }
+
+module _ (k w : Walk) (records : List Record) (n : ℕ) (x : Record) (moved : w ≡ gone k w.here) (same : records ≡ w.records) (lt : n < k.last.records) (few : k.last.records ≤ length k.records) (on : On k w n) where
+  abbrev y : Record
+  y = get_or records n x
+
+  read : slice_get k.records n ≡ Some y
+  read = read_is k.records n x (omega (arith, lt, few)) ∙ ap (λ (rs : List Record). Some (get_or rs n x)) (sym (same ∙ ap (λ (j : Walk). j.records) moved))
+
+  up : IsUpTo w.here (steps_made n y)
+  up =
+      let inside = on.position.inside in
+      let most : first_steps (drop w.here.records k.records) ≡ steps_in y.event = ap (λ i. first_steps (drop i k.records)) on.place ∙ steps_by k.records n y read in
+      let le : w.here.steps ≤ steps_in y.event = omega (arith, inside, most) in inr (on.place, le)
+
+  begun : k.here.records ≤ n
+  begun = let le = records_up_to k.here w.here on.later in let e = on.place in omega (arith, le, e)
+
+  -- one more is passed
+  pub passed_one : (before now after : List Part) → now ≡ before ++ parts_between (length k.records) k.here.records n → after ≡ now ++ record_shown w n y → after ≡ before ++ parts_between (length k.records) k.here.records (n + 1)
+  passed_one before now after a b =
+      let all = length k.records in
+      let v : Walk = gone k w.here in
+      let none : shown_to v (steps_made n y) ≡ [] = none_shown v (steps_made n y) up on.place in
+      let less : n < n + 1 = omega arith in
+      let on : shown_way v (steps_made n y) (below n) ≡ parts_between all n (n + 1) = on_shown (gone v (steps_made n y)) (below n) (inl less) in
+      let one : record_shown w n y ≡ parts_between all n (n + 1) =
+      ap (λ (u : Walk). record_shown u n y) moved ∙ ap (λ (ps : List Part). ps ++ shown_way v (steps_made n y) (below n)) none ∙ on in
+      both_shown before now after (parts_between all k.here.records n) (record_shown w n y) a b
+      ∙ ap (λ (ps : List Part). before ++ (parts_between all k.here.records n ++ ps)) one
+      ∙ ap (λ (ps : List Part). before ++ ps) (joined all k.here.records n (n + 1) begun (omega arith))
+
+  on_by_one : (u : Walk) → u.here ≡ below n → On k u (n + 1)
+  on_by_one u at =
+      let start : On k (gone u (below n)) (n + 1) = record {
+        place = refl;
+        position = made_position k.records n y read;
+        late = elim (cases_lt (n + 1) k.last.records) [
+          | inl less ↦ inl less
+          | inr ge ↦ let last : n + 1 ≡ k.last.records = omega (arith, lt, ge) in let le : 0 ≤ k.last.steps = omega arith in inr (last, le)
+        ];
+        later = let le = begun in let less : k.here.records < n + 1 = omega (arith, le) in inl less;
+      } in
+      record {
+        place = ap (λ (p : Position). p.records) at;
+        position = subst (λ (p : Position). IsPosition k.records p) (sym at) start.position;
+        late = subst (λ (p : Position). IsUpTo p k.last) (sym at) start.late;
+        later = subst (λ (p : Position). IsUpTo k.here p) (sym at) start.later;
+      }
+
+  pub on_one_more : (u : Walk) → u ≡ record w { here = below n } → On k u (n + 1)
+  on_one_more u there = on_by_one u (ap (λ (j : Walk). j.here) there)
+
+-- all that is shown on the way to where it halts
+until_shown : (k : Walk) (p : Position) (n : ℕ) (before after : List Part) → IsUpTo k.here p → p.records ≡ n → after ≡ before ++ parts_between (length k.records) k.here.records n → after ≡ before ++ shown_to k p
 until_shown k p n before after up same a =
     a ∙ ap (λ i. before ++ parts_between (length k.records) k.here.records i) (sym same) ∙ ap (λ (ps : List Part). before ++ ps) (sym (on_shown k p up))
+
+pub shown_until_here : (k u w : Walk) (p : Position) (n : ℕ) (before after : List Part) → u ≡ record w { here = below n } → u ≡ gone k p → On k u (n + 1) → after ≡ before ++ parts_between (length k.records) k.here.records (n + 1) → after ≡ before ++ shown_to k p
+shown_until_here k u w p n before after there halts on a =
+    let at : u.here ≡ p = ap (λ (j : Walk). j.here) halts in
+    until_shown k p (n + 1) before after (subst (λ (q : Position). IsUpTo k.here q) at on.later) (ap (λ (q : Position). q.records) (sym at) ∙ on.place) a
+
+-- to the last position
+pub shown_until_last : (k w : Walk) (p : Position) (n : ℕ) (before now after : List Part) → w ≡ gone k w.here → On k w n → (n < k.last.records → ⊥) → p ≡ k.last
+    → now ≡ before ++ parts_between (length k.records) k.here.records n → after ≡ now ++ shown_to w k.last → after ≡ before ++ shown_to k p
+shown_until_last k w p n before now after moved on over at a b =
+    let le = records_up_to w.here k.last on.late in
+    let place = on.place in
+    let end : w.here.records ≡ k.last.records = omega (arith, le, over, place) in
+    let none : shown_to w k.last ≡ [] = ap (λ (j : Walk). shown_to j k.last) moved ∙ none_shown (gone k w.here) k.last on.late end in
+    let all : after ≡ before ++ parts_between (length k.records) k.here.records n = b ∙ ap (λ (ps : List Part). now ++ ps) none ∙ append-nil now ∙ a in
+    until_shown k k.last n before after (up_trans k.here w.here k.last on.later on.late) (sym end ∙ on.place) all ∙ ap (λ (q : Position). before ++ shown_to k q) (sym at)
 
 -- ---- searches
 
@@ -137,10 +209,17 @@ module _ (k : Walk) (s : Points) where
       let records : j.records ≡ k.records = ap (λ (w : Walk). w.records) moved in
       let walked = walk_between k.records k.here q in
       let halt : halt_shown j s above q ≡ halt_shown k s (position_before k.records q) q =
-      ap (λ (p : Position). halt_shown j s p q) (up ∙ ap (λ (xs : List Record). position_before xs q) records) ∙ ap (λ (w : Walk). halt_shown w s (position_before k.records q) q) moved in
-      (walked ++ halt_shown j s above q, both_shown before now after walked (halt_shown j s above q) a b,
-      inl (q, subst (λ (xs : List Record). IsPosition xs q) records position, subst (λ (l : Position). IsUpTo q l) (ap (λ (w : Walk). w.last) moved) early, found,
-      ap (λ (ps : List Part). walked ++ ps) halt))
+      ap (λ (p : Position). halt_shown j s p q) (up ∙ ap (λ (xs : List Record). position_before xs q) records) ∙ ap (λ (w : Walk). halt_shown w s (position_before k.records q) q) moved in (
+        walked ++ halt_shown j s above q,
+        both_shown before now after walked (halt_shown j s above q) a b,
+        inl (
+          q,
+          subst (λ (xs : List Record). IsPosition xs q) records position,
+          subst (λ (l : Position). IsUpTo q l) (ap (λ (w : Walk). w.last) moved) early,
+          found,
+          ap (λ (ps : List Part). walked ++ ps) halt,
+        ),
+      )
 
   pub search_passed : (p : Position) (before after : List Part) → p ≡ k.last → IsPassed (is_looked_for s) k.boot k.records k.here k.last
       → after ≡ before ++ walk_between k.records k.here p → Shows before after (λ ps. IsSearchShown k s k.here ps)

@@ -41,15 +41,39 @@ module _ (asks : Bool) where
   leads_more : (s u v : Sight) (xs : List (Option (List ℕ))) (text answer l : List ℕ) (ps now : List Part) → Leads s xs text ps u → ends l ≡ false → IsAnswered u l v answer → IsShown u l now
       → Leads s (xs ++ Some l ∷ []) (text ++ (answer ++ prompt_text asks v.walker)) (ps ++ now) v
   leads_more s u v [] text answer l ps now h e g i =
-      let more = answer ++ prompt_text asks v.walker in
-      (e, (v, answer, [], now, [], subst (λ (r : Sight). IsAnswered r l v answer) h.2 g, subst (λ (r : Sight). IsShown r l now) h.2 i, (refl, refl, refl),
-      ap (λ t. t ++ more) h.0 ∙ sym (append-nil more), ap (λ (t : List Part). t ++ now) h.1 ∙ sym (append-nil now)))
+      let more = answer ++ prompt_text asks v.walker in (
+        e,
+        (
+          v,
+          answer,
+          [],
+          now,
+          [],
+          subst (λ (r : Sight). IsAnswered r l v answer) h.2 g,
+          subst (λ (r : Sight). IsShown r l now) h.2 i,
+          (refl, refl, refl),
+          ap (λ t. t ++ more) h.0 ∙ sym (append-nil more),
+          ap (λ (t : List Part). t ++ now) h.1 ∙ sym (append-nil now),
+        ),
+      )
   leads_more s u v (None ∷ xs) text answer l ps now h e g i = absurd h
   leads_more s u v (Some m ∷ xs) text answer l ps now h e g i =
       let more = answer ++ prompt_text asks v.walker in
-      let p = h.1 in
-      (h.0, (p.0, p.1, p.2 ++ more, p.3, p.4 ++ now, p.5, p.6, leads_more p.0 u v xs p.2 answer l p.4 now p.7 e g i,
-      ap (λ t. t ++ more) p.8 ∙ append_assoc (p.1 ++ prompt_text asks p.0.walker) p.2 more, ap (λ (t : List Part). t ++ now) p.9 ∙ append_assoc p.3 p.4 now))
+      let p = h.1 in (
+        h.0,
+        (
+          p.0,
+          p.1,
+          p.2 ++ more,
+          p.3,
+          p.4 ++ now,
+          p.5,
+          p.6,
+          leads_more p.0 u v xs p.2 answer l p.4 now p.7 e g i,
+          ap (λ t. t ++ more) p.8 ∙ append_assoc (p.1 ++ prompt_text asks p.0.walker) p.2 more,
+          ap (λ (t : List Part). t ++ now) p.9 ∙ append_assoc p.3 p.4 now,
+        ),
+      )
 
   -- the session of these lines and more
   on : (s u : Sight) (xs ys : List (Option (List ℕ))) (text rest : List ℕ) (ps more : List Part) → Leads s xs text ps u → IsSession asks u ys rest more → IsSession asks s (xs ++ ys) (text ++ rest) (ps ++ more)
@@ -59,8 +83,21 @@ module _ (asks : Bool) where
   on s u (None ∷ xs) ys text rest ps more h g = absurd h
   on s u (Some l ∷ xs) ys text rest ps more h g =
       let p = h.1 in
-      inr (h.0, (p.0, p.1, p.2 ++ rest, p.3, p.4 ++ more, p.5, p.6, on p.0 u xs ys p.2 rest p.4 more p.7 g,
-      ap (λ t. t ++ rest) p.8 ∙ append_assoc (p.1 ++ prompt_text asks p.0.walker) p.2 rest, ap (λ (t : List Part). t ++ more) p.9 ∙ append_assoc p.3 p.4 more))
+      inr (
+        h.0,
+        (
+          p.0,
+          p.1,
+          p.2 ++ rest,
+          p.3,
+          p.4 ++ more,
+          p.5,
+          p.6,
+          on p.0 u xs ys p.2 rest p.4 more p.7 g,
+          ap (λ t. t ++ rest) p.8 ∙ append_assoc (p.1 ++ prompt_text asks p.0.walker) p.2 rest,
+          ap (λ (t : List Part). t ++ more) p.9 ∙ append_assoc p.3 p.4 more,
+        ),
+      )
 
   -- it is over with what comes after them
   over_after : (s u : Sight) (xs ys : List (Option (List ℕ))) (text : List ℕ) (ps : List Part) → Leads s xs text ps u → is_over (xs ++ ys) ≡ is_over ys

@@ -82,19 +82,20 @@ found_kept : (stored : List Stored) (to : Position) (n m : ℕ) (o : Option ℕ)
 found_kept stored to n m None same h = same ∙ h
 found_kept stored to n m (Some index) same h = (h.0, h.1, λ d. h.2 d ∙ sym same)
 
-module _ (stored : List Stored) (to : Position) (i : ℕ) (lt : i < length stored) (d : Stored) (there : d ≡ get_or stored i d) where
-  pub found_here : (o : Option ℕ) → o ≡ Some i → is_up_to d.position to ≡ true → IsUpTo d.position to → Found stored to (i + 1) o
-  found_here o is yes up =
-      let same : (e : Stored) → get_or stored i e ≡ d = λ e. any_stored stored i e d lt ∙ sym there in
-      let at : mark_above (positions_of (take (i + 1) stored)) to ≡ d.position =
-      stored_more stored i d to lt ∙ ap (λ (e : Stored). cond (is_up_to e.position to) e.position (mark_above (positions_of (take i stored)) to)) (sym there)
-      ∙ ap (λ b. cond b d.position (mark_above (positions_of (take i stored)) to)) yes in
+module _ (stored : List Stored) (to : Position) (i : ℕ) (lt : i < length stored) (d : Stored) where
+  abbrev there : Position
+  there = (get_or stored i d).position
+
+  pub found_here : (o : Option ℕ) → o ≡ Some i → is_up_to there to ≡ true → IsUpTo there to → Found stored to (i + 1) o
+  found_here o is test up =
+      let same : (e : Stored) → get_or stored i e ≡ get_or stored i d = λ e. any_stored stored i e d lt in
+      let at : mark_above (positions_of (take (i + 1) stored)) to ≡ there =
+      stored_more stored i d to lt ∙ ap (λ b. cond b there (mark_above (positions_of (take i stored)) to)) test in
       subst (λ (p : Option ℕ). Found stored to (i + 1) p) (sym is)
       (lt, λ e. subst (λ (x : Stored). IsUpTo x.position to) (sym (same e)) up, λ e. ap (λ (x : Stored). x.position) (same e) ∙ sym at)
 
-  pub found_before : (o p : Option ℕ) → p ≡ o → is_up_to d.position to ≡ false → Found stored to i o → Found stored to (i + 1) p
-  found_before o p is no h =
+  pub found_before : (o p : Option ℕ) → p ≡ o → is_up_to there to ≡ false → Found stored to i o → Found stored to (i + 1) p
+  found_before o p is test h =
       let at : mark_above (positions_of (take (i + 1) stored)) to ≡ mark_above (positions_of (take i stored)) to =
-      stored_more stored i d to lt ∙ ap (λ (e : Stored). cond (is_up_to e.position to) e.position (mark_above (positions_of (take i stored)) to)) (sym there)
-      ∙ ap (λ b. cond b d.position (mark_above (positions_of (take i stored)) to)) no in
+      stored_more stored i d to lt ∙ ap (λ b. cond b there (mark_above (positions_of (take i stored)) to)) test in
       subst (λ (q : Option ℕ). Found stored to (i + 1) q) (sym is) (found_kept stored to i (i + 1) o at h)
