@@ -100,12 +100,16 @@ fn messages_asked(line: &[u8]) -> Option<Look>
 pub(crate) fn look_of(word: &[u8], rest: &[u8]) -> Option<Look>
     ensures { result ≡ look_of word.now (fields rest.now) }
 {
-    match word {
-        b"regs" => registers_asked(rest),
-        b"mem" => memory_asked(rest),
-        b"messages" => messages_asked(rest),
-        _ => None,
+    if word == b"regs".as_slice() {
+        return registers_asked(rest);
     }
+    if word == b"mem".as_slice() {
+        return memory_asked(rest);
+    }
+    if word == b"messages".as_slice() {
+        return messages_asked(rest);
+    }
+    None
 }
 
 /// Appends the registers of the process on a processor.

@@ -77,12 +77,16 @@ fn look_asked(word: &[u8], line: &[u8]) -> Option<DebugLine>
 fn own_line_of(word: &[u8], rest: &[u8]) -> Option<DebugLine>
     ensures { result ≡ own_line_of word.now (fields rest.now) }
 {
-    match word {
-        b"break" => break_asked(rest),
-        b"clear" => clear_asked(rest),
-        b"go" => go_asked(rest),
-        _ => look_asked(word, rest),
+    if word == b"break".as_slice() {
+        return break_asked(rest);
     }
+    if word == b"clear".as_slice() {
+        return clear_asked(rest);
+    }
+    if word == b"go".as_slice() {
+        return go_asked(rest);
+    }
+    look_asked(word, rest)
 }
 
 /// Law: the first words of a debugger's own lines differ from one another and from those of any script.
