@@ -1,4 +1,4 @@
-//! What a reader at a terminal gets beside a command's text.
+//! What a reader at a terminal gets in addition to a command's text.
 
 ghost use Rattle.std.specs.Prelude.{◌≡◌, IfErr, IfOk, None};
 ghost use Rattle.std.specs.Io.{WritesAtMost};

@@ -2,6 +2,7 @@
 #![tactic(auto)]
 
 mod asking;
+mod command_io;
 mod complaint;
 mod ending;
 mod explain;
@@ -13,13 +14,14 @@ mod summing;
 mod words;
 
 pub use asking::texts_asked;
+pub use command_io::CommandIo;
 pub use complaint::Complaint;
 pub use ending::{NotingOutput, PrintedText, Terminals};
 pub use explain::explain_named;
 pub use mx_app_failure::Failure;
 pub use mx_app_start::NoProgress;
 pub use mx_turns::Ending;
-pub use named::{as_named, dis_named, nm_named, one_named, step_apart};
+pub use named::{SavedScript, as_named, dis_named, nm_named, one_named, step_apart};
 pub use noting::{NotingFiles, NotingReader};
 pub use performing::{Done, perform};
 pub use program::run_program;

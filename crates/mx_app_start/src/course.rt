@@ -14,10 +14,10 @@ pub trait Course {
     /// What a line says.
     type Line;
 
-    /// The lines say this, beside a configuration, of the machine that another one boots.
+    /// With this configuration, the lines say this, and the machine boots by the second configuration.
     ghost IsSaid: { List ℕ → Config → Config → List Self.Line → Type 0 };
 
-    /// What may be told of a text: the first line at fault; or, where there is none, out of memory.
+    /// The errors that may be answered for a text: the first line at fault; or, if there is none, out of memory.
     ghost Tells: { List ℕ → Config → BootError → Type 0 };
 
     /// What the lines of a text say, or the first line at fault. The configuration becomes the one by

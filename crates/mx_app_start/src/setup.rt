@@ -79,7 +79,7 @@ pub fn config_of<R: Reader>(alloc: Global, reader: &mut R, name: &str) -> Result
 }
 
 /// The configuration of a file, and the services of its lines, whose programs' files are read in the
-/// order of the lines. A failure is the first fault of what was read; out of memory is told only where
+/// order of the lines. A failure is the first fault of what was read; out of memory is answered only if
 /// nothing above is at fault. No further file was asked for.
 pub fn setup_of<R: Reader>(
     alloc: Global,
