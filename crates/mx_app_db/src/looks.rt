@@ -143,11 +143,7 @@ fn push_all_messages(text: &mut String, machine: &Machine) -> Result<(), AllocEr
 }
 
 /// Appends what a look shows of a machine.
-pub(crate) fn push_look(
-    text: &mut String,
-    machine: &Machine,
-    look: &Look,
-) -> Result<(), AllocError>
+pub(crate) fn push_look(text: &mut String, machine: &Machine, look: &Look) -> Result<(), AllocError>
     ensures { OnOk result (string_bytes text.new ≡ string_bytes text.old
         ++ look_text (world_of machine.now) look.now) }
 {
